@@ -1,0 +1,27 @@
+-- What the comparison of two whole numbers answers, and what their tests tell.
+use Rattle.std.proofs.Common.{◌≡◌, Bool, true, false, cond, ℤ, ◌<ℤ◌, int_lt, int_le, refl, arith}
+use Rattle.std.specs.Bool.{Decides}
+use Rattle.std.specs.Ordering.{is_lt, is_le, is_gt, int_cmp}
+use Rattle.std.specs.declared.cmp.Ordering.TheVariants.{Less, Equal, Greater}
+use Rattle.std.proofs.lemmas.Int.{ints}
+
+-- the comparison answers `Less` where the first number is below the second
+pub is_lt-int_cmp : (x y : ℤ) → is_lt (int_cmp x y) ≡ int_lt x y
+is_lt-int_cmp x y = by_cases (int_lt x y) (int_lt y x)
+  where
+    by_cases : (b c : Bool) → is_lt (cond b Less (cond c Greater Equal)) ≡ b
+    by_cases true c = refl
+    by_cases false true = refl
+    by_cases false false = refl
+
+-- it answers `Greater` where the second is below the first
+pub is_gt-int_cmp : (x y : ℤ) → is_gt (int_cmp x y) ≡ int_lt y x
+is_gt-int_cmp x y = grind (arith, ints)
+
+-- and one of the other two where the first is at most the second
+pub is_le-int_cmp : (x y : ℤ) → is_le (int_cmp x y) ≡ int_le x y
+is_le-int_cmp x y = grind (arith, ints)
+
+-- the test tells whether the first number is below the second
+pub Decides-int_lt : (x y : ℤ) → Decides (int_lt x y) (x <ℤ y)
+Decides-int_lt x y = (λ h. grind (arith, ints), λ h. grind (arith, ints))

@@ -1,0 +1,69 @@
+-- Whole points in order, by their coordinates: which of two comes first.
+use Rattle.std.proofs.Common.{◌≡◌, ◌⊎◌, inl, inr, ◌<ℤ◌, ◌≤ℤ◌}
+use Rattle.std.specs.Bool.{Decides}
+use Rattle.std.proofs.lemmas.Int.{by_lt_z}
+use Rattle.std.proofs.lemmas.Bool.Decides.{Decides-int_eq, Decides-and, Decides-or, Decides-like}
+use Rattle.overlay_geom.specs.Plane.{Point, point_lt}
+use Rattle.overlay_geom.proofs.Comparisons.{Decides-int_lt}
+use Rattle.overlay_geom.proofs.Signs.{linear}
+
+-- p is smaller than q
+pub record IsBefore (p q : Point) : Type 0 where
+  pub x : p.x ≤ℤ q.x
+  pub y : q.x ≤ℤ p.x → p.y <ℤ q.y
+
+-- p is q or smaller
+pub record IsUpTo (p q : Point) : Type 0 where
+  pub x : p.x ≤ℤ q.x
+  pub y : q.x ≤ℤ p.x → p.y ≤ℤ q.y
+
+-- the test tells whether p is smaller than q
+pub Decides-point_lt : (p q : Point) → Decides (point_lt p q) (IsBefore p q)
+Decides-point_lt p q =
+    Decides-like (point_lt p q) forth back
+    (Decides-or _ _ (Decides-int_lt p.x q.x) (Decides-and _ _ (Decides-int_eq p.x q.x) (Decides-int_lt p.y q.y)))
+  where
+    forth : (p.x <ℤ q.x) ⊎ ((p.x ≡ q.x) × (p.y <ℤ q.y)) → IsBefore p q
+    forth (inl lt) = record { x = omega linear; y = λ le. omega linear }
+    forth (inr (same, lt)) = record { x = omega linear; y = λ le. lt }
+
+    back : IsBefore p q → (p.x <ℤ q.x) ⊎ ((p.x ≡ q.x) × (p.y <ℤ q.y))
+    back h = by_lt_z p.x q.x (λ lt. inl lt) (λ ge. inr (let x = h.x in omega linear, h.y ge))
+
+-- of two points one is the other or smaller
+pub by_order : {P : Type 0} (p q : Point) → (IsUpTo p q → P) → (IsBefore q p → P) → P
+by_order {P = P} p q f g = by_lt_z q.x p.x (λ lt. g (record { x = omega linear; y = λ le. omega linear })) same_or_less
+  where
+    same_or_less : p.x ≤ℤ q.x → P
+    same_or_less le =
+        by_lt_z q.y p.y
+        (λ lt. by_lt_z p.x q.x (λ less. f (record { x = le; y = λ ge. omega linear })) (λ ge. g (record { x = ge; y = λ same. lt })))
+        (λ up. f (record { x = le; y = λ ge. up }))
+
+-- a smaller point is one up to the other
+pub before_up_to : (p q : Point) → IsBefore p q → IsUpTo p q
+before_up_to p q h = record { x = h.x; y = λ le. let lt = h.y le in omega linear }
+
+-- a point is up to itself
+pub up_to_itself : (p : Point) → IsUpTo p p
+up_to_itself p = record { x = omega linear; y = λ le. omega linear }
+
+-- what is up to a point is smaller than all that it is smaller than
+pub before_after_up_to : (p q r : Point) → IsUpTo p q → IsBefore q r → IsBefore p r
+before_after_up_to p q r h k = record { x = let a = h.x in let b = k.x in omega linear; y = λ le. both le (let b = k.x in omega linear) (let a = h.x in omega linear) }
+  where
+    both : r.x ≤ℤ p.x → q.x ≤ℤ p.x → r.x ≤ℤ q.x → p.y <ℤ r.y
+    both le here there = let a = h.y here in let b = k.y there in omega linear
+
+-- three points, each up to the next one round, are one point
+pub same_round : (p q r : Point) → IsUpTo p q → IsUpTo q r → IsUpTo r p → (p.x ≡ q.x) × (p.y ≡ q.y) × (p.x ≡ r.x) × (p.y ≡ r.y)
+same_round p q r pq qr rp =
+    let in_x : (p.x ≡ q.x) × (p.x ≡ r.x) = (omega linear, omega linear) in
+    let pq_y = pq.y (omega linear) in
+    let qr_y = qr.y (omega linear) in
+    let rp_y = rp.y (omega linear) in
+    (in_x.0, omega linear, in_x.1, omega linear)
+
+-- a point is not smaller than itself
+pub before_is_other : (p q : Point) → IsBefore p q → q.x ≡ p.x → q.y ≡ p.y → ⊥
+before_is_other p q h same_x same_y = let lt = h.y (omega linear) in omega linear

@@ -1,0 +1,8 @@
+//! Points with whole coordinates: numbers, points, vectors and the errors of the overlay crates.
+#![tactic(auto)]
+
+pub mod error;
+pub mod integer;
+pub mod number;
+pub mod point;
+pub mod vector;

@@ -1,0 +1,97 @@
+//! Numbers that coordinates are made of, and the wider ones that hold their products.
+
+ghost use Rattle.std.specs.Prelude.{◌≡◌, ◌↔◌, IsTrue, ℕ, ◌*◌};
+ghost use Rattle.std.specs.Prelude.{ℤ, pos, neg_ℤ, ◌+ℤ◌, ◌-ℤ◌, ◌*ℤ◌};
+ghost use Rattle.std.specs.Ordering.{int_cmp};
+ghost use Rattle.overlay_geom.specs.Numbers.{Within};
+
+mod coordinate;
+mod unsigned;
+mod wide;
+
+use std::cmp::Ordering;
+
+/// An unsigned number as wide as a product of two coordinates: `u32`, `u64` or `u128`.
+/// Areas are measured in it, in squared units of the coordinates.
+pub trait UIntNumber: Copy {
+    // The natural number that the value stands for.
+    ghost natural: { Self → ℕ };
+
+    /// Returns the number 0.
+    fn zero() -> Self
+        ensures { natural result ≡ 0 };
+}
+
+/// A signed number twice as wide as a coordinate: `i32`, `i64` or `i128`.
+/// Cross products are held in it, in squared units of the coordinates.
+pub trait WideIntNumber: Copy {
+    // The whole number that the value stands for.
+    ghost whole: { Self → ℤ };
+
+    // How far from 0 a number of the type may lie that can be negated, 2^(2B-1) - 1.
+    ghost limit: { ℕ };
+
+    /// Returns how the number compares with another one.
+    fn compare(self, other: Self) -> Ordering
+        ensures { result ≡ int_cmp (whole self) (whole other) };
+
+    /// Returns how the number compares with 0: `Less` for a negative one.
+    fn sign(self) -> Ordering
+        ensures { result ≡ int_cmp (whole self) (pos 0) };
+
+    /// Returns the number with the other sign. It is any number of the type but the least.
+    fn negate(self) -> Self
+        requires { Within limit (whole self) }
+        ensures { whole result ≡ neg_ℤ (whole self) };
+}
+
+/// A coordinate: `i16`, `i32` or `i64`. With B bits, the coordinate range is
+/// `|c| <= 2^(B-2) - 1`, that is 16383, 1073741823 or 4611686018427387903.
+/// So the difference of two coordinates in range fits the type, and a cross product of two such
+/// differences fits the wide type.
+pub trait IntNumber: Copy {
+    /// The number twice as wide, in which cross products are held.
+    type Wide: WideIntNumber;
+
+    /// The unsigned number twice as wide, in which areas are measured.
+    type WideUInt: UIntNumber;
+
+    // The whole number that the value stands for.
+    ghost whole: { Self → ℤ };
+
+    // How far from 0 a coordinate in range may lie.
+    ghost limit: { ℕ };
+
+    /// Returns whether the coordinate is in the coordinate range.
+    fn is_in_range(self) -> bool
+        ensures { IsTrue result ↔ Within limit (whole self) };
+
+    /// Returns how the coordinate compares with another one, in range or not.
+    fn compare(self, other: Self) -> Ordering
+        ensures { result ≡ int_cmp (whole self) (whole other) };
+
+    /// Returns the sum of two coordinates in range.
+    fn plus(self, other: Self) -> Self
+        requires left { Within limit (whole self) }
+        requires right { Within limit (whole other) }
+        ensures { whole result ≡ whole self +ℤ whole other };
+
+    /// Returns the difference of two coordinates in range.
+    fn minus(self, other: Self) -> Self
+        requires left { Within limit (whole self) }
+        requires right { Within limit (whole other) }
+        ensures { whole result ≡ whole self -ℤ whole other };
+
+    /// Returns the cross product `ax * by - ay * bx` of the vectors (ax, ay) and (bx, by), each a
+    /// difference of two points in range. It is exact, and can be negated.
+    fn cross(ax: Self, ay: Self, bx: Self, by: Self) -> Self::Wide
+        requires ax { Within (2 * limit) (whole ax) }
+        requires ay { Within (2 * limit) (whole ay) }
+        requires bx { Within (2 * limit) (whole bx) }
+        requires by { Within (2 * limit) (whole by) }
+        ensures value { Self.Wide.whole result ≡ whole ax *ℤ whole by -ℤ whole ay *ℤ whole bx }
+        ensures fits { Within Self.Wide.limit (Self.Wide.whole result) };
+
+    // Two coordinates that stand for one number are one.
+    ghost same: { (a b : Self) → whole a ≡ whole b → a ≡ b };
+}

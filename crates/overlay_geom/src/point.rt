@@ -1,0 +1,78 @@
+//! Points with whole coordinates, and the test whether they are in range.
+
+ghost use Rattle.std.specs.Prelude.{◌≡◌, ◌↔◌, IsTrue};
+ghost use Rattle.overlay_geom.specs.Points.{plain_point, plain_points, InRange, AllInRange};
+
+use crate::number::IntNumber;
+
+/// A point with whole coordinates, x to the right and y up. Points are ordered by x, then by y.
+#[derive(Debug, Clone, Copy, PartialEq, Eq, PartialOrd, Ord)]
+pub struct IntPoint<I> {
+    /// How far the point lies to the right of (0, 0).
+    pub x: I,
+    /// How far the point lies above (0, 0).
+    pub y: I,
+}
+
+impl<I> IntPoint<I> {
+    /// Returns the point with these coordinates, in range or not.
+    pub fn new(x: I, y: I) -> Self
+        ensures { result ≡ record { x = x; y = y } }
+    {
+        IntPoint { x, y }
+    }
+}
+
+impl<I: IntNumber> IntPoint<I> {
+    // Whether both coordinates are in the coordinate range.
+    fn is_in_range(self) -> bool
+        ensures { IsTrue result ↔ InRange I.limit (plain_point I.whole self) }
+    {
+        self.x.is_in_range() && self.y.is_in_range()
+    }
+}
+
+/// Returns whether every point is in the coordinate range, `|c| <= 2^(B-2) - 1` for B bits: so for
+/// no points, true. It takes no memory.
+pub fn in_range<I: IntNumber>(points: &[IntPoint<I>]) -> bool
+    ensures { IsTrue result ↔ AllInRange I.limit (plain_points I.whole points.now) }
+{
+    for p in points {
+        if !p.is_in_range() {
+            return false;
+        }
+    }
+    true
+}
+
+#[cfg(test)]
+mod tests {
+    use super::*;
+
+    #[test]
+    fn in_range_at_the_ends(rt: HostRuntime) {
+        assert!(rt; !in_range(&[IntPoint::new(16384i16, 0)]));
+        assert!(rt; in_range(&[IntPoint::new(16383i16, -16383)]));
+        assert!(rt; !in_range(&[IntPoint::new(0i32, -1073741824)]));
+        assert!(rt; in_range(&[IntPoint::new(-1073741823i32, 1073741823)]));
+        assert!(rt; !in_range(&[IntPoint::new(4611686018427387904i64, 0)]));
+        assert!(rt; in_range(&[IntPoint::new(4611686018427387903i64, -4611686018427387903)]));
+    }
+
+    #[test]
+    fn in_range_of_several(rt: HostRuntime) {
+        let near = IntPoint::new(1i16, 2);
+        let far = IntPoint::new(1i16, 20000);
+        assert!(rt; in_range::<i16>(&[]));
+        assert!(rt; in_range(&[near, near]));
+        assert!(rt; !in_range(&[near, far, near]));
+    }
+
+    #[test]
+    fn points_are_ordered_by_x_then_y(rt: HostRuntime) {
+        let p = IntPoint::new(1i32, 5);
+        assert!(rt; p < IntPoint::new(2, 0));
+        assert!(rt; p < IntPoint::new(1, 6));
+        assert!(rt; p == IntPoint::new(1, 5));
+    }
+}

@@ -1,0 +1,138 @@
+//! Vectors from one point to another.
+
+ghost use Rattle.std.specs.Prelude.{◌≡◌, ◌*◌};
+ghost use Rattle.overlay_geom.specs.Numbers.{Within};
+ghost use Rattle.overlay_geom.specs.Points.{plain_point, plain_vector};
+ghost use Rattle.overlay_geom.specs.Points.{InRange, IsDifference, cross_of};
+ghost use Rattle.overlay_geom.specs.Plane.{cross_at};
+
+use crate::number::IntNumber;
+use crate::point::IntPoint;
+use std::ops::Sub;
+
+/// The way from one point to another, in the units of the coordinates.
+#[derive(Debug, Clone, Copy, PartialEq, Eq)]
+pub struct IntVector<I> {
+    /// How far the way leads to the right.
+    pub x: I,
+    /// How far the way leads up.
+    pub y: I,
+}
+
+impl<I> IntVector<I> {
+    /// Returns the vector with these coordinates.
+    pub fn new(x: I, y: I) -> Self
+        ensures { result ≡ record { x = x; y = y } }
+    {
+        IntVector { x, y }
+    }
+}
+
+impl<I: IntNumber> IntVector<I> {
+    /// Returns the cross product with another vector, `x * v.y - y * v.x`: positive where `v` points
+    /// to the left of this one, negative where it points to the right, 0 where they are parallel.
+    /// Both are differences of points in range, so it is exact.
+    pub fn cross_product(self, v: IntVector<I>) -> I::Wide
+        requires this { InRange (2 * I.limit) (plain_vector I.whole self) }
+        requires other { InRange (2 * I.limit) (plain_vector I.whole v) }
+        ensures value { I.Wide.whole result ≡ cross_of (plain_vector I.whole self) (plain_vector I.whole v) }
+        ensures fits { Within I.Wide.limit (I.Wide.whole result) }
+    {
+        I::cross(self.x, self.y, v.x, v.y)
+    }
+}
+
+impl<I: IntNumber> Sub for IntPoint<I> {
+    type Output = IntVector<I>;
+
+    ghost can_sub = { λ p q.
+        InRange I.limit (plain_point I.whole p) × InRange I.limit (plain_point I.whole q) };
+
+    ghost sub_gives = { λ p q v.
+        IsDifference I.limit (plain_point I.whole p) (plain_point I.whole q) (plain_vector I.whole v) };
+
+    /// Returns the vector from `other` to this point. Both points are in range.
+    fn sub(self, other: IntPoint<I>) -> IntVector<I> {
+        IntVector {
+            x: self.x.minus(other.x),
+            y: self.y.minus(other.y),
+        }
+    }
+}
+
+/// Returns the cross product of the ways from v to p and from v to q: positive where q lies to the
+/// left of the way from v to p, negative to the right, 0 where the three points lie on one line. It
+/// can be negated.
+pub fn cross_at<I: IntNumber>(v: IntPoint<I>, p: IntPoint<I>, q: IntPoint<I>) -> I::Wide
+    requires v { InRange I.limit (plain_point I.whole v) }
+    requires p { InRange I.limit (plain_point I.whole p) }
+    requires q { InRange I.limit (plain_point I.whole q) }
+    ensures value { I.Wide.whole result
+        ≡ cross_at (plain_point I.whole v) (plain_point I.whole p) (plain_point I.whole q) }
+    ensures fits { Within I.Wide.limit (I.Wide.whole result) }
+{
+    (p - v).cross_product(q - v)
+}
+
+#[cfg(test)]
+mod tests {
+    use super::*;
+
+    #[test]
+    fn differences(rt: HostRuntime) {
+        let v = IntPoint::new(3i16, 1) - IntPoint::new(1, 4);
+        assert_eq!(rt; v, IntVector::new(2, -3));
+        let v = IntPoint::new(1073741823i32, 0) - IntPoint::new(-1073741823, 1);
+        assert_eq!(rt; v, IntVector::new(2147483646, -1));
+        let v = IntPoint::new(0i64, -4611686018427387903) - IntPoint::new(0, 4611686018427387903);
+        assert_eq!(rt; v, IntVector::new(0, -9223372036854775806));
+    }
+
+    #[test]
+    fn cross_products(rt: HostRuntime) {
+        let right = IntVector::new(2i16, 0);
+        let up = IntVector::new(1i16, 3);
+        assert_eq!(rt; right.cross_product(up), 6);
+        assert_eq!(rt; up.cross_product(right), -6);
+        assert_eq!(rt;
+            IntVector::new(2i32, 3).cross_product(IntVector::new(4, 6)),
+            0
+        );
+        assert_eq!(rt;
+            IntVector::new(1i64, 0).cross_product(IntVector::new(5, 1)),
+            1
+        );
+    }
+
+    #[test]
+    fn cross_products_from_a_point(rt: HostRuntime) {
+        let v = IntPoint::new(1i16, 1);
+        assert_eq!(rt; cross_at(v, IntPoint::new(4, 1), IntPoint::new(2, 3)), 6);
+        assert_eq!(rt; cross_at(v, IntPoint::new(2, 3), IntPoint::new(4, 1)), -6);
+        let v = IntPoint::new(-1073741823i32, -1073741823);
+        let (right, up) = (
+            IntPoint::new(1073741823, v.y),
+            IntPoint::new(v.x, 1073741823),
+        );
+        assert_eq!(rt; cross_at(v, right, up), 4611686009837453316);
+        let v = IntPoint::new(0i64, 0);
+        assert_eq!(rt; cross_at(v, IntPoint::new(1, 2), IntPoint::new(-2, -4)), 0);
+    }
+
+    #[test]
+    fn cross_products_at_the_ends_of_the_range(rt: HostRuntime) {
+        let (low, high) = (IntPoint::new(-16383i16, -16383), 16383);
+        let (right, up) = (IntPoint::new(high, low.y), IntPoint::new(low.x, high));
+        assert_eq!(rt; (right - low).cross_product(up - low), 1073610756);
+        let (low, high) = (IntPoint::new(-1073741823i32, -1073741823), 1073741823);
+        let (right, up) = (IntPoint::new(high, low.y), IntPoint::new(low.x, high));
+        assert_eq!(rt; (up - low).cross_product(right - low), -4611686009837453316);
+        let far = 4611686018427387903;
+        let low = IntPoint::new(-4611686018427387903i64, -4611686018427387903);
+        let (right, up) = (IntPoint::new(far, low.y), IntPoint::new(low.x, far));
+        assert_eq!(rt;
+            (right - low).cross_product(up - low),
+            85070591730234615828950163710522949636
+        );
+    }
+}
