@@ -1,0 +1,26 @@
+-- Sums over lists that are joined, mapped, or made of one part for each entry, and sums of multiples.
+use Rattle.std.proofs.Common.{◌≡◌, ℤ, ◌+ℤ◌, ◌*ℤ◌, List, [], ◌∷◌, ◌++◌, map, refl, sym, ap, ◌∙◌}
+use Rattle.std.specs.List.{flat_map}
+use lib.IntN.{+ℤ_idl, +ℤ_assoc, *ℤ-zero}
+use Rattle.overlay_geom.specs.Plane.{total}
+use Rattle.overlay_geom.proofs.Products.{mul-add}
+
+-- two lists joined add up to both
+pub total-append : {X : Type 0} (f : X → ℤ) (xs ys : List X) → total f (xs ++ ys) ≡ total f xs +ℤ total f ys
+total-append f [] ys = sym (+ℤ_idl (total f ys))
+total-append f (x ∷ xs) ys = ap (λ z. f x +ℤ z) (total-append f xs ys) ∙ sym (+ℤ_assoc (f x) (total f xs) (total f ys))
+
+-- a mapped list adds up what its entries become
+pub total-map : {X Y : Type 0} (f : Y → ℤ) (h : X → Y) (xs : List X) → total f (map h xs) ≡ total (λ x. f (h x)) xs
+total-map f h [] = refl
+total-map f h (x ∷ xs) = ap (λ z. f (h x) +ℤ z) (total-map f h xs)
+
+-- a list made of parts adds up the parts
+pub total-flat_map : {X Y : Type 0} (f : Y → ℤ) (h : X → List Y) (xs : List X) → total f (flat_map h xs) ≡ total (λ x. total f (h x)) xs
+total-flat_map f h [] = refl
+total-flat_map f h (x ∷ xs) = total-append f (h x) (flat_map h xs) ∙ ap (λ z. total f (h x) +ℤ z) (total-flat_map f h xs)
+
+-- multiples add up to the multiple
+pub total-times : {X : Type 0} (k : ℤ) (f : X → ℤ) (xs : List X) → total (λ x. k *ℤ f x) xs ≡ k *ℤ total f xs
+total-times k f [] = sym (*ℤ-zero k)
+total-times k f (x ∷ xs) = ap (λ z. k *ℤ f x +ℤ z) (total-times k f xs) ∙ sym (mul-add k (f x) (total f xs))

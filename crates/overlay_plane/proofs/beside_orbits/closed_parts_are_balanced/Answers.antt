@@ -1,0 +1,6 @@
+-- What a closed test takes of a set that alternates has balanced counts, and what it leaves.
+use Rattle.overlay_plane.proofs.BalancedSteps.{closed_parts_are_balanced}
+use Rattle.overlay_plane.proofs.beside_orbits.closed_parts_are_balanced.Goals as goal
+
+pub returns : goal.returns
+returns c = closed_parts_are_balanced

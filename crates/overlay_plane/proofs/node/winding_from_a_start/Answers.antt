@@ -1,0 +1,6 @@
+-- The law is proved in proofs/NodeWindings.antt.
+use Rattle.overlay_plane.proofs.NodeWindings.{winding_from_a_start}
+use Rattle.overlay_plane.proofs.node.winding_from_a_start.Goals as goal
+
+pub returns : goal.returns
+returns c = winding_from_a_start

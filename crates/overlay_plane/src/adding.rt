@@ -1,0 +1,9 @@
+//! The windings of an added contour.
+
+ghost use Rattle.overlay_plane.specs.Adding.{AddingAddsWindings};
+
+/// An added contour adds its winding to those of its side, thinned or not, and nothing to those of
+/// the other.
+pub fn adding_adds_windings()
+    ensures { AddingAddsWindings }
+{}

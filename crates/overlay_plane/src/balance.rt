@@ -1,0 +1,36 @@
+//! Balanced counts: where they come from, and what keeps them.
+
+ghost use Rattle.overlay_plane.specs.Balance.{ChainsTelescope, ContoursAreBalanced};
+ghost use Rattle.overlay_plane.specs.Balance.{AddedContoursAreBalanced, JoiningKeepsBalance};
+ghost use Rattle.overlay_plane.specs.Balance.{AddingKeepsBalance, MergingKeepsBalance};
+
+/// What a number given to each point rises by along a chain of steps is what it rises by from the
+/// chain's start to its end.
+pub fn chains_telescope()
+    ensures { ChainsTelescope }
+{}
+
+/// The steps of a closed contour are balanced.
+pub fn contours_are_balanced()
+    ensures { ContoursAreBalanced }
+{}
+
+/// The counted edges that an added contour becomes have balanced counts.
+pub fn added_contours_are_balanced()
+    ensures { AddedContoursAreBalanced }
+{}
+
+/// A list without edges has balanced counts, and two lists joined have them where both do.
+pub fn joining_keeps_balance()
+    ensures { JoiningKeepsBalance }
+{}
+
+/// A content keeps balanced counts where a contour is added.
+pub fn adding_keeps_balance()
+    ensures { AddingKeepsBalance }
+{}
+
+/// A merged list keeps balanced counts.
+pub fn merging_keeps_balance()
+    ensures { MergingKeepsBalance }
+{}

@@ -1,0 +1,21 @@
+//! The mathematics of the plane that the overlay crates rest on: edges over a vertical line, balance, windings, regions, nodes and orbits.
+//! Each function here does nothing when it runs: its contract is a law, and the check proves it.
+#![tactic(auto)]
+
+pub mod adding;
+pub mod balance;
+pub mod beside_orbits;
+pub mod cutting;
+pub mod greatest;
+pub mod leftmost;
+pub mod next_step;
+pub mod next_winding;
+pub mod node;
+pub mod orbit;
+pub mod order;
+pub mod rays;
+pub mod region;
+pub mod selected;
+pub mod side;
+pub mod spoke;
+pub mod thinning;

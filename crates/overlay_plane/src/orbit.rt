@@ -1,0 +1,46 @@
+//! Orbits of a hand in a set of steps that alternates.
+
+ghost use Rattle.overlay_plane.specs.Orbits.{OrbitsExist, OrbitsAreCycles, OrbitsHaveThreeSteps};
+ghost use Rattle.overlay_plane.specs.Orbits.{OrbitsAreUnique, OrbitsAreApart};
+ghost use Rattle.overlay_plane.specs.Orbits.{OrbitsLeaveTheRest, OrbitsOfTheRest};
+ghost use Rattle.overlay_plane.specs.OrbitsSoFar.{OrbitsGrow};
+
+/// From each step its next steps lead back to it.
+pub fn orbits_exist()
+    ensures { OrbitsExist }
+{}
+
+/// An orbit visits each of its steps once, and holds with each step its next step and the step before it.
+pub fn orbits_are_cycles()
+    ensures { OrbitsAreCycles }
+{}
+
+/// An orbit has three steps or more.
+pub fn orbits_have_three_steps()
+    ensures { OrbitsHaveThreeSteps }
+{}
+
+/// A step has one orbit.
+pub fn orbits_are_unique()
+    ensures { OrbitsAreUnique }
+{}
+
+/// Orbits that share a step have the same steps.
+pub fn orbits_are_apart()
+    ensures { OrbitsAreApart }
+{}
+
+/// What an orbit leaves alternates.
+pub fn orbits_leave_the_rest()
+    ensures { OrbitsLeaveTheRest }
+{}
+
+/// An orbit of what closed parts leave is an orbit of the whole set.
+pub fn orbits_of_the_rest()
+    ensures { OrbitsOfTheRest }
+{}
+
+/// A walk along an orbit comes to no step twice before it comes to its first step again, and is then the orbit.
+pub fn orbits_grow()
+    ensures { OrbitsGrow }
+{}
