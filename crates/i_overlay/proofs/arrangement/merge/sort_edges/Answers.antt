@@ -1,0 +1,15 @@
+-- The comparison is an order, so the sort puts the edges into it.
+use Rattle.std.proofs.Common.{◌≡◌, ap, ◌∙◌, rules}
+use Rattle.std.specs.Ordering.{is_lt}
+use Rattle.std.proofs.lemmas.List.Sorted.{answers_always}
+use Rattle.i_overlay.specs.Content.{plain_edge, edge_cmp}
+use Rattle.i_overlay.proofs.EdgeOrder.{edge_cmp-is_less, held_lt, held_lt-order, IsInOrder-from_sorted}
+use Rattle.i_overlay.proofs.arrangement.merge.sort_edges.Goals as goal
+
+pub returns-clause-order : goal.returns-clause-order
+returns-clause-order g c =
+    let whole = g.I.IntNumber.whole in
+    IsInOrder-from_sorted whole c.sort_by.new.self.items
+    (c.in_ok-sort_by.ensures.sorted (held_lt whole) (held_lt-order whole) (answers_always _ _ _ (λ f a r h k.
+    let answer : r ≡ edge_cmp (plain_edge whole a.0.now) (plain_edge whole a.1.0.now) = search rules in
+    ap is_lt answer ∙ edge_cmp-is_less (plain_edge whole a.0.now) (plain_edge whole a.1.0.now))))

@@ -1,0 +1,3 @@
+//! The refusals.
+
+pub use overlay_geom::error::OverlayError;

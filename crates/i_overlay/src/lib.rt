@@ -1,0 +1,15 @@
+//! Boolean operations on polygons with whole coordinates.
+//!
+//! Contours are added to an [`overlay::Overlay`] as subject or clip, and queries are answered on
+//! what was added.
+#![tactic(auto)]
+
+mod arrangement;
+pub mod error;
+pub mod fill_rule;
+pub mod i_float;
+pub mod integer;
+pub mod overlay;
+pub mod solver;
+mod thin;
+pub mod vector;

@@ -1,0 +1,10 @@
+//! The setting of how edges are split where they meet.
+
+/// How edges are split where they meet. There is one setting, and nothing is split yet.
+#[derive(Debug, Clone, Copy, PartialEq, Eq, Default)]
+pub struct Solver;
+
+impl Solver {
+    /// The one setting, which is the default too.
+    pub const ABSOLUTE: Solver = Solver;
+}

@@ -1,0 +1,3 @@
+//! Edges with the sides that the shapes fill.
+
+pub mod edge;

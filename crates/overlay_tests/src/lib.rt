@@ -1,0 +1,6 @@
+//! What the tests of the overlay crates share, and the tests that cross crates.
+#![tactic(auto)]
+
+#[cfg(test)]
+mod builder;
+pub mod refusing;
