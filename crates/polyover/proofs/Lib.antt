@@ -1,0 +1,13 @@
+pub mod Splits
+pub mod FirstLine
+pub mod Reading
+pub mod Numbers
+pub mod Writing
+pub mod PointLists
+pub mod FirstWord
+pub mod GoodLines
+pub mod Readings
+pub mod SoFar
+pub mod Builders
+pub mod InRange
+pub mod Refusals

@@ -1,0 +1,70 @@
+-- What the program answers: the edges of the arrangement, and their text.
+use Rattle.std.specs.Prelude.{◌≡◌, ℕ, List, [], ◌∷◌, ◌++◌, map, false, codes}
+use Rattle.std.specs.Fmt.{decimal, signed_decimal}
+use Rattle.std.specs.List.{flat_map}
+use Rattle.overlay_geom.specs.Edges.{CountedEdge, AddsContour}
+use Rattle.overlay_geom.specs.declared.error.OverlayError.{OverlayError}
+use Rattle.overlay_geom.specs.declared.error.OverlayError.TheVariants.{Memory, NotSettled, TooManyEdges, Failed}
+use Rattle.i_overlay.specs.declared.fill_rule.FillRule.{FillRule}
+use Rattle.i_overlay.specs.Builder.{edge_for, IsArranged, MergesUnsettled, WouldWeighTooMuch}
+use Rattle.i_overlay.specs.Vectors.{Vector, vector_of}
+use Rattle.polyover.specs.Grammar.{Contour, Asks, input_lines}
+
+-- ---- contours
+
+-- a builder with default options may hold the second content, after the contours are added to the first one in order
+pub data AddsContours : List Contour → List CountedEdge → List CountedEdge → Type 0 where
+  none : {es : List CountedEdge} → AddsContours [] es es
+  more : {c : Contour} {cs : List Contour} {old mid new : List CountedEdge} → AddsContour false (edge_for c.shape_type) c.points old mid → AddsContours cs mid new → AddsContours (c ∷ cs) old new
+
+-- ---- the answer
+
+-- the edges of the contours' arrangement in order, with the sides that are filled
+pub record AreEdges (cs : List Contour) (fill : FillRule) (vs : List Vector) : Type 0 where
+  pub content : List CountedEdge
+  pub edges : List CountedEdge
+  pub added : AddsContours cs [] content
+  pub arranged : IsArranged content edges
+  pub listed : vs ≡ map (vector_of fill edges) edges
+
+-- `edge ax ay bx by fill`, and LF
+abbrev pub edge_line : Vector → List ℕ
+edge_line v =
+    codes "edge " ++ signed_decimal v.a.x ++ codes " " ++ signed_decimal v.a.y ++ codes " " ++ signed_decimal v.b.x ++ codes " " ++ signed_decimal v.b.y ++ codes " " ++ decimal v.fill ++ 10 ∷ []
+
+abbrev pub edge_lines : List Vector → List ℕ
+edge_lines vs = flat_map edge_line vs
+
+-- the text answers the input
+pub record IsAnswer (bytes text : List ℕ) : Type 0 where
+  pub contours : List Contour
+  pub fill : FillRule
+  pub vectors : List Vector
+  pub asks : Asks (input_lines bytes) contours fill
+  pub answers : AreEdges contours fill vectors
+  pub lines : text ≡ edge_lines vectors
+
+-- ---- refusals
+
+-- one of the contours is too heavy, added after those before it
+pub record AreTooMany (cs : List Contour) : Type 0 where
+  pub before : List Contour
+  pub contour : Contour
+  pub after : List Contour
+  pub parts : cs ≡ before ++ contour ∷ after
+  pub content : List CountedEdge
+  pub added : AddsContours before [] content
+  pub heavy : WouldWeighTooMuch false contour.shape_type contour.points content
+
+-- the contours' merged edges are not settled
+pub record AreUnsettled (cs : List Contour) : Type 0 where
+  pub content : List CountedEdge
+  pub added : AddsContours cs [] content
+  pub unsettled : MergesUnsettled content
+
+-- the contours may be refused so
+abbrev pub MayRefuse : List Contour → OverlayError → Type 0
+MayRefuse cs Memory = Unit {0}
+MayRefuse cs NotSettled = AreUnsettled cs
+MayRefuse cs TooManyEdges = AreTooMany cs
+MayRefuse cs Failed = ⊥

@@ -1,0 +1,29 @@
+-- What the program holds of the lines that it has read.
+use Rattle.std.specs.Prelude.{◌++◌, List, [], ◌∷◌, Option, MatchOption}
+use Rattle.i_overlay.specs.declared.fill_rule.FillRule.{FillRule}
+use Rattle.polyover.specs.declared.input.Reading.{Reading}
+use Rattle.polyover.specs.declared.input.InputError.{InputError}
+use Rattle.polyover.specs.declared.input.InputError.TheVariants.{Memory, BadLine}
+use Rattle.polyover.specs.Grammar.{Line, Contour, AreContours, Asks, IsGoodSoFar, IsFirstBad}
+use Rattle.polyover.specs.Statements.{contours_at}
+
+-- the lines give these contours, and this command if there is one
+abbrev pub Give : List Line → List Contour → Option FillRule → Type 0
+Give ls cs command = MatchOption command (AreContours ls cs) (λ fill. Asks ls cs fill)
+
+-- the lines so far give what is held
+abbrev pub HasRead : {A : Type 0} → List Line → Reading A → Type 0
+HasRead ls r = Give ls (contours_at r.contours.items) r.command
+
+-- what was held takes one more line
+pub record TakesLine {A : Type 0} (l : Line) (old new : Reading A) : Type 0 where
+  pub takes : (ls : List Line) → HasRead ls old → HasRead (ls ++ l ∷ []) new
+
+-- no input that begins with the lines before goes on with this line
+pub record RefusesLine {A : Type 0} (l : Line) (old : Reading A) : Type 0 where
+  pub refuses : (ls : List Line) → HasRead ls old → ¬ (IsGoodSoFar (ls ++ l ∷ []))
+
+-- the first bad line is named
+abbrev pub IsNamedFault : List Line → InputError → Type 0
+IsNamedFault ls Memory = Unit {0}
+IsNamedFault ls (BadLine n) = IsFirstBad ls n

@@ -1,0 +1,10 @@
+pub mod Answers
+pub mod Engine
+pub mod Exits
+pub mod Grammar
+pub mod Inputs
+pub mod Lines
+pub mod Points
+pub mod Statements
+pub mod Words
+pub mod Written

@@ -1,0 +1,27 @@
+-- What a line says, as the program holds it.
+use Rattle.std.specs.Prelude.{◌≡◌, List, [], map}
+use Rattle.i_overlay.specs.declared.fill_rule.FillRule.{FillRule}
+use Rattle.polyover.specs.declared.contour.Contour.{Contour as HeldContour}
+use Rattle.polyover.specs.declared.statement.Statement.{Statement}
+use Rattle.polyover.specs.declared.statement.Statement.TheVariants.{Blank, Add, RunEdges}
+use Rattle.polyover.specs.Grammar.{Line, Contour, IsContour, IsCommand}
+use Rattle.polyover.specs.Points.{points_at}
+
+-- the contour that the program holds
+abbrev pub contour_at : {A : Type 0} → HeldContour A → Contour
+contour_at c = record { shape_type = c.shape_type; points = points_at c.points.items }
+
+abbrev pub contours_at : {A : Type 0} → List (HeldContour A) → List Contour
+contours_at cs = map contour_at cs
+
+-- the line says this
+abbrev pub Says : {A : Type 0} → Line → Statement A → Type 0
+Says l Blank = l ≡ []
+Says l (Add c) = IsContour l (contour_at c)
+Says l (RunEdges fill) = IsCommand l fill
+
+-- the line is not blank, no contour and no command
+pub record SaysNothing (l : Line) : Type 0 where
+  pub some_word : ¬ (l ≡ [])
+  pub no_contour : (c : Contour) → ¬ (IsContour l c)
+  pub no_command : (fill : FillRule) → ¬ (IsCommand l fill)
