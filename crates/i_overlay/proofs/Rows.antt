@@ -7,14 +7,14 @@ use Rattle.overlay_geom.specs.Plane.{Point, steps_of}
 use Rattle.overlay_geom.specs.Thinned.{IsThinned, thin, drop_one, IsStraightAt}
 use Rattle.overlay_geom.specs.Edges.{CountedEdge, subject_edge, clip_edge, weight}
 use Rattle.overlay_geom.specs.Merged.{joined_edge}
-use Rattle.i_overlay.specs.declared.fill_rule.FillRule.TheVariants.{EvenOdd, NonZero, Positive, Negative}
-use Rattle.i_overlay.specs.Rules.{fill_bits}
+use Rattle.overlay_arrange.specs.declared.fill_rule.FillRule.TheVariants.{EvenOdd, NonZero, Positive, Negative}
+use Rattle.overlay_arrange.specs.Rules.{fill_bits}
 
 abbrev at : ℕ → ℕ → Point
 at x y = record { x = pos x; y = pos y }
 
 abbrev passed : Point → Point → ℤ → ℤ → CountedEdge
-passed a b subj clip = record { a = a; b = b; subj = subj; clip = clip }
+passed a b subj clip = record { a = a; b = b; subj = subj; clip = clip; along = false; against = false }
 
 abbrev corners : List Point
 corners = at 0 0 ∷ at 2 0 ∷ at 2 2 ∷ at 0 2 ∷ []

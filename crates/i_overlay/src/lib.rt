@@ -4,12 +4,12 @@
 //! what was added.
 #![tactic(auto)]
 
-mod arrangement;
+pub mod edge_data;
 pub mod error;
 pub mod fill_rule;
 pub mod i_float;
 pub mod integer;
 pub mod overlay;
+pub mod segm;
 pub mod solver;
-mod thin;
 pub mod vector;

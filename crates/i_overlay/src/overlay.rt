@@ -2,28 +2,32 @@
 
 ghost use Rattle.std.specs.Prelude.{◌≡◌, ◌≢◌, ◌↔◌, ◌⊎◌, ◌^◌, ◌<◌, true, false, if◌then◌else◌, [], map};
 ghost use Rattle.std.specs.Prelude.{Ok, Err, IfOk, IfErr, OnOk, OnErr, IsOkUnless, IsErrOf};
+ghost use Rattle.overlay_arrange.specs.Arranged.{IsArranged, WasArranged};
+ghost use Rattle.overlay_arrange.specs.Content.{edge_for, IsContent};
+ghost use Rattle.overlay_arrange.specs.Options.{AreOptions};
+ghost use Rattle.overlay_arrange.specs.Vectors.{plain_vector, vector_of};
 ghost use Rattle.overlay_geom.specs.Edges.{AddsContour, weight};
 ghost use Rattle.overlay_geom.specs.Points.{plain_points, AllInRange};
-ghost use Rattle.i_overlay.specs.Builder.{edge_for, WouldWeighTooMuch, IsArranged, MergesUnsettled};
-ghost use Rattle.i_overlay.specs.Options.{AreOptions};
-ghost use Rattle.i_overlay.specs.Vectors.{plain_vector, vector_of};
+ghost use Rattle.overlay_plane.specs.Arrangements.{StaysUnsettled, WeighsTooMuch};
+ghost use Rattle.overlay_plane.specs.Meetings.{MeetInWholePoints};
+ghost use Rattle.i_overlay.specs.Builder.{WouldWeighTooMuch};
 
-use crate::arrangement::content::Content;
-use crate::fill_rule::FillRule;
 use crate::solver::Solver;
-use crate::thin::thinned;
-use crate::vector::edge::DataVectorEdge;
+use overlay_arrange::content::Content;
+use overlay_arrange::count::ShapeCountBoolean;
+use overlay_arrange::fill_rule::FillRule;
+use overlay_arrange::thin::thinned;
+use overlay_arrange::vector::DataVectorEdge;
 use overlay_geom::error::OverlayError;
 use overlay_geom::integer::OverlayInt;
 use overlay_geom::point::IntPoint;
 use std::alloc::Allocator;
 use std::marker::Model;
 
-mod options;
 #[cfg(test)]
 mod tests;
 
-pub use options::{ContourDirection, IntOverlayOptions, ShapeType};
+pub use overlay_arrange::options::{ContourDirection, IntOverlayOptions, ShapeType};
 
 /// A builder that holds counted edges of a subject and of a clip, and answers queries on them.
 ///
@@ -31,11 +35,11 @@ pub use options::{ContourDirection, IntOverlayOptions, ShapeType};
 /// `Failed`, until `clear`.
 #[derive(Drop)]
 pub struct Overlay<I: OverlayInt, A: Allocator> {
-    /// How edges will be split where they meet; nothing is split yet.
+    /// How edges are split where they meet.
     pub solver: Solver,
     /// How input is taken and how output looks.
     pub options: IntOverlayOptions<I::WideUInt>,
-    content: Content<I, A>,
+    content: Content<I, ShapeCountBoolean, A>,
     // whether a query was refused since the builder was last cleared
     is_failed: bool,
 }
@@ -110,26 +114,36 @@ impl<I: OverlayInt, A: Allocator + Clone> Overlay<I, A> {
         self.is_failed = false;
     }
 
-    /// Merges equal edges, and gives every edge that is left in order, by its smaller and then its
-    /// larger end, with the sides that the subject and the clip fill under the rule, seen on the
-    /// way from its smaller to its larger end.
+    /// Splits the edges where they meet, and gives every edge of this arrangement in order, by its
+    /// smaller and then its larger end, with the sides that the subject and the clip fill under the
+    /// rule, seen on the way from its smaller to its larger end.
     ///
-    /// Refusals: `Failed` before anything else, and then nothing is changed; `NotSettled` exactly
-    /// where two of the merged edges meet in a point that is not an end of both; `Memory`. After
-    /// these two the builder has failed, and what it holds is left open.
+    /// In each round equal edges are merged, and each edge is cut where others meet it; a meeting
+    /// point that is not whole is rounded to one whole point, at most 1/2 away in x and in y. Edges
+    /// that meet only in whole points or overlap need one round, and wind as before round every
+    /// point of the plane. What was arranged before stays as it is.
+    ///
+    /// Refusals: `Failed` before anything else, and then nothing is changed; `NotSettled` where
+    /// edges still meet in points that are no ends of both after 64 rounds; `TooManyEdges` where a
+    /// round brings the weight to 2^31; `Memory`. After these three the builder has failed, and
+    /// what it holds is left open.
     pub fn build_separate_vectors(
         &mut self,
         fill_rule: FillRule,
     ) -> Result<Vec<DataVectorEdge<I, ()>, A>, OverlayError>
-        ensures arranged { OnOk result (IsArranged self.old.edges self.new.edges) }
+        ensures arranged { OnOk result (IsArranged 64 self.old.edges self.new.edges) }
         ensures listed { IfOk result (λ v.
             map (plain_vector I.whole) v.items ≡ map (vector_of fill_rule self.new.edges) self.new.edges) }
         ensures ok { OnOk result (self.new ≡ record self.old { edges = self.new.edges }) }
         ensures err { OnErr result (self.new ≡ record self.old { edges = self.new.edges; failed = true }) }
         ensures failed { IsErrOf result OverlayError.Failed ↔ (self.old.failed ≡ true) }
         ensures untouched { IsErrOf result OverlayError.Failed → self.new ≡ self.old }
-        ensures not_settled { IsErrOf result OverlayError.NotSettled → MergesUnsettled self.old.edges }
-        ensures light { result ≢ Err OverlayError.TooManyEdges }
+        ensures not_settled { IsErrOf result OverlayError.NotSettled → StaysUnsettled 64 self.old.edges }
+        ensures whole { MeetInWholePoints self.old.edges → result ≢ Err OverlayError.NotSettled }
+        ensures again { WasArranged self.old.edges
+            → IfErr result (λ e. (e ≡ OverlayError.Memory) ⊎ (e ≡ OverlayError.Failed)) }
+        ensures content { OnOk result (IsContent I.limit self.new.edges) }
+        ensures too_many { IsErrOf result OverlayError.TooManyEdges → WeighsTooMuch 64 (2 ^ 31) self.old.edges }
     {
         self.check_usable()?;
         let built = arrange(&mut self.content, fill_rule);
@@ -148,20 +162,22 @@ impl<I: OverlayInt, A: Allocator + Clone> Overlay<I, A> {
     }
 }
 
-// Merges the content, and gives its edges with their filled sides if it is settled.
+// Brings the content into an arrangement, and gives its edges with their filled sides.
 fn arrange<I: OverlayInt, A: Allocator + Clone>(
-    content: &mut Content<I, A>,
+    content: &mut Content<I, ShapeCountBoolean, A>,
     fill_rule: FillRule,
 ) -> Result<Vec<DataVectorEdge<I, ()>, A>, OverlayError>
-    ensures arranged { OnOk result (IsArranged content.old content.new) }
+    ensures arranged { OnOk result (IsArranged 64 content.old content.new) }
     ensures listed { IfOk result (λ v.
         map (plain_vector I.whole) v.items ≡ map (vector_of fill_rule content.new) content.new) }
-    ensures not_settled { IsErrOf result OverlayError.NotSettled → MergesUnsettled content.old }
-    ensures only { IfErr result (λ e. (e ≡ OverlayError.Memory) ⊎ (e ≡ OverlayError.NotSettled)) }
+    ensures not_settled { IsErrOf result OverlayError.NotSettled → StaysUnsettled 64 content.old }
+    ensures whole { MeetInWholePoints content.old → result ≢ Err OverlayError.NotSettled }
+    ensures again { WasArranged content.old → IfErr result (λ e. e ≡ OverlayError.Memory) }
+    ensures content { OnOk result (IsContent I.limit content.new) }
+    ensures too_many { IsErrOf result OverlayError.TooManyEdges → WeighsTooMuch 64 (2 ^ 31) content.old }
+    ensures usable { result ≢ Err OverlayError.Failed }
 {
-    content.merge()?;
-    if !content.is_settled() {
-        return Err(OverlayError::NotSettled);
-    }
+    content.arrange(&mut ())?;
+    let _ = content.edges();
     content.filled_edges(fill_rule)
 }

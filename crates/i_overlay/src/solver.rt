@@ -1,6 +1,7 @@
 //! The setting of how edges are split where they meet.
 
-/// How edges are split where they meet. There is one setting, and nothing is split yet.
+/// How edges are split where they meet. There is one setting: in rounds, until they meet in ends
+/// alone.
 #[derive(Debug, Clone, Copy, PartialEq, Eq, Default)]
 pub struct Solver;
 

@@ -83,19 +83,24 @@ on_of_order e p forward on_line from to = record {
 }
 
 -- between two numbers in order
-in_order : (z u v : ℤ) → u ≤ℤ v → IsBetween z u v → (u ≤ℤ z) × (z ≤ℤ v)
-in_order z u v h (inl between) = between
-in_order z u v h (inr (low, high)) = (omega linear, omega linear)
+pub in_order_between : (z u v : ℤ) → u ≤ℤ v → IsBetween z u v → (u ≤ℤ z) × (z ≤ℤ v)
+in_order_between z u v h (inl between) = between
+in_order_between z u v h (inr (low, high)) = (omega linear, omega linear)
+
+-- what is between two numbers is between them in either order
+pub between_turned : (z u v : ℤ) → IsBetween z u v → IsBetween z v u
+between_turned z u v (inl between) = inr between
+between_turned z u v (inr between) = inl between
 
 -- a point of the edge lies between its ends
 pub order_of_on : (e : Edge) (p : PlanePoint) → IsBefore e.a e.b → IsOn e p → IsUpTo (over e.a p.d) (place_of p) × IsUpTo (place_of p) (over e.b p.d)
 order_of_on e p forward on = (record { x = in_x.0; y = from_y }, record { x = in_x.1; y = to_y })
   where
     in_x : ((e.a.x *ℤ p.d) ≤ℤ p.x) × (p.x ≤ℤ (e.b.x *ℤ p.d))
-    in_x = in_order p.x (e.a.x *ℤ p.d) (e.b.x *ℤ p.d) (over_le e.a.x e.b.x p.d p.positive forward.x) on.in_x
+    in_x = in_order_between p.x (e.a.x *ℤ p.d) (e.b.x *ℤ p.d) (over_le e.a.x e.b.x p.d p.positive forward.x) on.in_x
 
     in_y : e.b.x ≤ℤ e.a.x → ((e.a.y *ℤ p.d) ≤ℤ p.y) × (p.y ≤ℤ (e.b.y *ℤ p.d))
-    in_y upright = in_order p.y (e.a.y *ℤ p.d) (e.b.y *ℤ p.d) (over_le e.a.y e.b.y p.d p.positive (let up = forward.y upright in omega linear)) on.in_y
+    in_y upright = in_order_between p.y (e.a.y *ℤ p.d) (e.b.y *ℤ p.d) (over_le e.a.y e.b.y p.d p.positive (let up = forward.y upright in omega linear)) on.in_y
 
     at_a : e.a.x <ℤ e.b.x → p.x ≤ℤ (e.a.x *ℤ p.d) → p.y -ℤ e.a.y *ℤ p.d ≡ pos 0
     at_a wide le =

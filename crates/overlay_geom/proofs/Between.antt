@@ -1,5 +1,5 @@
 -- The edges of a list that have given ends, and the list without them.
-use Rattle.std.proofs.Common.{◌≡◌, zero, suc, ◌≤◌, Bool, true, false, cond, not, List, [], ◌∷◌, length, refl, ap, sym, ◌∙◌, arith, ◌⊎◌, inl, inr}
+use Rattle.std.proofs.Common.{◌≡◌, ◌≤◌, Bool, true, false, cond, not, List, [], ◌∷◌, length, refl, ap, sym, ◌∙◌, arith, ◌⊎◌, inl, inr}
 use Rattle.std.specs.List.{All, Contains, filter}
 use Rattle.std.proofs.lemmas.Bool.{cases_Bool, not-true}
 use Rattle.std.proofs.lemmas.List.Elements.{All-head, All-tail, All-weaker, filter_passes}
@@ -7,6 +7,7 @@ use Rattle.std.proofs.lemmas.List.Sums.{length-filter, count_by-le-length}
 use Rattle.overlay_geom.specs.Plane.{Edge, edge_eq}
 use Rattle.overlay_geom.specs.Edges.{CountedEdge, ends_of}
 use Rattle.overlay_geom.specs.Merged.{edges_between}
+use Rattle.overlay_geom.proofs.Entries.{Contains-head, Contains-later}
 use Rattle.overlay_geom.proofs.Orders.{edge_eq-same, edge_eq-itself}
 
 -- the edges of the list that have other ends
@@ -36,20 +37,12 @@ without-here f es e h = ap (λ b. cond (not b) (f ∷ without es e) (without es 
 pub without-past : (f : CountedEdge) (es : List CountedEdge) (e : Edge) → edge_eq (ends_of f) e ≡ false → without (f ∷ es) e ≡ f ∷ without es e
 without-past f es e h = ap (λ b. cond (not b) (f ∷ without es e) (without es e)) h
 
--- a list contains its first element
-pub Contains-first : {X : Type 0} (x : X) (xs : List X) → Contains (x ∷ xs) x
-Contains-first x xs = (zero, omega arith, refl)
-
--- and what the rest of it contains
-pub Contains-later : {X : Type 0} (y : X) (xs : List X) (x : X) → Contains xs x → Contains (y ∷ xs) x
-Contains-later y xs x h = (suc h.0, omega (arith, h.1), h.2)
-
 -- there are none, or the list contains one
 pub find_between : (es : List CountedEdge) (e : Edge) → (edges_between es e ≡ []) ⊎ ((f : CountedEdge) × Contains es f × (ends_of f ≡ e))
 find_between [] e = inl refl
 find_between (f ∷ es) e =
     elim (cases_Bool (edge_eq (ends_of f) e)) [
-      | inl same ↦ inr (f, Contains-first f es, edge_eq-same (ends_of f) e same)
+      | inl same ↦ inr (f, Contains-head f es, edge_eq-same (ends_of f) e same)
       | inr other ↦ elim (find_between es e) [
         | inl none ↦ inl (edges_between-past f es e other ∙ none)
         | inr found ↦ inr (found.0, Contains-later f es found.0 found.1, found.2)

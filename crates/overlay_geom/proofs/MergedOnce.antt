@@ -1,21 +1,14 @@
 -- A list is merged in one way only.
-use Rattle.std.proofs.Common.{◌≡◌, ℕ, zero, suc, ◌<◌, false, List, [], ◌∷◌, length, get_or, refl, ap, sym, subst, ◌∙◌, arith, ◌⊎◌, inl, inr}
+use Rattle.std.proofs.Common.{◌≡◌, false, List, [], ◌∷◌, get_or, refl, ap, sym, subst, ◌∙◌, arith, inl, inr}
 use Rattle.std.specs.List.{All, Contains}
 use Rattle.std.proofs.lemmas.Bool.{both_ways}
 use Rattle.std.proofs.lemmas.List.Elements.{All-contains, All-head, All-tail}
 use Rattle.overlay_geom.specs.Plane.{edge_lt}
 use Rattle.overlay_geom.specs.Edges.{CountedEdge, ends_of, counts_nothing}
 use Rattle.overlay_geom.specs.Merged.{joined_edge, IsMerged}
+use Rattle.overlay_geom.proofs.Entries.{Contains-cases}
 use Rattle.overlay_geom.proofs.Orders.{edge_lt-itself, edge_lt-trans}
 use Rattle.overlay_geom.proofs.Merging.{ComesBefore, Ascends, AllPairs-head, AllPairs-tail, JoinAlike, joined_cases, joined_none, IsMerged-alike}
-
--- an element of a list is its first one, or one of the rest
-pub Contains-cons_cases : {X : Type 0} (y : X) (ys : List X) (x : X) → Contains (y ∷ ys) x → (y ≡ x) ⊎ Contains ys x
-Contains-cons_cases y ys x h = at h.0 h.1 h.2
-  where
-    at : (k : ℕ) → k < length (y ∷ ys) → get_or (y ∷ ys) k x ≡ x → (y ≡ x) ⊎ Contains ys x
-    at zero within is = inl is
-    at (suc k) within is = inr (k, omega arith, is)
 
 -- an edge that comes before another one is not that one
 pub not_before_itself : (e f : CountedEdge) → ComesBefore e f → e ≡ f → ⊥
@@ -24,9 +17,9 @@ not_before_itself e f before same = both_ways (edge_lt (ends_of e) (ends_of f)) 
 -- what comes first in two ascending lists with the same edges is the same
 same_first : (x : CountedEdge) (xs : List CountedEdge) (y : CountedEdge) (ys : List CountedEdge) → All (ComesBefore x) xs → All (ComesBefore y) ys → Contains (y ∷ ys) x → Contains (x ∷ xs) y → x ≡ y
 same_first x xs y ys x_first y_first has_x has_y =
-    elim (Contains-cons_cases y ys x has_x) [
+    elim (Contains-cases y ys x has_x) [
       | inl same ↦ sym same
-      | inr x_later ↦ elim (Contains-cons_cases x xs y has_y) [
+      | inr x_later ↦ elim (Contains-cases x xs y has_y) [
         | inl same ↦ same
         | inr y_later ↦
             let back : ComesBefore y x = All-contains (ComesBefore y) ys x y_first x_later in
@@ -38,7 +31,7 @@ same_first x xs y ys x_first y_first has_x has_y =
 -- and the rest has the same edges
 same_rest : (x : CountedEdge) (xs ys : List CountedEdge) → All (ComesBefore x) xs → All (Contains (x ∷ ys)) xs → All (Contains ys) xs
 same_rest x xs ys first has = λ k d l.
-    elim (Contains-cons_cases x ys (get_or xs k d) (has k d l)) [
+    elim (Contains-cases x ys (get_or xs k d) (has k d l)) [
       | inl same ↦ absurd (not_before_itself x (get_or xs k d) (first k d l) same)
       | inr later ↦ later
     ]

@@ -1,15 +1,13 @@
 -- A list is another one merged where it ascends, has no edge without counts, and has the same joined edge between any two ends.
-use Rattle.std.proofs.Common.{◌≡◌, zero, suc, true, false, pos, List, [], ◌∷◌, get_or, refl, ap, sym, subst, ◌∙◌, arith, ◌⊎◌, inl, inr}
-use Rattle.std.specs.List.{All, AllPairs, Contains}
-use Rattle.std.specs.Ordering.{int_eq}
-use Rattle.std.proofs.lemmas.Bool.{and_parts}
-use Rattle.std.proofs.lemmas.Bool.Decides.{Decides-int_eq}
+use Rattle.std.proofs.Common.{◌≡◌, zero, suc, Bool, true, false, List, [], ◌∷◌, get_or, refl, ap, sym, subst, ◌∙◌, arith, ◌⊎◌, inl, inr}
+use Rattle.std.specs.List.{All, AllPairs, Contains, list_any}
 use Rattle.std.proofs.lemmas.Int.{ints}
 use Rattle.std.proofs.lemmas.List.Elements.{All-cons, All-nil, All-contains, All-weaker}
 use Rattle.overlay_geom.specs.Plane.{Edge, edge_eq, edge_lt, total}
-use Rattle.overlay_geom.specs.Edges.{CountedEdge, ends_of, subj_of, clip_of, counts_nothing}
+use Rattle.overlay_geom.specs.Edges.{CountedEdge, ends_of, subj_of, clip_of, goes_along, goes_against, counts_nothing}
 use Rattle.overlay_geom.specs.Merged.{edges_between, joined_edge, IsMerged}
 use Rattle.overlay_geom.proofs.Orders.{edge_eq-itself, edge_eq-from_lt, edge_eq-flip}
+use Rattle.overlay_geom.proofs.Marks.{IsUncounted, uncounted, or_false, marked_between}
 use Rattle.overlay_geom.proofs.Between.{edges_between-none, edges_between-here, edges_between-past, find_between}
 
 -- e comes before f in the order of edges
@@ -49,15 +47,29 @@ pub joined_alone : (es : List CountedEdge) (f : CountedEdge) → edges_between e
 joined_alone es f h =
     let s : total subj_of (edges_between es (ends_of f)) ≡ f.subj = ap (total subj_of) h ∙ omega (arith, ints) in
     let c : total clip_of (edges_between es (ends_of f)) ≡ f.clip = ap (total clip_of) h ∙ omega (arith, ints) in
-    λ i. record { a = f.a; b = f.b; subj = s i; clip = c i }
+    λ i. record { a = f.a; b = f.b; subj = s i; clip = c i; along = marked goes_along i; against = marked goes_against i }
+  where
+    marked : (mark : CountedEdge → Bool) → marked_between mark es (ends_of f) ≡ mark f
+    marked mark = ap (list_any mark) h ∙ or_false (mark f)
 
 -- in an ascending list each edge is the one that stands between its ends
 pub joined_itself : (es : List CountedEdge) → Ascends es → All (λ f. joined_edge es (ends_of f) ≡ f) es
 joined_itself es up = All-weaker (λ f. edges_between es (ends_of f) ≡ f ∷ []) (λ f. joined_edge es (ends_of f) ≡ f) (joined_alone es) es (alone_between es up)
 
+-- the one edge between these ends that all edges of a list become
+abbrev pub all_joined : Edge → List CountedEdge → CountedEdge
+all_joined e fs = record {
+  a = e.a;
+  b = e.b;
+  subj = total subj_of fs;
+  clip = total clip_of fs;
+  along = list_any goes_along fs;
+  against = list_any goes_against fs;
+}
+
 -- where no edges are, the joined one counts nothing
 pub joined_none : (es : List CountedEdge) (e : Edge) → edges_between es e ≡ [] → counts_nothing (joined_edge es e) ≡ true
-joined_none es e h = ap (λ fs. counts_nothing (record { a = e.a; b = e.b; subj = total subj_of fs; clip = total clip_of fs })) h
+joined_none es e h = ap (λ fs. counts_nothing (all_joined e fs)) h
 
 -- what the edge of an ascending list between two ends is, or that there is none
 pub joined_cases : (es : List CountedEdge) (e : Edge) → Ascends es → (edges_between es e ≡ []) ⊎ Contains es (joined_edge es e)
@@ -87,11 +99,13 @@ IsMerged-from_alike old new up full alike = record {
 -- an edge that counts nothing is settled by its ends
 pub same_from_nothing : (e f : CountedEdge) → ends_of e ≡ ends_of f → counts_nothing e ≡ true → counts_nothing f ≡ true → e ≡ f
 same_from_nothing e f ends g h =
-    let zeros = and_parts (int_eq e.subj (pos 0)) (int_eq e.clip (pos 0)) g in
-    let others = and_parts (int_eq f.subj (pos 0)) (int_eq f.clip (pos 0)) h in
-    let s : e.subj ≡ f.subj = (Decides-int_eq e.subj (pos 0)).0 zeros.0 ∙ sym ((Decides-int_eq f.subj (pos 0)).0 others.0) in
-    let c : e.clip ≡ f.clip = (Decides-int_eq e.clip (pos 0)).0 zeros.1 ∙ sym ((Decides-int_eq f.clip (pos 0)).0 others.1) in
-    λ i. record { a = (ends i).a; b = (ends i).b; subj = s i; clip = c i }
+    let none : IsUncounted e = uncounted e g in
+    let others : IsUncounted f = uncounted f h in
+    let s : e.subj ≡ f.subj = none.subj ∙ sym others.subj in
+    let c : e.clip ≡ f.clip = none.clip ∙ sym others.clip in
+    let l : e.along ≡ f.along = none.along ∙ sym others.along in
+    let r : e.against ≡ f.against = none.against ∙ sym others.against in
+    λ i. record { a = (ends i).a; b = (ends i).b; subj = s i; clip = c i; along = l i; against = r i }
 
 -- a merged list has the joined edges of the list that it was merged from
 pub IsMerged-alike : (old new : List CountedEdge) → IsMerged old new → JoinAlike old new

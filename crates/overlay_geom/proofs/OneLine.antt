@@ -55,22 +55,22 @@ along_exchanged e f forward (at_a, at_b) =
 -- ---- overlaps
 
 -- a whole point lies on an edge
-record IsHeldBy (e : Edge) (u : Point) : Type 0 where
-  on_line : cross_at e.a e.b u ≡ pos 0
-  from : IsUpTo e.a u
-  to : IsUpTo u e.b
+pub record IsHeldBy (e : Edge) (u : Point) : Type 0 where
+  pub on_line : cross_at e.a e.b u ≡ pos 0
+  pub from : IsUpTo e.a u
+  pub to : IsUpTo u e.b
 
 -- an edge holds its smaller end
-holds_a : (e : Edge) → IsBefore e.a e.b → IsHeldBy e e.a
-holds_a e forward = record {
+pub holds_start : (e : Edge) → IsBefore e.a e.b → IsHeldBy e e.a
+holds_start e forward = record {
   on_line = cross_at_first e.a e.b;
   from = up_to_itself e.a;
   to = before_up_to e.a e.b forward;
 }
 
 -- and its larger one
-holds_b : (e : Edge) → IsBefore e.a e.b → IsHeldBy e e.b
-holds_b e forward = record { on_line = cross_at_same e.a e.b; from = before_up_to e.a e.b forward; to = up_to_itself e.b }
+pub holds_end : (e : Edge) → IsBefore e.a e.b → IsHeldBy e e.b
+holds_end e forward = record { on_line = cross_at_same e.a e.b; from = before_up_to e.a e.b forward; to = up_to_itself e.b }
 
 -- the midpoint between two points of an edge lies on the edge, and is no end of it
 abbrev middle : Point → Point → PlanePoint
@@ -137,14 +137,14 @@ overlap_from e f e_forward f_forward f_along e_along later begins = by_order e.b
 
     f_is_longer : IsUpTo e.b f.b → ¬ (MeetInEnds e f)
     f_is_longer to =
-        held_in_common e f f.a e.b e_forward f_forward e_holds_start (holds_a f f_forward) (holds_b e e_forward)
+        held_in_common e f f.a e.b e_forward f_forward e_holds_start (holds_start f f_forward) (holds_end e e_forward)
         (record { on_line = e_along.1; from = before_up_to f.a e.b begins; to = to }) begins
 
     e_is_longer : IsBefore f.b e.b → ¬ (MeetInEnds e f)
     e_is_longer to =
-        held_in_common e f f.a f.b e_forward f_forward e_holds_start (holds_a f f_forward)
+        held_in_common e f f.a f.b e_forward f_forward e_holds_start (holds_start f f_forward)
         (record { on_line = f_along.1; from = before_up_to e.a f.b (before_after_up_to e.a f.a f.b later f_forward); to = before_up_to f.b e.b to })
-        (holds_b f f_forward) f_forward
+        (holds_end f f_forward) f_forward
 
 -- two edges on one line, each of which begins before the other ends, do not meet in ends alone
 pub overlapping_do_not_meet_in_ends : (e f : Edge) → IsBefore e.a e.b → IsBefore f.a f.b → IsAlong e f → IsBefore e.a f.b → IsBefore f.a e.b → ¬ (MeetInEnds e f)

@@ -71,6 +71,18 @@ pub Decides-point_eq : (p q : Point) → Decides (point_eq p q) (p ≡ q)
 Decides-point_eq p q =
     Decides-like (point_eq p q) (λ h. same_point p q h.0 h.1) (λ h. (ap (λ (r : Point). r.x) h, ap (λ (r : Point). r.y) h)) (Decides-and _ _ (Decides-int_eq p.x q.x) (Decides-int_eq p.y q.y))
 
+-- points that are found equal are one
+pub point_eq-same : (p q : Point) → point_eq p q ≡ true → p ≡ q
+point_eq-same p q = (Decides-point_eq p q).0
+
+-- and one point is found equal
+pub point_eq-of_same : (p q : Point) → p ≡ q → point_eq p q ≡ true
+point_eq-of_same p q = (Decides-point_eq p q).1
+
+-- no point is smaller than itself
+pub point_lt-itself : (p : Point) → point_lt p p ≡ false
+point_lt-itself p = point_lt-is_less p p ∙ ap is_lt (tied_itself point_order-total p)
+
 -- of two different points the second is the smaller one, if the first is not
 pub point_lt-back : (p q : Point) → point_eq p q ≡ false → point_lt p q ≡ false → point_lt q p ≡ true
 point_lt-back p q differ back =
@@ -94,7 +106,15 @@ edge_eq-same e f = (Decides-edge_eq e f).0
 pub edge_eq-itself : (e : Edge) → edge_eq e e ≡ true
 edge_eq-itself e = (Decides-edge_eq e e).1 refl
 
+-- edges with the same ends are found equal
+pub edge_eq-from_ends : (e f : Edge) → e.a ≡ f.a → e.b ≡ f.b → edge_eq e f ≡ true
+edge_eq-from_ends e f same_a same_b = (Decides-edge_eq e f).1 (λ i. record { a = same_a i; b = same_b i })
+
 -- two edges are equal whichever of them is named first
+pub edge_eq-exchanged : (e f : Edge) → edge_eq e f ≡ true → edge_eq f e ≡ true
+edge_eq-exchanged e f same = (Decides-edge_eq f e).1 (sym (edge_eq-same e f same))
+
+-- and so they are different
 pub edge_eq-flip : (e f : Edge) → edge_eq e f ≡ false → edge_eq f e ≡ false
 edge_eq-flip e f h =
     elim (cases_Bool (edge_eq f e)) [

@@ -6,6 +6,7 @@ use Rattle.std.proofs.lemmas.Bool.Decides.{Decides-int_eq, Decides-and, Decides-
 use Rattle.overlay_geom.specs.Plane.{Point, point_lt}
 use Rattle.overlay_geom.proofs.Comparisons.{Decides-int_lt}
 use Rattle.overlay_geom.proofs.Signs.{linear}
+use Rattle.overlay_geom.proofs.Orders.{same_point}
 
 -- p is smaller than q
 pub record IsBefore (p q : Point) : Type 0 where
@@ -67,3 +68,36 @@ same_round p q r pq qr rp =
 -- a point is not smaller than itself
 pub before_is_other : (p q : Point) → IsBefore p q → q.x ≡ p.x → q.y ≡ p.y → ⊥
 before_is_other p q h same_x same_y = let lt = h.y (omega linear) in omega linear
+
+-- what is up to a point is up to all that it is up to
+pub up_to_through : (p q r : Point) → IsUpTo p q → IsUpTo q r → IsUpTo p r
+up_to_through p q r h k = record {
+  x = let a = h.x in let b = k.x in omega linear;
+  y = λ le. both le (let b = k.x in omega linear)
+      (let a = h.x in omega linear);
+}
+  where
+    both : r.x ≤ℤ p.x → q.x ≤ℤ p.x → r.x ≤ℤ q.x → p.y ≤ℤ r.y
+    both le here there = let a = h.y here in let b = k.y there in omega linear
+
+-- two points, each up to the other, are one
+pub up_to_both : (p q : Point) → IsUpTo p q → IsUpTo q p → p ≡ q
+up_to_both p q h k =
+    let there = h.x in
+    let back = k.x in
+    let up = h.y back in
+    let down = k.y there in
+    same_point p q (omega linear) (omega linear)
+
+-- a point up to another one is it, or smaller
+pub before_unless_same : (p q : Point) → IsUpTo p q → ¬ (p ≡ q) → IsBefore p q
+before_unless_same p q up other = by_order q p (λ down. absurd (other (up_to_both p q up down))) (λ before. before)
+
+-- no point is smaller than one that is up to it
+pub not_before_up_to : (p q : Point) → IsBefore p q → ¬ (IsUpTo q p)
+not_before_up_to p q before up =
+    let there = before.x in
+    let back = up.x in
+    let less = before.y back in
+    let more = up.y there in
+    omega linear

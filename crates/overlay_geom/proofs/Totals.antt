@@ -33,10 +33,10 @@ total-within f bound each (x ∷ xs) =
     record { low = omega (arith, ints); high = omega (arith, ints) }
 
 -- what a part of the list adds up to is the sum over the list that takes nothing of the rest
-pub total-filter : {X : Type 0} (f : X → ℤ) (p : X → Bool) (xs : List X) → total f (filter p xs) ≡ total (λ x. cond (p x) (f x) (pos 0)) xs
-total-filter f p [] = refl
-total-filter f p (x ∷ xs) =
-    let e = total-filter f p xs in
+pub total-filter : {X : Type 0} (p : X → Bool) (f : X → ℤ) (xs : List X) → total f (filter p xs) ≡ total (λ x. cond (p x) (f x) (pos 0)) xs
+total-filter p f [] = refl
+total-filter p f (x ∷ xs) =
+    let e = total-filter p f xs in
     elim (p x) as (λ b. total f (cond b (x ∷ filter p xs) (filter p xs)) ≡ cond b (f x) (pos 0) +ℤ total (λ x. cond (p x) (f x) (pos 0)) xs) [
       | true ↦ ap (λ z. f x +ℤ z) e
       | false ↦ omega (arith, ints)

@@ -1,33 +1,41 @@
 -- Merging makes no list heavier.
 use Rattle.std.proofs.Common.{◌≡◌, ℕ, ◌+◌, ◌≤◌, not, List, [], ◌∷◌, get_or, refl, ap, sym, ◌∙◌, arith}
-use Rattle.std.specs.List.{All}
+use Rattle.std.specs.List.{All, list_any}
 use Rattle.std.specs.Prelude.{nat_abs}
 use Rattle.std.proofs.lemmas.Int.{ints}
 use Rattle.std.proofs.lemmas.List.Elements.{All-head, All-tail}
 use Rattle.std.proofs.lemmas.List.Filters.{sum_by-filter_both}
 use Rattle.std.proofs.lemmas.List.Sums.{sum_by-cons}
 use Rattle.overlay_geom.specs.Plane.{Edge, edge_eq, total}
-use Rattle.overlay_geom.specs.Edges.{CountedEdge, ends_of, subj_of, clip_of, weight}
+use Rattle.overlay_geom.specs.Edges.{CountedEdge, ends_of, subj_of, clip_of, goes_along, goes_against, weight}
 use Rattle.overlay_geom.specs.Merged.{edges_between, joined_edge, IsMerged}
 use Rattle.overlay_geom.proofs.Orders.{edge_eq-from_lt}
 use Rattle.overlay_geom.proofs.Between.{without, between_without}
-use Rattle.overlay_geom.proofs.Merging.{ComesBefore, Ascends, AllPairs-head, AllPairs-tail}
+use Rattle.overlay_geom.proofs.Marks.{mark_weight, mark_weight-or}
+use Rattle.overlay_geom.proofs.Merging.{ComesBefore, Ascends, all_joined, AllPairs-head, AllPairs-tail}
 
 -- what one edge weighs
 abbrev pub edge_weight : CountedEdge → ℕ
-edge_weight e = nat_abs e.subj + nat_abs e.clip
+edge_weight e = nat_abs e.subj + nat_abs e.clip + mark_weight e.along + mark_weight e.against
 
 -- a list weighs what its first edge and the rest weigh
 pub weight-cons : (e : CountedEdge) (es : List CountedEdge) → weight (e ∷ es) ≡ edge_weight e + weight es
 weight-cons e es = sum_by-cons edge_weight e es
 
 -- the edge that edges become weighs no more than they do
-pub weight_of_totals : (es : List CountedEdge) → nat_abs (total subj_of es) + nat_abs (total clip_of es) ≤ weight es
+pub weight_of_totals : (es : List CountedEdge) →
+    nat_abs (total subj_of es) + nat_abs (total clip_of es) + mark_weight (list_any goes_along es) + mark_weight (list_any goes_against es) ≤ weight es
 weight_of_totals [] = omega arith
 weight_of_totals (e ∷ es) =
     let rest = weight_of_totals es in
     let all = weight-cons e es in
+    let along = mark_weight-or e.along (list_any goes_along es) in
+    let against = mark_weight-or e.against (list_any goes_against es) in
     omega (arith, ints)
+
+-- a joined edge weighs no more than the edges that it is made of
+pub weight_of_joined_edge : (es : List CountedEdge) (e : Edge) → edge_weight (joined_edge es e) ≤ weight (edges_between es e)
+weight_of_joined_edge es e = weight_of_totals (edges_between es e)
 
 -- a list weighs what the edges between two ends and the others weigh
 pub weight-parts : (es : List CountedEdge) (e : Edge) → weight (edges_between es e) + weight (without es e) ≡ weight es
@@ -42,15 +50,15 @@ weight_of_joined (x ∷ xs) old up joined =
     let first : x ≡ joined_edge old (ends_of x) = All-head (λ e. e ≡ joined_edge old (ends_of e)) x xs joined in
     let rest : weight xs ≤ weight others =
     weight_of_joined xs others (AllPairs-tail ComesBefore x xs up) (λ k d l. All-tail (λ e. e ≡ joined_edge old (ends_of e)) x xs joined k d l ∙ still (get_or xs k d) (later k d l)) in
-    let light : nat_abs (total subj_of (edges_between old (ends_of x))) + nat_abs (total clip_of (edges_between old (ends_of x))) ≤ weight (edges_between old (ends_of x)) = weight_of_totals (edges_between old (ends_of x)) in
-    let heavy : edge_weight x ≡ nat_abs (total subj_of (edges_between old (ends_of x))) + nat_abs (total clip_of (edges_between old (ends_of x))) = ap edge_weight first in
+    let light : edge_weight (joined_edge old (ends_of x)) ≤ weight (edges_between old (ends_of x)) = weight_of_joined_edge old (ends_of x) in
+    let heavy : edge_weight x ≡ edge_weight (joined_edge old (ends_of x)) = ap edge_weight first in
     let parts = weight-parts old (ends_of x) in
     let all = weight-cons x xs in
     omega arith
   where
     still : (e : CountedEdge) → ComesBefore x e → joined_edge old (ends_of e) ≡ joined_edge (without old (ends_of x)) (ends_of e)
     still e before =
-        ap (λ fs. record { a = e.a; b = e.b; subj = total subj_of fs; clip = total clip_of fs }) (sym (between_without old (ends_of x) (ends_of e) (edge_eq-from_lt (ends_of x) (ends_of e) before)))
+        ap (all_joined (ends_of e)) (sym (between_without old (ends_of x) (ends_of e) (edge_eq-from_lt (ends_of x) (ends_of e) before)))
 
 -- a merged list weighs no more than the list that it was merged from
 pub weight_of_merged : (old new : List CountedEdge) → IsMerged old new → weight new ≤ weight old

@@ -1,9 +1,9 @@
-pub mod Carried
 pub mod Edges
 pub mod Merged
 pub mod Numbers
 pub mod Placed
 pub mod Plane
 pub mod Points
+pub mod Rounding
 pub mod Settled
 pub mod Thinned

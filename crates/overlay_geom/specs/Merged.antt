@@ -1,15 +1,23 @@
--- Merging: equal edges become one, their counts are summed, and edges without counts are dropped.
+-- Merging: equal edges become one, their counts are summed, their marks kept, and edges without counts and marks are dropped.
 use Rattle.std.specs.Prelude.{◌≡◌, ◌⊎◌, true, false, List, filter, All, AllPairs, Contains}
+use Rattle.std.specs.List.{list_any}
 use Rattle.overlay_geom.specs.Plane.{PlanePoint, Edge, edge_eq, edge_lt, total}
-use Rattle.overlay_geom.specs.Edges.{CountedEdge, ends_of, subj_of, clip_of, counts_nothing, winding_by}
+use Rattle.overlay_geom.specs.Edges.{CountedEdge, ends_of, subj_of, clip_of, goes_along, goes_against, counts_nothing, winding_by}
 
 -- the edges of the list that have these ends
 abbrev pub edges_between : List CountedEdge → Edge → List CountedEdge
 edges_between es e = filter (λ f. edge_eq (ends_of f) e) es
 
--- the one edge that the edges with these ends become: their counts are summed
+-- the one edge that the edges with these ends become: their counts are summed, and it has the marks that any of them has
 abbrev pub joined_edge : List CountedEdge → Edge → CountedEdge
-joined_edge es e = record { a = e.a; b = e.b; subj = total subj_of (edges_between es e); clip = total clip_of (edges_between es e) }
+joined_edge es e = record {
+  a = e.a;
+  b = e.b;
+  subj = total subj_of (edges_between es e);
+  clip = total clip_of (edges_between es e);
+  along = list_any goes_along (edges_between es e);
+  against = list_any goes_against (edges_between es e);
+}
 
 -- the second list is the first with equal edges made one, those without counts dropped, in ascending order
 pub record IsMerged (old new : List CountedEdge) : Type 0 where

@@ -1,5 +1,6 @@
 -- Whole points, plane points with rational coordinates, steps between whole points and their edges, and windings as sums along a ray downwards.
-use Rattle.std.specs.Prelude.{◌≡◌, ◌⊎◌, Bool, cond, ◌&&◌, ◌||◌, ℤ, pos, negsuc, ◌+ℤ◌, ◌-ℤ◌, ◌*ℤ◌, ◌<ℤ◌, ◌≤ℤ◌, int_lt, int_le, List, [], ◌∷◌, ◌++◌, map, reverse, All}
+use Rattle.std.specs.Prelude.{◌≡◌, ◌⊎◌, Bool, cond, ◌&&◌, ◌||◌, ℤ, pos, negsuc, ◌+ℤ◌, ◌-ℤ◌, ◌*ℤ◌, ◌<ℤ◌, ◌≤ℤ◌, int_lt, int_le}
+use Rattle.std.specs.Prelude.{List, [], ◌∷◌, ◌++◌, map, reverse, All}
 use Rattle.std.specs.Ordering.{int_eq}
 
 -- a point with whole coordinates
@@ -68,9 +69,13 @@ reversed_step s = record { from = s.to; to = s.from }
 abbrev pub cross_at : Point → Point → Point → ℤ
 cross_at v p q = (p.x -ℤ v.x) *ℤ (q.y -ℤ v.y) -ℤ (p.y -ℤ v.y) *ℤ (q.x -ℤ v.x)
 
+-- the side of the point (x / d, y / d), as a form in x, y and d
+abbrev pub line_form : Edge → ℤ → ℤ → ℤ → ℤ
+line_form e x y d = (e.b.x -ℤ e.a.x) *ℤ (y -ℤ e.a.y *ℤ d) -ℤ (e.b.y -ℤ e.a.y) *ℤ (x -ℤ e.a.x *ℤ d)
+
 -- positive where p lies to the left of the walk from a to b, negative to the right, 0 on the line
 abbrev pub side : Edge → PlanePoint → ℤ
-side e p = (e.b.x -ℤ e.a.x) *ℤ (p.y -ℤ e.a.y *ℤ p.d) -ℤ (e.b.y -ℤ e.a.y) *ℤ (p.x -ℤ e.a.x *ℤ p.d)
+side e p = line_form e p.x p.y p.d
 
 -- the edge is strictly below p: p.x is in the edge's span, of which the right end is no part, and p lies strictly to the left of the walk from a to b
 abbrev pub is_strictly_below : Edge → PlanePoint → Bool
@@ -142,6 +147,10 @@ abbrev pub total : {X : Type 0} → (X → ℤ) → List X → ℤ
 total f [] = pos 0
 total f (x ∷ xs) = f x +ℤ total f xs
 
+-- the counts of the entries whose edges are strictly below p, summed
+abbrev pub total_below : {X : Type 0} → (X → Edge) → (X → ℤ) → List X → PlanePoint → ℤ
+total_below ends count xs p = total (λ x. cond (is_strictly_below (ends x) p) (count x) (pos 0)) xs
+
 -- how often the steps wind round p: the signs of the steps whose edges are strictly below p, summed
 abbrev pub winding : List Step → PlanePoint → ℤ
-winding ss p = total (λ s. cond (is_strictly_below (edge_of s) p) (sign_of s) (pos 0)) ss
+winding ss p = total_below edge_of sign_of ss p

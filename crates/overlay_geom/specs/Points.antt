@@ -13,9 +13,9 @@ plain_point whole p = record { x = whole p.x; y = whole p.y }
 abbrev pub plain_points : {I : Type 0} → (I → ℤ) → List (IntPoint I) → List Point
 plain_points whole ps = map (plain_point whole) ps
 
--- the vector as the whole point to which it leads from (0, 0)
-abbrev pub plain_vector : {I : Type 0} → (I → ℤ) → IntVector I → Point
-plain_vector whole v = record { x = whole v.x; y = whole v.y }
+-- the way of a vector: the whole point to which it leads from (0, 0)
+abbrev pub plain_way : {I : Type 0} → (I → ℤ) → IntVector I → Point
+plain_way whole v = record { x = whole v.x; y = whole v.y }
 
 -- both coordinates are at most the limit away from 0
 pub record InRange (limit : ℕ) (p : Point) : Type 0 where

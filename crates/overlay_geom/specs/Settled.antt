@@ -11,6 +11,10 @@ IsCommon e f p = IsOn e p × IsOn f p
 abbrev pub MeetInEnds : Edge → Edge → Type 0
 MeetInEnds e f = (p : PlanePoint) → IsCommon e f p → IsEnd e p × IsEnd f p
 
+-- any two entries of the list with different edges meet in ends alone
+abbrev pub IsSettledBy : {X : Type 0} → (X → Edge) → List X → Type 0
+IsSettledBy {X} ends xs = (x y : X) → Contains xs x → Contains xs y → edge_eq (ends x) (ends y) ≡ false → MeetInEnds (ends x) (ends y)
+
 -- any two different edges of the list meet in ends alone
 abbrev pub IsSettled : List CountedEdge → Type 0
-IsSettled es = (e f : CountedEdge) → Contains es e → Contains es f → edge_eq (ends_of e) (ends_of f) ≡ false → MeetInEnds (ends_of e) (ends_of f)
+IsSettled es = IsSettledBy ends_of es

@@ -12,10 +12,11 @@ pub enum OverlayError {
     /// Memory for a growth was refused.
     #[error("out of memory")]
     Memory,
-    /// Two different edges meet in a point that is not an end of both.
+    /// After 64 rounds of splitting two different edges meet in a point that is not an end of both.
     #[error("splitting did not settle")]
     NotSettled,
-    /// An addition would bring the weight, the counts of all edges without sign, to 2^31.
+    /// An addition, or a round of splitting, would bring the weight, the counts of all edges without
+    /// sign, to 2^31.
     #[error("too many edges")]
     TooManyEdges,
     /// An earlier query was refused, and the builder was not cleared since.

@@ -1,11 +1,13 @@
 //! Numbers that coordinates are made of, and the wider ones that hold their products.
 
 ghost use Rattle.std.specs.Prelude.{◌≡◌, ◌↔◌, IsTrue, ℕ, ◌*◌};
-ghost use Rattle.std.specs.Prelude.{ℤ, pos, neg_ℤ, ◌+ℤ◌, ◌-ℤ◌, ◌*ℤ◌};
+ghost use Rattle.std.specs.Prelude.{ℤ, pos, neg_ℤ, ◌+ℤ◌, ◌-ℤ◌, ◌*ℤ◌, ◌<ℤ◌, ◌≤ℤ◌};
 ghost use Rattle.std.specs.Ordering.{int_cmp};
 ghost use Rattle.overlay_geom.specs.Numbers.{Within};
+ghost use Rattle.overlay_geom.specs.Rounding.{nearest};
 
 mod coordinate;
+mod part_way;
 mod unsigned;
 mod wide;
 
@@ -91,6 +93,18 @@ pub trait IntNumber: Copy {
         requires by { Within (2 * limit) (whole by) }
         ensures value { Self.Wide.whole result ≡ whole ax *ℤ whole by -ℤ whole ay *ℤ whole bx }
         ensures fits { Within Self.Wide.limit (Self.Wide.whole result) };
+
+    /// Returns the coordinate nearest the one that lies `t / d` of the way from this one to
+    /// another, the greater of two equally near ones. Both coordinates are in range, and
+    /// `0 <= t <= d`, `0 < d`.
+    fn part_way(self, to: Self, t: Self::Wide, d: Self::Wide) -> Self
+        requires from { Within limit (whole self) }
+        requires to { Within limit (whole to) }
+        requires begun { pos 0 ≤ℤ Self.Wide.whole t }
+        requires part { Self.Wide.whole t ≤ℤ Self.Wide.whole d }
+        requires divides { pos 0 <ℤ Self.Wide.whole d }
+        requires fits { Within Self.Wide.limit (Self.Wide.whole d) }
+        ensures { whole result ≡ nearest (whole self *ℤ Self.Wide.whole d +ℤ (whole to -ℤ whole self) *ℤ Self.Wide.whole t) (Self.Wide.whole d) };
 
     // Two coordinates that stand for one number are one.
     ghost same: { (a b : Self) → whole a ≡ whole b → a ≡ b };

@@ -2,7 +2,7 @@
 
 ghost use Rattle.std.specs.Prelude.{◌≡◌, ◌*◌};
 ghost use Rattle.overlay_geom.specs.Numbers.{Within};
-ghost use Rattle.overlay_geom.specs.Points.{plain_point, plain_vector};
+ghost use Rattle.overlay_geom.specs.Points.{plain_point, plain_way};
 ghost use Rattle.overlay_geom.specs.Points.{InRange, IsDifference, cross_of};
 ghost use Rattle.overlay_geom.specs.Plane.{cross_at};
 
@@ -33,9 +33,9 @@ impl<I: IntNumber> IntVector<I> {
     /// to the left of this one, negative where it points to the right, 0 where they are parallel.
     /// Both are differences of points in range, so it is exact.
     pub fn cross_product(self, v: IntVector<I>) -> I::Wide
-        requires this { InRange (2 * I.limit) (plain_vector I.whole self) }
-        requires other { InRange (2 * I.limit) (plain_vector I.whole v) }
-        ensures value { I.Wide.whole result ≡ cross_of (plain_vector I.whole self) (plain_vector I.whole v) }
+        requires this { InRange (2 * I.limit) (plain_way I.whole self) }
+        requires other { InRange (2 * I.limit) (plain_way I.whole v) }
+        ensures value { I.Wide.whole result ≡ cross_of (plain_way I.whole self) (plain_way I.whole v) }
         ensures fits { Within I.Wide.limit (I.Wide.whole result) }
     {
         I::cross(self.x, self.y, v.x, v.y)
@@ -49,7 +49,7 @@ impl<I: IntNumber> Sub for IntPoint<I> {
         InRange I.limit (plain_point I.whole p) × InRange I.limit (plain_point I.whole q) };
 
     ghost sub_gives = { λ p q v.
-        IsDifference I.limit (plain_point I.whole p) (plain_point I.whole q) (plain_vector I.whole v) };
+        IsDifference I.limit (plain_point I.whole p) (plain_point I.whole q) (plain_way I.whole v) };
 
     /// Returns the vector from `other` to this point. Both points are in range.
     fn sub(self, other: IntPoint<I>) -> IntVector<I> {

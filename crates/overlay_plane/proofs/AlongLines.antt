@@ -7,12 +7,12 @@ use lib.IntN.{*ℤ_comm, +ℤ_idr}
 use Rattle.overlay_geom.specs.Plane.{Point, PlanePoint, Step, Edge, side, in_plane, point_eq, point_lt, edge_of, sign_of, is_strictly_below, steps_between, total}
 use Rattle.overlay_geom.proofs.Identities.{solve, number, ◌⊕◌, ◌⊗◌, ◌⊖◌, ◌≗◌}
 use Rattle.overlay_geom.proofs.Signs.{linear, mul-pos, mul-le, mul-zero, pos_of_mul-pos, lt_of_mul-lt}
+use Rattle.overlay_geom.proofs.Orders.{point_eq-same}
 use Rattle.overlay_plane.specs.Heights.{width}
 use Rattle.overlay_plane.specs.Regions.{one_if}
 use Rattle.overlay_plane.proofs.LineForms.{formE}
 use Rattle.overlay_plane.proofs.Strip.{starts_first}
 use Rattle.overlay_plane.proofs.Tests.{lt_from_test, ge_from_test, test_from_lt, int_le-not, same_tests}
-use Rattle.overlay_plane.proofs.Under.{same_points}
 
 -- what the step adds to the winding at p
 abbrev pub winding_part : PlanePoint → Step → ℤ
@@ -119,7 +119,7 @@ module _ (e : Edge) (p : PlanePoint) (wide : pos 0 <ℤ width e) where
 
       by_equal : (t : Bool) → point_eq q r ≡ t →
           total (winding_part p) (cond t [] (record { from = q; to = r } ∷ [])) ≡ left_above e p r -ℤ left_above e p q
-      by_equal true same = nothing_left (left_above e p r) ∙ ap (λ v. left_above e p r -ℤ left_above e p v) (sym (same_points q r same))
+      by_equal true same = nothing_left (left_above e p r) ∙ ap (λ v. left_above e p r -ℤ left_above e p v) (sym (point_eq-same q r same))
       by_equal false apart = +ℤ_idr (winding_part p (record { from = q; to = r })) ∙ by_way (point_lt q r) refl
 
 -- a vertical edge is strictly below nothing

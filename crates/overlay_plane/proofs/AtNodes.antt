@@ -1,37 +1,31 @@
 -- Steps of an alternating set at one node: they run along different rays, and between two that leave one arrives, and
 -- between two that arrive one leaves, by either hand.
 use Rattle.std.proofs.Common.{◌≡◌, ◌⊎◌, inl, inr, Bool, true, false, List, Contains, refl, sym, ◌∙◌, subst}
-use Rattle.std.specs.Ordering.{int_eq}
 use Rattle.std.proofs.lemmas.Bool.{and_parts, and_from, both_ways}
-use Rattle.std.proofs.lemmas.Bool.Decides.{Decides-int_eq}
 use Rattle.overlay_geom.specs.Plane.{Point, Step, point_eq, step_eq}
 use Rattle.overlay_geom.proofs.Cross.{cross_at_same}
-use Rattle.overlay_plane.specs.Turn.{Hand}
+use Rattle.overlay_geom.proofs.Orders.{point_eq-same, point_eq-of_same}
+use Rattle.overlay_plane.specs.Turn.{Hand, IsMetBefore}
 use Rattle.overlay_plane.specs.Turn.Hand.{left, right}
-use Rattle.overlay_plane.specs.Alternates.{AreOneWay, Alternates, IsBetween}
-use Rattle.overlay_plane.specs.Rays.{Apart, IsMetBefore}
-use Rattle.overlay_plane.proofs.Under.{same_points}
+use Rattle.overlay_plane.specs.Alternates.{AreOneWay, Alternates, IsMetBetween}
+use Rattle.overlay_plane.specs.Rays.{Apart}
 use Rattle.overlay_plane.proofs.Turning.{dot_positive}
 use Rattle.overlay_plane.proofs.TurnOrder.{apart_exchanged}
 use Rattle.overlay_plane.proofs.CyclicOrder.{AllApart, all_apart_shifted, met_shifted, met_by_other}
 
 -- ---- one point, one step
 
--- equal points pass the test for it
-pub equal_points : (p q : Point) → p ≡ q → point_eq p q ≡ true
-equal_points p q e = and_from (int_eq p.x q.x) (int_eq p.y q.y) ((Decides-int_eq p.x q.x).1 (λ i. (e i).x)) ((Decides-int_eq p.y q.y).1 (λ i. (e i).y))
-
 -- steps that pass the test are one
 pub same_steps : (s t : Step) → step_eq s t ≡ true → s ≡ t
 same_steps s t h =
     let both = and_parts (point_eq s.from t.from) (point_eq s.to t.to) h in
-    let same_from = same_points s.from t.from both.0 in
-    let same_to = same_points s.to t.to both.1 in
+    let same_from = point_eq-same s.from t.from both.0 in
+    let same_to = point_eq-same s.to t.to both.1 in
     λ i. record { from = same_from i; to = same_to i }
 
 -- and one step passes it
 pub equal_steps : (s t : Step) → s ≡ t → step_eq s t ≡ true
-equal_steps s t e = and_from (point_eq s.from t.from) (point_eq s.to t.to) (equal_points s.from t.from (λ i. (e i).from)) (equal_points s.to t.to (λ i. (e i).to))
+equal_steps s t e = and_from (point_eq s.from t.from) (point_eq s.to t.to) (point_eq-of_same s.from t.from (λ i. (e i).from)) (point_eq-of_same s.to t.to (λ i. (e i).to))
 
 -- two steps are one, or are not
 pub by_steps : (s t : Step) → (s ≡ t) ⊎ (¬ (s ≡ t))
@@ -109,7 +103,7 @@ module _ (steps : List Step) (alternates : Alternates steps) where
   arrives_between_right : (v : Point) (s t : Step) → Leaves steps v s → Leaves steps v t → ¬ (s ≡ t) → (u : Step) × Arrives steps v u × IsMetBefore right v s.to u.from t.to
   arrives_between_right v s t h k different =
       let found = alternates.arrives_between s t h.among k.among (h.at ∙ sym k.at) different in
-      (found.0, record { among = found.1; at = found.2 ∙ h.at }, subst (λ w. IsBetween w s.to (found.0).from t.to) h.at found.3)
+      (found.0, record { among = found.1; at = found.2 ∙ h.at }, subst (λ w. IsMetBetween w s.to (found.0).from t.to) h.at found.3)
 
   -- turning by either hand from a step that leaves, a ray meets one that arrives before another that leaves
   pub arrives_between_by : (hand : Hand) (v : Point) (s t : Step) → Leaves steps v s → Leaves steps v t → ¬ (s ≡ t) → (u : Step) × Arrives steps v u × IsMetBefore hand v s.to u.from t.to
@@ -125,7 +119,7 @@ module _ (steps : List Step) (alternates : Alternates steps) where
   leaves_between_right : (v : Point) (s t : Step) → Arrives steps v s → Arrives steps v t → ¬ (s ≡ t) → (u : Step) × Leaves steps v u × IsMetBefore right v s.from u.to t.from
   leaves_between_right v s t h k different =
       let found = alternates.leaves_between s t h.among k.among (h.at ∙ sym k.at) different in
-      (found.0, record { among = found.1; at = found.2 ∙ h.at }, subst (λ w. IsBetween w s.from (found.0).to t.from) h.at found.3)
+      (found.0, record { among = found.1; at = found.2 ∙ h.at }, subst (λ w. IsMetBetween w s.from (found.0).to t.from) h.at found.3)
 
   -- turning by either hand from a step that arrives, a ray meets one that leaves before another that arrives
   pub leaves_between_by : (hand : Hand) (v : Point) (s t : Step) → Arrives steps v s → Arrives steps v t → ¬ (s ≡ t) → (u : Step) × Leaves steps v u × IsMetBefore hand v s.from u.to t.from

@@ -8,16 +8,16 @@ use lib.IntN.{*ℤ_comm, *ℤ-zero, +ℤ_idr}
 use Rattle.overlay_geom.specs.Plane.{Point, Step, edge_eq, step_eq, edge_of, sign_of, total}
 use Rattle.overlay_geom.specs.Edges.{CountedEdge, ends_of}
 use Rattle.overlay_geom.proofs.Signs.{linear}
+use Rattle.overlay_geom.proofs.Orders.{edge_eq-exchanged}
 use Rattle.overlay_plane.specs.Turn.{Hand, IsNextStep, step_round, IsOrbit}
 use Rattle.overlay_plane.specs.Turn.Hand.{right}
 use Rattle.overlay_plane.specs.Alternates.{Alternates}
 use Rattle.overlay_plane.specs.Orbits.{is_step_of}
 use Rattle.overlay_plane.specs.BesideOrbits.{count_on, WalksAlong, IsBalancedPart, HasEachOnce, OrbitsHaveEachOnce, OrbitsAreBalanced, AlternatingStepsAreBalanced, ClosedPartsAreBalanced}
+use Rattle.overlay_plane.proofs.Entries.{Contains-from_filter}
 use Rattle.overlay_plane.proofs.Tests.{same_tests}
 use Rattle.overlay_plane.proofs.Totals.{total-same, total-sub}
 use Rattle.overlay_plane.proofs.JoinedLists.{total-times}
-use Rattle.overlay_plane.proofs.Filtered.{contains_filter_parts}
-use Rattle.overlay_plane.proofs.SameWay.{edge_eq_exchanged}
 use Rattle.overlay_plane.proofs.SingleEntries.{single_total}
 use Rattle.overlay_plane.proofs.Telescopes.{signed_rise, signed_rise-is}
 use Rattle.overlay_plane.proofs.ItemsRound.{item_round-here, place_of}
@@ -59,7 +59,7 @@ module _ (es : List CountedEdge) (steps : List Step) (walks : WalksAlong es step
       along = (walks.along s (inside s c)).2
 
       one_test : (e : CountedEdge) → edge_eq (edge_of s) (ends_of e) ≡ edge_eq (ends_of e) (ends_of own)
-      one_test e = ap (λ f. edge_eq f (ends_of e)) along ∙ same_tests (edge_eq (ends_of own) (ends_of e)) (edge_eq (ends_of e) (ends_of own)) (edge_eq_exchanged (ends_of own) (ends_of e)) (edge_eq_exchanged (ends_of e) (ends_of own))
+      one_test e = ap (λ f. edge_eq f (ends_of e)) along ∙ same_tests (edge_eq (ends_of own) (ends_of e)) (edge_eq (ends_of e) (ends_of own)) (edge_eq-exchanged (ends_of own) (ends_of e)) (edge_eq-exchanged (ends_of e) (ends_of own))
 
   -- the counted edges rise together as the steps
   counted_rise : total (λ e. count_on taken e *ℤ rise e) es ≡ total (signed_rise g) taken
@@ -195,7 +195,7 @@ alternating_steps_are_balanced es steps walks alternates once = balanced_from_ri
 
 -- a part of the set that alternates is balanced
 balanced_part : (es : List CountedEdge) (steps : List Step) → WalksAlong es steps → HasEachOnce steps → (test : Step → Bool) → Alternates (filter test steps) → IsBalancedPart es steps (filter test steps)
-balanced_part es steps walks once test alternates = balanced_from_rises es steps walks (filter test steps) (λ s c. (contains_filter_parts test steps s c).0)
+balanced_part es steps walks once test alternates = balanced_from_rises es steps walks (filter test steps) (λ s c. (Contains-from_filter test steps s c).0)
     (alternating_rises (filter test steps) alternates (AllPairs-filter (λ s t. step_eq s t ≡ false) test steps once))
 
 -- the law of closed parts

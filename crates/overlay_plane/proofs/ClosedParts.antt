@@ -2,15 +2,14 @@
 -- it, alternates, and its steps have the same next steps in the part as in the set.
 use Rattle.std.proofs.Common.{◌≡◌, ◌↔◌, Bool, true, false, not, List, Contains, filter, refl, sym, ap, ◌∙◌, subst}
 use Rattle.overlay_geom.specs.Plane.{Point, Step}
-use Rattle.overlay_plane.specs.Turn.{Hand, is_met_before, IsNextStep}
+use Rattle.overlay_plane.specs.Turn.{Hand, is_met_before, IsMetBefore, IsNextStep}
 use Rattle.overlay_plane.specs.Turn.Hand.{left, right}
 use Rattle.overlay_plane.specs.Alternates.{Alternates}
-use Rattle.overlay_plane.specs.Rays.{IsMetBefore}
 use Rattle.overlay_plane.specs.NextSteps.{IsClosedUnderNext, ClosedPartsAlternate}
-use Rattle.overlay_plane.proofs.Filtered.{contains_filter_parts, contains_filter}
+use Rattle.overlay_plane.proofs.Entries.{Contains-from_filter, Contains-filter, all_of_entries}
 use Rattle.overlay_plane.proofs.CyclicOrder.{AllApart, all_apart_shifted, all_apart_exchanged, met_shifted, met_by_other, met_after}
 use Rattle.overlay_plane.proofs.AtNodes.{Leaves, Arrives, arrives_long, leaving_apart, all_apart_leaving, all_apart_arriving}
-use Rattle.overlay_plane.proofs.NextSteps.{all_from_each, none_leaves_before, next_exists, next_unique, next_surjective, arrives_after}
+use Rattle.overlay_plane.proofs.NextSteps.{none_leaves_before, next_exists, next_unique, next_surjective, arrives_after}
 
 module _ (steps : List Step) (alternates : Alternates steps) (hand : Hand) (taken : Step → Bool) (closed : IsClosedUnderNext steps hand taken) where
   -- the steps of the part
@@ -19,7 +18,7 @@ module _ (steps : List Step) (alternates : Alternates steps) (hand : Hand) (take
 
   -- are steps of the set
   from_part : (s : Step) → Contains part s → Contains steps s × (taken s ≡ true)
-  from_part s c = contains_filter_parts taken steps s c
+  from_part s c = Contains-from_filter taken steps s c
 
   -- and leave and arrive at the same nodes
   leaves_there : (v : Point) (s : Step) → Leaves part v s → Leaves steps v s
@@ -33,14 +32,14 @@ module _ (steps : List Step) (alternates : Alternates steps) (hand : Hand) (take
   next_in_part s c =
       let whole = from_part s c in
       let next = next_exists steps alternates hand s whole.0 in
-      (next.0, contains_filter taken steps next.0 (next.1).among (sym (closed s next.0 whole.0 next.1) ∙ whole.1), next.1)
+      (next.0, Contains-filter taken steps next.0 (next.1).among (sym (closed s next.0 whole.0 next.1) ∙ whole.1), next.1)
 
   -- and with each next step the step before it
   step_before_in_part : (t : Step) → Contains part t → (s : Step) × Contains part s × IsNextStep steps hand s t
   step_before_in_part t c =
       let whole = from_part t c in
       let last = next_surjective steps alternates hand t whole.0 in
-      (last.0, contains_filter taken steps last.0 last.1 (closed last.0 t last.1 last.2 ∙ whole.1), last.2)
+      (last.0, Contains-filter taken steps last.0 last.1 (closed last.0 t last.1 last.2 ∙ whole.1), last.2)
 
   -- turning by the hand from a step that leaves, a ray meets one of the part that arrives before another of the part that leaves: the one whose next step that is
   arrives_in_part : (v : Point) (s t : Step) → Leaves part v s → Leaves part v t → ¬ (s ≡ t) → (u : Step) × Arrives part v u × IsMetBefore hand v s.to u.from t.to
@@ -96,7 +95,7 @@ leaves_in_part_right steps alternates left taken closed v s t h k different =
 module _ (steps : List Step) (alternates : Alternates steps) (hand : Hand) (taken : Step → Bool) (closed : IsClosedUnderNext steps hand taken) where
   -- each step of the part is one of the set
   in_steps : (s : Step) → Contains (filter taken steps) s → Contains steps s
-  in_steps s c = (contains_filter_parts taken steps s c).0
+  in_steps s c = (Contains-from_filter taken steps s c).0
 
   -- a closed part alternates
   pub closed_part_alternates : Alternates (filter taken steps)
@@ -114,9 +113,9 @@ module _ (steps : List Step) (alternates : Alternates steps) (hand : Hand) (take
   -- a next step in the set is the next step in the part
   next_from_steps : (s t : Step) → Contains (filter taken steps) s → IsNextStep steps hand s t → IsNextStep (filter taken steps) hand s t
   next_from_steps s t c next = record {
-    among = contains_filter taken steps t next.among (sym (closed s t (in_steps s c) next) ∙ (contains_filter_parts taken steps s c).1);
+    among = Contains-filter taken steps t next.among (sym (closed s t (in_steps s c) next) ∙ (Contains-from_filter taken steps s c).1);
     leaves = next.leaves;
-    first = all_from_each (λ u. u.from ≡ s.to → is_met_before hand s.to s.from u.to t.to ≡ false) (filter taken steps) (λ u d e. none_leaves_before steps hand s t u next (record { among = in_steps u d; at = e }));
+    first = all_of_entries (λ u. u.from ≡ s.to → is_met_before hand s.to s.from u.to t.to ≡ false) (filter taken steps) (λ u d e. none_leaves_before steps hand s t u next (record { among = in_steps u d; at = e }));
   }
 
   -- and the other way about

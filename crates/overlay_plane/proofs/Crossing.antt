@@ -2,11 +2,11 @@
 use Rattle.std.proofs.Common.{◌≡◌, inl, inr, ⊎_elim, ℤ, pos, ◌+ℤ◌, ◌-ℤ◌, ◌*ℤ◌, neg_ℤ, ◌<ℤ◌, ◌≤ℤ◌, int_lt, sym, ◌∙◌}
 use Rattle.std.proofs.lemmas.Int.{by_lt_z}
 use lib.IntN.{*ℤ_comm}
-use Rattle.overlay_geom.specs.Plane.{Point, Edge, PlanePoint, side, IsAt, IsBetween, IsOn, IsEnd}
+use Rattle.overlay_geom.specs.Plane.{Point, Edge, PlanePoint, side, IsAt, IsBetween, IsOn, IsEnd, line_form}
 use Rattle.overlay_geom.specs.Settled.{MeetInEnds}
 use Rattle.overlay_geom.proofs.Identities.{solve, number, ◌⊕◌, ◌⊗◌, ◌⊖◌, ⊝◌, ◌≗◌}
 use Rattle.overlay_geom.proofs.Signs.{linear, by_sign, mul-pos, mul-nonneg, mul-le, mul-lt, eq_of_mul-eq, nonneg_of_mul-nonneg}
-use Rattle.overlay_plane.specs.Heights.{width, line_form, gap, Spans, IsInner}
+use Rattle.overlay_plane.specs.Heights.{width, gap, Spans, IsInner}
 use Rattle.overlay_plane.proofs.Tests.{lt_from_test, test_from_lt, same_tests}
 use Rattle.overlay_plane.proofs.LineForms.{formE, gapE, gap_linear}
 

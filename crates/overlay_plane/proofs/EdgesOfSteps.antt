@@ -3,13 +3,12 @@ use Rattle.std.proofs.Common.{◌≡◌, ◌⊎◌, inl, inr, Bool, true, false,
 use Rattle.std.proofs.lemmas.Bool.{false_from_ne_true}
 use Rattle.overlay_geom.specs.Plane.{Step, Edge, point_eq, edge_eq, is_forward, edge_of, sign_of}
 use Rattle.overlay_geom.specs.Edges.{CountedEdge, ends_of, winding_below, winding_above}
+use Rattle.overlay_geom.proofs.Orders.{point_eq-same, edge_eq-same, point_eq-of_same}
 use Rattle.overlay_plane.specs.Turn.{Hand}
 use Rattle.overlay_plane.specs.Turn.Hand.{left, right}
 use Rattle.overlay_plane.specs.WindingsBeside
 use Rattle.overlay_plane.specs.BesideOrbits.{count_on, winding_under, winding_over, winding_beside}
 use Rattle.overlay_plane.proofs.Totals.{Contains-head, Contains-later}
-use Rattle.overlay_plane.proofs.Under.{same_points, same_edges}
-use Rattle.overlay_plane.proofs.AtNodes.{equal_points}
 
 -- the edge of a step that leads forward, or back
 abbrev pub edge_by : Bool → Step → Edge
@@ -29,12 +28,12 @@ module _ (s : Step) (e : CountedEdge) (along : edge_of s ≡ ends_of e) where
   starts_where_leaves long = ap (λ f. point_eq f.a s.from) (sym along) ∙ by (is_forward s)
     where
       by : (t : Bool) → point_eq (edge_by t s).a s.from ≡ t
-      by true = equal_points s.from s.from refl
-      by false = false_from_ne_true (point_eq s.to s.from) (λ same. long (sym (same_points s.to s.from same)))
+      by true = point_eq-of_same s.from s.from refl
+      by false = false_from_ne_true (point_eq s.to s.from) (λ same. long (sym (point_eq-same s.to s.from same)))
 
   -- so the winding on a side of the step is the one on that side along its edge
   pub one_side : ¬ (s.from ≡ s.to) → (es : List CountedEdge) (taken : List Step) (hand : Hand) →
-      winding_beside hand es taken s ≡ WindingsBeside.winding_beside hand (count_on taken) es e s
+      winding_beside hand es taken s ≡ WindingsBeside.winding_on_side hand (count_on taken) es e s
   one_side long es taken left = ap (λ f. cond (is_forward s) (winding_over es taken f) (winding_under es taken f)) along
       ∙ ap (λ t. cond t (winding_above (count_on taken) es e) (winding_below (count_on taken) es e)) (sym (starts_where_leaves long))
   one_side long es taken right = ap (λ f. cond (is_forward s) (winding_under es taken f) (winding_over es taken f)) along
@@ -47,6 +46,6 @@ walked_or_nothing (s ∷ ss) e = by (edge_eq (edge_of s) (ends_of e)) refl (walk
   where
     by : (t : Bool) → edge_eq (edge_of s) (ends_of e) ≡ t → (count_on ss e ≡ pos 0) ⊎ ((u : Step) × Contains ss u × (edge_of u ≡ ends_of e)) →
         (count_on (s ∷ ss) e ≡ pos 0) ⊎ ((u : Step) × Contains (s ∷ ss) u × (edge_of u ≡ ends_of e))
-    by true same rest = inr (s, Contains-head s ss, same_edges (edge_of s) (ends_of e) same)
+    by true same rest = inr (s, Contains-head s ss, edge_eq-same (edge_of s) (ends_of e) same)
     by false apart (inl none) = inl (ap₂ (λ a b. a +ℤ b) (ap (λ t. cond t (sign_of s) (pos 0)) apart) none)
     by false apart (inr (u, c, along)) = inr (u, Contains-later s ss u c, along)

@@ -4,14 +4,14 @@ use Rattle.std.proofs.lemmas.Bool.{and_parts, and_from, false≢true, false_from
 use lib.IntN.{+ℤ_idl, +ℤ_idr}
 use Rattle.overlay_geom.specs.Plane.{PlanePoint, Edge, edge_eq, side, is_strictly_below}
 use Rattle.overlay_geom.specs.Edges.{CountedEdge, ends_of, winding_by, winding_above}
+use Rattle.overlay_geom.proofs.Orders.{edge_eq-same, edge_eq-from_ends}
 use Rattle.overlay_plane.specs.Heights.{covers, is_under}
 use Rattle.overlay_plane.specs.Nodes.{IsBalancedArrangement}
 use Rattle.overlay_plane.specs.GreatestBelow.{IsGreatestBelow, WindingAboveTheGreatestBelow}
 use Rattle.overlay_plane.proofs.Tests.{same_tests}
 use Rattle.overlay_plane.proofs.Totals.{total-same, total-zero, total-add}
-use Rattle.overlay_plane.proofs.Under.{same_edges, under_irreflexive}
+use Rattle.overlay_plane.proofs.Under.{under_irreflexive}
 use Rattle.overlay_plane.proofs.Sides.{one_winding_along_a_side}
-use Rattle.overlay_plane.proofs.SameWay.{edge_eq_from}
 use Rattle.overlay_plane.proofs.SingleEntries.{single_total}
 use Rattle.overlay_plane.proofs.RegionBelow.{takes_below}
 
@@ -27,12 +27,12 @@ module _ (count : CountedEdge → ℤ) (es : List CountedEdge) (r : IsBalancedAr
   -- an edge with the ends of g is not under it
   same_not_under : (f : CountedEdge) → edge_eq (ends_of f) (ends_of g) ≡ true → under_greatest f ≡ false
   same_not_under f same = false_from_ne_true (under_greatest f)
-      (λ t. false≢true (sym (subst (λ (e : Edge). is_under e (ends_of g) p.x p.d ≡ false) (sym (same_edges (ends_of f) (ends_of g) same)) (under_irreflexive (ends_of g) p.x p.d)) ∙ (and_parts (covers (ends_of f) p.x p.d) (is_under (ends_of f) (ends_of g) p.x p.d) t).1))
+      (λ t. false≢true (sym (subst (λ (e : Edge). is_under e (ends_of g) p.x p.d ≡ false) (sym (edge_eq-same (ends_of f) (ends_of g) same)) (under_irreflexive (ends_of g) p.x p.d)) ∙ (and_parts (covers (ends_of f) p.x p.d) (is_under (ends_of f) (ends_of g) p.x p.d) t).1))
 
   -- another edge is strictly below p exactly where it is under g
   other_below : (f : CountedEdge) → Contains es f → edge_eq (ends_of f) (ends_of g) ≡ false → is_strictly_below (ends_of f) p ≡ under_greatest f
   other_below f at apart = same_tests (is_strictly_below (ends_of f) p) (under_greatest f)
-      (λ low. ⊎_elim (λ is. absurd (false≢true (sym apart ∙ edge_eq_from (ends_of f) (ends_of g) (ap (λ (e : CountedEdge). e.a) is) (ap (λ (e : CountedEdge). e.b) is))))
+      (λ low. ⊎_elim (λ is. absurd (false≢true (sym apart ∙ edge_eq-from_ends (ends_of f) (ends_of g) (ap (λ (e : CountedEdge). e.a) is) (ap (λ (e : CountedEdge). e.b) is))))
       (λ under. and_from (covers (ends_of f) p.x p.d) (is_under (ends_of f) (ends_of g) p.x p.d) (over_point f low) under) (h.greatest f at low))
       (λ t. let both = and_parts (covers (ends_of f) p.x p.d) (is_under (ends_of f) (ends_of g) p.x p.d) t in
       (takes_below ends_of es r.settled p).downward g f h.entry at h.below both.0 both.1)
@@ -44,7 +44,7 @@ module _ (count : CountedEdge → ℤ) (es : List CountedEdge) (r : IsBalancedAr
     where
       by : (t : Bool) → edge_eq (ends_of f) (ends_of g) ≡ t → cond (is_strictly_below (ends_of f) p) (count f) (pos 0) ≡
           cond (under_greatest f) (count f) (pos 0) +ℤ cond t (count f) (pos 0)
-      by true same = ap (λ t. cond t (count f) (pos 0)) (subst (λ (e : Edge). is_strictly_below e p ≡ true) (sym (same_edges (ends_of f) (ends_of g) same)) h.below)
+      by true same = ap (λ t. cond t (count f) (pos 0)) (subst (λ (e : Edge). is_strictly_below e p ≡ true) (sym (edge_eq-same (ends_of f) (ends_of g) same)) h.below)
           ∙ sym (+ℤ_idl (count f)) ∙ sym (ap (λ t. cond t (count f) (pos 0) +ℤ count f) (same_not_under f same))
       by false apart = ap (λ t. cond t (count f) (pos 0)) (other_below f at apart) ∙ sym (+ℤ_idr (cond (under_greatest f) (count f) (pos 0)))
 

@@ -1,14 +1,10 @@
 -- Sums over lists that are joined, mapped, or made of one part for each entry, and sums of multiples.
-use Rattle.std.proofs.Common.{◌≡◌, ℤ, ◌+ℤ◌, ◌*ℤ◌, List, [], ◌∷◌, ◌++◌, map, refl, sym, ap, ◌∙◌}
+use Rattle.std.proofs.Common.{◌≡◌, ℤ, ◌+ℤ◌, ◌*ℤ◌, List, [], ◌∷◌, map, refl, sym, ap, ◌∙◌}
 use Rattle.std.specs.List.{flat_map}
-use lib.IntN.{+ℤ_idl, +ℤ_assoc, *ℤ-zero}
+use lib.IntN.{*ℤ-zero}
 use Rattle.overlay_geom.specs.Plane.{total}
 use Rattle.overlay_geom.proofs.Products.{mul-add}
-
--- two lists joined add up to both
-pub total-append : {X : Type 0} (f : X → ℤ) (xs ys : List X) → total f (xs ++ ys) ≡ total f xs +ℤ total f ys
-total-append f [] ys = sym (+ℤ_idl (total f ys))
-total-append f (x ∷ xs) ys = ap (λ z. f x +ℤ z) (total-append f xs ys) ∙ sym (+ℤ_assoc (f x) (total f xs) (total f ys))
+pub use Rattle.overlay_geom.proofs.Totals.{total-append}
 
 -- a mapped list adds up what its entries become
 pub total-map : {X Y : Type 0} (f : Y → ℤ) (h : X → Y) (xs : List X) → total f (map h xs) ≡ total (λ x. f (h x)) xs

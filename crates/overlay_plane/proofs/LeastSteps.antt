@@ -5,13 +5,11 @@ use Rattle.std.proofs.lemmas.Bool.{both_ways, and_from, and_parts, false_from_ne
 use Rattle.overlay_geom.specs.Plane.{Point, Step, point_lt, point_eq, edge_of}
 use Rattle.overlay_geom.specs.Edges.{CountedEdge}
 use Rattle.overlay_geom.proofs.PointOrder.{Decides-point_lt, before_up_to, before_after_up_to}
+use Rattle.overlay_geom.proofs.Orders.{point_eq-same, point_eq-of_same, point_lt-itself}
 use Rattle.overlay_plane.specs.Nodes.{edge_turn, turns_left}
 use Rattle.overlay_plane.specs.BesideOrbits.{WalksAlong}
 use Rattle.overlay_plane.specs.LeftmostSteps.{StepHasEndBefore, HasLeftmost, LeftmostStepsExist}
 use Rattle.overlay_plane.proofs.Tests.{lt_from_test, test_from_lt}
-use Rattle.overlay_plane.proofs.Under.{same_points}
-use Rattle.overlay_plane.proofs.AtNodes.{equal_points}
-use Rattle.overlay_plane.proofs.EdgeOrder.{point_lt_irreflexive}
 use Rattle.overlay_plane.proofs.EdgeTurns.{edge_turn_same, left_after_left}
 use Rattle.overlay_plane.proofs.Nearest.{IsNearest, nearest}
 use Rattle.overlay_plane.proofs.BeforeTheSteps.{edge_end_before}
@@ -68,7 +66,7 @@ module _ (es : List CountedEdge) (steps taken : List Step) (walks : WalksAlong e
   module _ (s : Step) (c : Contains taken s) where
     -- a step whose edge starts in the least point
     least : (m : Step) × IsNearest (λ t. true) (λ t u. point_lt (edge_of t).a (edge_of u).a) taken m
-    least = nearest (λ t. true) (λ t u. point_lt (edge_of t).a (edge_of u).a) (λ t. point_lt_irreflexive (edge_of t).a)
+    least = nearest (λ t. true) (λ t u. point_lt (edge_of t).a (edge_of u).a) (λ t. point_lt-itself (edge_of t).a)
         (λ t u w. point_lt_transitive (edge_of t).a (edge_of u).a (edge_of w).a) taken s c refl
 
     -- that point
@@ -77,11 +75,11 @@ module _ (es : List CountedEdge) (steps taken : List Step) (walks : WalksAlong e
 
     -- of the steps along edges that start there, the one along the top edge
     top : (m : Step) × IsNearest (λ t. point_eq (edge_of t).a start) (λ t u. is_left u t) taken m
-    top = nearest (λ t. point_eq (edge_of t).a start) (λ t u. is_left u t) never_left (λ t u w tu uw. left_transitive w u t uw tu) taken least.0 (least.1).among (equal_points start start refl)
+    top = nearest (λ t. point_eq (edge_of t).a start) (λ t u. is_left u t) never_left (λ t u w tu uw. left_transitive w u t uw tu) taken least.0 (least.1).among (point_eq-of_same start start refl)
 
     -- and the one along the lowest edge
     lowest : (m : Step) × IsNearest (λ t. point_eq (edge_of t).a start) is_left taken m
-    lowest = nearest (λ t. point_eq (edge_of t).a start) is_left never_left left_transitive taken least.0 (least.1).among (equal_points start start refl)
+    lowest = nearest (λ t. point_eq (edge_of t).a start) is_left never_left left_transitive taken least.0 (least.1).among (point_eq-of_same start start refl)
 
     -- all together
     pub leftmost : HasLeftmost taken
@@ -90,12 +88,12 @@ module _ (es : List CountedEdge) (steps taken : List Step) (walks : WalksAlong e
       none_before = λ t at before. both_ways (point_lt (edge_of t).a start) ((least.1).first t at refl) (start_before start t at before);
       top = top.0;
       top_taken = (top.1).among;
-      top_starts = same_points (edge_of top.0).a start (top.1).passed;
-      none_above = λ t at starts. not_left top.0 t (top.1).among at ((top.1).first t at (equal_points (edge_of t).a start starts));
+      top_starts = point_eq-same (edge_of top.0).a start (top.1).passed;
+      none_above = λ t at starts. not_left top.0 t (top.1).among at ((top.1).first t at (point_eq-of_same (edge_of t).a start starts));
       lowest = lowest.0;
       lowest_taken = (lowest.1).among;
-      lowest_starts = same_points (edge_of lowest.0).a start (lowest.1).passed;
-      none_below = λ t at starts. not_left t lowest.0 at (lowest.1).among ((lowest.1).first t at (equal_points (edge_of t).a start starts));
+      lowest_starts = point_eq-same (edge_of lowest.0).a start (lowest.1).passed;
+      none_below = λ t at starts. not_left t lowest.0 at (lowest.1).among ((lowest.1).first t at (point_eq-of_same (edge_of t).a start starts));
     }
 
 -- for each list of steps taken

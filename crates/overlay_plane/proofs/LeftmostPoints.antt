@@ -7,15 +7,16 @@ use Rattle.std.specs.Ordering.{int_eq}
 use Rattle.overlay_geom.specs.Plane.{Point, Edge, point_lt, point_eq, edge_eq, in_plane, side, is_strictly_below}
 use Rattle.overlay_geom.specs.Edges.{CountedEdge, ends_of, winding_by, winding_below, winding_above}
 use Rattle.overlay_geom.proofs.Signs.{linear, by_sign, mul-zero, pos_of_mul-pos}
+use Rattle.overlay_geom.proofs.Orders.{point_eq-same, edge_eq-same, point_eq-of_same}
 use Rattle.overlay_plane.specs.Heights.{width, covers}
 use Rattle.overlay_plane.specs.Nodes.{IsBalancedArrangement, edge_turn, turns_left, total_starting, total_starting_under}
 use Rattle.overlay_plane.specs.Leftmost.{CountsNothingBefore, HasEndBefore, CountsNothingAbove, CountsNothingBelow, NothingBeforeTheLeftmost}
 use Rattle.overlay_plane.proofs.Tests.{lt_from_test, test_from_lt, test_from_ge}
 use Rattle.overlay_plane.proofs.Totals.{total-same, total-zero, total-add}
-use Rattle.overlay_plane.proofs.Under.{same_points, same_edges, covers_from, covers_wide}
+use Rattle.overlay_plane.proofs.Under.{covers_from, covers_wide}
 use Rattle.overlay_plane.proofs.NearAbscissas.{side-over_start}
 use Rattle.overlay_plane.proofs.NodeWindings.{winding_from_a_start, node_is_balanced}
-use Rattle.overlay_plane.proofs.SameWay.{point_eq_same, same_from_start}
+use Rattle.overlay_plane.proofs.SameWay.{same_from_start}
 use Rattle.overlay_plane.proofs.SingleEntries.{single_total}
 use Rattle.overlay_plane.proofs.EdgeTurns.{edge_turn_exchanged, edge_turn_same}
 use Rattle.overlay_plane.proofs.SpokeWindings.{forward_entry}
@@ -94,7 +95,7 @@ module _ (count : CountedEdge → ℤ) (es : List CountedEdge) (arranged : IsBal
       ∙ ap₂ (λ a b. a +ℤ b) (at_points e.a (not_less_back e.a q (starts_earlier e at before)))
       (total-zero (λ f. cond (point_eq f.a e.a && turns_left (ends_of f) (ends_of e)) (count f) (pos 0)) es
       (λ f is. cond_zero (point_eq f.a e.a && turns_left (ends_of f) (ends_of e)) (count f)
-      (λ both. nothing f is (subst (λ (p : Point). point_lt p q ≡ true) (sym (same_points f.a e.a (and_parts (point_eq f.a e.a) (turns_left (ends_of f) (ends_of e)) both).0)) (starts_earlier e at before)))))
+      (λ both. nothing f is (subst (λ (p : Point). point_lt p q ≡ true) (sym (point_eq-same f.a e.a (and_parts (point_eq f.a e.a) (turns_left (ends_of f) (ends_of e)) both).0)) (starts_earlier e at before)))))
 
   -- and so it is above it
   above_earlier : (e : CountedEdge) → Contains es e → HasEndBefore q e → winding_above count es e ≡ pos 0
@@ -110,13 +111,13 @@ module _ (count : CountedEdge → ℤ) (es : List CountedEdge) (arranged : IsBal
       ∙ ap₂ (λ a b. a +ℤ b) (subst (λ (p : Point). winding_by count es (in_plane p) ≡ pos 0) (sym same) at_q)
       (total-zero (λ f. cond (point_eq f.a e.a && turns_left (ends_of f) (ends_of e)) (count f) (pos 0)) es
       (λ f is. cond_zero (point_eq f.a e.a && turns_left (ends_of f) (ends_of e)) (count f)
-      (λ both. let tests = and_parts (point_eq f.a e.a) (turns_left (ends_of f) (ends_of e)) both in none f is (same_points f.a e.a tests.0 ∙ same) tests.1)))
+      (λ both. let tests = and_parts (point_eq f.a e.a) (turns_left (ends_of f) (ends_of e)) both in none f is (point_eq-same f.a e.a tests.0 ∙ same) tests.1)))
 
   -- no counts start in q, all in all
   none_starting : total_starting count es q ≡ pos 0
   none_starting = node_is_balanced count es arranged.balanced q
       ∙ total-zero (λ f. cond (point_eq f.b q) (count f) (pos 0)) es
-      (λ f at. cond_zero (point_eq f.b q) (count f) (λ ends. nothing f at (subst (λ (p : Point). point_lt f.a p ≡ true) (same_points f.b q ends) (forward_entry count es arranged f at))))
+      (λ f at. cond_zero (point_eq f.b q) (count f) (λ ends. nothing f at (subst (λ (p : Point). point_lt f.a p ≡ true) (point_eq-same f.b q ends) (forward_entry count es arranged f at))))
 
   -- above what starts topmost in q the winding is 0
   above_top : (e : CountedEdge) → Contains es e → e.a ≡ q → CountsNothingAbove count es q e → winding_above count es e ≡ pos 0
@@ -148,7 +149,7 @@ module _ (count : CountedEdge → ℤ) (es : List CountedEdge) (arranged : IsBal
           to_one h = ap (λ t. cond t (count f) (pos 0)) alike ∙ h
 
           not_itself : ¬ (edge_turn (ends_of f) (ends_of e) ≡ pos 0) → edge_eq (ends_of f) (ends_of e) ≡ false
-          not_itself off = false_from_ne_true (edge_eq (ends_of f) (ends_of e)) (λ one. off (subst (λ (h : Edge). edge_turn h (ends_of e) ≡ pos 0) (sym (same_edges (ends_of f) (ends_of e) one)) (edge_turn_same (ends_of e))))
+          not_itself off = false_from_ne_true (edge_eq (ends_of f) (ends_of e)) (λ one. off (subst (λ (h : Edge). edge_turn h (ends_of e) ≡ pos 0) (sym (edge_eq-same (ends_of f) (ends_of e) one)) (edge_turn_same (ends_of e))))
 
           l : Bool
           l = turns_left (ends_of f) (ends_of e)
@@ -165,12 +166,12 @@ module _ (count : CountedEdge → ℤ) (es : List CountedEdge) (arranged : IsBal
           by : (s : Bool) → point_eq f.a q ≡ s → cond (point_eq f.a q) (count f) (pos 0) ≡ under f +ℤ itself f
           by true starts = to_one (by_sign (edge_turn (ends_of f) (ends_of e))
               (λ low. tests (point_eq f.a e.a) true l false i false (sym alike ∙ starts) (test_from_ge (pos 0) (edge_turn (ends_of f) (ends_of e)) (omega linear)) (not_itself (λ z. omega linear)) (count f)
-              (none f is (same_points f.a q starts) (test_from_lt (pos 0) (edge_turn (ends_of e) (ends_of f)) (let o = edge_turn_exchanged (ends_of e) (ends_of f) in omega linear))))
+              (none f is (point_eq-same f.a q starts) (test_from_lt (pos 0) (edge_turn (ends_of e) (ends_of f)) (let o = edge_turn_exchanged (ends_of e) (ends_of f) in omega linear))))
               (λ level. tests (point_eq f.a e.a) true l false i true (sym alike ∙ starts) (test_from_ge (pos 0) (edge_turn (ends_of f) (ends_of e)) (omega linear))
-              (same_from_start (ends_of f) (ends_of e) (forward_entry count es arranged f is) (forward_entry count es arranged e at) level (arranged.settled f e is at) (same_points f.a q starts ∙ sym same)) (count f) (second (count f)))
+              (same_from_start (ends_of f) (ends_of e) (forward_entry count es arranged f is) (forward_entry count es arranged e at) level (arranged.settled f e is at) (point_eq-same f.a q starts ∙ sym same)) (count f) (second (count f)))
               (λ high. tests (point_eq f.a e.a) true l true i false (sym alike ∙ starts) (test_from_lt (pos 0) (edge_turn (ends_of f) (ends_of e)) high) (not_itself (λ z. omega linear)) (count f) (first (count f))))
           by false other = to_one (tests (point_eq f.a e.a) false l l i false (sym alike ∙ other) refl
-              (false_from_ne_true i (λ one. false≢true (sym other ∙ point_eq_same f.a q (ap (λ (h : Edge). h.a) (same_edges (ends_of f) (ends_of e) one) ∙ same)))) (count f) refl)
+              (false_from_ne_true i (λ one. false≢true (sym other ∙ point_eq-of_same f.a q (ap (λ (h : Edge). h.a) (edge_eq-same (ends_of f) (ends_of e) one) ∙ same)))) (count f) refl)
 
 -- up to q the winding is 0
 pub nothing_before_the_leftmost : NothingBeforeTheLeftmost

@@ -1,8 +1,8 @@
 -- The side of a point and the gap of two edges as forms: how they hang together, and that they are linear in the point.
 use Rattle.std.proofs.Common.{◌≡◌, ℤ, pos, ◌+ℤ◌, ◌-ℤ◌, ◌*ℤ◌, neg_ℤ}
-use Rattle.overlay_geom.specs.Plane.{Edge, side, in_plane}
+use Rattle.overlay_geom.specs.Plane.{Edge, side, in_plane, line_form}
 use Rattle.overlay_geom.proofs.Identities.{solve, Expr, number, ◌⊕◌, ◌⊗◌, ◌⊖◌, ⊝◌, ◌≗◌}
-use Rattle.overlay_plane.specs.Heights.{width, line_form, gap}
+use Rattle.overlay_plane.specs.Heights.{width, gap}
 
 -- line_form and gap as they are written
 abbrev pub formE : (ax ay bx by x y d : Expr) → Expr

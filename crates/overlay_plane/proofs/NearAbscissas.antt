@@ -2,13 +2,11 @@
 -- one point there, their turn decides.
 use Rattle.std.proofs.Common.{◌≡◌, ◌⊎◌, inl, inr, ⊎_elim, true, ℤ, pos, ◌+ℤ◌, ◌-ℤ◌, ◌*ℤ◌, neg_ℤ, ◌<ℤ◌, int_lt, sym, ◌∙◌, arith}
 use Rattle.std.proofs.lemmas.Int.{ints}
-use Rattle.std.proofs.lemmas.Bool.{and_from}
-use Rattle.std.proofs.lemmas.Bool.Decides.{Decides-int_eq}
-use Rattle.std.specs.Ordering.{int_eq}
 use Rattle.overlay_geom.specs.Plane.{Point, Edge, side, in_plane, point_eq, IsOn, IsAt}
 use Rattle.overlay_geom.specs.Settled.{MeetInEnds}
 use Rattle.overlay_geom.proofs.Identities.{solve, number, ◌⊕◌, ◌⊗◌, ◌⊖◌, ◌≗◌}
 use Rattle.overlay_geom.proofs.Signs.{linear, by_sign, mul-pos, pos_of_mul-pos}
+use Rattle.overlay_geom.proofs.Orders.{point_eq-of_same, same_point}
 use Rattle.overlay_plane.specs.Heights.{width, gap, Spans}
 use Rattle.overlay_plane.specs.Nodes.{edge_turn}
 use Rattle.overlay_plane.proofs.LineForms.{formE, gapE, gap_exchanged}
@@ -68,10 +66,6 @@ side-over_start f v = solve 6 (λ px py qx qy x y. formE px py qx qy x y (number
 pub side-over_end : (f : Edge) (v : Point) → side f (in_plane v) ≡ width f *ℤ (v.y -ℤ f.b.y) -ℤ (f.b.y -ℤ f.a.y) *ℤ (v.x -ℤ f.b.x)
 side-over_end f v = solve 6 (λ px py qx qy x y. formE px py qx qy x y (number (pos 1)) ≗ (qx ⊖ px) ⊗ (y ⊖ qy) ⊖ (qy ⊖ py) ⊗ (x ⊖ qx)) tt f.a.x f.a.y f.b.x f.b.y v.x v.y
 
--- points with the same numbers are one
-pub point_eq_from : (p q : Point) → p.x ≡ q.x → p.y ≡ q.y → point_eq p q ≡ true
-point_eq_from p q same_x same_y = and_from (int_eq p.x q.x) (int_eq p.y q.y) ((Decides-int_eq p.x q.x).1 same_x) ((Decides-int_eq p.y q.y).1 same_y)
-
 -- a point of e on the line of f, in f's span, is an end of f
 pub end_where_level : (e f : Edge) (v : Point) → pos 0 <ℤ width f → MeetInEnds e f → IsOn e (in_plane v) → Spans f v.x (pos 1) →
     side f (in_plane v) ≡ pos 0 → (point_eq f.a v ≡ true) ⊎ (point_eq f.b v ≡ true)
@@ -79,7 +73,7 @@ end_where_level e f v wide_f meet on_e over_f level = ⊎_elim (λ (at : IsAt f.
     (meet (in_plane v) (on_e, record { on_line = level; in_x = inl (over_f.from, over_f.to); in_y = between_on_line f v.x v.y (pos 1) wide_f level over_f })).1
   where
     is : (p : Point) → IsAt p (in_plane v) → point_eq p v ≡ true
-    is p at = let x = at.0 in let y = at.1 in point_eq_from p v (omega (arith, ints)) (omega (arith, ints))
+    is p at = let x = at.0 in let y = at.1 in point_eq-of_same p v (same_point p v (omega (arith, ints)) (omega (arith, ints)))
 
 -- a number that is w times z, for a w above 0, has its test
 pub times_test : (w z g : ℤ) → pos 0 <ℤ w → g ≡ w *ℤ z → int_lt (pos 0) g ≡ int_lt (pos 0) z

@@ -1,22 +1,19 @@
 -- In a set of steps that alternates each step has one next step by a hand, its neighbour at the node, and is the next step
 -- of one step.
-use Rattle.std.proofs.Common.{◌≡◌, ⊎_elim, false, List, Contains, All, refl, sym, ◌∙◌, subst}
+use Rattle.std.proofs.Common.{◌≡◌, ⊎_elim, false, List, Contains, refl, sym, ◌∙◌, subst}
 use Rattle.std.proofs.lemmas.Bool.{both_ways, false_from_ne_true}
-use Rattle.std.proofs.lemmas.List.Elements.{All-contains, All-weaker, All-contains_itself}
+use Rattle.std.proofs.lemmas.List.Elements.{All-contains}
 use Rattle.overlay_geom.specs.Plane.{Step, point_eq}
-use Rattle.overlay_plane.specs.Turn.{Hand, is_met_before, IsNextStep}
+use Rattle.overlay_geom.proofs.Orders.{point_eq-same, point_eq-of_same}
+use Rattle.overlay_plane.specs.Turn.{Hand, is_met_before, IsMetBefore, IsNextStep}
 use Rattle.overlay_plane.specs.Alternates.{Alternates}
-use Rattle.overlay_plane.specs.Rays.{other_hand, IsMetBefore}
+use Rattle.overlay_plane.specs.Rays.{other_hand}
 use Rattle.overlay_plane.specs.NextSteps.{NextIsOneToOne}
-use Rattle.overlay_plane.proofs.Under.{same_points}
+use Rattle.overlay_plane.proofs.Entries.{all_of_entries}
 use Rattle.overlay_plane.proofs.TurnOrder.{apart_exchanged, met_irreflexive, met_transitive, met_total, start_is_last}
 use Rattle.overlay_plane.proofs.CyclicOrder.{AllApart, all_apart_shifted, met_shifted, met_by_other, met_after, not_both}
 use Rattle.overlay_plane.proofs.Nearest.{IsNearest, nearest}
-use Rattle.overlay_plane.proofs.AtNodes.{equal_points, by_steps, Leaves, Arrives, leaves_long, leaving_apart, arriving_apart, passing_apart, all_apart_leaving, all_apart_arriving, arrives_between_by, leaves_between_by}
-
--- a fact of each entry, for all of them
-pub all_from_each : {X : Type 0} (P : X → Type 0) (xs : List X) → ((x : X) → Contains xs x → P x) → All P xs
-all_from_each P xs h = All-weaker (Contains xs) P h xs (All-contains_itself xs)
+use Rattle.overlay_plane.proofs.AtNodes.{by_steps, Leaves, Arrives, leaves_long, leaving_apart, arriving_apart, passing_apart, all_apart_leaving, all_apart_arriving, arrives_between_by, leaves_between_by}
 
 -- none of the steps that leave is met before the next step
 pub none_leaves_before : (steps : List Step) (hand : Hand) (s t u : Step) → IsNextStep steps hand s t → Leaves steps s.to u → is_met_before hand s.to s.from u.to t.to ≡ false
@@ -35,12 +32,12 @@ module _ (steps : List Step) (alternates : Alternates steps) (hand : Hand) where
   pub next_exists : (s : Step) → Contains steps s → (t : Step) × IsNextStep steps hand s t
   next_exists s c =
       let on = alternates.goes_on s c in
-      let first = nearest (λ w. point_eq w.from s.to) (λ w z. is_met_before hand s.to s.from w.to z.to) (λ w. met_irreflexive hand s.to s.from w.to) (λ w y z. met_transitive hand s.to s.from w.to y.to z.to (alternates.long s c)) steps on.0 on.1 (equal_points (on.0).from s.to on.2) in (
+      let first = nearest (λ w. point_eq w.from s.to) (λ w z. is_met_before hand s.to s.from w.to z.to) (λ w. met_irreflexive hand s.to s.from w.to) (λ w y z. met_transitive hand s.to s.from w.to y.to z.to (alternates.long s c)) steps on.0 on.1 (point_eq-of_same (on.0).from s.to on.2) in (
         first.0,
         record {
           among = (first.1).among;
-          leaves = same_points (first.0).from s.to (first.1).passed;
-          first = all_from_each (λ u. u.from ≡ s.to → is_met_before hand s.to s.from u.to (first.0).to ≡ false) steps (λ u at e. (first.1).first u at (equal_points u.from s.to e));
+          leaves = point_eq-same (first.0).from s.to (first.1).passed;
+          first = all_of_entries (λ u. u.from ≡ s.to → is_met_before hand s.to s.from u.to (first.0).to ≡ false) steps (λ u at e. (first.1).first u at (point_eq-of_same u.from s.to e));
         },
       )
 
@@ -87,7 +84,7 @@ module _ (steps : List Step) (alternates : Alternates steps) (hand : Hand) where
   before : (t : Step) → Contains steps t → (s : Step) × IsNearest (λ w. point_eq w.to t.from) (λ w z. is_met_before (other_hand hand) t.from t.to w.from z.from) steps s
   before t c =
       let into = alternates.comes_in t c in
-      nearest (λ w. point_eq w.to t.from) (λ w z. is_met_before (other_hand hand) t.from t.to w.from z.from) (λ w. met_irreflexive (other_hand hand) t.from t.to w.from) (λ w y z. met_transitive (other_hand hand) t.from t.to w.from y.from z.from (λ e. alternates.long t c (sym e))) steps into.0 into.1 (equal_points (into.0).to t.from into.2)
+      nearest (λ w. point_eq w.to t.from) (λ w z. is_met_before (other_hand hand) t.from t.to w.from z.from) (λ w. met_irreflexive (other_hand hand) t.from t.to w.from) (λ w y z. met_transitive (other_hand hand) t.from t.to w.from y.from z.from (λ e. alternates.long t c (sym e))) steps into.0 into.1 (point_eq-of_same (into.0).to t.from into.2)
 
   -- a step that leaves and would be met between that one and t leaves room for one that arrives nearer to t
   none_between : (s t u : Step) → Leaves steps t.from t → Arrives steps t.from s → Leaves steps t.from u → ((a : Step) → Arrives steps t.from a → ¬ (IsMetBefore (other_hand hand) t.from t.to a.from s.from)) → ¬ (IsMetBefore hand t.from s.from u.to t.to)
@@ -111,7 +108,7 @@ module _ (steps : List Step) (alternates : Alternates steps) (hand : Hand) where
     record {
       among = c;
       leaves = sym node;
-      first = all_from_each (λ u. u.from ≡ s.to → is_met_before hand s.to s.from u.to t.to ≡ false) steps (λ u at e. subst (λ w. is_met_before hand w s.from u.to t.to ≡ false) (sym node) (false_from_ne_true (is_met_before hand t.from s.from u.to t.to) (none_between s t u (record { among = c; at = refl }) (record { among = near.among; at = node }) (record { among = at; at = e ∙ node }) (λ a h. λ m. both_ways (is_met_before (other_hand hand) t.from t.to a.from s.from) (near.first a h.among (equal_points a.to t.from h.at)) m))));
+      first = all_of_entries (λ u. u.from ≡ s.to → is_met_before hand s.to s.from u.to t.to ≡ false) steps (λ u at e. subst (λ w. is_met_before hand w s.from u.to t.to ≡ false) (sym node) (false_from_ne_true (is_met_before hand t.from s.from u.to t.to) (none_between s t u (record { among = c; at = refl }) (record { among = near.among; at = node }) (record { among = at; at = e ∙ node }) (λ a h. λ m. both_ways (is_met_before (other_hand hand) t.from t.to a.from s.from) (near.first a h.among (point_eq-of_same a.to t.from h.at)) m))));
     },
   )
     where
@@ -122,7 +119,7 @@ module _ (steps : List Step) (alternates : Alternates steps) (hand : Hand) where
       near = (before t c).1
 
       node : s.to ≡ t.from
-      node = same_points s.to t.from near.passed
+      node = point_eq-same s.to t.from near.passed
 
 -- the laws together
 pub next_is_one_to_one : NextIsOneToOne

@@ -4,16 +4,15 @@ use Rattle.std.proofs.lemmas.Bool.{false≢true}
 use Rattle.std.proofs.lemmas.List.Elements.{All-contains}
 use Rattle.overlay_geom.specs.Plane.{Point, Step, edge_eq}
 use Rattle.overlay_geom.specs.Edges.{CountedEdge, ends_of, winding_below, winding_above}
-use Rattle.overlay_plane.specs.Turn.{Hand, is_met_before}
+use Rattle.overlay_geom.proofs.Orders.{point_eq-of_same}
+use Rattle.overlay_plane.specs.Turn.{Hand, is_met_before, IsMetBefore}
 use Rattle.overlay_plane.specs.Turn.Hand.{left, right}
-use Rattle.overlay_plane.specs.Rays.{IsMetBefore}
 use Rattle.overlay_plane.specs.Nodes.{IsBalancedArrangement}
 use Rattle.overlay_plane.specs.Spokes.{IsSpoke, far_end, winding_before, winding_after}
-use Rattle.overlay_plane.specs.WindingsBeside.{IsStepAlong, winding_beside, OneWindingToTheNextStep}
+use Rattle.overlay_plane.specs.WindingsBeside.{IsStepAlong, winding_on_side, OneWindingToTheNextStep}
 use Rattle.overlay_plane.proofs.TurnOrder.{apart_exchanged, met_irreflexive, start_is_last}
 use Rattle.overlay_plane.proofs.CyclicOrder.{met_shifted, met_by_other, met_after}
 use Rattle.overlay_plane.proofs.NextSteps.{next_is_one_to_one}
-use Rattle.overlay_plane.proofs.SameWay.{point_eq_same}
 use Rattle.overlay_plane.proofs.SingleEntries.{one_entry}
 use Rattle.overlay_plane.proofs.SpokeWindings.{not_start}
 use Rattle.overlay_plane.proofs.SpokeRays.{far_apart, spokes_apart}
@@ -24,15 +23,15 @@ module _ (count : CountedEdge → ℤ) (es : List CountedEdge) (arranged : IsBal
   record Arrives (v : Point) (e : CountedEdge) (s : Step) : Type 0 where
     spoke : IsSpoke es v e
     far : far_end v e ≡ s.from
-    on_left : winding_beside left count es e s ≡ winding_before count es v e
-    on_right : winding_beside right count es e s ≡ winding_after count es v e
+    on_left : winding_on_side left count es e s ≡ winding_before count es v e
+    on_right : winding_on_side right count es e s ≡ winding_after count es v e
 
   -- and one that leaves
   record Leaves (v : Point) (e : CountedEdge) (s : Step) : Type 0 where
     spoke : IsSpoke es v e
     far : far_end v e ≡ s.to
-    on_left : winding_beside left count es e s ≡ winding_after count es v e
-    on_right : winding_beside right count es e s ≡ winding_before count es v e
+    on_left : winding_on_side left count es e s ≡ winding_after count es v e
+    on_right : winding_on_side right count es e s ≡ winding_before count es v e
 
   -- two tests with one answer choose the same
   choose : {b c : Bool} (x y : ℤ) (t : Bool) → b ≡ t → c ≡ t → cond b x y ≡ cond c x y
@@ -54,7 +53,7 @@ module _ (count : CountedEdge → ℤ) (es : List CountedEdge) (arranged : IsBal
         forth : s ≡ record { from = e.a; to = e.b } → Arrives v e s
         forth walk =
             let same = sym (ap (λ (q : Step). q.to) walk) ∙ ends in
-            let first = point_eq_same e.a s.from (sym (ap (λ (q : Step). q.from) walk)) in
+            let first = point_eq-of_same e.a s.from (sym (ap (λ (q : Step). q.from) walk)) in
             let other = not_start count es arranged v e along.entry same in record {
               spoke = record { entry = along.entry; at = inr same };
               far = ap (λ t. cond t e.b e.a) other ∙ sym (ap (λ (q : Step). q.from) walk);
@@ -65,7 +64,7 @@ module _ (count : CountedEdge → ℤ) (es : List CountedEdge) (arranged : IsBal
         back : s ≡ record { from = e.b; to = e.a } → Arrives v e s
         back walk =
             let same = sym (ap (λ (q : Step). q.to) walk) ∙ ends in
-            let first = point_eq_same e.a v same in
+            let first = point_eq-of_same e.a v same in
             let other = not_start count es arranged s.from e along.entry (sym (ap (λ (q : Step). q.from) walk)) in record {
               spoke = record { entry = along.entry; at = inl same };
               far = ap (λ t. cond t e.b e.a) first ∙ sym (ap (λ (q : Step). q.from) walk);
@@ -81,11 +80,11 @@ module _ (count : CountedEdge → ℤ) (es : List CountedEdge) (arranged : IsBal
         forth walk =
             let at_from = sym (ap (λ (q : Step). q.from) walk) in
             let same = at_from ∙ starts in
-            let first = point_eq_same e.a v same in record {
+            let first = point_eq-of_same e.a v same in record {
               spoke = record { entry = along.entry; at = inl same };
               far = ap (λ t. cond t e.b e.a) first ∙ sym (ap (λ (q : Step). q.to) walk);
-              on_left = choose (winding_above count es e) (winding_below count es e) true (point_eq_same e.a s.from at_from) first;
-              on_right = choose (winding_below count es e) (winding_above count es e) true (point_eq_same e.a s.from at_from) first;
+              on_left = choose (winding_above count es e) (winding_below count es e) true (point_eq-of_same e.a s.from at_from) first;
+              on_right = choose (winding_below count es e) (winding_above count es e) true (point_eq-of_same e.a s.from at_from) first;
             }
 
         back : s ≡ record { from = e.b; to = e.a } → Leaves v e s
@@ -123,7 +122,7 @@ module _ (count : CountedEdge → ℤ) (es : List CountedEdge) (arranged : IsBal
   module _ (v : Point) (e f : CountedEdge) (s t : Step) (arriving : Arrives v e s) (leaving : Leaves v f t) where
     -- where what a hand meets between them counts nothing, the winding on its side is the same
     by_hand : (hand : Hand) → ((m : CountedEdge) → IsSpoke es v m → IsMetBefore hand v (far_end v e) (far_end v m) (far_end v f) → count m ≡ pos 0) →
-        winding_beside hand count es e s ≡ winding_beside hand count es f t
+        winding_on_side hand count es e s ≡ winding_on_side hand count es f t
     by_hand left nothing = arriving.on_left ∙ sym (one_winding_between_spokes count es arranged v f e leaving.spoke arriving.spoke (λ m spoke h. nothing m spoke (from_other_side v e m f arriving.spoke spoke leaving.spoke h))) ∙ sym leaving.on_left
     by_hand right nothing = arriving.on_right ∙ one_winding_between_spokes count es arranged v e f arriving.spoke leaving.spoke nothing ∙ sym leaving.on_right
 

@@ -9,14 +9,15 @@ use lib.IntN.{*ℤ_comm}
 use Rattle.overlay_geom.specs.Plane.{Point, Edge, side, in_plane, point_lt, point_eq, edge_eq, is_strictly_below, IsAt}
 use Rattle.overlay_geom.specs.Settled.{MeetInEnds}
 use Rattle.overlay_geom.proofs.Signs.{linear, mul-pos, mul-neg, mul-zero, mul-nonpos, zero_of_mul-zero}
+use Rattle.overlay_geom.proofs.Orders.{point_eq-same, edge_eq-same, point_eq-of_same, same_point}
 use Rattle.overlay_plane.specs.Heights.{width, gap, covers, is_under, Spans}
 use Rattle.overlay_plane.specs.Regions.{one_if}
 use Rattle.overlay_plane.specs.Nodes.{edge_turn, turns_left}
 use Rattle.overlay_plane.proofs.Ends.{end_on}
 use Rattle.overlay_plane.proofs.Strip.{starts_first}
-use Rattle.overlay_plane.proofs.Under.{same_points, same_edges, covers_just_left, shared_just_right}
+use Rattle.overlay_plane.proofs.Under.{covers_just_left, shared_just_right}
 use Rattle.overlay_plane.proofs.Tests.{test_from_lt, test_from_le, test_from_ge, test_from_gt}
-use Rattle.overlay_plane.proofs.NearAbscissas.{near_same, gap-own_end, gap-left_of_end, side-over_start, side-over_end, point_eq_from, end_where_level, times_test}
+use Rattle.overlay_plane.proofs.NearAbscissas.{near_same, gap-own_end, gap-left_of_end, side-over_start, side-over_end, end_where_level, times_test}
 use Rattle.overlay_plane.proofs.NodeStarts.{rises_upright}
 
 -- the point is on the vertical line through v, below it
@@ -98,7 +99,7 @@ module _ (e f : Edge) (forward : point_lt f.a f.b ≡ true) (meets : edge_eq e f
   ends_elsewhere other = by (edge_eq e f) refl
     where
       by : (s : Bool) → edge_eq e f ≡ s → MeetInEnds e f
-      by true same = let one = ap (λ (g : Edge). g.b) (same_edges e f same) in absurd (false≢true (sym other ∙ point_eq_from f.b e.b (ap (λ (p : Point). p.x) (sym one)) (ap (λ (p : Point). p.y) (sym one))))
+      by true same = let one = ap (λ (g : Edge). g.b) (edge_eq-same e f same) in absurd (false≢true (sym other ∙ point_eq-of_same f.b e.b (sym one)))
       by false apart = meets apart
 
   -- e itself is over the abscissa just left of its end
@@ -119,7 +120,7 @@ module _ (e f : Edge) (forward : point_lt f.a f.b ≡ true) (meets : edge_eq e f
 
   -- the end of e is off an edge that passes its abscissa
   passes_off : f.a.x <ℤ x → x <ℤ f.b.x → MeetInEnds e f → ¬ (side f (in_plane e.b) ≡ pos 0)
-  passes_off l r meet level = ⊎_elim (λ at. let same = ap (λ (p : Point). p.x) (same_points f.a e.b at) in omega linear) (λ at. let same = ap (λ (p : Point). p.x) (same_points f.b e.b at) in omega linear)
+  passes_off l r meet level = ⊎_elim (λ at. let same = ap (λ (p : Point). p.x) (point_eq-same f.a e.b at) in omega linear) (λ at. let same = ap (λ (p : Point). p.x) (point_eq-same f.b e.b at) in omega linear)
       (end_where_level e f e.b (omega linear) meet (end_on e) (record { from = omega (arith, ints); to = omega (arith, ints) }) level)
 
   -- f ends left of the end of e, or starts right of it
@@ -163,7 +164,7 @@ module _ (e f : Edge) (forward : point_lt f.a f.b ≡ true) (meets : edge_eq e f
           (ap (λ z. one_if z) (under_by_side l (omega linear) (ends_elsewhere elsewhere) (λ level. omega linear) ∙ test_from_ge (pos 0) (side f (in_plane e.b)) (omega linear)))
 
       at : f.b.y ≡ e.b.y → Sum
-      at same_y = with_known true false true false false (over_left l (omega linear)) (not_over (inr (omega linear))) (point_eq_from f.b e.b same same_y) (up_from f.b (omega linear)) (not_down f.a (λ s. omega linear))
+      at same_y = with_known true false true false false (over_left l (omega linear)) (not_over (inr (omega linear))) (point_eq-of_same f.b e.b (same_point f.b e.b same same_y)) (up_from f.b (omega linear)) (not_down f.a (λ s. omega linear))
           (ap (λ z. one_if (int_lt (pos 0) z)) turned ∙ alone (one_if (turns_left e f)))
         where
           alone : (z : ℤ) → z ≡ (pos 0 +ℤ z) +ℤ (pos 0 -ℤ pos 0)
@@ -223,7 +224,7 @@ module _ (e f : Edge) (forward : point_lt f.a f.b ≡ true) (meets : edge_eq e f
                   omega linear
 
       at : f.b.y ≡ e.b.y → Sum
-      at same_y = with_known false false true false true (not_over_left (inl (omega linear))) (not_over (inr (omega linear))) (point_eq_from f.b e.b same_b same_y) (up_from f.b (omega linear)) (down_from f.a same_a (let r = rises in omega linear))
+      at same_y = with_known false false true false true (not_over_left (inl (omega linear))) (not_over (inr (omega linear))) (point_eq-of_same f.b e.b (same_point f.b e.b same_b same_y)) (up_from f.b (omega linear)) (down_from f.a same_a (let r = rises in omega linear))
           (ap (λ z. (pos 0 +ℤ one_if z) +ℤ (pos 0 -ℤ pos 1)) (sym turned))
         where
           turned : turns_left e f ≡ true

@@ -9,13 +9,14 @@ use lib.IntN.{+ℤ_idl, +ℤ_idr, *ℤ_comm}
 use Rattle.overlay_geom.specs.Plane.{Point, Edge, side, in_plane, point_lt, point_eq, edge_eq, is_strictly_below}
 use Rattle.overlay_geom.specs.Settled.{MeetInEnds}
 use Rattle.overlay_geom.proofs.Signs.{linear, mul-pos, mul-zero, zero_of_mul-zero}
+use Rattle.overlay_geom.proofs.Orders.{point_eq-same, edge_eq-same}
 use Rattle.overlay_plane.specs.Heights.{width, gap, covers, is_under, Spans}
 use Rattle.overlay_plane.specs.Regions.{one_if}
 use Rattle.overlay_plane.specs.Nodes.{edge_turn, turns_left}
 use Rattle.overlay_plane.proofs.LineForms.{side-start}
 use Rattle.overlay_plane.proofs.Ends.{start_on}
 use Rattle.overlay_plane.proofs.Strip.{starts_first}
-use Rattle.overlay_plane.proofs.Under.{same_points, same_edges, covers_from, covers_to, covers_wide, shared_just_right}
+use Rattle.overlay_plane.proofs.Under.{covers_from, covers_to, covers_wide, shared_just_right}
 use Rattle.overlay_plane.proofs.Tests.{lt_from_test, test_from_lt, test_from_le, test_from_ge, same_tests}
 use Rattle.overlay_plane.proofs.NearAbscissas.{near_same, gap-own_start, gap-right_of_start, end_where_level, times_test}
 
@@ -50,7 +51,7 @@ module _ (e f : Edge) (forward : point_lt f.a f.b ≡ true) (meets : edge_eq e f
   elsewhere_meets other = by (edge_eq e f) refl
     where
       by : (s : Bool) → edge_eq e f ≡ s → MeetInEnds e f
-      by true same = absurd (false≢true (sym other ∙ (and_parts (point_eq f.a e.a) (point_eq f.b e.b) (subst (λ (g : Edge). edge_eq g e ≡ true) (same_edges e f same) (itself e))).0))
+      by true same = absurd (false≢true (sym other ∙ (and_parts (point_eq f.a e.a) (point_eq f.b e.b) (subst (λ (g : Edge). edge_eq g e ≡ true) (edge_eq-same e f same) (itself e))).0))
         where
           itself : (g : Edge) → edge_eq g g ≡ true
           itself g = and_from (point_eq g.a g.a) (point_eq g.b g.b) (point_itself g.a) (point_itself g.b)
@@ -66,11 +67,11 @@ module _ (e f : Edge) (forward : point_lt f.a f.b ≡ true) (meets : edge_eq e f
       (record { from = covers_from f e.a.x (pos 1) over; to = let r = covers_to f e.a.x (pos 1) over in omega linear }) level)
     where
       before_end : point_eq f.b e.a ≡ true → ⊥
-      before_end at = let same = ap (λ (p : Point). p.x) (same_points f.b e.a at) in let r = covers_to f e.a.x (pos 1) over in omega (arith, ints)
+      before_end at = let same = ap (λ (p : Point). p.x) (point_eq-same f.b e.a at) in let r = covers_to f e.a.x (pos 1) over in omega (arith, ints)
 
   -- an edge that starts with e has its start on its line
   pub level_start : point_eq f.a e.a ≡ true → side f (in_plane e.a) ≡ pos 0
-  level_start at = subst (λ (p : Point). side f (in_plane p) ≡ pos 0) (same_points f.a e.a at) (side-start f)
+  level_start at = subst (λ (p : Point). side f (in_plane p) ≡ pos 0) (point_eq-same f.a e.a at) (side-start f)
 
   -- under an edge that is not vertical
   pub under_from_start : pos 0 <ℤ width e → one_if (covers f e.a.x (pos 1) && is_under f e e.a.x (pos 1)) ≡ one_if (is_strictly_below f (in_plane e.a)) +ℤ one_if (point_eq f.a e.a && turns_left f e)
@@ -96,7 +97,7 @@ module _ (e f : Edge) (forward : point_lt f.a f.b ≡ true) (meets : edge_eq e f
           (λ t. and_from (covers f e.a.x (pos 1)) (is_under f e e.a.x (pos 1)) (over_it t) (ap (λ z. int_lt (pos 0) z) (gap_is_turn at) ∙ t))
         where
           same_x : f.a.x ≡ e.a.x
-          same_x = ap (λ (p : Point). p.x) (same_points f.a e.a at)
+          same_x = ap (λ (p : Point). p.x) (point_eq-same f.a e.a at)
 
           over_it : turns_left f e ≡ true → covers f e.a.x (pos 1) ≡ true
           over_it t = let s = same_x in let w = right_is_wide e f forward wide (lt_from_test (pos 0) (edge_turn f e) t) in and_from (int_le (f.a.x *ℤ pos 1) e.a.x) (int_lt e.a.x (f.b.x *ℤ pos 1)) (test_from_le (f.a.x *ℤ pos 1) e.a.x (omega (arith, ints))) (test_from_lt e.a.x (f.b.x *ℤ pos 1) (omega (arith, ints)))

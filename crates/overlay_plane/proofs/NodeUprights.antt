@@ -8,6 +8,7 @@ use Rattle.overlay_geom.specs.Plane.{Point, PlanePoint, Edge, side, in_plane, mi
 use Rattle.overlay_geom.specs.Settled.{MeetInEnds}
 use Rattle.overlay_geom.proofs.Identities.{solve, number, ◌⊕◌, ◌⊗◌, ◌⊖◌, ⊝◌, ◌≗◌}
 use Rattle.overlay_geom.proofs.Signs.{linear, by_sign, mul-pos, mul-zero, mul-nonneg, pos_of_mul-pos}
+use Rattle.overlay_geom.proofs.Orders.{point_eq-same, edge_eq-same}
 use Rattle.overlay_plane.specs.Heights.{width, covers, Spans}
 use Rattle.overlay_plane.specs.Regions.{one_if}
 use Rattle.overlay_plane.specs.Nodes.{edge_turn, turns_left}
@@ -15,7 +16,7 @@ use Rattle.overlay_plane.proofs.LineForms.{formE, line_form_linear}
 use Rattle.overlay_plane.proofs.Crossing.{between_on_line, spans_between}
 use Rattle.overlay_plane.proofs.Ends.{mixed, mixed_on}
 use Rattle.overlay_plane.proofs.Strip.{starts_first}
-use Rattle.overlay_plane.proofs.Under.{same_points, same_edges, covers_from, covers_to, covers_wide}
+use Rattle.overlay_plane.proofs.Under.{covers_from, covers_to, covers_wide}
 use Rattle.overlay_plane.proofs.Tests.{lt_from_test, test_from_lt, test_from_le, test_from_ge, same_tests}
 use Rattle.overlay_plane.proofs.NodeStarts.{counted_besides, rises_upright, start_off, level_start}
 
@@ -109,7 +110,7 @@ module _ (e f : Edge) (forward_e : point_lt e.a e.b ≡ true) (narrow : width e 
   wide_meets wide = by (edge_eq e f) refl
     where
       by : (s : Bool) → edge_eq e f ≡ s → MeetInEnds e f
-      by true same = absurd (let n = narrow in let w = ap (λ (g : Edge). width g) (same_edges e f same) in omega linear)
+      by true same = absurd (let n = narrow in let w = ap (λ (g : Edge). width g) (edge_eq-same e f same) in omega linear)
       by false apart = meets apart
 
   -- where f is over e, it does not pass between the ends
@@ -143,7 +144,7 @@ module _ (e f : Edge) (forward_e : point_lt e.a e.b ≡ true) (narrow : width e 
         where
           over_it : pos 0 <ℤ edge_turn f e → covers f e.a.x (pos 1) ≡ true
           over_it turned =
-              let same = ap (λ (p : Point). p.x) (same_points f.a e.a at) in
+              let same = ap (λ (p : Point). p.x) (point_eq-same f.a e.a at) in
               let t = turn_is in
               let exchanged = *ℤ_comm (width f) (e.b.y -ℤ e.a.y) in
               let w = pos_of_mul-pos (e.b.y -ℤ e.a.y) (width f) rises (omega linear) in

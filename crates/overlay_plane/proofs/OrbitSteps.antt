@@ -7,8 +7,9 @@ use Rattle.overlay_geom.specs.Plane.{Step}
 use Rattle.overlay_plane.specs.Turn.{Hand, IsNextStep, step_round, IsOrbit}
 use Rattle.overlay_plane.specs.Alternates.{Alternates}
 use Rattle.overlay_plane.specs.Orbits.{OrbitsAreCycles, OrbitsHaveThreeSteps}
+use Rattle.overlay_plane.proofs.Entries.{all_of_entries}
 use Rattle.overlay_plane.proofs.AtNodes.{no_way_back}
-use Rattle.overlay_plane.proofs.NextSteps.{all_from_each, next_unique, next_injective}
+use Rattle.overlay_plane.proofs.NextSteps.{next_unique, next_injective}
 use Rattle.overlay_plane.proofs.ItemsRound.{item_round-whole, item_round-round, item_round-within, item_round-next, Contains-item_round, place_of}
 
 -- what is read of an empty walk
@@ -92,7 +93,7 @@ module _ (steps : List Step) (hand : Hand) (walk : List Step) (orbit : IsOrbit s
 -- the laws together
 pub orbits_are_cycles : OrbitsAreCycles
 orbits_are_cycles steps alternates hand walk orbit = record {
-  inside = all_from_each (λ s. Contains steps s) walk (λ s c. let at = place_of walk no_step s c in subst (λ w. Contains steps w) at.2 (step_inside steps hand walk orbit at.0));
+  inside = all_of_entries (λ s. Contains steps s) walk (λ s c. let at = place_of walk no_step s c in subst (λ w. Contains steps w) at.2 (step_inside steps hand walk orbit at.0));
   once_each = once_each steps hand walk orbit alternates;
   closed = λ s t c next. (next_in_walk steps hand walk orbit alternates s t next, step_before_in_walk steps hand walk orbit alternates s t c next);
 }

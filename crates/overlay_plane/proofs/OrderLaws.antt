@@ -4,11 +4,12 @@ use Rattle.std.proofs.lemmas.Int.{ints}
 use Rattle.overlay_geom.specs.Plane.{Edge, edge_eq, side, in_plane}
 use Rattle.overlay_geom.specs.Edges.{ends_of}
 use Rattle.overlay_geom.specs.Settled.{MeetInEnds}
+use Rattle.overlay_geom.proofs.Orders.{edge_eq-same}
 use Rattle.overlay_plane.specs.Heights.{width, covers, is_under, IsInner}
 use Rattle.overlay_plane.specs.Order.{AreOnOneSide, EndsAsUnder, OrderOverAnAbscissa, OrderAlongCommonSpans, EndsOnOneSide, EndsBelowWhereUnder}
 use Rattle.overlay_plane.proofs.Crossing.{IsShared, meet_exchanged, same_low}
 use Rattle.overlay_plane.proofs.Ends.{ends_on_side, low_at_start, low_at_end}
-use Rattle.overlay_plane.proofs.Under.{same_edges, covers_wide, shared_just_right, same_under, under_irreflexive, under_asymmetric, under_transitive, under_total}
+use Rattle.overlay_plane.proofs.Under.{covers_wide, shared_just_right, same_under, under_irreflexive, under_asymmetric, under_transitive, under_total}
 
 -- the edges that cover an abscissa are in order there
 pub order_over_an_abscissa : OrderOverAnAbscissa
@@ -27,15 +28,15 @@ order_along_common_spans es settled e f x d x' d' positive positive' ce cf ce' c
     level one z c = subst (λ (g : Edge). is_under g (ends_of f) z c ≡ false) one (under_irreflexive (ends_of f) z c)
 
     by : (s : Bool) → edge_eq (ends_of f) (ends_of e) ≡ s → is_under (ends_of e) (ends_of f) x d ≡ is_under (ends_of e) (ends_of f) x' d'
-    by true same = level (same_edges (ends_of f) (ends_of e) same) x d ∙ sym (level (same_edges (ends_of f) (ends_of e) same) x' d')
+    by true same = level (edge_eq-same (ends_of f) (ends_of e) same) x d ∙ sym (level (edge_eq-same (ends_of f) (ends_of e) same) x' d')
     by false apart = same_under (ends_of e) (ends_of f) x d x' d' positive positive' (settled f e cf.entry ce.entry apart) ce.over cf.over ce'.over cf'.over
 
 -- an edge's own ends are not inside it
 start_not_inner : (e f : Edge) → edge_eq e f ≡ true → IsInner e f.a.x (pos 1) → ⊥
-start_not_inner e f same inner = subst (λ (g : Edge). IsInner e g.a.x (pos 1) → ⊥) (same_edges e f same) (λ (i : IsInner e e.a.x (pos 1)). let l = i.after in omega (arith, ints)) inner
+start_not_inner e f same inner = subst (λ (g : Edge). IsInner e g.a.x (pos 1) → ⊥) (edge_eq-same e f same) (λ (i : IsInner e e.a.x (pos 1)). let l = i.after in omega (arith, ints)) inner
 
 end_not_inner : (e f : Edge) → edge_eq e f ≡ true → IsInner e f.b.x (pos 1) → ⊥
-end_not_inner e f same inner = subst (λ (g : Edge). IsInner e g.b.x (pos 1) → ⊥) (same_edges e f same) (λ (i : IsInner e e.b.x (pos 1)). let r = i.before in omega (arith, ints)) inner
+end_not_inner e f same inner = subst (λ (g : Edge). IsInner e g.b.x (pos 1) → ⊥) (edge_eq-same e f same) (λ (i : IsInner e e.b.x (pos 1)). let r = i.before in omega (arith, ints)) inner
 
 inner_wide : (e : Edge) (v : ℤ) → IsInner e v (pos 1) → pos 0 <ℤ width e
 inner_wide e v i = let l = i.after in let r = i.before in omega (arith, ints)

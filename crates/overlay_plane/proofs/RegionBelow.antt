@@ -4,11 +4,11 @@ use Rattle.std.proofs.lemmas.Bool.{and_parts, and_from}
 use lib.IntN.{+ℤ_idr}
 use Rattle.overlay_geom.specs.Plane.{PlanePoint, Edge, side, is_strictly_below, total}
 use Rattle.overlay_geom.specs.Edges.{CountedEdge, ends_of, winding_below}
-use Rattle.overlay_geom.specs.Settled.{MeetInEnds}
+use Rattle.overlay_geom.specs.Settled.{MeetInEnds, IsSettledBy}
 use Rattle.overlay_geom.proofs.Signs.{linear, by_sign, mul-pos, pos_of_mul-pos}
 use Rattle.overlay_plane.specs.Heights.{width, gap, covers, is_under, Spans}
 use Rattle.overlay_plane.specs.Regions.{one_if, TakesDownward, RegionOverEdgesTaken, RegionFromSelectedSigns, RegionBelowAnEdge}
-use Rattle.overlay_plane.specs.EdgeLists.{IsSettledBy, IsBalanced}
+use Rattle.overlay_plane.specs.EdgeLists.{IsBalanced}
 use Rattle.overlay_plane.specs.Windings.{total_under}
 use Rattle.overlay_plane.proofs.LineForms.{gap-line_form}
 use Rattle.overlay_plane.proofs.Crossing.{no_crossing}

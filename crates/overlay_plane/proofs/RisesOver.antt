@@ -1,24 +1,27 @@
 -- What a function of two windings rises by across the edges over an abscissa: over those that are there with all under them, it is its value at the sums of their counts.
 use Rattle.std.proofs.Common.{◌≡◌, inl, inr, ⊎_elim, Bool, true, false, cond, ◌&&◌, ℤ, pos, ◌+ℤ◌, ◌-ℤ◌, ◌<ℤ◌, List, Contains, AllPairs, filter, refl, sym, ap, ap₂, ◌∙◌, subst}
 use Rattle.std.proofs.lemmas.Bool.{false≢true}
-use Rattle.overlay_geom.specs.Plane.{Edge, midpoint, edge_eq, total}
-use Rattle.overlay_geom.specs.Settled.{MeetInEnds}
+use Rattle.overlay_geom.specs.Plane.{Edge, midpoint, edge_eq, total, total_below}
+use Rattle.overlay_geom.specs.Settled.{MeetInEnds, IsSettledBy}
+use Rattle.overlay_geom.proofs.Orders.{edge_eq-same}
 use Rattle.overlay_plane.specs.Heights.{covers, is_under}
-use Rattle.overlay_plane.specs.EdgeLists.{IsForwardBy, IsSettledBy, IsBalanced}
+use Rattle.overlay_plane.specs.EdgeLists.{IsForwardBy, IsBalanced}
 use Rattle.overlay_plane.specs.Regions.{TakesDownward}
-use Rattle.overlay_plane.specs.Windings.{total_below}
+use Rattle.overlay_plane.proofs.Entries.{Contains-from_filter}
+use Rattle.overlay_plane.proofs.LaterEntries.{Each, Each-from_all_pairs, Each-filter, Each-weaker}
 use Rattle.overlay_plane.proofs.Totals.{total-same, total-filter}
-use Rattle.overlay_plane.proofs.LaterEntries.{Contains-filter, Each, Each-from_all_pairs, Each-filter, Each-weaker}
-use Rattle.overlay_plane.proofs.Under.{same_edges, under_irreflexive, under_asymmetric, under_transitive, under_total}
+use Rattle.overlay_plane.proofs.Under.{under_irreflexive, under_asymmetric, under_transitive, under_total}
 use Rattle.overlay_plane.proofs.Sides.{one_winding_along}
-use Rattle.overlay_plane.proofs.Chains.{Before, Ordered, in_order, total-in_order, Each-in_order, total_before, rises}
+use Rattle.overlay_plane.proofs.Chains.{total_before, rises}
+use Rattle.overlay_plane.proofs.InOrderLists.{Before, Ordered, total-in_order, Each-in_order}
+use Rattle.overlay_plane.specs.InOrder.{in_order}
 
 -- an edge under e is not e
 pub meets_under : (e f : Edge) (x d : ℤ) → (edge_eq e f ≡ false → MeetInEnds e f) → is_under f e x d ≡ true → MeetInEnds e f
 meets_under e f x d meets under = by (edge_eq e f) refl
   where
     by : (s : Bool) → edge_eq e f ≡ s → MeetInEnds e f
-    by true same = absurd (false≢true (sym (subst (λ (g : Edge). is_under g e x d ≡ false) (same_edges e f same) (under_irreflexive e x d)) ∙ under))
+    by true same = absurd (false≢true (sym (subst (λ (g : Edge). is_under g e x d ≡ false) (edge_eq-same e f same) (under_irreflexive e x d)) ∙ under))
     by false apart = meets apart
 
 cond_both_tests : (s t : Bool) (c : ℤ) → cond (s && t) c (pos 0) ≡ cond s (cond t c (pos 0)) (pos 0)
@@ -42,7 +45,7 @@ module _ {X : Type 0} (ends : X → Edge) (xs : List X) (forward : IsForwardBy e
   IsOver e = Contains xs e × (covers (ends e) x d ≡ true)
 
   taken_over : (e : X) → Contains (filter taken xs) e → IsOver e
-  taken_over e c = let both = Contains-filter taken xs e c in (both.0, takes.over e both.0 both.1)
+  taken_over e c = let both = Contains-from_filter taken xs e c in (both.0, takes.over e both.0 both.1)
 
   -- the entries taken, put in order
   abbrev risen : List X

@@ -7,16 +7,18 @@ use lib.IntN.{+ℤ_idr}
 use Rattle.overlay_geom.specs.Plane.{Point, point_eq, edge_eq, total}
 use Rattle.overlay_geom.specs.Edges.{CountedEdge, ends_of}
 use Rattle.overlay_geom.proofs.Signs.{linear}
+use Rattle.overlay_geom.proofs.Orders.{point_eq-same, point_eq-of_same}
 use Rattle.overlay_plane.specs.Turn.{is_met_before}
 use Rattle.overlay_plane.specs.Turn.Hand.{right}
 use Rattle.overlay_plane.specs.Nodes.{IsBalancedArrangement}
 use Rattle.overlay_plane.specs.Spokes.{IsSpoke, far_end, winding_before, winding_after, spoke_count}
+use Rattle.overlay_plane.proofs.Entries.{Contains-from_filter}
+use Rattle.overlay_plane.proofs.LaterEntries.{Each, Each-from_all_pairs, Each-filter, Each-weaker}
 use Rattle.overlay_plane.proofs.Totals.{Contains-head, Contains-later, total-same, total-filter}
-use Rattle.overlay_plane.proofs.LaterEntries.{Contains-filter, Each, Each-from_all_pairs, Each-filter, Each-weaker}
-use Rattle.overlay_plane.proofs.Chains.{Before, Ordered, in_order, total-in_order, Contains-in_order, Each-in_order, total_before, rises}
+use Rattle.overlay_plane.proofs.Chains.{total_before, rises}
+use Rattle.overlay_plane.proofs.InOrderLists.{Before, Ordered, total-in_order, Contains-in_order, Each-in_order}
+use Rattle.overlay_plane.specs.InOrder.{in_order}
 use Rattle.overlay_plane.proofs.TurnOrder.{met_irreflexive, met_asymmetric, met_transitive, met_total}
-use Rattle.overlay_plane.proofs.Under.{same_points}
-use Rattle.overlay_plane.proofs.SameWay.{point_eq_same}
 use Rattle.overlay_plane.proofs.SpokeWindings.{after_is}
 use Rattle.overlay_plane.proofs.RoundNodes.{spoke_or_nothing, winding_round_a_node}
 use Rattle.overlay_plane.proofs.SpokeRays.{far_apart, spokes_apart}
@@ -39,7 +41,7 @@ is_spoke v e = point_eq e.a v || point_eq e.b v
 
 -- what passes the test is a spoke
 pub spoke_from_test : (es : List CountedEdge) (v : Point) (e : CountedEdge) → Contains es e → is_spoke v e ≡ true → IsSpoke es v e
-spoke_from_test es v e at t = record { entry = at; at = ⊎_elim (λ starts. inl (same_points e.a v starts)) (λ ends. inr (same_points e.b v ends)) (or_cases (point_eq e.a v) (point_eq e.b v) t) }
+spoke_from_test es v e at t = record { entry = at; at = ⊎_elim (λ starts. inl (point_eq-same e.a v starts)) (λ ends. inr (point_eq-same e.b v ends)) (or_cases (point_eq e.a v) (point_eq e.b v) t) }
 
 module _ (subj clip : CountedEdge → ℤ) (es : List CountedEdge) (by_subj : IsBalancedArrangement subj es) (by_clip : IsBalancedArrangement clip es) (h : ℤ → ℤ → ℤ) (v : Point) (e f : CountedEdge) (spoke_e : IsSpoke es v e) (spoke_f : IsSpoke es v f) where
   -- a ray that turns counterclockwise from e meets m before n
@@ -61,7 +63,7 @@ module _ (subj clip : CountedEdge → ℤ) (es : List CountedEdge) (by_subj : Is
   -- what is taken is a spoke met before f
   taken_spoke : (m : CountedEdge) → Contains (filter taken es) m → IsSpoke es v m × (met_first m f ≡ true)
   taken_spoke m c =
-      let both = Contains-filter taken es m c in
+      let both = Contains-from_filter taken es m c in
       let tests = and_parts (is_spoke v m) (met_first m f) both.1 in
       (spoke_from_test es v m both.0 tests.0, tests.1)
 
@@ -103,7 +105,7 @@ module _ (subj clip : CountedEdge → ℤ) (es : List CountedEdge) (by_subj : Is
           (spoke_or_nothing count es v g at)
         where
           tested : (g.a ≡ v) ⊎ (g.b ≡ v) → is_spoke v g ≡ true
-          tested at_v = ⊎_elim (λ starts. or_left (point_eq g.a v) (point_eq g.b v) (point_eq_same g.a v starts)) (λ ends. or_right (point_eq g.a v) (point_eq g.b v) (point_eq_same g.b v ends)) at_v
+          tested at_v = ⊎_elim (λ starts. or_left (point_eq g.a v) (point_eq g.b v) (point_eq-of_same g.a v starts)) (λ ends. or_right (point_eq g.a v) (point_eq g.b v) (point_eq-of_same g.b v ends)) at_v
 
   -- and so is that before f
   windings_to : (count : CountedEdge → ℤ) → IsBalancedArrangement count es → winding_after count es v e +ℤ total (spoke_count count v) round ≡ winding_before count es v f
@@ -123,7 +125,7 @@ module _ (subj clip : CountedEdge → ℤ) (es : List CountedEdge) (by_subj : Is
 
       each : (g : CountedEdge) → Contains es g → cond (taken g) (spoke_count count v g) (pos 0) ≡ cond (met_first g f) (spoke_count count v g) (pos 0)
       each g at = ⊎_elim
-          (λ spoke. beside (is_spoke v g) (met_first g f) (spoke_count count v g) (⊎_elim (λ starts. or_left (point_eq g.a v) (point_eq g.b v) (point_eq_same g.a v starts)) (λ ends. or_right (point_eq g.a v) (point_eq g.b v) (point_eq_same g.b v ends)) spoke.at))
+          (λ spoke. beside (is_spoke v g) (met_first g f) (spoke_count count v g) (⊎_elim (λ starts. or_left (point_eq g.a v) (point_eq g.b v) (point_eq-of_same g.a v starts)) (λ ends. or_right (point_eq g.a v) (point_eq g.b v) (point_eq-of_same g.b v ends)) spoke.at))
           (λ none. nothing (is_spoke v g) (met_first g f) (spoke_count count v g) none) (spoke_or_nothing count es v g at)
 
   -- what h rises by across the spokes between, summed

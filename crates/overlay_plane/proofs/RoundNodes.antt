@@ -7,6 +7,7 @@ use Rattle.overlay_geom.specs.Plane.{Point, Edge, in_plane, point_eq, edge_eq, t
 use Rattle.overlay_geom.specs.Edges.{CountedEdge, ends_of, winding_by}
 use Rattle.overlay_geom.proofs.Identities.{solve, number, ◌⊕◌, ◌⊗◌, ◌⊖◌, ◌≗◌}
 use Rattle.overlay_geom.proofs.Signs.{linear, by_sign}
+use Rattle.overlay_geom.proofs.Orders.{point_eq-same, edge_eq-same, point_eq-of_same, edge_eq-exchanged}
 use Rattle.overlay_plane.specs.Regions.{one_if}
 use Rattle.overlay_plane.specs.Turn.{is_met_before}
 use Rattle.overlay_plane.specs.Turn.Hand.{right}
@@ -15,9 +16,8 @@ use Rattle.overlay_plane.specs.Spokes.{IsSpoke, far_end, winding_before, winding
 use Rattle.overlay_plane.proofs.Tests.{same_tests}
 use Rattle.overlay_plane.proofs.Totals.{total-same, total-zero, total-add, total-sub}
 use Rattle.overlay_plane.proofs.TurnOrder.{met_irreflexive}
-use Rattle.overlay_plane.proofs.Under.{same_points, same_edges}
 use Rattle.overlay_plane.proofs.NodeWindings.{count-times}
-use Rattle.overlay_plane.proofs.SameWay.{point_eq_same, edge_eq_exchanged, same_from_start, same_from_end}
+use Rattle.overlay_plane.proofs.SameWay.{same_from_start, same_from_end}
 use Rattle.overlay_plane.proofs.SingleEntries.{single_total}
 use Rattle.overlay_plane.proofs.EdgeTurns.{IsForward, edge_turn_exchanged, edge_turn_same}
 use Rattle.overlay_plane.proofs.SpokeSigns.{alike, sign_at, is_plus, is_level, opposite_sign, sign_minus, sign_level, sign_plus, sign_opposite, test_is_plus, first_from_down}
@@ -33,8 +33,8 @@ pub spoke_or_nothing : (count : CountedEdge → ℤ) (es : List CountedEdge) (v 
 spoke_or_nothing count es v g at = by (point_eq g.a v) refl (point_eq g.b v) refl
   where
     by : (s : Bool) → point_eq g.a v ≡ s → (t : Bool) → point_eq g.b v ≡ t → IsSpoke es v g ⊎ (cond s (count g) (cond t (neg_ℤ (count g)) (pos 0)) ≡ pos 0)
-    by true starts t ends = inl (record { entry = at; at = inl (same_points g.a v starts) })
-    by false starts true ends = inl (record { entry = at; at = inr (same_points g.b v ends) })
+    by true starts t ends = inl (record { entry = at; at = inl (point_eq-same g.a v starts) })
+    by false starts true ends = inl (record { entry = at; at = inr (point_eq-same g.b v ends) })
     by false starts false ends = inr refl
 
 module _ (count : CountedEdge → ℤ) (es : List CountedEdge) (arranged : IsBalancedArrangement count es) (v : Point) (e f : CountedEdge) (spoke_e : IsSpoke es v e) (spoke_f : IsSpoke es v f) where
@@ -53,7 +53,7 @@ module _ (count : CountedEdge → ℤ) (es : List CountedEdge) (arranged : IsBal
       forward_g = forward_entry count es arranged g spoke.entry
 
       one : (h k : Bool) → point_eq g.a v ≡ h → point_eq e.a v ≡ k → alike h k ≡ true → edge_turn (ends_of e) (ends_of g) ≡ pos 0 → edge_eq (ends_of e) (ends_of g) ≡ true
-      one true true hg he same level = same_from_start (ends_of e) (ends_of g) forward_e forward_g level (arranged.settled e g spoke_e.entry spoke.entry) (same_points e.a v he ∙ sym (same_points g.a v hg))
+      one true true hg he same level = same_from_start (ends_of e) (ends_of g) forward_e forward_g level (arranged.settled e g spoke_e.entry spoke.entry) (point_eq-same e.a v he ∙ sym (point_eq-same g.a v hg))
       one true false hg he same level = absurd (false≢true same)
       one false true hg he same level = absurd (false≢true same)
       one false false hg he same level = same_from_end (ends_of e) (ends_of g) forward_e forward_g level (arranged.settled e g spoke_e.entry spoke.entry) (ends_there es v e spoke_e he ∙ sym (ends_there es v g spoke hg))
@@ -61,14 +61,14 @@ module _ (count : CountedEdge → ℤ) (es : List CountedEdge) (arranged : IsBal
       there : (alike (point_eq g.a v) (point_eq e.a v) && is_level (sign_at (edge_turn (ends_of e) (ends_of g)))) ≡ true → edge_eq (ends_of g) (ends_of e) ≡ true
       there t =
           let both = and_parts (alike (point_eq g.a v) (point_eq e.a v)) (is_level (sign_at (edge_turn (ends_of e) (ends_of g)))) t in
-          edge_eq_exchanged (ends_of e) (ends_of g) (one (point_eq g.a v) (point_eq e.a v) refl refl both.0 (level_from_sign (edge_turn (ends_of e) (ends_of g)) both.1))
+          edge_eq-exchanged (ends_of e) (ends_of g) (one (point_eq g.a v) (point_eq e.a v) refl refl both.0 (level_from_sign (edge_turn (ends_of e) (ends_of g)) both.1))
 
       alike_itself : (k : Bool) → alike k k ≡ true
       alike_itself true = refl
       alike_itself false = refl
 
       back : edge_eq (ends_of g) (ends_of e) ≡ true → (alike (point_eq g.a v) (point_eq e.a v) && is_level (sign_at (edge_turn (ends_of e) (ends_of g)))) ≡ true
-      back t = subst (λ (h : Edge). (alike (point_eq h.a v) (point_eq e.a v) && is_level (sign_at (edge_turn (ends_of e) h))) ≡ true) (sym (same_edges (ends_of g) (ends_of e) t))
+      back t = subst (λ (h : Edge). (alike (point_eq h.a v) (point_eq e.a v) && is_level (sign_at (edge_turn (ends_of e) h))) ≡ true) (sym (edge_eq-same (ends_of g) (ends_of e) t))
           (and_from (alike (point_eq e.a v) (point_eq e.a v)) (is_level (sign_at (edge_turn (ends_of e) (ends_of e)))) (alike_itself (point_eq e.a v)) (ap is_level (sign_level (edge_turn (ends_of e) (ends_of e)) (edge_turn_same (ends_of e)))))
 
   -- a spoke is between the two as it is first before the one and not before the other
@@ -180,7 +180,7 @@ lone_spokes_count_nothing count es arranged v e spoke lone = record { one_windin
 
     counts_nothing : (s : Bool) → point_eq e.a v ≡ s → count e ≡ pos 0
     counts_nothing true starts = sym (ap (λ t. cond t (count e) (cond (point_eq e.b v) (neg_ℤ (count e)) (pos 0))) starts) ∙ nothing
-    counts_nothing false other = let n = sym (ap₂ (λ s t. cond s (count e) (cond t (neg_ℤ (count e)) (pos 0))) other (point_eq_same e.b v (ends_there es v e spoke other))) ∙ nothing in opposite (count e) n
+    counts_nothing false other = let n = sym (ap₂ (λ s t. cond s (count e) (cond t (neg_ℤ (count e)) (pos 0))) other (point_eq-of_same e.b v (ends_there es v e spoke other))) ∙ nothing in opposite (count e) n
       where
         opposite : (c : ℤ) → neg_ℤ c ≡ pos 0 → c ≡ pos 0
         opposite c n = omega linear

@@ -1,44 +1,24 @@
 -- Two edges of a settled list that start in one point, or end in one, without a turn between them are one edge.
 use Rattle.std.proofs.Common.{◌≡◌, ◌⊎◌, inl, inr, ⊎_elim, Bool, true, false, ℤ, pos, ◌<ℤ◌, ◌≤ℤ◌, refl, sym, ap, ◌∙◌, subst, arith}
 use Rattle.std.proofs.lemmas.Int.{ints, by_lt_z}
-use Rattle.std.proofs.lemmas.Bool.{false≢true, and_from}
-use Rattle.overlay_geom.specs.Plane.{Point, Edge, side, in_plane, point_lt, point_eq, edge_eq, IsOn, IsAt}
+use Rattle.std.proofs.lemmas.Bool.{false≢true}
+use Rattle.overlay_geom.specs.Plane.{Point, Edge, side, in_plane, point_lt, edge_eq, IsOn}
 use Rattle.overlay_geom.specs.Settled.{MeetInEnds}
 use Rattle.overlay_geom.proofs.Signs.{linear}
+use Rattle.overlay_geom.proofs.Orders.{edge_eq-from_ends, point_lt-itself}
 use Rattle.overlay_plane.specs.Heights.{width}
 use Rattle.overlay_plane.specs.Nodes.{edge_turn}
 use Rattle.overlay_plane.proofs.LineForms.{side-start, side-end}
 use Rattle.overlay_plane.proofs.Crossing.{between_on_line}
 use Rattle.overlay_plane.proofs.Ends.{start_on, end_on}
-use Rattle.overlay_plane.proofs.Under.{same_edges}
-use Rattle.overlay_plane.proofs.EdgeOrder.{point_lt_irreflexive}
-use Rattle.overlay_plane.proofs.NearAbscissas.{point_eq_from}
 use Rattle.overlay_plane.proofs.NodeStarts.{rises_upright}
 use Rattle.overlay_plane.proofs.NodeUprights.{side-rises}
 use Rattle.overlay_plane.proofs.EdgeTurns.{IsForward, not_narrower, both_wide, edge_turn_exchanged}
-
--- one point passes the test for equal points
-pub point_eq_same : (p q : Point) → p ≡ q → point_eq p q ≡ true
-point_eq_same p q one = point_eq_from p q (ap (λ (r : Point). r.x) one) (ap (λ (r : Point). r.y) one)
-
--- edges with the same ends pass the test for equal edges
-pub edge_eq_from : (e g : Edge) → e.a ≡ g.a → e.b ≡ g.b → edge_eq e g ≡ true
-edge_eq_from e g same_a same_b = and_from (point_eq e.a g.a) (point_eq e.b g.b) (point_eq_same e.a g.a same_a) (point_eq_same e.b g.b same_b)
-
--- that test goes both ways
-pub edge_eq_exchanged : (e g : Edge) → edge_eq e g ≡ true → edge_eq g e ≡ true
-edge_eq_exchanged e g same = let one = sym (same_edges e g same) in edge_eq_from g e (ap (λ (h : Edge). h.a) one) (ap (λ (h : Edge). h.b) one)
+use Rattle.overlay_plane.proofs.WholeOnEdges.{at_whole}
 
 -- the ends of a forward edge are different points
 pub ends_differ : (e : Edge) → IsForward e → ¬ (e.a ≡ e.b)
-ends_differ e forward one = false≢true (sym (subst (λ (p : Point). point_lt e.a p ≡ false) one (point_lt_irreflexive e.a)) ∙ forward)
-
--- a whole point at the place of another one is that one
-whole_point : (p q : Point) → IsAt p (in_plane q) → p ≡ q
-whole_point p q at =
-    let ex : p.x ≡ q.x = (let x = at.0 in omega (arith, ints)) in
-    let ey : p.y ≡ q.y = (let y = at.1 in omega (arith, ints)) in
-    λ i. record { x = ex i; y = ey i }
+ends_differ e forward one = false≢true (sym (subst (λ (p : Point). point_lt e.a p ≡ false) one (point_lt-itself e.a)) ∙ forward)
 
 -- a point on the line of a wide edge, between its ends in x, is on the edge
 on_wide : (e : Edge) (p : Point) → pos 0 <ℤ width e → side e (in_plane p) ≡ pos 0 → e.a.x ≤ℤ p.x → p.x ≤ℤ e.b.x → IsOn e (in_plane p)
@@ -107,13 +87,13 @@ module _ (e g : Edge) (forward_e : IsForward e) (forward_g : IsForward g) (level
     same_from_start same = by (edge_eq e g) refl
       where
         one : e.b ≡ g.b → edge_eq e g ≡ true
-        one is = edge_eq_from e g same is
+        one is = edge_eq-from_ends e g same is
 
         by : (s : Bool) → edge_eq e g ≡ s → edge_eq e g ≡ true
         by true is = is
         by false apart = ⊎_elim
-            (λ on_e. ⊎_elim (λ at. absurd (ends_differ g forward_g (sym same ∙ whole_point e.a g.b at))) (λ at. one (whole_point e.b g.b at)) (meets apart (in_plane g.b) (on_e, end_on g)).0)
-            (λ on_g. ⊎_elim (λ at. absurd (ends_differ e forward_e (same ∙ whole_point g.a e.b at))) (λ at. one (sym (whole_point g.b e.b at))) (meets apart (in_plane e.b) (end_on e, on_g)).1)
+            (λ on_e. ⊎_elim (λ at. absurd (ends_differ g forward_g (sym same ∙ at_whole e.a g.b at))) (λ at. one (at_whole e.b g.b at)) (meets apart (in_plane g.b) (on_e, end_on g)).0)
+            (λ on_g. ⊎_elim (λ at. absurd (ends_differ e forward_e (same ∙ at_whole g.a e.b at))) (λ at. one (sym (at_whole g.b e.b at))) (meets apart (in_plane e.b) (end_on e, on_g)).1)
             (start_reaches same)
 
     -- two that end in one point are one edge
@@ -121,11 +101,11 @@ module _ (e g : Edge) (forward_e : IsForward e) (forward_g : IsForward g) (level
     same_from_end same = by (edge_eq e g) refl
       where
         one : e.a ≡ g.a → edge_eq e g ≡ true
-        one is = edge_eq_from e g is same
+        one is = edge_eq-from_ends e g is same
 
         by : (s : Bool) → edge_eq e g ≡ s → edge_eq e g ≡ true
         by true is = is
         by false apart = ⊎_elim
-            (λ on_e. ⊎_elim (λ at. one (whole_point e.a g.a at)) (λ at. absurd (ends_differ g forward_g (sym (whole_point e.b g.a at) ∙ same))) (meets apart (in_plane g.a) (on_e, start_on g)).0)
-            (λ on_g. ⊎_elim (λ at. one (sym (whole_point g.a e.a at))) (λ at. absurd (ends_differ e forward_e (sym (whole_point g.b e.a at) ∙ sym same))) (meets apart (in_plane e.a) (start_on e, on_g)).1)
+            (λ on_e. ⊎_elim (λ at. one (at_whole e.a g.a at)) (λ at. absurd (ends_differ g forward_g (sym (at_whole e.b g.a at) ∙ same))) (meets apart (in_plane g.a) (on_e, start_on g)).0)
+            (λ on_g. ⊎_elim (λ at. one (sym (at_whole g.a e.a at))) (λ at. absurd (ends_differ e forward_e (sym (at_whole g.b e.a at) ∙ sym same))) (meets apart (in_plane e.a) (start_on e, on_g)).1)
             (end_reaches same)

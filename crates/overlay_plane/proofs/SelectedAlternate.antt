@@ -5,13 +5,13 @@ use Rattle.std.proofs.lemmas.Bool.{false≢true}
 use Rattle.overlay_geom.specs.Plane.{Point, Step, point_eq, total}
 use Rattle.overlay_geom.specs.Edges.{CountedEdge, ends_of, winding_below, winding_above}
 use Rattle.overlay_geom.proofs.Signs.{linear}
-use Rattle.overlay_plane.specs.Regions.{one_if}
-use Rattle.overlay_plane.specs.Alternates.{IsBetween, AreOneWay, Alternates}
+use Rattle.overlay_geom.proofs.Orders.{point_eq-same, point_eq-of_same}
+use Rattle.overlay_plane.specs.Regions.{one_if, holds_above, holds_below}
+use Rattle.overlay_plane.specs.Alternates.{IsMetBetween, AreOneWay, Alternates}
 use Rattle.overlay_plane.specs.Nodes.{IsBalancedArrangement}
 use Rattle.overlay_plane.specs.Spokes.{IsSpoke, far_end, winding_before, winding_after}
-use Rattle.overlay_plane.specs.SelectedSteps.{holds_above, holds_below, step_with_left, IsSelectedStep, AreSelected, SelectedStepsAlternate}
-use Rattle.overlay_plane.proofs.Under.{same_points}
-use Rattle.overlay_plane.proofs.SameWay.{point_eq_same, ends_differ}
+use Rattle.overlay_plane.specs.SelectedSteps.{step_with_left, IsSelectedStep, AreSelected, SelectedStepsAlternate}
+use Rattle.overlay_plane.proofs.SameWay.{ends_differ}
 use Rattle.overlay_plane.proofs.SpokeWindings.{forward_entry, ends_there, not_start}
 use Rattle.overlay_plane.proofs.SpokeRays.{one_ray_one_spoke}
 use Rattle.overlay_plane.proofs.RisesRound.{some_positive, some_negative, round, in_round, rises_round}
@@ -97,9 +97,9 @@ module _ (holds : ℤ → ℤ → Bool) (subj clip : CountedEdge → ℤ) (es : 
         by : (u : Bool) → above e ≡ u → Leaving v s e
         by true up = let same = sym (ap (λ (q : Step). q.from) (walk true up)) ∙ starts in record {
           spoke = record { entry = selected.entry; at = inl same };
-          before = before_at v e true (point_eq_same e.a v same) ∙ low true up;
-          after = after_at v e true (point_eq_same e.a v same) ∙ up;
-          far = ap (λ t. cond t e.b e.a) (point_eq_same e.a v same) ∙ sym (ap (λ (q : Step). q.to) (walk true up));
+          before = before_at v e true (point_eq-of_same e.a v same) ∙ low true up;
+          after = after_at v e true (point_eq-of_same e.a v same) ∙ up;
+          far = ap (λ t. cond t e.b e.a) (point_eq-of_same e.a v same) ∙ sym (ap (λ (q : Step). q.to) (walk true up));
         }
         by false down = let same = sym (ap (λ (q : Step). q.from) (walk false down)) ∙ starts in record {
           spoke = record { entry = selected.entry; at = inr same };
@@ -121,9 +121,9 @@ module _ (holds : ℤ → ℤ → Bool) (subj clip : CountedEdge → ℤ) (es : 
         }
         by false down = let same = sym (ap (λ (q : Step). q.to) (walk false down)) ∙ ends in record {
           spoke = record { entry = selected.entry; at = inl same };
-          before = before_at v e true (point_eq_same e.a v same) ∙ low false down;
-          after = after_at v e true (point_eq_same e.a v same) ∙ down;
-          far = ap (λ t. cond t e.b e.a) (point_eq_same e.a v same) ∙ sym (ap (λ (q : Step). q.from) (walk false down));
+          before = before_at v e true (point_eq-of_same e.a v same) ∙ low false down;
+          after = after_at v e true (point_eq-of_same e.a v same) ∙ down;
+          far = ap (λ t. cond t e.b e.a) (point_eq-of_same e.a v same) ∙ sym (ap (λ (q : Step). q.from) (walk false down));
         }
 
     -- a selected step has a length
@@ -151,7 +151,7 @@ module _ (holds : ℤ → ℤ → Bool) (subj clip : CountedEdge → ℤ) (es : 
   leaving_step v e spoke before after = (step_with_left (above e) (ends_of e), spoke_step v e spoke (before ∙ sym (ap not after)), by (point_eq e.a v) refl)
     where
       by : (t : Bool) → point_eq e.a v ≡ t → (step_with_left (above e) (ends_of e)).from ≡ v
-      by true is = ap (λ t. (step_with_left t (ends_of e)).from) (sym (after_at v e true is) ∙ after) ∙ same_points e.a v is
+      by true is = ap (λ t. (step_with_left t (ends_of e)).from) (sym (after_at v e true is) ∙ after) ∙ point_eq-same e.a v is
       by false is = ap (λ t. (step_with_left t (ends_of e)).from) (sym (before_at v e false is) ∙ before) ∙ ends_there es v e spoke is
 
   -- where it ceases to, the step arrives
@@ -159,7 +159,7 @@ module _ (holds : ℤ → ℤ → Bool) (subj clip : CountedEdge → ℤ) (es : 
   arriving_step v e spoke before after = (step_with_left (above e) (ends_of e), spoke_step v e spoke (before ∙ sym (ap not after)), by (point_eq e.a v) refl)
     where
       by : (t : Bool) → point_eq e.a v ≡ t → (step_with_left (above e) (ends_of e)).to ≡ v
-      by true is = ap (λ t. (step_with_left t (ends_of e)).to) (sym (after_at v e true is) ∙ after) ∙ same_points e.a v is
+      by true is = ap (λ t. (step_with_left t (ends_of e)).to) (sym (after_at v e true is) ∙ after) ∙ point_eq-same e.a v is
       by false is = ap (λ t. (step_with_left t (ends_of e)).to) (sym (before_at v e false is) ∙ before) ∙ ends_there es v e spoke is
 
   -- ---- between two spokes
@@ -175,7 +175,7 @@ module _ (holds : ℤ → ℤ → Bool) (subj clip : CountedEdge → ℤ) (es : 
 
     -- a spoke strictly between the two
     abbrev IsIn : CountedEdge → Type 0
-    IsIn m = IsSpoke es v m × IsBetween v (far_end v e) (far_end v m) (far_end v f)
+    IsIn m = IsSpoke es v m × IsMetBetween v (far_end v e) (far_end v m) (far_end v f)
 
     -- what the truth rises by across them, summed
     sum : total (λ m. one_if (holds_after v m) -ℤ one_if (holds_before v m)) spokes_between ≡ one_if (holds_before v f) -ℤ one_if (holds_after v e)
@@ -220,12 +220,12 @@ module _ (holds : ℤ → ℤ → Bool) (subj clip : CountedEdge → ℤ) (es : 
 
     -- what lies between two spokes, by their far ends
     between : (v : Point) (e m f : CountedEdge) (p r q : Point) → far_end v e ≡ p → far_end v m ≡ r → far_end v f ≡ q →
-        IsBetween v (far_end v e) (far_end v m) (far_end v f) → IsBetween v p r q
-    between v e m f p r q far_e far_m far_f h = subst (λ (x : Point). IsBetween v x r q) far_e (subst (λ (y : Point). IsBetween v (far_end v e) y q) far_m (subst (λ (z : Point). IsBetween v (far_end v e) (far_end v m) z) far_f h))
+        IsMetBetween v (far_end v e) (far_end v m) (far_end v f) → IsMetBetween v p r q
+    between v e m f p r q far_e far_m far_f h = subst (λ (x : Point). IsMetBetween v x r q) far_e (subst (λ (y : Point). IsMetBetween v (far_end v e) y q) far_m (subst (λ (z : Point). IsMetBetween v (far_end v e) (far_end v m) z) far_f h))
 
     -- a step that arrives between two spokes, and one that leaves
     arrives : (v : Point) (e f : CountedEdge) (p q : Point) → IsSpoke es v e → IsSpoke es v f → far_end v e ≡ p → far_end v f ≡ q → holds_after v e ≡ true → holds_before v f ≡ false →
-        (u : Step) × Contains steps u × (u.to ≡ v) × IsBetween v p u.from q
+        (u : Step) × Contains steps u × (u.to ≡ v) × IsMetBetween v p u.from q
     arrives v e f p q spoke_e spoke_f far_e far_f after before =
         let found = ceases_between v e f spoke_e spoke_f after before in
         let step = arriving_step v found.0 found.1.0 found.2 found.3 in
@@ -233,7 +233,7 @@ module _ (holds : ℤ → ℤ → Bool) (subj clip : CountedEdge → ℤ) (es : 
 
     -- likewise a step that leaves between two spokes
     leaves : (v : Point) (e f : CountedEdge) (p q : Point) → IsSpoke es v e → IsSpoke es v f → far_end v e ≡ p → far_end v f ≡ q → holds_after v e ≡ false → holds_before v f ≡ true →
-        (u : Step) × Contains steps u × (u.from ≡ v) × IsBetween v p u.to q
+        (u : Step) × Contains steps u × (u.from ≡ v) × IsMetBetween v p u.to q
     leaves v e f p q spoke_e spoke_f far_e far_f after before =
         let found = begins_between v e f spoke_e spoke_f after before in
         let step = leaving_step v found.0 found.1.0 found.2 found.3 in

@@ -4,9 +4,9 @@ use Rattle.std.proofs.lemmas.Bool.{false≢true}
 use Rattle.std.specs.List.{flat_map}
 use Rattle.overlay_geom.specs.Plane.{Step}
 use Rattle.overlay_geom.specs.Edges.{CountedEdge, ends_of}
-use Rattle.overlay_plane.specs.Regions.{IsRuled}
+use Rattle.overlay_plane.specs.Regions.{IsRuled, holds_above, holds_below}
 use Rattle.overlay_plane.specs.Nodes.{IsBalancedArrangement}
-use Rattle.overlay_plane.specs.SelectedSteps.{holds_above, holds_below, step_with_left, is_selected, SelectedStepsOfEdges}
+use Rattle.overlay_plane.specs.SelectedSteps.{step_with_left, is_selected, SelectedStepsOfEdges}
 use Rattle.overlay_plane.proofs.Totals.{Contains-head, Contains-later}
 use Rattle.overlay_plane.proofs.LaterEntries.{Contains-cases}
 

@@ -4,19 +4,20 @@ use Rattle.std.proofs.lemmas.Bool.{and_from}
 use Rattle.std.proofs.lemmas.List.Elements.{All-contains}
 use Rattle.std.proofs.lemmas.Int.{ints, by_lt_z}
 use lib.IntN.{+ℤ_idr}
-use Rattle.overlay_geom.specs.Plane.{point_lt, Point, PlanePoint, Edge, side, midpoint, is_strictly_below, edge_eq}
+use Rattle.overlay_geom.specs.Plane.{point_lt, Point, PlanePoint, Edge, side, midpoint, is_strictly_below, edge_eq, total_below}
 use Rattle.overlay_geom.specs.Edges.{ends_of}
 use Rattle.overlay_geom.specs.Settled.{MeetInEnds}
 use Rattle.overlay_geom.proofs.Signs.{linear, mul-pos, pos_of_mul-pos, mul-zero}
+use Rattle.overlay_geom.proofs.Orders.{edge_eq-same}
 use Rattle.overlay_plane.specs.Heights.{width, gap, covers, is_under, IsInner}
 use Rattle.overlay_plane.specs.EdgeLists.{IsForwardBy, MeetsAll, IsBalanced}
 use Rattle.overlay_plane.specs.Regions.{one_if}
-use Rattle.overlay_plane.specs.Windings.{total_under, total_below, OneWindingAlongASide, OneWindingAtInnerPoints}
+use Rattle.overlay_plane.specs.Windings.{total_under, OneWindingAlongASide, OneWindingAtInnerPoints}
 use Rattle.overlay_plane.proofs.LineForms.{gap-line_form, side-midpoint}
 use Rattle.overlay_plane.proofs.Crossing.{same_low}
 use Rattle.overlay_plane.proofs.Tests.{lt_from_test, test_from_lt, test_from_ge, test_from_le, same_tests}
 use Rattle.overlay_plane.proofs.Totals.{total-same, total-sub}
-use Rattle.overlay_plane.proofs.Under.{same_edges, covers_from, covers_to, covers_wide, shared_just_right, under_irreflexive}
+use Rattle.overlay_plane.proofs.Under.{covers_from, covers_to, covers_wide, shared_just_right, under_irreflexive}
 use Rattle.overlay_plane.proofs.Strip.{is_in_strip, strip}
 
 -- a count where a test passes, less the same where another does
@@ -84,7 +85,7 @@ module _ (e : Edge) (p : PlanePoint) (on : side e p ≡ pos 0) (inner : IsInner 
           (shared_just_right f e p.x p.d p.positive over inner_covers)
 
       tests : (s : Bool) → edge_eq e f ≡ s → covers f p.x p.d ≡ true → int_lt (pos 0) (side f p) ≡ is_under f e p.x p.d
-      tests true same over = itself (same_edges e f same)
+      tests true same over = itself (edge_eq-same e f same)
       tests false apart over = other over (meets apart)
 
       by : (c : Bool) → covers f p.x p.d ≡ c → (c && int_lt (pos 0) (side f p)) ≡ (c && is_under f e p.x p.d)

@@ -4,11 +4,11 @@ use Rattle.std.proofs.lemmas.Bool.{false≢true}
 use Rattle.overlay_geom.specs.Plane.{Point, point_eq, edge_eq}
 use Rattle.overlay_geom.specs.Edges.{CountedEdge, ends_of}
 use Rattle.overlay_geom.proofs.Signs.{linear}
+use Rattle.overlay_geom.proofs.Orders.{point_eq-same}
 use Rattle.overlay_plane.specs.Alternates.{AreOneWay}
 use Rattle.overlay_plane.specs.Rays.{Apart}
 use Rattle.overlay_plane.specs.Nodes.{IsBalancedArrangement, edge_turn}
 use Rattle.overlay_plane.specs.Spokes.{IsSpoke, far_end}
-use Rattle.overlay_plane.proofs.Under.{same_points}
 use Rattle.overlay_plane.proofs.SameWay.{ends_differ, same_from_start, same_from_end}
 use Rattle.overlay_plane.proofs.SingleEntries.{one_entry}
 use Rattle.overlay_plane.proofs.EdgeTurns.{IsForward, edge_dot, level_ahead}
@@ -25,7 +25,7 @@ module _ (count : CountedEdge → ℤ) (es : List CountedEdge) (arranged : IsBal
       forward = forward_entry count es arranged e spoke.entry
 
       by : (h : Bool) → point_eq e.a v ≡ h → ¬ (cond h e.b e.a ≡ v)
-      by true starts far = ends_differ (ends_of e) forward (same_points e.a v starts ∙ sym far)
+      by true starts far = ends_differ (ends_of e) forward (point_eq-same e.a v starts ∙ sym far)
       by false other far = ends_differ (ends_of e) forward (far ∙ sym (ends_there es v e spoke other))
 
   module _ (e f : CountedEdge) (spoke_e : IsSpoke es v e) (spoke_f : IsSpoke es v f) where
@@ -46,7 +46,7 @@ module _ (count : CountedEdge → ℤ) (es : List CountedEdge) (arranged : IsBal
 
         by : (h k : Bool) → point_eq e.a v ≡ h → point_eq f.a v ≡ k → signed (alike h k) (edge_turn (ends_of e) (ends_of f)) ≡ pos 0 →
             pos 0 <ℤ signed (alike h k) (edge_dot (ends_of e) (ends_of f)) → edge_eq (ends_of e) (ends_of f) ≡ true
-        by true true he hf level ahead = same_from_start (ends_of e) (ends_of f) forward_e forward_f level (arranged.settled e f spoke_e.entry spoke_f.entry) (same_points e.a v he ∙ sym (same_points f.a v hf))
+        by true true he hf level ahead = same_from_start (ends_of e) (ends_of f) forward_e forward_f level (arranged.settled e f spoke_e.entry spoke_f.entry) (point_eq-same e.a v he ∙ sym (point_eq-same f.a v hf))
         by true false he hf level ahead = absurd (against level ahead)
         by false true he hf level ahead = absurd (against level ahead)
         by false false he hf level ahead = same_from_end (ends_of e) (ends_of f) forward_e forward_f level (arranged.settled e f spoke_e.entry spoke_f.entry) (ends_there es v e spoke_e he ∙ sym (ends_there es v f spoke_f hf))

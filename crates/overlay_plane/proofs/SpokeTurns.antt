@@ -5,14 +5,13 @@ use Rattle.overlay_geom.specs.Plane.{Point, Edge, cross_at, point_eq}
 use Rattle.overlay_geom.specs.Edges.{CountedEdge, ends_of}
 use Rattle.overlay_geom.proofs.Identities.{solve, ◌⊕◌, ◌⊗◌, ◌⊖◌, ⊝◌, ◌≗◌}
 use Rattle.overlay_geom.proofs.Signs.{linear}
+use Rattle.overlay_geom.proofs.Orders.{point_eq-same, point_eq-of_same}
 use Rattle.overlay_plane.specs.Heights.{width}
 use Rattle.overlay_plane.specs.Regions.{one_if}
 use Rattle.overlay_plane.specs.Turn.{dot_at, part_of_turn, is_met_before}
 use Rattle.overlay_plane.specs.Turn.Hand.{right}
 use Rattle.overlay_plane.specs.Nodes.{edge_turn}
 use Rattle.overlay_plane.specs.Spokes.{far_end}
-use Rattle.overlay_plane.proofs.Under.{same_points}
-use Rattle.overlay_plane.proofs.SameWay.{point_eq_same}
 use Rattle.overlay_plane.proofs.EdgeTurns.{rise, edge_dot, IsForward, edge_turn_exchanged, level_ahead, left_after_left, left_of_level, left_to_level, level_after_level}
 use Rattle.overlay_plane.proofs.SpokeSigns.{alike, signed, seen, sign_at, is_plus, part_by_sign, sign_signed, test_is_plus, part_seen, go_together, together, met_by_signs, Counted, between_counted}
 
@@ -60,12 +59,12 @@ pub along : (v : Point) (e : CountedEdge) → (e.a ≡ v) ⊎ (e.b ≡ v) → Is
 along v e at = by (point_eq e.a v) refl
   where
     ending : point_eq e.a v ≡ false → e.b ≡ v
-    ending other = ⊎_elim (λ starts. absurd (false≢true (sym other ∙ point_eq_same e.a v starts))) (λ ends. ends) at
+    ending other = ⊎_elim (λ starts. absurd (false≢true (sym other ∙ point_eq-of_same e.a v starts))) (λ ends. ends) at
 
     by : (h : Bool) → point_eq e.a v ≡ h → IsAlong v (cond h e.b e.a) (ends_of e) h
     by true is = record {
-      across = ap (λ (p : Point). e.b.x -ℤ p.x) (sym (same_points e.a v is));
-      up = ap (λ (p : Point). e.b.y -ℤ p.y) (sym (same_points e.a v is));
+      across = ap (λ (p : Point). e.b.x -ℤ p.x) (sym (point_eq-same e.a v is));
+      up = ap (λ (p : Point). e.b.y -ℤ p.y) (sym (point_eq-same e.a v is));
     }
     by false is = record {
       across = ap (λ (p : Point). e.a.x -ℤ p.x) (sym (ending is)) ∙ turned e.a.x e.b.x;

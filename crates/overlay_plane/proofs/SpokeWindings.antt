@@ -6,13 +6,13 @@ use Rattle.std.proofs.lemmas.List.Elements.{All-contains}
 use Rattle.overlay_geom.specs.Plane.{Point, Edge, in_plane, point_lt, point_eq, edge_eq, total}
 use Rattle.overlay_geom.specs.Edges.{CountedEdge, ends_of, winding_by, winding_below, winding_above}
 use Rattle.overlay_geom.proofs.Signs.{linear, by_sign}
+use Rattle.overlay_geom.proofs.Orders.{point_eq-same, edge_eq-same, point_eq-of_same, edge_eq-exchanged}
 use Rattle.overlay_plane.specs.Nodes.{IsBalancedArrangement, edge_turn, turns_left, total_starting, total_ending}
 use Rattle.overlay_plane.specs.Spokes.{IsSpoke, winding_before, winding_after, spoke_count}
 use Rattle.overlay_plane.proofs.Tests.{test_from_lt, test_from_ge}
 use Rattle.overlay_plane.proofs.Totals.{total-same, total-add, total-sub}
-use Rattle.overlay_plane.proofs.Under.{same_points, same_edges}
 use Rattle.overlay_plane.proofs.NodeWindings.{winding_from_a_start, winding_from_an_end, node_is_balanced}
-use Rattle.overlay_plane.proofs.SameWay.{point_eq_same, ends_differ, edge_eq_exchanged, same_from_end}
+use Rattle.overlay_plane.proofs.SameWay.{ends_differ, same_from_end}
 use Rattle.overlay_plane.proofs.SingleEntries.{single_total}
 use Rattle.overlay_plane.proofs.EdgeTurns.{IsForward, edge_turn_exchanged, edge_turn_same}
 use Rattle.overlay_plane.proofs.SpokeSigns.{first_from_down}
@@ -31,15 +31,15 @@ forward_entry count es arranged f at = All-contains (λ h. point_lt (ends_of h).
 
 -- an edge that starts in v does not end there
 not_both_ends : (v : Point) (e : CountedEdge) → IsForward (ends_of e) → point_eq e.a v ≡ true → point_eq e.b v ≡ false
-not_both_ends v e forward starts = false_from_ne_true (point_eq e.b v) (λ ends. ends_differ (ends_of e) forward (same_points e.a v starts ∙ sym (same_points e.b v ends)))
+not_both_ends v e forward starts = false_from_ne_true (point_eq e.b v) (λ ends. ends_differ (ends_of e) forward (point_eq-same e.a v starts ∙ sym (point_eq-same e.b v ends)))
 
 -- a spoke that does not start in v ends there
 pub ends_there : (es : List CountedEdge) (v : Point) (e : CountedEdge) → IsSpoke es v e → point_eq e.a v ≡ false → e.b ≡ v
-ends_there es v e spoke other = ⊎_elim (λ starts. absurd (false≢true (sym other ∙ point_eq_same e.a v starts))) (λ ends. ends) spoke.at
+ends_there es v e spoke other = ⊎_elim (λ starts. absurd (false≢true (sym other ∙ point_eq-of_same e.a v starts))) (λ ends. ends) spoke.at
 
 -- an edge that ends in v does not start there
 pub not_start : (count : CountedEdge → ℤ) (es : List CountedEdge) → IsBalancedArrangement count es → (v : Point) (e : CountedEdge) → Contains es e → e.b ≡ v → point_eq e.a v ≡ false
-not_start count es arranged v e at same = false_from_ne_true (point_eq e.a v) (λ starts. ends_differ (ends_of e) (forward_entry count es arranged e at) (same_points e.a v starts ∙ sym same))
+not_start count es arranged v e at same = false_from_ne_true (point_eq e.a v) (λ starts. ends_differ (ends_of e) (forward_entry count es arranged e at) (point_eq-same e.a v starts ∙ sym same))
 
 -- a count where two tests pass, read by the first one
 cond_beside : (h t : Bool) (c d : ℤ) → cond (h && t) c (pos 0) ≡ cond (h && t) (cond h c d) (pos 0)
@@ -108,10 +108,10 @@ module _ (count : CountedEdge → ℤ) (es : List CountedEdge) (arranged : IsBal
             forward_g = forward_entry count es arranged g at
 
             not_itself : point_eq g.b v ≡ false → edge_eq (ends_of g) (ends_of e) ≡ false
-            not_itself other = false_from_ne_true (edge_eq (ends_of g) (ends_of e)) (λ one. false≢true (sym other ∙ point_eq_same g.b v (ap (λ (h : Edge). h.b) (same_edges (ends_of g) (ends_of e) one) ∙ same)))
+            not_itself other = false_from_ne_true (edge_eq (ends_of g) (ends_of e)) (λ one. false≢true (sym other ∙ point_eq-of_same g.b v (ap (λ (h : Edge). h.b) (edge_eq-same (ends_of g) (ends_of e) one) ∙ same)))
 
             not_turned : ¬ (edge_turn (ends_of e) (ends_of g) ≡ pos 0) → edge_eq (ends_of g) (ends_of e) ≡ false
-            not_turned off = false_from_ne_true (edge_eq (ends_of g) (ends_of e)) (λ one. off (subst (λ (h : Edge). edge_turn (ends_of e) h ≡ pos 0) (sym (same_edges (ends_of g) (ends_of e) one)) (edge_turn_same (ends_of e))))
+            not_turned off = false_from_ne_true (edge_eq (ends_of g) (ends_of e)) (λ one. off (subst (λ (h : Edge). edge_turn (ends_of e) h ≡ pos 0) (sym (edge_eq-same (ends_of g) (ends_of e) one)) (edge_turn_same (ends_of e))))
 
             opposite : edge_turn (ends_of e) (ends_of g) ≡ neg_ℤ (edge_turn (ends_of g) (ends_of e))
             opposite = edge_turn_exchanged (ends_of e) (ends_of g)
@@ -154,7 +154,7 @@ module _ (count : CountedEdge → ℤ) (es : List CountedEdge) (arranged : IsBal
             by false starts true ends = by_sign (edge_turn (ends_of e) (ends_of g))
                 (λ low. tests false true l r i true false false (test_from_lt (pos 0) (edge_turn (ends_of g) (ends_of e)) (let o = opposite in omega linear)) (test_from_ge (pos 0) (edge_turn (ends_of e) (ends_of g)) (omega linear)) (not_turned (λ z. omega linear)) (alone (neg_ℤ (count g))))
                 (λ level. tests false true l r i false false true (test_from_ge (pos 0) (edge_turn (ends_of g) (ends_of e)) (let o = opposite in omega linear)) (test_from_ge (pos 0) (edge_turn (ends_of e) (ends_of g)) (omega linear))
-                (edge_eq_exchanged (ends_of e) (ends_of g) (same_from_end (ends_of e) (ends_of g) (forward_entry count es arranged e spoke.entry) forward_g level (arranged.settled e g spoke.entry at) (same ∙ sym (same_points g.b v ends)))) (cancels_second (count g)))
+                (edge_eq-exchanged (ends_of e) (ends_of g) (same_from_end (ends_of e) (ends_of g) (forward_entry count es arranged e spoke.entry) forward_g level (arranged.settled e g spoke.entry at) (same ∙ sym (point_eq-same g.b v ends)))) (cancels_second (count g)))
                 (λ high. tests false true l r i false true false (test_from_ge (pos 0) (edge_turn (ends_of g) (ends_of e)) (let o = opposite in omega linear)) (test_from_lt (pos 0) (edge_turn (ends_of e) (ends_of g)) high) (not_turned (λ z. omega linear)) (cancels_first (count g)))
 
     -- the winding before a spoke
@@ -162,7 +162,7 @@ module _ (count : CountedEdge → ℤ) (es : List CountedEdge) (arranged : IsBal
     before_is = by (point_eq e.a v) refl
       where
         by : (h : Bool) → point_eq e.a v ≡ h → before_at h
-        by true starts = before_starting (same_points e.a v starts)
+        by true starts = before_starting (point_eq-same e.a v starts)
         by false other = before_ending (ends_there es v e spoke other)
 
     -- and after it
@@ -174,4 +174,4 @@ module _ (count : CountedEdge → ℤ) (es : List CountedEdge) (arranged : IsBal
 
         by : (h : Bool) → point_eq e.a v ≡ h → cond h (winding_above count es e) (winding_below count es e) ≡ cond h (winding_below count es e) (winding_above count es e) +ℤ cond h (count e) (cond (point_eq e.b v) (neg_ℤ (count e)) (pos 0))
         by true starts = refl
-        by false other = back (winding_below count es e) (count e) ∙ ap (λ t. winding_above count es e +ℤ cond t (neg_ℤ (count e)) (pos 0)) (sym (point_eq_same e.b v (ends_there es v e spoke other)))
+        by false other = back (winding_below count es e) (count e) ∙ ap (λ t. winding_above count es e +ℤ cond t (neg_ℤ (count e)) (pos 0)) (sym (point_eq-of_same e.b v (ends_there es v e spoke other)))

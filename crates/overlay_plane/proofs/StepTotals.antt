@@ -4,10 +4,10 @@ use Rattle.std.proofs.lemmas.Bool.{both_ways, false_from_ne_true}
 use lib.IntN.{+ℤ_idl, +ℤ_idr}
 use Rattle.overlay_geom.specs.Plane.{Step, step_eq, edge_eq, edge_of, sign_of, total}
 use Rattle.overlay_geom.specs.Edges.{CountedEdge, ends_of}
+use Rattle.overlay_geom.proofs.Orders.{edge_eq-same}
 use Rattle.overlay_plane.specs.BesideOrbits.{count_on, HasEachOnce}
 use Rattle.overlay_plane.proofs.Totals.{total-zero, total-add}
 use Rattle.overlay_plane.proofs.LaterEntries.{Contains-cases, Each, Each-from_all_pairs}
-use Rattle.overlay_plane.proofs.Under.{same_edges}
 use Rattle.overlay_plane.proofs.AtNodes.{same_steps, equal_steps}
 
 -- sums of sums may be taken in either order
@@ -41,4 +41,4 @@ single_step_total steps once = single_step steps (Each-from_all_pairs (λ s t. s
 -- an edge along which no step taken walks counts nothing
 pub unwalked_counts_nothing : (taken : List Step) (e : CountedEdge) → ((s : Step) → Contains taken s → ¬ (edge_of s ≡ ends_of e)) → count_on taken e ≡ pos 0
 unwalked_counts_nothing taken e none = total-zero (λ s. cond (edge_eq (edge_of s) (ends_of e)) (sign_of s) (pos 0)) taken
-    (λ s c. ap (λ b. cond b (sign_of s) (pos 0)) (false_from_ne_true (edge_eq (edge_of s) (ends_of e)) (λ same. none s c (same_edges (edge_of s) (ends_of e) same))))
+    (λ s c. ap (λ b. cond b (sign_of s) (pos 0)) (false_from_ne_true (edge_eq (edge_of s) (ends_of e)) (λ same. none s c (edge_eq-same (edge_of s) (ends_of e) same))))

@@ -9,11 +9,12 @@ use Rattle.overlay_geom.specs.Plane.{Point, Edge, side, in_plane, point_lt, edge
 use Rattle.overlay_geom.specs.Settled.{MeetInEnds}
 use Rattle.overlay_geom.proofs.Identities.{solve, number, ◌⊗◌, ◌⊖◌, ◌≗◌}
 use Rattle.overlay_geom.proofs.Signs.{linear, mul-lt, mul-le, lt_of_mul-lt}
+use Rattle.overlay_geom.proofs.Orders.{edge_eq-same}
 use Rattle.overlay_plane.specs.Heights.{width, covers, is_under, IsInner}
 use Rattle.overlay_plane.specs.Regions.{one_if}
 use Rattle.overlay_plane.proofs.Crossing.{IsShared, same_low}
 use Rattle.overlay_plane.proofs.Ends.{ends_alike, low_at_start, low_at_end}
-use Rattle.overlay_plane.proofs.Under.{same_edges, covers_from, covers_to, covers_wide, shared_just_right, same_under, under_irreflexive}
+use Rattle.overlay_plane.proofs.Under.{covers_from, covers_to, covers_wide, shared_just_right, same_under, under_irreflexive}
 use Rattle.overlay_plane.proofs.Tests.{lt_from_test, ge_from_test, test_from_lt, test_from_ge, test_from_le, int_le-not}
 
 -- the point lies right of x / d and not right of x' / d', below the line of e
@@ -163,7 +164,7 @@ module _ (e f : Edge) (x d x' d' : ℤ) (positive : pos 0 <ℤ d) (positive' : p
   }
     where
       one : e ≡ f
-      one = same_edges e f same
+      one = edge_eq-same e f same
 
       level : (z c : ℤ) → is_under f e z c ≡ false
       level z c = subst (λ (g : Edge). is_under g e z c ≡ false) one (under_irreflexive e z c)

@@ -7,9 +7,9 @@ use Rattle.std.proofs.lemmas.List.Elements.{All-head, All-tail}
 use lib.IntN.{+ℤ_idr}
 use Rattle.overlay_geom.specs.Plane.{Point, Step, Edge, point_eq, point_lt, edge_of, sign_of, steps_between, steps_through, steps_of, total}
 use Rattle.overlay_geom.proofs.Signs.{linear}
+use Rattle.overlay_geom.proofs.Orders.{point_eq-same}
 use Rattle.overlay_plane.proofs.AlongLines.{nothing_left}
 use Rattle.overlay_plane.proofs.JoinedLists.{total-append}
-use Rattle.overlay_plane.proofs.Under.{same_points}
 use Rattle.overlay_plane.proofs.Walks.{last_from}
 
 -- a walk to a further point ends there
@@ -51,7 +51,7 @@ signed_rise-between : (g : Point → ℤ) (u v : Point) → total (signed_rise g
 signed_rise-between g u v = by (point_eq u v) refl
   where
     by : (t : Bool) → point_eq u v ≡ t → total (signed_rise g) (cond t [] (record { from = u; to = v } ∷ [])) ≡ g v -ℤ g u
-    by true same = nothing_left (g v) ∙ ap (λ w. g v -ℤ g w) (sym (same_points u v same))
+    by true same = nothing_left (g v) ∙ ap (λ w. g v -ℤ g w) (sym (point_eq-same u v same))
     by false apart = +ℤ_idr (signed_rise g (record { from = u; to = v })) ∙ signed_rise-is g (record { from = u; to = v })
 
 -- what is true holds of all

@@ -14,6 +14,10 @@ ge_from_test a b e = omega (arith, ints)
 pub le_from_test : (a b : ℤ) → int_le a b ≡ true → a ≤ℤ b
 le_from_test a b e = omega (arith, ints)
 
+-- a failed test for at most says greater
+pub gt_from_test : (a b : ℤ) → int_le a b ≡ false → b <ℤ a
+gt_from_test a b e = omega (arith, ints)
+
 -- what is less passes the test for it
 pub test_from_lt : (a b : ℤ) → a <ℤ b → int_lt a b ≡ true
 test_from_lt a b h = let e : true ≡ int_lt a b = omega (arith, ints) in sym e

@@ -1,10 +1,8 @@
 -- The order of edges over one abscissa: strict, total among edges that meet in ends alone, and the same wherever both cover.
 use Rattle.std.proofs.Common.{◌≡◌, ◌⊎◌, inl, inr, true, false, ℤ, pos, ◌+ℤ◌, ◌-ℤ◌, ◌*ℤ◌, ◌<ℤ◌, ◌≤ℤ◌, int_lt, int_le}
-use Rattle.std.specs.Ordering.{int_eq}
 use Rattle.std.proofs.lemmas.Bool.{and_parts, and_from}
-use Rattle.std.proofs.lemmas.Bool.Decides.{Decides-int_eq}
 use lib.IntN.{*ℤ_comm}
-use Rattle.overlay_geom.specs.Plane.{Point, Edge, point_eq, edge_eq}
+use Rattle.overlay_geom.specs.Plane.{Edge}
 use Rattle.overlay_geom.specs.Settled.{MeetInEnds}
 use Rattle.overlay_geom.proofs.Products.{mul-add}
 use Rattle.overlay_geom.proofs.Signs.{linear, by_sign, mul-pos, lt_of_mul-lt, pos_of_mul-pos}
@@ -12,22 +10,6 @@ use Rattle.overlay_plane.specs.Heights.{width, gap, covers, is_under, IsInner}
 use Rattle.overlay_plane.proofs.LineForms.{gap-same, gap_exchanged, gap_through}
 use Rattle.overlay_plane.proofs.Crossing.{IsShared, inner_spans, apart_inside, same_low}
 use Rattle.overlay_plane.proofs.Tests.{lt_from_test, le_from_test, test_from_lt, test_from_le, test_from_ge}
-
--- equal points are one
-pub same_points : (p q : Point) → point_eq p q ≡ true → p ≡ q
-same_points p q e =
-    let both = and_parts (int_eq p.x q.x) (int_eq p.y q.y) e in
-    let same_x = (Decides-int_eq p.x q.x).0 both.0 in
-    let same_y = (Decides-int_eq p.y q.y).0 both.1 in
-    λ i. record { x = same_x i; y = same_y i }
-
--- equal edges are one
-pub same_edges : (e f : Edge) → edge_eq e f ≡ true → e ≡ f
-same_edges e f t =
-    let both = and_parts (point_eq e.a f.a) (point_eq e.b f.b) t in
-    let same_a = same_points e.a f.a both.0 in
-    let same_b = same_points e.b f.b both.1 in
-    λ i. record { a = same_a i; b = same_b i }
 
 -- ---- what it is to cover an abscissa
 

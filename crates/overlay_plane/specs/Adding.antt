@@ -10,5 +10,7 @@ pub record AddsWinding (risen kept : CountedEdge → ℤ) (given : List Point) (
 
 -- so it is where a subject's contour is added, and where a clip's is
 pub record AddingAddsWindings : Type 0 where
-  pub subject : (keep : Bool) (given : List Point) (old new : List CountedEdge) → AddsContour keep subject_edge given old new → AddsWinding subj_of clip_of given old new
-  pub clip : (keep : Bool) (given : List Point) (old new : List CountedEdge) → AddsContour keep clip_edge given old new → AddsWinding clip_of subj_of given old new
+  pub subject : (keep : Bool) (given : List Point) (old new : List CountedEdge) → AddsContour keep subject_edge given old new →
+      AddsWinding subj_of clip_of given old new
+  pub clip : (keep : Bool) (given : List Point) (old new : List CountedEdge) → AddsContour keep clip_edge given old new →
+      AddsWinding clip_of subj_of given old new

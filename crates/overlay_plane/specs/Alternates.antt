@@ -1,11 +1,12 @@
 -- Steps that alternate round every node: between two that leave one arrives, and between two that arrive one leaves.
-use Rattle.std.specs.Prelude.{◌≡◌, true, pos, ◌<ℤ◌, List, Contains}
+use Rattle.std.specs.Prelude.{◌≡◌, pos, ◌<ℤ◌, List, Contains}
 use Rattle.overlay_geom.specs.Plane.{Point, Step, cross_at}
-use Rattle.overlay_plane.specs.Turn.{right, is_met_before, dot_at}
+use Rattle.overlay_plane.specs.Turn.{IsMetBefore, dot_at}
+use Rattle.overlay_plane.specs.Turn.Hand.{right}
 
 -- a ray at v that turns counterclockwise from p comes to m before it comes to q
-abbrev pub IsBetween : Point → Point → Point → Point → Type 0
-IsBetween v p m q = is_met_before right v p m q ≡ true
+abbrev pub IsMetBetween : Point → Point → Point → Point → Type 0
+IsMetBetween v p m q = IsMetBefore right v p m q
 
 -- the two points are seen from v in one direction
 pub record AreOneWay (v p q : Point) : Type 0 where
@@ -18,7 +19,9 @@ pub record Alternates (steps : List Step) : Type 0 where
   pub one_leaves : (s t : Step) → Contains steps s → Contains steps t → s.from ≡ t.from → AreOneWay s.from s.to t.to → s ≡ t
   pub one_arrives : (s t : Step) → Contains steps s → Contains steps t → s.to ≡ t.to → AreOneWay s.to s.from t.from → s ≡ t
   pub none_both : (s t : Step) → Contains steps s → Contains steps t → s.to ≡ t.from → ¬ (AreOneWay s.to s.from t.to)
-  pub arrives_between : (s t : Step) → Contains steps s → Contains steps t → s.from ≡ t.from → ¬ (s ≡ t) → (u : Step) × Contains steps u × (u.to ≡ s.from) × IsBetween s.from s.to u.from t.to
-  pub leaves_between : (s t : Step) → Contains steps s → Contains steps t → s.to ≡ t.to → ¬ (s ≡ t) → (u : Step) × Contains steps u × (u.from ≡ s.to) × IsBetween s.to s.from u.to t.from
+  pub arrives_between : (s t : Step) → Contains steps s → Contains steps t → s.from ≡ t.from → ¬ (s ≡ t) →
+      (u : Step) × Contains steps u × (u.to ≡ s.from) × IsMetBetween s.from s.to u.from t.to
+  pub leaves_between : (s t : Step) → Contains steps s → Contains steps t → s.to ≡ t.to → ¬ (s ≡ t) →
+      (u : Step) × Contains steps u × (u.from ≡ s.to) × IsMetBetween s.to s.from u.to t.from
   pub goes_on : (s : Step) → Contains steps s → (t : Step) × Contains steps t × (t.from ≡ s.to)
   pub comes_in : (t : Step) → Contains steps t → (s : Step) × Contains steps s × (s.to ≡ t.from)

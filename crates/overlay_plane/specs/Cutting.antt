@@ -1,6 +1,7 @@
 -- Edges cut into the pieces of a chain through whole points, which keeps balance, and windings where the points lie on the edges' lines.
-use Rattle.std.specs.Prelude.{◌≡◌, true, pos, ◌*ℤ◌, List, [], ◌∷◌, ◌++◌, map, flat_map, All}
-use Rattle.overlay_geom.specs.Plane.{Point, PlanePoint, Step, Edge, point_lt, side, in_plane, edge_of, sign_of, steps_between, steps_through, winding}
+use Rattle.std.specs.Prelude.{◌≡◌, true, cond, pos, ◌*ℤ◌, List, [], ◌∷◌, ◌++◌, map, flat_map, All}
+use Rattle.overlay_geom.specs.Plane.{Point, PlanePoint, Step, Edge, point_lt, side, in_plane, edge_of, is_forward, sign_of}
+use Rattle.overlay_geom.specs.Plane.{steps_between, steps_through, winding}
 use Rattle.overlay_geom.specs.Edges.{CountedEdge, ends_of}
 use Rattle.overlay_geom.specs.Merged.{HaveSameWindings}
 use Rattle.overlay_plane.specs.EdgeLists.{IsForwardBy}
@@ -11,9 +12,16 @@ abbrev pub CuttingOnALineKeepsWindings : Type 0
 CuttingOnALineKeepsWindings = (e : Edge) → point_lt e.a e.b ≡ true → (vs : List Point) → All (λ v. side e (in_plane v) ≡ pos 0) vs →
     (p : PlanePoint) → winding (steps_through e.a (vs ++ e.b ∷ [])) p ≡ winding (steps_between e.a e.b) p
 
--- the part of an edge along a step of its chain: the counts follow the sign of the step
+-- the part of an edge along a step of its chain: the counts follow the sign of the step, and so do the two marks
 abbrev pub piece_along : CountedEdge → Step → CountedEdge
-piece_along e s = record { a = (edge_of s).a; b = (edge_of s).b; subj = sign_of s *ℤ e.subj; clip = sign_of s *ℤ e.clip }
+piece_along e s = record {
+  a = (edge_of s).a;
+  b = (edge_of s).b;
+  subj = sign_of s *ℤ e.subj;
+  clip = sign_of s *ℤ e.clip;
+  along = cond (is_forward s) e.along e.against;
+  against = cond (is_forward s) e.against e.along;
+}
 
 -- the parts of an edge along the steps from its smaller end to its larger one through the points
 abbrev pub pieces_through : (CountedEdge → List Point) → CountedEdge → List CountedEdge
@@ -21,7 +29,8 @@ pieces_through points e = map (piece_along e) (steps_through e.a (points e ++ e.
 
 -- a list whose edges are cut through any points keeps balanced counts
 abbrev pub CuttingKeepsBalance : Type 0
-CuttingKeepsBalance = (es : List CountedEdge) (points : CountedEdge → List Point) → HasBalancedCounts es → HasBalancedCounts (flat_map (pieces_through points) es)
+CuttingKeepsBalance = (es : List CountedEdge) (points : CountedEdge → List Point) → HasBalancedCounts es →
+    HasBalancedCounts (flat_map (pieces_through points) es)
 
 -- the points through which an edge is cut lie on its line
 abbrev pub AreOnLine : (CountedEdge → List Point) → CountedEdge → Type 0

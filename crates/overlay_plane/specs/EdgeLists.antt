@@ -11,11 +11,6 @@ IsForwardBy ends xs = All (λ x. point_lt (ends x).a (ends x).b ≡ true) xs
 abbrev pub MeetsAll : {X : Type 0} → (X → Edge) → List X → Edge → Type 0
 MeetsAll {X} ends xs e = (x : X) → Contains xs x → edge_eq e (ends x) ≡ false → MeetInEnds e (ends x)
 
--- any two different edges of the list meet in ends alone
-abbrev pub IsSettledBy : {X : Type 0} → (X → Edge) → List X → Type 0
-IsSettledBy {X} ends xs = (x y : X) → Contains xs x → Contains xs y → edge_eq (ends x) (ends y) ≡ false →
-    MeetInEnds (ends x) (ends y)
-
 -- the list is balanced: whatever number g gives to each point, what the counted edges rise by, summed, is 0
 abbrev pub IsBalanced : {X : Type 0} → (X → Edge) → (X → ℤ) → List X → Type 0
 IsBalanced ends count xs = (g : Point → ℤ) → total (λ x. count x *ℤ (g (ends x).b -ℤ g (ends x).a)) xs ≡ pos 0

@@ -1,14 +1,10 @@
 -- Edges over the vertical line at an abscissa x / d: which of them cover it, and which of two is the lower one there.
 use Rattle.std.specs.Prelude.{Bool, ◌&&◌, ℤ, pos, ◌+ℤ◌, ◌-ℤ◌, ◌*ℤ◌, ◌<ℤ◌, ◌≤ℤ◌, int_lt, int_le}
-use Rattle.overlay_geom.specs.Plane.{Edge}
+use Rattle.overlay_geom.specs.Plane.{Edge, line_form}
 
 -- how far the edge reaches in x
 abbrev pub width : Edge → ℤ
 width e = e.b.x -ℤ e.a.x
-
--- the side of the point (x / d, y / d), as a form in x, y and d
-abbrev pub line_form : Edge → ℤ → ℤ → ℤ → ℤ
-line_form e x y d = (e.b.x -ℤ e.a.x) *ℤ (y -ℤ e.a.y *ℤ d) -ℤ (e.b.y -ℤ e.a.y) *ℤ (x -ℤ e.a.x *ℤ d)
 
 -- positive where the line of e runs above the line of f at the abscissa, negative where it runs below, 0 where they meet
 abbrev pub gap : Edge → Edge → ℤ → ℤ → ℤ

@@ -22,7 +22,8 @@ NoneTakenAbove taken q e = (s : Step) → Contains taken s → (edge_of s).a ≡
 abbrev pub NoneTakenBelow : List Step → Point → Edge → Type 0
 NoneTakenBelow taken q e = (s : Step) → Contains taken s → (edge_of s).a ≡ q → turns_left (edge_of s) e ≡ false
 
--- the winding of the steps taken is 0 on both sides of edges and steps that have an end before q, above the edges at q from their top one upwards, and below those from their lowest one downwards
+-- the winding of the steps taken is 0 on both sides of edges and steps that have an end before q, above the edges at q from
+-- their top one upwards, and below those from their lowest one downwards
 pub record IsOutsideOfSteps (es : List CountedEdge) (steps taken : List Step) (q : Point) : Type 0 where
   pub under_earlier : (e : CountedEdge) → Contains es e → HasEndBefore q e → winding_under es taken (ends_of e) ≡ pos 0
   pub over_earlier : (e : CountedEdge) → Contains es e → HasEndBefore q e → winding_over es taken (ends_of e) ≡ pos 0

@@ -60,9 +60,11 @@ pub record TurnsAsUnder (e f : Edge) : Type 0 where
 abbrev pub UnderBesideANode : Type 0
 UnderBesideANode = (e f : Edge) → TurnsAsUnder e f
 
--- below a vertical edge the winding is that at its lower end, and the counts of all edges that start there and are not vertical; it is also that at its upper end
+-- below a vertical edge the winding is that at its lower end, and the counts of all edges that start there and are not vertical;
+-- it is also that at its upper end
 pub record WindsBesideUpright (count : CountedEdge → ℤ) (es : List CountedEdge) (e : CountedEdge) : Type 0 where
-  pub from_start : winding_below count es e ≡ winding_by count es (in_plane e.a) +ℤ total (λ f. cond (point_eq f.a e.a && int_lt f.a.x f.b.x) (count f) (pos 0)) es
+  pub from_start : winding_below count es e ≡
+      winding_by count es (in_plane e.a) +ℤ total (λ f. cond (point_eq f.a e.a && int_lt f.a.x f.b.x) (count f) (pos 0)) es
   pub from_end : winding_below count es e ≡ winding_by count es (in_plane e.b)
 
 abbrev pub WindingBesideUprights : Type 0

@@ -9,7 +9,8 @@ use Rattle.overlay_plane.specs.NextSteps.{IsClosedUnderNext, IsApartFromRest}
 
 -- from each step of the set its next steps lead back to it
 abbrev pub OrbitsExist : Type 0
-OrbitsExist = (steps : List Step) → Alternates steps → (hand : Hand) (s : Step) → Contains steps s → (walk : List Step) × IsOrbit steps hand walk × (step_round walk 0 ≡ s)
+OrbitsExist = (steps : List Step) → Alternates steps → (hand : Hand) (s : Step) → Contains steps s →
+    (walk : List Step) × IsOrbit steps hand walk × (step_round walk 0 ≡ s)
 
 -- the walk's steps are in the set, at different places are different steps, and with each step the walk holds its next step and the step before it
 pub record IsCycle (steps : List Step) (hand : Hand) (walk : List Step) : Type 0 where
@@ -22,11 +23,13 @@ OrbitsAreCycles = (steps : List Step) → Alternates steps → (hand : Hand) (wa
 
 -- a step has one orbit
 abbrev pub OrbitsAreUnique : Type 0
-OrbitsAreUnique = (steps : List Step) → Alternates steps → (hand : Hand) (walk other : List Step) → IsOrbit steps hand walk → IsOrbit steps hand other → step_round walk 0 ≡ step_round other 0 → walk ≡ other
+OrbitsAreUnique = (steps : List Step) → Alternates steps → (hand : Hand) (walk other : List Step) → IsOrbit steps hand walk →
+    IsOrbit steps hand other → step_round walk 0 ≡ step_round other 0 → walk ≡ other
 
 -- orbits that share a step have the same steps
 abbrev pub OrbitsAreApart : Type 0
-OrbitsAreApart = (steps : List Step) → Alternates steps → (hand : Hand) (walk other : List Step) → IsOrbit steps hand walk → IsOrbit steps hand other → (s : Step) → Contains walk s → Contains other s → (t : Step) → Contains walk t ↔ Contains other t
+OrbitsAreApart = (steps : List Step) → Alternates steps → (hand : Hand) (walk other : List Step) → IsOrbit steps hand walk →
+    IsOrbit steps hand other → (s : Step) → Contains walk s → Contains other s → (t : Step) → Contains walk t ↔ Contains other t
 
 -- the step is one of the walk's
 abbrev pub is_step_of : List Step → Step → Bool
@@ -35,11 +38,13 @@ is_step_of (t ∷ ts) s = step_eq t s || is_step_of ts s
 
 -- a test that holds of the steps of an orbit is closed, so what the orbit leaves alternates, and has the same next steps
 abbrev pub OrbitsLeaveTheRest : Type 0
-OrbitsLeaveTheRest = (steps : List Step) → Alternates steps → (hand : Hand) (walk : List Step) → IsOrbit steps hand walk → (taken : Step → Bool) → ((s : Step) → Decides (taken s) (Contains walk s)) → IsClosedUnderNext steps hand taken × IsApartFromRest steps hand taken
+OrbitsLeaveTheRest = (steps : List Step) → Alternates steps → (hand : Hand) (walk : List Step) → IsOrbit steps hand walk →
+    (taken : Step → Bool) → ((s : Step) → Decides (taken s) (Contains walk s)) → IsClosedUnderNext steps hand taken × IsApartFromRest steps hand taken
 
 -- an orbit of what a closed test leaves is an orbit of the whole set
 abbrev pub OrbitsOfTheRest : Type 0
-OrbitsOfTheRest = (steps : List Step) → Alternates steps → (hand : Hand) (taken : Step → Bool) → IsClosedUnderNext steps hand taken → (walk : List Step) → IsOrbit (filter (λ s. not (taken s)) steps) hand walk → IsOrbit steps hand walk
+OrbitsOfTheRest = (steps : List Step) → Alternates steps → (hand : Hand) (taken : Step → Bool) → IsClosedUnderNext steps hand taken →
+    (walk : List Step) → IsOrbit (filter (λ s. not (taken s)) steps) hand walk → IsOrbit steps hand walk
 
 -- no orbit is a step alone, or a step there and one back
 abbrev pub OrbitsHaveThreeSteps : Type 0

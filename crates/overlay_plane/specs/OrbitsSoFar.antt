@@ -15,7 +15,8 @@ pub record IsOrbitSoFar (steps : List Step) (hand : Hand) (walk : List Step) : T
 abbrev pub last_of : List Step → Step
 last_of walk = step_round walk (length walk - 1)
 
--- the walk's steps are different ones of the set, its last step's next step is the first one or a step that it has not come to, and with the one it is an orbit, with the other the walk so far
+-- the walk's steps are different ones of the set, its last step's next step is the first one or a step that it has not come to,
+-- and with the one it is an orbit, with the other the walk so far
 pub record GoesRound (steps : List Step) (hand : Hand) (walk : List Step) : Type 0 where
   pub inside : (k : ℕ) → Contains steps (step_round walk k)
   pub once_each : (i j : ℕ) → i < length walk → j < length walk → step_round walk i ≡ step_round walk j → i ≡ j

@@ -1,8 +1,8 @@
 -- Rays round a point: different directions, the other hand, and the laws of the cyclic order in which a turning ray meets
 -- them.
-use Rattle.std.specs.Prelude.{◌≡◌, ◌⊎◌, true, false}
+use Rattle.std.specs.Prelude.{◌≡◌, ◌⊎◌, false}
 use Rattle.overlay_geom.specs.Plane.{Point}
-use Rattle.overlay_plane.specs.Turn.{Hand, is_met_before}
+use Rattle.overlay_plane.specs.Turn.{Hand, is_met_before, IsMetBefore}
 use Rattle.overlay_plane.specs.Turn.Hand.{left, right}
 use Rattle.overlay_plane.specs.Alternates.{AreOneWay}
 
@@ -16,11 +16,8 @@ pub record Apart (v p q : Point) : Type 0 where
   pub second : ¬ (q ≡ v)
   pub other_ways : ¬ (AreOneWay v p q)
 
--- a ray at v that turns by the hand from p comes to m before it comes to q
-abbrev pub IsMetBefore : Hand → Point → Point → Point → Point → Type 0
-IsMetBefore hand v p m q = is_met_before hand v p m q ≡ true
-
--- by the hand, rays round a point are met in a strict order, total on different directions, that the other hand reverses and that is the same from wherever the turn starts
+-- by the hand, rays round a point are met in a strict order, total on different directions, that the other hand reverses and that
+-- is the same from wherever the turn starts
 pub record IsCyclicOrder (hand : Hand) : Type 0 where
   pub irreflexive : (v u p : Point) → is_met_before hand v u p p ≡ false
   pub asymmetric : (v u p q : Point) → ¬ (u ≡ v) → IsMetBefore hand v u p q → is_met_before hand v u q p ≡ false

@@ -1,6 +1,6 @@
 -- The region where a rule holds of two windings, and the signs of the edges across which it changes.
 use Rattle.std.specs.Prelude.{◌≡◌, Bool, true, false, cond, ℤ, pos, ◌-ℤ◌, ◌<ℤ◌, List, Contains, AllPairs}
-use Rattle.overlay_geom.specs.Plane.{PlanePoint, Edge, edge_eq, is_strictly_below, total}
+use Rattle.overlay_geom.specs.Plane.{PlanePoint, Edge, edge_eq, total}
 use Rattle.overlay_geom.specs.Edges.{CountedEdge, ends_of, winding_by, winding_below, winding_above}
 use Rattle.overlay_geom.specs.Settled.{IsSettled}
 use Rattle.overlay_plane.specs.Heights.{covers, is_under}
@@ -11,9 +11,16 @@ use Rattle.overlay_plane.specs.EdgeLists.{IsForwardBy, IsBalanced}
 abbrev pub one_if : Bool → ℤ
 one_if t = cond t (pos 1) (pos 0)
 
+-- the rule holds of the windings above the edge, and of those below it
+abbrev pub holds_above : (ℤ → ℤ → Bool) → (subj clip : CountedEdge → ℤ) → List CountedEdge → CountedEdge → Bool
+holds_above holds subj clip es e = holds (winding_above subj es e) (winding_above clip es e)
+
+abbrev pub holds_below : (ℤ → ℤ → Bool) → (subj clip : CountedEdge → ℤ) → List CountedEdge → CountedEdge → Bool
+holds_below holds subj clip es e = holds (winding_below subj es e) (winding_below clip es e)
+
 -- 1 for an edge above which alone the rule holds, -1 for one below which alone it does, else 0
 abbrev pub selected_sign : (ℤ → ℤ → Bool) → (subj clip : CountedEdge → ℤ) → List CountedEdge → CountedEdge → ℤ
-selected_sign holds subj clip es e = one_if (holds (winding_above subj es e) (winding_above clip es e)) -ℤ one_if (holds (winding_below subj es e) (winding_below clip es e))
+selected_sign holds subj clip es e = one_if (holds_above holds subj clip es e) -ℤ one_if (holds_below holds subj clip es e)
 
 -- no two entries of the list have the same ends
 abbrev pub HasDistinctEnds : List CountedEdge → Type 0
@@ -34,20 +41,24 @@ pub record IsRuled (holds : ℤ → ℤ → Bool) (subj clip : CountedEdge → �
   pub clip_balanced : IsBalanced ends_of clip es
   pub none : holds (pos 0) (pos 0) ≡ false
 
+-- the numbers that f gives of the entries taken, summed
+abbrev pub total_taken : {X : Type 0} → (X → Bool) → (X → ℤ) → List X → ℤ
+total_taken taken f xs = total (λ x. cond (taken x) (f x) (pos 0)) xs
+
 -- where a test takes edges over an abscissa with all under them, their signs add up to 1 if the rule holds of the sums of their counts, else to 0
 abbrev pub RegionOverEdgesTaken : Type 0
 RegionOverEdgesTaken = (holds : ℤ → ℤ → Bool) (subj clip : CountedEdge → ℤ) (es : List CountedEdge) → IsRuled holds subj clip es →
     (x d : ℤ) → pos 0 <ℤ d → (taken : CountedEdge → Bool) → TakesDownward ends_of es x d taken →
-    total (λ e. cond (taken e) (selected_sign holds subj clip es e) (pos 0)) es ≡ one_if (holds (total (λ e. cond (taken e) (subj e) (pos 0)) es) (total (λ e. cond (taken e) (clip e) (pos 0)) es))
+    total_taken taken (selected_sign holds subj clip es) es ≡ one_if (holds (total_taken taken subj es) (total_taken taken clip es))
 
 -- the signs of the edges strictly below a point add up to 1 where the rule holds of the windings at the point, else to 0
 abbrev pub RegionFromSelectedSigns : Type 0
 RegionFromSelectedSigns = (holds : ℤ → ℤ → Bool) (subj clip : CountedEdge → ℤ) (es : List CountedEdge) →
     IsRuled holds subj clip es → (p : PlanePoint) →
-    total (λ e. cond (is_strictly_below (ends_of e) p) (selected_sign holds subj clip es e) (pos 0)) es ≡ one_if (holds (winding_by subj es p) (winding_by clip es p))
+    winding_by (selected_sign holds subj clip es) es p ≡ one_if (holds (winding_by subj es p) (winding_by clip es p))
 
 -- the signs of the edges under an edge, at an abscissa that it covers, add up to 1 where the rule holds below the edge, else to 0
 abbrev pub RegionBelowAnEdge : Type 0
 RegionBelowAnEdge = (holds : ℤ → ℤ → Bool) (subj clip : CountedEdge → ℤ) (es : List CountedEdge) → IsRuled holds subj clip es →
     (e : CountedEdge) → Contains es e → (x d : ℤ) → pos 0 <ℤ d → covers (ends_of e) x d ≡ true →
-    total_under ends_of (selected_sign holds subj clip es) es (ends_of e) x d ≡ one_if (holds (winding_below subj es e) (winding_below clip es e))
+    total_under ends_of (selected_sign holds subj clip es) es (ends_of e) x d ≡ one_if (holds_below holds subj clip es e)

@@ -3,26 +3,26 @@
 use Rattle.std.specs.Prelude.{◌≡◌, Bool, not, cond, ℤ, List, [], ◌∷◌, Contains}
 use Rattle.std.specs.List.{flat_map}
 use Rattle.overlay_geom.specs.Plane.{Step, Edge}
-use Rattle.overlay_geom.specs.Edges.{CountedEdge, ends_of, winding_below, winding_above}
+use Rattle.overlay_geom.specs.Edges.{CountedEdge, ends_of}
 use Rattle.overlay_plane.specs.Alternates.{Alternates}
 use Rattle.overlay_plane.specs.Nodes.{IsBalancedArrangement}
-
--- the rule holds of the windings above the edge, and of those below it
-abbrev pub holds_above : (ℤ → ℤ → Bool) → (subj clip : CountedEdge → ℤ) → List CountedEdge → CountedEdge → Bool
-holds_above holds subj clip es e = holds (winding_above subj es e) (winding_above clip es e)
-
-abbrev pub holds_below : (ℤ → ℤ → Bool) → (subj clip : CountedEdge → ℤ) → List CountedEdge → CountedEdge → Bool
-holds_below holds subj clip es e = holds (winding_below subj es e) (winding_below clip es e)
+use Rattle.overlay_plane.specs.Regions.{holds_above, holds_below}
 
 -- the step along an edge that has its upper side on the left, or its lower one
 abbrev pub step_with_left : Bool → Edge → Step
 step_with_left above e = cond above (record { from = e.a; to = e.b }) (record { from = e.b; to = e.a })
 
+-- the step along an edge with the side where the rule holds on its left, or on its right: the upper side, if it holds there
+abbrev pub selected_step : (ℤ → ℤ → Bool) → (subj clip : CountedEdge → ℤ) → Bool → List CountedEdge → CountedEdge → Step
+selected_step holds subj clip on_left es e =
+    step_with_left (cond on_left (holds_above holds subj clip es e) (holds_below holds subj clip es e)) (ends_of e)
+
 -- the rule holds on exactly one side of the edge, and s is its step with that side on the left, or on the right
-pub record IsSelectedStep (holds : ℤ → ℤ → Bool) (subj clip : CountedEdge → ℤ) (es : List CountedEdge) (on_left : Bool) (e : CountedEdge) (s : Step) : Type 0 where
+pub record IsSelectedStep (holds : ℤ → ℤ → Bool) (subj clip : CountedEdge → ℤ) (es : List CountedEdge) (on_left : Bool) (e : CountedEdge)
+    (s : Step) : Type 0 where
   pub entry : Contains es e
   pub changes : holds_below holds subj clip es e ≡ not (holds_above holds subj clip es e)
-  pub walks : s ≡ step_with_left (cond on_left (holds_above holds subj clip es e) (holds_below holds subj clip es e)) (ends_of e)
+  pub walks : s ≡ selected_step holds subj clip on_left es e
 
 -- the steps are the selected steps of the edges
 pub record AreSelected (holds : ℤ → ℤ → Bool) (subj clip : CountedEdge → ℤ) (es : List CountedEdge) (on_left : Bool) (steps : List Step) : Type 0 where
@@ -41,7 +41,8 @@ is_selected holds subj clip es e = cond (holds_above holds subj clip es e) (not 
 
 -- the selected steps, in the order of the edges
 abbrev pub selected_steps : (ℤ → ℤ → Bool) → (subj clip : CountedEdge → ℤ) → Bool → List CountedEdge → List Step
-selected_steps holds subj clip on_left es = flat_map (λ e. cond (is_selected holds subj clip es e) (step_with_left (cond on_left (holds_above holds subj clip es e) (holds_below holds subj clip es e)) (ends_of e) ∷ []) []) es
+selected_steps holds subj clip on_left es =
+    flat_map (λ e. cond (is_selected holds subj clip es e) (selected_step holds subj clip on_left es e ∷ []) []) es
 
 abbrev pub SelectedStepsOfEdges : Type 0
 SelectedStepsOfEdges = (holds : ℤ → ℤ → Bool) (subj clip : CountedEdge → ℤ) (on_left : Bool) (es : List CountedEdge) →

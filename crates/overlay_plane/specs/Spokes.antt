@@ -4,7 +4,7 @@ use Rattle.overlay_geom.specs.Plane.{Point, point_eq, total}
 use Rattle.overlay_geom.specs.Edges.{CountedEdge, winding_below, winding_above}
 use Rattle.overlay_plane.specs.Turn.{is_met_before}
 use Rattle.overlay_plane.specs.Turn.Hand.{right}
-use Rattle.overlay_plane.specs.Alternates.{IsBetween}
+use Rattle.overlay_plane.specs.Alternates.{IsMetBetween}
 use Rattle.overlay_plane.specs.Nodes.{IsBalancedArrangement}
 
 -- the edge is one of the list, and v is one of its ends
@@ -42,21 +42,21 @@ WindingRoundANode = (count : CountedEdge → ℤ) (es : List CountedEdge) → Is
 abbrev pub OneWindingBetweenSpokes : Type 0
 OneWindingBetweenSpokes = (count : CountedEdge → ℤ) (es : List CountedEdge) → IsBalancedArrangement count es → (v : Point) →
     (e g : CountedEdge) → IsSpoke es v e → IsSpoke es v g →
-    ((m : CountedEdge) → IsSpoke es v m → IsBetween v (far_end v e) (far_end v m) (far_end v g) → count m ≡ pos 0) →
+    ((m : CountedEdge) → IsSpoke es v m → IsMetBetween v (far_end v e) (far_end v m) (far_end v g) → count m ≡ pos 0) →
     winding_after count es v e ≡ winding_before count es v g
 
 -- the side met after one spoke is the side met before the next one
 abbrev pub OneWindingBesideNeighbours : Type 0
 OneWindingBesideNeighbours = (count : CountedEdge → ℤ) (es : List CountedEdge) → IsBalancedArrangement count es → (v : Point) →
     (e g : CountedEdge) → IsSpoke es v e → IsSpoke es v g →
-    ((m : CountedEdge) → IsSpoke es v m → ¬ (IsBetween v (far_end v e) (far_end v m) (far_end v g))) →
+    ((m : CountedEdge) → IsSpoke es v m → ¬ (IsMetBetween v (far_end v e) (far_end v m) (far_end v g))) →
     winding_after count es v e ≡ winding_before count es v g
 
 -- a spoke without others at its node has one winding on both sides, and counts nothing
-pub record CountsNothing (count : CountedEdge → ℤ) (es : List CountedEdge) (v : Point) (e : CountedEdge) : Type 0 where
+pub record ChangesNoWinding (count : CountedEdge → ℤ) (es : List CountedEdge) (v : Point) (e : CountedEdge) : Type 0 where
   pub one_winding : winding_after count es v e ≡ winding_before count es v e
   pub none : count e ≡ pos 0
 
 abbrev pub LoneSpokesCountNothing : Type 0
 LoneSpokesCountNothing = (count : CountedEdge → ℤ) (es : List CountedEdge) → IsBalancedArrangement count es → (v : Point) →
-    (e : CountedEdge) → IsSpoke es v e → ((m : CountedEdge) → IsSpoke es v m → m ≡ e) → CountsNothing count es v e
+    (e : CountedEdge) → IsSpoke es v e → ((m : CountedEdge) → IsSpoke es v m → m ≡ e) → ChangesNoWinding count es v e

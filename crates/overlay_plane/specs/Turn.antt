@@ -1,5 +1,6 @@
 -- Turning at a node: the next step by a hand, and orbits.
-use Rattle.std.specs.Prelude.{◌≡◌, ◌≢◌, ℕ, ◌+◌, ◌<◌, Bool, false, cond, ◌&&◌, ◌||◌, ◌==◌, nat_lt, ℤ, pos, ◌+ℤ◌, ◌-ℤ◌, ◌*ℤ◌, int_lt, List, length, All, Contains}
+use Rattle.std.specs.Prelude.{◌≡◌, ◌≢◌, ℕ, ◌+◌, ◌<◌, Bool, true, false, cond, ◌&&◌, ◌||◌, ◌==◌, nat_lt}
+use Rattle.std.specs.Prelude.{ℤ, pos, ◌+ℤ◌, ◌-ℤ◌, ◌*ℤ◌, int_lt, List, length, All, Contains}
 use Rattle.overlay_geom.specs.Plane.{Point, Step, cross_at}
 use Rattle.overlay_geom.specs.Thinned.{item_round}
 
@@ -8,7 +9,8 @@ pub data Hand : Type 0 where
   left : Hand
   right : Hand
 
--- positive where a ray at v that turns by the hand from p comes to q before it has made a half turn. From the back of an arriving step the way through its left side is clockwise
+-- positive where a ray at v that turns by the hand from p comes to q before it has made a half turn;
+-- from the back of an arriving step the way through its left side is clockwise
 abbrev pub turn : Hand → Point → Point → Point → ℤ
 turn left v p q = cross_at v q p
 turn right v p q = cross_at v p q
@@ -23,7 +25,13 @@ part_of_turn hand v u p = cond (int_lt (pos 0) (turn hand v u p)) 0 (cond (int_l
 
 -- a ray at v that turns by the hand from u meets p before q; u itself comes last
 abbrev pub is_met_before : Hand → Point → Point → Point → Point → Bool
-is_met_before hand v u p q = nat_lt (part_of_turn hand v u p) (part_of_turn hand v u q) || (part_of_turn hand v u p == part_of_turn hand v u q && int_lt (pos 0) (turn hand v p q))
+is_met_before hand v u p q =
+    nat_lt (part_of_turn hand v u p) (part_of_turn hand v u q)
+    || (part_of_turn hand v u p == part_of_turn hand v u q && int_lt (pos 0) (turn hand v p q))
+
+-- the same as a fact
+abbrev pub IsMetBefore : Hand → Point → Point → Point → Point → Type 0
+IsMetBefore hand v u p q = is_met_before hand v u p q ≡ true
 
 -- t is the step that leaves the end of s and that a ray there, turning by the hand from the way back along s, meets first
 pub record IsNextStep (steps : List Step) (hand : Hand) (s t : Step) : Type 0 where

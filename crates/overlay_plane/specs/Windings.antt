@@ -1,6 +1,6 @@
--- Sums of counts over the edges under an edge, and over those strictly below a point.
+-- Sums of counts over the edges under an edge: one number along it, the winding below it.
 use Rattle.std.specs.Prelude.{◌≡◌, true, cond, ◌&&◌, ℤ, pos, ◌<ℤ◌, List, Contains}
-use Rattle.overlay_geom.specs.Plane.{PlanePoint, Edge, side, is_strictly_below, total}
+use Rattle.overlay_geom.specs.Plane.{PlanePoint, Edge, side, total}
 use Rattle.overlay_geom.specs.Edges.{CountedEdge, ends_of, winding_by, winding_below}
 use Rattle.overlay_geom.specs.Settled.{IsSettled}
 use Rattle.overlay_plane.specs.Heights.{covers, is_under, IsInner}
@@ -9,10 +9,6 @@ use Rattle.overlay_plane.specs.EdgeLists.{IsForwardBy, IsBalanced}
 -- the counts of the edges that cover the abscissa under e, summed
 abbrev pub total_under : {X : Type 0} → (X → Edge) → (X → ℤ) → List X → Edge → ℤ → ℤ → ℤ
 total_under ends count xs e x d = total (λ f. cond (covers (ends f) x d && is_under (ends f) e x d) (count f) (pos 0)) xs
-
--- the counts of the edges strictly below p, summed
-abbrev pub total_below : {X : Type 0} → (X → Edge) → (X → ℤ) → List X → PlanePoint → ℤ
-total_below ends count xs p = total (λ f. cond (is_strictly_below (ends f) p) (count f) (pos 0)) xs
 
 -- in a settled list with balanced counts the counts of the edges under an edge have one sum at every abscissa that it covers: the winding below it
 abbrev pub OneWindingAlongASide : Type 0

@@ -13,9 +13,9 @@ pub record IsStepAlong (es : List CountedEdge) (e : CountedEdge) (s : Step) : Ty
   pub walks : (s ≡ record { from = e.a; to = e.b }) ⊎ (s ≡ record { from = e.b; to = e.a })
 
 -- the winding on the side of a hand of the step along e
-abbrev pub winding_beside : Hand → (CountedEdge → ℤ) → List CountedEdge → CountedEdge → Step → ℤ
-winding_beside left count es e s = cond (point_eq e.a s.from) (winding_above count es e) (winding_below count es e)
-winding_beside right count es e s = cond (point_eq e.a s.from) (winding_below count es e) (winding_above count es e)
+abbrev pub winding_on_side : Hand → (CountedEdge → ℤ) → List CountedEdge → CountedEdge → Step → ℤ
+winding_on_side left count es e s = cond (point_eq e.a s.from) (winding_above count es e) (winding_below count es e)
+winding_on_side right count es e s = cond (point_eq e.a s.from) (winding_below count es e) (winding_above count es e)
 
 -- each edge that counts has a step of the set along it
 abbrev pub CountsSteps : (CountedEdge → ℤ) → List CountedEdge → List Step → Type 0
@@ -25,4 +25,4 @@ CountsSteps count es steps = (e : CountedEdge) → Contains es e → (count e �
 abbrev pub OneWindingToTheNextStep : Type 0
 OneWindingToTheNextStep = (count : CountedEdge → ℤ) (es : List CountedEdge) → IsBalancedArrangement count es → (steps : List Step) → Alternates steps →
     CountsSteps count es steps → (hand : Hand) (s t : Step) → Contains steps s → IsNextStep steps hand s t → (e f : CountedEdge) → IsStepAlong es e s →
-    IsStepAlong es f t → winding_beside hand count es e s ≡ winding_beside hand count es f t
+    IsStepAlong es f t → winding_on_side hand count es e s ≡ winding_on_side hand count es f t

@@ -3,11 +3,15 @@
 #![tactic(auto)]
 
 pub mod adding;
+pub mod arranging;
 pub mod balance;
 pub mod beside_orbits;
+pub mod contour_winding;
+pub mod contours;
 pub mod cutting;
 pub mod greatest;
 pub mod leftmost;
+pub mod meeting;
 pub mod next_step;
 pub mod next_winding;
 pub mod node;

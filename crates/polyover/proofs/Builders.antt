@@ -1,11 +1,12 @@
 -- A builder to which contours are added one by one.
-use Rattle.std.proofs.Common.{◌≡◌, ℕ, ◌+◌, ◌<◌, true, false, List, [], ◌∷◌, ◌++◌, length, get_or, take, drop, take-append-drop, refl, sym, ap, subst, ◌∙◌, arith}
+use Rattle.std.proofs.Common.{◌≡◌, inl, ℕ, ◌+◌, ◌<◌, true, false, List, [], ◌∷◌, ◌++◌, length, get_or, take, drop, take-append-drop, refl, sym, ap, subst, ◌∙◌, arith}
 use Rattle.std.proofs.lemmas.Bool.{false≢true}
 use Rattle.std.proofs.lemmas.List.{length-map, get_or-map, take_more, drop_more}
 use Rattle.overlay_geom.specs.Edges.{CountedEdge, AddsContour}
 use Rattle.overlay_geom.specs.declared.error.OverlayError.{OverlayError}
 use Rattle.overlay_geom.specs.declared.error.OverlayError.TheVariants.{Memory, NotSettled, TooManyEdges, Failed}
-use Rattle.i_overlay.specs.Builder.{Builder, edge_for, WouldWeighTooMuch}
+use Rattle.overlay_arrange.specs.Content.{edge_for}
+use Rattle.i_overlay.specs.Builder.{Builder, WouldWeighTooMuch}
 use Rattle.polyover.specs.declared.contour.Contour.{Contour as HeldContour}
 use Rattle.polyover.specs.Grammar.{Contour}
 use Rattle.polyover.specs.Statements.{contour_at, contours_at}
@@ -49,7 +50,7 @@ pub contour_refused : {U : Type 0} (cs : List Contour) (k : ℕ) (c : Contour) (
     → (e ≡ Failed → b.failed ≡ true) → (e ≡ TooManyEdges → WouldWeighTooMuch b.options.preserve_input_collinear c.shape_type c.points b.edges) → (e ≡ NotSettled → ⊥) → MayRefuse cs e
 contour_refused cs k c b Memory h within here failed heavy unsettled = tt
 contour_refused cs k c b NotSettled h within here failed heavy unsettled = absurd (unsettled refl)
-contour_refused cs k c b TooManyEdges h within here failed heavy unsettled = record {
+contour_refused cs k c b TooManyEdges h within here failed heavy unsettled = inl (record {
   before = take k cs;
   contour = c;
   after = drop (k + 1) cs;
@@ -57,5 +58,5 @@ contour_refused cs k c b TooManyEdges h within here failed heavy unsettled = rec
   content = b.edges;
   added = h.added;
   heavy = subst (λ keep. WouldWeighTooMuch keep c.shape_type c.points b.edges) h.thins (heavy refl);
-}
+})
 contour_refused cs k c b Failed h within here failed heavy unsettled = false≢true (sym h.ready ∙ failed refl)

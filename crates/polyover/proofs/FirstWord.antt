@@ -1,8 +1,8 @@
 -- What a line says, by its first word.
 use Rattle.std.proofs.Common.{◌≡◌, ◌≢◌, Option, Some, None, MatchOption, [], ◌∷◌, codes, refl, sym, subst, ap, ◌∙◌}
-use Rattle.i_overlay.specs.declared.fill_rule.FillRule.{FillRule}
-use Rattle.i_overlay.specs.declared.overlay.options.ShapeType.{ShapeType}
-use Rattle.i_overlay.specs.declared.overlay.options.ShapeType.TheVariants.{Subject, Clip}
+use Rattle.overlay_arrange.specs.declared.fill_rule.FillRule.{FillRule}
+use Rattle.overlay_arrange.specs.declared.options.ShapeType.{ShapeType}
+use Rattle.overlay_arrange.specs.declared.options.ShapeType.TheVariants.{Subject, Clip}
 use Rattle.polyover.specs.Grammar.{Word, Line, Contour, shape_name, IsContour, contour, IsCommand, edges, fill_name}
 use Rattle.polyover.specs.Statements.{SaysNothing}
 

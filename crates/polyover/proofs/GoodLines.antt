@@ -2,10 +2,10 @@
 use Rattle.std.proofs.Common.{◌≡◌, suc, ◌+◌, List, [], ◌∷◌, ◌++◌, Option, Some, None, All, codes, length, length-append, get_or, refl, sym, ap, subst, ◌∙◌, ◌⊎◌, inl, inr, append_assoc, arith}
 use Rattle.std.proofs.lemmas.List.Elements.{All-push}
 use Rattle.std.proofs.lemmas.List.{get_or_push, get_or-append-add, same_from_push}
-use Rattle.i_overlay.specs.declared.fill_rule.FillRule.{FillRule}
+use Rattle.overlay_arrange.specs.declared.fill_rule.FillRule.{FillRule}
 use Rattle.polyover.specs.Grammar.{Word, Line, Contour, shape_name, IsContour, contour, IsCommand, edges, AreContours, none, blank, more, Asks, IsGoodSoFar}
-use Rattle.i_overlay.specs.declared.overlay.options.ShapeType.{ShapeType}
-use Rattle.i_overlay.specs.declared.overlay.options.ShapeType.TheVariants.{Subject, Clip}
+use Rattle.overlay_arrange.specs.declared.options.ShapeType.{ShapeType}
+use Rattle.overlay_arrange.specs.declared.options.ShapeType.TheVariants.{Subject, Clip}
 use Rattle.polyover.specs.Inputs.{Give}
 use Rattle.polyover.specs.Statements.{SaysNothing}
 

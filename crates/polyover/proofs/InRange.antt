@@ -1,7 +1,7 @@
 -- The points of an input are in the coordinate range.
 use Rattle.std.proofs.Common.{List, All}
 use Rattle.std.proofs.lemmas.List.Elements.{All-nil, All-cons}
-use Rattle.i_overlay.specs.declared.fill_rule.FillRule.{FillRule}
+use Rattle.overlay_arrange.specs.declared.fill_rule.FillRule.{FillRule}
 use Rattle.overlay_geom.specs.Plane.{Point}
 use Rattle.overlay_geom.specs.Points.{InRange, AllInRange}
 use Rattle.polyover.specs.Grammar.{Word, Line, Contour, IsContour, contour, ArePoints, AreContours, none, blank, more, Asks}

@@ -1,7 +1,7 @@
 -- What the program holds of the lines so far, when it takes one more line or refuses it.
 use Rattle.std.proofs.Common.{◌≡◌, List, [], ◌∷◌, ◌++◌, Option, Some, None, refl, sym, ap, subst, ◌∙◌}
 use Rattle.std.proofs.lemmas.List.{map_push}
-use Rattle.i_overlay.specs.declared.fill_rule.FillRule.{FillRule}
+use Rattle.overlay_arrange.specs.declared.fill_rule.FillRule.{FillRule}
 use Rattle.polyover.specs.declared.contour.Contour.{Contour as HeldContour}
 use Rattle.polyover.specs.declared.input.Reading.{Reading}
 use Rattle.polyover.specs.declared.statement.Statement.{Statement}

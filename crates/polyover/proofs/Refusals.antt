@@ -2,7 +2,7 @@
 use Rattle.std.proofs.Common.{◌≡◌, ℕ, List, Option, Some, None, IfSome, subst, ◌∙◌}
 use Rattle.overlay_geom.specs.declared.error.OverlayError.{OverlayError}
 use Rattle.overlay_geom.specs.declared.error.OverlayError.TheVariants.{Memory, NotSettled, TooManyEdges, Failed}
-use Rattle.i_overlay.specs.declared.fill_rule.FillRule.{FillRule}
+use Rattle.overlay_arrange.specs.declared.fill_rule.FillRule.{FillRule}
 use Rattle.polyover.specs.Grammar.{Contour, Asks, input_lines}
 use Rattle.polyover.specs.Answers.{MayRefuse}
 use Rattle.polyover.specs.Engine.{MayBeRefused}

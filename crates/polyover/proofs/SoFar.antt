@@ -5,7 +5,7 @@ use Rattle.std.specs.Str.Lines.{lines, lines_of_parts}
 use Rattle.std.proofs.lemmas.List.{length-map, take_at}
 use Rattle.std.proofs.lemmas.List.Sums.{count_by-le-length}
 use Rattle.std.proofs.lemmas.List.Splits.{length-slice_split}
-use Rattle.i_overlay.specs.declared.fill_rule.FillRule.{FillRule}
+use Rattle.overlay_arrange.specs.declared.fill_rule.FillRule.{FillRule}
 use Rattle.polyover.specs.declared.input.Reading.{Reading}
 use Rattle.polyover.specs.Grammar.{Line, words, input_lines, AreContours, none, Asks, IsGoodSoFar, IsFirstBad, bad, missing}
 use Rattle.polyover.specs.Inputs.{Give, HasRead, TakesLine, RefusesLine}

@@ -1,13 +1,17 @@
 -- What the program answers: the edges of the arrangement, and their text.
-use Rattle.std.specs.Prelude.{◌≡◌, ℕ, List, [], ◌∷◌, ◌++◌, map, false, codes}
+use Rattle.std.specs.Prelude.{◌≡◌, ◌⊎◌, ◌^◌, ℕ, List, [], ◌∷◌, ◌++◌, map, false, codes}
 use Rattle.std.specs.Fmt.{decimal, signed_decimal}
 use Rattle.std.specs.List.{flat_map}
 use Rattle.overlay_geom.specs.Edges.{CountedEdge, AddsContour}
 use Rattle.overlay_geom.specs.declared.error.OverlayError.{OverlayError}
 use Rattle.overlay_geom.specs.declared.error.OverlayError.TheVariants.{Memory, NotSettled, TooManyEdges, Failed}
-use Rattle.i_overlay.specs.declared.fill_rule.FillRule.{FillRule}
-use Rattle.i_overlay.specs.Builder.{edge_for, IsArranged, MergesUnsettled, WouldWeighTooMuch}
-use Rattle.i_overlay.specs.Vectors.{Vector, vector_of}
+use Rattle.overlay_arrange.specs.declared.fill_rule.FillRule.{FillRule}
+use Rattle.overlay_arrange.specs.Content.{edge_for}
+use Rattle.overlay_arrange.specs.Arranged.{IsArranged}
+use Rattle.overlay_plane.specs.Arrangements.{StaysUnsettled, WeighsTooMuch}
+use Rattle.overlay_plane.specs.Meetings.{MeetInWholePoints}
+use Rattle.i_overlay.specs.Builder.{WouldWeighTooMuch}
+use Rattle.overlay_arrange.specs.Vectors.{Vector, vector_of}
 use Rattle.polyover.specs.Grammar.{Contour, Asks, input_lines}
 
 -- ---- contours
@@ -24,7 +28,7 @@ pub record AreEdges (cs : List Contour) (fill : FillRule) (vs : List Vector) : T
   pub content : List CountedEdge
   pub edges : List CountedEdge
   pub added : AddsContours cs [] content
-  pub arranged : IsArranged content edges
+  pub arranged : IsArranged 64 content edges
   pub listed : vs ≡ map (vector_of fill edges) edges
 
 -- `edge ax ay bx by fill`, and LF
@@ -56,15 +60,22 @@ pub record AreTooMany (cs : List Contour) : Type 0 where
   pub added : AddsContours before [] content
   pub heavy : WouldWeighTooMuch false contour.shape_type contour.points content
 
--- the contours' merged edges are not settled
+-- splitting the contours' edges brings the weight to the limit in some round
+pub record AreSplitTooMuch (cs : List Contour) : Type 0 where
+  pub content : List CountedEdge
+  pub added : AddsContours cs [] content
+  pub heavy : WeighsTooMuch 64 (2 ^ 31) content
+
+-- the contours' edges, which do not meet in whole points alone, are not settled after the last round
 pub record AreUnsettled (cs : List Contour) : Type 0 where
   pub content : List CountedEdge
   pub added : AddsContours cs [] content
-  pub unsettled : MergesUnsettled content
+  pub unsettled : StaysUnsettled 64 content
+  pub not_whole : ¬ (MeetInWholePoints content)
 
 -- the contours may be refused so
 abbrev pub MayRefuse : List Contour → OverlayError → Type 0
 MayRefuse cs Memory = Unit {0}
 MayRefuse cs NotSettled = AreUnsettled cs
-MayRefuse cs TooManyEdges = AreTooMany cs
+MayRefuse cs TooManyEdges = AreTooMany cs ⊎ AreSplitTooMuch cs
 MayRefuse cs Failed = ⊥

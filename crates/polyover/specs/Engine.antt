@@ -3,7 +3,7 @@ use Rattle.std.specs.Prelude.{◌⊎◌, ℕ, List, Option, IfSome}
 use Rattle.std.specs.Io.KnownBytes.{Appends, Keeps}
 use Rattle.overlay_geom.specs.declared.error.OverlayError.{OverlayError}
 use Rattle.overlay_geom.specs.declared.error.OverlayError.TheVariants.{Memory, NotSettled, TooManyEdges, Failed}
-use Rattle.i_overlay.specs.declared.fill_rule.FillRule.{FillRule}
+use Rattle.overlay_arrange.specs.declared.fill_rule.FillRule.{FillRule}
 use Rattle.polyover.specs.declared.exit.Exit.{Exit}
 use Rattle.polyover.specs.declared.exit.Exit.TheVariants.{Answered, Refused, BadInput, Io}
 use Rattle.polyover.specs.Grammar.{Contour, Asks, IsFirstBad, input_lines}

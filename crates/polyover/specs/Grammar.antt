@@ -5,10 +5,10 @@ use Rattle.std.specs.Str.Lines.{lines}
 use Rattle.std.specs.Str.Parse.{IsNumeral, digits_value}
 use Rattle.overlay_geom.specs.Numbers.{Within}
 use Rattle.overlay_geom.specs.Plane.{Point}
-use Rattle.i_overlay.specs.declared.fill_rule.FillRule.{FillRule}
-use Rattle.i_overlay.specs.declared.fill_rule.FillRule.TheVariants.{EvenOdd, NonZero, Positive, Negative}
-use Rattle.i_overlay.specs.declared.overlay.options.ShapeType.{ShapeType}
-use Rattle.i_overlay.specs.declared.overlay.options.ShapeType.TheVariants.{Subject, Clip}
+use Rattle.overlay_arrange.specs.declared.fill_rule.FillRule.{FillRule}
+use Rattle.overlay_arrange.specs.declared.fill_rule.FillRule.TheVariants.{EvenOdd, NonZero, Positive, Negative}
+use Rattle.overlay_arrange.specs.declared.options.ShapeType.{ShapeType}
+use Rattle.overlay_arrange.specs.declared.options.ShapeType.TheVariants.{Subject, Clip}
 
 -- ---- lines and words
 

@@ -1,6 +1,6 @@
 -- What the program holds of the lines that it has read.
 use Rattle.std.specs.Prelude.{◌++◌, List, [], ◌∷◌, Option, MatchOption}
-use Rattle.i_overlay.specs.declared.fill_rule.FillRule.{FillRule}
+use Rattle.overlay_arrange.specs.declared.fill_rule.FillRule.{FillRule}
 use Rattle.polyover.specs.declared.input.Reading.{Reading}
 use Rattle.polyover.specs.declared.input.InputError.{InputError}
 use Rattle.polyover.specs.declared.input.InputError.TheVariants.{Memory, BadLine}

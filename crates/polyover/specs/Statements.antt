@@ -1,6 +1,6 @@
 -- What a line says, as the program holds it.
 use Rattle.std.specs.Prelude.{◌≡◌, List, [], map}
-use Rattle.i_overlay.specs.declared.fill_rule.FillRule.{FillRule}
+use Rattle.overlay_arrange.specs.declared.fill_rule.FillRule.{FillRule}
 use Rattle.polyover.specs.declared.contour.Contour.{Contour as HeldContour}
 use Rattle.polyover.specs.declared.statement.Statement.{Statement}
 use Rattle.polyover.specs.declared.statement.Statement.TheVariants.{Blank, Add, RunEdges}

@@ -2,7 +2,7 @@
 
 ghost use Rattle.std.specs.Prelude.{MatchResult, All, map};
 ghost use Rattle.overlay_geom.specs.Points.{AllInRange};
-ghost use Rattle.i_overlay.specs.Vectors.{plain_vector};
+ghost use Rattle.overlay_arrange.specs.Vectors.{plain_vector};
 ghost use Rattle.polyover.specs.Answers.{AreEdges, MayRefuse};
 ghost use Rattle.polyover.specs.Statements.{contours_at};
 

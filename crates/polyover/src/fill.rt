@@ -1,7 +1,7 @@
 //! Fill rules in words.
 
 ghost use Rattle.std.specs.Prelude.{◌≡◌, ◌≢◌, MatchOption};
-ghost use Rattle.i_overlay.specs.declared.fill_rule.FillRule.{FillRule};
+ghost use Rattle.overlay_arrange.specs.declared.fill_rule.FillRule.{FillRule};
 ghost use Rattle.polyover.specs.Grammar.{fill_name};
 
 use i_overlay::fill_rule::FillRule;

@@ -1,7 +1,7 @@
 //! What a line says.
 
 ghost use Rattle.std.specs.Prelude.{◌≡◌, ◌∷◌, MatchResult, MatchOption, codes};
-ghost use Rattle.i_overlay.specs.declared.fill_rule.FillRule.{FillRule};
+ghost use Rattle.overlay_arrange.specs.declared.fill_rule.FillRule.{FillRule};
 ghost use Rattle.polyover.specs.Grammar.{words, shape_name, IsCommand};
 ghost use Rattle.polyover.specs.Statements.{Says, SaysNothing};
 ghost use Rattle.polyover.specs.Words.{words_left};

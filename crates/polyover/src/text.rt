@@ -1,7 +1,7 @@
 //! The text of an answer.
 
 ghost use Rattle.std.specs.Prelude.{◌≡◌, IfOk, OnOk, ◌++◌, map, string_bytes};
-ghost use Rattle.i_overlay.specs.Vectors.{plain_vector};
+ghost use Rattle.overlay_arrange.specs.Vectors.{plain_vector};
 ghost use Rattle.polyover.specs.Answers.{edge_line, edge_lines};
 
 use i_overlay::vector::edge::DataVectorEdge;

@@ -148,8 +148,22 @@ fn points_on_one_line_stay_where_they_are_wanted(rt: HostRuntime) -> Result<(), 
 #[test]
 fn a_builder_that_did_not_settle_fails_until_it_is_cleared(rt: HostRuntime) -> Result<(), Fail> {
     let mut overlay = Overlay::new(rt.alloc(), 0)?;
-    let [a, b, c, d] = square(0i32, 10);
-    add(&rt, &mut overlay, &[a, c, b, d], ShapeType::Subject)?;
+    let [a, b, c, _] = square(0i32, 10);
+    let needles = [
+        [
+            IntPoint::new(2, 0),
+            IntPoint::new(0, 66),
+            IntPoint::new(2, -66),
+        ],
+        [
+            IntPoint::new(1, 0),
+            IntPoint::new(0, 67),
+            IntPoint::new(-1, 0),
+        ],
+    ];
+    for needle in needles {
+        add(&rt, &mut overlay, &needle, ShapeType::Subject)?;
+    }
     assert!(rt; overlay.build_separate_vectors(FillRule::NonZero) == Err(OverlayError::NotSettled));
     assert!(rt; overlay.build_separate_vectors(FillRule::NonZero) == Err(OverlayError::Failed));
     assert!(rt;
@@ -217,39 +231,54 @@ fn a_clip_fills_its_own_bits(rt: HostRuntime) -> Result<(), Fail> {
     Ok(())
 }
 
-// What is answered for a contour that crosses itself between two coordinates, and then, cleared, for a square.
+// How many edges a contour that crosses itself has, how many when asked again, and how many a square has after that.
 fn crossed_then_cleared<I: OverlayInt>(
     rt: &impl Abort,
     alloc: Global,
     crossed: &[IntPoint<I>],
     square: &[IntPoint<I>],
-) -> Result<usize, OverlayError> {
+) -> Result<(usize, usize, usize), OverlayError> {
     let mut overlay = Overlay::new(alloc, 0)?;
     add(rt, &mut overlay, crossed, ShapeType::Subject)?;
-    assert!(rt;
-        overlay.build_separate_vectors(FillRule::NonZero).err() == Some(OverlayError::NotSettled)
-    );
+    let first = overlay.build_separate_vectors(FillRule::NonZero)?.len();
+    let again = overlay.build_separate_vectors(FillRule::EvenOdd)?.len();
     overlay.clear();
     add(rt, &mut overlay, square, ShapeType::Subject)?;
-    Ok(overlay.build_separate_vectors(FillRule::NonZero)?.len())
+    let cleared = overlay.build_separate_vectors(FillRule::NonZero)?.len();
+    Ok((first, again, cleared))
 }
 
 #[test]
 fn crossings_at_the_ends_of_the_range(rt: HostRuntime) -> Result<(), Fail> {
     let [a, b, c, d] = square(-16383i16, 16383);
-    assert_eq!(rt;
-        crossed_then_cleared(&rt, rt.alloc(), &[a, c, b, d], &[a, b, c, d])?,
-        4
-    );
+    let counts = crossed_then_cleared(&rt, rt.alloc(), &[a, c, b, d], &[a, b, c, d])?;
+    assert!(rt; counts == (6, 6, 4));
     let [a, b, c, d] = square(-1073741823i32, 1073741823);
-    assert_eq!(rt;
-        crossed_then_cleared(&rt, rt.alloc(), &[a, c, b, d], &[a, b, c, d])?,
-        4
-    );
+    let counts = crossed_then_cleared(&rt, rt.alloc(), &[a, c, b, d], &[a, b, c, d])?;
+    assert!(rt; counts == (6, 6, 4));
     let [a, b, c, d] = square(-4611686018427387903i64, 4611686018427387903);
-    assert_eq!(rt;
-        crossed_then_cleared(&rt, rt.alloc(), &[a, c, b, d], &[a, b, c, d])?,
-        4
-    );
+    let counts = crossed_then_cleared(&rt, rt.alloc(), &[a, c, b, d], &[a, b, c, d])?;
+    assert!(rt; counts == (6, 6, 4));
+    Ok(())
+}
+
+#[test]
+fn crossings_and_overlaps_are_cut(rt: HostRuntime) -> Result<(), Fail> {
+    let crossed = [
+        IntPoint::new(0i32, 0),
+        IntPoint::new(10, 4),
+        IntPoint::new(10, 0),
+        IntPoint::new(0, 3),
+    ];
+    let edges = edges_of(&rt, rt.alloc(), &crossed, FillRule::NonZero)?;
+    let wanted = [
+        edge(0, 0, 0, 3, 2),
+        edge(0, 0, 4, 2, 1),
+        edge(0, 3, 4, 2, 2),
+        edge(4, 2, 10, 0, 1),
+        edge(4, 2, 10, 4, 2),
+        edge(10, 0, 10, 4, 1),
+    ];
+    assert_eq!(rt; &edges[..], &wanted[..]);
     Ok(())
 }

@@ -1,11 +1,15 @@
-use Rattle.std.proofs.Common.{Err, ap, sym, subst}
+use Rattle.std.proofs.Common.{Err, ap, sym, subst, map, length, arith}
+use Rattle.std.proofs.lemmas.List.{length-map, take_all}
 use Rattle.std.proofs.lemmas.Result.{err_from_is_err_and}
 use Rattle.overlay_geom.specs.Edges.{AddsContour}
 use Rattle.overlay_geom.specs.Points.{AllInRange}
-use Rattle.i_overlay.specs.Builder.{edge_for, WouldWeighTooMuch}
+use Rattle.overlay_arrange.specs.Content.{edge_for}
+use Rattle.i_overlay.specs.Builder.{WouldWeighTooMuch}
 use Rattle.polyover.specs.Points.{points_at}
-use Rattle.polyover.specs.Statements.{contour_at}
-use Rattle.polyover.proofs.Builders.{nothing_added, contour_here, one_more_added, contour_refused}
+use Rattle.overlay_arrange.specs.Vectors.{plain_vector}
+use Rattle.polyover.specs.Statements.{contour_at, contours_at}
+use Rattle.polyover.proofs.Queries.{query_answers}
+use Rattle.polyover.proofs.Builders.{HasAdded, nothing_added, contour_here, one_more_added, contour_refused}
 use Rattle.polyover.proofs.answer.arrange.Goals as goal
 
 pub loop-contour-init : goal.loop-contour-init
@@ -36,3 +40,13 @@ loop-contour-preserved g c =
     one_more_added _ c.loop-contour.contour-index (contour_at c.contour-item.result) b c.add_contour.new.self c.loop-contour.invariant here.0 here.1
     (subst (λ ps. AddsContour b.options.preserve_input_collinear (edge_for c.contour-item.result.shape_type) (points_at ps) b.edges c.add_contour.new.self.edges) c.deref.ensures.value e.ok)
     e.kept
+
+pub returns : goal.returns
+returns g c =
+    let cs = contours_at c.args.commands.now.contours.items in
+    let e = c.build_separate_vectors.ensures in
+    let all : HasAdded cs c.loop-contour.overlay = subst (λ l. HasAdded l c.loop-contour.overlay)
+    (take_all c.loop-contour.contour-index cs (omega (arith, length-map c.args.commands.now.contours.items contour_at, ap length c.deref-contour-items.ensures.value)))
+    c.loop-contour.invariant in
+    query_answers cs c.loop-contour.overlay all (λ v. map (plain_vector (λ z. z)) v.items) c.args.commands.now.fill_rule c.build_separate_vectors.new.self c.build_separate_vectors.result
+    e.arranged e.listed e.failed.0 e.not_settled e.whole e.too_many

@@ -1,5 +1,5 @@
 use Rattle.std.proofs.Common.{◌≡◌, map, take, string_bytes}
-use Rattle.i_overlay.specs.Vectors.{plain_vector}
+use Rattle.overlay_arrange.specs.Vectors.{plain_vector}
 use Rattle.polyover.specs.Answers.{edge_lines}
 use Rattle.polyover.proofs.text.edges_text.Given as goal
 

@@ -1,9 +1,0 @@
--- The edges that stay are those of which the test says that they have counts.
-use Rattle.std.proofs.Common.{not, rules}
-use Rattle.std.proofs.lemmas.List.Elements.{filter_from_retain}
-use Rattle.overlay_geom.specs.Edges.{counts_nothing}
-use Rattle.i_overlay.specs.Content.{plain_edge}
-use Rattle.i_overlay.proofs.arrangement.merge.drop_uncounted.Goals as goal
-
-pub returns : goal.returns
-returns g c = filter_from_retain _ (λ e. not (counts_nothing (plain_edge g.I.IntNumber.whole e))) (λ p e b q r. search rules) _ _ _ c.retain.ensures.filtered

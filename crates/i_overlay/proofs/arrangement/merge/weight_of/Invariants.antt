@@ -1,8 +1,0 @@
--- The sum is what the edges so far weigh.
-use Rattle.std.proofs.Common.{◌≡◌, take}
-use Rattle.overlay_geom.specs.Edges.{weight}
-use Rattle.i_overlay.specs.Content.{plain_edges}
-use Rattle.i_overlay.proofs.arrangement.merge.weight_of.Given as goal
-
-abbrev pub invariant-loop-e : goal.invariant-loop-e
-invariant-loop-e g l = l.sum ≡ weight (plain_edges g.I.IntNumber.whole (take l.e-index l.edges))

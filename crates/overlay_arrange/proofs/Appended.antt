@@ -1,0 +1,21 @@
+-- Lists to which something was appended, as a program that appends it finds them.
+use Rattle.std.proofs.Common.{◌≡◌, List, [], ◌∷◌, ◌++◌, map, refl, sym, ◌∙◌, ap, append_assoc, append-nil}
+use Rattle.std.specs.List.{flat_map}
+use Rattle.std.proofs.lemmas.List.{map-append}
+
+-- with an item pushed, the mapped list has what that is mapped to
+pub mapped_pushed : {X Y : Type 0} (f : X → Y) (old new : List X) (x : X) (y : Y) → new ≡ old ++ x ∷ [] → f x ≡ y → map f new ≡ map f old ++ y ∷ []
+mapped_pushed f old new x y is maps = ap (map f) is ∙ map-append f old (x ∷ []) ∙ ap (λ z. map f old ++ z ∷ []) maps
+
+-- with nothing appended, a list is as it was
+pub nothing_appended : {X : Type 0} (xs none : List X) → none ≡ [] → xs ≡ xs ++ none
+nothing_appended xs none is = sym (append-nil xs) ∙ ap (λ ys. xs ++ ys) (sym is)
+
+-- what the next entry gives moves from what is to come to what stands
+pub next_appended : {X Y : Type 0} (f : X → List Y) (old new : List Y) (x : X) (xs rest : List X) (whole : List Y) → rest ≡ x ∷ xs
+    → old ++ flat_map f rest ≡ whole → new ≡ old ++ f x → new ++ flat_map f xs ≡ whole
+next_appended f old new x xs rest whole begins before appended =
+    ap (λ ys. ys ++ flat_map f xs) appended
+    ∙ append_assoc old (f x) (flat_map f xs)
+    ∙ sym (ap (λ zs. old ++ flat_map f zs) begins)
+    ∙ before

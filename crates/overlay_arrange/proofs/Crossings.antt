@@ -1,0 +1,57 @@
+-- Edges that go across one another's lines: how far along the one the other one crosses it, and the point through which it leads it.
+use Rattle.std.proofs.Common.{◌≡◌, ◌≢◌, inl, inr, Bool, true, false, cond, not, ◌++◌, ◌∷◌, [], List, ℤ, pos, nat_abs, ◌<ℤ◌, ◌≤ℤ◌, refl, sym, ap, ap₂, subst, ◌∙◌}
+use Rattle.std.specs.Ordering.{is_ge}
+use Rattle.std.specs.declared.cmp.Ordering.{Ordering}
+use Rattle.std.specs.declared.cmp.Ordering.TheVariants.{Less, Equal, Greater}
+use Rattle.overlay_geom.specs.Plane.{Point, Edge, point_lt, cross_at}
+use Rattle.overlay_geom.specs.Placed.{IsAlong, IsBeside, IsAcross}
+use Rattle.overlay_geom.specs.Points.{IsDifference, cross_of}
+use Rattle.overlay_geom.proofs.Meeting.{across_not_along}
+use Rattle.overlay_geom.proofs.PointOrder.{IsBefore}
+use Rattle.overlay_geom.proofs.Signs.{linear}
+use Rattle.overlay_plane.specs.CutPoints.{to_line, across, crossing, met_at}
+use Rattle.overlay_plane.proofs.Placements.{AreCrossing, met_beside, met_across}
+use Rattle.overlay_arrange.specs.Content.{point_cmp}
+use Rattle.overlay_arrange.specs.Settle.{IsPlaced}
+use Rattle.overlay_arrange.specs.declared.settle.Place.{Place}
+use Rattle.overlay_arrange.specs.declared.settle.Place.TheVariants.{Along, Beside, Across}
+
+-- a point is found at least another one where it is not smaller
+pub is_ge-point_cmp : (p q : Point) → is_ge (point_cmp p q) ≡ not (point_lt p q)
+is_ge-point_cmp p q = by (point_lt p q) (point_lt q p)
+  where
+    by : (s t : Bool) → is_ge (cond s Less (cond t Greater Equal)) ≡ not s
+    by true t = refl
+    by false true = refl
+    by false false = refl
+
+-- so a program finds it that asks for the order of the two
+pub not_before : (p q : Point) (o : Ordering) (r : Bool) → o ≡ point_cmp p q → r ≡ is_ge o → (t : Bool) → r ≡ t → not (point_lt p q) ≡ t
+not_before p q o r order answer t is = sym (is_ge-point_cmp p q) ∙ ap is_ge (sym order) ∙ sym answer ∙ is
+
+-- an edge that goes across e's line is not along it
+across_is_not_along : (e f : Edge) → IsAcross e f → ¬ (IsAlong e f)
+across_is_not_along e f (inl (low, high, less)) (at_a, at_b) = omega linear
+across_is_not_along e f (inr (high, low, less)) (at_a, at_b) = omega linear
+
+-- nor beside it
+across_is_not_beside : (e f : Edge) → IsAcross e f → ¬ (IsBeside e f)
+across_is_not_beside e f (inl (low, high, less)) (inl (left, too)) = omega linear
+across_is_not_beside e f (inl (low, high, less)) (inr (right, too)) = omega linear
+across_is_not_beside e f (inr (high, low, less)) (inl (left, too)) = omega linear
+across_is_not_beside e f (inr (high, low, less)) (inr (right, too)) = omega linear
+
+-- two edges each of which goes across the other one's line lead one another through the point nearest their crossing
+pub met_where_both_across : (e f : Edge) → IsAcross e f → IsAcross f e → met_at e f ≡ crossing e f ∷ []
+met_where_both_across e f forth back = met_across e f (record { apart = across_is_not_along e f forth; not_beside = across_is_not_beside e f forth; not_back = across_is_not_beside f e back })
+
+-- where f goes across e's line, but e not across f's, they meet nowhere
+pub met_where_one_across : (e f : Edge) (place : Place) → IsBefore f.a f.b → IsAcross e f → IsPlaced place f e → place ≢ Across → met_at e f ≡ []
+met_where_one_across e f Along forward forth placed other = absurd (across_not_along e f forward forth placed)
+met_where_one_across e f Beside forward forth placed other = met_beside e f (across_is_not_along e f forth) (inr placed)
+met_where_one_across e f Across forward forth placed other = absurd (other refl)
+
+-- an edge beside e's line has no end on it
+pub beside_is_not_along : (e f : Edge) → IsBeside e f → ¬ (IsAlong e f)
+beside_is_not_along e f (inl (left, too)) (at_a, at_b) = omega linear
+beside_is_not_along e f (inr (right, too)) (at_a, at_b) = omega linear

@@ -1,0 +1,69 @@
+-- One round more: a list that is merged, cut, and then split, was split with one round more.
+use Rattle.std.proofs.Common.{◌≡◌, ℕ, ◌+◌, ◌≤◌, List, [], ◌∷◌, length, refl, sym, ap, subst, arith}
+use Rattle.std.specs.Prelude.{Result, Ok, Err, OnOk}
+use Rattle.overlay_geom.specs.Edges.{CountedEdge, weight}
+use Rattle.overlay_geom.specs.Merged.{IsMerged}
+use Rattle.overlay_geom.specs.Settled.{IsSettled}
+use Rattle.overlay_plane.specs.Arrangements.{IsReachedBy, IsSplit, StaysUnsettled, WeighsTooMuch}
+use Rattle.overlay_plane.specs.Rounds.{Round, IsRound, AreRounds, pieces_of}
+
+-- a merged list that is settled was split without a round
+pub split_at_once : (most : ℕ) (old new : List CountedEdge) → IsMerged old new → IsSettled new → IsSplit most old new
+split_at_once most old new merged settled = record {
+  rounds = [];
+  few = omega arith;
+  reached = record { cut = tt; merged = merged; settled = settled };
+}
+
+-- one that is not settled stays so without a round
+pub unsettled_at_once : (most : ℕ) (old left : List CountedEdge) → most ≡ 0 → IsMerged old left → ¬ (IsSettled left) → StaysUnsettled most old
+unsettled_at_once most old left none merged unsettled = record { rounds = []; all_taken = sym none; cut = tt; left = left; merged = merged; unsettled = unsettled }
+
+-- a round cuts the first list and leaves the second
+abbrev pub Leaves : List CountedEdge → List CountedEdge → Type 0
+Leaves old left = (r : Round) × IsRound old r × (pieces_of r ≡ left)
+
+-- what a first round leaves was split, so the list was
+pub split_on : (fewer most : ℕ) (old left new : List CountedEdge) → fewer + 1 ≤ most → Leaves old left → IsSplit fewer left new → IsSplit most old new
+split_on fewer most old left new le (r, is, left_is) h =
+    let reached : IsReachedBy h.rounds (pieces_of r) new = subst (λ (es : List CountedEdge). IsReachedBy h.rounds es new) (sym left_is) h.reached in
+    record {
+      rounds = r ∷ h.rounds;
+      few = omega (arith, h.few);
+      reached = record { cut = (is, reached.cut); merged = reached.merged; settled = reached.settled };
+    }
+
+-- so it is where an answer says that it was split
+pub split_more : {T E : Type 0} (answer : Result T E) (fewer most : ℕ) (old left new : List CountedEdge) → fewer + 1 ≤ most → Leaves old left →
+    OnOk answer (IsSplit fewer left new) → OnOk answer (IsSplit most old new)
+split_more (Ok v) fewer most old left new le first h = split_on fewer most old left new le first h
+split_more (Err e) fewer most old left new le first h = h
+
+-- it stays unsettled, so the list does
+pub unsettled_on : (fewer most : ℕ) (old left : List CountedEdge) → fewer + 1 ≡ most → Leaves old left → StaysUnsettled fewer left → StaysUnsettled most old
+unsettled_on fewer most old left e (r, is, left_is) given =
+    let h : StaysUnsettled fewer (pieces_of r) = subst (λ (es : List CountedEdge). StaysUnsettled fewer es) (sym left_is) given in
+    record {
+      rounds = r ∷ h.rounds;
+      all_taken = omega (arith, h.all_taken);
+      cut = (is, h.cut);
+      left = h.left;
+      merged = h.merged;
+      unsettled = h.unsettled;
+    }
+
+-- it weighs too much in a later round, so the list does
+pub heavy_on : (limit fewer most : ℕ) (old left : List CountedEdge) → fewer + 1 ≤ most → Leaves old left → WeighsTooMuch fewer limit left → WeighsTooMuch most limit old
+heavy_on limit fewer most old left le (r, is, left_is) given =
+    let h : WeighsTooMuch fewer limit (pieces_of r) = subst (λ (es : List CountedEdge). WeighsTooMuch fewer limit es) (sym left_is) given in
+    record { rounds = r ∷ h.rounds; some = omega arith; few = omega (arith, h.few); cut = (is, h.cut); heavy = h.heavy }
+
+-- it weighs too much at once, so the list does after one round
+pub heavy_at_once : (limit most : ℕ) (old left : List CountedEdge) → 1 ≤ most → Leaves old left → limit ≤ weight left → WeighsTooMuch most limit old
+heavy_at_once limit most old left le (r, is, left_is) heavy = record {
+  rounds = r ∷ [];
+  some = omega arith;
+  few = le;
+  cut = (is, tt);
+  heavy = subst (λ (es : List CountedEdge). limit ≤ weight es) (sym left_is) heavy;
+}

@@ -1,0 +1,40 @@
+-- Where the merged list is settled no round is taken; else the cut is one, and the rest is split with the rounds that are left.
+use Rattle.std.proofs.Common.{◌≡◌, ℕ, ◌+◌, ◌-◌, Err, refl, ap, sym, subst, arith}
+use Rattle.std.proofs.lemmas.Bool.{false≢true}
+use Rattle.std.proofs.lemmas.Result.{err_from_is_err_and}
+use Rattle.overlay_arrange.proofs.ArrangedLists.{leaves_cut}
+use Rattle.overlay_arrange.proofs.RoundsTaken.{split_at_once, unsettled_at_once, split_more, unsettled_on, heavy_on, heavy_at_once}
+use Rattle.overlay_plane.specs.CutPoints.{cut_edges}
+use Rattle.overlay_arrange.proofs.content.Content.+split.Goals as goal
+
+pub is_settled-requires : goal.is_settled-requires
+is_settled-requires g n c = c.in_ok-merge.ensures.ok.ascending
+
+pub returns-then-is_settled-clause-split : goal.returns-then-is_settled-clause-split
+returns-then-is_settled-clause-split g n c = split_at_once c.args.rounds _ _ c.in_ok-merge.ensures.ok (c.if-is_settled.ensures.0 refl)
+
+pub returns-then-rounds-eq0-clause-not_settled : goal.returns-then-rounds-eq0-clause-not_settled
+returns-then-rounds-eq0-clause-not_settled g n c = λ same. unsettled_at_once c.args.rounds _ _ (omega arith) c.in_ok-merge.ensures.ok
+    (λ settled. false≢true (c.if-is_settled.ensures.1 settled))
+
+pub returns-in_err-cut-clause-too_many : goal.returns-in_err-cut-clause-too_many
+returns-in_err-cut-clause-too_many g n c = λ same.
+    let passed = err_from_is_err_and c.from_residual-in_err-cut.result c.from_residual-in_err-cut.ensures.1 in
+    let first = leaves_cut g.I.IntNumber.limit c.args.self.now c.merge.new.self (cut_edges c.merge.new.self) c.merge.ensures.content c.in_ok-merge.ensures.ok
+    (λ settled. false≢true (c.if-is_settled.ensures.1 settled)) refl in
+    heavy_at_once 2147483648 c.args.rounds _ _ (omega arith) first (c.in_err-cut.ensures.too_many (cc))
+
+pub returns-clause-split : goal.returns-clause-split
+returns-clause-split g n c =
+    let first = leaves_cut g.I.IntNumber.limit c.args.self.now c.merge.new.self c.cut.new.self c.merge.ensures.content c.in_ok-merge.ensures.ok (λ settled. false≢true (c.if-is_settled.ensures.1 settled)) c.in_ok-cut.ensures.ok in
+    split_more c.split.result (c.args.rounds - 1) c.args.rounds _ _ _ (omega arith) first c.split.ensures.split
+
+pub returns-clause-not_settled : goal.returns-clause-not_settled
+returns-clause-not_settled g n c = λ same.
+    let first = leaves_cut g.I.IntNumber.limit c.args.self.now c.merge.new.self c.cut.new.self c.merge.ensures.content c.in_ok-merge.ensures.ok (λ settled. false≢true (c.if-is_settled.ensures.1 settled)) c.in_ok-cut.ensures.ok in
+    unsettled_on (c.args.rounds - 1) c.args.rounds _ _ (omega arith) first (c.split.ensures.not_settled same)
+
+pub returns-clause-too_many : goal.returns-clause-too_many
+returns-clause-too_many g n c = λ same.
+    let first = leaves_cut g.I.IntNumber.limit c.args.self.now c.merge.new.self c.cut.new.self c.merge.ensures.content c.in_ok-merge.ensures.ok (λ settled. false≢true (c.if-is_settled.ensures.1 settled)) c.in_ok-cut.ensures.ok in
+    heavy_on 2147483648 (c.args.rounds - 1) c.args.rounds _ _ (omega arith) first (c.split.ensures.too_many same)

@@ -1,0 +1,50 @@
+-- Each edge is held and light, and is led through points in range; a heavy beginning makes a heavy whole.
+use Rattle.std.proofs.Common.{◌≡◌, ◌+◌, ◌++◌, List, All, drop, refl, sym, subst, ap, ◌∙◌, arith, rules}
+use Rattle.std.specs.List.{flat_map}
+use Rattle.overlay_geom.specs.Plane.{Point}
+use Rattle.overlay_geom.specs.Points.{plain_points, InRange}
+use Rattle.overlay_geom.proofs.Mapped.{All-mapped_at, Contains-mapped, mapped_rest}
+use Rattle.overlay_plane.specs.CutPoints.{cut_points}
+use Rattle.overlay_plane.specs.Cutting.{pieces_through}
+use Rattle.overlay_arrange.specs.Content.{plain_edge, plain_edges, IsHeld}
+use Rattle.overlay_arrange.proofs.Appended.{next_appended}
+use Rattle.overlay_arrange.proofs.CutContents.{weight_of_entry, cut_points_in_range}
+use Rattle.overlay_arrange.proofs.Pieces.{heavy_beginning}
+use Rattle.overlay_arrange.proofs.cut.cut_edges.Goals as goal
+
+pub points_on-requires-clause-one : goal.points_on-requires-clause-one
+points_on-requires-clause-one g c =
+    All-mapped_at (IsHeld g.I.IntNumber.limit) (plain_edge g.I.IntNumber.whole g.C.EdgeCount.counts) c.args.edges.now c.loop-e.e-index c.e-item.result
+    c.loop-e-test.true c.e-item.is c.requires.content.held
+
+pub push_pieces-requires-clause-held : goal.push_pieces-requires-clause-held
+push_pieces-requires-clause-held g c =
+    All-mapped_at (IsHeld g.I.IntNumber.limit) (plain_edge g.I.IntNumber.whole g.C.EdgeCount.counts) c.args.edges.now c.loop-e.e-index c.e-item.result
+    c.loop-e-test.true c.e-item.is c.requires.content.held
+
+pub push_pieces-requires-clause-light : goal.push_pieces-requires-clause-light
+push_pieces-requires-clause-light g c =
+    let plain = plain_edge g.I.IntNumber.whole g.C.EdgeCount.counts in
+    let bound = weight_of_entry (plain_edges g.I.IntNumber.whole g.C.EdgeCount.counts c.args.edges.now) (plain c.e-item.result)
+    (Contains-mapped plain c.args.edges.now c.loop-e.e-index c.e-item.result c.loop-e-test.true c.e-item.is) in
+    omega (arith, bound, c.requires.content.light)
+
+pub push_pieces-requires-clause-points : goal.push_pieces-requires-clause-points
+push_pieces-requires-clause-points g c =
+    let plain = plain_edge g.I.IntNumber.whole g.C.EdgeCount.counts in
+    let es = plain_edges g.I.IntNumber.whole g.C.EdgeCount.counts c.args.edges.now in
+    let held = All-mapped_at (IsHeld g.I.IntNumber.limit) plain c.args.edges.now c.loop-e.e-index c.e-item.result c.loop-e-test.true c.e-item.is c.requires.content.held in
+    let same : plain_points g.I.IntNumber.whole c.deref.result.now ≡ cut_points es (plain c.e-item.result) = ap (plain_points g.I.IntNumber.whole) c.deref.ensures.value ∙ c.in_ok-points.ensures.ok in
+    subst (λ (vs : List Point). All (InRange g.I.IntNumber.limit) vs) (sym same) (cut_points_in_range g.I.IntNumber.limit es (plain c.e-item.result) held)
+
+pub returns-in_err-push_pieces-clause-too_many : goal.returns-in_err-push_pieces-clause-too_many
+returns-in_err-push_pieces-clause-too_many g c =
+    let plain = plain_edge g.I.IntNumber.whole g.C.EdgeCount.counts in
+    let es = plain_edges g.I.IntNumber.whole g.C.EdgeCount.counts c.args.edges.now in
+    let i = c.loop-e.e-index in
+    let pieces = pieces_through (cut_points es) in
+    let e = plain c.e-item.result in
+    let rest = plain_edges g.I.IntNumber.whole g.C.EdgeCount.counts (drop (i + 1) c.args.edges.now) in
+    let all = next_appended pieces c.loop-e.pieces (c.loop-e.pieces ++ pieces e) e rest _ _ (mapped_rest plain c.args.edges.now i c.e-item.result c.loop-e-test.true c.e-item.is) c.loop-e.invariant refl in
+    let same : plain_points g.I.IntNumber.whole c.deref.result.now ≡ cut_points es e = ap (plain_points g.I.IntNumber.whole) c.deref.ensures.value ∙ c.in_ok-points.ensures.ok in
+    λ refused. heavy_beginning 2147483648 (c.loop-e.pieces ++ pieces e) (flat_map pieces rest) _ all (rw same at (c.push_pieces.ensures.too_many (search rules)))

@@ -1,0 +1,28 @@
+-- What is known of a list of counted edges that was brought into an arrangement, and of one that was not.
+use Rattle.std.specs.Prelude.{◌≡◌, ℕ, ◌≤◌, List, length}
+use Rattle.overlay_geom.specs.Edges.{CountedEdge}
+use Rattle.overlay_plane.specs.Arrangements.{IsReachedBy, IsExact}
+use Rattle.overlay_plane.specs.Balance.{HasBalancedCounts}
+use Rattle.overlay_plane.specs.ChainLinks.{ChainsHold}
+use Rattle.overlay_plane.specs.Meetings.{MeetInWholePoints}
+use Rattle.overlay_plane.specs.Rounds.{Round, MovingRounds}
+
+-- the list is an arrangement already
+abbrev pub WasArranged : List CountedEdge → Type 0
+WasArranged es = (before : List CountedEdge) × (earlier : List Round) × IsReachedBy earlier before es
+
+-- the second list is an arrangement of the first one, reached with so many cutting rounds at most
+pub record IsArranged (most : ℕ) (old new : List CountedEdge) : Type 0 where
+  pub rounds : List Round
+  pub few : length rounds ≤ most
+  pub reached : IsReachedBy rounds old new
+  -- so many of the rounds moved some point
+  pub moving : ℕ
+  pub moved : MovingRounds rounds moving
+  -- the chains of the edges keep their ends, stay within half a unit for each moving round, and make the counts
+  pub chains : ChainsHold rounds moving old new
+  -- where the edges meet only in whole points or overlap, one round does, no point is moved, and no winding changes
+  pub exact : MeetInWholePoints old → IsExact rounds moving old new
+  pub balanced : HasBalancedCounts old → HasBalancedCounts new
+  -- what was arranged before stays as it is
+  pub stays : WasArranged old → new ≡ old

@@ -1,0 +1,62 @@
+-- The content of a builder: the counted edges that it holds, as whole numbers.
+use Rattle.std.specs.Prelude.{◌≡◌, ℕ, ◌^◌, ◌<◌, true, cond, ℤ, pos, List, map, All, AllPairs}
+use Rattle.std.specs.declared.cmp.Ordering.{Ordering}
+use Rattle.std.specs.declared.cmp.Ordering.TheVariants.{Less, Equal, Greater}
+use Rattle.overlay_geom.specs.Plane.{Point, Step, point_lt, edge_lt}
+use Rattle.overlay_arrange.specs.declared.options.ShapeType.{ShapeType}
+use Rattle.overlay_arrange.specs.declared.options.ShapeType.TheVariants.{Subject, Clip}
+use Rattle.overlay_geom.specs.Points.{plain_point, InRange}
+use Rattle.overlay_geom.specs.Edges.{CountedEdge, ends_of, subject_edge, clip_edge, weight}
+use Rattle.overlay_arrange.specs.Counts.{Counts}
+use Rattle.overlay_arrange.specs.declared.count.ShapeCountBoolean.{ShapeCountBoolean}
+use Rattle.overlay_arrange.specs.declared.edge.CountedEdge.{CountedEdge as HeldEdge}
+
+-- the counted edge between two points with these counts
+abbrev pub edge_with : Point → Point → Counts → CountedEdge
+edge_with a b c = record { a = a; b = b; subj = c.subj; clip = c.clip; along = c.along; against = c.against }
+
+-- the counted edge at an edge's numbers
+abbrev pub plain_edge : {I C : Type 0} → (I → ℤ) → (C → Counts) → HeldEdge I C → CountedEdge
+plain_edge whole counts e = edge_with (plain_point whole e.a) (plain_point whole e.b) (counts e.count)
+
+-- and of each edge of a list
+abbrev pub plain_edges : {I C : Type 0} → (I → ℤ) → (C → Counts) → List (HeldEdge I C) → List CountedEdge
+plain_edges whole counts es = map (plain_edge whole counts) es
+
+-- how two points compare: by x, then by y
+abbrev pub point_cmp : Point → Point → Ordering
+point_cmp p q = cond (point_lt p q) Less (cond (point_lt q p) Greater Equal)
+
+-- how two edges compare: by their smaller ends, then by their larger ones
+abbrev pub edge_cmp : CountedEdge → CountedEdge → Ordering
+edge_cmp e f = cond (edge_lt (ends_of e) (ends_of f)) Less (cond (edge_lt (ends_of f) (ends_of e)) Greater Equal)
+
+-- the edge runs from its smaller to its larger end, both in the coordinate range
+pub record IsHeld (limit : ℕ) (e : CountedEdge) : Type 0 where
+  pub forward : point_lt e.a e.b ≡ true
+  pub a_in_range : InRange limit e.a
+  pub b_in_range : InRange limit e.b
+
+-- a list of edges that a builder may hold: in range, and lighter than the limit
+pub record IsContent (limit : ℕ) (es : List CountedEdge) : Type 0 where
+  pub held : All (IsHeld limit) es
+  pub light : weight es < 2 ^ 31
+
+-- each edge of the list comes before all later ones
+abbrev pub IsAscending : List CountedEdge → Type 0
+IsAscending es = AllPairs (λ e f. edge_lt (ends_of e) (ends_of f) ≡ true) es
+
+-- the counted edge of a step of the subject, or of the clip
+abbrev pub edge_for : ShapeType → Step → CountedEdge
+edge_for Subject s = subject_edge s
+edge_for Clip s = clip_edge s
+
+-- what the subject's or the clip's step adds to the counts of its edge
+abbrev pub count_for : ShapeType → ℤ → ShapeCountBoolean
+count_for Subject count = record { subj = count; clip = pos 0 }
+count_for Clip count = record { subj = pos 0; clip = count }
+
+-- the number is the weight of the edges, which a builder may hold
+pub record IsWeighed (limit : ℕ) (es : List CountedEdge) (number : ℕ) : Type 0 where
+  pub content : IsContent limit es
+  pub weighed : number ≡ weight es

@@ -1,0 +1,11 @@
+pub mod Arranged
+pub mod Content
+pub mod Counts
+pub mod Cut
+pub mod EdgeData
+pub mod Options
+pub mod Rules
+pub mod Runs
+pub mod Settle
+pub mod Thinning
+pub mod Vectors

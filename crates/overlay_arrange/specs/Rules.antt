@@ -1,0 +1,41 @@
+-- Fill rules, windings below and above an edge, and the fill bits of an edge.
+use Rattle.std.specs.Prelude.{ℕ, ◌+◌, ◌%◌, Bool, cond, not, ◌==◌, ℤ, pos, nat_abs, int_lt, List}
+use Rattle.std.specs.Ordering.{int_eq}
+use Rattle.overlay_geom.specs.Edges.{CountedEdge, subj_of, clip_of, winding_below, winding_above}
+use Rattle.overlay_arrange.specs.declared.fill_rule.FillRule.{FillRule}
+use Rattle.overlay_arrange.specs.declared.fill_rule.FillRule.TheVariants.{EvenOdd, NonZero, Positive, Negative}
+
+-- a winding is filled under the rule
+abbrev pub is_filled : FillRule → ℤ → Bool
+is_filled EvenOdd w = nat_abs w % 2 == 1
+is_filled NonZero w = not (int_eq w (pos 0))
+is_filled Positive w = int_lt (pos 0) w
+is_filled Negative w = int_lt w (pos 0)
+
+-- which sides of an edge the subject and the clip fill
+pub record Fills : Type 0 where
+  pub subj_above : Bool
+  pub subj_below : Bool
+  pub clip_above : Bool
+  pub clip_below : Bool
+
+-- the sides of an edge of the list that are filled: by the windings just above it and just below it
+abbrev pub fills_of : FillRule → List CountedEdge → CountedEdge → Fills
+fills_of fill es e = record {
+  subj_above = is_filled fill (winding_above subj_of es e);
+  subj_below = is_filled fill (winding_below subj_of es e);
+  clip_above = is_filled fill (winding_above clip_of es e);
+  clip_below = is_filled fill (winding_below clip_of es e);
+}
+
+-- the bit where the side is filled, and 0 elsewhere
+abbrev pub bit : Bool → ℕ → ℕ
+bit b n = cond b n 0
+
+-- filled sides as bits: subject above 1 and below 2, clip above 4 and below 8
+abbrev pub bits_of : Fills → ℕ
+bits_of f = bit f.subj_above 1 + bit f.subj_below 2 + bit f.clip_above 4 + bit f.clip_below 8
+
+-- the fill bits of an edge of the list
+abbrev pub fill_bits : FillRule → List CountedEdge → CountedEdge → ℕ
+fill_bits fill es e = bits_of (fills_of fill es e)

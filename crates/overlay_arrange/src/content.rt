@@ -1,0 +1,167 @@
+//! The counted edges that a builder holds, and their weight.
+
+ghost use Rattle.std.specs.Prelude.{◌≡◌, ◌^◌, ◌<◌, ◌≤◌, ◌⊎◌, ◌↔◌, [], ◌∷◌, ◌++◌, map};
+ghost use Rattle.std.specs.Prelude.{IsTrue, IfOk, IfErr, OnOk, OnErr, IsOkUnless, IsErrOf};
+ghost use Rattle.overlay_geom.specs.Edges.{weight};
+ghost use Rattle.overlay_geom.specs.Merged.{IsMerged};
+ghost use Rattle.overlay_geom.specs.Plane.{steps_of};
+ghost use Rattle.overlay_geom.specs.Points.{plain_points, AllInRange};
+ghost use Rattle.overlay_geom.specs.Settled.{IsSettled};
+ghost use Rattle.overlay_arrange.specs.Content.{edge_for, plain_edge, plain_edges};
+ghost use Rattle.overlay_arrange.specs.Content.{IsAscending, IsContent, IsHeld};
+ghost use Rattle.overlay_arrange.specs.Counts.{weight_of_counts};
+ghost use Rattle.overlay_arrange.specs.Vectors.{plain_vector, vector_of};
+
+use crate::count::{EdgeCount, ShapeCountBoolean};
+use crate::edge::CountedEdge;
+use crate::fill::filled_edges;
+use crate::fill_rule::FillRule;
+use crate::merge::{merge, weight_of};
+use crate::options::ShapeType;
+use crate::settle::is_settled;
+use crate::steps::push_steps;
+use crate::vector::DataVectorEdge;
+use overlay_geom::error::OverlayError;
+use overlay_geom::number::IntNumber;
+use overlay_geom::point::IntPoint;
+use std::alloc::Allocator;
+use std::marker::Model;
+
+// The weight of a content stays below this.
+const WEIGHT_LIMIT: u32 = 1 << 31;
+
+/// Counted edges in the coordinate range that weigh less than 2^31.
+#[derive(Drop)]
+pub struct Content<I: IntNumber, C: EdgeCount, A: Allocator> {
+    edges: Vec<CountedEdge<I, C>, A>,
+    // the counts without sign, summed
+    weight: u32,
+}
+
+impl<I: IntNumber, C: EdgeCount, A: Allocator> Model for Content<I, C, A> {
+    ghost use Rattle.std.specs.Prelude.{List};
+    ghost use Rattle.overlay_geom.specs.Edges.{CountedEdge};
+    ghost use Rattle.overlay_arrange.specs.Content.{plain_edges, IsWeighed};
+
+    ghost Value = { List CountedEdge };
+
+    ghost view = { λ c. plain_edges I.whole C.counts c.edges.items };
+
+    ghost invariant = { λ c. IsWeighed I.limit (plain_edges I.whole C.counts c.edges.items) c.weight };
+}
+
+impl<I: IntNumber, C: EdgeCount, A: Allocator> Content<I, C, A> {
+    /// No edges, with room for `capacity` of them.
+    pub fn with_capacity(alloc: A, capacity: usize) -> Result<Self, OverlayError>
+        ensures empty { IfOk result (λ c. c ≡ []) }
+        ensures err { IsOkUnless result OverlayError.Memory }
+    {
+        Ok(Content {
+            edges: Vec::with_capacity(alloc, capacity)?,
+            weight: 0,
+        })
+    }
+
+    /// Drops all edges. It takes no memory.
+    pub fn clear(&mut self)
+        ensures { self.new ≡ [] }
+    {
+        self.edges.clear();
+        self.weight = 0;
+    }
+
+    /// The allocator of the edges.
+    pub fn allocator(&self) -> &A {
+        self.edges.allocator()
+    }
+
+    /// Adds an edge, or, where it is refused, none. Its counts weigh less than 2^31.
+    pub fn push(&mut self, edge: CountedEdge<I, C>) -> Result<(), OverlayError>
+        requires held { IsHeld I.limit (plain_edge I.whole C.counts edge) }
+        requires light { weight_of_counts (C.counts edge.count) < 2 ^ 31 }
+        ensures ok { OnOk result (self.new ≡ self.old ++ plain_edge I.whole C.counts edge ∷ []) }
+        ensures err { OnErr result (self.new ≡ self.old) }
+        ensures too_many { IsErrOf result OverlayError.TooManyEdges
+            → 2 ^ 31 ≤ weight (self.old ++ plain_edge I.whole C.counts edge ∷ []) }
+        ensures only { IfErr result (λ e. (e ≡ OverlayError.Memory) ⊎ (e ≡ OverlayError.TooManyEdges)) }
+    {
+        let added = edge.count.weight();
+        if added >= WEIGHT_LIMIT - self.weight {
+            return Err(OverlayError::TooManyEdges);
+        }
+        self.edges.push(edge)?;
+        self.weight += added;
+        Ok(())
+    }
+
+    /// Makes equal edges one with their counts summed, drops those without counts, and sorts the
+    /// rest. If memory is refused the content is left open.
+    pub fn merge(&mut self, store: &mut C::Store) -> Result<(), OverlayError>
+        ensures ok { OnOk result (IsMerged self.old self.new) }
+        ensures content { IsContent I.limit self.new }
+        ensures err { IsOkUnless result OverlayError.Memory }
+    {
+        let merged = merge(&mut self.edges, store);
+        self.weight = weight_of(&self.edges);
+        merged
+    }
+
+    /// The edges, each from its smaller to its larger end, in the coordinate range.
+    pub fn edges(&self) -> &[CountedEdge<I, C>]
+        ensures edges { plain_edges I.whole C.counts result.now ≡ self.now }
+        ensures content { IsContent I.limit self.now }
+    {
+        &self.edges
+    }
+
+    /// Whether any two different edges meet in ends alone. The edges ascend, as they do once merged.
+    pub fn is_settled(&self) -> bool
+        requires { IsAscending self.now }
+        ensures { IsTrue result ↔ IsSettled self.now }
+    {
+        is_settled(&self.edges)
+    }
+
+    /// Every edge in order, with its filled sides.
+    pub fn filled_edges(
+        &self,
+        rule: FillRule,
+    ) -> Result<Vec<DataVectorEdge<I, ()>, A>, OverlayError>
+    where
+        A: Clone,
+        ensures ok { IfOk result (λ v.
+            map (plain_vector I.whole) v.items ≡ map (vector_of rule self.now) self.now) }
+        ensures err { IsOkUnless result OverlayError.Memory }
+    {
+        filled_edges(self.edges.allocator().clone()?, &self.edges, rule)
+    }
+}
+
+impl<I: IntNumber, A: Allocator> Content<I, ShapeCountBoolean, A> {
+    /// Adds the edges of a closed list's steps, or, where they are refused, none of them.
+    pub fn push_contour(
+        &mut self,
+        contour: &[IntPoint<I>],
+        shape_type: ShapeType,
+    ) -> Result<(), OverlayError>
+        requires { AllInRange I.limit (plain_points I.whole contour.now) }
+        ensures ok { OnOk result (self.new
+            ≡ self.old ++ map (edge_for shape_type) (steps_of (plain_points I.whole contour.now))) }
+        ensures light { OnOk result (weight self.new < 2 ^ 31) }
+        ensures err { OnErr result (self.new ≡ self.old) }
+        ensures too_many { IsErrOf result OverlayError.TooManyEdges
+            → 2 ^ 31 ≤ weight (self.old
+            ++ map (edge_for shape_type) (steps_of (plain_points I.whole contour.now))) }
+        ensures only { IfErr result (λ e. (e ≡ OverlayError.Memory) ⊎ (e ≡ OverlayError.TooManyEdges)) }
+    {
+        let held = self.edges.len();
+        push_steps(&mut self.edges, contour, shape_type)?;
+        let added = self.edges.len() - held;
+        if added >= (WEIGHT_LIMIT - self.weight) as usize {
+            self.edges.truncate(held);
+            return Err(OverlayError::TooManyEdges);
+        }
+        self.weight += added as u32;
+        Ok(())
+    }
+}

@@ -1,0 +1,440 @@
+//! A round of cutting: each edge becomes the pieces of a chain through the whole points in which
+//! the others meet it.
+
+ghost use Rattle.std.specs.Prelude.{◌≡◌, ◌⊎◌, ◌↔◌, ◌^◌, ◌<◌, ◌≤◌, ◌++◌, ◌∷◌, [], IsTrue, All};
+ghost use Rattle.std.specs.Prelude.{map, flat_map, IfOk, IfErr, OnOk, IsOkUnless, IsErrOf};
+ghost use Rattle.std.specs.Prelude.{MatchBool, option_map, option_to_list, cond, int_le, int_lt};
+ghost use Rattle.std.specs.Ordering.{is_lt};
+ghost use Rattle.overlay_geom.specs.Edges.{ends_of, weight};
+ghost use Rattle.overlay_geom.specs.Plane.{steps_between, steps_through};
+ghost use Rattle.overlay_geom.specs.Points.{plain_point, plain_points, InRange, AllInRange};
+ghost use Rattle.overlay_plane.specs.CutPoints.{comes_first, cut_points, cut_edges, met_at};
+ghost use Rattle.overlay_plane.specs.Cutting.{piece_along};
+ghost use Rattle.overlay_plane.specs.InOrder.{in_order};
+ghost use Rattle.overlay_arrange.specs.Content.{plain_edge, plain_edges};
+ghost use Rattle.overlay_arrange.specs.Content.{IsHeld, IsContent, IsAscending};
+ghost use Rattle.overlay_arrange.specs.Counts.{weight_of_counts};
+ghost use Rattle.overlay_arrange.specs.Cut.{IsEndOf, StaysWhole};
+
+use crate::content::Content;
+use crate::count::EdgeCount;
+use crate::crossing::push_meetings;
+use crate::edge::{CountedEdge, compare_points};
+use crate::settle::is_same;
+use overlay_geom::error::OverlayError;
+use overlay_geom::number::IntNumber;
+use overlay_geom::point::IntPoint;
+use std::alloc::Allocator;
+use std::cmp::Ordering;
+
+impl<I: IntNumber, C: EdgeCount, A: Allocator> Content<I, C, A> {
+    /// Cuts each edge into the pieces of the chain through the whole points in which the others
+    /// meet it. The edges ascend. If it is refused the content is left open.
+    pub fn cut(&mut self, store: &mut C::Store) -> Result<(), OverlayError>
+    where
+        A: Clone,
+        requires { IsAscending self.old }
+        ensures ok { OnOk result (self.new ≡ cut_edges self.old) }
+        ensures too_many { IsErrOf result OverlayError.TooManyEdges → 2 ^ 31 ≤ weight (cut_edges self.old) }
+        ensures only { IfErr result (λ e. (e ≡ OverlayError.Memory) ⊎ (e ≡ OverlayError.TooManyEdges)) }
+    {
+        let alloc = self.allocator().clone()?;
+        *self = cut_edges(alloc, self.edges(), store)?;
+        Ok(())
+    }
+}
+
+/// The pieces of all edges, of each one along its chain.
+fn cut_edges<I: IntNumber, C: EdgeCount, A: Allocator + Clone>(
+    alloc: A,
+    edges: &[CountedEdge<I, C>],
+    store: &mut C::Store,
+) -> Result<Content<I, C, A>, OverlayError>
+    requires content { IsContent I.limit (plain_edges I.whole C.counts edges.now) }
+    requires ascending { IsAscending (plain_edges I.whole C.counts edges.now) }
+    ensures ok { IfOk result (λ pieces. pieces ≡ cut_edges (plain_edges I.whole C.counts edges.now)) }
+    ensures too_many { IsErrOf result OverlayError.TooManyEdges
+        → 2 ^ 31 ≤ weight (cut_edges (plain_edges I.whole C.counts edges.now)) }
+    ensures only { IfErr result (λ e. (e ≡ OverlayError.Memory) ⊎ (e ≡ OverlayError.TooManyEdges)) }
+{
+    let mut pieces = Content::with_capacity(alloc.clone()?, edges.len())?;
+    for e in edges {
+        let points = points_on(alloc.clone()?, edges, e)?;
+        push_pieces(&mut pieces, e, &points, store)?;
+    }
+    Ok(pieces)
+}
+
+/// Adds the pieces of an edge along the chain from its smaller end to its larger one through the
+/// points.
+fn push_pieces<I: IntNumber, C: EdgeCount, A: Allocator>(
+    pieces: &mut Content<I, C, A>,
+    e: &CountedEdge<I, C>,
+    points: &[IntPoint<I>],
+    store: &mut C::Store,
+) -> Result<(), OverlayError>
+    requires held { IsHeld I.limit (plain_edge I.whole C.counts e.now) }
+    requires light { weight_of_counts (C.counts e.now.count) < 2 ^ 31 }
+    requires points { AllInRange I.limit (plain_points I.whole points.now) }
+    ensures ok { let whole = plain_edge I.whole C.counts e.now in
+        OnOk result (pieces.new ≡ pieces.old
+        ++ map (piece_along whole) (steps_through whole.a (plain_points I.whole points.now ++ whole.b ∷ []))) }
+    ensures too_many { let whole = plain_edge I.whole C.counts e.now in
+        IsErrOf result OverlayError.TooManyEdges → 2 ^ 31 ≤ weight (pieces.old
+        ++ map (piece_along whole) (steps_through whole.a (plain_points I.whole points.now ++ whole.b ∷ []))) }
+    ensures only { IfErr result (λ e. (e ≡ OverlayError.Memory) ⊎ (e ≡ OverlayError.TooManyEdges)) }
+{
+    let is_whole = stays_whole(e, points);
+    let mut from = e.a;
+    for to in points {
+        push_piece(pieces, e, from, *to, is_whole, store)?;
+        from = *to;
+    }
+    push_piece(pieces, e, from, e.b, is_whole, store)
+}
+
+/// Adds the piece of the edge from one point of its chain to the next, if they differ.
+fn push_piece<I: IntNumber, C: EdgeCount, A: Allocator>(
+    pieces: &mut Content<I, C, A>,
+    e: &CountedEdge<I, C>,
+    from: IntPoint<I>,
+    to: IntPoint<I>,
+    is_whole: bool,
+    store: &mut C::Store,
+) -> Result<(), OverlayError>
+    requires light { weight_of_counts (C.counts e.now.count) < 2 ^ 31 }
+    requires from { InRange I.limit (plain_point I.whole from) }
+    requires to { InRange I.limit (plain_point I.whole to) }
+    ensures ok { OnOk result (pieces.new ≡ pieces.old ++ map (piece_along (plain_edge I.whole C.counts e.now))
+        (steps_between (plain_point I.whole from) (plain_point I.whole to))) }
+    ensures too_many { IsErrOf result OverlayError.TooManyEdges → 2 ^ 31 ≤ weight (pieces.old
+        ++ map (piece_along (plain_edge I.whole C.counts e.now))
+        (steps_between (plain_point I.whole from) (plain_point I.whole to))) }
+    ensures only { IfErr result (λ e. (e ≡ OverlayError.Memory) ⊎ (e ≡ OverlayError.TooManyEdges)) }
+{
+    if let Some(piece) = piece(e, from, to, is_whole, store) {
+        pieces.push(piece)?;
+    }
+    Ok(())
+}
+
+/// The piece of the edge from one point of its chain to the next, if they differ: its counts have
+/// the other sign where it runs against the edge.
+fn piece<I: IntNumber, C: EdgeCount>(
+    e: &CountedEdge<I, C>,
+    from: IntPoint<I>,
+    to: IntPoint<I>,
+    is_whole: bool,
+    store: &mut C::Store,
+) -> Option<CountedEdge<I, C>>
+    requires light { weight_of_counts (C.counts e.now.count) < 2 ^ 31 }
+    ensures { option_to_list (option_map (plain_edge I.whole C.counts) result)
+        ≡ map (piece_along (plain_edge I.whole C.counts e.now))
+        (steps_between (plain_point I.whole from) (plain_point I.whole to)) }
+{
+    match compare_points(from, to) {
+        Ordering::Equal => None,
+        Ordering::Less => Some(CountedEdge {
+            a: from,
+            b: to,
+            count: part_of(e.count, is_whole, store),
+        }),
+        Ordering::Greater => Some(CountedEdge {
+            a: to,
+            b: from,
+            count: part_of(e.count, is_whole, store).reversed(store),
+        }),
+    }
+}
+
+/// What a piece carries that runs along its edge: what the edge does, where that stays whole.
+fn part_of<C: EdgeCount>(count: C, is_whole: bool, store: &mut C::Store) -> C
+    ensures counts { C.counts result ≡ C.counts count }
+    ensures splits { MatchBool is_whole (result ≡ count) (C.splits count result) }
+{
+    if is_whole { count } else { count.split(store) }
+}
+
+/// Whether the chain through the points is the edge itself: each of them is an end of it.
+fn stays_whole<I: IntNumber, C: EdgeCount>(e: &CountedEdge<I, C>, points: &[IntPoint<I>]) -> bool
+    ensures { IsTrue result ↔ StaysWhole (plain_edge I.whole C.counts e.now) (plain_points I.whole points.now) }
+{
+    for v in points {
+        if !is_end_of(e, *v) {
+            return false;
+        }
+    }
+    true
+}
+
+/// Whether the point is an end of the edge.
+fn is_end_of<I: IntNumber, C: EdgeCount>(e: &CountedEdge<I, C>, v: IntPoint<I>) -> bool
+    ensures { IsTrue result ↔ IsEndOf (plain_edge I.whole C.counts e.now) (plain_point I.whole v) }
+{
+    is_same(v, e.a) || is_same(v, e.b)
+}
+
+/// The whole points through which the edges lead e, in their order along e.
+fn points_on<I: IntNumber, C: EdgeCount, A: Allocator>(
+    alloc: A,
+    edges: &[CountedEdge<I, C>],
+    e: &CountedEdge<I, C>,
+) -> Result<Vec<IntPoint<I>, A>, OverlayError>
+    requires one { IsHeld I.limit (plain_edge I.whole C.counts e.now) }
+    requires others { All (IsHeld I.limit) (plain_edges I.whole C.counts edges.now) }
+    requires ascending { IsAscending (plain_edges I.whole C.counts edges.now) }
+    ensures ok { IfOk result (λ points. plain_points I.whole points.items
+        ≡ cut_points (plain_edges I.whole C.counts edges.now) (plain_edge I.whole C.counts e.now)) }
+    ensures err { IsOkUnless result OverlayError.Memory }
+{
+    let mut points = meetings_on(alloc, edges, e)?;
+    sort_along(&mut points, e)?;
+    Ok(points)
+}
+
+/// The whole points through which the edges lead e, edge by edge. The edges ascend, so those after
+/// the first one that starts to the right of e lead it nowhere.
+fn meetings_on<I: IntNumber, C: EdgeCount, A: Allocator>(
+    alloc: A,
+    edges: &[CountedEdge<I, C>],
+    e: &CountedEdge<I, C>,
+) -> Result<Vec<IntPoint<I>, A>, OverlayError>
+    requires one { IsHeld I.limit (plain_edge I.whole C.counts e.now) }
+    requires others { All (IsHeld I.limit) (plain_edges I.whole C.counts edges.now) }
+    requires ascending { IsAscending (plain_edges I.whole C.counts edges.now) }
+    ensures ok { let g = plain_edge I.whole C.counts e.now in
+        IfOk result (λ points. plain_points I.whole points.items
+        ≡ flat_map (λ f. met_at (ends_of g) (ends_of f)) (plain_edges I.whole C.counts edges.now)) }
+    ensures err { IsOkUnless result OverlayError.Memory }
+{
+    let mut points = Vec::new(alloc);
+    for f in edges {
+        if f.a.x.compare(e.b.x).is_gt() {
+            return Ok(points);
+        }
+        if f.b.x.compare(e.a.x).is_ge() {
+            push_meetings(&mut points, e, f)?;
+        }
+    }
+    Ok(points)
+}
+
+/// Puts the points into their order along the edge.
+fn sort_along<I: IntNumber, C: EdgeCount, A: Allocator>(
+    points: &mut Vec<IntPoint<I>, A>,
+    e: &CountedEdge<I, C>,
+) -> Result<(), OverlayError>
+    ensures ok { OnOk result (plain_points I.whole points.new.items
+        ≡ in_order (comes_first (ends_of (plain_edge I.whole C.counts e.now))) (plain_points I.whole points.old.items)) }
+    ensures err { IsOkUnless result OverlayError.Memory }
+{
+    points.sort_by(|v, w| compare_along(e, *v, *w))?;
+    Ok(())
+}
+
+/// How two points compare along the edge: by x, then by y upwards or downwards, as the edge leads.
+fn compare_along<I: IntNumber, C: EdgeCount>(
+    e: &CountedEdge<I, C>,
+    v: IntPoint<I>,
+    w: IntPoint<I>,
+) -> Ordering
+    ensures { is_lt result ≡ comes_first (ends_of (plain_edge I.whole C.counts e.now)) (plain_point I.whole v) (plain_point I.whole w) }
+{
+    match v.x.compare(w.x) {
+        Ordering::Equal => compare_heights(e, v.y, w.y),
+        other => other,
+    }
+}
+
+/// How two heights compare, upwards or downwards as the edge leads.
+fn compare_heights<I: IntNumber, C: EdgeCount>(e: &CountedEdge<I, C>, y: I, z: I) -> Ordering
+    ensures { is_lt result ≡ cond (int_le (I.whole e.now.a.y) (I.whole e.now.b.y))
+        (int_lt (I.whole y) (I.whole z)) (int_lt (I.whole z) (I.whole y)) }
+{
+    if e.a.y.compare(e.b.y).is_le() {
+        y.compare(z)
+    } else {
+        z.compare(y)
+    }
+}
+
+#[cfg(test)]
+mod tests {
+    use super::*;
+    use crate::count::ShapeCountBoolean;
+    use std::alloc::Global;
+
+    // An edge of the subject: its ends, and how often it is passed.
+    type Passed<I> = (IntPoint<I>, IntPoint<I>, i32);
+
+    fn p<I>(x: I, y: I) -> IntPoint<I> {
+        IntPoint::new(x, y)
+    }
+
+    fn push<I: IntNumber>(
+        content: &mut Content<I, ShapeCountBoolean, Global>,
+        edge: Passed<I>,
+    ) -> Result<(), OverlayError> {
+        let (a, b, subj) = edge;
+        let IntPoint { x: ax, y: ay } = a;
+        let IntPoint { x: bx, y: by } = b;
+        let a_in_range = ax.is_in_range() && ay.is_in_range();
+        let b_in_range = bx.is_in_range() && by.is_in_range();
+        if !a_in_range || !b_in_range {
+            return Err(OverlayError::Failed);
+        }
+        if !compare_points(a, b).is_lt() || subj == i32::MIN {
+            return Err(OverlayError::Failed);
+        }
+        content.push(CountedEdge {
+            a,
+            b,
+            count: ShapeCountBoolean { subj, clip: 0 },
+        })
+    }
+
+    // The edges merged and cut once, in order.
+    fn pieces<I: IntNumber>(
+        alloc: Global,
+        edges: &[Passed<I>],
+    ) -> Result<Vec<Passed<I>>, OverlayError> {
+        let mut content = Content::with_capacity(alloc, 0)?;
+        for e in edges {
+            push(&mut content, *e)?;
+        }
+        content.merge(&mut ())?;
+        content.cut(&mut ())?;
+        let mut found = Vec::new(alloc);
+        for e in content.edges() {
+            found.push((e.a, e.b, e.count.subj))?;
+        }
+        Ok(found)
+    }
+
+    #[test]
+    fn three_edges_through_one_half_point(rt: HostRuntime) -> Result<(), OverlayError> {
+        // all three meet in (3/2, 3/2)
+        let edges = [
+            (p(0i32, 0), p(3, 3), 1),
+            (p(0, 1), p(3, 2), 1),
+            (p(0, 3), p(3, 0), 1),
+        ];
+        let found = pieces(rt.alloc(), &edges)?;
+        let want = [
+            (p(0i32, 0), p(2, 2), 1),
+            (p(2, 2), p(3, 3), 1),
+            (p(0, 1), p(2, 2), 1),
+            (p(2, 2), p(3, 2), 1),
+            (p(0, 3), p(2, 2), 1),
+            (p(2, 2), p(3, 0), 1),
+        ];
+        assert_eq!(rt; found.as_slice(), want.as_slice());
+        Ok(())
+    }
+
+    #[test]
+    fn two_edges_that_overlap(rt: HostRuntime) -> Result<(), OverlayError> {
+        let edges = [(p(0i16, 0), p(4, 4), 1), (p(2, 2), p(6, 6), -3)];
+        let found = pieces(rt.alloc(), &edges)?;
+        let want = [
+            (p(0i16, 0), p(2, 2), 1),
+            (p(2, 2), p(4, 4), 1),
+            (p(2, 2), p(4, 4), -3),
+            (p(4, 4), p(6, 6), -3),
+        ];
+        assert_eq!(rt; found.as_slice(), want.as_slice());
+        Ok(())
+    }
+
+    #[test]
+    fn three_edges_that_overlap(rt: HostRuntime) -> Result<(), OverlayError> {
+        let edges = [
+            (p(0i32, 0), p(9, 0), 1),
+            (p(3, 0), p(12, 0), 2),
+            (p(6, 0), p(15, 0), 4),
+        ];
+        let found = pieces(rt.alloc(), &edges)?;
+        let want = [
+            (p(0i32, 0), p(3, 0), 1),
+            (p(3, 0), p(6, 0), 1),
+            (p(6, 0), p(9, 0), 1),
+            (p(3, 0), p(6, 0), 2),
+            (p(6, 0), p(9, 0), 2),
+            (p(9, 0), p(12, 0), 2),
+            (p(6, 0), p(9, 0), 4),
+            (p(9, 0), p(12, 0), 4),
+            (p(12, 0), p(15, 0), 4),
+        ];
+        assert_eq!(rt; found.as_slice(), want.as_slice());
+        Ok(())
+    }
+
+    #[test]
+    fn an_end_on_another_edge(rt: HostRuntime) -> Result<(), OverlayError> {
+        let edges = [(p(0i32, 0), p(4, 0), 1), (p(2, 0), p(2, 3), 1)];
+        let found = pieces(rt.alloc(), &edges)?;
+        let want = [
+            (p(0i32, 0), p(2, 0), 1),
+            (p(2, 0), p(4, 0), 1),
+            (p(2, 0), p(2, 3), 1),
+        ];
+        assert_eq!(rt; found.as_slice(), want.as_slice());
+        Ok(())
+    }
+
+    #[test]
+    fn pieces_against_a_steep_edge(rt: HostRuntime) -> Result<(), OverlayError> {
+        // the edge falls from (0, 10) through (1/4, 5) and (7/20, 3), which are moved to x = 0
+        let edges = [
+            (p(-1i16, 3), p(3, 3), 1),
+            (p(-1, 5), p(3, 5), 1),
+            (p(0, 10), p(1, -10), 2),
+        ];
+        let found = pieces(rt.alloc(), &edges)?;
+        let want = [
+            (p(-1i16, 3), p(0, 3), 1),
+            (p(0, 3), p(3, 3), 1),
+            (p(-1, 5), p(0, 5), 1),
+            (p(0, 5), p(3, 5), 1),
+            (p(0, 5), p(0, 10), -2),
+            (p(0, 3), p(0, 5), -2),
+            (p(0, 3), p(1, -10), 2),
+        ];
+        assert_eq!(rt; found.as_slice(), want.as_slice());
+        Ok(())
+    }
+
+    #[test]
+    fn a_crossing_of_the_longest_edges(rt: HostRuntime) -> Result<(), OverlayError> {
+        // with the farthest coordinate m = 3k they meet near (k + 4/9, k - 2/9)
+        let (m, k) = (4611686018427387903i64, 1537228672809129301i64);
+        let edges = [(p(-m, -m), p(m, m - 1), 1), (p(-m, m), p(m, 0), 1)];
+        let found = pieces(rt.alloc(), &edges)?;
+        let want = [
+            (p(-m, -m), p(k, k), 1),
+            (p(k, k), p(m, m - 1), 1),
+            (p(-m, m), p(k, k), 1),
+            (p(k, k), p(m, 0), 1),
+        ];
+        assert_eq!(rt; found.as_slice(), want.as_slice());
+        Ok(())
+    }
+
+    #[test]
+    fn pieces_that_weigh_too_much(rt: HostRuntime) -> Result<(), OverlayError> {
+        let half = 1 << 30;
+        let edges = [(p(0i32, 0), p(4, 0), half), (p(2, 0), p(2, 3), 1)];
+        match pieces(rt.alloc(), &edges) {
+            Ok(_) => assert!(rt; false, "the pieces weigh 2^31 + 1"),
+            Err(e) => assert_eq!(rt; e, OverlayError::TooManyEdges),
+        }
+        let mut content = Content::with_capacity(rt.alloc(), 0)?;
+        push(&mut content, (p(0i32, 0), p(4, 0), half - 1))?;
+        push(&mut content, (p(0, 0), p(4, 1), -half))?;
+        match push(&mut content, (p(0, 0), p(4, 2), 1)) {
+            Ok(_) => assert!(rt; false, "the edges weigh 2^31"),
+            Err(e) => assert_eq!(rt; e, OverlayError::TooManyEdges),
+        }
+        Ok(())
+    }
+}

@@ -1,0 +1,142 @@
+//! Data that edges carry through an overlay beside their counts.
+
+ghost use Rattle.std.specs.Prelude.{◌≡◌, ◌+◌, ◌^◌, ◌<◌, ⊤};
+ghost use Rattle.overlay_arrange.specs.Counts.{boolean_counts, weight_of_counts};
+ghost use Rattle.overlay_arrange.specs.declared.count.ShapeCountBoolean.{ShapeCountBoolean};
+
+use crate::count::{EdgeCount, ShapeCountBoolean};
+
+/// Two equal edges that become one: their counts and their data.
+#[derive(Clone, Copy)]
+pub struct EdgeDataMerge<C, D> {
+    /// How often paths pass the one edge.
+    pub lhs_count: C,
+    /// How often paths pass the other edge.
+    pub rhs_count: C,
+    /// The data of the one edge.
+    pub lhs_data: D,
+    /// The data of the other edge.
+    pub rhs_data: D,
+}
+
+/// Data that an edge carries through an overlay, as a colour or the number of a street.
+///
+/// Where an edge with data is cut into two pieces or more, each piece has the `split` of its data,
+/// and a piece that runs against its edge the `reversed` of that; where equal edges are merged,
+/// `merge` gives the new data. An implementation says what each of the three may answer.
+pub trait OverlayEdgeData: Copy + PartialEq {
+    /// What the three need beside the data, as a table in which new data is entered; `()` if
+    /// they need nothing.
+    type Store: Default + Drop;
+
+    // What merging may make of the counts and data of two equal edges.
+    ghost merges: { ShapeCountBoolean → Self → ShapeCountBoolean → Self → Self → Type 0 };
+
+    // What the data of a piece may be: the edge's, if an implementation says nothing else.
+    ghost splits: { Self → Self → Type 0 } = { λ d p. p ≡ d };
+
+    // What the data of a piece that runs against its edge may be: likewise.
+    ghost reverses: { Self → Self → Type 0 } = { λ d t. t ≡ d };
+
+    /// Returns the data of the edge that two equal edges become. They weigh less than 2^31 together.
+    fn merge(merge: EdgeDataMerge<ShapeCountBoolean, Self>, store: &mut Self::Store) -> Self
+        requires { weight_of_counts (boolean_counts merge.lhs_count)
+            + weight_of_counts (boolean_counts merge.rhs_count) < 2 ^ 31 }
+        ensures { merges merge.lhs_count merge.lhs_data merge.rhs_count merge.rhs_data result };
+
+    /// Returns the data of a piece of an edge that is cut into several.
+    fn split(self, store: &mut Self::Store) -> Self
+        ensures { splits self result };
+
+    /// Returns the data of a piece that runs against its edge.
+    fn reversed(self, store: &mut Self::Store) -> Self
+        ensures { reverses self result };
+}
+
+/// No data.
+impl OverlayEdgeData for () {
+    type Store = ();
+
+    ghost merges = { λ _ _ _ _ _. ⊤ };
+
+    ghost splits = { λ _ _. ⊤ };
+
+    ghost reverses = { λ _ _. ⊤ };
+
+    fn merge(_merge: EdgeDataMerge<ShapeCountBoolean, ()>, _store: &mut ())
+        ensures { ⊤ }
+    {}
+
+    fn split(self, _store: &mut ()) {}
+
+    fn reversed(self, _store: &mut ()) {}
+}
+
+/// How often the subject, and the clip, pass an edge, and the data of the edge.
+#[derive(Clone, Copy)]
+pub struct CountWithData<D> {
+    /// How often the subject, and the clip, pass the edge.
+    pub count: ShapeCountBoolean,
+    /// What the edge carries.
+    pub edge_data: D,
+}
+
+impl<D: OverlayEdgeData> EdgeCount for CountWithData<D> {
+    ghost use Rattle.overlay_arrange.specs.EdgeData.{AreMerged, IsPiece, IsTurned};
+
+    type Store = D::Store;
+
+    ghost counts = { λ c. boolean_counts c.count };
+
+    ghost merges = { AreMerged D.merges };
+
+    ghost splits = { IsPiece D.splits };
+
+    ghost turns = { IsTurned D.reverses };
+
+    fn is_nothing(self) -> bool {
+        self.count.is_nothing()
+    }
+
+    fn weight(self) -> u32 {
+        self.count.weight()
+    }
+
+    fn subj(self) -> i32 {
+        self.count.subj
+    }
+
+    fn clip(self) -> i32 {
+        self.count.clip
+    }
+
+    fn merged(self, other: CountWithData<D>, store: &mut D::Store) -> CountWithData<D> {
+        let merge = EdgeDataMerge {
+            lhs_count: self.count,
+            rhs_count: other.count,
+            lhs_data: self.edge_data,
+            rhs_data: other.edge_data,
+        };
+        CountWithData {
+            count: self.count.merged(other.count, &mut ()),
+            edge_data: D::merge(merge, store),
+        }
+    }
+
+    fn split(self, store: &mut D::Store) -> CountWithData<D> {
+        CountWithData {
+            count: self.count,
+            edge_data: self.edge_data.split(store),
+        }
+    }
+
+    fn reversed(self, store: &mut D::Store) -> CountWithData<D> {
+        CountWithData {
+            count: self.count.reversed(&mut ()),
+            edge_data: self.edge_data.reversed(store),
+        }
+    }
+}
+
+#[cfg(test)]
+mod tests;

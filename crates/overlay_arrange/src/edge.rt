@@ -1,0 +1,44 @@
+//! Counted edges.
+
+ghost use Rattle.std.specs.Prelude.{◌≡◌};
+ghost use Rattle.overlay_geom.specs.Points.{plain_point};
+ghost use Rattle.overlay_arrange.specs.Content.{plain_edge, point_cmp, edge_cmp};
+
+use crate::count::EdgeCount;
+use overlay_geom::number::IntNumber;
+use overlay_geom::point::IntPoint;
+use std::cmp::Ordering;
+
+/// An edge from its smaller to its larger end, and what it carries.
+#[derive(Debug, Clone, Copy, PartialEq, Eq)]
+pub struct CountedEdge<I, C> {
+    /// Its smaller end, by x and then by y.
+    pub a: IntPoint<I>,
+    /// Its larger end.
+    pub b: IntPoint<I>,
+    /// How often paths pass it from a to b, less how often back, and perhaps data.
+    pub count: C,
+}
+
+/// How two points compare: by x, then by y.
+pub fn compare_points<I: IntNumber>(p: IntPoint<I>, q: IntPoint<I>) -> Ordering
+    ensures { result ≡ point_cmp (plain_point I.whole p) (plain_point I.whole q) }
+{
+    match p.x.compare(q.x) {
+        Ordering::Equal => p.y.compare(q.y),
+        other => other,
+    }
+}
+
+/// How two edges compare: by their smaller ends, then by their larger ones.
+pub fn compare_edges<I: IntNumber, C: EdgeCount>(
+    e: &CountedEdge<I, C>,
+    f: &CountedEdge<I, C>,
+) -> Ordering
+    ensures { result ≡ edge_cmp (plain_edge I.whole C.counts e.now) (plain_edge I.whole C.counts f.now) }
+{
+    match compare_points(e.a, f.a) {
+        Ordering::Equal => compare_points(e.b, f.b),
+        other => other,
+    }
+}

@@ -1,0 +1,87 @@
+//! What is added, and how the answer is to look.
+
+ghost use Rattle.std.specs.Prelude.{true, false};
+ghost use Rattle.overlay_arrange.specs.Options.{AreOptions};
+
+use overlay_geom::number::UIntNumber;
+
+/// Which of the two shapes a contour belongs to. The rules Difference, InverseDifference, Subject
+/// and Clip tell them apart; Union, Intersect and Xor answer the same when they are exchanged.
+#[derive(Debug, Clone, Copy, PartialEq)]
+pub enum ShapeType {
+    /// The shape that is worked on.
+    Subject,
+    /// The shape that works on it.
+    Clip,
+}
+
+/// The direction in which a contour runs round the area that it encloses.
+#[derive(Debug, Clone, Copy, PartialEq)]
+pub enum ContourDirection {
+    /// With the enclosed area on the left.
+    CounterClockwise,
+    /// With the enclosed area on the right.
+    Clockwise,
+}
+
+/// How input points are taken and how output contours look. `U` is the unsigned number in which
+/// areas are measured.
+#[derive(Debug, Clone, Copy)]
+pub struct IntOverlayOptions<U> {
+    /// Whether input points on one line with their two neighbours stay; otherwise they are dropped.
+    pub preserve_input_collinear: bool,
+    /// The direction of outlines; holes run the other way.
+    pub output_direction: ContourDirection,
+    /// Whether output points on one line with their two neighbours stay; otherwise they are dropped.
+    pub preserve_output_collinear: bool,
+    /// The smallest area of a contour that is kept; 0 keeps all.
+    pub min_output_area: U,
+    /// Whether no output contour may visit a point twice.
+    pub ogc: bool,
+}
+
+impl<U: UIntNumber> Default for IntOverlayOptions<U> {
+    ghost is_default = { AreOptions U.natural false false false };
+
+    fn default() -> Self {
+        IntOverlayOptions {
+            preserve_input_collinear: false,
+            output_direction: ContourDirection::CounterClockwise,
+            preserve_output_collinear: false,
+            min_output_area: U::zero(),
+            ogc: false,
+        }
+    }
+}
+
+impl<U: UIntNumber> IntOverlayOptions<U> {
+    /// The default options, but input and output points on one line stay.
+    pub fn keep_all_points() -> Self
+        ensures { AreOptions U.natural true true false result }
+    {
+        IntOverlayOptions {
+            preserve_input_collinear: true,
+            ..IntOverlayOptions::keep_output_points()
+        }
+    }
+
+    /// The default options, but output points on one line stay.
+    pub fn keep_output_points() -> Self
+        ensures { AreOptions U.natural false true false result }
+    {
+        IntOverlayOptions {
+            preserve_output_collinear: true,
+            ..IntOverlayOptions::default()
+        }
+    }
+
+    /// The default options, but no output contour visits a point twice.
+    pub fn ogc() -> Self
+        ensures { AreOptions U.natural false false true result }
+    {
+        IntOverlayOptions {
+            ogc: true,
+            ..IntOverlayOptions::default()
+        }
+    }
+}

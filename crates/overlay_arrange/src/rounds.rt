@@ -1,0 +1,59 @@
+//! Splitting: rounds of merging and cutting, until edges meet in ends alone.
+
+ghost use Rattle.std.specs.Prelude.{◌≡◌, ◌≢◌, ◌^◌, ◌≤◌};
+ghost use Rattle.std.specs.Prelude.{Err, IfErr, OnOk, IsErrOf};
+ghost use Rattle.overlay_arrange.specs.Arranged.{IsArranged, WasArranged};
+ghost use Rattle.overlay_plane.specs.Arrangements.{IsSplit, StaysUnsettled, WeighsTooMuch};
+ghost use Rattle.overlay_plane.specs.Meetings.{MeetInWholePoints};
+
+use crate::content::Content;
+use crate::count::EdgeCount;
+use overlay_geom::error::OverlayError;
+use overlay_geom::number::IntNumber;
+use std::alloc::Allocator;
+
+#[cfg(test)]
+mod tests;
+
+// How often edges are cut before they are given up as not settled.
+const ROUNDS: u32 = 64;
+
+impl<I: IntNumber, C: EdgeCount, A: Allocator + Clone> Content<I, C, A> {
+    /// Brings the edges into an arrangement: equal edges are merged, and as long as two different
+    /// ones meet in a point that is not an end of both, each edge is cut where others meet it, at
+    /// most 64 times. Each meeting point is rounded to one whole point, at most 1/2 away in x and
+    /// in y. Data of the edges is merged, split and turned round with them; the contract speaks of
+    /// the counts alone. What was arranged before stays as it is.
+    ///
+    /// Refusals, after which content and store are left open: `NotSettled` where the edges are not
+    /// settled after 64 rounds, `TooManyEdges` where a round brings the weight to 2^31, `Memory`.
+    pub fn arrange(&mut self, store: &mut C::Store) -> Result<(), OverlayError>
+        ensures arranged { OnOk result (IsArranged 64 self.old self.new) }
+        ensures not_settled { IsErrOf result OverlayError.NotSettled → StaysUnsettled 64 self.old }
+        ensures whole { MeetInWholePoints self.old → result ≢ Err OverlayError.NotSettled }
+        ensures too_many { IsErrOf result OverlayError.TooManyEdges → WeighsTooMuch 64 (2 ^ 31) self.old }
+        ensures again { WasArranged self.old → IfErr result (λ e. e ≡ OverlayError.Memory) }
+        ensures usable { result ≢ Err OverlayError.Failed }
+    {
+        let _ = self.edges();
+        self.split(ROUNDS, store)
+    }
+
+    // Merges the edges, and cuts them so many times at most, until they are settled.
+    fn split(&mut self, rounds: u32, store: &mut C::Store) -> Result<(), OverlayError>
+        ensures split { OnOk result (IsSplit rounds self.old self.new) }
+        ensures not_settled { IsErrOf result OverlayError.NotSettled → StaysUnsettled rounds self.old }
+        ensures too_many { IsErrOf result OverlayError.TooManyEdges → WeighsTooMuch rounds (2 ^ 31) self.old }
+        ensures usable { result ≢ Err OverlayError.Failed }
+    {
+        self.merge(store)?;
+        if self.is_settled() {
+            return Ok(());
+        }
+        if rounds == 0 {
+            return Err(OverlayError::NotSettled);
+        }
+        self.cut(store)?;
+        self.split(rounds - 1, store)
+    }
+}

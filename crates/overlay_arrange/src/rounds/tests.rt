@@ -1,0 +1,262 @@
+//! Edges that cross, touch and overlap, and what they are cut into.
+
+use crate::content::Content;
+use crate::count::ShapeCountBoolean;
+use crate::edge::{CountedEdge, compare_points};
+use crate::options::ShapeType;
+use overlay_geom::error::OverlayError;
+use overlay_geom::number::IntNumber;
+use overlay_geom::point::{IntPoint, in_range};
+use std::alloc::Global;
+use std::fmt::Debug;
+use std::process::Abort;
+use std::test::Fail;
+
+type Held<I> = Content<I, ShapeCountBoolean, Global>;
+
+// An edge that the subject passes so often.
+fn edge<I>(ax: I, ay: I, bx: I, by: I, subj: i32) -> CountedEdge<I, ShapeCountBoolean> {
+    CountedEdge {
+        a: IntPoint::new(ax, ay),
+        b: IntPoint::new(bx, by),
+        count: ShapeCountBoolean { subj, clip: 0 },
+    }
+}
+
+// A content with the steps of a subject.
+fn with_subject<I: IntNumber>(
+    rt: &impl Abort,
+    alloc: Global,
+    contour: &[IntPoint<I>],
+) -> Result<Held<I>, OverlayError> {
+    let mut content = Content::with_capacity(alloc, 0)?;
+    assert!(rt; in_range(contour));
+    content.push_contour(contour, ShapeType::Subject)?;
+    Ok(content)
+}
+
+// The contour from corner to corner of the square between two coordinates.
+fn bow_tie<I: Copy>(low: I, high: I) -> [IntPoint<I>; 4] {
+    [
+        IntPoint::new(low, low),
+        IntPoint::new(high, high),
+        IntPoint::new(high, low),
+        IntPoint::new(low, high),
+    ]
+}
+
+#[test]
+fn a_crossing_needs_one_round(rt: HostRuntime) -> Result<(), Fail> {
+    let mut content = with_subject(&rt, rt.alloc(), &bow_tie(0i32, 10))?;
+    assert_eq!(rt; content.split(0, &mut ()), Err(OverlayError::NotSettled));
+    let mut content = with_subject(&rt, rt.alloc(), &bow_tie(0i32, 10))?;
+    content.split(1, &mut ())?;
+    let wanted = [
+        edge(0, 0, 0, 10, -1),
+        edge(0, 0, 5, 5, 1),
+        edge(0, 10, 5, 5, -1),
+        edge(5, 5, 10, 0, -1),
+        edge(5, 5, 10, 10, 1),
+        edge(10, 0, 10, 10, -1),
+    ];
+    assert_eq!(rt; content.edges(), &wanted[..]);
+    content.split(0, &mut ())?;
+    assert_eq!(rt; content.edges(), &wanted[..]);
+    Ok(())
+}
+
+// The contour's steps are cut into the edges.
+fn check_contour<I: IntNumber + Debug + PartialEq>(
+    rt: &impl Abort,
+    alloc: Global,
+    contour: &[IntPoint<I>],
+    wanted: &[CountedEdge<I, ShapeCountBoolean>],
+) -> Result<(), OverlayError> {
+    let mut content = with_subject(rt, alloc, contour)?;
+    content.arrange(&mut ())?;
+    assert!(rt; content.edges() == wanted);
+    Ok(())
+}
+
+// What the contour from corner to corner of a square round (0, 0) is cut into.
+fn bow_tie_edges<I: Copy>(low: I, zero: I, high: I) -> [CountedEdge<I, ShapeCountBoolean>; 6] {
+    [
+        edge(low, low, low, high, -1),
+        edge(low, low, zero, zero, 1),
+        edge(low, high, zero, zero, -1),
+        edge(zero, zero, high, low, -1),
+        edge(zero, zero, high, high, 1),
+        edge(high, low, high, high, -1),
+    ]
+}
+
+#[test]
+fn a_crossing_from_corner_to_corner(rt: HostRuntime) -> Result<(), Fail> {
+    let (low, high) = (-16383i16, 16383);
+    check_contour(
+        &rt,
+        rt.alloc(),
+        &bow_tie(low, high),
+        &bow_tie_edges(low, 0, high),
+    )?;
+    let (low, high) = (-1073741823i32, 1073741823);
+    check_contour(
+        &rt,
+        rt.alloc(),
+        &bow_tie(low, high),
+        &bow_tie_edges(low, 0, high),
+    )?;
+    let (low, high) = (-4611686018427387903i64, 4611686018427387903);
+    check_contour(
+        &rt,
+        rt.alloc(),
+        &bow_tie(low, high),
+        &bow_tie_edges(low, 0, high),
+    )?;
+    Ok(())
+}
+
+// Adds an edge, which leads from its smaller to its larger end in the coordinate range.
+fn push<I: IntNumber>(
+    rt: &impl Abort,
+    content: &mut Held<I>,
+    edge: CountedEdge<I, ShapeCountBoolean>,
+) -> Result<(), OverlayError> {
+    let (a, b, count) = (edge.a, edge.b, edge.count);
+    assert!(rt; a.x.is_in_range() && a.y.is_in_range());
+    assert!(rt; b.x.is_in_range() && b.y.is_in_range());
+    assert!(rt; compare_points(a, b).is_lt());
+    assert!(rt; count.clip == 0 && count.subj > i32::MIN);
+    content.push(edge)
+}
+
+// The edges are cut into the wanted ones.
+fn check(
+    rt: &impl Abort,
+    alloc: Global,
+    edges: &[CountedEdge<i32, ShapeCountBoolean>],
+    wanted: &[CountedEdge<i32, ShapeCountBoolean>],
+) -> Result<(), OverlayError> {
+    let mut content = Content::with_capacity(alloc, 0)?;
+    for edge in edges {
+        push(rt, &mut content, *edge)?;
+    }
+    content.arrange(&mut ())?;
+    assert_eq!(rt; content.edges(), wanted);
+    Ok(())
+}
+
+#[test]
+fn three_edges_through_one_half_point(rt: HostRuntime) -> Result<(), Fail> {
+    // They meet in (3/2, 3/2), which is rounded to (2, 2).
+    let edges = [
+        edge(0, 0, 3, 3, 1),
+        edge(0, 3, 3, 0, 1),
+        edge(1, 0, 2, 3, 1),
+    ];
+    let wanted = [
+        edge(0, 0, 2, 2, 1),
+        edge(0, 3, 2, 2, 1),
+        edge(1, 0, 2, 2, 1),
+        edge(2, 2, 2, 3, 1),
+        edge(2, 2, 3, 0, 1),
+        edge(2, 2, 3, 3, 1),
+    ];
+    check(&rt, rt.alloc(), &edges, &wanted)?;
+    Ok(())
+}
+
+#[test]
+fn overlaps_of_collinear_edges(rt: HostRuntime) -> Result<(), Fail> {
+    let edges = [edge(0, 0, 4, 0, 1), edge(2, 0, 6, 0, 1)];
+    let wanted = [
+        edge(0, 0, 2, 0, 1),
+        edge(2, 0, 4, 0, 2),
+        edge(4, 0, 6, 0, 1),
+    ];
+    check(&rt, rt.alloc(), &edges, &wanted)?;
+    let edges = [
+        edge(0, 0, 4, 0, 1),
+        edge(2, 0, 6, 0, 1),
+        edge(1, 0, 5, 0, 1),
+    ];
+    let wanted = [
+        edge(0, 0, 1, 0, 1),
+        edge(1, 0, 2, 0, 2),
+        edge(2, 0, 4, 0, 3),
+        edge(4, 0, 5, 0, 2),
+        edge(5, 0, 6, 0, 1),
+    ];
+    check(&rt, rt.alloc(), &edges, &wanted)?;
+    let edges = [edge(0, 0, 0, 4, 1), edge(0, 2, 0, 6, -1)];
+    let wanted = [edge(0, 0, 0, 2, 1), edge(0, 4, 0, 6, -1)];
+    check(&rt, rt.alloc(), &edges, &wanted)?;
+    Ok(())
+}
+
+#[test]
+fn an_edge_that_ends_on_another_cuts_it(rt: HostRuntime) -> Result<(), Fail> {
+    let edges = [edge(0, 0, 6, 3, 1), edge(4, -5, 4, 2, 1)];
+    let wanted = [
+        edge(0, 0, 4, 2, 1),
+        edge(4, -5, 4, 2, 1),
+        edge(4, 2, 6, 3, 1),
+    ];
+    check(&rt, rt.alloc(), &edges, &wanted)?;
+    Ok(())
+}
+
+#[test]
+fn a_piece_may_run_against_its_edge(rt: HostRuntime) -> Result<(), Fail> {
+    // The steep edge is led through (1, 5), where it is crossed at 4/5 and 5: the piece from there down to (1, 0) runs back.
+    let edges = [edge(0, 25, 1, 0, 1), edge(0, 5, 7, 5, 1)];
+    let wanted = [
+        edge(0, 5, 1, 5, 1),
+        edge(0, 25, 1, 5, 1),
+        edge(1, 0, 1, 5, -1),
+        edge(1, 5, 7, 5, 1),
+    ];
+    check(&rt, rt.alloc(), &edges, &wanted)?;
+    Ok(())
+}
+
+#[test]
+fn a_crossing_whose_quotient_needs_all_bits(rt: HostRuntime) -> Result<(), Fail> {
+    // The lines cross near (7/4, -3/4), which is rounded to (2, -1).
+    let far = 4611686018427387903i64;
+    let mut content = Content::with_capacity(rt.alloc(), 0)?;
+    push(&rt, &mut content, edge(-far, -far + 2, far, far - 7, 1))?;
+    push(&rt, &mut content, edge(-far + 1, far, far - 4, -far + 5, 1))?;
+    content.arrange(&mut ())?;
+    let wanted = [
+        edge(-far, -far + 2, 2, -1, 1),
+        edge(-far + 1, far, 2, -1, 1),
+        edge(2, -1, far - 4, -far + 5, 1),
+        edge(2, -1, far, far - 7, 1),
+    ];
+    assert_eq!(rt; content.edges(), &wanted[..]);
+    Ok(())
+}
+
+#[test]
+fn the_weight_stays_below_the_limit(rt: HostRuntime) -> Result<(), Fail> {
+    let mut content = Content::with_capacity(rt.alloc(), 0)?;
+    push(&rt, &mut content, edge(0i32, 0, 1, 0, 2147483646))?;
+    push(&rt, &mut content, edge(0, 0, 2, 1, 1))?;
+    assert_eq!(rt;
+        push(&rt, &mut content, edge(0, 0, 3, 1, 1)),
+        Err(OverlayError::TooManyEdges)
+    );
+    assert_eq!(rt; content.edges().len(), 2);
+    Ok(())
+}
+
+#[test]
+fn a_round_may_weigh_too_much(rt: HostRuntime) -> Result<(), Fail> {
+    // Cut into two, the edges weigh twice as much.
+    let mut content = Content::with_capacity(rt.alloc(), 0)?;
+    push(&rt, &mut content, edge(0i32, 0, 2, 2, 1073741823))?;
+    push(&rt, &mut content, edge(0, 2, 2, 0, 1))?;
+    assert_eq!(rt; content.arrange(&mut ()), Err(OverlayError::TooManyEdges));
+    Ok(())
+}

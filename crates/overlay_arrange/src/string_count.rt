@@ -1,0 +1,137 @@
+//! String counts: how often the shape passes an edge, and in which directions a string does.
+
+ghost use Rattle.std.specs.Prelude.{◌≡◌};
+ghost use Rattle.std.specs.Int.RustNames.{bit_or};
+ghost use Rattle.overlay_arrange.specs.Counts.{has_bit, string_counts, turned_directions};
+
+use crate::count::EdgeCount;
+
+/// The bit of a string that passes its edge from the smaller to the larger end.
+pub const STRING_ALONG: u8 = 1;
+/// The bit of a string that passes its edge from the larger to the smaller end.
+pub const STRING_AGAINST: u8 = 2;
+
+/// How often the shape passes an edge from its smaller to its larger end, less how often back, and
+/// in which directions a string passes it.
+#[derive(Debug, Clone, Copy, PartialEq, Eq)]
+pub struct ShapeCountString {
+    /// How often the shape passes the edge.
+    pub subj: i32,
+    /// The directions of the string: 0, `STRING_ALONG`, `STRING_AGAINST` or both bits. Higher bits
+    /// are ignored.
+    pub clip: u8,
+}
+
+impl ShapeCountString {
+    /// Whether a string passes the edge from its smaller to its larger end.
+    pub fn is_along(self) -> bool
+        ensures { result ≡ (string_counts self).along }
+    {
+        self.clip & STRING_ALONG != 0
+    }
+
+    /// Whether a string passes the edge from its larger to its smaller end.
+    pub fn is_against(self) -> bool
+        ensures { result ≡ (string_counts self).against }
+    {
+        self.clip & STRING_AGAINST != 0
+    }
+}
+
+/// The directions of a string seen from the other end of its edge.
+fn turned(directions: u8) -> u8
+    ensures { result ≡ turned_directions directions }
+{
+    (directions & STRING_ALONG) << 1 | (directions & STRING_AGAINST) >> 1
+}
+
+impl EdgeCount for ShapeCountString {
+    ghost use Rattle.std.specs.Prelude.{◌+ℤ◌, neg_ℤ};
+
+    type Store = ();
+
+    ghost counts = { string_counts };
+
+    ghost merges = { λ c k m. (m.subj ≡ c.subj +ℤ k.subj) × (m.clip ≡ bit_or c.clip k.clip) };
+
+    ghost splits = { λ c p. p ≡ c };
+
+    ghost turns = { λ c t. (t.subj ≡ neg_ℤ c.subj) × (t.clip ≡ turned_directions c.clip) };
+
+    fn is_nothing(self) -> bool {
+        self.subj == 0 && !self.is_along() && !self.is_against()
+    }
+
+    fn weight(self) -> u32 {
+        self.subj.unsigned_abs() + u32::from(self.is_along()) + u32::from(self.is_against())
+    }
+
+    fn subj(self) -> i32 {
+        self.subj
+    }
+
+    fn clip(self) -> i32 {
+        0
+    }
+
+    fn merged(self, other: ShapeCountString, _store: &mut ()) -> ShapeCountString {
+        ShapeCountString {
+            subj: self.subj + other.subj,
+            clip: self.clip | other.clip,
+        }
+    }
+
+    fn split(self, _store: &mut ()) -> ShapeCountString {
+        self
+    }
+
+    fn reversed(self, _store: &mut ()) -> ShapeCountString {
+        ShapeCountString {
+            subj: -self.subj,
+            clip: turned(self.clip),
+        }
+    }
+}
+
+#[cfg(test)]
+mod tests {
+    use super::*;
+
+    const BOTH: u8 = STRING_ALONG | STRING_AGAINST;
+
+    #[test]
+    fn directions_are_joined(rt: HostRuntime) {
+        let along = ShapeCountString {
+            subj: 3,
+            clip: STRING_ALONG,
+        };
+        let against = ShapeCountString {
+            subj: -1,
+            clip: STRING_AGAINST,
+        };
+        let merged = along.merged(against, &mut ());
+        assert_eq!(rt; merged.subj, 2);
+        assert_eq!(rt; merged.clip, 3);
+        assert_eq!(rt; along.merged(along, &mut ()).weight(), 7);
+    }
+
+    #[test]
+    fn directions_are_exchanged(rt: HostRuntime) {
+        for (clip, turned) in [(0, 0), (1, 2), (2, 1), (3, 3), (4, 0), (253, 2)] {
+            let count = ShapeCountString { subj: 5, clip };
+            let reversed = count.reversed(&mut ());
+            assert_eq!(rt; reversed.subj, -5);
+            assert_eq!(rt; reversed.clip, turned, "at {clip}");
+        }
+    }
+
+    #[test]
+    fn each_direction_weighs_one(rt: HostRuntime) {
+        for (subj, clip, weight) in [(0, 0, 0), (-2, 1, 3), (1, 2, 2), (2, BOTH, 4), (0, 4, 0)] {
+            let count = ShapeCountString { subj, clip };
+            assert_eq!(rt; count.weight(), weight);
+            assert_eq!(rt; count.is_nothing(), weight == 0);
+            assert_eq!(rt; count.clip(), 0);
+        }
+    }
+}

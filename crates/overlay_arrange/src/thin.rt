@@ -1,0 +1,147 @@
+//! Closed lists of points without the points that lie on one line with their neighbours.
+
+ghost use Rattle.std.specs.Prelude.{◌↔◌, ◌≤◌, [], ◌∷◌, ◌++◌, length, slice_range, IfOk, IsOkUnless, IsTrue};
+ghost use Rattle.overlay_geom.specs.Points.{plain_point, plain_points, InRange, AllInRange};
+ghost use Rattle.overlay_geom.specs.Thinned.{IsOnOneLine, IsThinned};
+ghost use Rattle.overlay_arrange.specs.Thinning.{IsNarrowed, IsNarrowedBefore, IsBentInside};
+
+use overlay_geom::error::OverlayError;
+use overlay_geom::number::{IntNumber, WideIntNumber};
+use overlay_geom::point::IntPoint;
+use overlay_geom::vector::cross_at;
+use std::alloc::Allocator;
+
+/// The closed list without the points that lie on one line with their two neighbours: they are
+/// dropped one by one until none is left.
+pub fn thinned<I: IntNumber, A: Allocator>(
+    alloc: A,
+    points: &[IntPoint<I>],
+) -> Result<Vec<IntPoint<I>, A>, OverlayError>
+    requires { AllInRange I.limit (plain_points I.whole points.now) }
+    ensures ok { IfOk result (λ v.
+        IsThinned (plain_points I.whole points.now) (plain_points I.whole v.items)) }
+    ensures in_range { IfOk result (λ v. AllInRange I.limit (plain_points I.whole v.items)) }
+    ensures err { IsOkUnless result OverlayError.Memory }
+{
+    let mut bent = bent_inside(alloc, points)?;
+    let (from, to) = bent_part(&bent);
+    bent.drain(..from);
+    bent.truncate(to - from);
+    Ok(bent)
+}
+
+// The points without those that lie on one line with the points before and after them, each one
+// dropped before the next one is read.
+fn bent_inside<I: IntNumber, A: Allocator>(
+    alloc: A,
+    points: &[IntPoint<I>],
+) -> Result<Vec<IntPoint<I>, A>, OverlayError>
+    requires { AllInRange I.limit (plain_points I.whole points.now) }
+    ensures narrowed { IfOk result (λ v.
+        IsNarrowed (plain_points I.whole points.now) (plain_points I.whole v.items)) }
+    ensures bent { IfOk result (λ v. IsBentInside (plain_points I.whole v.items)) }
+    ensures in_range { IfOk result (λ v. AllInRange I.limit (plain_points I.whole v.items)) }
+    ensures err { IsOkUnless result OverlayError.Memory }
+{
+    let mut bent = Vec::new(alloc);
+    for point in points {
+        pop_straight(&mut bent, *point);
+        bent.push(*point)?;
+    }
+    Ok(bent)
+}
+
+// Takes off the last point while it lies on one line with the one before it and the next point to come.
+fn pop_straight<I: IntNumber, A: Allocator>(bent: &mut Vec<IntPoint<I>, A>, next: IntPoint<I>)
+    requires bent { IsBentInside (plain_points I.whole bent.old.items) }
+    requires in_range { AllInRange I.limit (plain_points I.whole bent.old.items) }
+    requires next { InRange I.limit (plain_point I.whole next) }
+    ensures narrowed { IsNarrowedBefore (plain_point I.whole next)
+        (plain_points I.whole bent.old.items) (plain_points I.whole bent.new.items) }
+    ensures bent { IsBentInside (plain_points I.whole bent.new.items ++ plain_point I.whole next ∷ []) }
+    ensures in_range { AllInRange I.limit (plain_points I.whole bent.new.items) }
+{
+    while bent.len() >= 2 && is_straight(bent[bent.len() - 2], bent[bent.len() - 1], next) {
+        bent.pop();
+    }
+}
+
+// From where to where the points are left once those are dropped one by one that lie on one line
+// with their two neighbours. Only the two ends can lie so, and of fewer than three points all do.
+fn bent_part<I: IntNumber>(points: &[IntPoint<I>]) -> (usize, usize)
+    requires bent { IsBentInside (plain_points I.whole points.now) }
+    requires in_range { AllInRange I.limit (plain_points I.whole points.now) }
+    ensures thinned { IsThinned (plain_points I.whole points.now)
+        (plain_points I.whole (slice_range points.now result.0 result.1)) }
+    ensures ordered { result.0 ≤ result.1 }
+    ensures within { result.1 ≤ length points.now }
+{
+    let mut from = 0;
+    let mut to = points.len();
+    while to - from >= 3 {
+        if is_straight(points[to - 2], points[to - 1], points[from]) {
+            to -= 1;
+        } else if is_straight(points[to - 1], points[from], points[from + 1]) {
+            from += 1;
+        } else {
+            return (from, to);
+        }
+    }
+    (from, from)
+}
+
+// Whether the three points lie on one line.
+fn is_straight<I: IntNumber>(u: IntPoint<I>, v: IntPoint<I>, w: IntPoint<I>) -> bool
+    requires first { InRange I.limit (plain_point I.whole u) }
+    requires second { InRange I.limit (plain_point I.whole v) }
+    requires third { InRange I.limit (plain_point I.whole w) }
+    ensures { IsTrue result
+        ↔ IsOnOneLine (plain_point I.whole u) (plain_point I.whole v) (plain_point I.whole w) }
+{
+    cross_at(u, v, w).sign().is_eq()
+}
+
+#[cfg(test)]
+mod tests {
+    use super::*;
+
+    #[test]
+    fn corners_are_left(rt: HostRuntime) {
+        let points = [
+            IntPoint::new(1i32, 0),
+            IntPoint::new(2, 0),
+            IntPoint::new(2, 0),
+            IntPoint::new(2, 2),
+            IntPoint::new(0, 2),
+            IntPoint::new(0, 0),
+        ];
+        let corners = thinned(rt.alloc(), &points).expect(&rt, "memory");
+        assert_eq!(rt;
+            &corners[..],
+            &[points[1], points[3], points[4], points[5]][..]
+        );
+    }
+
+    #[test]
+    fn a_spike_is_dropped(rt: HostRuntime) {
+        let points = [
+            IntPoint::new(0i32, 0),
+            IntPoint::new(4, 0),
+            IntPoint::new(2, 0),
+            IntPoint::new(2, 3),
+        ];
+        let corners = thinned(rt.alloc(), &points).expect(&rt, "memory");
+        assert_eq!(rt; &corners[..], &[points[0], points[2], points[3]][..]);
+    }
+
+    #[test]
+    fn nothing_is_left_of_a_line(rt: HostRuntime) {
+        let points = [
+            IntPoint::new(0i32, 0),
+            IntPoint::new(1, 1),
+            IntPoint::new(3, 3),
+        ];
+        let corners = thinned(rt.alloc(), &points).expect(&rt, "memory");
+        assert_eq!(rt; corners.len(), 0);
+    }
+}

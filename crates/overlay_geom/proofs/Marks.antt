@@ -1,0 +1,83 @@
+-- The marks of strings on counted edges: what an edge without counts has, marks of edges between two ends, and what marks weigh.
+use Rattle.std.proofs.Common.{◌≡◌, ℕ, ◌+◌, ◌≤◌, Bool, true, false, cond, not, ◌&&◌, ◌||◌, pos, List, [], ◌∷◌, refl, ap, ap₂, sym, ◌∙◌, arith}
+use Rattle.std.specs.List.{filter, list_any, sum_by}
+use Rattle.std.specs.List.Sorted.{IsPermutation}
+use Rattle.std.specs.Ordering.{int_eq}
+use Rattle.std.proofs.lemmas.Bool.{and_parts, not-true}
+use Rattle.std.proofs.lemmas.Bool.Decides.{Decides-int_eq}
+use Rattle.std.proofs.lemmas.List.Sorted.{list_any-IsPermutation}
+use Rattle.std.proofs.lemmas.List.Sums.{sum_by-cons}
+use Rattle.overlay_geom.specs.Plane.{Edge}
+use Rattle.overlay_geom.specs.Edges.{CountedEdge, counts_nothing}
+use Rattle.overlay_geom.specs.Merged.{edges_between}
+
+-- the edge's counts are zero, and it has no mark
+pub record IsUncounted (e : CountedEdge) : Type 0 where
+  pub subj : e.subj ≡ pos 0
+  pub clip : e.clip ≡ pos 0
+  pub along : e.along ≡ false
+  pub against : e.against ≡ false
+
+-- that is what an edge that counts nothing is
+pub uncounted : (e : CountedEdge) → counts_nothing e ≡ true → IsUncounted e
+uncounted e h =
+    let last = and_parts (int_eq e.subj (pos 0) && int_eq e.clip (pos 0) && not e.along) (not e.against) h in
+    let third = and_parts (int_eq e.subj (pos 0) && int_eq e.clip (pos 0)) (not e.along) last.0 in
+    let zeros = and_parts (int_eq e.subj (pos 0)) (int_eq e.clip (pos 0)) third.0 in
+    record {
+      subj = (Decides-int_eq e.subj (pos 0)).0 zeros.0;
+      clip = (Decides-int_eq e.clip (pos 0)).0 zeros.1;
+      along = not-true e.along third.1;
+      against = not-true e.against last.1;
+    }
+
+-- and an edge without counts and marks counts nothing
+pub counts_nothing-from_uncounted : (e : CountedEdge) → IsUncounted e → counts_nothing e ≡ true
+counts_nothing-from_uncounted e none =
+    ap₂ (λ s c. int_eq s (pos 0) && int_eq c (pos 0) && not e.along && not e.against) none.subj none.clip
+    ∙ ap₂ (λ f g. not f && not g) none.along none.against
+
+-- nothing is added by a test that fails
+pub or_false : (b : Bool) → (b || false) ≡ b
+or_false true = refl
+or_false false = refl
+
+-- whether some edge of the list between these ends has the mark
+abbrev pub marked_between : (CountedEdge → Bool) → List CountedEdge → Edge → Bool
+marked_between mark es e = list_any mark (edges_between es e)
+
+-- some item of a part of the list passes the test where some item of the list is in the part and passes it
+pub list_any-filter : {X : Type 0} (mark p : X → Bool) (xs : List X) → list_any mark (filter p xs) ≡ list_any (λ x. p x && mark x) xs
+list_any-filter mark p [] = refl
+list_any-filter mark p (x ∷ xs) =
+    let e = list_any-filter mark p xs in
+    elim (p x) as (λ b. list_any mark (cond b (x ∷ filter p xs) (filter p xs)) ≡ ((b && mark x) || list_any (λ x. p x && mark x) xs)) [
+      | true ↦ ap (λ b. mark x || b) e
+      | false ↦ e
+    ]
+
+-- and that is so in another order
+pub list_any-filter_shuffled : {X : Type 0} (mark p : X → Bool) (xs ys : List X) → IsPermutation xs ys →
+    list_any mark (filter p ys) ≡ list_any mark (filter p xs)
+list_any-filter_shuffled mark p xs ys h =
+    list_any-filter mark p ys ∙ sym (list_any-IsPermutation (λ x. p x && mark x) xs ys h) ∙ sym (list_any-filter mark p xs)
+
+-- ---- weights
+
+-- what a mark weighs
+abbrev pub mark_weight : Bool → ℕ
+mark_weight b = cond b 1 0
+
+-- a mark that is set where either of two is weighs no more than the two
+pub mark_weight-or : (x y : Bool) → mark_weight (x || y) ≤ mark_weight x + mark_weight y
+mark_weight-or true y = omega arith
+mark_weight-or false y = omega arith
+
+-- a mark that is set where any of a list is weighs no more than those of the list
+pub mark_weight-any : {X : Type 0} (mark : X → Bool) (xs : List X) → mark_weight (list_any mark xs) ≤ sum_by (λ x. mark_weight (mark x)) xs
+mark_weight-any mark [] = omega arith
+mark_weight-any mark (x ∷ xs) =
+    let rest = mark_weight-any mark xs in
+    let either = mark_weight-or (mark x) (list_any mark xs) in
+    let all = sum_by-cons (λ x. mark_weight (mark x)) x xs in
+    omega arith

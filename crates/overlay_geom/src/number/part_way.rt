@@ -1,0 +1,78 @@
+//! The coordinate that lies a part of the way from one to another. The product of a difference of
+//! coordinates and a cross product has up to 190 bits, so it is divided as it is built up.
+
+ghost use Rattle.std.specs.Prelude.{◌≡◌, ◌+◌, ◌*◌, ◌^◌, ◌<◌, ◌≤◌};
+ghost use Rattle.std.specs.Prelude.{pos, neg_ℤ, ◌+ℤ◌, ◌-ℤ◌, ◌*ℤ◌, ◌<ℤ◌, ◌≤ℤ◌};
+ghost use Rattle.overlay_geom.specs.Numbers.{Within};
+ghost use Rattle.overlay_geom.specs.Rounding.{nearest};
+
+/// Returns the coordinate nearest the one that lies `t / d` of the way from one to another, the
+/// greater of two equally near ones.
+pub(crate) fn nearest_on_way(from: i64, to: i64, t: i128, d: i128) -> i64
+    requires from { Within 4611686018427387903 from }
+    requires to { Within 4611686018427387903 to }
+    requires begun { pos 0 ≤ℤ t }
+    requires part { t ≤ℤ d }
+    requires divides { pos 0 <ℤ d }
+    ensures { result ≡ nearest (from *ℤ d +ℤ (to -ℤ from) *ℤ t) d }
+{
+    let d = d as u128;
+    let (q, r) = times_quotient(to.abs_diff(from), t as u128, d);
+    if from <= to {
+        from + half_up(q, r, d) as i64
+    } else {
+        from - half_down(q, r, d) as i64
+    }
+}
+
+// The whole number nearest `q + r / d`, the greater of two equally near ones.
+fn half_up(q: u64, r: u128, d: u128) -> u64
+    requires room { q < 2 ^ 63 }
+    requires fits { d < 2 ^ 127 }
+    requires rest { r < d }
+    ensures { pos result ≡ nearest (pos (q * d + r)) (pos d) }
+{
+    if 2 * r >= d { q + 1 } else { q }
+}
+
+// The whole number nearest `q + r / d`, the smaller of two equally near ones.
+fn half_down(q: u64, r: u128, d: u128) -> u64
+    requires room { q < 2 ^ 63 }
+    requires fits { d < 2 ^ 127 }
+    requires rest { r < d }
+    ensures { neg_ℤ (pos result) ≡ nearest (neg_ℤ (pos (q * d + r))) (pos d) }
+{
+    if 2 * r > d { q + 1 } else { q }
+}
+
+// The quotient and the remainder of `n * t` by `d`, one bit of `n` at a time.
+fn times_quotient(n: u64, t: u128, d: u128) -> (u64, u128)
+    requires count { n < 2 ^ 63 }
+    requires fits { d < 2 ^ 127 }
+    requires part { t ≤ d }
+    requires divides { 0 < d }
+    ensures value { n * t ≡ result.0 * d + result.1 }
+    ensures rest { result.1 < d }
+    ensures most { result.0 ≤ n }
+{
+    if n == 0 {
+        return (0, 0);
+    }
+    let (q, r) = times_quotient(n / 2, t, d);
+    let (q, r) = carried(2 * q, 2 * r, d);
+    if n % 2 == 1 {
+        carried(q, r + t, d)
+    } else {
+        (q, r)
+    }
+}
+
+// The same value with a remainder below the divisor, from one below twice the divisor.
+fn carried(q: u64, r: u128, d: u128) -> (u64, u128)
+    requires room { q < 2 ^ 63 }
+    requires twice { r < d + d }
+    ensures value { result.0 * d + result.1 ≡ q * d + r }
+    ensures rest { result.1 < d }
+{
+    if r >= d { (q + 1, r - d) } else { (q, r) }
+}

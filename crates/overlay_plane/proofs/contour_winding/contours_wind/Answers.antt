@@ -1,0 +1,6 @@
+-- The contours of the selected steps wind as these do.
+use Rattle.overlay_plane.proofs.CutWindings.{contours_wind}
+use Rattle.overlay_plane.proofs.contour_winding.contours_wind.Goals as goal
+
+pub returns : goal.returns
+returns c = contours_wind

@@ -1,0 +1,87 @@
+-- Steps cut into contours: while steps are left, the orbit of the step along the top edge at their leftmost lowest point, by a
+-- hand that this step tells.
+use Rattle.std.specs.Prelude.{◌≡◌, ℕ, ◌+◌, ◌<◌, ◌≤◌, Bool, cond, not, List, [], ◌∷◌, length, take, slice_index_or, All, Contains, filter}
+use Rattle.std.specs.List.{flat_map}
+use Rattle.std.specs.List.Sorted.{IsPermutation}
+use Rattle.overlay_geom.specs.Plane.{Step, is_forward, edge_of, steps_of, points_of}
+use Rattle.overlay_plane.specs.Turn.{Hand, step_round, IsOrbit}
+use Rattle.overlay_plane.specs.Turn.Hand.{left, right}
+use Rattle.overlay_plane.specs.Alternates.{Alternates}
+use Rattle.overlay_plane.specs.Orbits.{is_step_of}
+use Rattle.overlay_plane.specs.BesideOrbits.{HasEachOnce}
+use Rattle.overlay_plane.specs.LeftmostSteps.{NoneHasEndBefore, NoneTakenAbove}
+
+-- ---- hands, where the filled side of each step is its left one, or its right one
+
+-- the upper side of the step's edge is its filled one
+abbrev pub is_filled_above : Bool → Step → Bool
+is_filled_above on_left s = cond on_left (is_forward s) (not (is_forward s))
+
+-- the hand of the filled side, and of the empty one
+abbrev pub filled_hand : Bool → Hand
+filled_hand on_left = cond on_left left right
+
+abbrev pub empty_hand : Bool → Hand
+empty_hand on_left = cond on_left right left
+
+-- a contour that begins with an edge that is filled above is a hole, and turns by the empty hand; an outline turns by the filled one
+abbrev pub outline_or_hole_hand : Bool → Step → Hand
+outline_or_hole_hand on_left s = cond (is_filled_above on_left s) (empty_hand on_left) (filled_hand on_left)
+
+-- ---- the cut
+
+-- the step along the top edge at the leftmost lowest point of the steps
+pub record IsStart (steps : List Step) (s : Step) : Type 0 where
+  pub among : Contains steps s
+  pub lowest : NoneHasEndBefore steps (edge_of s).a
+  pub top : NoneTakenAbove steps (edge_of s).a (edge_of s)
+
+-- the steps that are not among those taken
+abbrev pub without : List Step → List Step → List Step
+without steps taken = filter (λ s. not (is_step_of taken s)) steps
+
+-- the steps are cut into walks: while steps are left, the orbit of their start, in the steps left, by the hand that the start tells
+pub data IsCutInto (hand_of : Step → Hand) : List Step → List (List Step) → Type 0 where
+  done : IsCutInto hand_of [] []
+  next : {steps : List Step} {s : Step} {ss : List Step} {rest : List (List Step)} → IsStart steps s → IsOrbit steps (hand_of s) (s ∷ ss) →
+      IsCutInto hand_of (without steps (s ∷ ss)) rest → IsCutInto hand_of steps ((s ∷ ss) ∷ rest)
+
+-- all steps of the walks
+abbrev pub all_steps : List (List Step) → List Step
+all_steps walks = flat_map (λ walk. walk) walks
+
+-- the cut takes each step exactly once
+abbrev pub CutsTakeEachOnce : Type 0
+CutsTakeEachOnce = (hand_of : Step → Hand) (steps : List Step) → Alternates steps → HasEachOnce steps → (walks : List (List Step)) →
+    IsCutInto hand_of steps walks → IsPermutation steps (all_steps walks)
+
+-- the walk is the orbit of the start of steps that alternate
+pub record IsFirstWalk (hand_of : Step → Hand) (steps walk : List Step) : Type 0 where
+  pub alternate : Alternates steps
+  pub start : IsStart steps (step_round walk 0)
+  pub orbit : IsOrbit steps (hand_of (step_round walk 0)) walk
+
+-- what the first walks leave alternates, and the next walk is the orbit of its start
+abbrev pub CutsAreOrbits : Type 0
+CutsAreOrbits = (hand_of : Step → Hand) (steps : List Step) → Alternates steps → (walks : List (List Step)) → IsCutInto hand_of steps walks →
+    (k : ℕ) → k < length walks → IsFirstWalk hand_of (without steps (all_steps (take k walks))) (slice_index_or walks k [])
+
+-- every set of steps that alternates can be cut
+abbrev pub CutsExist : Type 0
+CutsExist = (hand_of : Step → Hand) (steps : List Step) → Alternates steps → (walks : List (List Step)) × IsCutInto hand_of steps walks
+
+-- the walk is a closed contour: three steps or more, all different; each leads to the next, and the last to the first; they are the steps of its points
+pub record IsContour (walk : List Step) : Type 0 where
+  pub three : 3 ≤ length walk
+  pub leads_on : (k : ℕ) → (step_round walk (k + 1)).from ≡ (step_round walk k).to
+  pub once : HasEachOnce walk
+  pub whole : steps_of (points_of walk) ≡ walk
+
+-- orbits are contours
+abbrev pub OrbitsAreContours : Type 0
+OrbitsAreContours = (steps : List Step) → Alternates steps → (hand : Hand) (walk : List Step) → IsOrbit steps hand walk → IsContour walk
+
+-- and so are the walks that a cut gives
+abbrev pub CutsAreContours : Type 0
+CutsAreContours = (hand_of : Step → Hand) (steps : List Step) → Alternates steps → (walks : List (List Step)) →
+    IsCutInto hand_of steps walks → All IsContour walks

@@ -1,0 +1,25 @@
+//! Arrangements: what follows from the rounds by which they are reached.
+
+ghost use Rattle.overlay_plane.specs.Arrangements.{ArrangementsHoldChains, WholeMeetingsAreExact};
+ghost use Rattle.overlay_plane.specs.Arrangements.{ArrangementsKeepBalance, ArrangedStaysArranged};
+
+/// The chains of the edges keep their ends, stay near, and make the counts of the arrangement.
+pub fn arrangements_hold_chains()
+    ensures { ArrangementsHoldChains }
+{}
+
+/// Where edges meet only in whole points or overlap, one round settles, it moves no point, and no
+/// winding changes.
+pub fn whole_meetings_are_exact()
+    ensures { WholeMeetingsAreExact }
+{}
+
+/// An arrangement keeps balanced counts.
+pub fn arrangements_keep_balance()
+    ensures { ArrangementsKeepBalance }
+{}
+
+/// An arrangement of an arrangement is the same list.
+pub fn arranged_stays_arranged()
+    ensures { ArrangedStaysArranged }
+{}
