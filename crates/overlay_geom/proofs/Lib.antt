@@ -7,6 +7,7 @@ pub mod Crossing
 pub mod Divided
 pub mod Entries
 pub mod Identities
+pub mod JoinedLists
 pub mod Mapped
 pub mod Marks
 pub mod MeansOfEnds
@@ -20,6 +21,7 @@ pub mod OneLine
 pub mod Orders
 pub mod PointOrder
 pub mod Products
+pub mod ReadInOrder
 pub mod Rounded
 pub mod Shuffled
 pub mod Signs

@@ -1,9 +1,12 @@
 pub mod Edges
+pub mod Lines
 pub mod Merged
 pub mod Numbers
+pub mod Paths
 pub mod Placed
 pub mod Plane
 pub mod Points
 pub mod Rounding
 pub mod Settled
+pub mod Small
 pub mod Thinned

@@ -4,5 +4,7 @@
 pub mod error;
 pub mod integer;
 pub mod number;
+pub mod path;
 pub mod point;
+pub mod resource;
 pub mod vector;

@@ -5,6 +5,7 @@ ghost use Rattle.std.specs.Prelude.{ℤ, pos, neg_ℤ, ◌+ℤ◌, ◌-ℤ◌, �
 ghost use Rattle.std.specs.Ordering.{int_cmp};
 ghost use Rattle.overlay_geom.specs.Numbers.{Within};
 ghost use Rattle.overlay_geom.specs.Rounding.{nearest};
+ghost use Rattle.overlay_geom.specs.Small.{IsSmall};
 
 mod coordinate;
 mod part_way;
@@ -108,4 +109,7 @@ pub trait IntNumber: Copy {
 
     // Two coordinates that stand for one number are one.
     ghost same: { (a b : Self) → whole a ≡ whole b → a ≡ b };
+
+    // A coordinate takes at most 8 bytes, so an array of two points fits in memory.
+    ghost small: { IsSmall Self.row };
 }

@@ -1,5 +1,7 @@
 //! The numbers that coordinates are made of.
 
+ghost use Rattle.std.proofs.Common.{lit≤};
+
 use crate::number::IntNumber;
 use crate::number::part_way::nearest_on_way;
 use std::cmp::Ordering;
@@ -14,6 +16,8 @@ impl IntNumber for i16 {
     ghost limit = { 16383 };
 
     ghost same = { λ a b e. e };
+
+    ghost small = { record { size_bound = lit≤ tt; align_bound = lit≤ tt } };
 
     fn is_in_range(self) -> bool {
         -16383 <= self && self <= 16383
@@ -52,6 +56,8 @@ impl IntNumber for i32 {
 
     ghost same = { λ a b e. e };
 
+    ghost small = { record { size_bound = lit≤ tt; align_bound = lit≤ tt } };
+
     fn is_in_range(self) -> bool {
         -1073741823 <= self && self <= 1073741823
     }
@@ -88,6 +94,8 @@ impl IntNumber for i64 {
     ghost limit = { 4611686018427387903 };
 
     ghost same = { λ a b e. e };
+
+    ghost small = { record { size_bound = lit≤ tt; align_bound = lit≤ tt } };
 
     fn is_in_range(self) -> bool {
         -4611686018427387903 <= self && self <= 4611686018427387903

@@ -1,0 +1,52 @@
+//! Paths, contours and shapes, as lists of points, and a path that borrows its points.
+
+ghost use Rattle.std.specs.Prelude.{◌≡◌};
+
+use crate::point::IntPoint;
+
+/// The points of a path, in order from its first to its last one.
+pub type IntPath<I, A> = Vec<IntPoint<I>, A>;
+
+/// The points of a closed contour, in order. Its last point is followed by its first one, which
+/// is not repeated.
+pub type IntContour<I, A> = Vec<IntPoint<I>, A>;
+
+/// A shape: its outline, followed by its holes.
+pub type IntShape<I, A> = Vec<IntContour<I, A>, A>;
+
+/// Several shapes.
+pub type IntShapes<I, A> = Vec<IntShape<I, A>, A>;
+
+/// A line, from its first end to its second one. Where a call says so, the smaller end stands first:
+/// the one with the smaller x, and at equal x the one with the smaller y.
+pub type IntLine<I> = [IntPoint<I>; 2];
+
+/// A path that borrows its points.
+#[derive(Clone, Copy)]
+pub struct PathRef<'a, I> {
+    /// The points, in order.
+    pub points: &'a [IntPoint<I>],
+}
+
+impl<'a, I> PathRef<'a, I> {
+    /// Returns the path through these points, in their order.
+    pub fn new(points: &'a [IntPoint<I>]) -> Self
+        ensures { result.points.now ≡ points.now }
+    {
+        PathRef { points }
+    }
+}
+
+#[cfg(test)]
+mod tests {
+    use super::*;
+
+    #[test]
+    fn a_path_borrows_its_points(rt: HostRuntime) {
+        let points = [IntPoint::new(0i16, 0), IntPoint::new(4, 0)];
+        let path = PathRef::new(&points);
+        let copy = path;
+        assert_eq!(rt; path.points.len(), 2);
+        assert_eq!(rt; copy.points[1], IntPoint::new(4, 0));
+    }
+}

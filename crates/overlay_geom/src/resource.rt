@@ -1,0 +1,116 @@
+//! What has paths: a contour, a shape, several shapes, or a path that borrows its points.
+
+ghost use Rattle.std.specs.Prelude.{◌≡◌, ◌<◌, ◌∷◌, [], List, length, Some};
+ghost use Rattle.std.specs.List.{slice_get};
+ghost use Rattle.overlay_geom.specs.Paths.{paths_of_shape, paths_of_shapes, counted_paths};
+ghost use Rattle.overlay_geom.specs.Plane.{Point};
+ghost use Rattle.overlay_geom.specs.Points.{plain_points};
+
+use crate::number::IntNumber;
+use crate::path::{IntContour, IntShape, IntShapes, PathRef};
+use crate::point::IntPoint;
+use std::alloc::Allocator;
+
+/// What has paths, one after another, numbered from 0.
+pub trait IntShapeResource<I: IntNumber> {
+    // The whole points of each path.
+    ghost paths: { Self → List (List Point) };
+
+    /// Returns how many paths there are.
+    fn path_count(&self) -> usize
+        ensures { result ≡ length (paths self.now) };
+
+    /// Returns the points of the path with this number. It is below `path_count`.
+    fn path(&self, index: usize) -> &[IntPoint<I>]
+        requires { index < length (paths self.now) }
+        ensures { slice_get (paths self.now) index ≡ Some (plain_points I.whole result.now) };
+}
+
+impl<I: IntNumber, A: Allocator> IntShapeResource<I> for IntContour<I, A> {
+    ghost paths = { λ c. plain_points I.whole c.items ∷ [] };
+
+    /// Returns 1: a contour is one path.
+    fn path_count(&self) -> usize {
+        1
+    }
+
+    /// Returns the points of the contour, its path 0.
+    fn path(&self, index: usize) -> &[IntPoint<I>] {
+        let _ = index;
+        self.as_slice()
+    }
+}
+
+impl<I: IntNumber, A: Allocator> IntShapeResource<I> for IntShape<I, A> {
+    ghost paths = { λ s. paths_of_shape I.whole s.items };
+
+    /// Returns how many contours the shape has.
+    fn path_count(&self) -> usize {
+        self.len()
+    }
+
+    /// Returns the points of the contour with this number.
+    fn path(&self, index: usize) -> &[IntPoint<I>] {
+        &self[index]
+    }
+}
+
+impl<I: IntNumber, A: Allocator> IntShapeResource<I> for IntShapes<I, A> {
+    ghost paths = { λ ss. counted_paths (paths_of_shapes I.whole ss.items) };
+
+    /// Returns how many contours the shapes have together, at most `usize::MAX`.
+    fn path_count(&self) -> usize {
+        count_contours(self)
+    }
+
+    /// Returns the points of the contour with this number, where contours are counted through all
+    /// shapes, in order.
+    fn path(&self, index: usize) -> &[IntPoint<I>] {
+        contour_at(self, index)
+    }
+}
+
+impl<'a, I: IntNumber> IntShapeResource<I> for PathRef<'a, I> {
+    ghost paths = { λ p. plain_points I.whole p.points.now ∷ [] };
+
+    /// Returns 1: a borrowed path is one path.
+    fn path_count(&self) -> usize {
+        1
+    }
+
+    /// Returns the borrowed points, those of its path 0.
+    fn path(&self, index: usize) -> &[IntPoint<I>] {
+        let _ = index;
+        self.points
+    }
+}
+
+/// How many contours the shapes have together, at most `usize::MAX`.
+fn count_contours<I: IntNumber, A: Allocator>(shapes: &[IntShape<I, A>]) -> usize
+    ensures { result ≡ length (counted_paths (paths_of_shapes I.whole shapes.now)) }
+{
+    let mut count: usize = 0;
+    for shape in shapes {
+        count = count.saturating_add(shape.len());
+    }
+    count
+}
+
+/// The points of the contour with this number, where contours are counted through all shapes.
+fn contour_at<I: IntNumber, A: Allocator>(shapes: &[IntShape<I, A>], index: usize) -> &[IntPoint<I>]
+    requires { index < length (paths_of_shapes I.whole shapes.now) }
+    ensures { slice_get (paths_of_shapes I.whole shapes.now) index
+        ≡ Some (plain_points I.whole result.now) }
+{
+    let mut left = index;
+    for shape in shapes {
+        if left < shape.len() {
+            return &shape[left];
+        }
+        left -= shape.len();
+    }
+    unreachable!()
+}
+
+#[cfg(test)]
+mod tests;
