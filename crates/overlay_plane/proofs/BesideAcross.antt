@@ -35,7 +35,7 @@ way_back p q apart = by (point_lt p q) refl
     by false e = (Decides-point_lt q p).1 (by_order q p strictly (λ less. absurd (both_ways (point_lt p q) e ((Decides-point_lt p q).1 less))))
 
 -- a step that walks along the edge of another one is that one, or leads back along it
-one_of_two : (t s : Step) → edge_of t ≡ edge_of s → (t ≡ s) ⊎ (t ≡ reversed_step s)
+pub one_of_two : (t s : Step) → edge_of t ≡ edge_of s → (t ≡ s) ⊎ (t ≡ reversed_step s)
 one_of_two t s same = by (is_forward t) (is_forward s) same
   where
     by : (f g : Bool) → edge_by f t ≡ edge_by g s → (t ≡ s) ⊎ (t ≡ reversed_step s)

@@ -24,7 +24,7 @@ edge_of_forward : (a q : Point) → IsBefore a q → edge_of (record { from = a;
 edge_of_forward a q before = ap (λ t. cond t (record { a = a; b = q }) (record { a = q; b = a })) ((Decides-point_lt a q).1 before)
 
 -- the step between two points, where there is one, is between different ones
-step_between : (a q : Point) (s : Step) → Contains (steps_between a q) s → (record { from = a; to = q } ≡ s) × ¬ (a ≡ q)
+pub step_between : (a q : Point) (s : Step) → Contains (steps_between a q) s → (record { from = a; to = q } ≡ s) × ¬ (a ≡ q)
 step_between a q s has = by (point_eq a q) refl has
   where
     by : (t : Bool) → point_eq a q ≡ t → Contains (cond t [] (record { from = a; to = q } ∷ [])) s → (record { from = a; to = q } ≡ s) × ¬ (a ≡ q)

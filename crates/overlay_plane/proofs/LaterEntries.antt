@@ -1,5 +1,6 @@
 -- Lists in which each entry is in relation to each later one: by places, and what of that holds of filtered, mapped and longer lists.
-use Rattle.std.proofs.Common.{inl, inr, zero, suc, Bool, true, false, cond, List, [], ◌∷◌, ◌++◌, map, get_or, Contains, AllPairs, filter, subst, arith}
+use Rattle.std.proofs.Common.{◌≡◌, ◌⊎◌, inl, inr, ⊎_elim, zero, suc, Bool, true, false, cond}
+use Rattle.std.proofs.Common.{List, [], ◌∷◌, ◌++◌, map, get_or, Contains, AllPairs, filter, sym, ◌∙◌, subst, arith}
 use Rattle.std.specs.Bool.{⊤}
 use Rattle.std.proofs.lemmas.List.Elements.{Contains-get_or, Contains-push_cases}
 pub use Rattle.overlay_geom.proofs.Entries.{Contains-cases}
@@ -25,6 +26,15 @@ module _ {X : Type 0} (R : X → X → Type 0) where
   AllPairs-from_each (x ∷ xs) h zero (suc j) d before inside = h.0 (get_or xs j d) (Contains-get_or xs j d (omega arith))
   AllPairs-from_each (x ∷ xs) h (suc i) zero d before inside = absurd (omega arith)
   AllPairs-from_each (x ∷ xs) h (suc i) (suc j) d before inside = AllPairs-from_each xs h.1 i j d (omega arith) (omega arith)
+
+  -- of two different entries one is in relation to the other
+  pub either_way : (xs : List X) → Each R xs → (x y : X) → Contains xs x → Contains xs y → ¬ (x ≡ y) → R x y ⊎ R y x
+  either_way [] h x y c d apart = absurd (elim c.1 [ ])
+  either_way (z ∷ zs) h x y c d apart = ⊎_elim
+      (λ is_x. ⊎_elim (λ is_y. absurd (apart (sym is_x ∙ is_y))) (λ later. inl (subst (λ u. R u y) is_x (h.0 y later))) (Contains-cases z zs y d))
+      (λ later_x. ⊎_elim (λ is_y. inr (subst (λ u. R u x) is_y (h.0 x later_x))) (λ later. either_way zs h.1 x y later_x later apart)
+      (Contains-cases z zs y d))
+      (Contains-cases z zs x c)
 
 -- what passes a test is in relation as well
 pub Each-filter : {X : Type 0} (R : X → X → Type 0) (p : X → Bool) (xs : List X) → Each R xs → Each R (filter p xs)

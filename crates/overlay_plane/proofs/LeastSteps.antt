@@ -16,7 +16,7 @@ use Rattle.overlay_plane.proofs.BeforeTheSteps.{edge_end_before}
 use Rattle.std.proofs.lemmas.List.Elements.{All-contains}
 
 -- smaller than a smaller point is smaller
-point_lt_transitive : (p q r : Point) → point_lt p q ≡ true → point_lt q r ≡ true → point_lt p r ≡ true
+pub point_lt_transitive : (p q r : Point) → point_lt p q ≡ true → point_lt q r ≡ true → point_lt p r ≡ true
 point_lt_transitive p q r pq qr = (Decides-point_lt p r).1 (before_after_up_to p q r (before_up_to p q ((Decides-point_lt p q).0 pq)) ((Decides-point_lt q r).0 qr))
 
 -- the edge of a step leads forward

@@ -72,6 +72,10 @@ starts_before f v t =
         let up = pos_of_mul-pos (width f) (v.y -ℤ f.a.y) (covers_wide f v.x (pos 1) (record { lt = tt }) over) (omega linear) in
         omega linear
 
+-- so its start is smaller
+pub below_starts_before : (f : Edge) (v : Point) → is_strictly_below f (in_plane v) ≡ true → point_lt f.a v ≡ true
+below_starts_before f v low = test_from_less f.a v (starts_before f v low)
+
 -- ---- what counts
 
 -- a count that is 0 where it is read

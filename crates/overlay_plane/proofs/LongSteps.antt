@@ -1,17 +1,19 @@
 -- A step between two points walks along an edge that leads forward; of such steps some edge starts in a least point, and among
--- those that start there one is the top one.
+-- those that start there one is the top one, and one the lowest.
 use Rattle.std.proofs.Common.{◌≡◌, inl, inr, Bool, true, false, ◌&&◌, pos, int_lt, List, Contains, refl, sym, ap, ◌∙◌, subst}
 use Rattle.std.proofs.lemmas.Bool.{both_ways, and_from, and_parts, false_from_ne_true}
 use Rattle.std.proofs.lemmas.Int.{by_lt_z}
-use Rattle.overlay_geom.specs.Plane.{Point, Step, point_lt, point_eq, is_forward, edge_of}
+use Rattle.overlay_geom.specs.Plane.{Point, Step, Edge, point_lt, point_eq, is_forward, edge_of}
 use Rattle.overlay_geom.proofs.PointOrder.{IsBefore, IsUpTo, by_order, Decides-point_lt, before_up_to, before_after_up_to}
 use Rattle.overlay_geom.proofs.Signs.{linear}
 use Rattle.overlay_geom.proofs.Orders.{point_eq-same, point_eq-of_same, point_lt-itself}
 use Rattle.overlay_plane.specs.Nodes.{edge_turn, turns_left}
-use Rattle.overlay_plane.specs.LeftmostSteps.{StepHasEndBefore}
+use Rattle.overlay_plane.specs.LeftmostSteps.{StepHasEndBefore, NoneHasEndBefore}
 use Rattle.overlay_plane.specs.Contours.{IsStart}
+use Rattle.overlay_plane.specs.Anchors.{IsAnchor}
 use Rattle.overlay_plane.proofs.EdgeTurns.{edge_turn_same, left_after_left}
 use Rattle.overlay_plane.proofs.EdgesOfSteps.{edge_by}
+use Rattle.overlay_plane.proofs.Entries.{Contains-map}
 use Rattle.overlay_plane.proofs.Nearest.{IsNearest, nearest}
 use Rattle.overlay_plane.proofs.Tests.{lt_from_test, test_from_lt}
 
@@ -21,7 +23,7 @@ smaller_transitive p q r pq qr = (Decides-point_lt p r).1 (before_after_up_to p 
     ((Decides-point_lt q r).0 qr))
 
 -- of two different points, the one that is not smaller is larger
-larger_otherwise : (p q : Point) → ¬ (p ≡ q) → point_lt p q ≡ false → point_lt q p ≡ true
+pub larger_otherwise : (p q : Point) → ¬ (p ≡ q) → point_lt p q ≡ false → point_lt q p ≡ true
 larger_otherwise p q apart e = (Decides-point_lt q p).1 (by_order q p strictly (λ less. absurd (both_ways (point_lt p q) e ((Decides-point_lt p q).1 less))))
   where
     at_one : p.x ≡ q.x → ¬ (p.y ≡ q.y)
@@ -83,13 +85,16 @@ module _ (steps : List Step) (long : (s : Step) → Contains steps s → ¬ (s.f
       (λ turns. both_ways (is_left s t) e (and_from (turns_left (edge_of s) (edge_of t)) (leads_forward s && leads_forward t) turns
       (and_from (leads_forward s) (leads_forward t) (long_leads_forward s (long s c)) (long_leads_forward t (long t d)))))
 
+  -- no step has an end before a point before which no edge starts
+  none_before : (q : Point) → ((t : Step) → Contains steps t → point_lt (edge_of t).a q ≡ false) → NoneHasEndBefore steps q
+  none_before q least t at before = both_ways (point_lt (edge_of t).a q) (least t at) (start_before t q (long_leads_forward t (long t at)) before)
+
   -- a step of which tests tell that its edge starts in a least point, and is the top one of those that start there, is the start
   pub start_from_tests : (s : Step) → Contains steps s → ((t : Step) → Contains steps t → point_lt (edge_of t).a (edge_of s).a ≡ false) →
       ((t : Step) → Contains steps t → (edge_of t).a ≡ (edge_of s).a → turns_left (edge_of s) (edge_of t) ≡ false) → IsStart steps s
   start_from_tests s c lowest top = record {
     among = c;
-    lowest = λ t at before. both_ways (point_lt (edge_of t).a (edge_of s).a) (lowest t at)
-        (start_before t (edge_of s).a (long_leads_forward t (long t at)) before);
+    lowest = none_before (edge_of s).a lowest;
     top = top;
   }
 
@@ -119,3 +124,22 @@ module _ (steps : List Step) (long : (s : Step) → Contains steps s → ¬ (s.f
       where
         starts : (edge_of top.0).a ≡ point
         starts = point_eq-same (edge_of top.0).a point (top.1).passed
+
+    -- and the one along the lowest edge
+    lowest : (m : Step) × IsNearest (λ t. point_eq (edge_of t).a point) is_left steps m
+    lowest = nearest (λ t. point_eq (edge_of t).a point) is_left never_left left_transitive steps least.0 (least.1).among
+        (point_eq-of_same point point refl)
+
+    -- that edge is an anchor of the steps
+    pub anchor_exists : (e : Edge) × IsAnchor steps e
+    anchor_exists = (
+      edge_of lowest.0,
+      record {
+        among = Contains-map edge_of steps lowest.0 (lowest.1).among;
+        leftmost = none_before (edge_of lowest.0).a (λ t at. subst (λ q. point_lt (edge_of t).a q ≡ false) (sym starts) ((least.1).first t at refl));
+        lowest = λ t at same. not_left t lowest.0 at (lowest.1).among ((lowest.1).first t at (point_eq-of_same (edge_of t).a point (same ∙ starts)));
+      },
+    )
+      where
+        starts : (edge_of lowest.0).a ≡ point
+        starts = point_eq-same (edge_of lowest.0).a point (lowest.1).passed

@@ -17,7 +17,7 @@ use Rattle.overlay_plane.proofs.SpokeRays.{one_ray_one_spoke}
 use Rattle.overlay_plane.proofs.RisesRound.{some_positive, some_negative, round, in_round, rises_round}
 
 -- a truth value that rises becomes true
-one_if_rises : (s t : Bool) → pos 0 <ℤ (one_if s -ℤ one_if t) → (s ≡ true) × (t ≡ false)
+pub one_if_rises : (s t : Bool) → pos 0 <ℤ (one_if s -ℤ one_if t) → (s ≡ true) × (t ≡ false)
 one_if_rises true true h = absurd (omega linear)
 one_if_rises true false h = (refl, refl)
 one_if_rises false true h = absurd (omega linear)

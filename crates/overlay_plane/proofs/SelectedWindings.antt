@@ -32,7 +32,7 @@ never_back p q less = false_from_ne_true (point_lt q p) (λ more. not_both ((Dec
 
 module _ (e : Edge) (forward : point_lt e.a e.b ≡ true) where
   -- the step with the upper side of a forward edge on its left leads forward, the one with the lower side there leads back
-  forward_above : (above : Bool) → is_forward (step_with_left above e) ≡ above
+  pub forward_above : (above : Bool) → is_forward (step_with_left above e) ≡ above
   forward_above true = forward
   forward_above false = never_back e.a e.b forward
 

@@ -1,8 +1,10 @@
 pub mod Adding
 pub mod Alternates
+pub mod Anchors
 pub mod Arrangements
 pub mod Balance
 pub mod BesideOrbits
+pub mod Binding
 pub mod ChainLinks
 pub mod ContourWindings
 pub mod Contours
@@ -24,6 +26,7 @@ pub mod Rays
 pub mod Regions
 pub mod Rounds
 pub mod SelectedSteps
+pub mod ShapeWindings
 pub mod Spokes
 pub mod Thinning
 pub mod Turn

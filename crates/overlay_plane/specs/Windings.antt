@@ -16,7 +16,7 @@ OneWindingAlongASide = (es : List CountedEdge) (count : CountedEdge → ℤ) →
     IsBalanced ends_of count es → (e : CountedEdge) → Contains es e → (x d : ℤ) → pos 0 <ℤ d → covers (ends_of e) x d ≡ true →
     total_under ends_of count es (ends_of e) x d ≡ winding_below count es e
 
--- the winding at a point of an edge that is none of its ends is the winding below the edge
+-- the winding at a point of an edge that is not vertical, but at its ends, is the winding below the edge
 abbrev pub OneWindingAtInnerPoints : Type 0
 OneWindingAtInnerPoints = (es : List CountedEdge) (count : CountedEdge → ℤ) → IsForwardBy ends_of es → IsSettled es →
     IsBalanced ends_of count es → (e : CountedEdge) → Contains es e → (p : PlanePoint) → side (ends_of e) p ≡ pos 0 →

@@ -8,8 +8,8 @@ pub fn arrangements_hold_chains()
     ensures { ArrangementsHoldChains }
 {}
 
-/// Where edges meet only in whole points or overlap, one round settles, it moves no point, and no
-/// winding changes.
+/// Where edges meet only in whole points or overlap, what rounds reach is reached by one at most,
+/// which moves no point and changes no winding.
 pub fn whole_meetings_are_exact()
     ensures { WholeMeetingsAreExact }
 {}

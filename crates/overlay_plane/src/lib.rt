@@ -6,6 +6,7 @@ pub mod adding;
 pub mod arranging;
 pub mod balance;
 pub mod beside_orbits;
+pub mod binding;
 pub mod contour_winding;
 pub mod contours;
 pub mod cutting;

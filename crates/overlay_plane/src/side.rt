@@ -7,7 +7,7 @@ pub fn one_winding_along_a_side()
     ensures { OneWindingAlongASide }
 {}
 
-/// The winding at a point of an edge that is none of its ends is the winding below the edge.
+/// The winding at a point of an edge that is not vertical, but at its ends, is the winding below it.
 pub fn one_winding_at_inner_points()
     ensures { OneWindingAtInnerPoints }
 {}

@@ -1,0 +1,71 @@
+-- The walks that selected steps are cut into are contours along different edges, which meet in ends alone.
+use Rattle.std.proofs.Common.{◌≡◌, false, Bool, ℤ, List, [], ◌∷◌, ◌++◌, map, All, Contains, AllPairs, refl, sym, ap, ◌∙◌, subst}
+use Rattle.std.specs.List.{filter}
+use Rattle.std.specs.List.Sorted.{IsPermutation}
+use Rattle.std.proofs.lemmas.List.{map-append}
+use Rattle.std.proofs.lemmas.List.Elements.{filter-append}
+use Rattle.std.proofs.lemmas.List.Kept.{AllPairs-filter}
+use Rattle.std.proofs.lemmas.List.Sorted.{Contains-permutation, IsPermutation-sym}
+use Rattle.overlay_geom.specs.Plane.{Step, edge_of, edge_eq}
+use Rattle.overlay_geom.specs.Edges.{CountedEdge}
+use Rattle.overlay_geom.specs.Settled.{IsSettledBy}
+use Rattle.overlay_geom.proofs.Mapped.{AllPairs-map}
+use Rattle.overlay_plane.specs.SelectedSteps.{selected_steps}
+use Rattle.overlay_plane.specs.Contours.{is_filled_above, outline_or_hole_hand, all_steps, IsContour}
+use Rattle.overlay_plane.specs.Anchors.{HasEachEdgeOnce}
+use Rattle.overlay_plane.specs.Binding.{AreCutFrom, all_filled_above, filled_above_edges}
+use Rattle.overlay_plane.proofs.CutWalks.{cuts_take_each_once}
+use Rattle.overlay_plane.proofs.CutWindings.{selected_alternate}
+use Rattle.overlay_plane.proofs.Entries.{all_of_entries}
+use Rattle.overlay_plane.proofs.SelectedWindings.{selected_steps_once}
+use Rattle.overlay_plane.proofs.ShuffledPairs.{edges_once_shuffled}
+use Rattle.overlay_plane.proofs.WalksOfCuts.{walk_of_a_cut, selected_along, edge_of_step, edges_meet, different_edges}
+
+-- the filled-above edges of walks are those of all their steps
+filled_above_of_all : (on_left : Bool) (walks : List (List Step)) → all_filled_above on_left walks ≡ filled_above_edges on_left (all_steps walks)
+filled_above_of_all on_left [] = refl
+filled_above_of_all on_left (w ∷ ws) =
+    ap (λ es. filled_above_edges on_left w ++ es) (filled_above_of_all on_left ws)
+    ∙ sym (map-append edge_of (filter (is_filled_above on_left) w) (filter (is_filled_above on_left) (all_steps ws)))
+    ∙ ap (map edge_of) (sym (filter-append (is_filled_above on_left) w (all_steps ws)))
+
+module _ (holds : ℤ → ℤ → Bool) (subj clip : CountedEdge → ℤ) (es : List CountedEdge) (on_left : Bool) (walks : List (List Step))
+    (cut : AreCutFrom holds subj clip es on_left walks) where
+  -- the selected steps
+  abbrev pub selected : List Step
+  selected = selected_steps holds subj clip on_left es
+
+  -- the walks have them in another order
+  moved : IsPermutation selected (all_steps walks)
+  moved = cuts_take_each_once (outline_or_hole_hand on_left) selected (selected_alternate holds subj clip es cut.ruled on_left)
+      (selected_steps_once holds subj clip es cut.ruled on_left) walks cut.cut
+
+  -- a walk's step is selected
+  pub from_selected : (s : Step) → Contains (all_steps walks) s → Contains selected s
+  from_selected s c = Contains-permutation (all_steps walks) selected s (IsPermutation-sym selected (all_steps walks) moved) c
+
+  -- each walk is a contour
+  pub walks_are_contours : All IsContour walks
+  walks_are_contours = all_of_entries IsContour walks (λ w c. (walk_of_a_cut holds subj clip es on_left cut.ruled walks cut.cut w c).contour)
+
+  -- along each of its edges once
+  pub walks_have_each_edge_once : All HasEachEdgeOnce walks
+  walks_have_each_edge_once = all_of_entries HasEachEdgeOnce walks (λ w c. (walk_of_a_cut holds subj clip es on_left cut.ruled walks cut.cut w c).each_edge_once)
+
+  -- no edge stands twice among all walks
+  all_edges_once : HasEachEdgeOnce (all_steps walks)
+  all_edges_once = edges_once_shuffled selected (all_steps walks) moved
+      (different_edges selected (selected_alternate holds subj clip es cut.ruled on_left) selected (λ s c. c)
+      (selected_steps_once holds subj clip es cut.ruled on_left))
+
+  -- so no two of the filled-above edges are equal
+  pub filled_above_distinct : AllPairs (λ e f. edge_eq e f ≡ false) (all_filled_above on_left walks)
+  filled_above_distinct = subst (λ fs. AllPairs (λ e f. edge_eq e f ≡ false) fs) (sym (filled_above_of_all on_left walks))
+      (AllPairs-map (λ e f. edge_eq e f ≡ false) edge_of (filter (is_filled_above on_left) (all_steps walks))
+      (AllPairs-filter (λ s t. edge_eq (edge_of s) (edge_of t) ≡ false) (is_filled_above on_left) (all_steps walks) all_edges_once))
+
+  -- and they meet in ends alone
+  pub walks_settled : IsSettledBy edge_of (all_steps walks)
+  walks_settled s t at_s at_t apart = edges_meet es cut.ruled.settled (edge_of s) (edge_of t)
+      (edge_of_step es selected (selected_along holds subj clip es on_left cut.ruled) s (from_selected s at_s))
+      (edge_of_step es selected (selected_along holds subj clip es on_left cut.ruled) t (from_selected t at_t)) apart

@@ -1,0 +1,63 @@
+//! Which shape a hole belongs to: anchors, the next edge below them, and parents.
+
+ghost use Rattle.overlay_plane.specs.Anchors.{AnchorsExist, AnchorsLeadOn, BelowAnAnchorIsUnder, LowerAtIsUnder};
+ghost use Rattle.overlay_plane.specs.Binding.{HolesHaveNext, HolesHaveParents, NextIsAnchoredBefore};
+ghost use Rattle.overlay_plane.specs.Binding.{ShapesHaveEachWalk, BoundWalksHaveShapes};
+ghost use Rattle.overlay_plane.specs.ShapeWindings.{ShapesHaveEachStep, ShapesWind};
+
+/// Every contour has an anchor.
+pub fn anchors_exist()
+    ensures { AnchorsExist }
+{}
+
+/// An anchor is not vertical.
+pub fn anchors_lead_on()
+    ensures { AnchorsLeadOn }
+{}
+
+/// What is below an anchor is under its edge, just right of its point.
+pub fn below_an_anchor_is_under()
+    ensures { BelowAnAnchorIsUnder }
+{}
+
+/// Of two edges over an abscissa the one that is lower there, by height and then by slope, is under
+/// the other just right of it.
+pub fn lower_at_is_under()
+    ensures { LowerAtIsUnder }
+{}
+
+/// Each hole that selected steps are cut into has a next filled-above edge below it.
+pub fn holes_have_next()
+    ensures { HolesHaveNext }
+{}
+
+/// So each hole has a parent.
+pub fn holes_have_parents()
+    ensures { HolesHaveParents }
+{}
+
+/// What has the next edge below a hole is anchored before it.
+pub fn next_is_anchored_before()
+    ensures { NextIsAnchoredBefore }
+{}
+
+/// Where no hole is without a shape, the shapes have each contour exactly once.
+pub fn shapes_have_each_walk()
+    ensures { ShapesHaveEachWalk }
+{}
+
+/// No hole that selected steps are cut into is without a shape.
+pub fn bound_walks_have_shapes()
+    ensures { BoundWalksHaveShapes }
+{}
+
+/// The shapes have each selected step exactly once.
+pub fn shapes_have_each_step()
+    ensures { ShapesHaveEachStep }
+{}
+
+/// The shapes, as they are or thinned, wind once round each point where the rule holds, and zero
+/// times round each other one.
+pub fn shapes_wind()
+    ensures { ShapesWind }
+{}
