@@ -17,8 +17,10 @@ pub mod Pieces
 pub mod Places
 pub mod PlainPoints
 pub mod RoundsTaken
+pub mod RuledContents
 pub mod RunsAlike
 pub mod RunsLoop
 pub mod RunsMerged
 pub mod SettledLists
+pub mod SideBits
 pub mod StepEdges

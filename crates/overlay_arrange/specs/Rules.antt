@@ -1,9 +1,11 @@
--- Fill rules, windings below and above an edge, and the fill bits of an edge.
-use Rattle.std.specs.Prelude.{ℕ, ◌+◌, ◌%◌, Bool, cond, not, ◌==◌, ℤ, pos, nat_abs, int_lt, List}
+-- Fill rules, overlay rules, windings below and above an edge, and the fill bits of an edge.
+use Rattle.std.specs.Prelude.{ℕ, ◌+◌, ◌%◌, Bool, cond, not, ◌&&◌, ◌||◌, ◌==◌, ℤ, pos, nat_abs, int_lt, List}
 use Rattle.std.specs.Ordering.{int_eq}
 use Rattle.overlay_geom.specs.Edges.{CountedEdge, subj_of, clip_of, winding_below, winding_above}
 use Rattle.overlay_arrange.specs.declared.fill_rule.FillRule.{FillRule}
 use Rattle.overlay_arrange.specs.declared.fill_rule.FillRule.TheVariants.{EvenOdd, NonZero, Positive, Negative}
+use Rattle.overlay_arrange.specs.declared.overlay_rule.OverlayRule.{OverlayRule}
+use Rattle.overlay_arrange.specs.declared.overlay_rule.OverlayRule.TheVariants.{Subject, Clip, Intersect, Union, Difference, InverseDifference, Xor}
 
 -- a winding is filled under the rule
 abbrev pub is_filled : FillRule → ℤ → Bool
@@ -39,3 +41,17 @@ bits_of f = bit f.subj_above 1 + bit f.subj_below 2 + bit f.clip_above 4 + bit f
 -- the fill bits of an edge of the list
 abbrev pub fill_bits : FillRule → List CountedEdge → CountedEdge → ℕ
 fill_bits fill es e = bits_of (fills_of fill es e)
+
+-- the rule takes what the subject fills, or not, and the clip fills, or not
+abbrev pub rule_holds : OverlayRule → Bool → Bool → Bool
+rule_holds Subject s c = s
+rule_holds Clip s c = c
+rule_holds Intersect s c = s && c
+rule_holds Union s c = s || c
+rule_holds Difference s c = s && not c
+rule_holds InverseDifference s c = c && not s
+rule_holds Xor s c = cond s (not c) c
+
+-- the rules hold of a winding of the subject and one of the clip
+abbrev pub rules_hold : FillRule → OverlayRule → ℤ → ℤ → Bool
+rules_hold fill rule s c = rule_holds rule (is_filled fill s) (is_filled fill c)

@@ -30,7 +30,7 @@ use std::cmp::Ordering;
 impl<I: IntNumber, C: EdgeCount, A: Allocator> Content<I, C, A> {
     /// Cuts each edge into the pieces of the chain through the whole points in which the others
     /// meet it. The edges ascend. If it is refused the content is left open.
-    pub fn cut(&mut self, store: &mut C::Store) -> Result<(), OverlayError>
+    pub(crate) fn cut(&mut self, store: &mut C::Store) -> Result<(), OverlayError>
     where
         A: Clone,
         requires { IsAscending self.old }

@@ -4,17 +4,18 @@
 
 pub mod content;
 pub mod count;
-pub mod crossing;
-pub mod cut;
+mod crossing;
+mod cut;
 pub mod data;
 pub mod edge;
-pub mod fill;
+mod fill;
 pub mod fill_rule;
-pub mod merge;
+mod merge;
 pub mod options;
-pub mod rounds;
-pub mod settle;
-pub mod steps;
+pub mod overlay_rule;
+mod rounds;
+mod settle;
+mod steps;
 pub mod string_count;
 pub mod thin;
 pub mod vector;

@@ -1,0 +1,35 @@
+-- The fill bits of an edge tell which of its sides are filled.
+use Rattle.std.proofs.Common.{◌≡◌, Bool, true, false, refl}
+use Rattle.overlay_arrange.specs.Counts.{has_bit}
+use Rattle.overlay_arrange.specs.Rules.{Fills, bits_of}
+
+-- each bit is set where its side is filled
+pub record ShowsSides (f : Fills) : Type 0 where
+  pub subj_above : has_bit (bits_of f) 0 ≡ f.subj_above
+  pub subj_below : has_bit (bits_of f) 1 ≡ f.subj_below
+  pub clip_above : has_bit (bits_of f) 2 ≡ f.clip_above
+  pub clip_below : has_bit (bits_of f) 3 ≡ f.clip_below
+
+-- so it is, side by side
+sides : (subj_above subj_below clip_above clip_below : Bool) →
+    ShowsSides (record { subj_above = subj_above; subj_below = subj_below; clip_above = clip_above; clip_below = clip_below })
+sides true true true true = record { subj_above = refl; subj_below = refl; clip_above = refl; clip_below = refl }
+sides true true true false = record { subj_above = refl; subj_below = refl; clip_above = refl; clip_below = refl }
+sides true true false true = record { subj_above = refl; subj_below = refl; clip_above = refl; clip_below = refl }
+sides true true false false = record { subj_above = refl; subj_below = refl; clip_above = refl; clip_below = refl }
+sides true false true true = record { subj_above = refl; subj_below = refl; clip_above = refl; clip_below = refl }
+sides true false true false = record { subj_above = refl; subj_below = refl; clip_above = refl; clip_below = refl }
+sides true false false true = record { subj_above = refl; subj_below = refl; clip_above = refl; clip_below = refl }
+sides true false false false = record { subj_above = refl; subj_below = refl; clip_above = refl; clip_below = refl }
+sides false true true true = record { subj_above = refl; subj_below = refl; clip_above = refl; clip_below = refl }
+sides false true true false = record { subj_above = refl; subj_below = refl; clip_above = refl; clip_below = refl }
+sides false true false true = record { subj_above = refl; subj_below = refl; clip_above = refl; clip_below = refl }
+sides false true false false = record { subj_above = refl; subj_below = refl; clip_above = refl; clip_below = refl }
+sides false false true true = record { subj_above = refl; subj_below = refl; clip_above = refl; clip_below = refl }
+sides false false true false = record { subj_above = refl; subj_below = refl; clip_above = refl; clip_below = refl }
+sides false false false true = record { subj_above = refl; subj_below = refl; clip_above = refl; clip_below = refl }
+sides false false false false = record { subj_above = refl; subj_below = refl; clip_above = refl; clip_below = refl }
+
+-- the bits of any fills
+pub bits_show_sides : (f : Fills) → ShowsSides f
+bits_show_sides f = sides f.subj_above f.subj_below f.clip_above f.clip_below

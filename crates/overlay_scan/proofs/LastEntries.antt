@@ -1,0 +1,57 @@
+-- The last entry of a list, and of those that pass a test.
+use Rattle.std.proofs.Common.{◌≡◌, ◌⊎◌, inl, inr, Bool, true, ℕ, ◌+◌, ◌-◌, ◌≤◌, List, [], ◌∷◌, ◌++◌, length, map, take, get_or, Option, None, Some, refl, sym, ap, ◌∙◌, subst, arith, pos}
+use Rattle.std.specs.List.{AllPairs, Contains, filter, last_or}
+use Rattle.std.specs.Option.{IfSome}
+use Rattle.std.proofs.lemmas.List.{take-map}
+use Rattle.std.proofs.lemmas.List.Elements.{All-contains}
+use Rattle.std.proofs.lemmas.List.Kept.{AllPairs-filter}
+use Rattle.overlay_geom.proofs.Entries.{Contains-head, Contains-later, Contains-cases}
+use Rattle.overlay_geom.proofs.Mapped.{mapped_more}
+use Rattle.overlay_geom.proofs.Merging.{AllPairs-head, AllPairs-tail}
+use Rattle.overlay_plane.proofs.Entries.{Contains-filter, Contains-from_filter}
+use Rattle.overlay_plane.specs.Heights.{is_under}
+use Rattle.overlay_scan.specs.Scan.{Entry}
+use Rattle.overlay_scan.specs.Laws.{LookUpGivesTheGreatest}
+
+last_pushed : {X : Type 0} (o : Option X) (xs : List X) (x : X) → last_or o (xs ++ x ∷ []) ≡ Some x
+last_pushed o [] x = refl
+last_pushed o (y ∷ xs) x = last_pushed (Some y) xs x
+
+before_one : (n : ℕ) → ¬ (n ≡ 0) → n - 1 + 1 ≡ n
+before_one n some = omega arith
+
+-- the last of the first n items, n not 0, is the one at n - 1
+pub last_of_first : {X Y : Type 0} (h : X → Y) (xs : List X) (n : ℕ) (x : X) → ¬ (n ≡ 0) → n ≤ length xs → x ≡ get_or xs (n - 1) x →
+    last_or None (take n (map h xs)) ≡ Some (h x)
+last_of_first h xs n x some le is = ap (last_or None) (take-map h n xs ∙ ap (λ m. map h (take m xs)) (sym (before_one n some)) ∙ mapped_more h xs (n - 1) x (omega arith) is)
+    ∙ last_pushed None (map h (take (n - 1) xs)) (h x)
+
+-- what is in an option, or else d
+abbrev value_of : {X : Type 0} → X → Option X → X
+value_of d None = d
+value_of d (Some x) = x
+
+-- the last of several items is one of them, and R leads to it from each other one
+last_is : {X : Type 0} (R : X → X → Type 0) (xs : List X) → AllPairs R xs → (f : X) → last_or None xs ≡ Some f →
+    Contains xs f × ((g : X) → Contains xs g → (g ≡ f) ⊎ R g f)
+last_is R [] pairs f e = absurd (subst (λ o. IfSome o (λ _. ⊥)) e tt)
+last_is R (x ∷ []) pairs f e =
+    let one : x ≡ f = ap (value_of x) e in
+    (subst (Contains (x ∷ [])) one (Contains-head x []), λ g at. elim (Contains-cases x [] g at) [ inl same ↦ inl (sym same ∙ one) | inr later ↦ absurd (omega (arith, later)) ])
+last_is R (x ∷ y ∷ ys) pairs f e =
+    let rest = last_is R (y ∷ ys) (AllPairs-tail R x (y ∷ ys) pairs) f e in (
+      Contains-later x (y ∷ ys) f rest.0,
+      λ g at. elim (Contains-cases x (y ∷ ys) g at) [
+        | inl same ↦ inr (subst (λ z. R z f) same (All-contains (R x) (y ∷ ys) f (AllPairs-head R x (y ∷ ys) pairs) rest.0))
+        | inr later ↦ rest.1 g later
+      ],
+    )
+
+-- the law of specs/Laws
+pub look_up_gives_the_greatest : (V : Type 0) → LookUpGivesTheGreatest V
+look_up_gives_the_greatest V fs e x order f found =
+    let under : Entry V → Bool = λ g. is_under g.edge e x (pos 1) in
+    let last = last_is (λ g h. is_under g.edge h.edge x (pos 1) ≡ true) (filter under fs)
+    (AllPairs-filter (λ g h. is_under g.edge h.edge x (pos 1) ≡ true) under fs order) f found in
+    let at = Contains-from_filter under fs f last.0 in
+    record { entry = at.0; under = at.1; greatest = λ g in_list below. last.1 g (Contains-filter under fs g in_list below) }

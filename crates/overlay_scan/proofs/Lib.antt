@@ -1,0 +1,6 @@
+pub mod Answered
+pub mod AtStarts
+pub mod LastEntries
+pub mod Moving
+pub mod Prefixes
+pub mod PutIn

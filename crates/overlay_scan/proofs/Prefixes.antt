@@ -1,0 +1,111 @@
+-- How many entries pass a test from the first one on, as a loop counts them; and which ones pass where none does after one that fails.
+use Rattle.std.proofs.Common.{◌≡◌, Bool, true, false, cond, ℕ, suc, ◌+◌, ◌<◌, ◌≤◌, List, [], ◌∷◌, length, map, take, drop, get_or, refl, sym, ap, ◌∙◌, arith}
+use Rattle.std.specs.List.{All, AllPairs, filter, prefix_len}
+use Rattle.std.proofs.lemmas.Bool.{false≢true}
+use Rattle.std.proofs.lemmas.List.{drop_all, length-map}
+use Rattle.std.proofs.lemmas.List.Sums.{prefix_len-le-length}
+use Rattle.std.proofs.lemmas.List.Elements.{All-nil, All-cons, All-head, All-tail, All-weaker}
+use Rattle.overlay_geom.proofs.Mapped.{mapped_rest}
+use Rattle.overlay_geom.proofs.Merging.{AllPairs-head, AllPairs-tail}
+
+plus_zero : (i : ℕ) → i + 0 ≡ i
+plus_zero i = omega arith
+
+plus_one : (i n : ℕ) → i + (1 + n) ≡ i + 1 + n
+plus_one i n = omega arith
+
+-- the first i items of the mapped list pass, and then those that pass of the rest
+abbrev pub HavePassed : {X Y : Type 0} → (Y → Bool) → (X → Y) → List X → ℕ → Type 0
+HavePassed test h xs i = prefix_len test (map h xs) ≡ i + prefix_len test (map h (drop i xs))
+
+-- the count at an item that fails
+pub prefix_stops : {X Y : Type 0} (test : Y → Bool) (h : X → Y) (xs : List X) (i : ℕ) (x : X) → i < length xs → x ≡ get_or xs i x →
+    test (h x) ≡ false → HavePassed test h xs i → prefix_len test (map h xs) ≡ i
+prefix_stops test h xs i x lt is fails so_far = so_far ∙ ap (λ l. i + prefix_len test l) (mapped_rest h xs i x lt is)
+    ∙ ap (λ b. i + cond b (1 + prefix_len test (map h (drop (i + 1) xs))) 0) fails ∙ plus_zero i
+
+-- one more that passes
+pub prefix_goes_on : {X Y : Type 0} (test : Y → Bool) (h : X → Y) (xs : List X) (i : ℕ) (x : X) → i < length xs → x ≡ get_or xs i x →
+    test (h x) ≡ true → HavePassed test h xs i → HavePassed test h xs (i + 1)
+prefix_goes_on test h xs i x lt is passes so_far = so_far ∙ ap (λ l. i + prefix_len test l) (mapped_rest h xs i x lt is)
+    ∙ ap (λ b. i + cond b (1 + prefix_len test (map h (drop (i + 1) xs))) 0) passes ∙ plus_one i (prefix_len test (map h (drop (i + 1) xs)))
+
+-- the count where all have passed
+pub prefix_ends : {X Y : Type 0} (test : Y → Bool) (h : X → Y) (xs : List X) (i : ℕ) → length xs ≤ i → i ≤ length xs → HavePassed test h xs i →
+    prefix_len test (map h xs) ≡ length xs
+prefix_ends test h xs i le ge so_far = so_far ∙ ap (λ l. i + prefix_len test (map h l)) (drop_all i xs le) ∙ plus_zero i ∙ omega arith
+
+-- no more pass than there are
+pub prefix_fits : {X Y : Type 0} (test : Y → Bool) (h : X → Y) (xs : List X) → prefix_len test (map h xs) ≤ length xs
+prefix_fits test h xs = let le = prefix_len-le-length test (map h xs) in let same = length-map xs h in omega arith
+
+-- so a count is at most the length
+pub fits_in : {X Y : Type 0} (test : Y → Bool) (h : X → Y) (xs : List X) (place n : ℕ) → place ≡ prefix_len test (map h xs) → length xs ≡ n → place ≤ n
+fits_in test h xs place n count len = let le = prefix_fits test h xs in omega arith
+
+-- ---- tests that agree
+
+-- tests that agree on the items count the same
+pub prefix-same : {X : Type 0} (s t : X → Bool) (xs : List X) → All (λ x. s x ≡ t x) xs → prefix_len s xs ≡ prefix_len t xs
+prefix-same s t [] h = refl
+prefix-same s t (x ∷ xs) h = ap (λ b. cond b (1 + prefix_len s xs) 0) (All-head (λ x. s x ≡ t x) x xs h)
+    ∙ ap (λ n. cond (t x) (1 + n) 0) (prefix-same s t xs (All-tail (λ x. s x ≡ t x) x xs h))
+
+-- an item passes if a later one does
+abbrev pub PassBefore : {X : Type 0} → (X → Bool) → List X → Type 0
+PassBefore test xs = AllPairs (λ x y. test y ≡ true → test x ≡ true) xs
+
+-- what fails if it makes x pass, which fails
+fails_with : (s t : Bool) → s ≡ false → (t ≡ true → s ≡ true) → t ≡ false
+fails_with s true e h = absurd (false≢true (sym e ∙ h refl))
+fails_with s false e h = refl
+
+-- after an item that fails all fail
+fail_after : {X : Type 0} (test : X → Bool) (x : X) (xs : List X) → PassBefore test (x ∷ xs) → test x ≡ false → All (λ y. test y ≡ false) xs
+fail_after test x xs h e = All-weaker (λ y. test y ≡ true → test x ≡ true) (λ y. test y ≡ false) (λ y k. fails_with (test x) (test y) e k) xs
+    (AllPairs-head (λ x y. test y ≡ true → test x ≡ true) x xs h)
+
+filter_none : {X : Type 0} (test : X → Bool) (xs : List X) → All (λ x. test x ≡ false) xs → filter test xs ≡ []
+filter_none test [] h = refl
+filter_none test (x ∷ xs) h = ap (λ b. cond b (x ∷ filter test xs) (filter test xs)) (All-head (λ x. test x ≡ false) x xs h)
+    ∙ filter_none test xs (All-tail (λ x. test x ≡ false) x xs h)
+
+one_more : (n : ℕ) → 1 + n ≡ suc n
+one_more n = omega arith
+
+take_next : {X : Type 0} (n : ℕ) (x : X) (xs : List X) → take (1 + n) (x ∷ xs) ≡ x ∷ take n xs
+take_next n x xs = ap (λ m. take m (x ∷ xs)) (one_more n)
+
+drop_next : {X : Type 0} (n : ℕ) (x : X) (xs : List X) → drop (1 + n) (x ∷ xs) ≡ drop n xs
+drop_next n x xs = ap (λ m. drop m (x ∷ xs)) (one_more n)
+
+module _ {X : Type 0} (test : X → Bool) where
+  -- what passes is what the count passes
+  pub filter_is_prefix : (xs : List X) → PassBefore test xs → filter test xs ≡ take (prefix_len test xs) xs
+  filter_is_prefix [] h = refl
+  filter_is_prefix (x ∷ xs) h = by (test x) refl (filter_is_prefix xs (AllPairs-tail (λ x y. test y ≡ true → test x ≡ true) x xs h))
+    where
+      by : (b : Bool) → test x ≡ b → filter test xs ≡ take (prefix_len test xs) xs →
+          cond (test x) (x ∷ filter test xs) (filter test xs) ≡ take (cond (test x) (1 + prefix_len test xs) 0) (x ∷ xs)
+      by true e rest = rw e (ap (λ l. x ∷ l) rest ∙ sym (take_next (prefix_len test xs) x xs))
+      by false e rest = rw e (filter_none test xs (fail_after test x xs h e))
+
+  -- each of them passes
+  pub prefix_passes : (xs : List X) → All (λ x. test x ≡ true) (take (prefix_len test xs) xs)
+  prefix_passes [] = All-nil (λ x. test x ≡ true)
+  prefix_passes (x ∷ xs) = by (test x) refl (prefix_passes xs)
+    where
+      by : (b : Bool) → test x ≡ b → All (λ x. test x ≡ true) (take (prefix_len test xs) xs) →
+          All (λ x. test x ≡ true) (take (cond (test x) (1 + prefix_len test xs) 0) (x ∷ xs))
+      by true e rest = rw e (rw (take_next (prefix_len test xs) x xs) (All-cons (λ x. test x ≡ true) x (take (prefix_len test xs) xs) e rest))
+      by false e rest = rw e (All-nil (λ x. test x ≡ true))
+
+  -- and each of the others fails
+  pub others_fail : (xs : List X) → PassBefore test xs → All (λ x. test x ≡ false) (drop (prefix_len test xs) xs)
+  others_fail [] h = All-nil (λ x. test x ≡ false)
+  others_fail (x ∷ xs) h = by (test x) refl (others_fail xs (AllPairs-tail (λ x y. test y ≡ true → test x ≡ true) x xs h))
+    where
+      by : (b : Bool) → test x ≡ b → All (λ x. test x ≡ false) (drop (prefix_len test xs) xs) →
+          All (λ x. test x ≡ false) (drop (cond (test x) (1 + prefix_len test xs) 0) (x ∷ xs))
+      by true e rest = rw e (rw (drop_next (prefix_len test xs) x xs) rest)
+      by false e rest = rw e (All-cons (λ x. test x ≡ false) x xs e (fail_after test x xs h e))

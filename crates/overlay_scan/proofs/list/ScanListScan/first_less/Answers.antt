@@ -1,0 +1,46 @@
+-- What is under the edge is what the count passes.
+use Rattle.std.proofs.Common.{sym, ap, ◌∙◌}
+use Rattle.std.proofs.lemmas.List.Elements.{All-same}
+use Rattle.overlay_geom.specs.Lines.{plain_line}
+use Rattle.overlay_scan.specs.Scan.{live_at, value_or}
+use Rattle.overlay_scan.specs.Lists.{plain_entry, plain_entries, plain_sweep, IsInRange, is_lower}
+use Rattle.overlay_scan.proofs.Moving.{sweep_after_move, sweep_moved, live_in_range}
+use Rattle.overlay_scan.proofs.Prefixes.{fits_in}
+use Rattle.std.proofs.Common.{None, take}
+use Rattle.std.specs.List.{last_or}
+use Rattle.overlay_scan.proofs.PutIn.{counted, found_under}
+use Rattle.overlay_scan.proofs.list.ScanListScan.first_less.Goals as goal
+
+pub count_under-place-requires-clause-entries : goal.count_under-place-requires-clause-entries
+count_under-place-requires-clause-entries g c =
+    let whole = g.I.IntNumber.whole in
+    let live = sweep_after_move g.I.IntNumber.limit (whole c.args.x) (plain_sweep whole c.args.self.now) c.requires.state c.requires.moves in
+    All-same (λ f. IsInRange g.I.IntNumber.limit f.edge) (plain_entries whole c.deref.result.now) (live_at (whole c.args.x) (plain_entries whole c.args.self.now.entries.items))
+    (ap (plain_entries whole) c.deref.ensures.value ∙ ap (λ s. s.entries) c.move_to.ensures)
+    (live_in_range g.I.IntNumber.limit (whole c.args.x) (live_at (whole c.args.x) (plain_entries whole c.args.self.now.entries.items)) live)
+
+pub value_before-requires : goal.value_before-requires
+value_before-requires g c =
+    let whole = g.I.IntNumber.whole in
+    fits_in (λ f. is_lower f.edge (plain_entry whole c.live_edge.result).edge) (plain_entry whole) c.deref.result.now c.count_under-place.result _ c.count_under-place.ensures
+    (c.deref.ensures.len ∙ sym c.deref-2.ensures.len)
+
+pub returns-clause-value : goal.returns-clause-value
+returns-clause-value g c =
+    let whole = g.I.IntNumber.whole in
+    let x = whole c.args.x in
+    let e = plain_line whole c.args.edge in
+    let fs = live_at x (plain_entries whole c.args.self.now.entries.items) in
+    let live = sweep_after_move g.I.IntNumber.limit x (plain_sweep whole c.args.self.now) c.requires.state c.requires.moves in
+    let place = counted whole c.deref.result.now c.live_edge.result (record { edge = e; value = c.args.default }) fs c.count_under-place.result
+    (ap (plain_entries whole) c.deref.ensures.value ∙ ap (λ s. s.entries) c.move_to.ensures) c.live_edge.ensures c.count_under-place.ensures in
+    c.value_before.ensures
+    ∙ ap (λ es. value_or c.args.default (last_or None (take c.count_under-place.result es)))
+    (ap (plain_entries whole) c.deref-2.ensures.value ∙ ap (λ s. s.entries) c.move_to.ensures)
+    ∙ ap (λ n. value_or c.args.default (last_or None (take n fs))) place
+    ∙ ap (λ es. value_or c.args.default (last_or None es)) (found_under g.I.IntNumber.limit x e fs live c.requires.over c.requires.meets)
+
+pub returns-clause-state : goal.returns-clause-state
+returns-clause-state g c =
+    let whole = g.I.IntNumber.whole in
+    sweep_moved g.I.IntNumber.limit (whole c.args.x) (plain_sweep whole c.args.self.now) (plain_sweep whole c.move_to.new.self) c.requires.state c.requires.moves c.move_to.ensures

@@ -1,0 +1,33 @@
+-- What a list of entries with points of the program stands for, and the test which of two edges is the lower one.
+use Rattle.std.specs.Prelude.{Bool, cond, not, ◌&&◌, ◌||◌, ℕ, ℤ, pos, int_lt, List, map, option_map}
+use Rattle.std.specs.Ordering.{int_eq}
+use Rattle.overlay_geom.specs.Plane.{Edge, cross_at}
+use Rattle.overlay_geom.specs.Points.{plain_point, InRange}
+use Rattle.overlay_scan.specs.Scan.{Entry, Sweep}
+use Rattle.overlay_scan.specs.declared.list.LiveEdge.{LiveEdge}
+use Rattle.overlay_scan.specs.declared.list.ScanList.{ScanList}
+
+-- the edge between whole points, with the value
+abbrev pub plain_entry : {I V : Type 0} → (I → ℤ) → LiveEdge I V → Entry V
+plain_entry whole f = record { edge = record { a = plain_point whole f.a; b = plain_point whole f.b }; value = f.value }
+
+-- and that of each entry of a list
+abbrev pub plain_entries : {I V : Type 0} → (I → ℤ) → List (LiveEdge I V) → List (Entry V)
+plain_entries whole fs = map (plain_entry whole) fs
+
+-- both ends of the edge are in the coordinate range
+pub record IsInRange (limit : ℕ) (e : Edge) : Type 0 where
+  pub a : InRange limit e.a
+  pub b : InRange limit e.b
+
+-- the list's entries, and where the sweep is
+abbrev pub plain_sweep : {I V A : Type 0} → (I → ℤ) → ScanList I V A → Sweep V
+plain_sweep whole s = record { entries = plain_entries whole s.entries.items; least = option_map whole s.reached }
+
+-- f is lower than e just right of the start of e: it passes below the start, or starts there to the right of e
+abbrev pub is_lower_at_start : Edge → Edge → Bool
+is_lower_at_start f e = int_lt (pos 0) (cross_at f.a f.b e.a) || (int_eq (cross_at f.a f.b e.a) (pos 0) && int_lt (pos 0) (cross_at e.a f.b e.b))
+
+-- f is lower than e just right of the start of the one that starts later
+abbrev pub is_lower : Edge → Edge → Bool
+is_lower f e = cond (int_lt e.a.x f.a.x) (not (is_lower_at_start e f)) (is_lower_at_start f e)

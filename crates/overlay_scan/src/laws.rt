@@ -1,0 +1,8 @@
+//! What look-ups find.
+
+ghost use Rattle.overlay_scan.specs.Laws.{LookUpGivesTheGreatest};
+
+/// In a list from bottom to top, the last entry under an edge is the greatest one under it.
+pub fn look_up_gives_the_greatest<V: Copy>()
+    ensures { LookUpGivesTheGreatest V }
+{}

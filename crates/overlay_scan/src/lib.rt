@@ -1,0 +1,6 @@
+//! A sweep's list of live edges, from bottom to top.
+#![tactic(auto)]
+
+pub mod laws;
+pub mod list;
+pub mod scan;

@@ -1,0 +1,206 @@
+//! Live edges in a list.
+
+ghost use Rattle.std.specs.Prelude.{◌≡◌, ◌≤◌, [], ◌∷◌, length, take, not, All, None, Some, OnOk, OnErr, IsOkUnless};
+ghost use Rattle.std.specs.List.{last_or, prefix_len};
+ghost use Rattle.std.specs.Ordering.{is_gt};
+ghost use Rattle.overlay_geom.specs.Lines.{plain_line};
+ghost use Rattle.overlay_scan.specs.Lists.{plain_entry, plain_entries, plain_sweep};
+ghost use Rattle.overlay_scan.specs.Lists.{IsInRange, is_lower_at_start, is_lower};
+ghost use Rattle.overlay_scan.specs.Scan.{empty_sweep, live_at, moved_to, value_or};
+ghost use Rattle.overlay_scan.specs.Scan.{MayMoveTo, IsOver, IsSweep, IsPutIn};
+ghost use Rattle.overlay_scan.specs.Scan.{MeetsOthers, IsNewAmong, value_below};
+ghost use Rattle.overlay_scan.specs.Scan.{IsCallableOn, IsAnsweredBy, AnswersRise, value_up_to};
+
+use crate::scan::Scan;
+use overlay_geom::error::OverlayError;
+use overlay_geom::number::{IntNumber, WideIntNumber};
+use overlay_geom::path::IntLine;
+use overlay_geom::point::IntPoint;
+use overlay_geom::vector::cross_at;
+use std::alloc::Allocator;
+use std::cmp::Ordering;
+
+#[cfg(test)]
+mod tests;
+
+// An edge of the list, of which a is the smaller end, and its value.
+#[derive(Clone, Copy)]
+struct LiveEdge<I, V> {
+    a: IntPoint<I>,
+    b: IntPoint<I>,
+    value: V,
+}
+
+/// A [`Scan`] that keeps its edges in a vector. Each call goes through all live edges.
+#[derive(Drop)]
+pub struct ScanList<I, V, A: Allocator> {
+    // from bottom to top
+    entries: Vec<LiveEdge<I, V>, A>,
+    // the x that was moved to last, and none after `clear`
+    reached: Option<I>,
+}
+
+impl<I: IntNumber, V: Copy, A: Allocator> ScanList<I, V, A> {
+    /// No edges. Their memory will be that of the allocator; none is taken yet.
+    pub fn default(alloc: A) -> Self
+        ensures { plain_sweep I.whole result ≡ empty_sweep }
+    {
+        ScanList {
+            entries: Vec::new(alloc),
+            reached: None,
+        }
+    }
+
+    // Drops the edges that end at or before x.
+    fn move_to(&mut self, x: I)
+        ensures { plain_sweep I.whole self.new ≡ moved_to (I.whole x) (plain_sweep I.whole self.old) }
+    {
+        self.entries.retain(|f| x.compare(f.b.x).is_lt());
+        self.reached = Some(x);
+    }
+}
+
+impl<I: IntNumber, V: Copy, A: Allocator> Scan<I, V> for ScanList<I, V, A> {
+    ghost use Rattle.overlay_scan.specs.Lists.{plain_sweep};
+
+    ghost content = { plain_sweep I.whole };
+
+    fn insert(&mut self, edge: IntLine<I>, value: V, x: I) -> Result<(), OverlayError>
+        requires state { IsSweep I.limit (plain_sweep I.whole self.old) }
+        requires moves { MayMoveTo (I.whole x) (plain_sweep I.whole self.old) }
+        requires over { IsOver I.limit (I.whole x) (plain_line I.whole edge) }
+        requires meets { MeetsOthers (plain_line I.whole edge) (live_at (I.whole x) (plain_sweep I.whole self.old).entries) }
+        requires fresh { IsNewAmong (plain_line I.whole edge) (live_at (I.whole x) (plain_sweep I.whole self.old).entries) }
+        ensures ok { OnOk result (IsPutIn (I.whole x) (record { edge = plain_line I.whole edge; value = value })
+            (live_at (I.whole x) (plain_sweep I.whole self.old).entries) (plain_sweep I.whole self.new).entries) }
+        ensures err { OnErr result (plain_sweep I.whole self.new ≡ moved_to (I.whole x) (plain_sweep I.whole self.old)) }
+        ensures least { (plain_sweep I.whole self.new).least ≡ Some (I.whole x) }
+        ensures state { IsSweep I.limit (plain_sweep I.whole self.new) }
+        ensures only { IsOkUnless result OverlayError.Memory }
+    {
+        self.move_to(x);
+        let entry = live_edge(edge, value);
+        let place = count_under(&self.entries, entry);
+        self.entries.insert(place, entry)?;
+        Ok(())
+    }
+
+    fn first_less(&mut self, x: I, default: V, edge: IntLine<I>) -> V
+        requires state { IsSweep I.limit (plain_sweep I.whole self.old) }
+        requires moves { MayMoveTo (I.whole x) (plain_sweep I.whole self.old) }
+        requires over { IsOver I.limit (I.whole x) (plain_line I.whole edge) }
+        requires starts { (plain_line I.whole edge).a.x ≡ I.whole x }
+        requires meets { MeetsOthers (plain_line I.whole edge) (live_at (I.whole x) (plain_sweep I.whole self.old).entries) }
+        ensures value { result ≡ value_below default (plain_line I.whole edge) (I.whole x)
+            (live_at (I.whole x) (plain_sweep I.whole self.old).entries) }
+        ensures content { plain_sweep I.whole self.new ≡ moved_to (I.whole x) (plain_sweep I.whole self.old) }
+        ensures state { IsSweep I.limit (plain_sweep I.whole self.new) }
+    {
+        self.move_to(x);
+        let place = count_under(&self.entries, live_edge(edge, default));
+        value_before(&self.entries, place, default)
+    }
+
+    fn first_less_or_equal_by<F: Fn(IntLine<I>) -> Ordering + Drop>(
+        &mut self,
+        x: I,
+        default: V,
+        order: F,
+    ) -> V {
+        self.move_to(x);
+        let place = count_up_to(&self.entries, order);
+        value_before(&self.entries, place, default)
+    }
+
+    fn clear(&mut self) {
+        self.entries.clear();
+        self.reached = None;
+    }
+}
+
+// The line as an edge of the list.
+fn live_edge<I: IntNumber, V: Copy>(line: IntLine<I>, value: V) -> LiveEdge<I, V>
+    ensures { plain_entry I.whole result ≡ record { edge = plain_line I.whole line; value = value } }
+{
+    let [a, b] = line;
+    LiveEdge { a, b, value }
+}
+
+// How many entries are under the edge, from the bottom on.
+fn count_under<I: IntNumber, V: Copy>(entries: &[LiveEdge<I, V>], e: LiveEdge<I, V>) -> usize
+    requires entries { All (λ f. IsInRange I.limit f.edge) (plain_entries I.whole entries.now) }
+    requires edge { IsInRange I.limit (plain_entry I.whole e).edge }
+    ensures { result ≡ prefix_len (λ f. is_lower f.edge (plain_entry I.whole e).edge) (plain_entries I.whole entries.now) }
+{
+    for (i, f) in entries.iter().enumerate() {
+        if !is_under(f, &e) {
+            return i;
+        }
+    }
+    entries.len()
+}
+
+// How many entries the order does not answer Greater, from the bottom on.
+fn count_up_to<I: IntNumber, V: Copy, F: Fn(IntLine<I>) -> Ordering + Drop>(
+    entries: &[LiveEdge<I, V>],
+    order: F,
+) -> usize
+    requires { IsCallableOn I.whole (F.pre order) (plain_entries I.whole entries.now) }
+    ensures fits { result ≤ length entries.now }
+    ensures count { (answer : _) → IsAnsweredBy I.whole (F.post order) answer (plain_entries I.whole entries.now)
+        → result ≡ prefix_len (λ f. not (is_gt (answer f.edge))) (plain_entries I.whole entries.now) }
+{
+    for (i, f) in entries.iter().enumerate() {
+        if ask(&order, f).is_gt() {
+            return i;
+        }
+    }
+    entries.len()
+}
+
+// What the order answers for an entry's line.
+fn ask<I: IntNumber, V: Copy, F: Fn(IntLine<I>) -> Ordering>(
+    order: &F,
+    f: &LiveEdge<I, V>,
+) -> Ordering
+    requires { F.pre order.now (f.now.a ∷ f.now.b ∷ []) }
+    ensures { F.post order.now (f.now.a ∷ f.now.b ∷ []) result }
+{
+    order([f.a, f.b])
+}
+
+// The value of the last of the first n entries, or the default if n is 0.
+fn value_before<I: IntNumber, V: Copy>(entries: &[LiveEdge<I, V>], n: usize, default: V) -> V
+    requires { n ≤ length entries.now }
+    ensures { result ≡ value_or default (last_or None (take n (plain_entries I.whole entries.now))) }
+{
+    if n == 0 {
+        default
+    } else {
+        entries[n - 1].value
+    }
+}
+
+// Whether f is under e, where both are over one x and meet in ends alone: this is seen where the one
+// starts that starts later.
+fn is_under<I: IntNumber, V: Copy>(f: &LiveEdge<I, V>, e: &LiveEdge<I, V>) -> bool
+    requires one { IsInRange I.limit (plain_entry I.whole f.now).edge }
+    requires other { IsInRange I.limit (plain_entry I.whole e.now).edge }
+    ensures { result ≡ is_lower (plain_entry I.whole f.now).edge (plain_entry I.whole e.now).edge }
+{
+    if e.a.x.compare(f.a.x).is_lt() {
+        !is_lower_at_start(e, f)
+    } else {
+        is_lower_at_start(f, e)
+    }
+}
+
+// Whether f passes below the start of e, or starts there to the right of e.
+fn is_lower_at_start<I: IntNumber, V: Copy>(f: &LiveEdge<I, V>, e: &LiveEdge<I, V>) -> bool
+    requires one { IsInRange I.limit (plain_entry I.whole f.now).edge }
+    requires other { IsInRange I.limit (plain_entry I.whole e.now).edge }
+    ensures { result ≡ is_lower_at_start (plain_entry I.whole f.now).edge (plain_entry I.whole e.now).edge }
+{
+    let side = cross_at(f.a, f.b, e.a).sign();
+    side.is_gt() || side.is_eq() && cross_at(e.a, f.b, e.b).sign().is_gt()
+}

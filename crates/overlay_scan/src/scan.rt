@@ -1,0 +1,76 @@
+//! The list of live edges, as a sweep from left to right calls it.
+
+ghost use Rattle.std.specs.Prelude.{◌≡◌, Some, OnOk, OnErr, IsOkUnless};
+ghost use Rattle.overlay_geom.specs.Lines.{plain_line};
+ghost use Rattle.overlay_scan.specs.Scan.{Sweep, empty_sweep, live_at, moved_to};
+ghost use Rattle.overlay_scan.specs.Scan.{MayMoveTo, IsOver, IsSweep, IsPutIn};
+ghost use Rattle.overlay_scan.specs.Scan.{MeetsOthers, IsNewAmong, value_below};
+ghost use Rattle.overlay_scan.specs.Scan.{IsCallableOn, IsAnsweredBy, AnswersRise, value_up_to};
+
+use overlay_geom::error::OverlayError;
+use overlay_geom::number::IntNumber;
+use overlay_geom::path::IntLine;
+use std::cmp::Ordering;
+
+/// The edges over a vertical line that moves from left to right, from bottom to top, each with a
+/// value. An edge is given by its two ends, the smaller one first.
+///
+/// Each call but `clear` moves the line to an x, which does not fall until `clear`. Edges that end
+/// at or before x are expired: they count no more, and the call drops them.
+pub trait Scan<I: IntNumber, V: Copy> {
+    // The entries from bottom to top, and where the line is.
+    ghost content: { Self → Sweep V };
+
+    /// Moves to x and puts in an edge that is over x, `a.x <= x < b.x`, with its value: above the
+    /// edges that are under it just right of x, and below the others. It meets each live edge in
+    /// ends alone, and equals none. Its ends are in range. The only refusal is `Memory`, after
+    /// which the live edges are as they were.
+    fn insert(&mut self, edge: IntLine<I>, value: V, x: I) -> Result<(), OverlayError>
+        requires state { IsSweep I.limit (content self.old) }
+        requires moves { MayMoveTo (I.whole x) (content self.old) }
+        requires over { IsOver I.limit (I.whole x) (plain_line I.whole edge) }
+        requires meets { MeetsOthers (plain_line I.whole edge) (live_at (I.whole x) (content self.old).entries) }
+        requires fresh { IsNewAmong (plain_line I.whole edge) (live_at (I.whole x) (content self.old).entries) }
+        ensures ok { OnOk result (IsPutIn (I.whole x) (record { edge = plain_line I.whole edge; value = value })
+            (live_at (I.whole x) (content self.old).entries) (content self.new).entries) }
+        ensures err { OnErr result (content self.new ≡ moved_to (I.whole x) (content self.old)) }
+        ensures least { (content self.new).least ≡ Some (I.whole x) }
+        ensures state { IsSweep I.limit (content self.new) }
+        ensures only { IsOkUnless result OverlayError.Memory };
+
+    /// Moves to x, where the asked edge starts, and returns the value of the highest live edge that
+    /// is under it just right of x, or `default` where none is. The asked edge is not vertical, and
+    /// meets each other live edge in ends alone. Its ends are in range. It takes no memory.
+    fn first_less(&mut self, x: I, default: V, edge: IntLine<I>) -> V
+        requires state { IsSweep I.limit (content self.old) }
+        requires moves { MayMoveTo (I.whole x) (content self.old) }
+        requires over { IsOver I.limit (I.whole x) (plain_line I.whole edge) }
+        requires starts { (plain_line I.whole edge).a.x ≡ I.whole x }
+        requires meets { MeetsOthers (plain_line I.whole edge) (live_at (I.whole x) (content self.old).entries) }
+        ensures value { result ≡ value_below default (plain_line I.whole edge) (I.whole x)
+            (live_at (I.whole x) (content self.old).entries) }
+        ensures content { content self.new ≡ moved_to (I.whole x) (content self.old) }
+        ensures state { IsSweep I.limit (content self.new) };
+
+    /// Moves to x and returns the value of the highest live edge for which `order` does not answer
+    /// `Greater`, or `default` where there is none. From bottom to top `order` answers `Less`, then
+    /// `Equal`, then `Greater`. It takes no memory.
+    fn first_less_or_equal_by<F: Fn(IntLine<I>) -> Ordering + Drop>(
+        &mut self,
+        x: I,
+        default: V,
+        order: F,
+    ) -> V
+        requires state { IsSweep I.limit (content self.old) }
+        requires moves { MayMoveTo (I.whole x) (content self.old) }
+        requires callable { IsCallableOn I.whole (F.pre order) (live_at (I.whole x) (content self.old).entries) }
+        ensures value { (answer : _) → IsAnsweredBy I.whole (F.post order) answer (live_at (I.whole x) (content self.old).entries)
+            → AnswersRise answer (live_at (I.whole x) (content self.old).entries)
+            → result ≡ value_up_to default answer (live_at (I.whole x) (content self.old).entries) }
+        ensures content { content self.new ≡ moved_to (I.whole x) (content self.old) }
+        ensures state { IsSweep I.limit (content self.new) };
+
+    /// Drops all edges, for a sweep from the start. It takes no memory.
+    fn clear(&mut self)
+        ensures { content self.new ≡ empty_sweep };
+}

@@ -1,0 +1,61 @@
+-- Walks with what is told of them, as a loop over both lists finds them.
+use Rattle.std.proofs.Common.{◌≡◌, ℕ, zero, suc, ◌+◌, ◌<◌, ◌≤◌, List, [], ◌∷◌, ◌++◌, map, take, length, get_or, refl, sym, ap, ap₂, ◌∙◌, subst, arith}
+use Rattle.std.specs.Prelude.{Bool, true, Option, Some, None, MatchOption, IfSome}
+use Rattle.std.proofs.lemmas.List.{take_more, length-map}
+use Rattle.overlay_geom.specs.Plane.{Step}
+use Rattle.overlay_plane.specs.Binding.{BoundWalk, IsBound, AreBound, IsParentOf, HasNoParent, is_hole, outlines}
+use Rattle.overlay_plane.proofs.HolesAdded.{parent_is_counted}
+use Rattle.overlay_walk.specs.Walks.{bound_to}
+
+-- no more walks are told of than there are numbers
+length-bound_to-le : (ws : List (List Step)) (ns : List (Option ℕ)) → length (bound_to ws ns) ≤ length ns
+length-bound_to-le [] ns = omega arith
+length-bound_to-le (w ∷ ws) [] = omega arith
+length-bound_to-le (w ∷ ws) (n ∷ ns) = let rest = length-bound_to-le ws ns in omega arith
+
+-- where each walk is told of, there are as many numbers
+pub numbers_enough : (ws : List (List Step)) (ns : List (Option ℕ)) → map (λ (b : BoundWalk). b.steps) (bound_to ws ns) ≡ ws → length ws ≤ length ns
+numbers_enough ws ns are =
+    let long : length (bound_to ws ns) ≡ length ws = sym (length-map (bound_to ws ns) (λ (b : BoundWalk). b.steps)) ∙ ap length are in
+    let few = length-bound_to-le ws ns in
+    omega arith
+
+-- a walk with a number
+abbrev with_number : List Step → Option ℕ → BoundWalk
+with_number w n = record { steps = w; shape = n }
+
+-- what is told of the walk at a place
+bound_at : (ws : List (List Step)) (ns : List (Option ℕ)) (k : ℕ) (w : List Step) (n : Option ℕ) (d : BoundWalk) → k < length ws → k < length ns →
+    (get_or (bound_to ws ns) k d ≡ record { steps = get_or ws k w; shape = get_or ns k n }) × (k < length (bound_to ws ns))
+bound_at [] ns k w n d in_walks in_numbers = absurd (elim in_walks [ ])
+bound_at (v ∷ ws) [] k w n d in_walks in_numbers = absurd (elim in_numbers [ ])
+bound_at (v ∷ ws) (m ∷ ns) zero w n d in_walks in_numbers = (refl, omega arith)
+bound_at (v ∷ ws) (m ∷ ns) (suc k) w n d in_walks in_numbers = let rest = bound_at ws ns k w n d (omega arith) (omega arith) in (rest.0, omega arith)
+
+-- the walks told of, with one more
+pub bound_more : (ws : List (List Step)) (ns : List (Option ℕ)) (k : ℕ) (w : List Step) (n : Option ℕ) → k < length ws → k < length ns →
+    get_or ws k w ≡ w → n ≡ get_or ns k n →
+    take (k + 1) (bound_to ws ns) ≡ take k (bound_to ws ns) ++ record { steps = w; shape = n } ∷ []
+bound_more ws ns k w n in_walks in_numbers is_walk is_number =
+    let at = bound_at ws ns k w n (record { steps = w; shape = n }) in_walks in_numbers in
+    take_more (bound_to ws ns) k (record { steps = w; shape = n }) at.1
+    ∙ ap (λ b. take k (bound_to ws ns) ++ b ∷ []) (at.0 ∙ ap₂ with_number is_walk (sym is_number))
+
+-- the number of a hole is that of an outline
+pub bound_is_counted : (on_left : Bool) (ws : List (List Step)) (ns : List (Option ℕ)) → AreBound on_left ws (bound_to ws ns) →
+    (k : ℕ) (w : List Step) (n : Option ℕ) → k < length ws → get_or ws k w ≡ w → n ≡ get_or ns k n → is_hole on_left w ≡ true →
+    IfSome n (λ m. m < length (outlines on_left ws))
+bound_is_counted on_left ws ns b k w n inside is_walk is_number hole = by n told
+  where
+    enough : length ws ≤ length ns
+    enough = numbers_enough ws ns b.are
+
+    at : (get_or (bound_to ws ns) k (with_number w n) ≡ with_number (get_or ws k w) (get_or ns k n)) × (k < length (bound_to ws ns))
+    at = bound_at ws ns k w n (with_number w n) inside (let e = enough in omega arith)
+
+    told : MatchOption n (HasNoParent on_left ws w) (λ m. IsParentOf on_left ws w m)
+    told = subst (IsBound on_left ws) (at.0 ∙ ap₂ with_number is_walk (sym is_number)) (b.told k (with_number w n) at.1) hole
+
+    by : (s : Option ℕ) → MatchOption s (HasNoParent on_left ws w) (λ m. IsParentOf on_left ws w m) → IfSome s (λ m. m < length (outlines on_left ws))
+    by None h = tt
+    by (Some m) h = parent_is_counted on_left ws w m h

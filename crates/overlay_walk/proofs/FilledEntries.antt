@@ -1,0 +1,95 @@
+-- The filled-above edges of the first walks.
+use Rattle.std.proofs.Common.{◌≡◌, ℕ, ◌+◌, ◌<◌, ◌≤◌, ◌≢◌, Bool, true, false, List, [], ◌∷◌, ◌++◌, cond, length, map, take, get_or, Contains, refl, sym, ap, ap₂, ◌∙◌, subst, append-nil, arith}
+use Rattle.std.specs.List.{All, AllPairs, IsDistinct, filter, flat_map, slice_get}
+use Rattle.std.specs.Prelude.{Some}
+use Rattle.std.specs.List.Sorted.{IsPermutation}
+use Rattle.std.proofs.lemmas.Bool.{both_ways, false_from_ne_true}
+use Rattle.std.proofs.lemmas.Grind.{flat_map-append}
+use Rattle.std.proofs.lemmas.List.{map-append, take_more, take_all, get_or-map, length-map}
+use Rattle.std.proofs.lemmas.List.Elements.{All-append, filter-append}
+use Rattle.std.proofs.lemmas.List.Sorted.{All-permutation, Contains-permutation, IsPermutation-map}
+use Rattle.std.proofs.lemmas.Map.Keys.{IsDistinct-IsPermutation}
+use Rattle.std.proofs.lemmas.Map.Made.{AllPairs-from_IsDistinct, IsDistinct-from_AllPairs}
+use Rattle.overlay_geom.specs.Plane.{Step, Edge, edge_of, edge_eq}
+use Rattle.overlay_geom.proofs.Orders.{Decides-edge_eq, edge_eq-same, edge_eq-itself, edge_eq-exchanged}
+use Rattle.overlay_plane.specs.Contours.{is_filled_above}
+use Rattle.overlay_plane.specs.Binding.{filled_above_edges, all_filled_above}
+use Rattle.overlay_plane.proofs.Entries.{all_of_entries, Contains-from_map}
+use Rattle.overlay_plane.proofs.Tests.{same_tests}
+use Rattle.overlay_scan.specs.Scan.{Entry}
+use Rattle.overlay_walk.specs.WalkEdges.{filled_entries, IsFilledEntry, AreFilledEntries, IsByAnchor}
+
+-- one more step, which is filled above
+pub filled_more : (on_left : Bool) (n : ℕ) (ss : List Step) (s : Step) → is_filled_above on_left s ≡ true →
+    filled_entries on_left n (ss ++ s ∷ []) ≡ filled_entries on_left n ss ++ record { edge = edge_of s; value = n } ∷ []
+filled_more on_left n ss s is =
+    let at : Edge → Entry ℕ = λ e. record { edge = e; value = n } in
+    let kept = filter-append (is_filled_above on_left) ss (s ∷ []) ∙ ap (λ t. filter (is_filled_above on_left) ss ++ cond t (s ∷ []) []) is in
+    ap (λ us. map at (map edge_of us)) kept ∙ ap (map at) (map-append edge_of (filter (is_filled_above on_left) ss) (s ∷ []))
+    ∙ map-append at (filled_above_edges on_left ss) (edge_of s ∷ [])
+
+-- or which is not
+pub filled_same : (on_left : Bool) (n : ℕ) (ss : List Step) (s : Step) → is_filled_above on_left s ≡ false →
+    filled_entries on_left n (ss ++ s ∷ []) ≡ filled_entries on_left n ss
+filled_same on_left n ss s is =
+    let at : Edge → Entry ℕ = λ e. record { edge = e; value = n } in
+    ap (λ us. map at (map edge_of us)) (filter-append (is_filled_above on_left) ss (s ∷ [])
+    ∙ ap (λ t. filter (is_filled_above on_left) ss ++ cond t (s ∷ []) []) is ∙ append-nil (filter (is_filled_above on_left) ss))
+
+-- the edges of a walk's entries
+edges_of_entries : (n : ℕ) (es : List Edge) → map (λ (f : Entry ℕ). f.edge) (map (λ e. record { edge = e; value = n }) es) ≡ es
+edges_of_entries n [] = refl
+edges_of_entries n (e ∷ es) = ap (λ fs. e ∷ fs) (edges_of_entries n es)
+
+-- what holds of any two of what items are mapped to holds so of the items
+AllPairs-unmap : {X Y : Type 0} (R : Y → Y → Type 0) (f : X → Y) (xs : List X) → AllPairs R (map f xs) → AllPairs (λ x y. R (f x) (f y)) xs
+AllPairs-unmap R f xs h i j d l m =
+    subst (λ y. R y (f (get_or xs j d))) (get_or-map f xs i d (f d) (omega (arith, l, m)))
+    (subst (λ y. R (get_or (map f xs) i (f d)) y) (get_or-map f xs j d (f d) m) (h i j (f d) l (rw length-map m)))
+
+-- it does not matter which of two edges is named first
+flips : (e f : Edge) → edge_eq e f ≡ edge_eq f e
+flips e f = same_tests (edge_eq e f) (edge_eq f e) (edge_eq-exchanged e f) (edge_eq-exchanged f e)
+
+-- edges that differ do so in each order
+pub differ_shuffled : (es fs : List Edge) → IsPermutation es fs → AllPairs (λ e f. edge_eq e f ≡ false) es → AllPairs (λ e f. edge_eq e f ≡ false) fs
+differ_shuffled es fs moved differ =
+    let apart : AllPairs (λ e f. e ≢ f) es = λ i j d l m same. both_ways _ (differ i j d l m) (subst (λ f. edge_eq (get_or es i d) f ≡ true) same (edge_eq-itself (get_or es i d))) in
+    let still = AllPairs-from_IsDistinct Decides-edge_eq fs (IsDistinct-IsPermutation edge_eq flips es fs moved (IsDistinct-from_AllPairs Decides-edge_eq es apart)) in
+    λ i j d l m. false_from_ne_true _ (λ same. still i j d l m (edge_eq-same _ _ same))
+
+module _ (on_left : Bool) (walks : List (List Step)) where
+  -- the entries are those of the first i walks
+  pub record HaveFilled (i : ℕ) (fs : List (Entry ℕ)) : Type 0 where
+    pub edges : map (λ f. f.edge) fs ≡ all_filled_above on_left (take i walks)
+    pub from : All (IsFilledEntry on_left walks) fs
+
+  -- and those of the next one
+  pub filled_added : (i : ℕ) (fs : List (Entry ℕ)) (w : List Step) → HaveFilled i fs → i < length walks → get_or walks i w ≡ w → slice_get walks i ≡ Some w →
+      HaveFilled (i + 1) (fs ++ filled_entries on_left i w)
+  filled_added i fs w have lt is at = record {
+    edges = map-append (λ f. f.edge) fs (filled_entries on_left i w)
+        ∙ ap₂ (λ us vs. us ++ vs) have.edges (edges_of_entries i (filled_above_edges on_left w) ∙ sym (append-nil (filled_above_edges on_left w)))
+        ∙ sym (flat_map-append (filled_above_edges on_left) (take i walks) (w ∷ []))
+        ∙ ap (all_filled_above on_left) (ap (λ v. take i walks ++ v ∷ []) (sym is) ∙ sym (take_more walks i w lt));
+    from = All-append (IsFilledEntry on_left walks) fs (filled_entries on_left i w) have.from
+        (all_of_entries (IsFilledEntry on_left walks) (filled_entries on_left i w) (λ f c.
+        let found = Contains-from_map (λ (e : Edge). record { edge = e; value = i }) (filled_above_edges on_left w) f c in
+        subst (IsFilledEntry on_left walks) found.2 (record { walk = w; at = at; has = found.1 })));
+  }
+
+  -- all of them, sorted
+  pub filled_sorted : (fs gs : List (Entry ℕ)) → map (λ f. f.edge) fs ≡ all_filled_above on_left walks → All (IsFilledEntry on_left walks) fs →
+      AllPairs (λ e f. edge_eq e f ≡ false) (all_filled_above on_left walks) → IsPermutation fs gs → IsByAnchor gs → AreFilledEntries on_left walks gs
+  filled_sorted fs gs edges from distinct moved order = record {
+    from = All-permutation (IsFilledEntry on_left walks) fs gs moved from;
+    all = λ e c. Contains-permutation (map (λ f. f.edge) fs) (map (λ f. f.edge) gs) e mapped (subst (λ es. Contains es e) (sym edges) c);
+    distinct = AllPairs-unmap (λ e f. edge_eq e f ≡ false) (λ f. f.edge) gs differ;
+    order = order;
+  }
+    where
+      mapped : IsPermutation (map (λ (f : Entry ℕ). f.edge) fs) (map (λ f. f.edge) gs)
+      mapped = IsPermutation-map (λ f. f.edge) fs gs moved
+
+      differ : AllPairs (λ e f. edge_eq e f ≡ false) (map (λ (f : Entry ℕ). f.edge) gs)
+      differ = differ_shuffled (map (λ f. f.edge) fs) (map (λ f. f.edge) gs) mapped (subst (AllPairs (λ e f. edge_eq e f ≡ false)) (sym edges) distinct)

@@ -1,0 +1,166 @@
+-- Steps sorted by the points that they leave: the comparison is an order, and the steps that leave a point stand side by side.
+use Rattle.std.proofs.Common.{◌≡◌, ⊎_elim, ℕ, zero, suc, ◌<◌, ◌≤◌, Bool, true, false, not, ℤ, List, [], ◌∷◌, length, get_or, refl, ap, sym, ◌∙◌, subst, arith}
+use Rattle.std.specs.Cmp.{IsStrictWeakOrder}
+use Rattle.std.specs.List.Sorted.{IsSortedBy, IsPartitionedBy, IsPartitionPoint}
+use Rattle.std.specs.Ordering.{is_lt, is_gt, ordering_reverse}
+use Rattle.std.specs.declared.cmp.Ordering.{Ordering}
+use Rattle.std.specs.declared.cmp.Ordering.TheVariants.{Less, Equal, Greater}
+use Rattle.std.proofs.lemmas.Bool.{both_ways, false_from_ne_true, cases_lt}
+use Rattle.std.proofs.lemmas.List.{length-map, get_or-map}
+use Rattle.std.proofs.lemmas.List.Sorted.{sorted_far, ranks_by}
+use Rattle.overlay_geom.specs.Plane.{Point, Step, point_lt, point_eq}
+use Rattle.overlay_geom.proofs.Mapped.{AllPairs-map}
+use Rattle.overlay_geom.proofs.Orders.{point_order, point_order-total, point_lt-is_less, point_lt-back, point_eq-same, point_lt-itself}
+use Rattle.overlay_arrange.specs.Content.{point_cmp}
+use Rattle.overlay_arrange.proofs.EdgeOrder.{point_cmp-is_order}
+use Rattle.overlay_walk.specs.Places.{step_at, IsRun}
+use Rattle.overlay_walk.specs.Steps.{plain_step, plain_steps, IsByStart}
+use Rattle.overlay_walk.specs.declared.step.Step.{Step as StepTaken}
+
+-- ---- the order of points
+
+-- the comparison answers `Less` where the first point is smaller, and `Greater` where the second is
+pub point_cmp-is_less : (p q : Point) → is_lt (point_cmp p q) ≡ point_lt p q
+point_cmp-is_less p q = ap is_lt (point_cmp-is_order p q) ∙ sym (point_lt-is_less p q)
+
+pub point_cmp-is_greater : (p q : Point) → is_gt (point_cmp p q) ≡ point_lt q p
+point_cmp-is_greater p q =
+    ap is_gt (point_cmp-is_order p q) ∙ greater (point_order p q)
+    ∙ sym (point_lt-is_less q p ∙ ap is_lt (point_order-total.antisymm q p))
+  where
+    greater : (o : Ordering) → is_gt o ≡ is_lt (ordering_reverse o)
+    greater Less = refl
+    greater Equal = refl
+    greater Greater = refl
+
+-- points are in an order in which any two compare
+point_lt-order : IsStrictWeakOrder point_lt
+point_lt-order =
+    let r : IsStrictWeakOrder (λ (p q : Point). is_lt (point_order p q)) = ranks_by point_order-total (λ (p : Point). p) in
+    record {
+      one_way = λ p q h. point_lt-is_less q p ∙ r.one_way p q (sym (point_lt-is_less p q) ∙ h);
+      chain = λ p q s h k. point_lt-is_less p s ∙ r.chain p q s (sym (point_lt-is_less p q) ∙ h) (sym (point_lt-is_less q s) ∙ k);
+    }
+
+-- what comes before a point, or with it, is smaller than what that is smaller than
+smaller_before : (p q r : Point) → point_lt q p ≡ false → point_lt q r ≡ true → point_lt p r ≡ true
+smaller_before p q r back less = by (point_lt p r) refl
+  where
+    by : (t : Bool) → point_lt p r ≡ t → point_lt p r ≡ true
+    by true e = e
+    by false e = absurd (both_ways (point_lt q r) (point_lt-order.chain q p r back e) less)
+
+-- what is smaller than a point is smaller than all that come after it, or with it
+smaller_after : (p q r : Point) → point_lt p q ≡ true → point_lt r q ≡ false → point_lt p r ≡ true
+smaller_after p q r less back = by (point_lt p r) refl
+  where
+    by : (t : Bool) → point_lt p r ≡ t → point_lt p r ≡ true
+    by true e = e
+    by false e = absurd (both_ways (point_lt p q) (point_lt-order.chain p r q e back) less)
+
+-- neither smaller nor larger is the same
+same_unless_smaller : (p q : Point) → point_lt p q ≡ false → point_lt q p ≡ false → p ≡ q
+same_unless_smaller p q less more = by (point_eq p q) refl
+  where
+    by : (t : Bool) → point_eq p q ≡ t → p ≡ q
+    by true e = point_eq-same p q e
+    by false e = absurd (both_ways (point_lt q p) more (point_lt-back p q e less))
+
+-- ---- sorted steps
+
+module _ {I D : Type 0} (whole : I → ℤ) where
+  -- steps by the points that they leave
+  abbrev pub leaves_smaller : StepTaken I D → StepTaken I D → Bool
+  leaves_smaller s t = point_lt (plain_step whole s).from (plain_step whole t).from
+
+  -- that is an order in which any two steps compare
+  pub leaves_smaller-order : IsStrictWeakOrder leaves_smaller
+  leaves_smaller-order = record {
+    one_way = λ s t. point_lt-order.one_way (plain_step whole s).from (plain_step whole t).from;
+    chain = λ s t u. point_lt-order.chain (plain_step whole s).from (plain_step whole t).from (plain_step whole u).from;
+  }
+
+  -- steps sorted by it are in order
+  pub IsByStart-from_sorted : (ss : List (StepTaken I D)) → IsSortedBy leaves_smaller ss → IsByStart (plain_steps whole ss)
+  IsByStart-from_sorted ss up =
+      AllPairs-map (λ (s t : Step). point_lt t.from s.from ≡ false) (plain_step whole) ss
+      (λ i j d l m. sorted_far leaves_smaller leaves_smaller-order ss up i j d (omega arith) m)
+
+  -- a list with a place has an entry
+  some_entry : (ss : List (StepTaken I D)) (k : ℕ) → k < length ss → StepTaken I D
+  some_entry [] k h = absurd (elim h [ ])
+  some_entry (s ∷ ss) k h = s
+
+  -- the step leaves a point smaller than p, or a point up to p
+  abbrev pub leaves_below : Point → StepTaken I D → Bool
+  leaves_below p s = point_lt (plain_step whole s).from p
+
+  abbrev pub leaves_up_to : Point → StepTaken I D → Bool
+  leaves_up_to p s = not (point_lt p (plain_step whole s).from)
+
+  module _ (ss : List (StepTaken I D)) (by_start : IsByStart (plain_steps whole ss)) (p : Point) where
+    -- the numbers of the step at a place
+    plain_at : (k : ℕ) (d : StepTaken I D) (e : Step) → k < length ss → get_or (plain_steps whole ss) k e ≡ plain_step whole (get_or ss k d)
+    plain_at k d e h = get_or-map (plain_step whole) ss k d e h
+
+    -- of two places the later one holds no step that leaves a smaller point
+    later_leaves : (i j : ℕ) (d : StepTaken I D) → i ≤ j → j < length ss →
+        point_lt (plain_step whole (get_or ss j d)).from (plain_step whole (get_or ss i d)).from ≡ false
+    later_leaves i j d up h = ⊎_elim
+        (λ less. subst (λ s. point_lt s.from (plain_step whole (get_or ss i d)).from ≡ false) (plain_at j d (plain_step whole d) h)
+        (subst (λ s. point_lt (get_or (plain_steps whole ss) j (plain_step whole d)).from s.from ≡ false) (plain_at i d (plain_step whole d) (omega arith))
+        (by_start i j (plain_step whole d) less (let l = length-map ss (plain_step whole) in omega arith))))
+        (λ back. let same : j ≡ i = omega arith in
+        subst (λ k. point_lt (plain_step whole (get_or ss k d)).from (plain_step whole (get_or ss i d)).from ≡ false) (sym same)
+        (point_lt-itself (plain_step whole (get_or ss i d)).from))
+        (cases_lt i j)
+
+    -- so each test passes in the front of the list alone
+    pub below-parted : IsPartitionedBy (leaves_below p) ss
+    below-parted i j d up h less =
+        smaller_before (plain_step whole (get_or ss i d)).from (plain_step whole (get_or ss j d)).from p (later_leaves i j d up h) less
+
+    pub up_to-parted : IsPartitionedBy (leaves_up_to p) ss
+    up_to-parted i j d up h at = ap not (false_from_ne_true (point_lt p (plain_step whole (get_or ss i d)).from)
+        (λ less. both_ways (not (point_lt p (plain_step whole (get_or ss j d)).from))
+        (ap not (smaller_after p (plain_step whole (get_or ss i d)).from (plain_step whole (get_or ss j d)).from less (later_leaves i j d up h))) at))
+
+    -- between the two fronts stand the steps that leave p
+    pub run_between : (low high : ℕ) → low ≤ length ss → high ≤ length ss →
+        IsPartitionPoint (λ s. leaves_below p s ≡ true) (λ s. leaves_below p s ≡ false) ss low →
+        IsPartitionPoint (λ s. leaves_up_to p s ≡ true) (λ s. leaves_up_to p s ≡ false) ss high → IsRun (plain_steps whole ss) p low high
+    run_between low high low_in high_in smaller up_to = record {
+      ordered = ordered;
+      within = let l = length-map ss (plain_step whole) in omega arith;
+      leave = leaves;
+      all = λ k h at. stands k (let l = length-map ss (plain_step whole) in omega arith) at;
+    }
+      where
+        -- what leaves a smaller point is up to p
+        below_is_in_front : (s : StepTaken I D) → leaves_below p s ≡ true → leaves_up_to p s ≡ true
+        below_is_in_front s less = ap not (point_lt-order.one_way (plain_step whole s).from p less)
+
+        ordered : low ≤ high
+        ordered = ⊎_elim (λ back. let d = some_entry ss high (omega arith) in
+            absurd (both_ways (leaves_up_to p (get_or ss high d)) (up_to.1 high d (omega arith) (omega arith))
+            (below_is_in_front (get_or ss high d) (smaller.0 high d (omega arith) back))))
+            (λ up. up) (cases_lt high low)
+
+        leaves : (k : ℕ) → low ≤ k → k < high → (step_at (plain_steps whole ss) k).from ≡ p
+        leaves k h below =
+            let d = some_entry ss k (omega arith) in
+            subst (λ s. s.from ≡ p) (sym (plain_at k d _ (omega arith)))
+            (same_unless_smaller (plain_step whole (get_or ss k d)).from p (smaller.1 k d h (omega arith))
+            (false_from_ne_true (point_lt p (plain_step whole (get_or ss k d)).from)
+            (λ more. both_ways (leaves_up_to p (get_or ss k d)) (ap not more) (up_to.0 k d (omega arith) below))))
+
+        stands : (k : ℕ) → k < length ss → (step_at (plain_steps whole ss) k).from ≡ p → (low ≤ k) × (k < high)
+        stands k h at =
+            let d = some_entry ss k h in
+            let here : (plain_step whole (get_or ss k d)).from ≡ p = ap (λ (s : Step). s.from) (sym (plain_at k d _ h)) ∙ at in
+            let none = point_lt-itself p in
+            let not_smaller : leaves_below p (get_or ss k d) ≡ false = ap (λ q. point_lt q p) here ∙ none in
+            let not_larger : leaves_up_to p (get_or ss k d) ≡ true = ap (λ q. not (point_lt p q)) here ∙ ap not none in (
+              ⊎_elim (λ less. absurd (both_ways (leaves_below p (get_or ss k d)) not_smaller (smaller.0 k d (omega arith) less))) (λ up. up) (cases_lt k low),
+              ⊎_elim (λ less. less) (λ up. absurd (both_ways (leaves_up_to p (get_or ss k d)) (up_to.1 k d up h) not_larger)) (cases_lt k high),
+            )

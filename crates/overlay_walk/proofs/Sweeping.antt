@@ -1,0 +1,89 @@
+-- One turn of the sweep over anchors: what it asks of the list of live edges, and what it tells of a hole.
+use Rattle.std.proofs.Common.{◌≡◌, inl, inr, ⊎_elim, ℕ, ◌+◌, ◌<◌, ◌≤◌, Bool, true, false, ℤ, pos, ◌≤ℤ◌, ◌<ℤ◌, List, [], ◌∷◌, ◌++◌, length, map, take, drop, get_or, slice_set, Contains, Option, None, Some, refl, sym, ap, ◌∙◌, subst, arith}
+use Rattle.std.specs.List.{All, slice_get}
+use Rattle.std.proofs.lemmas.List.{drop_more, take_all}
+use Rattle.std.proofs.lemmas.List.Elements.{All-contains, All-head, All-tail, All-weaker}
+use Rattle.std.proofs.lemmas.Option.{slice_get_within}
+use Rattle.overlay_geom.specs.Plane.{Step, Edge, edge_of}
+use Rattle.overlay_geom.specs.Settled.{IsSettledBy}
+use Rattle.overlay_plane.specs.Heights.{covers}
+use Rattle.overlay_plane.specs.Contours.{IsContour, all_steps}
+use Rattle.overlay_plane.specs.Anchors.{HasEachEdgeOnce}
+use Rattle.overlay_plane.proofs.AnchorsLeadOn.{anchors_lead_on}
+use Rattle.overlay_plane.proofs.Entries.{Contains-flat_map, Contains-from_map}
+use Rattle.overlay_scan.specs.Scan.{Entry, Sweep, empty_sweep, live_at, moved_to, MayMoveTo, IsSweep, MeetsOthers, value_below}
+use Rattle.overlay_walk.specs.Parents.{IsSwept, AreOutlineNumbers, IsToldAt}
+use Rattle.overlay_walk.specs.WalkEdges.{IsFilledEntry, AreFilledEntries, IsHoleEntry, AreHoleEntries}
+use Rattle.overlay_walk.proofs.HoleEntries.{Contains-at}
+use Rattle.overlay_walk.proofs.HolesTold.{shape_of, told_none, told_next, all_told}
+use Rattle.overlay_walk.proofs.LaterEntries.{later_starts}
+use Rattle.overlay_walk.proofs.NextBelow.{filled_walked, walked_meet, meets_anchor, Finds, look_up}
+use Rattle.overlay_walk.proofs.SweptEntries.{moved_on}
+
+-- before the sweep there are no entries
+pub nothing_swept : (limit : ℕ) (x : ℤ) (s : Sweep ℕ) → s ≡ empty_sweep → IsSwept limit x [] s
+nothing_swept limit x s is = subst (IsSwept limit x []) (sym is) (record { state = refl; moves = tt; from = λ f c. c; all = λ f c. c })
+
+-- what holds from a place on holds there
+pub at_front : {X : Type 0} (P : X → Type 0) (xs : List X) (i : ℕ) (x : X) → i < length xs → x ≡ get_or xs i x → All P (drop i xs) → P x
+at_front P xs i x lt is all = subst P (sym is) (All-head P (get_or xs i x) (drop (i + 1) xs) (subst (All P) (drop_more xs i x lt) all))
+
+-- and after it
+pub after_front : {X : Type 0} (P : X → Type 0) (xs : List X) (i : ℕ) (x : X) → i < length xs → All P (drop i xs) → All P (drop (i + 1) xs)
+after_front P xs i x lt all = All-tail P (get_or xs i x) (drop (i + 1) xs) (subst (All P) (drop_more xs i x lt) all)
+
+module _ (on_left : Bool) (walks : List (List Step)) (contours : All IsContour walks) (settled : IsSettledBy edge_of (all_steps walks)) where
+  -- the filled-above edges meet in ends alone
+  pub entries_settled : (fs : List (Entry ℕ)) → AreFilledEntries on_left walks fs → IsSettledBy (λ f. f.edge) fs
+  entries_settled fs filled f g c d differ = walked_meet on_left walks contours settled f.edge g.edge
+      (filled_walked on_left walks contours settled f (All-contains (IsFilledEntry on_left walks) fs f filled.from c))
+      (filled_walked on_left walks contours settled g (All-contains (IsFilledEntry on_left walks) fs g filled.from d)) differ
+
+  module _ (single : All HasEachEdgeOnce walks) (h : Entry ℕ) (own : IsHoleEntry on_left walks h) where
+    -- the hole is one of the walks
+    kept : Contains walks own.walk
+    kept = Contains-at walks h.value own.walk own.at
+
+    -- its anchor is over the abscissa at which it starts
+    pub anchor_over : covers h.edge h.edge.a.x (pos 1) ≡ true
+    anchor_over = anchors_lead_on own.walk (All-contains IsContour walks own.walk contours kept) (All-contains HasEachEdgeOnce walks own.walk single kept)
+        (λ s t c d. settled s t (Contains-flat_map (λ w. w) walks own.walk s kept c) (Contains-flat_map (λ w. w) walks own.walk t kept d)) h.edge own.has.anchor
+
+    module _ (fs : List (Entry ℕ)) (filled : AreFilledEntries on_left walks fs) (limit n : ℕ) (s : Sweep ℕ) (swept : IsSwept limit h.edge.a.x (take n fs) s)
+        (rest : All (λ f. h.edge.a.x <ℤ f.edge.a.x) (drop n fs)) where
+      -- and meets the live edges in ends alone
+      pub anchor_meets : MeetsOthers h.edge (live_at h.edge.a.x s.entries)
+      anchor_meets = meets_anchor on_left walks contours settled fs filled limit own.walk kept h.edge own.has.anchor anchor_over n s swept rest
+
+      module _ (numbers : List (Option ℕ)) (numbered : AreOutlineNumbers on_left walks numbers) (hs : List (Entry ℕ)) (holes : AreHoleEntries on_left walks hs)
+          (parents : List (Option ℕ)) (counted : length parents ≡ length walks) (i : ℕ) (lt : i < length hs) (is : h ≡ get_or hs i h)
+          (t : Sweep ℕ) (moved : t ≡ moved_to h.edge.a.x s) (state : IsSweep limit t) where
+        -- the sweep may go on to the anchors after it
+        pub swept_on : All (λ k. IsSwept limit k.edge.a.x (take n fs) t) (drop (i + 1) hs)
+        swept_on = All-weaker (λ k. h.edge.a.x ≤ℤ k.edge.a.x) (λ k. IsSwept limit k.edge.a.x (take n fs) t)
+            (λ k le. moved_on limit h.edge.a.x (take n fs) s swept t moved state k.edge.a.x le) (drop (i + 1) hs)
+            (after_front (λ k. h.edge.a.x ≤ℤ k.edge.a.x) hs i h lt (later_starts hs i h lt is holes.order))
+
+        -- it is told of the hole
+        pub told_on : (none : ℕ) → none ≡ length walks → (below : ℕ) → below ≡ value_below none h.edge h.edge.a.x (live_at h.edge.a.x s.entries) →
+            All (λ k. IsToldAt on_left walks parents k.value) (take i hs) →
+            All (λ k. IsToldAt on_left walks (slice_set parents h.value (shape_of numbers parents below)) k.value) (take (i + 1) hs)
+        told_on none past below found told =
+            all_told on_left walks contours numbers numbered hs holes parents i h lt is told own.walk own.at own.has.anchor (shape_of numbers parents below)
+            (subst (λ m. h.value < m) (sym counted) (slice_get_within walks h.value own.walk own.at))
+            (⊎_elim
+            (λ nothing. told_none on_left walks contours numbers numbered hs holes parents i h lt is told own.walk own.at own.has.anchor below nothing.0 nothing.1)
+            (λ walk. told_next on_left walks contours numbers numbered hs holes parents i h lt is told own.walk own.at own.has.anchor below walk.next walk.at
+            walk.is_next walk.anchor_is)
+            (subst (Finds on_left walks contours settled fs filled limit own.walk kept h.edge own.has.anchor anchor_over n s swept rest) (sym found)
+            (look_up on_left walks contours settled fs filled limit own.walk kept h.edge own.has.anchor anchor_over n s swept rest
+            (subst (IsSweep limit) moved state) none past)))
+
+-- where it is told of all anchors, it is told of each walk
+pub all_walks_told : (on_left : Bool) (walks : List (List Step)) (hs : List (Entry ℕ)) → AreHoleEntries on_left walks hs → (parents : List (Option ℕ)) (i : ℕ) →
+    length hs ≤ i → All (λ k. IsToldAt on_left walks parents k.value) (take i hs) → (n : ℕ) → IsToldAt on_left walks parents n
+all_walks_told on_left walks hs holes parents i le told n w at hole =
+    let found = Contains-from_map (λ (k : Entry ℕ). k.value) hs n (holes.all n w at hole) in
+    subst (IsToldAt on_left walks parents) found.2
+    (All-contains (λ k. IsToldAt on_left walks parents k.value) hs found.0 (subst (All (λ k. IsToldAt on_left walks parents k.value)) (take_all i hs le) told) found.1)
+    w at hole

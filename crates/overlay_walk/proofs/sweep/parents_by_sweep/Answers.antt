@@ -1,0 +1,166 @@
+-- One anchor more: what the calls ask, and what is told then.
+use Rattle.std.proofs.Common.{◌≡◌, ◌+◌, ◌<◌, ◌≤◌, ◌<ℤ◌, ℕ, false, List, slice_set, length, take, drop, get_or, refl, sym, ap, ◌∙◌, subst, arith, rules}
+use Rattle.std.specs.List.{All, AllPairs}
+use Rattle.std.proofs.lemmas.List.{length-map, length-set}
+use Rattle.std.proofs.lemmas.List.Elements.{All-contains, All-nil}
+use Rattle.std.proofs.lemmas.Option.{slice_get_within}
+use Rattle.overlay_geom.specs.Plane.{Step, edge_eq}
+use Rattle.overlay_geom.specs.Settled.{IsSettledBy}
+use Rattle.overlay_geom.proofs.Mapped.{read_mapped}
+use Rattle.overlay_scan.specs.Scan.{Entry, Sweep, live_at, MeetsOthers, value_below}
+use Rattle.overlay_walk.specs.Parents.{IsSwept, IsToldAt}
+use Rattle.overlay_walk.specs.Steps.{plain_steps, is_on_left}
+use Rattle.overlay_walk.specs.WalkEdges.{plain_entry, plain_entries, IsHoleEntry, AreHoleEntries, IsByAnchor}
+use Rattle.overlay_walk.specs.Walks.{plain_walks}
+use Rattle.overlay_walk.proofs.HolesTold.{shape_of}
+use Rattle.overlay_walk.proofs.LinesFit.{line_fits}
+use Rattle.overlay_walk.proofs.Sweeping.{nothing_swept, at_front, entries_settled, anchor_over, anchor_meets, swept_on, told_on, all_walks_told}
+use Rattle.overlay_walk.proofs.sweep.parents_by_sweep.Goals as goal
+
+pub loop-hole-init : goal.loop-hole-init
+loop-hole-init g c = (
+  search rules,
+  omega arith,
+  λ k d lt. nothing_swept g.I.IntNumber.limit _ (g.S.Scan.content c.args.scan.now) c.requires.empty,
+  λ k d lt. absurd (omega (arith, lt)),
+)
+
+pub insert_up_to-requires-clause-order : goal.insert_up_to-requires-clause-order
+insert_up_to-requires-clause-order g c =
+    subst (λ es. IsByAnchor (plain_entries g.I.IntNumber.whole es)) (sym c.deref.ensures.value) c.in_ok-edges.ensures.ok.order
+
+pub insert_up_to-requires-clause-distinct : goal.insert_up_to-requires-clause-distinct
+insert_up_to-requires-clause-distinct g c =
+    subst (λ es. AllPairs (λ e f. edge_eq e.edge f.edge ≡ false) (plain_entries g.I.IntNumber.whole es)) (sym c.deref.ensures.value)
+    c.in_ok-edges.ensures.ok.distinct
+
+pub insert_up_to-requires-clause-settled : goal.insert_up_to-requires-clause-settled
+insert_up_to-requires-clause-settled g c =
+    let whole = g.I.IntNumber.whole in
+    subst (λ es. IsSettledBy (λ f. f.edge) (plain_entries whole es)) (sym c.deref.ensures.value)
+    (entries_settled (is_on_left c.args.direction) (plain_walks whole c.args.walks.now) c.requires.contours c.requires.settled
+    (plain_entries whole c.in_ok-edges.edges.items) c.in_ok-edges.ensures.ok)
+
+pub insert_up_to-requires-clause-swept : goal.insert_up_to-requires-clause-swept
+insert_up_to-requires-clause-swept g c =
+    let whole = g.I.IntNumber.whole in
+    let limit = g.I.IntNumber.limit in
+    let hs = plain_entries whole c.deref-hole-items.result.now in
+    let h = plain_entry whole c.hole-item.result in
+    let i = c.loop-hole.hole-index in
+    let inside : i < length hs = rw length-map c.loop-hole-test.true in
+    let here = sym (read_mapped (plain_entry whole) c.deref-hole-items.result.now i c.hole-item.result h c.loop-hole-test.true c.hole-item.is) in
+    subst (λ es. IsSwept limit h.edge.a.x (take c.loop-hole.from (plain_entries whole es)) (g.S.Scan.content c.loop-hole.scan)) (sym c.deref.ensures.value)
+    (at_front (λ (k : Entry ℕ). IsSwept limit k.edge.a.x (take c.loop-hole.from (plain_entries whole c.in_ok-edges.edges.items)) (g.S.Scan.content c.loop-hole.scan))
+    hs i h inside here c.loop-hole.invariant.2)
+
+pub first_less-below-requires : goal.first_less-below-requires
+first_less-below-requires g c =
+    let whole = g.I.IntNumber.whole in
+    let limit = g.I.IntNumber.limit in
+    let on_left = is_on_left c.args.direction in
+    let walks = plain_walks whole c.args.walks.now in
+    let fs = plain_entries whole c.in_ok-edges.edges.items in
+    let hs = plain_entries whole c.deref-hole-items.result.now in
+    let h = plain_entry whole c.hole-item.result in
+    let i = c.loop-hole.hole-index in
+    let inside : i < length hs = rw length-map c.loop-hole-test.true in
+    let here = sym (read_mapped (plain_entry whole) c.deref-hole-items.result.now i c.hole-item.result h c.loop-hole-test.true c.hole-item.is) in
+    let holes : AreHoleEntries on_left walks hs =
+    subst (λ es. AreHoleEntries on_left walks (plain_entries whole es)) (sym c.deref-hole-items.ensures.value) c.in_ok-anchors.ensures.ok in
+    let own = All-contains (IsHoleEntry on_left walks) hs h holes.from (i, inside, sym here) in
+    let s = g.S.Scan.content c.insert_up_to.new.scan in
+    let n = c.in_ok-from.from in
+    let swept = subst (λ es. IsSwept limit h.edge.a.x (take n (plain_entries whole es)) s) c.deref.ensures.value c.in_ok-from.ensures.swept in
+    let rest = subst (λ es. All (λ (f : Entry ℕ). h.edge.a.x <ℤ f.edge.a.x) (drop n (plain_entries whole es))) c.deref.ensures.value c.in_ok-from.ensures.rest in (
+      line_fits _ _ g.met.I.IntNumber.small.align_bound g.met.I.IntNumber.small.size_bound,
+      (
+        swept.state,
+        (
+          swept.moves,
+          (
+            record {
+              a_in_range = (c.hole-item.result).a_in_range;
+              b_in_range = (c.hole-item.result).b_in_range;
+              over = anchor_over on_left walks c.requires.contours c.requires.settled c.requires.single h own;
+            },
+            (refl, anchor_meets on_left walks c.requires.contours c.requires.settled c.requires.single h own fs c.in_ok-edges.ensures.ok limit n s swept rest),
+          ),
+        ),
+      ),
+    )
+
+pub shape_at-requires : goal.shape_at-requires
+shape_at-requires g c =
+    ap length c.deref-in-loop-hole-2.ensures.value ∙ c.loop-hole.invariant.0
+    ∙ sym (length-map c.args.walks.now (λ w. plain_steps g.I.IntNumber.whole w.items)) ∙ sym c.in_ok-numbers.ensures.ok.counted
+    ∙ sym (ap length c.deref-in-loop-hole.ensures.value)
+
+pub index_mut-requires : goal.index_mut-requires
+index_mut-requires g c =
+    let whole = g.I.IntNumber.whole in
+    let limit = g.I.IntNumber.limit in
+    let on_left = is_on_left c.args.direction in
+    let walks = plain_walks whole c.args.walks.now in
+    let fs = plain_entries whole c.in_ok-edges.edges.items in
+    let hs = plain_entries whole c.deref-hole-items.result.now in
+    let h = plain_entry whole c.hole-item.result in
+    let i = c.loop-hole.hole-index in
+    let inside : i < length hs = rw length-map c.loop-hole-test.true in
+    let here = sym (read_mapped (plain_entry whole) c.deref-hole-items.result.now i c.hole-item.result h c.loop-hole-test.true c.hole-item.is) in
+    let holes : AreHoleEntries on_left walks hs =
+    subst (λ es. AreHoleEntries on_left walks (plain_entries whole es)) (sym c.deref-hole-items.ensures.value) c.in_ok-anchors.ensures.ok in
+    let own = All-contains (IsHoleEntry on_left walks) hs h holes.from (i, inside, sym here) in
+    let within = slice_get_within walks h.value own.walk own.at in
+    let counted = c.loop-hole.invariant.0 in
+    let mapped = length-map c.args.walks.now (λ w. plain_steps whole w.items) in
+    let held = c.loop-hole.parents.ok.0 in
+    omega arith
+
+pub loop-hole-preserved : goal.loop-hole-preserved
+loop-hole-preserved g c =
+    let whole = g.I.IntNumber.whole in
+    let limit = g.I.IntNumber.limit in
+    let on_left = is_on_left c.args.direction in
+    let walks = plain_walks whole c.args.walks.now in
+    let fs = plain_entries whole c.in_ok-edges.edges.items in
+    let hs = plain_entries whole c.deref-hole-items.result.now in
+    let h = plain_entry whole c.hole-item.result in
+    let i = c.loop-hole.hole-index in
+    let inside : i < length hs = rw length-map c.loop-hole-test.true in
+    let here = sym (read_mapped (plain_entry whole) c.deref-hole-items.result.now i c.hole-item.result h c.loop-hole-test.true c.hole-item.is) in
+    let holes : AreHoleEntries on_left walks hs =
+    subst (λ es. AreHoleEntries on_left walks (plain_entries whole es)) (sym c.deref-hole-items.ensures.value) c.in_ok-anchors.ensures.ok in
+    let own = All-contains (IsHoleEntry on_left walks) hs h holes.from (i, inside, sym here) in
+    let s = g.S.Scan.content c.insert_up_to.new.scan in
+    let n = c.in_ok-from.from in
+    let swept = subst (λ es. IsSwept limit h.edge.a.x (take n (plain_entries whole es)) s) c.deref.ensures.value c.in_ok-from.ensures.swept in
+    let rest = subst (λ es. All (λ (f : Entry ℕ). h.edge.a.x <ℤ f.edge.a.x) (drop n (plain_entries whole es))) c.deref.ensures.value c.in_ok-from.ensures.rest in
+    let t = g.S.Scan.content c.first_less-below.new.self in
+    let numbers = c.in_ok-numbers.numbers.items in
+    let parents = c.loop-hole.parents.items in
+    let mapped = length-map c.args.walks.now (λ w. plain_steps whole w.items) in
+    let counted : length parents ≡ length walks = c.loop-hole.invariant.0 ∙ sym mapped in
+    let shape : c.shape_at.result ≡ shape_of numbers parents c.first_less-below.result = c.shape_at.ensures
+    ∙ ap (λ ns. shape_of ns c.deref-in-loop-hole-2.result.now c.first_less-below.result) c.deref-in-loop-hole.ensures.value
+    ∙ ap (λ ps. shape_of numbers ps c.first_less-below.result) c.deref-in-loop-hole-2.ensures.value in (
+      length-set parents c.hole-item.result.walk c.shape_at.result ∙ c.loop-hole.invariant.0,
+      subst (λ (es : List _). n ≤ length es) c.deref.ensures.value c.in_ok-from.ensures.within,
+      swept_on on_left walks c.requires.contours c.requires.settled c.requires.single h own fs c.in_ok-edges.ensures.ok limit n s swept rest numbers c.in_ok-numbers.ensures.ok hs holes parents counted i inside here t
+          c.first_less-below.ensures.content c.first_less-below.ensures.state,
+      subst (λ o. All (λ (k : Entry ℕ). IsToldAt on_left walks (slice_set parents h.value o) k.value) (take (i + 1) hs)) (sym shape)
+          (told_on on_left walks c.requires.contours c.requires.settled c.requires.single h own fs c.in_ok-edges.ensures.ok limit n s swept rest numbers c.in_ok-numbers.ensures.ok hs holes parents counted i inside here t
+          c.first_less-below.ensures.content c.first_less-below.ensures.state (length c.args.walks.now) (sym mapped) c.first_less-below.result
+          c.first_less-below.ensures.value c.loop-hole.invariant.3),
+    )
+
+pub returns-clause-told : goal.returns-clause-told
+returns-clause-told g c =
+    let whole = g.I.IntNumber.whole in
+    let on_left = is_on_left c.args.direction in
+    let walks = plain_walks whole c.args.walks.now in
+    let hs = plain_entries whole c.deref-hole-items.result.now in
+    let holes : AreHoleEntries on_left walks hs =
+    subst (λ es. AreHoleEntries on_left walks (plain_entries whole es)) (sym c.deref-hole-items.ensures.value) c.in_ok-anchors.ensures.ok in
+    let past : length hs ≤ c.loop-hole.hole-index = rw length-map c.loop-hole-test.false in
+    all_walks_told on_left walks hs holes c.loop-hole.parents.items c.loop-hole.hole-index past c.loop-hole.invariant.3

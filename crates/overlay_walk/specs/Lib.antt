@@ -1,0 +1,6 @@
+pub mod Nearest
+pub mod Parents
+pub mod Places
+pub mod Steps
+pub mod WalkEdges
+pub mod Walks

@@ -1,0 +1,30 @@
+-- What a sweep over walks has told so far.
+use Rattle.std.specs.Prelude.{◌≡◌, ℕ, Bool, true, ℤ, pos, ◌≤ℤ◌, List, Contains, length, slice_get, slice_index_or, Option, None, Some, MatchOption}
+use Rattle.overlay_geom.specs.Plane.{Step}
+use Rattle.overlay_plane.specs.Binding.{is_hole, outlines, IsParentOf, HasNoParent}
+use Rattle.overlay_scan.specs.Scan.{Entry, Sweep, live_at, MayMoveTo, IsSweep}
+
+-- the live entries of the sweep are those of the list, at x and from there on
+pub record IsSwept (limit : ℕ) (x : ℤ) (fs : List (Entry ℕ)) (s : Sweep ℕ) : Type 0 where
+  pub state : IsSweep limit s
+  pub moves : MayMoveTo x s
+  pub from : (f : Entry ℕ) → Contains (live_at x s.entries) f → Contains fs f
+  pub all : (f : Entry ℕ) → Contains (live_at x fs) f → Contains (live_at x s.entries) f
+
+-- the number of an outline among the outlines; a hole has none
+abbrev pub IsOutlineNumber : Bool → List (List Step) → List Step → Option ℕ → Type 0
+IsOutlineNumber on_left walks w number = MatchOption number (is_hole on_left w ≡ true) (λ n. slice_get (outlines on_left walks) n ≡ Some w)
+
+-- the walks' numbers among the outlines
+pub record AreOutlineNumbers (on_left : Bool) (walks : List (List Step)) (numbers : List (Option ℕ)) : Type 0 where
+  pub counted : length numbers ≡ length walks
+  pub told : (n : ℕ) (w : List Step) → slice_get walks n ≡ Some w → IsOutlineNumber on_left walks w (slice_index_or numbers n None)
+
+-- what is told of a hole: its parent, or that it has none
+abbrev pub IsTold : Bool → List (List Step) → List Step → Option ℕ → Type 0
+IsTold on_left walks hole shape = MatchOption shape (HasNoParent on_left walks hole) (λ n. IsParentOf on_left walks hole n)
+
+-- it is told of the walk with this index, if that is a hole
+abbrev pub IsToldAt : Bool → List (List Step) → List (Option ℕ) → ℕ → Type 0
+IsToldAt on_left walks shapes n = (w : List Step) → slice_get walks n ≡ Some w → is_hole on_left w ≡ true →
+    IsTold on_left walks w (slice_index_or shapes n None)

@@ -1,0 +1,69 @@
+-- Places of a list of steps: which of them are open, what stands at them, and the first one by an order.
+use Rattle.std.specs.Prelude.{◌≡◌, ℕ, ◌<◌, ◌≤◌, Bool, true, false, cond, not, ◌&&◌, ◌||◌, ℤ, pos, List, length, slice_index_or, Option, Some, None}
+use Rattle.overlay_geom.specs.Plane.{Point, Step, point_lt, point_eq, edge_of}
+use Rattle.overlay_plane.specs.Nodes.{turns_left}
+use Rattle.overlay_plane.specs.Turn.{Hand, is_met_before}
+use Rattle.overlay_walk.specs.declared.step.Step.{Step as StepTaken}
+use Rattle.overlay_walk.specs.Steps.{plain_steps}
+
+-- no walk has taken the step at the place
+abbrev pub is_open : List Bool → ℕ → Bool
+is_open marks k = not (slice_index_or marks k true)
+
+-- the step at a place
+abbrev pub step_at : List Step → ℕ → Step
+step_at ss k = slice_index_or ss k (record { from = record { x = pos 0; y = pos 0 }; to = record { x = pos 0; y = pos 0 } })
+
+-- the place between two places that is open, and before which no other open one comes
+pub record IsFirstPlace (is_open : ℕ → Bool) (comes_before : ℕ → ℕ → Bool) (low high m : ℕ) : Type 0 where
+  pub above : low ≤ m
+  pub below : m < high
+  pub untaken : is_open m ≡ true
+  pub first : (k : ℕ) → low ≤ k → k < high → is_open k ≡ true → comes_before k m ≡ false
+
+-- there is such a place, or none is open
+abbrev pub IsFirstOf : (ℕ → Bool) → (ℕ → ℕ → Bool) → ℕ → ℕ → Option ℕ → Type 0
+IsFirstOf is_open comes_before low high None = (k : ℕ) → low ≤ k → k < high → is_open k ≡ false
+IsFirstOf is_open comes_before low high (Some m) = IsFirstPlace is_open comes_before low high m
+
+-- the place comes before the one found so far, if there is one
+abbrev pub comes_first : (ℕ → ℕ → Bool) → Option ℕ → ℕ → Bool
+comes_first comes_before None i = true
+comes_first comes_before (Some k) i = comes_before i k
+
+-- the place where it is open and comes first, else the one found so far
+abbrev pub first_so_far : (ℕ → Bool) → (ℕ → ℕ → Bool) → Option ℕ → ℕ → Option ℕ
+first_so_far is_open comes_before found i = cond (is_open i && comes_first comes_before found i) (Some i) found
+
+-- the edge of s starts in a smaller point than that of t, or in the same and leads to the left of it
+abbrev pub starts_before : Step → Step → Bool
+starts_before s t =
+    point_lt (edge_of s).a (edge_of t).a || (point_eq (edge_of s).a (edge_of t).a && turns_left (edge_of t) (edge_of s))
+
+-- the same of the steps at two places
+abbrev pub is_place_started_before : List Step → ℕ → ℕ → Bool
+is_place_started_before ss j k = starts_before (step_at ss j) (step_at ss k)
+
+-- the places of the steps that leave the point are those from low up to high
+pub record IsRun (ss : List Step) (p : Point) (low high : ℕ) : Type 0 where
+  pub ordered : low ≤ high
+  pub within : high ≤ length ss
+  pub leave : (k : ℕ) → low ≤ k → k < high → (step_at ss k).from ≡ p
+  pub all : (k : ℕ) → k < length ss → (step_at ss k).from ≡ p → (low ≤ k) × (k < high)
+
+-- a ray that turns by the hand at v from u meets the step at place j before that at k
+abbrev pub is_place_met_before : List Step → Hand → Point → Point → ℕ → ℕ → Bool
+is_place_met_before ss hand v u j k = is_met_before hand v u (step_at ss j).to (step_at ss k).to
+
+-- the place of the step that is met first, by a ray that turns by the hand at the end of s, among the open ones that leave that end
+pub record IsNextAt (ss : List Step) (marks : List Bool) (hand : Hand) (s : Step) (m : ℕ) : Type 0 where
+  pub below : m < length ss
+  pub untaken : is_open marks m ≡ true
+  pub leaves : (step_at ss m).from ≡ s.to
+  pub first : (k : ℕ) → k < length ss → is_open marks k ≡ true → (step_at ss k).from ≡ s.to →
+      is_place_met_before ss hand s.to s.from k m ≡ false
+
+-- that place, or none where no open step leaves the end of s
+abbrev pub IsNextPlace : List Step → List Bool → Hand → Step → Option ℕ → Type 0
+IsNextPlace ss marks hand s None = (k : ℕ) → k < length ss → is_open marks k ≡ true → ¬ ((step_at ss k).from ≡ s.to)
+IsNextPlace ss marks hand s (Some m) = IsNextAt ss marks hand s m

@@ -1,0 +1,43 @@
+-- Steps that a program walks, as whole numbers.
+use Rattle.std.specs.Prelude.{◌≡◌, ℕ, Bool, true, false, cond, ℤ, List, [], ◌∷◌, map, All, AllPairs}
+use Rattle.overlay_geom.specs.Plane.{Point, Step, point_lt}
+use Rattle.overlay_geom.specs.Points.{plain_point, InRange}
+use Rattle.overlay_plane.specs.Turn.{Hand, left, right}
+use Rattle.overlay_arrange.specs.declared.options.ContourDirection.{ContourDirection}
+use Rattle.overlay_arrange.specs.declared.options.ContourDirection.TheVariants.{CounterClockwise, Clockwise}
+use Rattle.overlay_walk.specs.declared.hand.Hand.{Hand as HandTaken}
+use Rattle.overlay_walk.specs.declared.hand.Hand.TheVariants.{Left, Right}
+use Rattle.overlay_walk.specs.declared.step.Step.{Step as StepTaken}
+
+-- the hand
+abbrev pub plain_hand : HandTaken → Hand
+plain_hand Left = left
+plain_hand Right = right
+
+-- the step at a step's numbers, and those of a list, and of walks
+abbrev pub plain_step : {I D : Type 0} → (I → ℤ) → StepTaken I D → Step
+plain_step whole s = record { from = plain_point whole s.from; to = plain_point whole s.to }
+
+abbrev pub plain_steps : {I D : Type 0} → (I → ℤ) → List (StepTaken I D) → List Step
+plain_steps whole ss = map (plain_step whole) ss
+
+-- a step between two different points in range
+pub record IsLong (limit : ℕ) (s : Step) : Type 0 where
+  pub from_in_range : InRange limit s.from
+  pub to_in_range : InRange limit s.to
+  pub apart : ¬ (s.from ≡ s.to)
+
+-- contours run with the filled side on the left where the direction is counterclockwise
+abbrev pub is_on_left : ContourDirection → Bool
+is_on_left CounterClockwise = true
+is_on_left Clockwise = false
+
+-- no step leaves a smaller point than a step before it
+abbrev pub IsByStart : List Step → Type 0
+IsByStart ss = AllPairs (λ s t. point_lt t.from s.from ≡ false) ss
+
+-- the entries whose marks are false
+abbrev pub unmarked : {X : Type 0} → List X → List Bool → List X
+unmarked [] marks = []
+unmarked (x ∷ xs) [] = x ∷ xs
+unmarked (x ∷ xs) (m ∷ ms) = cond m (unmarked xs ms) (x ∷ unmarked xs ms)

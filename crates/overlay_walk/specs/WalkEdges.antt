@@ -1,0 +1,55 @@
+-- Edges of walks as whole numbers, each an entry of a sweep whose value is the index of the walk.
+use Rattle.std.specs.Prelude.{◌≡◌, ℕ, Bool, true, false, ℤ, List, map, All, AllPairs, Contains, slice_get, Some}
+use Rattle.overlay_geom.specs.Plane.{Step, Edge, edge_eq}
+use Rattle.overlay_geom.specs.Points.{plain_point}
+use Rattle.overlay_plane.specs.Anchors.{IsAnchor, is_anchored_before}
+use Rattle.overlay_plane.specs.Binding.{is_hole, filled_above_edges, all_filled_above}
+use Rattle.overlay_scan.specs.Scan.{Entry}
+use Rattle.overlay_walk.specs.declared.walk_edge.WalkEdge.{WalkEdge}
+
+-- the entry at an edge's numbers, and those of a list
+abbrev pub plain_entry : {I W U : Type 0} {i w u : _} → (I → ℤ) → WalkEdge I W U i w u → Entry ℕ
+plain_entry whole e = record { edge = record { a = plain_point whole e.a; b = plain_point whole e.b }; value = e.walk }
+
+abbrev pub plain_entries : {I W U : Type 0} {i w u : _} → (I → ℤ) → List (WalkEdge I W U i w u) → List (Entry ℕ)
+plain_entries whole es = map (plain_entry whole) es
+
+-- no edge is anchored before one that stands before it
+abbrev pub IsByAnchor : List (Entry ℕ) → Type 0
+IsByAnchor es = AllPairs (λ e f. is_anchored_before f.edge e.edge ≡ false) es
+
+-- the filled-above edges of the walk with this index
+abbrev pub filled_entries : Bool → ℕ → List Step → List (Entry ℕ)
+filled_entries on_left n walk = map (λ e. record { edge = e; value = n }) (filled_above_edges on_left walk)
+
+-- the walk with this index has the property
+pub record IsOfWalk (walks : List (List Step)) (n : ℕ) (P : List Step → Type 0) : Type 0 where
+  pub walk : List Step
+  pub at : slice_get walks n ≡ Some walk
+  pub has : P walk
+
+-- the entry's edge is a filled-above edge of the entry's walk
+abbrev pub IsFilledEntry : Bool → List (List Step) → Entry ℕ → Type 0
+IsFilledEntry on_left walks f = IsOfWalk walks f.value (λ w. Contains (filled_above_edges on_left w) f.edge)
+
+-- the entries are the filled-above edges of the walks, in the order of anchors
+pub record AreFilledEntries (on_left : Bool) (walks : List (List Step)) (fs : List (Entry ℕ)) : Type 0 where
+  pub from : All (IsFilledEntry on_left walks) fs
+  pub all : (e : Edge) → Contains (all_filled_above on_left walks) e → Contains (map (λ f. f.edge) fs) e
+  pub distinct : AllPairs (λ f g. edge_eq f.edge g.edge ≡ false) fs
+  pub order : IsByAnchor fs
+
+-- a hole, and its anchor
+pub record IsAnchored (on_left : Bool) (hole : List Step) (e : Edge) : Type 0 where
+  pub is : is_hole on_left hole ≡ true
+  pub anchor : IsAnchor hole e
+
+-- the entry's walk is a hole, of which the entry's edge is the anchor
+abbrev pub IsHoleEntry : Bool → List (List Step) → Entry ℕ → Type 0
+IsHoleEntry on_left walks h = IsOfWalk walks h.value (λ w. IsAnchored on_left w h.edge)
+
+-- the entries are the anchors of the holes among the walks, in their order
+pub record AreHoleEntries (on_left : Bool) (walks : List (List Step)) (hs : List (Entry ℕ)) : Type 0 where
+  pub from : All (IsHoleEntry on_left walks) hs
+  pub all : (n : ℕ) (w : List Step) → slice_get walks n ≡ Some w → is_hole on_left w ≡ true → Contains (map (λ h. h.value) hs) n
+  pub order : IsByAnchor hs

@@ -1,0 +1,16 @@
+-- Walks, each the list of its steps, as whole numbers; and what is told of them.
+use Rattle.std.specs.Prelude.{ℕ, ℤ, List, [], ◌∷◌, map, Option, Vec}
+use Rattle.overlay_geom.specs.Plane.{Step}
+use Rattle.overlay_plane.specs.Binding.{BoundWalk}
+use Rattle.overlay_walk.specs.declared.step.Step.{Step as StepTaken}
+use Rattle.overlay_walk.specs.Steps.{plain_steps}
+
+-- the walks at walks' numbers
+abbrev pub plain_walks : {I D A : Type 0} → (I → ℤ) → List (Vec (StepTaken I D) A) → List (List Step)
+plain_walks whole ws = map (λ w. plain_steps whole w.items) ws
+
+-- the walks, each with the number of a shape, or none, that is told of it
+abbrev pub bound_to : List (List Step) → List (Option ℕ) → List BoundWalk
+bound_to [] shapes = []
+bound_to (w ∷ ws) [] = []
+bound_to (w ∷ ws) (s ∷ shapes) = record { steps = w; shape = s } ∷ bound_to ws shapes

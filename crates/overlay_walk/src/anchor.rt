@@ -1,0 +1,57 @@
+//! The anchors of holes.
+
+ghost use Rattle.std.specs.Prelude.{◌≡◌, ◌<◌, length, All, IfOk, IsOkUnless};
+ghost use Rattle.overlay_plane.specs.Anchors.{IsAnchor};
+ghost use Rattle.overlay_plane.specs.Contours.{IsContour};
+ghost use Rattle.overlay_walk.specs.Steps.{plain_steps, is_on_left, IsLong};
+ghost use Rattle.overlay_walk.specs.WalkEdges.{plain_entry, plain_entries, AreHoleEntries};
+ghost use Rattle.overlay_walk.specs.Walks.{plain_walks};
+
+use crate::by_anchor::{compare_anchors, sort_by_anchor};
+use crate::filled::{edge_along, is_hole};
+use crate::step::Step;
+use crate::walk_edge::WalkEdge;
+use overlay_arrange::options::ContourDirection;
+use overlay_geom::error::OverlayError;
+use overlay_geom::number::IntNumber;
+use std::alloc::Allocator;
+
+/// The anchors of the holes among the walks, in their order, each with the index of its walk. The only
+/// refusal is `Memory`.
+pub fn hole_anchors<I: IntNumber, D: Copy, A: Allocator>(
+    alloc: A,
+    walks: &[Vec<Step<I, D>, A>],
+    direction: ContourDirection,
+) -> Result<Vec<WalkEdge<I>, A>, OverlayError>
+    requires long { All (All (IsLong I.limit)) (plain_walks I.whole walks.now) }
+    requires contours { All IsContour (plain_walks I.whole walks.now) }
+    ensures ok { IfOk result (λ v. AreHoleEntries (is_on_left direction) (plain_walks I.whole walks.now) (plain_entries I.whole v.items)) }
+    ensures err { IsOkUnless result OverlayError.Memory }
+{
+    let mut anchors = Vec::new(alloc);
+    for i in 0..walks.len() {
+        let walk = &walks[i];
+        if is_hole(walk, direction) {
+            anchors.push(anchor_of(walk, i))?;
+        }
+    }
+    sort_by_anchor(&mut anchors)?;
+    Ok(anchors)
+}
+
+/// The anchor of a walk with this index: the lowest of its edges at its leftmost lowest point.
+fn anchor_of<I: IntNumber, D: Copy>(walk: &[Step<I, D>], index: usize) -> WalkEdge<I>
+    requires some { 0 < length walk.now }
+    requires long { All (IsLong I.limit) (plain_steps I.whole walk.now) }
+    ensures index { (plain_entry I.whole result).value ≡ index }
+    ensures anchor { IsAnchor (plain_steps I.whole walk.now) (plain_entry I.whole result).edge }
+{
+    let mut anchor = edge_along(&walk[0], index);
+    for i in 1..walk.len() {
+        let edge = edge_along(&walk[i], index);
+        if compare_anchors(&edge, &anchor).is_lt() {
+            anchor = edge;
+        }
+    }
+    anchor
+}

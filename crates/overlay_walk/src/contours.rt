@@ -1,0 +1,54 @@
+//! The cut of steps into contours.
+
+ghost use Rattle.std.specs.Prelude.{◌≡◌, All, Contains, IfOk, IsOkUnless, map};
+ghost use Rattle.overlay_plane.specs.Alternates.{Alternates};
+ghost use Rattle.overlay_plane.specs.BesideOrbits.{HasEachOnce};
+ghost use Rattle.overlay_plane.specs.Contours.{outline_or_hole_hand, IsCutInto};
+ghost use Rattle.overlay_walk.specs.Steps.{plain_hand, plain_step, plain_steps, is_on_left};
+ghost use Rattle.overlay_walk.specs.Walks.{plain_walks};
+
+use crate::hand::Hand;
+use crate::open_steps::OpenSteps;
+use crate::step::Step;
+use overlay_arrange::edge::compare_points;
+use overlay_arrange::options::ContourDirection;
+use overlay_geom::error::OverlayError;
+use overlay_geom::number::IntNumber;
+use std::alloc::Allocator;
+
+/// Walks all steps left: while there are any, the orbit of the step along the top edge at their leftmost
+/// lowest point. Where the direction is counterclockwise each step has its filled side on the left, else
+/// on the right. A walk that starts along an edge that is filled above is a hole, and turns through
+/// its empty side; each other is an outline, and turns through its filled side. The only refusal is
+/// `Memory`.
+pub fn cut_into_contours<I: IntNumber, D: Copy, A: Allocator + Clone>(
+    alloc: A,
+    steps: &mut OpenSteps<I, D, A>,
+    direction: ContourDirection,
+) -> Result<Vec<Vec<Step<I, D>, A>, A>, OverlayError>
+    requires alternate { Alternates (plain_steps I.whole steps.old) }
+    requires once { HasEachOnce (plain_steps I.whole steps.old) }
+    ensures cut { IfOk result (λ ws. IsCutInto (outline_or_hole_hand (is_on_left direction)) (plain_steps I.whole steps.old)
+        (plain_walks I.whole ws.items)) }
+    ensures among { IfOk result (λ ws. All (λ w. All (Contains steps.old) w.items) ws.items) }
+    ensures err { IsOkUnless result OverlayError.Memory }
+{
+    let mut contours = Vec::new(alloc);
+    while let Some(start) = steps.start() {
+        let hand = hand_of(start, direction);
+        contours.push(steps.walk(start, hand)?)?;
+    }
+    Ok(contours)
+}
+
+/// The hand by which the contour that starts with a step turns.
+fn hand_of<I: IntNumber, D: Copy>(start: Step<I, D>, direction: ContourDirection) -> Hand
+    ensures { plain_hand result ≡ outline_or_hole_hand (is_on_left direction) (plain_step I.whole start) }
+{
+    let is_forward = compare_points(start.from, start.to).is_lt();
+    let (is_filled_above, filled, empty) = match direction {
+        ContourDirection::CounterClockwise => (is_forward, Hand::Left, Hand::Right),
+        ContourDirection::Clockwise => (!is_forward, Hand::Right, Hand::Left),
+    };
+    if is_filled_above { empty } else { filled }
+}

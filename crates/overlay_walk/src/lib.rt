@@ -1,0 +1,21 @@
+//! Walks along the steps of an arrangement: the next step at a node, orbits, contours, and the
+//! shapes in which holes stand.
+#![tactic(auto)]
+
+mod anchor;
+pub mod bind;
+pub mod buffer;
+mod by_anchor;
+pub mod contours;
+mod filled;
+mod filled_edges;
+pub mod hand;
+mod leftmost;
+mod marks;
+pub mod nearest;
+mod next;
+pub mod open_steps;
+mod outline_numbers;
+pub mod step;
+mod sweep;
+mod walk_edge;

@@ -1,0 +1,430 @@
+//! Round a node: which point a turning ray meets first.
+
+ghost use Rattle.std.specs.Prelude.{◌≡◌, pos, cond, int_lt};
+ghost use Rattle.std.specs.Ordering.{int_cmp};
+ghost use Rattle.overlay_geom.specs.Points.{plain_point, InRange};
+ghost use Rattle.overlay_plane.specs.Turn.{turn, dot_at, part_of_turn, is_met_before};
+ghost use Rattle.overlay_walk.specs.Nearest.{part_number, none_seen, is_nearer, and_seen};
+ghost use Rattle.overlay_walk.specs.Steps.{plain_hand};
+
+use crate::hand::Hand;
+use overlay_geom::number::{IntNumber, WideIntNumber};
+use overlay_geom::point::IntPoint;
+use overlay_geom::vector::cross_at;
+use std::cmp::Ordering;
+use std::marker::Model;
+
+/// A ray round a node: it begins in the direction of a point and turns by a hand.
+#[derive(Debug, Clone, Copy)]
+pub struct Ray<I> {
+    /// The node round which it turns.
+    pub node: IntPoint<I>,
+    /// The point from whose direction it begins to turn.
+    pub start: IntPoint<I>,
+    /// The way in which it turns.
+    pub hand: Hand,
+}
+
+/// The parts of a whole turn, in the order in which a ray comes to them.
+#[derive(Clone, Copy, PartialEq, Eq, PartialOrd, Ord)]
+pub(crate) enum TurnPart {
+    /// Within the first half turn.
+    FirstHalf,
+    /// Straight ahead, where the half turn is made.
+    Ahead,
+    /// Within the second half turn.
+    SecondHalf,
+    /// In the direction of the start again.
+    Again,
+}
+
+impl<I: IntNumber> Ray<I> {
+    /// Whether the ray meets p before q. What lies in the direction of its start comes last. All
+    /// points are in range.
+    pub fn meets_before(self, p: IntPoint<I>, q: IntPoint<I>) -> bool
+        requires node { InRange I.limit (plain_point I.whole self.node) }
+        requires start { InRange I.limit (plain_point I.whole self.start) }
+        requires p { InRange I.limit (plain_point I.whole p) }
+        requires q { InRange I.limit (plain_point I.whole q) }
+        ensures { result ≡ is_met_before (plain_hand self.hand) (plain_point I.whole self.node) (plain_point I.whole self.start)
+            (plain_point I.whole p) (plain_point I.whole q) }
+    {
+        let part = self.part_of(p);
+        match part.cmp(&self.part_of(q)) {
+            Ordering::Less => true,
+            Ordering::Equal => self.turn(p, q).is_gt(),
+            Ordering::Greater => false,
+        }
+    }
+
+    /// The part of the turn in which the ray meets p.
+    fn part_of(self, p: IntPoint<I>) -> TurnPart
+        requires node { InRange I.limit (plain_point I.whole self.node) }
+        requires start { InRange I.limit (plain_point I.whole self.start) }
+        requires p { InRange I.limit (plain_point I.whole p) }
+        ensures { part_number result
+            ≡ part_of_turn (plain_hand self.hand) (plain_point I.whole self.node) (plain_point I.whole self.start) (plain_point I.whole p) }
+    {
+        match self.turn(self.start, p) {
+            Ordering::Greater => TurnPart::FirstHalf,
+            Ordering::Less => TurnPart::SecondHalf,
+            Ordering::Equal => self.part_on_line(p),
+        }
+    }
+
+    /// The part of the turn in which the ray meets p, which lies on the line of node and start.
+    fn part_on_line(self, p: IntPoint<I>) -> TurnPart
+        requires node { InRange I.limit (plain_point I.whole self.node) }
+        requires start { InRange I.limit (plain_point I.whole self.start) }
+        requires p { InRange I.limit (plain_point I.whole p) }
+        ensures { let dot = dot_at (plain_point I.whole self.node) (plain_point I.whole self.start) (plain_point I.whole p) in
+            part_number result ≡ cond (int_lt dot (pos 0)) 1 3 }
+    {
+        if self.inner_product(self.start, p).sign().is_lt() {
+            TurnPart::Ahead
+        } else {
+            TurnPart::Again
+        }
+    }
+
+    /// Greater where the ray, on its way from p, comes to q before it has made a half turn, less
+    /// where later; equal where the node, p and q lie on one line.
+    fn turn(self, p: IntPoint<I>, q: IntPoint<I>) -> Ordering
+        requires node { InRange I.limit (plain_point I.whole self.node) }
+        requires p { InRange I.limit (plain_point I.whole p) }
+        requires q { InRange I.limit (plain_point I.whole q) }
+        ensures { let turn = turn (plain_hand self.hand) (plain_point I.whole self.node) (plain_point I.whole p) (plain_point I.whole q) in
+            result ≡ int_cmp turn (pos 0) }
+    {
+        match self.hand {
+            Hand::Left => cross_at(self.node, q, p).sign(),
+            Hand::Right => cross_at(self.node, p, q).sign(),
+        }
+    }
+
+    /// The inner product of the ways from the node to p and to q.
+    fn inner_product(self, p: IntPoint<I>, q: IntPoint<I>) -> I::Wide
+        requires node { InRange I.limit (plain_point I.whole self.node) }
+        requires p { InRange I.limit (plain_point I.whole p) }
+        requires q { InRange I.limit (plain_point I.whole q) }
+        ensures { I.Wide.whole result ≡ dot_at (plain_point I.whole self.node) (plain_point I.whole p) (plain_point I.whole q) }
+    {
+        let to_p = p - self.node;
+        let to_q = q - self.node;
+        // the cross product with the way to q turned to the left
+        let back_y = self.node.y.minus(q.y);
+        I::cross(to_p.x, to_p.y, back_y, to_q.x)
+    }
+}
+
+/// A ray round a node, and which of the points seen so far it meets first.
+#[derive(Drop)]
+pub struct NearestVector<I: IntNumber> {
+    ray: Ray<I>,
+    nearest: Option<IntPoint<I>>,
+}
+
+impl<I: IntNumber> Model for NearestVector<I> {
+    ghost use Rattle.std.specs.Prelude.{option_map, IfSome};
+    ghost use Rattle.overlay_geom.specs.Points.{plain_point, InRange};
+    ghost use Rattle.overlay_walk.specs.Nearest.{Nearest};
+    ghost use Rattle.overlay_walk.specs.Steps.{plain_hand};
+
+    ghost Value = { Nearest };
+
+    ghost view = { λ n. record {
+      hand = plain_hand n.ray.hand;
+      node = plain_point I.whole n.ray.node;
+      start = plain_point I.whole n.ray.start;
+      nearest = option_map (plain_point I.whole) n.nearest;
+    } };
+
+    ghost invariant = { λ n. InRange I.limit (plain_point I.whole n.ray.node)
+        × InRange I.limit (plain_point I.whole n.ray.start)
+        × IfSome n.nearest (λ p. InRange I.limit (plain_point I.whole p)) };
+}
+
+impl<I: IntNumber> NearestVector<I> {
+    /// The ray, and no point seen yet. Its points are in range.
+    pub fn new(ray: Ray<I>) -> Self
+        requires node { InRange I.limit (plain_point I.whole ray.node) }
+        requires start { InRange I.limit (plain_point I.whole ray.start) }
+        ensures { result ≡ none_seen (plain_hand ray.hand) (plain_point I.whole ray.node) (plain_point I.whole ray.start) }
+    {
+        NearestVector { ray, nearest: None }
+    }
+
+    /// Whether the ray meets the point, which is in range, before all others added so far; then it
+    /// is the nearest one now.
+    pub fn add(&mut self, point: IntPoint<I>) -> bool
+        requires { InRange I.limit (plain_point I.whole point) }
+        ensures nearer { result ≡ is_nearer self.old (plain_point I.whole point) }
+        ensures nearest { self.new ≡ and_seen self.old (plain_point I.whole point) }
+    {
+        let is_nearer = match self.nearest {
+            None => true,
+            Some(nearest) => self.ray.meets_before(point, nearest),
+        };
+        if is_nearer {
+            self.nearest = Some(point);
+        }
+        is_nearer
+    }
+}
+
+#[cfg(test)]
+mod tests {
+    use super::*;
+
+    #[test]
+    fn rays_round_a_node_at_i16(rt: HostRuntime) {
+        let node = IntPoint::new(0i16, 0);
+        let (right, up) = (IntPoint::new(1, 0), IntPoint::new(0, 1));
+        let (left, down) = (IntPoint::new(-1, 0), IntPoint::new(0, -1));
+        let aslant = IntPoint::new(1, 1);
+        let ray = Ray {
+            node,
+            start: right,
+            hand: Hand::Right,
+        };
+        assert!(rt; ray.meets_before(up, left) && !ray.meets_before(left, up));
+        assert!(rt; ray.meets_before(aslant, up) && !ray.meets_before(up, aslant));
+        let ray = Ray {
+            node,
+            start: right,
+            hand: Hand::Left,
+        };
+        assert!(rt; ray.meets_before(down, left) && !ray.meets_before(left, down));
+        assert!(rt; ray.meets_before(down, aslant) && !ray.meets_before(aslant, down));
+    }
+
+    #[test]
+    fn rays_round_a_node_at_i32(rt: HostRuntime) {
+        let node = IntPoint::new(0i32, 0);
+        let (right, up) = (IntPoint::new(1, 0), IntPoint::new(0, 1));
+        let (left, down) = (IntPoint::new(-1, 0), IntPoint::new(0, -1));
+        let aslant = IntPoint::new(1, 1);
+        let ray = Ray {
+            node,
+            start: right,
+            hand: Hand::Right,
+        };
+        assert!(rt; ray.meets_before(up, left) && !ray.meets_before(left, up));
+        assert!(rt; ray.meets_before(aslant, up) && !ray.meets_before(up, aslant));
+        let ray = Ray {
+            node,
+            start: right,
+            hand: Hand::Left,
+        };
+        assert!(rt; ray.meets_before(down, left) && !ray.meets_before(left, down));
+        assert!(rt; ray.meets_before(down, aslant) && !ray.meets_before(aslant, down));
+    }
+
+    #[test]
+    fn rays_round_a_node_at_i64(rt: HostRuntime) {
+        let node = IntPoint::new(0i64, 0);
+        let (right, up) = (IntPoint::new(1, 0), IntPoint::new(0, 1));
+        let (left, down) = (IntPoint::new(-1, 0), IntPoint::new(0, -1));
+        let aslant = IntPoint::new(1, 1);
+        let ray = Ray {
+            node,
+            start: right,
+            hand: Hand::Right,
+        };
+        assert!(rt; ray.meets_before(up, left) && !ray.meets_before(left, up));
+        assert!(rt; ray.meets_before(aslant, up) && !ray.meets_before(up, aslant));
+        let ray = Ray {
+            node,
+            start: right,
+            hand: Hand::Left,
+        };
+        assert!(rt; ray.meets_before(down, left) && !ray.meets_before(left, down));
+        assert!(rt; ray.meets_before(down, aslant) && !ray.meets_before(aslant, down));
+    }
+
+    #[test]
+    fn half_turn_before_the_rest_at_i16(rt: HostRuntime) {
+        let (node, start) = (IntPoint::new(-1i16, -1), IntPoint::new(0, -1));
+        let (left, down) = (IntPoint::new(-2, -1), IntPoint::new(-1, -2));
+        let ray = Ray {
+            node,
+            start,
+            hand: Hand::Right,
+        };
+        assert!(rt; ray.meets_before(left, down) && !ray.meets_before(down, left));
+        let ray = Ray {
+            node,
+            start,
+            hand: Hand::Left,
+        };
+        assert!(rt; ray.meets_before(down, left) && !ray.meets_before(left, down));
+    }
+
+    #[test]
+    fn half_turn_before_the_rest_at_i32(rt: HostRuntime) {
+        let (node, start) = (IntPoint::new(-1i32, -1), IntPoint::new(0, -1));
+        let (left, down) = (IntPoint::new(-2, -1), IntPoint::new(-1, -2));
+        let ray = Ray {
+            node,
+            start,
+            hand: Hand::Right,
+        };
+        assert!(rt; ray.meets_before(left, down) && !ray.meets_before(down, left));
+        let ray = Ray {
+            node,
+            start,
+            hand: Hand::Left,
+        };
+        assert!(rt; ray.meets_before(down, left) && !ray.meets_before(left, down));
+    }
+
+    #[test]
+    fn half_turn_before_the_rest_at_i64(rt: HostRuntime) {
+        let (node, start) = (IntPoint::new(-1i64, -1), IntPoint::new(0, -1));
+        let (left, down) = (IntPoint::new(-2, -1), IntPoint::new(-1, -2));
+        let ray = Ray {
+            node,
+            start,
+            hand: Hand::Right,
+        };
+        assert!(rt; ray.meets_before(left, down) && !ray.meets_before(down, left));
+        let ray = Ray {
+            node,
+            start,
+            hand: Hand::Left,
+        };
+        assert!(rt; ray.meets_before(down, left) && !ray.meets_before(left, down));
+    }
+
+    #[test]
+    fn start_comes_last(rt: HostRuntime) {
+        let (node, start) = (IntPoint::new(0i32, 0), IntPoint::new(2, 0));
+        let near = IntPoint::new(1, 0);
+        let before = IntPoint::new(3, -1);
+        let ray = Ray {
+            node,
+            start,
+            hand: Hand::Right,
+        };
+        assert!(rt; ray.meets_before(before, start) && !ray.meets_before(start, before));
+        assert!(rt; ray.meets_before(before, near) && !ray.meets_before(near, before));
+        assert!(rt; !ray.meets_before(start, near) && !ray.meets_before(near, start));
+        let ahead = IntPoint::new(-5, 0);
+        assert!(rt; ray.meets_before(ahead, start) && !ray.meets_before(start, ahead));
+        assert!(rt; !ray.meets_before(start, start));
+    }
+
+    #[test]
+    fn ends_of_the_range_at_i16(rt: HostRuntime) {
+        let far = 16383i16;
+        let (node, start) = (IntPoint::new(-far, -far), IntPoint::new(far, -far));
+        let (across, up) = (IntPoint::new(far, far), IntPoint::new(-far, far));
+        let ray = Ray {
+            node,
+            start,
+            hand: Hand::Right,
+        };
+        assert!(rt; ray.meets_before(across, up) && !ray.meets_before(up, across));
+        assert!(rt; ray.meets_before(up, start) && !ray.meets_before(start, up));
+        let ray = Ray {
+            node,
+            start: across,
+            hand: Hand::Left,
+        };
+        assert!(rt; ray.meets_before(start, up) && !ray.meets_before(up, start));
+        assert!(rt; ray.meets_before(up, across) && !ray.meets_before(across, up));
+    }
+
+    #[test]
+    fn ends_of_the_range_at_i32(rt: HostRuntime) {
+        let far = 1073741823i32;
+        let (node, start) = (IntPoint::new(-far, -far), IntPoint::new(far, -far));
+        let (across, up) = (IntPoint::new(far, far), IntPoint::new(-far, far));
+        let ray = Ray {
+            node,
+            start,
+            hand: Hand::Right,
+        };
+        assert!(rt; ray.meets_before(across, up) && !ray.meets_before(up, across));
+        assert!(rt; ray.meets_before(up, start) && !ray.meets_before(start, up));
+        let ray = Ray {
+            node,
+            start: across,
+            hand: Hand::Left,
+        };
+        assert!(rt; ray.meets_before(start, up) && !ray.meets_before(up, start));
+        assert!(rt; ray.meets_before(up, across) && !ray.meets_before(across, up));
+    }
+
+    #[test]
+    fn ends_of_the_range_at_i64(rt: HostRuntime) {
+        let far = 4611686018427387903i64;
+        let (node, start) = (IntPoint::new(-far, -far), IntPoint::new(far, -far));
+        let (across, up) = (IntPoint::new(far, far), IntPoint::new(-far, far));
+        let ray = Ray {
+            node,
+            start,
+            hand: Hand::Right,
+        };
+        assert!(rt; ray.meets_before(across, up) && !ray.meets_before(up, across));
+        assert!(rt; ray.meets_before(up, start) && !ray.meets_before(start, up));
+        let ray = Ray {
+            node,
+            start: across,
+            hand: Hand::Left,
+        };
+        assert!(rt; ray.meets_before(start, up) && !ray.meets_before(up, start));
+        assert!(rt; ray.meets_before(up, across) && !ray.meets_before(across, up));
+    }
+
+    #[test]
+    fn nearest_of_some_at_i16(rt: HostRuntime) {
+        let ray = Ray {
+            node: IntPoint::new(0i16, 0),
+            start: IntPoint::new(1, 0),
+            hand: Hand::Right,
+        };
+        let mut nearest = NearestVector::new(ray);
+        assert!(rt; nearest.add(IntPoint::new(1, 0)));
+        assert!(rt; nearest.add(IntPoint::new(0, -1)));
+        assert!(rt; nearest.add(IntPoint::new(0, 1)));
+        assert!(rt; !nearest.add(IntPoint::new(-1, 0)));
+        assert!(rt; !nearest.add(IntPoint::new(0, 2)));
+        assert!(rt; nearest.add(IntPoint::new(2, 1)));
+        assert!(rt; !nearest.add(IntPoint::new(0, 1)));
+    }
+
+    #[test]
+    fn nearest_of_some_at_i32(rt: HostRuntime) {
+        let ray = Ray {
+            node: IntPoint::new(0i32, 0),
+            start: IntPoint::new(1, 0),
+            hand: Hand::Right,
+        };
+        let mut nearest = NearestVector::new(ray);
+        assert!(rt; nearest.add(IntPoint::new(1, 0)));
+        assert!(rt; nearest.add(IntPoint::new(0, -1)));
+        assert!(rt; nearest.add(IntPoint::new(0, 1)));
+        assert!(rt; !nearest.add(IntPoint::new(-1, 0)));
+        assert!(rt; !nearest.add(IntPoint::new(0, 2)));
+        assert!(rt; nearest.add(IntPoint::new(2, 1)));
+        assert!(rt; !nearest.add(IntPoint::new(0, 1)));
+    }
+
+    #[test]
+    fn nearest_of_some_at_i64(rt: HostRuntime) {
+        let ray = Ray {
+            node: IntPoint::new(0i64, 0),
+            start: IntPoint::new(1, 0),
+            hand: Hand::Right,
+        };
+        let mut nearest = NearestVector::new(ray);
+        assert!(rt; nearest.add(IntPoint::new(1, 0)));
+        assert!(rt; nearest.add(IntPoint::new(0, -1)));
+        assert!(rt; nearest.add(IntPoint::new(0, 1)));
+        assert!(rt; !nearest.add(IntPoint::new(-1, 0)));
+        assert!(rt; !nearest.add(IntPoint::new(0, 2)));
+        assert!(rt; nearest.add(IntPoint::new(2, 1)));
+        assert!(rt; !nearest.add(IntPoint::new(0, 1)));
+    }
+}

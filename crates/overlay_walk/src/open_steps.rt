@@ -1,0 +1,148 @@
+//! Steps to be walked, and which of them no walk has taken yet.
+
+ghost use Rattle.std.specs.Prelude.{◌≡◌, ◌↔◌, [], ◌∷◌, None, All, Any, Contains, IfOk, IfSome};
+ghost use Rattle.std.specs.Prelude.{OnOk, IsOkUnless};
+ghost use Rattle.std.specs.List.Sorted.{IsPermutation};
+ghost use Rattle.overlay_geom.specs.Plane.{step_eq};
+ghost use Rattle.overlay_plane.specs.Alternates.{Alternates};
+ghost use Rattle.overlay_plane.specs.BesideOrbits.{HasEachOnce};
+ghost use Rattle.overlay_plane.specs.Contours.{IsStart, without};
+ghost use Rattle.overlay_plane.specs.Turn.{IsNextStep, IsOrbit, step_round};
+ghost use Rattle.overlay_walk.specs.Steps.{plain_hand, plain_step, plain_steps};
+ghost use Rattle.overlay_walk.specs.Steps.{IsByStart, IsLong};
+
+use crate::hand::Hand;
+use crate::leftmost::place_of_start;
+use crate::next::place_of_next;
+use crate::step::Step;
+use overlay_arrange::edge::compare_points;
+use overlay_geom::error::OverlayError;
+use overlay_geom::number::IntNumber;
+use std::alloc::Allocator;
+use std::marker::Model;
+
+#[cfg(test)]
+mod tests;
+
+/// Steps between different points in range, and which of them are left to be walked.
+#[derive(Drop)]
+pub struct OpenSteps<I: IntNumber, D: Copy, A: Allocator> {
+    // in the order of the points that they leave
+    steps: Vec<Step<I, D>, A>,
+    // which of them a walk has taken
+    taken: Vec<bool, A>,
+}
+
+impl<I: IntNumber, D: Copy, A: Allocator> Model for OpenSteps<I, D, A> {
+    ghost use Rattle.std.specs.Prelude.{◌≡◌, List, length, All};
+    ghost use Rattle.overlay_walk.specs.declared.step.Step.{Step};
+    ghost use Rattle.overlay_walk.specs.Steps.{plain_steps, IsByStart, IsLong, unmarked};
+
+    ghost Value = { List (Step I D) };
+
+    ghost view = { λ o. unmarked o.steps.items o.taken.items };
+
+    ghost invariant = { λ o. (length o.taken.items ≡ length o.steps.items)
+        × (IsByStart (plain_steps I.whole o.steps.items) × All (IsLong I.limit) (plain_steps I.whole o.steps.items)) };
+}
+
+impl<I: IntNumber, D: Copy, A: Allocator> OpenSteps<I, D, A> {
+    /// The list of the steps, whose room may be used again. What it holds is left open.
+    pub fn into_steps(self) -> Vec<Step<I, D>, A> {
+        self.steps
+    }
+
+    /// The step along the top edge at the leftmost lowest point of the steps left, or None where
+    /// none is left.
+    pub fn start(&self) -> Option<Step<I, D>>
+        ensures none { (result ≡ None) ↔ (self.now ≡ []) }
+        ensures some { IfSome result (λ s. Contains self.now s) }
+        ensures start { IfSome result (λ s. IsStart (plain_steps I.whole self.now) (plain_step I.whole s)) }
+    {
+        let place = place_of_start(&self.steps, &self.taken)?;
+        Some(self.steps[place])
+    }
+
+    // Takes the next step by a hand after a step at whose end the steps left go on.
+    fn take_next(&mut self, step: Step<I, D>, hand: Hand) -> Step<I, D>
+        requires once { HasEachOnce (plain_steps I.whole self.old) }
+        requires long { IsLong I.limit (plain_step I.whole step) }
+        requires goes_on { Any (λ t. t.from ≡ (plain_step I.whole step).to) (plain_steps I.whole self.old) }
+        ensures among { Contains self.old result }
+        ensures next { IsNextStep (plain_steps I.whole self.old) (plain_hand hand) (plain_step I.whole step) (plain_step I.whole result) }
+        ensures left { plain_steps I.whole self.new
+            ≡ without (plain_steps I.whole self.old) (plain_step I.whole result ∷ []) }
+        ensures fewer { All (Contains self.old) self.new }
+    {
+        match place_of_next(&self.steps, &self.taken, step, hand) {
+            Some(place) => {
+                self.taken[place] = true;
+                self.steps[place]
+            }
+            None => unreachable!(),
+        }
+    }
+}
+
+impl<I: IntNumber, D: Copy, A: Allocator + Clone> OpenSteps<I, D, A> {
+    /// All the steps, none of them taken. The only refusal is `Memory`.
+    pub fn new(mut steps: Vec<Step<I, D>, A>) -> Result<Self, OverlayError>
+        requires { All (IsLong I.limit) (plain_steps I.whole steps.items) }
+        ensures all { IfOk result (λ o. IsPermutation steps.items o) }
+        ensures err { IsOkUnless result OverlayError.Memory }
+    {
+        sort_steps(&mut steps)?;
+        let mut taken = Vec::new(steps.allocator().clone()?);
+        taken.resize(steps.len(), false)?;
+        Ok(OpenSteps { steps, taken })
+    }
+
+    /// Takes the orbit of a step by a hand, in the steps left: each next step is the one that a ray
+    /// meets first which turns by the hand, at the end of the step, from the way back along it. The
+    /// only refusal is `Memory`; what is left then is left open.
+    pub fn walk(
+        &mut self,
+        start: Step<I, D>,
+        hand: Hand,
+    ) -> Result<Vec<Step<I, D>, A>, OverlayError>
+        requires alternate { Alternates (plain_steps I.whole self.old) }
+        requires once { HasEachOnce (plain_steps I.whole self.old) }
+        requires left { Contains self.old start }
+        ensures orbit { IfOk result (λ w. IsOrbit (plain_steps I.whole self.old) (plain_hand hand) (plain_steps I.whole w.items)) }
+        ensures begins { IfOk result (λ w. step_round (plain_steps I.whole w.items) 0 ≡ plain_step I.whole start) }
+        ensures among { IfOk result (λ w. All (Contains self.old) w.items) }
+        ensures left { IfOk result (λ w.
+            plain_steps I.whole self.new ≡ without (plain_steps I.whole self.old) (plain_steps I.whole w.items)) }
+        ensures fewer { OnOk result (All (Contains self.old) self.new) }
+        ensures err { IsOkUnless result OverlayError.Memory }
+    {
+        let mut walk = Vec::new(self.steps.allocator().clone()?);
+        let mut step = start;
+        loop {
+            walk.push(step)?;
+            step = self.take_next(step, hand);
+            if is_same(step, start) {
+                return Ok(walk);
+            }
+        }
+    }
+}
+
+/// Puts the steps into the order of the points that they leave.
+fn sort_steps<I: IntNumber, D: Copy, A: Allocator>(
+    steps: &mut Vec<Step<I, D>, A>,
+) -> Result<(), OverlayError>
+    ensures permutation { IsPermutation steps.old.items steps.new.items }
+    ensures order { OnOk result (IsByStart (plain_steps I.whole steps.new.items)) }
+    ensures err { IsOkUnless result OverlayError.Memory }
+{
+    steps.sort_by(|s, t| compare_points(s.from, t.from))?;
+    Ok(())
+}
+
+/// Whether two steps lead between the same points.
+fn is_same<I: IntNumber, D: Copy>(s: Step<I, D>, t: Step<I, D>) -> bool
+    ensures { result ≡ step_eq (plain_step I.whole s) (plain_step I.whole t) }
+{
+    compare_points(s.from, t.from).is_eq() && compare_points(s.to, t.to).is_eq()
+}

@@ -1,0 +1,36 @@
+//! The numbers of outlines.
+
+ghost use Rattle.std.specs.Prelude.{IfOk, IsOkUnless};
+ghost use Rattle.overlay_walk.specs.Parents.{AreOutlineNumbers};
+ghost use Rattle.overlay_walk.specs.Steps.{is_on_left};
+ghost use Rattle.overlay_walk.specs.Walks.{plain_walks};
+
+use crate::filled::is_hole;
+use crate::step::Step;
+use overlay_arrange::options::ContourDirection;
+use overlay_geom::error::OverlayError;
+use overlay_geom::number::IntNumber;
+use std::alloc::Allocator;
+
+/// For each walk its number among the outlines, counted from 0, or None for a hole. The only refusal
+/// is `Memory`.
+pub fn outline_numbers<I: IntNumber, D: Copy, A: Allocator>(
+    alloc: A,
+    walks: &[Vec<Step<I, D>, A>],
+    direction: ContourDirection,
+) -> Result<Vec<Option<usize>, A>, OverlayError>
+    ensures ok { IfOk result (λ v. AreOutlineNumbers (is_on_left direction) (plain_walks I.whole walks.now) v.items) }
+    ensures err { IsOkUnless result OverlayError.Memory }
+{
+    let mut numbers = Vec::new(alloc);
+    let mut outlines = 0;
+    for i in 0..walks.len() {
+        if is_hole(&walks[i], direction) {
+            numbers.push(None)?;
+        } else {
+            numbers.push(Some(outlines))?;
+            outlines += 1;
+        }
+    }
+    Ok(numbers)
+}

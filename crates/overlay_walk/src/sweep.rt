@@ -1,0 +1,106 @@
+//! The sweep over walks that finds the parents of holes.
+
+ghost use Rattle.std.specs.Prelude.{◌≡◌, ◌<◌, ◌≤◌, length, take, drop, slice_index_or, Contains, None};
+ghost use Rattle.std.specs.Prelude.{◌<ℤ◌, false, true, cond, nat_lt, MatchOption, All, AllPairs, IfOk, OnErr, IsOkUnless};
+ghost use Rattle.std.specs.Option.{is_some};
+ghost use Rattle.overlay_geom.specs.Plane.{edge_of, edge_eq};
+ghost use Rattle.overlay_geom.specs.Settled.{IsSettledBy, MeetInEnds};
+ghost use Rattle.overlay_plane.specs.Anchors.{HasEachEdgeOnce};
+ghost use Rattle.overlay_plane.specs.Binding.{all_filled_above};
+ghost use Rattle.overlay_plane.specs.Contours.{IsContour, all_steps};
+ghost use Rattle.overlay_scan.specs.Scan.{empty_sweep};
+ghost use Rattle.overlay_walk.specs.Parents.{IsSwept, IsToldAt};
+ghost use Rattle.overlay_walk.specs.Steps.{is_on_left, IsLong};
+ghost use Rattle.overlay_walk.specs.WalkEdges.{plain_entries, IsByAnchor};
+ghost use Rattle.overlay_walk.specs.Walks.{plain_walks};
+
+use crate::anchor::hole_anchors;
+use crate::filled_edges::filled_edges;
+use crate::outline_numbers::outline_numbers;
+use crate::step::Step;
+use crate::walk_edge::WalkEdge;
+use overlay_arrange::options::ContourDirection;
+use overlay_geom::error::OverlayError;
+use overlay_geom::number::IntNumber;
+use overlay_scan::scan::Scan;
+use std::alloc::Allocator;
+
+/// For each walk the number of the shape in which it stands, if it is a hole and has a parent. The
+/// scan is empty at first; what it holds afterwards is left open. The only refusal is `Memory`.
+pub fn parents_by_sweep<I: IntNumber, D: Copy, A: Allocator + Clone, S: Scan<I, usize>>(
+    alloc: A,
+    scan: &mut S,
+    walks: &[Vec<Step<I, D>, A>],
+    direction: ContourDirection,
+) -> Result<Vec<Option<usize>, A>, OverlayError>
+    requires long { All (All (IsLong I.limit)) (plain_walks I.whole walks.now) }
+    requires contours { All IsContour (plain_walks I.whole walks.now) }
+    requires single { All HasEachEdgeOnce (plain_walks I.whole walks.now) }
+    requires distinct { AllPairs (λ e f. edge_eq e f ≡ false) (all_filled_above (is_on_left direction) (plain_walks I.whole walks.now)) }
+    requires settled { IsSettledBy edge_of (all_steps (plain_walks I.whole walks.now)) }
+    requires empty { S.content scan.old ≡ empty_sweep }
+    ensures counted { IfOk result (λ v. length v.items ≡ length walks.now) }
+    ensures told { IfOk result (λ v. (n : _) → IsToldAt (is_on_left direction) (plain_walks I.whole walks.now) v.items n) }
+    ensures err { IsOkUnless result OverlayError.Memory }
+{
+    let edges = filled_edges(alloc.clone()?, walks, direction)?;
+    let anchors = hole_anchors(alloc.clone()?, walks, direction)?;
+    let numbers = outline_numbers(alloc.clone()?, walks, direction)?;
+    let mut parents = Vec::new(alloc);
+    parents.resize(walks.len(), None)?;
+    let mut from = 0;
+    for hole in &anchors {
+        let x = hole.a.x;
+        from = insert_up_to(scan, &edges, from, x)?;
+        let below = scan.first_less(x, walks.len(), [hole.a, hole.b]);
+        parents[hole.walk] = shape_at(&numbers, &parents, below);
+    }
+    Ok(parents)
+}
+
+/// Puts in the edges over x from an index on, each with its walk's index, and returns the index of the
+/// first edge that starts to the right of x. The only refusal is `Memory`.
+fn insert_up_to<I: IntNumber, S: Scan<I, usize>>(
+    scan: &mut S,
+    edges: &[WalkEdge<I>],
+    from: usize,
+    x: I,
+) -> Result<usize, OverlayError>
+    requires from { from ≤ length edges.now }
+    requires order { IsByAnchor (plain_entries I.whole edges.now) }
+    requires distinct { AllPairs (λ f g. edge_eq f.edge g.edge ≡ false) (plain_entries I.whole edges.now) }
+    requires settled { IsSettledBy (λ f. f.edge) (plain_entries I.whole edges.now) }
+    requires swept { IsSwept I.limit (I.whole x) (take from (plain_entries I.whole edges.now)) (S.content scan.old) }
+    ensures within { IfOk result (λ n. n ≤ length edges.now) }
+    ensures swept { IfOk result (λ n. IsSwept I.limit (I.whole x) (take n (plain_entries I.whole edges.now)) (S.content scan.new)) }
+    ensures rest { IfOk result (λ n. All (λ f. I.whole x <ℤ f.edge.a.x) (drop n (plain_entries I.whole edges.now))) }
+    ensures err { IsOkUnless result OverlayError.Memory }
+{
+    for i in from..edges.len() {
+        let e = &edges[i];
+        if x.compare(e.a.x).is_lt() {
+            return Ok(i);
+        }
+        if x.compare(e.b.x).is_lt() {
+            scan.insert([e.a, e.b], e.walk, x)?;
+        }
+    }
+    Ok(edges.len())
+}
+
+/// The number of the shape of the walk with this index: of an outline its own, of a hole that of its
+/// parent. It is None past the walks.
+fn shape_at(numbers: &[Option<usize>], parents: &[Option<usize>], walk: usize) -> Option<usize>
+    requires { length parents.now ≡ length numbers.now }
+    ensures { result ≡ cond (nat_lt walk (length numbers.now))
+        (cond (is_some (slice_index_or numbers.now walk None)) (slice_index_or numbers.now walk None) (slice_index_or parents.now walk None)) None }
+{
+    if walk < numbers.len() {
+        match numbers[walk] {
+            Some(n) => Some(n),
+            None => parents[walk],
+        }
+    } else {
+        None
+    }
+}
