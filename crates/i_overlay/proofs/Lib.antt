@@ -1,1 +1,10 @@
+pub mod Balanced
+pub mod BoundAdded
+pub mod NoShapes
+pub mod OneShots
+pub mod PathLists
+pub mod Queries
+pub mod Results
 mod Rows
+pub mod SelectedByBits
+pub mod SourcePaths

@@ -1,18 +1,29 @@
 -- What contracts see of an overlay builder, and what its calls do to it.
-use Rattle.std.specs.Prelude.{◌^◌, ◌≤◌, Bool, List}
+use Rattle.std.specs.Prelude.{◌≡◌, ◌^◌, ◌≤◌, Bool, true, false, List, [], Option, Some}
 use Rattle.overlay_geom.specs.Plane.{Point}
 use Rattle.overlay_geom.specs.Edges.{CountedEdge, AddsContour, weight}
+use Rattle.overlay_plane.specs.Balance.{HasBalancedCounts}
 use Rattle.i_overlay.specs.declared.solver.Solver.{Solver}
 use Rattle.overlay_arrange.specs.Content.{edge_for}
 use Rattle.overlay_arrange.specs.declared.options.ShapeType.{ShapeType}
 use Rattle.overlay_arrange.specs.declared.options.IntOverlayOptions.{IntOverlayOptions}
 
--- a builder: its settings, the counted edges that it holds, and whether a query was refused since it was last cleared
+-- a builder: its settings, whether it holds a buffer for extractions (of which nothing is seen), the counted edges that it holds, and whether a query was
+-- refused since it was last cleared
 pub record Builder (U : Type 0) : Type 0 where
   pub solver : Solver
   pub options : IntOverlayOptions U
+  pub boolean_buffer : Option (Unit {0})
   pub edges : List CountedEdge
   pub failed : Bool
+
+-- a new builder with these settings: it has a buffer, no edges, and has not failed
+abbrev pub empty_builder : {U : Type 0} → IntOverlayOptions U → Solver → Builder U
+empty_builder options solver = record { solver = solver; options = options; boolean_buffer = Some tt; edges = []; failed = false }
+
+-- what a builder holds that has not failed has balanced counts, since closed contours alone were added
+abbrev pub IsBalancedUnlessFailed : Bool → List CountedEdge → Type 0
+IsBalancedUnlessFailed failed es = failed ≡ false → HasBalancedCounts es
 
 -- adding the contour would bring the weight to 2^31
 pub record WouldWeighTooMuch (keep_points : Bool) (shape_type : ShapeType) (given : List Point) (old : List CountedEdge) : Type 0 where

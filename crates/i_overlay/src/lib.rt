@@ -1,15 +1,22 @@
 //! Boolean operations on polygons with whole coordinates.
 //!
 //! Contours are added to an [`overlay::Overlay`] as subject or clip, and queries are answered on
-//! what was added.
+//! what was added. [`single::SingleIntOverlay`] answers in one call.
 #![tactic(auto)]
 
+mod assemble;
 pub mod edge_data;
 pub mod error;
+mod extract;
 pub mod fill_rule;
 pub mod i_float;
+pub mod i_shape;
 pub mod integer;
+pub mod laws;
 pub mod overlay;
+pub mod overlay_rule;
 pub mod segm;
+mod select;
+pub mod single;
 pub mod solver;
 pub mod vector;

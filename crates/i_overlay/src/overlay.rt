@@ -1,119 +1,77 @@
 //! The overlay builder: contours are added, and queries are answered.
 
-ghost use Rattle.std.specs.Prelude.{◌≡◌, ◌≢◌, ◌↔◌, ◌⊎◌, ◌^◌, ◌<◌, true, false, if◌then◌else◌, [], map};
-ghost use Rattle.std.specs.Prelude.{Ok, Err, IfOk, IfErr, OnOk, OnErr, IsOkUnless, IsErrOf};
+ghost use Rattle.std.specs.Prelude.{◌≡◌, ◌≢◌, true, false, if◌then◌else◌, [], map, Some};
+ghost use Rattle.std.specs.Prelude.{Ok, Err, IfOk, OnOk, OnErr, IsOkUnless};
 ghost use Rattle.overlay_arrange.specs.Arranged.{IsArranged, WasArranged};
-ghost use Rattle.overlay_arrange.specs.Content.{edge_for, IsContent};
-ghost use Rattle.overlay_arrange.specs.Options.{AreOptions};
+ghost use Rattle.overlay_arrange.specs.Content.{IsAscending, IsContent};
 ghost use Rattle.overlay_arrange.specs.Vectors.{plain_vector, vector_of};
-ghost use Rattle.overlay_geom.specs.Edges.{AddsContour, weight};
-ghost use Rattle.overlay_geom.specs.Points.{plain_points, AllInRange};
-ghost use Rattle.overlay_plane.specs.Arrangements.{StaysUnsettled, WeighsTooMuch};
+ghost use Rattle.overlay_geom.specs.Merged.{HaveSameWindings};
+ghost use Rattle.overlay_geom.specs.Paths.{plain_shapes};
+ghost use Rattle.overlay_geom.specs.Settled.{IsSettled};
+ghost use Rattle.overlay_plane.specs.Balance.{HasBalancedCounts};
 ghost use Rattle.overlay_plane.specs.Meetings.{MeetInWholePoints};
-ghost use Rattle.i_overlay.specs.Builder.{WouldWeighTooMuch};
+ghost use Rattle.i_overlay.specs.Overlay.{asked, IsResult};
+ghost use Rattle.i_overlay.specs.Refusals.{RefusesAsQuery};
 
+use crate::extract::extract_shapes;
 use crate::solver::Solver;
 use overlay_arrange::content::Content;
 use overlay_arrange::count::ShapeCountBoolean;
 use overlay_arrange::fill_rule::FillRule;
-use overlay_arrange::thin::thinned;
+use overlay_arrange::overlay_rule::OverlayRule;
 use overlay_arrange::vector::DataVectorEdge;
 use overlay_geom::error::OverlayError;
 use overlay_geom::integer::OverlayInt;
-use overlay_geom::point::IntPoint;
+use overlay_geom::path::IntShapes;
+use overlay_walk::buffer::BooleanExtractionBuffer;
 use std::alloc::Allocator;
 use std::marker::Model;
 
+mod adders;
+mod constructors;
 #[cfg(test)]
 mod tests;
+#[cfg(test)]
+mod tests_overlay;
+#[cfg(test)]
+mod tests_sources;
 
 pub use overlay_arrange::options::{ContourDirection, IntOverlayOptions, ShapeType};
 
 /// A builder that holds counted edges of a subject and of a clip, and answers queries on them.
 ///
 /// A query that is refused leaves the builder failed: every call that returns a result then answers
-/// `Failed`, until `clear`.
+/// `Failed`, until `clear` or a `reinit_` call.
 #[derive(Drop)]
 pub struct Overlay<I: OverlayInt, A: Allocator> {
     /// How edges are split where they meet.
     pub solver: Solver,
     /// How input is taken and how output looks.
     pub options: IntOverlayOptions<I::WideUInt>,
+    /// Room that queries use again. What it holds changes no answer, and `None` is as good.
+    pub boolean_buffer: Option<BooleanExtractionBuffer<I, A>>,
     content: Content<I, ShapeCountBoolean, A>,
     // whether a query was refused since the builder was last cleared
     is_failed: bool,
 }
 
 impl<I: OverlayInt, A: Allocator> Model for Overlay<I, A> {
-    ghost use Rattle.i_overlay.specs.Builder.{Builder};
+    ghost use Rattle.i_overlay.specs.Builder.{Builder, IsBalancedUnlessFailed};
 
     ghost Value = { Builder I.WideUInt };
 
     ghost view = { λ o. record {
       solver = o.solver;
       options = o.options;
+      boolean_buffer = o.boolean_buffer;
       edges = o.content;
       failed = o.is_failed;
     } };
+
+    ghost invariant = { λ o. IsBalancedUnlessFailed o.is_failed o.content };
 }
 
 impl<I: OverlayInt, A: Allocator + Clone> Overlay<I, A> {
-    /// An empty builder with room for `capacity` edges, the default options and the default solver.
-    /// The only refusal is `Memory`.
-    pub fn new(alloc: A, capacity: usize) -> Result<Self, OverlayError>
-        ensures empty { IfOk result (λ o. o.edges ≡ []) }
-        ensures ready { IfOk result (λ o. o.failed ≡ false) }
-        ensures options { IfOk result (λ o. AreOptions I.WideUInt.natural false false false o.options) }
-        ensures err { IsOkUnless result OverlayError.Memory }
-    {
-        Ok(Overlay {
-            solver: Solver::ABSOLUTE,
-            options: IntOverlayOptions::default(),
-            content: Content::with_capacity(alloc, capacity)?,
-            is_failed: false,
-        })
-    }
-
-    /// Adds the steps of a contour: from each point to the next, and from the last to the first; a
-    /// step between equal points is none. Unless `options.preserve_input_collinear`, points on one
-    /// line with their two neighbours are dropped first. The points are in the coordinate range.
-    ///
-    /// Refusals, which leave the builder as it was: `Failed` before anything else, `TooManyEdges`
-    /// where the weight would come to 2^31, `Memory`.
-    pub fn add_contour(
-        &mut self,
-        contour: &[IntPoint<I>],
-        shape_type: ShapeType,
-    ) -> Result<(), OverlayError>
-        requires { AllInRange I.limit (plain_points I.whole contour.now) }
-        ensures ok { OnOk result (AddsContour self.old.options.preserve_input_collinear (edge_for shape_type)
-            (plain_points I.whole contour.now) self.old.edges self.new.edges) }
-        ensures light { OnOk result (weight self.new.edges < 2 ^ 31) }
-        ensures kept { self.new ≡ record self.old { edges = self.new.edges } }
-        ensures err { OnErr result (self.new ≡ self.old) }
-        ensures failed { IsErrOf result OverlayError.Failed ↔ (self.old.failed ≡ true) }
-        ensures too_many { IsErrOf result OverlayError.TooManyEdges
-            → WouldWeighTooMuch self.old.options.preserve_input_collinear shape_type
-            (plain_points I.whole contour.now) self.old.edges }
-        ensures no_query { result ≢ Err OverlayError.NotSettled }
-    {
-        self.check_usable()?;
-        if self.options.preserve_input_collinear {
-            return self.content.push_contour(contour, shape_type);
-        }
-        let alloc = self.content.allocator().clone()?;
-        let bent = thinned(alloc, contour)?;
-        self.content.push_contour(&bent, shape_type)
-    }
-
-    /// Drops the edges and mends a failed builder; `solver` and `options` stay. It takes no memory.
-    pub fn clear(&mut self)
-        ensures { self.new ≡ record self.old { edges = []; failed = false } }
-    {
-        self.content.clear();
-        self.is_failed = false;
-    }
-
     /// Splits the edges where they meet, and gives every edge of this arrangement in order, by its
     /// smaller and then its larger end, with the sides that the subject and the clip fill under the
     /// rule, seen on the way from its smaller to its larger end.
@@ -132,23 +90,95 @@ impl<I: OverlayInt, A: Allocator + Clone> Overlay<I, A> {
         fill_rule: FillRule,
     ) -> Result<Vec<DataVectorEdge<I, ()>, A>, OverlayError>
         ensures arranged { OnOk result (IsArranged 64 self.old.edges self.new.edges) }
+        ensures content { OnOk result (IsContent I.limit self.new.edges) }
         ensures listed { IfOk result (λ v.
             map (plain_vector I.whole) v.items ≡ map (vector_of fill_rule self.new.edges) self.new.edges) }
         ensures ok { OnOk result (self.new ≡ record self.old { edges = self.new.edges }) }
         ensures err { OnErr result (self.new ≡ record self.old { edges = self.new.edges; failed = true }) }
-        ensures failed { IsErrOf result OverlayError.Failed ↔ (self.old.failed ≡ true) }
-        ensures untouched { IsErrOf result OverlayError.Failed → self.new ≡ self.old }
-        ensures not_settled { IsErrOf result OverlayError.NotSettled → StaysUnsettled 64 self.old.edges }
-        ensures whole { MeetInWholePoints self.old.edges → result ≢ Err OverlayError.NotSettled }
-        ensures again { WasArranged self.old.edges
-            → IfErr result (λ e. (e ≡ OverlayError.Memory) ⊎ (e ≡ OverlayError.Failed)) }
+        ensures refusals { RefusesAsQuery self.old self.new result }
+    {
+        self.arrange()?;
+        let listed = self.content.filled_edges(fill_rule);
+        self.is_failed = listed.is_err();
+        listed
+    }
+
+    /// Splits the edges where they meet, as `build_separate_vectors` does, and gives the contours
+    /// round the region of the plane where the rules hold, as shapes: of each its outline first, and
+    /// then its holes. Shapes and holes stand in the order in which they are found, from left to
+    /// right.
+    ///
+    /// Outlines run in the direction `options.output_direction`, and holes against it. A hole that
+    /// touches its outline is a part of the outline. Unless `options.preserve_output_collinear`,
+    /// points on one line with their two neighbours are dropped. Where no edge is left there is no
+    /// shape. `options.ogc` is not set, and `options.min_output_area` is 0.
+    ///
+    /// Refusals are those of `build_separate_vectors`.
+    pub fn overlay(
+        &mut self,
+        overlay_rule: OverlayRule,
+        fill_rule: FillRule,
+    ) -> Result<IntShapes<I, A>, OverlayError>
+        requires no_ogc { self.old.options.ogc ≡ false }
+        requires all_areas { I.WideUInt.natural self.old.options.min_output_area ≡ 0 }
+        ensures arranged { OnOk result (IsArranged 64 self.old.edges self.new.edges) }
         ensures content { OnOk result (IsContent I.limit self.new.edges) }
-        ensures too_many { IsErrOf result OverlayError.TooManyEdges → WeighsTooMuch 64 (2 ^ 31) self.old.edges }
+        ensures result { IfOk result (λ v. IsResult (asked fill_rule overlay_rule self.old.options)
+            self.new.edges (plain_shapes I.whole v.items)) }
+        ensures empty { self.new.edges ≡ [] → IfOk result (λ v. v.items ≡ []) }
+        ensures exact { MeetInWholePoints self.old.edges
+            → OnOk result (HaveSameWindings self.old.edges self.new.edges) }
+        ensures ok { OnOk result (self.new ≡ record self.old {
+          edges = self.new.edges;
+          boolean_buffer = self.new.boolean_buffer;
+        }) }
+        ensures buffer { OnOk result (self.new.edges ≢ [] → self.new.boolean_buffer ≡ Some tt) }
+        ensures err { OnErr result (self.new ≡ record self.old {
+          edges = self.new.edges;
+          boolean_buffer = self.new.boolean_buffer;
+          failed = true;
+        }) }
+        ensures refusals { RefusesAsQuery self.old self.new result }
+    {
+        self.arrange()?;
+        let shapes = self.extract(overlay_rule, fill_rule);
+        self.is_failed = shapes.is_err();
+        shapes
+    }
+
+    // Brings the edges into an arrangement. A refusal leaves the builder failed.
+    fn arrange(&mut self) -> Result<(), OverlayError>
+        ensures arranged { OnOk result (IsArranged 64 self.old.edges self.new.edges) }
+        ensures content { OnOk result (IsContent I.limit self.new.edges) }
+        ensures ok { OnOk result (self.new ≡ record self.old { edges = self.new.edges }) }
+        ensures usable { OnOk result (self.old.failed ≡ false) }
+        ensures err { OnErr result (self.new ≡ record self.old { edges = self.new.edges; failed = true }) }
+        ensures refusals { RefusesAsQuery self.old self.new result }
     {
         self.check_usable()?;
-        let built = arrange(&mut self.content, fill_rule);
-        self.is_failed = built.is_err();
-        built
+        let arranged = self.content.arrange(&mut ());
+        let _ = self.content.edges();
+        self.is_failed = arranged.is_err();
+        arranged
+    }
+
+    // The shapes round the region of the arranged edges. The buffer is there afterwards.
+    fn extract(
+        &mut self,
+        overlay_rule: OverlayRule,
+        fill_rule: FillRule,
+    ) -> Result<IntShapes<I, A>, OverlayError>
+        requires usable { self.old.failed ≡ false }
+        requires ascending { IsAscending self.old.edges }
+        requires settled { IsSettled self.old.edges }
+        ensures result { IfOk result (λ v. IsResult (asked fill_rule overlay_rule self.old.options)
+            self.old.edges (plain_shapes I.whole v.items)) }
+        ensures kept { self.new ≡ record self.old { boolean_buffer = self.new.boolean_buffer } }
+        ensures buffer { OnOk result (self.new.boolean_buffer ≡ Some tt) }
+        ensures err { IsOkUnless result OverlayError.Memory }
+    {
+        let buffer = &mut self.boolean_buffer;
+        extract_shapes(&self.content, overlay_rule, fill_rule, self.options, buffer)
     }
 
     // Refuses where a query was refused since the builder was last cleared.
@@ -160,24 +190,4 @@ impl<I: OverlayInt, A: Allocator + Clone> Overlay<I, A> {
         }
         Ok(())
     }
-}
-
-// Brings the content into an arrangement, and gives its edges with their filled sides.
-fn arrange<I: OverlayInt, A: Allocator + Clone>(
-    content: &mut Content<I, ShapeCountBoolean, A>,
-    fill_rule: FillRule,
-) -> Result<Vec<DataVectorEdge<I, ()>, A>, OverlayError>
-    ensures arranged { OnOk result (IsArranged 64 content.old content.new) }
-    ensures listed { IfOk result (λ v.
-        map (plain_vector I.whole) v.items ≡ map (vector_of fill_rule content.new) content.new) }
-    ensures not_settled { IsErrOf result OverlayError.NotSettled → StaysUnsettled 64 content.old }
-    ensures whole { MeetInWholePoints content.old → result ≢ Err OverlayError.NotSettled }
-    ensures again { WasArranged content.old → IfErr result (λ e. e ≡ OverlayError.Memory) }
-    ensures content { OnOk result (IsContent I.limit content.new) }
-    ensures too_many { IsErrOf result OverlayError.TooManyEdges → WeighsTooMuch 64 (2 ^ 31) content.old }
-    ensures usable { result ≢ Err OverlayError.Failed }
-{
-    content.arrange(&mut ())?;
-    let _ = content.edges();
-    content.filled_edges(fill_rule)
 }

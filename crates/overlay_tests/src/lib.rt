@@ -3,4 +3,8 @@
 
 #[cfg(test)]
 mod builder;
+#[cfg(test)]
+mod overlays;
 pub mod refusing;
+#[cfg(test)]
+mod sources;

@@ -1,7 +1,7 @@
 //! The builder on squares, at each coordinate type and at the ends of its range.
 
 use super::*;
-use overlay_geom::point::in_range;
+use overlay_geom::point::{IntPoint, in_range};
 use std::alloc::Global;
 use std::process::Abort;
 use std::test::Fail;
@@ -18,7 +18,7 @@ fn add<I: OverlayInt>(
 }
 
 // The square between two coordinates, counterclockwise.
-fn square<I: OverlayInt>(low: I, high: I) -> [IntPoint<I>; 4] {
+pub(super) fn square<I: OverlayInt>(low: I, high: I) -> [IntPoint<I>; 4] {
     [
         IntPoint::new(low, low),
         IntPoint::new(high, low),

@@ -1,0 +1,42 @@
+-- What a new builder, to which paths were added, answers of the paths.
+use Rattle.std.proofs.Common.{◌≡◌, inr, ℕ, true, false, List, [], refl, sym, ap₂, ◌∙◌}
+use Rattle.std.proofs.lemmas.Bool.{false≢true}
+use Rattle.std.specs.Prelude.{Result, Ok, Err, IfOk, IfErr, OnOk}
+use Rattle.overlay_geom.specs.declared.error.OverlayError.{OverlayError}
+use Rattle.overlay_geom.specs.declared.error.OverlayError.TheVariants.{Memory, NotSettled, TooManyEdges, Failed}
+use Rattle.overlay_geom.specs.Edges.{CountedEdge}
+use Rattle.overlay_geom.specs.Plane.{Point}
+use Rattle.overlay_arrange.specs.Arranged.{IsArranged}
+use Rattle.overlay_arrange.specs.Options.{AreOptions}
+use Rattle.overlay_arrange.specs.declared.fill_rule.FillRule.{FillRule}
+use Rattle.overlay_arrange.specs.declared.overlay_rule.OverlayRule.{OverlayRule}
+use Rattle.overlay_arrange.specs.declared.options.IntOverlayOptions.{IntOverlayOptions}
+use Rattle.i_overlay.specs.Builder.{Builder}
+use Rattle.i_overlay.specs.OneShot.{asked_by_default, IsResultOfPaths, MayRefusePaths}
+use Rattle.i_overlay.specs.Overlay.{Asked, asked, IsResult}
+use Rattle.i_overlay.specs.Paths.{GivenPath, AddsPaths}
+use Rattle.i_overlay.specs.Refusals.{RefusesAsQuery}
+
+-- what the default options ask for
+pub asked_of_default : {U : Type 0} (natural : U → ℕ) (fill : FillRule) (rule : OverlayRule) (o : IntOverlayOptions U) → AreOptions natural false false false o
+    → asked fill rule o ≡ asked_by_default fill rule
+asked_of_default natural fill rule o are =
+    ap₂ {C = Asked} (λ d k. record { fill = fill; rule = rule; output_direction = d; preserve_output_collinear = k }) are.direction are.output_kept
+
+-- the result of a query on a content that the paths give is one of the paths
+pub result_of_paths : {V E : Type 0} (r : Result V E) (shapes : V → List (List (List Point))) (q : Asked) (paths : List GivenPath)
+    (content edges : List CountedEdge) → AddsPaths false paths [] content → OnOk r (IsArranged 64 content edges)
+    → IfOk r (λ v. IsResult q edges (shapes v)) → IfOk r (λ v. IsResultOfPaths q paths (shapes v))
+result_of_paths (Ok v) shapes q paths content edges added arranged is =
+    record { content = content; edges = edges; added = added; arranged = arranged; is_result = is }
+result_of_paths (Err e) shapes q paths content edges added arranged is = tt
+
+-- the refusal of a query on the paths
+pub query_refused : {U V : Type 0} (paths : List GivenPath) (old new : Builder U) (r : Result V OverlayError) → AddsPaths false paths [] old.edges
+    → old.failed ≡ false → RefusesAsQuery old new r → IfErr r (MayRefusePaths paths)
+query_refused paths old new (Ok v) added ready h = tt
+query_refused paths old new (Err Memory) added ready h = tt
+query_refused paths old new (Err NotSettled) added ready h =
+    record { content = old.edges; added = added; unsettled = h.not_settled refl; not_whole = λ all. h.whole all refl }
+query_refused paths old new (Err TooManyEdges) added ready h = inr (record { content = old.edges; added = added; heavy = h.too_many refl })
+query_refused paths old new (Err Failed) added ready h = false≢true (sym ready ∙ h.failed.0 refl)

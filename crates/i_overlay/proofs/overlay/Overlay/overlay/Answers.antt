@@ -1,0 +1,11 @@
+-- Over no edges there is no shape.
+use Rattle.std.proofs.Common.{◌≡◌, [], sym, ap, ◌∙◌}
+use Rattle.overlay_geom.specs.Paths.{paths_of_shape}
+use Rattle.i_overlay.proofs.NoShapes.{no_shapes_held}
+use Rattle.i_overlay.proofs.overlay.Overlay.overlay.Goals as goal
+
+pub returns-clause-empty : goal.returns-clause-empty
+returns-clause-empty g c = λ none.
+    let e = c.extract-shapes.ensures in
+    let same : c.arrange.new.self.edges ≡ [] = sym (ap (λ b. b.edges) e.kept) ∙ sym (ap (λ b. b.edges) c.self.view_is) ∙ none in
+    no_shapes_held c.extract-shapes.result (λ v. v.items) (λ s. paths_of_shape g.I.IntNumber.whole s.items) _ c.arrange.new.self.edges e.result same

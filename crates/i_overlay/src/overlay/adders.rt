@@ -1,0 +1,190 @@
+//! What is added to a builder: closed contours, one by one or all paths of a resource.
+
+ghost use Rattle.std.specs.Prelude.{◌≡◌, ◌≢◌, ◌↔◌, ◌⊎◌, ◌^◌, ◌<◌, true, false, [], List, All};
+ghost use Rattle.std.specs.Prelude.{Err, OnOk, OnErr, IfOk, IfErr, IsOkUnless, IsErrOf};
+ghost use Rattle.std.specs.Iterator.{Drains, IsFinite};
+ghost use Rattle.overlay_arrange.specs.Content.{edge_for};
+ghost use Rattle.overlay_geom.specs.Edges.{AddsContour, weight};
+ghost use Rattle.overlay_geom.specs.Points.{plain_points, AllInRange};
+ghost use Rattle.i_overlay.specs.Builder.{WouldWeighTooMuch};
+ghost use Rattle.i_overlay.specs.Paths.{paths_for, subject_and_clip, AddsPaths, AddsFirstPaths, PathsWeighTooMuch};
+
+use crate::overlay::{Overlay, ShapeType};
+use overlay_arrange::thin::thinned;
+use overlay_geom::error::OverlayError;
+use overlay_geom::integer::OverlayInt;
+use overlay_geom::point::IntPoint;
+use overlay_geom::resource::IntShapeResource;
+use std::alloc::Allocator;
+
+impl<I: OverlayInt, A: Allocator + Clone> Overlay<I, A> {
+    /// Adds the steps of a contour: from each point to the next, and from the last to the first; a
+    /// step between equal points is none. Unless `options.preserve_input_collinear`, points on one
+    /// line with their two neighbours are dropped first. The points are in the coordinate range.
+    ///
+    /// Refusals, which leave the builder as it was: `Failed` before anything else, `TooManyEdges`
+    /// where the weight would come to 2^31, `Memory`.
+    pub fn add_contour(
+        &mut self,
+        contour: &[IntPoint<I>],
+        shape_type: ShapeType,
+    ) -> Result<(), OverlayError>
+        requires { AllInRange I.limit (plain_points I.whole contour.now) }
+        ensures ok { OnOk result (AddsContour self.old.options.preserve_input_collinear (edge_for shape_type)
+            (plain_points I.whole contour.now) self.old.edges self.new.edges) }
+        ensures light { OnOk result (weight self.new.edges < 2 ^ 31) }
+        ensures kept { self.new ≡ record self.old { edges = self.new.edges } }
+        ensures err { OnErr result (self.new ≡ self.old) }
+        ensures failed { IsErrOf result OverlayError.Failed ↔ (self.old.failed ≡ true) }
+        ensures too_many { IsErrOf result OverlayError.TooManyEdges
+            → WouldWeighTooMuch self.old.options.preserve_input_collinear shape_type
+            (plain_points I.whole contour.now) self.old.edges }
+        ensures no_query { result ≢ Err OverlayError.NotSettled }
+    {
+        self.check_usable()?;
+        if self.options.preserve_input_collinear {
+            return self.content.push_contour(contour, shape_type);
+        }
+        let alloc = self.content.allocator().clone()?;
+        let bent = thinned(alloc, contour)?;
+        self.content.push_contour(&bent, shape_type)
+    }
+
+    /// Adds one contour, as `add_contour` does, whose points the iterator gives. It ends, and the
+    /// points are in the coordinate range. Refusals, which leave the builder as it was, are those of
+    /// `add_contour`; where the builder has failed the iterator is not asked.
+    pub fn add_path_iter<P: Iterator<Item = IntPoint<I>> + Drop>(
+        &mut self,
+        iter: P,
+        shape_type: ShapeType,
+    ) -> Result<(), OverlayError>
+        requires can { P.can_next iter }
+        requires ends { IsFinite (P.remaining iter) }
+        requires in_range { (ps : List (IntPoint I)) → Drains P.next_gives iter ps
+            → AllInRange I.limit (plain_points I.whole ps) }
+        ensures ok { OnOk result ((ps : List (IntPoint I)) × Drains P.next_gives iter ps
+            × AddsContour self.old.options.preserve_input_collinear (edge_for shape_type)
+            (plain_points I.whole ps) self.old.edges self.new.edges) }
+        ensures light { OnOk result (weight self.new.edges < 2 ^ 31) }
+        ensures kept { self.new ≡ record self.old { edges = self.new.edges } }
+        ensures err { OnErr result (self.new ≡ self.old) }
+        ensures failed { IsErrOf result OverlayError.Failed ↔ (self.old.failed ≡ true) }
+        ensures too_many { IsErrOf result OverlayError.TooManyEdges
+            → (ps : List (IntPoint I)) × Drains P.next_gives iter ps
+            × WouldWeighTooMuch self.old.options.preserve_input_collinear shape_type
+            (plain_points I.whole ps) self.old.edges }
+        ensures no_query { result ≢ Err OverlayError.NotSettled }
+    {
+        self.check_usable()?;
+        let points = gathered(self.content.allocator().clone()?, iter)?;
+        self.add_contour(&points, shape_type)
+    }
+
+    /// Adds all paths of the resource in order, each as `add_contour` does. The points are in the
+    /// coordinate range.
+    ///
+    /// Refusals: `Failed` before anything else, and then nothing is changed; `TooManyEdges` where
+    /// the weight would come to 2^31; `Memory`. After these two the paths before the refused one
+    /// stay added.
+    pub fn add_source<R0: IntShapeResource<I>>(
+        &mut self,
+        resource: &R0,
+        shape_type: ShapeType,
+    ) -> Result<(), OverlayError>
+        requires { All (AllInRange I.limit) (R0.paths resource.now) }
+        ensures ok { OnOk result (AddsPaths self.old.options.preserve_input_collinear
+            (paths_for shape_type (R0.paths resource.now)) self.old.edges self.new.edges) }
+        ensures kept { self.new ≡ record self.old { edges = self.new.edges } }
+        ensures err { OnErr result (AddsFirstPaths self.old.options.preserve_input_collinear
+            (paths_for shape_type (R0.paths resource.now)) self.old.edges self.new.edges) }
+        ensures failed { IsErrOf result OverlayError.Failed ↔ (self.old.failed ≡ true) }
+        ensures untouched { IsErrOf result OverlayError.Failed → self.new ≡ self.old }
+        ensures too_many { IsErrOf result OverlayError.TooManyEdges
+            → PathsWeighTooMuch self.old.options.preserve_input_collinear
+            (paths_for shape_type (R0.paths resource.now)) self.old.edges }
+        ensures no_query { result ≢ Err OverlayError.NotSettled }
+    {
+        self.check_usable()?;
+        for index in 0..resource.path_count() {
+            self.add_contour(resource.path(index), shape_type)?;
+        }
+        Ok(())
+    }
+
+    /// Drops the edges and mends a failed builder; `solver`, `options` and `boolean_buffer` stay.
+    /// It takes no memory.
+    pub fn clear(&mut self)
+        ensures { self.new ≡ record self.old { edges = []; failed = false } }
+    {
+        self.content.clear();
+        self.is_failed = false;
+    }
+
+    /// Drops the edges and mends a failed builder, and then adds the paths of `subj` as the subject
+    /// and those of `clip` as the clip. `solver`, `options` and `boolean_buffer` stay. The points
+    /// are in the coordinate range.
+    ///
+    /// Refusals: `TooManyEdges` where the weight would come to 2^31, `Memory`. The paths before the
+    /// refused one stay added.
+    pub fn reinit_with_subj_and_clip<R0: IntShapeResource<I>, R1: IntShapeResource<I>>(
+        &mut self,
+        subj: &R0,
+        clip: &R1,
+    ) -> Result<(), OverlayError>
+        requires subj_in_range { All (AllInRange I.limit) (R0.paths subj.now) }
+        requires clip_in_range { All (AllInRange I.limit) (R1.paths clip.now) }
+        ensures ok { OnOk result (AddsPaths self.old.options.preserve_input_collinear
+            (subject_and_clip (R0.paths subj.now) (R1.paths clip.now)) [] self.new.edges) }
+        ensures kept { self.new ≡ record self.old { edges = self.new.edges; failed = false } }
+        ensures err { OnErr result (AddsFirstPaths self.old.options.preserve_input_collinear
+            (subject_and_clip (R0.paths subj.now) (R1.paths clip.now)) [] self.new.edges) }
+        ensures only { IfErr result (λ e. (e ≡ OverlayError.Memory) ⊎ (e ≡ OverlayError.TooManyEdges)) }
+        ensures too_many { IsErrOf result OverlayError.TooManyEdges
+            → PathsWeighTooMuch self.old.options.preserve_input_collinear
+            (subject_and_clip (R0.paths subj.now) (R1.paths clip.now)) [] }
+    {
+        self.reinit_with_subj(subj)?;
+        self.add_source(clip, ShapeType::Clip)
+    }
+
+    /// Drops the edges and mends a failed builder, and then adds the paths of `subj` as the subject.
+    /// `solver`, `options` and `boolean_buffer` stay. The points are in the coordinate range.
+    ///
+    /// Refusals: `TooManyEdges` where the weight would come to 2^31, `Memory`. The paths before the
+    /// refused one stay added.
+    pub fn reinit_with_subj<R0: IntShapeResource<I>>(
+        &mut self,
+        subj: &R0,
+    ) -> Result<(), OverlayError>
+        requires { All (AllInRange I.limit) (R0.paths subj.now) }
+        ensures ok { OnOk result (AddsPaths self.old.options.preserve_input_collinear
+            (paths_for ShapeType.Subject (R0.paths subj.now)) [] self.new.edges) }
+        ensures kept { self.new ≡ record self.old { edges = self.new.edges; failed = false } }
+        ensures err { OnErr result (AddsFirstPaths self.old.options.preserve_input_collinear
+            (paths_for ShapeType.Subject (R0.paths subj.now)) [] self.new.edges) }
+        ensures only { IfErr result (λ e. (e ≡ OverlayError.Memory) ⊎ (e ≡ OverlayError.TooManyEdges)) }
+        ensures too_many { IsErrOf result OverlayError.TooManyEdges
+            → PathsWeighTooMuch self.old.options.preserve_input_collinear
+            (paths_for ShapeType.Subject (R0.paths subj.now)) [] }
+    {
+        self.clear();
+        self.add_source(subj, ShapeType::Subject)
+    }
+}
+
+// The points that the iterator gives, in order.
+fn gathered<I: OverlayInt, A: Allocator, P: Iterator<Item = IntPoint<I>> + Drop>(
+    alloc: A,
+    iter: P,
+) -> Result<Vec<IntPoint<I>, A>, OverlayError>
+    requires can { P.can_next iter }
+    requires ends { IsFinite (P.remaining iter) }
+    ensures ok { IfOk result (λ v. Drains P.next_gives iter v.items) }
+    ensures err { IsOkUnless result OverlayError.Memory }
+{
+    let mut points = Vec::new(alloc);
+    for point in iter {
+        points.push(point)?;
+    }
+    Ok(points)
+}

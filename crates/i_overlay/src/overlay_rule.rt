@@ -1,0 +1,3 @@
+//! Overlay rules: of which points the result consists.
+
+pub use overlay_arrange::overlay_rule::OverlayRule;

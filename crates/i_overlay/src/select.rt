@@ -1,0 +1,108 @@
+//! The selected steps: those along edges on exactly one side of which the overlay rule holds.
+
+ghost use Rattle.std.specs.Prelude.{◌≡◌, ◌++◌, map, flat_map, option_map, option_to_list};
+ghost use Rattle.std.specs.Prelude.{OnOk, IsOkUnless};
+ghost use Rattle.overlay_plane.specs.SelectedSteps.{step_with_left};
+ghost use Rattle.overlay_arrange.specs.Vectors.{plain_vector};
+ghost use Rattle.overlay_walk.specs.Steps.{is_on_left, plain_step, plain_steps};
+ghost use Rattle.i_overlay.specs.Selection.{ends, bits_hold_above, bits_hold_below, steps_by_bits};
+
+use overlay_arrange::options::ContourDirection;
+use overlay_arrange::overlay_rule::OverlayRule;
+use overlay_arrange::vector::{
+    CLIP_LEFT, CLIP_RIGHT, DataVectorEdge, SUBJ_LEFT, SUBJ_RIGHT, SideFill,
+};
+use overlay_geom::error::OverlayError;
+use overlay_geom::number::IntNumber;
+use overlay_walk::step::Step;
+use std::alloc::Allocator;
+
+#[cfg(test)]
+mod tests;
+
+/// Adds the selected steps of the edges, in their order. The only refusal is `Memory`, and then some
+/// of them may stand.
+pub(crate) fn push_selected<I: IntNumber, A: Allocator>(
+    steps: &mut Vec<Step<I, ()>, A>,
+    edges: &[DataVectorEdge<I, ()>],
+    rule: OverlayRule,
+    direction: ContourDirection,
+) -> Result<(), OverlayError>
+    ensures ok { OnOk result (plain_steps I.whole steps.new.items ≡ plain_steps I.whole steps.old.items
+        ++ flat_map (steps_by_bits rule (is_on_left direction)) (map (plain_vector I.whole) edges.now)) }
+    ensures err { IsOkUnless result OverlayError.Memory }
+{
+    for edge in edges {
+        push_step(steps, *edge, rule, direction)?;
+    }
+    Ok(())
+}
+
+// Adds the selected step of the edge, if there is one.
+fn push_step<I: IntNumber, A: Allocator>(
+    steps: &mut Vec<Step<I, ()>, A>,
+    edge: DataVectorEdge<I, ()>,
+    rule: OverlayRule,
+    direction: ContourDirection,
+) -> Result<(), OverlayError>
+    ensures ok { OnOk result (plain_steps I.whole steps.new.items ≡ plain_steps I.whole steps.old.items
+        ++ steps_by_bits rule (is_on_left direction) (plain_vector I.whole edge)) }
+    ensures err { IsOkUnless result OverlayError.Memory }
+{
+    if let Some(step) = selected_step(edge, rule, direction) {
+        steps.push(step)?;
+    }
+    Ok(())
+}
+
+// The step along the edge with the side where the rule holds on its left, or on its right where the
+// direction is clockwise. There is none where the rule holds on both sides, or on neither.
+fn selected_step<I: IntNumber>(
+    edge: DataVectorEdge<I, ()>,
+    rule: OverlayRule,
+    direction: ContourDirection,
+) -> Option<Step<I, ()>>
+    ensures { option_to_list (option_map (plain_step I.whole) result)
+        ≡ steps_by_bits rule (is_on_left direction) (plain_vector I.whole edge) }
+{
+    let above = holds_above(rule, edge.fill);
+    let below = holds_below(rule, edge.fill);
+    if above == below {
+        return None;
+    }
+    let goes_along = match direction {
+        ContourDirection::CounterClockwise => above,
+        ContourDirection::Clockwise => below,
+    };
+    Some(step_along(edge, goes_along))
+}
+
+// The step along the edge from a to b, or back.
+fn step_along<I: IntNumber>(edge: DataVectorEdge<I, ()>, goes_along: bool) -> Step<I, ()>
+    ensures { plain_step I.whole result ≡ step_with_left goes_along (ends (plain_vector I.whole edge)) }
+{
+    let (from, to) = if goes_along {
+        (edge.a, edge.b)
+    } else {
+        (edge.b, edge.a)
+    };
+    Step {
+        from,
+        to,
+        edge_data: (),
+    }
+}
+
+// Whether the rule holds above an edge with these fill bits.
+fn holds_above(rule: OverlayRule, fill: SideFill) -> bool
+    ensures { result ≡ bits_hold_above rule fill }
+{
+    rule.holds(fill & SUBJ_LEFT != 0, fill & CLIP_LEFT != 0)
+}
+
+// Whether the rule holds below it.
+fn holds_below(rule: OverlayRule, fill: SideFill) -> bool
+    ensures { result ≡ bits_hold_below rule fill }
+{
+    rule.holds(fill & SUBJ_RIGHT != 0, fill & CLIP_RIGHT != 0)
+}
