@@ -1,7 +1,7 @@
 -- The points of an input are in the coordinate range.
 use Rattle.std.proofs.Common.{List, All}
 use Rattle.std.proofs.lemmas.List.Elements.{All-nil, All-cons}
-use Rattle.overlay_arrange.specs.declared.fill_rule.FillRule.{FillRule}
+use Rattle.polyover.specs.declared.query.Query.{Query}
 use Rattle.overlay_geom.specs.Plane.{Point}
 use Rattle.overlay_geom.specs.Points.{InRange, AllInRange}
 use Rattle.polyover.specs.Grammar.{Word, Line, Contour, IsContour, contour, ArePoints, AreContours, none, blank, more, Asks}
@@ -18,5 +18,5 @@ contours_in_range ls cs none = All-nil (λ (c : Contour). AllInRange 46116860184
 contours_in_range ls cs (blank h) = contours_in_range _ _ h
 contours_in_range ls cs (more first h) = All-cons (λ (c : Contour). AllInRange 4611686018427387903 c.points) _ _ (contour_in_range _ _ first) (contours_in_range _ _ h)
 
-pub asked_in_range : (ls : List Line) (cs : List Contour) (fill : FillRule) → Asks ls cs fill → All (λ c. AllInRange 4611686018427387903 c.points) cs
-asked_in_range ls cs fill h = contours_in_range h.before cs h.contours
+pub asked_in_range : (ls : List Line) (cs : List Contour) (query : Query) → Asks ls cs query → All (λ c. AllInRange 4611686018427387903 c.points) cs
+asked_in_range ls cs query h = contours_in_range h.before cs h.contours

@@ -1,9 +1,11 @@
 pub mod Builders
+pub mod Commands
 pub mod FirstLine
 pub mod FirstWord
 pub mod GoodLines
 pub mod InRange
 pub mod Numbers
+pub mod OptionLists
 pub mod PointLists
 pub mod Queries
 pub mod Reading

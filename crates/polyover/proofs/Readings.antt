@@ -1,12 +1,12 @@
 -- What the program holds of the lines so far, when it takes one more line or refuses it.
 use Rattle.std.proofs.Common.{◌≡◌, List, [], ◌∷◌, ◌++◌, Option, Some, None, refl, sym, ap, subst, ◌∙◌}
 use Rattle.std.proofs.lemmas.List.{map_push}
-use Rattle.overlay_arrange.specs.declared.fill_rule.FillRule.{FillRule}
+use Rattle.polyover.specs.declared.query.Query.{Query}
 use Rattle.polyover.specs.declared.contour.Contour.{Contour as HeldContour}
 use Rattle.polyover.specs.declared.input.Reading.{Reading}
 use Rattle.polyover.specs.declared.statement.Statement.{Statement}
-use Rattle.polyover.specs.declared.statement.Statement.TheVariants.{Blank, Add, RunEdges}
-use Rattle.polyover.specs.Grammar.{Line, IsContour, contour, IsCommand, edges}
+use Rattle.polyover.specs.declared.statement.Statement.TheVariants.{Blank, Add, Run}
+use Rattle.polyover.specs.Grammar.{Line, IsContour, contour, IsCommand, edges, overlay}
 use Rattle.polyover.specs.Inputs.{Give, RefusesLine}
 use Rattle.polyover.specs.Statements.{contour_at, contours_at, Says}
 use Rattle.polyover.proofs.GoodLines.{takes_contour, refuses_word}
@@ -14,23 +14,24 @@ use Rattle.polyover.proofs.GoodLines.{takes_contour, refuses_word}
 contour_has_word : (l : Line) (c : _) → IsContour l c → l ≡ [] → ⊥
 contour_has_word l c (contour h) e = cc
 
-command_has_word : (l : Line) (fill : FillRule) → IsCommand l fill → l ≡ [] → ⊥
-command_has_word l fill edges e = cc
+command_has_word : (l : Line) (query : Query) → IsCommand l query → l ≡ [] → ⊥
+command_has_word l query edges e = cc
+command_has_word l query (overlay options) e = cc
 
 -- a line that is not blank has a word
 has_word : {A : Type 0} (l : Line) (s : Statement A) → Says l s → (s ≡ Blank → ⊥) → l ≡ [] → ⊥
 has_word l Blank says other e = other refl
 has_word l (Add c) says other e = contour_has_word l (contour_at c) says e
-has_word l (RunEdges fill) says other e = command_has_word l fill says e
+has_word l (Run query) says other e = command_has_word l query says e
 
 -- after the command no word may come
-pub refuses_after_command : {A : Type 0} (l : Line) (r : Reading A) (s : Statement A) (fill : FillRule) → Says l s → (s ≡ Blank → ⊥) → r.command ≡ Some fill → RefusesLine l r
-refuses_after_command l r s fill says other command = record {
-  refuses = λ ls h. refuses_word ls (contours_at r.contours.items) fill l (subst (Give ls (contours_at r.contours.items)) command h) (has_word l s says other);
+pub refuses_after_command : {A : Type 0} (l : Line) (r : Reading A) (s : Statement A) (query : Query) → Says l s → (s ≡ Blank → ⊥) → r.command ≡ Some query → RefusesLine l r
+refuses_after_command l r s query says other command = record {
+  refuses = λ ls h. refuses_word ls (contours_at r.contours.items) query l (subst (Give ls (contours_at r.contours.items)) command h) (has_word l s says other);
 }
 
 -- a contour is held last
-pub takes_pushed : {A : Type 0} (ls : List Line) (l : Line) (old new : List (HeldContour A)) (c : HeldContour A) (command : Option FillRule) → command ≡ None → new ≡ old ++ c ∷ []
+pub takes_pushed : {A : Type 0} (ls : List Line) (l : Line) (old new : List (HeldContour A)) (c : HeldContour A) (command : Option Query) → command ≡ None → new ≡ old ++ c ∷ []
     → IsContour l (contour_at c) → Give ls (contours_at old) command → Give (ls ++ l ∷ []) (contours_at new) command
 takes_pushed ls l old new c command none pushed says h =
     let held = sym (ap contours_at pushed ∙ map_push contour_at old c) in

@@ -5,7 +5,7 @@ use Rattle.std.specs.Str.Lines.{lines, lines_of_parts}
 use Rattle.std.proofs.lemmas.List.{length-map, take_at}
 use Rattle.std.proofs.lemmas.List.Sums.{count_by-le-length}
 use Rattle.std.proofs.lemmas.List.Splits.{length-slice_split}
-use Rattle.overlay_arrange.specs.declared.fill_rule.FillRule.{FillRule}
+use Rattle.polyover.specs.declared.query.Query.{Query}
 use Rattle.polyover.specs.declared.input.Reading.{Reading}
 use Rattle.polyover.specs.Grammar.{Line, words, input_lines, AreContours, none, Asks, IsGoodSoFar, IsFirstBad, bad, missing}
 use Rattle.polyover.specs.Inputs.{Give, HasRead, TakesLine, RefusesLine}
@@ -36,9 +36,9 @@ one_more_read all left rest line n old new h next taken = record {
 }
 
 -- what was read is good so far
-good_so_far : (ls : List Line) (cs : _) (command : Option FillRule) → Give ls cs command → IsGoodSoFar ls
+good_so_far : (ls : List Line) (cs : _) (command : Option Query) → Give ls cs command → IsGoodSoFar ls
 good_so_far ls cs None h = inl (cs, h)
-good_so_far ls cs (Some fill) h = inr (cs, (fill, h))
+good_so_far ls cs (Some query) h = inr (cs, (query, h))
 
 -- the line that is refused is the first bad one
 pub first_bad : {A : Type 0} (all : List Line) (left rest : List (List ℕ)) (line : List ℕ) (n : ℕ) (r : Reading A)
@@ -67,10 +67,10 @@ command_missing all left n r h ended no_command =
     subst (λ k. IsFirstBad all (k + 1)) count
     (missing (subst (λ l. AreContours l (contours_at r.contours.items)) (sym whole) (subst (Give h.done (contours_at r.contours.items)) no_command h.read)))
 
-pub all_read : {A : Type 0} (all : List Line) (left : List (List ℕ)) (n : ℕ) (r : Reading A) (fill : FillRule)
-    → HasReadSoFar all left n r → left ≡ [] → r.command ≡ Some fill → Asks all (contours_at r.contours.items) fill
-all_read all left n r fill h ended command =
-    subst (λ l. Asks l (contours_at r.contours.items) fill) (sym (all_lines all left n r h ended)) (subst (Give h.done (contours_at r.contours.items)) command h.read)
+pub all_read : {A : Type 0} (all : List Line) (left : List (List ℕ)) (n : ℕ) (r : Reading A) (query : Query)
+    → HasReadSoFar all left n r → left ≡ [] → r.command ≡ Some query → Asks all (contours_at r.contours.items) query
+all_read all left n r query h ended command =
+    subst (λ l. Asks l (contours_at r.contours.items) query) (sym (all_lines all left n r h ended)) (subst (Give h.done (contours_at r.contours.items)) command h.read)
 
 last_line_le : (x : List ℕ) (b : Bool) → length (cond b [] (x ∷ [])) ≤ 1
 last_line_le x true = omega arith

@@ -1,8 +1,9 @@
--- What the program answers: the edges of the arrangement, and their text.
+-- What the program answers: the edges of the arrangement, or the shapes of an overlay, and their text.
 use Rattle.std.specs.Prelude.{◌≡◌, ◌⊎◌, ◌^◌, ℕ, List, [], ◌∷◌, ◌++◌, map, false, codes}
 use Rattle.std.specs.Fmt.{decimal, signed_decimal}
 use Rattle.std.specs.List.{flat_map}
 use Rattle.overlay_geom.specs.Edges.{CountedEdge, AddsContour}
+use Rattle.overlay_geom.specs.Plane.{Point}
 use Rattle.overlay_geom.specs.declared.error.OverlayError.{OverlayError}
 use Rattle.overlay_geom.specs.declared.error.OverlayError.TheVariants.{Memory, NotSettled, TooManyEdges, Failed}
 use Rattle.overlay_arrange.specs.declared.fill_rule.FillRule.{FillRule}
@@ -12,6 +13,10 @@ use Rattle.overlay_plane.specs.Arrangements.{StaysUnsettled, WeighsTooMuch}
 use Rattle.overlay_plane.specs.Meetings.{MeetInWholePoints}
 use Rattle.i_overlay.specs.Builder.{WouldWeighTooMuch}
 use Rattle.overlay_arrange.specs.Vectors.{Vector, vector_of}
+use Rattle.i_overlay.specs.Overlay.{Asked, IsResult}
+use Rattle.polyover.specs.declared.query.OverlayQuery.{OverlayQuery}
+use Rattle.polyover.specs.declared.query.Query.{Query}
+use Rattle.polyover.specs.declared.query.Query.TheVariants.{Edges, Overlay}
 use Rattle.polyover.specs.Grammar.{Contour, Asks, input_lines}
 
 -- ---- contours
@@ -21,7 +26,7 @@ pub data AddsContours : List Contour → List CountedEdge → List CountedEdge �
   none : {es : List CountedEdge} → AddsContours [] es es
   more : {c : Contour} {cs : List Contour} {old mid new : List CountedEdge} → AddsContour false (edge_for c.shape_type) c.points old mid → AddsContours cs mid new → AddsContours (c ∷ cs) old new
 
--- ---- the answer
+-- ---- edges
 
 -- the edges of the contours' arrangement in order, with the sides that are filled
 pub record AreEdges (cs : List Contour) (fill : FillRule) (vs : List Vector) : Type 0 where
@@ -39,14 +44,54 @@ edge_line v =
 abbrev pub edge_lines : List Vector → List ℕ
 edge_lines vs = flat_map edge_line vs
 
+-- ---- shapes
+
+-- what the query asks of an overlay
+abbrev pub asked_by : OverlayQuery → Asked
+asked_by q = record {
+  fill = q.fill_rule;
+  rule = q.overlay_rule;
+  output_direction = q.output.output_direction;
+  preserve_output_collinear = q.output.preserve_output_collinear;
+}
+
+-- the shapes of an overlay over the contours' arrangement: of each its contours, of each of these its points
+pub record AreShapes (cs : List Contour) (query : OverlayQuery) (shapes : List (List (List Point))) : Type 0 where
+  pub content : List CountedEdge
+  pub edges : List CountedEdge
+  pub added : AddsContours cs [] content
+  pub arranged : IsArranged 64 content edges
+  pub result : IsResult (asked_by query) edges shapes
+
+-- `x y`
+abbrev pub point_text : Point → List ℕ
+point_text p = signed_decimal p.x ++ codes " " ++ signed_decimal p.y
+
+-- the points one after another, parted by single spaces, and LF
+abbrev pub contour_line : List Point → List ℕ
+contour_line [] = 10 ∷ []
+contour_line (p ∷ ps) = point_text p ++ flat_map (λ q. codes " " ++ point_text q) ps ++ 10 ∷ []
+
+-- a line `shape`, and a line for each contour
+abbrev pub shape_lines : List (List Point) → List ℕ
+shape_lines contours = codes "shape" ++ 10 ∷ flat_map contour_line contours
+
+abbrev pub lines_of_shapes : List (List (List Point)) → List ℕ
+lines_of_shapes shapes = flat_map shape_lines shapes
+
+-- ---- the answer
+
+-- the text answers the query on the contours
+abbrev pub Answers : List Contour → Query → List ℕ → Type 0
+Answers cs (Edges fill) text = (vs : List Vector) × AreEdges cs fill vs × (text ≡ edge_lines vs)
+Answers cs (Overlay query) text = (shapes : List (List (List Point))) × AreShapes cs query shapes × (text ≡ lines_of_shapes shapes)
+
 -- the text answers the input
 pub record IsAnswer (bytes text : List ℕ) : Type 0 where
   pub contours : List Contour
-  pub fill : FillRule
-  pub vectors : List Vector
-  pub asks : Asks (input_lines bytes) contours fill
-  pub answers : AreEdges contours fill vectors
-  pub lines : text ≡ edge_lines vectors
+  pub query : Query
+  pub asks : Asks (input_lines bytes) contours query
+  pub answers : Answers contours query text
 
 -- ---- refusals
 

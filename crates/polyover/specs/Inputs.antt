@@ -1,6 +1,6 @@
 -- What the program holds of the lines that it has read.
 use Rattle.std.specs.Prelude.{◌++◌, List, [], ◌∷◌, Option, MatchOption}
-use Rattle.overlay_arrange.specs.declared.fill_rule.FillRule.{FillRule}
+use Rattle.polyover.specs.declared.query.Query.{Query}
 use Rattle.polyover.specs.declared.input.Reading.{Reading}
 use Rattle.polyover.specs.declared.input.InputError.{InputError}
 use Rattle.polyover.specs.declared.input.InputError.TheVariants.{Memory, BadLine}
@@ -8,8 +8,8 @@ use Rattle.polyover.specs.Grammar.{Line, Contour, AreContours, Asks, IsGoodSoFar
 use Rattle.polyover.specs.Statements.{contours_at}
 
 -- the lines give these contours, and this command if there is one
-abbrev pub Give : List Line → List Contour → Option FillRule → Type 0
-Give ls cs command = MatchOption command (AreContours ls cs) (λ fill. Asks ls cs fill)
+abbrev pub Give : List Line → List Contour → Option Query → Type 0
+Give ls cs command = MatchOption command (AreContours ls cs) (λ query. Asks ls cs query)
 
 -- the lines so far give what is held
 abbrev pub HasRead : {A : Type 0} → List Line → Reading A → Type 0

@@ -1,9 +1,9 @@
 -- What a line says, as the program holds it.
 use Rattle.std.specs.Prelude.{◌≡◌, List, [], map}
-use Rattle.overlay_arrange.specs.declared.fill_rule.FillRule.{FillRule}
+use Rattle.polyover.specs.declared.query.Query.{Query}
 use Rattle.polyover.specs.declared.contour.Contour.{Contour as HeldContour}
 use Rattle.polyover.specs.declared.statement.Statement.{Statement}
-use Rattle.polyover.specs.declared.statement.Statement.TheVariants.{Blank, Add, RunEdges}
+use Rattle.polyover.specs.declared.statement.Statement.TheVariants.{Blank, Add, Run}
 use Rattle.polyover.specs.Grammar.{Line, Contour, IsContour, IsCommand}
 use Rattle.polyover.specs.Points.{points_at}
 
@@ -18,10 +18,10 @@ contours_at cs = map contour_at cs
 abbrev pub Says : {A : Type 0} → Line → Statement A → Type 0
 Says l Blank = l ≡ []
 Says l (Add c) = IsContour l (contour_at c)
-Says l (RunEdges fill) = IsCommand l fill
+Says l (Run query) = IsCommand l query
 
 -- the line is not blank, no contour and no command
 pub record SaysNothing (l : Line) : Type 0 where
   pub some_word : ¬ (l ≡ [])
   pub no_contour : (c : Contour) → ¬ (IsContour l c)
-  pub no_command : (fill : FillRule) → ¬ (IsCommand l fill)
+  pub no_command : (query : Query) → ¬ (IsCommand l query)

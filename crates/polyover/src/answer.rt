@@ -1,30 +1,75 @@
 //! The answer to the commands.
 
-ghost use Rattle.std.specs.Prelude.{MatchResult, All, map};
+ghost use Rattle.std.specs.Prelude.{MatchResult, All, map, string_bytes};
 ghost use Rattle.overlay_geom.specs.Points.{AllInRange};
+ghost use Rattle.overlay_geom.specs.Paths.{plain_shapes};
 ghost use Rattle.overlay_arrange.specs.Vectors.{plain_vector};
-ghost use Rattle.polyover.specs.Answers.{AreEdges, MayRefuse};
+ghost use Rattle.polyover.specs.Answers.{Answers, AreEdges, AreShapes, MayRefuse};
 ghost use Rattle.polyover.specs.Statements.{contours_at};
 
+use crate::builder::with_contours;
+use crate::contour::Contour;
 use crate::input::Commands;
-use i_overlay::overlay::Overlay;
+use crate::query::{OverlayQuery, Query};
+use crate::shape_text::shapes_text;
+use crate::text::edges_text;
+use i_overlay::fill_rule::FillRule;
 use i_overlay::vector::edge::DataVectorEdge;
 use overlay_geom::error::OverlayError;
+use overlay_geom::path::IntShapes;
 use std::alloc::Allocator;
 
-/// The edges of the contours' arrangement, with the sides that are filled.
-pub fn arrange<A: Allocator + Clone>(
+/// The text of the answer to the commands, whose points are in the coordinate range. Refusals are
+/// those of the builder to which the contours are added, and of the query on it.
+pub fn answer_text<A: Allocator + Copy>(
     alloc: A,
     commands: &Commands<A>,
-) -> Result<Vec<DataVectorEdge<i64, ()>, A>, OverlayError>
+) -> Result<String<A>, OverlayError>
     requires { All (λ c. AllInRange 4611686018427387903 c.points) (contours_at commands.now.contours.items) }
     ensures { MatchResult result
-        (λ v. AreEdges (contours_at commands.now.contours.items) commands.now.fill_rule (map (plain_vector (λ z. z)) v.items))
+        (λ text. Answers (contours_at commands.now.contours.items) commands.now.query (string_bytes text))
         (λ e. MayRefuse (contours_at commands.now.contours.items) e) }
 {
-    let mut overlay = Overlay::<i64, A>::new(alloc, 0)?;
-    for contour in &commands.contours {
-        overlay.add_contour(&contour.points, contour.shape_type)?;
+    match commands.query {
+        Query::Edges(fill_rule) => {
+            let edges = arrange(alloc, &commands.contours, fill_rule)?;
+            Ok(edges_text(alloc, &edges)?)
+        }
+        Query::Overlay(query) => {
+            let shapes = overlay_shapes(alloc, &commands.contours, query)?;
+            Ok(shapes_text(alloc, &shapes)?)
+        }
     }
-    overlay.build_separate_vectors(commands.fill_rule)
+}
+
+// The edges of the contours' arrangement, with the sides that are filled.
+fn arrange<A: Allocator + Clone>(
+    alloc: A,
+    contours: &[Contour<A>],
+    fill_rule: FillRule,
+) -> Result<Vec<DataVectorEdge<i64, ()>, A>, OverlayError>
+    requires { All (λ c. AllInRange 4611686018427387903 c.points) (contours_at contours.now) }
+    ensures { MatchResult result
+        (λ v. AreEdges (contours_at contours.now) fill_rule (map (plain_vector (λ z. z)) v.items))
+        (λ e. MayRefuse (contours_at contours.now) e) }
+{
+    let mut builder = with_contours(alloc, contours)?;
+    builder.build_separate_vectors(fill_rule)
+}
+
+// The shapes of an overlay over the contours' arrangement.
+fn overlay_shapes<A: Allocator + Clone>(
+    alloc: A,
+    contours: &[Contour<A>],
+    query: OverlayQuery,
+) -> Result<IntShapes<i64, A>, OverlayError>
+    requires { All (λ c. AllInRange 4611686018427387903 c.points) (contours_at contours.now) }
+    ensures { MatchResult result
+        (λ v. AreShapes (contours_at contours.now) query (plain_shapes (λ z. z) v.items))
+        (λ e. MayRefuse (contours_at contours.now) e) }
+{
+    let mut builder = with_contours(alloc, contours)?;
+    builder.options.output_direction = query.output.output_direction;
+    builder.options.preserve_output_collinear = query.output.preserve_output_collinear;
+    builder.overlay(query.overlay_rule, query.fill_rule)
 }

@@ -4,11 +4,10 @@ ghost use Rattle.std.specs.Prelude.{MatchResult, IfSome, string_bytes};
 ghost use Rattle.polyover.specs.Answers.{IsAnswer};
 ghost use Rattle.polyover.specs.Engine.{EndsAs, EndsUnwritten};
 
-use crate::answer::arrange;
+use crate::answer::answer_text;
 use crate::exit::Exit;
 use crate::input::parse_input;
 use crate::read::read_all;
-use crate::text::edges_text;
 use crate::write::write_all;
 use std::alloc::Allocator;
 use std::io::{Read, Write};
@@ -41,6 +40,5 @@ fn answer<A: Allocator + Copy, Rd: Read>(alloc: A, reader: &mut Rd) -> Result<St
 {
     let bytes = read_all(alloc, reader)?;
     let commands = parse_input(alloc, &bytes)?;
-    let edges = arrange(alloc, &commands)?;
-    Ok(edges_text(alloc, &edges)?)
+    Ok(answer_text(alloc, &commands)?)
 }

@@ -9,17 +9,17 @@ ghost use Rattle.polyover.specs.declared.input.InputError.TheVariants.{Memory};
 use crate::contour::Contour;
 use crate::line_error::LineError;
 use crate::lines::Lines;
+use crate::query::Query;
 use crate::statement::{Statement, parse_statement};
-use i_overlay::fill_rule::FillRule;
 use std::alloc::{AllocError, Allocator};
 
-/// Contours, and the fill rule under which their edges are asked for.
+/// Contours, and what is asked for.
 #[derive(Drop)]
 pub struct Commands<A: Allocator> {
     /// The contours in the order of the input.
     pub contours: Vec<Contour<A>, A>,
-    /// The fill rule.
-    pub fill_rule: FillRule,
+    /// What is asked for.
+    pub query: Query,
 }
 
 /// Why an input was not read.
@@ -35,7 +35,7 @@ pub enum InputError {
 #[derive(Drop)]
 struct Reading<A: Allocator> {
     contours: Vec<Contour<A>, A>,
-    command: Option<FillRule>,
+    command: Option<Query>,
 }
 
 impl<A: Allocator + Copy> Reading<A> {
@@ -48,7 +48,7 @@ impl<A: Allocator + Copy> Reading<A> {
         match (parse_statement(alloc, line)?, self.command) {
             (Statement::Blank, _) => {}
             (Statement::Add(contour), None) => self.contours.push(contour)?,
-            (Statement::RunEdges(fill_rule), None) => self.command = Some(fill_rule),
+            (Statement::Run(query), None) => self.command = Some(query),
             (_, Some(_)) => return Err(LineError::Bad),
         }
         Ok(())
@@ -58,7 +58,7 @@ impl<A: Allocator + Copy> Reading<A> {
 /// The contours and the command of an input, or its first bad line.
 pub fn parse_input<A: Allocator + Copy>(alloc: A, text: &[u8]) -> Result<Commands<A>, InputError>
     ensures { MatchResult result
-        (λ c. Asks (input_lines text.now) (contours_at c.contours.items) c.fill_rule)
+        (λ c. Asks (input_lines text.now) (contours_at c.contours.items) c.query)
         (λ e. IsNamedFault (input_lines text.now) e) }
 {
     let mut reading = Reading {
@@ -76,10 +76,7 @@ pub fn parse_input<A: Allocator + Copy>(alloc: A, text: &[u8]) -> Result<Command
     }
     let Reading { contours, command } = reading;
     match command {
-        Some(fill_rule) => Ok(Commands {
-            contours,
-            fill_rule,
-        }),
+        Some(query) => Ok(Commands { contours, query }),
         None => Err(InputError::BadLine(number + 1)),
     }
 }

@@ -5,6 +5,8 @@ ghost use Rattle.std.specs.Prelude.{◌≡◌};
 ghost use Rattle.polyover.specs.Exits.{status_of, refusal_number_of};
 
 mod answer;
+mod builder;
+mod command;
 mod contour;
 pub mod engine;
 pub mod exit;
@@ -13,10 +15,14 @@ mod input;
 mod line_error;
 mod lines;
 mod number;
+mod options;
 mod points;
+mod query;
 mod read;
 #[cfg(test)]
 mod rows;
+mod rule;
+mod shape_text;
 mod split;
 mod statement;
 mod text;

@@ -4,6 +4,7 @@ use crate::engine::run;
 use crate::exit::Exit;
 use overlay_geom::error::OverlayError;
 use overlay_tests::refusing::Refusing;
+use std::fmt::Write as _;
 use std::io;
 use std::io::{ErrorKind, Read, Write};
 use std::process::Abort;
@@ -82,6 +83,122 @@ fn edges_that_overlap_are_cut(rt: HostRuntime) {
     );
 }
 
+// What the engine writes for an overlay of the contours.
+fn check_overlay(rt: &(impl Abort + Alloc), contours: &str, command: &str, wanted: &str) {
+    let mut input = String::new(rt.alloc());
+    let made = write!(input, "{contours}run overlay {command}\n");
+    assert!(rt; made.is_ok());
+    check(rt, input.as_bytes(), wanted, Exit::Answered);
+}
+
+#[test]
+fn overlay_with_holes(rt: HostRuntime) {
+    check_overlay(
+        &rt,
+        "subject 1 0 4 0 4 5 1 5\nsubject 2 1 2 4 3 4 3 1\nclip 0 2 5 2 5 3 0 3\n",
+        "Union EvenOdd",
+        "shape\n0 3 0 2 1 2 1 0 4 0 4 2 5 2 5 3 4 3 4 5 1 5 1 3\n2 1 2 2 3 2 3 1\n2 3 2 4 3 4 3 3\n",
+    );
+}
+
+const TWO_SQUARES: &str = "subject 0 0 4 0 4 4 0 4\nclip 2 2 6 2 6 6 2 6\n";
+
+#[test]
+fn overlay_of_two_squares(rt: HostRuntime) {
+    check_overlay(
+        &rt,
+        TWO_SQUARES,
+        "Intersect EvenOdd",
+        "shape\n2 4 2 2 4 2 4 4\n",
+    );
+}
+
+#[test]
+fn overlay_without_shapes(rt: HostRuntime) {
+    check_overlay(&rt, "", "Union NonZero", "");
+    check_overlay(&rt, TWO_SQUARES, "Intersect Negative", "");
+}
+
+#[test]
+fn overlay_clockwise(rt: HostRuntime) {
+    check_overlay(
+        &rt,
+        TWO_SQUARES,
+        "Intersect EvenOdd clockwise",
+        "shape\n2 2 2 4 4 4 4 2\n",
+    );
+}
+
+#[test]
+fn overlay_of_a_contour_that_crosses_itself(rt: HostRuntime) {
+    check_overlay(
+        &rt,
+        "subject 0 0 10 10 10 0 0 10\n",
+        "Subject NonZero",
+        "shape\n0 10 0 0 5 5\nshape\n10 10 5 5 10 0\n",
+    );
+}
+
+#[test]
+fn overlay_with_a_rounded_crossing(rt: HostRuntime) {
+    check_overlay(
+        &rt,
+        "subject 0 0 10 4 10 0 0 3\n",
+        "Subject NonZero",
+        "shape\n0 3 0 0 4 2\nshape\n10 4 4 2 10 0\n",
+    );
+}
+
+const SIDE_BY_SIDE: &str = "subject 0 0 2 0 2 2 0 2\nsubject 2 0 4 0 4 2 2 2\n";
+
+#[test]
+fn overlay_of_squares_side_by_side(rt: HostRuntime) {
+    check_overlay(
+        &rt,
+        SIDE_BY_SIDE,
+        "Subject NonZero",
+        "shape\n0 2 0 0 4 0 4 2\n",
+    );
+}
+
+#[test]
+fn overlay_that_keeps_points_on_one_line(rt: HostRuntime) {
+    check_overlay(
+        &rt,
+        SIDE_BY_SIDE,
+        "Subject NonZero keep",
+        "shape\n0 2 0 0 2 0 4 0 4 2 2 2\n",
+    );
+}
+
+#[test]
+fn options_stand_in_any_order(rt: HostRuntime) {
+    let wanted = "shape\n0 0 0 2 2 2 4 2 4 0 2 0\n";
+    check_overlay(&rt, SIDE_BY_SIDE, "Subject NonZero clockwise keep", wanted);
+    check_overlay(&rt, SIDE_BY_SIDE, "Subject NonZero keep clockwise", wanted);
+}
+
+#[test]
+fn overlay_of_each_rule(rt: HostRuntime) {
+    // Two bars of which the second covers the right half of the first and as much beside it.
+    let bars = "subject 0 0 4 0 4 1 0 1\nclip 2 0 6 0 6 1 2 1\n";
+    let rows = [
+        ("Subject EvenOdd", "shape\n0 1 0 0 4 0 4 1\n"),
+        ("Clip EvenOdd", "shape\n2 1 2 0 6 0 6 1\n"),
+        ("Intersect EvenOdd", "shape\n2 1 2 0 4 0 4 1\n"),
+        ("Union EvenOdd", "shape\n0 1 0 0 6 0 6 1\n"),
+        ("Difference EvenOdd", "shape\n0 1 0 0 2 0 2 1\n"),
+        ("InverseDifference EvenOdd", "shape\n4 1 4 0 6 0 6 1\n"),
+        (
+            "Xor EvenOdd",
+            "shape\n0 1 0 0 2 0 2 1\nshape\n4 1 4 0 6 0 6 1\n",
+        ),
+    ];
+    for (command, wanted) in rows {
+        check_overlay(&rt, bars, command, wanted);
+    }
+}
+
 // How the engine ends on the input.
 fn end_of(rt: &(impl Abort + Alloc), input: &[u8]) -> Exit {
     let mut reader = input;
@@ -113,7 +230,7 @@ fn splitting_that_does_not_settle_is_refused(rt: HostRuntime) {
 #[test]
 fn bad_lines(rt: HostRuntime) {
     let run_last = "run edges NonZero";
-    let rows: [(&[u8], usize); 17] = [
+    let rows: [(&[u8], usize); 16] = [
         (b"", 1),
         (b"subject 0 0 1\nrun edges NonZero\n", 1),
         (b"subject 4611686018427387904 0\nrun edges NonZero\n", 1),
@@ -126,7 +243,6 @@ fn bad_lines(rt: HostRuntime) {
         (b"run edges Odd\n", 1),
         (b"run edges\n", 1),
         (b"run edges NonZero NonZero\n", 1),
-        (b"run overlay Union NonZero\n", 1),
         (b"subject\t0 0\nrun edges NonZero\n", 1),
         (b"run edges NonZero\r", 1),
         (b"subject", 2),
@@ -136,6 +252,32 @@ fn bad_lines(rt: HostRuntime) {
         check(&rt, input, "", Exit::BadInput(line));
     }
     check(&rt, run_last.as_bytes(), "", Exit::Answered);
+}
+
+#[test]
+fn bad_commands(rt: HostRuntime) {
+    let rows: [&[u8]; 17] = [
+        b"run",
+        b"run 7",
+        b"run overlay",
+        b"run overlay Union",
+        b"run overlay NonZero",
+        b"run overlay NonZero Union",
+        b"run overlay union NonZero",
+        b"run overlay Both NonZero",
+        b"run overlay Union Odd",
+        b"run overlay Union NonZero 5",
+        b"run overlay Union NonZero clockwise clockwise",
+        b"run overlay Union NonZero keep keep",
+        b"run overlay Union NonZero keep clockwise keep",
+        b"run overlay Union NonZero ogc",
+        b"run overlay Union NonZero min 5",
+        b"run overlay Union NonZero Clockwise",
+        b"overlay Union NonZero",
+    ];
+    for input in rows {
+        check(&rt, input, "", Exit::BadInput(1));
+    }
 }
 
 // Gives the bytes one by one, and fails at the read after some of them.
@@ -270,16 +412,16 @@ fn a_writer_that_fails(rt: HostRuntime) {
     }
 }
 
-#[test]
-fn each_growth_refused_in_turn(rt: HostRuntime) {
-    for granted in 0..64 {
+// Lets each growth fail in turn, until all that are needed are granted.
+fn refuse_each_growth(rt: &(impl Abort + Alloc), input: &[u8], wanted: &[u8]) {
+    for granted in 0..1000 {
         let memory = Refusing::new(rt.alloc(), granted);
-        let mut reader = SQUARE;
+        let mut reader = input;
         let mut written = Vec::new(rt.alloc());
         let exit = run(&memory, &mut reader, &mut written);
         if exit == Exit::Answered {
             assert!(rt; granted > 0);
-            assert_eq!(rt; &written[..], SQUARE_EDGES);
+            assert_eq!(rt; &written[..], wanted);
             return;
         }
         assert!(rt;
@@ -289,6 +431,20 @@ fn each_growth_refused_in_turn(rt: HostRuntime) {
         assert_eq!(rt; written.len(), 0);
     }
     assert!(rt; false, "never answered");
+}
+
+#[test]
+fn each_growth_refused_in_turn(rt: HostRuntime) {
+    refuse_each_growth(&rt, SQUARE, SQUARE_EDGES);
+}
+
+#[test]
+fn each_growth_of_an_overlay_refused_in_turn(rt: HostRuntime) {
+    refuse_each_growth(
+        &rt,
+        b"subject 0 0 9 0 9 9 0 9\nclip 3 3 6 3 6 6 3 6\nrun overlay Difference NonZero\n",
+        b"shape\n0 9 0 0 9 0 9 9\n3 3 3 6 6 6 6 3\n",
+    );
 }
 
 #[test]

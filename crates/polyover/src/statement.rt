@@ -1,17 +1,16 @@
 //! What a line says.
 
-ghost use Rattle.std.specs.Prelude.{◌≡◌, ◌∷◌, MatchResult, MatchOption, codes};
-ghost use Rattle.overlay_arrange.specs.declared.fill_rule.FillRule.{FillRule};
-ghost use Rattle.polyover.specs.Grammar.{words, shape_name, IsCommand};
+ghost use Rattle.std.specs.Prelude.{◌≡◌, ◌∷◌, MatchResult};
+ghost use Rattle.polyover.specs.Grammar.{words, shape_name};
 ghost use Rattle.polyover.specs.Statements.{Says, SaysNothing};
 ghost use Rattle.polyover.specs.Words.{words_left};
 
+use crate::command::parse_command;
 use crate::contour::Contour;
-use crate::fill::parse_fill_rule;
 use crate::line_error::LineError;
 use crate::points::parse_points;
+use crate::query::Query;
 use crate::words::Words;
-use i_overlay::fill_rule::FillRule;
 use i_overlay::overlay::ShapeType;
 use std::alloc::Allocator;
 
@@ -22,8 +21,8 @@ pub enum Statement<A: Allocator> {
     Blank,
     /// A contour is added.
     Add(Contour<A>),
-    /// The edges are asked for.
-    RunEdges(FillRule),
+    /// The command: this is asked for.
+    Run(Query),
 }
 
 /// What a line says, if it is of the grammar.
@@ -37,7 +36,7 @@ pub fn parse_statement<A: Allocator>(alloc: A, line: &[u8]) -> Result<Statement<
         None => Ok(Statement::Blank),
         Some(b"subject") => parse_contour(alloc, ShapeType::Subject, words),
         Some(b"clip") => parse_contour(alloc, ShapeType::Clip, words),
-        Some(b"run") => Ok(Statement::RunEdges(parse_command(words).ok_or(LineError::Bad)?)),
+        Some(b"run") => Ok(Statement::Run(parse_command(words).ok_or(LineError::Bad)?)),
         Some(_) => Err(LineError::Bad),
     }
 }
@@ -54,16 +53,4 @@ fn parse_contour<A: Allocator>(
 {
     let points = parse_points(alloc, words)?;
     Ok(Statement::Add(Contour { shape_type, points }))
-}
-
-// The command, after the word `run`.
-fn parse_command(mut words: Words<'_>) -> Option<FillRule>
-    ensures { MatchOption result
-        ((fill : FillRule) → ¬ (IsCommand (codes "run" ∷ words_left words.entry) fill))
-        (λ fill. IsCommand (codes "run" ∷ words_left words.entry) fill) }
-{
-    match (words.next(), words.next(), words.next()) {
-        (Some(b"edges"), Some(fill), None) => parse_fill_rule(fill),
-        _ => None,
-    }
 }

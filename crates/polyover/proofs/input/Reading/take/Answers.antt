@@ -3,7 +3,7 @@ use Rattle.polyover.specs.Statements.{contours_at}
 use Rattle.polyover.proofs.GoodLines.{takes_blank, refuses_nothing}
 use Rattle.polyover.proofs.Readings.{refuses_after_command, takes_pushed}
 use Rattle.polyover.proofs.input.Reading.take.Goals as goal
-use Rattle.polyover.proofs.input.Reading.take.Goals.{in_default-Some-via-in-Add+in-Some, in_default-Some-via-in-RunEdges+in-Some}
+use Rattle.polyover.proofs.input.Reading.take.Goals.{in_default-Some-via-in-Add+in-Some, in_default-Some-via-in-Run+in-Some}
 
 pub returns-in_err-parse_statement : goal.returns-in_err-parse_statement
 returns-in_err-parse_statement g c =
@@ -14,7 +14,7 @@ pub returns-in_default-Some : goal.returns-in_default-Some
 returns-in_default-Some g c =
     elim c.in_default-Some.branch [
       | in_default-Some-via-in-Add+in-Some w ↦ λ e. refuses_after_command _ _ c.in_ok-parse_statement.field-0 _ c.in_ok-parse_statement.ensures w.in_default-Some.not-Blank-0 w.in_default-Some.is-1
-      | in_default-Some-via-in-RunEdges+in-Some w ↦ λ e. refuses_after_command _ _ c.in_ok-parse_statement.field-0 _ c.in_ok-parse_statement.ensures w.in_default-Some.not-Blank-0 w.in_default-Some.is-1
+      | in_default-Some-via-in-Run+in-Some w ↦ λ e. refuses_after_command _ _ c.in_ok-parse_statement.field-0 _ c.in_ok-parse_statement.ensures w.in_default-Some.not-Blank-0 w.in_default-Some.is-1
     ]
 
 pub returns-in-Blank-default : goal.returns-in-Blank-default

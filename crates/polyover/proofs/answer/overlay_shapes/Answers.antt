@@ -1,0 +1,13 @@
+use Rattle.std.proofs.Common.{ap}
+use Rattle.overlay_geom.specs.Paths.{plain_shapes}
+use Rattle.polyover.specs.Statements.{contours_at}
+use Rattle.polyover.proofs.Queries.{shapes_answered}
+use Rattle.polyover.proofs.answer.overlay_shapes.Goals as goal
+
+pub returns : goal.returns
+returns g c =
+    let e = c.overlay.ensures in
+    let held = c.builder.view_is in
+    shapes_answered (contours_at c.args.contours.now) c.in_ok-builder.builder c.in_ok-builder.ensures
+    (λ v. plain_shapes (λ z. z) v.items) c.args.query _ c.overlay.new.self c.overlay.result
+    e.refusals (ap (λ b. b.edges) held) (ap (λ b. b.failed) held) e.arranged e.result
