@@ -14,7 +14,7 @@ from random import Random
 BENCHES = Path(__file__).resolve().parent
 PROGRAM = BENCHES.parent / "crates" / "polyover" / "out" / "polyover"
 DRAWING = BENCHES / "drawing.txt"
-COMMAND = "run edges NonZero"
+COMMANDS = {"edges": "run edges NonZero", "overlay": "run overlay Xor NonZero"}
 SHAPES = ("subject", "clip")
 LARGEST_COORDINATE = 4611686018427387903
 RUNS = 3
@@ -118,27 +118,34 @@ def contour_line(shape, points):
     return " ".join([shape, *(str(coordinate) for point in points for coordinate in point)])
 
 
-def input_text(contours):
+def input_text(contours, command):
     """The text of an input: its contours, and the command."""
     lines = [contour_line(shape, points) for shape, points in contours]
-    return "".join(line + "\n" for line in [*lines, COMMAND])
+    return "".join(line + "\n" for line in [*lines, command])
 
 
-def seeded_input(kind, edges, extent, seed):
+def with_command(text, command):
+    """The text of an input with this command in the place of its own."""
+    lines = [line for line in text.splitlines() if not line.startswith("run ")]
+    return "".join(line + "\n" for line in [*lines, command])
+
+
+def seeded_input(kind, edges, options):
     """The input of a kind with about so many edges; the same for the same seed."""
     name = f"{kind}_{edges}"
-    contours = KINDS[kind](edges, extent, Random(f"{seed} {name}"))
-    return Input(name, kind, input_text(contours))
+    contours = KINDS[kind](edges, options.extent, Random(f"{options.seed} {name}"))
+    return Input(name, kind, input_text(contours, COMMANDS[options.command]))
 
 
 def all_inputs(options):
     """The inputs asked for: the seeded ones of each kind and size, and the drawing."""
     inputs = [
-        seeded_input(kind, edges, options.extent, options.seed)
+        seeded_input(kind, edges, options)
         for kind in KINDS
         for edges in options.edges
     ]
-    inputs.append(Input("drawing", "drawing", DRAWING.read_text()))
+    drawing = with_command(DRAWING.read_text(), COMMANDS[options.command])
+    inputs.append(Input("drawing", "drawing", drawing))
     return [each for each in inputs if not options.only or {each.name, each.kind} & set(options.only)]
 
 
@@ -158,10 +165,17 @@ def write_inputs(inputs, folder):
 # ---- runs
 
 
+def edges_of_line(line):
+    """How many edges a line of an answer tells of: one, or those of a contour, one for each point."""
+    if line.startswith("edge "):
+        return 1
+    return 0 if line.startswith("shape") else len(line.split()) // 2
+
+
 def count_edges(answer):
     """How many edges the program wrote."""
     with answer.open() as lines:
-        return sum(line.startswith("edge ") for line in lines)
+        return sum(edges_of_line(line) for line in lines)
 
 
 def run_once(program, source, answer, limit):
@@ -212,7 +226,7 @@ def print_table(inputs, options):
     print(f"Seed {options.seed}, extent {options.extent}, best of {RUNS} runs, limit {options.limit:g} s.\n")
     print(table_row(COLUMNS))
     print(table_row("---" for _ in COLUMNS))
-    empty = Input("empty", "empty", input_text([]))
+    empty = Input("empty", "empty", input_text([], COMMANDS[options.command]))
     empty_run = best_run(options.program, empty.text, options.limit)
     print(result_row(empty, empty_run, empty_run.seconds, options.limit), flush=True)
     for each in inputs:
@@ -224,6 +238,7 @@ def read_options():
     """The options of the command line."""
     parser = argparse.ArgumentParser(description=__doc__)
     parser.add_argument("--program", type=Path, default=PROGRAM, help="the program to time")
+    parser.add_argument("--command", choices=COMMANDS, default="overlay", help="what the program is asked for")
     parser.add_argument("--limit", type=float, default=60, metavar="SECONDS", help="stop a run after so long")
     parser.add_argument("--edges", type=int, nargs="+", default=[100, 1000, 10000], help="sizes of the inputs")
     parser.add_argument("--extent", type=int, default=10**9, help="the largest coordinate without sign")
