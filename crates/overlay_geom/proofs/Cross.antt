@@ -1,4 +1,4 @@
--- The cross product of the ways from one point to two others: with the two exchanged, with all three shifted round, and
+-- The cross product of the ways from one point to two others: with the two exchanged, where one is the point itself or both are one, and
 -- the relation between the six products of four points seen from a fifth.
 use Rattle.std.proofs.Common.{◌≡◌, pos, ◌+ℤ◌, ◌*ℤ◌, neg_ℤ}
 use Rattle.overlay_geom.specs.Plane.{Point, cross_at}
@@ -12,17 +12,9 @@ crossE vx vy px py qx qy = (px ⊖ vx) ⊗ (qy ⊖ vy) ⊖ (py ⊖ vy) ⊗ (qx �
 pub cross_at_exchanged : (v p q : Point) → cross_at v p q ≡ neg_ℤ (cross_at v q p)
 cross_at_exchanged v p q = solve 6 (λ vx vy px py qx qy. crossE vx vy px py qx qy ≗ ⊝ crossE vx vy qx qy px py) tt v.x v.y p.x p.y q.x q.y
 
--- it is the same from each of the three points, taken round
-pub cross_at_shifted : (v p q : Point) → cross_at v p q ≡ cross_at p q v
-cross_at_shifted v p q = solve 6 (λ vx vy px py qx qy. crossE vx vy px py qx qy ≗ crossE px py qx qy vx vy) tt v.x v.y p.x p.y q.x q.y
-
 -- of a point with itself it is 0
 pub cross_at_same : (v p : Point) → cross_at v p p ≡ pos 0
 cross_at_same v p = solve 4 (λ vx vy px py. crossE vx vy px py px py ≗ number (pos 0)) tt v.x v.y p.x p.y
-
--- where the first point is the one seen from, it is 0
-pub cross_at_itself : (v p : Point) → cross_at v v p ≡ pos 0
-cross_at_itself v p = solve 4 (λ vx vy px py. crossE vx vy vx vy px py ≗ number (pos 0)) tt v.x v.y p.x p.y
 
 -- and where the second one is
 pub cross_at_first : (v p : Point) → cross_at v p v ≡ pos 0
@@ -31,7 +23,3 @@ cross_at_first v p = solve 4 (λ vx vy px py. crossE vx vy px py vx vy ≗ numbe
 -- the products of four points, in pairs: the Plücker relation
 pub cross_at_of_four : (v a b c d : Point) → cross_at v a b *ℤ cross_at v c d +ℤ cross_at v a d *ℤ cross_at v b c ≡ cross_at v a c *ℤ cross_at v b d
 cross_at_of_four v a b c d = solve 10 (λ vx vy ax ay bx by cx cy dx dy. crossE vx vy ax ay bx by ⊗ crossE vx vy cx cy dx dy ⊕ crossE vx vy ax ay dx dy ⊗ crossE vx vy bx by cx cy ≗ crossE vx vy ax ay cx cy ⊗ crossE vx vy bx by dx dy) tt v.x v.y a.x a.y b.x b.y c.x c.y d.x d.y
-
--- the three triangles that a point makes with three others add up to theirs
-pub cross_at_of_three : (v a b c : Point) → cross_at v a b +ℤ cross_at v b c ≡ cross_at v a c +ℤ cross_at a b c
-cross_at_of_three v a b c = solve 8 (λ vx vy ax ay bx by cx cy. crossE vx vy ax ay bx by ⊕ crossE vx vy bx by cx cy ≗ crossE vx vy ax ay cx cy ⊕ crossE ax ay bx by cx cy) tt v.x v.y a.x a.y b.x b.y c.x c.y

@@ -113,7 +113,7 @@ on_at_same e p q same_x same_y same_d on = record {
 }
 
 -- a plane point is at one whole point at most
-at_one_point : (v w : Point) (p : PlanePoint) → IsAt v p → IsAt w p → v ≡ w
+pub at_one_point : (v w : Point) (p : PlanePoint) → IsAt v p → IsAt w p → v ≡ w
 at_one_point v w p (v_x, v_y) (w_x, w_y) = same_point v w (cancel v.x w.x p.x v_x w_x) (cancel v.y w.y p.y v_y w_y)
   where
     cancel : (a b z : ℤ) → z ≡ a *ℤ p.d → z ≡ b *ℤ p.d → a ≡ b
@@ -155,16 +155,19 @@ crossing_leftward e f f_from f_to f_goes e_to e_from e_goes share_none h = share
     w : (u : Point) × IsEndpoint f u × IsAt u p
     w = endpoint_of_end f p (h p (on_e, on_f)).1
 
+-- of two edges each goes as far across the other one's line as that across its own, the other way
+pub crossed_back : (e f : Edge) → cross_at e.a e.b f.b -ℤ cross_at e.a e.b f.a ≡ cross_at f.a f.b e.a -ℤ cross_at f.a f.b e.b
+crossed_back e f = solve 8
+    (λ ax ay bx by cx cy dx dy. crossE ax ay bx by dx dy ⊖ crossE ax ay bx by cx cy ≗ crossE cx cy dx dy ax ay ⊖ crossE cx cy dx dy bx by)
+    tt e.a.x e.a.y e.b.x e.b.y f.a.x f.a.y f.b.x f.b.y
+
 -- two edges that go across one another's lines and share no end have a common point inside one of them
 pub crossing_do_not_meet_in_ends : (e f : Edge) → IsAcross e f → IsAcross f e → ShareNone e f → ¬ (MeetInEnds e f)
 crossing_do_not_meet_in_ends e f across back share_none h = by across back
   where
-    turns : cross_at e.a e.b f.b -ℤ cross_at e.a e.b f.a ≡ cross_at f.a f.b e.a -ℤ cross_at f.a f.b e.b
-    turns = solve 8 (λ ax ay bx by cx cy dx dy. crossE ax ay bx by dx dy ⊖ crossE ax ay bx by cx cy ≗ crossE cx cy dx dy ax ay ⊖ crossE cx cy dx dy bx by) tt e.a.x e.a.y e.b.x e.b.y f.a.x f.a.y f.b.x f.b.y
-
     by : IsAcross e f → IsAcross f e → ⊥
     by (inl (f_from, f_to, f_goes)) (inr (e_to, e_from, e_goes)) = crossing_leftward e f f_from f_to f_goes e_to e_from e_goes share_none h
     by (inr (f_to, f_from, f_goes)) (inl (e_from, e_to, e_goes)) =
         crossing_leftward f e e_from e_to e_goes f_to f_from f_goes (λ v of_f of_e. share_none v of_e of_f) (meet_in_ends_exchanged f e h)
-    by (inl (f_from, f_to, f_goes)) (inl (e_from, e_to, e_goes)) = let same = turns in omega linear
-    by (inr (f_to, f_from, f_goes)) (inr (e_to, e_from, e_goes)) = let same = turns in omega linear
+    by (inl (f_from, f_to, f_goes)) (inl (e_from, e_to, e_goes)) = let same = crossed_back e f in omega linear
+    by (inr (f_to, f_from, f_goes)) (inr (e_to, e_from, e_goes)) = let same = crossed_back e f in omega linear

@@ -1,5 +1,5 @@
 -- The marks of strings on counted edges: what an edge without counts has, marks of edges between two ends, and what marks weigh.
-use Rattle.std.proofs.Common.{◌≡◌, ℕ, ◌+◌, ◌≤◌, Bool, true, false, cond, not, ◌&&◌, ◌||◌, pos, List, [], ◌∷◌, refl, ap, ap₂, sym, ◌∙◌, arith}
+use Rattle.std.proofs.Common.{◌≡◌, ℕ, ◌+◌, ◌≤◌, Bool, true, false, cond, not, ◌&&◌, ◌||◌, pos, List, [], ◌∷◌, refl, ap, sym, ◌∙◌, arith}
 use Rattle.std.specs.List.{filter, list_any, sum_by}
 use Rattle.std.specs.List.Sorted.{IsPermutation}
 use Rattle.std.specs.Ordering.{int_eq}
@@ -30,12 +30,6 @@ uncounted e h =
       along = not-true e.along third.1;
       against = not-true e.against last.1;
     }
-
--- and an edge without counts and marks counts nothing
-pub counts_nothing-from_uncounted : (e : CountedEdge) → IsUncounted e → counts_nothing e ≡ true
-counts_nothing-from_uncounted e none =
-    ap₂ (λ s c. int_eq s (pos 0) && int_eq c (pos 0) && not e.along && not e.against) none.subj none.clip
-    ∙ ap₂ (λ f g. not f && not g) none.along none.against
 
 -- nothing is added by a test that fails
 pub or_false : (b : Bool) → (b || false) ≡ b

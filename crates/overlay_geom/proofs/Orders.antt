@@ -93,6 +93,15 @@ point_lt-back p q differ back =
     by_cases Equal r h e l = cc
     by_cases Greater r h e l = ap is_lt h
 
+-- the points' test is an order in which any two points compare
+pub point_lt-order : IsStrictWeakOrder point_lt
+point_lt-order =
+    let r : IsStrictWeakOrder (λ (p q : Point). is_lt (point_order p q)) = ranks_by point_order-total (λ (p : Point). p) in
+    record {
+      one_way = λ p q h. point_lt-is_less q p ∙ r.one_way p q (sym (point_lt-is_less p q) ∙ h);
+      chain = λ p q s h k. point_lt-is_less p s ∙ r.chain p q s (sym (point_lt-is_less p q) ∙ h) (sym (point_lt-is_less q s) ∙ k);
+    }
+
 -- the test of two edges tells whether they are one
 pub Decides-edge_eq : (e f : Edge) → Decides (edge_eq e f) (e ≡ f)
 Decides-edge_eq e f =

@@ -1,12 +1,13 @@
 -- Whole points in order, by their coordinates: which of two comes first.
-use Rattle.std.proofs.Common.{◌≡◌, ◌⊎◌, inl, inr, ◌<ℤ◌, ◌≤ℤ◌}
+use Rattle.std.proofs.Common.{◌≡◌, ◌⊎◌, inl, inr, Bool, true, false, ◌<ℤ◌, ◌≤ℤ◌, refl}
 use Rattle.std.specs.Bool.{Decides}
 use Rattle.std.proofs.lemmas.Int.{by_lt_z}
+use Rattle.std.proofs.lemmas.Bool.{both_ways}
 use Rattle.std.proofs.lemmas.Bool.Decides.{Decides-int_eq, Decides-and, Decides-or, Decides-like}
 use Rattle.overlay_geom.specs.Plane.{Point, point_lt}
 use Rattle.overlay_geom.proofs.Comparisons.{Decides-int_lt}
 use Rattle.overlay_geom.proofs.Signs.{linear}
-use Rattle.overlay_geom.proofs.Orders.{same_point}
+use Rattle.overlay_geom.proofs.Orders.{same_point, point_lt-order}
 
 -- p is smaller than q
 pub record IsBefore (p q : Point) : Type 0 where
@@ -101,3 +102,26 @@ not_before_up_to p q before up =
     let less = before.y back in
     let more = up.y there in
     omega linear
+
+-- ---- by the test
+
+-- smaller than a smaller point is smaller
+pub point_lt-transitive : (p q r : Point) → point_lt p q ≡ true → point_lt q r ≡ true → point_lt p r ≡ true
+point_lt-transitive p q r pq qr = (Decides-point_lt p r).1
+    (before_after_up_to p q r (before_up_to p q ((Decides-point_lt p q).0 pq)) ((Decides-point_lt q r).0 qr))
+
+-- what is not after a smaller point is smaller
+pub point_lt-after_up_to : (p q r : Point) → point_lt q p ≡ false → point_lt q r ≡ true → point_lt p r ≡ true
+point_lt-after_up_to p q r up less = by (point_lt p r) refl
+  where
+    by : (t : Bool) → point_lt p r ≡ t → point_lt p r ≡ true
+    by true e = e
+    by false e = absurd (both_ways (point_lt q r) (point_lt-order.chain q p r up e) less)
+
+-- and what is smaller than a point is smaller than all that are not before it
+pub point_lt-before_up_to : (p q r : Point) → point_lt p q ≡ true → point_lt r q ≡ false → point_lt p r ≡ true
+point_lt-before_up_to p q r less up = by (point_lt p r) refl
+  where
+    by : (t : Bool) → point_lt p r ≡ t → point_lt p r ≡ true
+    by true e = e
+    by false e = absurd (both_ways (point_lt p q) (point_lt-order.chain p r q e up) less)

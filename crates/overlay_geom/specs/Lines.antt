@@ -1,6 +1,6 @@
 -- Lines by their two ends, as edges between whole points.
 use Rattle.std.specs.Prelude.{ℤ, pos, List, [], ◌∷◌}
-use Rattle.overlay_geom.specs.Plane.{Point, Edge}
+use Rattle.overlay_geom.specs.Plane.{Edge}
 use Rattle.overlay_geom.specs.Points.{plain_point}
 use Rattle.overlay_geom.specs.declared.point.IntPoint.{IntPoint}
 

@@ -5,12 +5,12 @@ use Rattle.overlay_geom.specs.Plane.{Point, PlanePoint, Step, is_strictly_below,
 use Rattle.overlay_geom.specs.Edges.{CountedEdge, ends_of, subj_of, clip_of, subject_edge, clip_edge, winding_by, AddsContour}
 use Rattle.overlay_geom.specs.Thinned.{IsKeptOrThinned}
 use Rattle.overlay_plane.specs.Adding.{AddsWinding, AddingAddsWindings}
-use Rattle.overlay_plane.proofs.JoinedLists.{total-append, total-map}
+use Rattle.overlay_plane.proofs.JoinedLists.{total-append, total-map, nothing_taken}
 use Rattle.overlay_plane.proofs.StraightOn.{thinning_keeps_windings}
 use Rattle.overlay_plane.proofs.Totals.{total-zero}
 
 -- kept as it is or thinned, a contour winds as it was given
-winding-taken : (keep : Bool) (given taken : List Point) → IsKeptOrThinned keep given taken → (p : PlanePoint) → winding (steps_of taken) p ≡ winding (steps_of given) p
+pub winding-taken : (keep : Bool) (given taken : List Point) → IsKeptOrThinned keep given taken → (p : PlanePoint) → winding (steps_of taken) p ≡ winding (steps_of given) p
 winding-taken true given taken is p = ap (λ ps. winding (steps_of ps) p) is
 winding-taken false given taken thinned p = thinning_keeps_windings given taken thinned p
 
@@ -23,11 +23,7 @@ winding_by-none : (count : CountedEdge → ℤ) (edge_for : Step → CountedEdge
     winding_by count (map edge_for ss) p ≡ pos 0
 winding_by-none count edge_for ss none p = total-map (λ e. cond (is_strictly_below (ends_of e) p) (count e) (pos 0)) edge_for ss
     ∙ total-zero (λ s. cond (is_strictly_below (ends_of (edge_for s)) p) (count (edge_for s)) (pos 0)) ss
-    (λ s at. ap (λ z. cond (is_strictly_below (ends_of (edge_for s)) p) z (pos 0)) (none s) ∙ nothing (is_strictly_below (ends_of (edge_for s)) p))
-  where
-    nothing : (t : Bool) → cond t (pos 0) (pos 0) ≡ pos 0
-    nothing true = refl
-    nothing false = refl
+    (λ s at. ap (λ z. cond (is_strictly_below (ends_of (edge_for s)) p) z (pos 0)) (none s) ∙ nothing_taken (is_strictly_below (ends_of (edge_for s)) p))
 
 module _ (keep : Bool) (given : List Point) (old new : List CountedEdge) where
   -- a count whose edges make the winding of their steps rises, and one that they do not have stays

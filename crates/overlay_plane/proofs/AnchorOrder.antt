@@ -1,12 +1,12 @@
--- Anchors come one before another in a strict order.
-use Rattle.std.proofs.Common.{◌≡◌, ⊎_elim, Bool, true, false, ◌&&◌, pos, int_lt, sym, ap, ◌∙◌, subst}
+-- Anchors come one before another in a strict order, in which any two of edges that lead forward compare.
+use Rattle.std.proofs.Common.{◌≡◌, ⊎_elim, Bool, true, false, ◌&&◌, pos, int_lt, refl, sym, ap, ◌∙◌, subst}
 use Rattle.std.proofs.lemmas.Bool.{both_ways, and_from, and_parts, or_cases, or_left, or_right, false_from_ne_true}
 use Rattle.overlay_geom.specs.Plane.{Point, Edge, point_lt, point_eq}
-use Rattle.overlay_geom.proofs.Orders.{point_eq-same, point_eq-of_same, point_lt-itself}
+use Rattle.overlay_geom.proofs.Orders.{point_eq-same, point_eq-of_same, point_lt-itself, point_lt-back}
+use Rattle.overlay_geom.proofs.PointOrder.{point_lt-transitive, point_lt-after_up_to}
 use Rattle.overlay_plane.specs.Nodes.{edge_turn, turns_left}
 use Rattle.overlay_plane.specs.Anchors.{is_anchored_before}
-use Rattle.overlay_plane.proofs.EdgeTurns.{edge_turn_same, left_after_left}
-use Rattle.overlay_plane.proofs.LeastSteps.{point_lt_transitive}
+use Rattle.overlay_plane.proofs.EdgeTurns.{edge_turn_same, left_after_left, IsForward, left_of_not_left}
 use Rattle.overlay_plane.proofs.Tests.{lt_from_test, test_from_lt}
 
 -- the edge leads forward
@@ -67,7 +67,7 @@ comes_before-transitive e f g ef fg =
     anchored : is_anchored_before e g ≡ true
     anchored = ⊎_elim
         (λ less. before_by_points e g (⊎_elim
-        (λ more. point_lt_transitive e.a f.a g.a less more)
+        (λ more. point_lt-transitive e.a f.a g.a less more)
         (λ tie. subst (λ (p : Point). point_lt e.a p ≡ true) (same f g tie) less)
         (or_cases (point_lt f.a g.a) (point_eq f.a g.a && turns_left f g) second.0)))
         (λ tie. ⊎_elim
@@ -75,3 +75,57 @@ comes_before-transitive e f g ef fg =
         (λ level. before_by_slopes e g (same e f tie ∙ same f g level) (slopes (turns e f tie) (turns f g level)))
         (or_cases (point_lt f.a g.a) (point_eq f.a g.a && turns_left f g) second.0))
         (or_cases (point_lt e.a f.a) (point_eq e.a f.a && turns_left e f) first.0)
+
+-- ---- of edges that lead forward
+
+-- both edges lead forward
+both_forward : (e f : Edge) → IsForward e → IsForward f → (leads_forward e && leads_forward f) ≡ true
+both_forward e f h k = and_from (leads_forward e) (leads_forward f) h k
+
+-- what is before an edge is before all before which that is
+pub anchored_before-transitive : (e f g : Edge) → IsForward e → IsForward f → IsForward g → is_anchored_before e f ≡ true → is_anchored_before f g ≡ true →
+    is_anchored_before e g ≡ true
+anchored_before-transitive e f g he hf hg ef fg = (and_parts (is_anchored_before e g) (leads_forward e && leads_forward g)
+    (comes_before-transitive e f g (and_from (is_anchored_before e f) (leads_forward e && leads_forward f) ef (both_forward e f he hf))
+    (and_from (is_anchored_before f g) (leads_forward f && leads_forward g) fg (both_forward f g hf hg)))).0
+
+-- no edge is before itself
+pub anchored_before-itself : (e : Edge) → IsForward e → is_anchored_before e e ≡ false
+anchored_before-itself e he = false_from_ne_true (is_anchored_before e e) (λ before. both_ways (comes_before e e) (comes_before-itself e)
+    (and_from (is_anchored_before e e) (leads_forward e && leads_forward e) before (both_forward e e he he)))
+
+-- of two edges one at most is before the other
+pub anchored_before-one_way : (e f : Edge) → IsForward e → IsForward f → is_anchored_before e f ≡ true → is_anchored_before f e ≡ false
+anchored_before-one_way e f he hf ef = false_from_ne_true (is_anchored_before f e)
+    (λ fe. both_ways (is_anchored_before e e) (anchored_before-itself e he) (anchored_before-transitive e f e he hf he ef fe))
+
+-- what is not before another edge does not start before it
+not_by_points : (e f : Edge) → is_anchored_before e f ≡ false → point_lt e.a f.a ≡ false
+not_by_points e f not_before = false_from_ne_true (point_lt e.a f.a)
+    (λ less. both_ways (is_anchored_before e f) not_before (before_by_points e f less))
+
+-- nor is it lower from the same point
+not_by_slopes : (e f : Edge) → is_anchored_before e f ≡ false → e.a ≡ f.a → turns_left e f ≡ false
+not_by_slopes e f not_before same = false_from_ne_true (turns_left e f)
+    (λ left. both_ways (is_anchored_before e f) not_before (before_by_slopes e f same left))
+
+-- what is not before an edge is not before what that is not before
+pub anchored_before-chain : (e f g : Edge) → IsForward e → IsForward f → IsForward g → is_anchored_before e f ≡ false → is_anchored_before f g ≡ false →
+    is_anchored_before e g ≡ false
+anchored_before-chain e f g he hf hg ef fg = false_from_ne_true (is_anchored_before e g)
+    (λ eg. ⊎_elim by_points by_slopes (or_cases (point_lt e.a g.a) (point_eq e.a g.a && turns_left e g) eg))
+  where
+    by_points : point_lt e.a g.a ≡ true → ⊥
+    by_points less = both_ways (point_lt f.a g.a) (not_by_points f g fg) (point_lt-after_up_to f.a e.a g.a (not_by_points e f ef) less)
+
+    by_slopes : (point_eq e.a g.a && turns_left e g) ≡ true → ⊥
+    by_slopes both = at (point_eq e.a f.a) refl
+      where
+        together : e.a ≡ g.a
+        together = point_eq-same e.a g.a (and_parts (point_eq e.a g.a) (turns_left e g) both).0
+
+        at : (t : Bool) → point_eq e.a f.a ≡ t → ⊥
+        at true same = both_ways (turns_left f g) (not_by_slopes f g fg (sym (point_eq-same e.a f.a same) ∙ together))
+            (left_of_not_left f e g hf he hg (not_by_slopes e f ef (point_eq-same e.a f.a same)) (and_parts (point_eq e.a g.a) (turns_left e g) both).1)
+        at false apart = both_ways (point_lt f.a g.a) (not_by_points f g fg)
+            (subst (λ (p : Point). point_lt f.a p ≡ true) together (point_lt-back e.a f.a apart (not_by_points e f ef)))

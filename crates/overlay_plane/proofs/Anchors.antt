@@ -1,12 +1,11 @@
 -- Each contour has an anchor, which leads forward.
 use Rattle.std.proofs.Common.{◌≡◌, true, List, Contains, ap, sym, ◌∙◌}
 use Rattle.overlay_geom.specs.Plane.{Step, Edge, point_lt, edge_of}
-use Rattle.overlay_plane.specs.Turn.{step_round}
+use Rattle.overlay_plane.specs.Turn.{step_round, no_step}
 use Rattle.overlay_plane.specs.Contours.{IsContour}
 use Rattle.overlay_plane.specs.Anchors.{IsAnchor, AnchorsExist}
 use Rattle.overlay_plane.proofs.Entries.{Contains-from_map}
 use Rattle.overlay_plane.proofs.ItemsRound.{Contains-item_round}
-use Rattle.overlay_plane.proofs.OrbitSteps.{no_step}
 use Rattle.overlay_plane.proofs.LongSteps.{long_leads_forward, anchor_exists}
 use Rattle.overlay_plane.proofs.ContourSteps.{contour_long, some_step}
 

@@ -1,9 +1,9 @@
 -- The anchor of a contour that walks along each edge once is not vertical: two of its edges start in the anchor's point, and were the
 -- lowest of them vertical, so would be the other one, and the two would be one edge.
-use Rattle.std.proofs.Common.{◌≡◌, ◌⊎◌, inl, inr, ⊎_elim, Bool, true, false, pos, ◌*ℤ◌, ◌<ℤ◌, ◌≤ℤ◌, int_lt, int_le}
-use Rattle.std.proofs.Common.{List, Contains, refl, sym, ap, ◌∙◌, subst, arith}
-use Rattle.std.proofs.lemmas.Int.{ints, by_lt_z}
-use Rattle.std.proofs.lemmas.Bool.{both_ways, and_from}
+use Rattle.std.proofs.Common.{◌≡◌, ◌⊎◌, inl, inr, ⊎_elim, Bool, true, false, pos, ◌<ℤ◌, ◌≤ℤ◌}
+use Rattle.std.proofs.Common.{List, Contains, refl, sym, ap, ◌∙◌, subst}
+use Rattle.std.proofs.lemmas.Int.{by_lt_z}
+use Rattle.std.proofs.lemmas.Bool.{both_ways}
 use Rattle.overlay_geom.specs.Plane.{Point, Step, Edge, point_lt, edge_eq, is_forward, edge_of}
 use Rattle.overlay_geom.specs.Settled.{IsSettledBy}
 use Rattle.overlay_geom.proofs.Signs.{linear, mul-zero, mul-nonneg}
@@ -13,7 +13,7 @@ use Rattle.overlay_plane.specs.Nodes.{edge_turn}
 use Rattle.overlay_plane.specs.LeftmostSteps.{StepHasEndBefore}
 use Rattle.overlay_plane.specs.Contours.{IsContour}
 use Rattle.overlay_plane.specs.Anchors.{IsAnchor, HasEachEdgeOnce, AnchorsLeadOn}
-use Rattle.overlay_plane.proofs.Tests.{ge_from_test, test_from_lt, test_from_le}
+use Rattle.overlay_plane.proofs.Tests.{ge_from_test}
 use Rattle.overlay_plane.proofs.LaterEntries.{Each-from_all_pairs, either_way}
 use Rattle.overlay_plane.proofs.EdgesOfSteps.{edge_by}
 use Rattle.overlay_plane.proofs.EdgeTurns.{rise, not_narrower}
@@ -22,6 +22,7 @@ use Rattle.overlay_plane.proofs.SameWay.{same_from_start}
 use Rattle.overlay_plane.proofs.LongSteps.{larger_otherwise, long_leads_forward}
 use Rattle.overlay_plane.proofs.ContourSteps.{contour_long, step_after, step_before}
 use Rattle.overlay_plane.proofs.Anchors.{anchor_step}
+use Rattle.overlay_plane.proofs.WhereEdgesStart.{covers_start}
 
 -- a step with an end in v, and none before it, walks along an edge that starts in v
 starts_at : (v : Point) (t : Step) → ¬ (t.from ≡ t.to) → ¬ (StepHasEndBefore v t) → (t.from ≡ v) ⊎ (t.to ≡ v) → (edge_of t).a ≡ v
@@ -32,12 +33,6 @@ starts_at v t long none ends = by (is_forward t) refl ends
     by true forward (inr to) = absurd (none (inl (subst (λ (p : Point). point_lt t.from p ≡ true) to forward)))
     by false back (inl from) = absurd (none (inr (subst (λ (p : Point). point_lt t.to p ≡ true) from (larger_otherwise t.from t.to long back))))
     by false back (inr to) = to
-
--- an edge that is not vertical covers the abscissa of its start
-covers_start : (e : Edge) → pos 0 <ℤ width e → covers e e.a.x (pos 1) ≡ true
-covers_start e wide = and_from (int_le (e.a.x *ℤ pos 1) e.a.x) (int_lt e.a.x (e.b.x *ℤ pos 1))
-    (test_from_le (e.a.x *ℤ pos 1) e.a.x (omega (arith, ints)))
-    (test_from_lt e.a.x (e.b.x *ℤ pos 1) (omega (arith, ints)))
 
 module _ (walk : List Step) (contour : IsContour walk) (s : Step) (c : Contains walk s) (anchor : IsAnchor walk (edge_of s)) where
   -- another step walks along an edge that starts where the anchor does: the one before it, or the one after it
@@ -99,4 +94,4 @@ pub anchors_lead_on : AnchorsLeadOn
 anchors_lead_on walk contour once settled e anchor =
     let own = anchor_step walk e anchor in
     subst (λ (f : Edge). IsAnchor walk f → covers f f.a.x (pos 1) ≡ true) own.2
-    (λ a. covers_start (edge_of own.0) (wide walk contour own.0 own.1 a once settled)) anchor
+    (λ a. covers_start (edge_of own.0) (let w = wide walk contour own.0 own.1 a once settled in omega linear)) anchor

@@ -1,7 +1,7 @@
 -- Steps of an alternating set at one node: they run along different rays, and between two that leave one arrives, and
 -- between two that arrive one leaves, by either hand.
 use Rattle.std.proofs.Common.{◌≡◌, ◌⊎◌, inl, inr, Bool, true, false, List, Contains, refl, sym, ◌∙◌, subst}
-use Rattle.std.proofs.lemmas.Bool.{and_parts, and_from, both_ways}
+use Rattle.std.proofs.lemmas.Bool.{and_parts, and_from, both_ways, false_from_ne_true}
 use Rattle.overlay_geom.specs.Plane.{Point, Step, point_eq, step_eq}
 use Rattle.overlay_geom.proofs.Cross.{cross_at_same}
 use Rattle.overlay_geom.proofs.Orders.{point_eq-same, point_eq-of_same}
@@ -26,6 +26,10 @@ same_steps s t h =
 -- and one step passes it
 pub equal_steps : (s t : Step) → s ≡ t → step_eq s t ≡ true
 equal_steps s t e = and_from (point_eq s.from t.from) (point_eq s.to t.to) (point_eq-of_same s.from t.from (λ i. (e i).from)) (point_eq-of_same s.to t.to (λ i. (e i).to))
+
+-- different steps differ whichever of them is named first
+pub step_eq-flip : (s t : Step) → step_eq s t ≡ false → step_eq t s ≡ false
+step_eq-flip s t differ = false_from_ne_true (step_eq t s) (λ same. both_ways (step_eq s t) differ (equal_steps s t (sym (same_steps t s same))))
 
 -- two steps are one, or are not
 pub by_steps : (s t : Step) → (s ≡ t) ⊎ (¬ (s ≡ t))

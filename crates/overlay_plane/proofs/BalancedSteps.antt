@@ -4,12 +4,12 @@ use Rattle.std.proofs.Common.{◌≡◌, ℕ, suc, ◌<◌, Bool, true, false, c
 use Rattle.std.proofs.lemmas.Bool.{both_ways, false_from_ne_true}
 use Rattle.std.proofs.lemmas.List.{get_or_default}
 use Rattle.std.proofs.lemmas.List.Kept.{AllPairs-filter}
-use lib.IntN.{*ℤ_comm, *ℤ-zero, +ℤ_idr}
+use lib.IntN.{*ℤ_comm, +ℤ_idr}
 use Rattle.overlay_geom.specs.Plane.{Point, Step, edge_eq, step_eq, edge_of, sign_of, total}
 use Rattle.overlay_geom.specs.Edges.{CountedEdge, ends_of}
 use Rattle.overlay_geom.proofs.Signs.{linear}
 use Rattle.overlay_geom.proofs.Orders.{edge_eq-exchanged}
-use Rattle.overlay_plane.specs.Turn.{Hand, IsNextStep, step_round, IsOrbit}
+use Rattle.overlay_plane.specs.Turn.{Hand, IsNextStep, step_round, IsOrbit, no_step}
 use Rattle.overlay_plane.specs.Turn.Hand.{right}
 use Rattle.overlay_plane.specs.Alternates.{Alternates}
 use Rattle.overlay_plane.specs.Orbits.{is_step_of}
@@ -17,23 +17,18 @@ use Rattle.overlay_plane.specs.BesideOrbits.{count_on, WalksAlong, IsBalancedPar
 use Rattle.overlay_plane.proofs.Entries.{Contains-from_filter}
 use Rattle.overlay_plane.proofs.Tests.{same_tests}
 use Rattle.overlay_plane.proofs.Totals.{total-same, total-sub}
-use Rattle.overlay_plane.proofs.JoinedLists.{total-times}
+use Rattle.overlay_plane.proofs.JoinedLists.{total-times, times_taken}
 use Rattle.overlay_plane.proofs.SingleEntries.{single_total}
 use Rattle.overlay_plane.proofs.Telescopes.{signed_rise, signed_rise-is}
 use Rattle.overlay_plane.proofs.ItemsRound.{item_round-here, place_of}
 use Rattle.overlay_plane.proofs.AtNodes.{same_steps, equal_steps}
 use Rattle.overlay_plane.proofs.NextSteps.{next_exists, next_unique, next_injective, next_surjective}
 use Rattle.overlay_plane.proofs.ClosedParts.{closed_parts_alternate}
-use Rattle.overlay_plane.proofs.OrbitSteps.{no_step, goes_on_round, last_to_first, step_inside, apart_before}
+use Rattle.overlay_plane.proofs.OrbitSteps.{goes_on_round, last_to_first, step_inside, apart_before}
 use Rattle.overlay_plane.proofs.OrbitsApart.{is_step_of_decides}
 use Rattle.overlay_plane.proofs.StepTotals.{total-exchange, single_step_total}
 
 -- ---- counts on edges
-
--- a multiple of a number chosen by a test is chosen by it
-multiple_chosen : (b : Bool) (k x : ℤ) → k *ℤ cond b x (pos 0) ≡ cond b (k *ℤ x) (pos 0)
-multiple_chosen true k x = refl
-multiple_chosen false k x = *ℤ-zero k
 
 module _ (es : List CountedEdge) (steps : List Step) (walks : WalksAlong es steps) (taken : List Step) (inside : (s : Step) → Contains taken s → Contains steps s) (g : Point → ℤ) where
   -- how much g rises along an edge
@@ -47,7 +42,7 @@ module _ (es : List CountedEdge) (steps : List Step) (walks : WalksAlong es step
   -- over all edges this is what g rises by along the step
   rise_of_step : (s : Step) → Contains taken s → total (λ e. rise_on e s) es ≡ signed_rise g s
   rise_of_step s c =
-      total-same (λ e. rise_on e s) (λ e. cond (edge_eq (ends_of e) (ends_of own)) (rise e *ℤ sign_of s) (pos 0)) es (λ e at. multiple_chosen (edge_eq (edge_of s) (ends_of e)) (rise e) (sign_of s) ∙ ap (λ b. cond b (rise e *ℤ sign_of s) (pos 0)) (one_test e))
+      total-same (λ e. rise_on e s) (λ e. cond (edge_eq (ends_of e) (ends_of own)) (rise e *ℤ sign_of s) (pos 0)) es (λ e at. times_taken (edge_eq (edge_of s) (ends_of e)) (rise e) (sign_of s) ∙ ap (λ b. cond b (rise e *ℤ sign_of s) (pos 0)) (one_test e))
       ∙ single_total es walks.distinct (λ e. rise e *ℤ sign_of s) own (walks.along s (inside s c)).1
       ∙ ap (λ f. (g f.b -ℤ g f.a) *ℤ sign_of s) (sym along)
       ∙ *ℤ_comm (g (edge_of s).b -ℤ g (edge_of s).a) (sign_of s)

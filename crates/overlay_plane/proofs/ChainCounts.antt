@@ -17,7 +17,7 @@ use Rattle.overlay_plane.specs.EdgeLists.{IsForwardBy}
 use Rattle.overlay_plane.specs.Rounds.{Round, IsRound, AreRounds, chain_of, whole_cuts, pieces_of, after_rounds}
 use Rattle.overlay_plane.proofs.EdgesOfSteps.{edge_by}
 use Rattle.overlay_plane.proofs.FoundEntries.{IsFound, found_by}
-use Rattle.overlay_plane.proofs.JoinedLists.{total-map, total-flat_map, total-times}
+use Rattle.overlay_plane.proofs.JoinedLists.{total-map, total-flat_map, total-times, taken_out}
 use Rattle.overlay_plane.proofs.LinkCounts.{held_along, dropped_along, chain_along, one_if_none, missing, by_edges, held_after, dropped_after}
 use Rattle.overlay_plane.proofs.StepsAlong.{along}
 use Rattle.overlay_plane.proofs.Totals.{total-same, total-zero, total-filter}
@@ -35,11 +35,6 @@ subj_goes_over = record { piece = λ e s. refl; joined = λ es e. refl }
 -- and the clip's
 pub clip_goes_over : GoesOver clip_of
 clip_goes_over = record { piece = λ e s. refl; joined = λ es e. refl }
-
--- a product that is taken or not
-taken_out : (b : Bool) (s c : ℤ) → cond b (s *ℤ c) (pos 0) ≡ c *ℤ cond b s (pos 0)
-taken_out true s c = *ℤ_comm s c
-taken_out false s c = sym (*ℤ-zero c)
 
 module _ (count : CountedEdge → ℤ) (goes_over : GoesOver count) where
   -- ---- one list of edges

@@ -2,8 +2,7 @@
 use Rattle.std.proofs.Common.{◌≡◌, Bool, true, false, cond, ℤ, pos, ◌+ℤ◌, ◌-ℤ◌, List, [], ◌∷◌, Contains, sym, ap, ap₂, ◌∙◌}
 use lib.IntN.{+ℤ_idl, +ℤ_idr, +ℤ_assoc}
 use Rattle.overlay_geom.specs.Plane.{total}
-use Rattle.overlay_geom.proofs.Identities.{solve, ◌⊕◌, ◌⊖◌, ◌≗◌}
-use Rattle.overlay_geom.proofs.Signs.{linear}
+use Rattle.overlay_geom.proofs.Identities.{solve, ◌⊕◌, ◌⊖◌, ◌≗◌, number}
 use Rattle.overlay_plane.proofs.LaterEntries.{Each}
 use Rattle.overlay_plane.proofs.Totals.{total-same, total-zero}
 use Rattle.overlay_plane.proofs.InOrderLists.{Before}
@@ -30,10 +29,7 @@ module _ {X : Type 0} (lower : X → X → Bool) where
 
       rises_on : (v w : ℤ) (ys : List X) → Each (Before lower) ys →
           total (λ e. rise (v +ℤ total_before c ys e) (w +ℤ total_before d ys e) e) ys ≡ h (v +ℤ total c ys) (w +ℤ total d ys) -ℤ h v w
-      rises_on v w [] first = sym (ap₂ (λ p q. h p q -ℤ h v w) (+ℤ_idr v) (+ℤ_idr w) ∙ nothing_left (h v w))
-        where
-          nothing_left : (z : ℤ) → z -ℤ z ≡ pos 0
-          nothing_left z = omega linear
+      rises_on v w [] first = sym (ap₂ (λ p q. h p q -ℤ h v w) (+ℤ_idr v) (+ℤ_idr w) ∙ solve 1 (λ z. z ⊖ z ≗ number (pos 0)) tt (h v w))
       rises_on v w (y ∷ ys) first = ap₂ (λ p q. p +ℤ q) head (tail ∙ rises_on (v +ℤ c y) (w +ℤ d y) ys first.1)
           ∙ joined (h v w) (h (v +ℤ c y) (w +ℤ d y)) (h ((v +ℤ c y) +ℤ total c ys) ((w +ℤ d y) +ℤ total d ys))
           ∙ ap₂ (λ p q. h p q -ℤ h v w) (+ℤ_assoc v (c y) (total c ys)) (+ℤ_assoc w (d y) (total d ys))

@@ -5,13 +5,13 @@ use Rattle.std.proofs.Common.{map, get_or, Contains, refl, sym, ap, ap₂, ◌�
 use Rattle.std.proofs.lemmas.List.Elements.{All-nil, All-cons}
 use Rattle.overlay_geom.specs.Plane.{Point, Step, point_eq, steps_between, steps_through, steps_of, points_of}
 use Rattle.overlay_geom.proofs.Orders.{point_eq-same}
-use Rattle.overlay_plane.specs.Turn.{Hand, step_round, IsOrbit}
+use Rattle.overlay_plane.specs.Turn.{Hand, step_round, IsOrbit, no_step}
 use Rattle.overlay_plane.specs.Alternates.{Alternates}
 use Rattle.overlay_plane.specs.Contours.{without, done, next, IsContour, OrbitsAreContours, CutsAreContours}
 use Rattle.overlay_plane.proofs.BalancedSteps.{orbits_have_each_once}
 use Rattle.overlay_plane.proofs.CutWalks.{left_alternates}
 use Rattle.overlay_plane.proofs.ItemsRound.{item_round-here, item_round-whole}
-use Rattle.overlay_plane.proofs.OrbitSteps.{no_step, goes_on_round, step_inside, three_steps}
+use Rattle.overlay_plane.proofs.OrbitSteps.{goes_on_round, step_inside, three_steps}
 
 -- from s through the steps after it to q: each step is one between two points, and the next one begins where it ends
 abbrev LeadsTo : Step → List Step → Point → Type 0

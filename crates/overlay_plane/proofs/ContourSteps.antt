@@ -2,11 +2,10 @@
 use Rattle.std.proofs.Common.{◌≡◌, inl, inr, ◌+◌, ◌-◌, ◌<◌, List, [], ◌∷◌, ◌++◌, length, Contains, sym, ap, ◌∙◌, subst, arith}
 use Rattle.std.proofs.lemmas.List.Elements.{Contains-append_cases}
 use Rattle.overlay_geom.specs.Plane.{Point, Step, steps_between, steps_through, steps_of, points_of}
-use Rattle.overlay_plane.specs.Turn.{step_round}
+use Rattle.overlay_plane.specs.Turn.{step_round, no_step}
 use Rattle.overlay_plane.specs.Contours.{IsContour}
 use Rattle.overlay_plane.proofs.ChainStops.{step_between}
 use Rattle.overlay_plane.proofs.ItemsRound.{item_round-round, Contains-item_round, place_of}
-use Rattle.overlay_plane.proofs.OrbitSteps.{no_step}
 
 -- the steps through points are between different ones
 through_long : (p : Point) (qs : List Point) (s : Step) → Contains (steps_through p qs) s → ¬ (s.from ≡ s.to)

@@ -1,9 +1,9 @@
 -- Two edges that meet in ends alone do not cross: the gap between them keeps its sign where the one reaches further on both sides.
 use Rattle.std.proofs.Common.{◌≡◌, inl, inr, ⊎_elim, ℤ, pos, ◌+ℤ◌, ◌-ℤ◌, ◌*ℤ◌, neg_ℤ, ◌<ℤ◌, ◌≤ℤ◌, int_lt, sym, ◌∙◌}
 use Rattle.std.proofs.lemmas.Int.{by_lt_z}
-use lib.IntN.{*ℤ_comm}
-use Rattle.overlay_geom.specs.Plane.{Point, Edge, PlanePoint, side, IsAt, IsBetween, IsOn, IsEnd, line_form}
+use Rattle.overlay_geom.specs.Plane.{Edge, PlanePoint, side, IsAt, IsBetween, IsOn, IsEnd, line_form}
 use Rattle.overlay_geom.specs.Settled.{MeetInEnds}
+use Rattle.overlay_geom.proofs.Crossing.{at_one_point}
 use Rattle.overlay_geom.proofs.Identities.{solve, number, ◌⊕◌, ◌⊗◌, ◌⊖◌, ⊝◌, ◌≗◌}
 use Rattle.overlay_geom.proofs.Signs.{linear, by_sign, mul-pos, mul-nonneg, mul-le, mul-lt, eq_of_mul-eq, nonneg_of_mul-nonneg}
 use Rattle.overlay_plane.specs.Heights.{width, gap, Spans, IsInner}
@@ -13,10 +13,6 @@ use Rattle.overlay_plane.proofs.LineForms.{formE, gapE, gap_linear}
 -- inside is in the span
 pub inner_spans : (e : Edge) (x d : ℤ) → IsInner e x d → Spans e x d
 inner_spans e x d i = let l = i.after in let r = i.before in record { from = omega linear; to = omega linear }
-
--- to meet in ends alone goes both ways
-pub meet_exchanged : (e f : Edge) → MeetInEnds e f → MeetInEnds f e
-meet_exchanged e f meet p common = let ends = meet p (common.1, common.0) in (ends.1, ends.0)
 
 -- a point of the line over the edge's span lies between the ends in height too
 pub between_on_line : (e : Edge) (x y d : ℤ) → pos 0 <ℤ width e → line_form e x y d ≡ pos 0 → Spans e x d → IsBetween y (e.a.y *ℤ d) (e.b.y *ℤ d)
@@ -81,13 +77,6 @@ meets_over f e x d wide positive wide_f over_e over_f level =
         IsOn g (point_over e x d wide positive)
     on g wide_g zero s = record { on_line = zero; in_x = inl (s.from, s.to); in_y = between_on_line g (width e *ℤ x) (neg_ℤ (line_form e x (pos 0) d)) (width e *ℤ d) wide_g zero s }
 
--- two whole points at one place are one
-pub one_place : (u v : Point) (p : PlanePoint) → IsAt u p → IsAt v p → u ≡ v
-one_place u v p at_u at_v =
-    let same_x = eq_of_mul-eq p.d u.x v.x p.positive (*ℤ_comm p.d u.x ∙ sym at_u.0 ∙ at_v.0 ∙ *ℤ_comm v.x p.d) in
-    let same_y = eq_of_mul-eq p.d u.y v.y p.positive (*ℤ_comm p.d u.y ∙ sym at_u.1 ∙ at_v.1 ∙ *ℤ_comm v.y p.d) in
-    λ i. record { x = same_x i; y = same_y i }
-
 -- over the inside of e the two do not meet
 pub apart_inside : (f e : Edge) (x d : ℤ) → pos 0 <ℤ d → pos 0 <ℤ width f → pos 0 <ℤ width e → MeetInEnds e f → IsInner e x d → Spans f x d →
     ¬ (gap f e x d ≡ pos 0)
@@ -100,27 +89,16 @@ apart_inside f e x d positive wide_f wide meet i over_f level = ⊎_elim (λ at.
     right : IsAt e.b (point_over e x d wide positive) → ⊥
     right at = let r = i.before in let same = eq_of_mul-eq (width e) x (e.b.x *ℤ d) wide (at.0 ∙ sym (times_through (width e) e.b.x d)) in omega linear
 
--- where the gap is 0 before both edges end, they start in one point; where it is 0 after both start, they end in one
+-- where the gap is 0 before both edges end, they start in one point
 pub same_starts : (f e : Edge) (x d : ℤ) → pos 0 <ℤ d → pos 0 <ℤ width f → pos 0 <ℤ width e → MeetInEnds e f → Spans e x d → Spans f x d →
     gap f e x d ≡ pos 0 → x <ℤ (e.b.x *ℤ d) → x <ℤ (f.b.x *ℤ d) → e.a ≡ f.a
 same_starts f e x d positive wide_f wide meet over_e over_f level before_e before_f =
     let p = point_over e x d wide positive in
     let ends = meet p (meets_over f e x d wide positive wide_f over_e over_f level) in
-    one_place e.a f.a p (start e before_e ends.0) (start f before_f ends.1)
+    at_one_point e.a f.a p (start e before_e ends.0) (start f before_f ends.1)
   where
     start : (g : Edge) → x <ℤ (g.b.x *ℤ d) → IsEnd g (point_over e x d wide positive) → IsAt g.a (point_over e x d wide positive)
     start g before is = ⊎_elim (λ a. a) (λ b. absurd (let same = eq_of_mul-eq (width e) x (g.b.x *ℤ d) wide (b.0 ∙ sym (times_through (width e) g.b.x d)) in omega linear)) is
-
--- where the gap is 0 after both edges start, they end in one point
-pub same_finishes : (f e : Edge) (x d : ℤ) → pos 0 <ℤ d → pos 0 <ℤ width f → pos 0 <ℤ width e → MeetInEnds e f → Spans e x d → Spans f x d →
-    gap f e x d ≡ pos 0 → (e.a.x *ℤ d) <ℤ x → (f.a.x *ℤ d) <ℤ x → e.b ≡ f.b
-same_finishes f e x d positive wide_f wide meet over_e over_f level after_e after_f =
-    let p = point_over e x d wide positive in
-    let ends = meet p (meets_over f e x d wide positive wide_f over_e over_f level) in
-    one_place e.b f.b p (finish e after_e ends.0) (finish f after_f ends.1)
-  where
-    finish : (g : Edge) → (g.a.x *ℤ d) <ℤ x → IsEnd g (point_over e x d wide positive) → IsAt g.b (point_over e x d wide positive)
-    finish g after is = ⊎_elim (λ a. absurd (let same = eq_of_mul-eq (width e) x (g.a.x *ℤ d) wide (a.0 ∙ sym (times_through (width e) g.a.x d)) in omega linear)) (λ b. b) is
 
 -- ---- one order
 
@@ -149,7 +127,8 @@ pub record IsShared (f e : Edge) (x d : ℤ) : Type 0 where
   pub inner : IsInner e x d
   pub spans : Spans f x d
 
-cancels : (g h : ℤ) → g *ℤ h +ℤ neg_ℤ h *ℤ g ≡ pos 0
+-- two opposite products
+pub cancels : (g h : ℤ) → g *ℤ h +ℤ neg_ℤ h *ℤ g ≡ pos 0
 cancels = solve 2 (λ g h. g ⊗ h ⊕ ⊝ h ⊗ g ≗ number (pos 0)) tt
 
 -- the gap is not above 0 at a shared abscissa and below 0 at another one of both spans

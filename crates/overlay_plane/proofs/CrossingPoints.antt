@@ -3,14 +3,15 @@
 use Rattle.std.proofs.Common.{◌≡◌, inl, inr, ℤ, pos, negsuc, nat_abs, ◌+ℤ◌, ◌-ℤ◌, ◌*ℤ◌, neg_ℤ, ◌<ℤ◌, ◌≤ℤ◌, refl, sym, ap₂, ◌∙◌}
 use Rattle.overlay_geom.specs.Plane.{PlanePoint, Edge, IsOn, cross_at}
 use Rattle.overlay_geom.specs.Settled.{IsCommon}
-use Rattle.overlay_geom.specs.Placed.{IsAlong, IsBeside, IsAcross}
+use Rattle.overlay_geom.specs.Placed.{IsAcross}
 use Rattle.overlay_geom.proofs.Identities.{solve, number, ◌⊕◌, ◌⊗◌, ◌⊖◌, ⊝◌, ◌≗◌}
 use Rattle.overlay_geom.proofs.Signs.{linear}
 use Rattle.overlay_geom.proofs.Cross.{crossE}
 use Rattle.overlay_geom.proofs.AlongEdge.{sideE}
+use Rattle.overlay_geom.proofs.Crossing.{crossed_back}
 use Rattle.overlay_geom.proofs.Rounded.{part_between}
 use Rattle.overlay_plane.specs.CutPoints.{to_line, across}
-use Rattle.overlay_plane.proofs.Placements.{AreCrossing, both_across, crossed_back}
+use Rattle.overlay_plane.proofs.Placements.{AreCrossing, both_across}
 
 -- ---- points along an edge
 
@@ -91,11 +92,6 @@ part_way_across e f (inr (high, low, less)) =
     let from = right.from in
     let whole = right.whole in
     (omega linear, omega linear, omega linear)
-
--- so of two edges across one another the one crosses the other part of its way
-pub to_line-bounds : (e f : Edge) → ¬ (IsAlong e f) → ¬ (IsBeside e f) → ¬ (IsBeside f e) →
-    (pos 0 ≤ℤ to_line e f) × (to_line e f ≤ℤ across e f) × (pos 0 <ℤ across e f)
-to_line-bounds e f apart not_beside not_back = part_way_across e f (both_across e f (record { apart = apart; not_beside = not_beside; not_back = not_back })).1
 
 -- ---- the common point
 

@@ -8,7 +8,7 @@ use Rattle.std.proofs.lemmas.List.{append-nil}
 use Rattle.std.proofs.lemmas.List.Elements.{All-contains, All-append, All-cons, All-nil}
 use Rattle.overlay_geom.specs.Plane.{Point, PlanePoint, Step, Edge, point_lt, edge_of, sign_of, is_strictly_below, steps_between, steps_through, winding}
 use Rattle.overlay_geom.specs.Edges.{CountedEdge, ends_of, subj_of, clip_of, winding_by}
-use lib.IntN.{*ℤ_comm, *ℤ-zero}
+use lib.IntN.{*ℤ-zero}
 use Rattle.overlay_geom.proofs.Identities.{solve, number, ◌⊕◌, ◌⊗◌, ◌⊖◌, ◌≗◌}
 use Rattle.overlay_geom.proofs.Signs.{linear, zero_of_mul-zero, mul-zero}
 use Rattle.overlay_plane.specs.Heights.{width}
@@ -16,7 +16,7 @@ use Rattle.overlay_plane.specs.EdgeLists.{IsForwardBy}
 use Rattle.overlay_plane.specs.Regions.{one_if}
 use Rattle.overlay_plane.specs.Cutting.{piece_along, pieces_through, AreOnLine, CuttingOnALineKeepsWindings, CuttingOnLinesKeepsWindings}
 use Rattle.overlay_plane.proofs.AlongLines.{winding_part, IsOnLine, left_above, winding_part-on_line, winding_part-vertical, below_on_line, vertical_below}
-use Rattle.overlay_plane.proofs.JoinedLists.{total-map, total-flat_map, total-times}
+use Rattle.overlay_plane.proofs.JoinedLists.{total-map, total-flat_map, total-times, taken_out}
 use Rattle.overlay_plane.proofs.LineForms.{formE, side-start, side-end}
 use Rattle.overlay_plane.proofs.Strip.{starts_first}
 use Rattle.overlay_plane.proofs.Telescopes.{rises_along, last_from-append}
@@ -74,17 +74,13 @@ pieces_wind : (count : CountedEdge → ℤ) (points : CountedEdge → List Point
 pieces_wind count points each p e forward on =
     total-map (λ f. cond (is_strictly_below (ends_of f) p) (count f) (pos 0)) (piece_along e) chain
     ∙ total-same (λ s. cond (is_strictly_below (edge_of s) p) (count (piece_along e s)) (pos 0)) (λ s. count e *ℤ winding_part p s) chain
-    (λ s at. ap (λ z. cond (is_strictly_below (edge_of s) p) z (pos 0)) (each e s) ∙ drawn_out (is_strictly_below (edge_of s) p) (sign_of s) (count e))
+    (λ s at. ap (λ z. cond (is_strictly_below (edge_of s) p) z (pos 0)) (each e s) ∙ taken_out (is_strictly_below (edge_of s) p) (sign_of s) (count e))
     ∙ total-times (count e) (winding_part p) chain
     ∙ ap (λ z. count e *ℤ z) (winding-chain_on_line (ends_of e) forward (points e) on p)
     ∙ times_one (is_strictly_below (ends_of e) p) (count e)
   where
     chain : List Step
     chain = steps_through e.a (points e ++ e.b ∷ [])
-
-    drawn_out : (t : Bool) (s c : ℤ) → cond t (s *ℤ c) (pos 0) ≡ c *ℤ cond t s (pos 0)
-    drawn_out true s c = *ℤ_comm s c
-    drawn_out false s c = sym (*ℤ-zero c)
 
     times_one : (t : Bool) (c : ℤ) → c *ℤ one_if t ≡ cond t c (pos 0)
     times_one true c = solve 1 (λ c. c ⊗ number (pos 1) ≗ c) tt c

@@ -7,7 +7,7 @@ use Rattle.std.specs.List.Sorted.{IsPermutation}
 use Rattle.std.proofs.lemmas.List.Elements.{All-contains, Contains-append_left, Contains-append_right, Contains-append_cases}
 use Rattle.std.proofs.lemmas.List.Sorted.{IsPermutation-refl, IsPermutation-append_right, IsPermutation-trans}
 use Rattle.overlay_geom.specs.Plane.{Step, step_eq}
-use Rattle.overlay_plane.specs.Turn.{Hand, step_round, IsOrbit}
+use Rattle.overlay_plane.specs.Turn.{Hand, step_round, IsOrbit, no_step}
 use Rattle.overlay_plane.specs.Alternates.{Alternates}
 use Rattle.overlay_plane.specs.Orbits.{is_step_of}
 use Rattle.overlay_plane.specs.Contours.{IsStart, without, IsCutInto, done, next, all_steps, CutsTakeEachOnce, IsFirstWalk, CutsAreOrbits}
@@ -15,7 +15,7 @@ use Rattle.overlay_plane.proofs.BalancedSteps.{orbits_have_each_once}
 use Rattle.overlay_plane.proofs.Entries.{Contains-from_filter, Contains-filter}
 use Rattle.overlay_plane.proofs.ItemsRound.{item_round-here}
 use Rattle.overlay_plane.proofs.LaterEntries.{Each, Each-from_all_pairs, Each-filter}
-use Rattle.overlay_plane.proofs.OrbitSteps.{no_step, orbits_are_cycles}
+use Rattle.overlay_plane.proofs.OrbitSteps.{orbits_are_cycles}
 use Rattle.overlay_plane.proofs.OrbitsApart.{is_step_of_decides, orbits_leave_the_rest}
 use Rattle.overlay_plane.proofs.ShuffledSteps.{Differ, shuffled_from_same}
 
@@ -92,12 +92,12 @@ pub cuts_take_each_once : CutsTakeEachOnce
 cuts_take_each_once hand_of steps alternates once walks cut = each_taken_once hand_of steps alternates (Each-from_all_pairs Differ steps once) walks cut
 
 -- where nothing is taken, all steps are left
-without-none : (steps : List Step) → without steps [] ≡ steps
+pub without-none : (steps : List Step) → without steps [] ≡ steps
 without-none [] = refl
 without-none (s ∷ ss) = ap (λ ts. s ∷ ts) (without-none ss)
 
 -- a step of two lists joined is one of either
-is_step_of-append : (xs ys : List Step) (s : Step) → is_step_of (xs ++ ys) s ≡ (is_step_of xs s || is_step_of ys s)
+pub is_step_of-append : (xs ys : List Step) (s : Step) → is_step_of (xs ++ ys) s ≡ (is_step_of xs s || is_step_of ys s)
 is_step_of-append [] ys s = refl
 is_step_of-append (x ∷ xs) ys s = by (step_eq x s) (is_step_of-append xs ys s)
   where
@@ -107,7 +107,7 @@ is_step_of-append (x ∷ xs) ys s = by (step_eq x s) (is_step_of-append xs ys s)
     by false e = e
 
 -- what the one list leaves of what the other leaves is what both leave
-without-without : (steps xs ys : List Step) → without (without steps xs) ys ≡ without steps (xs ++ ys)
+pub without-without : (steps xs ys : List Step) → without (without steps xs) ys ≡ without steps (xs ++ ys)
 without-without [] xs ys = refl
 without-without (s ∷ ss) xs ys =
     by (is_step_of xs s) (without-without ss xs ys)

@@ -1,8 +1,7 @@
 -- Contours wind as the steps that they are cut from, and as the points that are left of them when they are thinned.
-use Rattle.std.proofs.Common.{◌≡◌, Bool, true, false, ℤ, List, [], ◌∷◌, refl, ap, ap₂, ◌+ℤ◌, ◌∙◌, sym}
+use Rattle.std.proofs.Common.{Bool, ℤ, List, [], ◌∷◌, refl, ap₂, ◌+ℤ◌, ◌∙◌, sym}
 use Rattle.std.specs.List.{flat_map}
-use Rattle.overlay_geom.specs.Plane.{Point, PlanePoint, steps_of, winding}
-use Rattle.overlay_geom.specs.Thinned.{IsKeptOrThinned}
+use Rattle.overlay_geom.specs.Plane.{steps_of}
 use Rattle.overlay_geom.proofs.Totals.{total-IsPermutation}
 use Rattle.overlay_geom.specs.Edges.{CountedEdge}
 use Rattle.overlay_plane.specs.Alternates.{Alternates}
@@ -10,33 +9,27 @@ use Rattle.overlay_plane.specs.Regions.{IsRuled}
 use Rattle.overlay_plane.specs.SelectedSteps.{selected_steps}
 use Rattle.overlay_plane.specs.Contours.{all_steps}
 use Rattle.overlay_plane.specs.ContourWindings.{CutsKeepWindings, ThinnedContoursWindAlike, ContoursWind}
+use Rattle.overlay_plane.proofs.AddedWindings.{winding-taken}
 use Rattle.overlay_plane.proofs.AlongLines.{winding_part}
 use Rattle.overlay_plane.proofs.CutWalks.{cuts_take_each_once}
 use Rattle.overlay_plane.proofs.JoinedLists.{total-append}
 use Rattle.overlay_plane.proofs.SelectedAlternate.{selected_steps_alternate}
 use Rattle.overlay_plane.proofs.SelectedLists.{selected_steps_of_edges, arranged_by_subject, arranged_by_clip}
 use Rattle.overlay_plane.proofs.SelectedWindings.{selected_steps_wind, selected_steps_once}
-use Rattle.overlay_plane.proofs.StraightOn.{thinning_keeps_windings}
 
 -- a cut keeps the winding round each point
 pub cuts_keep_windings : CutsKeepWindings
 cuts_keep_windings hand_of steps alternates once walks cut p = total-IsPermutation (winding_part p) steps (all_steps walks)
     (cuts_take_each_once hand_of steps alternates once walks cut)
 
--- a contour taken as given or thinned winds as the one given
-thinned_winds_alike : (keep : Bool) (given taken : List Point) → IsKeptOrThinned keep given taken → (p : PlanePoint) →
-    winding (steps_of taken) p ≡ winding (steps_of given) p
-thinned_winds_alike true given taken same p = ap (λ ps. winding (steps_of ps) p) same
-thinned_winds_alike false given taken thinned p = thinning_keeps_windings given taken thinned p
-
--- and so do lists of such contours
+-- lists of contours taken as given or thinned wind as those given
 pub thinned_contours_wind_alike : ThinnedContoursWindAlike
 thinned_contours_wind_alike keep [] [] each p = refl
 thinned_contours_wind_alike keep [] (t ∷ ts) each p = absurd each
 thinned_contours_wind_alike keep (g ∷ gs) [] each p = absurd each
 thinned_contours_wind_alike keep (g ∷ gs) (t ∷ ts) each p =
     total-append (winding_part p) (steps_of t) (flat_map steps_of ts)
-    ∙ ap₂ (λ a b. a +ℤ b) (thinned_winds_alike keep g t each.0 p) (thinned_contours_wind_alike keep gs ts each.1 p)
+    ∙ ap₂ (λ a b. a +ℤ b) (winding-taken keep g t each.0 p) (thinned_contours_wind_alike keep gs ts each.1 p)
     ∙ sym (total-append (winding_part p) (steps_of g) (flat_map steps_of gs))
 
 -- the selected steps of a ruled list alternate

@@ -4,7 +4,7 @@ use Rattle.std.proofs.Common.{◌≡◌, ⊎_elim, ℕ, zero, suc, ◌<◌, ◌�
 use Rattle.std.proofs.Common.{◌∷◌, length, Contains, filter, refl, sym, ap, ◌∙◌, subst, arith}
 use Rattle.std.proofs.lemmas.Bool.{both_ways}
 use Rattle.overlay_geom.specs.Plane.{Step}
-use Rattle.overlay_plane.specs.Turn.{Hand, step_round, IsOrbit}
+use Rattle.overlay_plane.specs.Turn.{Hand, step_round, IsOrbit, no_step}
 use Rattle.overlay_plane.specs.Alternates.{Alternates}
 use Rattle.overlay_plane.specs.Orbits.{is_step_of}
 use Rattle.overlay_plane.specs.Contours.{without, IsCutInto, done, next, CutsExist}
@@ -12,7 +12,6 @@ use Rattle.overlay_plane.proofs.CutWalks.{left_alternates}
 use Rattle.overlay_plane.proofs.ItemsRound.{item_round-here}
 use Rattle.overlay_plane.proofs.LaterEntries.{Contains-cases}
 use Rattle.overlay_plane.proofs.LongSteps.{start_exists}
-use Rattle.overlay_plane.proofs.OrbitSteps.{no_step}
 use Rattle.overlay_plane.proofs.OrbitWalks.{orbits_exist}
 use Rattle.overlay_plane.proofs.OrbitsApart.{is_step_of_decides}
 use Rattle.overlay_plane.proofs.Totals.{Contains-head}

@@ -1,6 +1,6 @@
 -- Rays of different directions are met in one cyclic order: the same from wherever the turn starts, and reversed by the
 -- other hand.
-use Rattle.std.proofs.Common.{◌≡◌, ⊎_elim, ◌+◌, true, false, refl, sym, ◌∙◌, arith}
+use Rattle.std.proofs.Common.{◌≡◌, ⊎_elim, ◌+◌, true, false, refl, ◌∙◌, arith}
 use Rattle.std.proofs.lemmas.Bool.{both_ways}
 use Rattle.overlay_geom.specs.Plane.{Point}
 use Rattle.overlay_geom.proofs.Signs.{linear}
@@ -13,11 +13,6 @@ use Rattle.overlay_plane.proofs.TurnOrder.{part_early, part_late, part_opposite,
 use Rattle.overlay_plane.proofs.ThreeTurns.{two_positive_shifted, between_decides}
 
 -- ---- the other hand
-
--- the other hand of the other hand is the hand
-pub other_hand-twice : (hand : Hand) → other_hand (other_hand hand) ≡ hand
-other_hand-twice left = refl
-other_hand-twice right = refl
 
 -- the other hand turns back
 turn-other_hand : (hand : Hand) (v p q : Point) → turn (other_hand hand) v p q ≡ turn hand v q p
@@ -73,10 +68,6 @@ met_shifted hand v p m q h e = (between_decides hand v m q p h.two h.three h.one
 -- by the other hand it lies between them in the opposite order
 pub met_by_other : (hand : Hand) (v p m q : Point) → AllApart v p m q → IsMetBefore hand v p m q → IsMetBefore (other_hand hand) v p q m
 met_by_other hand v p m q h e = met_reversed hand v p m q h.one (apart_exchanged v q p h.three) ∙ e
-
--- and what lies so by the other hand lies so by this one
-pub met_from_other : (hand : Hand) (v p m q : Point) → AllApart v p m q → IsMetBefore (other_hand hand) v p q m → IsMetBefore hand v p m q
-met_from_other hand v p m q h e = sym (met_reversed hand v p m q h.one (apart_exchanged v q p h.three)) ∙ e
 
 -- what is not met before is met after
 pub met_after : (hand : Hand) (v u p q : Point) → ¬ (u ≡ v) → Apart v p q → is_met_before hand v u p q ≡ false → IsMetBefore hand v u q p

@@ -1,16 +1,17 @@
 -- The turn from one forward edge to another: which signs of the turns between three edges go together, and that edges with
 -- no turn between them lead one way.
-use Rattle.std.proofs.Common.{◌≡◌, true, ℤ, pos, ◌+ℤ◌, ◌-ℤ◌, ◌*ℤ◌, neg_ℤ, ◌<ℤ◌, ◌≤ℤ◌}
+use Rattle.std.proofs.Common.{◌≡◌, true, false, ℤ, pos, ◌+ℤ◌, ◌-ℤ◌, ◌*ℤ◌, neg_ℤ, ◌<ℤ◌, ◌≤ℤ◌}
 use Rattle.std.proofs.lemmas.Int.{by_lt_z}
 use lib.IntN.{*ℤ_comm}
 use Rattle.overlay_geom.specs.Plane.{Edge, point_lt}
 use Rattle.overlay_geom.proofs.Identities.{solve, number, ◌⊕◌, ◌⊗◌, ◌⊖◌, ⊝◌, ◌≗◌}
 use Rattle.overlay_geom.proofs.Signs.{linear, by_sign, mul-pos, mul-zero, mul-nonneg, pos_of_mul-pos}
 use Rattle.overlay_plane.specs.Heights.{width}
-use Rattle.overlay_plane.specs.Nodes.{edge_turn}
+use Rattle.overlay_plane.specs.Nodes.{edge_turn, turns_left}
 use Rattle.overlay_plane.proofs.Strip.{starts_first}
 use Rattle.overlay_plane.proofs.Turning.{square_nonneg}
 use Rattle.overlay_plane.proofs.NodeStarts.{rises_upright}
+use Rattle.overlay_plane.proofs.Tests.{lt_from_test, ge_from_test, test_from_lt}
 
 -- how far the edge rises
 abbrev pub rise : Edge → ℤ
@@ -141,3 +142,12 @@ level_after_level e f g forward_e forward_f forward_g ef fg = by_sign (edge_turn
     (λ low. absurd (let opposite = edge_turn_exchanged e g in let more = left_to_level g e f forward_g forward_e forward_f (omega linear) ef in let back = edge_turn_exchanged f g in omega linear))
     (λ level. level)
     (λ high. absurd (let more = left_of_level f e g forward_f forward_e forward_g (let opposite = edge_turn_exchanged e f in omega linear) high in omega linear))
+
+-- what leads to the left of an edge leads to the left of all that do not
+pub left_of_not_left : (e f g : Edge) → IsForward e → IsForward f → IsForward g → turns_left f e ≡ false → turns_left f g ≡ true → turns_left e g ≡ true
+left_of_not_left e f g forward_e forward_f forward_g lowest left =
+    let high = lt_from_test (pos 0) (edge_turn f g) left in
+    let low = ge_from_test (pos 0) (edge_turn f e) lowest in
+    let back = edge_turn_exchanged e f in
+    test_from_lt (pos 0) (edge_turn e g) (by_lt_z (pos 0) (edge_turn e f) (λ lt. left_after_left e f g forward_e forward_f forward_g lt high)
+    (λ ge. left_of_level e f g forward_e forward_f forward_g (omega linear) high))

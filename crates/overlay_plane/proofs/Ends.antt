@@ -3,12 +3,12 @@ use Rattle.std.proofs.Common.{◌≡◌, inl, inr, ⊎_elim, ℤ, pos, ◌+ℤ�
 use Rattle.std.proofs.lemmas.Int.{ints, by_lt_z}
 use Rattle.overlay_geom.specs.Plane.{Point, Edge, PlanePoint, side, in_plane, IsAt, IsBetween, IsOn}
 use Rattle.overlay_geom.specs.Settled.{MeetInEnds}
-use Rattle.overlay_geom.proofs.Identities.{solve, number, ◌⊕◌, ◌⊗◌, ⊝◌, ◌≗◌}
+use Rattle.overlay_geom.proofs.Identities.{solve, number, ◌⊕◌, ◌⊗◌, ◌≗◌}
 use Rattle.overlay_geom.proofs.Signs.{linear, by_sign, mul-le, neg_of_mul-neg, mul-neg}
 use Rattle.overlay_plane.specs.Heights.{width, gap, IsInner}
 use Rattle.overlay_plane.specs.Order.{AreOnOneSide}
 use Rattle.overlay_plane.proofs.LineForms.{line_form_linear, side-start, side-end, gap-at_start, gap-at_end}
-use Rattle.overlay_plane.proofs.Crossing.{inner_between, inner_spans, between_on_line}
+use Rattle.overlay_plane.proofs.Crossing.{inner_between, inner_spans, between_on_line, cancels}
 use Rattle.overlay_plane.proofs.Tests.{lt_from_test, test_from_lt, test_from_ge, same_tests}
 
 -- between two points: s times the one and t times the other
@@ -60,9 +60,6 @@ mixed_on f s t ps pt =
     backward = line_form_linear f s f.b.x f.b.y (pos 1) t f.a.x f.a.y (pos 1) ∙ ap₂ (λ y z. s *ℤ y +ℤ t *ℤ z) (side-end f) (side-start f)
         ∙ both_zero s t
 
-cancels : (u v : ℤ) → v *ℤ u +ℤ neg_ℤ u *ℤ v ≡ pos 0
-cancels = solve 2 (λ u v. v ⊗ u ⊕ ⊝ u ⊗ v ≗ number (pos 0)) tt
-
 -- on an edge that e meets in ends alone no point over the inside of e is on the line of e
 pub off_inside : (e f : Edge) (p : PlanePoint) → pos 0 <ℤ width e → MeetInEnds e f → IsOn f p → IsInner e p.x p.d → ¬ (side e p ≡ pos 0)
 off_inside e f p wide meet on_f inner zero =
@@ -85,7 +82,7 @@ below_with e f p q wide meet on ip iq low = by_lt_z (side e (in_plane q)) (pos 0
         let pt : pos 0 <ℤ t = omega linear in
         off_inside e f (mixed s t p q ge pt) wide meet (on s t ge pt)
         (inner_between e s p.x (pos 1) t q.x (pos 1) ge pt (inner_spans e p.x (pos 1) ip) iq)
-        (line_form_linear e s p.x p.y (pos 1) t q.x q.y (pos 1) ∙ cancels (side e (in_plane p)) s)
+        (line_form_linear e s p.x p.y (pos 1) t q.x q.y (pos 1) ∙ cancels s (side e (in_plane p)))
 
 between_from_ends : (u v : ℤ) → IsBetween u (u *ℤ pos 1) (v *ℤ pos 1) × IsBetween v (u *ℤ pos 1) (v *ℤ pos 1)
 between_from_ends u v = by_lt_z u v (λ lt. (inl (omega (arith, ints), omega (arith, ints)), inl (omega (arith, ints), omega (arith, ints))))

@@ -13,6 +13,14 @@ use Rattle.overlay_geom.proofs.Mapped.{Contains-mapped}
 pub all_of_entries : {X : Type 0} (P : X → Type 0) (xs : List X) → ((x : X) → Contains xs x → P x) → All P xs
 all_of_entries P xs h = All-weaker (Contains xs) P h xs (All-contains_itself xs)
 
+-- what holds of all entries of two lists joined holds of those of the first
+pub All-first : {X : Type 0} (P : X → Type 0) (xs ys : List X) → All P (xs ++ ys) → All P xs
+All-first P xs ys h = all_of_entries P xs (λ x c. All-contains P (xs ++ ys) x h (Contains-append_left xs ys x c))
+
+-- and of those of the second
+pub All-rest : {X : Type 0} (P : X → Type 0) (xs ys : List X) → All P (xs ++ ys) → All P ys
+All-rest P xs ys h = all_of_entries P ys (λ x c. All-contains P (xs ++ ys) x h (Contains-append_right xs ys x c))
+
 -- what holds of an entry holds of some
 pub any_of_entry : {X : Type 0} (P : X → Type 0) (xs : List X) (x : X) → Contains xs x → P x → Any P xs
 any_of_entry P xs x at holds = (at.0, x, at.1, at.2, holds)

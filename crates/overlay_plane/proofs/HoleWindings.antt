@@ -5,7 +5,7 @@ use Rattle.std.proofs.lemmas.Bool.{false≢true, false_from_ne_true, not-true}
 use Rattle.overlay_geom.specs.Plane.{Step, Edge, is_forward, edge_of}
 use Rattle.overlay_geom.specs.Edges.{CountedEdge}
 use Rattle.overlay_geom.proofs.Signs.{linear}
-use Rattle.overlay_plane.specs.Turn.{step_round, IsOrbit}
+use Rattle.overlay_plane.specs.Turn.{step_round, IsOrbit, no_step}
 use Rattle.overlay_plane.specs.Turn.Hand.{left, right}
 use Rattle.overlay_plane.specs.BesideOrbits.{winding_under, winding_over, winding_beside, IsBalancedPart}
 use Rattle.overlay_plane.specs.LeftmostSteps.{NoneTakenBelow}
@@ -18,7 +18,6 @@ use Rattle.overlay_plane.proofs.BesideAcross.{winding_across_alternating_steps}
 use Rattle.overlay_plane.proofs.BesideNext.{one_winding_along_orbits}
 use Rattle.overlay_plane.proofs.Entries.{Contains-from_map}
 use Rattle.overlay_plane.proofs.ItemsRound.{item_round-here, Contains-item_round}
-use Rattle.overlay_plane.proofs.OrbitSteps.{no_step}
 use Rattle.overlay_plane.proofs.WalksOfCuts.{IsWalkOfCut}
 
 -- the first step of a hole is filled above

@@ -1,13 +1,12 @@
 -- Up to the leftmost lowest point of what counts, the winding is 0.
-use Rattle.std.proofs.Common.{◌≡◌, ◌⊎◌, inl, inr, ⊎_elim, Bool, true, false, cond, ◌&&◌, ℤ, pos, ◌+ℤ◌, ◌-ℤ◌, ◌<ℤ◌, int_lt, List, Contains, refl, sym, ap, ap₂, ◌∙◌, subst, arith}
-use Rattle.std.proofs.lemmas.Bool.{false≢true, false_from_ne_true, and_from, and_parts, or_cases, or_left, or_right}
-use Rattle.std.proofs.lemmas.Bool.Decides.{Decides-int_eq}
-use Rattle.std.proofs.lemmas.Int.{ints, by_lt_z}
-use Rattle.std.specs.Ordering.{int_eq}
+use Rattle.std.proofs.Common.{◌≡◌, ⊎_elim, Bool, true, false, cond, ◌&&◌, ℤ, pos, ◌+ℤ◌, ◌-ℤ◌, ◌<ℤ◌, int_lt, List, Contains, refl, sym, ap, ap₂, ◌∙◌, subst, arith}
+use Rattle.std.proofs.lemmas.Bool.{false≢true, false_from_ne_true, and_parts}
+use Rattle.std.proofs.lemmas.Int.{ints}
 use Rattle.overlay_geom.specs.Plane.{Point, Edge, point_lt, point_eq, edge_eq, in_plane, side, is_strictly_below}
 use Rattle.overlay_geom.specs.Edges.{CountedEdge, ends_of, winding_by, winding_below, winding_above}
 use Rattle.overlay_geom.proofs.Signs.{linear, by_sign, mul-zero, pos_of_mul-pos}
-use Rattle.overlay_geom.proofs.Orders.{point_eq-same, edge_eq-same, point_eq-of_same}
+use Rattle.overlay_geom.proofs.Orders.{point_eq-same, edge_eq-same, point_eq-of_same, point_lt-itself, point_lt-order}
+use Rattle.overlay_geom.proofs.PointOrder.{Decides-point_lt, point_lt-transitive, point_lt-before_up_to}
 use Rattle.overlay_plane.specs.Heights.{width, covers}
 use Rattle.overlay_plane.specs.Nodes.{IsBalancedArrangement, edge_turn, turns_left, total_starting, total_starting_under}
 use Rattle.overlay_plane.specs.Leftmost.{CountsNothingBefore, HasEndBefore, CountsNothingAbove, CountsNothingBelow, NothingBeforeTheLeftmost}
@@ -21,49 +20,17 @@ use Rattle.overlay_plane.proofs.SingleEntries.{single_total}
 use Rattle.overlay_plane.proofs.EdgeTurns.{edge_turn_exchanged, edge_turn_same}
 use Rattle.overlay_plane.proofs.SpokeWindings.{forward_entry}
 
--- ---- points in order
-
--- p is smaller than q, by x and then by y
-abbrev Less : Point → Point → Type 0
-Less p q = (p.x <ℤ q.x) ⊎ ((p.x ≡ q.x) × (p.y <ℤ q.y))
-
--- the test for smaller points says so
-less_from_test : (p q : Point) → point_lt p q ≡ true → Less p q
-less_from_test p q t = ⊎_elim (λ l. inl (lt_from_test p.x q.x l))
-    (λ r. let both = and_parts (int_eq p.x q.x) (int_lt p.y q.y) r in inr ((Decides-int_eq p.x q.x).0 both.0, lt_from_test p.y q.y both.1))
-    (or_cases (int_lt p.x q.x) (int_eq p.x q.x && int_lt p.y q.y) t)
-
--- and passes for them
-test_from_less : (p q : Point) → Less p q → point_lt p q ≡ true
-test_from_less p q h = ⊎_elim (λ l. or_left (int_lt p.x q.x) (int_eq p.x q.x && int_lt p.y q.y) (test_from_lt p.x q.x l))
-    (λ r. or_right (int_lt p.x q.x) (int_eq p.x q.x && int_lt p.y q.y) (and_from (int_eq p.x q.x) (int_lt p.y q.y) ((Decides-int_eq p.x q.x).1 r.0) (test_from_lt p.y q.y r.1))) h
-
--- smaller than a smaller point is smaller
-less_transitive : (p v q : Point) → Less p v → Less v q → Less p q
-less_transitive p v q pv vq = ⊎_elim (λ a. ⊎_elim (λ b. inl (omega linear)) (λ b. inl (let e = b.0 in omega linear)) vq)
-    (λ a. ⊎_elim (λ b. inl (let e = a.0 in omega linear)) (λ b. inr (a.0 ∙ b.0, (let l = a.1 in let m = b.1 in omega linear))) vq) pv
-
--- what is less than a point is less than any that is not less
-less_than_later : (p v q : Point) → Less p v → point_lt q v ≡ false → Less p q
-less_than_later p v q pv not_less = by_lt_z v.x q.x (λ lt. less_transitive p v q pv (inl lt)) (λ ge. by_lt_z q.x v.x (λ lt. absurd (against (inl lt))) (λ le. level (omega linear)))
-  where
-    against : Less q v → ⊥
-    against l = false≢true (sym not_less ∙ test_from_less q v l)
-
-    level : v.x ≡ q.x → Less p q
-    level same = by_lt_z v.y q.y (λ lt. less_transitive p v q pv (inr (same, lt))) (λ ge. by_lt_z q.y v.y (λ lt. absurd (against (inr (sym same, lt))))
-        (λ le. ⊎_elim (λ a. inl (omega linear)) (λ a. inr (a.0 ∙ same, (let l = a.1 in omega linear))) pv))
-
--- no point is smaller than one that is smaller than it
-not_less_back : (p q : Point) → point_lt p q ≡ true → point_lt q p ≡ false
-not_less_back p q t = false_from_ne_true (point_lt q p) (λ back. ⊎_elim (λ l. omega linear) (λ r. let l = r.1 in omega linear) (less_transitive p q p (less_from_test p q t) (less_from_test q p back)))
+-- ---- where an edge below a point starts
 
 -- an edge strictly below a point starts before it
-starts_before : (f : Edge) (v : Point) → is_strictly_below f (in_plane v) ≡ true → Less f.a v
-starts_before f v t =
+pub below_starts_before : (f : Edge) (v : Point) → is_strictly_below f (in_plane v) ≡ true → point_lt f.a v ≡ true
+below_starts_before f v t =
     let both = and_parts (covers f v.x (pos 1)) (int_lt (pos 0) (side f (in_plane v))) t in
     let from = covers_from f v.x (pos 1) both.0 in
-    by_lt_z f.a.x v.x (λ lt. inl lt) (λ ge. let same : f.a.x ≡ v.x = omega (arith, ints) in inr (same, higher both.0 (lt_from_test (pos 0) (side f (in_plane v)) both.1) same))
+    (Decides-point_lt f.a v).1 (record {
+      x = omega (arith, ints);
+      y = λ le. higher both.0 (lt_from_test (pos 0) (side f (in_plane v)) both.1) (omega (arith, ints));
+    })
   where
     higher : covers f v.x (pos 1) ≡ true → pos 0 <ℤ side f (in_plane v) → f.a.x ≡ v.x → f.a.y <ℤ v.y
     higher over above same =
@@ -71,10 +38,6 @@ starts_before f v t =
         let none = mul-zero (f.b.y -ℤ f.a.y) (v.x -ℤ f.a.x) (omega linear) in
         let up = pos_of_mul-pos (width f) (v.y -ℤ f.a.y) (covers_wide f v.x (pos 1) (record { lt = tt }) over) (omega linear) in
         omega linear
-
--- so its start is smaller
-pub below_starts_before : (f : Edge) (v : Point) → is_strictly_below f (in_plane v) ≡ true → point_lt f.a v ≡ true
-below_starts_before f v low = test_from_less f.a v (starts_before f v low)
 
 -- ---- what counts
 
@@ -87,16 +50,16 @@ module _ (count : CountedEdge → ℤ) (es : List CountedEdge) (arranged : IsBal
   -- at points that are not after q the winding is 0
   at_points : (v : Point) → point_lt q v ≡ false → winding_by count es (in_plane v) ≡ pos 0
   at_points v not_later = total-zero (λ f. cond (is_strictly_below (ends_of f) (in_plane v)) (count f) (pos 0)) es
-      (λ f at. cond_zero (is_strictly_below (ends_of f) (in_plane v)) (count f) (λ below. nothing f at (test_from_less f.a q (less_than_later f.a v q (starts_before (ends_of f) v below) not_later))))
+      (λ f at. cond_zero (is_strictly_below (ends_of f) (in_plane v)) (count f) (λ below. nothing f at (point_lt-before_up_to f.a v q (below_starts_before (ends_of f) v below) not_later)))
 
   -- an edge with an end before q starts before it
   starts_earlier : (e : CountedEdge) → Contains es e → HasEndBefore q e → point_lt e.a q ≡ true
-  starts_earlier e at before = ⊎_elim (λ starts. starts) (λ ends. test_from_less e.a q (less_transitive e.a e.b q (less_from_test e.a e.b (forward_entry count es arranged e at)) (less_from_test e.b q ends))) before
+  starts_earlier e at before = ⊎_elim (λ starts. starts) (λ ends. point_lt-transitive e.a e.b q (forward_entry count es arranged e at) ends) before
 
   -- below such an edge the winding is 0
   below_earlier : (e : CountedEdge) → Contains es e → HasEndBefore q e → winding_below count es e ≡ pos 0
   below_earlier e at before = winding_from_a_start count es arranged e at
-      ∙ ap₂ (λ a b. a +ℤ b) (at_points e.a (not_less_back e.a q (starts_earlier e at before)))
+      ∙ ap₂ (λ a b. a +ℤ b) (at_points e.a (point_lt-order.one_way e.a q (starts_earlier e at before)))
       (total-zero (λ f. cond (point_eq f.a e.a && turns_left (ends_of f) (ends_of e)) (count f) (pos 0)) es
       (λ f is. cond_zero (point_eq f.a e.a && turns_left (ends_of f) (ends_of e)) (count f)
       (λ both. nothing f is (subst (λ (p : Point). point_lt p q ≡ true) (sym (point_eq-same f.a e.a (and_parts (point_eq f.a e.a) (turns_left (ends_of f) (ends_of e)) both).0)) (starts_earlier e at before)))))
@@ -107,7 +70,7 @@ module _ (count : CountedEdge → ℤ) (es : List CountedEdge) (arranged : IsBal
 
   -- at q itself
   at_q : winding_by count es (in_plane q) ≡ pos 0
-  at_q = at_points q (false_from_ne_true (point_lt q q) (λ t. false≢true (sym (not_less_back q q t) ∙ t)))
+  at_q = at_points q (point_lt-itself q)
 
   -- below what starts lowest in q the winding is 0
   below_lowest : (e : CountedEdge) → Contains es e → e.a ≡ q → CountsNothingBelow count es q e → winding_below count es e ≡ pos 0

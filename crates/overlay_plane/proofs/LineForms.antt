@@ -1,5 +1,5 @@
 -- The side of a point and the gap of two edges as forms: how they hang together, and that they are linear in the point.
-use Rattle.std.proofs.Common.{◌≡◌, ℤ, pos, ◌+ℤ◌, ◌-ℤ◌, ◌*ℤ◌, neg_ℤ}
+use Rattle.std.proofs.Common.{◌≡◌, ℤ, pos, ◌+ℤ◌, ◌*ℤ◌, neg_ℤ}
 use Rattle.overlay_geom.specs.Plane.{Edge, side, in_plane, line_form}
 use Rattle.overlay_geom.proofs.Identities.{solve, Expr, number, ◌⊕◌, ◌⊗◌, ◌⊖◌, ⊝◌, ◌≗◌}
 use Rattle.overlay_plane.specs.Heights.{width, gap}
@@ -40,11 +40,6 @@ line_form_linear e s x y d t x' y' d' = solve 12
 pub gap_linear : (f e : Edge) (s x d t x' d' : ℤ) → gap f e (s *ℤ x +ℤ t *ℤ x') (s *ℤ d +ℤ t *ℤ d') ≡ s *ℤ gap f e x d +ℤ t *ℤ gap f e x' d'
 gap_linear f e s x d t x' d' = solve 14
     (λ px py qx qy ax ay bx by s x d t x' d'. gapE px py qx qy ax ay bx by (s ⊗ x ⊕ t ⊗ x') (s ⊗ d ⊕ t ⊗ d') ≗ s ⊗ gapE px py qx qy ax ay bx by x d ⊕ t ⊗ gapE px py qx qy ax ay bx by x' d') tt f.a.x f.a.y f.b.x f.b.y e.a.x e.a.y e.b.x e.b.y s x d t x' d'
-
--- between the abscissas l and r the gap is interpolated
-pub gap_between : (f e : Edge) (l r x d : ℤ) → (r -ℤ l) *ℤ gap f e x d ≡ (r *ℤ d -ℤ x) *ℤ gap f e l (pos 1) +ℤ (x -ℤ l *ℤ d) *ℤ gap f e r (pos 1)
-gap_between f e l r x d = solve 12
-    (λ px py qx qy ax ay bx by l r x d. (r ⊖ l) ⊗ gapE px py qx qy ax ay bx by x d ≗ (r ⊗ d ⊖ x) ⊗ gapE px py qx qy ax ay bx by l (number (pos 1)) ⊕ (x ⊖ l ⊗ d) ⊗ gapE px py qx qy ax ay bx by r (number (pos 1))) tt f.a.x f.a.y f.b.x f.b.y e.a.x e.a.y e.b.x e.b.y l r x d
 
 -- at an end of f the gap is, but for its sign and f's width, the side of that end
 pub gap-at_start : (f e : Edge) → gap f e f.a.x (pos 1) ≡ neg_ℤ (width f *ℤ side e (in_plane f.a))

@@ -13,7 +13,7 @@ use Rattle.overlay_plane.specs.ChainLinks.{ChainLink, links_along, links_after}
 use Rattle.overlay_plane.specs.ChainLinks.ChainLink.{held, dropped}
 use Rattle.overlay_plane.specs.Rounds.{Round, chain_of, whole_cuts}
 use Rattle.overlay_plane.proofs.FoundEntries.{IsFound, found_by}
-use Rattle.overlay_plane.proofs.JoinedLists.{total-map}
+use Rattle.overlay_plane.proofs.JoinedLists.{total-map, times_taken}
 use Rattle.overlay_plane.proofs.StepsAlong.{along, edge_eq-either, total_back, long_through}
 use Rattle.overlay_plane.proofs.Totals.{total-same, total-zero, total-filter}
 
@@ -58,11 +58,6 @@ one_alone es up g e c is h =
     (All-contains (λ d. edges_between es (ends_of d) ≡ d ∷ []) es e (alone_between es up) c))
     ∙ +ℤ_idr (h e)
 
--- a term that is taken or not, with a factor
-factor_out : (b : Bool) (k z : ℤ) → k *ℤ cond b z (pos 0) ≡ cond b (k *ℤ z) (pos 0)
-factor_out true k z = refl
-factor_out false k z = *ℤ-zero k
-
 module _ (r : Round) (up : Ascends r.edges) (f : Edge) where
   -- what the edges of the round give for a link: the signs of each one's chain, times those of the link along it
   abbrev pub by_edges : ChainLink → ℤ
@@ -73,7 +68,7 @@ module _ (r : Round) (up : Ascends r.edges) (f : Edge) where
   by_edges_held s =
       total-same (λ e. chain_along r f e *ℤ along (ends_of e) s) (λ e. cond (edge_eq (ends_of e) (edge_of s)) (chain_along r f e *ℤ sign_of s) (pos 0)) r.edges
       (λ e c. ap (λ b. chain_along r f e *ℤ cond b (sign_of s) (pos 0)) (edge_eq-either (edge_of s) (ends_of e))
-      ∙ factor_out (edge_eq (ends_of e) (edge_of s)) (chain_along r f e) (sign_of s))
+      ∙ times_taken (edge_eq (ends_of e) (edge_of s)) (chain_along r f e) (sign_of s))
 
   -- after the round the held links that a link has become count what the edges of the round give for it
   pub held_after : (l : ChainLink) → total (held_along f) (links_after r l) ≡ by_edges l

@@ -5,7 +5,7 @@ use Rattle.std.specs.List.{All}
 use Rattle.std.proofs.lemmas.Int.{ints}
 use Rattle.std.proofs.lemmas.List.Elements.{All-nil, All-cons}
 use Rattle.overlay_geom.specs.Plane.{Point, PlanePoint, Edge, IsBetween, IsOn, in_plane}
-use Rattle.overlay_geom.specs.Settled.{IsCommon, MeetInEnds}
+use Rattle.overlay_geom.specs.Settled.{IsCommon}
 use Rattle.overlay_geom.specs.Placed.{IsAlong, IsBeside}
 use Rattle.overlay_geom.specs.Rounding.{nearest}
 use Rattle.overlay_geom.proofs.AlongEdge.{over, place_of, over_lt, order_of_on}
@@ -78,10 +78,6 @@ apart_have_no_common e f p e_forward f_forward apart (on_e, on_f) = by apart
     by : AreApartInX e f → ⊥
     by (inl before) = let less = over_lt e.b.x f.a.x p.d p.positive before in let le = of_e.1.x in let ge = of_f.0.x in omega linear
     by (inr after) = let less = over_lt f.b.x e.a.x p.d p.positive after in let le = of_f.1.x in let ge = of_e.0.x in omega linear
-
--- so they meet in ends alone, since they don't meet
-pub apart_meet_in_ends_alone : (e f : Edge) → IsBefore e.a e.b → IsBefore f.a f.b → AreApartInX e f → MeetInEnds e f
-apart_meet_in_ends_alone e f e_forward f_forward apart p common = absurd (apart_have_no_common e f p e_forward f_forward apart common)
 
 -- a list without entries is empty
 empty_of_none : {X : Type 0} (xs : List X) → ((x : X) → Contains xs x → ⊥) → xs ≡ []

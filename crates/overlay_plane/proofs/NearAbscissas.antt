@@ -5,12 +5,13 @@ use Rattle.std.proofs.lemmas.Int.{ints}
 use Rattle.overlay_geom.specs.Plane.{Point, Edge, side, in_plane, point_eq, IsOn, IsAt}
 use Rattle.overlay_geom.specs.Settled.{MeetInEnds}
 use Rattle.overlay_geom.proofs.Identities.{solve, number, ◌⊕◌, ◌⊗◌, ◌⊖◌, ◌≗◌}
+use Rattle.overlay_geom.proofs.OneLine.{meet_in_ends_exchanged}
 use Rattle.overlay_geom.proofs.Signs.{linear, by_sign, mul-pos, pos_of_mul-pos}
 use Rattle.overlay_geom.proofs.Orders.{point_eq-of_same, same_point}
 use Rattle.overlay_plane.specs.Heights.{width, gap, Spans}
 use Rattle.overlay_plane.specs.Nodes.{edge_turn}
 use Rattle.overlay_plane.proofs.LineForms.{formE, gapE, gap_exchanged}
-use Rattle.overlay_plane.proofs.Crossing.{IsShared, meet_exchanged, apart_inside, no_crossing, between_on_line}
+use Rattle.overlay_plane.proofs.Crossing.{IsShared, apart_inside, no_crossing, between_on_line}
 use Rattle.overlay_plane.proofs.Tests.{lt_from_test, test_from_lt, test_from_ge, same_tests}
 
 -- the gap beside an abscissa has the sign that it has there, where this is not 0
@@ -29,7 +30,7 @@ near_same f e x d x' d' wide_f wide meet positive over_e over_f shared shared_ba
 
     above : pos 0 <ℤ gap f e x d → int_lt (pos 0) (gap f e x' d') ≡ int_lt (pos 0) (gap f e x d)
     above high = by_sign (gap f e x' d')
-        (λ low. absurd (let h = here in let b = beside in no_crossing e f x' d' x d wide wide_f (meet_exchanged e f meet) shared_back positive over_f over_e (omega linear) (omega linear)))
+        (λ low. absurd (let h = here in let b = beside in no_crossing e f x' d' x d wide wide_f (meet_in_ends_exchanged f e meet) shared_back positive over_f over_e (omega linear) (omega linear)))
         (λ level. absurd (not_level level))
         (λ both. test_from_lt (pos 0) (gap f e x' d') both ∙ sym (test_from_lt (pos 0) (gap f e x d) high))
 

@@ -1,23 +1,19 @@
 -- The walk that has the next edge below a hole is anchored before the hole: its anchor comes no later than that edge, which is
 -- strictly below the hole's anchor, or starts with it and leads below it.
-use Rattle.std.proofs.Common.{◌≡◌, ⊎_elim, inl, inr, Bool, true, false, not, ◌&&◌, pos, List, Contains, filter, refl, sym, ap, ◌∙◌, subst}
-use Rattle.std.proofs.lemmas.Int.{by_lt_z}
+use Rattle.std.proofs.Common.{◌≡◌, ⊎_elim, inl, inr, Bool, true, false, ◌&&◌, List, Contains, filter, refl, sym, ◌∙◌, subst}
 use Rattle.std.proofs.lemmas.Bool.{both_ways, and_from, and_parts, or_cases, or_left, or_right, false_from_ne_true}
 use Rattle.std.proofs.lemmas.List.Elements.{All-contains}
 use Rattle.overlay_geom.specs.Plane.{Point, Step, Edge, point_lt, point_eq, is_forward, edge_of, is_strictly_below, in_plane}
-use Rattle.overlay_geom.proofs.Signs.{linear}
 use Rattle.overlay_geom.proofs.Orders.{point_eq-same, point_lt-back}
-use Rattle.overlay_geom.proofs.PointOrder.{Decides-point_lt, before_after_up_to}
-use Rattle.overlay_plane.specs.Nodes.{edge_turn, turns_left}
+use Rattle.overlay_geom.proofs.PointOrder.{point_lt-after_up_to}
+use Rattle.overlay_plane.specs.Nodes.{turns_left}
 use Rattle.overlay_plane.specs.LeftmostSteps.{StepHasEndBefore}
 use Rattle.overlay_plane.specs.Contours.{is_filled_above, IsContour}
 use Rattle.overlay_plane.specs.Anchors.{IsAnchor, is_below_anchor, is_anchored_before}
 use Rattle.overlay_plane.specs.Binding.{NextIsAnchoredBefore}
 use Rattle.overlay_plane.proofs.Entries.{Contains-from_map, Contains-from_filter}
-use Rattle.overlay_plane.proofs.Tests.{lt_from_test, test_from_lt, ge_from_test}
 use Rattle.overlay_plane.proofs.EdgesOfSteps.{edge_by}
-use Rattle.overlay_plane.proofs.EdgeTurns.{IsForward, edge_turn_exchanged, left_after_left, left_of_level}
-use Rattle.overlay_plane.proofs.WholeOnEdges.{Decides-not_lt}
+use Rattle.overlay_plane.proofs.EdgeTurns.{IsForward, left_of_not_left}
 use Rattle.overlay_plane.proofs.LeftmostPoints.{below_starts_before}
 use Rattle.overlay_plane.proofs.LongSteps.{long_leads_forward}
 use Rattle.overlay_plane.proofs.ContourSteps.{contour_long}
@@ -31,25 +27,11 @@ end_before s q before = by (is_forward s) before
     by true from = inl from
     by false to = inr to
 
--- where f does not lead to the right of e, what leads to the left of f leads to the left of e
-left_of_lowest : (e f g : Edge) → IsForward e → IsForward f → IsForward g → turns_left f e ≡ false → turns_left f g ≡ true → turns_left e g ≡ true
-left_of_lowest e f g forward_e forward_f forward_g lowest left =
-    let high = lt_from_test (pos 0) (edge_turn f g) left in
-    let low = ge_from_test (pos 0) (edge_turn f e) lowest in
-    let back = edge_turn_exchanged e f in
-    test_from_lt (pos 0) (edge_turn e g) (by_lt_z (pos 0) (edge_turn e f) (λ lt. left_after_left e f g forward_e forward_f forward_g lt high)
-    (λ ge. left_of_level e f g forward_e forward_f forward_g (omega linear) high))
-
--- a point that is no larger than one that is smaller than r is smaller than r
-earlier : (p q r : Point) → point_lt q p ≡ false → point_lt q r ≡ true → point_lt p r ≡ true
-earlier p q r not_before before = (Decides-point_lt p r).1
-    (before_after_up_to p q r ((Decides-not_lt q p).0 (ap not not_before)) ((Decides-point_lt q r).0 before))
-
 -- the anchor of a contour comes before each anchor below which one of the contour's edges is
 pub anchored_before : (walk : List Step) → IsContour walk → (e : Edge) → IsAnchor walk e → (s : Step) → Contains walk s → (g : Edge) →
     IsForward g → is_below_anchor g (edge_of s) ≡ true → is_anchored_before e g ≡ true
 anchored_before walk contour e anchor s c g forward_g below = ⊎_elim
-    (λ low. or_left (point_lt e.a g.a) (point_eq e.a g.a && turns_left e g) (earlier e.a f.a g.a not_before (below_starts_before f g.a low)))
+    (λ low. or_left (point_lt e.a g.a) (point_eq e.a g.a && turns_left e g) (point_lt-after_up_to e.a f.a g.a not_before (below_starts_before f g.a low)))
     (λ with_it. let both = and_parts (point_eq f.a g.a) (turns_left f g) with_it in beside (point_eq-same f.a g.a both.0) both.1 (point_eq e.a g.a) refl)
     (or_cases (is_strictly_below f (in_plane g.a)) (point_eq f.a g.a && turns_left f g) below)
   where
@@ -62,7 +44,7 @@ anchored_before walk contour e anchor s c g forward_g below = ⊎_elim
     beside : f.a ≡ g.a → turns_left f g ≡ true → (t : Bool) → point_eq e.a g.a ≡ t → is_anchored_before e g ≡ true
     beside starts left true same = or_right (point_lt e.a g.a) (point_eq e.a g.a && turns_left e g)
         (and_from (point_eq e.a g.a) (turns_left e g) same
-        (left_of_lowest e f g (anchor_forward walk contour e anchor) (long_leads_forward s (contour_long walk contour s c)) forward_g
+        (left_of_not_left e f g (anchor_forward walk contour e anchor) (long_leads_forward s (contour_long walk contour s c)) forward_g
         (anchor.lowest s c (starts ∙ sym (point_eq-same e.a g.a same))) left))
     beside starts left false apart = or_left (point_lt e.a g.a) (point_eq e.a g.a && turns_left e g) (by (point_lt e.a g.a) refl)
       where

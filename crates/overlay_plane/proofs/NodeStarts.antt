@@ -3,14 +3,13 @@
 use Rattle.std.proofs.Common.{◌≡◌, ⊎_elim, Bool, true, false, ◌&&◌, pos, ◌+ℤ◌, ◌-ℤ◌, ◌*ℤ◌, ◌<ℤ◌, ◌≤ℤ◌, int_lt, int_le, refl, sym, ap, ◌∙◌, subst, arith}
 use Rattle.std.proofs.lemmas.Int.{ints, by_lt_z}
 use Rattle.std.proofs.lemmas.Bool.{false≢true, and_from, and_parts, and_right, or_cases}
-use Rattle.std.proofs.lemmas.Bool.Decides.{Decides-int_eq}
 use Rattle.std.specs.Ordering.{int_eq}
 use lib.IntN.{+ℤ_idl, +ℤ_idr, *ℤ_comm}
 use Rattle.overlay_geom.specs.Plane.{Point, Edge, side, in_plane, point_lt, point_eq, edge_eq, is_strictly_below}
 use Rattle.overlay_geom.specs.Settled.{MeetInEnds}
 use Rattle.overlay_geom.proofs.Signs.{linear, mul-pos, mul-zero, zero_of_mul-zero}
-use Rattle.overlay_geom.proofs.Orders.{point_eq-same, edge_eq-same}
-use Rattle.overlay_plane.specs.Heights.{width, gap, covers, is_under, Spans}
+use Rattle.overlay_geom.proofs.Orders.{point_eq-same, edge_eq-same, edge_eq-itself}
+use Rattle.overlay_plane.specs.Heights.{width, gap, covers, is_under}
 use Rattle.overlay_plane.specs.Regions.{one_if}
 use Rattle.overlay_plane.specs.Nodes.{edge_turn, turns_left}
 use Rattle.overlay_plane.proofs.LineForms.{side-start}
@@ -19,6 +18,7 @@ use Rattle.overlay_plane.proofs.Strip.{starts_first}
 use Rattle.overlay_plane.proofs.Under.{covers_from, covers_to, covers_wide, shared_just_right}
 use Rattle.overlay_plane.proofs.Tests.{lt_from_test, test_from_lt, test_from_le, test_from_ge, same_tests}
 use Rattle.overlay_plane.proofs.NearAbscissas.{near_same, gap-own_start, gap-right_of_start, end_where_level, times_test}
+use Rattle.overlay_plane.proofs.WhereEdgesStart.{covers_spans, covers_start}
 
 -- what an entry counts for where it passes the one of two tests with c, and the other or p
 pub counted_besides : (c u s p t : Bool) → (p ≡ true → (s ≡ false) × ((c && u) ≡ t)) → (p ≡ false → c ≡ true → u ≡ s) →
@@ -51,13 +51,7 @@ module _ (e f : Edge) (forward : point_lt f.a f.b ≡ true) (meets : edge_eq e f
   elsewhere_meets other = by (edge_eq e f) refl
     where
       by : (s : Bool) → edge_eq e f ≡ s → MeetInEnds e f
-      by true same = absurd (false≢true (sym other ∙ (and_parts (point_eq f.a e.a) (point_eq f.b e.b) (subst (λ (g : Edge). edge_eq g e ≡ true) (edge_eq-same e f same) (itself e))).0))
-        where
-          itself : (g : Edge) → edge_eq g g ≡ true
-          itself g = and_from (point_eq g.a g.a) (point_eq g.b g.b) (point_itself g.a) (point_itself g.b)
-            where
-              point_itself : (p : Point) → point_eq p p ≡ true
-              point_itself p = and_from (int_eq p.x p.x) (int_eq p.y p.y) ((Decides-int_eq p.x p.x).1 refl) ((Decides-int_eq p.y p.y).1 refl)
+      by true same = absurd (false≢true (sym other ∙ (and_parts (point_eq f.a e.a) (point_eq f.b e.b) (subst (λ (g : Edge). edge_eq g e ≡ true) (edge_eq-same e f same) (edge_eq-itself e))).0))
       by false apart = meets apart
 
   -- where f starts elsewhere and is over the start of e, that is not on its line
@@ -82,7 +76,7 @@ module _ (e f : Edge) (forward : point_lt f.a f.b ≡ true) (meets : edge_eq e f
       form = gap-right_of_start f e
 
       over_own : covers e e.a.x (pos 1) ≡ true
-      over_own = and_from (int_le (e.a.x *ℤ pos 1) e.a.x) (int_lt e.a.x (e.b.x *ℤ pos 1)) (test_from_le (e.a.x *ℤ pos 1) e.a.x (omega (arith, ints))) (test_from_lt e.a.x (e.b.x *ℤ pos 1) (let w = wide in omega (arith, ints)))
+      over_own = covers_start e (let w = wide in omega linear)
 
       gap_is_turn : point_eq f.a e.a ≡ true → gap f e (e.a.x +ℤ e.a.x +ℤ pos 1) (pos 1 +ℤ pos 1) ≡ edge_turn f e
       gap_is_turn at =
@@ -104,12 +98,9 @@ module _ (e f : Edge) (forward : point_lt f.a f.b ≡ true) (meets : edge_eq e f
 
       beside : point_eq f.a e.a ≡ false → covers f e.a.x (pos 1) ≡ true → is_under f e e.a.x (pos 1) ≡ int_lt (pos 0) (side f (in_plane e.a))
       beside other over = near_same f e e.a.x (pos 1) (e.a.x +ℤ e.a.x +ℤ pos 1) (pos 1 +ℤ pos 1) (covers_wide f e.a.x (pos 1) (record { lt = tt }) over) wide (elsewhere_meets other) (record { lt = tt })
-          (spans_of e over_own) (spans_of f over) (shared_just_right f e e.a.x (pos 1) (record { lt = tt }) over over_own) (shared_just_right e f e.a.x (pos 1) (record { lt = tt }) over_own over)
+          (covers_spans e e.a.x (pos 1) over_own) (covers_spans f e.a.x (pos 1) over) (shared_just_right f e e.a.x (pos 1) (record { lt = tt }) over over_own) (shared_just_right e f e.a.x (pos 1) (record { lt = tt }) over_own over)
           (λ level. start_off other over (zero_side level))
           ∙ times_test (width e) (side f (in_plane e.a)) (gap f e e.a.x (pos 1)) wide (gap-own_start f e)
         where
-          spans_of : (g : Edge) → covers g e.a.x (pos 1) ≡ true → Spans g e.a.x (pos 1)
-          spans_of g c = record { from = covers_from g e.a.x (pos 1) c; to = let r = covers_to g e.a.x (pos 1) c in omega linear }
-
           zero_side : gap f e e.a.x (pos 1) ≡ pos 0 → side f (in_plane e.a) ≡ pos 0
           zero_side level = zero_of_mul-zero (width e) (side f (in_plane e.a)) wide (sym (gap-own_start f e) ∙ level)

@@ -6,14 +6,14 @@ use Rattle.std.proofs.lemmas.Bool.{and_from, and_parts, and_right}
 use lib.IntN.{+ℤ_idr, *ℤ_comm}
 use Rattle.overlay_geom.specs.Plane.{Point, PlanePoint, Edge, side, in_plane, midpoint, point_lt, point_eq, edge_eq, is_strictly_below, IsAt, IsOn}
 use Rattle.overlay_geom.specs.Settled.{MeetInEnds}
-use Rattle.overlay_geom.proofs.Identities.{solve, number, ◌⊕◌, ◌⊗◌, ◌⊖◌, ⊝◌, ◌≗◌}
+use Rattle.overlay_geom.proofs.Identities.{solve, number, ◌⊕◌, ◌⊗◌, ◌⊖◌, ◌≗◌}
 use Rattle.overlay_geom.proofs.Signs.{linear, by_sign, mul-pos, mul-zero, mul-nonneg, pos_of_mul-pos}
 use Rattle.overlay_geom.proofs.Orders.{point_eq-same, edge_eq-same}
 use Rattle.overlay_plane.specs.Heights.{width, covers, Spans}
 use Rattle.overlay_plane.specs.Regions.{one_if}
 use Rattle.overlay_plane.specs.Nodes.{edge_turn, turns_left}
 use Rattle.overlay_plane.proofs.LineForms.{formE, line_form_linear}
-use Rattle.overlay_plane.proofs.Crossing.{between_on_line, spans_between}
+use Rattle.overlay_plane.proofs.Crossing.{between_on_line, spans_between, cancels}
 use Rattle.overlay_plane.proofs.Ends.{mixed, mixed_on}
 use Rattle.overlay_plane.proofs.Strip.{starts_first}
 use Rattle.overlay_plane.proofs.Under.{covers_from, covers_to, covers_wide}
@@ -29,10 +29,6 @@ side-of_midpoint f e = solve 8
 pub side-rises : (f e : Edge) → side f (in_plane e.b) ≡ side f (in_plane e.a) +ℤ edge_turn f e
 side-rises f e = solve 8
     (λ px py qx qy ax ay bx by. formE px py qx qy bx by (number (pos 1)) ≗ formE px py qx qy ax ay (number (pos 1)) ⊕ ((qx ⊖ px) ⊗ (by ⊖ ay) ⊖ (qy ⊖ py) ⊗ (bx ⊖ ax))) tt f.a.x f.a.y f.b.x f.b.y e.a.x e.a.y e.b.x e.b.y
-
--- two opposite products
-cancels : (u v : ℤ) → v *ℤ u +ℤ neg_ℤ u *ℤ v ≡ pos 0
-cancels = solve 2 (λ u v. v ⊗ u ⊕ ⊝ u ⊗ v ≗ number (pos 0)) tt
 
 -- a wide edge over the abscissa of a vertical one does not pass between its ends
 not_between : (e f : Edge) → e.a.x ≡ e.b.x → pos 0 <ℤ (e.b.y -ℤ e.a.y) → MeetInEnds e f → pos 0 <ℤ width f → Spans f e.a.x (pos 1) →
@@ -61,7 +57,7 @@ not_between e f upright rises meet wide over low high = ⊎_elim at_start at_end
     spans = spans_between f s e.a.x (pos 1) t e.b.x (pos 1) high pt over (subst (λ (x : ℤ). Spans f x (pos 1)) upright over)
 
     level : side f p ≡ pos 0
-    level = line_form_linear f s e.a.x e.a.y (pos 1) t e.b.x e.b.y (pos 1) ∙ cancels (side f (in_plane e.a)) s
+    level = line_form_linear f s e.a.x e.a.y (pos 1) t e.b.x e.b.y (pos 1) ∙ cancels s (side f (in_plane e.a))
 
     on_f : IsOn f p
     on_f = record { on_line = level; in_x = inl (spans.from, spans.to); in_y = between_on_line f p.x p.y p.d wide level spans }

@@ -1,20 +1,16 @@
 -- An orbit of a set of steps that alternates visits each of its steps once, and holds with each step its next step and the
 -- step before it; it has three steps or more, since no step leads back along another.
-use Rattle.std.proofs.Common.{◌≡◌, ◌⊎◌, inl, inr, ⊎_elim, ℕ, zero, suc, ◌+◌, ◌-◌, ◌%◌, ◌<◌, ◌≤◌, List, length, pos, Contains, sym, ap, ◌∙◌, subst, arith}
+use Rattle.std.proofs.Common.{◌≡◌, ◌⊎◌, inl, inr, ⊎_elim, ℕ, zero, suc, ◌+◌, ◌-◌, ◌%◌, ◌<◌, ◌≤◌, List, length, Contains, sym, ap, ◌∙◌, subst, arith}
 use Rattle.std.proofs.lemmas.Bool.{cases_lt, cases_order}
 use Rattle.std.proofs.lemmas.Nat.{mod_below}
 use Rattle.overlay_geom.specs.Plane.{Step}
-use Rattle.overlay_plane.specs.Turn.{Hand, IsNextStep, step_round, IsOrbit}
+use Rattle.overlay_plane.specs.Turn.{Hand, IsNextStep, step_round, IsOrbit, no_step}
 use Rattle.overlay_plane.specs.Alternates.{Alternates}
 use Rattle.overlay_plane.specs.Orbits.{OrbitsAreCycles, OrbitsHaveThreeSteps}
 use Rattle.overlay_plane.proofs.Entries.{all_of_entries}
 use Rattle.overlay_plane.proofs.AtNodes.{no_way_back}
 use Rattle.overlay_plane.proofs.NextSteps.{next_unique, next_injective}
 use Rattle.overlay_plane.proofs.ItemsRound.{item_round-whole, item_round-round, item_round-within, item_round-next, Contains-item_round, place_of}
-
--- what is read of an empty walk
-abbrev pub no_step : Step
-no_step = record { from = record { x = pos 0; y = pos 0 }; to = record { x = pos 0; y = pos 0 } }
 
 module _ (steps : List Step) (hand : Hand) (walk : List Step) (orbit : IsOrbit steps hand walk) where
   -- round the walk each step is followed by its next step

@@ -5,14 +5,13 @@ use Rattle.std.specs.List.{range_with_len}
 use Rattle.std.proofs.lemmas.Bool.{both_ways, cases_lt}
 use Rattle.std.proofs.lemmas.List.FromFn.{length-map-range_with_len, get_or-map-range_with_len}
 use Rattle.overlay_geom.specs.Plane.{Step, step_eq}
-use Rattle.overlay_plane.specs.Turn.{Hand, IsNextStep, step_round, IsOrbit}
+use Rattle.overlay_plane.specs.Turn.{Hand, IsNextStep, step_round, IsOrbit, no_step}
 use Rattle.overlay_plane.specs.Alternates.{Alternates}
 use Rattle.overlay_plane.specs.Orbits.{OrbitsExist}
 use Rattle.overlay_plane.proofs.AtNodes.{same_steps, equal_steps}
 use Rattle.overlay_plane.proofs.NextSteps.{next_exists, next_injective}
 use Rattle.overlay_plane.proofs.Pigeonhole.{IsFirst, first_below, Twice, pigeonhole}
 use Rattle.overlay_plane.proofs.ItemsRound.{item_round-here, item_round-whole, one_place}
-use Rattle.overlay_plane.proofs.OrbitSteps.{no_step}
 
 module _ (steps : List Step) (alternates : Alternates steps) (hand : Hand) (s : Step) (inside : Contains steps s) where
   -- the step that k next steps from s lead to

@@ -5,7 +5,7 @@ use Rattle.std.specs.Bool.{Decides}
 use Rattle.std.proofs.lemmas.Bool.{false≢true, cases_order, or_cases, or_left, or_right}
 use Rattle.std.proofs.lemmas.List.{ext_get_or}
 use Rattle.overlay_geom.specs.Plane.{Step, step_eq}
-use Rattle.overlay_plane.specs.Turn.{Hand, IsNextStep, step_round, IsOrbit}
+use Rattle.overlay_plane.specs.Turn.{Hand, IsNextStep, step_round, IsOrbit, no_step}
 use Rattle.overlay_plane.specs.Alternates.{Alternates}
 use Rattle.overlay_plane.specs.NextSteps.{IsClosedUnderNext}
 use Rattle.overlay_plane.specs.Orbits.{is_step_of, OrbitsAreUnique, OrbitsAreApart, OrbitsLeaveTheRest, OrbitsOfTheRest}
@@ -16,7 +16,7 @@ use Rattle.overlay_plane.proofs.AtNodes.{same_steps, equal_steps}
 use Rattle.overlay_plane.proofs.NextSteps.{next_unique}
 use Rattle.overlay_plane.proofs.ClosedParts.{closed_parts_alternate}
 use Rattle.overlay_plane.proofs.ItemsRound.{item_round-here, item_round-whole}
-use Rattle.overlay_plane.proofs.OrbitSteps.{no_step, goes_on_round, step_inside, all_round, next_in_walk, step_before_in_walk}
+use Rattle.overlay_plane.proofs.OrbitSteps.{goes_on_round, step_inside, all_round, next_in_walk, step_before_in_walk}
 
 module _ (steps : List Step) (alternates : Alternates steps) (hand : Hand) where
   -- orbits from one step go on alike

@@ -5,13 +5,12 @@ use Rattle.std.proofs.lemmas.Bool.{cases_lt, cases_order}
 use Rattle.std.proofs.lemmas.Nat.{mod_below}
 use Rattle.std.proofs.lemmas.List.{length_push, get_or_append_left, get_or_push}
 use Rattle.overlay_geom.specs.Plane.{Step}
-use Rattle.overlay_plane.specs.Turn.{Hand, IsNextStep, step_round, IsOrbit}
+use Rattle.overlay_plane.specs.Turn.{Hand, IsNextStep, step_round, IsOrbit, no_step}
 use Rattle.overlay_plane.specs.Alternates.{Alternates}
 use Rattle.overlay_plane.specs.OrbitsSoFar.{IsOrbitSoFar, last_of, OrbitsGrow}
 use Rattle.overlay_plane.proofs.NextSteps.{next_injective}
 use Rattle.overlay_plane.proofs.Pigeonhole.{Twice, pigeonhole}
 use Rattle.overlay_plane.proofs.ItemsRound.{item_round-here, item_round-whole, item_round-within, place_of, one_place}
-use Rattle.overlay_plane.proofs.OrbitSteps.{no_step}
 
 module _ (steps : List Step) (alternates : Alternates steps) (hand : Hand) (walk : List Step) (far : IsOrbitSoFar steps hand walk) where
   -- each step but the last is followed by its next step

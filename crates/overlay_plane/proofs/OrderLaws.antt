@@ -4,10 +4,11 @@ use Rattle.std.proofs.lemmas.Int.{ints}
 use Rattle.overlay_geom.specs.Plane.{Edge, edge_eq, side, in_plane}
 use Rattle.overlay_geom.specs.Edges.{ends_of}
 use Rattle.overlay_geom.specs.Settled.{MeetInEnds}
+use Rattle.overlay_geom.proofs.OneLine.{meet_in_ends_exchanged}
 use Rattle.overlay_geom.proofs.Orders.{edge_eq-same}
 use Rattle.overlay_plane.specs.Heights.{width, covers, is_under, IsInner}
 use Rattle.overlay_plane.specs.Order.{AreOnOneSide, EndsAsUnder, OrderOverAnAbscissa, OrderAlongCommonSpans, EndsOnOneSide, EndsBelowWhereUnder}
-use Rattle.overlay_plane.proofs.Crossing.{IsShared, meet_exchanged, same_low}
+use Rattle.overlay_plane.proofs.Crossing.{IsShared, same_low}
 use Rattle.overlay_plane.proofs.Ends.{ends_on_side, low_at_start, low_at_end}
 use Rattle.overlay_plane.proofs.Under.{covers_wide, shared_just_right, same_under, under_irreflexive, under_asymmetric, under_transitive, under_total}
 
@@ -17,7 +18,7 @@ order_over_an_abscissa es settled x d positive = record {
   irreflexive = λ e. under_irreflexive (ends_of e) x d;
   asymmetric = λ e f. under_asymmetric (ends_of e) (ends_of f) x d;
   transitive = λ e f g ce cf cg. under_transitive (ends_of e) (ends_of f) (ends_of g) x d positive ce.over cf.over cg.over;
-  total = λ e f ce cf apart. under_total (ends_of e) (ends_of f) x d positive (meet_exchanged (ends_of e) (ends_of f) (settled e f ce.entry cf.entry apart)) ce.over cf.over;
+  total = λ e f ce cf apart. under_total (ends_of e) (ends_of f) x d positive (meet_in_ends_exchanged (ends_of f) (ends_of e) (settled e f ce.entry cf.entry apart)) ce.over cf.over;
 }
 
 -- and in one order at all abscissas that both cover

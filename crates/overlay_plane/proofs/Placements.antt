@@ -1,6 +1,6 @@
 -- How two edges lie to one another: along one line, the one beside the other, or across one another; and what the meeting
 -- points' computation gives in each case.
-use Rattle.std.proofs.Common.{◌≡◌, ◌⊎◌, inl, inr, cond, ◌||◌, pos, ◌-ℤ◌, List, [], ◌∷◌, filter, ◌∙◌}
+use Rattle.std.proofs.Common.{◌≡◌, ◌⊎◌, inl, inr, cond, ◌||◌, pos, List, [], ◌∷◌, filter, ◌∙◌}
 use Rattle.std.specs.Bool.{Decides}
 use Rattle.std.proofs.lemmas.Int.{by_lt_z}
 use Rattle.std.proofs.lemmas.Bool.{cond-true, cond-false, false_from_ne_true}
@@ -9,11 +9,10 @@ use Rattle.overlay_geom.specs.Plane.{Point, PlanePoint, Edge, IsEnd, IsAt, cross
 use Rattle.overlay_geom.specs.Settled.{IsCommon}
 use Rattle.overlay_geom.specs.Placed.{IsAlong, IsBeside, IsAcross}
 use Rattle.overlay_geom.proofs.Comparisons.{Decides-int_lt}
-use Rattle.overlay_geom.proofs.Identities.{solve, ◌⊖◌, ◌≗◌}
 use Rattle.overlay_geom.proofs.Signs.{linear, by_sign, zero_of_mul-zero}
-use Rattle.overlay_geom.proofs.Cross.{crossE}
 use Rattle.overlay_geom.proofs.PointOrder.{IsBefore}
 use Rattle.overlay_geom.proofs.Beside.{beside_meet_in_ends}
+use Rattle.overlay_geom.proofs.Crossing.{crossed_back}
 use Rattle.overlay_plane.specs.CutPoints.{are_along, are_beside, is_between, crossing, met_at}
 use Rattle.overlay_plane.proofs.WholeOnEdges.{by_test, side_at}
 use Rattle.overlay_plane.proofs.CommonPoints.{Decides-are_along}
@@ -108,12 +107,6 @@ across_of_rest e f apart not_beside =
     (λ level. by_sign (cross_at e.a e.b f.b)
     (λ right. inr (omega linear, omega linear, omega linear)) (λ too. absurd (apart (level, too))) (λ left. inl (omega linear, omega linear, omega linear)))
     (λ left. by_lt_z (pos 0) (cross_at e.a e.b f.b) (λ too. absurd (not_beside (inl (left, too)))) (λ le. inr (le, omega linear, omega linear)))
-
--- each goes as far across the other one's line as that across its own, the other way
-pub crossed_back : (e f : Edge) → cross_at e.a e.b f.b -ℤ cross_at e.a e.b f.a ≡ cross_at f.a f.b e.a -ℤ cross_at f.a f.b e.b
-crossed_back e f = solve 8
-    (λ ax ay bx by cx cy dx dy. crossE ax ay bx by dx dy ⊖ crossE ax ay bx by cx cy ≗ crossE cx cy dx dy ax ay ⊖ crossE cx cy dx dy bx by)
-    tt e.a.x e.a.y e.b.x e.b.y f.a.x f.a.y f.b.x f.b.y
 
 -- where f goes across e's line, e does not lie along f's
 not_along_back : (e f : Edge) → IsAcross e f → ¬ (IsAlong f e)

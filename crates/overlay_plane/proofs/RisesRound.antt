@@ -17,6 +17,7 @@ use Rattle.overlay_plane.proofs.LaterEntries.{Each, Each-from_all_pairs, Each-fi
 use Rattle.overlay_plane.proofs.Totals.{Contains-head, Contains-later, total-same, total-filter}
 use Rattle.overlay_plane.proofs.Chains.{total_before, rises}
 use Rattle.overlay_plane.proofs.InOrderLists.{Before, Ordered, total-in_order, Contains-in_order, Each-in_order}
+use Rattle.overlay_plane.proofs.JoinedLists.{nothing_taken}
 use Rattle.overlay_plane.specs.InOrder.{in_order}
 use Rattle.overlay_plane.proofs.TurnOrder.{met_irreflexive, met_asymmetric, met_transitive, met_total}
 use Rattle.overlay_plane.proofs.SpokeWindings.{after_is}
@@ -93,15 +94,11 @@ module _ (subj clip : CountedEdge → ℤ) (es : List CountedEdge) (by_subj : Is
       (λ g at. each g at (met_first g m) refl))
       ∙ winding_round_a_node count es arranged v e m spoke_e (in_round m c).0
     where
-      nothing : (s : Bool) → cond s (pos 0) (pos 0) ≡ pos 0
-      nothing true = refl
-      nothing false = refl
-
       each : (g : CountedEdge) → Contains es g → (t : Bool) → met_first g m ≡ t → cond (taken g) (cond t (spoke_count count v g) (pos 0)) (pos 0) ≡ cond t (spoke_count count v g) (pos 0)
-      each g at false first = nothing (taken g)
+      each g at false first = nothing_taken (taken g)
       each g at true first = ⊎_elim
           (λ spoke. ap (λ t. cond t (spoke_count count v g) (pos 0)) (and_from (is_spoke v g) (met_first g f) (tested spoke.at) (met_transitive right v (far_end v e) (far_end v g) (far_end v m) (far_end v f) long first (in_round m c).1)))
-          (λ none. ap (λ z. cond (taken g) z (pos 0)) none ∙ nothing (taken g) ∙ sym none)
+          (λ none. ap (λ z. cond (taken g) z (pos 0)) none ∙ nothing_taken (taken g) ∙ sym none)
           (spoke_or_nothing count es v g at)
         where
           tested : (g.a ≡ v) ⊎ (g.b ≡ v) → is_spoke v g ≡ true

@@ -4,12 +4,10 @@ use Rattle.std.proofs.Common.{◌≡◌, Bool, true, false, cond, not, ◌++◌,
 use Rattle.std.specs.List.{flat_map}
 use Rattle.std.proofs.lemmas.Bool.{both_ways, false_from_ne_true}
 use Rattle.std.proofs.lemmas.List.Elements.{All-contains}
-use Rattle.overlay_geom.specs.Plane.{Point, PlanePoint, Step, Edge, point_lt, step_eq, edge_eq, is_forward}
+use Rattle.overlay_geom.specs.Plane.{PlanePoint, Step, Edge, point_lt, step_eq, edge_eq, is_forward}
 use Rattle.overlay_geom.specs.Plane.{edge_of, sign_of, is_strictly_below, total, winding}
 use Rattle.overlay_geom.specs.Edges.{CountedEdge, ends_of, winding_by}
-use Rattle.overlay_geom.proofs.PointOrder.{Decides-point_lt, IsBefore}
-use Rattle.overlay_geom.proofs.Signs.{linear}
-use Rattle.overlay_geom.proofs.Orders.{edge_eq-from_ends}
+use Rattle.overlay_geom.proofs.Orders.{edge_eq-from_ends, point_lt-order}
 use Rattle.overlay_plane.specs.Regions.{holds_above, holds_below, one_if, selected_sign, IsRuled}
 use Rattle.overlay_plane.specs.SelectedSteps.{step_with_left, is_selected, selected_steps}
 use Rattle.overlay_plane.specs.BesideOrbits.{HasEachOnce}
@@ -23,18 +21,11 @@ use Rattle.overlay_plane.proofs.Totals.{Contains-head, Contains-later, total-sam
 
 -- ---- the step along an edge
 
--- of two points the smaller one is not the larger one
-never_back : (p q : Point) → point_lt p q ≡ true → point_lt q p ≡ false
-never_back p q less = false_from_ne_true (point_lt q p) (λ more. not_both ((Decides-point_lt p q).0 less) ((Decides-point_lt q p).0 more))
-  where
-    not_both : IsBefore p q → ¬ (IsBefore q p)
-    not_both h k = let h_x = h.x in let k_x = k.x in let h_y = h.y k_x in let k_y = k.y h_x in omega linear
-
 module _ (e : Edge) (forward : point_lt e.a e.b ≡ true) where
   -- the step with the upper side of a forward edge on its left leads forward, the one with the lower side there leads back
   pub forward_above : (above : Bool) → is_forward (step_with_left above e) ≡ above
   forward_above true = forward
-  forward_above false = never_back e.a e.b forward
+  forward_above false = point_lt-order.one_way e.a e.b forward
 
   -- it walks along that edge
   pub along_edge : (above : Bool) → edge_of (step_with_left above e) ≡ e

@@ -3,7 +3,6 @@ use Rattle.std.proofs.Common.{◌≡◌, Bool, List, [], ◌∷◌, ◌++◌, Al
 use Rattle.std.specs.List.{flat_map}
 use Rattle.std.specs.List.Sorted.{IsPermutation}
 use Rattle.std.proofs.lemmas.Grind.{flat_map-append}
-use Rattle.std.proofs.lemmas.List.Elements.{All-contains, Contains-append_left, Contains-append_right}
 use Rattle.std.proofs.lemmas.List.Sorted.{IsPermutation-trans, All-permutation}
 use Rattle.overlay_geom.specs.Plane.{Point, PlanePoint, Step, steps_of, winding}
 use Rattle.overlay_geom.proofs.Totals.{total-IsPermutation}
@@ -16,7 +15,7 @@ use Rattle.overlay_plane.proofs.AlongLines.{winding_part}
 use Rattle.overlay_plane.proofs.ClosedWalks.{cuts_are_contours}
 use Rattle.overlay_plane.proofs.CutWalks.{cuts_take_each_once}
 use Rattle.overlay_plane.proofs.CutWindings.{selected_alternate, thinned_contours_wind_alike}
-use Rattle.overlay_plane.proofs.Entries.{all_of_entries}
+use Rattle.overlay_plane.proofs.Entries.{All-first, All-rest}
 use Rattle.overlay_plane.proofs.JoinedLists.{total-append}
 use Rattle.overlay_plane.proofs.ParentlessHoles.{bound_walks_have_shapes}
 use Rattle.overlay_plane.proofs.ResultWindings.{steps_of_contours}
@@ -35,20 +34,12 @@ shapes_have_each_walk on_left walks bound are_bound have =
     (subst (λ ws. IsPermutation (flat_map (λ w. w ∷ []) walks) ws) (single_parts (walks_of (shapes_of on_left bound)))
     (shapes_alike on_left walks bound are_bound have (λ w. w ∷ [])))
 
--- what holds of the entries of two lists joined holds of those of the first
-All-first : {X : Type 0} (P : X → Type 0) (xs ys : List X) → All P (xs ++ ys) → All P xs
-All-first P xs ys h = all_of_entries P xs (λ x c. All-contains P (xs ++ ys) x h (Contains-append_left xs ys x c))
-
--- and of those of the second
-All-second : {X : Type 0} (P : X → Type 0) (xs ys : List X) → All P (xs ++ ys) → All P ys
-All-second P xs ys h = all_of_entries P ys (λ x c. All-contains P (xs ++ ys) x h (Contains-append_right xs ys x c))
-
 -- the steps of the points of shapes that are contours are their steps
 steps_of_all : (shapes : List (List (List Step))) → All IsContour (walks_of shapes) → steps_of_shapes (points_of_shapes shapes) ≡ all_steps (walks_of shapes)
 steps_of_all [] each = refl
 steps_of_all (shape ∷ shapes) each =
     ap₂ (λ a b. a ++ b) (steps_of_contours shape (All-first IsContour shape (walks_of shapes) each))
-    (steps_of_all shapes (All-second IsContour shape (walks_of shapes) each))
+    (steps_of_all shapes (All-rest IsContour shape (walks_of shapes) each))
     ∙ sym (flat_map-append (λ (w : List Step). w) shape (walks_of shapes))
 
 -- the shapes have each selected step once

@@ -9,12 +9,12 @@ use Rattle.std.proofs.lemmas.Grind.{flat_map-append}
 use Rattle.std.proofs.lemmas.List.Elements.{All-contains}
 use Rattle.std.proofs.lemmas.List.Folds.{flat_map-map}
 use Rattle.std.proofs.lemmas.List.Sorted.{IsPermutation-refl, IsPermutation-trans, IsPermutation-append_right}
-use Rattle.std.proofs.lemmas.Option.{MatchOption-at_some, slice_get_within}
+use Rattle.std.proofs.lemmas.Option.{MatchOption-at_some}
 use Rattle.overlay_geom.specs.Plane.{Step}
 use Rattle.overlay_geom.proofs.Mapped.{map-filter}
 use Rattle.overlay_plane.specs.Binding.{is_hole, outlines, IsParentOf, HasNoParent, BoundWalk, IsBound, AreBound, is_number, holes_of, shapes_begun, shapes_of}
 use Rattle.overlay_plane.specs.Binding.{walks_of, HaveShapes}
-use Rattle.overlay_plane.specs.Binding.IsParentOf.{direct, through}
+use Rattle.overlay_plane.proofs.HolesAdded.{parent_is_counted}
 use Rattle.overlay_plane.proofs.ShapeNumbers.{is_from, from_start, number_split, not_below}
 use Rattle.overlay_plane.proofs.SplitLists.{IsPermutation-past, IsSplit, flat_map-split, filter-same, filter-all, filter-none}
 
@@ -90,18 +90,13 @@ module _ {Y : Type 0} (f : List Step → List Y) (on_left : Bool) (bound : List 
       each true = inr (refl, refl)
       each false = inl (refl, refl, refl)
 
--- the number of a parent is that of an outline
-parent_below : (on_left : Bool) (walks : List (List Step)) (hole : List Step) (n : ℕ) → IsParentOf on_left walks hole n → n < length (outlines on_left walks)
-parent_below on_left walks hole n (direct {next} is_next outline) = slice_get_within (outlines on_left walks) n next outline
-parent_below on_left walks hole n (through {next} is_next also rest) = parent_below on_left walks next n rest
-
 module _ (on_left : Bool) (walks : List (List Step)) (bound : List BoundWalk) (are_bound : AreBound on_left walks bound) (have : HaveShapes on_left bound) where
   -- each hole's number is that of an outline
   hole_below : (b : BoundWalk) → Contains bound b → is_hole on_left b.steps ≡ true → (k : ℕ) → b.shape ≡ Some k → k < 0 + length (outlines on_left walks)
   hole_below b c is k shape =
       let told = MatchOption-at_some (HasNoParent on_left walks b.steps) (λ n. IsParentOf on_left walks b.steps n) k shape
       (All-contains (IsBound on_left walks) bound b are_bound.told c is) in
-      let low = parent_below on_left walks b.steps k told in omega arith
+      let low = parent_is_counted on_left walks b.steps k told in omega arith
 
   -- each hole has a number
   all_from_start : filter (λ b. is_hole on_left b.steps) bound ≡ filter (λ b. is_hole on_left b.steps && is_from 0 b.shape) bound

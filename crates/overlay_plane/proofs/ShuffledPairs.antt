@@ -1,5 +1,5 @@
 -- Entries no two of which pass a test that takes the two in either order: in whichever order they stand, no two pass it.
-use Rattle.std.proofs.Common.{◌≡◌, ⊎_elim, Bool, true, false, List, [], ◌∷◌, Contains, AllPairs, refl, sym, subst}
+use Rattle.std.proofs.Common.{◌≡◌, ⊎_elim, Bool, true, false, List, [], ◌∷◌, Contains, AllPairs, sym, subst}
 use Rattle.std.specs.List.{AllByRecursion, IsDistinct}
 use Rattle.std.specs.List.Sorted.{IsPermutation}
 use Rattle.std.proofs.lemmas.Map.Keys.{IsDistinct-IsPermutation}
@@ -9,13 +9,8 @@ use Rattle.overlay_plane.specs.Anchors.{HasEachEdgeOnce}
 use Rattle.overlay_plane.specs.BesideOrbits.{HasEachOnce}
 use Rattle.overlay_plane.proofs.AtNodes.{equal_steps, same_steps}
 use Rattle.overlay_plane.proofs.LaterEntries.{Contains-cases, Each, Each-from_all_pairs, AllPairs-from_each}
+use Rattle.overlay_plane.proofs.Tests.{same_tests}
 use Rattle.overlay_plane.proofs.Totals.{Contains-head, Contains-later}
-
--- two tests each of which passes where the other one does are one
-alike : (s t : Bool) → (s ≡ true → t ≡ true) → (t ≡ true → s ≡ true) → s ≡ t
-alike true t to back = sym (to refl)
-alike false true to back = back refl
-alike false false to back = refl
 
 -- what holds of each entry, by recursion and by entries
 by_recursion : {X : Type 0} (P : X → Type 0) (xs : List X) → ((x : X) → Contains xs x → P x) → AllByRecursion P xs
@@ -45,7 +40,7 @@ module _ {X : Type 0} (test : X → X → Bool) where
   pub pairs_shuffled : ((x y : X) → test x y ≡ true → test y x ≡ true) → (xs ys : List X) → IsPermutation xs ys → AllPairs Apart xs → AllPairs Apart ys
   pairs_shuffled flips xs ys moved apart =
       AllPairs-from_each Apart ys (each_from_distinct ys
-      (IsDistinct-IsPermutation test (λ x y. alike (test x y) (test y x) (flips x y) (flips y x)) xs ys moved
+      (IsDistinct-IsPermutation test (λ x y. same_tests (test x y) (test y x) (flips x y) (flips y x)) xs ys moved
       (distinct_from_each xs (Each-from_all_pairs Apart xs apart))))
 
 -- no step stands twice in another order

@@ -63,10 +63,6 @@ same_place-trans p q r first second = (
   fraction_eq p.y p.d q.y q.d r.y r.d p.positive q.positive r.positive first.1 second.1,
 )
 
--- two points are at one place whichever of them is named first
-pub same_place-sym : (p q : PlanePoint) → SamePlace p q → SamePlace q p
-same_place-sym p q same = (sym same.0, sym same.1)
-
 -- ---- the order
 
 -- p is smaller than q

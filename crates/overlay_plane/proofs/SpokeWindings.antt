@@ -15,6 +15,7 @@ use Rattle.overlay_plane.proofs.NodeWindings.{winding_from_a_start, winding_from
 use Rattle.overlay_plane.proofs.SameWay.{ends_differ, same_from_end}
 use Rattle.overlay_plane.proofs.SingleEntries.{single_total}
 use Rattle.overlay_plane.proofs.EdgeTurns.{IsForward, edge_turn_exchanged, edge_turn_same}
+use Rattle.overlay_plane.proofs.JoinedLists.{nothing_taken}
 use Rattle.overlay_plane.proofs.SpokeSigns.{first_from_down}
 
 -- a ray that turns counterclockwise from straight down meets g before e
@@ -146,11 +147,7 @@ module _ (count : CountedEdge → ℤ) (es : List CountedEdge) (arranged : IsBal
                 cond (s || l) (cond s (count g) (cond t (neg_ℤ (count g)) (pos 0))) (pos 0) ≡ cond s (count g) (cond t (neg_ℤ (count g)) (pos 0)) +ℤ (cond (t && r) (count g) (pos 0) +ℤ cond i (count g) (pos 0))
             by true starts true ends = absurd (false≢true (sym (not_both_ends v g forward_g starts) ∙ ends))
             by true starts false ends = tests true false l r i l r false refl refl (not_itself ends) (alone (count g))
-            by false starts false ends = tests false false l r i l r false refl refl (not_itself ends) (nothing l)
-              where
-                nothing : (t : Bool) → cond t (pos 0) (pos 0) ≡ pos 0
-                nothing true = refl
-                nothing false = refl
+            by false starts false ends = tests false false l r i l r false refl refl (not_itself ends) (nothing_taken l)
             by false starts true ends = by_sign (edge_turn (ends_of e) (ends_of g))
                 (λ low. tests false true l r i true false false (test_from_lt (pos 0) (edge_turn (ends_of g) (ends_of e)) (let o = opposite in omega linear)) (test_from_ge (pos 0) (edge_turn (ends_of e) (ends_of g)) (omega linear)) (not_turned (λ z. omega linear)) (alone (neg_ℤ (count g))))
                 (λ level. tests false true l r i false false true (test_from_ge (pos 0) (edge_turn (ends_of g) (ends_of e)) (let o = opposite in omega linear)) (test_from_ge (pos 0) (edge_turn (ends_of e) (ends_of g)) (omega linear))

@@ -1,6 +1,6 @@
 -- Sums over steps: sums of sums in either order, sums in which each step is met once, and edges along which no step walks.
 use Rattle.std.proofs.Common.{◌≡◌, ⊎_elim, false, cond, ℤ, pos, ◌+ℤ◌, List, [], ◌∷◌, Contains, refl, sym, ap, ap₂, ◌∙◌, subst}
-use Rattle.std.proofs.lemmas.Bool.{both_ways, false_from_ne_true}
+use Rattle.std.proofs.lemmas.Bool.{false_from_ne_true}
 use lib.IntN.{+ℤ_idl, +ℤ_idr}
 use Rattle.overlay_geom.specs.Plane.{Step, step_eq, edge_eq, edge_of, sign_of, total}
 use Rattle.overlay_geom.specs.Edges.{CountedEdge, ends_of}
@@ -8,20 +8,16 @@ use Rattle.overlay_geom.proofs.Orders.{edge_eq-same}
 use Rattle.overlay_plane.specs.BesideOrbits.{count_on, HasEachOnce}
 use Rattle.overlay_plane.proofs.Totals.{total-zero, total-add}
 use Rattle.overlay_plane.proofs.LaterEntries.{Contains-cases, Each, Each-from_all_pairs}
-use Rattle.overlay_plane.proofs.AtNodes.{same_steps, equal_steps}
+use Rattle.overlay_plane.proofs.AtNodes.{equal_steps, step_eq-flip}
 
 -- sums of sums may be taken in either order
 pub total-exchange : {X Y : Type 0} (h : X → Y → ℤ) (xs : List X) (ys : List Y) → total (λ x. total (λ y. h x y) ys) xs ≡ total (λ y. total (λ x. h x y) xs) ys
 total-exchange h [] ys = sym (total-zero (λ y. pos 0) ys (λ y c. refl))
 total-exchange h (x ∷ xs) ys = ap (λ z. total (λ y. h x y) ys +ℤ z) (total-exchange h xs ys) ∙ sym (total-add (λ y. h x y) (λ y. total (λ x. h x y) xs) ys)
 
--- a step is different from those that differ from it
-other_way : (s t : Step) → step_eq s t ≡ false → step_eq t s ≡ false
-other_way s t differ = false_from_ne_true (step_eq t s) (λ same. both_ways (step_eq s t) differ (equal_steps s t (sym (same_steps t s same))))
-
 -- of later steps that all differ from a step, none is it
 none_again : (s : Step) (steps : List Step) (f : Step → ℤ) → ((t : Step) → Contains steps t → step_eq s t ≡ false) → total (λ t. cond (step_eq t s) (f t) (pos 0)) steps ≡ pos 0
-none_again s steps f differ = total-zero (λ t. cond (step_eq t s) (f t) (pos 0)) steps (λ t c. ap (λ b. cond b (f t) (pos 0)) (other_way s t (differ t c)))
+none_again s steps f differ = total-zero (λ t. cond (step_eq t s) (f t) (pos 0)) steps (λ t c. ap (λ b. cond b (f t) (pos 0)) (step_eq-flip s t (differ t c)))
 
 -- where each step differs from all later ones, the sum over the steps that are s is the term of s
 single_step : (steps : List Step) → Each (λ s t. step_eq s t ≡ false) steps → (f : Step → ℤ) (s : Step) → Contains steps s →

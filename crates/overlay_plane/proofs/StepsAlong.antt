@@ -2,15 +2,13 @@
 use Rattle.std.proofs.Common.{◌≡◌, Bool, true, false, cond, not, ℤ, pos, negsuc, ◌+ℤ◌, ◌*ℤ◌, List, [], ◌∷◌, refl, sym, ap, ap₂, ◌∙◌}
 use Rattle.std.specs.List.{All}
 use Rattle.std.specs.Bool.{⊤}
-use Rattle.std.proofs.lemmas.Bool.{false_from_ne_true}
 use Rattle.std.proofs.lemmas.List.Elements.{All-head, All-tail, All-weaker}
-use Rattle.overlay_geom.specs.Plane.{Point, Step, Edge, point_lt, edge_eq, is_forward, edge_of, sign_of, reversed_step, backward, steps_through, total}
+use Rattle.overlay_geom.specs.Plane.{Point, Step, Edge, edge_eq, is_forward, edge_of, sign_of, reversed_step, backward, steps_through, total}
 use Rattle.overlay_geom.proofs.Identities.{solve, number, ◌⊕◌, ◌⊗◌, ◌≗◌}
-use Rattle.overlay_geom.proofs.Orders.{Decides-edge_eq, point_lt-back}
-use Rattle.overlay_geom.proofs.PointOrder.{Decides-point_lt, before_up_to, not_before_up_to}
+use Rattle.overlay_geom.proofs.Orders.{Decides-edge_eq, point_lt-back, point_lt-order}
 use Rattle.overlay_plane.proofs.ChainWalks.{backward-first}
 use Rattle.overlay_plane.proofs.EdgesOfSteps.{edge_by}
-use Rattle.overlay_plane.proofs.JoinedLists.{total-append}
+use Rattle.overlay_plane.proofs.JoinedLists.{total-append, times_taken}
 use Rattle.overlay_plane.proofs.LinksKept.{IsLong, IsBetweenGood, good_through}
 use Rattle.overlay_plane.proofs.Tests.{same_tests}
 
@@ -24,31 +22,22 @@ edge_eq-either e f = same_tests (edge_eq e f) (edge_eq f e)
     (λ t. (Decides-edge_eq f e).1 (sym ((Decides-edge_eq e f).0 t)))
     (λ t. (Decides-edge_eq e f).1 (sym ((Decides-edge_eq f e).0 t)))
 
--- of two points at most one is smaller than the other
-one_way : (p q : Point) → point_lt p q ≡ true → point_lt q p ≡ false
-one_way p q less =
-    false_from_ne_true (point_lt q p) (λ back. not_before_up_to p q ((Decides-point_lt p q).0 less) (before_up_to q p ((Decides-point_lt q p).0 back)))
-
 -- a long step back leads the other way
 turns_round : (s : Step) → IsLong s → is_forward (reversed_step s) ≡ not (is_forward s)
 turns_round s long = by (is_forward s) refl
   where
     by : (t : Bool) → is_forward s ≡ t → is_forward (reversed_step s) ≡ not t
-    by true e = one_way s.from s.to e
+    by true e = point_lt-order.one_way s.from s.to e
     by false e = point_lt-back s.from s.to long e
 
 -- so it has the opposite sign along the same edge
 along_back : (f : Edge) (s : Step) → IsLong s → along f (reversed_step s) ≡ negsuc 0 *ℤ along f s
 along_back f s long = ap (λ t. cond (edge_eq (edge_by t (reversed_step s)) f) (cond t (pos 1) (negsuc 0)) (pos 0)) (turns_round s long) ∙ by (is_forward s)
   where
-    opposite : (b : Bool) (z : ℤ) → cond b (negsuc 0 *ℤ z) (pos 0) ≡ negsuc 0 *ℤ cond b z (pos 0)
-    opposite true z = refl
-    opposite false z = refl
-
     by : (t : Bool) → cond (edge_eq (edge_by (not t) (reversed_step s)) f) (cond (not t) (pos 1) (negsuc 0)) (pos 0) ≡
         negsuc 0 *ℤ cond (edge_eq (edge_by t s) f) (cond t (pos 1) (negsuc 0)) (pos 0)
-    by true = opposite (edge_eq (edge_by true s) f) (pos 1)
-    by false = opposite (edge_eq (edge_by false s) f) (negsuc 0)
+    by true = sym (times_taken (edge_eq (edge_by true s) f) (negsuc 0) (pos 1))
+    by false = sym (times_taken (edge_eq (edge_by false s) f) (negsuc 0) (negsuc 0))
 
 -- and long steps backward add up to the opposite
 pub total_back : (f : Edge) (ss : List Step) → All IsLong ss → total (along f) (backward ss) ≡ negsuc 0 *ℤ total (along f) ss

@@ -6,7 +6,7 @@ use Rattle.std.proofs.lemmas.Bool.{false≢true, cases_order, or_cases, or_left,
 use lib.IntN.{*ℤ_comm}
 use Rattle.overlay_geom.specs.Plane.{Point, cross_at}
 use Rattle.overlay_geom.proofs.Products.{neg_ℤ-mul}
-use Rattle.overlay_geom.proofs.Signs.{linear, by_sign, mul-pos, mul-neg, mul-zero, mul-nonneg, pos_of_mul-pos, zero_of_mul-zero}
+use Rattle.overlay_geom.proofs.Signs.{linear, by_sign, mul-pos, mul-neg, mul-zero, mul-nonneg, pos_of_mul-pos, zero_of_mul-zero, mul-nonpos}
 use Rattle.overlay_geom.proofs.Cross.{cross_at_exchanged}
 use Rattle.overlay_plane.specs.Turn.{Hand, turn, dot_at, part_of_turn, is_met_before}
 use Rattle.overlay_plane.specs.Turn.Hand.{left, right}
@@ -126,8 +126,9 @@ no_turn hand v u p q long level_p level_q =
     let none_q = mul-zero (dot_at v u q) (turn hand v u p) level_p in
     zero_of_mul-zero (dot_at v u u) (turn hand v p q) (dot_positive v u long) (omega linear)
 
--- within one part of a turn, turns add up
-turns_on : (hand : Hand) (v u p q r : Point) → ¬ (u ≡ v) → part_of_turn hand v u p ≡ part_of_turn hand v u q → part_of_turn hand v u q ≡ part_of_turn hand v u r → pos 0 <ℤ (turn hand v p q) → pos 0 <ℤ (turn hand v q r) → pos 0 <ℤ (turn hand v p r)
+-- within one part of a turn, a turn on to a point goes on to each to which there is none back
+pub turns_on : (hand : Hand) (v u p q r : Point) → ¬ (u ≡ v) → part_of_turn hand v u p ≡ part_of_turn hand v u q → part_of_turn hand v u q ≡ part_of_turn hand v u r →
+    pos 0 <ℤ (turn hand v p q) → pos 0 ≤ℤ (turn hand v q r) → pos 0 <ℤ (turn hand v p r)
 turns_on hand v u p q r long same_pq same_qr pq qr = by_sign (turn hand v u q) late level early
   where
     four : turn hand v u p *ℤ turn hand v q r +ℤ turn hand v u r *ℤ turn hand v p q ≡ turn hand v u q *ℤ turn hand v p r
@@ -141,14 +142,16 @@ turns_on hand v u p q r long same_pq same_qr pq qr = by_sign (turn hand v u q) l
 
     early : pos 0 <ℤ (turn hand v u q) → pos 0 <ℤ (turn hand v p r)
     early h =
-        let before = mul-pos (turn hand v u p) (turn hand v q r) (to_p.early h) qr in
+        let high = to_p.early h in
+        let before = mul-nonneg (turn hand v u p) (turn hand v q r) (omega linear) qr in
         let after = mul-pos (turn hand v u r) (turn hand v p q) (to_r.early h) pq in
         let sum = four in
         pos_of_mul-pos (turn hand v u q) (turn hand v p r) h (omega linear)
 
     late : turn hand v u q <ℤ pos 0 → pos 0 <ℤ (turn hand v p r)
     late h =
-        let before = mul-neg (turn hand v q r) (turn hand v u p) qr (to_p.late h) in
+        let low = to_p.late h in
+        let before = mul-nonpos (turn hand v q r) (turn hand v u p) qr (omega linear) in
         let after = mul-neg (turn hand v p q) (turn hand v u r) pq (to_r.late h) in
         let exchanged_before = *ℤ_comm (turn hand v u p) (turn hand v q r) in
         let exchanged_after = *ℤ_comm (turn hand v u r) (turn hand v p q) in
@@ -161,7 +164,7 @@ turns_on hand v u p q r long same_pq same_qr pq qr = by_sign (turn hand v u q) l
 
 -- what is met before a point is met before whatever comes after that
 pub met_transitive : (hand : Hand) (v u p q r : Point) → ¬ (u ≡ v) → is_met_before hand v u p q ≡ true → is_met_before hand v u q r ≡ true → is_met_before hand v u p r ≡ true
-met_transitive hand v u p q r long pq qr = ⊎_elim (λ less. ⊎_elim (λ less'. by_part_of (omega arith)) (λ turned'. by_part_of (let same = turned'.0 in omega arith)) second) (λ turned. ⊎_elim (λ less'. by_part_of (let same = turned.0 in omega arith)) (λ turned'. first_by_turn (part_of_turn hand v u p) (part_of_turn hand v u r) (turn hand v p r) (turned.0 ∙ turned'.0) (turns_on hand v u p q r long turned.0 turned'.0 turned.1 turned'.1)) second) (first_cases (part_of_turn hand v u p) (part_of_turn hand v u q) (turn hand v p q) pq)
+met_transitive hand v u p q r long pq qr = ⊎_elim (λ less. ⊎_elim (λ less'. by_part_of (omega arith)) (λ turned'. by_part_of (let same = turned'.0 in omega arith)) second) (λ turned. ⊎_elim (λ less'. by_part_of (let same = turned.0 in omega arith)) (λ turned'. first_by_turn (part_of_turn hand v u p) (part_of_turn hand v u r) (turn hand v p r) (turned.0 ∙ turned'.0) (turns_on hand v u p q r long turned.0 turned'.0 turned.1 (let more = turned'.1 in omega linear))) second) (first_cases (part_of_turn hand v u p) (part_of_turn hand v u q) (turn hand v p q) pq)
   where
     second : (part_of_turn hand v u q < part_of_turn hand v u r) ⊎ ((part_of_turn hand v u q ≡ part_of_turn hand v u r) × (pos 0 <ℤ (turn hand v q r)))
     second = first_cases (part_of_turn hand v u q) (part_of_turn hand v u r) (turn hand v q r) qr

@@ -52,12 +52,6 @@ covers_just_left e x d from to = and_from (int_le (e.a.x *ℤ (d +ℤ d)) (x +�
     (test_from_le (e.a.x *ℤ (d +ℤ d)) (x +ℤ x -ℤ pos 1) (let sum = mul-add e.a.x d d in omega linear))
     (test_from_lt (x +ℤ x -ℤ pos 1) (e.b.x *ℤ (d +ℤ d)) (let sum = mul-add e.b.x d d in omega linear))
 
--- and just right of the abscissa every edge that goes on to the right of it
-pub covers_just_right : (e : Edge) (x d : ℤ) → (e.a.x *ℤ d) ≤ℤ x → x <ℤ (e.b.x *ℤ d) → covers e (x +ℤ x +ℤ pos 1) (d +ℤ d) ≡ true
-covers_just_right e x d from to = and_from (int_le (e.a.x *ℤ (d +ℤ d)) (x +ℤ x +ℤ pos 1)) (int_lt (x +ℤ x +ℤ pos 1) (e.b.x *ℤ (d +ℤ d)))
-    (test_from_le (e.a.x *ℤ (d +ℤ d)) (x +ℤ x +ℤ pos 1) (let sum = mul-add e.a.x d d in omega linear))
-    (test_from_lt (x +ℤ x +ℤ pos 1) (e.b.x *ℤ (d +ℤ d)) (let sum = mul-add e.b.x d d in omega linear))
-
 -- ---- the order over an abscissa
 
 -- no edge is under itself

@@ -1,18 +1,17 @@
 -- Which of two edges is the lower one just right of an abscissa, from the gap at the abscissa, and from the start of one of them.
-use Rattle.std.proofs.Common.{◌≡◌, Bool, true, false, ◌&&◌, ◌||◌, ℤ, pos, ◌+ℤ◌, ◌*ℤ◌, neg_ℤ, ◌<ℤ◌, int_lt, int_le, refl, sym, ap, subst, ◌∙◌, arith}
+use Rattle.std.proofs.Common.{◌≡◌, true, false, ℤ, pos, ◌+ℤ◌, ◌*ℤ◌, neg_ℤ, ◌<ℤ◌, int_lt, int_le, ap, ◌∙◌, arith}
 use Rattle.std.proofs.lemmas.Int.{ints}
-use Rattle.std.proofs.lemmas.Bool.{and_from, and_right}
-use Rattle.overlay_geom.specs.Plane.{Point, Edge, point_eq, edge_eq, side, in_plane, cross_at, is_strictly_below}
+use Rattle.std.proofs.lemmas.Bool.{and_from}
+use Rattle.overlay_geom.specs.Plane.{Edge, side, in_plane}
 use Rattle.overlay_geom.specs.Settled.{MeetInEnds}
-use Rattle.overlay_geom.proofs.Identities.{solve, number, ◌⊕◌, ◌⊗◌, ◌⊖◌, ⊝◌, ◌≗◌}
+use Rattle.overlay_geom.proofs.Identities.{solve, number, ◌⊗◌, ⊝◌, ◌≗◌}
+use Rattle.overlay_geom.proofs.OneLine.{meet_in_ends_exchanged}
 use Rattle.overlay_geom.proofs.Signs.{linear, by_sign, mul-pos, mul-neg}
-use Rattle.overlay_geom.proofs.Orders.{point_eq-same, Decides-point_eq, edge_eq-same}
-use Rattle.overlay_geom.proofs.Cross.{cross_at_same}
 use Rattle.overlay_plane.specs.Heights.{width, gap, covers, is_under, Spans}
-use Rattle.overlay_plane.proofs.LineForms.{gapE, gap-at_start, gap_exchanged, side-start}
-use Rattle.overlay_plane.proofs.Crossing.{IsShared, meet_exchanged, no_crossing, apart_inside, same_starts}
-use Rattle.overlay_plane.proofs.Under.{covers_from, covers_to, covers_wide, shared_just_right, under_irreflexive, under_asymmetric}
-use Rattle.overlay_plane.proofs.Tests.{test_from_lt, test_from_le, test_from_ge}
+use Rattle.overlay_plane.proofs.LineForms.{gap-at_start, gap_exchanged}
+use Rattle.overlay_plane.proofs.Crossing.{IsShared, no_crossing, apart_inside, same_starts}
+use Rattle.overlay_plane.proofs.Under.{covers_from, covers_to, covers_wide, shared_just_right, under_asymmetric}
+use Rattle.overlay_plane.proofs.Tests.{test_from_lt, test_from_le}
 
 -- an edge spans what it covers
 pub covers_spans : (e : Edge) (x d : ℤ) → covers e x d ≡ true → Spans e x d
@@ -35,20 +34,9 @@ under_from_gap f e x d positive meet over_f over_e low = by_sign (gap f e (x +�
     shared = shared_just_right f e x d positive over_f over_e
 
     crossed : gap f e (x +ℤ x +ℤ pos 1) (d +ℤ d) <ℤ pos 0 → ⊥
-    crossed high = no_crossing e f (x +ℤ x +ℤ pos 1) (d +ℤ d) x d wide_e wide_f (meet_exchanged e f meet)
+    crossed high = no_crossing e f (x +ℤ x +ℤ pos 1) (d +ℤ d) x d wide_e wide_f (meet_in_ends_exchanged f e meet)
         (shared_just_right e f x d positive over_e over_f) positive (covers_spans f x d over_f) (covers_spans e x d over_e)
         (let there = gap_exchanged e f (x +ℤ x +ℤ pos 1) (d +ℤ d) in omega linear) (let here = gap_exchanged e f x d in omega linear)
-
--- where two edges start in one point, the gap just right of it is the turn from the one to the other
-gap-from_start : (p u v : Point) →
-    gap (record { a = p; b = u }) (record { a = p; b = v }) (p.x +ℤ p.x +ℤ pos 1) (pos 1 +ℤ pos 1) ≡ cross_at p u v
-gap-from_start p u v = solve 6
-    (λ px py ux uy vx vy. gapE px py ux uy px py vx vy (px ⊕ px ⊕ number (pos 1)) (number (pos 1) ⊕ number (pos 1)) ≗ (ux ⊖ px) ⊗ (vy ⊖ py) ⊖ (uy ⊖ py) ⊗ (vx ⊖ px)) tt p.x p.y u.x u.y v.x v.y
-
--- so the one is under the other where the other one is to its left
-pub under_from_start : (f e : Edge) → e.a ≡ f.a → is_under f e e.a.x (pos 1) ≡ int_lt (pos 0) (cross_at e.a f.b e.b)
-under_from_start f e one = subst (λ (p : Point). is_under (record { a = p; b = f.b }) e e.a.x (pos 1) ≡ int_lt (pos 0) (cross_at e.a f.b e.b)) one
-    (ap (λ z. int_lt (pos 0) z) (gap-from_start e.a f.b e.b))
 
 -- what is strictly below the start of an edge is under the edge
 pub at_start_low : (f e : Edge) → MeetInEnds e f → pos 0 <ℤ width e → covers f e.a.x (pos 1) ≡ true → covers e e.a.x (pos 1) ≡ true →
@@ -63,7 +51,7 @@ at_start_low f e meet wide over_f over_e left = under_from_gap f e e.a.x (pos 1)
 pub at_start_high : (f e : Edge) → MeetInEnds e f → pos 0 <ℤ width e → covers f e.a.x (pos 1) ≡ true → covers e e.a.x (pos 1) ≡ true →
     side f (in_plane e.a) <ℤ pos 0 → is_under f e e.a.x (pos 1) ≡ false
 at_start_high f e meet wide over_f over_e right = under_asymmetric e f e.a.x (pos 1)
-    (under_from_gap e f e.a.x (pos 1) (omega linear) (meet_exchanged e f meet) over_e over_f
+    (under_from_gap e f e.a.x (pos 1) (omega linear) (meet_in_ends_exchanged f e meet) over_e over_f
     (let product = mul-neg (width e) (side f (in_plane e.a)) wide right in
     let start = gap-at_start e f in
     omega linear))

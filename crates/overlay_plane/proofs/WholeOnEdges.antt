@@ -70,7 +70,7 @@ held_of_on e v p forward at on =
     }
 
 -- a point is no smaller than another one where that one is up to it
-pub Decides-not_lt : (p q : Point) → Decides (not (point_lt p q)) (IsUpTo q p)
+Decides-not_lt : (p q : Point) → Decides (not (point_lt p q)) (IsUpTo q p)
 Decides-not_lt p q = Decides-like (not (point_lt p q)) forth back (Decides-not (point_lt p q) (Decides-point_lt p q))
   where
     forth : ¬ (IsBefore p q) → IsUpTo q p

@@ -22,16 +22,6 @@ at_moved v p q (same_x, same_y) (at_x, at_y) = (moved v.x p.x q.x at_x same_x, m
         let identity = solve 3 (λ a c d. a ⊗ c ⊗ d ≗ c ⊗ (a ⊗ d)) tt a p.d q.d in
         eq_of_mul-eq p.d y (a *ℤ q.d) p.positive (omega linear)
 
--- only one whole point is at a place
-pub at_unique : (v w : Point) (p : PlanePoint) → IsAt v p → IsAt w p → v ≡ w
-at_unique v w p (v_x, v_y) (w_x, w_y) = same_point v w (same v.x w.x p.x v_x w_x) (same v.y w.y p.y v_y w_y)
-  where
-    same : (a b x : ℤ) → x ≡ a *ℤ p.d → x ≡ b *ℤ p.d → a ≡ b
-    same a b x at_a at_b =
-        let left = *ℤ_comm a p.d in
-        let right = *ℤ_comm b p.d in
-        eq_of_mul-eq p.d a b p.positive (omega linear)
-
 -- ---- in order, and rounded
 
 -- of two points of the plane at whole points, the smaller one is at the smaller point

@@ -7,9 +7,8 @@ use Rattle.overlay_geom.specs.Plane.{Point, PlanePoint, Step, steps_of, points_o
 use Rattle.overlay_geom.specs.Thinned.{IsKeptOrThinned}
 use Rattle.overlay_geom.specs.Edges.{CountedEdge}
 use Rattle.overlay_plane.specs.SelectedSteps.{selected_steps}
-use Rattle.overlay_plane.specs.Contours.{all_steps}
 use Rattle.overlay_plane.specs.ContourWindings.{wanted_winding}
-use Rattle.overlay_plane.specs.Binding.{BoundWalk, AreBound, AreCutFrom, shapes_of, walks_of}
+use Rattle.overlay_plane.specs.Binding.{BoundWalk, AreBound, AreCutFrom, shapes_of}
 
 -- the points of the shapes' contours
 abbrev pub points_of_shapes : List (List (List Step)) → List (List (List Point))

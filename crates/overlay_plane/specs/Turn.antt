@@ -39,9 +39,13 @@ pub record IsNextStep (steps : List Step) (hand : Hand) (s t : Step) : Type 0 wh
   pub leaves : t.from ≡ s.to
   pub first : All (λ u. u.from ≡ s.to → is_met_before hand s.to s.from u.to t.to ≡ false) steps
 
+-- what stands for a step where there is none
+abbrev pub no_step : Step
+no_step = record { from = record { x = pos 0; y = pos 0 }; to = record { x = pos 0; y = pos 0 } }
+
 -- the step at place k of a closed walk
 abbrev pub step_round : List Step → ℕ → Step
-step_round ss k = item_round ss (record { from = record { x = pos 0; y = pos 0 }; to = record { x = pos 0; y = pos 0 } }) k
+step_round ss k = item_round ss no_step k
 
 -- the walk is the orbit of its first step: each step is followed by its next step, until the first one comes again
 pub record IsOrbit (steps : List Step) (hand : Hand) (walk : List Step) : Type 0 where

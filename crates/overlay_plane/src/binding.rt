@@ -10,17 +10,19 @@ pub fn anchors_exist()
     ensures { AnchorsExist }
 {}
 
-/// An anchor is not vertical.
+/// The anchor of a contour that walks along no edge twice, and whose edges meet in ends alone, is not
+/// vertical.
 pub fn anchors_lead_on()
     ensures { AnchorsLeadOn }
 {}
 
-/// What is below an anchor is under its edge, just right of its point.
+/// Among edges that meet in ends alone, what is below an anchor is under its edge, just right of its
+/// point.
 pub fn below_an_anchor_is_under()
     ensures { BelowAnAnchorIsUnder }
 {}
 
-/// Of two edges over an abscissa the one that is lower there, by height and then by slope, is under
+/// Of two edges over an abscissa that meet in ends alone the one that is lower there, by height and then by slope, is under
 /// the other just right of it.
 pub fn lower_at_is_under()
     ensures { LowerAtIsUnder }
@@ -31,12 +33,12 @@ pub fn holes_have_next()
     ensures { HolesHaveNext }
 {}
 
-/// So each hole has a parent.
+/// So each hole that selected steps are cut into has a parent.
 pub fn holes_have_parents()
     ensures { HolesHaveParents }
 {}
 
-/// What has the next edge below a hole is anchored before it.
+/// Among contours, the one that has the next edge below a hole is anchored before it.
 pub fn next_is_anchored_before()
     ensures { NextIsAnchoredBefore }
 {}
@@ -51,12 +53,12 @@ pub fn bound_walks_have_shapes()
     ensures { BoundWalksHaveShapes }
 {}
 
-/// The shapes have each selected step exactly once.
+/// The shapes of the contours that selected steps are cut into have each of these steps exactly once.
 pub fn shapes_have_each_step()
     ensures { ShapesHaveEachStep }
 {}
 
-/// The shapes, as they are or thinned, wind once round each point where the rule holds, and zero
+/// The shapes of the contours that selected steps are cut into, as they are or thinned, wind once round each point where the rule holds, and zero
 /// times round each other one.
 pub fn shapes_wind()
     ensures { ShapesWind }
