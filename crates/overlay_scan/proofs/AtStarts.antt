@@ -10,10 +10,12 @@ use Rattle.overlay_geom.proofs.Identities.{solve, number, ◌⊗◌, ◌⊖◌, 
 use Rattle.overlay_geom.proofs.Orders.{edge_eq-same}
 use Rattle.overlay_geom.proofs.Signs.{linear, by_sign}
 use Rattle.overlay_plane.specs.Heights.{width, covers, is_under}
+use Rattle.overlay_plane.specs.Nodes.{turns_left}
 use Rattle.overlay_plane.proofs.LineForms.{side-start}
+use Rattle.overlay_plane.proofs.NodeForms.{under_beside_a_node}
 use Rattle.overlay_plane.proofs.Tests.{lt_from_test, ge_from_test, test_from_lt, test_from_le, test_from_ge}
 use Rattle.overlay_plane.proofs.Under.{covers_from, covers_to, same_under, under_irreflexive, under_asymmetric, under_total}
-use Rattle.overlay_plane.proofs.WhereEdgesStart.{covers_start, at_start_low, at_start_high, at_start_level, under_from_start}
+use Rattle.overlay_plane.proofs.WhereEdgesStart.{covers_start, at_start_low, at_start_high, at_start_level}
 use Rattle.overlay_scan.specs.Lists.{is_lower_at_start, is_lower}
 
 -- a test by the sign of a number, and by another test where it is 0
@@ -32,6 +34,11 @@ cross-side : (f : Edge) (p : Point) → cross_at f.a f.b p ≡ side f (in_plane 
 cross-side f p = solve 6
     (λ ax ay bx by x y. (bx ⊖ ax) ⊗ (y ⊖ ay) ⊖ (by ⊖ ay) ⊗ (x ⊖ ax) ≗ (bx ⊖ ax) ⊗ (y ⊖ ay ⊗ number (pos 1)) ⊖ (by ⊖ ay) ⊗ (x ⊖ ax ⊗ number (pos 1))) tt f.a.x f.a.y f.b.x f.b.y p.x p.y
 
+-- of two edges that start in one point the one is under the other where that leads to the left of it
+under_where_left : (f e : Edge) → e.a ≡ f.a → is_under f e e.a.x (pos 1) ≡ int_lt (pos 0) (cross_at e.a f.b e.b)
+under_where_left f e one = sym ((under_beside_a_node e f).start (sym one))
+    ∙ subst (λ (p : Point). turns_left (record { a = p; b = f.b }) e ≡ int_lt (pos 0) (cross_at e.a f.b e.b)) one refl
+
 -- the test at the start of e, for an edge that is over the start
 pub lower_at_start : (f e : Edge) → (edge_eq e f ≡ false → MeetInEnds e f) → e.a.x <ℤ e.b.x → covers f e.a.x (pos 1) ≡ true →
     is_lower_at_start f e ≡ is_under f e e.a.x (pos 1)
@@ -40,7 +47,7 @@ lower_at_start f e meets wide over =
     ∙ tested (side f (in_plane e.a)) (int_lt (pos 0) (cross_at e.a f.b e.b)) (is_under f e e.a.x (pos 1))
     (λ low. at_start_low f e (other (omega linear)) widely over over_e low)
     (λ high. at_start_high f e (other (omega linear)) widely over over_e high)
-    (λ level. under_from_start f e (start level))
+    (λ level. under_where_left f e (start level))
   where
     widely : pos 0 <ℤ width e
     widely = omega linear

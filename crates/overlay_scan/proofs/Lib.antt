@@ -1,6 +1,8 @@
 pub mod Answered
 pub mod AtStarts
 pub mod LastEntries
+pub mod LevelEdges
+pub mod LinesFit
 pub mod Moving
 pub mod Prefixes
 pub mod PutIn

@@ -8,11 +8,11 @@ use Rattle.std.proofs.lemmas.List.Elements.{All-filter, filter_passes}
 use Rattle.std.proofs.lemmas.List.Kept.{AllPairs-filter}
 use Rattle.overlay_geom.specs.Settled.{MeetInEnds}
 use Rattle.overlay_plane.specs.Heights.{covers, is_under}
-use Rattle.overlay_plane.proofs.Crossing.{meet_exchanged}
 use Rattle.overlay_plane.proofs.Tests.{lt_from_test, test_from_lt, test_from_le}
 use Rattle.overlay_plane.proofs.Under.{covers_from, same_under}
 use Rattle.overlay_scan.specs.Scan.{Entry, Sweep, live_at, moved_to, MayMoveTo, IsOver, AreLive, IsFromBottomToTop, IsSweep}
 use Rattle.overlay_scan.specs.Lists.{IsInRange}
+use Rattle.overlay_geom.proofs.OneLine.{meet_in_ends_exchanged}
 
 module _ {V : Type 0} (limit : ℕ) (x y : ℤ) (later : x ≤ℤ y) (fs : List (Entry V)) (live : AreLive limit x fs) where
   ends_later : Entry V → Bool
@@ -41,7 +41,7 @@ module _ {V : Type 0} (limit : ℕ) (x y : ℤ) (later : x ≤ℤ y) (fs : List 
       let g = get_or (live_at y fs) j d in
       let at_f = was_over i d (omega arith) in
       let at_g = was_over j d end in
-      sym (same_under f.edge g.edge x (pos 1) y (pos 1) (omega (arith, ints)) (omega (arith, ints)) (meet_exchanged f.edge g.edge (meet_later i j d lt end)) at_f.over at_g.over
+      sym (same_under f.edge g.edge x (pos 1) y (pos 1) (omega (arith, ints)) (omega (arith, ints)) (meet_in_ends_exchanged g.edge f.edge (meet_later i j d lt end)) at_f.over at_g.over
       (covers_later f at_f (still i d (omega arith))) (covers_later g at_g (still j d end)))
       ∙ AllPairs-filter (λ f g. is_under f.edge g.edge x (pos 1) ≡ true) (λ f. int_lt y f.edge.b.x) fs live.order i j d lt end
 
@@ -61,10 +61,10 @@ live_after_move limit x fs (Some y) live later = live_later limit y x later fs l
 
 -- a sweep that moves on is a sweep
 pub sweep_after_move : {V : Type 0} (limit : ℕ) (x : ℤ) (s : Sweep V) → IsSweep limit s → MayMoveTo x s → AreLive limit x (live_at x s.entries)
-sweep_after_move limit x s held later = live_after_move limit x s.entries s.least held later
+sweep_after_move limit x s held later = live_after_move limit x s.entries s.reached held later
 
 -- entries that are live where the sweep is are a sweep's
-pub sweep_from_live : {V : Type 0} (limit : ℕ) (x : ℤ) (s : Sweep V) → s.least ≡ Some x → AreLive limit x s.entries → IsSweep limit s
+pub sweep_from_live : {V : Type 0} (limit : ℕ) (x : ℤ) (s : Sweep V) → s.reached ≡ Some x → AreLive limit x s.entries → IsSweep limit s
 sweep_from_live limit x s at live = subst (λ o. MatchOption o (s.entries ≡ []) (λ y. AreLive limit y s.entries)) (sym at) live
 
 -- a sweep that has moved is one

@@ -1,17 +1,18 @@
 -- Where a new entry goes: above all entries under it, and below the others.
-use Rattle.std.proofs.Common.{◌≡◌, ⊎_elim, Bool, true, false, ℕ, List, [], ◌∷◌, ◌++◌, map, take, drop, get_or, ℤ, pos, refl, sym, ap, ap₂, ◌∙◌, subst, arith}
+use Rattle.std.proofs.Common.{◌≡◌, ⊎_elim, true, false, ℕ, List, [], ◌∷◌, ◌++◌, map, take, drop, get_or, ℤ, pos, sym, ap, ap₂, ◌∙◌, subst, arith}
 use Rattle.std.proofs.lemmas.Int.{ints}
 use Rattle.std.proofs.lemmas.Bool.{false≢true}
 use Rattle.std.specs.List.{All, AllPairs, filter, insert, prefix_len}
 use Rattle.std.proofs.lemmas.List.{take-append-drop, take-map, drop-map, map-append}
-use Rattle.std.proofs.lemmas.List.Elements.{All-nil, All-cons, All-head, All-tail, All-weaker, All-drop}
+use Rattle.std.proofs.lemmas.List.Elements.{All-cons, All-head, All-tail, All-weaker, All-drop}
 use Rattle.std.proofs.lemmas.List.Kept.{AllPairs-cons}
-use Rattle.overlay_geom.specs.Plane.{Edge, edge_eq}
+use Rattle.overlay_geom.specs.Plane.{Edge}
 use Rattle.overlay_geom.specs.Settled.{MeetInEnds}
 use Rattle.overlay_geom.proofs.Merging.{AllPairs-head, AllPairs-tail}
-use Rattle.overlay_geom.proofs.Orders.{edge_eq-same, Decides-edge_eq}
+use Rattle.overlay_geom.proofs.OneLine.{meet_in_ends_exchanged}
+use Rattle.overlay_geom.proofs.Orders.{edge_eq-flip}
 use Rattle.overlay_plane.specs.Heights.{covers, is_under}
-use Rattle.overlay_plane.proofs.Crossing.{meet_exchanged}
+use Rattle.overlay_plane.proofs.Entries.{All-first, All-rest}
 use Rattle.overlay_plane.proofs.Under.{under_transitive, under_total}
 use Rattle.overlay_scan.specs.Scan.{Entry, IsOver, AreLive, IsFromBottomToTop, IsPutIn, MeetsOthers, IsNewAmong}
 use Rattle.overlay_scan.specs.declared.list.LiveEdge.{LiveEdge}
@@ -25,15 +26,6 @@ use Rattle.overlay_scan.proofs.Prefixes.{PassBefore, prefix-same, filter_is_pref
 pub All-with : {X : Type 0} (P : X → Type 0) (xs ys : List X) (n : X) → All P (xs ++ ys) → P n → All P (xs ++ n ∷ ys)
 All-with P [] ys n all here = All-cons P n ys here all
 All-with P (x ∷ xs) ys n all here = All-cons P x (xs ++ n ∷ ys) (All-head P x (xs ++ ys) all) (All-with P xs ys n (All-tail P x (xs ++ ys) all) here)
-
--- what holds of two lists joined holds of the one and of the other
-All-first : {X : Type 0} (P : X → Type 0) (xs ys : List X) → All P (xs ++ ys) → All P xs
-All-first P [] ys all = All-nil P
-All-first P (x ∷ xs) ys all = All-cons P x xs (All-head P x (xs ++ ys) all) (All-first P xs ys (All-tail P x (xs ++ ys) all))
-
-All-rest : {X : Type 0} (P : X → Type 0) (xs ys : List X) → All P (xs ++ ys) → All P ys
-All-rest P [] ys all = all
-All-rest P (x ∷ xs) ys all = All-rest P xs ys (All-tail P x (xs ++ ys) all)
 
 -- R leads from each item to each later one, from those before the new one to it, and from it to those after it
 pub AllPairs-with : {X : Type 0} (R : X → X → Type 0) (xs ys : List X) (n : X) → AllPairs R (xs ++ ys) → All (λ x. R x n) xs → All (R n) ys →
@@ -54,14 +46,7 @@ module _ {V : Type 0} (limit : ℕ) (x : ℤ) (e : Edge) (fs : List (Entry V)) (
   pub tests_agree : All (λ f. is_lower f.edge e ≡ is_under f.edge e x (pos 1)) fs
   tests_agree k d lt =
       let f = get_or fs k d in
-      lower_is_under f.edge e x (meets k d lt) (λ apart. meet_exchanged e f.edge (meets k d lt (exchanged f.edge apart))) (live.over k d lt).over at_e.over
-    where
-      exchanged : (f : Edge) → edge_eq f e ≡ false → edge_eq e f ≡ false
-      exchanged f apart = by (edge_eq e f) refl
-        where
-          by : (b : Bool) → edge_eq e f ≡ b → edge_eq e f ≡ false
-          by false is = is
-          by true same = absurd (false≢true (sym apart ∙ (Decides-edge_eq f e).1 (sym (edge_eq-same e f same))))
+      lower_is_under f.edge e x (meets k d lt) (λ apart. meet_in_ends_exchanged f.edge e (meets k d lt (edge_eq-flip f.edge e apart))) (live.over k d lt).over at_e.over
 
   -- what is under an entry that is under the edge is under the edge
   pub under_before : PassBefore (λ f. is_under f.edge e x (pos 1)) fs
@@ -113,7 +98,7 @@ pub live_with : {V : Type 0} (limit : ℕ) (x : ℤ) (n : Entry V) (fs new : Lis
 live_with limit x n fs new live at_n meets put = subst (AreLive limit x) (sym put.new_is) (record {
   over = All-with (λ f. IsOver limit x f.edge) put.before put.after n (subst (All (λ f. IsOver limit x f.edge)) put.live_is live.over) at_n;
   apart = AllPairs-with (λ f g. MeetInEnds f.edge g.edge) put.before put.after n (subst (AllPairs (λ f g. MeetInEnds f.edge g.edge)) put.live_is live.apart)
-      (All-weaker (λ f. MeetInEnds n.edge f.edge) (λ f. MeetInEnds f.edge n.edge) (λ f m. meet_exchanged n.edge f.edge m) put.before (All-first (λ f. MeetInEnds n.edge f.edge) put.before put.after met))
+      (All-weaker (λ f. MeetInEnds n.edge f.edge) (λ f. MeetInEnds f.edge n.edge) (λ f m. meet_in_ends_exchanged f.edge n.edge m) put.before (All-first (λ f. MeetInEnds n.edge f.edge) put.before put.after met))
       (All-rest (λ f. MeetInEnds n.edge f.edge) put.before put.after met);
   order = AllPairs-with (λ f g. is_under f.edge g.edge x (pos 1) ≡ true) put.before put.after n (subst (IsFromBottomToTop x) put.live_is live.order) put.under put.over;
 })

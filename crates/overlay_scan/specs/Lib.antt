@@ -1,3 +1,4 @@
 pub mod Laws
+pub mod LevelEdges
 pub mod Lists
 pub mod Scan

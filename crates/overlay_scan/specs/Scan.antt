@@ -19,11 +19,11 @@ pub record Entry (V : Type 0) : Type 0 where
 -- the entries from bottom to top, and the abscissa that the sweep has come to: none before it begins
 pub record Sweep (V : Type 0) : Type 0 where
   pub entries : List (Entry V)
-  pub least : Option ℤ
+  pub reached : Option ℤ
 
 -- no entries, before the sweep begins
 abbrev pub empty_sweep : {V : Type 0} → Sweep V
-empty_sweep = record { entries = []; least = None }
+empty_sweep = record { entries = []; reached = None }
 
 -- the entries that are live at x: those that end right of it
 abbrev pub live_at : {V : Type 0} → ℤ → List (Entry V) → List (Entry V)
@@ -31,11 +31,11 @@ live_at x fs = filter (λ f. int_lt x f.edge.b.x) fs
 
 -- the sweep has not come past x
 abbrev pub MayMoveTo : {V : Type 0} → ℤ → Sweep V → Type 0
-MayMoveTo x s = IfSome s.least (λ least. least ≤ℤ x)
+MayMoveTo x s = IfSome s.reached (λ reached. reached ≤ℤ x)
 
 -- the sweep at x, with what is live there
 abbrev pub moved_to : {V : Type 0} → ℤ → Sweep V → Sweep V
-moved_to x s = record { entries = live_at x s.entries; least = Some x }
+moved_to x s = record { entries = live_at x s.entries; reached = Some x }
 
 -- ---- what a sweep may hold
 
@@ -57,7 +57,7 @@ pub record AreLive {V : Type 0} (limit : ℕ) (x : ℤ) (fs : List (Entry V)) : 
 
 -- the entries are live at the abscissa that the sweep has come to, and there are none before it begins
 abbrev pub IsSweep : {V : Type 0} → ℕ → Sweep V → Type 0
-IsSweep limit s = MatchOption s.least (s.entries ≡ []) (λ x. AreLive limit x s.entries)
+IsSweep limit s = MatchOption s.reached (s.entries ≡ []) (λ x. AreLive limit x s.entries)
 
 -- e meets each entry with another edge in ends alone
 abbrev pub MeetsOthers : {V : Type 0} → Edge → List (Entry V) → Type 0

@@ -9,7 +9,7 @@ ghost use Rattle.overlay_scan.specs.Lists.{IsInRange, is_lower_at_start, is_lowe
 ghost use Rattle.overlay_scan.specs.Scan.{empty_sweep, live_at, moved_to, value_or};
 ghost use Rattle.overlay_scan.specs.Scan.{MayMoveTo, IsOver, IsSweep, IsPutIn};
 ghost use Rattle.overlay_scan.specs.Scan.{MeetsOthers, IsNewAmong, value_below};
-ghost use Rattle.overlay_scan.specs.Scan.{IsCallableOn, IsAnsweredBy, AnswersRise, value_up_to};
+ghost use Rattle.overlay_scan.specs.Scan.{IsCallableOn, IsAnsweredBy};
 
 use crate::scan::Scan;
 use overlay_geom::error::OverlayError;
@@ -22,6 +22,8 @@ use std::cmp::Ordering;
 
 #[cfg(test)]
 mod tests;
+#[cfg(test)]
+mod tests_sweep;
 
 // An edge of the list, of which a is the smaller end, and its value.
 #[derive(Clone, Copy)]
@@ -74,7 +76,7 @@ impl<I: IntNumber, V: Copy, A: Allocator> Scan<I, V> for ScanList<I, V, A> {
         ensures ok { OnOk result (IsPutIn (I.whole x) (record { edge = plain_line I.whole edge; value = value })
             (live_at (I.whole x) (plain_sweep I.whole self.old).entries) (plain_sweep I.whole self.new).entries) }
         ensures err { OnErr result (plain_sweep I.whole self.new ≡ moved_to (I.whole x) (plain_sweep I.whole self.old)) }
-        ensures least { (plain_sweep I.whole self.new).least ≡ Some (I.whole x) }
+        ensures reached { (plain_sweep I.whole self.new).reached ≡ Some (I.whole x) }
         ensures state { IsSweep I.limit (plain_sweep I.whole self.new) }
         ensures only { IsOkUnless result OverlayError.Memory }
     {

@@ -34,7 +34,7 @@ pub trait Scan<I: IntNumber, V: Copy> {
         ensures ok { OnOk result (IsPutIn (I.whole x) (record { edge = plain_line I.whole edge; value = value })
             (live_at (I.whole x) (content self.old).entries) (content self.new).entries) }
         ensures err { OnErr result (content self.new ≡ moved_to (I.whole x) (content self.old)) }
-        ensures least { (content self.new).least ≡ Some (I.whole x) }
+        ensures reached { (content self.new).reached ≡ Some (I.whole x) }
         ensures state { IsSweep I.limit (content self.new) }
         ensures only { IsOkUnless result OverlayError.Memory };
 

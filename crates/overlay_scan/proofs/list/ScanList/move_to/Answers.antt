@@ -8,6 +8,6 @@ use Rattle.overlay_scan.proofs.list.ScanList.move_to.Goals as goal
 pub returns : goal.returns
 returns g c =
     let whole = g.I.IntNumber.whole in
-    ap (λ es. record { entries = es; least = Some (whole c.args.x) })
+    ap (λ es. record { entries = es; reached = Some (whole c.args.x) })
     (ap (plain_entries whole) (filter_same _ (λ f. int_lt (whole c.args.x) (whole f.b.x)) _ (λ x b f' k. search rules) _ _ c.retain.ensures.filtered)
     ∙ map-filter (plain_entry whole) (λ f. int_lt (whole c.args.x) f.edge.b.x) c.args.self.now.entries.items)

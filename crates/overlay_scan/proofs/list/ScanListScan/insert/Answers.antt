@@ -27,7 +27,7 @@ returns-in_err-insert-clause-state g c =
     let whole = g.I.IntNumber.whole in
     sweep_moved g.I.IntNumber.limit (whole c.args.x) (plain_sweep whole c.args.self.now)
     (plain_sweep whole (record { entries = c.insert.new.self; reached = c.move_to.new.self.reached })) c.requires.state c.requires.moves
-    (ap (λ es. record { entries = plain_entries whole es; least = (plain_sweep whole c.move_to.new.self).least }) c.in_err-insert.ensures.items ∙ c.move_to.ensures)
+    (ap (λ es. record { entries = plain_entries whole es; reached = (plain_sweep whole c.move_to.new.self).reached }) c.in_err-insert.ensures.items ∙ c.move_to.ensures)
 
 pub returns-clause-ok : goal.returns-clause-ok
 returns-clause-ok g c =
@@ -52,6 +52,6 @@ returns-clause-state g c =
     let fs = live_at x (plain_entries whole c.args.self.now.entries.items) in
     let live = sweep_after_move g.I.IntNumber.limit x (plain_sweep whole c.args.self.now) c.requires.state c.requires.moves in
     sweep_from_live g.I.IntNumber.limit x (plain_sweep whole (record { entries = c.insert.new.self; reached = c.move_to.new.self.reached }))
-    (ap (λ s. s.least) c.move_to.ensures)
+    (ap (λ s. s.reached) c.move_to.ensures)
     (live_with g.I.IntNumber.limit x (record { edge = e; value = c.args.value }) fs (plain_entries whole c.insert.new.self.items) live c.requires.over
     (λ k d lt. c.requires.meets k d lt (c.requires.fresh k d lt)) (returns-clause-ok g c))

@@ -1,0 +1,186 @@
+//! A sweep over level edges by the trait alone, at each coordinate type.
+
+ghost use Rattle.std.specs.Prelude.{◌≡◌, ◌<◌, pos, OnOk};
+ghost use Rattle.overlay_geom.specs.Lines.{plain_line};
+ghost use Rattle.overlay_geom.specs.Numbers.{Within};
+ghost use Rattle.overlay_scan.specs.LevelEdges.{level_edge, IsLevelSweep};
+ghost use Rattle.overlay_scan.specs.Scan.{empty_sweep, IsOver};
+
+use super::*;
+use std::alloc::Global;
+use std::process::Abort;
+use std::test::Fail;
+
+// The answer where no edge is found.
+const NONE: u8 = 255;
+
+// A coordinate type, with small numbers as coordinates.
+trait SmallNumber: IntNumber {
+    fn small(n: u8) -> Self
+        ensures value { Self.IntNumber.whole result ≡ pos n }
+        ensures fits { Within Self.IntNumber.limit (pos n) };
+}
+
+impl SmallNumber for i16 {
+    fn small(n: u8) -> i16 {
+        i16::from(n)
+    }
+}
+
+impl SmallNumber for i32 {
+    fn small(n: u8) -> i32 {
+        i32::from(n)
+    }
+}
+
+impl SmallNumber for i64 {
+    fn small(n: u8) -> i64 {
+        i64::from(n)
+    }
+}
+
+// The edge from x to `end` at a height.
+fn level<I: SmallNumber>(x: u8, end: u8, height: u8) -> IntLine<I>
+    requires { x < end }
+    ensures line { plain_line I.whole result ≡ level_edge x end height }
+    ensures over { IsOver I.limit (pos x) (level_edge x end height) }
+{
+    [
+        IntPoint::new(I::small(x), I::small(height)),
+        IntPoint::new(I::small(end), I::small(height)),
+    ]
+}
+
+// A sweep over level edges at different heights. The value of each is its height.
+#[derive(Drop)]
+struct Levels<S> {
+    scan: S,
+    // where the sweep may go on from
+    reached: u8,
+    // the heights of the edges that were inserted
+    heights: Vec<u8, Global>,
+}
+
+impl<S> Levels<S> {
+    // No edges yet.
+    fn new<I: SmallNumber>(alloc: Global, scan: S) -> Self
+    where
+        S: Scan<I, u8>,
+        requires { S.content scan ≡ empty_sweep }
+        ensures { IsLevelSweep I.limit result.reached result.heights.items (S.content result.scan) }
+    {
+        Levels {
+            scan,
+            reached: 0,
+            heights: Vec::new(alloc),
+        }
+    }
+
+    // Inserts the edge from x to `end` at a height.
+    fn insert<I: SmallNumber>(
+        &mut self,
+        rt: &impl Abort,
+        x: u8,
+        end: u8,
+        height: u8,
+    ) -> Result<(), OverlayError>
+    where
+        S: Scan<I, u8>,
+        requires { IsLevelSweep I.limit self.old.reached self.old.heights.items (S.content self.old.scan) }
+        ensures { OnOk result (IsLevelSweep I.limit self.new.reached self.new.heights.items (S.content self.new.scan)) }
+    {
+        assert!(rt; self.reached <= x);
+        assert!(rt; x < end);
+        assert!(rt; !self.heights.contains(&height));
+        let line: IntLine<I> = level(x, end, height);
+        self.scan.insert(line, height, I::small(x))?;
+        self.heights.push(height)?;
+        self.reached = x;
+        Ok(())
+    }
+
+    // The height of the highest edge under one from x to `end` at another height.
+    fn below<I: SmallNumber>(&mut self, rt: &impl Abort, x: u8, end: u8, height: u8) -> u8
+    where
+        S: Scan<I, u8>,
+        requires { IsLevelSweep I.limit self.old.reached self.old.heights.items (S.content self.old.scan) }
+        ensures { IsLevelSweep I.limit self.new.reached self.new.heights.items (S.content self.new.scan) }
+    {
+        assert!(rt; self.reached <= x);
+        assert!(rt; x < end);
+        assert!(rt; !self.heights.contains(&height));
+        let line: IntLine<I> = level(x, end, height);
+        self.reached = x;
+        self.scan.first_less(I::small(x), NONE, line)
+    }
+
+    // The height of the highest edge over x that is no higher than this height.
+    fn up_to<I: SmallNumber>(&mut self, rt: &impl Abort, x: u8, height: u8) -> u8
+    where
+        S: Scan<I, u8>,
+        requires { IsLevelSweep I.limit self.old.reached self.old.heights.items (S.content self.old.scan) }
+        ensures { IsLevelSweep I.limit self.new.reached self.new.heights.items (S.content self.new.scan) }
+    {
+        assert!(rt; self.reached <= x);
+        self.reached = x;
+        let y = I::small(height);
+        self.scan
+            .first_less_or_equal_by(I::small(x), NONE, |line: IntLine<I>| {
+                let [a, _] = line;
+                a.y.compare(y)
+            })
+    }
+
+    // Begins anew.
+    fn clear<I: SmallNumber>(&mut self)
+    where
+        S: Scan<I, u8>,
+        ensures { IsLevelSweep I.limit self.new.reached self.new.heights.items (S.content self.new.scan) }
+    {
+        self.scan.clear();
+        self.heights.clear();
+        self.reached = 0;
+    }
+}
+
+// Two edges, a third between them that ends before them, and a new beginning.
+fn check_sweep<I: SmallNumber, S: Scan<I, u8> + Drop>(
+    rt: &impl Abort,
+    alloc: Global,
+    scan: S,
+) -> Result<(), Fail>
+    requires { S.content scan ≡ empty_sweep }
+{
+    let mut levels = Levels::new(alloc, scan);
+    levels.insert(rt, 0, 10, 6)?;
+    levels.insert(rt, 0, 10, 2)?;
+    assert_eq!(rt; levels.below(rt, 0, 8, 4), 2);
+    assert_eq!(rt; levels.below(rt, 0, 8, 8), 6);
+    assert_eq!(rt; levels.below(rt, 1, 8, 1), NONE);
+    levels.insert(rt, 1, 3, 4)?;
+    assert_eq!(rt; levels.below(rt, 2, 8, 5), 4);
+    assert_eq!(rt; levels.below(rt, 2, 8, 3), 2);
+    assert_eq!(rt; levels.up_to(rt, 2, 1), NONE);
+    assert_eq!(rt; levels.up_to(rt, 2, 2), 2);
+    assert_eq!(rt; levels.up_to(rt, 2, 5), 4);
+    assert_eq!(rt; levels.up_to(rt, 2, 9), 6);
+    assert_eq!(rt; levels.up_to(rt, 3, 5), 2);
+    assert_eq!(rt; levels.below(rt, 3, 8, 5), 2);
+    levels.clear();
+    assert_eq!(rt; levels.below(rt, 0, 8, 8), NONE);
+    assert_eq!(rt; levels.up_to(rt, 0, 8), NONE);
+    levels.insert(rt, 0, 10, 2)?;
+    assert_eq!(rt; levels.below(rt, 0, 8, 8), 2);
+    Ok(())
+}
+
+#[test]
+fn a_sweep_over_level_edges(rt: HostRuntime) -> Result<(), Fail> {
+    let list: ScanList<i16, u8, _> = ScanList::default(rt.alloc());
+    check_sweep(&rt, rt.alloc(), list)?;
+    let list: ScanList<i32, u8, _> = ScanList::default(rt.alloc());
+    check_sweep(&rt, rt.alloc(), list)?;
+    let list: ScanList<i64, u8, _> = ScanList::default(rt.alloc());
+    check_sweep(&rt, rt.alloc(), list)?;
+    Ok(())
+}
