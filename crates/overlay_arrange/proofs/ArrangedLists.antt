@@ -1,13 +1,13 @@
 -- What the rounds say of a list that was split: the laws of arrangements put together.
-use Rattle.std.proofs.Common.{◌≡◌, ℕ, ◌≤◌, ◌^◌, List, length, get_or, refl, ap, arith}
+use Rattle.std.proofs.Common.{◌≡◌, ℕ, ◌≤◌, ◌^◌, List, refl, ap, arith}
 use Rattle.std.specs.Prelude.{Result, Ok, Err, OnOk, IfErr, IsErrOf}
 use Rattle.overlay_geom.specs.declared.error.OverlayError.{OverlayError}
 use Rattle.overlay_geom.specs.declared.error.OverlayError.TheVariants.{Memory, NotSettled, TooManyEdges, Failed}
 use Rattle.overlay_geom.specs.Edges.{CountedEdge, ends_of}
 use Rattle.overlay_geom.specs.Merged.{IsMerged}
 use Rattle.overlay_geom.specs.Settled.{IsSettled}
-use Rattle.overlay_arrange.specs.Arranged.{IsArranged, WasArranged}
-use Rattle.overlay_arrange.specs.Content.{IsHeld, IsContent}
+use Rattle.overlay_arrange.specs.Arranged.{IsArranged, MayRefuseSplitting}
+use Rattle.overlay_arrange.specs.Content.{IsContent}
 use Rattle.overlay_arrange.proofs.RoundsTaken.{Leaves}
 use Rattle.overlay_plane.proofs.AfterRounds.{arrangements_keep_balance, arranged_stays_arranged, no_rounds_again}
 use Rattle.overlay_plane.proofs.CuttingRounds.{cutting_is_a_round}
@@ -52,26 +52,31 @@ pub arranged_answer : {T E : Type 0} (limit most : ℕ) (answer : Result T E) (o
 arranged_answer limit most (Ok v) old new content h = arranged_of_split limit most old new content h
 arranged_answer limit most (Err e) old new content h = h
 
--- a list that was arranged is refused for want of memory alone
-pub refused_again : (most : ℕ) (old : List CountedEdge) (e : OverlayError) → 1 ≤ most → WasArranged old → (e ≡ NotSettled → StaysUnsettled most old) →
-    (e ≡ TooManyEdges → WeighsTooMuch most (2 ^ 31) old) → ¬ (e ≡ Failed) → e ≡ Memory
-refused_again most old Memory some was unsettled heavy usable = refl
-refused_again most old NotSettled some was unsettled heavy usable =
-    let stays = unsettled refl in absurd (no_rounds_again was.1 stays.rounds was.0 old was.2 stays.cut (omega (arith, stays.all_taken)))
-refused_again most old TooManyEdges some was unsettled heavy usable =
-    let weighs = heavy refl in absurd (no_rounds_again was.1 weighs.rounds was.0 old was.2 weighs.cut weighs.some)
-refused_again most old Failed some was unsettled heavy usable = absurd (usable refl)
-
--- so it is where an answer is such a refusal
-pub refused_answer : {T : Type 0} (most : ℕ) (answer : Result T OverlayError) (old : List CountedEdge) → 1 ≤ most →
-    (IsErrOf answer NotSettled → StaysUnsettled most old) → (IsErrOf answer TooManyEdges → WeighsTooMuch most (2 ^ 31) old) → ¬ (answer ≡ Err Failed) →
-    WasArranged old → IfErr answer (λ e. e ≡ Memory)
-refused_answer most (Ok v) old some unsettled heavy usable was = tt
-refused_answer most (Err e) old some unsettled heavy usable was =
-    refused_again most old e some was (λ same. unsettled (ap Err same)) (λ same. heavy (ap Err same)) (λ same. usable (ap Err same))
-
 -- where edges meet only in whole points or overlap, more than one round cannot be taken, so they do not stay unsettled
-pub settles_whole : (limit most : ℕ) (old : List CountedEdge) → 2 ≤ most → IsContent limit old → MeetInWholePoints old → ¬ (StaysUnsettled most old)
+settles_whole : (limit most : ℕ) (old : List CountedEdge) → 2 ≤ most → IsContent limit old → MeetInWholePoints old → ¬ (StaysUnsettled most old)
 settles_whole limit most old several content whole stays =
     let few = whole_meetings_are_exact.few stays.rounds old (forward_content limit old content) whole stays.cut in
     omega (arith, few, stays.all_taken)
+
+-- a refusal of rounds is one of bringing the edges into an arrangement
+refused_so : (limit most : ℕ) (old : List CountedEdge) (e : OverlayError) → 2 ≤ most → IsContent limit old → (e ≡ NotSettled → StaysUnsettled most old) →
+    (e ≡ TooManyEdges → WeighsTooMuch most (2 ^ 31) old) → ¬ (e ≡ Failed) → MayRefuseSplitting most old e
+refused_so limit most old Memory several content unsettled heavy usable = tt
+refused_so limit most old NotSettled several content unsettled heavy usable = let stays = unsettled refl in record {
+  unsettled = stays;
+  not_whole = λ whole. settles_whole limit most old several content whole stays;
+  not_arranged = λ was. no_rounds_again was.1 stays.rounds was.0 old was.2 stays.cut (omega (arith, stays.all_taken));
+}
+refused_so limit most old TooManyEdges several content unsettled heavy usable = let weighs = heavy refl in record {
+  heavy = weighs;
+  not_arranged = λ was. no_rounds_again was.1 weighs.rounds was.0 old was.2 weighs.cut weighs.some;
+}
+refused_so limit most old Failed several content unsettled heavy usable = usable refl
+
+-- so it is where an answer is such a refusal
+pub refused_answer : {T : Type 0} (limit most : ℕ) (answer : Result T OverlayError) (old : List CountedEdge) → 2 ≤ most → IsContent limit old →
+    (IsErrOf answer NotSettled → StaysUnsettled most old) → (IsErrOf answer TooManyEdges → WeighsTooMuch most (2 ^ 31) old) → ¬ (answer ≡ Err Failed) →
+    IfErr answer (MayRefuseSplitting most old)
+refused_answer limit most (Ok v) old several content unsettled heavy usable = tt
+refused_answer limit most (Err e) old several content unsettled heavy usable =
+    refused_so limit most old e several content (λ same. unsettled (ap Err same)) (λ same. heavy (ap Err same)) (λ same. usable (ap Err same))

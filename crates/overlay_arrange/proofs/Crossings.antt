@@ -1,16 +1,15 @@
 -- Edges that go across one another's lines: how far along the one the other one crosses it, and the point through which it leads it.
-use Rattle.std.proofs.Common.{◌≡◌, ◌≢◌, inl, inr, Bool, true, false, cond, not, ◌++◌, ◌∷◌, [], List, ℤ, pos, nat_abs, ◌<ℤ◌, ◌≤ℤ◌, refl, sym, ap, ap₂, subst, ◌∙◌}
+use Rattle.std.proofs.Common.{◌≡◌, ◌≢◌, inl, inr, Bool, true, false, cond, not, ◌∷◌, [], refl, sym, ap, ◌∙◌}
 use Rattle.std.specs.Ordering.{is_ge}
 use Rattle.std.specs.declared.cmp.Ordering.{Ordering}
 use Rattle.std.specs.declared.cmp.Ordering.TheVariants.{Less, Equal, Greater}
-use Rattle.overlay_geom.specs.Plane.{Point, Edge, point_lt, cross_at}
+use Rattle.overlay_geom.specs.Plane.{Point, Edge, point_lt}
 use Rattle.overlay_geom.specs.Placed.{IsAlong, IsBeside, IsAcross}
-use Rattle.overlay_geom.specs.Points.{IsDifference, cross_of}
 use Rattle.overlay_geom.proofs.Meeting.{across_not_along}
 use Rattle.overlay_geom.proofs.PointOrder.{IsBefore}
 use Rattle.overlay_geom.proofs.Signs.{linear}
-use Rattle.overlay_plane.specs.CutPoints.{to_line, across, crossing, met_at}
-use Rattle.overlay_plane.proofs.Placements.{AreCrossing, met_beside, met_across}
+use Rattle.overlay_plane.specs.CutPoints.{crossing, met_at}
+use Rattle.overlay_plane.proofs.Placements.{met_beside, met_across}
 use Rattle.overlay_arrange.specs.Content.{point_cmp}
 use Rattle.overlay_arrange.specs.Settle.{IsPlaced}
 use Rattle.overlay_arrange.specs.declared.settle.Place.{Place}

@@ -1,10 +1,10 @@
 -- What a round of cutting knows of the edges that it cuts: each is as light as all, and the points through which it is led are in range.
-use Rattle.std.proofs.Common.{◌≡◌, ◌⊎◌, inl, inr, ℕ, ◌<◌, ◌≤◌, ℤ, neg_ℤ, pos, ◌≤ℤ◌, List, [], ◌∷◌, ◌++◌, length, get_or, refl, sym, ap, subst, ◌∙◌, arith}
+use Rattle.std.proofs.Common.{inl, inr, ℕ, ◌≤◌, ℤ, List, [], ◌∷◌, ap, arith}
 use Rattle.std.specs.List.{All, Contains, flat_map}
 use Rattle.std.proofs.lemmas.List.Elements.{All-nil, All-append, All-contains, All-weaker}
 use Rattle.std.proofs.lemmas.List.Sums.{sum_by_more_le}
 use Rattle.overlay_geom.specs.Numbers.{Within}
-use Rattle.overlay_geom.specs.Plane.{Point, Edge, IsBetween}
+use Rattle.overlay_geom.specs.Plane.{Point, IsBetween}
 use Rattle.overlay_geom.specs.Points.{InRange}
 use Rattle.overlay_geom.specs.Edges.{CountedEdge, ends_of, weight}
 use Rattle.overlay_geom.proofs.PointOrder.{Decides-point_lt}

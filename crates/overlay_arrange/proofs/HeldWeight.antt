@@ -1,8 +1,8 @@
 -- The weight of held edges, one edge at a time.
-use Rattle.std.proofs.Common.{◌≡◌, ℕ, ◌+◌, ◌<◌, ◌≤◌, ℤ, List, length, get_or, take, ap, sym, ◌∙◌, arith}
+use Rattle.std.proofs.Common.{◌≡◌, ℕ, ◌+◌, ◌<◌, ◌≤◌, ℤ, List, length, get_or, take, ap, arith}
 use Rattle.std.specs.List.{sum_by}
 use Rattle.std.proofs.lemmas.List.Folds.{fold-map}
-use Rattle.std.proofs.lemmas.List.Sums.{sum_by_more, sum_by_more_le}
+use Rattle.std.proofs.lemmas.List.Sums.{sum_by_more_le}
 use Rattle.overlay_geom.specs.Edges.{weight}
 use Rattle.overlay_geom.proofs.Weights.{edge_weight}
 use Rattle.overlay_arrange.specs.Content.{plain_edge, plain_edges}
@@ -27,12 +27,3 @@ module _ {I C : Type 0} (whole : I → ℤ) (counts : C → Counts) where
       let next : held_weight e ≡ held_weight (get_or es i e) = ap held_weight at in
       let bound = sum_by_more_le held_weight es i e within in
       omega arith
-
-  -- with the next edge the weight grows by what that weighs
-  pub weight_more : (es : List (HeldEdge I C)) (i : ℕ) (e : HeldEdge I C) → i < length es → e ≡ get_or es i e →
-      weight (plain_edges whole counts (take (i + 1) es)) ≡ weight (plain_edges whole counts (take i es)) + held_weight e
-  weight_more es i e within at =
-      weight_held (take (i + 1) es)
-      ∙ sum_by_more held_weight es i e within
-      ∙ ap (λ n. n + held_weight (get_or es i e)) (sym (weight_held (take i es)))
-      ∙ ap (λ f. weight (plain_edges whole counts (take i es)) + held_weight f) (sym at)

@@ -1,11 +1,11 @@
 -- One round more: a list that is merged, cut, and then split, was split with one round more.
-use Rattle.std.proofs.Common.{◌≡◌, ℕ, ◌+◌, ◌≤◌, List, [], ◌∷◌, length, refl, sym, ap, subst, arith}
+use Rattle.std.proofs.Common.{◌≡◌, ℕ, ◌+◌, ◌≤◌, List, [], ◌∷◌, sym, subst, arith}
 use Rattle.std.specs.Prelude.{Result, Ok, Err, OnOk}
 use Rattle.overlay_geom.specs.Edges.{CountedEdge, weight}
 use Rattle.overlay_geom.specs.Merged.{IsMerged}
 use Rattle.overlay_geom.specs.Settled.{IsSettled}
 use Rattle.overlay_plane.specs.Arrangements.{IsReachedBy, IsSplit, StaysUnsettled, WeighsTooMuch}
-use Rattle.overlay_plane.specs.Rounds.{Round, IsRound, AreRounds, pieces_of}
+use Rattle.overlay_plane.specs.Rounds.{Round, IsRound, pieces_of}
 
 -- a merged list that is settled was split without a round
 pub split_at_once : (most : ℕ) (old new : List CountedEdge) → IsMerged old new → IsSettled new → IsSplit most old new

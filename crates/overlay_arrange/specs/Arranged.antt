@@ -1,7 +1,9 @@
 -- What is known of a list of counted edges that was brought into an arrangement, and of one that was not.
-use Rattle.std.specs.Prelude.{◌≡◌, ℕ, ◌≤◌, List, length}
+use Rattle.std.specs.Prelude.{◌≡◌, ℕ, ◌≤◌, ◌^◌, List, length}
 use Rattle.overlay_geom.specs.Edges.{CountedEdge}
-use Rattle.overlay_plane.specs.Arrangements.{IsReachedBy, IsExact}
+use Rattle.overlay_geom.specs.declared.error.OverlayError.{OverlayError}
+use Rattle.overlay_geom.specs.declared.error.OverlayError.TheVariants.{Memory, NotSettled, TooManyEdges, Failed}
+use Rattle.overlay_plane.specs.Arrangements.{IsReachedBy, IsExact, StaysUnsettled, WeighsTooMuch}
 use Rattle.overlay_plane.specs.Balance.{HasBalancedCounts}
 use Rattle.overlay_plane.specs.ChainLinks.{ChainsHold}
 use Rattle.overlay_plane.specs.Meetings.{MeetInWholePoints}
@@ -26,3 +28,21 @@ pub record IsArranged (most : ℕ) (old new : List CountedEdge) : Type 0 where
   pub balanced : HasBalancedCounts old → HasBalancedCounts new
   -- what was arranged before stays as it is
   pub stays : WasArranged old → new ≡ old
+
+-- so many rounds leave edges that are not settled; they did not meet in whole points alone, and were no arrangement already
+pub record CannotBeSettled (most : ℕ) (es : List CountedEdge) : Type 0 where
+  pub unsettled : StaysUnsettled most es
+  pub not_whole : ¬ (MeetInWholePoints es)
+  pub not_arranged : ¬ (WasArranged es)
+
+-- some round, of so many at most, leaves pieces that weigh 2^31; the edges were no arrangement already
+pub record IsSplitTooMuch (most : ℕ) (es : List CountedEdge) : Type 0 where
+  pub heavy : WeighsTooMuch most (2 ^ 31) es
+  pub not_arranged : ¬ (WasArranged es)
+
+-- bringing the edges into an arrangement, with so many cutting rounds at most, may be refused so
+abbrev pub MayRefuseSplitting : ℕ → List CountedEdge → OverlayError → Type 0
+MayRefuseSplitting most es Memory = Unit {0}
+MayRefuseSplitting most es NotSettled = CannotBeSettled most es
+MayRefuseSplitting most es TooManyEdges = IsSplitTooMuch most es
+MayRefuseSplitting most es Failed = ⊥

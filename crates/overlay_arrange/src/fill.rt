@@ -1,6 +1,6 @@
 //! The filled sides of an edge: a ray straight down from its midpoint counts the edges below.
 
-ghost use Rattle.std.specs.Prelude.{◌≡◌, ℕ, ◌^◌, ◌≤◌, ◌&&◌, pos, ◌+ℤ◌, ◌*ℤ◌, int_lt, int_le};
+ghost use Rattle.std.specs.Prelude.{◌≡◌, ◌^◌, ◌≤◌, ◌&&◌, pos, ◌+ℤ◌, ◌*ℤ◌, int_lt, int_le};
 ghost use Rattle.std.specs.Prelude.{map, IfOk, IsOkUnless};
 ghost use Rattle.overlay_geom.specs.Numbers.{Within};
 ghost use Rattle.overlay_geom.specs.Plane.{midpoint, side, is_strictly_below};

@@ -1,10 +1,9 @@
 //! Splitting: rounds of merging and cutting, until edges meet in ends alone.
 
-ghost use Rattle.std.specs.Prelude.{◌≡◌, ◌≢◌, ◌^◌, ◌≤◌};
+ghost use Rattle.std.specs.Prelude.{◌≢◌, ◌^◌};
 ghost use Rattle.std.specs.Prelude.{Err, IfErr, OnOk, IsErrOf};
-ghost use Rattle.overlay_arrange.specs.Arranged.{IsArranged, WasArranged};
+ghost use Rattle.overlay_arrange.specs.Arranged.{IsArranged, MayRefuseSplitting};
 ghost use Rattle.overlay_plane.specs.Arrangements.{IsSplit, StaysUnsettled, WeighsTooMuch};
-ghost use Rattle.overlay_plane.specs.Meetings.{MeetInWholePoints};
 
 use crate::content::Content;
 use crate::count::EdgeCount;
@@ -27,14 +26,13 @@ impl<I: IntNumber, C: EdgeCount, A: Allocator + Clone> Content<I, C, A> {
     ///
     /// Refusals, after which content and store are left open: `NotSettled` where the edges are not
     /// settled after 64 rounds, `TooManyEdges` where a round brings the weight to 2^31, `Memory`.
+    /// What was arranged before is refused for want of memory alone; `NotSettled` does not come
+    /// where edges meet only in whole points or overlap.
     pub fn arrange(&mut self, store: &mut C::Store) -> Result<(), OverlayError>
         ensures arranged { OnOk result (IsArranged 64 self.old self.new) }
-        ensures not_settled { IsErrOf result OverlayError.NotSettled → StaysUnsettled 64 self.old }
-        ensures whole { MeetInWholePoints self.old → result ≢ Err OverlayError.NotSettled }
-        ensures too_many { IsErrOf result OverlayError.TooManyEdges → WeighsTooMuch 64 (2 ^ 31) self.old }
-        ensures again { WasArranged self.old → IfErr result (λ e. e ≡ OverlayError.Memory) }
-        ensures usable { result ≢ Err OverlayError.Failed }
+        ensures err { IfErr result (MayRefuseSplitting 64 self.old) }
     {
+        // (its contract says that the edges are in range, and weigh less than 2^31)
         let _ = self.edges();
         self.split(ROUNDS, store)
     }

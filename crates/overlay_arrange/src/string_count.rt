@@ -2,7 +2,7 @@
 
 ghost use Rattle.std.specs.Prelude.{◌≡◌};
 ghost use Rattle.std.specs.Int.RustNames.{bit_or};
-ghost use Rattle.overlay_arrange.specs.Counts.{has_bit, string_counts, turned_directions};
+ghost use Rattle.overlay_arrange.specs.Counts.{string_counts, turned_directions};
 
 use crate::count::EdgeCount;
 

@@ -1,5 +1,5 @@
 -- A point that is found the same as an end is that end.
-use Rattle.std.proofs.Common.{◌⊎◌, inl, inr, ⊎_elim, sym, ◌∙◌}
+use Rattle.std.proofs.Common.{inr, ⊎_elim}
 use Rattle.std.proofs.lemmas.Bool.Decides.{Decides-at, not_from_Decides}
 use Rattle.overlay_geom.specs.Points.{plain_point}
 use Rattle.overlay_geom.proofs.Orders.{Decides-point_eq}

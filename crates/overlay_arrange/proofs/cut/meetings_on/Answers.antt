@@ -1,10 +1,9 @@
 -- An edge to the left of e leads it nowhere, and so do all edges from the first one on that starts to the right of it.
-use Rattle.std.proofs.Common.{◌≡◌, ◌+◌, ◌++◌, List, drop, sym, ap, ◌∙◌, append-nil}
+use Rattle.std.proofs.Common.{◌+◌, drop, sym, ap, ◌∙◌}
 use Rattle.std.specs.List.{flat_map}
 use Rattle.std.proofs.lemmas.List.{drop-map}
-use Rattle.overlay_geom.specs.Plane.{Point}
 use Rattle.overlay_geom.specs.Points.{plain_points}
-use Rattle.overlay_geom.specs.Edges.{CountedEdge, ends_of}
+use Rattle.overlay_geom.specs.Edges.{ends_of}
 use Rattle.overlay_geom.proofs.Mapped.{All-mapped_at, mapped_rest, read_mapped}
 use Rattle.overlay_plane.specs.CutPoints.{met_at}
 use Rattle.overlay_arrange.specs.Content.{plain_edge, plain_edges, IsHeld}

@@ -1,5 +1,5 @@
 -- Where the merged list is settled no round is taken; else the cut is one, and the rest is split with the rounds that are left.
-use Rattle.std.proofs.Common.{◌≡◌, ℕ, ◌+◌, ◌-◌, Err, refl, ap, sym, subst, arith}
+use Rattle.std.proofs.Common.{◌-◌, refl, arith}
 use Rattle.std.proofs.lemmas.Bool.{false≢true}
 use Rattle.std.proofs.lemmas.Result.{err_from_is_err_and}
 use Rattle.overlay_arrange.proofs.ArrangedLists.{leaves_cut}
