@@ -1,33 +1,21 @@
 -- The first edge by the order of anchors among those of a walk is the walk's anchor.
-use Rattle.std.proofs.Common.{◌≡◌, inl, inr, Bool, true, false, ◌&&◌, List, Contains, map, refl, sym, ap, ◌∙◌}
+use Rattle.std.proofs.Common.{◌≡◌, true, false, ◌&&◌, List, Contains, map}
 use Rattle.std.specs.List.{All}
 use Rattle.std.proofs.lemmas.Bool.{both_ways, and_from, or_left, or_right, false_from_ne_true}
-use Rattle.std.proofs.lemmas.List.Elements.{All-contains, All-weaker}
-use Rattle.overlay_geom.specs.Plane.{Point, Step, Edge, point_lt, point_eq, is_forward, edge_of}
+use Rattle.std.proofs.lemmas.List.Elements.{All-contains}
+use Rattle.overlay_geom.specs.Plane.{Step, Edge, point_lt, point_eq, edge_of}
 use Rattle.overlay_geom.proofs.Orders.{point_eq-of_same}
 use Rattle.overlay_plane.specs.Nodes.{turns_left}
-use Rattle.overlay_plane.specs.LeftmostSteps.{StepHasEndBefore}
 use Rattle.overlay_plane.specs.Anchors.{IsAnchor, is_anchored_before}
-use Rattle.overlay_plane.proofs.EdgesOfSteps.{edge_by}
+use Rattle.overlay_plane.proofs.AnchorOrder.{anchored_before-transitive}
 use Rattle.overlay_plane.proofs.EdgeTurns.{IsForward}
-use Rattle.overlay_plane.proofs.LeastSteps.{point_lt_transitive}
-use Rattle.overlay_plane.proofs.LongSteps.{larger_otherwise, long_leads_forward}
+use Rattle.overlay_plane.proofs.LeastSteps.{start_before}
+use Rattle.overlay_plane.proofs.LongSteps.{long_leads_forward}
 use Rattle.overlay_walk.specs.Steps.{IsLong}
-use Rattle.overlay_walk.proofs.AnchorTests.{before-transitive}
 
 -- the edge of the step is not before e
 abbrev pub NotBefore : Edge → Step → Type 0
 NotBefore e s = is_anchored_before (edge_of s) e ≡ false
-
--- where an end of a step comes before a point, so does the start of its edge
-start_before : (s : Step) (q : Point) → ¬ (s.from ≡ s.to) → StepHasEndBefore q s → point_lt (edge_of s).a q ≡ true
-start_before s q long before = by (is_forward s) refl before
-  where
-    by : (t : Bool) → is_forward s ≡ t → StepHasEndBefore q s → point_lt (edge_by t s).a q ≡ true
-    by true forward (inl from) = from
-    by true forward (inr to) = point_lt_transitive s.from s.to q forward to
-    by false back (inl from) = point_lt_transitive s.to s.from q (larger_otherwise s.from s.to long back) from
-    by false back (inr to) = to
 
 -- an edge of the walk before which none of its edges is, is its anchor
 pub anchor_found : (steps : List Step) → ((s : Step) → Contains steps s → ¬ (s.from ≡ s.to)) → (e : Edge) → Contains (map edge_of steps) e →
@@ -35,7 +23,8 @@ pub anchor_found : (steps : List Step) → ((s : Step) → Contains steps s → 
 anchor_found steps long e among first = record {
   among = among;
   leftmost = λ s at before. both_ways (is_anchored_before (edge_of s) e) (All-contains (NotBefore e) steps s first at)
-      (or_left (point_lt (edge_of s).a e.a) (point_eq (edge_of s).a e.a && turns_left (edge_of s) e) (start_before s e.a (long s at) before));
+      (or_left (point_lt (edge_of s).a e.a) (point_eq (edge_of s).a e.a && turns_left (edge_of s) e)
+      (start_before s e.a (long_leads_forward s (long s at)) before));
   lowest = λ s at same. false_from_ne_true (turns_left (edge_of s) e)
       (λ left. both_ways (is_anchored_before (edge_of s) e) (All-contains (NotBefore e) steps s first at)
       (or_right (point_lt (edge_of s).a e.a) (point_eq (edge_of s).a e.a && turns_left (edge_of s) e)
@@ -46,4 +35,4 @@ anchor_found steps long e among first = record {
 pub still_first : (limit : _) (steps : List Step) → All (IsLong limit) steps → (e f : Edge) → IsForward e → IsForward f → is_anchored_before f e ≡ true →
     All (NotBefore e) steps → All (NotBefore f) steps
 still_first limit steps long e f he hf before first = λ i d h. false_from_ne_true _
-    (λ earlier. both_ways _ (first i d h) (before-transitive _ f e (long_leads_forward _ (long i d h).apart) hf he earlier before))
+    (λ earlier. both_ways _ (first i d h) (anchored_before-transitive _ f e (long_leads_forward _ (long i d h).apart) hf he earlier before))

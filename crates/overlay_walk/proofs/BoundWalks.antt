@@ -1,9 +1,9 @@
 -- The walks, each with what is told of it.
-use Rattle.std.proofs.Common.{◌≡◌, ℕ, zero, suc, ◌<◌, Bool, true, List, [], ◌∷◌, length, map, get_or, Option, None, Some, refl, sym, ap, ◌∙◌, subst, arith}
+use Rattle.std.proofs.Common.{◌≡◌, ℕ, suc, Bool, true, List, [], ◌∷◌, length, map, get_or, Option, None, Some, refl, ap, arith}
 use Rattle.std.specs.List.{All, slice_get}
 use Rattle.std.proofs.lemmas.List.Elements.{All-nil, All-cons}
 use Rattle.overlay_geom.specs.Plane.{Step}
-use Rattle.overlay_plane.specs.Binding.{is_hole, BoundWalk, IsBound, AreBound}
+use Rattle.overlay_plane.specs.Binding.{is_hole, BoundWalk, AreBound}
 use Rattle.overlay_walk.specs.Parents.{IsTold, IsToldAt}
 use Rattle.overlay_walk.specs.Walks.{bound_to}
 

@@ -1,9 +1,9 @@
 -- A cut under way: the walks so far, before each cut of what is left, are a cut of all steps.
-use Rattle.std.proofs.Common.{◌≡◌, ℕ, ◌+◌, ◌<◌, not, List, [], ◌∷◌, ◌++◌, length, sym, ap, ◌∙◌, subst, arith}
+use Rattle.std.proofs.Common.{◌≡◌, ◌<◌, not, List, [], ◌∷◌, ◌++◌, length, sym, ap, ◌∙◌, subst, arith}
 use Rattle.std.proofs.lemmas.List.{append-nil, append_assoc, length-append}
 use Rattle.std.proofs.lemmas.List.Sorted.{length_permutation}
 use Rattle.overlay_geom.specs.Plane.{Step}
-use Rattle.overlay_plane.specs.Turn.{Hand, step_round, IsOrbit}
+use Rattle.overlay_plane.specs.Turn.{Hand, step_round, IsOrbit, no_step}
 use Rattle.overlay_plane.specs.Alternates.{Alternates}
 use Rattle.overlay_plane.specs.BesideOrbits.{HasEachOnce}
 use Rattle.overlay_plane.specs.Contours.{IsStart, without, IsCutInto, done, next}
@@ -11,7 +11,6 @@ use Rattle.overlay_plane.specs.Orbits.{is_step_of}
 use Rattle.overlay_plane.proofs.CutWalks.{left_alternates, walk_and_left}
 use Rattle.overlay_plane.proofs.ItemsRound.{item_round-here}
 use Rattle.overlay_plane.proofs.LaterEntries.{Each-from_all_pairs, AllPairs-from_each, Each-filter}
-use Rattle.overlay_plane.proofs.OrbitSteps.{no_step}
 use Rattle.overlay_plane.proofs.ShuffledSteps.{Differ}
 
 -- the steps left alternate, each stands once, and each cut of them makes the walks a cut of all

@@ -16,10 +16,6 @@ module _ (is_open : ℕ → Bool) (before : ℕ → ℕ → Bool) (bound : ℕ) 
   up_to_next : {P : Type 0} (i k : ℕ) → k < i + 1 → (k < i → P) → (k ≡ i → P) → P
   up_to_next i k h earlier here = ⊎_elim earlier (λ at. here (omega arith)) (cases_lt k i)
 
-  -- nothing is found before the first place
-  pub none_yet : IsFirstOf is_open before low low None
-  none_yet k h below = absurd (omega arith)
-
   -- an open place that comes first is found
   found_here : (i : ℕ) (found : Option ℕ) → low ≤ i → i < bound → IsFirstOf is_open before low i found → is_open i ≡ true → comes_first before found i ≡ true →
       IsFirstOf is_open before low (i + 1) (Some i)

@@ -1,25 +1,25 @@
 -- What is told of a hole follows from the walk that the look-up found, of which it is told already.
-use Rattle.std.proofs.Common.{◌≡◌, ◌⊎◌, inl, inr, ⊎_elim, ℕ, ◌+◌, ◌<◌, ◌≤◌, ◌≢◌, Bool, true, false, cond, nat_lt, List, [], ◌∷◌, ◌++◌, length, map, take, get_or, slice_set, Contains, Option, None, Some, refl, sym, ap, ap₂, ◌∙◌, subst, arith}
+use Rattle.std.proofs.Common.{◌≡◌, inl, inr, ℕ, ◌+◌, ◌<◌, ◌≤◌, ◌≢◌, Bool, true, false, cond, nat_lt, List, [], ◌∷◌, ◌++◌, length, take, get_or, slice_set, Contains, Option, None, Some, sym, ap, ◌∙◌, subst, arith}
 use Rattle.std.specs.List.{All, slice_get}
-use Rattle.std.specs.Option.{MatchOption, is_some}
+use Rattle.std.specs.Option.{is_some}
 use Rattle.std.proofs.lemmas.Bool.{both_ways, cases_Bool, ltb-true, ltb-false, le-ltb, lt-ltb}
 use Rattle.std.proofs.Math.Dec.{ltb}
-use Rattle.std.proofs.lemmas.List.{get_or-set_same, get_or-set_other, get_or-take, get_or_default, length-take-le, take_more, take_all}
-use Rattle.std.proofs.lemmas.List.Elements.{All-contains, All-push, All-weaker, Contains-append_left}
-use Rattle.std.proofs.lemmas.Option.{slice_get_within, get_or_from_slice_get}
+use Rattle.std.proofs.lemmas.List.{get_or-set_same, get_or-set_other, get_or-take, get_or_default, length-take-le, take_more}
+use Rattle.std.proofs.lemmas.List.Elements.{All-contains, All-push, All-weaker}
+use Rattle.std.proofs.lemmas.Option.{slice_get_within}
 use Rattle.overlay_geom.specs.Plane.{Step, Edge}
 use Rattle.overlay_plane.specs.Contours.{IsContour}
 use Rattle.overlay_plane.specs.Anchors.{IsAnchor, is_anchored_before}
-use Rattle.overlay_plane.specs.Binding.{is_hole, outlines, IsNextWalk, IsParentOf, HasNoParent, HasNoneBelow}
+use Rattle.overlay_plane.specs.Binding.{is_hole, IsNextWalk, HasNoneBelow}
 use Rattle.overlay_plane.specs.Binding.IsParentOf.{direct, through}
 use Rattle.overlay_plane.specs.Binding.HasNoParent.{none, through as through_hole}
+use Rattle.overlay_plane.proofs.AnchorOrder.{anchored_before-itself}
 use Rattle.overlay_plane.proofs.Anchors.{anchor_forward}
 use Rattle.overlay_plane.proofs.Entries.{Contains-from_map}
 use Rattle.overlay_plane.proofs.NextAnchors.{next_is_anchored_before}
 use Rattle.overlay_scan.specs.Scan.{Entry}
 use Rattle.overlay_walk.specs.Parents.{IsOutlineNumber, AreOutlineNumbers, IsTold, IsToldAt}
-use Rattle.overlay_walk.specs.WalkEdges.{IsOfWalk, IsAnchored, IsHoleEntry, AreHoleEntries, IsByAnchor}
-use Rattle.overlay_walk.proofs.AnchorTests.{before-itself}
+use Rattle.overlay_walk.specs.WalkEdges.{IsHoleEntry, AreHoleEntries}
 use Rattle.overlay_walk.proofs.HoleEntries.{same_at, Contains-at}
 
 -- the number of a shape that is looked up for the walk with this index
@@ -61,7 +61,7 @@ module _ (on_left : Bool) (walks : List (List Step)) (contours : All IsContour w
         let before = subst (λ (e : Edge). is_anchored_before k.edge e ≡ true) anchor_is
         (next_is_anchored_before on_left walks contours hole next (Contains-at walks h.value hole at) is_next k.edge
         (subst (λ w. IsAnchor w k.edge) same own.has.anchor)) in
-        let itself = before-itself h.edge (anchor_forward hole (All-contains IsContour walks hole contours (Contains-at walks h.value hole at)) h.edge anchor) in
+        let itself = anchored_before-itself h.edge (anchor_forward hole (All-contains IsContour walks hole contours (Contains-at walks h.value hole at)) h.edge anchor) in
         subst (λ m. IsTold on_left walks next (get_or parents m None)) found.2
         (All-contains (λ j. IsToldAt on_left walks parents j.value) (take i hs) k told (stands_before k found.1 before itself) next
         (ap (slice_get walks) found.2 ∙ at_next) also)

@@ -1,33 +1,31 @@
 -- What a look-up below an anchor finds: the walk with the next filled-above edge, or that no edge is below.
-use Rattle.std.proofs.Common.{◌≡◌, ◌⊎◌, inl, inr, ⊎_elim, ℕ, ◌<◌, Bool, true, false, ◌&&◌, ℤ, pos, ◌+ℤ◌, ◌*ℤ◌, ◌<ℤ◌, ◌≤ℤ◌, neg_ℤ, int_lt, int_le}
-use Rattle.std.proofs.Common.{List, [], ◌∷◌, ◌++◌, length, map, take, drop, Contains, Option, None, Some, refl, sym, ap, ap₂, ◌∙◌, subst, arith}
-use Rattle.std.specs.List.{All, filter, flat_map, last_or, slice_get}
-use Rattle.std.specs.Option.{IfSome, MatchOption}
-use Rattle.std.proofs.lemmas.Bool.{both_ways, and_from, and_parts, false_from_ne_true}
+use Rattle.std.proofs.Common.{◌≡◌, ◌⊎◌, inl, inr, ⊎_elim, ℕ, Bool, true, false, ◌&&◌, pos, ◌*ℤ◌, ◌<ℤ◌, int_lt, int_le}
+use Rattle.std.proofs.Common.{List, [], ◌∷◌, length, take, drop, Contains, Option, None, Some, refl, sym, ap, ap₂, ◌∙◌, subst, arith}
+use Rattle.std.specs.List.{All, filter, last_or, slice_get}
+use Rattle.std.specs.Option.{MatchOption}
+use Rattle.std.proofs.lemmas.Bool.{and_parts, false_from_ne_true}
 use Rattle.std.proofs.lemmas.Int.{ints}
 use Rattle.std.proofs.lemmas.List.{take-append-drop}
 use Rattle.std.proofs.lemmas.List.Elements.{All-contains, Contains-append_left, Contains-append_cases, Contains-get_or}
 use Rattle.overlay_geom.specs.Plane.{Step, Edge, edge_of, edge_eq, point_lt}
 use Rattle.overlay_geom.specs.Settled.{IsSettledBy, MeetInEnds}
-use Rattle.overlay_geom.proofs.Signs.{linear}
-use Rattle.overlay_plane.specs.Heights.{gap, covers, is_under}
+use Rattle.overlay_plane.specs.Heights.{covers, is_under}
 use Rattle.overlay_plane.specs.Contours.{is_filled_above, IsContour, all_steps}
-use Rattle.overlay_plane.specs.Anchors.{IsAnchor, IsNextBelow, is_below_anchor, is_lower_at, HasEachEdgeOnce}
-use Rattle.overlay_plane.specs.Binding.{is_hole, filled_above_edges, all_filled_above, IsNextWalk, HasNoneBelow}
+use Rattle.overlay_plane.specs.Anchors.{IsAnchor, is_below_anchor, is_lower_at}
+use Rattle.overlay_plane.specs.Binding.{filled_above_edges, all_filled_above, IsNextWalk, HasNoneBelow}
 use Rattle.overlay_plane.proofs.Anchors.{anchor_step}
-use Rattle.overlay_plane.proofs.AnchorsLeadOn.{anchors_lead_on}
 use Rattle.overlay_plane.proofs.BelowAnchors.{below_an_anchor_is_under}
 use Rattle.overlay_plane.proofs.ContourSteps.{contour_long}
-use Rattle.overlay_plane.proofs.Entries.{Contains-filter, Contains-from_filter, Contains-map, Contains-from_map, Contains-flat_map, Contains-from_flat_map}
-use Rattle.overlay_plane.proofs.LineForms.{gap_exchanged}
+use Rattle.overlay_plane.proofs.Entries.{Contains-filter, Contains-from_filter, Contains-from_map, Contains-flat_map}
 use Rattle.overlay_plane.proofs.LongSteps.{long_leads_forward}
 use Rattle.overlay_plane.proofs.LowerEdges.{lower_at_is_under}
-use Rattle.overlay_plane.proofs.Tests.{lt_from_test, gt_from_test, test_from_lt, test_from_ge, le_from_test}
+use Rattle.overlay_plane.proofs.Tests.{lt_from_test, test_from_lt, le_from_test}
+use Rattle.overlay_plane.proofs.Under.{under_irreflexive, under_asymmetric}
 use Rattle.overlay_scan.specs.Scan.{Entry, Sweep, live_at, IsOver, AreLive, MeetsOthers, entry_below, value_or, value_below}
 use Rattle.overlay_scan.specs.Laws.{IsGreatestUnder}
 use Rattle.overlay_scan.proofs.LastEntries.{look_up_gives_the_greatest}
 use Rattle.overlay_walk.specs.Parents.{IsSwept}
-use Rattle.overlay_walk.specs.WalkEdges.{IsOfWalk, IsFilledEntry, AreFilledEntries}
+use Rattle.overlay_walk.specs.WalkEdges.{IsFilledEntry, AreFilledEntries}
 use Rattle.overlay_walk.proofs.HoleEntries.{Contains-at}
 
 -- a list with an entry has a last one
@@ -38,17 +36,6 @@ some_last x (y ∷ ys) none = some_last y ys none
 no_last : {X : Type 0} (xs : List X) (x : X) → Contains xs x → last_or None xs ≡ None → ⊥
 no_last [] x c none = elim c.1 [ ]
 no_last (y ∷ ys) x c none = some_last y ys none
-
--- of two edges one at most is under the other
-under_one_way : (f g : Edge) (x d : ℤ) → is_under g f x d ≡ true → is_under f g x d ≡ false
-under_one_way f g x d under =
-    let low = lt_from_test (pos 0) (gap g f (x +ℤ x +ℤ pos 1) (d +ℤ d)) under in
-    let back = gap_exchanged f g (x +ℤ x +ℤ pos 1) (d +ℤ d) in
-    test_from_ge (pos 0) (gap f g (x +ℤ x +ℤ pos 1) (d +ℤ d)) (omega linear)
-
--- no edge is under itself
-under_itself : (f : Edge) (x d : ℤ) → is_under f f x d ≡ false
-under_itself f x d = false_from_ne_true (is_under f f x d) (λ under. both_ways (is_under f f x d) (under_one_way f f x d under) under)
 
 module _ (on_left : Bool) (walks : List (List Step)) (contours : All IsContour walks) (settled : IsSettledBy edge_of (all_steps walks)) where
   -- an edge of a walk: that of a step, which leads forward
@@ -179,8 +166,8 @@ module _ (on_left : Bool) (walks : List (List Step)) (contours : All IsContour w
           there = Contains-at walks f.value (own f great.entry).walk (own f great.entry).at
 
           not_under : (g : Entry ℕ) → (g ≡ f) ⊎ (is_under g.edge f.edge e.a.x (pos 1) ≡ true) → is_under f.edge g.edge e.a.x (pos 1) ≡ false
-          not_under g (inl same) = subst (λ (h : Entry ℕ). is_under f.edge h.edge e.a.x (pos 1) ≡ false) (sym same) (under_itself f.edge e.a.x (pos 1))
-          not_under g (inr under) = under_one_way f.edge g.edge e.a.x (pos 1) under
+          not_under g (inl same) = subst (λ (h : Entry ℕ). is_under f.edge h.edge e.a.x (pos 1) ≡ false) (sym same) (under_irreflexive f.edge e.a.x (pos 1))
+          not_under g (inr under) = under_asymmetric g.edge f.edge e.a.x (pos 1) under
 
           no_greater : (g : Edge) → Contains (all_filled_above on_left walks) g → is_below_anchor e g ≡ true → is_lower_at e.a.x f.edge g ≡ false
           no_greater g c below =

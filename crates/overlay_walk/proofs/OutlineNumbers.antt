@@ -1,15 +1,15 @@
 -- The numbers of the first walks among the outlines.
 use Rattle.std.proofs.Common.{◌≡◌, ℕ, ◌+◌, ◌<◌, ◌≤◌, Bool, true, false, not, cond, List, [], ◌∷◌, ◌++◌, length, take, drop, get_or, Option, None, Some, refl, sym, ap, ◌∙◌, subst, arith, below_more, append-nil, length-append}
-use Rattle.std.specs.List.{filter, slice_get}
-use Rattle.std.specs.Option.{MatchOption}
-use Rattle.std.proofs.lemmas.List.{length_push, get_or_append_left, take-append-drop, take_more, drop_more}
+use Rattle.std.specs.List.{slice_get}
+use Rattle.std.proofs.lemmas.List.{length_push, get_or_append_left, take-append-drop}
 use Rattle.std.proofs.Math.Seq.{get_or-append_seam}
 use Rattle.std.proofs.lemmas.List.Elements.{filter-append}
-use Rattle.std.proofs.lemmas.Option.{slice_get_read, slice_get_within, get_or_from_slice_get}
+use Rattle.std.proofs.lemmas.Option.{slice_get_read, slice_get_within}
 use Rattle.overlay_geom.specs.Plane.{Step}
 use Rattle.overlay_plane.specs.Binding.{is_hole, outlines}
 use Rattle.overlay_walk.specs.Parents.{IsOutlineNumber, AreOutlineNumbers}
 use Rattle.overlay_walk.proofs.HoleEntries.{same_at}
+use Rattle.overlay_geom.proofs.ReadInOrder.{take_read, drop_read}
 
 module _ (on_left : Bool) (walks : List (List Step)) where
   -- the number of the walk with this index
@@ -33,7 +33,7 @@ module _ (on_left : Bool) (walks : List (List Step)) where
 
     -- the walks up to the next one
     first : take (i + 1) walks ≡ take i walks ++ w ∷ []
-    first = take_more walks i w (slice_get_within walks i w at) ∙ ap (λ v. take i walks ++ v ∷ []) (get_or_from_slice_get walks i w w at)
+    first = take_read walks i w at
 
     -- and the outlines among them
     more : outlines on_left (take (i + 1) walks) ≡ outlines on_left (take i walks) ++ cond (not (is_hole on_left w)) (w ∷ []) []
@@ -61,8 +61,7 @@ module _ (on_left : Bool) (walks : List (List Step)) where
         with_it = more ∙ ap (λ t. outlines on_left (take i walks) ++ cond (not t) (w ∷ []) []) is
 
         parts : outlines on_left walks ≡ outlines on_left (take i walks) ++ w ∷ outlines on_left (drop (i + 1) walks)
-        parts = ap (outlines on_left) (sym (take-append-drop i walks) ∙ ap (λ ws. take i walks ++ ws)
-            (drop_more walks i w (slice_get_within walks i w at) ∙ ap (λ v. v ∷ drop (i + 1) walks) (get_or_from_slice_get walks i w w at)))
+        parts = ap (outlines on_left) (sym (take-append-drop i walks) ∙ ap (λ ws. take i walks ++ ws) (drop_read walks i w at))
             ∙ filter-append (λ v. not (is_hole on_left v)) (take i walks) (w ∷ drop (i + 1) walks)
             ∙ ap (λ t. outlines on_left (take i walks) ++ cond (not t) (w ∷ outlines on_left (drop (i + 1) walks)) (outlines on_left (drop (i + 1) walks))) is
 

@@ -1,5 +1,5 @@
 -- Steps sorted by the points that they leave: the comparison is an order, and the steps that leave a point stand side by side.
-use Rattle.std.proofs.Common.{◌≡◌, ⊎_elim, ℕ, zero, suc, ◌<◌, ◌≤◌, Bool, true, false, not, ℤ, List, [], ◌∷◌, length, get_or, refl, ap, sym, ◌∙◌, subst, arith}
+use Rattle.std.proofs.Common.{◌≡◌, ⊎_elim, ℕ, ◌<◌, ◌≤◌, Bool, true, false, not, ℤ, List, [], ◌∷◌, length, get_or, refl, ap, sym, ◌∙◌, subst, arith}
 use Rattle.std.specs.Cmp.{IsStrictWeakOrder}
 use Rattle.std.specs.List.Sorted.{IsSortedBy, IsPartitionedBy, IsPartitionPoint}
 use Rattle.std.specs.Ordering.{is_lt, is_gt, ordering_reverse}
@@ -7,10 +7,11 @@ use Rattle.std.specs.declared.cmp.Ordering.{Ordering}
 use Rattle.std.specs.declared.cmp.Ordering.TheVariants.{Less, Equal, Greater}
 use Rattle.std.proofs.lemmas.Bool.{both_ways, false_from_ne_true, cases_lt}
 use Rattle.std.proofs.lemmas.List.{length-map, get_or-map}
-use Rattle.std.proofs.lemmas.List.Sorted.{sorted_far, ranks_by}
+use Rattle.std.proofs.lemmas.List.Sorted.{sorted_far}
 use Rattle.overlay_geom.specs.Plane.{Point, Step, point_lt, point_eq}
 use Rattle.overlay_geom.proofs.Mapped.{AllPairs-map}
-use Rattle.overlay_geom.proofs.Orders.{point_order, point_order-total, point_lt-is_less, point_lt-back, point_eq-same, point_lt-itself}
+use Rattle.overlay_geom.proofs.Orders.{point_order, point_order-total, point_lt-is_less, point_lt-back, point_eq-same, point_lt-itself, point_lt-order}
+use Rattle.overlay_geom.proofs.PointOrder.{point_lt-after_up_to, point_lt-before_up_to}
 use Rattle.overlay_arrange.specs.Content.{point_cmp}
 use Rattle.overlay_arrange.proofs.EdgeOrder.{point_cmp-is_order}
 use Rattle.overlay_walk.specs.Places.{step_at, IsRun}
@@ -32,31 +33,6 @@ point_cmp-is_greater p q =
     greater Less = refl
     greater Equal = refl
     greater Greater = refl
-
--- points are in an order in which any two compare
-point_lt-order : IsStrictWeakOrder point_lt
-point_lt-order =
-    let r : IsStrictWeakOrder (λ (p q : Point). is_lt (point_order p q)) = ranks_by point_order-total (λ (p : Point). p) in
-    record {
-      one_way = λ p q h. point_lt-is_less q p ∙ r.one_way p q (sym (point_lt-is_less p q) ∙ h);
-      chain = λ p q s h k. point_lt-is_less p s ∙ r.chain p q s (sym (point_lt-is_less p q) ∙ h) (sym (point_lt-is_less q s) ∙ k);
-    }
-
--- what comes before a point, or with it, is smaller than what that is smaller than
-smaller_before : (p q r : Point) → point_lt q p ≡ false → point_lt q r ≡ true → point_lt p r ≡ true
-smaller_before p q r back less = by (point_lt p r) refl
-  where
-    by : (t : Bool) → point_lt p r ≡ t → point_lt p r ≡ true
-    by true e = e
-    by false e = absurd (both_ways (point_lt q r) (point_lt-order.chain q p r back e) less)
-
--- what is smaller than a point is smaller than all that come after it, or with it
-smaller_after : (p q r : Point) → point_lt p q ≡ true → point_lt r q ≡ false → point_lt p r ≡ true
-smaller_after p q r less back = by (point_lt p r) refl
-  where
-    by : (t : Bool) → point_lt p r ≡ t → point_lt p r ≡ true
-    by true e = e
-    by false e = absurd (both_ways (point_lt p q) (point_lt-order.chain p r q e back) less)
 
 -- neither smaller nor larger is the same
 same_unless_smaller : (p q : Point) → point_lt p q ≡ false → point_lt q p ≡ false → p ≡ q
@@ -118,12 +94,12 @@ module _ {I D : Type 0} (whole : I → ℤ) where
     -- so each test passes in the front of the list alone
     pub below-parted : IsPartitionedBy (leaves_below p) ss
     below-parted i j d up h less =
-        smaller_before (plain_step whole (get_or ss i d)).from (plain_step whole (get_or ss j d)).from p (later_leaves i j d up h) less
+        point_lt-after_up_to (plain_step whole (get_or ss i d)).from (plain_step whole (get_or ss j d)).from p (later_leaves i j d up h) less
 
     pub up_to-parted : IsPartitionedBy (leaves_up_to p) ss
     up_to-parted i j d up h at = ap not (false_from_ne_true (point_lt p (plain_step whole (get_or ss i d)).from)
         (λ less. both_ways (not (point_lt p (plain_step whole (get_or ss j d)).from))
-        (ap not (smaller_after p (plain_step whole (get_or ss i d)).from (plain_step whole (get_or ss j d)).from less (later_leaves i j d up h))) at))
+        (ap not (point_lt-before_up_to p (plain_step whole (get_or ss i d)).from (plain_step whole (get_or ss j d)).from less (later_leaves i j d up h))) at))
 
     -- between the two fronts stand the steps that leave p
     pub run_between : (low high : ℕ) → low ≤ length ss → high ≤ length ss →

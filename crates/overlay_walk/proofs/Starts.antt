@@ -11,7 +11,7 @@ use Rattle.overlay_arrange.specs.Content.{point_cmp}
 use Rattle.overlay_arrange.proofs.EdgeOrder.{point_cmp-is_tie}
 use Rattle.overlay_geom.proofs.Comparisons.{is_gt-int_cmp}
 use Rattle.overlay_geom.proofs.Orders.{point_eq-same, point_eq-of_same, point_lt-itself}
-use Rattle.overlay_geom.proofs.PointOrder.{Decides-point_lt, before_up_to, before_after_up_to}
+use Rattle.overlay_geom.proofs.PointOrder.{point_lt-transitive}
 use Rattle.overlay_plane.specs.Contours.{IsStart}
 use Rattle.overlay_plane.specs.Nodes.{edge_turn, turns_left}
 use Rattle.overlay_plane.proofs.EdgeTurns.{edge_turn_same, left_after_left}
@@ -35,10 +35,6 @@ starts_before-itself s = false_from_ne_true (starts_before s s) (λ e. ⊎_elim
     (and_parts (point_eq (edge_of s).a (edge_of s).a) (turns_left (edge_of s) (edge_of s)) left).1)
     (or_cases (point_lt (edge_of s).a (edge_of s).a) (is_left_at_start s s) e))
 
--- smaller than a smaller point is smaller
-smaller_through : (p q r : Point) → point_lt p q ≡ true → point_lt q r ≡ true → point_lt p r ≡ true
-smaller_through p q r pq qr = (Decides-point_lt p r).1 (before_after_up_to p q r (before_up_to p q ((Decides-point_lt p q).0 pq)) ((Decides-point_lt q r).0 qr))
-
 module _ (s t u : Step) (s_long : ¬ (s.from ≡ s.to)) (t_long : ¬ (t.from ≡ t.to)) (u_long : ¬ (u.from ≡ u.to)) where
   -- left of what is left
   left_of_left : turns_left (edge_of t) (edge_of s) ≡ true → turns_left (edge_of u) (edge_of t) ≡ true → turns_left (edge_of u) (edge_of s) ≡ true
@@ -49,7 +45,7 @@ module _ (s t u : Step) (s_long : ¬ (s.from ≡ s.to)) (t_long : ¬ (t.from ≡
   -- what starts before a step starts before all before which that starts
   pub starts_before-transitive : starts_before s t ≡ true → starts_before t u ≡ true → starts_before s u ≡ true
   starts_before-transitive st tu = ⊎_elim
-      (λ less. ⊎_elim (λ on. smaller (smaller_through (edge_of s).a (edge_of t).a (edge_of u).a less on))
+      (λ less. ⊎_elim (λ on. smaller (point_lt-transitive (edge_of s).a (edge_of t).a (edge_of u).a less on))
       (λ left. smaller (subst (λ p. point_lt (edge_of s).a p ≡ true) (same_start t u left) less)) second)
       (λ left. ⊎_elim (λ on. smaller (subst (λ p. point_lt p (edge_of u).a ≡ true) (sym (same_start s t left)) on)) (both left) second)
       (or_cases (point_lt (edge_of s).a (edge_of t).a) (is_left_at_start s t) st)

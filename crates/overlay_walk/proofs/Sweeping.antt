@@ -1,22 +1,22 @@
 -- One turn of the sweep over anchors: what it asks of the list of live edges, and what it tells of a hole.
-use Rattle.std.proofs.Common.{◌≡◌, inl, inr, ⊎_elim, ℕ, ◌+◌, ◌<◌, ◌≤◌, Bool, true, false, ℤ, pos, ◌≤ℤ◌, ◌<ℤ◌, List, [], ◌∷◌, ◌++◌, length, map, take, drop, get_or, slice_set, Contains, Option, None, Some, refl, sym, ap, ◌∙◌, subst, arith}
-use Rattle.std.specs.List.{All, slice_get}
+use Rattle.std.proofs.Common.{◌≡◌, ⊎_elim, ℕ, ◌+◌, ◌<◌, ◌≤◌, Bool, true, ℤ, pos, ◌≤ℤ◌, ◌<ℤ◌, List, [], length, take, drop, get_or, slice_set, Contains, Option, refl, sym, subst}
+use Rattle.std.specs.List.{All}
 use Rattle.std.proofs.lemmas.List.{drop_more, take_all}
 use Rattle.std.proofs.lemmas.List.Elements.{All-contains, All-head, All-tail, All-weaker}
 use Rattle.std.proofs.lemmas.Option.{slice_get_within}
-use Rattle.overlay_geom.specs.Plane.{Step, Edge, edge_of}
+use Rattle.overlay_geom.specs.Plane.{Step, edge_of}
 use Rattle.overlay_geom.specs.Settled.{IsSettledBy}
 use Rattle.overlay_plane.specs.Heights.{covers}
 use Rattle.overlay_plane.specs.Contours.{IsContour, all_steps}
 use Rattle.overlay_plane.specs.Anchors.{HasEachEdgeOnce}
 use Rattle.overlay_plane.proofs.AnchorsLeadOn.{anchors_lead_on}
 use Rattle.overlay_plane.proofs.Entries.{Contains-flat_map, Contains-from_map}
-use Rattle.overlay_scan.specs.Scan.{Entry, Sweep, empty_sweep, live_at, moved_to, MayMoveTo, IsSweep, MeetsOthers, value_below}
+use Rattle.overlay_scan.specs.Scan.{Entry, Sweep, empty_sweep, live_at, moved_to, IsSweep, MeetsOthers, value_below}
 use Rattle.overlay_walk.specs.Parents.{IsSwept, AreOutlineNumbers, IsToldAt}
 use Rattle.overlay_walk.specs.WalkEdges.{IsFilledEntry, AreFilledEntries, IsHoleEntry, AreHoleEntries}
 use Rattle.overlay_walk.proofs.HoleEntries.{Contains-at}
 use Rattle.overlay_walk.proofs.HolesTold.{shape_of, told_none, told_next, all_told}
-use Rattle.overlay_walk.proofs.LaterEntries.{later_starts}
+use Rattle.overlay_walk.proofs.EntriesByAnchor.{later_starts}
 use Rattle.overlay_walk.proofs.NextBelow.{filled_walked, walked_meet, meets_anchor, Finds, look_up}
 use Rattle.overlay_walk.proofs.SweptEntries.{moved_on}
 

@@ -1,5 +1,5 @@
 -- A sweep that holds the live entries of a list, where the list has one more entry, and where the sweep moves on.
-use Rattle.std.proofs.Common.{◌≡◌, inl, inr, ⊎_elim, ℕ, Bool, true, false, ℤ, pos, ◌≤ℤ◌, ◌<ℤ◌, int_lt, List, [], ◌∷◌, ◌++◌, Contains, Some, refl, sym, ap, ◌∙◌, subst, arith}
+use Rattle.std.proofs.Common.{◌≡◌, ⊎_elim, ℕ, Bool, true, false, ℤ, ◌≤ℤ◌, int_lt, List, [], ◌∷◌, ◌++◌, Contains, Some, sym, subst, arith}
 use Rattle.std.specs.Option.{IfSome}
 use Rattle.std.proofs.lemmas.Bool.{both_ways}
 use Rattle.std.proofs.lemmas.Int.{ints}
@@ -8,16 +8,12 @@ use Rattle.overlay_geom.proofs.Entries.{Contains-head}
 use Rattle.overlay_plane.proofs.Entries.{Contains-filter, Contains-from_filter}
 use Rattle.overlay_plane.proofs.ShuffledSteps.{beside_one, one_or_beside}
 use Rattle.overlay_plane.proofs.Tests.{lt_from_test, test_from_lt}
-use Rattle.overlay_scan.specs.Scan.{Entry, Sweep, live_at, moved_to, MayMoveTo, IsSweep, IsPutIn}
+use Rattle.overlay_scan.specs.Scan.{Entry, Sweep, live_at, moved_to, IsSweep, IsPutIn}
 use Rattle.overlay_walk.specs.Parents.{IsSwept}
 
 -- the entry ends right of x
 abbrev is_live : ℤ → Entry ℕ → Bool
 is_live x f = int_lt x f.edge.b.x
-
--- x is no larger than itself
-not_past : (x : ℤ) → x ≤ℤ x
-not_past x = omega (arith, ints)
 
 module _ (limit : ℕ) (x : ℤ) (fs : List (Entry ℕ)) (s : Sweep ℕ) (swept : IsSwept limit x fs s) where
   -- an entry that has ended counts no more
@@ -33,11 +29,11 @@ module _ (limit : ℕ) (x : ℤ) (fs : List (Entry ℕ)) (s : Sweep ℕ) (swept 
   }
 
   -- an entry that is live is put in
-  pub put_in : (e : Entry ℕ) → is_live x e ≡ true → (t : Sweep ℕ) → IsPutIn x e (live_at x s.entries) t.entries → t.least ≡ Some x → IsSweep limit t →
+  pub put_in : (e : Entry ℕ) → is_live x e ≡ true → (t : Sweep ℕ) → IsPutIn x e (live_at x s.entries) t.entries → t.reached ≡ Some x → IsSweep limit t →
       IsSwept limit x (fs ++ e ∷ []) t
-  put_in e over t put least state = record {
+  put_in e over t put reached state = record {
     state = state;
-    moves = subst (λ o. IfSome o (λ l. l ≤ℤ x)) (sym least) (not_past x);
+    moves = subst (λ o. IfSome o (λ l. l ≤ℤ x)) (sym reached) (omega (arith, ints));
     from = λ f c.
         let live = Contains-from_filter (is_live x) t.entries f c in ⊎_elim
         (λ is. subst (Contains (fs ++ e ∷ [])) is (Contains-push fs e))

@@ -1,21 +1,17 @@
 -- A mark that is set takes one step out of those left, where each stands once.
-use Rattle.std.proofs.Common.{◌≡◌, ℕ, zero, suc, ◌<◌, Bool, true, false, cond, not, ◌||◌, List, [], ◌∷◌, length, get_or, refl, sym, ap, ap₂, ◌∙◌, arith}
-use Rattle.std.specs.Prelude.{Contains, filter, set}
-use Rattle.std.proofs.lemmas.Bool.{both_ways, false_from_ne_true}
+use Rattle.std.proofs.Common.{◌≡◌, ℕ, zero, suc, ◌<◌, Bool, true, false, cond, not, ◌||◌, List, [], ◌∷◌, length, refl, sym, ap, ◌∙◌, arith}
+use Rattle.std.specs.Prelude.{Contains, set}
+use Rattle.std.proofs.lemmas.Bool.{both_ways}
 use Rattle.overlay_geom.specs.Plane.{Step, step_eq}
 use Rattle.overlay_geom.proofs.Entries.{Contains-head, Contains-later}
 use Rattle.overlay_plane.specs.Contours.{without}
 use Rattle.overlay_plane.specs.Orbits.{is_step_of}
-use Rattle.overlay_plane.proofs.AtNodes.{same_steps, equal_steps}
+use Rattle.overlay_plane.proofs.AtNodes.{equal_steps, step_eq-flip}
 use Rattle.overlay_plane.proofs.LaterEntries.{Each}
 use Rattle.overlay_plane.proofs.ShuffledSteps.{Differ}
 use Rattle.overlay_walk.specs.Places.{is_open, step_at}
 use Rattle.overlay_walk.specs.Steps.{unmarked}
 use Rattle.overlay_walk.proofs.OpenPlaces.{unmarked_at}
-
--- different steps differ whichever of them is named first
-differ_back : (s t : Step) → step_eq s t ≡ false → step_eq t s ≡ false
-differ_back s t e = false_from_ne_true (step_eq t s) (λ same. both_ways (step_eq s t) e (equal_steps s t (sym (same_steps t s same))))
 
 -- a step alone is left out where it is the one
 alone : (s t : Step) (b : Bool) → step_eq s t ≡ b → is_step_of (s ∷ []) t ≡ b
@@ -41,6 +37,6 @@ unmarked-set (s ∷ ss) (false ∷ ms) zero same h at once =
 unmarked-set (s ∷ ss) (true ∷ ms) (suc k) same h at once = unmarked-set ss ms k (omega arith) (omega arith) at once
 unmarked-set (s ∷ ss) (false ∷ ms) (suc k) same h at once =
     let t = step_at ss k in
-    let other = differ_back s t (once.0 t (unmarked_at ss ms _ k (omega arith) (omega arith) at)) in
+    let other = step_eq-flip s t (once.0 t (unmarked_at ss ms _ k (omega arith) (omega arith) at)) in
     ap (λ us. s ∷ us) (unmarked-set ss ms k (omega arith) (omega arith) at once.1)
     ∙ sym (ap (λ b. cond (not b) (s ∷ without (unmarked ss ms) (t ∷ [])) (without (unmarked ss ms) (t ∷ []))) (alone t s false other))

@@ -1,52 +1,25 @@
 -- A walk under way: the orbit so far, the last step of it pending, and the steps that are left after all but the first are taken.
-use Rattle.std.proofs.Common.{◌≡◌, ◌≢◌, ⊎_elim, ℕ, zero, suc, ◌+◌, ◌-◌, ◌<◌, ◌≤◌, Bool, true, false, cond, not, ◌||◌, List, [], ◌∷◌, ◌++◌, length, drop, get_or, refl, sym, ap, ◌∙◌, subst, arith}
+use Rattle.std.proofs.Common.{◌≡◌, ⊎_elim, ◌+◌, ◌-◌, ◌<◌, ◌≤◌, Bool, true, false, cond, not, ◌||◌, List, [], ◌∷◌, ◌++◌, length, drop, refl, sym, ap, ◌∙◌, subst, arith}
 use Rattle.std.specs.Prelude.{Contains, Any}
 use Rattle.std.proofs.lemmas.Bool.{both_ways, false_from_ne_true}
 use Rattle.std.proofs.lemmas.List.{length_push, length-drop, get_or_push, get_or_append_left, get_or-drop, drop-append-le}
 use Rattle.std.proofs.lemmas.List.Elements.{All-contains}
 use Rattle.overlay_geom.specs.Plane.{Step, step_eq}
-use Rattle.overlay_plane.specs.Turn.{Hand, is_met_before, IsNextStep, step_round, IsOrbit}
+use Rattle.overlay_plane.specs.Turn.{Hand, is_met_before, IsNextStep, step_round, IsOrbit, no_step}
 use Rattle.overlay_plane.specs.Alternates.{Alternates}
 use Rattle.overlay_plane.specs.Contours.{without}
 use Rattle.overlay_plane.specs.Orbits.{is_step_of}
 use Rattle.overlay_plane.specs.OrbitsSoFar.{IsOrbitSoFar, last_of, GoesRound}
 use Rattle.overlay_plane.proofs.AtNodes.{by_steps, leaving_apart}
-use Rattle.overlay_plane.proofs.CutWalks.{left_parts, left_from}
+use Rattle.overlay_plane.proofs.CutWalks.{left_parts, left_from, without-none, is_step_of-append, without-without}
 use Rattle.overlay_plane.proofs.Entries.{any_of_entry}
 use Rattle.overlay_plane.proofs.ItemsRound.{item_round-here, place_of, Contains-item_round}
 use Rattle.overlay_plane.proofs.NextSteps.{next_exists, next_leaves}
-use Rattle.overlay_plane.proofs.OrbitSteps.{no_step}
 use Rattle.overlay_plane.proofs.OrbitsApart.{is_step_of_decides}
 use Rattle.overlay_plane.proofs.OrbitsSoFar.{orbits_grow}
 use Rattle.overlay_plane.proofs.TurnOrder.{met_total}
 
 -- ---- what is left
-
--- where nothing is taken, all steps are left
-pub without-none : (steps : List Step) → without steps [] ≡ steps
-without-none [] = refl
-without-none (s ∷ ss) = ap (λ ts. s ∷ ts) (without-none ss)
-
--- a step of two lists joined is one of either
-is_step_of-append : (xs ys : List Step) (s : Step) → is_step_of (xs ++ ys) s ≡ (is_step_of xs s || is_step_of ys s)
-is_step_of-append [] ys s = refl
-is_step_of-append (x ∷ xs) ys s = by (step_eq x s) (is_step_of-append xs ys s)
-  where
-    by : (t : Bool) → is_step_of (xs ++ ys) s ≡ (is_step_of xs s || is_step_of ys s) → (t || is_step_of (xs ++ ys) s) ≡ ((t || is_step_of xs s) || is_step_of ys s)
-    by true e = refl
-    by false e = e
-
--- what the one list leaves of what the other leaves is what both leave
-without-without : (steps xs ys : List Step) → without (without steps xs) ys ≡ without steps (xs ++ ys)
-without-without [] xs ys = refl
-without-without (s ∷ ss) xs ys =
-    by (is_step_of xs s) (without-without ss xs ys)
-    ∙ ap (λ t. cond (not t) (s ∷ without ss (xs ++ ys)) (without ss (xs ++ ys))) (sym (is_step_of-append xs ys s))
-  where
-    by : (t : Bool) → without (without ss xs) ys ≡ without ss (xs ++ ys) →
-        without (cond (not t) (s ∷ without ss xs) (without ss xs)) ys ≡ cond (not (t || is_step_of ys s)) (s ∷ without ss (xs ++ ys)) (without ss (xs ++ ys))
-    by true e = e
-    by false e = ap (λ ts. cond (not (is_step_of ys s)) (s ∷ ts) ts) e
 
 -- lists with the same steps leave the same
 without-same : (steps xs ys : List Step) → ((s : Step) → is_step_of xs s ≡ is_step_of ys s) → without steps xs ≡ without steps ys

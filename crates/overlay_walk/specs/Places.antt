@@ -1,10 +1,8 @@
 -- Places of a list of steps: which of them are open, what stands at them, and the first one by an order.
-use Rattle.std.specs.Prelude.{◌≡◌, ℕ, ◌<◌, ◌≤◌, Bool, true, false, cond, not, ◌&&◌, ◌||◌, ℤ, pos, List, length, slice_index_or, Option, Some, None}
+use Rattle.std.specs.Prelude.{◌≡◌, ℕ, ◌<◌, ◌≤◌, Bool, true, false, cond, not, ◌&&◌, ◌||◌, List, length, slice_index_or, Option, Some, None}
 use Rattle.overlay_geom.specs.Plane.{Point, Step, point_lt, point_eq, edge_of}
 use Rattle.overlay_plane.specs.Nodes.{turns_left}
-use Rattle.overlay_plane.specs.Turn.{Hand, is_met_before}
-use Rattle.overlay_walk.specs.declared.step.Step.{Step as StepTaken}
-use Rattle.overlay_walk.specs.Steps.{plain_steps}
+use Rattle.overlay_plane.specs.Turn.{Hand, is_met_before, no_step}
 
 -- no walk has taken the step at the place
 abbrev pub is_open : List Bool → ℕ → Bool
@@ -12,7 +10,7 @@ is_open marks k = not (slice_index_or marks k true)
 
 -- the step at a place
 abbrev pub step_at : List Step → ℕ → Step
-step_at ss k = slice_index_or ss k (record { from = record { x = pos 0; y = pos 0 }; to = record { x = pos 0; y = pos 0 } })
+step_at ss k = slice_index_or ss k no_step
 
 -- the place between two places that is open, and before which no other open one comes
 pub record IsFirstPlace (is_open : ℕ → Bool) (comes_before : ℕ → ℕ → Bool) (low high m : ℕ) : Type 0 where
@@ -51,17 +49,13 @@ pub record IsRun (ss : List Step) (p : Point) (low high : ℕ) : Type 0 where
   pub leave : (k : ℕ) → low ≤ k → k < high → (step_at ss k).from ≡ p
   pub all : (k : ℕ) → k < length ss → (step_at ss k).from ≡ p → (low ≤ k) × (k < high)
 
--- a ray that turns by the hand at v from u meets the step at place j before that at k
-abbrev pub is_place_met_before : List Step → Hand → Point → Point → ℕ → ℕ → Bool
-is_place_met_before ss hand v u j k = is_met_before hand v u (step_at ss j).to (step_at ss k).to
-
 -- the place of the step that is met first, by a ray that turns by the hand at the end of s, among the open ones that leave that end
 pub record IsNextAt (ss : List Step) (marks : List Bool) (hand : Hand) (s : Step) (m : ℕ) : Type 0 where
   pub below : m < length ss
   pub untaken : is_open marks m ≡ true
   pub leaves : (step_at ss m).from ≡ s.to
   pub first : (k : ℕ) → k < length ss → is_open marks k ≡ true → (step_at ss k).from ≡ s.to →
-      is_place_met_before ss hand s.to s.from k m ≡ false
+      is_met_before hand s.to s.from (step_at ss k).to (step_at ss m).to ≡ false
 
 -- that place, or none where no open step leaves the end of s
 abbrev pub IsNextPlace : List Step → List Bool → Hand → Step → Option ℕ → Type 0

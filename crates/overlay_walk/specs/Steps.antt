@@ -1,6 +1,6 @@
 -- Steps that a program walks, as whole numbers.
-use Rattle.std.specs.Prelude.{◌≡◌, ℕ, Bool, true, false, cond, ℤ, List, [], ◌∷◌, map, All, AllPairs}
-use Rattle.overlay_geom.specs.Plane.{Point, Step, point_lt}
+use Rattle.std.specs.Prelude.{◌≡◌, ℕ, Bool, true, false, cond, ℤ, List, [], ◌∷◌, map, AllPairs}
+use Rattle.overlay_geom.specs.Plane.{Step, point_lt}
 use Rattle.overlay_geom.specs.Points.{plain_point, InRange}
 use Rattle.overlay_plane.specs.Turn.{Hand, left, right}
 use Rattle.overlay_arrange.specs.declared.options.ContourDirection.{ContourDirection}

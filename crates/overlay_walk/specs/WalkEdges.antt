@@ -8,11 +8,11 @@ use Rattle.overlay_scan.specs.Scan.{Entry}
 use Rattle.overlay_walk.specs.declared.walk_edge.WalkEdge.{WalkEdge}
 
 -- the entry at an edge's numbers, and those of a list
-abbrev pub plain_entry : {I W U : Type 0} {i w u : _} → (I → ℤ) → WalkEdge I W U i w u → Entry ℕ
-plain_entry whole e = record { edge = record { a = plain_point whole e.a; b = plain_point whole e.b }; value = e.walk }
+abbrev pub walk_entry : {I W U : Type 0} {i w u : _} → (I → ℤ) → WalkEdge I W U i w u → Entry ℕ
+walk_entry whole e = record { edge = record { a = plain_point whole e.a; b = plain_point whole e.b }; value = e.walk }
 
-abbrev pub plain_entries : {I W U : Type 0} {i w u : _} → (I → ℤ) → List (WalkEdge I W U i w u) → List (Entry ℕ)
-plain_entries whole es = map (plain_entry whole) es
+abbrev pub walk_entries : {I W U : Type 0} {i w u : _} → (I → ℤ) → List (WalkEdge I W U i w u) → List (Entry ℕ)
+walk_entries whole es = map (walk_entry whole) es
 
 -- no edge is anchored before one that stands before it
 abbrev pub IsByAnchor : List (Entry ℕ) → Type 0

@@ -4,7 +4,7 @@ ghost use Rattle.std.specs.Prelude.{◌≡◌, ◌<◌, length, All, IfOk, IsOkU
 ghost use Rattle.overlay_plane.specs.Anchors.{IsAnchor};
 ghost use Rattle.overlay_plane.specs.Contours.{IsContour};
 ghost use Rattle.overlay_walk.specs.Steps.{plain_steps, is_on_left, IsLong};
-ghost use Rattle.overlay_walk.specs.WalkEdges.{plain_entry, plain_entries, AreHoleEntries};
+ghost use Rattle.overlay_walk.specs.WalkEdges.{walk_entry, walk_entries, AreHoleEntries};
 ghost use Rattle.overlay_walk.specs.Walks.{plain_walks};
 
 use crate::by_anchor::{compare_anchors, sort_by_anchor};
@@ -25,7 +25,7 @@ pub fn hole_anchors<I: IntNumber, D: Copy, A: Allocator>(
 ) -> Result<Vec<WalkEdge<I>, A>, OverlayError>
     requires long { All (All (IsLong I.limit)) (plain_walks I.whole walks.now) }
     requires contours { All IsContour (plain_walks I.whole walks.now) }
-    ensures ok { IfOk result (λ v. AreHoleEntries (is_on_left direction) (plain_walks I.whole walks.now) (plain_entries I.whole v.items)) }
+    ensures ok { IfOk result (λ v. AreHoleEntries (is_on_left direction) (plain_walks I.whole walks.now) (walk_entries I.whole v.items)) }
     ensures err { IsOkUnless result OverlayError.Memory }
 {
     let mut anchors = Vec::new(alloc);
@@ -43,8 +43,8 @@ pub fn hole_anchors<I: IntNumber, D: Copy, A: Allocator>(
 fn anchor_of<I: IntNumber, D: Copy>(walk: &[Step<I, D>], index: usize) -> WalkEdge<I>
     requires some { 0 < length walk.now }
     requires long { All (IsLong I.limit) (plain_steps I.whole walk.now) }
-    ensures index { (plain_entry I.whole result).value ≡ index }
-    ensures anchor { IsAnchor (plain_steps I.whole walk.now) (plain_entry I.whole result).edge }
+    ensures index { (walk_entry I.whole result).value ≡ index }
+    ensures anchor { IsAnchor (plain_steps I.whole walk.now) (walk_entry I.whole result).edge }
 {
     let mut anchor = edge_along(&walk[0], index);
     for i in 1..walk.len() {

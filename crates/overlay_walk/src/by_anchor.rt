@@ -4,7 +4,7 @@ ghost use Rattle.std.specs.Prelude.{◌≡◌, OnOk, IsOkUnless};
 ghost use Rattle.std.specs.List.Sorted.{IsPermutation};
 ghost use Rattle.std.specs.Ordering.{is_lt};
 ghost use Rattle.overlay_plane.specs.Anchors.{is_anchored_before};
-ghost use Rattle.overlay_walk.specs.WalkEdges.{plain_entry, plain_entries, IsByAnchor};
+ghost use Rattle.overlay_walk.specs.WalkEdges.{walk_entry, walk_entries, IsByAnchor};
 
 use crate::walk_edge::WalkEdge;
 use overlay_arrange::edge::compare_points;
@@ -20,16 +20,17 @@ pub fn sort_by_anchor<I: IntNumber, A: Allocator>(
     edges: &mut Vec<WalkEdge<I>, A>,
 ) -> Result<(), OverlayError>
     ensures permutation { IsPermutation edges.old.items edges.new.items }
-    ensures order { OnOk result (IsByAnchor (plain_entries I.whole edges.new.items)) }
+    ensures order { OnOk result (IsByAnchor (walk_entries I.whole edges.new.items)) }
     ensures err { IsOkUnless result OverlayError.Memory }
 {
     edges.sort_by(|e, f| compare_anchors(e, f))?;
     Ok(())
 }
 
-/// How two edges compare: by their smaller ends, and from one point by their slopes.
+/// `Less` exactly where the first edge is anchored before the second: by their smaller ends, and from one
+/// point by their slopes.
 pub fn compare_anchors<I: IntNumber>(e: &WalkEdge<I>, f: &WalkEdge<I>) -> Ordering
-    ensures { is_lt result ≡ is_anchored_before (plain_entry I.whole e.now).edge (plain_entry I.whole f.now).edge }
+    ensures { is_lt result ≡ is_anchored_before (walk_entry I.whole e.now).edge (walk_entry I.whole f.now).edge }
 {
     match compare_points(e.a, f.a) {
         Ordering::Equal => cross_at(e.a, f.b, e.b).sign(),

@@ -1,26 +1,29 @@
 //! The cut of steps into contours.
 
-ghost use Rattle.std.specs.Prelude.{◌≡◌, All, Contains, IfOk, IsOkUnless, map};
+ghost use Rattle.std.specs.Prelude.{◌≡◌, [], All, Contains, IfOk, OnOk, IsOkUnless};
 ghost use Rattle.overlay_plane.specs.Alternates.{Alternates};
 ghost use Rattle.overlay_plane.specs.BesideOrbits.{HasEachOnce};
 ghost use Rattle.overlay_plane.specs.Contours.{outline_or_hole_hand, IsCutInto};
 ghost use Rattle.overlay_walk.specs.Steps.{plain_hand, plain_step, plain_steps, is_on_left};
 ghost use Rattle.overlay_walk.specs.Walks.{plain_walks};
 
+use crate::filled::is_filled_above;
 use crate::hand::Hand;
 use crate::open_steps::OpenSteps;
 use crate::step::Step;
-use overlay_arrange::edge::compare_points;
 use overlay_arrange::options::ContourDirection;
 use overlay_geom::error::OverlayError;
 use overlay_geom::number::IntNumber;
 use std::alloc::Allocator;
 
+#[cfg(test)]
+mod tests;
+
 /// Walks all steps left: while there are any, the orbit of the step along the top edge at their leftmost
 /// lowest point. Where the direction is counterclockwise each step has its filled side on the left, else
 /// on the right. A walk that starts along an edge that is filled above is a hole, and turns through
-/// its empty side; each other is an outline, and turns through its filled side. The only refusal is
-/// `Memory`.
+/// its empty side; each other is an outline, and turns through its filled side. At the end no
+/// step is left. The only refusal is `Memory`, after which the steps left are open.
 pub fn cut_into_contours<I: IntNumber, D: Copy, A: Allocator + Clone>(
     alloc: A,
     steps: &mut OpenSteps<I, D, A>,
@@ -31,6 +34,7 @@ pub fn cut_into_contours<I: IntNumber, D: Copy, A: Allocator + Clone>(
     ensures cut { IfOk result (λ ws. IsCutInto (outline_or_hole_hand (is_on_left direction)) (plain_steps I.whole steps.old)
         (plain_walks I.whole ws.items)) }
     ensures among { IfOk result (λ ws. All (λ w. All (Contains steps.old) w.items) ws.items) }
+    ensures none_left { OnOk result (steps.new ≡ []) }
     ensures err { IsOkUnless result OverlayError.Memory }
 {
     let mut contours = Vec::new(alloc);
@@ -45,10 +49,13 @@ pub fn cut_into_contours<I: IntNumber, D: Copy, A: Allocator + Clone>(
 fn hand_of<I: IntNumber, D: Copy>(start: Step<I, D>, direction: ContourDirection) -> Hand
     ensures { plain_hand result ≡ outline_or_hole_hand (is_on_left direction) (plain_step I.whole start) }
 {
-    let is_forward = compare_points(start.from, start.to).is_lt();
-    let (is_filled_above, filled, empty) = match direction {
-        ContourDirection::CounterClockwise => (is_forward, Hand::Left, Hand::Right),
-        ContourDirection::Clockwise => (!is_forward, Hand::Right, Hand::Left),
+    let (filled, empty) = match direction {
+        ContourDirection::CounterClockwise => (Hand::Left, Hand::Right),
+        ContourDirection::Clockwise => (Hand::Right, Hand::Left),
     };
-    if is_filled_above { empty } else { filled }
+    if is_filled_above(&start, direction) {
+        empty
+    } else {
+        filled
+    }
 }

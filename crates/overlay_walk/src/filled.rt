@@ -1,24 +1,16 @@
 //! Where the filled side of a step is.
 
 ghost use Rattle.std.specs.Prelude.{◌≡◌};
-ghost use Rattle.overlay_geom.specs.Plane.{edge_of, is_forward};
+ghost use Rattle.overlay_geom.specs.Plane.{edge_of};
 ghost use Rattle.overlay_plane.specs.Binding.{is_hole};
 ghost use Rattle.overlay_plane.specs.Contours.{is_filled_above};
 ghost use Rattle.overlay_walk.specs.Steps.{plain_step, plain_steps, is_on_left, IsLong};
-ghost use Rattle.overlay_walk.specs.WalkEdges.{plain_entry};
+ghost use Rattle.overlay_walk.specs.WalkEdges.{walk_entry};
 
-use crate::step::Step;
+use crate::step::{Step, is_forward};
 use crate::walk_edge::WalkEdge;
-use overlay_arrange::edge::compare_points;
 use overlay_arrange::options::ContourDirection;
 use overlay_geom::number::IntNumber;
-
-/// Whether the step leads from its edge's smaller end to the larger one.
-fn is_forward<I: IntNumber, D: Copy>(step: &Step<I, D>) -> bool
-    ensures { result ≡ is_forward (plain_step I.whole step.now) }
-{
-    compare_points(step.from, step.to).is_lt()
-}
 
 /// Whether the filled side of the step is the upper one of its edge. It is the step's left side where
 /// the direction is counterclockwise, else its right one.
@@ -45,9 +37,9 @@ pub fn is_hole<I: IntNumber, D: Copy>(walk: &[Step<I, D>], direction: ContourDir
 }
 
 /// The edge along which a step of the walk with this index leads.
-pub fn edge_along<I: IntNumber, D: Copy>(step: &Step<I, D>, walk: usize) -> WalkEdge<I>
+pub(crate) fn edge_along<I: IntNumber, D: Copy>(step: &Step<I, D>, walk: usize) -> WalkEdge<I>
     requires { IsLong I.limit (plain_step I.whole step.now) }
-    ensures { plain_entry I.whole result ≡ record { edge = edge_of (plain_step I.whole step.now); value = walk } }
+    ensures { walk_entry I.whole result ≡ record { edge = edge_of (plain_step I.whole step.now); value = walk } }
 {
     let Step { from, to, .. } = *step;
     if is_forward(step) {

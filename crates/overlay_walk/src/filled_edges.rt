@@ -5,7 +5,7 @@ ghost use Rattle.std.specs.Prelude.{map};
 ghost use Rattle.overlay_geom.specs.Plane.{edge_eq};
 ghost use Rattle.overlay_plane.specs.Binding.{all_filled_above};
 ghost use Rattle.overlay_walk.specs.Steps.{plain_steps, is_on_left, IsLong};
-ghost use Rattle.overlay_walk.specs.WalkEdges.{plain_entries, filled_entries};
+ghost use Rattle.overlay_walk.specs.WalkEdges.{walk_entries, filled_entries};
 ghost use Rattle.overlay_walk.specs.WalkEdges.{IsFilledEntry, AreFilledEntries};
 ghost use Rattle.overlay_walk.specs.Walks.{plain_walks};
 
@@ -27,7 +27,7 @@ pub fn filled_edges<I: IntNumber, D: Copy, A: Allocator>(
 ) -> Result<Vec<WalkEdge<I>, A>, OverlayError>
     requires long { All (All (IsLong I.limit)) (plain_walks I.whole walks.now) }
     requires distinct { AllPairs (λ e f. edge_eq e f ≡ false) (all_filled_above (is_on_left direction) (plain_walks I.whole walks.now)) }
-    ensures ok { IfOk result (λ v. AreFilledEntries (is_on_left direction) (plain_walks I.whole walks.now) (plain_entries I.whole v.items)) }
+    ensures ok { IfOk result (λ v. AreFilledEntries (is_on_left direction) (plain_walks I.whole walks.now) (walk_entries I.whole v.items)) }
     ensures err { IsOkUnless result OverlayError.Memory }
 {
     let mut edges = edges_walk_by_walk(alloc, walks, direction)?;
@@ -42,9 +42,9 @@ fn edges_walk_by_walk<I: IntNumber, D: Copy, A: Allocator>(
     direction: ContourDirection,
 ) -> Result<Vec<WalkEdge<I>, A>, OverlayError>
     requires long { All (All (IsLong I.limit)) (plain_walks I.whole walks.now) }
-    ensures edges { IfOk result (λ v. map (λ f. f.edge) (plain_entries I.whole v.items)
+    ensures edges { IfOk result (λ v. map (λ f. f.edge) (walk_entries I.whole v.items)
         ≡ all_filled_above (is_on_left direction) (plain_walks I.whole walks.now)) }
-    ensures from { IfOk result (λ v. All (IsFilledEntry (is_on_left direction) (plain_walks I.whole walks.now)) (plain_entries I.whole v.items)) }
+    ensures from { IfOk result (λ v. All (IsFilledEntry (is_on_left direction) (plain_walks I.whole walks.now)) (walk_entries I.whole v.items)) }
     ensures err { IsOkUnless result OverlayError.Memory }
 {
     let mut edges = Vec::new(alloc);
@@ -62,8 +62,8 @@ fn push_filled<I: IntNumber, D: Copy, A: Allocator>(
     direction: ContourDirection,
 ) -> Result<(), OverlayError>
     requires { All (IsLong I.limit) (plain_steps I.whole walk.now) }
-    ensures ok { OnOk result (plain_entries I.whole edges.new.items
-        ≡ plain_entries I.whole edges.old.items ++ filled_entries (is_on_left direction) index (plain_steps I.whole walk.now)) }
+    ensures ok { OnOk result (walk_entries I.whole edges.new.items
+        ≡ walk_entries I.whole edges.old.items ++ filled_entries (is_on_left direction) index (plain_steps I.whole walk.now)) }
     ensures err { IsOkUnless result OverlayError.Memory }
 {
     for step in walk {

@@ -1,17 +1,14 @@
 //! The step along the top edge at the leftmost lowest point of steps.
 
 ghost use Rattle.std.specs.Prelude.{◌≡◌, ◌<◌, length, All, IfSome};
-ghost use Rattle.overlay_geom.specs.Plane.{edge_of};
-ghost use Rattle.overlay_geom.specs.Points.{plain_point};
 ghost use Rattle.overlay_walk.specs.Places.{is_open, is_place_started_before, starts_before};
 ghost use Rattle.overlay_walk.specs.Places.{comes_first, first_so_far, IsFirstOf};
 ghost use Rattle.overlay_walk.specs.Steps.{plain_step, plain_steps, IsLong};
 
 use crate::marks::is_open;
-use crate::step::Step;
+use crate::step::{Step, ends_of};
 use overlay_arrange::edge::compare_points;
 use overlay_geom::number::{IntNumber, WideIntNumber};
-use overlay_geom::point::IntPoint;
 use overlay_geom::vector::cross_at;
 use std::cmp::Ordering;
 
@@ -79,17 +76,5 @@ pub fn starts_before<I: IntNumber, D: Copy>(s: Step<I, D>, t: Step<I, D>) -> boo
         Ordering::Less => true,
         Ordering::Equal => cross_at(a, end, b).sign().is_gt(),
         Ordering::Greater => false,
-    }
-}
-
-/// The ends of the edge along which a step leads, the smaller one first.
-fn ends_of<I: IntNumber, D: Copy>(s: Step<I, D>) -> (IntPoint<I>, IntPoint<I>)
-    ensures start { plain_point I.whole result.0 ≡ (edge_of (plain_step I.whole s)).a }
-    ensures end { plain_point I.whole result.1 ≡ (edge_of (plain_step I.whole s)).b }
-{
-    if compare_points(s.from, s.to).is_lt() {
-        (s.from, s.to)
-    } else {
-        (s.to, s.from)
     }
 }

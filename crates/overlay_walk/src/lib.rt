@@ -7,7 +7,7 @@ pub mod bind;
 pub mod buffer;
 mod by_anchor;
 pub mod contours;
-mod filled;
+pub mod filled;
 mod filled_edges;
 pub mod hand;
 mod leftmost;

@@ -1,10 +1,11 @@
 //! Round a node: which point a turning ray meets first.
 
-ghost use Rattle.std.specs.Prelude.{◌≡◌, pos, cond, int_lt};
+ghost use Rattle.std.specs.Prelude.{◌≡◌, ◌↔◌, [], ◌∷◌, ◌++◌, List, true, Some, pos, cond, int_lt};
 ghost use Rattle.std.specs.Ordering.{int_cmp};
+ghost use Rattle.overlay_geom.specs.Plane.{Point};
 ghost use Rattle.overlay_geom.specs.Points.{plain_point, InRange};
 ghost use Rattle.overlay_plane.specs.Turn.{turn, dot_at, part_of_turn, is_met_before};
-ghost use Rattle.overlay_walk.specs.Nearest.{part_number, none_seen, is_nearer, and_seen};
+ghost use Rattle.overlay_walk.specs.Nearest.{part_number, none_held, HasSeen, IsNearer};
 ghost use Rattle.overlay_walk.specs.Steps.{plain_hand};
 
 use crate::hand::Hand;
@@ -13,6 +14,9 @@ use overlay_geom::point::IntPoint;
 use overlay_geom::vector::cross_at;
 use std::cmp::Ordering;
 use std::marker::Model;
+
+#[cfg(test)]
+mod tests;
 
 /// A ray round a node: it begins in the direction of a point and turns by a hand.
 #[derive(Debug, Clone, Copy)]
@@ -117,7 +121,8 @@ impl<I: IntNumber> Ray<I> {
     }
 }
 
-/// A ray round a node, and which of the points seen so far it meets first.
+/// A ray round a node, and the point that it meets first of those added to it. Of points that it
+/// meets at once that is the one that was added first.
 #[derive(Drop)]
 pub struct NearestVector<I: IntNumber> {
     ray: Ray<I>,
@@ -145,21 +150,24 @@ impl<I: IntNumber> Model for NearestVector<I> {
 }
 
 impl<I: IntNumber> NearestVector<I> {
-    /// The ray, and no point seen yet. Its points are in range.
+    /// The ray, and no point added yet. Its points are in range.
     pub fn new(ray: Ray<I>) -> Self
         requires node { InRange I.limit (plain_point I.whole ray.node) }
         requires start { InRange I.limit (plain_point I.whole ray.start) }
-        ensures { result ≡ none_seen (plain_hand ray.hand) (plain_point I.whole ray.node) (plain_point I.whole ray.start) }
+        ensures { result ≡ none_held (plain_hand ray.hand) (plain_point I.whole ray.node) (plain_point I.whole ray.start) }
     {
         NearestVector { ray, nearest: None }
     }
 
-    /// Whether the ray meets the point, which is in range, before all others added so far; then it
-    /// is the nearest one now.
+    /// Whether the ray meets the point, which is in range, before each of those added so far; then
+    /// it is the one held from now on. So it is where the ray's node and start differ: else the ray
+    /// begins in no direction, and meets no point first.
     pub fn add(&mut self, point: IntPoint<I>) -> bool
         requires { InRange I.limit (plain_point I.whole point) }
-        ensures nearer { result ≡ is_nearer self.old (plain_point I.whole point) }
-        ensures nearest { self.new ≡ and_seen self.old (plain_point I.whole point) }
+        ensures nearer { (seen : List Point) → HasSeen self.old seen
+            → ((result ≡ true) ↔ IsNearer self.old seen (plain_point I.whole point)) }
+        ensures seen { (seen : List Point) → HasSeen self.old seen → HasSeen self.new (seen ++ plain_point I.whole point ∷ []) }
+        ensures held { self.new ≡ record self.old { nearest = cond result (Some (plain_point I.whole point)) self.old.nearest } }
     {
         let is_nearer = match self.nearest {
             None => true,
@@ -169,262 +177,5 @@ impl<I: IntNumber> NearestVector<I> {
             self.nearest = Some(point);
         }
         is_nearer
-    }
-}
-
-#[cfg(test)]
-mod tests {
-    use super::*;
-
-    #[test]
-    fn rays_round_a_node_at_i16(rt: HostRuntime) {
-        let node = IntPoint::new(0i16, 0);
-        let (right, up) = (IntPoint::new(1, 0), IntPoint::new(0, 1));
-        let (left, down) = (IntPoint::new(-1, 0), IntPoint::new(0, -1));
-        let aslant = IntPoint::new(1, 1);
-        let ray = Ray {
-            node,
-            start: right,
-            hand: Hand::Right,
-        };
-        assert!(rt; ray.meets_before(up, left) && !ray.meets_before(left, up));
-        assert!(rt; ray.meets_before(aslant, up) && !ray.meets_before(up, aslant));
-        let ray = Ray {
-            node,
-            start: right,
-            hand: Hand::Left,
-        };
-        assert!(rt; ray.meets_before(down, left) && !ray.meets_before(left, down));
-        assert!(rt; ray.meets_before(down, aslant) && !ray.meets_before(aslant, down));
-    }
-
-    #[test]
-    fn rays_round_a_node_at_i32(rt: HostRuntime) {
-        let node = IntPoint::new(0i32, 0);
-        let (right, up) = (IntPoint::new(1, 0), IntPoint::new(0, 1));
-        let (left, down) = (IntPoint::new(-1, 0), IntPoint::new(0, -1));
-        let aslant = IntPoint::new(1, 1);
-        let ray = Ray {
-            node,
-            start: right,
-            hand: Hand::Right,
-        };
-        assert!(rt; ray.meets_before(up, left) && !ray.meets_before(left, up));
-        assert!(rt; ray.meets_before(aslant, up) && !ray.meets_before(up, aslant));
-        let ray = Ray {
-            node,
-            start: right,
-            hand: Hand::Left,
-        };
-        assert!(rt; ray.meets_before(down, left) && !ray.meets_before(left, down));
-        assert!(rt; ray.meets_before(down, aslant) && !ray.meets_before(aslant, down));
-    }
-
-    #[test]
-    fn rays_round_a_node_at_i64(rt: HostRuntime) {
-        let node = IntPoint::new(0i64, 0);
-        let (right, up) = (IntPoint::new(1, 0), IntPoint::new(0, 1));
-        let (left, down) = (IntPoint::new(-1, 0), IntPoint::new(0, -1));
-        let aslant = IntPoint::new(1, 1);
-        let ray = Ray {
-            node,
-            start: right,
-            hand: Hand::Right,
-        };
-        assert!(rt; ray.meets_before(up, left) && !ray.meets_before(left, up));
-        assert!(rt; ray.meets_before(aslant, up) && !ray.meets_before(up, aslant));
-        let ray = Ray {
-            node,
-            start: right,
-            hand: Hand::Left,
-        };
-        assert!(rt; ray.meets_before(down, left) && !ray.meets_before(left, down));
-        assert!(rt; ray.meets_before(down, aslant) && !ray.meets_before(aslant, down));
-    }
-
-    #[test]
-    fn half_turn_before_the_rest_at_i16(rt: HostRuntime) {
-        let (node, start) = (IntPoint::new(-1i16, -1), IntPoint::new(0, -1));
-        let (left, down) = (IntPoint::new(-2, -1), IntPoint::new(-1, -2));
-        let ray = Ray {
-            node,
-            start,
-            hand: Hand::Right,
-        };
-        assert!(rt; ray.meets_before(left, down) && !ray.meets_before(down, left));
-        let ray = Ray {
-            node,
-            start,
-            hand: Hand::Left,
-        };
-        assert!(rt; ray.meets_before(down, left) && !ray.meets_before(left, down));
-    }
-
-    #[test]
-    fn half_turn_before_the_rest_at_i32(rt: HostRuntime) {
-        let (node, start) = (IntPoint::new(-1i32, -1), IntPoint::new(0, -1));
-        let (left, down) = (IntPoint::new(-2, -1), IntPoint::new(-1, -2));
-        let ray = Ray {
-            node,
-            start,
-            hand: Hand::Right,
-        };
-        assert!(rt; ray.meets_before(left, down) && !ray.meets_before(down, left));
-        let ray = Ray {
-            node,
-            start,
-            hand: Hand::Left,
-        };
-        assert!(rt; ray.meets_before(down, left) && !ray.meets_before(left, down));
-    }
-
-    #[test]
-    fn half_turn_before_the_rest_at_i64(rt: HostRuntime) {
-        let (node, start) = (IntPoint::new(-1i64, -1), IntPoint::new(0, -1));
-        let (left, down) = (IntPoint::new(-2, -1), IntPoint::new(-1, -2));
-        let ray = Ray {
-            node,
-            start,
-            hand: Hand::Right,
-        };
-        assert!(rt; ray.meets_before(left, down) && !ray.meets_before(down, left));
-        let ray = Ray {
-            node,
-            start,
-            hand: Hand::Left,
-        };
-        assert!(rt; ray.meets_before(down, left) && !ray.meets_before(left, down));
-    }
-
-    #[test]
-    fn start_comes_last(rt: HostRuntime) {
-        let (node, start) = (IntPoint::new(0i32, 0), IntPoint::new(2, 0));
-        let near = IntPoint::new(1, 0);
-        let before = IntPoint::new(3, -1);
-        let ray = Ray {
-            node,
-            start,
-            hand: Hand::Right,
-        };
-        assert!(rt; ray.meets_before(before, start) && !ray.meets_before(start, before));
-        assert!(rt; ray.meets_before(before, near) && !ray.meets_before(near, before));
-        assert!(rt; !ray.meets_before(start, near) && !ray.meets_before(near, start));
-        let ahead = IntPoint::new(-5, 0);
-        assert!(rt; ray.meets_before(ahead, start) && !ray.meets_before(start, ahead));
-        assert!(rt; !ray.meets_before(start, start));
-    }
-
-    #[test]
-    fn ends_of_the_range_at_i16(rt: HostRuntime) {
-        let far = 16383i16;
-        let (node, start) = (IntPoint::new(-far, -far), IntPoint::new(far, -far));
-        let (across, up) = (IntPoint::new(far, far), IntPoint::new(-far, far));
-        let ray = Ray {
-            node,
-            start,
-            hand: Hand::Right,
-        };
-        assert!(rt; ray.meets_before(across, up) && !ray.meets_before(up, across));
-        assert!(rt; ray.meets_before(up, start) && !ray.meets_before(start, up));
-        let ray = Ray {
-            node,
-            start: across,
-            hand: Hand::Left,
-        };
-        assert!(rt; ray.meets_before(start, up) && !ray.meets_before(up, start));
-        assert!(rt; ray.meets_before(up, across) && !ray.meets_before(across, up));
-    }
-
-    #[test]
-    fn ends_of_the_range_at_i32(rt: HostRuntime) {
-        let far = 1073741823i32;
-        let (node, start) = (IntPoint::new(-far, -far), IntPoint::new(far, -far));
-        let (across, up) = (IntPoint::new(far, far), IntPoint::new(-far, far));
-        let ray = Ray {
-            node,
-            start,
-            hand: Hand::Right,
-        };
-        assert!(rt; ray.meets_before(across, up) && !ray.meets_before(up, across));
-        assert!(rt; ray.meets_before(up, start) && !ray.meets_before(start, up));
-        let ray = Ray {
-            node,
-            start: across,
-            hand: Hand::Left,
-        };
-        assert!(rt; ray.meets_before(start, up) && !ray.meets_before(up, start));
-        assert!(rt; ray.meets_before(up, across) && !ray.meets_before(across, up));
-    }
-
-    #[test]
-    fn ends_of_the_range_at_i64(rt: HostRuntime) {
-        let far = 4611686018427387903i64;
-        let (node, start) = (IntPoint::new(-far, -far), IntPoint::new(far, -far));
-        let (across, up) = (IntPoint::new(far, far), IntPoint::new(-far, far));
-        let ray = Ray {
-            node,
-            start,
-            hand: Hand::Right,
-        };
-        assert!(rt; ray.meets_before(across, up) && !ray.meets_before(up, across));
-        assert!(rt; ray.meets_before(up, start) && !ray.meets_before(start, up));
-        let ray = Ray {
-            node,
-            start: across,
-            hand: Hand::Left,
-        };
-        assert!(rt; ray.meets_before(start, up) && !ray.meets_before(up, start));
-        assert!(rt; ray.meets_before(up, across) && !ray.meets_before(across, up));
-    }
-
-    #[test]
-    fn nearest_of_some_at_i16(rt: HostRuntime) {
-        let ray = Ray {
-            node: IntPoint::new(0i16, 0),
-            start: IntPoint::new(1, 0),
-            hand: Hand::Right,
-        };
-        let mut nearest = NearestVector::new(ray);
-        assert!(rt; nearest.add(IntPoint::new(1, 0)));
-        assert!(rt; nearest.add(IntPoint::new(0, -1)));
-        assert!(rt; nearest.add(IntPoint::new(0, 1)));
-        assert!(rt; !nearest.add(IntPoint::new(-1, 0)));
-        assert!(rt; !nearest.add(IntPoint::new(0, 2)));
-        assert!(rt; nearest.add(IntPoint::new(2, 1)));
-        assert!(rt; !nearest.add(IntPoint::new(0, 1)));
-    }
-
-    #[test]
-    fn nearest_of_some_at_i32(rt: HostRuntime) {
-        let ray = Ray {
-            node: IntPoint::new(0i32, 0),
-            start: IntPoint::new(1, 0),
-            hand: Hand::Right,
-        };
-        let mut nearest = NearestVector::new(ray);
-        assert!(rt; nearest.add(IntPoint::new(1, 0)));
-        assert!(rt; nearest.add(IntPoint::new(0, -1)));
-        assert!(rt; nearest.add(IntPoint::new(0, 1)));
-        assert!(rt; !nearest.add(IntPoint::new(-1, 0)));
-        assert!(rt; !nearest.add(IntPoint::new(0, 2)));
-        assert!(rt; nearest.add(IntPoint::new(2, 1)));
-        assert!(rt; !nearest.add(IntPoint::new(0, 1)));
-    }
-
-    #[test]
-    fn nearest_of_some_at_i64(rt: HostRuntime) {
-        let ray = Ray {
-            node: IntPoint::new(0i64, 0),
-            start: IntPoint::new(1, 0),
-            hand: Hand::Right,
-        };
-        let mut nearest = NearestVector::new(ray);
-        assert!(rt; nearest.add(IntPoint::new(1, 0)));
-        assert!(rt; nearest.add(IntPoint::new(0, -1)));
-        assert!(rt; nearest.add(IntPoint::new(0, 1)));
-        assert!(rt; !nearest.add(IntPoint::new(-1, 0)));
-        assert!(rt; !nearest.add(IntPoint::new(0, 2)));
-        assert!(rt; nearest.add(IntPoint::new(2, 1)));
-        assert!(rt; !nearest.add(IntPoint::new(0, 1)));
     }
 }

@@ -47,9 +47,13 @@ impl<I: IntNumber, D: Copy, A: Allocator> Model for OpenSteps<I, D, A> {
 }
 
 impl<I: IntNumber, D: Copy, A: Allocator> OpenSteps<I, D, A> {
-    /// The list of the steps, whose room may be used again. What it holds is left open.
-    pub fn into_steps(self) -> Vec<Step<I, D>, A> {
-        self.steps
+    /// The room of the steps, to be used again, as a list without steps.
+    pub fn into_room(self) -> Vec<Step<I, D>, A>
+        ensures { result.items ≡ [] }
+    {
+        let mut room = self.steps;
+        room.clear();
+        room
     }
 
     /// The step along the top edge at the leftmost lowest point of the steps left, or None where

@@ -1,5 +1,12 @@
 //! Steps along edges.
 
+ghost use Rattle.std.specs.Prelude.{◌≡◌};
+ghost use Rattle.overlay_geom.specs.Plane.{edge_of, is_forward};
+ghost use Rattle.overlay_geom.specs.Points.{plain_point};
+ghost use Rattle.overlay_walk.specs.Steps.{plain_step};
+
+use overlay_arrange::edge::compare_points;
+use overlay_geom::number::IntNumber;
 use overlay_geom::point::IntPoint;
 
 /// A step along an edge, and what the edge carries.
@@ -11,4 +18,23 @@ pub struct Step<I, D> {
     pub to: IntPoint<I>,
     /// What its edge carries.
     pub edge_data: D,
+}
+
+/// Whether the step leads from its edge's smaller end to the larger one.
+pub(crate) fn is_forward<I: IntNumber, D: Copy>(step: &Step<I, D>) -> bool
+    ensures { result ≡ is_forward (plain_step I.whole step.now) }
+{
+    compare_points(step.from, step.to).is_lt()
+}
+
+/// The ends of the edge along which the step leads, the smaller one first.
+pub(crate) fn ends_of<I: IntNumber, D: Copy>(step: Step<I, D>) -> (IntPoint<I>, IntPoint<I>)
+    ensures start { plain_point I.whole result.0 ≡ (edge_of (plain_step I.whole step)).a }
+    ensures end { plain_point I.whole result.1 ≡ (edge_of (plain_step I.whole step)).b }
+{
+    if is_forward(&step) {
+        (step.from, step.to)
+    } else {
+        (step.to, step.from)
+    }
 }

@@ -1,17 +1,17 @@
 //! The sweep over walks that finds the parents of holes.
 
-ghost use Rattle.std.specs.Prelude.{◌≡◌, ◌<◌, ◌≤◌, length, take, drop, slice_index_or, Contains, None};
-ghost use Rattle.std.specs.Prelude.{◌<ℤ◌, false, true, cond, nat_lt, MatchOption, All, AllPairs, IfOk, OnErr, IsOkUnless};
+ghost use Rattle.std.specs.Prelude.{◌≡◌, ◌<◌, ◌≤◌, length, take, drop, slice_index_or, None};
+ghost use Rattle.std.specs.Prelude.{◌<ℤ◌, false, cond, nat_lt, All, AllPairs, IfOk, IsOkUnless};
 ghost use Rattle.std.specs.Option.{is_some};
 ghost use Rattle.overlay_geom.specs.Plane.{edge_of, edge_eq};
-ghost use Rattle.overlay_geom.specs.Settled.{IsSettledBy, MeetInEnds};
+ghost use Rattle.overlay_geom.specs.Settled.{IsSettledBy};
 ghost use Rattle.overlay_plane.specs.Anchors.{HasEachEdgeOnce};
 ghost use Rattle.overlay_plane.specs.Binding.{all_filled_above};
 ghost use Rattle.overlay_plane.specs.Contours.{IsContour, all_steps};
 ghost use Rattle.overlay_scan.specs.Scan.{empty_sweep};
 ghost use Rattle.overlay_walk.specs.Parents.{IsSwept, IsToldAt};
 ghost use Rattle.overlay_walk.specs.Steps.{is_on_left, IsLong};
-ghost use Rattle.overlay_walk.specs.WalkEdges.{plain_entries, IsByAnchor};
+ghost use Rattle.overlay_walk.specs.WalkEdges.{walk_entries, IsByAnchor};
 ghost use Rattle.overlay_walk.specs.Walks.{plain_walks};
 
 use crate::anchor::hole_anchors;
@@ -67,13 +67,13 @@ fn insert_up_to<I: IntNumber, S: Scan<I, usize>>(
     x: I,
 ) -> Result<usize, OverlayError>
     requires from { from ≤ length edges.now }
-    requires order { IsByAnchor (plain_entries I.whole edges.now) }
-    requires distinct { AllPairs (λ f g. edge_eq f.edge g.edge ≡ false) (plain_entries I.whole edges.now) }
-    requires settled { IsSettledBy (λ f. f.edge) (plain_entries I.whole edges.now) }
-    requires swept { IsSwept I.limit (I.whole x) (take from (plain_entries I.whole edges.now)) (S.content scan.old) }
+    requires order { IsByAnchor (walk_entries I.whole edges.now) }
+    requires distinct { AllPairs (λ f g. edge_eq f.edge g.edge ≡ false) (walk_entries I.whole edges.now) }
+    requires settled { IsSettledBy (λ f. f.edge) (walk_entries I.whole edges.now) }
+    requires swept { IsSwept I.limit (I.whole x) (take from (walk_entries I.whole edges.now)) (S.content scan.old) }
     ensures within { IfOk result (λ n. n ≤ length edges.now) }
-    ensures swept { IfOk result (λ n. IsSwept I.limit (I.whole x) (take n (plain_entries I.whole edges.now)) (S.content scan.new)) }
-    ensures rest { IfOk result (λ n. All (λ f. I.whole x <ℤ f.edge.a.x) (drop n (plain_entries I.whole edges.now))) }
+    ensures swept { IfOk result (λ n. IsSwept I.limit (I.whole x) (take n (walk_entries I.whole edges.now)) (S.content scan.new)) }
+    ensures rest { IfOk result (λ n. All (λ f. I.whole x <ℤ f.edge.a.x) (drop n (walk_entries I.whole edges.now))) }
     ensures err { IsOkUnless result OverlayError.Memory }
 {
     for i in from..edges.len() {

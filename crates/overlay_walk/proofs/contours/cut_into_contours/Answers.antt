@@ -1,8 +1,7 @@
 -- Each walk is the orbit of the start of what is left, so the walks are a cut.
-use Rattle.std.proofs.Common.{◌<◌, List, [], ◌∷◌, length, All, Contains, sym, ap, subst, arith}
+use Rattle.std.proofs.Common.{[], ◌∷◌, All, Contains, sym, ap, subst, arith}
 use Rattle.std.proofs.lemmas.List.{length-map, map-append}
 use Rattle.std.proofs.lemmas.List.Elements.{All-nil, All-push, All-weaker, All-contains, All-contains_itself}
-use Rattle.overlay_geom.specs.Plane.{Step}
 use Rattle.overlay_plane.specs.Contours.{outline_or_hole_hand}
 use Rattle.overlay_plane.specs.Turn.{IsOrbit}
 use Rattle.overlay_walk.specs.Steps.{plain_step, plain_steps, is_on_left}

@@ -1,29 +1,54 @@
 -- One place of the run after the other is looked at.
-use Rattle.std.proofs.Common.{◌+◌, length, arith}
-use Rattle.std.proofs.lemmas.List.{length-map}
+use Rattle.std.proofs.Common.{◌≡◌, ℕ, ◌<◌, ◌≤◌, true, false, ℤ, List, length, get_or, sym, ap, ◌∙◌, arith}
+use Rattle.std.proofs.lemmas.List.{length-map, get_or-map}
+use Rattle.overlay_geom.specs.Plane.{Step}
 use Rattle.overlay_geom.specs.Points.{plain_point}
-use Rattle.overlay_walk.specs.Places.{is_open, is_place_met_before}
-use Rattle.overlay_walk.specs.Steps.{plain_hand, plain_step, plain_steps}
-use Rattle.overlay_walk.proofs.FirstPlaces.{found_below, looked_at}
-use Rattle.overlay_walk.proofs.NextPlaces.{place_met-irreflexive, place_met-transitive, next_place}
+use Rattle.overlay_geom.proofs.Mapped.{All-mapped_at}
+use Rattle.overlay_walk.specs.Places.{step_at}
+use Rattle.overlay_walk.specs.Steps.{plain_hand, plain_step, plain_steps, IsLong}
+use Rattle.overlay_walk.specs.declared.step.Step.{Step as StepTaken}
+use Rattle.overlay_walk.proofs.NextPlaces.{place_added, place_passed}
 use Rattle.overlay_walk.proofs.next.place_of_next.Goals as goal
+use Rattle.overlay_walk.proofs.next.place_of_next.Goals.{then-is_open+then-add, else-is_open, else-is_open-via-then-is_open+else-add, else-is_open-via-else-is_open}
 
-pub first_of-found-requires-clause-found : goal.first_of-found-requires-clause-found
-first_of-found-requires-clause-found g c =
-    let whole = g.I.IntNumber.whole in
-    found_below (is_open c.args.taken.now)
-    (is_place_met_before (plain_steps whole c.args.steps.now) (plain_hand c.args.hand) (plain_point whole c.args.step.to) (plain_point whole c.args.step.from))
-    c.run_from-low.result.0 c.loop-i.i (length c.args.steps.now) c.loop-i.found
-    (omega (arith, c.loop-i-test.true, c.run_from-low.ensures.within, length-map c.args.steps.now (plain_step whole))) c.loop-i.invariant
+-- the end of a step that is read, as a whole point
+end_is : {I D : Type 0} (whole : I → ℤ) (steps : List (StepTaken I D)) (i : ℕ) (d : StepTaken I D) → i < length steps →
+    plain_point whole (get_or steps i d).to ≡ (step_at (plain_steps whole steps) i).to
+end_is whole steps i d within = ap (λ (s : Step). s.to) (sym (get_or-map (plain_step whole) steps i d _ within))
+
+pub add-requires : goal.add-requires
+add-requires g c =
+    (All-mapped_at (IsLong g.I.IntNumber.limit) (plain_step g.I.IntNumber.whole) c.args.steps.now c.loop-i.i
+    (get_or c.args.steps.now c.loop-i.i c.index-steps-i.result)
+    (omega (arith, c.loop-i-test.true, c.run_from-low.ensures.within, length-map c.args.steps.now (plain_step g.I.IntNumber.whole)))
+    (ap (get_or c.args.steps.now c.loop-i.i) c.index-steps-i.is) c.requires.long).to_in_range
 
 pub loop-i-preserved : goal.loop-i-preserved
 loop-i-preserved g c =
     let whole = g.I.IntNumber.whole in
-    let ss = plain_steps whole c.args.steps.now in
+    let steps = c.args.steps.now in
+    let ss = plain_steps whole steps in
     let hand = plain_hand c.args.hand in
     let v = plain_point whole c.args.step.to in
     let u = plain_point whole c.args.step.from in
-    rw c.first_of-found.ensures
-    (looked_at (is_open c.args.taken.now) (is_place_met_before ss hand v u) (c.loop-i.i + 1) (place_met-irreflexive ss hand v u)
-    (place_met-transitive ss hand v u c.requires.step.apart (c.loop-i.i + 1))
-    c.run_from-low.result.0 c.loop-i.i c.loop-i.found (omega arith) (omega arith) c.loop-i.invariant)
+    let low = c.run_from-low.result.0 in
+    let i = c.loop-i.i in
+    let long = c.requires.step.apart in
+    let held = c.loop-i.invariant.0 in
+    let first = c.loop-i.invariant.1 in
+    let above : low ≤ i = omega arith in
+    let within : i < length steps = omega (arith, c.loop-i-test.true, c.run_from-low.ensures.within, length-map steps (plain_step whole)) in
+    elim c.if-is_open.branch [
+      | then-is_open+then-add w ↦ rw (w.nearest-is, w.found-is) (place_added ss c.args.taken.now hand v u long low i c.loop-i.found above first
+          (sym c.is_open.ensures ∙ w.if-is_open.true) c.loop-i.nearest w.add.new.self held _ (end_is whole steps i w.index-steps-i.result within)
+          w.add.result true w.if-add.true w.add.ensures.nearer w.add.ensures.held)
+      | else-is_open w ↦ rw (w.nearest-is, w.found-is) (elim w.else-is_open.branch [
+        | else-is_open-via-then-is_open+else-add w' ↦ rw w'.nearest-is (place_added ss c.args.taken.now hand v u long low i c.loop-i.found above first
+            (sym c.is_open.ensures ∙ w'.if-is_open.true) c.loop-i.nearest w'.add.new.self held _ (end_is whole steps i w'.index-steps-i.result within)
+            w'.add.result false w'.if-add.false w'.add.ensures.nearer w'.add.ensures.held)
+        | else-is_open-via-else-is_open w' ↦ rw w'.nearest-is (
+          c.loop-i.invariant.0,
+          place_passed ss c.args.taken.now hand v u long low i c.loop-i.found above first (sym c.is_open.ensures ∙ w'.if-is_open.false),
+        )
+      ])
+    ]

@@ -1,10 +1,16 @@
--- The place is the first one of those so far in the run.
+-- The place is the first one of those so far in the run, and the end of its step is the point held.
+use Rattle.std.proofs.Common.{◌≡◌}
 use Rattle.overlay_geom.specs.Points.{plain_point}
-use Rattle.overlay_walk.specs.Places.{is_open, is_place_met_before, IsFirstOf}
+use Rattle.overlay_walk.specs.Places.{is_open, IsFirstOf}
 use Rattle.overlay_walk.specs.Steps.{plain_hand, plain_steps}
+use Rattle.overlay_walk.proofs.NextPlaces.{is_place_met_before, held_at}
 use Rattle.overlay_walk.proofs.next.place_of_next.Given as goal
 
 abbrev pub invariant-loop-i : goal.invariant-loop-i
 invariant-loop-i g l =
     let whole = g.I.IntNumber.whole in
-    IsFirstOf (is_open l.taken) (is_place_met_before (plain_steps whole l.steps) (plain_hand l.ray.hand) (plain_point whole l.ray.node) (plain_point whole l.ray.start)) l.low l.i l.found
+    let ss = plain_steps whole l.steps in
+    let hand = plain_hand l.fn.hand in
+    let v = plain_point whole l.fn.step.to in
+    let u = plain_point whole l.fn.step.from in
+    (l.nearest ≡ held_at ss hand v u l.found) × IsFirstOf (is_open l.taken) (is_place_met_before ss hand v u) l.low l.i l.found

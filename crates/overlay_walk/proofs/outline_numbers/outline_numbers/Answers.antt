@@ -1,10 +1,10 @@
 -- One more walk is numbered, and at last all are.
-use Rattle.std.proofs.Common.{◌≡◌, ◌+◌, refl, sym, ap, ap₂, ◌∙◌, subst, arith}
+use Rattle.std.proofs.Common.{◌+◌, sym, ap, ◌∙◌, subst, arith}
 use Rattle.std.proofs.lemmas.List.{length-map}
 use Rattle.overlay_walk.specs.Steps.{plain_steps, is_on_left}
 use Rattle.overlay_walk.specs.Walks.{plain_walks}
 use Rattle.overlay_walk.proofs.OutlineNumbers.{HaveNumbers, hole_numbered, outline_numbered, all_numbered}
-use Rattle.overlay_walk.proofs.WalksAtIndex.{walk_read}
+use Rattle.overlay_walk.proofs.WalksRead.{walk_at}
 use Rattle.overlay_walk.proofs.outline_numbers.outline_numbers.Goals as goal
 use Rattle.overlay_walk.proofs.outline_numbers.outline_numbers.Goals.{then-is_hole+in_ok-push, else-is_hole+in_ok-push-2}
 
@@ -15,7 +15,7 @@ loop-i-preserved g c =
     let walks = plain_walks whole c.args.walks.now in
     let i = c.loop-i.i in
     let w = plain_steps whole c.deref.result.now in
-    let at = walk_read whole c.args.walks.now i c.index-walks-i.result c.deref.result.now c.loop-i-test.true c.index-walks-i.is c.deref.ensures.value in
+    let at = walk_at whole c.args.walks.now i c.index-walks-i.result c.deref.result.now c.loop-i-test.true c.index-walks-i.is c.deref.ensures.value in
     elim c.if-is_hole.branch [
       | then-is_hole+in_ok-push v ↦
           subst (λ n. HaveNumbers on_left walks (i + 1) n c.if-is_hole.numbers.items) (sym v.outlines-is)

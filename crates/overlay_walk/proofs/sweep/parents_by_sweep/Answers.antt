@@ -1,19 +1,19 @@
 -- One anchor more: what the calls ask, and what is told then.
-use Rattle.std.proofs.Common.{◌≡◌, ◌+◌, ◌<◌, ◌≤◌, ◌<ℤ◌, ℕ, false, List, slice_set, length, take, drop, get_or, refl, sym, ap, ◌∙◌, subst, arith, rules}
+use Rattle.std.proofs.Common.{◌≡◌, ◌+◌, ◌<◌, ◌≤◌, ◌<ℤ◌, ℕ, false, List, slice_set, length, take, drop, refl, sym, ap, ◌∙◌, subst, arith, rules}
 use Rattle.std.specs.List.{All, AllPairs}
 use Rattle.std.proofs.lemmas.List.{length-map, length-set}
-use Rattle.std.proofs.lemmas.List.Elements.{All-contains, All-nil}
+use Rattle.std.proofs.lemmas.List.Elements.{All-contains}
 use Rattle.std.proofs.lemmas.Option.{slice_get_within}
-use Rattle.overlay_geom.specs.Plane.{Step, edge_eq}
+use Rattle.overlay_geom.specs.Plane.{edge_eq}
 use Rattle.overlay_geom.specs.Settled.{IsSettledBy}
 use Rattle.overlay_geom.proofs.Mapped.{read_mapped}
-use Rattle.overlay_scan.specs.Scan.{Entry, Sweep, live_at, MeetsOthers, value_below}
+use Rattle.overlay_scan.specs.Scan.{Entry}
+use Rattle.overlay_scan.proofs.LinesFit.{line_fits}
 use Rattle.overlay_walk.specs.Parents.{IsSwept, IsToldAt}
 use Rattle.overlay_walk.specs.Steps.{plain_steps, is_on_left}
-use Rattle.overlay_walk.specs.WalkEdges.{plain_entry, plain_entries, IsHoleEntry, AreHoleEntries, IsByAnchor}
+use Rattle.overlay_walk.specs.WalkEdges.{walk_entry, walk_entries, IsHoleEntry, AreHoleEntries, IsByAnchor}
 use Rattle.overlay_walk.specs.Walks.{plain_walks}
 use Rattle.overlay_walk.proofs.HolesTold.{shape_of}
-use Rattle.overlay_walk.proofs.LinesFit.{line_fits}
 use Rattle.overlay_walk.proofs.Sweeping.{nothing_swept, at_front, entries_settled, anchor_over, anchor_meets, swept_on, told_on, all_walks_told}
 use Rattle.overlay_walk.proofs.sweep.parents_by_sweep.Goals as goal
 
@@ -27,31 +27,31 @@ loop-hole-init g c = (
 
 pub insert_up_to-requires-clause-order : goal.insert_up_to-requires-clause-order
 insert_up_to-requires-clause-order g c =
-    subst (λ es. IsByAnchor (plain_entries g.I.IntNumber.whole es)) (sym c.deref.ensures.value) c.in_ok-edges.ensures.ok.order
+    subst (λ es. IsByAnchor (walk_entries g.I.IntNumber.whole es)) (sym c.deref.ensures.value) c.in_ok-edges.ensures.ok.order
 
 pub insert_up_to-requires-clause-distinct : goal.insert_up_to-requires-clause-distinct
 insert_up_to-requires-clause-distinct g c =
-    subst (λ es. AllPairs (λ e f. edge_eq e.edge f.edge ≡ false) (plain_entries g.I.IntNumber.whole es)) (sym c.deref.ensures.value)
+    subst (λ es. AllPairs (λ e f. edge_eq e.edge f.edge ≡ false) (walk_entries g.I.IntNumber.whole es)) (sym c.deref.ensures.value)
     c.in_ok-edges.ensures.ok.distinct
 
 pub insert_up_to-requires-clause-settled : goal.insert_up_to-requires-clause-settled
 insert_up_to-requires-clause-settled g c =
     let whole = g.I.IntNumber.whole in
-    subst (λ es. IsSettledBy (λ f. f.edge) (plain_entries whole es)) (sym c.deref.ensures.value)
+    subst (λ es. IsSettledBy (λ f. f.edge) (walk_entries whole es)) (sym c.deref.ensures.value)
     (entries_settled (is_on_left c.args.direction) (plain_walks whole c.args.walks.now) c.requires.contours c.requires.settled
-    (plain_entries whole c.in_ok-edges.edges.items) c.in_ok-edges.ensures.ok)
+    (walk_entries whole c.in_ok-edges.edges.items) c.in_ok-edges.ensures.ok)
 
 pub insert_up_to-requires-clause-swept : goal.insert_up_to-requires-clause-swept
 insert_up_to-requires-clause-swept g c =
     let whole = g.I.IntNumber.whole in
     let limit = g.I.IntNumber.limit in
-    let hs = plain_entries whole c.deref-hole-items.result.now in
-    let h = plain_entry whole c.hole-item.result in
+    let hs = walk_entries whole c.deref-hole-items.result.now in
+    let h = walk_entry whole c.hole-item.result in
     let i = c.loop-hole.hole-index in
     let inside : i < length hs = rw length-map c.loop-hole-test.true in
-    let here = sym (read_mapped (plain_entry whole) c.deref-hole-items.result.now i c.hole-item.result h c.loop-hole-test.true c.hole-item.is) in
-    subst (λ es. IsSwept limit h.edge.a.x (take c.loop-hole.from (plain_entries whole es)) (g.S.Scan.content c.loop-hole.scan)) (sym c.deref.ensures.value)
-    (at_front (λ (k : Entry ℕ). IsSwept limit k.edge.a.x (take c.loop-hole.from (plain_entries whole c.in_ok-edges.edges.items)) (g.S.Scan.content c.loop-hole.scan))
+    let here = sym (read_mapped (walk_entry whole) c.deref-hole-items.result.now i c.hole-item.result h c.loop-hole-test.true c.hole-item.is) in
+    subst (λ es. IsSwept limit h.edge.a.x (take c.loop-hole.from (walk_entries whole es)) (g.S.Scan.content c.loop-hole.scan)) (sym c.deref.ensures.value)
+    (at_front (λ (k : Entry ℕ). IsSwept limit k.edge.a.x (take c.loop-hole.from (walk_entries whole c.in_ok-edges.edges.items)) (g.S.Scan.content c.loop-hole.scan))
     hs i h inside here c.loop-hole.invariant.2)
 
 pub first_less-below-requires : goal.first_less-below-requires
@@ -60,19 +60,19 @@ first_less-below-requires g c =
     let limit = g.I.IntNumber.limit in
     let on_left = is_on_left c.args.direction in
     let walks = plain_walks whole c.args.walks.now in
-    let fs = plain_entries whole c.in_ok-edges.edges.items in
-    let hs = plain_entries whole c.deref-hole-items.result.now in
-    let h = plain_entry whole c.hole-item.result in
+    let fs = walk_entries whole c.in_ok-edges.edges.items in
+    let hs = walk_entries whole c.deref-hole-items.result.now in
+    let h = walk_entry whole c.hole-item.result in
     let i = c.loop-hole.hole-index in
     let inside : i < length hs = rw length-map c.loop-hole-test.true in
-    let here = sym (read_mapped (plain_entry whole) c.deref-hole-items.result.now i c.hole-item.result h c.loop-hole-test.true c.hole-item.is) in
+    let here = sym (read_mapped (walk_entry whole) c.deref-hole-items.result.now i c.hole-item.result h c.loop-hole-test.true c.hole-item.is) in
     let holes : AreHoleEntries on_left walks hs =
-    subst (λ es. AreHoleEntries on_left walks (plain_entries whole es)) (sym c.deref-hole-items.ensures.value) c.in_ok-anchors.ensures.ok in
+    subst (λ es. AreHoleEntries on_left walks (walk_entries whole es)) (sym c.deref-hole-items.ensures.value) c.in_ok-anchors.ensures.ok in
     let own = All-contains (IsHoleEntry on_left walks) hs h holes.from (i, inside, sym here) in
     let s = g.S.Scan.content c.insert_up_to.new.scan in
     let n = c.in_ok-from.from in
-    let swept = subst (λ es. IsSwept limit h.edge.a.x (take n (plain_entries whole es)) s) c.deref.ensures.value c.in_ok-from.ensures.swept in
-    let rest = subst (λ es. All (λ (f : Entry ℕ). h.edge.a.x <ℤ f.edge.a.x) (drop n (plain_entries whole es))) c.deref.ensures.value c.in_ok-from.ensures.rest in (
+    let swept = subst (λ es. IsSwept limit h.edge.a.x (take n (walk_entries whole es)) s) c.deref.ensures.value c.in_ok-from.ensures.swept in
+    let rest = subst (λ es. All (λ (f : Entry ℕ). h.edge.a.x <ℤ f.edge.a.x) (drop n (walk_entries whole es))) c.deref.ensures.value c.in_ok-from.ensures.rest in (
       line_fits _ _ g.met.I.IntNumber.small.align_bound g.met.I.IntNumber.small.size_bound,
       (
         swept.state,
@@ -102,14 +102,14 @@ index_mut-requires g c =
     let limit = g.I.IntNumber.limit in
     let on_left = is_on_left c.args.direction in
     let walks = plain_walks whole c.args.walks.now in
-    let fs = plain_entries whole c.in_ok-edges.edges.items in
-    let hs = plain_entries whole c.deref-hole-items.result.now in
-    let h = plain_entry whole c.hole-item.result in
+    let fs = walk_entries whole c.in_ok-edges.edges.items in
+    let hs = walk_entries whole c.deref-hole-items.result.now in
+    let h = walk_entry whole c.hole-item.result in
     let i = c.loop-hole.hole-index in
     let inside : i < length hs = rw length-map c.loop-hole-test.true in
-    let here = sym (read_mapped (plain_entry whole) c.deref-hole-items.result.now i c.hole-item.result h c.loop-hole-test.true c.hole-item.is) in
+    let here = sym (read_mapped (walk_entry whole) c.deref-hole-items.result.now i c.hole-item.result h c.loop-hole-test.true c.hole-item.is) in
     let holes : AreHoleEntries on_left walks hs =
-    subst (λ es. AreHoleEntries on_left walks (plain_entries whole es)) (sym c.deref-hole-items.ensures.value) c.in_ok-anchors.ensures.ok in
+    subst (λ es. AreHoleEntries on_left walks (walk_entries whole es)) (sym c.deref-hole-items.ensures.value) c.in_ok-anchors.ensures.ok in
     let own = All-contains (IsHoleEntry on_left walks) hs h holes.from (i, inside, sym here) in
     let within = slice_get_within walks h.value own.walk own.at in
     let counted = c.loop-hole.invariant.0 in
@@ -123,19 +123,19 @@ loop-hole-preserved g c =
     let limit = g.I.IntNumber.limit in
     let on_left = is_on_left c.args.direction in
     let walks = plain_walks whole c.args.walks.now in
-    let fs = plain_entries whole c.in_ok-edges.edges.items in
-    let hs = plain_entries whole c.deref-hole-items.result.now in
-    let h = plain_entry whole c.hole-item.result in
+    let fs = walk_entries whole c.in_ok-edges.edges.items in
+    let hs = walk_entries whole c.deref-hole-items.result.now in
+    let h = walk_entry whole c.hole-item.result in
     let i = c.loop-hole.hole-index in
     let inside : i < length hs = rw length-map c.loop-hole-test.true in
-    let here = sym (read_mapped (plain_entry whole) c.deref-hole-items.result.now i c.hole-item.result h c.loop-hole-test.true c.hole-item.is) in
+    let here = sym (read_mapped (walk_entry whole) c.deref-hole-items.result.now i c.hole-item.result h c.loop-hole-test.true c.hole-item.is) in
     let holes : AreHoleEntries on_left walks hs =
-    subst (λ es. AreHoleEntries on_left walks (plain_entries whole es)) (sym c.deref-hole-items.ensures.value) c.in_ok-anchors.ensures.ok in
+    subst (λ es. AreHoleEntries on_left walks (walk_entries whole es)) (sym c.deref-hole-items.ensures.value) c.in_ok-anchors.ensures.ok in
     let own = All-contains (IsHoleEntry on_left walks) hs h holes.from (i, inside, sym here) in
     let s = g.S.Scan.content c.insert_up_to.new.scan in
     let n = c.in_ok-from.from in
-    let swept = subst (λ es. IsSwept limit h.edge.a.x (take n (plain_entries whole es)) s) c.deref.ensures.value c.in_ok-from.ensures.swept in
-    let rest = subst (λ es. All (λ (f : Entry ℕ). h.edge.a.x <ℤ f.edge.a.x) (drop n (plain_entries whole es))) c.deref.ensures.value c.in_ok-from.ensures.rest in
+    let swept = subst (λ es. IsSwept limit h.edge.a.x (take n (walk_entries whole es)) s) c.deref.ensures.value c.in_ok-from.ensures.swept in
+    let rest = subst (λ es. All (λ (f : Entry ℕ). h.edge.a.x <ℤ f.edge.a.x) (drop n (walk_entries whole es))) c.deref.ensures.value c.in_ok-from.ensures.rest in
     let t = g.S.Scan.content c.first_less-below.new.self in
     let numbers = c.in_ok-numbers.numbers.items in
     let parents = c.loop-hole.parents.items in
@@ -159,8 +159,8 @@ returns-clause-told g c =
     let whole = g.I.IntNumber.whole in
     let on_left = is_on_left c.args.direction in
     let walks = plain_walks whole c.args.walks.now in
-    let hs = plain_entries whole c.deref-hole-items.result.now in
+    let hs = walk_entries whole c.deref-hole-items.result.now in
     let holes : AreHoleEntries on_left walks hs =
-    subst (λ es. AreHoleEntries on_left walks (plain_entries whole es)) (sym c.deref-hole-items.ensures.value) c.in_ok-anchors.ensures.ok in
+    subst (λ es. AreHoleEntries on_left walks (walk_entries whole es)) (sym c.deref-hole-items.ensures.value) c.in_ok-anchors.ensures.ok in
     let past : length hs ≤ c.loop-hole.hole-index = rw length-map c.loop-hole-test.false in
     all_walks_told on_left walks hs holes c.loop-hole.parents.items c.loop-hole.hole-index past c.loop-hole.invariant.3

@@ -2,7 +2,7 @@
 use Rattle.std.proofs.Common.{subst, sym, rules}
 use Rattle.std.specs.List.Sorted.{IsPermutation}
 use Rattle.std.proofs.lemmas.List.Sorted.{IsPermutation-map, All-permutation}
-use Rattle.overlay_walk.specs.Steps.{plain_step, unmarked, IsLong}
+use Rattle.overlay_walk.specs.Steps.{plain_step, IsLong}
 use Rattle.overlay_walk.proofs.OpenPlaces.{unmarked-cleared}
 use Rattle.overlay_walk.proofs.open_steps.OpenSteps.new.Goals as goal
 

@@ -1,5 +1,5 @@
 -- Entries in the order of anchors: those from a place on start no earlier, and what comes before one stands before it.
-use Rattle.std.proofs.Common.{◌≡◌, ⊎_elim, inl, inr, ℕ, zero, suc, ◌+◌, ◌<◌, ◌≤◌, Bool, true, false, ◌&&◌, ◌||◌, ℤ, pos, ◌*ℤ◌, ◌≤ℤ◌, ◌<ℤ◌, int_lt, int_le, int_eq, List, length, take, drop, get_or, Contains, refl, sym, ap, ◌∙◌, subst, arith}
+use Rattle.std.proofs.Common.{◌≡◌, ℕ, zero, suc, ◌+◌, ◌<◌, true, false, ℤ, pos, ◌*ℤ◌, ◌≤ℤ◌, ◌<ℤ◌, int_lt, int_le, List, length, take, drop, get_or, Contains, sym, ap, ◌∙◌, subst, arith}
 use Rattle.std.specs.List.{All, AllPairs}
 use Rattle.std.proofs.lemmas.Bool.{both_ways, and_from, or_left, false_from_ne_true}
 use Rattle.std.proofs.lemmas.Int.{ints}
@@ -9,17 +9,12 @@ use Rattle.overlay_geom.specs.Plane.{Edge, edge_eq, point_lt}
 use Rattle.overlay_geom.specs.Points.{InRange}
 use Rattle.overlay_geom.specs.Settled.{IsSettledBy, MeetInEnds}
 use Rattle.overlay_geom.proofs.Orders.{edge_eq-flip}
-use Rattle.overlay_plane.specs.Heights.{covers}
 use Rattle.overlay_plane.specs.Anchors.{is_anchored_before}
 use Rattle.overlay_plane.proofs.Entries.{all_of_entries}
 use Rattle.overlay_plane.proofs.Tests.{ge_from_test, lt_from_test, test_from_le, test_from_lt}
 use Rattle.overlay_scan.specs.Scan.{Entry, Sweep, live_at, IsOver, MeetsOthers, IsNewAmong}
 use Rattle.overlay_walk.specs.Parents.{IsSwept}
 use Rattle.overlay_walk.specs.WalkEdges.{IsByAnchor}
-
--- a number is no larger than itself
-no_less : (x : ℤ) → x ≤ℤ x
-no_less x = omega (arith, ints)
 
 -- the later of two starts no further left
 start_order : (e f : Edge) → is_anchored_before f e ≡ false → e.a.x ≤ℤ f.a.x
@@ -34,7 +29,7 @@ module _ (es : List (Entry ℕ)) (i : ℕ) (e : Entry ℕ) (lt : i < length es) 
       by : (k : ℕ) → k < length (drop i es) → e.edge.a.x ≤ℤ (get_or es (i + k) d).edge.a.x
       by zero h =
           let here : i ≡ i + 0 = omega arith in
-          subst (λ (f : Entry ℕ). e.edge.a.x ≤ℤ f.edge.a.x) (is ∙ get_or_default es i e d lt ∙ ap (λ n. get_or es n d) here) (no_less e.edge.a.x)
+          subst (λ (f : Entry ℕ). e.edge.a.x ≤ℤ f.edge.a.x) (is ∙ get_or_default es i e d lt ∙ ap (λ n. get_or es n d) here) (omega (arith, ints))
       by (suc k) h =
           let l = length-drop i es in
           start_order e.edge (get_or es (i + suc k) d).edge

@@ -1,0 +1,111 @@
+//! The steps round a triangle, walked and cut into contours, at each coordinate type.
+
+ghost use Rattle.std.specs.Prelude.{◌≡◌, ◌≤◌, pos, [], ◌∷◌, IfOk};
+ghost use Rattle.overlay_geom.specs.Plane.{steps_of};
+ghost use Rattle.overlay_plane.specs.Alternates.{Alternates};
+ghost use Rattle.overlay_plane.specs.BesideOrbits.{HasEachOnce};
+ghost use Rattle.overlay_walk.specs.Steps.{plain_steps};
+
+use super::*;
+use overlay_geom::point::IntPoint;
+use std::alloc::Global;
+use std::process::Abort;
+use std::test::Fail;
+
+// The steps round the triangle (0, 0), (4, 0), (0, 4), counterclockwise, and their numbers.
+fn steps_round<I: IntNumber>(
+    alloc: Global,
+    zero: I,
+    four: I,
+) -> Result<Vec<Step<I, u8>, Global>, OverlayError>
+    requires zero { I.whole zero ≡ pos 0 }
+    requires four { I.whole four ≡ pos 4 }
+    ensures { IfOk result (λ v. plain_steps I.whole v.items
+        ≡ steps_of (record { x = pos 0; y = pos 0 } ∷ record { x = pos 4; y = pos 0 } ∷ record { x = pos 0; y = pos 4 } ∷ [])) }
+{
+    let corner = IntPoint::new(zero, zero);
+    let right = IntPoint::new(four, zero);
+    let top = IntPoint::new(zero, four);
+    let mut steps = Vec::new(alloc);
+    steps.push(Step {
+        from: corner,
+        to: right,
+        edge_data: 1,
+    })?;
+    steps.push(Step {
+        from: right,
+        to: top,
+        edge_data: 2,
+    })?;
+    steps.push(Step {
+        from: top,
+        to: corner,
+        edge_data: 3,
+    })?;
+    Ok(steps)
+}
+
+// These steps, none of them taken.
+fn open_triangle<I: IntNumber>(
+    alloc: Global,
+    zero: I,
+    four: I,
+) -> Result<OpenSteps<I, u8, Global>, OverlayError>
+    requires zero { I.whole zero ≡ pos 0 }
+    requires four { I.whole four ≡ pos 4 }
+    requires limit { 4 ≤ I.limit }
+    ensures alternate { IfOk result (λ o. Alternates (plain_steps I.whole o)) }
+    ensures once { IfOk result (λ o. HasEachOnce (plain_steps I.whole o)) }
+{
+    let steps = steps_round(alloc, zero, four)?;
+    OpenSteps::new(steps)
+}
+
+// Whether these are the numbers of the steps, in order.
+fn has_numbers<I: IntNumber>(walk: &[Step<I, u8>], numbers: &[u8]) -> bool {
+    walk.len() == numbers.len()
+        && walk
+            .iter()
+            .zip(numbers.iter())
+            .all(|(s, n)| s.edge_data == *n)
+}
+
+// Walks begin along the left edge, the top one at the leftmost lowest point, and take all steps.
+fn check_triangle<I: IntNumber>(
+    rt: &impl Abort,
+    alloc: Global,
+    zero: I,
+    four: I,
+) -> Result<(), Fail>
+    requires zero { I.whole zero ≡ pos 0 }
+    requires four { I.whole four ≡ pos 4 }
+    requires limit { 4 ≤ I.limit }
+{
+    for hand in [Hand::Left, Hand::Right] {
+        let mut steps = open_triangle(alloc, zero, four)?;
+        let start = steps.start().expect(rt, "steps are left");
+        assert_eq!(rt; start.edge_data, 3);
+        let walk = steps.walk(start, hand)?;
+        assert!(rt; has_numbers(&walk, &[3, 1, 2]));
+        assert!(rt; steps.start().is_none());
+    }
+    for direction in [
+        ContourDirection::CounterClockwise,
+        ContourDirection::Clockwise,
+    ] {
+        let mut steps = open_triangle(alloc, zero, four)?;
+        let contours = cut_into_contours(alloc, &mut steps, direction)?;
+        assert!(rt; contours.len() == 1);
+        assert!(rt; has_numbers(&contours[0], &[3, 1, 2]));
+        assert!(rt; steps.start().is_none());
+    }
+    Ok(())
+}
+
+#[test]
+fn a_triangle_is_one_contour(rt: HostRuntime) -> Result<(), Fail> {
+    check_triangle(&rt, rt.alloc(), 0i16, 4)?;
+    check_triangle(&rt, rt.alloc(), 0i32, 4)?;
+    check_triangle(&rt, rt.alloc(), 0i64, 4)?;
+    Ok(())
+}
