@@ -3,11 +3,10 @@ use Rattle.std.proofs.Common.{◌≡◌, List, [], ◌∷◌, map, length, refl,
 use Rattle.std.specs.Prelude.{Bool, Result, Ok, Err, IfOk}
 use Rattle.overlay_geom.specs.Plane.{Point, Step}
 use Rattle.overlay_geom.specs.Edges.{CountedEdge}
-use Rattle.overlay_plane.specs.Binding.{shapes_of}
 use Rattle.overlay_plane.specs.Contours.{IsCutInto, done, next}
-use Rattle.overlay_plane.specs.ShapeWindings.{points_of_shapes, AreKeptOrThinned}
+use Rattle.overlay_plane.specs.ShapeWindings.{AreKeptOrThinned}
 use Rattle.overlay_plane.specs.Turn.{Hand}
-use Rattle.i_overlay.specs.Overlay.{Asked, IsResult}
+use Rattle.i_overlay.specs.Overlay.{Asked, shapes_found, IsResult}
 
 -- no steps are cut into no walks
 no_walks : (hand_of : Step → Hand) (walks : List (List Step)) → IsCutInto hand_of [] walks → walks ≡ []
@@ -29,7 +28,7 @@ none_shown keep (s ∷ ss) result same shown = let long = ap length same in absu
 pub no_shapes : (q : Asked) (result : List (List (List Point))) → IsResult q [] result → result ≡ []
 no_shapes q result is =
     let no_bound = none_of_none (λ b. b.steps) is.bound (subst (λ ws. map (λ b. b.steps) is.bound ≡ ws) (no_walks _ is.walks is.cut) is.are_bound.are) in
-    none_shown q.preserve_output_collinear _ result (ap (λ b. points_of_shapes (shapes_of _ b)) no_bound) is.shown
+    none_shown q.preserve_output_collinear _ result (ap (shapes_found q) no_bound) is.shown
 
 -- nor has the list that holds it
 pub no_shapes_held : {X Y E : Type 0} (r : Result X E) (items : X → List Y) (f : Y → List (List Point)) (q : Asked) (es : List CountedEdge)

@@ -1,12 +1,12 @@
 -- What a new builder, to which paths were added, answers of the paths.
-use Rattle.std.proofs.Common.{◌≡◌, inr, ℕ, true, false, List, [], refl, sym, ap₂, ◌∙◌}
+use Rattle.std.proofs.Common.{◌≡◌, ◌⊎◌, inl, inr, ℕ, false, List, sym, ap, ap₂, ◌∙◌}
 use Rattle.std.proofs.lemmas.Bool.{false≢true}
 use Rattle.std.specs.Prelude.{Result, Ok, Err, IfOk, IfErr, OnOk}
 use Rattle.overlay_geom.specs.declared.error.OverlayError.{OverlayError}
 use Rattle.overlay_geom.specs.declared.error.OverlayError.TheVariants.{Memory, NotSettled, TooManyEdges, Failed}
 use Rattle.overlay_geom.specs.Edges.{CountedEdge}
 use Rattle.overlay_geom.specs.Plane.{Point}
-use Rattle.overlay_arrange.specs.Arranged.{IsArranged}
+use Rattle.overlay_arrange.specs.Arranged.{IsArranged, MayRefuseSplitting}
 use Rattle.overlay_arrange.specs.Options.{AreOptions}
 use Rattle.overlay_arrange.specs.declared.fill_rule.FillRule.{FillRule}
 use Rattle.overlay_arrange.specs.declared.overlay_rule.OverlayRule.{OverlayRule}
@@ -14,7 +14,7 @@ use Rattle.overlay_arrange.specs.declared.options.IntOverlayOptions.{IntOverlayO
 use Rattle.i_overlay.specs.Builder.{Builder}
 use Rattle.i_overlay.specs.OneShot.{asked_by_default, IsResultOfPaths, MayRefusePaths}
 use Rattle.i_overlay.specs.Overlay.{Asked, asked, IsResult}
-use Rattle.i_overlay.specs.Paths.{GivenPath, AddsPaths}
+use Rattle.i_overlay.specs.Paths.{GivenPath, HoldsPaths}
 use Rattle.i_overlay.specs.Refusals.{RefusesAsQuery}
 
 -- what the default options ask for
@@ -25,18 +25,24 @@ asked_of_default natural fill rule o are =
 
 -- the result of a query on a content that the paths give is one of the paths
 pub result_of_paths : {V E : Type 0} (r : Result V E) (shapes : V → List (List (List Point))) (q : Asked) (paths : List GivenPath)
-    (content edges : List CountedEdge) → AddsPaths false paths [] content → OnOk r (IsArranged 64 content edges)
+    (content edges : List CountedEdge) → HoldsPaths false paths content → OnOk r (IsArranged 64 content edges)
     → IfOk r (λ v. IsResult q edges (shapes v)) → IfOk r (λ v. IsResultOfPaths q paths (shapes v))
-result_of_paths (Ok v) shapes q paths content edges added arranged is =
-    record { content = content; edges = edges; added = added; arranged = arranged; is_result = is }
-result_of_paths (Err e) shapes q paths content edges added arranged is = tt
+result_of_paths (Ok v) shapes q paths content edges holds arranged is =
+    record { content = content; edges = edges; holds = holds; arranged = arranged; is_result = is }
+result_of_paths (Err e) shapes q paths content edges holds arranged is = tt
 
 -- the refusal of a query on the paths
-pub query_refused : {U V : Type 0} (paths : List GivenPath) (old new : Builder U) (r : Result V OverlayError) → AddsPaths false paths [] old.edges
+pub query_refused : {U V : Type 0} (paths : List GivenPath) (old new : Builder U) (r : Result V OverlayError) → HoldsPaths false paths old.edges
     → old.failed ≡ false → RefusesAsQuery old new r → IfErr r (MayRefusePaths paths)
-query_refused paths old new (Ok v) added ready h = tt
-query_refused paths old new (Err Memory) added ready h = tt
-query_refused paths old new (Err NotSettled) added ready h =
-    record { content = old.edges; added = added; unsettled = h.not_settled refl; not_whole = λ all. h.whole all refl }
-query_refused paths old new (Err TooManyEdges) added ready h = inr (record { content = old.edges; added = added; heavy = h.too_many refl })
-query_refused paths old new (Err Failed) added ready h = false≢true (sym ready ∙ h.failed.0 refl)
+query_refused paths old new (Ok v) holds ready h = tt
+query_refused paths old new (Err e) holds ready h = paths_refused e (unfailed h.err)
+  where
+    unfailed : ((e ≡ Failed) ⊎ MayRefuseSplitting 64 old.edges e) → MayRefuseSplitting 64 old.edges e
+    unfailed (inl same) = absurd (false≢true (sym ready ∙ h.failed.0 (ap Err same)))
+    unfailed (inr may) = may
+
+    paths_refused : (e : OverlayError) → MayRefuseSplitting 64 old.edges e → MayRefusePaths paths e
+    paths_refused Memory may = tt
+    paths_refused NotSettled may = record { content = old.edges; holds = holds; refused = may }
+    paths_refused TooManyEdges may = inr (record { content = old.edges; holds = holds; refused = may })
+    paths_refused Failed may = may

@@ -1,7 +1,7 @@
 -- The definitions computed on small contents: a square, two squares that share an edge, and short closed lists.
 use Rattle.std.specs.Prelude.{◌≡◌, refl, ℕ, zero, suc, ◌<◌, ℤ, pos, negsuc, List, [], ◌∷◌, ◌++◌, map}
 use Rattle.std.specs.Ordering.{int_eq}
-use Rattle.std.proofs.Common.{arith, sym, ◌∙◌, ap, Bool, false}
+use Rattle.std.proofs.Common.{arith, sym, ◌∙◌, ap, false}
 use Rattle.std.proofs.lemmas.Bool.{false≢true}
 use Rattle.overlay_geom.specs.Plane.{Point, steps_of}
 use Rattle.overlay_geom.specs.Thinned.{IsThinned, thin, drop_one, IsStraightAt}

@@ -1,10 +1,11 @@
 -- What contracts see of an overlay builder, and what its calls do to it.
-use Rattle.std.specs.Prelude.{◌≡◌, ◌^◌, ◌≤◌, Bool, true, false, List, [], Option, Some}
+use Rattle.std.specs.Prelude.{◌≡◌, ◌^◌, ◌≤◌, ℕ, Bool, false, List, [], Option, Some}
 use Rattle.overlay_geom.specs.Plane.{Point}
 use Rattle.overlay_geom.specs.Edges.{CountedEdge, AddsContour, weight}
 use Rattle.overlay_plane.specs.Balance.{HasBalancedCounts}
 use Rattle.i_overlay.specs.declared.solver.Solver.{Solver}
 use Rattle.overlay_arrange.specs.Content.{edge_for}
+use Rattle.overlay_arrange.specs.Options.{AreOptions}
 use Rattle.overlay_arrange.specs.declared.options.ShapeType.{ShapeType}
 use Rattle.overlay_arrange.specs.declared.options.IntOverlayOptions.{IntOverlayOptions}
 
@@ -20,6 +21,16 @@ pub record Builder (U : Type 0) : Type 0 where
 -- a new builder with these settings: it has a buffer, no edges, and has not failed
 abbrev pub empty_builder : {U : Type 0} → IntOverlayOptions U → Solver → Builder U
 empty_builder options solver = record { solver = solver; options = options; boolean_buffer = Some tt; edges = []; failed = false }
+
+-- a builder as the constructors without settings make it, whatever it holds: it has not failed, and has the default options and a buffer
+pub record IsNewBuilder {U : Type 0} (natural : U → ℕ) (b : Builder U) : Type 0 where
+  pub ready : b.failed ≡ false
+  pub options : AreOptions natural false false false b.options
+  pub buffer : b.boolean_buffer ≡ Some tt
+
+-- the builder without its edges, which has not failed
+abbrev pub cleared : {U : Type 0} → Builder U → Builder U
+cleared b = record b { edges = []; failed = false }
 
 -- what a builder holds that has not failed has balanced counts, since closed contours alone were added
 abbrev pub IsBalancedUnlessFailed : Bool → List CountedEdge → Type 0

@@ -1,11 +1,10 @@
 -- Several closed paths, added to a builder one after another.
-use Rattle.std.specs.Prelude.{◌≡◌, Bool, List, [], ◌∷◌, ◌++◌, map}
+use Rattle.std.specs.Prelude.{◌≡◌, ◌^◌, ◌<◌, Bool, List, [], ◌∷◌, ◌++◌, map}
 use Rattle.overlay_geom.specs.Plane.{Point}
-use Rattle.overlay_geom.specs.Edges.{CountedEdge, AddsContour}
+use Rattle.overlay_geom.specs.Edges.{CountedEdge, AddsContour, weight}
 use Rattle.overlay_arrange.specs.Content.{edge_for}
 use Rattle.overlay_arrange.specs.declared.options.ShapeType.{ShapeType}
 use Rattle.overlay_arrange.specs.declared.options.ShapeType.TheVariants.{Subject, Clip}
-use Rattle.i_overlay.specs.Builder.{WouldWeighTooMuch}
 
 -- a closed path to be added: to which shape it belongs, and its points
 pub record GivenPath : Type 0 where
@@ -26,19 +25,14 @@ pub data AddsPaths : Bool → List GivenPath → List CountedEdge → List Count
   path_and_others : {keep : Bool} {p : GivenPath} {ps : List GivenPath} {old mid new : List CountedEdge} →
       AddsContour keep (edge_for p.shape_type) p.points old mid → AddsPaths keep ps mid new → AddsPaths keep (p ∷ ps) old new
 
--- some first paths are added, all of those before a refused one
-pub record AddsFirstPaths (keep : Bool) (paths : List GivenPath) (old new : List CountedEdge) : Type 0 where
+-- the second content is the first one, followed by what the paths before this one add
+pub record AddsPathsBefore (keep : Bool) (path : GivenPath) (paths : List GivenPath) (old new : List CountedEdge) : Type 0 where
   pub before : List GivenPath
-  pub after : List GivenPath
-  pub parts : paths ≡ before ++ after
-  pub added : AddsPaths keep before old new
-
--- one of the paths, added after those before it, would bring the weight to 2^31
-pub record PathsWeighTooMuch (keep : Bool) (paths : List GivenPath) (old : List CountedEdge) : Type 0 where
-  pub before : List GivenPath
-  pub path : GivenPath
   pub after : List GivenPath
   pub parts : paths ≡ before ++ path ∷ after
-  pub content : List CountedEdge
-  pub added : AddsPaths keep before old content
-  pub heavy : WouldWeighTooMuch keep path.shape_type path.points content
+  pub added : AddsPaths keep before old new
+
+-- the content is what the paths add to no edges, and a builder may hold it
+pub record HoldsPaths (keep : Bool) (paths : List GivenPath) (es : List CountedEdge) : Type 0 where
+  pub added : AddsPaths keep paths [] es
+  pub light : weight es < 2 ^ 31

@@ -7,18 +7,17 @@ ghost use Rattle.overlay_geom.specs.Plane.{points_of};
 ghost use Rattle.overlay_geom.specs.Points.{plain_points};
 ghost use Rattle.overlay_geom.specs.Thinned.{IsKeptOrThinned};
 ghost use Rattle.overlay_plane.specs.Binding.{is_hole, outlines, shapes_begun, shapes_of, AreBound};
-ghost use Rattle.overlay_plane.specs.Contours.{is_filled_above};
 ghost use Rattle.overlay_plane.specs.ShapeWindings.{points_of_shapes, AreKeptOrThinned};
-ghost use Rattle.overlay_walk.specs.Steps.{is_on_left, plain_step, plain_steps, IsLong};
+ghost use Rattle.overlay_walk.specs.Steps.{is_on_left, plain_steps, IsLong};
 ghost use Rattle.overlay_walk.specs.Walks.{plain_walks, bound_to};
 ghost use Rattle.i_overlay.specs.Assembly.{AddsBound};
 
-use overlay_arrange::edge::compare_points;
 use overlay_arrange::options::ContourDirection;
 use overlay_arrange::thin::thinned;
 use overlay_geom::error::OverlayError;
 use overlay_geom::number::IntNumber;
 use overlay_geom::path::{IntContour, IntShapes};
+use overlay_walk::filled::is_hole;
 use overlay_walk::step::Step;
 use std::alloc::Allocator;
 
@@ -170,25 +169,4 @@ fn points_of<I: IntNumber, A: Allocator>(
         points.push(step.from)?;
     }
     Ok(points)
-}
-
-// Whether the walk is a hole: it begins along an edge that is filled above.
-fn is_hole<I: IntNumber>(walk: &[Step<I, ()>], direction: ContourDirection) -> bool
-    ensures { result ≡ is_hole (is_on_left direction) (plain_steps I.whole walk.now) }
-{
-    match walk.first() {
-        Some(first) => is_filled_above(*first, direction),
-        None => false,
-    }
-}
-
-// Whether the edge of the step is filled above.
-fn is_filled_above<I: IntNumber>(step: Step<I, ()>, direction: ContourDirection) -> bool
-    ensures { result ≡ is_filled_above (is_on_left direction) (plain_step I.whole step) }
-{
-    let is_forward = compare_points(step.from, step.to).is_lt();
-    match direction {
-        ContourDirection::CounterClockwise => is_forward,
-        ContourDirection::Clockwise => !is_forward,
-    }
 }

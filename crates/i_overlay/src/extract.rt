@@ -1,6 +1,6 @@
 //! The contours round the region where rules hold, bound to shapes.
 
-ghost use Rattle.std.specs.Prelude.{◌≡◌, ◌≢◌, None, All, IfOk, OnOk, IsOkUnless};
+ghost use Rattle.std.specs.Prelude.{◌≡◌, ◌≢◌, [], None, All, IfOk, OnOk, IsOkUnless};
 ghost use Rattle.std.specs.List.Sorted.{IsPermutation};
 ghost use Rattle.overlay_geom.specs.Edges.{subj_of, clip_of};
 ghost use Rattle.overlay_geom.specs.Paths.{plain_shapes};
@@ -25,7 +25,7 @@ use overlay_geom::error::OverlayError;
 use overlay_geom::number::IntNumber;
 use overlay_geom::path::IntShapes;
 use overlay_walk::bind::bind;
-use overlay_walk::buffer::BooleanExtractionBuffer;
+pub use overlay_walk::buffer::BooleanExtractionBuffer;
 use overlay_walk::contours::cut_into_contours;
 use overlay_walk::open_steps::OpenSteps;
 use overlay_walk::step::Step;
@@ -79,13 +79,14 @@ fn selected_walks<I: IntNumber, A: Allocator + Clone>(
     ensures err { IsOkUnless result OverlayError.Memory }
 {
     let room = match buffer.take() {
-        Some(held) => held.into_steps(),
+        Some(held) => held.into_room(),
         None => Vec::new(content.allocator().clone()?),
     };
+    // (its contract says that the edges are in range)
     let _ = content.edges();
     let mut open = open_selected(content, overlay_rule, fill_rule, direction, room)?;
     let walks = cut_into_contours(content.allocator().clone()?, &mut open, direction)?;
-    *buffer = Some(BooleanExtractionBuffer::new(open.into_steps()));
+    *buffer = Some(BooleanExtractionBuffer::new(open.into_room()));
     Ok(walks)
 }
 
@@ -95,14 +96,14 @@ fn open_selected<I: IntNumber, A: Allocator + Clone>(
     overlay_rule: OverlayRule,
     fill_rule: FillRule,
     direction: ContourDirection,
-    room: Vec<Step<I, ()>, A>,
+    mut steps: Vec<Step<I, ()>, A>,
 ) -> Result<OpenSteps<I, (), A>, OverlayError>
+    requires { steps.items ≡ [] }
     ensures selected { IfOk result (λ o. IsPermutation (selected_steps (rules_hold fill_rule overlay_rule) subj_of clip_of
         (is_on_left direction) content.now) (plain_steps I.whole o)) }
     ensures err { IsOkUnless result OverlayError.Memory }
 {
-    let mut steps = room;
-    steps.clear();
+    // (its contract says that the edges are in range)
     let _ = content.edges();
     let edges = content.filled_edges(fill_rule)?;
     push_selected(&mut steps, &edges, overlay_rule, direction)?;

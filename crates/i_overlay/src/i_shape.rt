@@ -29,7 +29,9 @@ mod tests {
     use super::int::path::{IntPath, PathRef};
     use super::int::shape::{IntContour, IntShape, IntShapes};
     use super::source::int::resource::IntShapeResource;
+    use crate::extract::BooleanExtractionBuffer;
     use crate::i_float::int::point::IntPoint;
+    use crate::string::line::IntLine;
     use std::alloc::Global;
     use std::test::Fail;
 
@@ -45,6 +47,12 @@ mod tests {
         assert_eq!(rt; shapes.path_count(), 1);
         assert_eq!(rt; path.path_count(), 1);
         assert_eq!(rt; PathRef::new(&path).path_count(), 1);
+        let line: IntLine<i32> = [IntPoint::new(1, 2), IntPoint::new(3, 4)];
+        assert_eq!(rt; line[1].x, 3);
+        let buffer: BooleanExtractionBuffer<i32, Global> = BooleanExtractionBuffer::default(
+            rt.alloc(),
+        );
+        assert_eq!(rt; buffer.into_room().len(), 0);
         Ok(())
     }
 }

@@ -1,6 +1,13 @@
 //! Laws of what overlays answer.
 
-ghost use Rattle.i_overlay.specs.Overlay.{DirectionTurnsWindings};
+ghost use Rattle.i_overlay.specs.Laws.{DirectionTurnsWindings, SelectedStepsWindRoundRegion};
+
+/// Of an arrangement of edges with balanced counts, the selected steps wind once, in the output
+/// direction, round each point where the rules hold of the windings there, and zero times round each
+/// other one.
+pub fn selected_steps_wind_round_region()
+    ensures { SelectedStepsWindRoundRegion }
+{}
 
 /// Of one arrangement, the contours in the one output direction wind against those in the other, round
 /// each point off its edges.

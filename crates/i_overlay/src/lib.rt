@@ -7,7 +7,7 @@
 mod assemble;
 pub mod edge_data;
 pub mod error;
-mod extract;
+pub mod extract;
 pub mod fill_rule;
 pub mod i_float;
 pub mod i_shape;
@@ -19,4 +19,7 @@ pub mod segm;
 mod select;
 pub mod single;
 pub mod solver;
+pub mod string;
+#[cfg(test)]
+mod test_contours;
 pub mod vector;

@@ -1,14 +1,13 @@
 //! The overlay builder: contours are added, and queries are answered.
 
-ghost use Rattle.std.specs.Prelude.{◌≡◌, ◌≢◌, true, false, if◌then◌else◌, [], map, Some};
+ghost use Rattle.std.specs.Prelude.{◌≡◌, true, false, if◌then◌else◌, [], map, Some};
 ghost use Rattle.std.specs.Prelude.{Ok, Err, IfOk, OnOk, OnErr, IsOkUnless};
-ghost use Rattle.overlay_arrange.specs.Arranged.{IsArranged, WasArranged};
+ghost use Rattle.overlay_arrange.specs.Arranged.{IsArranged};
 ghost use Rattle.overlay_arrange.specs.Content.{IsAscending, IsContent};
 ghost use Rattle.overlay_arrange.specs.Vectors.{plain_vector, vector_of};
 ghost use Rattle.overlay_geom.specs.Merged.{HaveSameWindings};
 ghost use Rattle.overlay_geom.specs.Paths.{plain_shapes};
 ghost use Rattle.overlay_geom.specs.Settled.{IsSettled};
-ghost use Rattle.overlay_plane.specs.Balance.{HasBalancedCounts};
 ghost use Rattle.overlay_plane.specs.Meetings.{MeetInWholePoints};
 ghost use Rattle.i_overlay.specs.Overlay.{asked, IsResult};
 ghost use Rattle.i_overlay.specs.Refusals.{RefusesAsQuery};
@@ -48,7 +47,8 @@ pub struct Overlay<I: OverlayInt, A: Allocator> {
     pub solver: Solver,
     /// How input is taken and how output looks.
     pub options: IntOverlayOptions<I::WideUInt>,
-    /// Room that queries use again. What it holds changes no answer, and `None` is as good.
+    /// Room that queries use again. What it holds changes no answer. After a refused query it may be
+    /// gone: `None`, which is as good as an empty one.
     pub boolean_buffer: Option<BooleanExtractionBuffer<I, A>>,
     content: Content<I, ShapeCountBoolean, A>,
     // whether a query was refused since the builder was last cleared
@@ -111,7 +111,8 @@ impl<I: OverlayInt, A: Allocator + Clone> Overlay<I, A> {
     /// Outlines run in the direction `options.output_direction`, and holes against it. A hole that
     /// touches its outline is a part of the outline. Unless `options.preserve_output_collinear`,
     /// points on one line with their two neighbours are dropped. Where no edge is left there is no
-    /// shape. `options.ogc` is not set, and `options.min_output_area` is 0.
+    /// shape. `options.ogc` is not set, and `options.min_output_area` is 0. After an answer there is
+    /// a buffer, `boolean_buffer`.
     ///
     /// Refusals are those of `build_separate_vectors`.
     pub fn overlay(
@@ -132,7 +133,7 @@ impl<I: OverlayInt, A: Allocator + Clone> Overlay<I, A> {
           edges = self.new.edges;
           boolean_buffer = self.new.boolean_buffer;
         }) }
-        ensures buffer { OnOk result (self.new.edges ≢ [] → self.new.boolean_buffer ≡ Some tt) }
+        ensures buffer { OnOk result (self.new.boolean_buffer ≡ Some tt) }
         ensures err { OnErr result (self.new ≡ record self.old {
           edges = self.new.edges;
           boolean_buffer = self.new.boolean_buffer;
@@ -157,6 +158,7 @@ impl<I: OverlayInt, A: Allocator + Clone> Overlay<I, A> {
     {
         self.check_usable()?;
         let arranged = self.content.arrange(&mut ());
+        // (its contract says that the edges are in range, and weigh less than 2^31)
         let _ = self.content.edges();
         self.is_failed = arranged.is_err();
         arranged

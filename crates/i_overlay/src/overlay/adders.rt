@@ -1,13 +1,14 @@
 //! What is added to a builder: closed contours, one by one or all paths of a resource.
 
-ghost use Rattle.std.specs.Prelude.{◌≡◌, ◌≢◌, ◌↔◌, ◌⊎◌, ◌^◌, ◌<◌, true, false, [], List, All};
-ghost use Rattle.std.specs.Prelude.{Err, OnOk, OnErr, IfOk, IfErr, IsOkUnless, IsErrOf};
+ghost use Rattle.std.specs.Prelude.{◌≡◌, ◌≢◌, ◌↔◌, ◌^◌, ◌<◌, true, List, All};
+ghost use Rattle.std.specs.Prelude.{Err, OnOk, OnErr, IfOk, IsOkUnless, IsErrOf};
 ghost use Rattle.std.specs.Iterator.{Drains, IsFinite};
 ghost use Rattle.overlay_arrange.specs.Content.{edge_for};
 ghost use Rattle.overlay_geom.specs.Edges.{AddsContour, weight};
 ghost use Rattle.overlay_geom.specs.Points.{plain_points, AllInRange};
-ghost use Rattle.i_overlay.specs.Builder.{WouldWeighTooMuch};
-ghost use Rattle.i_overlay.specs.Paths.{paths_for, subject_and_clip, AddsPaths, AddsFirstPaths, PathsWeighTooMuch};
+ghost use Rattle.i_overlay.specs.Adding.{AddsAsAsked};
+ghost use Rattle.i_overlay.specs.Builder.{cleared, WouldWeighTooMuch};
+ghost use Rattle.i_overlay.specs.Paths.{paths_for, subject_and_clip};
 
 use crate::overlay::{Overlay, ShapeType};
 use overlay_arrange::thin::thinned;
@@ -83,27 +84,19 @@ impl<I: OverlayInt, A: Allocator + Clone> Overlay<I, A> {
     /// Adds all paths of the resource in order, each as `add_contour` does. The points are in the
     /// coordinate range.
     ///
-    /// Refusals: `Failed` before anything else, and then nothing is changed; `TooManyEdges` where
-    /// the weight would come to 2^31; `Memory`. After these two the paths before the refused one
-    /// stay added.
+    /// Refusals: `Failed` before anything else, and then nothing is changed; `TooManyEdges` at a
+    /// path that would bring the weight to 2^31; `Memory` at some path, it is not said which. After
+    /// these two exactly the paths before that one are added.
     pub fn add_source<R0: IntShapeResource<I>>(
         &mut self,
         resource: &R0,
         shape_type: ShapeType,
     ) -> Result<(), OverlayError>
         requires { All (AllInRange I.limit) (R0.paths resource.now) }
-        ensures ok { OnOk result (AddsPaths self.old.options.preserve_input_collinear
-            (paths_for shape_type (R0.paths resource.now)) self.old.edges self.new.edges) }
-        ensures kept { self.new ≡ record self.old { edges = self.new.edges } }
-        ensures err { OnErr result (AddsFirstPaths self.old.options.preserve_input_collinear
-            (paths_for shape_type (R0.paths resource.now)) self.old.edges self.new.edges) }
-        ensures failed { IsErrOf result OverlayError.Failed ↔ (self.old.failed ≡ true) }
-        ensures untouched { IsErrOf result OverlayError.Failed → self.new ≡ self.old }
-        ensures too_many { IsErrOf result OverlayError.TooManyEdges
-            → PathsWeighTooMuch self.old.options.preserve_input_collinear
-            (paths_for shape_type (R0.paths resource.now)) self.old.edges }
-        ensures no_query { result ≢ Err OverlayError.NotSettled }
+        ensures { AddsAsAsked (paths_for shape_type (R0.paths resource.now)) self.old self.new result }
     {
+        // (its contract says that the edges are in range, and weigh less than 2^31)
+        let _ = self.content.edges();
         self.check_usable()?;
         for index in 0..resource.path_count() {
             self.add_contour(resource.path(index), shape_type)?;
@@ -114,7 +107,7 @@ impl<I: OverlayInt, A: Allocator + Clone> Overlay<I, A> {
     /// Drops the edges and mends a failed builder; `solver`, `options` and `boolean_buffer` stay.
     /// It takes no memory.
     pub fn clear(&mut self)
-        ensures { self.new ≡ record self.old { edges = []; failed = false } }
+        ensures { self.new ≡ cleared self.old }
     {
         self.content.clear();
         self.is_failed = false;
@@ -124,8 +117,8 @@ impl<I: OverlayInt, A: Allocator + Clone> Overlay<I, A> {
     /// and those of `clip` as the clip. `solver`, `options` and `boolean_buffer` stay. The points
     /// are in the coordinate range.
     ///
-    /// Refusals: `TooManyEdges` where the weight would come to 2^31, `Memory`. The paths before the
-    /// refused one stay added.
+    /// Refusals are `TooManyEdges` and `Memory`, as those of `add_source`: exactly the paths before
+    /// the refused one are added then.
     pub fn reinit_with_subj_and_clip<R0: IntShapeResource<I>, R1: IntShapeResource<I>>(
         &mut self,
         subj: &R0,
@@ -133,15 +126,8 @@ impl<I: OverlayInt, A: Allocator + Clone> Overlay<I, A> {
     ) -> Result<(), OverlayError>
         requires subj_in_range { All (AllInRange I.limit) (R0.paths subj.now) }
         requires clip_in_range { All (AllInRange I.limit) (R1.paths clip.now) }
-        ensures ok { OnOk result (AddsPaths self.old.options.preserve_input_collinear
-            (subject_and_clip (R0.paths subj.now) (R1.paths clip.now)) [] self.new.edges) }
-        ensures kept { self.new ≡ record self.old { edges = self.new.edges; failed = false } }
-        ensures err { OnErr result (AddsFirstPaths self.old.options.preserve_input_collinear
-            (subject_and_clip (R0.paths subj.now) (R1.paths clip.now)) [] self.new.edges) }
-        ensures only { IfErr result (λ e. (e ≡ OverlayError.Memory) ⊎ (e ≡ OverlayError.TooManyEdges)) }
-        ensures too_many { IsErrOf result OverlayError.TooManyEdges
-            → PathsWeighTooMuch self.old.options.preserve_input_collinear
-            (subject_and_clip (R0.paths subj.now) (R1.paths clip.now)) [] }
+        ensures { AddsAsAsked (subject_and_clip (R0.paths subj.now) (R1.paths clip.now))
+            (cleared self.old) self.new result }
     {
         self.reinit_with_subj(subj)?;
         self.add_source(clip, ShapeType::Clip)
@@ -150,22 +136,15 @@ impl<I: OverlayInt, A: Allocator + Clone> Overlay<I, A> {
     /// Drops the edges and mends a failed builder, and then adds the paths of `subj` as the subject.
     /// `solver`, `options` and `boolean_buffer` stay. The points are in the coordinate range.
     ///
-    /// Refusals: `TooManyEdges` where the weight would come to 2^31, `Memory`. The paths before the
-    /// refused one stay added.
+    /// Refusals are `TooManyEdges` and `Memory`, as those of `add_source`: exactly the paths before
+    /// the refused one are added then.
     pub fn reinit_with_subj<R0: IntShapeResource<I>>(
         &mut self,
         subj: &R0,
     ) -> Result<(), OverlayError>
         requires { All (AllInRange I.limit) (R0.paths subj.now) }
-        ensures ok { OnOk result (AddsPaths self.old.options.preserve_input_collinear
-            (paths_for ShapeType.Subject (R0.paths subj.now)) [] self.new.edges) }
-        ensures kept { self.new ≡ record self.old { edges = self.new.edges; failed = false } }
-        ensures err { OnErr result (AddsFirstPaths self.old.options.preserve_input_collinear
-            (paths_for ShapeType.Subject (R0.paths subj.now)) [] self.new.edges) }
-        ensures only { IfErr result (λ e. (e ≡ OverlayError.Memory) ⊎ (e ≡ OverlayError.TooManyEdges)) }
-        ensures too_many { IsErrOf result OverlayError.TooManyEdges
-            → PathsWeighTooMuch self.old.options.preserve_input_collinear
-            (paths_for ShapeType.Subject (R0.paths subj.now)) [] }
+        ensures { AddsAsAsked (paths_for ShapeType.Subject (R0.paths subj.now))
+            (cleared self.old) self.new result }
     {
         self.clear();
         self.add_source(subj, ShapeType::Subject)

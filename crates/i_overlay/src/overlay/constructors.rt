@@ -1,10 +1,10 @@
 //! Builders, empty or with the paths of a subject and of a clip.
 
-ghost use Rattle.std.specs.Prelude.{◌≡◌, ◌⊎◌, [], All, false, Some, IfOk, IfErr, IsOkUnless, IsErrOf};
-ghost use Rattle.overlay_arrange.specs.Options.{AreOptions};
+ghost use Rattle.std.specs.Prelude.{◌≡◌, [], All, false, IfOk, IfErr, IsOkUnless};
 ghost use Rattle.overlay_geom.specs.Points.{AllInRange};
-ghost use Rattle.i_overlay.specs.Builder.{empty_builder};
-ghost use Rattle.i_overlay.specs.Paths.{paths_for, subject_and_clip, AddsPaths, PathsWeighTooMuch};
+ghost use Rattle.i_overlay.specs.Adding.{MayRefuseBuilder};
+ghost use Rattle.i_overlay.specs.Builder.{empty_builder, IsNewBuilder};
+ghost use Rattle.i_overlay.specs.Paths.{paths_for, subject_and_clip, HoldsPaths};
 
 use crate::overlay::{IntOverlayOptions, Overlay, ShapeType};
 use crate::solver::Solver;
@@ -20,9 +20,7 @@ impl<I: OverlayInt, A: Allocator + Clone> Overlay<I, A> {
     /// The only refusal is `Memory`.
     pub fn new(alloc: A, capacity: usize) -> Result<Self, OverlayError>
         ensures empty { IfOk result (λ o. o.edges ≡ []) }
-        ensures ready { IfOk result (λ o. o.failed ≡ false) }
-        ensures options { IfOk result (λ o. AreOptions I.WideUInt.natural false false false o.options) }
-        ensures buffer { IfOk result (λ o. o.boolean_buffer ≡ Some tt) }
+        ensures made { IfOk result (λ o. IsNewBuilder I.WideUInt.natural o) }
         ensures err { IsOkUnless result OverlayError.Memory }
     {
         let options = IntOverlayOptions::default();
@@ -51,7 +49,8 @@ impl<I: OverlayInt, A: Allocator + Clone> Overlay<I, A> {
 
     /// A builder with the paths of `subj` as the subject and those of `clip` as the clip, each a
     /// closed contour, the default options and the default solver. The points are in the
-    /// coordinate range. Refusals: `TooManyEdges` where the weight would come to 2^31, `Memory`.
+    /// coordinate range. Refusals: `TooManyEdges` where a path, added after those before it, would
+    /// bring the weight to 2^31; `Memory`.
     pub fn from_subj_and_clip<R0: IntShapeResource<I>, R1: IntShapeResource<I>>(
         alloc: A,
         subj: &R0,
@@ -59,13 +58,10 @@ impl<I: OverlayInt, A: Allocator + Clone> Overlay<I, A> {
     ) -> Result<Self, OverlayError>
         requires subj_in_range { All (AllInRange I.limit) (R0.paths subj.now) }
         requires clip_in_range { All (AllInRange I.limit) (R1.paths clip.now) }
-        ensures ok { IfOk result (λ o. AddsPaths false (subject_and_clip (R0.paths subj.now) (R1.paths clip.now)) [] o.edges) }
-        ensures ready { IfOk result (λ o. o.failed ≡ false) }
-        ensures options { IfOk result (λ o. AreOptions I.WideUInt.natural false false false o.options) }
-        ensures buffer { IfOk result (λ o. o.boolean_buffer ≡ Some tt) }
-        ensures only { IfErr result (λ e. (e ≡ OverlayError.Memory) ⊎ (e ≡ OverlayError.TooManyEdges)) }
-        ensures too_many { IsErrOf result OverlayError.TooManyEdges
-            → PathsWeighTooMuch false (subject_and_clip (R0.paths subj.now) (R1.paths clip.now)) [] }
+        ensures ok { IfOk result (λ o. HoldsPaths false (subject_and_clip (R0.paths subj.now) (R1.paths clip.now)) o.edges) }
+        ensures made { IfOk result (λ o. IsNewBuilder I.WideUInt.natural o) }
+        ensures err { IfErr result (MayRefuseBuilder false
+            (subject_and_clip (R0.paths subj.now) (R1.paths clip.now))) }
     {
         let options = IntOverlayOptions::default();
         Overlay::from_subj_and_clip_custom(alloc, subj, clip, options, Solver::ABSOLUTE)
@@ -73,7 +69,8 @@ impl<I: OverlayInt, A: Allocator + Clone> Overlay<I, A> {
 
     /// A builder with the paths of `subj` as the subject and those of `clip` as the clip, each a
     /// closed contour, these options and this solver. The points are in the coordinate range.
-    /// Refusals: `TooManyEdges` where the weight would come to 2^31, `Memory`.
+    /// Refusals: `TooManyEdges` where a path, added after those before it, would bring the weight to
+    /// 2^31; `Memory`.
     pub fn from_subj_and_clip_custom<R0: IntShapeResource<I>, R1: IntShapeResource<I>>(
         alloc: A,
         subj: &R0,
@@ -83,13 +80,11 @@ impl<I: OverlayInt, A: Allocator + Clone> Overlay<I, A> {
     ) -> Result<Self, OverlayError>
         requires subj_in_range { All (AllInRange I.limit) (R0.paths subj.now) }
         requires clip_in_range { All (AllInRange I.limit) (R1.paths clip.now) }
-        ensures ok { IfOk result (λ o. AddsPaths options.preserve_input_collinear
-            (subject_and_clip (R0.paths subj.now) (R1.paths clip.now)) [] o.edges) }
+        ensures ok { IfOk result (λ o. HoldsPaths options.preserve_input_collinear
+            (subject_and_clip (R0.paths subj.now) (R1.paths clip.now)) o.edges) }
         ensures made { IfOk result (λ o. o ≡ record (empty_builder options solver) { edges = o.edges }) }
-        ensures only { IfErr result (λ e. (e ≡ OverlayError.Memory) ⊎ (e ≡ OverlayError.TooManyEdges)) }
-        ensures too_many { IsErrOf result OverlayError.TooManyEdges
-            → PathsWeighTooMuch options.preserve_input_collinear
-            (subject_and_clip (R0.paths subj.now) (R1.paths clip.now)) [] }
+        ensures err { IfErr result (MayRefuseBuilder options.preserve_input_collinear
+            (subject_and_clip (R0.paths subj.now) (R1.paths clip.now))) }
     {
         let mut overlay = Overlay::new_custom(alloc, 0, options, solver)?;
         overlay.reinit_with_subj_and_clip(subj, clip)?;
@@ -98,24 +93,20 @@ impl<I: OverlayInt, A: Allocator + Clone> Overlay<I, A> {
 
     /// A builder with the paths of `subj` as the subject, each a closed contour, the default options
     /// and the default solver. The points are in the coordinate range. Refusals: `TooManyEdges`
-    /// where the weight would come to 2^31, `Memory`.
+    /// where a path, added after those before it, would bring the weight to 2^31; `Memory`.
     pub fn from_subj<R0: IntShapeResource<I>>(alloc: A, subj: &R0) -> Result<Self, OverlayError>
         requires { All (AllInRange I.limit) (R0.paths subj.now) }
-        ensures ok { IfOk result (λ o.
-            AddsPaths false (paths_for ShapeType.Subject (R0.paths subj.now)) [] o.edges) }
-        ensures ready { IfOk result (λ o. o.failed ≡ false) }
-        ensures options { IfOk result (λ o. AreOptions I.WideUInt.natural false false false o.options) }
-        ensures buffer { IfOk result (λ o. o.boolean_buffer ≡ Some tt) }
-        ensures only { IfErr result (λ e. (e ≡ OverlayError.Memory) ⊎ (e ≡ OverlayError.TooManyEdges)) }
-        ensures too_many { IsErrOf result OverlayError.TooManyEdges
-            → PathsWeighTooMuch false (paths_for ShapeType.Subject (R0.paths subj.now)) [] }
+        ensures ok { IfOk result (λ o. HoldsPaths false (paths_for ShapeType.Subject (R0.paths subj.now)) o.edges) }
+        ensures made { IfOk result (λ o. IsNewBuilder I.WideUInt.natural o) }
+        ensures err { IfErr result (MayRefuseBuilder false
+            (paths_for ShapeType.Subject (R0.paths subj.now))) }
     {
         Overlay::from_subj_custom(alloc, subj, IntOverlayOptions::default(), Solver::ABSOLUTE)
     }
 
     /// A builder with the paths of `subj` as the subject, each a closed contour, these options and
-    /// this solver. The points are in the coordinate range. Refusals: `TooManyEdges` where the
-    /// weight would come to 2^31, `Memory`.
+    /// this solver. The points are in the coordinate range. Refusals: `TooManyEdges` where a
+    /// path, added after those before it, would bring the weight to 2^31; `Memory`.
     pub fn from_subj_custom<R0: IntShapeResource<I>>(
         alloc: A,
         subj: &R0,
@@ -123,13 +114,11 @@ impl<I: OverlayInt, A: Allocator + Clone> Overlay<I, A> {
         solver: Solver,
     ) -> Result<Self, OverlayError>
         requires { All (AllInRange I.limit) (R0.paths subj.now) }
-        ensures ok { IfOk result (λ o. AddsPaths options.preserve_input_collinear
-            (paths_for ShapeType.Subject (R0.paths subj.now)) [] o.edges) }
+        ensures ok { IfOk result (λ o. HoldsPaths options.preserve_input_collinear
+            (paths_for ShapeType.Subject (R0.paths subj.now)) o.edges) }
         ensures made { IfOk result (λ o. o ≡ record (empty_builder options solver) { edges = o.edges }) }
-        ensures only { IfErr result (λ e. (e ≡ OverlayError.Memory) ⊎ (e ≡ OverlayError.TooManyEdges)) }
-        ensures too_many { IsErrOf result OverlayError.TooManyEdges
-            → PathsWeighTooMuch options.preserve_input_collinear
-            (paths_for ShapeType.Subject (R0.paths subj.now)) [] }
+        ensures err { IfErr result (MayRefuseBuilder options.preserve_input_collinear
+            (paths_for ShapeType.Subject (R0.paths subj.now))) }
     {
         let mut overlay = Overlay::new_custom(alloc, 0, options, solver)?;
         overlay.reinit_with_subj(subj)?;

@@ -1,369 +1,373 @@
 //! The shapes of overlays, at each coordinate type.
 
-ghost use Rattle.std.specs.Prelude.{◌≡◌, false, All};
-ghost use Rattle.overlay_geom.specs.Points.{AllInRange};
+ghost use Rattle.std.specs.Prelude.{◌≡◌, false, IfOk};
 
 use super::*;
-use overlay_geom::path::IntShape;
-use overlay_geom::point::{IntPoint, in_range};
-use overlay_geom::resource::IntShapeResource;
+use crate::test_contours::{Points, add_contours, shapes_of};
 use std::alloc::Global;
 use std::process::Abort;
 use std::test::Fail;
 
-// A point of a shape: the number of the shape, that of the contour in it, x and y.
-type Place<I> = (usize, usize, I, I);
-
-// Stops the test where a path is out of range.
-fn assert_in_range<I: OverlayInt, R0: IntShapeResource<I>>(rt: &impl Abort, resource: &R0)
-    ensures { All (AllInRange I.limit) (R0.paths resource.now) }
-{
-    for index in 0..resource.path_count() {
-        assert!(rt; in_range(resource.path(index)));
-    }
+// What is asked of an overlay, and the shapes that it is to give.
+#[derive(Drop)]
+struct Row<'a> {
+    subj: &'a [Points<'a>],
+    clip: &'a [Points<'a>],
+    rule: OverlayRule,
+    fill: FillRule,
+    wanted: &'a [&'a [Points<'a>]],
 }
 
-// Adds a contour with these points to a shape.
-fn push<I: OverlayInt>(
-    shape: &mut IntShape<I, Global>,
-    alloc: Global,
-    points: &[(I, I)],
-) -> Result<(), OverlayError> {
-    let mut contour = Vec::new(alloc);
-    for (x, y) in points {
-        contour.push(IntPoint::new(*x, *y))?;
-    }
-    shape.push(contour)?;
-    Ok(())
-}
-
-// The shapes of a subject and a clip.
-fn shapes_of<I: OverlayInt>(
+// A builder with the row's contours.
+fn builder_of<I: OverlayInt + From<i16>>(
     rt: &impl Abort,
     alloc: Global,
-    subj: &IntShape<I, Global>,
-    clip: &IntShape<I, Global>,
-    rules: (OverlayRule, FillRule),
+    row: &Row<'_>,
     options: IntOverlayOptions<I::WideUInt>,
-) -> Result<IntShapes<I, Global>, OverlayError>
+) -> Result<Overlay<I, Global>, OverlayError>
+    ensures { IfOk result (λ o. o.options ≡ options) }
+{
+    let mut overlay = Overlay::new_custom(alloc, 0, options, Solver::ABSOLUTE)?;
+    add_contours(rt, alloc, &mut overlay, row.subj, ShapeType::Subject)?;
+    add_contours(rt, alloc, &mut overlay, row.clip, ShapeType::Clip)?;
+    Ok(overlay)
+}
+
+// Whether the builder answers the row's shapes.
+fn answers<I: OverlayInt + PartialEq + From<i16>>(
+    alloc: Global,
+    overlay: &mut Overlay<I, Global>,
+    row: &Row<'_>,
+) -> Result<bool, OverlayError>
+    requires no_ogc { overlay.old.options.ogc ≡ false }
+    requires all_areas { I.WideUInt.natural overlay.old.options.min_output_area ≡ 0 }
+    ensures { overlay.new.options ≡ overlay.old.options }
+{
+    let shapes = overlay.overlay(row.rule, row.fill)?;
+    Ok(shapes == shapes_of(alloc, row.wanted)?)
+}
+
+// Whether a builder with the row's contours answers its shapes, and answers them again.
+fn holds<I: OverlayInt + PartialEq + From<i16>>(
+    rt: &impl Abort,
+    alloc: Global,
+    row: &Row<'_>,
+    options: IntOverlayOptions<I::WideUInt>,
+) -> Result<bool, OverlayError>
     requires no_ogc { options.ogc ≡ false }
     requires all_areas { I.WideUInt.natural options.min_output_area ≡ 0 }
 {
-    assert_in_range(rt, subj);
-    assert_in_range(rt, clip);
-    let (rule, fill) = rules;
-    let mut overlay = Overlay::from_subj_and_clip_custom(
-        alloc,
-        subj,
-        clip,
-        options,
-        Solver::ABSOLUTE,
-    )?;
-    overlay.overlay(rule, fill)
+    let mut overlay = builder_of(rt, alloc, row, options)?;
+    let first = answers::<I>(alloc, &mut overlay, row)?;
+    let again = answers::<I>(alloc, &mut overlay, row)?;
+    Ok(first && again)
 }
 
-// Whether the shapes have these points, in order.
-fn are<I: OverlayInt + PartialEq>(shapes: &IntShapes<I, Global>, wanted: &[Place<I>]) -> bool {
-    let mut index = 0;
-    for (s, shape) in shapes.iter().enumerate() {
-        for (c, contour) in shape.iter().enumerate() {
-            for p in contour {
-                if index >= wanted.len() || wanted[index] != (s, c, p.x, p.y) {
-                    return false;
-                }
-                index += 1;
-            }
-        }
-    }
-    index == wanted.len()
-}
-
-// Two squares that overlap in a corner, and what both fill, in either direction.
-fn corner_of_squares<I: OverlayInt + PartialEq>(
+// Checks the row with the default options.
+fn check<I: OverlayInt + PartialEq + From<i16>>(
     rt: &impl Abort,
     alloc: Global,
-    n: (I, I, I, I),
+    row: &Row<'_>,
 ) -> Result<(), Fail> {
-    let (zero, two, four, six) = n;
-    let mut subj = Vec::new(alloc);
-    push(
-        &mut subj,
-        alloc,
-        &[(zero, zero), (four, zero), (four, four), (zero, four)],
-    )?;
-    let mut clip = Vec::new(alloc);
-    push(
-        &mut clip,
-        alloc,
-        &[(two, two), (six, two), (six, six), (two, six)],
-    )?;
-    let rules = (OverlayRule::Intersect, FillRule::EvenOdd);
-    let shapes = shapes_of(rt, alloc, &subj, &clip, rules, IntOverlayOptions::default())?;
-    let wanted = [
-        (0, 0, two, four),
-        (0, 0, two, two),
-        (0, 0, four, two),
-        (0, 0, four, four),
-    ];
-    assert!(rt; are(&shapes, &wanted));
+    assert!(rt; holds::<I>(rt, alloc, row, IntOverlayOptions::default())?);
+    Ok(())
+}
+
+// Checks the row with clockwise output.
+fn check_clockwise<I: OverlayInt + PartialEq + From<i16>>(
+    rt: &impl Abort,
+    alloc: Global,
+    row: &Row<'_>,
+) -> Result<(), Fail> {
     let clockwise = IntOverlayOptions {
         output_direction: ContourDirection::Clockwise,
         ..IntOverlayOptions::default()
     };
-    let shapes = shapes_of(rt, alloc, &subj, &clip, rules, clockwise)?;
-    let wanted = [
-        (0, 0, two, two),
-        (0, 0, two, four),
-        (0, 0, four, four),
-        (0, 0, four, two),
-    ];
-    assert!(rt; are(&shapes, &wanted));
+    assert!(rt; holds::<I>(rt, alloc, row, clockwise)?);
     Ok(())
 }
 
+// Checks the row where points on one line stay.
+fn check_kept<I: OverlayInt + PartialEq + From<i16>>(
+    rt: &impl Abort,
+    alloc: Global,
+    row: &Row<'_>,
+) -> Result<(), Fail> {
+    assert!(rt; holds::<I>(rt, alloc, row, IntOverlayOptions::keep_all_points())?);
+    Ok(())
+}
+
+// Two squares that overlap in a corner.
+const LOWER_SQUARE: &[Points<'static>] = &[&[(0, 0), (4, 0), (4, 4), (0, 4)]];
+
+const UPPER_SQUARE: &[Points<'static>] = &[&[(2, 2), (6, 2), (6, 6), (2, 6)]];
+
+// What both fill, for either output direction.
+const CORNER: Row<'static> = Row {
+    subj: LOWER_SQUARE,
+    clip: UPPER_SQUARE,
+    rule: OverlayRule::Intersect,
+    fill: FillRule::EvenOdd,
+    wanted: &[&[&[(2, 4), (2, 2), (4, 2), (4, 4)]]],
+};
+
+const CLOCKWISE_CORNER: Row<'static> = Row {
+    subj: LOWER_SQUARE,
+    clip: UPPER_SQUARE,
+    rule: OverlayRule::Intersect,
+    fill: FillRule::EvenOdd,
+    wanted: &[&[&[(2, 2), (2, 4), (4, 4), (4, 2)]]],
+};
+
 #[test]
 fn corner_at_i16(rt: HostRuntime) -> Result<(), Fail> {
-    corner_of_squares(&rt, rt.alloc(), (0i16, 2, 4, 6))
+    check::<i16>(&rt, rt.alloc(), &CORNER)?;
+    check_clockwise::<i16>(&rt, rt.alloc(), &CLOCKWISE_CORNER)
 }
 
 #[test]
 fn corner_at_i32(rt: HostRuntime) -> Result<(), Fail> {
-    corner_of_squares(&rt, rt.alloc(), (0i32, 2, 4, 6))
+    check::<i32>(&rt, rt.alloc(), &CORNER)?;
+    check_clockwise::<i32>(&rt, rt.alloc(), &CLOCKWISE_CORNER)
 }
 
 #[test]
 fn corner_at_i64(rt: HostRuntime) -> Result<(), Fail> {
-    corner_of_squares(&rt, rt.alloc(), (0i64, 2, 4, 6))
+    check::<i64>(&rt, rt.alloc(), &CORNER)?;
+    check_clockwise::<i64>(&rt, rt.alloc(), &CLOCKWISE_CORNER)
 }
 
 // A frame and a bar through it: one shape with two holes.
-fn frame_and_bar<I: OverlayInt + PartialEq>(
-    rt: &impl Abort,
-    alloc: Global,
-    n: (I, I, I, I, I, I),
-) -> Result<(), Fail> {
-    let (o, i, ii, iii, iv, v) = n;
-    let mut subj = Vec::new(alloc);
-    push(&mut subj, alloc, &[(i, o), (iv, o), (iv, v), (i, v)])?;
-    push(&mut subj, alloc, &[(ii, i), (ii, iv), (iii, iv), (iii, i)])?;
-    let mut clip = Vec::new(alloc);
-    push(&mut clip, alloc, &[(o, ii), (v, ii), (v, iii), (o, iii)])?;
-    let rules = (OverlayRule::Union, FillRule::EvenOdd);
-    let shapes = shapes_of(rt, alloc, &subj, &clip, rules, IntOverlayOptions::default())?;
-    let wanted = [
-        (0, 0, o, iii),
-        (0, 0, o, ii),
-        (0, 0, i, ii),
-        (0, 0, i, o),
-        (0, 0, iv, o),
-        (0, 0, iv, ii),
-        (0, 0, v, ii),
-        (0, 0, v, iii),
-        (0, 0, iv, iii),
-        (0, 0, iv, v),
-        (0, 0, i, v),
-        (0, 0, i, iii),
-        (0, 1, ii, i),
-        (0, 1, ii, ii),
-        (0, 1, iii, ii),
-        (0, 1, iii, i),
-        (0, 2, ii, iii),
-        (0, 2, ii, iv),
-        (0, 2, iii, iv),
-        (0, 2, iii, iii),
-    ];
-    assert!(rt; are(&shapes, &wanted));
-    Ok(())
-}
+const FRAME_AND_BAR: Row<'static> = Row {
+    subj: &[
+        &[(1, 0), (4, 0), (4, 5), (1, 5)],
+        &[(2, 1), (2, 4), (3, 4), (3, 1)],
+    ],
+    clip: &[&[(0, 2), (5, 2), (5, 3), (0, 3)]],
+    rule: OverlayRule::Union,
+    fill: FillRule::EvenOdd,
+    wanted: &[&[
+        &[
+            (0, 3),
+            (0, 2),
+            (1, 2),
+            (1, 0),
+            (4, 0),
+            (4, 2),
+            (5, 2),
+            (5, 3),
+            (4, 3),
+            (4, 5),
+            (1, 5),
+            (1, 3),
+        ],
+        &[(2, 1), (2, 2), (3, 2), (3, 1)],
+        &[(2, 3), (2, 4), (3, 4), (3, 3)],
+    ]],
+};
 
 #[test]
 fn frame_at_i16(rt: HostRuntime) -> Result<(), Fail> {
-    frame_and_bar(&rt, rt.alloc(), (0i16, 1, 2, 3, 4, 5))
+    check::<i16>(&rt, rt.alloc(), &FRAME_AND_BAR)
 }
 
 #[test]
 fn frame_at_i32(rt: HostRuntime) -> Result<(), Fail> {
-    frame_and_bar(&rt, rt.alloc(), (0i32, 1, 2, 3, 4, 5))
+    check::<i32>(&rt, rt.alloc(), &FRAME_AND_BAR)
 }
 
 #[test]
 fn frame_at_i64(rt: HostRuntime) -> Result<(), Fail> {
-    frame_and_bar(&rt, rt.alloc(), (0i64, 1, 2, 3, 4, 5))
+    check::<i64>(&rt, rt.alloc(), &FRAME_AND_BAR)
 }
 
-// Checks the shapes of a subject of two contours, of which the second may be empty.
-fn check_subject(
-    rt: &impl Abort,
-    alloc: Global,
-    contours: (&[(i32, i32)], &[(i32, i32)]),
+// A contour that crosses itself, and its halves: the left one is wound once, the right one minus
+// once.
+const BOW: &[Points<'static>] = &[&[(0, 0), (10, 10), (10, 0), (0, 10)]];
+
+const LEFT_HALF: Points<'static> = &[(0, 10), (0, 0), (5, 5)];
+
+const RIGHT_HALF: Points<'static> = &[(10, 10), (5, 5), (10, 0)];
+
+// The row of a subject alone.
+fn of_subject<'a>(
+    subj: &'a [Points<'a>],
     fill: FillRule,
-    wanted: &[Place<i32>],
-) -> Result<(), Fail> {
-    let mut subj = Vec::new(alloc);
-    push(&mut subj, alloc, contours.0)?;
-    push(&mut subj, alloc, contours.1)?;
-    let rules = (OverlayRule::Subject, fill);
-    let shapes = shapes_of(
-        rt,
-        alloc,
-        &subj,
-        &Vec::new(alloc),
-        rules,
-        IntOverlayOptions::default(),
-    )?;
-    assert!(rt; are(&shapes, wanted));
-    Ok(())
+    wanted: &'a [&'a [Points<'a>]],
+) -> Row<'a> {
+    Row {
+        subj,
+        clip: &[],
+        rule: OverlayRule::Subject,
+        fill,
+        wanted,
+    }
 }
 
 #[test]
 fn bow_under_each_rule(rt: HostRuntime) -> Result<(), Fail> {
-    let bow = [(0, 0), (10, 10), (10, 0), (0, 10)];
-    let left = [(0, 0, 0, 10), (0, 0, 0, 0), (0, 0, 5, 5)];
-    let right = [(0, 0, 10, 10), (0, 0, 5, 5), (0, 0, 10, 0)];
-    let both = [
-        (0, 0, 0, 10),
-        (0, 0, 0, 0),
-        (0, 0, 5, 5),
-        (1, 0, 10, 10),
-        (1, 0, 5, 5),
-        (1, 0, 10, 0),
-    ];
-    check_subject(&rt, rt.alloc(), (&bow, &[]), FillRule::NonZero, &both)?;
-    check_subject(&rt, rt.alloc(), (&bow, &[]), FillRule::Positive, &left)?;
-    check_subject(&rt, rt.alloc(), (&bow, &[]), FillRule::Negative, &right)
-}
-
-#[test]
-fn rounded_crossing(rt: HostRuntime) -> Result<(), Fail> {
-    let bow = [(0, 0), (10, 4), (10, 0), (0, 3)];
-    let wanted = [
-        (0, 0, 0, 3),
-        (0, 0, 0, 0),
-        (0, 0, 4, 2),
-        (1, 0, 10, 4),
-        (1, 0, 4, 2),
-        (1, 0, 10, 0),
-    ];
-    check_subject(&rt, rt.alloc(), (&bow, &[]), FillRule::NonZero, &wanted)
-}
-
-#[test]
-fn hole_that_touches_its_outline(rt: HostRuntime) -> Result<(), Fail> {
-    let outline = [(0, 0), (6, 0), (6, 6), (0, 6)];
-    let hole = [(0, 3), (2, 4), (2, 2)];
-    let wanted = [
-        (0, 0, 0, 3),
-        (0, 0, 0, 0),
-        (0, 0, 6, 0),
-        (0, 0, 6, 6),
-        (0, 0, 0, 6),
-        (0, 0, 0, 3),
-        (0, 0, 2, 4),
-        (0, 0, 2, 2),
-    ];
-    check_subject(
+    let alloc = rt.alloc();
+    let both: [&[Points<'_>]; 2] = [&[LEFT_HALF], &[RIGHT_HALF]];
+    check::<i32>(&rt, alloc, &of_subject(BOW, FillRule::NonZero, &both))?;
+    check::<i32>(
         &rt,
-        rt.alloc(),
-        (&outline, &hole),
-        FillRule::EvenOdd,
-        &wanted,
+        alloc,
+        &of_subject(BOW, FillRule::Positive, &[&[LEFT_HALF]]),
+    )?;
+    check::<i32>(
+        &rt,
+        alloc,
+        &of_subject(BOW, FillRule::Negative, &[&[RIGHT_HALF]]),
     )
 }
 
+// The lines cross in (30/7, 12/7), which is rounded to (4, 2).
+const ROUNDED_CROSSING: Row<'static> = Row {
+    subj: &[&[(0, 0), (10, 4), (10, 0), (0, 3)]],
+    clip: &[],
+    rule: OverlayRule::Subject,
+    fill: FillRule::NonZero,
+    wanted: &[&[&[(0, 3), (0, 0), (4, 2)]], &[&[(10, 4), (4, 2), (10, 0)]]],
+};
+
+#[test]
+fn rounded_crossing(rt: HostRuntime) -> Result<(), Fail> {
+    check::<i32>(&rt, rt.alloc(), &ROUNDED_CROSSING)
+}
+
+const TOUCHING_HOLE: Row<'static> = Row {
+    subj: &[&[(0, 0), (6, 0), (6, 6), (0, 6)], &[(0, 3), (2, 4), (2, 2)]],
+    clip: &[],
+    rule: OverlayRule::Subject,
+    fill: FillRule::EvenOdd,
+    wanted: &[&[&[
+        (0, 3),
+        (0, 0),
+        (6, 0),
+        (6, 6),
+        (0, 6),
+        (0, 3),
+        (2, 4),
+        (2, 2),
+    ]]],
+};
+
+#[test]
+fn hole_that_touches_its_outline(rt: HostRuntime) -> Result<(), Fail> {
+    check::<i32>(&rt, rt.alloc(), &TOUCHING_HOLE)
+}
+
+// Two squares that share an edge.
+const NEIGHBOURS: &[Points<'static>] = &[
+    &[(0, 0), (2, 0), (2, 2), (0, 2)],
+    &[(2, 0), (4, 0), (4, 2), (2, 2)],
+];
+
+// Their shape, with and without the points that lie on one line with their neighbours.
+const SIDE_BY_SIDE: Row<'static> = Row {
+    subj: NEIGHBOURS,
+    clip: &[],
+    rule: OverlayRule::Subject,
+    fill: FillRule::NonZero,
+    wanted: &[&[&[(0, 2), (0, 0), (4, 0), (4, 2)]]],
+};
+
+const SIDE_BY_SIDE_KEPT: Row<'static> = Row {
+    subj: NEIGHBOURS,
+    clip: &[],
+    rule: OverlayRule::Subject,
+    fill: FillRule::NonZero,
+    wanted: &[&[&[(0, 2), (0, 0), (2, 0), (4, 0), (4, 2), (2, 2)]]],
+};
+
 #[test]
 fn squares_side_by_side(rt: HostRuntime) -> Result<(), Fail> {
-    let left = [(0, 0), (2, 0), (2, 2), (0, 2)];
-    let right = [(2, 0), (4, 0), (4, 2), (2, 2)];
-    let wanted = [(0, 0, 0, 2), (0, 0, 0, 0), (0, 0, 4, 0), (0, 0, 4, 2)];
-    check_subject(&rt, rt.alloc(), (&left, &right), FillRule::NonZero, &wanted)?;
-    let alloc = rt.alloc();
-    let mut subj = Vec::new(alloc);
-    push(&mut subj, alloc, &left)?;
-    push(&mut subj, alloc, &right)?;
-    let rules = (OverlayRule::Subject, FillRule::NonZero);
-    let kept = IntOverlayOptions::keep_all_points();
-    let shapes = shapes_of(&rt, alloc, &subj, &Vec::new(alloc), rules, kept)?;
-    let wanted = [
-        (0, 0, 0, 2),
-        (0, 0, 0, 0),
-        (0, 0, 2, 0),
-        (0, 0, 4, 0),
-        (0, 0, 4, 2),
-        (0, 0, 2, 2),
-    ];
-    assert!(rt; are(&shapes, &wanted));
-    Ok(())
+    check::<i32>(&rt, rt.alloc(), &SIDE_BY_SIDE)?;
+    check_kept::<i32>(&rt, rt.alloc(), &SIDE_BY_SIDE_KEPT)
 }
 
 #[test]
 fn no_edges(rt: HostRuntime) -> Result<(), Fail> {
-    check_subject(&rt, rt.alloc(), (&[], &[]), FillRule::NonZero, &[])
+    check::<i32>(&rt, rt.alloc(), &of_subject(&[], FillRule::NonZero, &[]))
 }
+
+const WHOLE_RANGE: Row<'static> = Row {
+    subj: &[&[
+        (-16383, -16383),
+        (16383, -16383),
+        (16383, 16383),
+        (-16383, 16383),
+    ]],
+    clip: &[],
+    rule: OverlayRule::Subject,
+    fill: FillRule::NonZero,
+    wanted: &[&[&[
+        (-16383, 16383),
+        (-16383, -16383),
+        (16383, -16383),
+        (16383, 16383),
+    ]]],
+};
 
 #[test]
 fn square_over_the_range(rt: HostRuntime) -> Result<(), Fail> {
-    let alloc = rt.alloc();
-    let (low, high) = (-16383i16, 16383);
-    let mut subj = Vec::new(alloc);
-    push(
-        &mut subj,
-        alloc,
-        &[(low, low), (high, low), (high, high), (low, high)],
-    )?;
-    let rules = (OverlayRule::Subject, FillRule::NonZero);
-    let shapes = shapes_of(
-        &rt,
-        alloc,
-        &subj,
-        &Vec::new(alloc),
-        rules,
-        IntOverlayOptions::default(),
-    )?;
-    let wanted = [
-        (0, 0, low, high),
-        (0, 0, low, low),
-        (0, 0, high, low),
-        (0, 0, high, high),
-    ];
-    assert!(rt; are(&shapes, &wanted));
-    Ok(())
+    check::<i16>(&rt, rt.alloc(), &WHOLE_RANGE)
 }
+
+const FRAMES: Row<'static> = Row {
+    subj: &[
+        &[(0, 0), (6, 0), (6, 6), (0, 6)],
+        &[(2, 2), (4, 2), (4, 4), (2, 4)],
+        &[(10, 0), (16, 0), (16, 6), (10, 6)],
+        &[(12, 2), (14, 2), (14, 4), (12, 4)],
+    ],
+    clip: &[],
+    rule: OverlayRule::Subject,
+    fill: FillRule::EvenOdd,
+    wanted: &[
+        &[
+            &[(0, 6), (0, 0), (6, 0), (6, 6)],
+            &[(2, 2), (2, 4), (4, 4), (4, 2)],
+        ],
+        &[
+            &[(10, 6), (10, 0), (16, 0), (16, 6)],
+            &[(12, 2), (12, 4), (14, 4), (14, 2)],
+        ],
+    ],
+};
 
 #[test]
 fn holes_of_two_shapes(rt: HostRuntime) -> Result<(), Fail> {
-    let alloc = rt.alloc();
-    let mut subj = Vec::new(alloc);
-    push(&mut subj, alloc, &[(0, 0), (6, 0), (6, 6), (0, 6)])?;
-    push(&mut subj, alloc, &[(2, 2), (4, 2), (4, 4), (2, 4)])?;
-    push(&mut subj, alloc, &[(10, 0), (16, 0), (16, 6), (10, 6)])?;
-    push(&mut subj, alloc, &[(12, 2), (14, 2), (14, 4), (12, 4)])?;
-    let rules = (OverlayRule::Subject, FillRule::EvenOdd);
-    let shapes = shapes_of(
-        &rt,
-        alloc,
-        &subj,
-        &Vec::new(alloc),
-        rules,
-        IntOverlayOptions::default(),
-    )?;
-    let wanted = [
-        (0, 0, 0, 6),
-        (0, 0, 0, 0),
-        (0, 0, 6, 0),
-        (0, 0, 6, 6),
-        (0, 1, 2, 2),
-        (0, 1, 2, 4),
-        (0, 1, 4, 4),
-        (0, 1, 4, 2),
-        (1, 0, 10, 6),
-        (1, 0, 10, 0),
-        (1, 0, 16, 0),
-        (1, 0, 16, 6),
-        (1, 1, 12, 2),
-        (1, 1, 12, 4),
-        (1, 1, 14, 4),
-        (1, 1, 14, 2i32),
-    ];
-    assert!(rt; are(&shapes, &wanted));
-    Ok(())
+    check::<i32>(&rt, rt.alloc(), &FRAMES)
+}
+
+// Two holes that touch one another in (3, 3). Of all edges that are filled above, the next one below
+// (3, 1), where the first hole is found, is the lower edge of the shape round it, and not one of the
+// bar further below. The next one below (3, 3), where the second hole is found, is the upper edge of
+// the first hole, which begins in that point: so the second hole goes to the shape of the first.
+const TOUCHING_HOLES: Row<'static> = Row {
+    subj: &[
+        &[(-1, 2), (-1, 4), (-3, 4), (-3, 2)],
+        &[(6, 0), (6, 6), (3, 6), (2, 3), (3, 0)],
+        &[(0, -1), (0, -2), (10, -2), (10, -1)],
+        &[(3, 3), (4, 4), (4, 3)],
+        &[(3, 3), (4, 2), (3, 1)],
+    ],
+    clip: &[],
+    rule: OverlayRule::Subject,
+    fill: FillRule::EvenOdd,
+    wanted: &[
+        &[&[(-3, 4), (-3, 2), (-1, 2), (-1, 4)]],
+        &[&[(0, -1), (0, -2), (10, -2), (10, -1)]],
+        &[
+            &[(3, 6), (2, 3), (3, 0), (6, 0), (6, 6)],
+            &[(3, 1), (3, 3), (4, 2)],
+            &[(3, 3), (4, 4), (4, 3)],
+        ],
+    ],
+};
+
+#[test]
+fn holes_that_touch_one_another(rt: HostRuntime) -> Result<(), Fail> {
+    check::<i32>(&rt, rt.alloc(), &TOUCHING_HOLES)
 }

@@ -1,158 +1,205 @@
 //! Constructors and adders on a subject and a clip side by side, at each coordinate type.
 
-ghost use Rattle.std.specs.Prelude.{All};
-ghost use Rattle.overlay_geom.specs.Points.{AllInRange};
+ghost use Rattle.overlay_geom.specs.Points.{plain_points, AllInRange};
 
 use super::*;
-use crate::overlay::tests::square;
-use overlay_geom::path::{IntContour, IntShape, PathRef};
+use crate::test_contours::{Points, assert_in_range, check_fills, contour_of, shape_of};
+use overlay_geom::path::PathRef;
 use overlay_geom::point::{IntPoint, in_range};
-use overlay_geom::resource::IntShapeResource;
 use std::alloc::Global;
 use std::process::Abort;
 use std::test::Fail;
 
-// The fills of the square from (0,0) to (2,2) as a subject, of the one from (2,0) to (4,2) as a
-// clip, and of both, side by side.
-const LEFT: [u8; 4] = [2, 1, 2, 1];
+// The square from (0,0) to (2,2), the subject, and the one on its right, the clip.
+const LEFT: Points<'static> = &[(0, 0), (2, 0), (2, 2), (0, 2)];
 
-const RIGHT: [u8; 4] = [8, 4, 8, 4];
+const RIGHT: Points<'static> = &[(2, 0), (4, 0), (4, 2), (2, 2)];
 
-const BOTH: [u8; 7] = [2, 1, 2, 9, 4, 8, 4];
+// The fills of the edges of the subject alone, of the clip alone, and of both.
+const OF_LEFT: [u8; 4] = [2, 1, 2, 1];
 
-// Stops the test where a path is out of range.
-fn assert_in_range<I: OverlayInt, R0: IntShapeResource<I>>(rt: &impl Abort, resource: &R0)
-    ensures { All (AllInRange I.limit) (R0.paths resource.now) }
-{
-    for index in 0..resource.path_count() {
-        assert!(rt; in_range(resource.path(index)));
-    }
-}
+const OF_RIGHT: [u8; 4] = [8, 4, 8, 4];
 
-// Adds a contour in range whose points come one by one.
-fn add_points<I: OverlayInt>(
+const OF_BOTH: [u8; 7] = [2, 1, 2, 9, 4, 8, 4];
+
+// Checks what a new builder holds, and whether it keeps points on one line.
+fn check_new<I: OverlayInt>(
     rt: &impl Abort,
-    overlay: &mut Overlay<I, Global>,
-    points: &[IntPoint<I>],
+    made: Result<Overlay<I, Global>, OverlayError>,
+    keeps_points: bool,
+    fills: &[u8],
 ) -> Result<(), OverlayError> {
-    assert!(rt; in_range(points));
-    overlay.add_path_iter(points.iter().copied(), ShapeType::Clip)
+    let mut overlay = made?;
+    assert!(rt; overlay.options.preserve_input_collinear == keeps_points);
+    assert!(rt; overlay.options.preserve_output_collinear == keeps_points);
+    assert!(rt; overlay.boolean_buffer.is_some());
+    check_fills(rt, &mut overlay, FillRule::NonZero, fills)
 }
 
-// Whether the builder's edges have these fills, in order.
-fn has_fills<I: OverlayInt>(
+// The constructors from a subject.
+fn check_from_subj<I: OverlayInt>(
+    rt: &impl Abort,
+    alloc: Global,
+    subj: PathRef<'_, I>,
+) -> Result<(), OverlayError>
+    requires { AllInRange I.limit (plain_points I.whole subj.points.now) }
+{
+    let options = IntOverlayOptions::keep_all_points();
+    let made = Overlay::from_subj(alloc, &subj);
+    check_new(rt, made, false, &OF_LEFT)?;
+    let made = Overlay::from_subj_custom(alloc, &subj, options, Solver::ABSOLUTE);
+    check_new(rt, made, true, &OF_LEFT)
+}
+
+// The constructors from a subject and a clip.
+fn check_from_subj_and_clip<I: OverlayInt>(
+    rt: &impl Abort,
+    alloc: Global,
+    subj: PathRef<'_, I>,
+    clip: PathRef<'_, I>,
+) -> Result<(), OverlayError>
+    requires subj_in_range { AllInRange I.limit (plain_points I.whole subj.points.now) }
+    requires clip_in_range { AllInRange I.limit (plain_points I.whole clip.points.now) }
+{
+    let options = IntOverlayOptions::keep_all_points();
+    let made = Overlay::from_subj_and_clip(alloc, &subj, &clip);
+    check_new(rt, made, false, &OF_BOTH)?;
+    let made = Overlay::from_subj_and_clip_custom(alloc, &subj, &clip, options, Solver::ABSOLUTE);
+    check_new(rt, made, true, &OF_BOTH)
+}
+
+// A builder that keeps all points and has no buffer.
+fn bare_builder<I: OverlayInt>(alloc: Global) -> Result<Overlay<I, Global>, OverlayError> {
+    let options = IntOverlayOptions::keep_all_points();
+    let mut overlay = Overlay::new_custom(alloc, 0, options, Solver::ABSOLUTE)?;
+    overlay.boolean_buffer = None;
+    Ok(overlay)
+}
+
+// Checks a builder that keeps all points and has no buffer.
+fn check_bare<I: OverlayInt>(
+    rt: &impl Abort,
     overlay: &mut Overlay<I, Global>,
     fills: &[u8],
-) -> Result<bool, OverlayError> {
-    let edges = overlay.build_separate_vectors(FillRule::NonZero)?;
-    Ok(
-        edges.len() == fills.len()
-            && edges
-                .iter()
-                .zip(fills.iter())
-                .all(|(e, fill)| e.fill == *fill),
-    )
+) -> Result<(), OverlayError> {
+    assert!(rt; overlay.options.preserve_input_collinear);
+    assert!(rt; overlay.boolean_buffer.is_none());
+    check_fills(rt, overlay, FillRule::NonZero, fills)
 }
 
-// Each constructor, and each call that drops and adds, gives the edges of the two squares.
-fn constructors_give_both<I: OverlayInt>(
+// Dropping the edges and adding a subject and a clip keeps the rest of the builder.
+fn check_reinit_with_subj_and_clip<I: OverlayInt>(
     rt: &impl Abort,
-    alloc: Global,
-    left: &[IntPoint<I>],
-    right: &[IntPoint<I>],
-) -> Result<(), Fail> {
-    let (subj, clip) = (PathRef::new(left), PathRef::new(right));
-    assert_in_range(rt, &subj);
-    assert_in_range(rt, &clip);
-    let options = IntOverlayOptions::keep_all_points();
-    let mut both = Overlay::from_subj_and_clip(alloc, &subj, &clip)?;
-    assert!(rt; has_fills(&mut both, &BOTH)?);
-    assert!(rt; !both.options.preserve_input_collinear && both.boolean_buffer.is_some());
-    both = Overlay::from_subj_and_clip_custom(alloc, &subj, &clip, options, Solver::ABSOLUTE)?;
-    assert!(rt; has_fills(&mut both, &BOTH)?);
-    both.boolean_buffer = None;
-    both.reinit_with_subj(&subj)?;
-    assert!(rt; has_fills(&mut both, &LEFT)?);
-    both.reinit_with_subj_and_clip(&subj, &clip)?;
-    assert!(rt; has_fills(&mut both, &BOTH)?);
-    assert!(rt; both.options.preserve_input_collinear && both.boolean_buffer.is_none());
-    let mut one = Overlay::from_subj(alloc, &subj)?;
-    assert!(rt; has_fills(&mut one, &LEFT)?);
-    one = Overlay::from_subj_custom(alloc, &subj, options, Solver::ABSOLUTE)?;
-    assert!(rt; has_fills(&mut one, &LEFT)?);
-    assert!(rt; one.options.preserve_output_collinear);
-    Ok(())
+    overlay: &mut Overlay<I, Global>,
+    subj: PathRef<'_, I>,
+    clip: PathRef<'_, I>,
+) -> Result<(), OverlayError>
+    requires subj_in_range { AllInRange I.limit (plain_points I.whole subj.points.now) }
+    requires clip_in_range { AllInRange I.limit (plain_points I.whole clip.points.now) }
+{
+    overlay.reinit_with_subj_and_clip(&subj, &clip)?;
+    check_bare(rt, overlay, &OF_BOTH)
 }
 
-// A source and an iterator, added to an empty builder, give the edges of the two squares.
-fn adders_give_both<I: OverlayInt>(
+// Dropping the edges and adding a subject keeps the rest of the builder.
+fn check_reinit_with_subj<I: OverlayInt>(
+    rt: &impl Abort,
+    overlay: &mut Overlay<I, Global>,
+    subj: PathRef<'_, I>,
+) -> Result<(), OverlayError>
+    requires { AllInRange I.limit (plain_points I.whole subj.points.now) }
+{
+    overlay.reinit_with_subj(&subj)?;
+    check_bare(rt, overlay, &OF_LEFT)
+}
+
+// An iterator and a source, added to an empty builder; and nothing is left of them in the end.
+fn check_adders<I: OverlayInt>(
     rt: &impl Abort,
     alloc: Global,
-    left: &[IntPoint<I>],
-    right: &[IntPoint<I>],
-) -> Result<(), Fail> {
-    let subj = PathRef::new(left);
-    assert_in_range(rt, &subj);
-    let options = IntOverlayOptions::default();
-    let mut overlay = Overlay::new_custom(alloc, 8, options, Solver::ABSOLUTE)?;
-    add_points(rt, &mut overlay, right)?;
-    assert!(rt; has_fills(&mut overlay, &RIGHT)?);
+    subj: PathRef<'_, I>,
+    clip: PathRef<'_, I>,
+) -> Result<(), OverlayError>
+    requires subj_in_range { AllInRange I.limit (plain_points I.whole subj.points.now) }
+    requires clip_in_range { AllInRange I.limit (plain_points I.whole clip.points.now) }
+{
+    let mut overlay = Overlay::new(alloc, 8)?;
+    overlay.add_path_iter(clip.points.iter().copied(), ShapeType::Clip)?;
+    check_fills(rt, &mut overlay, FillRule::NonZero, &OF_RIGHT)?;
     overlay.add_source(&subj, ShapeType::Subject)?;
-    assert!(rt; has_fills(&mut overlay, &BOTH)?);
+    check_fills(rt, &mut overlay, FillRule::NonZero, &OF_BOTH)?;
     overlay.clear();
-    assert!(rt; has_fills(&mut overlay, &[])?);
-    Ok(())
+    check_fills(rt, &mut overlay, FillRule::NonZero, &[])
 }
 
-// The square right of one.
-fn right_of<I: OverlayInt>(low: I, middle: I, high: I) -> [IntPoint<I>; 4] {
-    [
-        IntPoint::new(middle, low),
-        IntPoint::new(high, low),
-        IntPoint::new(high, middle),
-        IntPoint::new(middle, middle),
-    ]
+// Each constructor and each adder gives the edges of the two squares.
+fn check_paths<I: OverlayInt>(
+    rt: &impl Abort,
+    alloc: Global,
+    subj: PathRef<'_, I>,
+    clip: PathRef<'_, I>,
+) -> Result<(), OverlayError>
+    requires subj_in_range { AllInRange I.limit (plain_points I.whole subj.points.now) }
+    requires clip_in_range { AllInRange I.limit (plain_points I.whole clip.points.now) }
+{
+    check_from_subj(rt, alloc, subj)?;
+    check_from_subj_and_clip(rt, alloc, subj, clip)?;
+    let mut bare = bare_builder(alloc)?;
+    check_reinit_with_subj_and_clip(rt, &mut bare, subj, clip)?;
+    check_reinit_with_subj(rt, &mut bare, subj)?;
+    check_adders(rt, alloc, subj, clip)
+}
+
+// The same, of points that are in range.
+fn check_points<I: OverlayInt>(
+    rt: &impl Abort,
+    alloc: Global,
+    left: &[IntPoint<I>],
+    right: &[IntPoint<I>],
+) -> Result<(), OverlayError> {
+    assert!(rt; in_range(left));
+    assert!(rt; in_range(right));
+    check_paths(rt, alloc, PathRef::new(left), PathRef::new(right))
+}
+
+// The same, at a coordinate type.
+fn check_sources<I: OverlayInt + From<i16>>(
+    rt: &impl Abort,
+    alloc: Global,
+) -> Result<(), OverlayError> {
+    let left = contour_of::<I>(alloc, LEFT)?;
+    let right = contour_of::<I>(alloc, RIGHT)?;
+    check_points(rt, alloc, &left, &right)
 }
 
 #[test]
 fn sources_at_i16(rt: HostRuntime) -> Result<(), Fail> {
-    let (left, right) = (square(0i16, 2), right_of(0, 2, 4));
-    constructors_give_both(&rt, rt.alloc(), &left, &right)?;
-    adders_give_both(&rt, rt.alloc(), &left, &right)
+    Ok(check_sources::<i16>(&rt, rt.alloc())?)
 }
 
 #[test]
 fn sources_at_i32(rt: HostRuntime) -> Result<(), Fail> {
-    let (left, right) = (square(0i32, 2), right_of(0, 2, 4));
-    constructors_give_both(&rt, rt.alloc(), &left, &right)?;
-    adders_give_both(&rt, rt.alloc(), &left, &right)
+    Ok(check_sources::<i32>(&rt, rt.alloc())?)
 }
 
 #[test]
 fn sources_at_i64(rt: HostRuntime) -> Result<(), Fail> {
-    let (left, right) = (square(0i64, 2), right_of(0, 2, 4));
-    constructors_give_both(&rt, rt.alloc(), &left, &right)?;
-    adders_give_both(&rt, rt.alloc(), &left, &right)
+    Ok(check_sources::<i64>(&rt, rt.alloc())?)
 }
 
-// A contour with these points.
-fn contour_of(alloc: Global, points: &[IntPoint<i32>]) -> Result<IntContour<i32, Global>, Fail> {
-    let mut contour = Vec::new(alloc);
-    contour.extend_from_slice(points)?;
-    Ok(contour)
-}
+// A square with two square holes.
+const FRAME: &[Points<'static>] = &[
+    &[(0, 0), (10, 0), (10, 10), (0, 10)],
+    &[(2, 2), (4, 2), (4, 4), (2, 4)],
+    &[(6, 6), (8, 6), (8, 8), (6, 8)],
+];
 
 #[test]
 fn all_paths_of_a_shape_are_added(rt: HostRuntime) -> Result<(), Fail> {
-    let mut shape: IntShape<i32, Global> = Vec::new(rt.alloc());
-    shape.push(contour_of(rt.alloc(), &square(0, 10))?)?;
-    shape.push(contour_of(rt.alloc(), &square(2, 4))?)?;
-    shape.push(contour_of(rt.alloc(), &square(6, 8))?)?;
+    let shape = shape_of::<i32>(rt.alloc(), FRAME)?;
     assert_in_range(&rt, &shape);
     let mut overlay = Overlay::from_subj(rt.alloc(), &shape)?;
-    let edges = overlay.build_separate_vectors(FillRule::EvenOdd)?;
-    assert_eq!(rt; edges.len(), 12);
-    assert_eq!(rt; edges.iter().filter(|e| e.fill == 1).count(), 6);
-    assert_eq!(rt; edges.iter().filter(|e| e.fill == 2).count(), 6);
+    let fills = [2, 1, 2, 1, 2, 1, 2, 1, 2, 1, 2, 1];
+    check_fills(&rt, &mut overlay, FillRule::EvenOdd, &fills)?;
     Ok(())
 }

@@ -16,7 +16,7 @@ new-requires g c =
     let whole = g.I.IntNumber.whole in
     let on_left = is_on_left c.args.direction in
     let vectors = ap (map (plain_vector whole)) c.deref.ensures.value ∙ c.in_ok-edges.ensures.ok in
-    let are = selected_in_room c.args.fill_rule c.args.overlay_rule c.args.content.now on_left _ _ _ (ap (plain_steps whole) c.clear.ensures.items) vectors c.in_ok-push_selected.ensures.ok in
+    let are = selected_in_room c.args.fill_rule c.args.overlay_rule c.args.content.now on_left _ _ _ (ap (plain_steps whole) c.requires) vectors c.in_ok-push_selected.ensures.ok in
     subst (All (IsLong g.I.IntNumber.limit)) (sym are)
     (selected_are_long g.I.IntNumber.limit c.args.content.now c.edges.ensures.content (rules_hold c.args.fill_rule c.args.overlay_rule) subj_of clip_of on_left)
 
@@ -25,7 +25,7 @@ returns-clause-selected g c =
     let whole = g.I.IntNumber.whole in
     let on_left = is_on_left c.args.direction in
     let vectors = ap (map (plain_vector whole)) c.deref.ensures.value ∙ c.in_ok-edges.ensures.ok in
-    let are = selected_in_room c.args.fill_rule c.args.overlay_rule c.args.content.now on_left _ _ _ (ap (plain_steps whole) c.clear.ensures.items) vectors c.in_ok-push_selected.ensures.ok in
+    let are = selected_in_room c.args.fill_rule c.args.overlay_rule c.args.content.now on_left _ _ _ (ap (plain_steps whole) c.requires) vectors c.in_ok-push_selected.ensures.ok in
     IfOk-weaker c.new.result (λ o. IsPermutation c.push_selected.new.steps.items o) _
     (λ o moved. subst (λ ss. IsPermutation ss (plain_steps whole o)) are (IsPermutation-map (plain_step whole) c.push_selected.new.steps.items o moved))
     c.new.ensures.all

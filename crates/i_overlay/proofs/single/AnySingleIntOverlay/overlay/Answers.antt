@@ -14,9 +14,9 @@ returns-clause-result g c =
     result_of_paths c.overlay.result (λ v. plain_shapes g.I.IntNumber.whole v.items)
     (asked_by_default c.args.fill_rule c.args.overlay_rule) _ _ new.edges made.ok c.overlay.ensures.arranged
     (subst (λ q. IfOk c.overlay.result (λ v. IsResult q new.edges (plain_shapes g.I.IntNumber.whole v.items)))
-    (asked_of_default _ c.args.fill_rule c.args.overlay_rule c.in_ok-overlay.overlay.options made.options) c.overlay.ensures.result)
+    (asked_of_default _ c.args.fill_rule c.args.overlay_rule c.in_ok-overlay.overlay.options made.made.options) c.overlay.ensures.result)
 
 pub returns-clause-err : goal.returns-clause-err
 returns-clause-err g c =
     let made = c.in_ok-overlay.ensures in
-    query_refused _ c.in_ok-overlay.overlay c.overlay.new.self c.overlay.result made.ok made.ready c.overlay.ensures.refusals
+    query_refused _ c.in_ok-overlay.overlay c.overlay.new.self c.overlay.result made.ok made.made.ready c.overlay.ensures.refusals

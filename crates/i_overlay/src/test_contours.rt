@@ -1,0 +1,128 @@
+//! What tests share: contours and shapes from small coordinates, and calls on builders.
+
+ghost use Rattle.std.specs.Prelude.{◌≡◌, All};
+ghost use Rattle.overlay_geom.specs.Points.{AllInRange};
+
+use crate::overlay::{Overlay, ShapeType};
+use overlay_arrange::fill_rule::FillRule;
+use overlay_arrange::vector::DataVectorEdge;
+use overlay_geom::error::OverlayError;
+use overlay_geom::integer::OverlayInt;
+use overlay_geom::path::{IntContour, IntShape, IntShapes};
+use overlay_geom::point::{IntPoint, in_range};
+use overlay_geom::resource::IntShapeResource;
+use std::alloc::Global;
+use std::process::Abort;
+
+/// Points by their coordinates, small enough for each coordinate type.
+pub(crate) type Points<'a> = &'a [(i16, i16)];
+
+/// The contour with these points.
+pub(crate) fn contour_of<I: OverlayInt + From<i16>>(
+    alloc: Global,
+    points: Points<'_>,
+) -> Result<IntContour<I, Global>, OverlayError> {
+    let mut contour = Vec::new(alloc);
+    for point in points {
+        contour.push(point_of(*point))?;
+    }
+    Ok(contour)
+}
+
+// The point with these coordinates.
+fn point_of<I: OverlayInt + From<i16>>(point: (i16, i16)) -> IntPoint<I> {
+    IntPoint {
+        x: I::from(point.0),
+        y: I::from(point.1),
+    }
+}
+
+/// The shape with these contours.
+pub(crate) fn shape_of<I: OverlayInt + From<i16>>(
+    alloc: Global,
+    contours: &[Points<'_>],
+) -> Result<IntShape<I, Global>, OverlayError> {
+    let mut shape = Vec::new(alloc);
+    for points in contours {
+        shape.push(contour_of(alloc, points)?)?;
+    }
+    Ok(shape)
+}
+
+/// These shapes.
+pub(crate) fn shapes_of<I: OverlayInt + From<i16>>(
+    alloc: Global,
+    shapes: &[&[Points<'_>]],
+) -> Result<IntShapes<I, Global>, OverlayError> {
+    let mut all = Vec::new(alloc);
+    for contours in shapes {
+        all.push(shape_of(alloc, contours)?)?;
+    }
+    Ok(all)
+}
+
+/// Stops the test where a path is out of range.
+pub(crate) fn assert_in_range<I: OverlayInt, R0: IntShapeResource<I>>(
+    rt: &impl Abort,
+    resource: &R0,
+)
+    ensures { All (AllInRange I.limit) (R0.paths resource.now) }
+{
+    for index in 0..resource.path_count() {
+        assert!(rt; in_range(resource.path(index)));
+    }
+}
+
+/// Adds a contour that is in range.
+pub(crate) fn add<I: OverlayInt>(
+    rt: &impl Abort,
+    overlay: &mut Overlay<I, Global>,
+    contour: &[IntPoint<I>],
+    shape_type: ShapeType,
+) -> Result<(), OverlayError>
+    ensures { overlay.new.options ≡ overlay.old.options }
+{
+    assert!(rt; in_range(contour));
+    overlay.add_contour(contour, shape_type)
+}
+
+/// Adds contours that are in range, one by one.
+pub(crate) fn add_contours<I: OverlayInt + From<i16>>(
+    rt: &impl Abort,
+    alloc: Global,
+    overlay: &mut Overlay<I, Global>,
+    contours: &[Points<'_>],
+    shape_type: ShapeType,
+) -> Result<(), OverlayError>
+    ensures { overlay.new.options ≡ overlay.old.options }
+{
+    for points in contours {
+        add(rt, overlay, &contour_of(alloc, points)?, shape_type)?;
+    }
+    Ok(())
+}
+
+/// Checks the fills of the builder's edges, in order.
+pub(crate) fn check_fills<I: OverlayInt>(
+    rt: &impl Abort,
+    overlay: &mut Overlay<I, Global>,
+    rule: FillRule,
+    fills: &[u8],
+) -> Result<(), OverlayError> {
+    let edges = overlay.build_separate_vectors(rule)?;
+    assert!(rt; have_fills(&edges, fills));
+    Ok(())
+}
+
+// Whether the edges have these fills, in order.
+fn have_fills<I>(edges: &Vec<DataVectorEdge<I, ()>>, fills: &[u8]) -> bool {
+    if edges.len() != fills.len() {
+        return false;
+    }
+    for (edge, fill) in edges.iter().zip(fills) {
+        if edge.fill != *fill {
+            return false;
+        }
+    }
+    true
+}
