@@ -1,32 +1,17 @@
 //! The builder where memory is refused: every request of a call in turn.
 
 use crate::refusing::Refusing;
+use crate::squares::{PLENTY, Refusable, square};
 use i_overlay::fill_rule::FillRule;
-use i_overlay::overlay::{IntOverlayOptions, Overlay, ShapeType};
+use i_overlay::overlay::{IntOverlayOptions, ShapeType};
 use i_overlay::vector::edge::DataVectorEdge;
 use overlay_geom::error::OverlayError;
-use overlay_geom::point::{IntPoint, in_range};
-use std::alloc::{Allocator, Global};
+use overlay_geom::point::in_range;
+use std::alloc::Allocator;
 use std::process::Abort;
 use std::test::Fail;
 
-// More requests than a call on a square makes.
-const PLENTY: u64 = 100;
-
-// A builder whose memory may be refused.
-type Refusable<'a> = Overlay<i32, &'a Refusing<Global>>;
-
-// A square, counterclockwise.
-fn square() -> [IntPoint<i32>; 4] {
-    [
-        IntPoint::new(0, 0),
-        IntPoint::new(2, 0),
-        IntPoint::new(2, 2),
-        IntPoint::new(0, 2),
-    ]
-}
-
-// The edges of the square as ax, ay, bx, by, fill.
+// The edges of the square from 0 to 2 as ax, ay, bx, by, fill.
 const EDGES: [(i32, i32, i32, i32, u8); 4] = [
     (0, 0, 0, 2, 2),
     (0, 0, 2, 0, 1),
@@ -36,7 +21,7 @@ const EDGES: [(i32, i32, i32, i32, u8); 4] = [
 
 // Adds the square as a subject.
 fn add_square(rt: &impl Abort, overlay: &mut Refusable<'_>) -> Result<(), OverlayError> {
-    let contour = square();
+    let contour = square(0, 2);
     assert!(rt; in_range(&contour));
     overlay.add_contour(&contour, ShapeType::Subject)
 }

@@ -8,3 +8,5 @@ mod overlays;
 pub mod refusing;
 #[cfg(test)]
 mod sources;
+#[cfg(test)]
+mod squares;

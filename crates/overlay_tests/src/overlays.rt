@@ -3,31 +3,16 @@
 ghost use Rattle.std.specs.Prelude.{◌≡◌};
 
 use crate::refusing::Refusing;
+use crate::squares::{PLENTY, Refusable, square};
 use i_overlay::fill_rule::FillRule;
-use i_overlay::overlay::{Overlay, ShapeType};
+use i_overlay::overlay::ShapeType;
 use i_overlay::overlay_rule::OverlayRule;
 use overlay_geom::error::OverlayError;
 use overlay_geom::path::IntShapes;
-use overlay_geom::point::{IntPoint, in_range};
-use std::alloc::{Allocator, Global};
+use overlay_geom::point::in_range;
+use std::alloc::Allocator;
 use std::process::Abort;
 use std::test::Fail;
-
-// More requests than an overlay of two squares makes.
-const PLENTY: u64 = 1000;
-
-// A builder whose memory may be refused.
-type Refusable<'a> = Overlay<i32, &'a Refusing<Global>>;
-
-// The square between two coordinates, counterclockwise.
-fn square(low: i32, high: i32) -> [IntPoint<i32>; 4] {
-    [
-        IntPoint::new(low, low),
-        IntPoint::new(high, low),
-        IntPoint::new(high, high),
-        IntPoint::new(low, high),
-    ]
-}
 
 // Adds a square as a subject, and one that overlaps it in a corner as a clip.
 fn add_squares(rt: &impl Abort, overlay: &mut Refusable<'_>) -> Result<(), OverlayError>

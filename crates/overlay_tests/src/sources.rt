@@ -4,8 +4,9 @@ ghost use Rattle.std.specs.Prelude.{All};
 ghost use Rattle.overlay_geom.specs.Points.{AllInRange};
 
 use crate::refusing::Refusing;
+use crate::squares::{PLENTY, Refusable, square};
 use i_overlay::fill_rule::FillRule;
-use i_overlay::overlay::{Overlay, ShapeType};
+use i_overlay::overlay::ShapeType;
 use overlay_geom::error::OverlayError;
 use overlay_geom::integer::OverlayInt;
 use overlay_geom::path::{IntShape, PathRef};
@@ -14,22 +15,6 @@ use overlay_geom::resource::IntShapeResource;
 use std::alloc::Global;
 use std::process::Abort;
 use std::test::Fail;
-
-// More requests than a call on two squares makes.
-const PLENTY: u64 = 100;
-
-// A builder whose memory may be refused.
-type Refusable<'a> = Overlay<i32, &'a Refusing<Global>>;
-
-// The square between two coordinates, counterclockwise.
-fn square(low: i32, high: i32) -> [IntPoint<i32>; 4] {
-    [
-        IntPoint::new(low, low),
-        IntPoint::new(high, low),
-        IntPoint::new(high, high),
-        IntPoint::new(low, high),
-    ]
-}
 
 // Two squares apart from one another.
 fn two_squares(alloc: Global) -> Result<IntShape<i32, Global>, Fail> {

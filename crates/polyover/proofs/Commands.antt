@@ -14,7 +14,8 @@ edges_asked ws f rest fill words ended name =
 
 -- after `run overlay` stand the names of the rules, and then options
 pub overlay_asked : (ws : Line) (r f : Word) (rest more : Line) (asked : OverlayQuery)
-    → ws ≡ r ∷ rest → rest ≡ f ∷ more → r ≡ rule_name asked.overlay_rule → f ≡ fill_name asked.fill_rule → AreOptionWords more asked.output → IsCommand (codes "run" ∷ codes "overlay" ∷ ws) (Overlay asked)
+    → ws ≡ r ∷ rest → rest ≡ f ∷ more → r ≡ rule_name asked.overlay_rule → f ≡ fill_name asked.fill_rule → AreOptionWords more asked.output
+    → IsCommand (codes "run" ∷ codes "overlay" ∷ ws) (Overlay asked)
 overlay_asked ws r f rest more asked words left rule fill set =
     let all : ws ≡ rule_name asked.overlay_rule ∷ fill_name asked.fill_rule ∷ more = cc in
     subst (λ l. IsCommand (codes "run" ∷ codes "overlay" ∷ l) (Overlay asked)) (sym all) (overlay set)

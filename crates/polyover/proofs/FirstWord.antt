@@ -2,11 +2,12 @@
 use Rattle.std.proofs.Common.{◌≡◌, ◌≢◌, ◌∷◌, codes, refl, sym, subst}
 use Rattle.overlay_arrange.specs.declared.options.ShapeType.{ShapeType}
 use Rattle.overlay_arrange.specs.declared.options.ShapeType.TheVariants.{Subject, Clip}
+use Rattle.i_overlay.specs.Paths.{GivenPath}
 use Rattle.polyover.specs.declared.query.Query.{Query}
-use Rattle.polyover.specs.Grammar.{Word, Line, Contour, shape_name, IsContour, contour, IsCommand, edges, overlay}
+use Rattle.polyover.specs.Grammar.{Word, Line, shape_name, GivesContour, contour, IsCommand, edges, overlay}
 use Rattle.polyover.specs.Statements.{SaysNothing}
 
-first_of_contour : (f : Word) (ws : Line) (c : Contour) → IsContour (f ∷ ws) c → f ≡ shape_name c.shape_type
+first_of_contour : (f : Word) (ws : Line) (c : GivenPath) → GivesContour (f ∷ ws) c → f ≡ shape_name c.shape_type
 first_of_contour f ws c (contour h) = refl
 
 first_of_command : (f : Word) (ws : Line) (query : Query) → IsCommand (f ∷ ws) query → f ≡ codes "run"

@@ -1,5 +1,6 @@
 -- Numbers of the grammar as `parse` reads them: without a plus sign, those whose bytes after any minus sign are digits.
-use Rattle.std.proofs.Common.{FitsSigned, w64, negsuc, ◌≡◌, ◌≢◌, ℕ, ◌≤◌, ◌==◌, false, ℤ, pos, List, [], ◌∷◌, get_or, refl, sym, ◌∙◌, subst, arith, inl, inr, lit<}
+use Rattle.std.proofs.Common.{FitsSigned, w64, negsuc, ◌≡◌, ◌≢◌, ℕ, ◌≤◌, ◌==◌, false, ℤ, pos, List}
+use Rattle.std.proofs.Common.{[], ◌∷◌, get_or, refl, sym, ◌∙◌, subst, arith, inl, inr, lit<}
 use Rattle.std.proofs.lemmas.Int.{ints}
 use Rattle.overlay_geom.specs.Numbers.{Within}
 use Rattle.std.specs.Str.{IsUtf8}
@@ -57,7 +58,8 @@ negative_numeral digits c h = subst (IsNumber (45 ∷ digits)) (sym h.value) (ne
 
 plain_numeral : (word : Word) (c : ℤ) → IsSignedNumeral word c → get_or word 0 0 ≢ 45 → IsNumber word c
 plain_numeral word c h no_minus =
-    subst (IsNumber word) (sym (h.value ∙ plain_value word no_minus h.no_plus)) (plain (subst (IsNumeral 10) (no_sign_dropped word no_minus h.no_plus) h.numeral))
+    subst (IsNumber word) (sym (h.value ∙ plain_value word no_minus h.no_plus))
+    (plain (subst (IsNumeral 10) (no_sign_dropped word no_minus h.no_plus) h.numeral))
 
 pub numeral_is_number : (word : Word) (c : ℤ) → IsSignedNumeral word c → IsNumber word c
 numeral_is_number [] c h = absurd (omega (arith, h.numeral.0))
@@ -67,7 +69,8 @@ numeral_is_number (b ∷ digits) c h = elim (cases_eq b 45) [
 ]
 
 -- a text that does not begin with a plus sign and that `parse` reads is a number
-pub parsed_is_number : (word text : List ℕ) (c : ℤ) → text ≡ word → false ≡ (get_or text 0 0 == 43) → IsNumeral 10 (without_leading_sign text) → c ≡ signed_digits_value 10 text → IsNumber word c
+pub parsed_is_number : (word text : List ℕ) (c : ℤ) → text ≡ word → false ≡ (get_or text 0 0 == 43) → IsNumeral 10 (without_leading_sign text)
+    → c ≡ signed_digits_value 10 text → IsNumber word c
 parsed_is_number word text c same test digits value =
     let no_plus : get_or text 0 0 ≢ 43 = grind (arith, nat_tests) in
     subst (λ w. IsNumber w c) same (numeral_is_number text c (record { no_plus = no_plus; numeral = digits; value = value }))

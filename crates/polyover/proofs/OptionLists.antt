@@ -76,7 +76,8 @@ keep_count o = by_fields o.output_direction o.preserve_output_collinear
 
 -- where it is set, its word is there
 clockwise_counted : (o : OutputOptions) → o.output_direction ≡ Clockwise → sum_by (of_length 9) (option_words o) ≡ 1
-clockwise_counted o e = subst (λ d. sum_by (of_length 9) (direction_words d ++ keep_words o.preserve_output_collinear) ≡ 1) (sym e) (by_keep o.preserve_output_collinear)
+clockwise_counted o e =
+    subst (λ d. sum_by (of_length 9) (direction_words d ++ keep_words o.preserve_output_collinear) ≡ 1) (sym e) (by_keep o.preserve_output_collinear)
   where
     by_keep : (k : Bool) → sum_by (of_length 9) (codes "clockwise" ∷ keep_words k) ≡ 1
     by_keep false = refl
@@ -162,7 +163,8 @@ turned_clockwise old w None named set = λ new. clockwise_already old new w name
 turned_clockwise old w (Some new) named h = subst (λ v. SetsOption old v new) (sym named) (subst (SetsOption old (codes "clockwise")) (sym h.1) (clockwise h.0))
 
 pub points_kept : (old : OutputOptions) (w : Word) (o : Option OutputOptions) → w ≡ codes "keep"
-    → MatchOption o (old.preserve_output_collinear ≡ true) (λ new. (old.preserve_output_collinear ≡ false) × (new ≡ record old { preserve_output_collinear = true }))
+    → MatchOption o (old.preserve_output_collinear ≡ true)
+    (λ new. (old.preserve_output_collinear ≡ false) × (new ≡ record old { preserve_output_collinear = true }))
     → MatchOption o ((new : OutputOptions) → ¬ (SetsOption old w new)) (λ new. SetsOption old w new)
 points_kept old w None named set = λ new. kept_already old new w named set
 points_kept old w (Some new) named h = subst (λ v. SetsOption old v new) (sym named) (subst (SetsOption old (codes "keep")) (sym h.1) (keep h.0))

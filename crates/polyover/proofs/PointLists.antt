@@ -20,15 +20,18 @@ tail_points : (v w : Word) (ws : Line) (ps : List Point) → ArePoints (v ∷ w 
 tail_points v w ws ps (more x y h) = (_, h)
 
 -- a point pushed, and then others
-pushed_points : (so_far : List (IntPoint ℤ)) (p : IntPoint ℤ) (ps : List Point) → points_at so_far ++ (record { x = p.x; y = p.y } ∷ ps) ≡ points_at (so_far ++ p ∷ []) ++ ps
-pushed_points so_far p ps = sym (ap (λ l. l ++ ps) (map_push (plain_point (λ z. z)) so_far p) ∙ append_assoc (points_at so_far) (record { x = p.x; y = p.y } ∷ []) ps)
+pushed_points : (so_far : List (IntPoint ℤ)) (p : IntPoint ℤ) (ps : List Point)
+    → points_at so_far ++ (record { x = p.x; y = p.y } ∷ ps) ≡ points_at (so_far ++ p ∷ []) ++ ps
+pushed_points so_far p ps = sym (ap (λ l. l ++ ps) (map_push (plain_point (λ z. z)) so_far p)
+    ∙ append_assoc (points_at so_far) (record { x = p.x; y = p.y } ∷ []) ps)
 
 -- the next point goes to those so far
 pub one_more_point : (ws : Line) (so_far : List (IntPoint ℤ)) (rest : Line) (p : IntPoint ℤ) (left : Line)
     → HasPoints ws (points_at so_far) rest → IsFirstPoint rest p left → HasPoints ws (points_at (so_far ++ p ∷ [])) left
 one_more_point ws so_far rest p left h first = record {
   sound = λ ps others. subst (ArePoints ws) (pushed_points so_far p ps)
-      (h.sound (record { x = p.x; y = p.y } ∷ ps) (subst (λ l. ArePoints l (record { x = p.x; y = p.y } ∷ ps)) (sym first.parts) (more first.x first.y others)));
+      (h.sound (record { x = p.x; y = p.y } ∷ ps) (subst (λ l. ArePoints l (record { x = p.x; y = p.y } ∷ ps)) (sym first.parts)
+      (more first.x first.y others)));
   complete = λ ps all. let remaining = h.complete ps all in
       tail_points first.v first.w left remaining.0 (subst (λ l. ArePoints l remaining.0) first.parts remaining.1);
 }

@@ -2,16 +2,16 @@
 use Rattle.std.proofs.Common.{◌≡◌, List, [], ◌∷◌, ◌++◌, Option, Some, None, refl, sym, ap, subst, ◌∙◌}
 use Rattle.std.proofs.lemmas.List.{map_push}
 use Rattle.polyover.specs.declared.query.Query.{Query}
-use Rattle.polyover.specs.declared.contour.Contour.{Contour as HeldContour}
+use Rattle.polyover.specs.declared.contour.Contour.{Contour}
 use Rattle.polyover.specs.declared.input.Reading.{Reading}
 use Rattle.polyover.specs.declared.statement.Statement.{Statement}
 use Rattle.polyover.specs.declared.statement.Statement.TheVariants.{Blank, Add, Run}
-use Rattle.polyover.specs.Grammar.{Line, IsContour, contour, IsCommand, edges, overlay}
+use Rattle.polyover.specs.Grammar.{Line, GivesContour, contour, IsCommand, edges, overlay}
 use Rattle.polyover.specs.Inputs.{Give, RefusesLine}
 use Rattle.polyover.specs.Statements.{contour_at, contours_at, Says}
 use Rattle.polyover.proofs.GoodLines.{takes_contour, refuses_word}
 
-contour_has_word : (l : Line) (c : _) → IsContour l c → l ≡ [] → ⊥
+contour_has_word : (l : Line) (c : _) → GivesContour l c → l ≡ [] → ⊥
 contour_has_word l c (contour h) e = cc
 
 command_has_word : (l : Line) (query : Query) → IsCommand l query → l ≡ [] → ⊥
@@ -25,15 +25,17 @@ has_word l (Add c) says other e = contour_has_word l (contour_at c) says e
 has_word l (Run query) says other e = command_has_word l query says e
 
 -- after the command no word may come
-pub refuses_after_command : {A : Type 0} (l : Line) (r : Reading A) (s : Statement A) (query : Query) → Says l s → (s ≡ Blank → ⊥) → r.command ≡ Some query → RefusesLine l r
-refuses_after_command l r s query says other command = record {
-  refuses = λ ls h. refuses_word ls (contours_at r.contours.items) query l (subst (Give ls (contours_at r.contours.items)) command h) (has_word l s says other);
+pub refuses_after_command : {A : Type 0} (l : Line) (r : Reading A) (s : Statement A) (query : Query) → Says l s → (s ≡ Blank → ⊥)
+    → r.query ≡ Some query → RefusesLine l r
+refuses_after_command l r s query says other held = record {
+  refuses = λ ls h. refuses_word ls (contours_at r.contours.items) query l (subst (Give ls (contours_at r.contours.items)) held h) (has_word l s says other);
 }
 
 -- a contour is held last
-pub takes_pushed : {A : Type 0} (ls : List Line) (l : Line) (old new : List (HeldContour A)) (c : HeldContour A) (command : Option Query) → command ≡ None → new ≡ old ++ c ∷ []
-    → IsContour l (contour_at c) → Give ls (contours_at old) command → Give (ls ++ l ∷ []) (contours_at new) command
-takes_pushed ls l old new c command none pushed says h =
+pub takes_pushed : {A : Type 0} (ls : List Line) (l : Line) (old new : List (Contour A)) (c : Contour A) (query : Option Query)
+    → query ≡ None → new ≡ old ++ c ∷ []
+    → GivesContour l (contour_at c) → Give ls (contours_at old) query → Give (ls ++ l ∷ []) (contours_at new) query
+takes_pushed ls l old new c query none pushed says h =
     let held = sym (ap contours_at pushed ∙ map_push contour_at old c) in
     subst (Give (ls ++ l ∷ []) (contours_at new)) (sym none)
     (subst (λ cs. Give (ls ++ l ∷ []) cs None) held (takes_contour ls (contours_at old) l (contour_at c) (subst (Give ls (contours_at old)) none h) says))

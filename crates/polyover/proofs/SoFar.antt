@@ -1,5 +1,6 @@
 -- What the program holds while it goes through the lines of an input.
-use Rattle.std.proofs.Common.{◌≡◌, ℕ, ◌+◌, ◌≤◌, ◌==◌, Bool, true, false, cond, List, [], ◌∷◌, ◌++◌, Option, Some, None, map, take, length, length-append, refl, sym, ap, subst, ◌∙◌, append_assoc, append-nil, inl, inr, arith}
+use Rattle.std.proofs.Common.{◌≡◌, ℕ, ◌+◌, ◌≤◌, ◌==◌, Bool, true, false, cond, List, [], ◌∷◌, ◌++◌, Option, Some, None, map, take}
+use Rattle.std.proofs.Common.{length, length-append, refl, sym, ap, subst, ◌∙◌, append_assoc, append-nil, inl, inr, arith}
 use Rattle.std.specs.List.{slice_split}
 use Rattle.std.specs.Str.Lines.{lines, lines_of_parts}
 use Rattle.std.proofs.lemmas.List.{length-map, take_at}
@@ -18,7 +19,8 @@ pub record HasReadSoFar {A : Type 0} (all : List Line) (left : List (List ℕ)) 
   pub counted : n ≡ length done
   pub read : HasRead done r
 
-pub nothing_read : {A : Type 0} (all : List Line) (left : List (List ℕ)) (r : Reading A) → all ≡ map words left → r.contours.items ≡ [] → r.command ≡ None → HasReadSoFar all left 0 r
+pub nothing_read : {A : Type 0} (all : List Line) (left : List (List ℕ)) (r : Reading A) → all ≡ map words left → r.contours.items ≡ []
+    → r.query ≡ None → HasReadSoFar all left 0 r
 nothing_read all left r parts empty no_command = record {
   done = [];
   parts = parts;
@@ -36,7 +38,7 @@ one_more_read all left rest line n old new h next taken = record {
 }
 
 -- what was read is good so far
-good_so_far : (ls : List Line) (cs : _) (command : Option Query) → Give ls cs command → IsGoodSoFar ls
+good_so_far : (ls : List Line) (cs : _) (query : Option Query) → Give ls cs query → IsGoodSoFar ls
 good_so_far ls cs None h = inl (cs, h)
 good_so_far ls cs (Some query) h = inr (cs, (query, h))
 
@@ -51,7 +53,7 @@ first_bad all left rest line n r h next refused =
     let count : length more ≡ n + 1 = omega (arith, h.counted, length-append h.done (words line ∷ [])) in
     let after : take (n + 1) all ≡ more = ap (take (n + 1)) longer ∙ take_at more (map words rest) (n + 1) count in
     bad (omega (arith, count, ap length longer, length-append more (map words rest)))
-    (subst IsGoodSoFar (sym before) (good_so_far h.done (contours_at r.contours.items) r.command h.read))
+    (subst IsGoodSoFar (sym before) (good_so_far h.done (contours_at r.contours.items) r.query h.read))
     (λ good. refused.refuses h.done h.read (subst IsGoodSoFar after good))
 
 -- where no line is left, all are read
@@ -60,7 +62,7 @@ all_lines all left n r h ended = h.parts ∙ ap (λ l. h.done ++ map words l) en
 
 -- without a command the line after the last is bad
 pub command_missing : {A : Type 0} (all : List Line) (left : List (List ℕ)) (n : ℕ) (r : Reading A)
-    → HasReadSoFar all left n r → left ≡ [] → r.command ≡ None → IsFirstBad all (n + 1)
+    → HasReadSoFar all left n r → left ≡ [] → r.query ≡ None → IsFirstBad all (n + 1)
 command_missing all left n r h ended no_command =
     let whole = all_lines all left n r h ended in
     let count : length all ≡ n = ap length whole ∙ sym h.counted in
@@ -68,9 +70,10 @@ command_missing all left n r h ended no_command =
     (missing (subst (λ l. AreContours l (contours_at r.contours.items)) (sym whole) (subst (Give h.done (contours_at r.contours.items)) no_command h.read)))
 
 pub all_read : {A : Type 0} (all : List Line) (left : List (List ℕ)) (n : ℕ) (r : Reading A) (query : Query)
-    → HasReadSoFar all left n r → left ≡ [] → r.command ≡ Some query → Asks all (contours_at r.contours.items) query
-all_read all left n r query h ended command =
-    subst (λ l. Asks l (contours_at r.contours.items) query) (sym (all_lines all left n r h ended)) (subst (Give h.done (contours_at r.contours.items)) command h.read)
+    → HasReadSoFar all left n r → left ≡ [] → r.query ≡ Some query → Asks all (contours_at r.contours.items) query
+all_read all left n r query h ended held =
+    subst (λ l. Asks l (contours_at r.contours.items) query) (sym (all_lines all left n r h ended))
+    (subst (Give h.done (contours_at r.contours.items)) held h.read)
 
 last_line_le : (x : List ℕ) (b : Bool) → length (cond b [] (x ∷ [])) ≤ 1
 last_line_le x true = omega arith
@@ -85,7 +88,13 @@ lines_of_parts_le (x ∷ y ∷ parts) = omega (arith, lines_of_parts_le (y ∷ p
 length-input_lines-le : (bytes : List ℕ) → length (input_lines bytes) ≤ length bytes + 1
 length-input_lines-le bytes =
     let parts = slice_split (λ b. b == 10) bytes in
-    omega (arith, length-map (lines bytes) words, lines_of_parts_le parts, length-slice_split (λ (b : ℕ). b == 10) bytes, count_by-le-length (λ (b : ℕ). b == 10) bytes)
+    omega (
+      arith,
+      length-map (lines bytes) words,
+      lines_of_parts_le parts,
+      length-slice_split (λ (b : ℕ). b == 10) bytes,
+      count_by-le-length (λ (b : ℕ). b == 10) bytes,
+    )
 
 -- the lines read are not many more than the bytes
 pub count_read : {A : Type 0} (bytes : List ℕ) (left : List (List ℕ)) (n : ℕ) (r : Reading A) → HasReadSoFar (input_lines bytes) left n r → n ≤ length bytes + 1

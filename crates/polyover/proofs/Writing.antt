@@ -1,5 +1,6 @@
 -- What a writer that tells its bytes has taken of a text.
-use Rattle.std.proofs.Common.{◌≡◌, ℕ, ◌-◌, List, [], ◌++◌, Option, length, take, drop, sym, ap, subst, ◌∙◌, append_assoc, append-nil, take-append-drop, refl, Result, Ok, Err, MatchResult}
+use Rattle.std.proofs.Common.{◌≡◌, ℕ, ◌-◌, List, [], ◌++◌, Option, length, take, drop, sym, ap, subst, ◌∙◌, append_assoc}
+use Rattle.std.proofs.Common.{append-nil, take-append-drop, refl, Result, Ok, Err, MatchResult}
 use Rattle.std.specs.Io.KnownBytes.{Appends, Keeps}
 use Rattle.std.proofs.KnownBytes.{Appends-nil, Appends-trans, Appends-kept}
 use Rattle.std.proofs.lemmas.List.{nil_from_length, take_rest}
@@ -19,7 +20,8 @@ pub more_written : (a b c : Option (List ℕ)) (text rest : List ℕ) (n : ℕ) 
     → HasWritten a c text (take (length rest - n) (drop n rest))
 more_written a b c text rest n h more = record {
   written = h.written ++ take n rest;
-  parts = h.parts ∙ ap (λ l. h.written ++ l) (sym (take-append-drop n rest)) ∙ sym (append_assoc h.written (take n rest) (drop n rest)) ∙ ap (λ l. (h.written ++ take n rest) ++ l) (sym (take_rest rest n));
+  parts = h.parts ∙ ap (λ l. h.written ++ l) (sym (take-append-drop n rest)) ∙ sym (append_assoc h.written (take n rest) (drop n rest))
+      ∙ ap (λ l. (h.written ++ take n rest) ++ l) (sym (take_rest rest n));
   appended = Appends-trans a b c h.written (take n rest) h.appended more;
 }
 

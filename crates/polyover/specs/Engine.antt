@@ -3,19 +3,21 @@ use Rattle.std.specs.Prelude.{◌⊎◌, ℕ, List, Option, IfSome}
 use Rattle.std.specs.Io.KnownBytes.{Appends, Keeps}
 use Rattle.overlay_geom.specs.declared.error.OverlayError.{OverlayError}
 use Rattle.overlay_geom.specs.declared.error.OverlayError.TheVariants.{Memory, NotSettled, TooManyEdges, Failed}
+use Rattle.i_overlay.specs.OneShot.{MayRefusePaths}
+use Rattle.i_overlay.specs.Paths.{GivenPath}
 use Rattle.polyover.specs.declared.exit.Exit.{Exit}
 use Rattle.polyover.specs.declared.exit.Exit.TheVariants.{Answered, Refused, BadInput, Io}
 use Rattle.polyover.specs.declared.query.Query.{Query}
-use Rattle.polyover.specs.Grammar.{Contour, Asks, IsFirstBad, input_lines}
-use Rattle.polyover.specs.Answers.{IsAnswer, MayRefuse}
+use Rattle.polyover.specs.Grammar.{Asks, IsFirstBad, input_lines}
+use Rattle.polyover.specs.Answers.{IsAnswer}
 use Rattle.polyover.specs.Written.{AppendsBeginning}
 
 -- the input is good, and what it asks for may be refused so
 pub record IsRefused (bytes : List ℕ) (e : OverlayError) : Type 0 where
-  pub contours : List Contour
+  pub contours : List GivenPath
   pub query : Query
   pub asks : Asks (input_lines bytes) contours query
-  pub refused : MayRefuse contours e
+  pub refused : MayRefusePaths contours e
 
 -- out of memory says nothing of the input
 abbrev pub MayBeRefused : List ℕ → OverlayError → Type 0

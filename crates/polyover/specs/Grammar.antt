@@ -1,5 +1,6 @@
 -- The grammar of the input: lines, words, numbers, contours and the command, and which line is the first bad one.
-use Rattle.std.specs.Prelude.{◌≡◌, ℕ, ◌+◌, ◌<◌, ◌==◌, Bool, true, false, not, ℤ, pos, neg_ℤ, List, [], ◌∷◌, ◌++◌, map, filter, take, length, All, codes, ◌⊎◌}
+use Rattle.std.specs.Prelude.{◌≡◌, ◌⊎◌, ℕ, ◌+◌, ◌<◌, ◌==◌, Bool, true, false, not, ℤ, pos, neg_ℤ}
+use Rattle.std.specs.Prelude.{List, [], ◌∷◌, ◌++◌, map, filter, take, length, All, codes}
 use Rattle.std.specs.List.{slice_split}
 use Rattle.std.specs.List.Sorted.{IsPermutation}
 use Rattle.std.specs.Str.Lines.{lines}
@@ -9,11 +10,13 @@ use Rattle.overlay_geom.specs.Plane.{Point}
 use Rattle.overlay_arrange.specs.declared.fill_rule.FillRule.{FillRule}
 use Rattle.overlay_arrange.specs.declared.fill_rule.FillRule.TheVariants.{EvenOdd, NonZero, Positive, Negative}
 use Rattle.overlay_arrange.specs.declared.overlay_rule.OverlayRule.{OverlayRule}
-use Rattle.overlay_arrange.specs.declared.overlay_rule.OverlayRule.TheVariants.{Subject as OfSubject, Clip as OfClip, Intersect, Union, Difference, InverseDifference, Xor}
+use Rattle.overlay_arrange.specs.declared.overlay_rule.OverlayRule.TheVariants.{Subject as OfSubject, Clip as OfClip, Intersect, Union}
+use Rattle.overlay_arrange.specs.declared.overlay_rule.OverlayRule.TheVariants.{Difference, InverseDifference, Xor}
 use Rattle.overlay_arrange.specs.declared.options.ContourDirection.{ContourDirection}
 use Rattle.overlay_arrange.specs.declared.options.ContourDirection.TheVariants.{CounterClockwise, Clockwise}
 use Rattle.overlay_arrange.specs.declared.options.ShapeType.{ShapeType}
 use Rattle.overlay_arrange.specs.declared.options.ShapeType.TheVariants.{Subject, Clip}
+use Rattle.i_overlay.specs.Paths.{GivenPath}
 use Rattle.polyover.specs.declared.options.OutputOptions.{OutputOptions}
 use Rattle.polyover.specs.declared.query.OverlayQuery.{OverlayQuery}
 use Rattle.polyover.specs.declared.query.Query.{Query}
@@ -56,14 +59,10 @@ pub record IsCoordinate (word : Word) (c : ℤ) : Type 0 where
 -- the words are the points' coordinates, x before y
 pub data ArePoints : List Word → List Point → Type 0 where
   none : ArePoints [] []
-  more : {v w : Word} {x y : ℤ} {ws : List Word} {ps : List Point} → IsCoordinate v x → IsCoordinate w y → ArePoints ws ps → ArePoints (v ∷ w ∷ ws) (record { x = x; y = y } ∷ ps)
+  more : {v w : Word} {x y : ℤ} {ws : List Word} {ps : List Point} → IsCoordinate v x → IsCoordinate w y → ArePoints ws ps
+      → ArePoints (v ∷ w ∷ ws) (record { x = x; y = y } ∷ ps)
 
 -- ---- contours
-
--- a closed list of points, and the shape that it belongs to
-pub record Contour : Type 0 where
-  pub shape_type : ShapeType
-  pub points : List Point
 
 -- the first word of a contour's line
 abbrev pub shape_name : ShapeType → Word
@@ -71,8 +70,9 @@ shape_name Subject = codes "subject"
 shape_name Clip = codes "clip"
 
 -- the line gives a contour: `subject x y ..` or `clip x y ..`
-pub data IsContour : Line → Contour → Type 0 where
-  contour : {shape_type : ShapeType} {ws : List Word} {ps : List Point} → ArePoints ws ps → IsContour (shape_name shape_type ∷ ws) (record { shape_type = shape_type; points = ps })
+pub data GivesContour : Line → GivenPath → Type 0 where
+  contour : {shape_type : ShapeType} {ws : List Word} {ps : List Point} → ArePoints ws ps
+      → GivesContour (shape_name shape_type ∷ ws) (record { shape_type = shape_type; points = ps })
 
 -- ---- the command
 
@@ -118,13 +118,13 @@ pub data IsCommand : Line → Query → Type 0 where
 -- ---- whole inputs
 
 -- each line is blank, or gives the next of the contours
-pub data AreContours : List Line → List Contour → Type 0 where
+pub data AreContours : List Line → List GivenPath → Type 0 where
   none : AreContours [] []
-  blank : {ls : List Line} {cs : List Contour} → AreContours ls cs → AreContours ([] ∷ ls) cs
-  more : {l : Line} {c : Contour} {ls : List Line} {cs : List Contour} → IsContour l c → AreContours ls cs → AreContours (l ∷ ls) (c ∷ cs)
+  blank : {ls : List Line} {cs : List GivenPath} → AreContours ls cs → AreContours ([] ∷ ls) cs
+  more : {l : Line} {c : GivenPath} {ls : List Line} {cs : List GivenPath} → GivesContour l c → AreContours ls cs → AreContours (l ∷ ls) (c ∷ cs)
 
 -- the lines give contours, then one command, and then no word
-pub record Asks (ls : List Line) (cs : List Contour) (query : Query) : Type 0 where
+pub record Asks (ls : List Line) (cs : List GivenPath) (query : Query) : Type 0 where
   pub before : List Line
   pub line : Line
   pub after : List Line
@@ -137,9 +137,9 @@ pub record Asks (ls : List Line) (cs : List Contour) (query : Query) : Type 0 wh
 
 -- the lines may begin an input: contours, or contours, the command and blank lines
 abbrev pub IsGoodSoFar : List Line → Type 0
-IsGoodSoFar ls = ((cs : List Contour) × AreContours ls cs) ⊎ ((cs : List Contour) × ((query : Query) × Asks ls cs query))
+IsGoodSoFar ls = ((cs : List GivenPath) × AreContours ls cs) ⊎ ((cs : List GivenPath) × ((query : Query) × Asks ls cs query))
 
 -- the first bad line has this number, counted from 1; where a command is missing, it is the one after the last
 pub data IsFirstBad : List Line → ℕ → Type 0 where
   bad : {ls : List Line} {i : ℕ} → i < length ls → IsGoodSoFar (take i ls) → ¬ IsGoodSoFar (take (i + 1) ls) → IsFirstBad ls (i + 1)
-  missing : {ls : List Line} {cs : List Contour} → AreContours ls cs → IsFirstBad ls (length ls + 1)
+  missing : {ls : List Line} {cs : List GivenPath} → AreContours ls cs → IsFirstBad ls (length ls + 1)

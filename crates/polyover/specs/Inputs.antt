@@ -1,19 +1,20 @@
 -- What the program holds of the lines that it has read.
 use Rattle.std.specs.Prelude.{◌++◌, List, [], ◌∷◌, Option, MatchOption}
+use Rattle.i_overlay.specs.Paths.{GivenPath}
 use Rattle.polyover.specs.declared.query.Query.{Query}
 use Rattle.polyover.specs.declared.input.Reading.{Reading}
 use Rattle.polyover.specs.declared.input.InputError.{InputError}
 use Rattle.polyover.specs.declared.input.InputError.TheVariants.{Memory, BadLine}
-use Rattle.polyover.specs.Grammar.{Line, Contour, AreContours, Asks, IsGoodSoFar, IsFirstBad}
+use Rattle.polyover.specs.Grammar.{Line, AreContours, Asks, IsGoodSoFar, IsFirstBad}
 use Rattle.polyover.specs.Statements.{contours_at}
 
--- the lines give these contours, and this command if there is one
-abbrev pub Give : List Line → List Contour → Option Query → Type 0
-Give ls cs command = MatchOption command (AreContours ls cs) (λ query. Asks ls cs query)
+-- the lines give these contours and no command, or these and a command that asks for the query
+abbrev pub Give : List Line → List GivenPath → Option Query → Type 0
+Give ls cs query = MatchOption query (AreContours ls cs) (λ asked. Asks ls cs asked)
 
 -- the lines so far give what is held
 abbrev pub HasRead : {A : Type 0} → List Line → Reading A → Type 0
-HasRead ls r = Give ls (contours_at r.contours.items) r.command
+HasRead ls r = Give ls (contours_at r.contours.items) r.query
 
 -- what was held takes one more line
 pub record TakesLine {A : Type 0} (l : Line) (old new : Reading A) : Type 0 where

@@ -10,5 +10,7 @@ default_output = record { output_direction = CounterClockwise; preserve_output_c
 
 -- the word names an option that is not set, and the new options have it set
 pub data SetsOption : OutputOptions → Word → OutputOptions → Type 0 where
-  clockwise : {old : OutputOptions} → old.output_direction ≡ CounterClockwise → SetsOption old (codes "clockwise") (record old { output_direction = Clockwise })
-  keep : {old : OutputOptions} → old.preserve_output_collinear ≡ false → SetsOption old (codes "keep") (record old { preserve_output_collinear = true })
+  clockwise : {old : OutputOptions} → old.output_direction ≡ CounterClockwise
+      → SetsOption old (codes "clockwise") (record old { output_direction = Clockwise })
+  keep : {old : OutputOptions} → old.preserve_output_collinear ≡ false
+      → SetsOption old (codes "keep") (record old { preserve_output_collinear = true })

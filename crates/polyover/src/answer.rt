@@ -1,15 +1,16 @@
-//! The answer to the commands.
+//! The answer to an input.
 
 ghost use Rattle.std.specs.Prelude.{MatchResult, All, map, string_bytes};
 ghost use Rattle.overlay_geom.specs.Points.{AllInRange};
 ghost use Rattle.overlay_geom.specs.Paths.{plain_shapes};
 ghost use Rattle.overlay_arrange.specs.Vectors.{plain_vector};
-ghost use Rattle.polyover.specs.Answers.{Answers, AreEdges, AreShapes, MayRefuse};
+ghost use Rattle.i_overlay.specs.OneShot.{IsResultOfPaths, MayRefusePaths};
+ghost use Rattle.polyover.specs.Answers.{Answers, AreEdges, asked_by};
 ghost use Rattle.polyover.specs.Statements.{contours_at};
 
 use crate::builder::with_contours;
 use crate::contour::Contour;
-use crate::input::Commands;
+use crate::input::Input;
 use crate::query::{OverlayQuery, Query};
 use crate::shape_text::shapes_text;
 use crate::text::edges_text;
@@ -19,31 +20,31 @@ use overlay_geom::error::OverlayError;
 use overlay_geom::path::IntShapes;
 use std::alloc::Allocator;
 
-/// The text of the answer to the commands, whose points are in the coordinate range. Refusals are
-/// those of the builder to which the contours are added, and of the query on it.
+/// The text of the answer to an input, whose points are in the coordinate range. Refusals are those
+/// of the builder to which the contours are added, and of the query on it.
 pub fn answer_text<A: Allocator + Copy>(
     alloc: A,
-    commands: &Commands<A>,
+    input: &Input<A>,
 ) -> Result<String<A>, OverlayError>
-    requires { All (λ c. AllInRange 4611686018427387903 c.points) (contours_at commands.now.contours.items) }
+    requires { All (λ c. AllInRange 4611686018427387903 c.points) (contours_at input.now.contours.items) }
     ensures { MatchResult result
-        (λ text. Answers (contours_at commands.now.contours.items) commands.now.query (string_bytes text))
-        (λ e. MayRefuse (contours_at commands.now.contours.items) e) }
+        (λ text. Answers (contours_at input.now.contours.items) input.now.query (string_bytes text))
+        (λ e. MayRefusePaths (contours_at input.now.contours.items) e) }
 {
-    match commands.query {
+    match input.query {
         Query::Edges(fill_rule) => {
-            let edges = arrange(alloc, &commands.contours, fill_rule)?;
+            let edges = arranged_edges(alloc, &input.contours, fill_rule)?;
             Ok(edges_text(alloc, &edges)?)
         }
         Query::Overlay(query) => {
-            let shapes = overlay_shapes(alloc, &commands.contours, query)?;
+            let shapes = overlay_shapes(alloc, &input.contours, query)?;
             Ok(shapes_text(alloc, &shapes)?)
         }
     }
 }
 
 // The edges of the contours' arrangement, with the sides that are filled.
-fn arrange<A: Allocator + Clone>(
+fn arranged_edges<A: Allocator + Clone>(
     alloc: A,
     contours: &[Contour<A>],
     fill_rule: FillRule,
@@ -51,7 +52,7 @@ fn arrange<A: Allocator + Clone>(
     requires { All (λ c. AllInRange 4611686018427387903 c.points) (contours_at contours.now) }
     ensures { MatchResult result
         (λ v. AreEdges (contours_at contours.now) fill_rule (map (plain_vector (λ z. z)) v.items))
-        (λ e. MayRefuse (contours_at contours.now) e) }
+        (λ e. MayRefusePaths (contours_at contours.now) e) }
 {
     let mut builder = with_contours(alloc, contours)?;
     builder.build_separate_vectors(fill_rule)
@@ -65,8 +66,8 @@ fn overlay_shapes<A: Allocator + Clone>(
 ) -> Result<IntShapes<i64, A>, OverlayError>
     requires { All (λ c. AllInRange 4611686018427387903 c.points) (contours_at contours.now) }
     ensures { MatchResult result
-        (λ v. AreShapes (contours_at contours.now) query (plain_shapes (λ z. z) v.items))
-        (λ e. MayRefuse (contours_at contours.now) e) }
+        (λ v. IsResultOfPaths (asked_by query) (contours_at contours.now) (plain_shapes (λ z. z) v.items))
+        (λ e. MayRefusePaths (contours_at contours.now) e) }
 {
     let mut builder = with_contours(alloc, contours)?;
     builder.options.output_direction = query.output.output_direction;

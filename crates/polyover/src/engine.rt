@@ -39,6 +39,6 @@ fn answer<A: Allocator + Copy, Rd: Read>(alloc: A, reader: &mut Rd) -> Result<St
         (λ exit. EndsUnwritten (Rd.remaining reader.old) exit) }
 {
     let bytes = read_all(alloc, reader)?;
-    let commands = parse_input(alloc, &bytes)?;
-    Ok(answer_text(alloc, &commands)?)
+    let input = parse_input(alloc, &bytes)?;
+    Ok(answer_text(alloc, &input)?)
 }

@@ -15,7 +15,7 @@ use std::alloc::{AllocError, Allocator};
 
 /// Contours, and what is asked for.
 #[derive(Drop)]
-pub struct Commands<A: Allocator> {
+pub struct Input<A: Allocator> {
     /// The contours in the order of the input.
     pub contours: Vec<Contour<A>, A>,
     /// What is asked for.
@@ -35,7 +35,7 @@ pub enum InputError {
 #[derive(Drop)]
 struct Reading<A: Allocator> {
     contours: Vec<Contour<A>, A>,
-    command: Option<Query>,
+    query: Option<Query>,
 }
 
 impl<A: Allocator + Copy> Reading<A> {
@@ -45,10 +45,10 @@ impl<A: Allocator + Copy> Reading<A> {
             (λ _. TakesLine (words line.now) self.old self.new)
             (λ e. e ≡ LineError.Bad → RefusesLine (words line.now) self.old) }
     {
-        match (parse_statement(alloc, line)?, self.command) {
+        match (parse_statement(alloc, line)?, self.query) {
             (Statement::Blank, _) => {}
             (Statement::Add(contour), None) => self.contours.push(contour)?,
-            (Statement::Run(query), None) => self.command = Some(query),
+            (Statement::Run(query), None) => self.query = Some(query),
             (_, Some(_)) => return Err(LineError::Bad),
         }
         Ok(())
@@ -56,14 +56,14 @@ impl<A: Allocator + Copy> Reading<A> {
 }
 
 /// The contours and the command of an input, or its first bad line.
-pub fn parse_input<A: Allocator + Copy>(alloc: A, text: &[u8]) -> Result<Commands<A>, InputError>
+pub fn parse_input<A: Allocator + Copy>(alloc: A, text: &[u8]) -> Result<Input<A>, InputError>
     ensures { MatchResult result
         (λ c. Asks (input_lines text.now) (contours_at c.contours.items) c.query)
         (λ e. IsNamedFault (input_lines text.now) e) }
 {
     let mut reading = Reading {
         contours: Vec::new(alloc),
-        command: None,
+        query: None,
     };
     let mut number = 0;
     for line in Lines::new(text) {
@@ -74,9 +74,9 @@ pub fn parse_input<A: Allocator + Copy>(alloc: A, text: &[u8]) -> Result<Command
             Err(LineError::Bad) => return Err(InputError::BadLine(number)),
         }
     }
-    let Reading { contours, command } = reading;
-    match command {
-        Some(query) => Ok(Commands { contours, query }),
+    let Reading { contours, query } = reading;
+    match query {
+        Some(query) => Ok(Input { contours, query }),
         None => Err(InputError::BadLine(number + 1)),
     }
 }

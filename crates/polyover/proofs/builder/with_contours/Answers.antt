@@ -12,7 +12,7 @@ use Rattle.polyover.proofs.Builders.{nothing_added, contour_here, one_more_added
 use Rattle.polyover.proofs.builder.with_contours.Goals as goal
 
 pub loop-contour-init : goal.loop-contour-init
-loop-contour-init g c = nothing_added _ c.in_ok-overlay.ensures.empty c.in_ok-overlay.ensures.ready c.in_ok-overlay.ensures.options
+loop-contour-init g c = nothing_added _ c.in_ok-overlay.ensures.empty c.in_ok-overlay.ensures.made
 
 pub add_contour-requires : goal.add_contour-requires
 add_contour-requires g c =
@@ -26,9 +26,10 @@ returns-in_err-add_contour g c =
     let here = contour_here c.args.contours.now _ _ c.contour-item.result refl c.loop-contour-test.true c.contour-item.is in
     let e = c.in_err-add_contour.ensures in
     let b = c.loop-contour.overlay in
-    rw (p.1, p.2) (contour_refused _ c.loop-contour.contour-index (contour_at c.contour-item.result) b _ c.loop-contour.invariant here.0 here.1
+    rw (p.1, p.2) (contour_refused _ c.loop-contour.contour-index (contour_at c.contour-item.result) b c.loop-contour.invariant here.0 here.1 _
     (λ same. e.failed.0 (ap Err same))
-    (λ same. subst (λ ps. WouldWeighTooMuch b.options.preserve_input_collinear c.contour-item.result.shape_type (points_at ps) b.edges) c.deref.ensures.value (e.too_many (ap Err same)))
+    (λ same. subst (λ ps. WouldWeighTooMuch b.options.preserve_input_collinear c.contour-item.result.shape_type (points_at ps) b.edges)
+    c.deref.ensures.value (e.too_many (ap Err same)))
     (λ same. e.no_query (ap Err same)))
 
 pub loop-contour-preserved : goal.loop-contour-preserved
@@ -36,9 +37,11 @@ loop-contour-preserved g c =
     let here = contour_here c.args.contours.now _ _ c.contour-item.result refl c.loop-contour-test.true c.contour-item.is in
     let e = c.in_ok-add_contour.ensures in
     let b = c.loop-contour.overlay in
-    one_more_added _ c.loop-contour.contour-index (contour_at c.contour-item.result) b c.add_contour.new.self c.loop-contour.invariant here.0 here.1
-    (subst (λ ps. AddsContour b.options.preserve_input_collinear (edge_for c.contour-item.result.shape_type) (points_at ps) b.edges c.add_contour.new.self.edges) c.deref.ensures.value e.ok)
-    e.kept
+    one_more_added _ c.loop-contour.contour-index (contour_at c.contour-item.result) b c.loop-contour.invariant here.0 here.1 c.add_contour.new.self
+    (subst
+    (λ ps. AddsContour b.options.preserve_input_collinear (edge_for c.contour-item.result.shape_type) (points_at ps) b.edges c.add_contour.new.self.edges)
+    c.deref.ensures.value e.ok)
+    e.light e.kept
 
 pub returns : goal.returns
 returns g c =

@@ -8,7 +8,8 @@ use Rattle.polyover.proofs.input.parse_input.Goals as goal
 
 pub loop-line-init : goal.loop-line-init
 loop-line-init g c =
-    let left : lines_left c.into_iter-line-iterator.result ≡ lines c.args.text.now = ap lines_left c.into_iter-line-iterator.ensures.into_iter_gives ∙ c.new-line-items.ensures in
+    let left : lines_left c.into_iter-line-iterator.result ≡ lines c.args.text.now =
+    ap lines_left c.into_iter-line-iterator.ensures.into_iter_gives ∙ c.new-line-items.ensures in
     record {
       can = tt;
       finite = tt;
@@ -30,5 +31,5 @@ overflow_add-result g c =
     let few : c.loop-line.number ≤ length c.args.text.now + 1 = count_read c.args.text.now _ _ _ c.loop-line.invariant.read in
     search rules
 
-pub returns-in-None-command : goal.returns-in-None-command
-returns-in-None-command g c = command_missing _ _ _ _ c.loop-line.invariant.read c.in-None.ensures.steps.0 c.in-None-command.is
+pub returns-in-None-query : goal.returns-in-None-query
+returns-in-None-query g c = command_missing _ _ _ _ c.loop-line.invariant.read c.in-None.ensures.steps.0 c.in-None-query.is

@@ -15,7 +15,10 @@ returns-in-Ok-parse c =
     let same = to_z-of_z w64 c.in-Ok-parse.number fits in
     let no_plus = c.if-starts_with.ensures.byte (lit< tt) (lit< tt) (λ w o h. h) in
     let in_range = c.if-is_in_range.ensures.0 refl in
-    rw same (record { number = parsed_is_number c.args.word.now c.in-Ok.text.now c.in-Ok-parse.number c.in-Ok.ensures.cases.0 no_plus parsed.0.0 parsed.1; in_range = rw same at in_range })
+    rw same (record {
+      number = parsed_is_number c.args.word.now c.in-Ok.text.now c.in-Ok-parse.number c.in-Ok.ensures.cases.0 no_plus parsed.0.0 parsed.1;
+      in_range = rw same at in_range;
+    })
 
 pub returns-in_default-parse : goal.returns-in_default-parse
 returns-in_default-parse c = λ c' h.

@@ -8,7 +8,8 @@ use Rattle.polyover.proofs.statement.parse_statement.Goals as goal
 pub returns-in-Some-subject : goal.returns-in-Some-subject
 returns-in-Some-subject g c =
     let first : c.in-Some-subject.field-0.now ≡ codes "subject" = search (rules, text_from_reads) in
-    let line : words c.args.line.now ≡ codes "subject" ∷ words_left c.next.new.self = sym c.new-words.ensures ∙ c.in-Some-subject.ensures.steps ∙ ap (λ w. w ∷ words_left c.next.new.self) first in
+    let line : words c.args.line.now ≡ codes "subject" ∷ words_left c.next.new.self =
+    sym c.new-words.ensures ∙ c.in-Some-subject.ensures.steps ∙ ap (λ w. w ∷ words_left c.next.new.self) first in
     rw line c.parse_contour-in-Some-subject.ensures
 
 pub returns-in-Some : goal.returns-in-Some

@@ -3,7 +3,8 @@ use Rattle.polyover.specs.Lines.{lines_left}
 use Rattle.polyover.proofs.FirstLine.{lines_first}
 use Rattle.polyover.proofs.lines.LinesIterator.next.Goals as goal
 
-first_line : (c : goal.After-without_carriage_return) → lines_left c.args.self.now ≡ c.without_carriage_return.result.now ∷ lines_left (record { rest = c.in-Some.rest })
+first_line : (c : goal.After-without_carriage_return)
+    → lines_left c.args.self.now ≡ c.without_carriage_return.result.now ∷ lines_left (record { rest = c.in-Some.rest })
 first_line c =
     lines_first c.args.self.now.rest.now c.in-Some.line.now c.in-Some.rest.now c.in-Some.ensures.parts
     ∙ ap (λ line. line ∷ lines_left (record { rest = c.in-Some.rest })) (sym c.without_carriage_return.ensures)

@@ -1,0 +1,229 @@
+//! Rows of `run overlay`.
+
+use super::check;
+use crate::exit::Exit;
+use overlay_geom::error::OverlayError;
+use std::fmt::Write as _;
+use std::process::Abort;
+
+// What the engine writes for an overlay of the contours.
+fn check_overlay(rt: &(impl Abort + Alloc), contours: &str, command: &str, wanted: &str) {
+    let mut input = String::new(rt.alloc());
+    let made = write!(input, "{contours}run overlay {command}\n");
+    assert!(rt; made.is_ok());
+    check(rt, input.as_bytes(), wanted, Exit::Answered);
+}
+
+#[test]
+fn overlay_with_holes(rt: HostRuntime) {
+    check_overlay(
+        &rt,
+        "subject 1 0 4 0 4 5 1 5\nsubject 2 1 2 4 3 4 3 1\nclip 0 2 5 2 5 3 0 3\n",
+        "Union EvenOdd",
+        "shape\n0 3 0 2 1 2 1 0 4 0 4 2 5 2 5 3 4 3 4 5 1 5 1 3\n2 1 2 2 3 2 3 1\n2 3 2 4 3 4 3 3\n",
+    );
+}
+
+#[test]
+fn overlay_with_holes_clockwise(rt: HostRuntime) {
+    check_overlay(
+        &rt,
+        "subject 1 0 4 0 4 5 1 5\nsubject 2 1 2 4 3 4 3 1\nclip 0 2 5 2 5 3 0 3\n",
+        "Union EvenOdd clockwise",
+        "shape\n0 2 0 3 1 3 1 5 4 5 4 3 5 3 5 2 4 2 4 0 1 0 1 2\n2 2 2 1 3 1 3 2\n2 4 2 3 3 3 3 4\n",
+    );
+}
+
+#[test]
+fn overlay_with_a_hole_in_each_shape(rt: HostRuntime) {
+    let squares =
+        "subject 0 0 6 0 6 6 0 6\nsubject 2 2 4 2 4 4 2 4\nsubject 10 0 16 0 16 6 10 6\nsubject 12 2 14 2 14 4 12 4\n";
+    check_overlay(
+        &rt,
+        squares,
+        "Subject EvenOdd",
+        "shape\n0 6 0 0 6 0 6 6\n2 2 2 4 4 4 4 2\nshape\n10 6 10 0 16 0 16 6\n12 2 12 4 14 4 14 2\n",
+    );
+    check_overlay(
+        &rt,
+        squares,
+        "Subject EvenOdd clockwise",
+        "shape\n0 0 0 6 6 6 6 0\n2 4 2 2 4 2 4 4\nshape\n10 0 10 6 16 6 16 0\n12 4 12 2 14 2 14 4\n",
+    );
+}
+
+#[test]
+fn overlay_with_a_hole_that_touches_its_outline(rt: HostRuntime) {
+    let notched = "subject 0 0 6 0 6 6 0 6\nsubject 0 3 2 4 2 2\n";
+    check_overlay(
+        &rt,
+        notched,
+        "Subject EvenOdd",
+        "shape\n0 3 0 0 6 0 6 6 0 6 0 3 2 4 2 2\n",
+    );
+    check_overlay(
+        &rt,
+        notched,
+        "Subject EvenOdd clockwise",
+        "shape\n0 0 0 3 2 2 2 4 0 3 0 6 6 6 6 0\n",
+    );
+}
+
+const TWO_SQUARES: &str = "subject 0 0 4 0 4 4 0 4\nclip 2 2 6 2 6 6 2 6\n";
+
+#[test]
+fn overlay_of_two_squares(rt: HostRuntime) {
+    check_overlay(
+        &rt,
+        TWO_SQUARES,
+        "Intersect EvenOdd",
+        "shape\n2 4 2 2 4 2 4 4\n",
+    );
+}
+
+#[test]
+fn overlay_without_shapes(rt: HostRuntime) {
+    check_overlay(&rt, "", "Union NonZero", "");
+    check_overlay(&rt, TWO_SQUARES, "Intersect Negative", "");
+    let twice = "subject 0 0 2 0 2 2 0 2\nsubject 0 0 2 0 2 2 0 2\n";
+    check_overlay(&rt, twice, "Subject EvenOdd", "");
+    check_overlay(&rt, twice, "Subject NonZero", "shape\n0 2 0 0 2 0 2 2\n");
+    for rule in ["EvenOdd", "NonZero", "Positive", "Negative"] {
+        let mut command = String::new(rt.alloc());
+        let made = write!(command, "Subject {rule}");
+        assert!(rt; made.is_ok());
+        check_overlay(&rt, "subject\nsubject 1 1\nsubject 0 0 3 3\n", &command, "");
+    }
+}
+
+#[test]
+fn overlay_clockwise(rt: HostRuntime) {
+    check_overlay(
+        &rt,
+        TWO_SQUARES,
+        "Intersect EvenOdd clockwise",
+        "shape\n2 2 2 4 4 4 4 2\n",
+    );
+}
+
+#[test]
+fn overlay_of_a_contour_that_crosses_itself(rt: HostRuntime) {
+    let rows = [
+        (
+            "Subject NonZero",
+            "shape\n0 10 0 0 5 5\nshape\n10 10 5 5 10 0\n",
+        ),
+        ("Subject Positive", "shape\n0 10 0 0 5 5\n"),
+        ("Subject Negative", "shape\n10 10 5 5 10 0\n"),
+    ];
+    for (command, wanted) in rows {
+        check_overlay(&rt, "subject 0 0 10 10 10 0 0 10\n", command, wanted);
+    }
+}
+
+#[test]
+fn overlay_with_a_rounded_crossing(rt: HostRuntime) {
+    check_overlay(
+        &rt,
+        "subject 0 0 10 4 10 0 0 3\n",
+        "Subject NonZero",
+        "shape\n0 3 0 0 4 2\nshape\n10 4 4 2 10 0\n",
+    );
+}
+
+const SIDE_BY_SIDE: &str = "subject 0 0 2 0 2 2 0 2\nsubject 2 0 4 0 4 2 2 2\n";
+
+#[test]
+fn overlay_of_squares_side_by_side(rt: HostRuntime) {
+    check_overlay(
+        &rt,
+        SIDE_BY_SIDE,
+        "Subject NonZero",
+        "shape\n0 2 0 0 4 0 4 2\n",
+    );
+}
+
+#[test]
+fn overlay_that_keeps_points_on_one_line(rt: HostRuntime) {
+    check_overlay(
+        &rt,
+        SIDE_BY_SIDE,
+        "Subject NonZero keep",
+        "shape\n0 2 0 0 2 0 4 0 4 2 2 2\n",
+    );
+}
+
+#[test]
+fn options_stand_in_any_order(rt: HostRuntime) {
+    let wanted = "shape\n0 0 0 2 2 2 4 2 4 0 2 0\n";
+    check_overlay(&rt, SIDE_BY_SIDE, "Subject NonZero clockwise keep", wanted);
+    check_overlay(&rt, SIDE_BY_SIDE, "Subject NonZero keep clockwise", wanted);
+}
+
+// Two bars of which the second covers the right half of the first and as much beside it.
+const BARS: &str = "subject 0 0 4 0 4 1 0 1\nclip 2 0 6 0 6 1 2 1\n";
+
+#[test]
+fn points_on_one_line_with_their_neighbours(rt: HostRuntime) {
+    let rows = [
+        ("Union NonZero", "shape\n0 1 0 0 6 0 6 1\n"),
+        (
+            "Union NonZero keep",
+            "shape\n0 1 0 0 2 0 4 0 6 0 6 1 4 1 2 1\n",
+        ),
+        (
+            "Union NonZero keep clockwise",
+            "shape\n0 0 0 1 2 1 4 1 6 1 6 0 4 0 2 0\n",
+        ),
+        ("Union NonZero clockwise", "shape\n0 0 0 1 6 1 6 0\n"),
+    ];
+    for (command, wanted) in rows {
+        check_overlay(&rt, BARS, command, wanted);
+    }
+}
+
+#[test]
+fn overlay_of_each_rule(rt: HostRuntime) {
+    let rows = [
+        ("Subject EvenOdd", "shape\n0 1 0 0 4 0 4 1\n"),
+        ("Clip EvenOdd", "shape\n2 1 2 0 6 0 6 1\n"),
+        ("Intersect EvenOdd", "shape\n2 1 2 0 4 0 4 1\n"),
+        ("Union EvenOdd", "shape\n0 1 0 0 6 0 6 1\n"),
+        ("Difference EvenOdd", "shape\n0 1 0 0 2 0 2 1\n"),
+        ("InverseDifference EvenOdd", "shape\n4 1 4 0 6 0 6 1\n"),
+        (
+            "Xor EvenOdd",
+            "shape\n0 1 0 0 2 0 2 1\nshape\n4 1 4 0 6 0 6 1\n",
+        ),
+    ];
+    for (command, wanted) in rows {
+        check_overlay(&rt, BARS, command, wanted);
+    }
+}
+
+#[test]
+fn overlay_at_the_ends_of_the_coordinate_range(rt: HostRuntime) {
+    let m: i64 = 4611686018427387903;
+    let mut square = String::new(rt.alloc());
+    let mut wanted = String::new(rt.alloc());
+    let made = write!(square, "subject -{m} -{m} {m} -{m} {m} {m} -{m} {m}\n");
+    let also = write!(wanted, "shape\n-{m} {m} -{m} -{m} {m} -{m} {m} {m}\n");
+    assert!(rt; made.is_ok() && also.is_ok());
+    check_overlay(&rt, &square, "Subject NonZero", &wanted);
+}
+
+#[test]
+fn overlay_whose_splitting_does_not_settle_is_refused(rt: HostRuntime) {
+    check_overlay(
+        &rt,
+        "subject 2 0 0 64 2 -64\nsubject 1 0 0 65 -1 0\n",
+        "Clip NonZero",
+        "",
+    );
+    check(
+        &rt,
+        b"subject 2 0 0 66 2 -66\nsubject 1 0 0 67 -1 0\nrun overlay Clip NonZero\n",
+        "",
+        Exit::Refused(OverlayError::NotSettled),
+    );
+}
