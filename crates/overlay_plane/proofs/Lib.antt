@@ -78,6 +78,7 @@ pub mod NodeForms
 pub mod NodeStarts
 pub mod NodeUprights
 pub mod NodeWindings
+pub mod NodesMakeBalance
 pub mod OrbitSteps
 pub mod OrbitWalks
 pub mod OrbitsApart

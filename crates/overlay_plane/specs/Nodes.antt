@@ -52,6 +52,11 @@ abbrev pub NodeIsBalanced : Type 0
 NodeIsBalanced = (count : CountedEdge → ℤ) (es : List CountedEdge) → IsBalanced ends_of count es → (v : Point) →
     total_starting count es v ≡ total_ending count es v
 
+-- and where, at every point, as many counts end as start, the list is balanced
+abbrev pub NodesMakeBalance : Type 0
+NodesMakeBalance = (count : CountedEdge → ℤ) (es : List CountedEdge) →
+    ((v : Point) → total_ending count es v ≡ total_starting count es v) → IsBalanced ends_of count es
+
 -- of two edges that start in one point the one to the right is under the other just right of it, and of two that end in one point just left of it
 pub record TurnsAsUnder (e f : Edge) : Type 0 where
   pub start : f.a ≡ e.a → turns_left f e ≡ is_under f e e.a.x (pos 1)
