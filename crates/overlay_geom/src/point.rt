@@ -1,9 +1,11 @@
 //! Points with whole coordinates, and the test whether they are in range.
 
 ghost use Rattle.std.specs.Prelude.{◌≡◌, ◌↔◌, IsTrue};
+ghost use Rattle.std.specs.Ordering.{ordering_then};
 ghost use Rattle.overlay_geom.specs.Points.{plain_point, plain_points, InRange, AllInRange};
 
 use crate::number::IntNumber;
+use std::cmp::Ordering;
 
 /// A point with whole coordinates, x to the right and y up. Points are ordered by x, then by y.
 #[derive(Debug, Clone, Copy, PartialEq, Eq, PartialOrd, Ord)]
@@ -21,6 +23,14 @@ impl<I> IntPoint<I> {
     {
         IntPoint { x, y }
     }
+}
+
+/// How two points compare in the order that is derived: by x, then by y. It is the law that the
+/// order of the fields is this one; `==` is equality of both coordinates.
+pub fn order_of_points<I: Ord>(p: &IntPoint<I>, q: &IntPoint<I>) -> Ordering
+    ensures { result ≡ ordering_then (I.Ord.cmp p.now.x q.now.x) (I.Ord.cmp p.now.y q.now.y) }
+{
+    p.cmp(q)
 }
 
 impl<I: IntNumber> IntPoint<I> {

@@ -13,6 +13,7 @@ pub mod BelowHoles
 pub mod BesideAcross
 pub mod BesideNext
 pub mod ChainCounts
+pub mod ChainMarks
 pub mod ChainStops
 pub mod ChainWalks
 pub mod Chains
@@ -32,6 +33,7 @@ pub mod CuttingRounds
 pub mod CyclicOrder
 pub mod Dropping
 pub mod EachOnce
+pub mod EdgeMarks
 pub mod EdgeOrder
 pub mod EdgeTurns
 pub mod EdgesOfSteps
@@ -59,6 +61,7 @@ pub mod LinksKept
 pub mod ListInduction
 pub mod LongSteps
 pub mod LowerEdges
+pub mod MarkedLinks
 pub mod MeetingLists
 pub mod MeetingsAlong
 pub mod MeetingsOf

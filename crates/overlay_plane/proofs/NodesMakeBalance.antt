@@ -95,9 +95,10 @@ module _ (count : CountedEdge → ℤ) (es : List CountedEdge) (node : (v : Poin
 
   -- every end of the edges is among their ends
   pub balanced : IsBalanced ends_of count es
-  balanced g = with_points (map start_of es ++ map end_of es) g (λ e c.
-      (inr (Contains-append_left (map start_of es) (map end_of es) e.a (Contains-map start_of es e c)),
-      inr (Contains-append_right (map start_of es) (map end_of es) e.b (Contains-map end_of es e c))))
+  balanced g = with_points (map start_of es ++ map end_of es) g (λ e c. (
+    inr (Contains-append_left (map start_of es) (map end_of es) e.a (Contains-map start_of es e c)),
+    inr (Contains-append_right (map start_of es) (map end_of es) e.b (Contains-map end_of es e c)),
+  ))
 
 -- the law of nodes
 pub nodes_make_balance : NodesMakeBalance

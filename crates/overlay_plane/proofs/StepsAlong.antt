@@ -23,7 +23,7 @@ edge_eq-either e f = same_tests (edge_eq e f) (edge_eq f e)
     (λ t. (Decides-edge_eq e f).1 (sym ((Decides-edge_eq f e).0 t)))
 
 -- a long step back leads the other way
-turns_round : (s : Step) → IsLong s → is_forward (reversed_step s) ≡ not (is_forward s)
+pub turns_round : (s : Step) → IsLong s → is_forward (reversed_step s) ≡ not (is_forward s)
 turns_round s long = by (is_forward s) refl
   where
     by : (t : Bool) → is_forward s ≡ t → is_forward (reversed_step s) ≡ not t
