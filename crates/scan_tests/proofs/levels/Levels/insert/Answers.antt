@@ -2,11 +2,11 @@
 use Rattle.std.proofs.Common.{rules, ◌≡◌, ◌≤◌, false, nat_eq, Some, pos, sym, subst}
 use Rattle.std.specs.List.{list_any}
 use Rattle.overlay_geom.specs.Lines.{plain_line}
-use Rattle.overlay_scan.specs.LevelEdges.{level_edge, IsLevelSweep}
+use Rattle.scan_tests.specs.LevelEdges.{level_edge, IsLevelSweep}
 use Rattle.overlay_scan.specs.Scan.{live_at, IsPutIn}
-use Rattle.overlay_scan.proofs.LevelEdges.{may_move, meets, new_among, level_put}
+use Rattle.scan_tests.proofs.LevelEdges.{may_move, meets, new_among, level_put}
 use Rattle.overlay_scan.proofs.LinesFit.{line_fits}
-use Rattle.overlay_scan.proofs.list.tests_sweep.Levels.insert.Goals as goal
+use Rattle.scan_tests.proofs.levels.Levels.insert.Goals as goal
 
 pub insert-requires : goal.insert-requires
 insert-requires g c =

@@ -3,10 +3,15 @@
 ghost use Rattle.std.specs.Prelude.{◌≡◌, ◌<◌, pos, OnOk};
 ghost use Rattle.overlay_geom.specs.Lines.{plain_line};
 ghost use Rattle.overlay_geom.specs.Numbers.{Within};
-ghost use Rattle.overlay_scan.specs.LevelEdges.{level_edge, IsLevelSweep};
+ghost use Rattle.scan_tests.specs.LevelEdges.{level_edge, IsLevelSweep};
 ghost use Rattle.overlay_scan.specs.Scan.{empty_sweep, IsOver};
 
-use super::*;
+use overlay_geom::error::OverlayError;
+use overlay_geom::number::IntNumber;
+use overlay_geom::path::IntLine;
+use overlay_geom::point::IntPoint;
+use overlay_scan::list::ScanList;
+use overlay_scan::scan::Scan;
 use std::alloc::Global;
 use std::process::Abort;
 use std::test::Fail;
@@ -182,5 +187,35 @@ fn a_sweep_over_level_edges(rt: HostRuntime) -> Result<(), Fail> {
     check_sweep(&rt, rt.alloc(), list)?;
     let list: ScanList<i64, u8, _> = ScanList::default(rt.alloc());
     check_sweep(&rt, rt.alloc(), list)?;
+    Ok(())
+}
+
+// The heights of the highest edges over x no higher than 0, 1 and 2.
+fn heights_over<I: SmallNumber, S: Scan<I, u8>>(
+    levels: &mut Levels<S>,
+    rt: &impl Abort,
+    x: u8,
+) -> [u8; 3]
+    requires { IsLevelSweep I.limit levels.old.reached levels.old.heights.items (S.content levels.old.scan) }
+    ensures { IsLevelSweep I.limit levels.new.reached levels.new.heights.items (S.content levels.new.scan) }
+{
+    [
+        levels.up_to(rt, x, 0),
+        levels.up_to(rt, x, 1),
+        levels.up_to(rt, x, 2),
+    ]
+}
+
+#[test]
+fn edges_that_end_at_or_before_x_are_dropped(rt: HostRuntime) -> Result<(), OverlayError> {
+    let list: ScanList<i32, u8, _> = ScanList::default(rt.alloc());
+    let mut levels = Levels::new(rt.alloc(), list);
+    levels.insert(&rt, 0, 3, 0)?;
+    levels.insert(&rt, 0, 5, 1)?;
+    levels.insert(&rt, 0, 4, 2)?;
+    assert_eq!(rt; heights_over(&mut levels, &rt, 2), [0, 1, 2]);
+    assert_eq!(rt; heights_over(&mut levels, &rt, 3), [NONE, 1, 2]);
+    assert_eq!(rt; heights_over(&mut levels, &rt, 4), [NONE, 1, 1]);
+    assert_eq!(rt; heights_over(&mut levels, &rt, 5), [NONE, NONE, NONE]);
     Ok(())
 }

@@ -2,9 +2,9 @@
 use Rattle.std.proofs.Common.{rules, ◌≡◌, ◌≤◌, false, nat_eq, refl, subst}
 use Rattle.std.specs.List.{list_any}
 use Rattle.overlay_scan.specs.Scan.{moved_to}
-use Rattle.overlay_scan.proofs.LevelEdges.{may_move, level_moved, meets}
+use Rattle.scan_tests.proofs.LevelEdges.{may_move, level_moved, meets}
 use Rattle.overlay_scan.proofs.LinesFit.{line_fits}
-use Rattle.overlay_scan.proofs.list.tests_sweep.Levels.below.Goals as goal
+use Rattle.scan_tests.proofs.levels.Levels.below.Goals as goal
 
 pub first_less-requires : goal.first_less-requires
 first_less-requires g c =

@@ -1,8 +1,8 @@
 -- The sweep moves on.
 use Rattle.std.proofs.Common.{rules, ◌≡◌, ◌≤◌, subst}
 use Rattle.overlay_scan.specs.Scan.{moved_to}
-use Rattle.overlay_scan.proofs.LevelEdges.{level_moved}
-use Rattle.overlay_scan.proofs.list.tests_sweep.Levels.up_to.Goals as goal
+use Rattle.scan_tests.proofs.LevelEdges.{level_moved}
+use Rattle.scan_tests.proofs.levels.Levels.up_to.Goals as goal
 
 pub returns : goal.returns
 returns g c =

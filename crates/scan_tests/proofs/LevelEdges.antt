@@ -10,7 +10,7 @@ use Rattle.overlay_geom.specs.Plane.{Edge, PlanePoint, IsOn, IsBetween, edge_eq}
 use Rattle.overlay_geom.specs.Settled.{MeetInEnds}
 use Rattle.overlay_geom.proofs.Orders.{edge_eq-same}
 use Rattle.overlay_geom.proofs.Signs.{eq_of_mul-eq}
-use Rattle.overlay_scan.specs.LevelEdges.{level_edge, IsLevelAt, IsLevelSweep}
+use Rattle.scan_tests.specs.LevelEdges.{level_edge, IsLevelAt, IsLevelSweep}
 use Rattle.overlay_scan.specs.Scan.{Sweep, live_at, moved_to, IsSweep, IsPutIn, MayMoveTo, MeetsOthers, IsNewAmong}
 use Rattle.overlay_scan.proofs.PutIn.{All-with}
 
