@@ -14,7 +14,6 @@ use overlay_scan::list::ScanList;
 use overlay_scan::scan::Scan;
 use std::alloc::Global;
 use std::process::Abort;
-use std::test::Fail;
 
 // The answer where no edge is found.
 const NONE: u8 = 255;
@@ -148,29 +147,53 @@ impl<S> Levels<S> {
     }
 }
 
-// Two edges, a third between them that ends before them, and a new beginning.
-fn check_sweep<I: SmallNumber, S: Scan<I, u8> + Drop>(
+// Two edges, and what is found below, between and above them.
+fn check_two_edges<I: SmallNumber, S: Scan<I, u8>>(
     rt: &impl Abort,
-    alloc: Global,
-    scan: S,
-) -> Result<(), Fail>
-    requires { S.content scan ≡ empty_sweep }
+    levels: &mut Levels<S>,
+) -> Result<(), OverlayError>
+    requires { IsLevelSweep I.limit levels.old.reached levels.old.heights.items (S.content levels.old.scan) }
+    ensures { OnOk result (IsLevelSweep I.limit levels.new.reached levels.new.heights.items (S.content levels.new.scan)) }
 {
-    let mut levels = Levels::new(alloc, scan);
     levels.insert(rt, 0, 10, 6)?;
     levels.insert(rt, 0, 10, 2)?;
     assert_eq!(rt; levels.below(rt, 0, 8, 4), 2);
     assert_eq!(rt; levels.below(rt, 0, 8, 8), 6);
     assert_eq!(rt; levels.below(rt, 1, 8, 1), NONE);
+    Ok(())
+}
+
+// A third edge between them.
+fn check_third_edge<I: SmallNumber, S: Scan<I, u8>>(
+    rt: &impl Abort,
+    levels: &mut Levels<S>,
+) -> Result<(), OverlayError>
+    requires { IsLevelSweep I.limit levels.old.reached levels.old.heights.items (S.content levels.old.scan) }
+    ensures { OnOk result (IsLevelSweep I.limit levels.new.reached levels.new.heights.items (S.content levels.new.scan)) }
+{
     levels.insert(rt, 1, 3, 4)?;
     assert_eq!(rt; levels.below(rt, 2, 8, 5), 4);
     assert_eq!(rt; levels.below(rt, 2, 8, 3), 2);
+    Ok(())
+}
+
+// The highest of the three up to a height, and where the third one has ended.
+fn check_heights<I: SmallNumber, S: Scan<I, u8>>(rt: &impl Abort, levels: &mut Levels<S>)
+    requires { IsLevelSweep I.limit levels.old.reached levels.old.heights.items (S.content levels.old.scan) }
+{
     assert_eq!(rt; levels.up_to(rt, 2, 1), NONE);
     assert_eq!(rt; levels.up_to(rt, 2, 2), 2);
     assert_eq!(rt; levels.up_to(rt, 2, 5), 4);
     assert_eq!(rt; levels.up_to(rt, 2, 9), 6);
     assert_eq!(rt; levels.up_to(rt, 3, 5), 2);
     assert_eq!(rt; levels.below(rt, 3, 8, 5), 2);
+}
+
+// A new beginning.
+fn check_cleared<I: SmallNumber, S: Scan<I, u8>>(
+    rt: &impl Abort,
+    levels: &mut Levels<S>,
+) -> Result<(), OverlayError> {
     levels.clear();
     assert_eq!(rt; levels.below(rt, 0, 8, 8), NONE);
     assert_eq!(rt; levels.up_to(rt, 0, 8), NONE);
@@ -179,8 +202,23 @@ fn check_sweep<I: SmallNumber, S: Scan<I, u8> + Drop>(
     Ok(())
 }
 
+// Two edges, a third between them that ends before them, and a new beginning.
+fn check_sweep<I: SmallNumber, S: Scan<I, u8> + Drop>(
+    rt: &impl Abort,
+    alloc: Global,
+    scan: S,
+) -> Result<(), OverlayError>
+    requires { S.content scan ≡ empty_sweep }
+{
+    let mut levels = Levels::new(alloc, scan);
+    check_two_edges(rt, &mut levels)?;
+    check_third_edge(rt, &mut levels)?;
+    check_heights(rt, &mut levels);
+    check_cleared(rt, &mut levels)
+}
+
 #[test]
-fn a_sweep_over_level_edges(rt: HostRuntime) -> Result<(), Fail> {
+fn a_sweep_over_level_edges(rt: HostRuntime) -> Result<(), OverlayError> {
     let list: ScanList<i16, u8, _> = ScanList::default(rt.alloc());
     check_sweep(&rt, rt.alloc(), list)?;
     let list: ScanList<i32, u8, _> = ScanList::default(rt.alloc());
