@@ -96,7 +96,7 @@ impl<I: IntNumber, C: EdgeCount, A: Allocator> Content<I, C, A> {
 
     /// Makes equal edges one with their counts summed, drops those without counts, and sorts the
     /// rest. If memory is refused the content is left open.
-    pub(crate) fn merge(&mut self, store: &mut C::Store) -> Result<(), OverlayError>
+    pub fn merge(&mut self, store: &mut C::Store) -> Result<(), OverlayError>
         ensures ok { OnOk result (IsMerged self.old self.new) }
         ensures content { IsContent I.limit self.new }
         ensures err { IsOkUnless result OverlayError.Memory }

@@ -137,6 +137,3 @@ impl<D: OverlayEdgeData> EdgeCount for CountWithData<D> {
         }
     }
 }
-
-#[cfg(test)]
-mod tests;

@@ -11,9 +11,6 @@ use overlay_geom::error::OverlayError;
 use overlay_geom::number::IntNumber;
 use std::alloc::Allocator;
 
-#[cfg(test)]
-mod tests;
-
 // How often edges are cut before they are given up as not settled.
 const ROUNDS: u32 = 64;
 
@@ -37,8 +34,9 @@ impl<I: IntNumber, C: EdgeCount, A: Allocator + Clone> Content<I, C, A> {
         self.split(ROUNDS, store)
     }
 
-    // Merges the edges, and cuts them so many times at most, until they are settled.
-    fn split(&mut self, rounds: u32, store: &mut C::Store) -> Result<(), OverlayError>
+    /// Merges the edges, and cuts them so many times at most, until they are settled. If it is
+    /// refused the content is left open.
+    pub fn split(&mut self, rounds: u32, store: &mut C::Store) -> Result<(), OverlayError>
         ensures split { OnOk result (IsSplit rounds self.old self.new) }
         ensures not_settled { IsErrOf result OverlayError.NotSettled → StaysUnsettled rounds self.old }
         ensures too_many { IsErrOf result OverlayError.TooManyEdges → WeighsTooMuch rounds (2 ^ 31) self.old }

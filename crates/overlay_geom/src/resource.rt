@@ -111,6 +111,3 @@ fn contour_at<I: IntNumber, A: Allocator>(shapes: &[IntShape<I, A>], index: usiz
     }
     unreachable!()
 }
-
-#[cfg(test)]
-mod tests;

@@ -1,7 +1,6 @@
 pub mod Answered
 pub mod AtStarts
 pub mod LastEntries
-pub mod LevelEdges
 pub mod LinesFit
 pub mod Moving
 pub mod Prefixes

@@ -1,4 +1,3 @@
 pub mod Laws
-pub mod LevelEdges
 pub mod Lists
 pub mod Scan

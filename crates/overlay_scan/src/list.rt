@@ -20,17 +20,15 @@ use overlay_geom::vector::cross_at;
 use std::alloc::Allocator;
 use std::cmp::Ordering;
 
-#[cfg(test)]
-mod tests;
-#[cfg(test)]
-mod tests_sweep;
-
-// An edge of the list, of which a is the smaller end, and its value.
+/// An edge of the list, and its value.
 #[derive(Clone, Copy)]
-struct LiveEdge<I, V> {
-    a: IntPoint<I>,
-    b: IntPoint<I>,
-    value: V,
+pub struct LiveEdge<I, V> {
+    /// Its smaller end, by x and then by y.
+    pub a: IntPoint<I>,
+    /// Its larger end.
+    pub b: IntPoint<I>,
+    /// What was inserted with it.
+    pub value: V,
 }
 
 /// A [`Scan`] that keeps its edges in a vector. Each call goes through all live edges.
@@ -183,9 +181,9 @@ fn value_before<I: IntNumber, V: Copy>(entries: &[LiveEdge<I, V>], n: usize, def
     }
 }
 
-// Whether f is under e, where both are over one x and meet in ends alone: this is seen where the one
-// starts that starts later.
-fn is_under<I: IntNumber, V: Copy>(f: &LiveEdge<I, V>, e: &LiveEdge<I, V>) -> bool
+/// Returns whether f is under e, where both are over one x and meet in ends alone: this is seen where
+/// the one starts that starts later.
+pub fn is_under<I: IntNumber, V: Copy>(f: &LiveEdge<I, V>, e: &LiveEdge<I, V>) -> bool
     requires one { IsInRange I.limit (plain_entry I.whole f.now).edge }
     requires other { IsInRange I.limit (plain_entry I.whole e.now).edge }
     ensures { result ≡ is_lower (plain_entry I.whole f.now).edge (plain_entry I.whole e.now).edge }

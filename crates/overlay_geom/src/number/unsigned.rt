@@ -25,19 +25,3 @@ impl UIntNumber for u128 {
         0
     }
 }
-
-#[cfg(test)]
-mod tests {
-    use super::*;
-
-    fn zero_of<U: UIntNumber>() -> U {
-        U::zero()
-    }
-
-    #[test]
-    fn zeros(rt: HostRuntime) {
-        assert_eq!(rt; zero_of::<u32>(), 0);
-        assert_eq!(rt; zero_of::<u64>(), 0);
-        assert_eq!(rt; zero_of::<u128>(), 0);
-    }
-}

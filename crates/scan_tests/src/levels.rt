@@ -3,13 +3,17 @@
 ghost use Rattle.std.specs.Prelude.{◌≡◌, ◌<◌, pos, OnOk};
 ghost use Rattle.overlay_geom.specs.Lines.{plain_line};
 ghost use Rattle.overlay_geom.specs.Numbers.{Within};
-ghost use Rattle.overlay_scan.specs.LevelEdges.{level_edge, IsLevelSweep};
+ghost use Rattle.scan_tests.specs.LevelEdges.{level_edge, IsLevelSweep};
 ghost use Rattle.overlay_scan.specs.Scan.{empty_sweep, IsOver};
 
-use super::*;
+use overlay_geom::error::OverlayError;
+use overlay_geom::number::IntNumber;
+use overlay_geom::path::IntLine;
+use overlay_geom::point::IntPoint;
+use overlay_scan::list::ScanList;
+use overlay_scan::scan::Scan;
 use std::alloc::Global;
 use std::process::Abort;
-use std::test::Fail;
 
 // The answer where no edge is found.
 const NONE: u8 = 255;
@@ -143,29 +147,53 @@ impl<S> Levels<S> {
     }
 }
 
-// Two edges, a third between them that ends before them, and a new beginning.
-fn check_sweep<I: SmallNumber, S: Scan<I, u8> + Drop>(
+// Two edges, and what is found below, between and above them.
+fn check_two_edges<I: SmallNumber, S: Scan<I, u8>>(
     rt: &impl Abort,
-    alloc: Global,
-    scan: S,
-) -> Result<(), Fail>
-    requires { S.content scan ≡ empty_sweep }
+    levels: &mut Levels<S>,
+) -> Result<(), OverlayError>
+    requires { IsLevelSweep I.limit levels.old.reached levels.old.heights.items (S.content levels.old.scan) }
+    ensures { OnOk result (IsLevelSweep I.limit levels.new.reached levels.new.heights.items (S.content levels.new.scan)) }
 {
-    let mut levels = Levels::new(alloc, scan);
     levels.insert(rt, 0, 10, 6)?;
     levels.insert(rt, 0, 10, 2)?;
     assert_eq!(rt; levels.below(rt, 0, 8, 4), 2);
     assert_eq!(rt; levels.below(rt, 0, 8, 8), 6);
     assert_eq!(rt; levels.below(rt, 1, 8, 1), NONE);
+    Ok(())
+}
+
+// A third edge between them.
+fn check_third_edge<I: SmallNumber, S: Scan<I, u8>>(
+    rt: &impl Abort,
+    levels: &mut Levels<S>,
+) -> Result<(), OverlayError>
+    requires { IsLevelSweep I.limit levels.old.reached levels.old.heights.items (S.content levels.old.scan) }
+    ensures { OnOk result (IsLevelSweep I.limit levels.new.reached levels.new.heights.items (S.content levels.new.scan)) }
+{
     levels.insert(rt, 1, 3, 4)?;
     assert_eq!(rt; levels.below(rt, 2, 8, 5), 4);
     assert_eq!(rt; levels.below(rt, 2, 8, 3), 2);
+    Ok(())
+}
+
+// The highest of the three up to a height, and where the third one has ended.
+fn check_heights<I: SmallNumber, S: Scan<I, u8>>(rt: &impl Abort, levels: &mut Levels<S>)
+    requires { IsLevelSweep I.limit levels.old.reached levels.old.heights.items (S.content levels.old.scan) }
+{
     assert_eq!(rt; levels.up_to(rt, 2, 1), NONE);
     assert_eq!(rt; levels.up_to(rt, 2, 2), 2);
     assert_eq!(rt; levels.up_to(rt, 2, 5), 4);
     assert_eq!(rt; levels.up_to(rt, 2, 9), 6);
     assert_eq!(rt; levels.up_to(rt, 3, 5), 2);
     assert_eq!(rt; levels.below(rt, 3, 8, 5), 2);
+}
+
+// A new beginning.
+fn check_cleared<I: SmallNumber, S: Scan<I, u8>>(
+    rt: &impl Abort,
+    levels: &mut Levels<S>,
+) -> Result<(), OverlayError> {
     levels.clear();
     assert_eq!(rt; levels.below(rt, 0, 8, 8), NONE);
     assert_eq!(rt; levels.up_to(rt, 0, 8), NONE);
@@ -174,13 +202,58 @@ fn check_sweep<I: SmallNumber, S: Scan<I, u8> + Drop>(
     Ok(())
 }
 
+// Two edges, a third between them that ends before them, and a new beginning.
+fn check_sweep<I: SmallNumber, S: Scan<I, u8> + Drop>(
+    rt: &impl Abort,
+    alloc: Global,
+    scan: S,
+) -> Result<(), OverlayError>
+    requires { S.content scan ≡ empty_sweep }
+{
+    let mut levels = Levels::new(alloc, scan);
+    check_two_edges(rt, &mut levels)?;
+    check_third_edge(rt, &mut levels)?;
+    check_heights(rt, &mut levels);
+    check_cleared(rt, &mut levels)
+}
+
 #[test]
-fn a_sweep_over_level_edges(rt: HostRuntime) -> Result<(), Fail> {
+fn a_sweep_over_level_edges(rt: HostRuntime) -> Result<(), OverlayError> {
     let list: ScanList<i16, u8, _> = ScanList::default(rt.alloc());
     check_sweep(&rt, rt.alloc(), list)?;
     let list: ScanList<i32, u8, _> = ScanList::default(rt.alloc());
     check_sweep(&rt, rt.alloc(), list)?;
     let list: ScanList<i64, u8, _> = ScanList::default(rt.alloc());
     check_sweep(&rt, rt.alloc(), list)?;
+    Ok(())
+}
+
+// The heights of the highest edges over x no higher than 0, 1 and 2.
+fn heights_over<I: SmallNumber, S: Scan<I, u8>>(
+    levels: &mut Levels<S>,
+    rt: &impl Abort,
+    x: u8,
+) -> [u8; 3]
+    requires { IsLevelSweep I.limit levels.old.reached levels.old.heights.items (S.content levels.old.scan) }
+    ensures { IsLevelSweep I.limit levels.new.reached levels.new.heights.items (S.content levels.new.scan) }
+{
+    [
+        levels.up_to(rt, x, 0),
+        levels.up_to(rt, x, 1),
+        levels.up_to(rt, x, 2),
+    ]
+}
+
+#[test]
+fn edges_that_end_at_or_before_x_are_dropped(rt: HostRuntime) -> Result<(), OverlayError> {
+    let list: ScanList<i32, u8, _> = ScanList::default(rt.alloc());
+    let mut levels = Levels::new(rt.alloc(), list);
+    levels.insert(&rt, 0, 3, 0)?;
+    levels.insert(&rt, 0, 5, 1)?;
+    levels.insert(&rt, 0, 4, 2)?;
+    assert_eq!(rt; heights_over(&mut levels, &rt, 2), [0, 1, 2]);
+    assert_eq!(rt; heights_over(&mut levels, &rt, 3), [NONE, 1, 2]);
+    assert_eq!(rt; heights_over(&mut levels, &rt, 4), [NONE, 1, 1]);
+    assert_eq!(rt; heights_over(&mut levels, &rt, 5), [NONE, NONE, NONE]);
     Ok(())
 }

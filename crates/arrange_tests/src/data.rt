@@ -1,10 +1,11 @@
 //! Counts with data on a data type of two colours.
 
 ghost use Rattle.std.specs.Prelude.{◌≡◌, ◌≢◌};
-ghost use Rattle.overlay_arrange.specs.declared.data.tests.Colour.TheVariants.{Undefined};
+ghost use Rattle.arrange_tests.specs.declared.data.Colour.TheVariants.{Undefined};
 
-use super::*;
-use crate::edge::CountedEdge;
+use overlay_arrange::count::{EdgeCount, ShapeCountBoolean};
+use overlay_arrange::data::{CountWithData, EdgeDataMerge, OverlayEdgeData};
+use overlay_arrange::edge::CountedEdge;
 use overlay_geom::point::IntPoint;
 
 #[derive(Debug, Clone, Copy, PartialEq)]

@@ -1,9 +1,9 @@
 //! Edges that cross, touch and overlap, and what they are cut into.
 
-use crate::content::Content;
-use crate::count::ShapeCountBoolean;
-use crate::edge::{CountedEdge, compare_points};
-use crate::options::ShapeType;
+use overlay_arrange::content::Content;
+use overlay_arrange::count::ShapeCountBoolean;
+use overlay_arrange::edge::{CountedEdge, compare_points};
+use overlay_arrange::options::ShapeType;
 use overlay_geom::error::OverlayError;
 use overlay_geom::number::IntNumber;
 use overlay_geom::point::{IntPoint, in_range};

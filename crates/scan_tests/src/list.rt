@@ -1,6 +1,13 @@
+//! Which of two edges is under the other one, and a list of no edge and of one.
+
 ghost use Rattle.std.specs.Prelude.{◌≡◌};
 
-use super::*;
+use overlay_geom::error::OverlayError;
+use overlay_geom::path::IntLine;
+use overlay_geom::point::IntPoint;
+use overlay_scan::list::{LiveEdge, ScanList, is_under};
+use overlay_scan::scan::Scan;
+use std::cmp::Ordering;
 
 // An edge from (ax, ay) to (bx, by).
 fn edge<I>(ax: I, ay: I, bx: I, by: I) -> LiveEdge<I, u8>
@@ -42,23 +49,6 @@ fn which_edge_is_under_which_at_the_ends_of_the_range(rt: HostRuntime) {
 }
 
 #[test]
-fn edges_that_end_at_or_before_x_are_dropped(rt: HostRuntime) -> Result<(), OverlayError> {
-    let mut list = ScanList::default(rt.alloc());
-    list.entries.push(edge(0i32, 0, 3, 0))?;
-    list.entries.push(edge(0i32, 1, 5, 1))?;
-    list.entries.push(edge(0i32, 2, 4, 2))?;
-    list.move_to(2);
-    assert_eq!(rt; list.entries.len(), 3);
-    list.move_to(3);
-    assert_eq!(rt; list.entries.len(), 2);
-    list.move_to(4);
-    assert_eq!(rt; list.entries.len(), 1);
-    list.move_to(5);
-    assert!(rt; list.entries.is_empty());
-    Ok(())
-}
-
-#[test]
 fn an_empty_list_gives_the_default(rt: HostRuntime) {
     let mut list: ScanList<i16, u8, _> = ScanList::default(rt.alloc());
     assert_eq!(rt;
@@ -67,12 +57,23 @@ fn an_empty_list_gives_the_default(rt: HostRuntime) {
     );
 }
 
+// Looks for any edge at all.
+fn is_reached(_line: IntLine<i64>) -> Ordering {
+    Ordering::Equal
+}
+
 #[test]
 fn one_edge_is_inserted_and_cleared(rt: HostRuntime) -> Result<(), OverlayError> {
     let mut list: ScanList<i64, u8, _> = ScanList::default(rt.alloc());
     list.insert([IntPoint::new(0, 0), IntPoint::new(4, 2)], 1, 0)?;
-    assert_eq!(rt; list.entries.len(), 1);
+    assert_eq!(rt;
+        list.first_less_or_equal_by(0, 7, |line: IntLine<i64>| is_reached(line)),
+        1
+    );
     list.clear();
-    assert!(rt; list.entries.is_empty());
+    assert_eq!(rt;
+        list.first_less_or_equal_by(0, 7, |line: IntLine<i64>| is_reached(line)),
+        7
+    );
     Ok(())
 }

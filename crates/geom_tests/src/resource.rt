@@ -1,6 +1,9 @@
 //! Each kind of resource at each coordinate type: how many paths it has, and which.
 
-use super::*;
+use overlay_geom::number::IntNumber;
+use overlay_geom::path::{IntContour, IntShape, IntShapes, PathRef};
+use overlay_geom::point::IntPoint;
+use overlay_geom::resource::IntShapeResource;
 use std::alloc::Global;
 use std::test::Fail;
 

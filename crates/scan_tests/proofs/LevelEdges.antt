@@ -10,8 +10,8 @@ use Rattle.overlay_geom.specs.Plane.{Edge, PlanePoint, IsOn, IsBetween, edge_eq}
 use Rattle.overlay_geom.specs.Settled.{MeetInEnds}
 use Rattle.overlay_geom.proofs.Orders.{edge_eq-same}
 use Rattle.overlay_geom.proofs.Signs.{eq_of_mul-eq}
-use Rattle.overlay_scan.specs.LevelEdges.{level_edge, IsLevelAt, IsLevelSweep}
-use Rattle.overlay_scan.specs.Scan.{Sweep, live_at, moved_to, IsSweep, IsPutIn, MayMoveTo, MeetsOthers, IsNewAmong}
+use Rattle.scan_tests.specs.LevelEdges.{level_edge, IsLevelAt, IsLevelSweep}
+use Rattle.overlay_scan.specs.Scan.{Sweep, live_at, moved_to, IsOver, IsSweep, IsPutIn, MayMoveTo, MeetsOthers, IsNewAmong}
 use Rattle.overlay_scan.proofs.PutIn.{All-with}
 
 -- a number between one and itself
@@ -62,6 +62,10 @@ module _ {V : Type 0} (limit x y end : ℕ) (hs : List ℕ) (s : Sweep V) (level
     entries = subst (λ s. All (λ f. IsLevelAt hs f.edge) s.entries) (sym is) live;
   }
 
+  -- the same of an abscissa that is given by an equation
+  pub moved_on : (new : Sweep V) (z : ℤ) → z ≡ pos y → new ≡ moved_to z s → IsSweep limit new → IsLevelSweep limit y hs new
+  moved_on new z z_is is held = level_moved new (subst (λ z. new ≡ moved_to z s) z_is is) held
+
   module _ (h : ℕ) (free : list_any (λ i. nat_eq i h) hs ≡ false) where
     differ : (k : ℕ) → Contains hs k → ¬ (pos h ≡ pos k)
     differ k held same = not_held hs h k free held (omega (arith, ints))
@@ -79,6 +83,16 @@ module _ {V : Type 0} (limit x y end : ℕ) (hs : List ℕ) (s : Sweep V) (level
         (λ f at other. apart_meet (level_edge y end h) f.edge (pos h) (pos at.height) refl refl at.a at.b (differ at.height at.held))
         (live_at (pos y) s.entries) live
 
+    -- so the edge may be asked for
+    pub asked : (z : ℤ) (e : Edge) → z ≡ pos y → e ≡ level_edge y end h → IsOver limit (pos y) (level_edge y end h) →
+        MayMoveTo z s × (IsOver limit z e × ((e.a.x ≡ z) × MeetsOthers e (live_at z s.entries)))
+    asked z e z_is e_is over = rw (z_is, e_is) (may_move, (over, (refl, meets)))
+
+    -- and put in
+    pub insertable : (z : ℤ) (e : Edge) → z ≡ pos y → e ≡ level_edge y end h → IsOver limit (pos y) (level_edge y end h) →
+        MayMoveTo z s × (IsOver limit z e × (MeetsOthers e (live_at z s.entries) × IsNewAmong e (live_at z s.entries)))
+    insertable z e z_is e_is over = rw (z_is, e_is) (may_move, (over, (meets, new_among)))
+
     -- and with it the sweep is one over one more height
     pub level_put : (value : V) (new : Sweep V) →
         IsPutIn (pos y) (record { edge = level_edge y end h; value = value }) (live_at (pos y) s.entries) new.entries →
@@ -95,3 +109,12 @@ module _ {V : Type 0} (limit x y end : ℕ) (hs : List ℕ) (s : Sweep V) (level
       where
         more : (e : Edge) → IsLevelAt hs e → IsLevelAt (hs ++ h ∷ []) e
         more e at = record { height = at.height; held = Contains-append_left hs (h ∷ []) at.height at.held; a = at.a; b = at.b }
+
+    -- the same of an edge and of heights that are given by equations
+    pub put_in : (value : V) (new : Sweep V) (z : ℤ) (e : Edge) (ks : List ℕ) → z ≡ pos y → e ≡ level_edge y end h → ks ≡ hs ++ h ∷ [] →
+        IsPutIn z (record { edge = e; value = value }) (live_at z s.entries) new.entries → new.reached ≡ Some z → IsSweep limit new →
+        IsLevelSweep limit y ks new
+    put_in value new z e ks z_is e_is ks_is put reached held = subst (λ ks. IsLevelSweep limit y ks new) (sym ks_is) (level_put value new
+        (subst (λ e. IsPutIn (pos y) (record { edge = e; value = value }) (live_at (pos y) s.entries) new.entries) e_is
+        (subst (λ z. IsPutIn z (record { edge = e; value = value }) (live_at z s.entries) new.entries) z_is put))
+        (subst (λ z. new.reached ≡ Some z) z_is reached) held)

@@ -1,0 +1,13 @@
+//! Tests of `overlay_arrange`, which stand above it so that it is proved without them.
+#![tactic(auto)]
+
+#[cfg(test)]
+mod cut;
+#[cfg(test)]
+mod data;
+#[cfg(test)]
+mod rounds;
+#[cfg(test)]
+mod string_count;
+#[cfg(test)]
+mod thin;
