@@ -1,7 +1,6 @@
 pub mod AnchorsFound
 pub mod BoundTo
 pub mod BoundWalks
-pub mod ComputedWalks
 pub mod CutsOn
 pub mod EntriesByAnchor
 pub mod FilledEntries
@@ -23,8 +22,6 @@ pub mod Sweeping
 pub mod SweptEntries
 pub mod TakenSteps
 pub mod TiedAnchors
-pub mod TouchingHoles
-pub mod Triangle
 pub mod WalksOn
 pub mod WalksRead
 pub mod WalksTaken

@@ -17,9 +17,6 @@ use overlay_geom::number::IntNumber;
 use overlay_scan::list::ScanList;
 use std::alloc::Allocator;
 
-#[cfg(test)]
-mod tests;
-
 /// A list as long as that of the walks. At a hole stands the number of the shape in which it stands: the
 /// one whose outline has the next filled-above edge below the hole's anchor, or that of the hole that has
 /// it. It is None for a hole with no such edge, or with that of such a hole. What stands at an outline is

@@ -16,9 +16,6 @@ use overlay_geom::error::OverlayError;
 use overlay_geom::number::IntNumber;
 use std::alloc::Allocator;
 
-#[cfg(test)]
-mod tests;
-
 /// Walks all steps left: while there are any, the orbit of the step along the top edge at their leftmost
 /// lowest point. Where the direction is counterclockwise each step has its filled side on the left, else
 /// on the right. A walk that starts along an edge that is filled above is a hole, and turns through

@@ -15,9 +15,6 @@ use overlay_geom::vector::cross_at;
 use std::cmp::Ordering;
 use std::marker::Model;
 
-#[cfg(test)]
-mod tests;
-
 /// A ray round a node: it begins in the direction of a point and turns by a hand.
 #[derive(Debug, Clone, Copy)]
 pub struct Ray<I> {

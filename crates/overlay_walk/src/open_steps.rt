@@ -21,9 +21,6 @@ use overlay_geom::number::IntNumber;
 use std::alloc::Allocator;
 use std::marker::Model;
 
-#[cfg(test)]
-mod tests;
-
 /// Steps between different points in range, and which of them are left to be walked.
 #[derive(Drop)]
 pub struct OpenSteps<I: IntNumber, D: Copy, A: Allocator> {

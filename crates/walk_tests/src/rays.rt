@@ -2,8 +2,10 @@
 
 ghost use Rattle.overlay_geom.specs.Points.{plain_point, InRange};
 
-use super::*;
-use overlay_geom::point::in_range;
+use overlay_geom::number::IntNumber;
+use overlay_geom::point::{IntPoint, in_range};
+use overlay_walk::hand::Hand;
+use overlay_walk::nearest::{NearestVector, Ray};
 use std::process::Abort;
 
 // The point with these coordinates. Stops the test where it is out of range.

@@ -1,8 +1,8 @@
 -- The steps are those round the triangle.
 use Rattle.std.proofs.Common.{◌≡◌, [], ◌∷◌, refl, ◌∙◌}
 use Rattle.overlay_walk.specs.Steps.{plain_steps}
-use Rattle.overlay_walk.proofs.Triangle.{round, same_round}
-use Rattle.overlay_walk.proofs.contours.tests.steps_round.Goals as goal
+use Rattle.walk_tests.proofs.TriangleSteps.{round, same_round}
+use Rattle.walk_tests.proofs.triangle.steps_round.Goals as goal
 
 pub returns : goal.returns
 returns g c =

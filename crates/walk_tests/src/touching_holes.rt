@@ -9,8 +9,11 @@ ghost use Rattle.overlay_plane.specs.Contours.{IsContour, all_steps};
 ghost use Rattle.overlay_walk.specs.Steps.{plain_step, IsLong};
 ghost use Rattle.overlay_walk.specs.Walks.{plain_walks};
 
-use super::*;
+use overlay_arrange::options::ContourDirection;
+use overlay_geom::error::OverlayError;
 use overlay_geom::point::IntPoint;
+use overlay_walk::bind::bind;
+use overlay_walk::step::Step;
 use std::alloc::Global;
 use std::test::Fail;
 

@@ -1,9 +1,9 @@
 //! No steps, and a list whose room is used again.
 
-use crate::buffer::BooleanExtractionBuffer;
-use crate::open_steps::OpenSteps;
 use overlay_geom::error::OverlayError;
 use overlay_geom::number::IntNumber;
+use overlay_walk::buffer::BooleanExtractionBuffer;
+use overlay_walk::open_steps::OpenSteps;
 use std::alloc::Global;
 use std::process::Abort;
 use std::test::Fail;

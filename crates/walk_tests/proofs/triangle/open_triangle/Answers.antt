@@ -6,8 +6,8 @@ use Rattle.std.proofs.lemmas.Result.{IfOk-weaker}
 use Rattle.overlay_plane.specs.Alternates.{Alternates}
 use Rattle.overlay_plane.specs.BesideOrbits.{HasEachOnce}
 use Rattle.overlay_walk.specs.Steps.{plain_steps, IsLong}
-use Rattle.overlay_walk.proofs.Triangle.{triangle_long, shuffled_alternates, shuffled_once}
-use Rattle.overlay_walk.proofs.contours.tests.open_triangle.Goals as goal
+use Rattle.walk_tests.proofs.TriangleSteps.{triangle_long, shuffled_alternates, shuffled_once}
+use Rattle.walk_tests.proofs.triangle.open_triangle.Goals as goal
 
 pub new-requires : goal.new-requires
 new-requires g c = subst (All (IsLong g.I.IntNumber.limit)) (sym c.in_ok-steps.ensures) (triangle_long g.I.IntNumber.limit c.requires.limit)

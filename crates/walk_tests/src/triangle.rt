@@ -6,8 +6,14 @@ ghost use Rattle.overlay_plane.specs.Alternates.{Alternates};
 ghost use Rattle.overlay_plane.specs.BesideOrbits.{HasEachOnce};
 ghost use Rattle.overlay_walk.specs.Steps.{plain_steps};
 
-use super::*;
+use overlay_arrange::options::ContourDirection;
+use overlay_geom::error::OverlayError;
+use overlay_geom::number::IntNumber;
 use overlay_geom::point::IntPoint;
+use overlay_walk::contours::cut_into_contours;
+use overlay_walk::hand::Hand;
+use overlay_walk::open_steps::OpenSteps;
+use overlay_walk::step::Step;
 use std::alloc::Global;
 use std::process::Abort;
 use std::test::Fail;

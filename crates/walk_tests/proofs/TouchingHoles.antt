@@ -4,7 +4,7 @@ use Rattle.std.proofs.lemmas.List.Elements.{All-nil, All-cons}
 use Rattle.overlay_geom.specs.Plane.{Step, edge_of}
 use Rattle.overlay_geom.specs.Settled.{IsSettledBy}
 use Rattle.overlay_plane.specs.Contours.{IsContour, all_steps}
-use Rattle.overlay_walk.proofs.ComputedWalks.{told_contour, told_settled}
+use Rattle.walk_tests.proofs.ComputedWalks.{told_contour, told_settled}
 
 abbrev step : ℤ → ℤ → ℤ → ℤ → Step
 step ax ay bx by = record { from = record { x = ax; y = ay }; to = record { x = bx; y = by } }

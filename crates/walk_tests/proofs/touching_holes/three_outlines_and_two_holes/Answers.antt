@@ -4,8 +4,8 @@ use Rattle.overlay_geom.specs.Plane.{Step, edge_of}
 use Rattle.overlay_geom.specs.Settled.{IsSettledBy}
 use Rattle.overlay_plane.specs.Contours.{IsContour, all_steps}
 use Rattle.overlay_walk.specs.Walks.{plain_walks}
-use Rattle.overlay_walk.proofs.TouchingHoles.{touching_holes, touching_contours, touching_settled}
-use Rattle.overlay_walk.proofs.bind.tests.three_outlines_and_two_holes.Goals as goal
+use Rattle.walk_tests.proofs.TouchingHoles.{touching_holes, touching_contours, touching_settled}
+use Rattle.walk_tests.proofs.touching_holes.three_outlines_and_two_holes.Goals as goal
 
 pub returns-clause-contours : goal.returns-clause-contours
 returns-clause-contours c =

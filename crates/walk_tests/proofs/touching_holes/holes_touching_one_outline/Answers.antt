@@ -6,7 +6,7 @@ use Rattle.overlay_plane.specs.Anchors.{HasEachEdgeOnce}
 use Rattle.overlay_plane.specs.Binding.{all_filled_above}
 use Rattle.overlay_plane.specs.Contours.{IsContour, all_steps}
 use Rattle.overlay_walk.specs.Walks.{plain_walks}
-use Rattle.overlay_walk.proofs.bind.tests.holes_touching_one_outline.Goals as goal
+use Rattle.walk_tests.proofs.touching_holes.holes_touching_one_outline.Goals as goal
 
 pub bind-requires-clause-contours : goal.bind-requires-clause-contours
 bind-requires-clause-contours g c =

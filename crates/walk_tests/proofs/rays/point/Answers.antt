@@ -2,7 +2,7 @@
 use Rattle.std.proofs.Common.{[], ◌∷◌, rules}
 use Rattle.std.proofs.lemmas.List.Elements.{All-head}
 use Rattle.overlay_geom.specs.Points.{plain_point, plain_points, InRange, AllInRange}
-use Rattle.overlay_walk.proofs.nearest.tests.point.Goals as goal
+use Rattle.walk_tests.proofs.rays.point.Goals as goal
 
 pub returns : goal.returns
 returns g c =

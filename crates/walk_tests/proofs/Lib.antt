@@ -1,0 +1,3 @@
+mod ComputedWalks
+mod TouchingHoles
+mod TriangleSteps

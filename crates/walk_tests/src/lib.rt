@@ -1,0 +1,11 @@
+//! Tests of walks along the steps of an arrangement.
+#![tactic(auto)]
+
+#[cfg(test)]
+mod no_steps;
+#[cfg(test)]
+mod rays;
+#[cfg(test)]
+mod touching_holes;
+#[cfg(test)]
+mod triangle;
