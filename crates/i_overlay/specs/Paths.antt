@@ -3,13 +3,9 @@ use Rattle.std.specs.Prelude.{◌≡◌, ◌^◌, ◌<◌, Bool, List, [], ◌�
 use Rattle.overlay_geom.specs.Plane.{Point}
 use Rattle.overlay_geom.specs.Edges.{CountedEdge, AddsContour, weight}
 use Rattle.overlay_arrange.specs.Content.{edge_for}
+pub use Rattle.overlay_arrange.specs.Paths.{GivenPath}
 use Rattle.overlay_arrange.specs.declared.options.ShapeType.{ShapeType}
 use Rattle.overlay_arrange.specs.declared.options.ShapeType.TheVariants.{Subject, Clip}
-
--- a closed path to be added: to which shape it belongs, and its points
-pub record GivenPath : Type 0 where
-  pub shape_type : ShapeType
-  pub points : List Point
 
 -- the paths of a resource, all of them for the subject or all for the clip
 abbrev pub paths_for : ShapeType → List (List Point) → List GivenPath

@@ -4,6 +4,7 @@ pub mod Counts
 pub mod Cut
 pub mod EdgeData
 pub mod Options
+pub mod Paths
 pub mod Rules
 pub mod Runs
 pub mod Settle

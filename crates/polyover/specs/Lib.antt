@@ -1,12 +1,1 @@
-pub mod Answers
-pub mod Builders
-pub mod Engine
-pub mod Exits
-pub mod Grammar
-pub mod Inputs
-pub mod Lines
-pub mod Options
-pub mod Points
-pub mod Statements
-pub mod Words
-pub mod Written
+pub mod Statuses

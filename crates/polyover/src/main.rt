@@ -2,32 +2,12 @@
 #![tactic(auto)]
 
 ghost use Rattle.std.specs.Prelude.{◌≡◌};
-ghost use Rattle.polyover.specs.Exits.{status_of, refusal_number_of};
+ghost use Rattle.polyover.specs.Statuses.{status_of, refusal_number_of};
 
-mod answer;
-mod builder;
-mod command;
-mod contour;
 pub mod engine;
 pub mod exit;
-mod fill;
-mod input;
-mod line_error;
-mod lines;
-mod number;
-mod options;
-mod points;
-mod query;
-mod read;
 #[cfg(test)]
 mod rows;
-mod rule;
-mod shape_text;
-mod split;
-mod statement;
-mod text;
-mod words;
-mod write;
 
 use engine::run;
 use exit::Exit;

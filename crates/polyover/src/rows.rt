@@ -3,6 +3,7 @@
 mod edges;
 mod faults;
 mod overlays;
+mod shape_text;
 
 use crate::engine::run;
 use crate::exit::Exit;

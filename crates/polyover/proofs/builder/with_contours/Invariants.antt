@@ -1,8 +1,0 @@
-use Rattle.std.proofs.Common.{take}
-use Rattle.polyover.specs.Statements.{contours_at}
-use Rattle.polyover.specs.Builders.{HasAdded}
-use Rattle.polyover.proofs.builder.with_contours.Given as goal
-
--- the contours so far are added
-abbrev pub invariant-loop-contour : goal.invariant-loop-contour
-invariant-loop-contour g l = HasAdded (take l.contour-index (contours_at l.contours)) l.overlay

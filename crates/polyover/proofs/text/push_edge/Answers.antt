@@ -1,5 +1,0 @@
-use Rattle.std.proofs.Common.{rules, append_assoc}
-use Rattle.polyover.proofs.text.push_edge.Goals as goal
-
-pub returns : goal.returns
-returns g c = search (rules, append_assoc)

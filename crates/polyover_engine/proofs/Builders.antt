@@ -1,0 +1,63 @@
+-- A builder to which contours are added one by one.
+use Rattle.std.proofs.Common.{◌≡◌, ℕ, ◌+◌, ◌^◌, ◌<◌, true, false, List, [], ◌∷◌, ◌++◌, length, get_or, take, drop}
+use Rattle.std.proofs.Common.{take-append-drop, refl, sym, ap, subst, ◌∙◌, lit<, arith}
+use Rattle.std.proofs.lemmas.Bool.{false≢true}
+use Rattle.std.proofs.lemmas.List.{length-map, get_or-map, take_more, drop_more}
+use Rattle.overlay_geom.specs.Edges.{AddsContour, weight}
+use Rattle.overlay_geom.specs.declared.error.OverlayError.{OverlayError}
+use Rattle.overlay_geom.specs.declared.error.OverlayError.TheVariants.{Memory, NotSettled, TooManyEdges, Failed}
+use Rattle.overlay_arrange.specs.Content.{edge_for}
+use Rattle.i_overlay.specs.Adding.{MayRefuseBuilder}
+use Rattle.i_overlay.specs.Builder.{Builder, IsNewBuilder, WouldWeighTooMuch}
+use Rattle.i_overlay.specs.Paths.{GivenPath, AddsPaths, HoldsPaths, no_path}
+use Rattle.i_overlay.proofs.PathLists.{adds_last}
+use Rattle.polyover_text.specs.declared.contour.Contour.{Contour}
+use Rattle.polyover_text.specs.Statements.{contour_at, contours_at}
+use Rattle.polyover_engine.specs.Builders.{HasAdded}
+
+pub nothing_added : (b : Builder ℕ) → b.edges ≡ [] → IsNewBuilder (λ n. n) b → HasAdded [] b
+nothing_added b empty made = record { holds = subst (HoldsPaths false []) (sym empty) (record { added = no_path; light = lit< tt }); made = made }
+
+-- the contour at a place of the list that is held
+pub contour_here : {A : Type 0} (cs items : List (Contour A)) (k : ℕ) (c : Contour A) → items ≡ cs → k < length items → c ≡ get_or items k c
+    → (k < length (contours_at cs)) × (contour_at c ≡ get_or (contours_at cs) k (contour_at c))
+contour_here cs items k c same within here = (
+  omega (arith, length-map cs contour_at, ap length same),
+  ap contour_at (here ∙ ap (λ l. get_or l k c) same) ∙ sym (get_or-map contour_at cs k c (contour_at c) (omega (arith, ap length same))),
+)
+
+module _ (cs : List GivenPath) (k : ℕ) (c : GivenPath) (old : Builder ℕ) (h : HasAdded (take k cs) old) (within : k < length cs)
+    (here : c ≡ get_or cs k c) where
+  -- the next contour of the list is added
+  pub one_more_added : (new : Builder ℕ) → AddsContour old.options.preserve_input_collinear (edge_for c.shape_type) c.points old.edges new.edges
+      → weight new.edges < 2 ^ 31 → new ≡ record old { edges = new.edges } → HasAdded (take (k + 1) cs) new
+  one_more_added new adds light kept = record {
+    holds = record {
+      added = subst (λ l. AddsPaths false l [] new.edges) (ap (λ x. take k cs ++ x ∷ []) here ∙ sym (take_more cs k c within))
+          (adds_last false (take k cs) c [] old.edges new.edges h.holds.added
+          (subst (λ keep. AddsContour keep (edge_for c.shape_type) c.points old.edges new.edges) h.made.options.input_kept adds));
+      light = light;
+    };
+    made = subst (IsNewBuilder (λ n. n)) (sym kept) (record { ready = h.made.ready; options = h.made.options; buffer = h.made.buffer });
+  }
+
+  -- a refusal of the next contour
+  pub contour_refused : (e : OverlayError) → (e ≡ Failed → old.failed ≡ true)
+      → (e ≡ TooManyEdges → WouldWeighTooMuch old.options.preserve_input_collinear c.shape_type c.points old.edges) → (e ≡ NotSettled → ⊥)
+      → MayRefuseBuilder false cs e
+  contour_refused Memory failed heavy unsettled = tt
+  contour_refused NotSettled failed heavy unsettled = absurd (unsettled refl)
+  contour_refused TooManyEdges failed heavy unsettled = (
+    old.edges,
+    record {
+      path = c;
+      added = record {
+        before = take k cs;
+        after = drop (k + 1) cs;
+        parts = sym (take-append-drop k cs) ∙ ap (λ l. take k cs ++ l) (drop_more cs k c within ∙ ap (λ x. x ∷ drop (k + 1) cs) (sym here));
+        added = h.holds.added;
+      };
+      refused = subst (λ keep. WouldWeighTooMuch keep c.shape_type c.points old.edges) h.made.options.input_kept (heavy refl);
+    },
+  )
+  contour_refused Failed failed heavy unsettled = false≢true (sym h.made.ready ∙ failed refl)

@@ -1,0 +1,3 @@
+pub mod Builders
+pub mod Queries
+pub mod Refusals

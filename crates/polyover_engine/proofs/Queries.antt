@@ -1,0 +1,59 @@
+-- What a query on a builder, to which all contours were added, says of the contours; and the text of its answer.
+use Rattle.std.proofs.Common.{◌≡◌, inl, ℕ, false, List, map, Option, Some, None, IfSome, sym, subst, ◌∙◌}
+use Rattle.std.specs.Prelude.{Result, Ok, Err, OnOk, IfOk, MatchResult}
+use Rattle.overlay_geom.specs.declared.error.OverlayError.{OverlayError}
+use Rattle.overlay_geom.specs.declared.error.OverlayError.TheVariants.{Memory, NotSettled, TooManyEdges, Failed}
+use Rattle.overlay_geom.specs.Plane.{Point}
+use Rattle.overlay_arrange.specs.Arranged.{IsArranged}
+use Rattle.overlay_arrange.specs.Vectors.{Vector, vector_of}
+use Rattle.overlay_arrange.specs.declared.fill_rule.FillRule.{FillRule}
+use Rattle.i_overlay.specs.Builder.{Builder}
+use Rattle.i_overlay.specs.Overlay.{IsResult}
+use Rattle.i_overlay.specs.Adding.{MayRefuseBuilder}
+use Rattle.i_overlay.specs.OneShot.{IsResultOfPaths, MayRefusePaths}
+use Rattle.i_overlay.specs.Paths.{GivenPath, HoldsPaths}
+use Rattle.i_overlay.specs.Refusals.{RefusesAsQuery}
+use Rattle.i_overlay.proofs.OneShots.{query_refused, result_of_paths}
+use Rattle.polyover_text.specs.declared.query.OverlayQuery.{OverlayQuery}
+use Rattle.polyover_text.specs.declared.query.Query.{Query}
+use Rattle.polyover_engine.specs.Answers.{AreEdges, Answers, IsAnswer, asked_by}
+use Rattle.polyover_engine.specs.Builders.{HasAdded}
+use Rattle.polyover_text.specs.Grammar.{Asks, input_lines}
+
+module _ (cs : List GivenPath) (b : Builder ℕ) (h : HasAdded cs b) where
+  -- what a query for the edges answers
+  pub edges_answered : {V : Type 0} (vectors : V → List Vector) (fill : FillRule) (new : Builder ℕ) (answer : Result V OverlayError)
+      → OnOk answer (IsArranged 64 b.edges new.edges) → IfOk answer (λ v. vectors v ≡ map (vector_of fill new.edges) new.edges) → RefusesAsQuery b new answer
+      → MatchResult answer (λ v. AreEdges cs fill (vectors v)) (λ e. MayRefusePaths cs e)
+  edges_answered vectors fill new (Ok v) arranged listed refused =
+      record { content = b.edges; edges = new.edges; holds = h.holds; arranged = arranged; listed = listed }
+  edges_answered vectors fill new (Err e) arranged listed refused = query_refused cs b new (Err e) h.holds h.made.ready refused
+
+  -- what an overlay answers, whatever the settings are that it turns
+  pub shapes_answered : {V : Type 0} (shapes : V → List (List (List Point))) (query : OverlayQuery) (old new : Builder ℕ) (answer : Result V OverlayError)
+      → RefusesAsQuery old new answer → old.edges ≡ b.edges → old.failed ≡ b.failed
+      → OnOk answer (IsArranged 64 old.edges new.edges) → IfOk answer (λ v. IsResult (asked_by query) new.edges (shapes v))
+      → MatchResult answer (λ v. IsResultOfPaths (asked_by query) cs (shapes v)) (λ e. MayRefusePaths cs e)
+  shapes_answered shapes query old new (Ok v) refused content failed arranged result =
+      result_of_paths {E = OverlayError} (Ok v) shapes (asked_by query) cs old.edges new.edges
+      (subst (HoldsPaths false cs) (sym content) h.holds) arranged result
+  shapes_answered shapes query old new (Err e) refused content failed arranged result =
+      query_refused cs old new (Err e) (subst (HoldsPaths false cs) (sym content) h.holds) (failed ∙ h.made.ready) refused
+
+-- where the contours can't be added, there is no answer
+pub adding_refused : (cs : List GivenPath) (e : OverlayError) → MayRefuseBuilder false cs e → MayRefusePaths cs e
+adding_refused cs Memory may = tt
+adding_refused cs NotSettled may = absurd may
+adding_refused cs TooManyEdges may = inl may
+adding_refused cs Failed may = may
+
+-- the text answers what was read, where the reader tells it
+pub answers_read : (given : Option (List ℕ)) (bytes text written : List ℕ) (cs : List GivenPath) (query : Query)
+    → IfSome given (λ b. bytes ≡ b) → text ≡ bytes → Asks (input_lines text) cs query → Answers cs query written → IfSome given (λ b. IsAnswer b written)
+answers_read None bytes text written cs query read same asks answers = tt
+answers_read (Some b) bytes text written cs query read same asks answers = record {
+  contours = cs;
+  query = query;
+  asks = subst (λ l. Asks (input_lines l) cs query) (same ∙ read) asks;
+  answers = answers;
+}

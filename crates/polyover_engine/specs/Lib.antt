@@ -1,0 +1,4 @@
+pub mod Answers
+pub mod Builders
+pub mod Engine
+pub mod Exits

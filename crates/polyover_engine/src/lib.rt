@@ -1,0 +1,7 @@
+//! The engine of the program: an input is read, parsed, answered and written.
+#![tactic(auto)]
+
+mod answer;
+mod builder;
+pub mod engine;
+pub mod exit;

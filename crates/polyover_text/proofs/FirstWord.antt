@@ -1,0 +1,27 @@
+-- What a line says, by its first word.
+use Rattle.std.proofs.Common.{◌≡◌, ◌≢◌, ◌∷◌, codes, refl, sym, subst}
+use Rattle.overlay_arrange.specs.declared.options.ShapeType.{ShapeType}
+use Rattle.overlay_arrange.specs.declared.options.ShapeType.TheVariants.{Subject, Clip}
+use Rattle.overlay_arrange.specs.Paths.{GivenPath}
+use Rattle.polyover_text.specs.declared.query.Query.{Query}
+use Rattle.polyover_text.specs.Grammar.{Word, Line, shape_name, GivesContour, contour, IsCommand, edges, overlay}
+use Rattle.polyover_text.specs.Statements.{SaysNothing}
+
+first_of_contour : (f : Word) (ws : Line) (c : GivenPath) → GivesContour (f ∷ ws) c → f ≡ shape_name c.shape_type
+first_of_contour f ws c (contour h) = refl
+
+first_of_command : (f : Word) (ws : Line) (query : Query) → IsCommand (f ∷ ws) query → f ≡ codes "run"
+first_of_command f ws query edges = refl
+first_of_command f ws query (overlay options) = refl
+
+no_shape : (f : Word) → f ≢ codes "subject" → f ≢ codes "clip" → (shape_type : ShapeType) → f ≢ shape_name shape_type
+no_shape f subject clip Subject = subject
+no_shape f subject clip Clip = clip
+
+-- a line that begins with another word says nothing
+pub nothing_by_first_word : (l : Line) (f : Word) (ws : Line) → l ≡ f ∷ ws → f ≢ codes "subject" → f ≢ codes "clip" → f ≢ codes "run" → SaysNothing l
+nothing_by_first_word l f ws e subject clip run = subst SaysNothing (sym e) (record {
+  some_word = λ none. cc;
+  no_contour = λ c h. no_shape f subject clip c.shape_type (first_of_contour f ws c h);
+  no_command = λ query h. run (first_of_command f ws query h);
+})

@@ -1,0 +1,13 @@
+pub mod Commands
+pub mod FirstLine
+pub mod FirstWord
+pub mod GoodLines
+pub mod InRange
+pub mod Numbers
+pub mod OptionLists
+pub mod PointLists
+pub mod Reading
+pub mod Readings
+pub mod SoFar
+pub mod Splits
+pub mod Writing

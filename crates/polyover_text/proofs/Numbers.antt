@@ -1,0 +1,85 @@
+-- Numbers of the grammar as `parse` reads them: without a plus sign, those whose bytes after any minus sign are digits.
+use Rattle.std.proofs.Common.{FitsSigned, w64, negsuc, ◌≡◌, ◌≢◌, ℕ, ◌≤◌, ◌==◌, false, ℤ, pos, List}
+use Rattle.std.proofs.Common.{[], ◌∷◌, get_or, refl, sym, ◌∙◌, subst, arith, inl, inr, lit<}
+use Rattle.std.proofs.lemmas.Int.{ints}
+use Rattle.overlay_geom.specs.Numbers.{Within}
+use Rattle.std.specs.Str.{IsUtf8}
+use Rattle.std.specs.Str.Parse.{IsNumeral, digits_value, without_leading_sign, signed_digits_value}
+use Rattle.std.proofs.lemmas.Bool.{cases_eq}
+use Rattle.std.proofs.lemmas.Bool.Decides.{nat_tests}
+use Rattle.std.proofs.lemmas.Fmt.{IsAscii-from_digits}
+use Rattle.std.proofs.lemmas.Str.{IsUtf8-from_ascii}
+use Rattle.std.proofs.lemmas.Str.Ascii.{IsAscii-cons}
+use Rattle.std.proofs.lemmas.Str.Parse.{digit_at}
+use Rattle.polyover_text.specs.Grammar.{Word, IsNumber, plain, negative, IsCoordinate}
+
+-- a numeral begins with a digit
+first_of_numeral : (digits : List ℕ) → IsNumeral 10 digits → (48 ≤ get_or digits 0 0) × (get_or digits 0 0 ≤ 57)
+first_of_numeral digits h = digit_at digits 0 h.1 h.0
+
+-- a number is a text
+pub number_is_text : (word : Word) (c : ℤ) → IsNumber word c → IsUtf8 word
+number_is_text digits c (plain h) = IsUtf8-from_ascii digits (IsAscii-from_digits digits h.1)
+number_is_text (b ∷ digits) c (negative h) = IsUtf8-from_ascii (b ∷ digits) (IsAscii-cons b digits (lit< tt) (IsAscii-from_digits digits h.1))
+
+-- what a number says of its word
+pub record IsSignedNumeral (word : Word) (c : ℤ) : Type 0 where
+  pub no_plus : get_or word 0 0 ≢ 43
+  pub numeral : IsNumeral 10 (without_leading_sign word)
+  pub value : c ≡ signed_digits_value 10 word
+
+-- where the first byte is no sign, no sign is dropped
+no_sign_dropped : (word : Word) → get_or word 0 0 ≢ 45 → get_or word 0 0 ≢ 43 → without_leading_sign word ≡ word
+no_sign_dropped word no_minus no_plus =
+    let minus : (get_or word 0 0 == 45) ≡ false = grind (arith, nat_tests) in
+    let plus : (get_or word 0 0 == 43) ≡ false = grind (arith, nat_tests) in
+    rw (minus, plus) refl
+
+plain_value : (word : Word) → get_or word 0 0 ≢ 45 → get_or word 0 0 ≢ 43 → signed_digits_value 10 word ≡ pos (digits_value 10 word)
+plain_value word no_minus no_plus =
+    let minus : (get_or word 0 0 == 45) ≡ false = grind (arith, nat_tests) in
+    let plus : (get_or word 0 0 == 43) ≡ false = grind (arith, nat_tests) in
+    rw (minus, plus) refl
+
+pub number_is_numeral : (word : Word) (c : ℤ) → IsNumber word c → IsSignedNumeral word c
+number_is_numeral digits c (plain h) =
+    let first = first_of_numeral digits h in
+    let no_plus : get_or digits 0 0 ≢ 43 = omega arith in
+    let no_minus : get_or digits 0 0 ≢ 45 = omega arith in
+    record {
+      no_plus = no_plus;
+      numeral = subst (IsNumeral 10) (sym (no_sign_dropped digits no_minus no_plus)) h;
+      value = sym (plain_value digits no_minus no_plus);
+    }
+number_is_numeral (b ∷ digits) c (negative h) = record { no_plus = omega arith; numeral = h; value = refl }
+
+negative_numeral : (digits : List ℕ) (c : ℤ) → IsSignedNumeral (45 ∷ digits) c → IsNumber (45 ∷ digits) c
+negative_numeral digits c h = subst (IsNumber (45 ∷ digits)) (sym h.value) (negative h.numeral)
+
+plain_numeral : (word : Word) (c : ℤ) → IsSignedNumeral word c → get_or word 0 0 ≢ 45 → IsNumber word c
+plain_numeral word c h no_minus =
+    subst (IsNumber word) (sym (h.value ∙ plain_value word no_minus h.no_plus))
+    (plain (subst (IsNumeral 10) (no_sign_dropped word no_minus h.no_plus) h.numeral))
+
+pub numeral_is_number : (word : Word) (c : ℤ) → IsSignedNumeral word c → IsNumber word c
+numeral_is_number [] c h = absurd (omega (arith, h.numeral.0))
+numeral_is_number (b ∷ digits) c h = elim (cases_eq b 45) [
+  | inl minus ↦ subst (λ x. IsNumber (x ∷ digits) c) (sym minus) (negative_numeral digits c (subst (λ x. IsSignedNumeral (x ∷ digits) c) minus h))
+  | inr no_minus ↦ plain_numeral (b ∷ digits) c h no_minus
+]
+
+-- a text that does not begin with a plus sign and that `parse` reads is a number
+pub parsed_is_number : (word text : List ℕ) (c : ℤ) → text ≡ word → false ≡ (get_or text 0 0 == 43) → IsNumeral 10 (without_leading_sign text)
+    → c ≡ signed_digits_value 10 text → IsNumber word c
+parsed_is_number word text c same test digits value =
+    let no_plus : get_or text 0 0 ≢ 43 = grind (arith, nat_tests) in
+    subst (λ w. IsNumber w c) same (numeral_is_number text c (record { no_plus = no_plus; numeral = digits; value = value }))
+
+-- a coordinate is a number that `parse` reads
+pub text_of_coordinate : (word text : List ℕ) (c : ℤ) → text ≡ word → IsCoordinate word c → IsSignedNumeral text c
+text_of_coordinate word text c same h = subst (λ w. IsSignedNumeral w c) (sym same) (number_is_numeral word c h.number)
+
+-- a coordinate fits 64 bits
+pub coordinate_fits : (c : ℤ) → Within 4611686018427387903 c → FitsSigned w64 c
+coordinate_fits (pos n) h = record { sfits = omega (arith, ints, h.high) }
+coordinate_fits (negsuc n) h = record { sfits = omega (arith, ints, h.low) }

@@ -1,0 +1,5 @@
+use Rattle.polyover_text.proofs.Commands.{edges_asked}
+use Rattle.polyover_text.proofs.command.parse_edges.Goals as goal
+
+pub returns-in-None : goal.returns-in-None
+returns-in-None c = edges_asked _ _ _ _ c.in_ok-next.ensures.steps c.in-None.ensures.steps.0 c.in_ok-fill_rule.ensures

@@ -1,0 +1,61 @@
+//! Commands in words.
+
+ghost use Rattle.std.specs.Prelude.{◌∷◌, MatchOption, codes};
+ghost use Rattle.overlay_arrange.specs.declared.fill_rule.FillRule.{FillRule};
+ghost use Rattle.polyover_text.specs.declared.query.Query.{Query};
+ghost use Rattle.polyover_text.specs.declared.query.OverlayQuery.{OverlayQuery};
+ghost use Rattle.polyover_text.specs.Grammar.{IsCommand};
+ghost use Rattle.polyover_text.specs.Words.{words_left};
+
+use crate::fill::parse_fill_rule;
+use crate::options::parse_options;
+use crate::query::{OverlayQuery, Query};
+use crate::rule::parse_overlay_rule;
+use crate::words::Words;
+use overlay_arrange::fill_rule::FillRule;
+
+/// What the command asks for, after the word `run`.
+pub fn parse_command(mut words: Words<'_>) -> Option<Query>
+    ensures { MatchOption result
+        ((query : Query) → ¬ (IsCommand (codes "run" ∷ words_left words.entry) query))
+        (λ query. IsCommand (codes "run" ∷ words_left words.entry) query) }
+{
+    match words.next()? {
+        b"edges" => Some(Query::Edges(parse_edges(words)?)),
+        b"overlay" => Some(Query::Overlay(parse_overlay(words)?)),
+        _ => None,
+    }
+}
+
+// The fill rule under which edges are asked for, after the word `edges`.
+fn parse_edges(mut words: Words<'_>) -> Option<FillRule>
+    ensures { MatchOption result
+        ((fill : FillRule)
+        → ¬ (IsCommand (codes "run" ∷ codes "edges" ∷ words_left words.entry) (Query.Edges fill)))
+        (λ fill. IsCommand (codes "run" ∷ codes "edges" ∷ words_left words.entry)
+        (Query.Edges fill)) }
+{
+    let fill_rule = parse_fill_rule(words.next()?)?;
+    match words.next() {
+        None => Some(fill_rule),
+        Some(_) => None,
+    }
+}
+
+// The rules and the options of an overlay, after the word `overlay`.
+fn parse_overlay(mut words: Words<'_>) -> Option<OverlayQuery>
+    ensures { MatchOption result
+        ((query : OverlayQuery)
+        → ¬ (IsCommand (codes "run" ∷ codes "overlay" ∷ words_left words.entry) (Query.Overlay query)))
+        (λ query. IsCommand (codes "run" ∷ codes "overlay" ∷ words_left words.entry)
+        (Query.Overlay query)) }
+{
+    let overlay_rule = parse_overlay_rule(words.next()?)?;
+    let fill_rule = parse_fill_rule(words.next()?)?;
+    let output = parse_options(words)?;
+    Some(OverlayQuery {
+        overlay_rule,
+        fill_rule,
+        output,
+    })
+}

@@ -1,0 +1,82 @@
+//! What the whole input says.
+
+ghost use Rattle.std.specs.Prelude.{◌≡◌, MatchResult};
+ghost use Rattle.polyover_text.specs.Grammar.{words, input_lines, Asks};
+ghost use Rattle.polyover_text.specs.Statements.{contours_at};
+ghost use Rattle.polyover_text.specs.Inputs.{TakesLine, RefusesLine, IsNamedFault};
+ghost use Rattle.polyover_text.specs.declared.input.InputError.TheVariants.{Memory};
+
+use crate::contour::Contour;
+use crate::line_error::LineError;
+use crate::lines::Lines;
+use crate::query::Query;
+use crate::statement::{Statement, parse_statement};
+use std::alloc::{AllocError, Allocator};
+
+/// Contours, and what is asked for.
+#[derive(Drop)]
+pub struct Input<A: Allocator> {
+    /// The contours in the order of the input.
+    pub contours: Vec<Contour<A>, A>,
+    /// What is asked for.
+    pub query: Query,
+}
+
+/// Why an input was not read.
+#[derive(Debug, Clone, Copy, PartialEq, Eq)]
+pub enum InputError {
+    /// What the input says did not fit into memory.
+    Memory,
+    /// The first bad line, counted from 1.
+    BadLine(usize),
+}
+
+// What the lines so far say.
+#[derive(Drop)]
+struct Reading<A: Allocator> {
+    contours: Vec<Contour<A>, A>,
+    query: Option<Query>,
+}
+
+impl<A: Allocator + Copy> Reading<A> {
+    // Takes the next line. On `Err` the line is not taken.
+    fn take(&mut self, alloc: A, line: &[u8]) -> Result<(), LineError>
+        ensures { MatchResult result
+            (λ _. TakesLine (words line.now) self.old self.new)
+            (λ e. e ≡ LineError.Bad → RefusesLine (words line.now) self.old) }
+    {
+        match (parse_statement(alloc, line)?, self.query) {
+            (Statement::Blank, _) => {}
+            (Statement::Add(contour), None) => self.contours.push(contour)?,
+            (Statement::Run(query), None) => self.query = Some(query),
+            (_, Some(_)) => return Err(LineError::Bad),
+        }
+        Ok(())
+    }
+}
+
+/// The contours and the command of an input, or its first bad line.
+pub fn parse_input<A: Allocator + Copy>(alloc: A, text: &[u8]) -> Result<Input<A>, InputError>
+    ensures { MatchResult result
+        (λ c. Asks (input_lines text.now) (contours_at c.contours.items) c.query)
+        (λ e. IsNamedFault (input_lines text.now) e) }
+{
+    let mut reading = Reading {
+        contours: Vec::new(alloc),
+        query: None,
+    };
+    let mut number = 0;
+    for line in Lines::new(text) {
+        number += 1;
+        match reading.take(alloc, line) {
+            Ok(()) => {}
+            Err(LineError::Memory) => return Err(InputError::Memory),
+            Err(LineError::Bad) => return Err(InputError::BadLine(number)),
+        }
+    }
+    let Reading { contours, query } = reading;
+    match query {
+        Some(query) => Ok(Input { contours, query }),
+        None => Err(InputError::BadLine(number + 1)),
+    }
+}

@@ -1,0 +1,91 @@
+//! Options of an overlay in words.
+
+ghost use Rattle.std.specs.Prelude.{◌≡◌, true, false, MatchOption};
+ghost use Rattle.polyover_text.specs.declared.options.OutputOptions.{OutputOptions};
+ghost use Rattle.polyover_text.specs.Grammar.{AreOptionWords};
+ghost use Rattle.polyover_text.specs.Options.{SetsOption, default_output};
+ghost use Rattle.polyover_text.specs.Words.{words_left};
+
+use crate::words::Words;
+use overlay_arrange::options::ContourDirection;
+
+/// How the output of an overlay is to look.
+#[derive(Clone, Copy)]
+pub struct OutputOptions {
+    /// The direction of outlines; holes run the other way.
+    pub output_direction: ContourDirection,
+    /// Whether output points on one line with their two neighbours stay; otherwise they are dropped.
+    pub preserve_output_collinear: bool,
+}
+
+/// The options that the words name, in any order, each at most once. `None` where a word names no
+/// option, or one comes twice.
+pub fn parse_options(words: Words<'_>) -> Option<OutputOptions>
+    ensures { MatchOption result
+        ((options : OutputOptions) → ¬ (AreOptionWords (words_left words.entry) options))
+        (λ options. AreOptionWords (words_left words.entry) options) }
+{
+    let mut options = OutputOptions::new();
+    for word in words {
+        options = options.with(word)?;
+    }
+    Some(options)
+}
+
+impl OutputOptions {
+    // Outlines run counterclockwise, and points on one line are dropped.
+    fn new() -> OutputOptions
+        ensures { result ≡ default_output }
+    {
+        OutputOptions {
+            output_direction: ContourDirection::CounterClockwise,
+            preserve_output_collinear: false,
+        }
+    }
+
+    // The options with the one set that the word names. `None` where it names none, or one that is
+    // set.
+    fn with(self, word: &[u8]) -> Option<OutputOptions>
+        ensures { MatchOption result
+            ((new : OutputOptions) → ¬ (SetsOption self word.now new))
+            (λ new. SetsOption self word.now new) }
+    {
+        match word {
+            b"clockwise" => self.turned_clockwise(),
+            b"keep" => self.with_points_kept(),
+            _ => None,
+        }
+    }
+
+    // The options with outlines clockwise, where they are not so already.
+    fn turned_clockwise(self) -> Option<OutputOptions>
+        ensures { MatchOption result
+            (self.output_direction ≡ ContourDirection.Clockwise)
+            (λ new. (self.output_direction ≡ ContourDirection.CounterClockwise)
+            × (new ≡ record self { output_direction = ContourDirection.Clockwise })) }
+    {
+        match self.output_direction {
+            ContourDirection::CounterClockwise => Some(OutputOptions {
+                output_direction: ContourDirection::Clockwise,
+                ..self
+            }),
+            ContourDirection::Clockwise => None,
+        }
+    }
+
+    // The options with all output points kept, where they are not so already.
+    fn with_points_kept(self) -> Option<OutputOptions>
+        ensures { MatchOption result
+            (self.preserve_output_collinear ≡ true)
+            (λ new. (self.preserve_output_collinear ≡ false)
+            × (new ≡ record self { preserve_output_collinear = true })) }
+    {
+        if self.preserve_output_collinear {
+            return None;
+        }
+        Some(OutputOptions {
+            preserve_output_collinear: true,
+            ..self
+        })
+    }
+}

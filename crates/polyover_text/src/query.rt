@@ -1,0 +1,25 @@
+//! What an input asks for.
+
+use crate::options::OutputOptions;
+use overlay_arrange::fill_rule::FillRule;
+use overlay_arrange::overlay_rule::OverlayRule;
+
+/// What an input asks for.
+#[derive(Clone, Copy)]
+pub enum Query {
+    /// The edges of the contours' arrangement, with the sides that are filled under this rule.
+    Edges(FillRule),
+    /// The shapes of an overlay.
+    Overlay(OverlayQuery),
+}
+
+/// The rules of an overlay, and how its output is to look.
+#[derive(Clone, Copy)]
+pub struct OverlayQuery {
+    /// Which points the result takes, by which of the two shapes fill them.
+    pub overlay_rule: OverlayRule,
+    /// Which windings are filled.
+    pub fill_rule: FillRule,
+    /// How the output is to look.
+    pub output: OutputOptions,
+}

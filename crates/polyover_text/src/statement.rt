@@ -1,0 +1,56 @@
+//! What a line says.
+
+ghost use Rattle.std.specs.Prelude.{◌≡◌, ◌∷◌, MatchResult};
+ghost use Rattle.polyover_text.specs.Grammar.{words, shape_name};
+ghost use Rattle.polyover_text.specs.Statements.{Says, SaysNothing};
+ghost use Rattle.polyover_text.specs.Words.{words_left};
+
+use crate::command::parse_command;
+use crate::contour::Contour;
+use crate::line_error::LineError;
+use crate::points::parse_points;
+use crate::query::Query;
+use crate::words::Words;
+use overlay_arrange::options::ShapeType;
+use std::alloc::Allocator;
+
+/// What a line says.
+#[derive(Drop)]
+pub enum Statement<A: Allocator> {
+    /// Nothing: it has no word.
+    Blank,
+    /// A contour is added.
+    Add(Contour<A>),
+    /// The command: this is asked for.
+    Run(Query),
+}
+
+/// What a line says, if it is of the grammar.
+pub fn parse_statement<A: Allocator>(alloc: A, line: &[u8]) -> Result<Statement<A>, LineError>
+    ensures { MatchResult result
+        (λ s. Says (words line.now) s)
+        (λ e. e ≡ LineError.Bad → SaysNothing (words line.now)) }
+{
+    let mut words = Words::new(line);
+    match words.next() {
+        None => Ok(Statement::Blank),
+        Some(b"subject") => parse_contour(alloc, ShapeType::Subject, words),
+        Some(b"clip") => parse_contour(alloc, ShapeType::Clip, words),
+        Some(b"run") => Ok(Statement::Run(parse_command(words).ok_or(LineError::Bad)?)),
+        Some(_) => Err(LineError::Bad),
+    }
+}
+
+// The contour of a shape, after the word that names the shape.
+fn parse_contour<A: Allocator>(
+    alloc: A,
+    shape_type: ShapeType,
+    words: Words<'_>,
+) -> Result<Statement<A>, LineError>
+    ensures { MatchResult result
+        (λ s. Says (shape_name shape_type ∷ words_left words.entry) s)
+        (λ e. e ≡ LineError.Bad → SaysNothing (shape_name shape_type ∷ words_left words.entry)) }
+{
+    let points = parse_points(alloc, words)?;
+    Ok(Statement::Add(Contour { shape_type, points }))
+}
