@@ -20,6 +20,4 @@ mod select;
 pub mod single;
 pub mod solver;
 pub mod string;
-#[cfg(test)]
-mod test_contours;
 pub mod vector;

@@ -28,12 +28,6 @@ use std::marker::Model;
 
 mod adders;
 mod constructors;
-#[cfg(test)]
-mod tests;
-#[cfg(test)]
-mod tests_overlay;
-#[cfg(test)]
-mod tests_sources;
 
 pub use overlay_arrange::options::{ContourDirection, IntOverlayOptions, ShapeType};
 

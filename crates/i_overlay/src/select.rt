@@ -17,9 +17,6 @@ use overlay_geom::number::IntNumber;
 use overlay_walk::step::Step;
 use std::alloc::Allocator;
 
-#[cfg(test)]
-mod tests;
-
 /// Adds the selected steps of the edges, in their order. The only refusal is `Memory`, and then some
 /// of them may stand.
 pub(crate) fn push_selected<I: IntNumber, A: Allocator>(

@@ -15,9 +15,6 @@ use overlay_geom::path::IntShapes;
 use overlay_geom::resource::IntShapeResource;
 use std::alloc::Allocator;
 
-#[cfg(test)]
-mod tests;
-
 /// Boolean operations between two resources, each of its own type. Each path is a closed contour.
 pub trait SingleIntOverlay<I: OverlayInt>: IntShapeResource<I> {
     /// The shapes round the region where the overlay rule holds of what the subject, this resource,

@@ -1,36 +1,37 @@
 //! The builder where memory is refused: every request of a call in turn.
 
+use crate::builders::{add, check_edges, edges};
 use crate::refusing::Refusing;
-use crate::squares::{PLENTY, Refusable, square};
+use crate::squares::{PLENTY, Refusable, square, square_edges};
 use i_overlay::fill_rule::FillRule;
 use i_overlay::overlay::{IntOverlayOptions, ShapeType};
-use i_overlay::vector::edge::DataVectorEdge;
 use overlay_geom::error::OverlayError;
-use overlay_geom::point::in_range;
-use std::alloc::Allocator;
+use std::alloc::Global;
 use std::process::Abort;
 use std::test::Fail;
 
-// The edges of the square from 0 to 2 as ax, ay, bx, by, fill.
-const EDGES: [(i32, i32, i32, i32, u8); 4] = [
-    (0, 0, 0, 2, 2),
-    (0, 0, 2, 0, 1),
-    (0, 2, 2, 2, 2),
-    (2, 0, 2, 2, 1),
-];
-
-// Adds the square as a subject.
+// Adds the square from 0 to 2 as a subject.
 fn add_square(rt: &impl Abort, overlay: &mut Refusable<'_>) -> Result<(), OverlayError> {
-    let contour = square(0, 2);
-    assert!(rt; in_range(&contour));
-    overlay.add_contour(&contour, ShapeType::Subject)
+    add(rt, overlay, &square(0, 2), ShapeType::Subject)
 }
 
-// Whether these are the edges of the square.
-fn are_of_square<A: Allocator>(edges: &Vec<DataVectorEdge<i32, ()>, A>) -> bool {
-    edges.len() == EDGES.len()
-        && edges.iter().zip(EDGES.iter()).all(|(e, wanted)| (e.a.x, e.a.y, e.b.x, e.b.y, e.fill)
-            == *wanted)
+// Checks that the builder has the edges of this square.
+fn check_square(rt: &impl Abort, overlay: &mut Refusable<'_>) -> Result<(), OverlayError> {
+    check_edges(rt, overlay, FillRule::EvenOdd, &square_edges(0, 2))
+}
+
+// Adds the square while so many requests are granted, and answers whether that was enough.
+fn adds_square(
+    rt: &impl Abort,
+    memory: &Refusing<Global>,
+    overlay: &mut Refusable<'_>,
+    granted: u64,
+) -> bool {
+    memory.grant(granted);
+    let added = add_square(rt, overlay);
+    memory.grant(PLENTY);
+    assert!(rt; added == Ok(()) || added == Err(OverlayError::Memory));
+    added.is_ok()
 }
 
 #[test]
@@ -49,47 +50,91 @@ fn new_answers_a_builder_or_memory(rt: HostRuntime) {
     assert!(rt; false, "no builder was made");
 }
 
+// Adds the square to a new builder while so many requests are granted, and answers whether that was
+// enough. Where it was not, the square can be added later.
+fn adds_now_or_later(
+    rt: &impl Abort,
+    memory: &Refusing<Global>,
+    granted: u64,
+) -> Result<bool, OverlayError> {
+    let mut overlay = Refusable::new(memory, 0)?;
+    let is_added = adds_square(rt, memory, &mut overlay, granted);
+    if !is_added {
+        add_square(rt, &mut overlay)?;
+    }
+    check_square(rt, &mut overlay)?;
+    Ok(is_added)
+}
+
 #[test]
 fn a_refused_contour_can_be_added_later(rt: HostRuntime) -> Result<(), Fail> {
     let memory = Refusing::new(rt.alloc(), PLENTY);
     for granted in 0..PLENTY {
-        memory.grant(PLENTY);
-        let mut overlay = Refusable::new(&memory, 0)?;
-        memory.grant(granted);
-        let added = add_square(&rt, &mut overlay);
-        memory.grant(PLENTY);
-        if added == Ok(()) {
-            assert!(rt; are_of_square(&overlay.build_separate_vectors(FillRule::EvenOdd)?));
+        if adds_now_or_later(&rt, &memory, granted)? {
             assert!(rt; granted > 0);
             return Ok(());
         }
-        assert!(rt; added == Err(OverlayError::Memory));
-        add_square(&rt, &mut overlay)?;
-        assert!(rt; are_of_square(&overlay.build_separate_vectors(FillRule::EvenOdd)?));
     }
     assert!(rt; false, "no contour was added");
     Ok(())
+}
+
+// Adds the square a second time while so many requests are granted, and answers whether that was
+// enough. Where it was not, the edges that were there stay.
+fn adds_again_or_keeps(
+    rt: &impl Abort,
+    memory: &Refusing<Global>,
+    granted: u64,
+) -> Result<bool, OverlayError> {
+    let mut overlay = Refusable::new(memory, 0)?;
+    add_square(rt, &mut overlay)?;
+    let is_added = adds_square(rt, memory, &mut overlay, granted);
+    if !is_added {
+        check_square(rt, &mut overlay)?;
+    }
+    Ok(is_added)
 }
 
 #[test]
 fn a_refused_contour_leaves_the_edges_that_were_there(rt: HostRuntime) -> Result<(), Fail> {
     let memory = Refusing::new(rt.alloc(), PLENTY);
     for granted in 0..PLENTY {
-        memory.grant(PLENTY);
-        let mut overlay = Refusable::new(&memory, 0)?;
-        add_square(&rt, &mut overlay)?;
-        memory.grant(granted);
-        let added = add_square(&rt, &mut overlay);
-        memory.grant(PLENTY);
-        if added == Ok(()) {
+        if adds_again_or_keeps(&rt, &memory, granted)? {
             assert!(rt; granted > 0);
             return Ok(());
         }
-        assert!(rt; added == Err(OverlayError::Memory));
-        assert!(rt; are_of_square(&overlay.build_separate_vectors(FillRule::EvenOdd)?));
     }
     assert!(rt; false, "no second contour was added");
     Ok(())
+}
+
+// Checks that the builder has failed.
+fn check_failed(rt: &impl Abort, overlay: &mut Refusable<'_>) {
+    assert!(rt; add_square(rt, overlay) == Err(OverlayError::Failed));
+    assert!(rt; edges(overlay, FillRule::EvenOdd) == Err(OverlayError::Failed));
+}
+
+// Asks for the edges of the square while so many requests are granted, and answers whether that was
+// enough. Where it was not, the builder has failed.
+fn answers_or_fails(
+    rt: &impl Abort,
+    memory: &Refusing<Global>,
+    overlay: &mut Refusable<'_>,
+    granted: u64,
+) -> Result<bool, OverlayError> {
+    add_square(rt, overlay)?;
+    memory.grant(granted);
+    let built = edges(overlay, FillRule::EvenOdd);
+    if let Ok(edges) = built {
+        assert!(rt; &edges[..] == &square_edges(0, 2)[..]);
+        return Ok(true);
+    }
+    assert!(rt; built == Err(OverlayError::Memory));
+    memory.grant(0);
+    check_failed(rt, overlay);
+    memory.grant(PLENTY);
+    check_failed(rt, overlay);
+    Ok(false)
 }
 
 #[test]
@@ -97,22 +142,10 @@ fn a_refused_query_fails_the_builder_until_it_is_cleared(rt: HostRuntime) -> Res
     let memory = Refusing::new(rt.alloc(), PLENTY);
     let mut overlay = Refusable::new(&memory, 0)?;
     for granted in 0..PLENTY {
-        memory.grant(PLENTY);
-        add_square(&rt, &mut overlay)?;
-        memory.grant(granted);
-        let built = overlay.build_separate_vectors(FillRule::EvenOdd);
-        if let Ok(edges) = built {
-            assert!(rt; are_of_square(&edges));
+        if answers_or_fails(&rt, &memory, &mut overlay, granted)? {
             assert!(rt; granted > 0);
             return Ok(());
         }
-        assert!(rt; built == Err(OverlayError::Memory));
-        memory.grant(0);
-        assert!(rt; add_square(&rt, &mut overlay) == Err(OverlayError::Failed));
-        assert!(rt; overlay.build_separate_vectors(FillRule::EvenOdd) == Err(OverlayError::Failed));
-        memory.grant(PLENTY);
-        assert!(rt; add_square(&rt, &mut overlay) == Err(OverlayError::Failed));
-        assert!(rt; overlay.build_separate_vectors(FillRule::EvenOdd) == Err(OverlayError::Failed));
         overlay.clear();
         assert_eq!(rt; memory.left(), PLENTY);
     }

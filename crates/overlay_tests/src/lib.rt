@@ -1,11 +1,33 @@
-//! What the tests of the overlay crates share, and the tests that cross crates.
+//! What the tests of the overlay crates share, and the tests of the builder and its queries.
 #![tactic(auto)]
 
 #[cfg(test)]
 mod builder;
 #[cfg(test)]
+mod builders;
+#[cfg(test)]
+mod contours;
+#[cfg(test)]
+mod edges;
+#[cfg(test)]
+mod failed;
+#[cfg(test)]
+mod names;
+#[cfg(test)]
+mod one_call;
+#[cfg(test)]
 mod overlays;
+#[cfg(test)]
+mod paths;
 pub mod refusing;
+#[cfg(test)]
+mod rows;
+#[cfg(test)]
+mod selected;
+#[cfg(test)]
+mod settings;
+#[cfg(test)]
+mod shapes;
 #[cfg(test)]
 mod sources;
 #[cfg(test)]

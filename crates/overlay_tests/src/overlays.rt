@@ -1,7 +1,8 @@
 //! Overlays where memory is refused: every request of a call in turn.
 
-ghost use Rattle.std.specs.Prelude.{◌≡◌};
+ghost use Rattle.std.specs.Prelude.{◌≡◌, false};
 
+use crate::builders::add;
 use crate::refusing::Refusing;
 use crate::squares::{PLENTY, Refusable, square};
 use i_overlay::fill_rule::FillRule;
@@ -9,8 +10,7 @@ use i_overlay::overlay::ShapeType;
 use i_overlay::overlay_rule::OverlayRule;
 use overlay_geom::error::OverlayError;
 use overlay_geom::path::IntShapes;
-use overlay_geom::point::in_range;
-use std::alloc::Allocator;
+use std::alloc::{Allocator, Global};
 use std::process::Abort;
 use std::test::Fail;
 
@@ -18,62 +18,74 @@ use std::test::Fail;
 fn add_squares(rt: &impl Abort, overlay: &mut Refusable<'_>) -> Result<(), OverlayError>
     ensures { overlay.new.options ≡ overlay.old.options }
 {
-    let subj = square(0, 4);
-    assert!(rt; in_range(&subj));
-    overlay.add_contour(&subj, ShapeType::Subject)?;
-    let clip = square(2, 6);
-    assert!(rt; in_range(&clip));
-    overlay.add_contour(&clip, ShapeType::Clip)
+    add(rt, overlay, &square(0, 4), ShapeType::Subject)?;
+    add(rt, overlay, &square(2, 6), ShapeType::Clip)
 }
 
 // Whether the one contour is the corner that both squares fill.
 fn are_the_corner<A: Allocator>(shapes: &IntShapes<i32, A>) -> bool {
-    let corner = [(2, 4), (2, 2), (4, 2), (4, 4)];
+    let [a, b, c, d] = square(2, 4);
     match &shapes[..] {
         [shape] => match &shape[..] {
-            [contour] => {
-                contour.len() == corner.len()
-                    && contour
-                        .iter()
-                        .zip(corner.iter())
-                        .all(|(p, wanted)| (p.x, p.y) == *wanted)
-            }
+            [contour] => &contour[..] == &[d, a, b, c][..],
             _ => false,
         },
         _ => false,
     }
 }
 
-// Whether a call was refused so.
-fn is_refused<T>(answer: &Result<T, OverlayError>, error: OverlayError) -> bool {
-    match answer {
-        Ok(_) => false,
-        Err(e) => *e == error,
+// What both squares fill: whether it is answered as it is to be, or the refusal.
+fn answers_the_corner<'a>(overlay: &mut Refusable<'a>) -> Result<bool, OverlayError>
+    requires no_ogc { overlay.old.options.ogc ≡ false }
+    requires all_areas { overlay.old.options.min_output_area ≡ 0 }
+    ensures { overlay.new.options ≡ overlay.old.options }
+{
+    let shapes = overlay.overlay(OverlayRule::Intersect, FillRule::EvenOdd)?;
+    Ok(are_the_corner(&shapes))
+}
+
+// Checks that the builder has failed, and answers again once it is cleared.
+fn check_failed(rt: &impl Abort, overlay: &mut Refusable<'_>) -> Result<(), OverlayError>
+    requires no_ogc { overlay.old.options.ogc ≡ false }
+    requires all_areas { overlay.old.options.min_output_area ≡ 0 }
+{
+    assert!(rt; answers_the_corner(overlay) == Err(OverlayError::Failed));
+    assert!(rt; add_squares(rt, overlay) == Err(OverlayError::Failed));
+    overlay.clear();
+    add_squares(rt, overlay)?;
+    assert!(rt; answers_the_corner(overlay)?);
+    Ok(())
+}
+
+// Asks a new builder for the corner while so many requests are granted, and answers whether that was
+// enough. Where it was not, the builder has failed.
+fn answers_or_fails(
+    rt: &impl Abort,
+    memory: &Refusing<Global>,
+    granted: u64,
+) -> Result<bool, OverlayError> {
+    let mut overlay = Refusable::new(memory, 0)?;
+    add_squares(rt, &mut overlay)?;
+    memory.grant(granted);
+    let answer = answers_the_corner(&mut overlay);
+    memory.grant(PLENTY);
+    if answer.is_err() {
+        assert!(rt; answer == Err(OverlayError::Memory));
+        check_failed(rt, &mut overlay)?;
+        return Ok(false);
     }
+    assert!(rt; answer == Ok(true));
+    Ok(true)
 }
 
 #[test]
 fn a_refused_overlay_fails_the_builder_until_it_is_cleared(rt: HostRuntime) -> Result<(), Fail> {
     let memory = Refusing::new(rt.alloc(), PLENTY);
-    let (rule, fill) = (OverlayRule::Intersect, FillRule::EvenOdd);
     for granted in 0..PLENTY {
-        memory.grant(PLENTY);
-        let mut overlay = Refusable::new(&memory, 0)?;
-        add_squares(&rt, &mut overlay)?;
-        memory.grant(granted);
-        let answer = overlay.overlay(rule, fill);
-        memory.grant(PLENTY);
-        if let Ok(shapes) = &answer {
-            assert!(rt; are_the_corner(shapes));
+        if answers_or_fails(&rt, &memory, granted)? {
             assert!(rt; granted > 0);
             return Ok(());
         }
-        assert!(rt; is_refused(&answer, OverlayError::Memory));
-        assert!(rt; is_refused(&overlay.overlay(rule, fill), OverlayError::Failed));
-        assert!(rt; add_squares(&rt, &mut overlay) == Err(OverlayError::Failed));
-        overlay.clear();
-        add_squares(&rt, &mut overlay)?;
-        assert!(rt; are_the_corner(&overlay.overlay(rule, fill)?));
     }
     assert!(rt; false, "no overlay was answered");
     Ok(())

@@ -1,7 +1,9 @@
 //! Builders whose memory may be refused, and squares to add to them.
 
+use crate::builders::edge;
 use crate::refusing::Refusing;
 use i_overlay::overlay::Overlay;
+use i_overlay::vector::edge::DataVectorEdge;
 use overlay_geom::point::IntPoint;
 use std::alloc::Global;
 
@@ -11,12 +13,23 @@ pub const PLENTY: u64 = 1000;
 /// A builder whose memory may be refused.
 pub type Refusable<'a> = Overlay<i32, &'a Refusing<Global>>;
 
+// A point by its coordinates.
+fn corner<I>(x: I, y: I) -> IntPoint<I> {
+    IntPoint { x, y }
+}
+
 /// The square between two coordinates, counterclockwise.
-pub fn square(low: i32, high: i32) -> [IntPoint<i32>; 4] {
+pub fn square<I: Copy>(low: I, high: I) -> [IntPoint<I>; 4] {
     [
-        IntPoint::new(low, low),
-        IntPoint::new(high, low),
-        IntPoint::new(high, high),
-        IntPoint::new(low, high),
+        corner(low, low),
+        corner(high, low),
+        corner(high, high),
+        corner(low, high),
     ]
+}
+
+/// The edges of this square with their fills, where it is added as a subject.
+pub fn square_edges<I: Copy>(low: I, high: I) -> [DataVectorEdge<I, ()>; 4] {
+    let [a, b, c, d] = square(low, high);
+    [edge(a, d, 2), edge(a, b, 1), edge(d, c, 2), edge(b, c, 1)]
 }

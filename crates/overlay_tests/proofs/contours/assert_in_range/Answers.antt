@@ -4,7 +4,7 @@ use Rattle.std.proofs.lemmas.List.{take_all}
 use Rattle.std.specs.Prelude.{All}
 use Rattle.overlay_geom.specs.Points.{plain_points, AllInRange}
 use Rattle.overlay_geom.proofs.ReadInOrder.{All-take_read}
-use Rattle.i_overlay.proofs.test_contours.assert_in_range.Goals as goal
+use Rattle.overlay_tests.proofs.contours.assert_in_range.Goals as goal
 
 pub loop-index-preserved : goal.loop-index-preserved
 loop-index-preserved g c =

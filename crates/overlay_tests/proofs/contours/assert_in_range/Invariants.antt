@@ -2,7 +2,7 @@
 use Rattle.std.proofs.Common.{take}
 use Rattle.std.specs.Prelude.{All}
 use Rattle.overlay_geom.specs.Points.{AllInRange}
-use Rattle.i_overlay.proofs.test_contours.assert_in_range.Given as goal
+use Rattle.overlay_tests.proofs.contours.assert_in_range.Given as goal
 
 abbrev pub invariant-loop-index : goal.invariant-loop-index
 invariant-loop-index g l = All (AllInRange g.I.IntNumber.limit) (take l.index (g.R0.IntShapeResource.paths l.resource))

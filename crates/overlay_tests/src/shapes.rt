@@ -1,101 +1,10 @@
 //! The shapes of overlays, at each coordinate type.
 
-ghost use Rattle.std.specs.Prelude.{◌≡◌, false, IfOk};
-
-use super::*;
-use crate::test_contours::{Points, add_contours, shapes_of};
-use std::alloc::Global;
-use std::process::Abort;
+use crate::contours::Points;
+use crate::rows::{Row, check, check_clockwise, check_kept};
+use i_overlay::fill_rule::FillRule;
+use i_overlay::overlay_rule::OverlayRule;
 use std::test::Fail;
-
-// What is asked of an overlay, and the shapes that it is to give.
-#[derive(Drop)]
-struct Row<'a> {
-    subj: &'a [Points<'a>],
-    clip: &'a [Points<'a>],
-    rule: OverlayRule,
-    fill: FillRule,
-    wanted: &'a [&'a [Points<'a>]],
-}
-
-// A builder with the row's contours.
-fn builder_of<I: OverlayInt + From<i16>>(
-    rt: &impl Abort,
-    alloc: Global,
-    row: &Row<'_>,
-    options: IntOverlayOptions<I::WideUInt>,
-) -> Result<Overlay<I, Global>, OverlayError>
-    ensures { IfOk result (λ o. o.options ≡ options) }
-{
-    let mut overlay = Overlay::new_custom(alloc, 0, options, Solver::ABSOLUTE)?;
-    add_contours(rt, alloc, &mut overlay, row.subj, ShapeType::Subject)?;
-    add_contours(rt, alloc, &mut overlay, row.clip, ShapeType::Clip)?;
-    Ok(overlay)
-}
-
-// Whether the builder answers the row's shapes.
-fn answers<I: OverlayInt + PartialEq + From<i16>>(
-    alloc: Global,
-    overlay: &mut Overlay<I, Global>,
-    row: &Row<'_>,
-) -> Result<bool, OverlayError>
-    requires no_ogc { overlay.old.options.ogc ≡ false }
-    requires all_areas { I.WideUInt.natural overlay.old.options.min_output_area ≡ 0 }
-    ensures { overlay.new.options ≡ overlay.old.options }
-{
-    let shapes = overlay.overlay(row.rule, row.fill)?;
-    Ok(shapes == shapes_of(alloc, row.wanted)?)
-}
-
-// Whether a builder with the row's contours answers its shapes, and answers them again.
-fn holds<I: OverlayInt + PartialEq + From<i16>>(
-    rt: &impl Abort,
-    alloc: Global,
-    row: &Row<'_>,
-    options: IntOverlayOptions<I::WideUInt>,
-) -> Result<bool, OverlayError>
-    requires no_ogc { options.ogc ≡ false }
-    requires all_areas { I.WideUInt.natural options.min_output_area ≡ 0 }
-{
-    let mut overlay = builder_of(rt, alloc, row, options)?;
-    let first = answers::<I>(alloc, &mut overlay, row)?;
-    let again = answers::<I>(alloc, &mut overlay, row)?;
-    Ok(first && again)
-}
-
-// Checks the row with the default options.
-fn check<I: OverlayInt + PartialEq + From<i16>>(
-    rt: &impl Abort,
-    alloc: Global,
-    row: &Row<'_>,
-) -> Result<(), Fail> {
-    assert!(rt; holds::<I>(rt, alloc, row, IntOverlayOptions::default())?);
-    Ok(())
-}
-
-// Checks the row with clockwise output.
-fn check_clockwise<I: OverlayInt + PartialEq + From<i16>>(
-    rt: &impl Abort,
-    alloc: Global,
-    row: &Row<'_>,
-) -> Result<(), Fail> {
-    let clockwise = IntOverlayOptions {
-        output_direction: ContourDirection::Clockwise,
-        ..IntOverlayOptions::default()
-    };
-    assert!(rt; holds::<I>(rt, alloc, row, clockwise)?);
-    Ok(())
-}
-
-// Checks the row where points on one line stay.
-fn check_kept<I: OverlayInt + PartialEq + From<i16>>(
-    rt: &impl Abort,
-    alloc: Global,
-    row: &Row<'_>,
-) -> Result<(), Fail> {
-    assert!(rt; holds::<I>(rt, alloc, row, IntOverlayOptions::keep_all_points())?);
-    Ok(())
-}
 
 // Two squares that overlap in a corner.
 const LOWER_SQUARE: &[Points<'static>] = &[&[(0, 0), (4, 0), (4, 4), (0, 4)]];

@@ -5,7 +5,7 @@ use Rattle.std.specs.Prelude.{Option, None}
 use Rattle.std.specs.Iterator.{Drains}
 use Rattle.overlay_geom.specs.declared.point.IntPoint.{IntPoint}
 use Rattle.overlay_geom.specs.Points.{plain_points, AllInRange}
-use Rattle.i_overlay.proofs.overlay.tests.add_no_points.Goals as goal
+use Rattle.overlay_tests.proofs.failed.add_no_points.Goals as goal
 
 none_in_range : {S I : Type 0} (whole : I → ℤ) (limit : ℕ) (s : S) (ps : List (IntPoint I)) →
     Drains (λ (_ : S) (point : Option (IntPoint I)) (_ : S). point ≡ None) s ps → AllInRange limit (plain_points whole ps)

@@ -3,9 +3,8 @@
 ghost use Rattle.std.specs.Prelude.{◌≡◌, All};
 ghost use Rattle.overlay_geom.specs.Points.{AllInRange};
 
-use crate::overlay::{Overlay, ShapeType};
-use overlay_arrange::fill_rule::FillRule;
-use overlay_arrange::vector::DataVectorEdge;
+use crate::builders::{add, empty};
+use i_overlay::overlay::{Overlay, ShapeType};
 use overlay_geom::error::OverlayError;
 use overlay_geom::integer::OverlayInt;
 use overlay_geom::path::{IntContour, IntShape, IntShapes};
@@ -15,10 +14,16 @@ use std::alloc::Global;
 use std::process::Abort;
 
 /// Points by their coordinates, small enough for each coordinate type.
-pub(crate) type Points<'a> = &'a [(i16, i16)];
+pub type Points<'a> = &'a [(i16, i16)];
+
+/// A square, counterclockwise.
+pub const SQUARE: Points<'static> = &[(0, 0), (2, 0), (2, 2), (0, 2)];
+
+/// The fills of its edges where it is added as a subject.
+pub const OF_SQUARE: [u8; 4] = [2, 1, 2, 1];
 
 /// The contour with these points.
-pub(crate) fn contour_of<I: OverlayInt + From<i16>>(
+pub fn contour_of<I: OverlayInt + From<i16>>(
     alloc: Global,
     points: Points<'_>,
 ) -> Result<IntContour<I, Global>, OverlayError> {
@@ -38,7 +43,7 @@ fn point_of<I: OverlayInt + From<i16>>(point: (i16, i16)) -> IntPoint<I> {
 }
 
 /// The shape with these contours.
-pub(crate) fn shape_of<I: OverlayInt + From<i16>>(
+pub fn shape_of<I: OverlayInt + From<i16>>(
     alloc: Global,
     contours: &[Points<'_>],
 ) -> Result<IntShape<I, Global>, OverlayError> {
@@ -50,7 +55,7 @@ pub(crate) fn shape_of<I: OverlayInt + From<i16>>(
 }
 
 /// These shapes.
-pub(crate) fn shapes_of<I: OverlayInt + From<i16>>(
+pub fn shapes_of<I: OverlayInt + From<i16>>(
     alloc: Global,
     shapes: &[&[Points<'_>]],
 ) -> Result<IntShapes<I, Global>, OverlayError> {
@@ -62,10 +67,7 @@ pub(crate) fn shapes_of<I: OverlayInt + From<i16>>(
 }
 
 /// Stops the test where a path is out of range.
-pub(crate) fn assert_in_range<I: OverlayInt, R0: IntShapeResource<I>>(
-    rt: &impl Abort,
-    resource: &R0,
-)
+pub fn assert_in_range<I: OverlayInt, R0: IntShapeResource<I>>(rt: &impl Abort, resource: &R0)
     ensures { All (AllInRange I.limit) (R0.paths resource.now) }
 {
     for index in 0..resource.path_count() {
@@ -73,21 +75,8 @@ pub(crate) fn assert_in_range<I: OverlayInt, R0: IntShapeResource<I>>(
     }
 }
 
-/// Adds a contour that is in range.
-pub(crate) fn add<I: OverlayInt>(
-    rt: &impl Abort,
-    overlay: &mut Overlay<I, Global>,
-    contour: &[IntPoint<I>],
-    shape_type: ShapeType,
-) -> Result<(), OverlayError>
-    ensures { overlay.new.options ≡ overlay.old.options }
-{
-    assert!(rt; in_range(contour));
-    overlay.add_contour(contour, shape_type)
-}
-
 /// Adds contours that are in range, one by one.
-pub(crate) fn add_contours<I: OverlayInt + From<i16>>(
+pub fn add_contours<I: OverlayInt + From<i16>>(
     rt: &impl Abort,
     alloc: Global,
     overlay: &mut Overlay<I, Global>,
@@ -102,27 +91,14 @@ pub(crate) fn add_contours<I: OverlayInt + From<i16>>(
     Ok(())
 }
 
-/// Checks the fills of the builder's edges, in order.
-pub(crate) fn check_fills<I: OverlayInt>(
+/// A builder with these contours.
+pub fn builder_of(
     rt: &impl Abort,
-    overlay: &mut Overlay<I, Global>,
-    rule: FillRule,
-    fills: &[u8],
-) -> Result<(), OverlayError> {
-    let edges = overlay.build_separate_vectors(rule)?;
-    assert!(rt; have_fills(&edges, fills));
-    Ok(())
-}
-
-// Whether the edges have these fills, in order.
-fn have_fills<I>(edges: &Vec<DataVectorEdge<I, ()>>, fills: &[u8]) -> bool {
-    if edges.len() != fills.len() {
-        return false;
-    }
-    for (edge, fill) in edges.iter().zip(fills) {
-        if edge.fill != *fill {
-            return false;
-        }
-    }
-    true
+    alloc: Global,
+    contours: &[Points<'_>],
+    shape_type: ShapeType,
+) -> Result<Overlay<i32, Global>, OverlayError> {
+    let mut overlay = empty(alloc)?;
+    add_contours(rt, alloc, &mut overlay, contours, shape_type)?;
+    Ok(overlay)
 }

@@ -1,0 +1,69 @@
+//! A builder that refused a query, and what it answers until it is cleared.
+
+ghost use Rattle.std.specs.Prelude.{◌≡◌, None};
+ghost use Rattle.std.specs.Iterator.{at_most};
+
+use crate::builders::{add, check_fills, edges};
+use crate::contours::{OF_SQUARE, Points, SQUARE, builder_of, contour_of};
+use i_overlay::fill_rule::FillRule;
+use i_overlay::i_float::int::point::IntPoint;
+use i_overlay::overlay::{Overlay, ShapeType};
+use overlay_geom::error::OverlayError;
+use std::alloc::Global;
+use std::cell::Cell;
+use std::test::Fail;
+
+// Contours whose edges cross near so many whole points that splitting them does not settle.
+const NEEDLES: &[Points<'static>] = &[&[(2, 0), (0, 66), (2, -66)], &[(1, 0), (0, 67), (-1, 0)]];
+
+#[test]
+fn a_builder_that_did_not_settle_fails_until_it_is_cleared(rt: HostRuntime) -> Result<(), Fail> {
+    let mut overlay = builder_of(&rt, rt.alloc(), NEEDLES, ShapeType::Subject)?;
+    let contour = contour_of(rt.alloc(), SQUARE)?;
+    assert!(rt; edges(&mut overlay, FillRule::NonZero) == Err(OverlayError::NotSettled));
+    assert!(rt; edges(&mut overlay, FillRule::NonZero) == Err(OverlayError::Failed));
+    assert!(rt; add(&rt, &mut overlay, &contour, ShapeType::Subject) == Err(OverlayError::Failed));
+    overlay.clear();
+    add(&rt, &mut overlay, &contour, ShapeType::Subject)?;
+    check_fills(&rt, &mut overlay, FillRule::NonZero, &OF_SQUARE)?;
+    Ok(())
+}
+
+// An iterator without points that shows whether it was asked for one.
+#[derive(Drop)]
+struct NoPoints<'a> {
+    is_asked: &'a Cell<bool>,
+}
+
+impl<'a> Iterator for NoPoints<'a> {
+    type Item = IntPoint<i32>;
+
+    ghost next_gives = { λ _ point _. point ≡ None };
+
+    ghost remaining = { λ _. at_most 0 };
+
+    fn next(&mut self) -> Option<IntPoint<i32>> {
+        self.is_asked.set(true);
+        None
+    }
+}
+
+// Adds such an iterator, and answers whether it was asked, too.
+fn add_no_points(overlay: &mut Overlay<i32, Global>) -> (Result<(), OverlayError>, bool) {
+    let is_asked = Cell::new(false);
+    let points = NoPoints {
+        is_asked: &is_asked,
+    };
+    let added = overlay.add_path_iter(points, ShapeType::Clip);
+    (added, is_asked.get())
+}
+
+#[test]
+fn a_failed_builder_does_not_ask_for_points(rt: HostRuntime) -> Result<(), Fail> {
+    let mut overlay = builder_of(&rt, rt.alloc(), NEEDLES, ShapeType::Subject)?;
+    assert!(rt; edges(&mut overlay, FillRule::NonZero).is_err());
+    assert!(rt; add_no_points(&mut overlay) == (Err(OverlayError::Failed), false));
+    overlay.clear();
+    assert!(rt; add_no_points(&mut overlay) == (Ok(()), true));
+    Ok(())
+}

@@ -1,0 +1,122 @@
+//! What is asked of overlays and what they are to answer, row by row.
+
+ghost use Rattle.std.specs.Prelude.{◌≡◌, false, IfOk};
+
+use crate::builders::check_fills;
+use crate::contours::{Points, add_contours, shapes_of};
+use i_overlay::fill_rule::FillRule;
+use i_overlay::overlay::{ContourDirection, IntOverlayOptions, Overlay, ShapeType};
+use i_overlay::overlay_rule::OverlayRule;
+use i_overlay::solver::Solver;
+use overlay_geom::error::OverlayError;
+use overlay_geom::integer::OverlayInt;
+use std::alloc::Global;
+use std::process::Abort;
+use std::test::Fail;
+
+/// What is asked of an overlay, and the shapes that it is to give.
+#[derive(Drop)]
+pub struct Row<'a> {
+    /// The contours of the subject.
+    pub subj: &'a [Points<'a>],
+    /// The contours of the clip.
+    pub clip: &'a [Points<'a>],
+    /// The overlay rule.
+    pub rule: OverlayRule,
+    /// The fill rule.
+    pub fill: FillRule,
+    /// The shapes that the answer has.
+    pub wanted: &'a [&'a [Points<'a>]],
+}
+
+// A builder with the row's contours.
+fn builder_of<I: OverlayInt + From<i16>>(
+    rt: &impl Abort,
+    alloc: Global,
+    row: &Row<'_>,
+    options: IntOverlayOptions<I::WideUInt>,
+) -> Result<Overlay<I, Global>, OverlayError>
+    ensures { IfOk result (λ o. o.options ≡ options) }
+{
+    let mut overlay = Overlay::new_custom(alloc, 0, options, Solver::ABSOLUTE)?;
+    add_contours(rt, alloc, &mut overlay, row.subj, ShapeType::Subject)?;
+    add_contours(rt, alloc, &mut overlay, row.clip, ShapeType::Clip)?;
+    Ok(overlay)
+}
+
+// Whether the builder answers the row's shapes.
+fn answers<I: OverlayInt + PartialEq + From<i16>>(
+    alloc: Global,
+    overlay: &mut Overlay<I, Global>,
+    row: &Row<'_>,
+) -> Result<bool, OverlayError>
+    requires no_ogc { overlay.old.options.ogc ≡ false }
+    requires all_areas { I.WideUInt.natural overlay.old.options.min_output_area ≡ 0 }
+    ensures { overlay.new.options ≡ overlay.old.options }
+{
+    let wanted = shapes_of(alloc, row.wanted)?;
+    let shapes = overlay.overlay(row.rule, row.fill)?;
+    Ok(shapes == wanted)
+}
+
+// Whether a builder with the row's contours answers its shapes, and answers them again.
+fn holds<I: OverlayInt + PartialEq + From<i16>>(
+    rt: &impl Abort,
+    alloc: Global,
+    row: &Row<'_>,
+    options: IntOverlayOptions<I::WideUInt>,
+) -> Result<bool, OverlayError>
+    requires no_ogc { options.ogc ≡ false }
+    requires all_areas { I.WideUInt.natural options.min_output_area ≡ 0 }
+{
+    let mut overlay = builder_of(rt, alloc, row, options)?;
+    let first = answers::<I>(alloc, &mut overlay, row)?;
+    let again = answers::<I>(alloc, &mut overlay, row)?;
+    Ok(first && again)
+}
+
+/// Checks the row with the default options.
+pub fn check<I: OverlayInt + PartialEq + From<i16>>(
+    rt: &impl Abort,
+    alloc: Global,
+    row: &Row<'_>,
+) -> Result<(), Fail> {
+    assert!(rt; holds::<I>(rt, alloc, row, IntOverlayOptions::default())?);
+    Ok(())
+}
+
+/// Checks the row with clockwise output.
+pub fn check_clockwise<I: OverlayInt + PartialEq + From<i16>>(
+    rt: &impl Abort,
+    alloc: Global,
+    row: &Row<'_>,
+) -> Result<(), Fail> {
+    let clockwise = IntOverlayOptions {
+        output_direction: ContourDirection::Clockwise,
+        ..IntOverlayOptions::default()
+    };
+    assert!(rt; holds::<I>(rt, alloc, row, clockwise)?);
+    Ok(())
+}
+
+/// Checks the row where points on one line stay.
+pub fn check_kept<I: OverlayInt + PartialEq + From<i16>>(
+    rt: &impl Abort,
+    alloc: Global,
+    row: &Row<'_>,
+) -> Result<(), Fail> {
+    assert!(rt; holds::<I>(rt, alloc, row, IntOverlayOptions::keep_all_points())?);
+    Ok(())
+}
+
+/// Checks the fills of the edges of the row's contours.
+pub fn check_edges<I: OverlayInt + From<i16>>(
+    rt: &impl Abort,
+    alloc: Global,
+    row: &Row<'_>,
+    fills: &[u8],
+) -> Result<(), Fail> {
+    let mut overlay = builder_of::<I>(rt, alloc, row, IntOverlayOptions::default())?;
+    check_fills(rt, &mut overlay, row.fill, fills)?;
+    Ok(())
+}
