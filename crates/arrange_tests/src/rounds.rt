@@ -39,7 +39,7 @@ fn a_crossing_needs_one_round(rt: HostRuntime) -> Result<(), Fail> {
     let mut content = with_subject(&rt, rt.alloc(), &bow_tie(0i32, 10))?;
     assert_eq!(rt; content.split(0, &mut ()), Err(OverlayError::NotSettled));
     let mut content = with_subject(&rt, rt.alloc(), &bow_tie(0i32, 10))?;
-    content.split(1, &mut ())?;
+    assert_eq!(rt; content.split(1, &mut ()), Ok(true));
     let wanted = [
         edge(0, 0, 0, 10, -1),
         edge(0, 0, 5, 5, 1),
@@ -49,7 +49,7 @@ fn a_crossing_needs_one_round(rt: HostRuntime) -> Result<(), Fail> {
         edge(10, 0, 10, 10, -1),
     ];
     assert_eq!(rt; content.edges(), &wanted[..]);
-    content.split(0, &mut ())?;
+    assert_eq!(rt; content.split(0, &mut ()), Ok(false));
     assert_eq!(rt; content.edges(), &wanted[..]);
     Ok(())
 }

@@ -1,6 +1,6 @@
 //! The overlay builder: contours are added, and queries are answered.
 
-ghost use Rattle.std.specs.Prelude.{◌≡◌, true, false, if◌then◌else◌, [], map, Some};
+ghost use Rattle.std.specs.Prelude.{◌≡◌, ◌↔◌, true, false, if◌then◌else◌, [], map, Some};
 ghost use Rattle.std.specs.Prelude.{Ok, Err, IfOk, OnOk, OnErr, IsOkUnless};
 ghost use Rattle.overlay_arrange.specs.Arranged.{IsArranged};
 ghost use Rattle.overlay_arrange.specs.Content.{IsAscending, IsContent};
@@ -8,6 +8,7 @@ ghost use Rattle.overlay_arrange.specs.Vectors.{plain_vector, vector_of};
 ghost use Rattle.overlay_geom.specs.Merged.{HaveSameWindings};
 ghost use Rattle.overlay_geom.specs.Paths.{plain_shapes};
 ghost use Rattle.overlay_geom.specs.Settled.{IsSettled};
+ghost use Rattle.overlay_plane.specs.Arrangements.{IsReachedBy};
 ghost use Rattle.overlay_plane.specs.Meetings.{MeetInWholePoints};
 ghost use Rattle.i_overlay.specs.Overlay.{asked, IsResult};
 ghost use Rattle.i_overlay.specs.Refusals.{RefusesAsQuery};
@@ -141,11 +142,13 @@ impl<I: OverlayInt, A: Allocator + Clone> Overlay<I, A> {
         shapes
     }
 
-    // Brings the edges into an arrangement. A refusal leaves the builder failed.
-    fn arrange(&mut self) -> Result<(), OverlayError>
+    // Brings the edges into an arrangement, and returns whether some were cut. A refusal leaves the
+    // builder failed.
+    fn arrange(&mut self) -> Result<bool, OverlayError>
         ensures arranged { OnOk result (IsArranged 64 self.old.edges self.new.edges) }
         ensures content { OnOk result (IsContent I.limit self.new.edges) }
         ensures ok { OnOk result (self.new ≡ record self.old { edges = self.new.edges }) }
+        ensures cut { IfOk result (λ is_cut. (is_cut ≡ false) ↔ IsReachedBy [] self.old.edges self.new.edges) }
         ensures usable { OnOk result (self.old.failed ≡ false) }
         ensures err { OnErr result (self.new ≡ record self.old { edges = self.new.edges; failed = true }) }
         ensures refusals { RefusesAsQuery self.old self.new result }

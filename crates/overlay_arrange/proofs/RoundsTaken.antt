@@ -1,9 +1,10 @@
 -- One round more: a list that is merged, cut, and then split, was split with one round more.
-use Rattle.std.proofs.Common.{◌≡◌, ℕ, ◌+◌, ◌≤◌, List, [], ◌∷◌, sym, subst, arith}
-use Rattle.std.specs.Prelude.{Result, Ok, Err, OnOk}
+use Rattle.std.proofs.Common.{◌≡◌, ◌↔◌, ℕ, ◌+◌, ◌≤◌, true, false, List, [], ◌∷◌, refl, sym, subst, arith}
+use Rattle.std.proofs.lemmas.Bool.{false≢true}
 use Rattle.overlay_geom.specs.Edges.{CountedEdge, weight}
 use Rattle.overlay_geom.specs.Merged.{IsMerged}
 use Rattle.overlay_geom.specs.Settled.{IsSettled}
+use Rattle.overlay_geom.proofs.MergedOnce.{IsMerged-unique}
 use Rattle.overlay_plane.specs.Arrangements.{IsReachedBy, IsSplit, StaysUnsettled, WeighsTooMuch}
 use Rattle.overlay_plane.specs.Rounds.{Round, IsRound, pieces_of}
 
@@ -14,6 +15,15 @@ split_at_once most old new merged settled = record {
   few = omega arith;
   reached = record { cut = tt; merged = merged; settled = settled };
 }
+
+-- and the answer that it was not cut is right
+pub uncut_where_settled : {old new : List CountedEdge} → IsMerged old new → IsSettled new → (false ≡ false) ↔ IsReachedBy [] old new
+uncut_where_settled merged settled = (λ same. record { cut = tt; merged = merged; settled = settled }, λ reached. refl)
+
+-- where the merged list is not settled, no list is reached without a round
+pub cut_where_unsettled : {old left new : List CountedEdge} → IsMerged old left → ¬ (IsSettled left) → (true ≡ false) ↔ IsReachedBy [] old new
+cut_where_unsettled {old} {left} {new} merged unsettled = (λ same. absurd (false≢true (sym same)),
+    λ reached. absurd (unsettled (subst IsSettled (IsMerged-unique old new left reached.merged merged) reached.settled)))
 
 -- one that is not settled stays so without a round
 pub unsettled_at_once : (most : ℕ) (old left : List CountedEdge) → most ≡ 0 → IsMerged old left → ¬ (IsSettled left) → StaysUnsettled most old
@@ -32,12 +42,6 @@ split_on fewer most old left new le (r, is, left_is) h =
       few = omega (arith, h.few);
       reached = record { cut = (is, reached.cut); merged = reached.merged; settled = reached.settled };
     }
-
--- so it is where an answer says that it was split
-pub split_more : {T E : Type 0} (answer : Result T E) (fewer most : ℕ) (old left new : List CountedEdge) → fewer + 1 ≤ most → Leaves old left →
-    OnOk answer (IsSplit fewer left new) → OnOk answer (IsSplit most old new)
-split_more (Ok v) fewer most old left new le first h = split_on fewer most old left new le first h
-split_more (Err e) fewer most old left new le first h = h
 
 -- it stays unsettled, so the list does
 pub unsettled_on : (fewer most : ℕ) (old left : List CountedEdge) → fewer + 1 ≡ most → Leaves old left → StaysUnsettled fewer left → StaysUnsettled most old

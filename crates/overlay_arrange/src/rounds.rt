@@ -1,9 +1,9 @@
 //! Splitting: rounds of merging and cutting, until edges meet in ends alone.
 
-ghost use Rattle.std.specs.Prelude.{◌≢◌, ◌^◌};
-ghost use Rattle.std.specs.Prelude.{Err, IfErr, OnOk, IsErrOf};
+ghost use Rattle.std.specs.Prelude.{◌≡◌, ◌≢◌, ◌↔◌, ◌^◌, false, []};
+ghost use Rattle.std.specs.Prelude.{Err, IfOk, IfErr, OnOk, IsErrOf};
 ghost use Rattle.overlay_arrange.specs.Arranged.{IsArranged, MayRefuseSplitting};
-ghost use Rattle.overlay_plane.specs.Arrangements.{IsSplit, StaysUnsettled, WeighsTooMuch};
+ghost use Rattle.overlay_plane.specs.Arrangements.{IsReachedBy, IsSplit, StaysUnsettled, WeighsTooMuch};
 
 use crate::content::Content;
 use crate::count::EdgeCount;
@@ -21,12 +21,16 @@ impl<I: IntNumber, C: EdgeCount, A: Allocator + Clone> Content<I, C, A> {
     /// in y. Data of the edges is merged, split and turned round with them; the contract speaks of
     /// the counts alone. What was arranged before stays as it is.
     ///
+    /// Returns whether some round cut the edges; if none did they met in ends alone, but for equal
+    /// ones, before.
+    ///
     /// Refusals, after which content and store are left open: `NotSettled` where the edges are not
     /// settled after 64 rounds, `TooManyEdges` where a round brings the weight to 2^31, `Memory`.
     /// What was arranged before is refused for want of memory alone; `NotSettled` does not come
     /// where edges meet only in whole points or overlap.
-    pub fn arrange(&mut self, store: &mut C::Store) -> Result<(), OverlayError>
+    pub fn arrange(&mut self, store: &mut C::Store) -> Result<bool, OverlayError>
         ensures arranged { OnOk result (IsArranged 64 self.old self.new) }
+        ensures cut { IfOk result (λ is_cut. (is_cut ≡ false) ↔ IsReachedBy [] self.old self.new) }
         ensures err { IfErr result (MayRefuseSplitting 64 self.old) }
     {
         // (its contract says that the edges are in range, and weigh less than 2^31)
@@ -34,22 +38,24 @@ impl<I: IntNumber, C: EdgeCount, A: Allocator + Clone> Content<I, C, A> {
         self.split(ROUNDS, store)
     }
 
-    /// Merges the edges, and cuts them so many times at most, until they are settled. If it is
-    /// refused the content is left open.
-    pub fn split(&mut self, rounds: u32, store: &mut C::Store) -> Result<(), OverlayError>
+    /// Merges the edges, and cuts them so many times at most, until they are settled. Returns
+    /// whether it cut them. If it is refused the content is left open.
+    pub fn split(&mut self, rounds: u32, store: &mut C::Store) -> Result<bool, OverlayError>
         ensures split { OnOk result (IsSplit rounds self.old self.new) }
+        ensures cut { IfOk result (λ is_cut. (is_cut ≡ false) ↔ IsReachedBy [] self.old self.new) }
         ensures not_settled { IsErrOf result OverlayError.NotSettled → StaysUnsettled rounds self.old }
         ensures too_many { IsErrOf result OverlayError.TooManyEdges → WeighsTooMuch rounds (2 ^ 31) self.old }
         ensures usable { result ≢ Err OverlayError.Failed }
     {
         self.merge(store)?;
         if self.is_settled() {
-            return Ok(());
+            return Ok(false);
         }
         if rounds == 0 {
             return Err(OverlayError::NotSettled);
         }
         self.cut(store)?;
-        self.split(rounds - 1, store)
+        self.split(rounds - 1, store)?;
+        Ok(true)
     }
 }
