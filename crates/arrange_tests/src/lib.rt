@@ -6,6 +6,8 @@ mod cut;
 #[cfg(test)]
 mod data;
 #[cfg(test)]
+mod edges;
+#[cfg(test)]
 mod rounds;
 #[cfg(test)]
 mod string_count;

@@ -1,27 +1,16 @@
 //! Edges that cross, touch and overlap, and what they are cut into.
 
+use crate::edges::{Held, edge, push, with_edges};
 use overlay_arrange::content::Content;
 use overlay_arrange::count::ShapeCountBoolean;
-use overlay_arrange::edge::{CountedEdge, compare_points};
+use overlay_arrange::edge::CountedEdge;
 use overlay_arrange::options::ShapeType;
 use overlay_geom::error::OverlayError;
 use overlay_geom::number::IntNumber;
 use overlay_geom::point::{IntPoint, in_range};
 use std::alloc::Global;
-use std::fmt::Debug;
 use std::process::Abort;
 use std::test::Fail;
-
-type Held<I> = Content<I, ShapeCountBoolean, Global>;
-
-// An edge that the subject passes so often.
-fn edge<I>(ax: I, ay: I, bx: I, by: I, subj: i32) -> CountedEdge<I, ShapeCountBoolean> {
-    CountedEdge {
-        a: IntPoint::new(ax, ay),
-        b: IntPoint::new(bx, by),
-        count: ShapeCountBoolean { subj, clip: 0 },
-    }
-}
 
 // A content with the steps of a subject.
 fn with_subject<I: IntNumber>(
@@ -66,7 +55,7 @@ fn a_crossing_needs_one_round(rt: HostRuntime) -> Result<(), Fail> {
 }
 
 // The contour's steps are cut into the edges.
-fn check_contour<I: IntNumber + Debug + PartialEq>(
+fn check_contour<I: IntNumber + PartialEq>(
     rt: &impl Abort,
     alloc: Global,
     contour: &[IntPoint<I>],
@@ -116,33 +105,16 @@ fn a_crossing_from_corner_to_corner(rt: HostRuntime) -> Result<(), Fail> {
     Ok(())
 }
 
-// Adds an edge, which leads from its smaller to its larger end in the coordinate range.
-fn push<I: IntNumber>(
-    rt: &impl Abort,
-    content: &mut Held<I>,
-    edge: CountedEdge<I, ShapeCountBoolean>,
-) -> Result<(), OverlayError> {
-    let (a, b, count) = (edge.a, edge.b, edge.count);
-    assert!(rt; a.x.is_in_range() && a.y.is_in_range());
-    assert!(rt; b.x.is_in_range() && b.y.is_in_range());
-    assert!(rt; compare_points(a, b).is_lt());
-    assert!(rt; count.clip == 0 && count.subj > i32::MIN);
-    content.push(edge)
-}
-
 // The edges are cut into the wanted ones.
-fn check(
+fn check<I: IntNumber + PartialEq>(
     rt: &impl Abort,
     alloc: Global,
-    edges: &[CountedEdge<i32, ShapeCountBoolean>],
-    wanted: &[CountedEdge<i32, ShapeCountBoolean>],
+    edges: &[CountedEdge<I, ShapeCountBoolean>],
+    wanted: &[CountedEdge<I, ShapeCountBoolean>],
 ) -> Result<(), OverlayError> {
-    let mut content = Content::with_capacity(alloc, 0)?;
-    for edge in edges {
-        push(rt, &mut content, *edge)?;
-    }
+    let mut content = with_edges(rt, alloc, edges)?;
     content.arrange(&mut ())?;
-    assert_eq!(rt; content.edges(), wanted);
+    assert!(rt; content.edges() == wanted);
     Ok(())
 }
 
@@ -224,17 +196,17 @@ fn a_piece_may_run_against_its_edge(rt: HostRuntime) -> Result<(), Fail> {
 fn a_crossing_whose_quotient_needs_all_bits(rt: HostRuntime) -> Result<(), Fail> {
     // The lines cross near (7/4, -3/4), which is rounded to (2, -1).
     let far = 4611686018427387903i64;
-    let mut content = Content::with_capacity(rt.alloc(), 0)?;
-    push(&rt, &mut content, edge(-far, -far + 2, far, far - 7, 1))?;
-    push(&rt, &mut content, edge(-far + 1, far, far - 4, -far + 5, 1))?;
-    content.arrange(&mut ())?;
+    let edges = [
+        edge(-far, -far + 2, far, far - 7, 1),
+        edge(-far + 1, far, far - 4, -far + 5, 1),
+    ];
     let wanted = [
         edge(-far, -far + 2, 2, -1, 1),
         edge(-far + 1, far, 2, -1, 1),
         edge(2, -1, far - 4, -far + 5, 1),
         edge(2, -1, far, far - 7, 1),
     ];
-    assert_eq!(rt; content.edges(), &wanted[..]);
+    check(&rt, rt.alloc(), &edges, &wanted)?;
     Ok(())
 }
 
@@ -254,9 +226,8 @@ fn the_weight_stays_below_the_limit(rt: HostRuntime) -> Result<(), Fail> {
 #[test]
 fn a_round_may_weigh_too_much(rt: HostRuntime) -> Result<(), Fail> {
     // Cut into two, the edges weigh twice as much.
-    let mut content = Content::with_capacity(rt.alloc(), 0)?;
-    push(&rt, &mut content, edge(0i32, 0, 2, 2, 1073741823))?;
-    push(&rt, &mut content, edge(0, 2, 2, 0, 1))?;
+    let edges = [edge(0i32, 0, 2, 2, 1073741823), edge(0, 2, 2, 0, 1)];
+    let mut content = with_edges(&rt, rt.alloc(), &edges)?;
     assert_eq!(rt; content.arrange(&mut ()), Err(OverlayError::TooManyEdges));
     Ok(())
 }

@@ -1,7 +1,8 @@
 -- The crossing lies part of the way along e, and how far is read off two cross products.
-use Rattle.std.proofs.Common.{◌≡◌, rules}
+use Rattle.std.proofs.Common.{◌≡◌, ℤ, rules}
 use Rattle.overlay_geom.specs.Edges.{ends_of}
-use Rattle.overlay_plane.specs.CutPoints.{to_line, across}
+use Rattle.overlay_geom.specs.Plane.{Edge, Point}
+use Rattle.overlay_plane.specs.CutPoints.{part_way, to_line, across, crossing}
 use Rattle.overlay_plane.proofs.CrossingPoints.{part_way_across}
 use Rattle.overlay_arrange.specs.Content.{plain_edge}
 use Rattle.overlay_arrange.proofs.crossing.crossing.Goals as goal
@@ -35,3 +36,16 @@ part_way-requires-2-clause-divides g c =
     let f = ends_of (plain_edge g.I.IntNumber.whole g.C.EdgeCount.counts c.args.f.now) in
     let d : g.I.Wide.WideIntNumber.whole c.magnitude-d.result ≡ across e f = search rules in
     rw d (part_way_across e f c.requires.across).2
+
+-- the point that lies so far along e in both coordinates is the crossing
+read_crossing : (e f : Edge) (x y t d : ℤ) → t ≡ to_line e f → d ≡ across e f → x ≡ part_way e.a.x e.b.x t d → y ≡ part_way e.a.y e.b.y t d →
+    (let p : Point = record { x = x; y = y } in p ≡ crossing e f)
+read_crossing e f x y t d t_is d_is x_is y_is = rw (x_is, y_is, t_is, d_is)
+
+pub returns : goal.returns
+returns g c =
+    let e = ends_of (plain_edge g.I.IntNumber.whole g.C.EdgeCount.counts c.args.e.now) in
+    let f = ends_of (plain_edge g.I.IntNumber.whole g.C.EdgeCount.counts c.args.f.now) in
+    let t : g.I.Wide.WideIntNumber.whole c.magnitude-t.result ≡ to_line e f = search rules in
+    let d : g.I.Wide.WideIntNumber.whole c.magnitude-d.result ≡ across e f = search rules in
+    read_crossing e f _ _ _ _ t d c.part_way.ensures c.part_way-2.ensures

@@ -48,3 +48,14 @@ returns-in_err-push_pieces-clause-too_many g c =
     let all = next_appended pieces c.loop-e.pieces (c.loop-e.pieces ++ pieces e) e rest _ _ (mapped_rest plain c.args.edges.now i c.e-item.result c.loop-e-test.true c.e-item.is) c.loop-e.invariant refl in
     let same : plain_points g.I.IntNumber.whole c.deref.result.now ≡ cut_points es e = ap (plain_points g.I.IntNumber.whole) c.deref.ensures.value ∙ c.in_ok-points.ensures.ok in
     λ refused. heavy_beginning 2147483648 (c.loop-e.pieces ++ pieces e) (flat_map pieces rest) _ all (rw same at (c.push_pieces.ensures.too_many (search rules)))
+
+pub loop-e-preserved : goal.loop-e-preserved
+loop-e-preserved g c =
+    let plain = plain_edge g.I.IntNumber.whole g.C.EdgeCount.counts in
+    let es = plain_edges g.I.IntNumber.whole g.C.EdgeCount.counts c.args.edges.now in
+    let i = c.loop-e.e-index in
+    let e = plain c.e-item.result in
+    let rest = plain_edges g.I.IntNumber.whole g.C.EdgeCount.counts (drop (i + 1) c.args.edges.now) in
+    let same : plain_points g.I.IntNumber.whole c.deref.result.now ≡ cut_points es e = ap (plain_points g.I.IntNumber.whole) c.deref.ensures.value ∙ c.in_ok-points.ensures.ok in
+    next_appended (pieces_through (cut_points es)) c.loop-e.pieces _ e rest _ _ (mapped_rest plain c.args.edges.now i c.e-item.result c.loop-e-test.true c.e-item.is)
+    c.loop-e.invariant (rw same at c.in_ok-push_pieces.ensures.ok)

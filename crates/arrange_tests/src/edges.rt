@@ -1,0 +1,48 @@
+//! Edges and contents as the tests here make them.
+
+use overlay_arrange::content::Content;
+use overlay_arrange::count::ShapeCountBoolean;
+use overlay_arrange::edge::{CountedEdge, compare_points};
+use overlay_geom::error::OverlayError;
+use overlay_geom::number::IntNumber;
+use overlay_geom::point::{IntPoint, in_range};
+use std::alloc::Global;
+use std::process::Abort;
+
+/// Edges that a subject and a clip pass.
+pub type Held<I> = Content<I, ShapeCountBoolean, Global>;
+
+/// An edge that the subject passes so often.
+pub fn edge<I>(ax: I, ay: I, bx: I, by: I, subj: i32) -> CountedEdge<I, ShapeCountBoolean> {
+    CountedEdge {
+        a: IntPoint::new(ax, ay),
+        b: IntPoint::new(bx, by),
+        count: ShapeCountBoolean { subj, clip: 0 },
+    }
+}
+
+/// Adds an edge, which leads from its smaller to its larger end in the coordinate range.
+pub fn push<I: IntNumber>(
+    rt: &impl Abort,
+    content: &mut Held<I>,
+    edge: CountedEdge<I, ShapeCountBoolean>,
+) -> Result<(), OverlayError> {
+    let (a, b, count) = (edge.a, edge.b, edge.count);
+    assert!(rt; in_range(&[a, b]));
+    assert!(rt; compare_points(a, b).is_lt());
+    assert!(rt; count.clip == 0 && count.subj > i32::MIN);
+    content.push(edge)
+}
+
+/// A content with these edges.
+pub fn with_edges<I: IntNumber>(
+    rt: &impl Abort,
+    alloc: Global,
+    edges: &[CountedEdge<I, ShapeCountBoolean>],
+) -> Result<Held<I>, OverlayError> {
+    let mut content = Content::with_capacity(alloc, 0)?;
+    for edge in edges {
+        push(rt, &mut content, *edge)?;
+    }
+    Ok(content)
+}
