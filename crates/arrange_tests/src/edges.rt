@@ -5,7 +5,7 @@ use overlay_arrange::count::ShapeCountBoolean;
 use overlay_arrange::edge::{CountedEdge, compare_points};
 use overlay_geom::error::OverlayError;
 use overlay_geom::number::IntNumber;
-use overlay_geom::point::{IntPoint, in_range};
+use overlay_geom::point::IntPoint;
 use std::alloc::Global;
 use std::process::Abort;
 
@@ -28,9 +28,13 @@ pub fn push<I: IntNumber>(
     edge: CountedEdge<I, ShapeCountBoolean>,
 ) -> Result<(), OverlayError> {
     let (a, b, count) = (edge.a, edge.b, edge.count);
-    assert!(rt; in_range(&[a, b]));
+    assert!(rt; a.x.is_in_range());
+    assert!(rt; a.y.is_in_range());
+    assert!(rt; b.x.is_in_range());
+    assert!(rt; b.y.is_in_range());
     assert!(rt; compare_points(a, b).is_lt());
-    assert!(rt; count.clip == 0 && count.subj > i32::MIN);
+    assert!(rt; count.clip == 0);
+    assert!(rt; count.subj > i32::MIN);
     content.push(edge)
 }
 

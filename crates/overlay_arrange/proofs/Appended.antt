@@ -1,7 +1,8 @@
 -- Lists to which something was appended, as a program that appends it finds them.
-use Rattle.std.proofs.Common.{◌≡◌, List, [], ◌∷◌, ◌++◌, map, sym, ◌∙◌, ap, append_assoc, append-nil}
+use Rattle.std.proofs.Common.{◌≡◌, ℕ, ◌+◌, ◌<◌, List, [], ◌∷◌, ◌++◌, map, length, take, get_or, sym, ◌∙◌, ap, append_assoc, append-nil}
 use Rattle.std.specs.List.{flat_map}
 use Rattle.std.proofs.lemmas.List.{map-append}
+use Rattle.overlay_geom.proofs.Mapped.{mapped_more}
 
 -- with an item pushed, the mapped list has what that is mapped to
 pub mapped_pushed : {X Y : Type 0} (f : X → Y) (old new : List X) (x : X) (y : Y) → new ≡ old ++ x ∷ [] → f x ≡ y → map f new ≡ map f old ++ y ∷ []
@@ -19,3 +20,12 @@ next_appended f old new x xs rest whole begins before appended =
     ∙ append_assoc old (f x) (flat_map f xs)
     ∙ sym (ap (λ zs. old ++ flat_map f zs) begins)
     ∙ before
+
+-- with one more item pushed, a list is still what the items read so far are mapped to
+pub next_mapped : {W X Y Z : Type 0} (f : X → Z) (k : Y → Z) (plain : W → Y) (old new : List X) (x : X) (ws : List W) (i : ℕ) (w : W)
+    → i < length ws → w ≡ get_or ws i w → new ≡ old ++ x ∷ [] → f x ≡ k (plain w)
+    → map f old ≡ map k (map plain (take i ws)) → map f new ≡ map k (map plain (take (i + 1) ws))
+next_mapped f k plain old new x ws i w within at is maps before =
+    mapped_pushed f old new x (k (plain w)) is maps
+    ∙ ap (λ zs. zs ++ k (plain w) ∷ []) before
+    ∙ sym (ap (map k) (mapped_more plain ws i w within at) ∙ map-append k (map plain (take i ws)) (plain w ∷ []))
