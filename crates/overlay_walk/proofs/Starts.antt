@@ -1,10 +1,11 @@
 -- Where a step starts before another one: a strict order, and the first open place by it is that of the start of the steps left.
-use Rattle.std.proofs.Common.{◌≡◌, ◌⊎◌, ⊎_elim, ℕ, ◌<◌, ◌≤◌, Bool, true, false, ◌&&◌, ◌||◌, ℤ, pos, ◌-ℤ◌, ◌*ℤ◌, int_lt, List, [], length, get_or, All, refl, sym, ap, ◌∙◌, subst, arith}
+use Rattle.std.proofs.Common.{◌≡◌, ◌⊎◌, ⊎_elim, ℕ, ◌<◌, ◌≤◌, Bool, true, false, cond, ◌&&◌, ◌||◌, ℤ, pos, ◌-ℤ◌, ◌*ℤ◌, int_lt, List, [], length, get_or, All, refl, sym, ap, ◌∙◌, subst, arith}
 use Rattle.std.specs.Ordering.{is_lt, is_gt, is_eq, int_cmp}
 use Rattle.std.specs.Prelude.{Contains}
-use Rattle.std.specs.declared.cmp.Ordering.TheVariants.{Equal}
+use Rattle.std.specs.declared.cmp.Ordering.TheVariants.{Less, Equal, Greater}
 use Rattle.std.proofs.lemmas.Bool.{both_ways, false_from_ne_true, or_cases, or_left, or_right, and_parts, and_from}
-use Rattle.overlay_geom.specs.Plane.{Point, Step, point_lt, point_eq, edge_of, cross_at}
+use Rattle.overlay_geom.specs.Plane.{Point, Step, Edge, point_lt, point_eq, is_forward, edge_of, cross_at}
+use Rattle.overlay_geom.specs.Points.{InRange}
 use Rattle.std.proofs.lemmas.List.{length-map}
 use Rattle.overlay_geom.proofs.Mapped.{read_mapped}
 use Rattle.overlay_arrange.specs.Content.{point_cmp}
@@ -74,6 +75,41 @@ place_started-irreflexive ss k = starts_before-itself (step_at ss k)
 pub place_started-transitive : (limit : ℕ) (ss : List Step) → All (IsLong limit) ss → (i j k : ℕ) → i < length ss → j < length ss → k < length ss →
     is_place_started_before ss i j ≡ true → is_place_started_before ss j k ≡ true → is_place_started_before ss i k ≡ true
 place_started-transitive limit ss long i j k h l m = starts_before-transitive (step_at ss i) (step_at ss j) (step_at ss k) (long i _ h).apart (long j _ l).apart (long k _ m).apart
+
+-- an edge that starts in a smaller point than another starts before it, and one that starts in a greater point does not
+module _ (s t : Step) (a p : Point) (at_a : a ≡ (edge_of s).a) (at_p : p ≡ (edge_of t).a) where
+  told : point_cmp (edge_of s).a (edge_of t).a ≡ point_cmp a p
+  told = λ i. point_cmp (sym at_a i) (sym at_p i)
+
+  pub started_less : point_cmp a p ≡ Less → true ≡ starts_before s t
+  started_less less = sym (or_left (point_lt (edge_of s).a (edge_of t).a) (is_left_at_start s t)
+      (sym (point_cmp-is_less (edge_of s).a (edge_of t).a) ∙ ap is_lt (told ∙ less)))
+
+  pub started_greater : point_cmp a p ≡ Greater → false ≡ starts_before s t
+  started_greater greater =
+      sym (ap (λ b. b || is_left_at_start s t) (sym (point_cmp-is_less (edge_of s).a (edge_of t).a) ∙ ap is_lt (told ∙ greater))
+      ∙ ap (λ b. b && turns_left (edge_of t) (edge_of s)) (sym (point_cmp-is_tie (edge_of s).a (edge_of t).a) ∙ ap is_eq (told ∙ greater)))
+
+-- the ends of the edge of a long step are in range
+pub edge_start_in_range : (limit : ℕ) (s : Step) → IsLong limit s → InRange limit (edge_of s).a
+edge_start_in_range limit s long = by_test (is_forward s)
+  where
+    edge_by : Bool → Edge
+    edge_by b = cond b (record { a = s.from; b = s.to }) (record { a = s.to; b = s.from })
+
+    by_test : (b : Bool) → InRange limit (edge_by b).a
+    by_test true = long.from_in_range
+    by_test false = long.to_in_range
+
+pub edge_end_in_range : (limit : ℕ) (s : Step) → IsLong limit s → InRange limit (edge_of s).b
+edge_end_in_range limit s long = by_test (is_forward s)
+  where
+    edge_by : Bool → Edge
+    edge_by b = cond b (record { a = s.from; b = s.to }) (record { a = s.to; b = s.from })
+
+    by_test : (b : Bool) → InRange limit (edge_by b).b
+    by_test true = long.to_in_range
+    by_test false = long.from_in_range
 
 -- of two edges that start in one point the first leads to the left where the cross product there is positive
 pub started_together : (s t : Step) (a b p q : Point) (z : ℤ) → a ≡ (edge_of s).a → b ≡ (edge_of s).b → p ≡ (edge_of t).a → q ≡ (edge_of t).b → point_cmp a p ≡ Equal →

@@ -8,10 +8,11 @@ ghost use Rattle.overlay_geom.specs.Settled.{IsSettledBy};
 ghost use Rattle.overlay_plane.specs.Anchors.{HasEachEdgeOnce};
 ghost use Rattle.overlay_plane.specs.Binding.{all_filled_above};
 ghost use Rattle.overlay_plane.specs.Contours.{IsContour, all_steps};
-ghost use Rattle.overlay_scan.specs.Scan.{empty_sweep};
+ghost use Rattle.overlay_scan.specs.Scan.{empty_sweep, live_at, moved_to, value_below};
+ghost use Rattle.overlay_scan.specs.Scan.{IsOver, IsSweep, MayMoveTo, MeetsOthers};
 ghost use Rattle.overlay_walk.specs.Parents.{IsSwept, IsToldAt};
 ghost use Rattle.overlay_walk.specs.Steps.{is_on_left, IsLong};
-ghost use Rattle.overlay_walk.specs.WalkEdges.{walk_entries, IsByAnchor};
+ghost use Rattle.overlay_walk.specs.WalkEdges.{walk_entry, walk_entries, IsByAnchor};
 ghost use Rattle.overlay_walk.specs.Walks.{plain_walks};
 
 use crate::anchor::hole_anchors;
@@ -50,9 +51,8 @@ pub fn parents_by_sweep<I: IntNumber, D: Copy, A: Allocator + Clone, S: Scan<I, 
     parents.resize(walks.len(), None)?;
     let mut from = 0;
     for hole in &anchors {
-        let x = hole.a.x;
-        from = insert_up_to(scan, &edges, from, x)?;
-        let below = scan.first_less(x, walks.len(), [hole.a, hole.b]);
+        from = insert_up_to(scan, &edges, from, hole.a.x)?;
+        let below = walk_below(scan, hole, walks.len());
         parents[hole.walk] = shape_at(&numbers, &parents, below);
     }
     Ok(parents)
@@ -86,6 +86,25 @@ fn insert_up_to<I: IntNumber, S: Scan<I, usize>>(
         }
     }
     Ok(edges.len())
+}
+
+/// The index of the walk that has the highest edge of the scan under an anchor, just right of its
+/// point, or `none` where no edge is.
+fn walk_below<I: IntNumber, S: Scan<I, usize>>(
+    scan: &mut S,
+    anchor: &WalkEdge<I>,
+    none: usize,
+) -> usize
+    requires state { IsSweep I.limit (S.content scan.old) }
+    requires moves { MayMoveTo (I.whole anchor.now.a.x) (S.content scan.old) }
+    requires over { IsOver I.limit (I.whole anchor.now.a.x) (walk_entry I.whole anchor.now).edge }
+    requires meets { MeetsOthers (walk_entry I.whole anchor.now).edge (live_at (I.whole anchor.now.a.x) (S.content scan.old).entries) }
+    ensures value { result ≡ value_below none (walk_entry I.whole anchor.now).edge (I.whole anchor.now.a.x)
+        (live_at (I.whole anchor.now.a.x) (S.content scan.old).entries) }
+    ensures content { S.content scan.new ≡ moved_to (I.whole anchor.now.a.x) (S.content scan.old) }
+    ensures state { IsSweep I.limit (S.content scan.new) }
+{
+    scan.first_less(anchor.a.x, none, [anchor.a, anchor.b])
 }
 
 /// The number of the shape of the walk with this index: of an outline its own, of a hole that of its

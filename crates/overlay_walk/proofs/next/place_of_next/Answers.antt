@@ -1,13 +1,13 @@
 -- One place of the run after the other is looked at.
-use Rattle.std.proofs.Common.{◌≡◌, ℕ, ◌<◌, ◌≤◌, true, false, ℤ, List, length, get_or, sym, ap, ◌∙◌, arith}
+use Rattle.std.proofs.Common.{◌≡◌, ℕ, ◌<◌, ◌≤◌, true, false, ℤ, List, length, get_or, sym, ap, ◌∙◌, subst, arith}
 use Rattle.std.proofs.lemmas.List.{length-map, get_or-map}
 use Rattle.overlay_geom.specs.Plane.{Step}
 use Rattle.overlay_geom.specs.Points.{plain_point}
 use Rattle.overlay_geom.proofs.Mapped.{All-mapped_at}
-use Rattle.overlay_walk.specs.Places.{step_at}
+use Rattle.overlay_walk.specs.Places.{is_open, step_at, IsFirstOf}
 use Rattle.overlay_walk.specs.Steps.{plain_hand, plain_step, plain_steps, IsLong}
 use Rattle.overlay_walk.specs.declared.step.Step.{Step as StepTaken}
-use Rattle.overlay_walk.proofs.NextPlaces.{place_added, place_passed}
+use Rattle.overlay_walk.proofs.NextPlaces.{is_place_met_before, next_place, place_added, place_passed}
 use Rattle.overlay_walk.proofs.next.place_of_next.Goals as goal
 use Rattle.overlay_walk.proofs.next.place_of_next.Goals.{then-is_open+then-add, else-is_open, else-is_open-via-then-is_open+else-add, else-is_open-via-else-is_open}
 
@@ -52,3 +52,18 @@ loop-i-preserved g c =
         )
       ])
     ]
+
+pub loop-i-init : goal.loop-i-init
+loop-i-init g c = (c.new-nearest.ensures, λ k above below. absurd (omega (arith, above, below)))
+
+pub returns : goal.returns
+returns g c =
+    let ss = plain_steps g.I.IntNumber.whole c.args.steps.now in
+    let hand = plain_hand c.args.hand in
+    let s = plain_step g.I.IntNumber.whole c.args.step in
+    let low = c.run_from-low.result.0 in
+    let high = c.run_from-low.result.1 in
+    let most = c.loop-i.auto.i-end c.run_from-low.ensures.ordered in
+    let at_end : c.loop-i.i ≡ high = omega (arith, c.loop-i-test.false, most) in
+    next_place ss c.args.taken.now hand s low high c.run_from-low.ensures c.loop-i.found
+    (subst (λ n. IsFirstOf (is_open c.args.taken.now) (is_place_met_before ss hand s.to s.from) low n c.loop-i.found) at_end c.loop-i.invariant.1)

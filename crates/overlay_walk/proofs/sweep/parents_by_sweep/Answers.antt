@@ -8,7 +8,6 @@ use Rattle.overlay_geom.specs.Plane.{edge_eq}
 use Rattle.overlay_geom.specs.Settled.{IsSettledBy}
 use Rattle.overlay_geom.proofs.Mapped.{read_mapped}
 use Rattle.overlay_scan.specs.Scan.{Entry}
-use Rattle.overlay_scan.proofs.LinesFit.{line_fits}
 use Rattle.overlay_walk.specs.Parents.{IsSwept, IsToldAt}
 use Rattle.overlay_walk.specs.Steps.{plain_steps, is_on_left}
 use Rattle.overlay_walk.specs.WalkEdges.{walk_entry, walk_entries, IsHoleEntry, AreHoleEntries, IsByAnchor}
@@ -54,8 +53,32 @@ insert_up_to-requires-clause-swept g c =
     (at_front (λ (k : Entry ℕ). IsSwept limit k.edge.a.x (take c.loop-hole.from (walk_entries whole c.in_ok-edges.edges.items)) (g.S.Scan.content c.loop-hole.scan))
     hs i h inside here c.loop-hole.invariant.2)
 
-pub first_less-below-requires : goal.first_less-below-requires
-first_less-below-requires g c =
+pub walk_below-below-requires-clause-state : goal.walk_below-below-requires-clause-state
+walk_below-below-requires-clause-state g c = c.in_ok-from.ensures.swept.state
+
+pub walk_below-below-requires-clause-moves : goal.walk_below-below-requires-clause-moves
+walk_below-below-requires-clause-moves g c = c.in_ok-from.ensures.swept.moves
+
+pub walk_below-below-requires-clause-over : goal.walk_below-below-requires-clause-over
+walk_below-below-requires-clause-over g c =
+    let whole = g.I.IntNumber.whole in
+    let on_left = is_on_left c.args.direction in
+    let walks = plain_walks whole c.args.walks.now in
+    let hs = walk_entries whole c.deref-hole-items.result.now in
+    let h = walk_entry whole c.hole-item.result in
+    let i = c.loop-hole.hole-index in
+    let inside : i < length hs = rw length-map c.loop-hole-test.true in
+    let here = sym (read_mapped (walk_entry whole) c.deref-hole-items.result.now i c.hole-item.result h c.loop-hole-test.true c.hole-item.is) in
+    let holes : AreHoleEntries on_left walks hs =
+    subst (λ es. AreHoleEntries on_left walks (walk_entries whole es)) (sym c.deref-hole-items.ensures.value) c.in_ok-anchors.ensures.ok in
+    let own = All-contains (IsHoleEntry on_left walks) hs h holes.from (i, inside, sym here) in record {
+      a_in_range = (c.hole-item.result).a_in_range;
+      b_in_range = (c.hole-item.result).b_in_range;
+      over = anchor_over on_left walks c.requires.contours c.requires.settled c.requires.single h own;
+    }
+
+pub walk_below-below-requires-clause-meets : goal.walk_below-below-requires-clause-meets
+walk_below-below-requires-clause-meets g c =
     let whole = g.I.IntNumber.whole in
     let limit = g.I.IntNumber.limit in
     let on_left = is_on_left c.args.direction in
@@ -72,23 +95,8 @@ first_less-below-requires g c =
     let s = g.S.Scan.content c.insert_up_to.new.scan in
     let n = c.in_ok-from.from in
     let swept = subst (λ es. IsSwept limit h.edge.a.x (take n (walk_entries whole es)) s) c.deref.ensures.value c.in_ok-from.ensures.swept in
-    let rest = subst (λ es. All (λ (f : Entry ℕ). h.edge.a.x <ℤ f.edge.a.x) (drop n (walk_entries whole es))) c.deref.ensures.value c.in_ok-from.ensures.rest in (
-      line_fits _ _ g.met.I.IntNumber.small.align_bound g.met.I.IntNumber.small.size_bound,
-      (
-        swept.state,
-        (
-          swept.moves,
-          (
-            record {
-              a_in_range = (c.hole-item.result).a_in_range;
-              b_in_range = (c.hole-item.result).b_in_range;
-              over = anchor_over on_left walks c.requires.contours c.requires.settled c.requires.single h own;
-            },
-            (refl, anchor_meets on_left walks c.requires.contours c.requires.settled c.requires.single h own fs c.in_ok-edges.ensures.ok limit n s swept rest),
-          ),
-        ),
-      ),
-    )
+    let rest = subst (λ es. All (λ (f : Entry ℕ). h.edge.a.x <ℤ f.edge.a.x) (drop n (walk_entries whole es))) c.deref.ensures.value c.in_ok-from.ensures.rest in
+    anchor_meets on_left walks c.requires.contours c.requires.settled c.requires.single h own fs c.in_ok-edges.ensures.ok limit n s swept rest
 
 pub shape_at-requires : goal.shape_at-requires
 shape_at-requires g c =
@@ -136,22 +144,22 @@ loop-hole-preserved g c =
     let n = c.in_ok-from.from in
     let swept = subst (λ es. IsSwept limit h.edge.a.x (take n (walk_entries whole es)) s) c.deref.ensures.value c.in_ok-from.ensures.swept in
     let rest = subst (λ es. All (λ (f : Entry ℕ). h.edge.a.x <ℤ f.edge.a.x) (drop n (walk_entries whole es))) c.deref.ensures.value c.in_ok-from.ensures.rest in
-    let t = g.S.Scan.content c.first_less-below.new.self in
+    let t = g.S.Scan.content c.walk_below-below.new.scan in
     let numbers = c.in_ok-numbers.numbers.items in
     let parents = c.loop-hole.parents.items in
     let mapped = length-map c.args.walks.now (λ w. plain_steps whole w.items) in
     let counted : length parents ≡ length walks = c.loop-hole.invariant.0 ∙ sym mapped in
-    let shape : c.shape_at.result ≡ shape_of numbers parents c.first_less-below.result = c.shape_at.ensures
-    ∙ ap (λ ns. shape_of ns c.deref-in-loop-hole-2.result.now c.first_less-below.result) c.deref-in-loop-hole.ensures.value
-    ∙ ap (λ ps. shape_of numbers ps c.first_less-below.result) c.deref-in-loop-hole-2.ensures.value in (
+    let shape : c.shape_at.result ≡ shape_of numbers parents c.walk_below-below.result = c.shape_at.ensures
+    ∙ ap (λ ns. shape_of ns c.deref-in-loop-hole-2.result.now c.walk_below-below.result) c.deref-in-loop-hole.ensures.value
+    ∙ ap (λ ps. shape_of numbers ps c.walk_below-below.result) c.deref-in-loop-hole-2.ensures.value in (
       length-set parents c.hole-item.result.walk c.shape_at.result ∙ c.loop-hole.invariant.0,
       subst (λ (es : List _). n ≤ length es) c.deref.ensures.value c.in_ok-from.ensures.within,
       swept_on on_left walks c.requires.contours c.requires.settled c.requires.single h own fs c.in_ok-edges.ensures.ok limit n s swept rest numbers c.in_ok-numbers.ensures.ok hs holes parents counted i inside here t
-          c.first_less-below.ensures.content c.first_less-below.ensures.state,
+          c.walk_below-below.ensures.content c.walk_below-below.ensures.state,
       subst (λ o. All (λ (k : Entry ℕ). IsToldAt on_left walks (slice_set parents h.value o) k.value) (take (i + 1) hs)) (sym shape)
           (told_on on_left walks c.requires.contours c.requires.settled c.requires.single h own fs c.in_ok-edges.ensures.ok limit n s swept rest numbers c.in_ok-numbers.ensures.ok hs holes parents counted i inside here t
-          c.first_less-below.ensures.content c.first_less-below.ensures.state (length c.args.walks.now) (sym mapped) c.first_less-below.result
-          c.first_less-below.ensures.value c.loop-hole.invariant.3),
+          c.walk_below-below.ensures.content c.walk_below-below.ensures.state (length c.args.walks.now) (sym mapped) c.walk_below-below.result
+          c.walk_below-below.ensures.value c.loop-hole.invariant.3),
     )
 
 pub returns-clause-told : goal.returns-clause-told

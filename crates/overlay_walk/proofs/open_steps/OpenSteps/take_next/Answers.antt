@@ -1,8 +1,46 @@
 -- Where the steps left go on a place is found, and the step there is taken.
-use Rattle.overlay_walk.specs.Steps.{plain_hand, plain_step}
+use Rattle.std.proofs.Common.{◌≡◌, ℕ, ◌<◌, Bool, ℤ, Some, List, length, All, sym, ap, ◌∙◌, subst, arith}
+use Rattle.std.proofs.lemmas.List.{length-map, length-set}
+use Rattle.overlay_geom.specs.Plane.{Step}
+use Rattle.overlay_plane.specs.Turn.{Hand}
+use Rattle.overlay_walk.specs.Places.{IsNextPlace}
+use Rattle.overlay_walk.specs.Steps.{plain_hand, plain_step, plain_steps, IsByStart, IsLong}
+use Rattle.overlay_walk.specs.declared.step.Step.{Step as StepTaken}
 use Rattle.overlay_walk.proofs.NextTaken.{some_is_found, found_left, found_next, others_left}
 use Rattle.overlay_walk.proofs.OpenPlaces.{unmarked-fewer}
 use Rattle.overlay_walk.proofs.open_steps.OpenSteps.take_next.Goals as goal
+
+-- the place is one of the steps
+place_within : {I D : Type 0} (whole : I → ℤ) (steps : List (StepTaken I D)) (marks : List Bool) (hand : Hand) (s : Step) (m : ℕ)
+    → IsNextPlace (plain_steps whole steps) marks hand s (Some m) → m < length steps
+place_within whole steps marks hand s m next = omega (arith, next.below, length-map steps (plain_step whole))
+
+pub place_of_next-requires-clause-marks : goal.place_of_next-requires-clause-marks
+place_of_next-requires-clause-marks g c = ap length c.deref-2.ensures.value ∙ c.self.invariant.0 ∙ sym (ap length c.deref.ensures.value)
+
+pub place_of_next-requires-clause-by_start : goal.place_of_next-requires-clause-by_start
+place_of_next-requires-clause-by_start g c =
+    subst (λ (ss : List (StepTaken g.row.I.Denot g.row.D.Denot)). IsByStart (plain_steps g.I.IntNumber.whole ss)) (sym c.deref.ensures.value) c.self.invariant.1.0
+
+pub place_of_next-requires-clause-long : goal.place_of_next-requires-clause-long
+place_of_next-requires-clause-long g c =
+    subst (λ (ss : List (StepTaken g.row.I.Denot g.row.D.Denot)). All (IsLong g.I.IntNumber.limit) (plain_steps g.I.IntNumber.whole ss)) (sym c.deref.ensures.value)
+    c.self.invariant.1.1
+
+pub index_mut-requires : goal.index_mut-requires
+index_mut-requires g c =
+    let within = place_within g.I.IntNumber.whole c.self.inside.steps.items c.self.inside.taken.items (plain_hand c.args.hand) (plain_step g.I.IntNumber.whole c.args.step)
+    c.in-Some.place (rw (c.deref.ensures.value, c.deref-2.ensures.value) at c.in-Some.ensures) in
+    omega (arith, within, c.self.invariant.0)
+
+pub index-requires : goal.index-requires
+index-requires g c =
+    let within = place_within g.I.IntNumber.whole c.self.inside.steps.items c.self.inside.taken.items (plain_hand c.args.hand) (plain_step g.I.IntNumber.whole c.args.step)
+    c.in-Some.place (rw (c.deref.ensures.value, c.deref-2.ensures.value) at c.in-Some.ensures) in
+    omega (arith, within, c.self.inside.steps.ok.0)
+
+pub invariant_of-self : goal.invariant_of-self
+invariant_of-self g c = (length-set _ _ _ ∙ c.self.invariant.0, c.self.invariant.1)
 
 pub unreachable-requires : goal.unreachable-requires
 unreachable-requires g c =
