@@ -3,18 +3,27 @@
 mod edges;
 mod faults;
 mod overlays;
-mod shape_text;
 
 use crate::engine::run;
 use crate::exit::Exit;
+use std::io::Read;
 use std::process::Abort;
 
 // What the engine writes for the input, and how it ends.
 fn check(rt: &(impl Abort + Alloc), input: &[u8], wanted: &str, exit: Exit) {
-    let mut reader = input;
+    check_reader(rt, input, wanted, exit);
+}
+
+// What the engine writes for what the reader has, and how it ends.
+fn check_reader<R: Read + Drop>(
+    rt: &(impl Abort + Alloc),
+    mut reader: R,
+    wanted: &str,
+    exit: Exit,
+) {
     let mut written = Vec::new(rt.alloc());
     let ended = run(rt.alloc(), &mut reader, &mut written);
-    assert!(rt; ended == exit, "{input:?} ends with {ended:?}");
+    assert!(rt; ended == exit, "wanted: {wanted}, ended with {ended:?}");
     assert_eq!(rt; &written[..], wanted.as_bytes());
 }
 

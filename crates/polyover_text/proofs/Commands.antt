@@ -1,5 +1,5 @@
 -- The words of a command, taken one by one.
-use Rattle.std.proofs.Common.{◌≡◌, [], ◌∷◌, codes, sym, subst}
+use Rattle.std.proofs.Common.{◌≡◌, [], ◌∷◌, codes, sym, subst, refl}
 use Rattle.overlay_arrange.specs.declared.fill_rule.FillRule.{FillRule}
 use Rattle.polyover_text.specs.declared.query.OverlayQuery.{OverlayQuery}
 use Rattle.polyover_text.specs.declared.query.Query.TheVariants.{Edges, Overlay}
@@ -19,3 +19,13 @@ pub overlay_asked : (ws : Line) (r f : Word) (rest more : Line) (asked : Overlay
 overlay_asked ws r f rest more asked words left rule fill set =
     let all : ws ≡ rule_name asked.overlay_rule ∷ fill_name asked.fill_rule ∷ more = cc in
     subst (λ l. IsCommand (codes "run" ∷ codes "overlay" ∷ l) (Overlay asked)) (sym all) (overlay set)
+
+command_for_edges : (l : Line) (fill : FillRule) → IsCommand l (Edges fill) → l ≡ codes "run" ∷ codes "edges" ∷ fill_name fill ∷ []
+command_for_edges l fill edges = refl
+
+-- and no other word
+pub edges_and_more : (ws : Line) (f w : Word) (rest more : Line) → ws ≡ f ∷ rest → rest ≡ w ∷ more
+    → (fill : FillRule) → ¬ (IsCommand (codes "run" ∷ codes "edges" ∷ ws) (Edges fill))
+edges_and_more ws f w rest more words left fill h =
+    let all = command_for_edges (codes "run" ∷ codes "edges" ∷ ws) fill h in
+    cc

@@ -3,6 +3,7 @@ pub mod FirstLine
 pub mod FirstWord
 pub mod GoodLines
 pub mod InRange
+pub mod NextWord
 pub mod Numbers
 pub mod OptionLists
 pub mod PointLists

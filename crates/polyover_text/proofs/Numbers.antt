@@ -1,5 +1,5 @@
 -- Numbers of the grammar as `parse` reads them: without a plus sign, those whose bytes after any minus sign are digits.
-use Rattle.std.proofs.Common.{FitsSigned, w64, negsuc, ◌≡◌, ◌≢◌, ℕ, ◌≤◌, ◌==◌, false, ℤ, pos, List}
+use Rattle.std.proofs.Common.{FitsSigned, w64, negsuc, ◌≡◌, ◌≢◌, ℕ, ◌≤◌, ◌==◌, true, false, ℤ, pos, List}
 use Rattle.std.proofs.Common.{[], ◌∷◌, get_or, refl, sym, ◌∙◌, subst, arith, inl, inr, lit<}
 use Rattle.std.proofs.lemmas.Int.{ints}
 use Rattle.overlay_geom.specs.Numbers.{Within}
@@ -78,6 +78,12 @@ parsed_is_number word text c same test digits value =
 -- a coordinate is a number that `parse` reads
 pub text_of_coordinate : (word text : List ℕ) (c : ℤ) → text ≡ word → IsCoordinate word c → IsSignedNumeral text c
 text_of_coordinate word text c same h = subst (λ w. IsSignedNumeral w c) (sym same) (number_is_numeral word c h.number)
+
+-- a text that begins with a plus sign is no coordinate
+pub plus_begins_no_coordinate : (word text : List ℕ) → text ≡ word → true ≡ (get_or text 0 0 == 43) → (c : ℤ) → ¬ (IsCoordinate word c)
+plus_begins_no_coordinate word text same test c h =
+    let plus : get_or text 0 0 ≡ 43 = grind (arith, nat_tests) in
+    (text_of_coordinate word text c same h).no_plus plus
 
 -- a coordinate fits 64 bits
 pub coordinate_fits : (c : ℤ) → Within 4611686018427387903 c → FitsSigned w64 c

@@ -1,5 +1,6 @@
 //! Readers and writers that fail, and memory that is refused.
 
+use super::check_reader;
 use crate::engine::run;
 use crate::exit::Exit;
 use overlay_geom::error::OverlayError;
@@ -95,67 +96,86 @@ impl Read for InterruptedReader<'_> {
 
 const SQUARE: &[u8] = b"subject 0 0 2 0 2 2 0 2\nrun edges NonZero\n";
 
-const SQUARE_EDGES: &[u8] = b"edge 0 0 0 2 2\nedge 0 0 2 0 1\nedge 0 2 2 2 2\nedge 2 0 2 2 1\n";
+const SQUARE_EDGES: &str = "edge 0 0 0 2 2\nedge 0 0 2 0 1\nedge 0 2 2 2 2\nedge 2 0 2 2 1\n";
 
 #[test]
 fn a_reader_that_fails(rt: HostRuntime) {
-    for reads in 0..=(SQUARE.len() as u64 + 1) {
-        let mut reader = FailingReader {
-            bytes: SQUARE,
-            reads,
-        };
-        let mut written = Vec::new(rt.alloc());
-        let exit = run(rt.alloc(), &mut reader, &mut written);
-        if reads <= SQUARE.len() as u64 {
-            assert!(rt; exit == Exit::Io, "after {reads} reads");
-            assert_eq!(rt; written.len(), 0);
-        } else {
-            assert!(rt; exit == Exit::Answered);
-            assert_eq!(rt; &written[..], SQUARE_EDGES);
-        }
+    let enough = SQUARE.len() as u64 + 1;
+    for reads in 0..enough {
+        let bytes = SQUARE;
+        check_reader(&rt, FailingReader { bytes, reads }, "", Exit::Io);
     }
+    let reader = FailingReader {
+        bytes: SQUARE,
+        reads: enough,
+    };
+    check_reader(&rt, reader, SQUARE_EDGES, Exit::Answered);
+}
+
+#[test]
+fn an_interrupted_reader_is_asked_again(rt: HostRuntime) {
+    let reader = InterruptedReader {
+        bytes: SQUARE,
+        is_interrupted: false,
+    };
+    check_reader(&rt, reader, SQUARE_EDGES, Exit::Answered);
+}
+
+// The writer takes as many bytes of the answer as it takes at all.
+fn check_writer(
+    rt: &(impl Abort + Alloc),
+    writes: u64,
+    takes_none: bool,
+    flushes: bool,
+    exit: Exit,
+) {
+    let mut reader = SQUARE;
+    let mut writer = FailingWriter {
+        taken: Vec::new(rt.alloc()),
+        writes,
+        takes_none,
+        flushes,
+    };
+    let ended = run(rt.alloc(), &mut reader, &mut writer);
+    assert!(rt; ended == exit, "after {writes} writes");
+    assert_eq!(rt; writer.taken.len() as u64, writes);
+    assert!(rt; SQUARE_EDGES.as_bytes().starts_with(&writer.taken[..]));
 }
 
 #[test]
 fn a_writer_that_fails(rt: HostRuntime) {
-    for takes_none in [false, true] {
-        for writes in 0..=(SQUARE_EDGES.len() as u64) {
-            let mut reader = SQUARE;
-            let mut writer = FailingWriter {
-                taken: Vec::new(rt.alloc()),
-                writes,
-                takes_none,
-                flushes: true,
-            };
-            let exit = run(rt.alloc(), &mut reader, &mut writer);
-            let taken = writer.taken.len();
-            assert_eq!(rt; taken as u64, writes);
-            assert!(rt; SQUARE_EDGES.starts_with(&writer.taken[..]));
-            if writes < SQUARE_EDGES.len() as u64 {
-                assert!(rt; exit == Exit::Io, "after {writes} writes");
-            } else {
-                assert!(rt; exit == Exit::Answered);
-            }
-        }
+    let enough = SQUARE_EDGES.len() as u64;
+    for writes in 0..enough {
+        check_writer(&rt, writes, false, true, Exit::Io);
+        check_writer(&rt, writes, true, true, Exit::Io);
     }
+    check_writer(&rt, enough, false, true, Exit::Answered);
+    check_writer(&rt, enough, true, true, Exit::Answered);
+}
+
+#[test]
+fn a_writer_that_does_not_flush(rt: HostRuntime) {
+    check_writer(&rt, SQUARE_EDGES.len() as u64, false, false, Exit::Io);
+}
+
+// How the engine ends where so many growths are granted, and what it writes.
+fn end_with(rt: &impl Alloc, granted: u64, input: &[u8], written: &mut Vec<u8>) -> Exit {
+    let memory = Refusing::new(rt.alloc(), granted);
+    let mut reader = input;
+    run(&memory, &mut reader, written)
 }
 
 // Lets each growth fail in turn, until all that are needed are granted.
-fn refuse_each_growth(rt: &(impl Abort + Alloc), input: &[u8], wanted: &[u8]) {
+fn refuse_each_growth(rt: &(impl Abort + Alloc), input: &[u8], wanted: &str) {
     for granted in 0..1000 {
-        let memory = Refusing::new(rt.alloc(), granted);
-        let mut reader = input;
         let mut written = Vec::new(rt.alloc());
-        let exit = run(&memory, &mut reader, &mut written);
-        if exit == Exit::Answered {
+        let ended = end_with(rt, granted, input, &mut written);
+        if ended == Exit::Answered {
             assert!(rt; granted > 0);
-            assert_eq!(rt; &written[..], wanted);
+            assert_eq!(rt; &written[..], wanted.as_bytes());
             return;
         }
-        assert!(rt;
-            exit == Exit::Refused(OverlayError::Memory),
-            "with {granted} granted"
-        );
+        assert!(rt; ended == Exit::Refused(OverlayError::Memory));
         assert_eq!(rt; written.len(), 0);
     }
     assert!(rt; false, "never answered");
@@ -171,32 +191,6 @@ fn each_growth_of_an_overlay_refused_in_turn(rt: HostRuntime) {
     refuse_each_growth(
         &rt,
         b"subject 0 0 9 0 9 9 0 9\nclip 3 3 6 3 6 6 3 6\nrun overlay Difference NonZero\n",
-        b"shape\n0 9 0 0 9 0 9 9\n3 3 3 6 6 6 6 3\n",
+        "shape\n0 9 0 0 9 0 9 9\n3 3 3 6 6 6 6 3\n",
     );
-}
-
-#[test]
-fn a_writer_that_does_not_flush(rt: HostRuntime) {
-    let mut reader = SQUARE;
-    let mut writer = FailingWriter {
-        taken: Vec::new(rt.alloc()),
-        writes: SQUARE_EDGES.len() as u64,
-        takes_none: false,
-        flushes: false,
-    };
-    let exit = run(rt.alloc(), &mut reader, &mut writer);
-    assert!(rt; exit == Exit::Io);
-    assert_eq!(rt; &writer.taken[..], SQUARE_EDGES);
-}
-
-#[test]
-fn an_interrupted_reader_is_asked_again(rt: HostRuntime) {
-    let mut reader = InterruptedReader {
-        bytes: SQUARE,
-        is_interrupted: false,
-    };
-    let mut written = Vec::new(rt.alloc());
-    let exit = run(rt.alloc(), &mut reader, &mut written);
-    assert!(rt; exit == Exit::Answered);
-    assert_eq!(rt; &written[..], SQUARE_EDGES);
 }

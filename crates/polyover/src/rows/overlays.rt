@@ -88,11 +88,14 @@ fn overlay_without_shapes(rt: HostRuntime) {
     let twice = "subject 0 0 2 0 2 2 0 2\nsubject 0 0 2 0 2 2 0 2\n";
     check_overlay(&rt, twice, "Subject EvenOdd", "");
     check_overlay(&rt, twice, "Subject NonZero", "shape\n0 2 0 0 2 0 2 2\n");
-    for rule in ["EvenOdd", "NonZero", "Positive", "Negative"] {
-        let mut command = String::new(rt.alloc());
-        let made = write!(command, "Subject {rule}");
-        assert!(rt; made.is_ok());
-        check_overlay(&rt, "subject\nsubject 1 1\nsubject 0 0 3 3\n", &command, "");
+    let commands = [
+        "Subject EvenOdd",
+        "Subject NonZero",
+        "Subject Positive",
+        "Subject Negative",
+    ];
+    for command in commands {
+        check_overlay(&rt, "subject\nsubject 1 1\nsubject 0 0 3 3\n", command, "");
     }
 }
 
@@ -202,14 +205,25 @@ fn overlay_of_each_rule(rt: HostRuntime) {
 }
 
 #[test]
+fn overlay_of_triangles_with_a_hole(rt: HostRuntime) {
+    check_overlay(
+        &rt,
+        "subject 0 0 9 0 0 9\nsubject 1 3 3 1 1 1\nsubject -7 5 -5 5 -7 6\n",
+        "Subject EvenOdd",
+        "shape\n-7 6 -7 5 -5 5\nshape\n0 9 0 0 9 0\n1 1 1 3 3 1\n",
+    );
+}
+
+#[test]
 fn overlay_at_the_ends_of_the_coordinate_range(rt: HostRuntime) {
-    let m: i64 = 4611686018427387903;
-    let mut square = String::new(rt.alloc());
-    let mut wanted = String::new(rt.alloc());
-    let made = write!(square, "subject -{m} -{m} {m} -{m} {m} {m} -{m} {m}\n");
-    let also = write!(wanted, "shape\n-{m} {m} -{m} -{m} {m} -{m} {m} {m}\n");
-    assert!(rt; made.is_ok() && also.is_ok());
-    check_overlay(&rt, &square, "Subject NonZero", &wanted);
+    check_overlay(
+        &rt,
+        "subject -4611686018427387903 -4611686018427387903 4611686018427387903 -4611686018427387903 \
+         4611686018427387903 4611686018427387903 -4611686018427387903 4611686018427387903\n",
+        "Subject NonZero",
+        "shape\n-4611686018427387903 4611686018427387903 -4611686018427387903 -4611686018427387903 \
+         4611686018427387903 -4611686018427387903 4611686018427387903 4611686018427387903\n",
+    );
 }
 
 #[test]

@@ -1,12 +1,16 @@
 use Rattle.std.proofs.Common.{◌∙◌, lit<, refl, subst, sym, FitsSigned, w64}
 use Rattle.std.proofs.lemmas.Int.{to_z-of_z}
-use Rattle.polyover_text.proofs.Numbers.{number_is_text, parsed_is_number, text_of_coordinate, coordinate_fits}
+use Rattle.polyover_text.proofs.Numbers.{number_is_text, parsed_is_number, text_of_coordinate, coordinate_fits, plus_begins_no_coordinate}
 use Rattle.std.proofs.lemmas.Bool.{false≢true}
 use Rattle.overlay_geom.specs.Numbers.{Within}
 use Rattle.polyover_text.proofs.number.parse_coordinate.Goals as goal
 
 pub returns-in_default : goal.returns-in_default
 returns-in_default c = λ c' h. c.in_default.ensures.cases.0 (number_is_text _ _ h.number)
+
+pub returns-then-starts_with : goal.returns-then-starts_with
+returns-then-starts_with c = plus_begins_no_coordinate c.args.word.now c.in-Ok.text.now c.in-Ok.ensures.cases.0
+    (c.if-starts_with.ensures.byte (lit< tt) (lit< tt) (λ w o h. h))
 
 pub returns-in-Ok-parse : goal.returns-in-Ok-parse
 returns-in-Ok-parse c =

@@ -12,6 +12,13 @@ returns-in-Some-subject g c =
     sym c.new-words.ensures ∙ c.in-Some-subject.ensures.steps ∙ ap (λ w. w ∷ words_left c.next.new.self) first in
     rw line c.parse_contour-in-Some-subject.ensures
 
+pub returns-in-Some-clip : goal.returns-in-Some-clip
+returns-in-Some-clip g c =
+    let first : c.in-Some-clip.field-0.now ≡ codes "clip" = search (rules, text_from_reads) in
+    let line : words c.args.line.now ≡ codes "clip" ∷ words_left c.next.new.self =
+    sym c.new-words.ensures ∙ c.in-Some-clip.ensures.steps ∙ ap (λ w. w ∷ words_left c.next.new.self) first in
+    rw line c.parse_contour.ensures
+
 pub returns-in-Some : goal.returns-in-Some
 returns-in-Some g c = λ e.
     let f = c.in-Some.field-0.now in
