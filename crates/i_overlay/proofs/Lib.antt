@@ -1,6 +1,8 @@
 pub mod Balanced
 pub mod BoundAdded
+pub mod Builders
 pub mod NoShapes
+pub mod OneSide
 pub mod OneShots
 pub mod PathLists
 pub mod Queries

@@ -1,6 +1,6 @@
 //! The builder where memory is refused: every request of a call in turn.
 
-use crate::builders::{add, check_edges, edges};
+use crate::builders::{add, check_edges, edge_count, has_edges, is_refused};
 use crate::refusing::Refusing;
 use crate::squares::{PLENTY, Refusable, square, square_edges};
 use i_overlay::fill_rule::FillRule;
@@ -30,8 +30,11 @@ fn adds_square(
     memory.grant(granted);
     let added = add_square(rt, overlay);
     memory.grant(PLENTY);
-    assert!(rt; added == Ok(()) || added == Err(OverlayError::Memory));
-    added.is_ok()
+    if added.is_ok() {
+        return true;
+    }
+    assert!(rt; is_refused(added, OverlayError::Memory));
+    false
 }
 
 #[test]
@@ -110,8 +113,8 @@ fn a_refused_contour_leaves_the_edges_that_were_there(rt: HostRuntime) -> Result
 
 // Checks that the builder has failed.
 fn check_failed(rt: &impl Abort, overlay: &mut Refusable<'_>) {
-    assert!(rt; add_square(rt, overlay) == Err(OverlayError::Failed));
-    assert!(rt; edges(overlay, FillRule::EvenOdd) == Err(OverlayError::Failed));
+    assert!(rt; is_refused(add_square(rt, overlay), OverlayError::Failed));
+    assert!(rt; edge_count(overlay, FillRule::EvenOdd) == Err(OverlayError::Failed));
 }
 
 // Asks for the edges of the square while so many requests are granted, and answers whether that was
@@ -124,9 +127,9 @@ fn answers_or_fails(
 ) -> Result<bool, OverlayError> {
     add_square(rt, overlay)?;
     memory.grant(granted);
-    let built = edges(overlay, FillRule::EvenOdd);
-    if let Ok(edges) = built {
-        assert!(rt; &edges[..] == &square_edges(0, 2)[..]);
+    let built = has_edges(overlay, FillRule::EvenOdd, &square_edges(0, 2));
+    if built.is_ok() {
+        assert!(rt; built == Ok(true));
         return Ok(true);
     }
     assert!(rt; built == Err(OverlayError::Memory));
@@ -161,7 +164,7 @@ fn a_builder_has_the_room_that_it_was_made_with(rt: HostRuntime) -> Result<(), F
     memory.grant(0);
     for _ in 0..2 {
         add_square(&rt, &mut overlay)?;
-        assert!(rt; add_square(&rt, &mut overlay) == Err(OverlayError::Memory));
+        assert!(rt; is_refused(add_square(&rt, &mut overlay), OverlayError::Memory));
         overlay.clear();
     }
     Ok(())

@@ -173,6 +173,16 @@ pub fn edge<I>(a: IntPoint<I>, b: IntPoint<I>, fill: u8) -> DataVectorEdge<I, ()
     }
 }
 
+/// Whether the builder has these edges, in order.
+pub fn has_edges<I: OverlayInt + PartialEq, A: Allocator + Clone>(
+    overlay: &mut Overlay<I, A>,
+    rule: FillRule,
+    wanted: &[DataVectorEdge<I, ()>],
+) -> Result<bool, OverlayError> {
+    let edges = edges(overlay, rule)?;
+    Ok(&edges[..] == wanted)
+}
+
 /// Checks the edges of the builder, in order.
 pub fn check_edges<I: OverlayInt + PartialEq, A: Allocator + Clone>(
     rt: &impl Abort,
@@ -180,7 +190,14 @@ pub fn check_edges<I: OverlayInt + PartialEq, A: Allocator + Clone>(
     rule: FillRule,
     wanted: &[DataVectorEdge<I, ()>],
 ) -> Result<(), OverlayError> {
-    let edges = edges(overlay, rule)?;
-    assert!(rt; &edges[..] == wanted);
+    assert!(rt; has_edges(overlay, rule, wanted)?);
     Ok(())
+}
+
+/// Whether a call was refused so.
+pub fn is_refused(answer: Result<(), OverlayError>, error: OverlayError) -> bool {
+    match answer {
+        Ok(()) => false,
+        Err(e) => e == error,
+    }
 }

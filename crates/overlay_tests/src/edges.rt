@@ -112,20 +112,23 @@ fn a_square_there_and_back_is_nothing(rt: HostRuntime) -> Result<(), Fail> {
 // A triangle with a point on its lower edge.
 const TRIANGLE: Points<'static> = &[(0, 0), (2, 0), (4, 0), (4, 4)];
 
+// Checks the edges of the triangle where all points stay.
+fn check_kept(
+    rt: &impl Abort,
+    alloc: Global,
+    overlay: &mut Overlay<i32, Global>,
+) -> Result<(), OverlayError> {
+    overlay.clear();
+    overlay.options = IntOverlayOptions::keep_all_points();
+    add_contours(rt, alloc, overlay, &[TRIANGLE], ShapeType::Subject)?;
+    check_fills(rt, overlay, FillRule::NonZero, &[1, 2, 1, 1])
+}
+
 #[test]
 fn points_on_one_line_stay_where_they_are_wanted(rt: HostRuntime) -> Result<(), Fail> {
     let mut overlay = builder_of(&rt, rt.alloc(), &[TRIANGLE], ShapeType::Subject)?;
     check_fills(&rt, &mut overlay, FillRule::NonZero, &[1, 2, 1])?;
-    overlay.clear();
-    overlay.options = IntOverlayOptions::keep_all_points();
-    add_contours(
-        &rt,
-        rt.alloc(),
-        &mut overlay,
-        &[TRIANGLE],
-        ShapeType::Subject,
-    )?;
-    check_fills(&rt, &mut overlay, FillRule::NonZero, &[1, 2, 1, 1])?;
+    check_kept(&rt, rt.alloc(), &mut overlay)?;
     Ok(())
 }
 
@@ -176,10 +179,19 @@ fn check_crossing<I: OverlayInt>(
 ) -> Result<(), OverlayError> {
     let [a, b, c, d] = square(low, high);
     let mut overlay = builder_with(rt, alloc, &[a, c, b, d])?;
-    check_count(rt, &mut overlay, 6)?;
+    check_crossed(rt, &mut overlay, &[a, b, c, d])
+}
+
+// The same, of a builder with the first contour, and of the second one.
+fn check_crossed<I: OverlayInt>(
+    rt: &impl Abort,
+    overlay: &mut Overlay<I, Global>,
+    square: &[IntPoint<I>],
+) -> Result<(), OverlayError> {
+    check_count(rt, overlay, 6)?;
     overlay.clear();
-    add(rt, &mut overlay, &square(low, high), ShapeType::Subject)?;
-    check_count(rt, &mut overlay, 4)
+    add(rt, overlay, square, ShapeType::Subject)?;
+    check_count(rt, overlay, 4)
 }
 
 #[test]

@@ -3,7 +3,7 @@
 ghost use Rattle.std.specs.Prelude.{◌≡◌, None};
 ghost use Rattle.std.specs.Iterator.{at_most};
 
-use crate::builders::{add, check_fills, edges};
+use crate::builders::{add, check_fills, edge_count, is_refused};
 use crate::contours::{OF_SQUARE, Points, SQUARE, builder_of, contour_of};
 use i_overlay::fill_rule::FillRule;
 use i_overlay::i_float::int::point::IntPoint;
@@ -11,21 +11,36 @@ use i_overlay::overlay::{Overlay, ShapeType};
 use overlay_geom::error::OverlayError;
 use std::alloc::Global;
 use std::cell::Cell;
+use std::process::Abort;
 use std::test::Fail;
 
 // Contours whose edges cross near so many whole points that splitting them does not settle.
 const NEEDLES: &[Points<'static>] = &[&[(2, 0), (0, 66), (2, -66)], &[(1, 0), (0, 67), (-1, 0)]];
 
+// Checks that the builder does not settle, and answers again once it is cleared.
+fn check_unsettled(
+    rt: &impl Abort,
+    overlay: &mut Overlay<i32, Global>,
+    contour: &[IntPoint<i32>],
+) -> Result<(), OverlayError> {
+    assert!(rt; edge_count(overlay, FillRule::NonZero) == Err(OverlayError::NotSettled));
+    assert!(rt; edge_count(overlay, FillRule::NonZero) == Err(OverlayError::Failed));
+    assert!(rt;
+        is_refused(
+            add(rt, overlay, contour, ShapeType::Subject),
+            OverlayError::Failed
+        )
+    );
+    overlay.clear();
+    add(rt, overlay, contour, ShapeType::Subject)?;
+    check_fills(rt, overlay, FillRule::NonZero, &OF_SQUARE)
+}
+
 #[test]
 fn a_builder_that_did_not_settle_fails_until_it_is_cleared(rt: HostRuntime) -> Result<(), Fail> {
-    let mut overlay = builder_of(&rt, rt.alloc(), NEEDLES, ShapeType::Subject)?;
     let contour = contour_of(rt.alloc(), SQUARE)?;
-    assert!(rt; edges(&mut overlay, FillRule::NonZero) == Err(OverlayError::NotSettled));
-    assert!(rt; edges(&mut overlay, FillRule::NonZero) == Err(OverlayError::Failed));
-    assert!(rt; add(&rt, &mut overlay, &contour, ShapeType::Subject) == Err(OverlayError::Failed));
-    overlay.clear();
-    add(&rt, &mut overlay, &contour, ShapeType::Subject)?;
-    check_fills(&rt, &mut overlay, FillRule::NonZero, &OF_SQUARE)?;
+    let mut overlay = builder_of(&rt, rt.alloc(), NEEDLES, ShapeType::Subject)?;
+    check_unsettled(&rt, &mut overlay, &contour)?;
     Ok(())
 }
 
@@ -61,7 +76,7 @@ fn add_no_points(overlay: &mut Overlay<i32, Global>) -> (Result<(), OverlayError
 #[test]
 fn a_failed_builder_does_not_ask_for_points(rt: HostRuntime) -> Result<(), Fail> {
     let mut overlay = builder_of(&rt, rt.alloc(), NEEDLES, ShapeType::Subject)?;
-    assert!(rt; edges(&mut overlay, FillRule::NonZero).is_err());
+    assert!(rt; edge_count(&mut overlay, FillRule::NonZero).is_err());
     assert!(rt; add_no_points(&mut overlay) == (Err(OverlayError::Failed), false));
     overlay.clear();
     assert!(rt; add_no_points(&mut overlay) == (Ok(()), true));

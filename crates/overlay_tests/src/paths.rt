@@ -31,10 +31,20 @@ fn check_new<I: OverlayInt>(
     fills: &[u8],
 ) -> Result<(), OverlayError> {
     let mut overlay = made?;
+    check_held(rt, &mut overlay, keeps_points, fills)
+}
+
+// The same, of the builder.
+fn check_held<I: OverlayInt>(
+    rt: &impl Abort,
+    overlay: &mut Overlay<I, Global>,
+    keeps_points: bool,
+    fills: &[u8],
+) -> Result<(), OverlayError> {
     assert!(rt; overlay.options.preserve_input_collinear == keeps_points);
     assert!(rt; overlay.options.preserve_output_collinear == keeps_points);
     assert!(rt; overlay.boolean_buffer.is_some());
-    check_fills(rt, &mut overlay, FillRule::NonZero, fills)
+    check_fills(rt, overlay, FillRule::NonZero, fills)
 }
 
 // Each constructor gives the edges of the subject, or of both.
@@ -88,10 +98,20 @@ fn check_reinits<I: OverlayInt>(
     clip: PathRef<'_, I>,
 ) -> Result<(), OverlayError> {
     let mut bare = bare_builder(alloc)?;
-    reinit_with_subj_and_clip(rt, &mut bare, &subj, &clip)?;
-    check_bare(rt, &mut bare, &OF_BOTH)?;
-    reinit_with_subj(rt, &mut bare, &subj)?;
-    check_bare(rt, &mut bare, &OF_SQUARE)
+    check_reinits_of(rt, &mut bare, subj, clip)
+}
+
+// The same, of such a builder.
+fn check_reinits_of<I: OverlayInt>(
+    rt: &impl Abort,
+    bare: &mut Overlay<I, Global>,
+    subj: PathRef<'_, I>,
+    clip: PathRef<'_, I>,
+) -> Result<(), OverlayError> {
+    reinit_with_subj_and_clip(rt, bare, &subj, &clip)?;
+    check_bare(rt, bare, &OF_BOTH)?;
+    reinit_with_subj(rt, bare, &subj)?;
+    check_bare(rt, bare, &OF_SQUARE)
 }
 
 // An iterator and a source, added to an empty builder; and nothing is left of them in the end.
@@ -102,12 +122,22 @@ fn check_adders<I: OverlayInt>(
     clip: PathRef<'_, I>,
 ) -> Result<(), OverlayError> {
     let mut overlay = Overlay::new(alloc, 8)?;
-    add_points(rt, &mut overlay, clip.points, ShapeType::Clip)?;
-    check_fills(rt, &mut overlay, FillRule::NonZero, &OF_RIGHT)?;
-    add_source(rt, &mut overlay, &subj, ShapeType::Subject)?;
-    check_fills(rt, &mut overlay, FillRule::NonZero, &OF_BOTH)?;
+    check_adders_of(rt, &mut overlay, subj, clip)
+}
+
+// The same, of such a builder.
+fn check_adders_of<I: OverlayInt>(
+    rt: &impl Abort,
+    overlay: &mut Overlay<I, Global>,
+    subj: PathRef<'_, I>,
+    clip: PathRef<'_, I>,
+) -> Result<(), OverlayError> {
+    add_points(rt, overlay, clip.points, ShapeType::Clip)?;
+    check_fills(rt, overlay, FillRule::NonZero, &OF_RIGHT)?;
+    add_source(rt, overlay, &subj, ShapeType::Subject)?;
+    check_fills(rt, overlay, FillRule::NonZero, &OF_BOTH)?;
     overlay.clear();
-    check_fills(rt, &mut overlay, FillRule::NonZero, &[])
+    check_fills(rt, overlay, FillRule::NonZero, &[])
 }
 
 // Each constructor and each adder gives the edges of the two squares, at a coordinate type.

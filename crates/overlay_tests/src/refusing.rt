@@ -1,4 +1,7 @@
 //! An allocator that grants a number of requests and refuses the later ones.
+
+ghost use Rattle.std.specs.Prelude.{◌≡◌, ◌↔◌, ◌+◌, None, IfSome};
+
 use std::alloc::{AllocError, Allocator};
 use std::cell::Cell;
 
@@ -31,9 +34,17 @@ impl<B: Allocator> Refusing<B> {
     }
 }
 
+/// What is left once a request is granted: one less. Where nothing was left, none is granted.
+fn left_after(left: u64) -> Option<u64>
+    ensures none { (result ≡ None) ↔ (left ≡ 0) }
+    ensures one_less { IfSome result (λ rest. rest + 1 ≡ left) }
+{
+    left.checked_sub(1)
+}
+
 /// Takes one off what is left, or answers `false` where nothing is.
 fn takes_turn(left: &Cell<u64>) -> bool {
-    let Some(rest) = left.get().checked_sub(1) else {
+    let Some(rest) = left_after(left.get()) else {
         return false;
     };
     left.set(rest);

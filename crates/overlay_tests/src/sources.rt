@@ -1,8 +1,8 @@
 //! Adders of several paths where memory is refused: what came before the refused path stays.
 
 use crate::builders::{
-    add_points, add_source, edge_count, from_subj, from_subj_and_clip, reinit_with_subj,
-    reinit_with_subj_and_clip,
+    add_points, add_source, edge_count, from_subj, from_subj_and_clip, is_refused,
+    reinit_with_subj, reinit_with_subj_and_clip,
 };
 use crate::refusing::Refusing;
 use crate::squares::{PLENTY, Refusable, square};
@@ -47,7 +47,7 @@ fn edges_of_source(
         assert!(rt; count == 8);
         return Ok(count);
     }
-    assert!(rt; added == Err(OverlayError::Memory));
+    assert!(rt; is_refused(added, OverlayError::Memory));
     assert!(rt; count == 0 || count == 4);
     Ok(count)
 }
@@ -84,7 +84,7 @@ fn adds_points_or_nothing(
         assert!(rt; count == 4);
         return Ok(true);
     }
-    assert!(rt; added == Err(OverlayError::Memory));
+    assert!(rt; is_refused(added, OverlayError::Memory));
     assert!(rt; count == 0);
     Ok(false)
 }
@@ -120,7 +120,7 @@ fn reinits_or_keeps(
         assert!(rt; count == 8);
         return Ok(true);
     }
-    assert!(rt; added == Err(OverlayError::Memory));
+    assert!(rt; is_refused(added, OverlayError::Memory));
     assert!(rt; count == 0 || count == 4);
     Ok(false)
 }
@@ -141,7 +141,18 @@ fn a_refused_reinit_keeps_the_paths_before_and_no_older_ones(rt: HostRuntime) ->
 
 // Checks that the builder has failed.
 fn check_failed(rt: &impl Abort, overlay: &mut Refusable<'_>, shape: &IntShape<i32, Global>) {
-    assert!(rt; add_source(rt, overlay, shape, ShapeType::Clip) == Err(OverlayError::Failed));
+    assert!(rt;
+        is_refused(
+            add_source(rt, overlay, shape, ShapeType::Clip),
+            OverlayError::Failed
+        )
+    );
+}
+
+// Fails a builder by a refused query.
+fn fail(rt: &impl Abort, memory: &Refusing<Global>, overlay: &mut Refusable<'_>) {
+    memory.grant(0);
+    assert!(rt; edge_count(overlay, FillRule::NonZero) == Err(OverlayError::Memory));
 }
 
 #[test]
@@ -149,8 +160,7 @@ fn reinit_mends_a_failed_builder(rt: HostRuntime) -> Result<(), Fail> {
     let memory = Refusing::new(rt.alloc(), PLENTY);
     let shape = two_squares(rt.alloc())?;
     let mut overlay = from_subj(&rt, &memory, &shape)?;
-    memory.grant(0);
-    assert!(rt; edge_count(&mut overlay, FillRule::NonZero) == Err(OverlayError::Memory));
+    fail(&rt, &memory, &mut overlay);
     check_failed(&rt, &mut overlay, &shape);
     memory.grant(PLENTY);
     check_failed(&rt, &mut overlay, &shape);

@@ -1,0 +1,25 @@
+-- An edge with the region on both sides, or on neither, has no step; another one has the step with that side on its left, or on its right.
+use Rattle.std.proofs.Common.{◌≡◌, cond, sym, ap, ◌∙◌}
+use Rattle.overlay_plane.specs.SelectedSteps.{step_with_left}
+use Rattle.overlay_arrange.specs.Vectors.{plain_vector}
+use Rattle.overlay_walk.specs.Steps.{is_on_left}
+use Rattle.i_overlay.specs.Selection.{ends}
+use Rattle.i_overlay.proofs.OneSide.{no_step, one_step}
+use Rattle.i_overlay.proofs.select.selected_step.Goals as goal
+use Rattle.i_overlay.proofs.select.selected_step.Goals.{in-CounterClockwise, in-Clockwise}
+
+pub returns-then-above-below : goal.returns-then-above-below
+returns-then-above-below g c =
+    no_step (is_on_left c.args.direction) (λ t. step_with_left t (ends (plain_vector g.I.IntNumber.whole c.args.edge))) _ _ _ _
+    c.holds_above-above.ensures c.holds_below-below.ensures c.if-above-below.true
+
+pub returns : goal.returns
+returns g c =
+    let above = c.holds_above-above.result in
+    let below = c.holds_below-below.result in
+    let along : c.match-direction.goes_along ≡ cond (is_on_left c.args.direction) above below = elim c.match-direction.branch [
+      | in-CounterClockwise w ↦ w.goes_along-is ∙ ap (λ d. cond (is_on_left d) above below) (sym w.in-CounterClockwise.is)
+      | in-Clockwise w ↦ w.goes_along-is ∙ ap (λ d. cond (is_on_left d) above below) (sym w.in-Clockwise.is)
+    ] in
+    one_step (is_on_left c.args.direction) (λ t. step_with_left t (ends (plain_vector g.I.IntNumber.whole c.args.edge))) above below _ _
+    c.holds_above-above.ensures c.holds_below-below.ensures c.match-direction.goes_along _ c.if-above-below.false along c.step_along.ensures
