@@ -2,28 +2,31 @@
 
 use overlay_geom::error::OverlayError;
 use std::alloc::Global;
+use std::process::Abort;
 use std::test::Fail;
+
+// The error is printed so.
+fn check_text(rt: &impl Abort, alloc: Global, error: OverlayError, text: &str) -> Result<(), Fail> {
+    assert_eq!(rt; format!(in alloc; "{error}")?.as_str(), text);
+    Ok(())
+}
 
 #[test]
 fn texts(rt: HostRuntime) -> Result<(), Fail> {
-    let alloc = rt.alloc();
-    assert_eq!(rt;
-        format!(in alloc; "{}", OverlayError::Memory)?.as_str(),
-        "out of memory"
-    );
-    assert_eq!(rt;
-        format!(in alloc; "{}", OverlayError::NotSettled)?.as_str(),
-        "splitting did not settle"
-    );
-    assert_eq!(rt;
-        format!(in alloc; "{}", OverlayError::TooManyEdges)?.as_str(),
-        "too many edges"
-    );
-    assert_eq!(rt;
-        format!(in alloc; "{}", OverlayError::Failed)?.as_str(),
-        "builder failed"
-    );
-    Ok(())
+    check_text(&rt, rt.alloc(), OverlayError::Memory, "out of memory")?;
+    check_text(
+        &rt,
+        rt.alloc(),
+        OverlayError::NotSettled,
+        "splitting did not settle",
+    )?;
+    check_text(
+        &rt,
+        rt.alloc(),
+        OverlayError::TooManyEdges,
+        "too many edges",
+    )?;
+    check_text(&rt, rt.alloc(), OverlayError::Failed, "builder failed")
 }
 
 fn with_room(alloc: Global, room: usize) -> Result<Vec<u64>, OverlayError> {

@@ -1,5 +1,5 @@
 -- Adding steps to a list of counted edges one by one: what stands and what is to come stay the whole.
-use Rattle.std.proofs.Common.{◌≡◌, ◌≤◌, ◌++◌, ◌∷◌, map, take, length, List, sym, ◌∙◌, ap, append_assoc, arith, length-take}
+use Rattle.std.proofs.Common.{◌≡◌, ◌≤◌, ◌++◌, [], ◌∷◌, map, take, length, List, sym, ◌∙◌, ap, append_assoc, append-nil, arith, length-take}
 use Rattle.std.proofs.lemmas.List.{map-append, take-take}
 use Rattle.overlay_geom.specs.Plane.{Point, Step, steps_between, steps_through}
 use Rattle.overlay_geom.specs.Edges.{CountedEdge}
@@ -20,3 +20,10 @@ push-next f from to rest old new whole h e =
     ∙ append_assoc old (map f (steps_between from to)) (map f (steps_through to rest))
     ∙ ap (λ (l : List CountedEdge). old ++ l) (sym (map-append f (steps_between from to) (steps_through to rest)))
     ∙ h
+
+-- and with the last one what stands is the whole
+pub push-last : (f : Step → CountedEdge) (from to : Point) (old new whole : List CountedEdge)
+    → old ++ map f (steps_through from (to ∷ [])) ≡ whole
+    → new ≡ old ++ map f (steps_between from to)
+    → new ≡ whole
+push-last f from to old new whole h e = sym (append-nil new) ∙ push-next f from to [] old new whole h e

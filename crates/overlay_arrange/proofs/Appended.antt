@@ -1,6 +1,6 @@
 -- Lists to which something was appended, as a program that appends it finds them.
-use Rattle.std.proofs.Common.{◌≡◌, ℕ, ◌+◌, ◌<◌, List, [], ◌∷◌, ◌++◌, map, length, take, get_or, sym, ◌∙◌, ap, append_assoc, append-nil}
-use Rattle.std.specs.List.{flat_map}
+use Rattle.std.proofs.Common.{◌≡◌, Bool, true, false, cond, ℕ, ◌+◌, ◌<◌, List, [], ◌∷◌, ◌++◌, map, length, take, get_or, refl, sym, ◌∙◌, ap, append_assoc, append-nil}
+use Rattle.std.specs.List.{filter, flat_map}
 use Rattle.std.proofs.lemmas.List.{map-append}
 use Rattle.overlay_geom.proofs.Mapped.{mapped_more}
 
@@ -29,3 +29,16 @@ next_mapped f k plain old new x ws i w within at is maps before =
     mapped_pushed f old new x (k (plain w)) is maps
     ∙ ap (λ zs. zs ++ k (plain w) ∷ []) before
     ∙ sym (ap (map k) (mapped_more plain ws i w within at) ∙ map-append k (map plain (take i ws)) (plain w ∷ []))
+
+-- what a test keeps of two items is what it keeps of the one and of the other
+pub two_kept : {X : Type 0} (p : X → Bool) (old more new : List X) (x y : X)
+    → more ≡ old ++ filter p (x ∷ []) → new ≡ more ++ filter p (y ∷ []) → new ≡ old ++ filter p (x ∷ y ∷ [])
+two_kept p old more new x y first second =
+    second
+    ∙ ap (λ zs. zs ++ filter p (y ∷ [])) first
+    ∙ append_assoc old (filter p (x ∷ [])) (filter p (y ∷ []))
+    ∙ ap (λ zs. old ++ zs) (by (p x))
+  where
+    by : (b : Bool) → cond b (x ∷ []) [] ++ filter p (y ∷ []) ≡ cond b (x ∷ filter p (y ∷ [])) (filter p (y ∷ []))
+    by true = refl
+    by false = refl

@@ -97,11 +97,22 @@ fn push_ends_between<I: IntNumber, C: EdgeCount, A: Allocator>(
         ≡ plain_points I.whole points.old.items ++ filter (is_between (ends_of g)) (h.a ∷ h.b ∷ [])) }
     ensures only { IsOkUnless result OverlayError.Memory }
 {
-    if is_between(e, f.a) {
-        points.push(f.a)?;
-    }
-    if is_between(e, f.b) {
-        points.push(f.b)?;
+    push_between(points, e, f.a)?;
+    push_between(points, e, f.b)
+}
+
+/// Appends the point if it lies between the ends of e.
+fn push_between<I: IntNumber, C: EdgeCount, A: Allocator>(
+    points: &mut Vec<IntPoint<I>, A>,
+    e: &CountedEdge<I, C>,
+    v: IntPoint<I>,
+) -> Result<(), OverlayError>
+    ensures ok { OnOk result (plain_points I.whole points.new.items ≡ plain_points I.whole points.old.items
+        ++ filter (is_between (ends_of (plain_edge I.whole C.counts e.now))) (plain_point I.whole v ∷ [])) }
+    ensures only { IsOkUnless result OverlayError.Memory }
+{
+    if is_between(e, v) {
+        points.push(v)?;
     }
     Ok(())
 }

@@ -1,5 +1,7 @@
 -- Each edge is held and light, and is led through points in range; a heavy beginning makes a heavy whole.
-use Rattle.std.proofs.Common.{◌≡◌, ◌+◌, ◌++◌, List, All, drop, refl, sym, subst, ap, ◌∙◌, arith, rules}
+use Rattle.std.proofs.Common.{◌≡◌, ◌≤◌, ◌+◌, ◌++◌, List, All, length, drop, refl, sym, subst, ap, ◌∙◌, append-nil, arith, rules}
+use Rattle.std.proofs.lemmas.List.{at_drop_all}
+use Rattle.overlay_arrange.specs.declared.edge.CountedEdge.{CountedEdge}
 use Rattle.std.specs.List.{flat_map}
 use Rattle.overlay_geom.specs.Plane.{Point}
 use Rattle.overlay_geom.specs.Points.{plain_points, InRange}
@@ -59,3 +61,11 @@ loop-e-preserved g c =
     let same : plain_points g.I.IntNumber.whole c.deref.result.now ≡ cut_points es e = ap (plain_points g.I.IntNumber.whole) c.deref.ensures.value ∙ c.in_ok-points.ensures.ok in
     next_appended (pieces_through (cut_points es)) c.loop-e.pieces _ e rest _ _ (mapped_rest plain c.args.edges.now i c.e-item.result c.loop-e-test.true c.e-item.is)
     c.loop-e.invariant (rw same at c.in_ok-push_pieces.ensures.ok)
+
+pub returns-clause-ok : goal.returns-clause-ok
+returns-clause-ok g c =
+    let es = plain_edges g.I.IntNumber.whole g.C.EdgeCount.counts c.args.edges.now in
+    let past : length c.args.edges.now ≤ c.loop-e.e-index = search rules in
+    let none = at_drop_all (λ (fs : List (CountedEdge _ _)). c.loop-e.pieces ++ flat_map (pieces_through (cut_points es)) (plain_edges g.I.IntNumber.whole g.C.EdgeCount.counts fs))
+    c.args.edges.now c.loop-e.e-index past in
+    sym (append-nil c.loop-e.pieces) ∙ sym none ∙ c.loop-e.invariant

@@ -1,11 +1,15 @@
 -- The next piece moves from what is to come to what stands, and a heavy beginning makes a heavy whole.
-use Rattle.std.proofs.Common.{◌+◌, ◌++◌, [], ◌∷◌, map, drop, refl, rules}
+use Rattle.std.proofs.Common.{◌≤◌, ◌+◌, ◌++◌, [], ◌∷◌, map, drop, length, List, refl, sym, subst, ◌∙◌, rules}
+use Rattle.std.proofs.lemmas.List.{at_drop_all}
+use Rattle.std.proofs.lemmas.Result.{on_ok_weaker}
+use Rattle.overlay_geom.specs.Edges.{CountedEdge, weight}
 use Rattle.overlay_geom.specs.Plane.{steps_between, steps_through}
 use Rattle.overlay_geom.specs.Points.{plain_point, plain_points, InRange}
+use Rattle.overlay_geom.specs.declared.point.IntPoint.{IntPoint}
 use Rattle.overlay_geom.proofs.Mapped.{mapped_rest, All-mapped_at}
 use Rattle.overlay_plane.specs.Cutting.{piece_along}
 use Rattle.overlay_arrange.specs.Content.{plain_edge}
-use Rattle.overlay_arrange.proofs.Adding.{push-next}
+use Rattle.overlay_arrange.proofs.Adding.{push-next, push-last}
 use Rattle.overlay_arrange.proofs.Pieces.{heavy_beginning}
 use Rattle.overlay_arrange.proofs.cut.push_pieces.Goals as goal
 
@@ -32,3 +36,28 @@ returns-in_err-push_piece-clause-too_many g c =
     let part = c.loop-to.pieces ++ map (piece_along e) (steps_between (at c.loop-to.from) (at c.to-item.result)) in
     let all = push-next (piece_along e) (at c.loop-to.from) (at c.to-item.result) rest c.loop-to.pieces part _ (rw next at c.loop-to.invariant.0) refl in
     λ refused. heavy_beginning 2147483648 part (map (piece_along e) (steps_through (at c.to-item.result) rest)) _ all (c.push_piece.ensures.too_many (search rules))
+
+pub returns-clause-ok : goal.returns-clause-ok
+returns-clause-ok g c =
+    let at = plain_point g.I.IntNumber.whole in
+    let e = plain_edge g.I.IntNumber.whole g.C.EdgeCount.counts c.args.e.now in
+    let past : length c.args.points.now ≤ c.loop-to.to-index = search rules in
+    let none = at_drop_all (λ (ps : List (IntPoint _)). c.loop-to.pieces
+    ++ map (piece_along e) (steps_through (at c.loop-to.from) (plain_points g.I.IntNumber.whole ps ++ e.b ∷ []))) c.args.points.now c.loop-to.to-index past in
+    on_ok_weaker c.push_piece-2.result
+    (push-last (piece_along e) (at c.loop-to.from) e.b c.loop-to.pieces c.push_piece-2.new.pieces
+    (c.args.pieces.now ++ map (piece_along e) (steps_through e.a (plain_points g.I.IntNumber.whole c.args.points.now ++ e.b ∷ [])))
+    (sym none ∙ c.loop-to.invariant.0))
+    c.push_piece-2.ensures.ok
+
+pub returns-clause-too_many : goal.returns-clause-too_many
+returns-clause-too_many g c =
+    let at = plain_point g.I.IntNumber.whole in
+    let e = plain_edge g.I.IntNumber.whole g.C.EdgeCount.counts c.args.e.now in
+    let past : length c.args.points.now ≤ c.loop-to.to-index = search rules in
+    let none = at_drop_all (λ (ps : List (IntPoint _)). c.loop-to.pieces
+    ++ map (piece_along e) (steps_through (at c.loop-to.from) (plain_points g.I.IntNumber.whole ps ++ e.b ∷ []))) c.args.points.now c.loop-to.to-index past in
+    let all = push-last (piece_along e) (at c.loop-to.from) e.b c.loop-to.pieces (c.loop-to.pieces ++ map (piece_along e) (steps_between (at c.loop-to.from) e.b))
+    (c.args.pieces.now ++ map (piece_along e) (steps_through e.a (plain_points g.I.IntNumber.whole c.args.points.now ++ e.b ∷ [])))
+    (sym none ∙ c.loop-to.invariant.0) refl in
+    λ refused. subst (λ (es : List CountedEdge). 2147483648 ≤ weight es) all (c.push_piece-2.ensures.too_many refused)
