@@ -3,10 +3,10 @@ use Rattle.std.proofs.Common.{rules}
 use Rattle.overlay_walk.proofs.sweep.shape_at.Goals as goal
 
 pub returns-in-Some : goal.returns-in-Some
-returns-in-Some c = search rules steps 300000
+returns-in-Some c = search rules steps 100000
 
 pub returns-in-None : goal.returns-in-None
-returns-in-None c = search rules steps 300000
+returns-in-None c = search rules steps 100000
 
 pub returns-else-walk-numbers : goal.returns-else-walk-numbers
-returns-else-walk-numbers c = search rules steps 300000
+returns-else-walk-numbers c = search rules steps 100000
