@@ -1,5 +1,5 @@
 -- All steps are long, and the answer is that of the steps read.
-use Rattle.std.proofs.Common.{◌≡◌, ◌<◌, length, sym, ap, ap₂, ◌∙◌, subst}
+use Rattle.std.proofs.Common.{◌<◌, length, sym, ap, ap₂, ◌∙◌, subst}
 use Rattle.std.specs.Prelude.{IfSome}
 use Rattle.overlay_geom.proofs.Mapped.{All-mapped_at, read_mapped}
 use Rattle.overlay_plane.specs.Turn.{no_step}
