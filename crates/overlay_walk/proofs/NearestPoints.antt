@@ -1,17 +1,15 @@
 -- The point of a list that a turning ray meets first, once one more point stands at the end of the list.
-use Rattle.std.proofs.Common.{◌≡◌, ⊎_elim, ◌≤◌, Bool, true, false, cond, Option, None, Some, option_map, unwrap_or, List, [], ◌∷◌, ◌++◌, pos, ◌+ℤ◌, ◌*ℤ◌, neg_ℤ, ◌<ℤ◌, ◌≤ℤ◌, refl, sym, ap, ◌∙◌, subst, arith}
+use Rattle.std.proofs.Common.{◌≡◌, ⊎_elim, ◌≤◌, Bool, true, false, cond, Option, None, Some, option_map, unwrap_or, List, [], ◌∷◌, ◌++◌, pos, ◌≤ℤ◌, refl, sym, ap, ◌∙◌, subst, arith}
 use Rattle.std.specs.Prelude.{All, Contains, ◌↔◌}
 use Rattle.std.proofs.lemmas.Bool.{both_ways, cases_lt}
 use Rattle.std.proofs.lemmas.Int.{by_lt_z}
 use Rattle.std.proofs.lemmas.List.{append_assoc}
 use Rattle.std.proofs.lemmas.List.Elements.{All-nil, All-cons, All-append, All-push, All-weaker, All-contains, Contains-append_right}
-use lib.IntN.{*ℤ_comm}
 use Rattle.overlay_geom.specs.Plane.{Point}
 use Rattle.overlay_geom.proofs.Entries.{Contains-head}
-use Rattle.overlay_geom.proofs.Products.{neg_ℤ-mul}
-use Rattle.overlay_geom.proofs.Signs.{linear, by_sign, mul-pos, mul-neg, mul-nonneg, mul-nonpos, pos_of_mul-pos}
-use Rattle.overlay_plane.specs.Turn.{Hand, turn, dot_at, part_of_turn, is_met_before, IsMetBefore}
-use Rattle.overlay_plane.proofs.Turning.{turn_exchanged, turn_of_four}
+use Rattle.overlay_geom.proofs.Signs.{linear}
+use Rattle.overlay_plane.specs.Turn.{Hand, turn, part_of_turn, is_met_before, IsMetBefore}
+use Rattle.overlay_plane.proofs.Turning.{turn_exchanged}
 use Rattle.overlay_plane.proofs.TurnOrder.{first_cases, first_by_part, first_by_turn, turns_on, met_transitive}
 use Rattle.overlay_walk.specs.Nearest.{Nearest, HasSeen, IsMetFirst, IsNearestOf, IsNearer}
 

@@ -3,4 +3,4 @@ use Rattle.std.proofs.Common.{rules}
 use Rattle.overlay_walk.proofs.buffer.BooleanExtractionBuffer.new.Goals as goal
 
 pub invariant_of-result : goal.invariant_of-result
-invariant_of-result g c = search rules steps 200000
+invariant_of-result g c = search rules steps 100000

@@ -12,24 +12,24 @@ returns-then-is_nearer g c = record {
   nearer = nearer_of_all c.args.self.now p c.match-self.is_nearer answer;
   seen = λ seen h. subst (λ n. HasSeen (record n { nearest = Some p }) (seen ++ p ∷ [])) (sym c.self.view_is)
       (seen_too c.args.self.now p true (sym c.if-is_nearer.true ∙ answer) seen h);
-  held = search rules steps 300000;
+  held = search rules steps 100000;
 }
   where
     p : Point
     p = plain_point g.I.IntNumber.whole c.args.point
 
     answer : c.match-self.is_nearer ≡ is_nearer c.args.self.now p
-    answer = elim c.match-self.branch [ in-None w ↦ search rules steps 300000 | in-Some w ↦ search rules steps 300000 ]
+    answer = elim c.match-self.branch [ in-None w ↦ search rules steps 100000 | in-Some w ↦ search rules steps 250000 ]
 
 pub returns-else-is_nearer : goal.returns-else-is_nearer
 returns-else-is_nearer g c = record {
   nearer = nearer_of_all c.args.self.now p c.match-self.is_nearer answer;
   seen = seen_too c.args.self.now p false (sym c.if-is_nearer.false ∙ answer);
-  held = search rules steps 300000;
+  held = search rules steps 100000;
 }
   where
     p : Point
     p = plain_point g.I.IntNumber.whole c.args.point
 
     answer : c.match-self.is_nearer ≡ is_nearer c.args.self.now p
-    answer = elim c.match-self.branch [ in-None w ↦ search rules steps 300000 | in-Some w ↦ search rules steps 300000 ]
+    answer = elim c.match-self.branch [ in-None w ↦ search rules steps 100000 | in-Some w ↦ search rules steps 250000 ]

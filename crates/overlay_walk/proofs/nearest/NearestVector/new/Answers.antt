@@ -3,4 +3,4 @@ use Rattle.std.proofs.Common.{rules}
 use Rattle.overlay_walk.proofs.nearest.NearestVector.new.Goals as goal
 
 pub returns : goal.returns
-returns g c = search rules steps 200000
+returns g c = search rules steps 100000

@@ -3,7 +3,7 @@ use Rattle.std.proofs.Common.{rules}
 use Rattle.overlay_walk.proofs.nearest.Ray.turn.Goals as goal
 
 pub returns-in-Left : goal.returns-in-Left
-returns-in-Left g c = search rules steps 200000
+returns-in-Left g c = search rules steps 100000
 
 pub returns-in-Right : goal.returns-in-Right
-returns-in-Right g c = search rules steps 200000
+returns-in-Right g c = search rules steps 100000

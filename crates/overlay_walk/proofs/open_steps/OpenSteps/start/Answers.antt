@@ -1,5 +1,5 @@
 -- The place that is found is that of the start of the steps that are not marked.
-use Rattle.std.proofs.Common.{subst, rules}
+use Rattle.std.proofs.Common.{subst}
 use Rattle.std.specs.Prelude.{Contains}
 use Rattle.overlay_walk.proofs.Starts.{none_left, start_left, start_found}
 use Rattle.overlay_walk.proofs.open_steps.OpenSteps.start.Goals as goal
@@ -8,7 +8,7 @@ pub returns-in_err-place-clause-none : goal.returns-in_err-place-clause-none
 returns-in_err-place-clause-none g c = (
   λ e. rw (← c.self.view_is) (none_left g.I.IntNumber.whole g.I.IntNumber.limit c.self.inside.steps.items c.self.inside.taken.items c.self.invariant.0
       (rw (c.deref.ensures.value, c.deref-2.ensures.value) at c.in_err-place.ensures)),
-  λ e. search rules,
+  λ e. c.from_residual.ensures,
 )
 
 pub returns-clause-some : goal.returns-clause-some
