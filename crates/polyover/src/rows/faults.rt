@@ -5,6 +5,7 @@ use crate::engine::run;
 use crate::exit::Exit;
 use overlay_geom::error::OverlayError;
 use overlay_tests::refusing::Refusing;
+use std::alloc::Allocator;
 use std::io;
 use std::io::{ErrorKind, Read, Write};
 use std::process::Abort;
@@ -36,14 +37,14 @@ impl Read for FailingReader<'_> {
 
 // Takes one byte a write, and fails at the write after some of them, or takes none there. It may fail to flush.
 #[derive(Drop)]
-struct FailingWriter {
-    taken: Vec<u8>,
+struct FailingWriter<A: Allocator> {
+    taken: Vec<u8, A>,
     writes: u64,
     takes_none: bool,
     flushes: bool,
 }
 
-impl Write for FailingWriter {
+impl<A: Allocator> Write for FailingWriter<A> {
     fn write(&mut self, buf: &[u8]) -> io::Result<usize> {
         let Some(first) = buf.first() else {
             return Ok(0);
@@ -159,8 +160,8 @@ fn a_writer_that_does_not_flush(rt: HostRuntime) {
 }
 
 // How the engine ends where so many growths are granted, and what it writes.
-fn end_with(rt: &impl Alloc, granted: u64, input: &[u8], written: &mut Vec<u8>) -> Exit {
-    let memory = Refusing::new(rt.alloc(), granted);
+fn end_with<A: Allocator>(alloc: A, granted: u64, input: &[u8], written: &mut Vec<u8, A>) -> Exit {
+    let memory = Refusing::new(alloc, granted);
     let mut reader = input;
     run(&memory, &mut reader, written)
 }
@@ -169,7 +170,7 @@ fn end_with(rt: &impl Alloc, granted: u64, input: &[u8], written: &mut Vec<u8>) 
 fn refuse_each_growth(rt: &(impl Abort + Alloc), input: &[u8], wanted: &str) {
     for granted in 0..1000 {
         let mut written = Vec::new(rt.alloc());
-        let ended = end_with(rt, granted, input, &mut written);
+        let ended = end_with(rt.alloc(), granted, input, &mut written);
         if ended == Exit::Answered {
             assert!(rt; granted > 0);
             assert_eq!(rt; &written[..], wanted.as_bytes());
