@@ -23,8 +23,8 @@ fn check_reader<R: Read + Drop>(
 ) {
     let mut written = Vec::new(rt.alloc());
     let ended = run(rt.alloc(), &mut reader, &mut written);
-    assert!(rt; ended == exit, "wanted: {wanted}, ended with {ended:?}");
-    assert_eq!(rt; &written[..], wanted.as_bytes());
+    let is_wanted = ended == exit && &written[..] == wanted.as_bytes();
+    assert!(rt; is_wanted, "ended with {ended:?}; wanted: {wanted}");
 }
 
 #[test]

@@ -7,6 +7,7 @@ pub mod NextWord
 pub mod Numbers
 pub mod OptionLists
 pub mod PointLists
+pub mod Printing
 pub mod Reading
 pub mod Readings
 pub mod SoFar

@@ -5,6 +5,7 @@ use crate::engine::run;
 use crate::exit::Exit;
 use overlay_geom::error::OverlayError;
 use overlay_tests::refusing::Refusing;
+use std::alloc::Allocator;
 use std::io;
 use std::io::{ErrorKind, Read, Write};
 use std::process::Abort;
@@ -36,14 +37,14 @@ impl Read for FailingReader<'_> {
 
 // Takes one byte a write, and fails at the write after some of them, or takes none there. It may fail to flush.
 #[derive(Drop)]
-struct FailingWriter {
-    taken: Vec<u8>,
+struct FailingWriter<A: Allocator> {
+    taken: Vec<u8, A>,
     writes: u64,
     takes_none: bool,
     flushes: bool,
 }
 
-impl Write for FailingWriter {
+impl<A: Allocator> Write for FailingWriter<A> {
     fn write(&mut self, buf: &[u8]) -> io::Result<usize> {
         let Some(first) = buf.first() else {
             return Ok(0);
@@ -137,9 +138,9 @@ fn check_writer(
         flushes,
     };
     let ended = run(rt.alloc(), &mut reader, &mut writer);
-    assert!(rt; ended == exit, "after {writes} writes");
-    assert_eq!(rt; writer.taken.len() as u64, writes);
-    assert!(rt; SQUARE_EDGES.as_bytes().starts_with(&writer.taken[..]));
+    let taken = &writer.taken[..];
+    let is_beginning = taken.len() as u64 == writes && SQUARE_EDGES.as_bytes().starts_with(taken);
+    assert!(rt; ended == exit && is_beginning, "after {writes} writes");
 }
 
 #[test]
@@ -158,25 +159,26 @@ fn a_writer_that_does_not_flush(rt: HostRuntime) {
     check_writer(&rt, SQUARE_EDGES.len() as u64, false, false, Exit::Io);
 }
 
-// How the engine ends where so many growths are granted, and what it writes.
-fn end_with(rt: &impl Alloc, granted: u64, input: &[u8], written: &mut Vec<u8>) -> Exit {
+// Whether the engine answers where so many growths are granted; if not, memory is refused.
+fn is_answered(rt: &(impl Abort + Alloc), granted: u64, input: &[u8], wanted: &str) -> bool {
     let memory = Refusing::new(rt.alloc(), granted);
     let mut reader = input;
-    run(&memory, &mut reader, written)
+    let mut written = Vec::new(rt.alloc());
+    let ended = run(&memory, &mut reader, &mut written);
+    if ended == Exit::Answered {
+        assert!(rt; granted > 0 && &written[..] == wanted.as_bytes());
+        return true;
+    }
+    assert!(rt; ended == Exit::Refused(OverlayError::Memory) && written.is_empty());
+    false
 }
 
 // Lets each growth fail in turn, until all that are needed are granted.
 fn refuse_each_growth(rt: &(impl Abort + Alloc), input: &[u8], wanted: &str) {
     for granted in 0..1000 {
-        let mut written = Vec::new(rt.alloc());
-        let ended = end_with(rt, granted, input, &mut written);
-        if ended == Exit::Answered {
-            assert!(rt; granted > 0);
-            assert_eq!(rt; &written[..], wanted.as_bytes());
+        if is_answered(rt, granted, input, wanted) {
             return;
         }
-        assert!(rt; ended == Exit::Refused(OverlayError::Memory));
-        assert_eq!(rt; written.len(), 0);
     }
     assert!(rt; false, "never answered");
 }
