@@ -19,9 +19,12 @@ pub mod Midpoints
 pub mod OnWay
 pub mod OneLine
 pub mod Orders
+pub mod Places
+pub mod PointComparisons
 pub mod PointOrder
 pub mod Products
 pub mod ReadInOrder
+pub mod ResolvedSteps
 pub mod Rounded
 pub mod Shuffled
 pub mod Signs

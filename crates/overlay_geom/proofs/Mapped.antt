@@ -2,7 +2,7 @@
 -- what a test keeps of it.
 use Rattle.std.proofs.Common.{◌≡◌, Bool, true, false, cond, ℕ, ◌+◌, ◌-◌, ◌<◌, ◌≤◌, List, [], ◌∷◌, ◌++◌, map, All, length, take, drop, slice_range, get_or, refl, sym, ◌∙◌, ap, subst, arith}
 use Rattle.std.specs.List.{AllPairs, Contains, filter}
-use Rattle.std.proofs.lemmas.List.{map_more, get_or-map, length-map, take_all, take-map, drop-map, drop_more}
+use Rattle.std.proofs.lemmas.List.{map_more, get_or-map, length-map, length-drop, take_all, take-map, drop-map, drop_more}
 use Rattle.std.proofs.lemmas.List.Elements.{All-push, All-take, All-drop}
 
 -- the mapped list, with one more element
@@ -61,3 +61,9 @@ map-filter f p (x ∷ xs) =
       | true ↦ ap (λ ys. f x ∷ ys) rest
       | false ↦ rest
     ]
+
+-- the part of a list from a place to its end, mapped, is what is left from there
+pub mapped_from : {X Y : Type 0} (f : X → Y) (xs : List X) (i : ℕ) → map f (slice_range xs i (length xs)) ≡ map f (drop i xs)
+mapped_from f xs i =
+    let short : length (drop i xs) ≤ length xs - i = omega (arith, length-drop i xs) in
+    ap (map f) (take_all (length xs - i) (drop i xs) short)

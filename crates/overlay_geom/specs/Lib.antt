@@ -6,6 +6,7 @@ pub mod Paths
 pub mod Placed
 pub mod Plane
 pub mod Points
+pub mod Resolved
 pub mod Rounding
 pub mod Settled
 pub mod Small

@@ -1,0 +1,101 @@
+-- Where a whole point lies by an edge: on it, or above it.
+use Rattle.std.proofs.Common.{◌≡◌, ◌↔◌, Bool, true, false, not, cond, ◌&&◌, ℤ, pos, ◌*ℤ◌, int_lt, int_le, refl, sym, ap, ◌∙◌, arith}
+use Rattle.std.specs.Ordering.{is_lt, is_eq, int_cmp}
+use Rattle.std.specs.declared.cmp.Ordering.TheVariants.{Less, Equal, Greater}
+use Rattle.std.proofs.lemmas.Bool.{false_from_ne_true, both_ways, and_parts, and_from}
+use Rattle.std.proofs.lemmas.Int.{ints}
+use Rattle.overlay_geom.specs.Plane.{Point, Edge, point_lt, cross_at, side, in_plane, is_strictly_below, IsOn}
+use Rattle.overlay_geom.specs.Resolved.{point_cmp}
+use Rattle.overlay_geom.proofs.AlongEdge.{over, place_of, sideE, on_of_order, order_of_on}
+use Rattle.overlay_geom.proofs.Cross.{crossE}
+use Rattle.overlay_geom.proofs.Identities.{solve, number, ◌≗◌}
+use Rattle.overlay_geom.proofs.PointOrder.{IsUpTo, Decides-point_lt, by_order, not_before_up_to}
+use Rattle.overlay_plane.proofs.Tests.{lt_from_test, ge_from_test, le_from_test, test_from_lt, test_from_le}
+
+-- a whole point's side is a cross product
+pub side-whole : (e : Edge) (v : Point) → side e (in_plane v) ≡ cross_at e.a e.b v
+side-whole e v = solve 6 (λ ax ay bx by x y. sideE ax ay bx by x y (number (pos 1)) ≗ crossE ax ay bx by x y) tt e.a.x e.a.y e.b.x e.b.y v.x v.y
+
+-- a point compares as less where it is smaller
+pub is_lt-point_cmp : (p q : Point) → is_lt (point_cmp p q) ≡ point_lt p q
+is_lt-point_cmp p q = by (point_lt p q) (point_lt q p)
+  where
+    by : (s t : Bool) → is_lt (cond s Less (cond t Greater Equal)) ≡ s
+    by true t = refl
+    by false true = refl
+    by false false = refl
+
+-- where one point is not smaller, the other is up to it
+up_to_where_not_less : (p q : Point) → point_lt q p ≡ false → IsUpTo p q
+up_to_where_not_less p q none = by_order p q (λ up. up) (λ before. absurd (both_ways (point_lt q p) none ((Decides-point_lt q p).1 before)))
+
+not_less_where_up_to : (p q : Point) → IsUpTo p q → point_lt q p ≡ false
+not_less_where_up_to p q up = false_from_ne_true (point_lt q p) (λ less. not_before_up_to q p ((Decides-point_lt q p).0 less) up)
+
+-- over 1 a whole point is itself
+whole_up_to : (u v : Point) → IsUpTo u v ↔ IsUpTo (over u (pos 1)) (place_of (in_plane v))
+whole_up_to u v = (
+  λ up. let a = up.x in record { x = omega (arith, ints); y = λ le. let b = up.y (omega (arith, ints)) in omega (arith, ints) },
+  λ up. let a = up.x in record { x = omega (arith, ints); y = λ le. let b = up.y (omega (arith, ints)) in omega (arith, ints) },
+)
+
+whole_from : (u v : Point) → IsUpTo u v ↔ IsUpTo (place_of (in_plane u)) (over v (pos 1))
+whole_from u v = (
+  λ up. let a = up.x in record { x = omega (arith, ints); y = λ le. let b = up.y (omega (arith, ints)) in omega (arith, ints) },
+  λ up. let a = up.x in record { x = omega (arith, ints); y = λ le. let b = up.y (omega (arith, ints)) in omega (arith, ints) },
+)
+
+module _ (e : Edge) (v : Point) (forward : point_lt e.a e.b ≡ true) where
+  -- a point of the edge's line between its ends is on it
+  pub on_where_tested : cross_at e.a e.b v ≡ pos 0 → point_lt v e.a ≡ false → point_lt e.b v ≡ false → IsOn e (in_plane v)
+  on_where_tested level from to = on_of_order e (in_plane v) ((Decides-point_lt e.a e.b).0 forward) (side-whole e v ∙ level)
+      ((whole_up_to e.a v).0 (up_to_where_not_less e.a v from)) ((whole_from v e.b).0 (up_to_where_not_less v e.b to))
+
+  -- and a point on it is so
+  pub level_where_on : IsOn e (in_plane v) → cross_at e.a e.b v ≡ pos 0
+  level_where_on on = sym (side-whole e v) ∙ on.on_line
+
+  pub from_where_on : IsOn e (in_plane v) → point_lt v e.a ≡ false
+  from_where_on on = not_less_where_up_to e.a v ((whole_up_to e.a v).1 (order_of_on e (in_plane v) ((Decides-point_lt e.a e.b).0 forward) on).0)
+
+  pub to_where_on : IsOn e (in_plane v) → point_lt e.b v ≡ false
+  to_where_on on = not_less_where_up_to v e.b ((whole_from v e.b).1 (order_of_on e (in_plane v) ((Decides-point_lt e.a e.b).0 forward) on).1)
+
+module _ (e : Edge) (v : Point) where
+  abbrev spans : Bool
+  spans = int_le (e.a.x *ℤ pos 1) v.x && int_lt v.x (e.b.x *ℤ pos 1)
+
+  -- an edge that starts right of the point is not below it
+  pub not_below_left : int_lt v.x e.a.x ≡ true → is_strictly_below e (in_plane v) ≡ false
+  not_below_left left = false_from_ne_true (is_strictly_below e (in_plane v)) (λ below.
+      let from = le_from_test (e.a.x *ℤ pos 1) v.x
+      (and_parts (int_le (e.a.x *ℤ pos 1) v.x) (int_lt v.x (e.b.x *ℤ pos 1)) (and_parts spans (int_lt (pos 0) (side e (in_plane v))) below).0).0 in
+      let less = lt_from_test v.x e.a.x left in omega (arith, ints))
+
+  -- nor is one that ends left of it or above it
+  pub not_below_right : int_lt v.x e.b.x ≡ false → is_strictly_below e (in_plane v) ≡ false
+  not_below_right right = false_from_ne_true (is_strictly_below e (in_plane v)) (λ below.
+      let to = lt_from_test v.x (e.b.x *ℤ pos 1)
+      (and_parts (int_le (e.a.x *ℤ pos 1) v.x) (int_lt v.x (e.b.x *ℤ pos 1)) (and_parts spans (int_lt (pos 0) (side e (in_plane v))) below).0).1 in
+      let more = ge_from_test v.x e.b.x right in omega (arith, ints))
+
+  -- over the point's abscissa its side decides
+  pub below_by_side : int_lt v.x e.a.x ≡ false → int_lt v.x e.b.x ≡ true → int_lt (pos 0) (cross_at e.a e.b v) ≡ is_strictly_below e (in_plane v)
+  below_by_side from to =
+      let start = ge_from_test v.x e.a.x from in
+      let end = lt_from_test v.x e.b.x to in
+      ap (λ s. int_lt (pos 0) s) (sym (side-whole e v))
+      ∙ sym (ap (λ b. b && int_lt (pos 0) (side e (in_plane v))) (and_from (int_le (e.a.x *ℤ pos 1) v.x) (int_lt v.x (e.b.x *ℤ pos 1))
+      (test_from_le (e.a.x *ℤ pos 1) v.x (omega (arith, ints))) (test_from_lt v.x (e.b.x *ℤ pos 1) (omega (arith, ints)))))
+
+-- what is not true is false
+pub false_where_not : (t : Bool) → not t ≡ true → t ≡ false
+false_where_not true h = sym h
+false_where_not false h = refl
+
+-- a number compares as equal to 0 where it is 0
+pub level_from_test : (z : ℤ) → is_eq (int_cmp z (pos 0)) ≡ true → z ≡ pos 0
+level_from_test z test = grind (arith, ints)
+
+pub test_from_level : (z : ℤ) → z ≡ pos 0 → is_eq (int_cmp z (pos 0)) ≡ true
+test_from_level z level = ap (λ y. is_eq (int_cmp y (pos 0))) level

@@ -1,0 +1,27 @@
+-- Where a point lies in one shape, it lies among that shape alone.
+use Rattle.std.proofs.Common.{◌∷◌, [], All, sym, subst}
+use Rattle.std.proofs.lemmas.List.Elements.{All-head}
+use Rattle.overlay_geom.specs.Plane.{Point, in_plane}
+use Rattle.overlay_geom.specs.Points.{plain_points, AllInRange}
+use Rattle.overlay_relate.specs.Answers.{AnswersWhere}
+use Rattle.overlay_relate.specs.Locations.{IsLocatedIn, IsLocatedAmong}
+use Rattle.overlay_relate.specs.declared.location.PointLocation.{PointLocation}
+use Rattle.overlay_relate.proofs.Answered.{answers_weaker}
+use Rattle.overlay_relate.proofs.Located.{among_one}
+use Rattle.overlay_relate.proofs.containment.IntContourIntPointContainment.locate_points.Goals as goal
+
+pub locate_in_contour-requires-clause-contour : goal.locate_in_contour-requires-clause-contour
+locate_in_contour-requires-clause-contour g c =
+    let whole = g.I.IntNumber.whole in
+    let P = AllInRange g.I.IntNumber.limit in
+    subst (λ xs. P (plain_points whole xs)) (sym c.deref.ensures.value) (All-head P (plain_points whole c.args.self.now.items) []
+    (All-head (All P) (plain_points whole c.args.self.now.items ∷ []) [] c.requires.self_in_range))
+
+pub returns-clause-located : goal.returns-clause-located
+returns-clause-located g c =
+    let whole = g.I.IntNumber.whole in
+    let shape = plain_points whole c.args.self.now.items ∷ [] in
+    answers_weaker (λ (q : Point) (l : PointLocation). IsLocatedIn shape (in_plane q) l) (λ (q : Point) (l : PointLocation). IsLocatedAmong (shape ∷ []) (in_plane q) l)
+    (λ q l at. among_one shape (in_plane q) l at) (plain_points whole c.args.points.now) c.in_ok-locations.locations.items
+    (subst (λ xs. AnswersWhere (IsLocatedIn (plain_points whole xs ∷ [])) (plain_points whole c.args.points.now) c.in_ok-locations.locations.items)
+    c.deref.ensures.value (c.in_ok-locations.ensures).located)

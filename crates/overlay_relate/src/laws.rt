@@ -1,0 +1,9 @@
+//! What the two questions about a point have to do with one another.
+
+ghost use Rattle.overlay_relate.specs.Laws.{InsideOffEdges};
+
+/// On none of the edges a point is inside exactly where its location is `Inside`: of a shape, so of
+/// a contour, and of several shapes.
+pub fn inside_off_edges()
+    ensures { InsideOffEdges }
+{}

@@ -1,0 +1,13 @@
+//! Tests of where points lie in contours and shapes.
+#![tactic(auto)]
+
+#[cfg(test)]
+mod asked;
+#[cfg(test)]
+mod borders;
+#[cfg(test)]
+mod resolved;
+#[cfg(test)]
+mod rows;
+#[cfg(test)]
+mod saw;
