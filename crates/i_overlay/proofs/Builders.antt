@@ -1,6 +1,6 @@
 -- What calls leave of a builder.
 use Rattle.std.proofs.Common.{◌≡◌, ℕ, Bool, true, false, is_err, List, [], sym, ap, subst, ◌∙◌}
-use Rattle.std.specs.Prelude.{Result, Ok, Err, OnErr, IfOk}
+use Rattle.std.specs.Prelude.{Result, Ok, Err, OnOk, OnErr, IfOk}
 use Rattle.overlay_geom.specs.Edges.{CountedEdge}
 use Rattle.overlay_arrange.specs.Options.{AreOptions}
 use Rattle.overlay_arrange.specs.declared.options.IntOverlayOptions.{IntOverlayOptions}
@@ -33,6 +33,15 @@ module _ {U : Type 0} where
     where
       buffered : v ≡ record mid { boolean_buffer = v.boolean_buffer }
       buffered = subst (λ n. n ≡ record mid { boolean_buffer = n.boolean_buffer }) (sym is) kept
+
+  -- an answer leaves the builder usable, as it was
+  pub answer_keeps : {V E : Type 0} (r : Result V E) (v new old : Builder U) → v ≡ new → new ≡ record old { edges = new.edges }
+      → old.failed ≡ false → {failed : Bool} → failed ≡ is_err r → OnOk r (record v { failed = failed } ≡ record old { edges = v.edges })
+  answer_keeps (Err e) v new old is kept ready same = tt
+  answer_keeps (Ok value) v new old is kept ready {failed} same =
+      ap {B = Builder U} (λ f. record v { failed = f }) same
+      ∙ ap {A = Builder U} (λ b. record b { failed = false }) (subst (λ n. n ≡ record old { edges = n.edges }) (sym is) kept)
+      ∙ ap {B = Builder U} (λ f. record old { edges = v.edges; failed = f }) (sym ready)
 
   -- a builder that got these edges, and failed where the answer is a refusal
   pub refused_with_edges : {V E : Type 0} (r : Result V E) (v old : Builder U) (es : List CountedEdge) → v ≡ old → {failed : Bool} → failed ≡ is_err r

@@ -4,7 +4,7 @@ use Rattle.std.proofs.lemmas.Bool.{false≢true}
 use Rattle.std.proofs.lemmas.Result.{IfErr-weaker}
 use Rattle.std.specs.Prelude.{Result, IfErr, IsErrOf}
 use Rattle.overlay_geom.specs.declared.error.OverlayError.{OverlayError}
-use Rattle.overlay_geom.specs.declared.error.OverlayError.TheVariants.{Failed}
+use Rattle.overlay_geom.specs.declared.error.OverlayError.TheVariants.{Memory, Failed}
 use Rattle.overlay_arrange.specs.Arranged.{MayRefuseSplitting}
 use Rattle.i_overlay.specs.Builder.{Builder}
 use Rattle.i_overlay.specs.Refusals.{RefusesAsQuery}
@@ -20,3 +20,9 @@ refuses_as_splitting old new r ready refused = record {
   where
     usable : ¬ (IsErrOf r Failed)
     usable same = subst (λ answer. IfErr answer (MayRefuseSplitting 64 old.edges)) same refused
+
+-- and so does one that is refused memory alone
+pub refuses_for_memory : {U V : Type 0} (old new : Builder U) (r : Result V OverlayError) → old.failed ≡ false →
+    IfErr r (λ e. e ≡ Memory) → RefusesAsQuery old new r
+refuses_for_memory old new r ready refused =
+    refuses_as_splitting old new r ready (IfErr-weaker r _ _ (λ e is. subst (MayRefuseSplitting 64 old.edges) (sym is) tt) refused)

@@ -125,6 +125,16 @@ fn check_adders<I: OverlayInt>(
     check_adders_of(rt, &mut overlay, subj, clip)
 }
 
+// A source, added after them.
+fn check_source<I: OverlayInt>(
+    rt: &impl Abort,
+    overlay: &mut Overlay<I, Global>,
+    subj: PathRef<'_, I>,
+) -> Result<(), OverlayError> {
+    add_source(rt, overlay, &subj, ShapeType::Subject)?;
+    check_fills(rt, overlay, FillRule::NonZero, &OF_BOTH)
+}
+
 // The same, of such a builder.
 fn check_adders_of<I: OverlayInt>(
     rt: &impl Abort,
@@ -134,8 +144,7 @@ fn check_adders_of<I: OverlayInt>(
 ) -> Result<(), OverlayError> {
     add_points(rt, overlay, clip.points, ShapeType::Clip)?;
     check_fills(rt, overlay, FillRule::NonZero, &OF_RIGHT)?;
-    add_source(rt, overlay, &subj, ShapeType::Subject)?;
-    check_fills(rt, overlay, FillRule::NonZero, &OF_BOTH)?;
+    check_source(rt, overlay, subj)?;
     overlay.clear();
     check_fills(rt, overlay, FillRule::NonZero, &[])
 }

@@ -31,6 +31,24 @@ fn count_of(memory: &Refusing<Global>, overlay: &mut Refusable<'_>) -> Result<us
     edge_count(overlay, FillRule::NonZero)
 }
 
+// Checks how many edges stand once an adder answered: all of them, or fewer where memory was refused.
+fn count_after(
+    rt: &impl Abort,
+    memory: &Refusing<Global>,
+    overlay: &mut Refusable<'_>,
+    added: Result<(), OverlayError>,
+    all: usize,
+) -> Result<usize, OverlayError> {
+    let count = count_of(memory, overlay)?;
+    if added.is_ok() {
+        assert!(rt; count == all);
+        return Ok(count);
+    }
+    assert!(rt; is_refused(added, OverlayError::Memory));
+    assert!(rt; count < all);
+    Ok(count)
+}
+
 // Adds two squares while so many requests are granted, and answers the number of edges then. Where a
 // square is refused, those of none or one stand.
 fn edges_of_source(
@@ -42,13 +60,8 @@ fn edges_of_source(
     let mut overlay = Refusable::new(memory, 0)?;
     memory.grant(granted);
     let added = add_source(rt, &mut overlay, shape, ShapeType::Subject);
-    let count = count_of(memory, &mut overlay)?;
-    if added.is_ok() {
-        assert!(rt; count == 8);
-        return Ok(count);
-    }
-    assert!(rt; is_refused(added, OverlayError::Memory));
-    assert!(rt; count == 0 || count == 4);
+    let count = count_after(rt, memory, &mut overlay, added, 8)?;
+    assert!(rt; count == 0 || count == 4 || count == 8);
     Ok(count)
 }
 
@@ -79,14 +92,9 @@ fn adds_points_or_nothing(
     let mut overlay = Refusable::new(memory, 0)?;
     memory.grant(granted);
     let added = add_points(rt, &mut overlay, &square(0, 2), ShapeType::Clip);
-    let count = count_of(memory, &mut overlay)?;
-    if added.is_ok() {
-        assert!(rt; count == 4);
-        return Ok(true);
-    }
-    assert!(rt; is_refused(added, OverlayError::Memory));
-    assert!(rt; count == 0);
-    Ok(false)
+    let count = count_after(rt, memory, &mut overlay, added, 4)?;
+    assert!(rt; count == 0 || count == 4);
+    Ok(count == 4)
 }
 
 #[test]
@@ -115,14 +123,9 @@ fn reinits_or_keeps(
     memory.grant(granted);
     let (subj, clip) = (PathRef::new(&left), PathRef::new(&right));
     let added = reinit_with_subj_and_clip(rt, &mut overlay, &subj, &clip);
-    let count = count_of(memory, &mut overlay)?;
-    if added.is_ok() {
-        assert!(rt; count == 8);
-        return Ok(true);
-    }
-    assert!(rt; is_refused(added, OverlayError::Memory));
-    assert!(rt; count == 0 || count == 4);
-    Ok(false)
+    let count = count_after(rt, memory, &mut overlay, added, 8)?;
+    assert!(rt; count == 0 || count == 4 || count == 8);
+    Ok(count == 8)
 }
 
 #[test]

@@ -11,14 +11,19 @@ pub returns-clause-ok : goal.returns-clause-ok
 returns-clause-ok g c =
     let keep = c.args.self.now.options.preserve_input_collinear in
     on_ok_weaker c.add_contour.result
-    (λ adds. (c.in_ok-points.points.items, c.in_ok-points.ensures.ok,
+    (λ adds. (
+      c.in_ok-points.points.items,
+      c.in_ok-points.ensures.ok,
       subst (λ ps. AddsContour keep (edge_for c.args.shape_type) (plain_points g.I.IntNumber.whole ps) c.args.self.now.edges c.add_contour.new.self.edges)
-      c.deref.ensures.value adds))
+          c.deref.ensures.value adds,
+    ))
     c.add_contour.ensures.ok
 
 pub returns-clause-too_many : goal.returns-clause-too_many
 returns-clause-too_many g c = λ same.
-    let keep = c.args.self.now.options.preserve_input_collinear in
-    (c.in_ok-points.points.items, c.in_ok-points.ensures.ok,
-    subst (λ ps. WouldWeighTooMuch keep c.args.shape_type (plain_points g.I.IntNumber.whole ps) c.args.self.now.edges) c.deref.ensures.value
-    (c.add_contour.ensures.too_many same))
+    let keep = c.args.self.now.options.preserve_input_collinear in (
+      c.in_ok-points.points.items,
+      c.in_ok-points.ensures.ok,
+      subst (λ ps. WouldWeighTooMuch keep c.args.shape_type (plain_points g.I.IntNumber.whole ps) c.args.self.now.edges) c.deref.ensures.value
+          (c.add_contour.ensures.too_many same),
+    )
