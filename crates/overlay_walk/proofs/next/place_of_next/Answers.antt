@@ -16,6 +16,14 @@ end_is : {I D : Type 0} (whole : I → ℤ) (steps : List (StepTaken I D)) (i : 
     plain_point whole (get_or steps i d).to ≡ (step_at (plain_steps whole steps) i).to
 end_is whole steps i d within = ap (λ (s : Step). s.to) (sym (get_or-map (plain_step whole) steps i d _ within))
 
+pub is_open-requires : goal.is_open-requires
+is_open-requires g c =
+    omega (arith, c.loop-i-test.true, c.run_from-low.ensures.within, length-map c.args.steps.now (plain_step g.I.IntNumber.whole), c.requires.marks)
+
+pub bounds-steps-i : goal.bounds-steps-i
+bounds-steps-i g c =
+    omega (arith, c.loop-i-test.true, c.run_from-low.ensures.within, length-map c.args.steps.now (plain_step g.I.IntNumber.whole))
+
 pub add-requires : goal.add-requires
 add-requires g c =
     (All-mapped_at (IsLong g.I.IntNumber.limit) (plain_step g.I.IntNumber.whole) c.args.steps.now c.loop-i.i
