@@ -1,23 +1,15 @@
--- The text of the items of a list, written one after another, and the line of a contour.
-use Rattle.std.proofs.Common.{◌≡◌, ℕ, ◌+◌, ◌≤◌, ◌<◌, List, [], ◌∷◌, ◌++◌, ℤ, codes, map, take, length, get_or, sym, ap, ◌∙◌, append_assoc}
+-- The text of all items of a list, and the line of a contour.
+use Rattle.std.proofs.Common.{◌≡◌, ℕ, ◌≤◌, List, [], ◌∷◌, ◌++◌, ℤ, codes, map, take, length, sym, ap, ◌∙◌, append_assoc}
 use Rattle.std.proofs.Common.{Result, Ok, Err}
 use Rattle.std.specs.Prelude.{OnOk, if◌then◌else◌}
 use Rattle.std.specs.Result.{is_ok}
 use Rattle.std.specs.List.{flat_map}
-use Rattle.std.proofs.lemmas.List.{take_more, take_all, map_push, flat_map_more, nil_from_length}
+use Rattle.std.proofs.lemmas.List.{take_all, nil_from_length}
 use Rattle.overlay_geom.specs.Points.{plain_point, plain_points}
 use Rattle.overlay_geom.specs.declared.point.IntPoint.{IntPoint}
 use Rattle.polyover_text.specs.Printed.{point_text, contour_line}
 
 module _ {X Y : Type 0} (line : Y → List ℕ) (plain : X → Y) (xs : List X) where
-  -- the next item comes to those so far
-  pub one_more_item : (i : ℕ) (x : X) (begun old new : List ℕ) → i < length xs → x ≡ get_or xs i x → old ≡ begun ++ flat_map line (map plain (take i xs))
-      → new ≡ old ++ line (plain x) → new ≡ begun ++ flat_map line (map plain (take (i + 1) xs))
-  one_more_item i x begun old new within here h pushed =
-      let items : map plain (take (i + 1) xs) ≡ map plain (take i xs) ++ plain x ∷ [] =
-      ap (map plain) (take_more xs i x within ∙ ap (λ y. take i xs ++ y ∷ []) (sym here)) ∙ map_push plain (take i xs) x in
-      pushed ∙ ap (λ l. l ++ line (plain x)) h ∙ flat_map_more line begun (map plain (take i xs)) (plain x) ∙ ap (λ l. begun ++ flat_map line l) (sym items)
-
   -- where none is left, all are there
   pub all_items : (i : ℕ) (begun new : List ℕ) → length xs ≤ i → new ≡ begun ++ flat_map line (map plain (take i xs)) → new ≡ begun ++ flat_map line (map plain xs)
   all_items i begun new done h = h ∙ ap (λ l. begun ++ flat_map line (map plain l)) (take_all i xs done)
