@@ -22,8 +22,10 @@ uncut_where_settled merged settled = (λ same. record { cut = tt; merged = merge
 
 -- where the merged list is not settled, no list is reached without a round
 pub cut_where_unsettled : {old left new : List CountedEdge} → IsMerged old left → ¬ (IsSettled left) → (true ≡ false) ↔ IsReachedBy [] old new
-cut_where_unsettled {old} {left} {new} merged unsettled = (λ same. absurd (false≢true (sym same)),
-    λ reached. absurd (unsettled (subst IsSettled (IsMerged-unique old new left reached.merged merged) reached.settled)))
+cut_where_unsettled {old} {left} {new} merged unsettled = (
+  λ same. absurd (false≢true (sym same)),
+  λ reached. absurd (unsettled (subst IsSettled (IsMerged-unique old new left reached.merged merged) reached.settled)),
+)
 
 -- one that is not settled stays so without a round
 pub unsettled_at_once : (most : ℕ) (old left : List CountedEdge) → most ≡ 0 → IsMerged old left → ¬ (IsSettled left) → StaysUnsettled most old
