@@ -11,9 +11,9 @@ use Rattle.overlay_geom.proofs.Signs.{linear}
 use Rattle.overlay_plane.specs.CutPoints.{crossing, met_at}
 use Rattle.overlay_plane.proofs.Placements.{met_beside, met_across}
 use Rattle.overlay_arrange.specs.Content.{point_cmp}
-use Rattle.overlay_arrange.specs.Settle.{IsPlaced}
-use Rattle.overlay_arrange.specs.declared.settle.Place.{Place}
-use Rattle.overlay_arrange.specs.declared.settle.Place.TheVariants.{Along, Beside, Across}
+use Rattle.overlay_geom.specs.Resolved.{IsPlaced}
+use Rattle.overlay_geom.specs.declared.edge_pair.Place.{Place}
+use Rattle.overlay_geom.specs.declared.edge_pair.Place.TheVariants.{Along, Beside, Across}
 
 -- a point is found at least another one where it is not smaller
 pub is_ge-point_cmp : (p q : Point) → is_ge (point_cmp p q) ≡ not (point_lt p q)

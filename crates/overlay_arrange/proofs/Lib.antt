@@ -14,7 +14,6 @@ pub mod MeetingEdges
 pub mod MergedContent
 pub mod NarrowedLists
 pub mod Pieces
-pub mod Places
 pub mod PlainPoints
 pub mod RoundsTaken
 pub mod RuledContents

@@ -6,6 +6,7 @@ use Rattle.overlay_geom.specs.Plane.{Point, Step, point_lt, edge_lt}
 use Rattle.overlay_arrange.specs.declared.options.ShapeType.{ShapeType}
 use Rattle.overlay_arrange.specs.declared.options.ShapeType.TheVariants.{Subject, Clip}
 use Rattle.overlay_geom.specs.Points.{plain_point, InRange}
+pub use Rattle.overlay_geom.specs.Resolved.{point_cmp}
 use Rattle.overlay_geom.specs.Edges.{CountedEdge, ends_of, subject_edge, clip_edge, weight}
 use Rattle.overlay_arrange.specs.Counts.{Counts}
 use Rattle.overlay_arrange.specs.declared.count.ShapeCountBoolean.{ShapeCountBoolean}
@@ -22,10 +23,6 @@ plain_edge whole counts e = edge_with (plain_point whole e.a) (plain_point whole
 -- and of each edge of a list
 abbrev pub plain_edges : {I C : Type 0} → (I → ℤ) → (C → Counts) → List (HeldEdge I C) → List CountedEdge
 plain_edges whole counts es = map (plain_edge whole counts) es
-
--- how two points compare: by x, then by y
-abbrev pub point_cmp : Point → Point → Ordering
-point_cmp p q = cond (point_lt p q) Less (cond (point_lt q p) Greater Equal)
 
 -- how two edges compare: by their smaller ends, then by their larger ones
 abbrev pub edge_cmp : CountedEdge → CountedEdge → Ordering

@@ -10,7 +10,8 @@ ghost use Rattle.overlay_arrange.specs.Content.{plain_edge, IsHeld};
 
 use crate::count::EdgeCount;
 use crate::edge::{CountedEdge, compare_points};
-use crate::settle::{Place, place_by};
+use crate::settle::place_by;
+use overlay_geom::edge_pair::Place;
 use overlay_geom::error::OverlayError;
 use overlay_geom::number::{IntNumber, WideIntNumber};
 use overlay_geom::point::IntPoint;

@@ -20,7 +20,7 @@ use crate::content::Content;
 use crate::count::EdgeCount;
 use crate::crossing::push_meetings;
 use crate::edge::{CountedEdge, compare_points};
-use crate::settle::is_same;
+use overlay_geom::edge_pair::is_same;
 use overlay_geom::error::OverlayError;
 use overlay_geom::number::IntNumber;
 use overlay_geom::point::IntPoint;

@@ -1,10 +1,10 @@
 //! Counted edges.
 
 ghost use Rattle.std.specs.Prelude.{◌≡◌};
-ghost use Rattle.overlay_geom.specs.Points.{plain_point};
-ghost use Rattle.overlay_arrange.specs.Content.{plain_edge, point_cmp, edge_cmp};
+ghost use Rattle.overlay_arrange.specs.Content.{plain_edge, edge_cmp};
 
 use crate::count::EdgeCount;
+pub use overlay_geom::edge::compare_points;
 use overlay_geom::number::IntNumber;
 use overlay_geom::point::IntPoint;
 use std::cmp::Ordering;
@@ -18,16 +18,6 @@ pub struct CountedEdge<I, C> {
     pub b: IntPoint<I>,
     /// How often paths pass it from a to b, less how often back, and perhaps data.
     pub count: C,
-}
-
-/// How two points compare: by x, then by y.
-pub fn compare_points<I: IntNumber>(p: IntPoint<I>, q: IntPoint<I>) -> Ordering
-    ensures { result ≡ point_cmp (plain_point I.whole p) (plain_point I.whole q) }
-{
-    match p.x.compare(q.x) {
-        Ordering::Equal => p.y.compare(q.y),
-        other => other,
-    }
 }
 
 /// How two edges compare: by their smaller ends, then by their larger ones.

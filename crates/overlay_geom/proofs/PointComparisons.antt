@@ -8,7 +8,7 @@ use Rattle.overlay_geom.specs.Resolved.{point_cmp}
 use Rattle.overlay_geom.proofs.Orders.{point_order, point_order-total, point_lt-is_less, point_eq-is_tie}
 
 -- an ordering is found again by two tests: whether it is `Less`, and whether it is so the other way round
-found_again : (o : Ordering) → cond (is_lt o) Less (cond (is_lt (ordering_reverse o)) Greater Equal) ≡ o
+pub found_again : (o : Ordering) → cond (is_lt o) Less (cond (is_lt (ordering_reverse o)) Greater Equal) ≡ o
 found_again Less = refl
 found_again Equal = refl
 found_again Greater = refl
