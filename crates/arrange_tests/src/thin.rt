@@ -1,6 +1,6 @@
 //! Closed lists without the points that lie on one line with their neighbours.
 
-use overlay_arrange::thin::thinned;
+use overlay_builder::thin::thinned;
 use overlay_geom::error::OverlayError;
 use overlay_geom::point::{IntPoint, in_range};
 use std::alloc::Global;

@@ -5,5 +5,4 @@ pub mod Laws
 pub mod OneShot
 pub mod Overlay
 pub mod Paths
-pub mod Refusals
 pub mod Selection

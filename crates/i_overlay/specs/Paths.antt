@@ -1,9 +1,11 @@
 -- Several closed paths, added to a builder one after another.
-use Rattle.std.specs.Prelude.{◌≡◌, ◌^◌, ◌<◌, Bool, List, [], ◌∷◌, ◌++◌, map}
+use Rattle.std.specs.Prelude.{◌^◌, ◌<◌, ◌++◌, Bool, List, [], map}
 use Rattle.overlay_geom.specs.Plane.{Point}
-use Rattle.overlay_geom.specs.Edges.{CountedEdge, AddsContour, weight}
+use Rattle.overlay_geom.specs.Edges.{CountedEdge, weight}
 use Rattle.overlay_arrange.specs.Content.{edge_for}
 pub use Rattle.overlay_arrange.specs.Paths.{GivenPath}
+use Rattle.overlay_builder.specs.PathLists.{AddedPath, AddsPaths, path_as}
+use Rattle.overlay_builder.specs.Paths.{contour_kind}
 use Rattle.overlay_arrange.specs.declared.options.ShapeType.{ShapeType}
 use Rattle.overlay_arrange.specs.declared.options.ShapeType.TheVariants.{Subject, Clip}
 
@@ -15,20 +17,14 @@ paths_for shape_type paths = map (λ ps. record { shape_type = shape_type; point
 abbrev pub subject_and_clip : List (List Point) → List (List Point) → List GivenPath
 subject_and_clip subj clip = paths_for Subject subj ++ paths_for Clip clip
 
--- the second content is the first one, followed by what each path adds, path by path; points on one line stay where they are to be kept
-pub data AddsPaths : Bool → List GivenPath → List CountedEdge → List CountedEdge → Type 0 where
-  no_path : {keep : Bool} {es : List CountedEdge} → AddsPaths keep [] es es
-  path_and_others : {keep : Bool} {p : GivenPath} {ps : List GivenPath} {old mid new : List CountedEdge} →
-      AddsContour keep (edge_for p.shape_type) p.points old mid → AddsPaths keep ps mid new → AddsPaths keep (p ∷ ps) old new
+-- the paths as a builder adds them; points on one line stay where they are to be kept
+abbrev pub added_path : Bool → GivenPath → AddedPath CountedEdge
+added_path keep p = path_as (contour_kind keep) (edge_for p.shape_type) p.points
 
--- the second content is the first one, followed by what the paths before this one add
-pub record AddsPathsBefore (keep : Bool) (path : GivenPath) (paths : List GivenPath) (old new : List CountedEdge) : Type 0 where
-  pub before : List GivenPath
-  pub after : List GivenPath
-  pub parts : paths ≡ before ++ path ∷ after
-  pub added : AddsPaths keep before old new
+abbrev pub added_paths : Bool → List GivenPath → List (AddedPath CountedEdge)
+added_paths keep paths = map (added_path keep) paths
 
 -- the content is what the paths add to no edges, and a builder may hold it
 pub record HoldsPaths (keep : Bool) (paths : List GivenPath) (es : List CountedEdge) : Type 0 where
-  pub added : AddsPaths keep paths [] es
+  pub added : AddsPaths (added_paths keep paths) [] es
   pub light : weight es < 2 ^ 31

@@ -13,7 +13,7 @@ ghost use Rattle.overlay_walk.specs.Walks.{plain_walks, bound_to};
 ghost use Rattle.i_overlay.specs.Assembly.{AddsBound};
 
 use overlay_arrange::options::ContourDirection;
-use overlay_arrange::thin::thinned;
+use overlay_builder::thin::thinned;
 use overlay_geom::error::OverlayError;
 use overlay_geom::number::IntNumber;
 use overlay_geom::path::{IntContour, IntShapes};

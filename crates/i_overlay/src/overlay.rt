@@ -1,25 +1,23 @@
 //! The overlay builder: contours are added, and queries are answered.
 
-ghost use Rattle.std.specs.Prelude.{◌≡◌, ◌↔◌, true, false, if◌then◌else◌, [], map, Some};
-ghost use Rattle.std.specs.Prelude.{Ok, Err, IfOk, OnOk, OnErr, IsOkUnless};
-ghost use Rattle.overlay_arrange.specs.Arranged.{IsArranged};
-ghost use Rattle.overlay_arrange.specs.Content.{IsAscending, IsContent};
+ghost use Rattle.std.specs.Prelude.{◌≡◌, false, [], map, Some, IfOk, OnOk, IsOkUnless, IsErrOf};
+ghost use Rattle.overlay_arrange.specs.Content.{IsAscending};
 ghost use Rattle.overlay_arrange.specs.Vectors.{plain_vector, vector_of};
 ghost use Rattle.overlay_geom.specs.Merged.{HaveSameWindings};
 ghost use Rattle.overlay_geom.specs.Paths.{plain_shapes};
 ghost use Rattle.overlay_geom.specs.Settled.{IsSettled};
-ghost use Rattle.overlay_plane.specs.Arrangements.{IsReachedBy};
 ghost use Rattle.overlay_plane.specs.Meetings.{MeetInWholePoints};
+ghost use Rattle.overlay_builder.specs.Held.{AnswersQuery};
+ghost use Rattle.i_overlay.specs.Builder.{held_by};
 ghost use Rattle.i_overlay.specs.Overlay.{asked, IsResult};
-ghost use Rattle.i_overlay.specs.Refusals.{RefusesAsQuery};
 
 use crate::extract::extract_shapes;
 use crate::solver::Solver;
-use overlay_arrange::content::Content;
 use overlay_arrange::count::ShapeCountBoolean;
 use overlay_arrange::fill_rule::FillRule;
 use overlay_arrange::overlay_rule::OverlayRule;
 use overlay_arrange::vector::DataVectorEdge;
+use overlay_builder::core::BuilderCore;
 use overlay_geom::error::OverlayError;
 use overlay_geom::integer::OverlayInt;
 use overlay_geom::path::IntShapes;
@@ -45,12 +43,12 @@ pub struct Overlay<I: OverlayInt, A: Allocator> {
     /// Room that queries use again. What it holds changes no answer. After a refused query it may be
     /// gone: `None`, which is as good as an empty one.
     pub boolean_buffer: Option<BooleanExtractionBuffer<I, A>>,
-    content: Content<I, ShapeCountBoolean, A>,
-    // whether a query was refused since the builder was last cleared
-    is_failed: bool,
+    // the edges, and whether a query was refused since the builder was last cleared
+    core: BuilderCore<I, ShapeCountBoolean, A>,
 }
 
 impl<I: OverlayInt, A: Allocator> Model for Overlay<I, A> {
+    ghost use Rattle.overlay_plane.specs.Carried.{edges_in};
     ghost use Rattle.i_overlay.specs.Builder.{Builder, IsBalancedUnlessFailed};
 
     ghost Value = { Builder I.WideUInt };
@@ -59,11 +57,11 @@ impl<I: OverlayInt, A: Allocator> Model for Overlay<I, A> {
       solver = o.solver;
       options = o.options;
       boolean_buffer = o.boolean_buffer;
-      edges = o.content;
-      failed = o.is_failed;
+      edges = edges_in o.core.edges;
+      failed = o.core.failed;
     } };
 
-    ghost invariant = { λ o. IsBalancedUnlessFailed o.is_failed o.content };
+    ghost invariant = { λ o. IsBalancedUnlessFailed o.core.failed (edges_in o.core.edges) };
 }
 
 impl<I: OverlayInt, A: Allocator + Clone> Overlay<I, A> {
@@ -84,17 +82,15 @@ impl<I: OverlayInt, A: Allocator + Clone> Overlay<I, A> {
         &mut self,
         fill_rule: FillRule,
     ) -> Result<Vec<DataVectorEdge<I, ()>, A>, OverlayError>
-        ensures arranged { OnOk result (IsArranged 64 self.old.edges self.new.edges) }
-        ensures content { OnOk result (IsContent I.limit self.new.edges) }
+        ensures query { AnswersQuery I.limit 64 (held_by self.old) (held_by self.new) result }
         ensures listed { IfOk result (λ v.
             map (plain_vector I.whole) v.items ≡ map (vector_of fill_rule self.new.edges) self.new.edges) }
-        ensures ok { OnOk result (self.new ≡ record self.old { edges = self.new.edges }) }
-        ensures err { OnErr result (self.new ≡ record self.old { edges = self.new.edges; failed = true }) }
-        ensures refusals { RefusesAsQuery self.old self.new result }
+        ensures kept { self.new ≡ record self.old { edges = self.new.edges; failed = self.new.failed } }
+        ensures untouched { IsErrOf result OverlayError.Failed → self.new ≡ self.old }
     {
-        self.arrange()?;
-        let listed = self.content.filled_edges(fill_rule);
-        self.is_failed = listed.is_err();
+        self.core.arrange(&mut ())?;
+        let listed = self.core.content().filled_edges(fill_rule);
+        self.core.set_failed(listed.is_err());
         listed
     }
 
@@ -117,48 +113,24 @@ impl<I: OverlayInt, A: Allocator + Clone> Overlay<I, A> {
     ) -> Result<IntShapes<I, A>, OverlayError>
         requires no_ogc { self.old.options.ogc ≡ false }
         requires all_areas { I.WideUInt.natural self.old.options.min_output_area ≡ 0 }
-        ensures arranged { OnOk result (IsArranged 64 self.old.edges self.new.edges) }
-        ensures content { OnOk result (IsContent I.limit self.new.edges) }
+        ensures query { AnswersQuery I.limit 64 (held_by self.old) (held_by self.new) result }
         ensures result { IfOk result (λ v. IsResult (asked fill_rule overlay_rule self.old.options)
             self.new.edges (plain_shapes I.whole v.items)) }
         ensures empty { self.new.edges ≡ [] → IfOk result (λ v. v.items ≡ []) }
         ensures exact { MeetInWholePoints self.old.edges
             → OnOk result (HaveSameWindings self.old.edges self.new.edges) }
-        ensures ok { OnOk result (self.new ≡ record self.old {
+        ensures kept { self.new ≡ record self.old {
           edges = self.new.edges;
           boolean_buffer = self.new.boolean_buffer;
-        }) }
+          failed = self.new.failed;
+        } }
+        ensures untouched { IsErrOf result OverlayError.Failed → self.new ≡ self.old }
         ensures buffer { OnOk result (self.new.boolean_buffer ≡ Some tt) }
-        ensures err { OnErr result (self.new ≡ record self.old {
-          edges = self.new.edges;
-          boolean_buffer = self.new.boolean_buffer;
-          failed = true;
-        }) }
-        ensures refusals { RefusesAsQuery self.old self.new result }
     {
-        self.arrange()?;
+        self.core.arrange(&mut ())?;
         let shapes = self.extract(overlay_rule, fill_rule);
-        self.is_failed = shapes.is_err();
+        self.core.set_failed(shapes.is_err());
         shapes
-    }
-
-    // Brings the edges into an arrangement, and returns whether some were cut. A refusal leaves the
-    // builder failed.
-    fn arrange(&mut self) -> Result<bool, OverlayError>
-        ensures arranged { OnOk result (IsArranged 64 self.old.edges self.new.edges) }
-        ensures content { OnOk result (IsContent I.limit self.new.edges) }
-        ensures ok { OnOk result (self.new ≡ record self.old { edges = self.new.edges }) }
-        ensures cut { IfOk result (λ is_cut. (is_cut ≡ false) ↔ IsReachedBy [] self.old.edges self.new.edges) }
-        ensures usable { OnOk result (self.old.failed ≡ false) }
-        ensures err { OnErr result (self.new ≡ record self.old { edges = self.new.edges; failed = true }) }
-        ensures refusals { RefusesAsQuery self.old self.new result }
-    {
-        self.check_usable()?;
-        let arranged = self.content.arrange(&mut ());
-        // (its contract says that the edges are in range, and weigh less than 2^31)
-        let _ = self.content.edges();
-        self.is_failed = arranged.is_err();
-        arranged
     }
 
     // The shapes round the region of the arranged edges. The buffer is there afterwards.
@@ -177,16 +149,6 @@ impl<I: OverlayInt, A: Allocator + Clone> Overlay<I, A> {
         ensures err { IsOkUnless result OverlayError.Memory }
     {
         let buffer = &mut self.boolean_buffer;
-        extract_shapes(&self.content, overlay_rule, fill_rule, self.options, buffer)
-    }
-
-    // Refuses where a query was refused since the builder was last cleared.
-    fn check_usable(&self) -> Result<(), OverlayError>
-        ensures { result ≡ (if self.now.failed then Err OverlayError.Failed else Ok tt) }
-    {
-        if self.is_failed {
-            return Err(OverlayError::Failed);
-        }
-        Ok(())
+        extract_shapes(self.core.content(), overlay_rule, fill_rule, self.options, buffer)
     }
 }

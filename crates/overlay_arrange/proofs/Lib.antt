@@ -2,8 +2,6 @@ pub mod Adding
 pub mod AlongEdges
 pub mod Appended
 pub mod ArrangedLists
-pub mod BentPart
-pub mod BentStack
 pub mod Crossings
 pub mod CutContents
 pub mod DirectionBits
@@ -12,9 +10,7 @@ pub mod HeldRuns
 pub mod HeldWeight
 pub mod MeetingEdges
 pub mod MergedContent
-pub mod NarrowedLists
 pub mod Pieces
-pub mod PlainPoints
 pub mod RoundsTaken
 pub mod RuledContents
 pub mod RunsAlike

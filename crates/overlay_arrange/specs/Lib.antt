@@ -8,5 +8,4 @@ pub mod Paths
 pub mod Rules
 pub mod Runs
 pub mod Settle
-pub mod Thinning
 pub mod Vectors

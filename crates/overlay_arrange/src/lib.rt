@@ -17,5 +17,4 @@ mod rounds;
 mod settle;
 mod steps;
 pub mod string_count;
-pub mod thin;
 pub mod vector;

@@ -11,7 +11,8 @@ ghost use Rattle.i_overlay.specs.Builder.{cleared, WouldWeighTooMuch};
 ghost use Rattle.i_overlay.specs.Paths.{paths_for, subject_and_clip};
 
 use crate::overlay::{Overlay, ShapeType};
-use overlay_arrange::thin::thinned;
+use overlay_builder::boolean::passing;
+use overlay_builder::path::contour_kind;
 use overlay_geom::error::OverlayError;
 use overlay_geom::integer::OverlayInt;
 use overlay_geom::point::IntPoint;
@@ -42,13 +43,9 @@ impl<I: OverlayInt, A: Allocator + Clone> Overlay<I, A> {
             (plain_points I.whole contour.now) self.old.edges }
         ensures no_query { result ≢ Err OverlayError.NotSettled }
     {
-        self.check_usable()?;
-        if self.options.preserve_input_collinear {
-            return self.content.push_contour(contour, shape_type);
-        }
-        let alloc = self.content.allocator().clone()?;
-        let bent = thinned(alloc, contour)?;
-        self.content.push_contour(&bent, shape_type)
+        let kind = contour_kind(self.options.preserve_input_collinear);
+        self.core.add_path(contour, kind, passing(shape_type))?;
+        Ok(())
     }
 
     /// Adds one contour, as `add_contour` does, whose points the iterator gives. It ends, and the
@@ -76,8 +73,8 @@ impl<I: OverlayInt, A: Allocator + Clone> Overlay<I, A> {
             (plain_points I.whole ps) self.old.edges }
         ensures no_query { result ≢ Err OverlayError.NotSettled }
     {
-        self.check_usable()?;
-        let points = gathered(self.content.allocator().clone()?, iter)?;
+        self.core.check_usable()?;
+        let points = gathered(self.core.content().allocator().clone()?, iter)?;
         self.add_contour(&points, shape_type)
     }
 
@@ -95,13 +92,8 @@ impl<I: OverlayInt, A: Allocator + Clone> Overlay<I, A> {
         requires { All (AllInRange I.limit) (R0.paths resource.now) }
         ensures { AddsAsAsked (paths_for shape_type (R0.paths resource.now)) self.old self.new result }
     {
-        // (its contract says that the edges are in range, and weigh less than 2^31)
-        let _ = self.content.edges();
-        self.check_usable()?;
-        for index in 0..resource.path_count() {
-            self.add_contour(resource.path(index), shape_type)?;
-        }
-        Ok(())
+        let kind = contour_kind(self.options.preserve_input_collinear);
+        self.core.add_paths(resource, kind, passing(shape_type))
     }
 
     /// Drops the edges and mends a failed builder; `solver`, `options` and `boolean_buffer` stay.
@@ -109,8 +101,7 @@ impl<I: OverlayInt, A: Allocator + Clone> Overlay<I, A> {
     pub fn clear(&mut self)
         ensures { self.new ≡ cleared self.old }
     {
-        self.content.clear();
-        self.is_failed = false;
+        self.core.clear();
     }
 
     /// Drops the edges and mends a failed builder, and then adds the paths of `subj` as the subject

@@ -8,7 +8,7 @@ ghost use Rattle.i_overlay.specs.Paths.{paths_for, subject_and_clip, HoldsPaths}
 
 use crate::overlay::{IntOverlayOptions, Overlay, ShapeType};
 use crate::solver::Solver;
-use overlay_arrange::content::Content;
+use overlay_builder::core::BuilderCore;
 use overlay_geom::error::OverlayError;
 use overlay_geom::integer::OverlayInt;
 use overlay_geom::resource::IntShapeResource;
@@ -42,8 +42,7 @@ impl<I: OverlayInt, A: Allocator + Clone> Overlay<I, A> {
             solver,
             options,
             boolean_buffer: Some(BooleanExtractionBuffer::default(alloc.clone()?)),
-            content: Content::with_capacity(alloc, capacity)?,
-            is_failed: false,
+            core: BuilderCore::with_capacity(alloc, capacity)?,
         })
     }
 

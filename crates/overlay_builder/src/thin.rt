@@ -3,7 +3,7 @@
 ghost use Rattle.std.specs.Prelude.{◌↔◌, ◌≤◌, [], ◌∷◌, ◌++◌, length, slice_range, IfOk, IsOkUnless, IsTrue};
 ghost use Rattle.overlay_geom.specs.Points.{plain_point, plain_points, InRange, AllInRange};
 ghost use Rattle.overlay_geom.specs.Thinned.{IsOnOneLine, IsThinned};
-ghost use Rattle.overlay_arrange.specs.Thinning.{IsNarrowed, IsNarrowedBefore, IsBentInside};
+ghost use Rattle.overlay_builder.specs.Thinning.{IsNarrowed, IsNarrowedBefore, IsBentInside};
 
 use overlay_geom::error::OverlayError;
 use overlay_geom::number::{IntNumber, WideIntNumber};

@@ -1,0 +1,45 @@
+-- Whether thinning left out a point: the list is shorter, or it is the one given.
+use Rattle.std.proofs.Common.{◌≡◌, ℕ, ◌+◌, ◌<◌, ◌≤◌, ◌⊎◌, inl, inr, List, length, remove, refl, sym, ap, subst, arith, ◌∙◌}
+use Rattle.std.proofs.lemmas.List.Edits.{length-remove}
+use Rattle.overlay_geom.specs.Plane.{Point}
+use Rattle.overlay_geom.specs.Thinned.{IsThinned, IsStraightAt}
+use Rattle.overlay_geom.specs.Thinned.IsThinned.{thin, drop_one}
+
+-- a thinned list is the one given, or a shorter one
+thinned_is_shorter : (ps qs : List Point) → IsThinned ps qs → (qs ≡ ps) ⊎ (length qs < length ps)
+thinned_is_shorter ps _ (thin none) = inl refl
+thinned_is_shorter ps qs (drop_one k within straight rest) = inr (shorter (thinned_is_shorter _ qs rest))
+  where
+    one_less : length (remove ps k) + 1 ≡ length ps
+    one_less = length-remove ps k within
+    shorter : (qs ≡ remove ps k) ⊎ (length qs < length (remove ps k)) → length qs < length ps
+    shorter (inl same) = omega (arith, ap length same, one_less)
+    shorter (inr less) = omega (arith, less, one_less)
+
+-- where a list may be thinned to itself, no point of it is straight
+none_is_straight : (ps qs : List Point) → IsThinned ps qs → qs ≡ ps → (k : ℕ) → k < length ps → ¬ (IsStraightAt ps k)
+none_is_straight ps _ (thin none) same = none
+none_is_straight ps qs (drop_one k within straight rest) same = absurd (too_short (thinned_is_shorter (remove ps k) qs rest))
+  where
+    one_less : length (remove ps k) + 1 ≡ length ps
+    one_less = length-remove ps k within
+    too_short : ¬ ((qs ≡ remove ps k) ⊎ (length qs < length (remove ps k)))
+    too_short (inl is) = omega (arith, ap length same, ap length is, one_less)
+    too_short (inr less) = omega (arith, less, ap length same, one_less)
+
+-- and then it is thinned to nothing else
+thinned_to_itself : (ps qs : List Point) → ((k : ℕ) → k < length ps → ¬ (IsStraightAt ps k)) → IsThinned ps qs → qs ≡ ps
+thinned_to_itself ps _ none (thin h) = refl
+thinned_to_itself ps qs none (drop_one k within straight rest) = absurd (none k within straight)
+
+-- where thinning left no fewer points, a list may be thinned to itself
+pub none_left_out : (ps qs : List Point) → IsThinned ps qs → length ps ≤ length qs → IsThinned ps ps
+none_left_out ps qs thinned as_many = by (thinned_is_shorter ps qs thinned)
+  where
+    by : (qs ≡ ps) ⊎ (length qs < length ps) → IsThinned ps ps
+    by (inl same) = subst (IsThinned ps) same thinned
+    by (inr less) = absurd (omega (arith, less, as_many))
+
+-- and where it may, thinning leaves no fewer
+pub as_many_left : (ps qs : List Point) → IsThinned ps qs → IsThinned ps ps → length ps ≤ length qs
+as_many_left ps qs thinned itself = omega (arith, ap length (thinned_to_itself ps qs (none_is_straight ps ps itself refl) thinned))

@@ -1,0 +1,5 @@
+pub mod BentPart
+pub mod BentStack
+pub mod LeftOut
+pub mod NarrowedLists
+pub mod PlainPoints
