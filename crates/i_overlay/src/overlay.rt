@@ -17,7 +17,7 @@ use overlay_arrange::count::ShapeCountBoolean;
 use overlay_arrange::fill_rule::FillRule;
 use overlay_arrange::overlay_rule::OverlayRule;
 use overlay_arrange::vector::DataVectorEdge;
-use overlay_builder::core::BuilderCore;
+use overlay_builder::builder_core::BuilderCore;
 use overlay_geom::error::OverlayError;
 use overlay_geom::integer::OverlayInt;
 use overlay_geom::path::IntShapes;

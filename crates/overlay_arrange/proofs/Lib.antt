@@ -2,10 +2,12 @@ pub mod Adding
 pub mod AlongEdges
 pub mod Appended
 pub mod ArrangedLists
+pub mod CarriedEdges
 pub mod Crossings
 pub mod CutContents
 pub mod DirectionBits
 pub mod EdgeOrder
+pub mod FirstEdges
 pub mod HeldRuns
 pub mod HeldWeight
 pub mod MeetingEdges
@@ -18,4 +20,3 @@ pub mod RunsLoop
 pub mod RunsMerged
 pub mod SettledLists
 pub mod SideBits
-pub mod StepEdges

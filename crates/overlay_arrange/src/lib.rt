@@ -15,6 +15,5 @@ pub mod options;
 pub mod overlay_rule;
 mod rounds;
 mod settle;
-mod steps;
 pub mod string_count;
 pub mod vector;

@@ -1,5 +1,10 @@
 pub mod BentPart
 pub mod BentStack
 pub mod LeftOut
+pub mod Mapped
 pub mod NarrowedLists
+pub mod PassedEdges
+pub mod PathLists
 pub mod PlainPoints
+pub mod Queries
+pub mod SourcePaths

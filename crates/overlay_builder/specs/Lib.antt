@@ -1,1 +1,5 @@
+pub mod Held
+pub mod Passing
+pub mod PathLists
+pub mod Paths
 pub mod Thinning

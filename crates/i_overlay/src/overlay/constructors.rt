@@ -8,7 +8,7 @@ ghost use Rattle.i_overlay.specs.Paths.{paths_for, subject_and_clip, HoldsPaths}
 
 use crate::overlay::{IntOverlayOptions, Overlay, ShapeType};
 use crate::solver::Solver;
-use overlay_builder::core::BuilderCore;
+use overlay_builder::builder_core::BuilderCore;
 use overlay_geom::error::OverlayError;
 use overlay_geom::integer::OverlayInt;
 use overlay_geom::resource::IntShapeResource;

@@ -1,0 +1,67 @@
+-- What a query of a builder's core answers: where it had failed, where its edges are arranged, and where more is asked of them.
+use Rattle.std.proofs.Common.{◌≡◌, inl, inr, ℕ, true, false, is_err, refl, sym, ap, subst, ◌∙◌}
+use Rattle.std.proofs.lemmas.Bool.{false≢true}
+use Rattle.std.proofs.lemmas.Result.{IfErr-weaker}
+use Rattle.std.specs.Prelude.{Result, Ok, Err, OnOk, IfErr, IsErrOf}
+use Rattle.overlay_geom.specs.Edges.{CountedEdge}
+use Rattle.overlay_geom.specs.declared.error.OverlayError.{OverlayError}
+use Rattle.overlay_geom.specs.declared.error.OverlayError.TheVariants.{Memory, Failed}
+use Rattle.overlay_arrange.specs.Arranged.{IsArranged, MayRefuseSplitting}
+use Rattle.overlay_arrange.specs.Content.{IsContent}
+use Rattle.overlay_builder.specs.Held.{Held, AnswersQuery}
+
+module _ {V : Type 0} (limit most : ℕ) (old : Held CountedEdge) where
+  -- a builder that had failed refuses, and stays as it is
+  pub refuses_failed : old.failed ≡ true → AnswersQuery {V = V} limit most old old (Err Failed)
+  refuses_failed had = record {
+    usable = tt;
+    stays_usable = tt;
+    arranged = tt;
+    content = tt;
+    fails = had;
+    failed = (λ same. had, λ again. refl);
+    untouched = λ same. refl;
+    err = inl refl;
+  }
+
+  module _ (ready : old.failed ≡ false) (new : Held CountedEdge) where
+    -- one that had not answers by the arrangement of its edges, or remembers that it was refused
+    pub answers_arranged : (r : Result V OverlayError) → OnOk r (IsArranged most old.edges new.edges) → IsContent limit new.edges
+        → IfErr r (MayRefuseSplitting most old.edges) → new.failed ≡ is_err r → AnswersQuery limit most old new r
+    answers_arranged (Ok v) arranged content refused flag = record {
+      usable = ready;
+      stays_usable = flag;
+      arranged = arranged;
+      content = content;
+      fails = tt;
+      failed = (λ same. absurd (no_error same), λ had. absurd (false≢true (sym ready ∙ had)));
+      untouched = λ same. absurd (no_error same);
+      err = tt;
+    }
+      where
+        no_error : ¬ (IsErrOf {T = V} (Ok v) Failed)
+        no_error same = false≢true (ap is_err same)
+    answers_arranged (Err e) arranged content refused flag = record {
+      usable = tt;
+      stays_usable = tt;
+      arranged = tt;
+      content = tt;
+      fails = flag;
+      failed = (λ same. absurd (not_failed same), λ had. absurd (false≢true (sym ready ∙ had)));
+      untouched = λ same. absurd (not_failed same);
+      err = inr refused;
+    }
+      where
+        not_failed : ¬ (IsErrOf {T = V} (Err e) Failed)
+        not_failed same = subst (λ answer. IfErr {T = V} answer (MayRefuseSplitting most old.edges)) same refused
+
+-- more is asked of the arrangement, which may be refused for want of memory
+pub answers_after : {U V : Type 0} (limit most : ℕ) (old mid new : Held CountedEdge) (v : U) → AnswersQuery limit most old mid (Ok v)
+    → (r : Result V OverlayError) → new.edges ≡ mid.edges → new.failed ≡ is_err r → IfErr r (λ e. e ≡ Memory) → AnswersQuery limit most old new r
+answers_after {V = V} limit most old mid new v first r edges flag refused =
+    answers_arranged limit most old first.usable new r (by r) (subst (IsContent limit) (sym edges) first.content)
+    (IfErr-weaker r _ _ (λ e is. subst (MayRefuseSplitting most old.edges) (sym is) tt) refused) flag
+  where
+    by : (r : Result V OverlayError) → OnOk r (IsArranged most old.edges new.edges)
+    by (Ok w) = subst (IsArranged most old.edges) (sym edges) first.arranged
+    by (Err e) = tt

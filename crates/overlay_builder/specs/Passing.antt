@@ -1,0 +1,10 @@
+-- What an edge carries that a contour of the subject, or of the clip, passes once.
+use Rattle.std.specs.Prelude.{pos, negsuc}
+use Rattle.overlay_arrange.specs.Content.{count_for}
+use Rattle.overlay_arrange.specs.declared.count.ShapeCountBoolean.{ShapeCountBoolean}
+use Rattle.overlay_arrange.specs.declared.options.ShapeType.{ShapeType}
+use Rattle.overlay_builder.specs.declared.path.StepCounts.{StepCounts}
+
+-- 1 where the step runs from the edge's smaller to its larger end, and -1 where it runs back
+abbrev pub passing : ShapeType → StepCounts ShapeCountBoolean
+passing shape_type = record { along = count_for shape_type (pos 1); back = count_for shape_type (negsuc 0) }

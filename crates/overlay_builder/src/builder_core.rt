@@ -1,0 +1,160 @@
+//! The core that builders share: the counted edges, and whether a query was refused.
+
+ghost use Rattle.std.specs.Prelude.{◌≡◌, ◌≢◌, ◌↔◌, ◌^◌, ◌<◌, true, false, [], if◌then◌else◌, All};
+ghost use Rattle.std.specs.Prelude.{Ok, Err, IfOk, OnOk, OnErr, IsOkUnless, IsErrOf};
+ghost use Rattle.overlay_geom.specs.Edges.{weight};
+ghost use Rattle.overlay_geom.specs.Points.{plain_points, AllInRange};
+ghost use Rattle.overlay_plane.specs.Arrangements.{IsReachedBy};
+ghost use Rattle.overlay_plane.specs.Carried.{edges_in};
+ghost use Rattle.overlay_arrange.specs.Arranged.{IsArranged};
+ghost use Rattle.overlay_arrange.specs.Content.{IsContent};
+ghost use Rattle.overlay_builder.specs.Held.{nothing_held, plain_held, AnswersQuery};
+ghost use Rattle.overlay_builder.specs.PathLists.{carried_weight, path_as, paths_as};
+ghost use Rattle.overlay_builder.specs.PathLists.{AddsAsAsked, WouldWeighTooMuch};
+ghost use Rattle.overlay_builder.specs.Paths.{passed_edge, AddsPath, AreLight, IsTakenAs};
+
+use crate::path::{PathKind, StepCounts, add_path};
+use overlay_arrange::content::Content;
+use overlay_arrange::count::EdgeCount;
+use overlay_geom::error::OverlayError;
+use overlay_geom::number::IntNumber;
+use overlay_geom::point::IntPoint;
+use overlay_geom::resource::IntShapeResource;
+use std::alloc::Allocator;
+use std::marker::Model;
+
+/// The counted edges that a builder holds, and whether a query of it was refused since they were
+/// last dropped: then it answers `Failed`.
+#[derive(Drop)]
+pub struct BuilderCore<I: IntNumber, C: EdgeCount, A: Allocator> {
+    content: Content<I, C, A>,
+    is_failed: bool,
+}
+
+impl<I: IntNumber, C: EdgeCount, A: Allocator> Model for BuilderCore<I, C, A> {
+    ghost use Rattle.overlay_plane.specs.Carried.{Carried};
+    ghost use Rattle.overlay_builder.specs.Held.{Held};
+
+    ghost Value = { Held (Carried C) };
+
+    ghost view = { λ b. record { edges = b.content; failed = b.is_failed } };
+}
+
+impl<I: IntNumber, C: EdgeCount, A: Allocator> BuilderCore<I, C, A> {
+    /// A core without edges, with room for `capacity` of them. The only refusal is `Memory`.
+    pub fn with_capacity(alloc: A, capacity: usize) -> Result<Self, OverlayError>
+        ensures empty { IfOk result (λ b. b ≡ nothing_held) }
+        ensures err { IsOkUnless result OverlayError.Memory }
+    {
+        Ok(BuilderCore {
+            content: Content::with_capacity(alloc, capacity)?,
+            is_failed: false,
+        })
+    }
+
+    /// Drops the edges and mends a failed core. It takes no memory.
+    pub fn clear(&mut self)
+        ensures { self.new ≡ nothing_held }
+    {
+        self.content.clear();
+        self.is_failed = false;
+    }
+
+    /// The edges, in the coordinate range and lighter than 2^31.
+    pub fn content(&self) -> &Content<I, C, A>
+        ensures edges { result.now ≡ self.now.edges }
+        ensures content { IsContent I.limit (edges_in self.now.edges) }
+    {
+        // (its contract says that the edges are in range, and weigh less than 2^31)
+        let _ = self.content.edges();
+        &self.content
+    }
+
+    /// Refuses by `Failed` where a query was refused since the edges were last dropped.
+    pub fn check_usable(&self) -> Result<(), OverlayError>
+        ensures { result ≡ (if self.now.failed then Err OverlayError.Failed else Ok tt) }
+    {
+        if self.is_failed {
+            return Err(OverlayError::Failed);
+        }
+        Ok(())
+    }
+
+    /// Notes whether a query was refused.
+    pub fn set_failed(&mut self, is_failed: bool)
+        ensures { self.new ≡ record self.old { failed = is_failed } }
+    {
+        self.is_failed = is_failed;
+    }
+}
+
+impl<I: IntNumber, C: EdgeCount, A: Allocator + Clone> BuilderCore<I, C, A> {
+    /// Adds a path, as `add_path` does. Returns whether a point of it was left out.
+    ///
+    /// Refusals, which leave the core as it was: `Failed` before anything else, `TooManyEdges` where
+    /// the weight would come to 2^31, `Memory`.
+    pub fn add_path(
+        &mut self,
+        points: &[IntPoint<I>],
+        kind: PathKind,
+        passing: StepCounts<C>,
+    ) -> Result<bool, OverlayError>
+        requires light { AreLight C.counts passing }
+        requires points { AllInRange I.limit (plain_points I.whole points.now) }
+        ensures ok { OnOk result (AddsPath kind (passed_edge C.counts passing)
+            (plain_points I.whole points.now) self.old.edges self.new.edges) }
+        ensures left_out { IfOk result (λ leaves_out. (leaves_out ≡ false)
+            ↔ IsTakenAs kind (plain_points I.whole points.now) (plain_points I.whole points.now)) }
+        ensures kept { self.new ≡ record self.old { edges = self.new.edges } }
+        ensures light { weight (edges_in self.new.edges) < 2 ^ 31 }
+        ensures err { OnErr result (self.new ≡ self.old) }
+        ensures failed { IsErrOf result OverlayError.Failed ↔ (self.old.failed ≡ true) }
+        ensures too_many { IsErrOf result OverlayError.TooManyEdges
+            → WouldWeighTooMuch carried_weight
+            (path_as kind (passed_edge C.counts passing) (plain_points I.whole points.now)) self.old.edges }
+        ensures no_query { result ≢ Err OverlayError.NotSettled }
+    {
+        self.check_usable()?;
+        add_path(&mut self.content, points, kind, passing)
+    }
+
+    /// Adds all paths of the resource in order, each as `add_path` does. The points are in the
+    /// coordinate range.
+    ///
+    /// Refusals: `Failed` before anything else, and then nothing is changed; `TooManyEdges` at a
+    /// path that would bring the weight to 2^31; `Memory` at some path, it is not said which. After
+    /// these two exactly the paths before that one are added.
+    pub fn add_paths<R0: IntShapeResource<I>>(
+        &mut self,
+        resource: &R0,
+        kind: PathKind,
+        passing: StepCounts<C>,
+    ) -> Result<(), OverlayError>
+        requires light { AreLight C.counts passing }
+        requires points { All (AllInRange I.limit) (R0.paths resource.now) }
+        ensures { AddsAsAsked carried_weight (paths_as kind (passed_edge C.counts passing) (R0.paths resource.now))
+            self.old self.new result }
+    {
+        self.check_usable()?;
+        for index in 0..resource.path_count() {
+            self.add_path(resource.path(index), kind, passing)?;
+        }
+        Ok(())
+    }
+
+    /// Brings the edges into an arrangement, and returns whether some were cut. A refusal leaves the
+    /// core failed.
+    pub fn arrange(&mut self, store: &mut C::Store) -> Result<bool, OverlayError>
+        ensures query { AnswersQuery I.limit 64 (plain_held self.old) (plain_held self.new) result }
+        ensures untouched { IsErrOf result OverlayError.Failed → self.new ≡ self.old }
+        ensures cut { IfOk result (λ is_cut. (is_cut ≡ false)
+            ↔ IsReachedBy [] (edges_in self.old.edges) (edges_in self.new.edges)) }
+    {
+        self.check_usable()?;
+        let arranged = self.content.arrange(store);
+        // (its contract says that the edges are in range, and weigh less than 2^31)
+        let _ = self.content.edges();
+        self.is_failed = arranged.is_err();
+        arranged
+    }
+}
