@@ -7,6 +7,7 @@ ghost use Rattle.overlay_geom.specs.Paths.{plain_shapes};
 ghost use Rattle.overlay_geom.specs.Settled.{IsSettled};
 ghost use Rattle.overlay_plane.specs.Balance.{HasBalancedCounts};
 ghost use Rattle.overlay_plane.specs.Binding.{AreCutFrom};
+ghost use Rattle.overlay_plane.specs.Carried.{edges_in};
 ghost use Rattle.overlay_plane.specs.SelectedSteps.{selected_steps};
 ghost use Rattle.overlay_arrange.specs.Content.{IsAscending};
 ghost use Rattle.overlay_arrange.specs.Rules.{rules_hold};
@@ -41,10 +42,10 @@ pub(crate) fn extract_shapes<I: IntNumber, A: Allocator + Clone>(
     options: IntOverlayOptions<I::WideUInt>,
     buffer: &mut Option<BooleanExtractionBuffer<I, A>>,
 ) -> Result<IntShapes<I, A>, OverlayError>
-    requires ascending { IsAscending content.now }
-    requires settled { IsSettled content.now }
-    requires balanced { HasBalancedCounts content.now }
-    ensures result { IfOk result (λ v. IsResult (asked fill_rule overlay_rule options) content.now (plain_shapes I.whole v.items)) }
+    requires ascending { IsAscending (edges_in content.now) }
+    requires settled { IsSettled (edges_in content.now) }
+    requires balanced { HasBalancedCounts (edges_in content.now) }
+    ensures result { IfOk result (λ v. IsResult (asked fill_rule overlay_rule options) (edges_in content.now) (plain_shapes I.whole v.items)) }
     ensures buffer { OnOk result (buffer.new ≢ None) }
     ensures err { IsOkUnless result OverlayError.Memory }
 {
@@ -69,10 +70,10 @@ fn selected_walks<I: IntNumber, A: Allocator + Clone>(
     direction: ContourDirection,
     buffer: &mut Option<BooleanExtractionBuffer<I, A>>,
 ) -> Result<Vec<Vec<Step<I, ()>, A>, A>, OverlayError>
-    requires ascending { IsAscending content.now }
-    requires settled { IsSettled content.now }
-    requires balanced { HasBalancedCounts content.now }
-    ensures cut { IfOk result (λ ws. AreCutFrom (rules_hold fill_rule overlay_rule) subj_of clip_of content.now
+    requires ascending { IsAscending (edges_in content.now) }
+    requires settled { IsSettled (edges_in content.now) }
+    requires balanced { HasBalancedCounts (edges_in content.now) }
+    ensures cut { IfOk result (λ ws. AreCutFrom (rules_hold fill_rule overlay_rule) subj_of clip_of (edges_in content.now)
         (is_on_left direction) (plain_walks I.whole ws.items)) }
     ensures long { IfOk result (λ ws. All (All (IsLong I.limit)) (plain_walks I.whole ws.items)) }
     ensures buffer { OnOk result (buffer.new ≢ None) }
@@ -100,7 +101,7 @@ fn open_selected<I: IntNumber, A: Allocator + Clone>(
 ) -> Result<OpenSteps<I, (), A>, OverlayError>
     requires { steps.items ≡ [] }
     ensures selected { IfOk result (λ o. IsPermutation (selected_steps (rules_hold fill_rule overlay_rule) subj_of clip_of
-        (is_on_left direction) content.now) (plain_steps I.whole o)) }
+        (is_on_left direction) (edges_in content.now)) (plain_steps I.whole o)) }
     ensures err { IsOkUnless result OverlayError.Memory }
 {
     // (its contract says that the edges are in range)

@@ -51,6 +51,7 @@ pub struct Overlay<I: OverlayInt, A: Allocator> {
 }
 
 impl<I: OverlayInt, A: Allocator> Model for Overlay<I, A> {
+    ghost use Rattle.overlay_plane.specs.Carried.{edges_in};
     ghost use Rattle.i_overlay.specs.Builder.{Builder, IsBalancedUnlessFailed};
 
     ghost Value = { Builder I.WideUInt };
@@ -59,11 +60,11 @@ impl<I: OverlayInt, A: Allocator> Model for Overlay<I, A> {
       solver = o.solver;
       options = o.options;
       boolean_buffer = o.boolean_buffer;
-      edges = o.content;
+      edges = edges_in o.content;
       failed = o.is_failed;
     } };
 
-    ghost invariant = { λ o. IsBalancedUnlessFailed o.is_failed o.content };
+    ghost invariant = { λ o. IsBalancedUnlessFailed o.is_failed (edges_in o.content) };
 }
 
 impl<I: OverlayInt, A: Allocator + Clone> Overlay<I, A> {

@@ -4,6 +4,7 @@ pub mod Appended
 pub mod ArrangedLists
 pub mod BentPart
 pub mod BentStack
+pub mod CarriedEdges
 pub mod Crossings
 pub mod CutContents
 pub mod DirectionBits

@@ -2,12 +2,13 @@
 use Rattle.std.specs.Prelude.{◌≡◌, ℕ, ◌^◌, ◌<◌, true, cond, ℤ, pos, List, map, All, AllPairs}
 use Rattle.std.specs.declared.cmp.Ordering.{Ordering}
 use Rattle.std.specs.declared.cmp.Ordering.TheVariants.{Less, Equal, Greater}
-use Rattle.overlay_geom.specs.Plane.{Point, Step, point_lt, edge_lt}
+use Rattle.overlay_geom.specs.Plane.{Point, Step, point_lt, edge_lt, sign_of}
 use Rattle.overlay_arrange.specs.declared.options.ShapeType.{ShapeType}
 use Rattle.overlay_arrange.specs.declared.options.ShapeType.TheVariants.{Subject, Clip}
 use Rattle.overlay_geom.specs.Points.{plain_point, InRange}
 pub use Rattle.overlay_geom.specs.Resolved.{point_cmp}
 use Rattle.overlay_geom.specs.Edges.{CountedEdge, ends_of, subject_edge, clip_edge, weight}
+use Rattle.overlay_plane.specs.Carried.{Carried}
 use Rattle.overlay_arrange.specs.Counts.{Counts}
 use Rattle.overlay_arrange.specs.declared.count.ShapeCountBoolean.{ShapeCountBoolean}
 use Rattle.overlay_arrange.specs.declared.edge.CountedEdge.{CountedEdge as HeldEdge}
@@ -23,6 +24,14 @@ plain_edge whole counts e = edge_with (plain_point whole e.a) (plain_point whole
 -- and of each edge of a list
 abbrev pub plain_edges : {I C : Type 0} → (I → ℤ) → (C → Counts) → List (HeldEdge I C) → List CountedEdge
 plain_edges whole counts es = map (plain_edge whole counts) es
+
+-- the counted edge at an edge's numbers, with what the edge carries
+abbrev pub carried_edge : {I C : Type 0} → (I → ℤ) → (C → Counts) → HeldEdge I C → Carried C
+carried_edge whole counts e = record { edge = plain_edge whole counts e; carries = e.count }
+
+-- and of each edge of a list
+abbrev pub carried_edges : {I C : Type 0} → (I → ℤ) → (C → Counts) → List (HeldEdge I C) → List (Carried C)
+carried_edges whole counts es = map (carried_edge whole counts) es
 
 -- how two edges compare: by their smaller ends, then by their larger ones
 abbrev pub edge_cmp : CountedEdge → CountedEdge → Ordering
@@ -52,6 +61,10 @@ edge_for Clip s = clip_edge s
 abbrev pub count_for : ShapeType → ℤ → ShapeCountBoolean
 count_for Subject count = record { subj = count; clip = pos 0 }
 count_for Clip count = record { subj = pos 0; clip = count }
+
+-- the counted edge of a step of the subject, or of the clip, with the counts that it carries
+abbrev pub carried_for : ShapeType → Step → Carried ShapeCountBoolean
+carried_for t s = record { edge = edge_for t s; carries = count_for t (sign_of s) }
 
 -- the number is the weight of the edges, which a builder may hold
 pub record IsWeighed (limit : ℕ) (es : List CountedEdge) (number : ℕ) : Type 0 where

@@ -7,7 +7,9 @@ ghost use Rattle.overlay_geom.specs.Merged.{IsMerged};
 ghost use Rattle.overlay_geom.specs.Plane.{steps_of};
 ghost use Rattle.overlay_geom.specs.Points.{plain_points, AllInRange};
 ghost use Rattle.overlay_geom.specs.Settled.{IsSettled};
-ghost use Rattle.overlay_arrange.specs.Content.{edge_for, plain_edge, plain_edges};
+ghost use Rattle.overlay_plane.specs.Carried.{edges_in};
+ghost use Rattle.overlay_arrange.specs.Content.{edge_for, carried_for, plain_edge, plain_edges};
+ghost use Rattle.overlay_arrange.specs.Content.{carried_edge, carried_edges};
 ghost use Rattle.overlay_arrange.specs.Content.{IsAscending, IsContent, IsHeld};
 ghost use Rattle.overlay_arrange.specs.Counts.{weight_of_counts};
 ghost use Rattle.overlay_arrange.specs.Vectors.{plain_vector, vector_of};
@@ -40,12 +42,12 @@ pub struct Content<I: IntNumber, C: EdgeCount, A: Allocator> {
 
 impl<I: IntNumber, C: EdgeCount, A: Allocator> Model for Content<I, C, A> {
     ghost use Rattle.std.specs.Prelude.{List};
-    ghost use Rattle.overlay_geom.specs.Edges.{CountedEdge};
-    ghost use Rattle.overlay_arrange.specs.Content.{plain_edges, IsWeighed};
+    ghost use Rattle.overlay_plane.specs.Carried.{Carried};
+    ghost use Rattle.overlay_arrange.specs.Content.{plain_edges, carried_edges, IsWeighed};
 
-    ghost Value = { List CountedEdge };
+    ghost Value = { List (Carried C) };
 
-    ghost view = { λ c. plain_edges I.whole C.counts c.edges.items };
+    ghost view = { λ c. carried_edges I.whole C.counts c.edges.items };
 
     ghost invariant = { λ c. IsWeighed I.limit (plain_edges I.whole C.counts c.edges.items) c.weight };
 }
@@ -79,10 +81,10 @@ impl<I: IntNumber, C: EdgeCount, A: Allocator> Content<I, C, A> {
     pub fn push(&mut self, edge: CountedEdge<I, C>) -> Result<(), OverlayError>
         requires held { IsHeld I.limit (plain_edge I.whole C.counts edge) }
         requires light { weight_of_counts (C.counts edge.count) < 2 ^ 31 }
-        ensures ok { OnOk result (self.new ≡ self.old ++ plain_edge I.whole C.counts edge ∷ []) }
+        ensures ok { OnOk result (self.new ≡ self.old ++ carried_edge I.whole C.counts edge ∷ []) }
         ensures err { OnErr result (self.new ≡ self.old) }
         ensures too_many { IsErrOf result OverlayError.TooManyEdges
-            → 2 ^ 31 ≤ weight (self.old ++ plain_edge I.whole C.counts edge ∷ []) }
+            → 2 ^ 31 ≤ weight (edges_in self.old ++ plain_edge I.whole C.counts edge ∷ []) }
         ensures only { IfErr result (λ e. (e ≡ OverlayError.Memory) ⊎ (e ≡ OverlayError.TooManyEdges)) }
     {
         let added = edge.count.weight();
@@ -97,8 +99,8 @@ impl<I: IntNumber, C: EdgeCount, A: Allocator> Content<I, C, A> {
     /// Makes equal edges one with their counts summed, drops those without counts, and sorts the
     /// rest. If memory is refused the content is left open.
     pub fn merge(&mut self, store: &mut C::Store) -> Result<(), OverlayError>
-        ensures ok { OnOk result (IsMerged self.old self.new) }
-        ensures content { IsContent I.limit self.new }
+        ensures ok { OnOk result (IsMerged (edges_in self.old) (edges_in self.new)) }
+        ensures content { IsContent I.limit (edges_in self.new) }
         ensures err { IsOkUnless result OverlayError.Memory }
     {
         let merged = merge(&mut self.edges, store);
@@ -108,16 +110,17 @@ impl<I: IntNumber, C: EdgeCount, A: Allocator> Content<I, C, A> {
 
     /// The edges, each from its smaller to its larger end, in the coordinate range.
     pub fn edges(&self) -> &[CountedEdge<I, C>]
-        ensures edges { plain_edges I.whole C.counts result.now ≡ self.now }
-        ensures content { IsContent I.limit self.now }
+        ensures edges { carried_edges I.whole C.counts result.now ≡ self.now }
+        ensures plain { plain_edges I.whole C.counts result.now ≡ edges_in self.now }
+        ensures content { IsContent I.limit (edges_in self.now) }
     {
         &self.edges
     }
 
     /// Whether any two different edges meet in ends alone. The edges ascend, as they do once merged.
     pub(crate) fn is_settled(&self) -> bool
-        requires { IsAscending self.now }
-        ensures { IsTrue result ↔ IsSettled self.now }
+        requires { IsAscending (edges_in self.now) }
+        ensures { IsTrue result ↔ IsSettled (edges_in self.now) }
     {
         is_settled(&self.edges)
     }
@@ -130,7 +133,7 @@ impl<I: IntNumber, C: EdgeCount, A: Allocator> Content<I, C, A> {
     where
         A: Clone,
         ensures ok { IfOk result (λ v.
-            map (plain_vector I.whole) v.items ≡ map (vector_of rule self.now) self.now) }
+            map (plain_vector I.whole) v.items ≡ map (vector_of rule (edges_in self.now)) (edges_in self.now)) }
         ensures err { IsOkUnless result OverlayError.Memory }
     {
         filled_edges(self.edges.allocator().clone()?, &self.edges, rule)
@@ -146,11 +149,13 @@ impl<I: IntNumber, A: Allocator> Content<I, ShapeCountBoolean, A> {
     ) -> Result<(), OverlayError>
         requires { AllInRange I.limit (plain_points I.whole contour.now) }
         ensures ok { OnOk result (self.new
-            ≡ self.old ++ map (edge_for shape_type) (steps_of (plain_points I.whole contour.now))) }
-        ensures light { OnOk result (weight self.new < 2 ^ 31) }
+            ≡ self.old ++ map (carried_for shape_type) (steps_of (plain_points I.whole contour.now))) }
+        ensures plain { OnOk result (edges_in self.new
+            ≡ edges_in self.old ++ map (edge_for shape_type) (steps_of (plain_points I.whole contour.now))) }
+        ensures light { OnOk result (weight (edges_in self.new) < 2 ^ 31) }
         ensures err { OnErr result (self.new ≡ self.old) }
         ensures too_many { IsErrOf result OverlayError.TooManyEdges
-            → 2 ^ 31 ≤ weight (self.old
+            → 2 ^ 31 ≤ weight (edges_in self.old
             ++ map (edge_for shape_type) (steps_of (plain_points I.whole contour.now))) }
         ensures only { IfErr result (λ e. (e ≡ OverlayError.Memory) ⊎ (e ≡ OverlayError.TooManyEdges)) }
     {

@@ -8,6 +8,7 @@ ghost use Rattle.std.specs.Ordering.{is_lt};
 ghost use Rattle.overlay_geom.specs.Edges.{ends_of, weight};
 ghost use Rattle.overlay_geom.specs.Plane.{steps_between, steps_through};
 ghost use Rattle.overlay_geom.specs.Points.{plain_point, plain_points, InRange, AllInRange};
+ghost use Rattle.overlay_plane.specs.Carried.{edges_in};
 ghost use Rattle.overlay_plane.specs.CutPoints.{comes_first, cut_points, cut_edges, met_at};
 ghost use Rattle.overlay_plane.specs.Cutting.{piece_along};
 ghost use Rattle.overlay_plane.specs.InOrder.{in_order};
@@ -33,9 +34,9 @@ impl<I: IntNumber, C: EdgeCount, A: Allocator> Content<I, C, A> {
     pub fn cut(&mut self, store: &mut C::Store) -> Result<(), OverlayError>
     where
         A: Clone,
-        requires { IsAscending self.old }
-        ensures ok { OnOk result (self.new ≡ cut_edges self.old) }
-        ensures too_many { IsErrOf result OverlayError.TooManyEdges → 2 ^ 31 ≤ weight (cut_edges self.old) }
+        requires { IsAscending (edges_in self.old) }
+        ensures ok { OnOk result (edges_in self.new ≡ cut_edges (edges_in self.old)) }
+        ensures too_many { IsErrOf result OverlayError.TooManyEdges → 2 ^ 31 ≤ weight (cut_edges (edges_in self.old)) }
         ensures only { IfErr result (λ e. (e ≡ OverlayError.Memory) ⊎ (e ≡ OverlayError.TooManyEdges)) }
     {
         let alloc = self.allocator().clone()?;
@@ -52,7 +53,7 @@ fn cut_edges<I: IntNumber, C: EdgeCount, A: Allocator + Clone>(
 ) -> Result<Content<I, C, A>, OverlayError>
     requires content { IsContent I.limit (plain_edges I.whole C.counts edges.now) }
     requires ascending { IsAscending (plain_edges I.whole C.counts edges.now) }
-    ensures ok { IfOk result (λ pieces. pieces ≡ cut_edges (plain_edges I.whole C.counts edges.now)) }
+    ensures ok { IfOk result (λ pieces. edges_in pieces ≡ cut_edges (plain_edges I.whole C.counts edges.now)) }
     ensures too_many { IsErrOf result OverlayError.TooManyEdges
         → 2 ^ 31 ≤ weight (cut_edges (plain_edges I.whole C.counts edges.now)) }
     ensures only { IfErr result (λ e. (e ≡ OverlayError.Memory) ⊎ (e ≡ OverlayError.TooManyEdges)) }
@@ -77,10 +78,10 @@ fn push_pieces<I: IntNumber, C: EdgeCount, A: Allocator>(
     requires light { weight_of_counts (C.counts e.now.count) < 2 ^ 31 }
     requires points { AllInRange I.limit (plain_points I.whole points.now) }
     ensures ok { let whole = plain_edge I.whole C.counts e.now in
-        OnOk result (pieces.new ≡ pieces.old
+        OnOk result (edges_in pieces.new ≡ edges_in pieces.old
         ++ map (piece_along whole) (steps_through whole.a (plain_points I.whole points.now ++ whole.b ∷ []))) }
     ensures too_many { let whole = plain_edge I.whole C.counts e.now in
-        IsErrOf result OverlayError.TooManyEdges → 2 ^ 31 ≤ weight (pieces.old
+        IsErrOf result OverlayError.TooManyEdges → 2 ^ 31 ≤ weight (edges_in pieces.old
         ++ map (piece_along whole) (steps_through whole.a (plain_points I.whole points.now ++ whole.b ∷ []))) }
     ensures only { IfErr result (λ e. (e ≡ OverlayError.Memory) ⊎ (e ≡ OverlayError.TooManyEdges)) }
 {
@@ -105,9 +106,9 @@ fn push_piece<I: IntNumber, C: EdgeCount, A: Allocator>(
     requires light { weight_of_counts (C.counts e.now.count) < 2 ^ 31 }
     requires from { InRange I.limit (plain_point I.whole from) }
     requires to { InRange I.limit (plain_point I.whole to) }
-    ensures ok { OnOk result (pieces.new ≡ pieces.old ++ map (piece_along (plain_edge I.whole C.counts e.now))
+    ensures ok { OnOk result (edges_in pieces.new ≡ edges_in pieces.old ++ map (piece_along (plain_edge I.whole C.counts e.now))
         (steps_between (plain_point I.whole from) (plain_point I.whole to))) }
-    ensures too_many { IsErrOf result OverlayError.TooManyEdges → 2 ^ 31 ≤ weight (pieces.old
+    ensures too_many { IsErrOf result OverlayError.TooManyEdges → 2 ^ 31 ≤ weight (edges_in pieces.old
         ++ map (piece_along (plain_edge I.whole C.counts e.now))
         (steps_between (plain_point I.whole from) (plain_point I.whole to))) }
     ensures only { IfErr result (λ e. (e ≡ OverlayError.Memory) ⊎ (e ≡ OverlayError.TooManyEdges)) }

@@ -3,6 +3,7 @@
 ghost use Rattle.std.specs.Prelude.{◌≡◌, ◌≢◌, ◌↔◌, ◌^◌, false, []};
 ghost use Rattle.std.specs.Prelude.{Err, IfOk, IfErr, OnOk, IsErrOf};
 ghost use Rattle.overlay_arrange.specs.Arranged.{IsArranged, MayRefuseSplitting};
+ghost use Rattle.overlay_plane.specs.Carried.{edges_in};
 ghost use Rattle.overlay_plane.specs.Arrangements.{IsReachedBy, IsSplit, StaysUnsettled, WeighsTooMuch};
 
 use crate::content::Content;
@@ -29,9 +30,9 @@ impl<I: IntNumber, C: EdgeCount, A: Allocator + Clone> Content<I, C, A> {
     /// What was arranged before is refused for want of memory alone; `NotSettled` does not come
     /// where edges meet only in whole points or overlap.
     pub fn arrange(&mut self, store: &mut C::Store) -> Result<bool, OverlayError>
-        ensures arranged { OnOk result (IsArranged 64 self.old self.new) }
-        ensures cut { IfOk result (λ is_cut. (is_cut ≡ false) ↔ IsReachedBy [] self.old self.new) }
-        ensures err { IfErr result (MayRefuseSplitting 64 self.old) }
+        ensures arranged { OnOk result (IsArranged 64 (edges_in self.old) (edges_in self.new)) }
+        ensures cut { IfOk result (λ is_cut. (is_cut ≡ false) ↔ IsReachedBy [] (edges_in self.old) (edges_in self.new)) }
+        ensures err { IfErr result (MayRefuseSplitting 64 (edges_in self.old)) }
     {
         // (its contract says that the edges are in range, and weigh less than 2^31)
         let _ = self.edges();
@@ -41,10 +42,10 @@ impl<I: IntNumber, C: EdgeCount, A: Allocator + Clone> Content<I, C, A> {
     /// Merges the edges, and cuts them so many times at most, until they are settled. Returns
     /// whether it cut them. If it is refused the content is left open.
     pub fn split(&mut self, rounds: u32, store: &mut C::Store) -> Result<bool, OverlayError>
-        ensures split { OnOk result (IsSplit rounds self.old self.new) }
-        ensures cut { IfOk result (λ is_cut. (is_cut ≡ false) ↔ IsReachedBy [] self.old self.new) }
-        ensures not_settled { IsErrOf result OverlayError.NotSettled → StaysUnsettled rounds self.old }
-        ensures too_many { IsErrOf result OverlayError.TooManyEdges → WeighsTooMuch rounds (2 ^ 31) self.old }
+        ensures split { OnOk result (IsSplit rounds (edges_in self.old) (edges_in self.new)) }
+        ensures cut { IfOk result (λ is_cut. (is_cut ≡ false) ↔ IsReachedBy [] (edges_in self.old) (edges_in self.new)) }
+        ensures not_settled { IsErrOf result OverlayError.NotSettled → StaysUnsettled rounds (edges_in self.old) }
+        ensures too_many { IsErrOf result OverlayError.TooManyEdges → WeighsTooMuch rounds (2 ^ 31) (edges_in self.old) }
         ensures usable { result ≢ Err OverlayError.Failed }
     {
         self.merge(store)?;

@@ -5,6 +5,7 @@ pub mod Arrangements
 pub mod Balance
 pub mod BesideOrbits
 pub mod Binding
+pub mod Carried
 pub mod ChainLinks
 pub mod ContourWindings
 pub mod Contours

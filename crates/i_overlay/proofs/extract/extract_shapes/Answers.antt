@@ -6,6 +6,7 @@ use Rattle.overlay_geom.specs.Edges.{subj_of, clip_of}
 use Rattle.overlay_geom.specs.Paths.{plain_shapes}
 use Rattle.overlay_geom.specs.Plane.{edge_of, edge_eq}
 use Rattle.overlay_geom.specs.Settled.{IsSettledBy}
+use Rattle.overlay_plane.specs.Carried.{edges_in}
 use Rattle.overlay_plane.specs.Anchors.{HasEachEdgeOnce}
 use Rattle.overlay_plane.specs.Binding.{AreBound, all_filled_above, shapes_of}
 use Rattle.overlay_plane.specs.Contours.{IsContour, all_steps}
@@ -22,26 +23,26 @@ pub bind-requires-clause-contours : goal.bind-requires-clause-contours
 bind-requires-clause-contours g c =
     let walks = plain_walks g.I.IntNumber.whole c.in_ok-walks.walks.items in
     subst (λ ws. All IsContour (plain_walks g.I.IntNumber.whole ws)) (sym c.deref.ensures.value)
-    (walks_are_contours (rules_hold c.args.fill_rule c.args.overlay_rule) subj_of clip_of c.args.content.now (is_on_left c.args.options.output_direction) walks c.in_ok-walks.ensures.cut)
+    (walks_are_contours (rules_hold c.args.fill_rule c.args.overlay_rule) subj_of clip_of (edges_in c.args.content.now) (is_on_left c.args.options.output_direction) walks c.in_ok-walks.ensures.cut)
 
 pub bind-requires-clause-single : goal.bind-requires-clause-single
 bind-requires-clause-single g c =
     let walks = plain_walks g.I.IntNumber.whole c.in_ok-walks.walks.items in
     subst (λ ws. All HasEachEdgeOnce (plain_walks g.I.IntNumber.whole ws)) (sym c.deref.ensures.value)
-    (walks_have_each_edge_once (rules_hold c.args.fill_rule c.args.overlay_rule) subj_of clip_of c.args.content.now (is_on_left c.args.options.output_direction) walks c.in_ok-walks.ensures.cut)
+    (walks_have_each_edge_once (rules_hold c.args.fill_rule c.args.overlay_rule) subj_of clip_of (edges_in c.args.content.now) (is_on_left c.args.options.output_direction) walks c.in_ok-walks.ensures.cut)
 
 pub bind-requires-clause-distinct : goal.bind-requires-clause-distinct
 bind-requires-clause-distinct g c =
     let walks = plain_walks g.I.IntNumber.whole c.in_ok-walks.walks.items in
     let on_left = is_on_left c.args.options.output_direction in
     subst (λ ws. AllPairs (λ e f. edge_eq e f ≡ false) (all_filled_above on_left (plain_walks g.I.IntNumber.whole ws))) (sym c.deref.ensures.value)
-    (filled_above_distinct (rules_hold c.args.fill_rule c.args.overlay_rule) subj_of clip_of c.args.content.now on_left walks c.in_ok-walks.ensures.cut)
+    (filled_above_distinct (rules_hold c.args.fill_rule c.args.overlay_rule) subj_of clip_of (edges_in c.args.content.now) on_left walks c.in_ok-walks.ensures.cut)
 
 pub bind-requires-clause-settled : goal.bind-requires-clause-settled
 bind-requires-clause-settled g c =
     let walks = plain_walks g.I.IntNumber.whole c.in_ok-walks.walks.items in
     subst (λ ws. IsSettledBy edge_of (all_steps (plain_walks g.I.IntNumber.whole ws))) (sym c.deref.ensures.value)
-    (walks_settled (rules_hold c.args.fill_rule c.args.overlay_rule) subj_of clip_of c.args.content.now (is_on_left c.args.options.output_direction) walks c.in_ok-walks.ensures.cut)
+    (walks_settled (rules_hold c.args.fill_rule c.args.overlay_rule) subj_of clip_of (edges_in c.args.content.now) (is_on_left c.args.options.output_direction) walks c.in_ok-walks.ensures.cut)
 
 pub returns-clause-result : goal.returns-clause-result
 returns-clause-result g c =
@@ -52,7 +53,7 @@ returns-clause-result g c =
     let bound = bound_to walks c.in_ok-numbers.numbers.items in
     let are_bound : AreBound on_left walks bound = subst (λ ws. AreBound on_left (plain_walks whole ws) (bound_to (plain_walks whole ws) c.in_ok-numbers.numbers.items)) c.deref.ensures.value c.in_ok-numbers.ensures.bound in
     IfOk-weaker c.assembled.result _ _
-    (λ v shown. result_shown (asked c.args.fill_rule c.args.overlay_rule c.args.options) c.args.content.now walks bound c.in_ok-walks.ensures.cut are_bound
+    (λ v shown. result_shown (asked c.args.fill_rule c.args.overlay_rule c.args.options) (edges_in c.args.content.now) walks bound c.in_ok-walks.ensures.cut are_bound
     (plain_shapes whole v.items) shown)
     (subst (λ ns. IfOk c.assembled.result (λ v. AreKeptOrThinned keep (points_of_shapes (shapes_of on_left (bound_to walks ns))) (plain_shapes whole v.items))) c.deref-3.ensures.value
     (subst (λ ws. IfOk c.assembled.result (λ v. AreKeptOrThinned keep (points_of_shapes (shapes_of on_left (bound_to (plain_walks whole ws) c.deref-3.result.now))) (plain_shapes whole v.items))) c.deref-2.ensures.value

@@ -4,6 +4,7 @@ use Rattle.std.specs.List.Sorted.{IsPermutation}
 use Rattle.std.proofs.lemmas.List.Sorted.{IsPermutation-map}
 use Rattle.std.proofs.lemmas.Result.{IfOk-weaker}
 use Rattle.overlay_geom.specs.Edges.{subj_of, clip_of}
+use Rattle.overlay_plane.specs.Carried.{edges_in}
 use Rattle.overlay_arrange.specs.Rules.{rules_hold}
 use Rattle.overlay_arrange.specs.Vectors.{plain_vector}
 use Rattle.overlay_walk.specs.Steps.{is_on_left, plain_step, plain_steps, IsLong}
@@ -16,16 +17,16 @@ new-requires g c =
     let whole = g.I.IntNumber.whole in
     let on_left = is_on_left c.args.direction in
     let vectors = ap (map (plain_vector whole)) c.deref.ensures.value ∙ c.in_ok-edges.ensures.ok in
-    let are = selected_in_room c.args.fill_rule c.args.overlay_rule c.args.content.now on_left _ _ _ (ap (plain_steps whole) c.requires) vectors c.in_ok-push_selected.ensures.ok in
+    let are = selected_in_room c.args.fill_rule c.args.overlay_rule (edges_in c.args.content.now) on_left _ _ _ (ap (plain_steps whole) c.requires) vectors c.in_ok-push_selected.ensures.ok in
     subst (All (IsLong g.I.IntNumber.limit)) (sym are)
-    (selected_are_long g.I.IntNumber.limit c.args.content.now c.edges.ensures.content (rules_hold c.args.fill_rule c.args.overlay_rule) subj_of clip_of on_left)
+    (selected_are_long g.I.IntNumber.limit (edges_in c.args.content.now) c.edges.ensures.content (rules_hold c.args.fill_rule c.args.overlay_rule) subj_of clip_of on_left)
 
 pub returns-clause-selected : goal.returns-clause-selected
 returns-clause-selected g c =
     let whole = g.I.IntNumber.whole in
     let on_left = is_on_left c.args.direction in
     let vectors = ap (map (plain_vector whole)) c.deref.ensures.value ∙ c.in_ok-edges.ensures.ok in
-    let are = selected_in_room c.args.fill_rule c.args.overlay_rule c.args.content.now on_left _ _ _ (ap (plain_steps whole) c.requires) vectors c.in_ok-push_selected.ensures.ok in
+    let are = selected_in_room c.args.fill_rule c.args.overlay_rule (edges_in c.args.content.now) on_left _ _ _ (ap (plain_steps whole) c.requires) vectors c.in_ok-push_selected.ensures.ok in
     IfOk-weaker c.new.result (λ o. IsPermutation c.push_selected.new.steps.items o) _
     (λ o moved. subst (λ ss. IsPermutation ss (plain_steps whole o)) are (IsPermutation-map (plain_step whole) c.push_selected.new.steps.items o moved))
     c.new.ensures.all

@@ -6,6 +6,7 @@ use Rattle.std.specs.List.{flat_map}
 use Rattle.overlay_geom.specs.Plane.{Point}
 use Rattle.overlay_geom.specs.Points.{plain_points, InRange}
 use Rattle.overlay_geom.proofs.Mapped.{All-mapped_at, Contains-mapped, mapped_rest}
+use Rattle.overlay_plane.specs.Carried.{edges_in}
 use Rattle.overlay_plane.specs.CutPoints.{cut_points}
 use Rattle.overlay_plane.specs.Cutting.{pieces_through}
 use Rattle.overlay_arrange.specs.Content.{plain_edge, plain_edges, IsHeld}
@@ -47,9 +48,9 @@ returns-in_err-push_pieces-clause-too_many g c =
     let pieces = pieces_through (cut_points es) in
     let e = plain c.e-item.result in
     let rest = plain_edges g.I.IntNumber.whole g.C.EdgeCount.counts (drop (i + 1) c.args.edges.now) in
-    let all = next_appended pieces c.loop-e.pieces (c.loop-e.pieces ++ pieces e) e rest _ _ (mapped_rest plain c.args.edges.now i c.e-item.result c.loop-e-test.true c.e-item.is) c.loop-e.invariant refl in
+    let all = next_appended pieces (edges_in c.loop-e.pieces) (edges_in c.loop-e.pieces ++ pieces e) e rest _ _ (mapped_rest plain c.args.edges.now i c.e-item.result c.loop-e-test.true c.e-item.is) c.loop-e.invariant refl in
     let same : plain_points g.I.IntNumber.whole c.deref.result.now ≡ cut_points es e = ap (plain_points g.I.IntNumber.whole) c.deref.ensures.value ∙ c.in_ok-points.ensures.ok in
-    λ refused. heavy_beginning 2147483648 (c.loop-e.pieces ++ pieces e) (flat_map pieces rest) _ all (rw same at (c.push_pieces.ensures.too_many (search rules)))
+    λ refused. heavy_beginning 2147483648 (edges_in c.loop-e.pieces ++ pieces e) (flat_map pieces rest) _ all (rw same at (c.push_pieces.ensures.too_many (search rules)))
 
 pub loop-e-preserved : goal.loop-e-preserved
 loop-e-preserved g c =
@@ -59,13 +60,13 @@ loop-e-preserved g c =
     let e = plain c.e-item.result in
     let rest = plain_edges g.I.IntNumber.whole g.C.EdgeCount.counts (drop (i + 1) c.args.edges.now) in
     let same : plain_points g.I.IntNumber.whole c.deref.result.now ≡ cut_points es e = ap (plain_points g.I.IntNumber.whole) c.deref.ensures.value ∙ c.in_ok-points.ensures.ok in
-    next_appended (pieces_through (cut_points es)) c.loop-e.pieces _ e rest _ _ (mapped_rest plain c.args.edges.now i c.e-item.result c.loop-e-test.true c.e-item.is)
+    next_appended (pieces_through (cut_points es)) (edges_in c.loop-e.pieces) _ e rest _ _ (mapped_rest plain c.args.edges.now i c.e-item.result c.loop-e-test.true c.e-item.is)
     c.loop-e.invariant (rw same at c.in_ok-push_pieces.ensures.ok)
 
 pub returns-clause-ok : goal.returns-clause-ok
 returns-clause-ok g c =
     let es = plain_edges g.I.IntNumber.whole g.C.EdgeCount.counts c.args.edges.now in
     let past : length c.args.edges.now ≤ c.loop-e.e-index = search rules in
-    let none = at_drop_all (λ (fs : List (CountedEdge _ _)). c.loop-e.pieces ++ flat_map (pieces_through (cut_points es)) (plain_edges g.I.IntNumber.whole g.C.EdgeCount.counts fs))
+    let none = at_drop_all (λ (fs : List (CountedEdge _ _)). edges_in c.loop-e.pieces ++ flat_map (pieces_through (cut_points es)) (plain_edges g.I.IntNumber.whole g.C.EdgeCount.counts fs))
     c.args.edges.now c.loop-e.e-index past in
-    sym (append-nil c.loop-e.pieces) ∙ sym none ∙ c.loop-e.invariant
+    sym (append-nil (edges_in c.loop-e.pieces)) ∙ sym none ∙ c.loop-e.invariant

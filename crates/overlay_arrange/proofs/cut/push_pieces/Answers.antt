@@ -7,6 +7,7 @@ use Rattle.overlay_geom.specs.Plane.{steps_between, steps_through}
 use Rattle.overlay_geom.specs.Points.{plain_point, plain_points, InRange}
 use Rattle.overlay_geom.specs.declared.point.IntPoint.{IntPoint}
 use Rattle.overlay_geom.proofs.Mapped.{mapped_rest, All-mapped_at}
+use Rattle.overlay_plane.specs.Carried.{edges_in}
 use Rattle.overlay_plane.specs.Cutting.{piece_along}
 use Rattle.overlay_arrange.specs.Content.{plain_edge}
 use Rattle.overlay_arrange.proofs.Adding.{push-next, push-last}
@@ -23,7 +24,7 @@ loop-to-preserved g c =
     let e = plain_edge g.I.IntNumber.whole g.C.EdgeCount.counts c.args.e.now in
     let rest = plain_points g.I.IntNumber.whole (drop (c.loop-to.to-index + 1) c.args.points.now) ++ e.b ∷ [] in
     let next = mapped_rest at c.args.points.now c.loop-to.to-index c.to-item.result c.loop-to-test.true c.to-item.is in (
-      push-next (piece_along e) (at c.loop-to.from) (at c.to-item.result) rest c.loop-to.pieces _ _ (rw next at c.loop-to.invariant.0) c.in_ok-push_piece.ensures.ok,
+      push-next (piece_along e) (at c.loop-to.from) (at c.to-item.result) rest (edges_in c.loop-to.pieces) _ _ (rw next at c.loop-to.invariant.0) c.in_ok-push_piece.ensures.ok,
       All-mapped_at (InRange g.I.IntNumber.limit) at c.args.points.now c.loop-to.to-index c.to-item.result c.loop-to-test.true c.to-item.is c.requires.points,
     )
 
@@ -33,8 +34,8 @@ returns-in_err-push_piece-clause-too_many g c =
     let e = plain_edge g.I.IntNumber.whole g.C.EdgeCount.counts c.args.e.now in
     let rest = plain_points g.I.IntNumber.whole (drop (c.loop-to.to-index + 1) c.args.points.now) ++ e.b ∷ [] in
     let next = mapped_rest at c.args.points.now c.loop-to.to-index c.to-item.result c.loop-to-test.true c.to-item.is in
-    let part = c.loop-to.pieces ++ map (piece_along e) (steps_between (at c.loop-to.from) (at c.to-item.result)) in
-    let all = push-next (piece_along e) (at c.loop-to.from) (at c.to-item.result) rest c.loop-to.pieces part _ (rw next at c.loop-to.invariant.0) refl in
+    let part = edges_in c.loop-to.pieces ++ map (piece_along e) (steps_between (at c.loop-to.from) (at c.to-item.result)) in
+    let all = push-next (piece_along e) (at c.loop-to.from) (at c.to-item.result) rest (edges_in c.loop-to.pieces) part _ (rw next at c.loop-to.invariant.0) refl in
     λ refused. heavy_beginning 2147483648 part (map (piece_along e) (steps_through (at c.to-item.result) rest)) _ all (c.push_piece.ensures.too_many (search rules))
 
 pub returns-clause-ok : goal.returns-clause-ok
@@ -42,11 +43,11 @@ returns-clause-ok g c =
     let at = plain_point g.I.IntNumber.whole in
     let e = plain_edge g.I.IntNumber.whole g.C.EdgeCount.counts c.args.e.now in
     let past : length c.args.points.now ≤ c.loop-to.to-index = search rules in
-    let none = at_drop_all (λ (ps : List (IntPoint _)). c.loop-to.pieces
+    let none = at_drop_all (λ (ps : List (IntPoint _)). edges_in c.loop-to.pieces
     ++ map (piece_along e) (steps_through (at c.loop-to.from) (plain_points g.I.IntNumber.whole ps ++ e.b ∷ []))) c.args.points.now c.loop-to.to-index past in
     on_ok_weaker c.push_piece-2.result
-    (push-last (piece_along e) (at c.loop-to.from) e.b c.loop-to.pieces c.push_piece-2.new.pieces
-    (c.args.pieces.now ++ map (piece_along e) (steps_through e.a (plain_points g.I.IntNumber.whole c.args.points.now ++ e.b ∷ [])))
+    (push-last (piece_along e) (at c.loop-to.from) e.b (edges_in c.loop-to.pieces) (edges_in c.push_piece-2.new.pieces)
+    (edges_in c.args.pieces.now ++ map (piece_along e) (steps_through e.a (plain_points g.I.IntNumber.whole c.args.points.now ++ e.b ∷ [])))
     (sym none ∙ c.loop-to.invariant.0))
     c.push_piece-2.ensures.ok
 
@@ -55,9 +56,9 @@ returns-clause-too_many g c =
     let at = plain_point g.I.IntNumber.whole in
     let e = plain_edge g.I.IntNumber.whole g.C.EdgeCount.counts c.args.e.now in
     let past : length c.args.points.now ≤ c.loop-to.to-index = search rules in
-    let none = at_drop_all (λ (ps : List (IntPoint _)). c.loop-to.pieces
+    let none = at_drop_all (λ (ps : List (IntPoint _)). edges_in c.loop-to.pieces
     ++ map (piece_along e) (steps_through (at c.loop-to.from) (plain_points g.I.IntNumber.whole ps ++ e.b ∷ []))) c.args.points.now c.loop-to.to-index past in
-    let all = push-last (piece_along e) (at c.loop-to.from) e.b c.loop-to.pieces (c.loop-to.pieces ++ map (piece_along e) (steps_between (at c.loop-to.from) e.b))
-    (c.args.pieces.now ++ map (piece_along e) (steps_through e.a (plain_points g.I.IntNumber.whole c.args.points.now ++ e.b ∷ [])))
+    let all = push-last (piece_along e) (at c.loop-to.from) e.b (edges_in c.loop-to.pieces) (edges_in c.loop-to.pieces ++ map (piece_along e) (steps_between (at c.loop-to.from) e.b))
+    (edges_in c.args.pieces.now ++ map (piece_along e) (steps_through e.a (plain_points g.I.IntNumber.whole c.args.points.now ++ e.b ∷ [])))
     (sym none ∙ c.loop-to.invariant.0) refl in
     λ refused. subst (λ (es : List CountedEdge). 2147483648 ≤ weight es) all (c.push_piece-2.ensures.too_many refused)

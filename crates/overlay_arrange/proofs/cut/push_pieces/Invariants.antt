@@ -2,6 +2,7 @@
 use Rattle.std.proofs.Common.{◌≡◌, ◌++◌, [], ◌∷◌, map, drop}
 use Rattle.overlay_geom.specs.Plane.{steps_through}
 use Rattle.overlay_geom.specs.Points.{plain_point, plain_points, InRange}
+use Rattle.overlay_plane.specs.Carried.{edges_in}
 use Rattle.overlay_plane.specs.Cutting.{piece_along}
 use Rattle.overlay_arrange.specs.Content.{plain_edge}
 use Rattle.overlay_arrange.proofs.cut.push_pieces.Given as goal
@@ -10,6 +11,6 @@ abbrev pub invariant-loop-to : goal.invariant-loop-to
 invariant-loop-to g l =
     let at = plain_point g.I.IntNumber.whole in
     let e = plain_edge g.I.IntNumber.whole g.C.EdgeCount.counts l.e in
-    (l.pieces ++ map (piece_along e) (steps_through (at l.from) (plain_points g.I.IntNumber.whole (drop l.to-index l.points) ++ e.b ∷ []))
-    ≡ l.initial.pieces ++ map (piece_along e) (steps_through e.a (plain_points g.I.IntNumber.whole l.points ++ e.b ∷ [])))
+    (edges_in l.pieces ++ map (piece_along e) (steps_through (at l.from) (plain_points g.I.IntNumber.whole (drop l.to-index l.points) ++ e.b ∷ []))
+    ≡ edges_in l.initial.pieces ++ map (piece_along e) (steps_through e.a (plain_points g.I.IntNumber.whole l.points ++ e.b ∷ [])))
     × InRange g.I.IntNumber.limit (at l.from)

@@ -4,6 +4,7 @@ use Rattle.std.proofs.lemmas.Bool.{false≢true}
 use Rattle.std.proofs.lemmas.Result.{err_from_is_err_and}
 use Rattle.overlay_arrange.proofs.ArrangedLists.{leaves_cut}
 use Rattle.overlay_arrange.proofs.RoundsTaken.{split_at_once, unsettled_at_once, split_on, unsettled_on, heavy_on, heavy_at_once, uncut_where_settled, cut_where_unsettled}
+use Rattle.overlay_plane.specs.Carried.{edges_in}
 use Rattle.overlay_plane.specs.CutPoints.{cut_edges}
 use Rattle.overlay_arrange.proofs.content.Content.+split.Goals as goal
 
@@ -20,13 +21,13 @@ returns-then-rounds-eq0-clause-not_settled g n c = λ same. unsettled_at_once c.
 pub returns-in_err-cut-clause-too_many : goal.returns-in_err-cut-clause-too_many
 returns-in_err-cut-clause-too_many g n c = λ same.
     let passed = err_from_is_err_and c.from_residual-in_err-cut.result c.from_residual-in_err-cut.ensures.1 in
-    let first = leaves_cut g.I.IntNumber.limit c.args.self.now c.merge.new.self (cut_edges c.merge.new.self) c.merge.ensures.content c.in_ok-merge.ensures.ok
+    let first = leaves_cut g.I.IntNumber.limit (edges_in c.args.self.now) (edges_in c.merge.new.self) (cut_edges (edges_in c.merge.new.self)) c.merge.ensures.content c.in_ok-merge.ensures.ok
     (λ settled. false≢true (c.if-is_settled.ensures.1 settled)) refl in
     heavy_at_once 2147483648 c.args.rounds _ _ (omega arith) first (c.in_err-cut.ensures.too_many (cc))
 
 pub returns-clause-split : goal.returns-clause-split
 returns-clause-split g n c =
-    let first = leaves_cut g.I.IntNumber.limit c.args.self.now c.merge.new.self c.cut.new.self c.merge.ensures.content c.in_ok-merge.ensures.ok (λ settled. false≢true (c.if-is_settled.ensures.1 settled)) c.in_ok-cut.ensures.ok in
+    let first = leaves_cut g.I.IntNumber.limit (edges_in c.args.self.now) (edges_in c.merge.new.self) (edges_in c.cut.new.self) c.merge.ensures.content c.in_ok-merge.ensures.ok (λ settled. false≢true (c.if-is_settled.ensures.1 settled)) c.in_ok-cut.ensures.ok in
     split_on (c.args.rounds - 1) c.args.rounds _ _ _ (omega arith) first c.in_ok-split.ensures.split
 
 pub returns-then-is_settled-clause-cut : goal.returns-then-is_settled-clause-cut
@@ -38,11 +39,11 @@ returns-clause-cut g n c = cut_where_unsettled c.in_ok-merge.ensures.ok (λ sett
 pub returns-in_err-split-clause-not_settled : goal.returns-in_err-split-clause-not_settled
 returns-in_err-split-clause-not_settled g n c = λ same.
     let passed = err_from_is_err_and c.from_residual-in_err-split.result c.from_residual-in_err-split.ensures.1 in
-    let first = leaves_cut g.I.IntNumber.limit c.args.self.now c.merge.new.self c.cut.new.self c.merge.ensures.content c.in_ok-merge.ensures.ok (λ settled. false≢true (c.if-is_settled.ensures.1 settled)) c.in_ok-cut.ensures.ok in
+    let first = leaves_cut g.I.IntNumber.limit (edges_in c.args.self.now) (edges_in c.merge.new.self) (edges_in c.cut.new.self) c.merge.ensures.content c.in_ok-merge.ensures.ok (λ settled. false≢true (c.if-is_settled.ensures.1 settled)) c.in_ok-cut.ensures.ok in
     unsettled_on (c.args.rounds - 1) c.args.rounds _ _ (omega arith) first (c.in_err-split.ensures.not_settled (cc))
 
 pub returns-in_err-split-clause-too_many : goal.returns-in_err-split-clause-too_many
 returns-in_err-split-clause-too_many g n c = λ same.
     let passed = err_from_is_err_and c.from_residual-in_err-split.result c.from_residual-in_err-split.ensures.1 in
-    let first = leaves_cut g.I.IntNumber.limit c.args.self.now c.merge.new.self c.cut.new.self c.merge.ensures.content c.in_ok-merge.ensures.ok (λ settled. false≢true (c.if-is_settled.ensures.1 settled)) c.in_ok-cut.ensures.ok in
+    let first = leaves_cut g.I.IntNumber.limit (edges_in c.args.self.now) (edges_in c.merge.new.self) (edges_in c.cut.new.self) c.merge.ensures.content c.in_ok-merge.ensures.ok (λ settled. false≢true (c.if-is_settled.ensures.1 settled)) c.in_ok-cut.ensures.ok in
     heavy_on 2147483648 (c.args.rounds - 1) c.args.rounds _ _ (omega arith) first (c.in_err-split.ensures.too_many (cc))

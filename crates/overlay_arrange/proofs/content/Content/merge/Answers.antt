@@ -1,0 +1,19 @@
+-- What is merged is the content as contracts see it.
+use Rattle.std.proofs.Common.{◌≡◌, List, subst, sym}
+use Rattle.std.specs.Prelude.{OnOk}
+use Rattle.overlay_geom.specs.Edges.{CountedEdge}
+use Rattle.overlay_geom.specs.Merged.{IsMerged}
+use Rattle.overlay_arrange.specs.Content.{IsContent}
+use Rattle.overlay_arrange.proofs.CarriedEdges.{edges_in-carried, plain_edges-seen}
+use Rattle.overlay_arrange.proofs.content.Content.merge.Goals as goal
+
+pub returns-clause-ok : goal.returns-clause-ok
+returns-clause-ok g c =
+    let whole = g.I.IntNumber.whole in
+    let counts = g.C.EdgeCount.counts in
+    rw (← plain_edges-seen whole counts c.self.inside.edges.items c.args.self.now c.self.view_is, edges_in-carried whole counts c.merge-merged.new.edges.items)
+    c.merge-merged.ensures.ok
+
+pub returns-clause-content : goal.returns-clause-content
+returns-clause-content g c =
+    rw (edges_in-carried g.I.IntNumber.whole g.C.EdgeCount.counts c.merge-merged.new.edges.items) c.merge-merged.ensures.content
