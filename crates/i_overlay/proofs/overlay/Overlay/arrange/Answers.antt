@@ -1,5 +1,6 @@
 -- A builder that has not failed refuses as splitting does, and remembers it.
 use Rattle.std.proofs.Common.{◌≡◌, false, rules, ap, ◌∙◌}
+use Rattle.overlay_plane.specs.Carried.{edges_in}
 use Rattle.i_overlay.proofs.Builders.{refused_with_edges}
 use Rattle.i_overlay.proofs.Queries.{refuses_as_splitting}
 use Rattle.i_overlay.proofs.overlay.Overlay.arrange.Goals as goal
@@ -12,4 +13,4 @@ returns-clause-refusals g c =
 
 pub returns-clause-err : goal.returns-clause-err
 returns-clause-err g c =
-    refused_with_edges c.arrange-arranged.result _ c.args.self.now c.arrange-arranged.new.self c.self.view_is c.is_err-self-inside.ensures.value
+    refused_with_edges c.arrange-arranged.result _ c.args.self.now (edges_in c.arrange-arranged.new.self) c.self.view_is c.is_err-self-inside.ensures.value
