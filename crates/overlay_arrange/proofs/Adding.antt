@@ -2,7 +2,6 @@
 use Rattle.std.proofs.Common.{◌≡◌, ◌≤◌, ◌++◌, [], ◌∷◌, map, take, length, List, sym, ◌∙◌, ap, append_assoc, append-nil, arith, length-take}
 use Rattle.std.proofs.lemmas.List.{map-append, take-take}
 use Rattle.overlay_geom.specs.Plane.{Point, Step, steps_between, steps_through}
-use Rattle.overlay_geom.specs.Edges.{CountedEdge}
 
 -- a list that begins with b begins with what b begins with
 pub front-trans : {X : Type 0} (a b c : List X) → take (length a) b ≡ a → take (length b) c ≡ b → take (length a) c ≡ a
@@ -11,18 +10,18 @@ front-trans a b c ab bc =
     sym (take-take (length a) (length b) c short) ∙ ap (take (length a)) bc ∙ ab
 
 -- the next step moves from what is to come to what stands
-pub push-next : (f : Step → CountedEdge) (from to : Point) (rest : List Point) (old new whole : List CountedEdge)
+pub push-next : {E : Type 0} (f : Step → E) (from to : Point) (rest : List Point) (old new whole : List E)
     → old ++ map f (steps_through from (to ∷ rest)) ≡ whole
     → new ≡ old ++ map f (steps_between from to)
     → new ++ map f (steps_through to rest) ≡ whole
-push-next f from to rest old new whole h e =
-    ap (λ (l : List CountedEdge). l ++ map f (steps_through to rest)) e
+push-next {E = E} f from to rest old new whole h e =
+    ap (λ (l : List E). l ++ map f (steps_through to rest)) e
     ∙ append_assoc old (map f (steps_between from to)) (map f (steps_through to rest))
-    ∙ ap (λ (l : List CountedEdge). old ++ l) (sym (map-append f (steps_between from to) (steps_through to rest)))
+    ∙ ap (λ (l : List E). old ++ l) (sym (map-append f (steps_between from to) (steps_through to rest)))
     ∙ h
 
 -- and with the last one what stands is the whole
-pub push-last : (f : Step → CountedEdge) (from to : Point) (old new whole : List CountedEdge)
+pub push-last : {E : Type 0} (f : Step → E) (from to : Point) (old new whole : List E)
     → old ++ map f (steps_through from (to ∷ [])) ≡ whole
     → new ≡ old ++ map f (steps_between from to)
     → new ≡ whole

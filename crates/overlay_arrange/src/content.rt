@@ -127,6 +127,14 @@ impl<I: IntNumber, C: EdgeCount, A: Allocator> Content<I, C, A> {
         &self.edges
     }
 
+    /// Does nothing. Its contract says that the edges are in the coordinate range and weigh less than
+    /// 2^31, for callers whose proofs need it.
+    pub fn note_limits(&self)
+        ensures { IsContent I.limit (edges_in self.now) }
+    {
+        let _ = self.edges();
+    }
+
     /// Whether any two different edges meet in ends alone. The edges ascend, as they do once merged.
     pub(crate) fn is_settled(&self) -> bool
         requires { IsAscending (edges_in self.now) }

@@ -1,5 +1,7 @@
 -- Whether thinning left out a point: the list is shorter, or it is the one given.
-use Rattle.std.proofs.Common.{◌≡◌, ℕ, ◌+◌, ◌<◌, ◌≤◌, ◌⊎◌, inl, inr, List, length, remove, refl, sym, ap, subst, arith, ◌∙◌}
+use Rattle.std.specs.Prelude.{◌↔◌, false}
+use Rattle.std.proofs.Common.{nat_lt, ◌≡◌, ℕ, ◌+◌, ◌<◌, ◌≤◌, ◌⊎◌, inl, inr, List, length, remove, refl, sym, ap, subst, arith, ◌∙◌}
+use Rattle.std.proofs.lemmas.Bool.{ltb-false, le-ltb}
 use Rattle.std.proofs.lemmas.List.Edits.{length-remove}
 use Rattle.overlay_geom.specs.Plane.{Point}
 use Rattle.overlay_geom.specs.Thinned.{IsThinned, IsStraightAt}
@@ -43,3 +45,11 @@ none_left_out ps qs thinned as_many = by (thinned_is_shorter ps qs thinned)
 -- and where it may, thinning leaves no fewer
 pub as_many_left : (ps qs : List Point) → IsThinned ps qs → IsThinned ps ps → length ps ≤ length qs
 as_many_left ps qs thinned itself = omega (arith, ap length (thinned_to_itself ps qs (none_is_straight ps ps itself refl) thinned))
+
+-- whether a point was left out, told by the lengths
+pub left_out : (few many : ℕ) (ps qs : List Point) → few ≡ length qs → many ≡ length ps → IsThinned ps qs
+    → (nat_lt few many ≡ false) ↔ IsThinned ps ps
+left_out few many ps qs few_is many_is thinned = (
+  λ no. none_left_out ps qs thinned (omega (arith, ltb-false few many no, few_is, many_is)),
+  λ itself. le-ltb few many (omega (arith, as_many_left ps qs thinned itself, few_is, many_is)),
+)

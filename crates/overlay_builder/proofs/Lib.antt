@@ -1,5 +1,6 @@
 pub mod BentPart
 pub mod BentStack
+pub mod Fronts
 pub mod LeftOut
 pub mod Mapped
 pub mod NarrowedLists
@@ -8,3 +9,4 @@ pub mod PathLists
 pub mod PlainPoints
 pub mod Queries
 pub mod SourcePaths
+pub mod TakenPaths

@@ -3,7 +3,7 @@ use Rattle.std.proofs.Common.{◌≡◌, inr, ℕ, ◌+◌, ◌^◌, ◌<◌, tr
 use Rattle.std.proofs.lemmas.Bool.{false≢true}
 use Rattle.std.proofs.lemmas.List.{map-append}
 use Rattle.std.specs.List.{slice_get}
-use Rattle.std.specs.Prelude.{Err, IsErrOf}
+use Rattle.std.specs.Prelude.{Result, Ok, Err, IsErrOf}
 use Rattle.overlay_geom.specs.Plane.{Point, Step}
 use Rattle.overlay_geom.specs.declared.error.OverlayError.{OverlayError}
 use Rattle.overlay_geom.specs.declared.error.OverlayError.TheVariants.{Memory, NotSettled, TooManyEdges, Failed}
@@ -13,6 +13,11 @@ use Rattle.overlay_builder.specs.PathLists.{AddedPath, AddsOne, AddsPaths, AddsA
 use Rattle.overlay_builder.specs.PathLists.AddsPaths.{no_path}
 use Rattle.overlay_builder.specs.declared.path.PathKind.{PathKind}
 use Rattle.overlay_builder.proofs.PathLists.{adds_last}
+
+-- the error of a refusal
+abbrev error_of : {V : Type 0} → Result V OverlayError → OverlayError
+error_of (Ok v) = Memory
+error_of (Err e) = e
 
 module _ {E : Type 0} (weigh : List E → ℕ) (kind : PathKind) (edge_for : Step → E) (paths : List (List Point)) where
   -- to a builder that has not failed so many of the paths are added
@@ -55,9 +60,9 @@ module _ {E : Type 0} (weigh : List E → ℕ) (kind : PathKind) (edge_for : Ste
     }
 
     -- the next path is refused, and those before it are added
-    pub next_refused : {V : Type 0} (e : OverlayError) → (IsErrOf {T = V} (Err e) Failed → now.failed ≡ true)
-        → (IsErrOf {T = V} (Err e) TooManyEdges → WouldWeighTooMuch weigh path now.edges)
-        → ¬ (IsErrOf {T = V} (Err e) NotSettled) → AddsAsAsked {V = V} weigh (paths_as kind edge_for paths) old now (Err e)
+    pub next_refused : {V : Type 0} (e : OverlayError) → (e ≡ Failed → now.failed ≡ true)
+        → (e ≡ TooManyEdges → WouldWeighTooMuch weigh path now.edges)
+        → ¬ (e ≡ NotSettled) → AddsAsAsked {V = V} weigh (paths_as kind edge_for paths) old now (Err e)
     next_refused {V = V} e failed heavy unsettled = record {
       ok = tt;
       light = h.light;
@@ -77,11 +82,10 @@ module _ {E : Type 0} (weigh : List E → ℕ) (kind : PathKind) (edge_for : Ste
     }
       where
         usable : ¬ (IsErrOf {T = V} (Err e) Failed)
-        usable same = false≢true (sym still_ready ∙ failed same)
+        usable same = false≢true (sym still_ready ∙ failed (ap error_of same))
 
-        refused_so : (e : OverlayError) → (IsErrOf {T = V} (Err e) Failed → now.failed ≡ true)
-            → (IsErrOf {T = V} (Err e) TooManyEdges → WouldWeighTooMuch weigh path now.edges)
-            → ¬ (IsErrOf {T = V} (Err e) NotSettled) → MayRefusePath weigh path now.edges e
+        refused_so : (e : OverlayError) → (e ≡ Failed → now.failed ≡ true) → (e ≡ TooManyEdges → WouldWeighTooMuch weigh path now.edges)
+            → ¬ (e ≡ NotSettled) → MayRefusePath weigh path now.edges e
         refused_so Memory failed heavy unsettled = tt
         refused_so TooManyEdges failed heavy unsettled = heavy refl
         refused_so NotSettled failed heavy unsettled = unsettled refl

@@ -65,8 +65,7 @@ impl<I: IntNumber, C: EdgeCount, A: Allocator> BuilderCore<I, C, A> {
         ensures edges { result.now ≡ self.now.edges }
         ensures content { IsContent I.limit (edges_in self.now.edges) }
     {
-        // (its contract says that the edges are in range, and weigh less than 2^31)
-        let _ = self.content.edges();
+        self.content.note_limits();
         &self.content
     }
 
@@ -114,8 +113,11 @@ impl<I: IntNumber, C: EdgeCount, A: Allocator + Clone> BuilderCore<I, C, A> {
             (path_as kind (passed_edge C.counts passing) (plain_points I.whole points.now)) self.old.edges }
         ensures no_query { result ≢ Err OverlayError.NotSettled }
     {
+        self.content.note_limits();
         self.check_usable()?;
-        add_path(&mut self.content, points, kind, passing)
+        let added = add_path(&mut self.content, points, kind, passing);
+        self.content.note_limits();
+        added
     }
 
     /// Adds all paths of the resource in order, each as `add_path` does. The points are in the
@@ -135,6 +137,7 @@ impl<I: IntNumber, C: EdgeCount, A: Allocator + Clone> BuilderCore<I, C, A> {
         ensures { AddsAsAsked carried_weight (paths_as kind (passed_edge C.counts passing) (R0.paths resource.now))
             self.old self.new result }
     {
+        self.content.note_limits();
         self.check_usable()?;
         for index in 0..resource.path_count() {
             self.add_path(resource.path(index), kind, passing)?;
@@ -152,8 +155,7 @@ impl<I: IntNumber, C: EdgeCount, A: Allocator + Clone> BuilderCore<I, C, A> {
     {
         self.check_usable()?;
         let arranged = self.content.arrange(store);
-        // (its contract says that the edges are in range, and weigh less than 2^31)
-        let _ = self.content.edges();
+        self.content.note_limits();
         self.is_failed = arranged.is_err();
         arranged
     }

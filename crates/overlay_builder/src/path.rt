@@ -173,10 +173,53 @@ pub fn add_path<I: IntNumber, C: EdgeCount, A: Allocator + Clone>(
         (path_as kind (passed_edge C.counts passing) (plain_points I.whole points.now)) content.old }
     ensures only { IfErr result (λ e. (e ≡ OverlayError.Memory) ⊎ (e ≡ OverlayError.TooManyEdges)) }
 {
-    if kind != PathKind::Thinned {
-        push_path(content, points, kind == PathKind::Closed, passing)?;
-        return Ok(false);
+    match kind {
+        PathKind::Open => add_given(content, points, false, passing),
+        PathKind::Closed => add_given(content, points, true, passing),
+        PathKind::Thinned => add_thinned(content, points, passing),
     }
+}
+
+// Adds the edges of a path's steps; no point of it is left out.
+fn add_given<I: IntNumber, C: EdgeCount, A: Allocator>(
+    content: &mut Content<I, C, A>,
+    points: &[IntPoint<I>],
+    is_closed: bool,
+    passing: StepCounts<C>,
+) -> Result<bool, OverlayError>
+    requires light { AreLight C.counts passing }
+    requires points { AllInRange I.limit (plain_points I.whole points.now) }
+    ensures ok { OnOk result (content.new ≡ content.old ++ map (passed_edge C.counts passing)
+        (path_steps_of is_closed (plain_points I.whole points.now))) }
+    ensures none { IfOk result (λ leaves_out. leaves_out ≡ false) }
+    ensures err { OnErr result (content.new ≡ content.old) }
+    ensures too_many { IsErrOf result OverlayError.TooManyEdges → 2 ^ 31
+        ≤ weight (edges_in (content.old ++ map (passed_edge C.counts passing)
+        (path_steps_of is_closed (plain_points I.whole points.now)))) }
+    ensures only { IfErr result (λ e. (e ≡ OverlayError.Memory) ⊎ (e ≡ OverlayError.TooManyEdges)) }
+{
+    push_path(content, points, is_closed, passing)?;
+    Ok(false)
+}
+
+// Adds the edges of a contour's steps without the points on one line with their two neighbours, and
+// returns whether there were such points.
+fn add_thinned<I: IntNumber, C: EdgeCount, A: Allocator + Clone>(
+    content: &mut Content<I, C, A>,
+    points: &[IntPoint<I>],
+    passing: StepCounts<C>,
+) -> Result<bool, OverlayError>
+    requires light { AreLight C.counts passing }
+    requires points { AllInRange I.limit (plain_points I.whole points.now) }
+    ensures ok { OnOk result (AddsPath PathKind.Thinned (passed_edge C.counts passing)
+        (plain_points I.whole points.now) content.old content.new) }
+    ensures left_out { IfOk result (λ leaves_out. (leaves_out ≡ false)
+        ↔ IsTakenAs PathKind.Thinned (plain_points I.whole points.now) (plain_points I.whole points.now)) }
+    ensures err { OnErr result (content.new ≡ content.old) }
+    ensures too_many { IsErrOf result OverlayError.TooManyEdges → WouldWeighTooMuch carried_weight
+        (path_as PathKind.Thinned (passed_edge C.counts passing) (plain_points I.whole points.now)) content.old }
+    ensures only { IfErr result (λ e. (e ≡ OverlayError.Memory) ⊎ (e ≡ OverlayError.TooManyEdges)) }
+{
     let bent = thinned(content.allocator().clone()?, points)?;
     push_path(content, &bent, true, passing)?;
     Ok(bent.len() < points.len())
