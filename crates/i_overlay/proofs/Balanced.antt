@@ -1,22 +1,98 @@
--- A content keeps balanced counts where a contour is pushed, and where the push is refused.
-use Rattle.std.proofs.Common.{◌≡◌, List, ◌++◌, map, sym, subst}
-use Rattle.std.specs.Prelude.{Result, Ok, Err, OnOk, OnErr}
-use Rattle.overlay_geom.specs.Plane.{Point, steps_of}
-use Rattle.overlay_geom.specs.Edges.{CountedEdge}
-use Rattle.overlay_arrange.specs.Content.{edge_for}
-use Rattle.overlay_arrange.specs.declared.options.ShapeType.{ShapeType}
-use Rattle.overlay_arrange.specs.declared.options.ShapeType.TheVariants.{Subject, Clip}
+-- Contours keep the counts of what a builder holds balanced, however many of them are added.
+use Rattle.std.proofs.Common.{◌≡◌, ◌⊎◌, inl, inr, Bool, true, false, cond, ℤ, pos, negsuc, List, [], ◌∷◌, map, refl, sym, ap, ap₂, subst}
+use Rattle.std.specs.List.{All}
+use Rattle.std.specs.Prelude.{Result, Ok, Err}
+use Rattle.std.proofs.lemmas.List.Elements.{All-nil, All-cons, All-head, All-tail, All-left}
+use Rattle.overlay_geom.specs.Plane.{Point, Step, edge_of, is_forward, steps_of}
+use Rattle.overlay_geom.specs.Edges.{CountedEdge, subject_edge, clip_edge, weight}
+use Rattle.overlay_geom.specs.declared.error.OverlayError.{OverlayError}
+use Rattle.overlay_geom.specs.declared.error.OverlayError.TheVariants.{Failed}
 use Rattle.overlay_plane.specs.Balance.{HasBalancedCounts}
 use Rattle.overlay_plane.proofs.KeepingBalance.{added_contours_are_balanced, joining_keeps_balance}
+use Rattle.overlay_arrange.specs.Content.{count_for, edge_for, edge_with}
+use Rattle.overlay_arrange.specs.Counts.{boolean_counts}
+use Rattle.overlay_arrange.specs.declared.count.ShapeCountBoolean.{ShapeCountBoolean}
+use Rattle.overlay_arrange.specs.declared.options.ShapeType.{ShapeType}
+use Rattle.overlay_arrange.specs.declared.options.ShapeType.TheVariants.{Subject, Clip}
+use Rattle.overlay_builder.specs.Held.{Held}
+use Rattle.overlay_builder.specs.PathLists.{AddedPath, AddsOne, AddsPaths, AddsAsAsked, StopsAtPath}
+use Rattle.overlay_builder.specs.PathLists.AddsPaths.{no_path, path_and_others}
+use Rattle.overlay_builder.specs.Paths.{AddsPath, contour_kind}
+use Rattle.i_overlay.specs.Paths.{GivenPath, added_path, added_paths}
+
+-- ---- one contour
+
+-- what two functions that agree make of a list
+same_edges : (f h : Step → CountedEdge) → ((s : Step) → f s ≡ h s) → (ss : List Step) → map f ss ≡ map h ss
+same_edges f h same [] = refl
+same_edges f h same (s ∷ ss) = ap₂ (λ e es. e ∷ es) (same s) (same_edges f h same ss)
+
+-- the edge of a subject's step
+as_subject : (s : Step) → subject_edge s ≡ edge_for Subject s
+as_subject s =
+    elim (is_forward s) as (λ t. Same (cond t (pos 1) (negsuc 0)) (cond t (count_for Subject (pos 1)) (count_for Subject (negsuc 0))))
+    [ true ↦ refl | false ↦ refl ]
+  where
+    Same : ℤ → ShapeCountBoolean → Type 0
+    Same z k = record { a = (edge_of s).a; b = (edge_of s).b; subj = z; clip = pos 0; along = false; against = false }
+        ≡ edge_with (edge_of s).a (edge_of s).b (boolean_counts k)
+
+-- and of a clip's
+as_clip : (s : Step) → clip_edge s ≡ edge_for Clip s
+as_clip s =
+    elim (is_forward s) as (λ t. Same (cond t (pos 1) (negsuc 0)) (cond t (count_for Clip (pos 1)) (count_for Clip (negsuc 0))))
+    [ true ↦ refl | false ↦ refl ]
+  where
+    Same : ℤ → ShapeCountBoolean → Type 0
+    Same z k = record { a = (edge_of s).a; b = (edge_of s).b; subj = pos 0; clip = z; along = false; against = false }
+        ≡ edge_with (edge_of s).a (edge_of s).b (boolean_counts k)
 
 -- the edges of a closed contour's steps have balanced counts
-contour_is_balanced : (shape_type : ShapeType) (ps : List Point) → HasBalancedCounts (map (edge_for shape_type) (steps_of ps))
-contour_is_balanced Subject ps = added_contours_are_balanced.subject ps
-contour_is_balanced Clip ps = added_contours_are_balanced.clip ps
+contour_is_balanced : (t : ShapeType) (ps : List Point) → HasBalancedCounts (map (edge_for t) (steps_of ps))
+contour_is_balanced Subject ps =
+    subst HasBalancedCounts (same_edges subject_edge (edge_for Subject) as_subject (steps_of ps)) (added_contours_are_balanced.subject ps)
+contour_is_balanced Clip ps =
+    subst HasBalancedCounts (same_edges clip_edge (edge_for Clip) as_clip (steps_of ps)) (added_contours_are_balanced.clip ps)
 
--- so a content with them added has, and one that is left as it was
-pub pushed_is_balanced : {V E : Type 0} (r : Result V E) (shape_type : ShapeType) (ps : List Point) (old new : List CountedEdge)
-    → OnOk r (new ≡ old ++ map (edge_for shape_type) (steps_of ps)) → OnErr r (new ≡ old) → HasBalancedCounts old → HasBalancedCounts new
-pushed_is_balanced (Ok v) shape_type ps old new added kept before =
-    subst HasBalancedCounts (sym added) (joining_keeps_balance.both old _ before (contour_is_balanced shape_type ps))
-pushed_is_balanced (Err e) shape_type ps old new added kept before = subst HasBalancedCounts (sym kept) before
+-- so a content with them added has balanced counts
+pub contour_keeps_balance : (keep : Bool) (t : ShapeType) (ps : List Point) (old new : List CountedEdge)
+    → AddsPath (contour_kind keep) (edge_for t) ps old new → HasBalancedCounts old → HasBalancedCounts new
+contour_keeps_balance true t ps old new h before =
+    subst HasBalancedCounts (sym h.content) (joining_keeps_balance.both old _ before (contour_is_balanced t h.taken))
+contour_keeps_balance false t ps old new h before =
+    subst HasBalancedCounts (sym h.content) (joining_keeps_balance.both old _ before (contour_is_balanced t h.taken))
+
+-- ---- several
+
+-- a path keeps the counts balanced
+record KeepsBalance (p : AddedPath CountedEdge) : Type 0 where
+  keeps : (old new : List CountedEdge) → AddsOne p old new → HasBalancedCounts old → HasBalancedCounts new
+
+-- so do contours
+contours_keep : (keep : Bool) (given : List GivenPath) → All KeepsBalance (added_paths keep given)
+contours_keep keep [] = All-nil KeepsBalance
+contours_keep keep (p ∷ ps) =
+    All-cons KeepsBalance (added_path keep p) (added_paths keep ps)
+    (record { keeps = contour_keeps_balance keep p.shape_type p.points }) (contours_keep keep ps)
+
+-- and several paths that do, one after another
+paths_keep : (all : List (AddedPath CountedEdge)) (from to : List CountedEdge) → All KeepsBalance all → AddsPaths all from to
+    → HasBalancedCounts from → HasBalancedCounts to
+paths_keep all from to keep no_path before = before
+paths_keep all from to keep (path_and_others {p} {ps} {mid} first h) before =
+    paths_keep ps mid to (All-tail KeepsBalance p ps keep) h ((All-head KeepsBalance p ps keep).keeps from mid first before)
+
+-- a call that adds contours keeps the counts balanced, whatever it answers
+pub adding_keeps_balance : {V : Type 0} (keep : Bool) (given : List GivenPath) (old new : Held CountedEdge) (r : Result V OverlayError)
+    → AddsAsAsked weight (added_paths keep given) old new r → HasBalancedCounts old.edges → HasBalancedCounts new.edges
+adding_keeps_balance keep given old new (Ok v) h before =
+    paths_keep (added_paths keep given) old.edges new.edges (contours_keep keep given) h.ok before
+adding_keeps_balance {V = V} keep given old new (Err e) h before = by h.err
+  where
+    by : ((e ≡ Failed) ⊎ StopsAtPath weight (added_paths keep given) old.edges new.edges e) → HasBalancedCounts new.edges
+    by (inl is) = subst (λ b. HasBalancedCounts b.edges) (sym (h.untouched (ap (λ x. Err {T = V} x) is))) before
+    by (inr stops) =
+        paths_keep stops.added.before old.edges new.edges
+        (All-left KeepsBalance stops.added.before (stops.path ∷ stops.added.after)
+        (subst (All KeepsBalance) stops.added.parts (contours_keep keep given)))
+        stops.added.added before

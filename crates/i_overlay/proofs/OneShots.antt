@@ -11,11 +11,10 @@ use Rattle.overlay_arrange.specs.Options.{AreOptions}
 use Rattle.overlay_arrange.specs.declared.fill_rule.FillRule.{FillRule}
 use Rattle.overlay_arrange.specs.declared.overlay_rule.OverlayRule.{OverlayRule}
 use Rattle.overlay_arrange.specs.declared.options.IntOverlayOptions.{IntOverlayOptions}
-use Rattle.i_overlay.specs.Builder.{Builder}
+use Rattle.overlay_builder.specs.Held.{Held, AnswersQuery}
 use Rattle.i_overlay.specs.OneShot.{asked_by_default, IsResultOfPaths, MayRefusePaths}
 use Rattle.i_overlay.specs.Overlay.{Asked, asked, IsResult}
 use Rattle.i_overlay.specs.Paths.{GivenPath, HoldsPaths}
-use Rattle.i_overlay.specs.Refusals.{RefusesAsQuery}
 
 -- what the default options ask for
 pub asked_of_default : {U : Type 0} (natural : U → ℕ) (fill : FillRule) (rule : OverlayRule) (o : IntOverlayOptions U) → AreOptions natural false false false o
@@ -32,10 +31,10 @@ result_of_paths (Ok v) shapes q paths content edges holds arranged is =
 result_of_paths (Err e) shapes q paths content edges holds arranged is = tt
 
 -- the refusal of a query on the paths
-pub query_refused : {U V : Type 0} (paths : List GivenPath) (old new : Builder U) (r : Result V OverlayError) → HoldsPaths false paths old.edges
-    → old.failed ≡ false → RefusesAsQuery old new r → IfErr r (MayRefusePaths paths)
-query_refused paths old new (Ok v) holds ready h = tt
-query_refused paths old new (Err e) holds ready h = paths_refused e (unfailed h.err)
+pub query_refused : {V : Type 0} (limit : ℕ) (paths : List GivenPath) (old new : Held CountedEdge) (r : Result V OverlayError)
+    → HoldsPaths false paths old.edges → old.failed ≡ false → AnswersQuery limit 64 old new r → IfErr r (MayRefusePaths paths)
+query_refused limit paths old new (Ok v) holds ready h = tt
+query_refused limit paths old new (Err e) holds ready h = paths_refused e (unfailed h.err)
   where
     unfailed : ((e ≡ Failed) ⊎ MayRefuseSplitting 64 old.edges e) → MayRefuseSplitting 64 old.edges e
     unfailed (inl same) = absurd (false≢true (sym ready ∙ h.failed.0 (ap Err same)))

@@ -2,6 +2,7 @@
 use Rattle.std.proofs.Common.{subst}
 use Rattle.std.specs.Prelude.{IfOk}
 use Rattle.overlay_geom.specs.Paths.{plain_shapes}
+use Rattle.i_overlay.specs.Builder.{held_by}
 use Rattle.i_overlay.specs.OneShot.{asked_by_default}
 use Rattle.i_overlay.specs.Overlay.{IsResult}
 use Rattle.i_overlay.proofs.OneShots.{asked_of_default, result_of_paths, query_refused}
@@ -12,11 +13,11 @@ returns-clause-result g c =
     let made = c.in_ok-overlay.ensures in
     let new = c.overlay.new.self in
     result_of_paths c.overlay.result (λ v. plain_shapes g.I.IntNumber.whole v.items)
-    (asked_by_default c.args.fill_rule c.args.overlay_rule) _ _ new.edges made.ok c.overlay.ensures.arranged
+    (asked_by_default c.args.fill_rule c.args.overlay_rule) _ _ new.edges made.ok c.overlay.ensures.query.arranged
     (subst (λ q. IfOk c.overlay.result (λ v. IsResult q new.edges (plain_shapes g.I.IntNumber.whole v.items)))
     (asked_of_default _ c.args.fill_rule c.args.overlay_rule c.in_ok-overlay.overlay.options made.made.options) c.overlay.ensures.result)
 
 pub returns-clause-err : goal.returns-clause-err
 returns-clause-err g c =
     let made = c.in_ok-overlay.ensures in
-    query_refused _ c.in_ok-overlay.overlay c.overlay.new.self c.overlay.result made.ok made.made.ready c.overlay.ensures.refusals
+    query_refused g.I.IntNumber.limit _ (held_by c.in_ok-overlay.overlay) (held_by c.overlay.new.self) c.overlay.result made.ok made.made.ready c.overlay.ensures.query
