@@ -4,20 +4,19 @@ use Rattle.std.specs.Io.KnownBytes.{Appends, Keeps}
 use Rattle.overlay_geom.specs.declared.error.OverlayError.{OverlayError}
 use Rattle.overlay_geom.specs.declared.error.OverlayError.TheVariants.{Memory, NotSettled, TooManyEdges, Failed}
 use Rattle.i_overlay.specs.OneShot.{MayRefusePaths}
-use Rattle.overlay_arrange.specs.Paths.{GivenPath}
 use Rattle.polyover_engine.specs.declared.exit.Exit.{Exit}
 use Rattle.polyover_engine.specs.declared.exit.Exit.TheVariants.{Answered, Refused, BadInput, Io}
 use Rattle.polyover_text.specs.declared.query.Query.{Query}
-use Rattle.polyover_text.specs.Grammar.{Asks, IsFirstBad, input_lines}
+use Rattle.polyover_text.specs.Grammar.{GivenFigures, paths_of, Asks, IsFirstBad, input_lines}
 use Rattle.polyover_engine.specs.Answers.{IsAnswer}
 use Rattle.polyover_text.specs.Written.{AppendsBeginning}
 
 -- the input is good, and what it asks for may be refused so
 pub record IsRefused (bytes : List ℕ) (e : OverlayError) : Type 0 where
-  pub contours : List GivenPath
+  pub figures : GivenFigures
   pub query : Query
-  pub asks : Asks (input_lines bytes) contours query
-  pub refused : MayRefusePaths contours e
+  pub asks : Asks (input_lines bytes) figures query
+  pub refused : MayRefusePaths (paths_of figures) e
 
 -- out of memory says nothing of the input
 abbrev pub MayBeRefused : List ℕ → OverlayError → Type 0

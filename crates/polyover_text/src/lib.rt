@@ -5,6 +5,7 @@
 mod command;
 pub mod contour;
 pub mod edge_text;
+pub mod figures;
 mod fill;
 pub mod input;
 mod line_error;
