@@ -1,8 +1,9 @@
 -- Contours keep the counts of what a builder holds balanced, however many of them are added.
-use Rattle.std.proofs.Common.{◌≡◌, ◌⊎◌, inl, inr, Bool, true, false, cond, ℤ, pos, negsuc, List, [], ◌∷◌, map, refl, sym, ap, ap₂, subst}
+use Rattle.std.proofs.Common.{◌≡◌, ◌⊎◌, inl, inr, Bool, true, false, cond, ℤ, pos, negsuc, List, [], ◌∷◌, ◌++◌, length, map, refl, sym, ap, ap₂, subst}
 use Rattle.std.specs.List.{All}
 use Rattle.std.specs.Prelude.{Result, Ok, Err}
-use Rattle.std.proofs.lemmas.List.Elements.{All-nil, All-cons, All-head, All-tail, All-left}
+use Rattle.std.proofs.lemmas.List.Elements.{All-nil, All-cons, All-head, All-tail, All-take}
+use Rattle.std.proofs.Math.Seq.{take-append_seam}
 use Rattle.overlay_geom.specs.Plane.{Point, Step, edge_of, is_forward, steps_of}
 use Rattle.overlay_geom.specs.Edges.{CountedEdge, subject_edge, clip_edge, weight}
 use Rattle.overlay_geom.specs.declared.error.OverlayError.{OverlayError}
@@ -82,6 +83,11 @@ paths_keep all from to keep no_path before = before
 paths_keep all from to keep (path_and_others {p} {ps} {mid} first h) before =
     paths_keep ps mid to (All-tail KeepsBalance p ps keep) h ((All-head KeepsBalance p ps keep).keeps from mid first before)
 
+-- the first ones of paths that do, do
+first_keep : (first rest : List (AddedPath CountedEdge)) → All KeepsBalance (first ++ rest) → All KeepsBalance first
+first_keep first rest keep =
+    subst (All KeepsBalance) (take-append_seam first rest) (All-take KeepsBalance (length first) (first ++ rest) keep)
+
 -- a call that adds contours keeps the counts balanced, whatever it answers
 pub adding_keeps_balance : {V : Type 0} (keep : Bool) (given : List GivenPath) (old new : Held CountedEdge) (r : Result V OverlayError)
     → AddsAsAsked weight (added_paths keep given) old new r → HasBalancedCounts old.edges → HasBalancedCounts new.edges
@@ -90,9 +96,8 @@ adding_keeps_balance keep given old new (Ok v) h before =
 adding_keeps_balance {V = V} keep given old new (Err e) h before = by h.err
   where
     by : ((e ≡ Failed) ⊎ StopsAtPath weight (added_paths keep given) old.edges new.edges e) → HasBalancedCounts new.edges
-    by (inl is) = subst (λ b. HasBalancedCounts b.edges) (sym (h.untouched (ap (λ x. Err {T = V} x) is))) before
+    by (inl is) = subst (λ b. HasBalancedCounts b.edges) (sym (h.untouched (ap {B = Result V OverlayError} (λ x. Err x) is))) before
     by (inr stops) =
         paths_keep stops.added.before old.edges new.edges
-        (All-left KeepsBalance stops.added.before (stops.path ∷ stops.added.after)
-        (subst (All KeepsBalance) stops.added.parts (contours_keep keep given)))
+        (first_keep stops.added.before (stops.path ∷ stops.added.after) (subst (All KeepsBalance) stops.added.parts (contours_keep keep given)))
         stops.added.added before

@@ -8,3 +8,4 @@ pub mod OneShots
 pub mod OneSide
 pub mod Results
 pub mod SelectedByBits
+pub mod TwoSources

@@ -15,7 +15,7 @@ use Rattle.overlay_builder.specs.declared.path.PathKind.{PathKind}
 use Rattle.overlay_builder.proofs.PathLists.{adds_last}
 
 -- the error of a refusal
-abbrev error_of : {V : Type 0} → Result V OverlayError → OverlayError
+abbrev pub error_of : {V : Type 0} → Result V OverlayError → OverlayError
 error_of (Ok v) = Memory
 error_of (Err e) = e
 

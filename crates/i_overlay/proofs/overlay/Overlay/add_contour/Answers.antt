@@ -1,19 +1,41 @@
--- A contour keeps the counts balanced, as it is given or thinned.
-use Rattle.std.proofs.Common.{ap}
-use Rattle.std.proofs.lemmas.Result.{on_err_weaker}
-use Rattle.overlay_plane.specs.Carried.{edges_in}
+-- A path that is taken as a contour adds what a contour does, and keeps the counts balanced.
+use Rattle.std.proofs.Common.{Err, sym, ap, subst, ◌∙◌}
+use Rattle.std.proofs.lemmas.Result.{err_from_is_err_and}
+use Rattle.overlay_geom.specs.Edges.{AddsContour}
 use Rattle.overlay_geom.specs.Points.{plain_points}
-use Rattle.i_overlay.proofs.Balanced.{pushed_is_balanced}
+use Rattle.overlay_plane.specs.Carried.{edges_in}
+use Rattle.overlay_arrange.specs.Content.{edge_for}
+use Rattle.overlay_builder.proofs.SourcePaths.{error_of}
+use Rattle.i_overlay.specs.Builder.{WouldWeighTooMuch}
+use Rattle.i_overlay.proofs.AddedContours.{as_contour, contour_added, contour_too_heavy}
+use Rattle.i_overlay.proofs.Balanced.{contour_keeps_balance}
 use Rattle.i_overlay.proofs.overlay.Overlay.add_contour.Goals as goal
 
-pub invariant_of-self : goal.invariant_of-self
-invariant_of-self g c = λ ready.
-    let pushed = c.push_contour in
-    pushed_is_balanced pushed.result c.args.shape_type (plain_points g.I.IntNumber.whole c.args.contour.now) (edges_in c.self.inside.content) (edges_in pushed.new.self)
-    pushed.ensures.plain (on_err_weaker pushed.result (ap edges_in) pushed.ensures.err) (c.self.invariant ready)
+pub returns-in_err-add_path-clause-too_many : goal.returns-in_err-add_path-clause-too_many
+returns-in_err-add_path-clause-too_many g c =
+    let points = plain_points g.I.IntNumber.whole c.args.contour.now in
+    let p = err_from_is_err_and c.from_residual.result c.from_residual.ensures.1 in
+    rw (p.1, p.2) (λ same. subst (λ b. WouldWeighTooMuch b.options.preserve_input_collinear c.args.shape_type points b.edges) c.self.view_is
+    (contour_too_heavy c.self.inside.options.preserve_input_collinear c.args.shape_type c.contour_kind-kind.result c.passing.result
+    c.contour_kind-kind.ensures c.passing.ensures points c.self.inside.core.edges
+    (c.in_err-add_path.ensures.too_many (ap Err (ap error_of same)))))
 
 pub invariant_of-self-2 : goal.invariant_of-self-2
 invariant_of-self-2 g c = λ ready.
-    let pushed = c.push_contour-2 in
-    pushed_is_balanced pushed.result c.args.shape_type (plain_points g.I.IntNumber.whole c.deref.result.now) (edges_in c.self.inside.content) (edges_in pushed.new.self)
-    pushed.ensures.plain (on_err_weaker pushed.result (ap edges_in) pushed.ensures.err) (c.self.invariant ready)
+    let points = plain_points g.I.IntNumber.whole c.args.contour.now in
+    let keep = c.self.inside.options.preserve_input_collinear in
+    let e = c.in_ok-add_path.ensures in
+    contour_keeps_balance keep c.args.shape_type points (edges_in c.self.inside.core.edges) (edges_in c.add_path.new.self.edges)
+    (contour_added keep c.args.shape_type c.contour_kind-kind.result c.passing.result c.contour_kind-kind.ensures c.passing.ensures points
+    c.self.inside.core.edges c.add_path.new.self.edges e.ok)
+    (c.self.invariant (sym (ap (λ h. h.failed) e.kept) ∙ ready))
+
+pub returns-clause-ok : goal.returns-clause-ok
+returns-clause-ok g c =
+    let points = plain_points g.I.IntNumber.whole c.args.contour.now in
+    let keep = c.self.inside.options.preserve_input_collinear in
+    let new = edges_in c.add_path.new.self.edges in
+    subst (λ b. AddsContour b.options.preserve_input_collinear (edge_for c.args.shape_type) points b.edges new) c.self.view_is
+    (as_contour keep (edge_for c.args.shape_type) points (edges_in c.self.inside.core.edges) new
+    (contour_added keep c.args.shape_type c.contour_kind-kind.result c.passing.result c.contour_kind-kind.ensures c.passing.ensures points
+    c.self.inside.core.edges c.add_path.new.self.edges c.in_ok-add_path.ensures.ok))

@@ -1,11 +1,14 @@
 -- The edges that are extracted are those of the builder.
 use Rattle.std.proofs.Common.{sym, subst}
-use Rattle.overlay_arrange.specs.Content.{IsAscending}
 use Rattle.overlay_geom.specs.Settled.{IsSettled}
+use Rattle.overlay_plane.specs.Carried.{edges_in}
+use Rattle.overlay_arrange.specs.Content.{IsAscending}
 use Rattle.i_overlay.proofs.overlay.Overlay.extract.Goals as goal
 
 pub extract_shapes-requires-clause-ascending : goal.extract_shapes-requires-clause-ascending
-extract_shapes-requires-clause-ascending g c = subst (λ b. IsAscending b.edges) (sym c.self.view_is) c.requires.ascending
+extract_shapes-requires-clause-ascending g c =
+    subst (λ es. IsAscending (edges_in es)) (sym c.content.ensures.edges) (subst (λ b. IsAscending b.edges) (sym c.self.view_is) c.requires.ascending)
 
 pub extract_shapes-requires-clause-settled : goal.extract_shapes-requires-clause-settled
-extract_shapes-requires-clause-settled g c = subst (λ b. IsSettled b.edges) (sym c.self.view_is) c.requires.settled
+extract_shapes-requires-clause-settled g c =
+    subst (λ es. IsSettled (edges_in es)) (sym c.content.ensures.edges) (subst (λ b. IsSettled b.edges) (sym c.self.view_is) c.requires.settled)
