@@ -5,6 +5,10 @@ pub mod ArrangedLists
 pub mod BentPart
 pub mod BentStack
 pub mod CarriedEdges
+pub mod CarriedLoop
+pub mod CarriedMerges
+pub mod CarriedPieces
+pub mod CarriedRuns
 pub mod Crossings
 pub mod CutContents
 pub mod DirectionBits

@@ -31,6 +31,7 @@ pub mod CutWindings
 pub mod CutsExist
 pub mod CuttingRounds
 pub mod CyclicOrder
+pub mod DerivedLists
 pub mod Dropping
 pub mod EachOnce
 pub mod EdgeMarks
@@ -136,6 +137,7 @@ pub mod WalksApart
 pub mod WalksOfCuts
 pub mod WeighedLinks
 pub mod WhereEdgesStart
+pub mod WholeChains
 pub mod WholeCuts
 pub mod WholeOnEdges
 pub mod WholePlaces

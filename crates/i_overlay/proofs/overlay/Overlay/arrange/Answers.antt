@@ -14,3 +14,6 @@ returns-clause-refusals g c =
 pub returns-clause-err : goal.returns-clause-err
 returns-clause-err g c =
     refused_with_edges c.arrange-arranged.result _ c.args.self.now (edges_in c.arrange-arranged.new.self) c.self.view_is c.is_err-self-inside.ensures.value
+
+pub returns-clause-cut : goal.returns-clause-cut
+returns-clause-cut g c = rw (← c.self.view_is) c.arrange-arranged.ensures.cut
