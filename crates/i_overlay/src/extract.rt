@@ -28,6 +28,7 @@ use overlay_geom::path::IntShapes;
 use overlay_walk::bind::bind;
 pub use overlay_walk::buffer::BooleanExtractionBuffer;
 use overlay_walk::contours::cut_into_contours;
+use overlay_walk::hand::HandRule;
 use overlay_walk::open_steps::OpenSteps;
 use overlay_walk::step::Step;
 use std::alloc::Allocator;
@@ -85,8 +86,9 @@ fn selected_walks<I: IntNumber, A: Allocator + Clone>(
     };
     // (its contract says that the edges are in range)
     let _ = content.edges();
+    let rule = HandRule::OutlineOrHole(direction);
     let mut open = open_selected(content, overlay_rule, fill_rule, direction, room)?;
-    let walks = cut_into_contours(content.allocator().clone()?, &mut open, direction)?;
+    let walks = cut_into_contours(content.allocator().clone()?, &mut open, rule)?;
     *buffer = Some(BooleanExtractionBuffer::new(open.into_room()));
     Ok(walks)
 }

@@ -53,6 +53,7 @@ pub mod ItemsRound
 pub mod JoinedLists
 pub mod KeepingBalance
 pub mod LaterEntries
+pub mod LeadingOn
 pub mod LeastSteps
 pub mod LeftmostPoints
 pub mod LineForms
