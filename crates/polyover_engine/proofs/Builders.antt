@@ -11,20 +11,25 @@ use Rattle.i_overlay.specs.Adding.{MayRefuseBuilder}
 use Rattle.i_overlay.specs.Builder.{Builder, IsNewBuilder, WouldWeighTooMuch}
 use Rattle.i_overlay.specs.Paths.{GivenPath, AddsPaths, HoldsPaths, no_path}
 use Rattle.i_overlay.proofs.PathLists.{adds_last}
-use Rattle.polyover_text.specs.declared.contour.Contour.{Contour}
-use Rattle.polyover_text.specs.Statements.{contour_at, contours_at}
+use Rattle.polyover_text.specs.declared.figures.NumberedContour.{NumberedContour}
+use Rattle.polyover_text.specs.Grammar.{contour_paths}
+use Rattle.polyover_text.specs.Statements.{path_at, contour_at, contours_at}
 use Rattle.polyover_engine.specs.Builders.{HasAdded}
 
 pub nothing_added : (b : Builder ℕ) → b.edges ≡ [] → IsNewBuilder (λ n. n) b → HasAdded [] b
 nothing_added b empty made = record { holds = subst (HoldsPaths false []) (sym empty) (record { added = no_path; light = lit< tt }); made = made }
 
 -- the contour at a place of the list that is held
-pub contour_here : {A : Type 0} (cs items : List (Contour A)) (k : ℕ) (c : Contour A) → items ≡ cs → k < length items → c ≡ get_or items k c
-    → (k < length (contours_at cs)) × (contour_at c ≡ get_or (contours_at cs) k (contour_at c))
-contour_here cs items k c same within here = (
-  omega (arith, length-map cs contour_at, ap length same),
-  ap contour_at (here ∙ ap (λ l. get_or l k c) same) ∙ sym (get_or-map contour_at cs k c (contour_at c) (omega (arith, ap length same))),
-)
+pub contour_here : {A : Type 0} (cs items : List (NumberedContour A)) (k : ℕ) (c : NumberedContour A) → items ≡ cs → k < length items → c ≡ get_or items k c
+    → (k < length (contour_paths (contours_at cs))) × (path_at c.contour ≡ get_or (contour_paths (contours_at cs)) k (path_at c.contour))
+contour_here cs items k c same within here =
+    let some : k < length cs = omega (arith, ap length same) in
+    let held : contour_at c ≡ get_or (contours_at cs) k (contour_at c) =
+    ap contour_at (here ∙ ap (λ l. get_or l k c) same) ∙ sym (get_or-map contour_at cs k c (contour_at c) some) in
+    let many : length (contours_at cs) ≡ length cs = length-map cs contour_at in (
+      omega (arith, length-map (contours_at cs) (λ d. d.path), many),
+      ap (λ d. d.path) held ∙ sym (get_or-map (λ d. d.path) (contours_at cs) k (contour_at c) (path_at c.contour) (omega (arith, many))),
+    )
 
 module _ (cs : List GivenPath) (k : ℕ) (c : GivenPath) (old : Builder ℕ) (h : HasAdded (take k cs) old) (within : k < length cs)
     (here : c ≡ get_or cs k c) where

@@ -18,7 +18,7 @@ use Rattle.polyover_text.specs.declared.query.OverlayQuery.{OverlayQuery}
 use Rattle.polyover_text.specs.declared.query.Query.{Query}
 use Rattle.polyover_engine.specs.Answers.{AreEdges, Answers, IsAnswer, asked_by}
 use Rattle.polyover_engine.specs.Builders.{HasAdded}
-use Rattle.polyover_text.specs.Grammar.{Asks, input_lines}
+use Rattle.polyover_text.specs.Grammar.{GivenFigures, Asks, input_lines}
 
 module _ (cs : List GivenPath) (b : Builder ℕ) (h : HasAdded cs b) where
   -- what a query for the edges answers
@@ -48,12 +48,12 @@ adding_refused cs TooManyEdges may = inl may
 adding_refused cs Failed may = may
 
 -- the text answers what was read, where the reader tells it
-pub answers_read : (given : Option (List ℕ)) (bytes text written : List ℕ) (cs : List GivenPath) (query : Query)
-    → IfSome given (λ b. bytes ≡ b) → text ≡ bytes → Asks (input_lines text) cs query → Answers cs query written → IfSome given (λ b. IsAnswer b written)
-answers_read None bytes text written cs query read same asks answers = tt
-answers_read (Some b) bytes text written cs query read same asks answers = record {
-  contours = cs;
+pub answers_read : (given : Option (List ℕ)) (bytes text written : List ℕ) (fs : GivenFigures) (query : Query)
+    → IfSome given (λ b. bytes ≡ b) → text ≡ bytes → Asks (input_lines text) fs query → Answers fs query written → IfSome given (λ b. IsAnswer b written)
+answers_read None bytes text written fs query read same asks answers = tt
+answers_read (Some b) bytes text written fs query read same asks answers = record {
+  figures = fs;
   query = query;
-  asks = subst (λ l. Asks (input_lines l) cs query) (same ∙ read) asks;
+  asks = subst (λ l. Asks (input_lines l) fs query) (same ∙ read) asks;
   answers = answers;
 }

@@ -11,7 +11,7 @@ use Rattle.i_overlay.specs.Paths.{GivenPath, HoldsPaths}
 use Rattle.polyover_text.specs.declared.query.OverlayQuery.{OverlayQuery}
 use Rattle.polyover_text.specs.declared.query.Query.{Query}
 use Rattle.polyover_text.specs.declared.query.Query.TheVariants.{Edges, Overlay}
-use Rattle.polyover_text.specs.Grammar.{Asks, input_lines}
+use Rattle.polyover_text.specs.Grammar.{GivenFigures, paths_of, Asks, input_lines}
 use Rattle.polyover_text.specs.Printed.{edge_lines, lines_of_shapes}
 
 -- ---- edges
@@ -37,14 +37,14 @@ asked_by q = record {
 
 -- ---- the answer
 
--- the text answers the query on the contours
-abbrev pub Answers : List GivenPath → Query → List ℕ → Type 0
-Answers cs (Edges fill) text = (vs : List Vector) × AreEdges cs fill vs × (text ≡ edge_lines vs)
-Answers cs (Overlay query) text = (shapes : List (List (List Point))) × IsResultOfPaths (asked_by query) cs shapes × (text ≡ lines_of_shapes shapes)
+-- the text answers the query on the figures
+abbrev pub Answers : GivenFigures → Query → List ℕ → Type 0
+Answers fs (Edges fill) text = (vs : List Vector) × AreEdges (paths_of fs) fill vs × (text ≡ edge_lines vs)
+Answers fs (Overlay query) text = (shapes : List (List (List Point))) × IsResultOfPaths (asked_by query) (paths_of fs) shapes × (text ≡ lines_of_shapes shapes)
 
 -- the text answers the input
 pub record IsAnswer (bytes text : List ℕ) : Type 0 where
-  pub contours : List GivenPath
+  pub figures : GivenFigures
   pub query : Query
-  pub asks : Asks (input_lines bytes) contours query
-  pub answers : Answers contours query text
+  pub asks : Asks (input_lines bytes) figures query
+  pub answers : Answers figures query text

@@ -2,3 +2,5 @@ pub mod Answers
 pub mod Builders
 pub mod Engine
 pub mod Exits
+pub mod Noted
+pub mod Written

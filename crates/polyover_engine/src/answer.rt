@@ -6,15 +6,16 @@ ghost use Rattle.overlay_geom.specs.Paths.{plain_shapes};
 ghost use Rattle.overlay_arrange.specs.Vectors.{plain_vector};
 ghost use Rattle.i_overlay.specs.OneShot.{IsResultOfPaths, MayRefusePaths};
 ghost use Rattle.polyover_engine.specs.Answers.{Answers, AreEdges, asked_by};
-ghost use Rattle.polyover_text.specs.Statements.{contours_at};
+ghost use Rattle.polyover_text.specs.Grammar.{contour_paths, paths_of};
+ghost use Rattle.polyover_text.specs.Statements.{contours_at, figures_at};
 
 use crate::builder::with_contours;
 use i_overlay::fill_rule::FillRule;
 use i_overlay::vector::edge::DataVectorEdge;
 use overlay_geom::error::OverlayError;
 use overlay_geom::path::IntShapes;
-use polyover_text::contour::Contour;
 use polyover_text::edge_text::edges_text;
+use polyover_text::figures::NumberedContour;
 use polyover_text::input::Input;
 use polyover_text::query::{OverlayQuery, Query};
 use polyover_text::shape_text::shapes_text;
@@ -26,18 +27,18 @@ pub fn answer_text<A: Allocator + Copy>(
     alloc: A,
     input: &Input<A>,
 ) -> Result<String<A>, OverlayError>
-    requires { All (λ c. AllInRange 4611686018427387903 c.points) (contours_at input.now.contours.items) }
+    requires { All (λ c. AllInRange 4611686018427387903 c.points) (paths_of (figures_at input.now.figures)) }
     ensures { MatchResult result
-        (λ text. Answers (contours_at input.now.contours.items) input.now.query (string_bytes text))
-        (λ e. MayRefusePaths (contours_at input.now.contours.items) e) }
+        (λ text. Answers (figures_at input.now.figures) input.now.query (string_bytes text))
+        (λ e. MayRefusePaths (paths_of (figures_at input.now.figures)) e) }
 {
     match input.query {
         Query::Edges(fill_rule) => {
-            let edges = arranged_edges(alloc, &input.contours, fill_rule)?;
+            let edges = arranged_edges(alloc, &input.figures.contours, fill_rule)?;
             Ok(edges_text(alloc, &edges)?)
         }
         Query::Overlay(query) => {
-            let shapes = overlay_shapes(alloc, &input.contours, query)?;
+            let shapes = overlay_shapes(alloc, &input.figures.contours, query)?;
             Ok(shapes_text(alloc, &shapes)?)
         }
     }
@@ -46,13 +47,13 @@ pub fn answer_text<A: Allocator + Copy>(
 // The edges of the contours' arrangement, with the sides that are filled.
 fn arranged_edges<A: Allocator + Clone>(
     alloc: A,
-    contours: &[Contour<A>],
+    contours: &[NumberedContour<A>],
     fill_rule: FillRule,
 ) -> Result<Vec<DataVectorEdge<i64, ()>, A>, OverlayError>
-    requires { All (λ c. AllInRange 4611686018427387903 c.points) (contours_at contours.now) }
+    requires { All (λ c. AllInRange 4611686018427387903 c.points) (contour_paths (contours_at contours.now)) }
     ensures { MatchResult result
-        (λ v. AreEdges (contours_at contours.now) fill_rule (map (plain_vector (λ z. z)) v.items))
-        (λ e. MayRefusePaths (contours_at contours.now) e) }
+        (λ v. AreEdges (contour_paths (contours_at contours.now)) fill_rule (map (plain_vector (λ z. z)) v.items))
+        (λ e. MayRefusePaths (contour_paths (contours_at contours.now)) e) }
 {
     let mut builder = with_contours(alloc, contours)?;
     builder.build_separate_vectors(fill_rule)
@@ -61,13 +62,13 @@ fn arranged_edges<A: Allocator + Clone>(
 // The shapes of an overlay over the contours' arrangement.
 fn overlay_shapes<A: Allocator + Clone>(
     alloc: A,
-    contours: &[Contour<A>],
+    contours: &[NumberedContour<A>],
     query: OverlayQuery,
 ) -> Result<IntShapes<i64, A>, OverlayError>
-    requires { All (λ c. AllInRange 4611686018427387903 c.points) (contours_at contours.now) }
+    requires { All (λ c. AllInRange 4611686018427387903 c.points) (contour_paths (contours_at contours.now)) }
     ensures { MatchResult result
-        (λ v. IsResultOfPaths (asked_by query) (contours_at contours.now) (plain_shapes (λ z. z) v.items))
-        (λ e. MayRefusePaths (contours_at contours.now) e) }
+        (λ v. IsResultOfPaths (asked_by query) (contour_paths (contours_at contours.now)) (plain_shapes (λ z. z) v.items))
+        (λ e. MayRefusePaths (contour_paths (contours_at contours.now)) e) }
 {
     let mut builder = with_contours(alloc, contours)?;
     builder.options.output_direction = query.output.output_direction;

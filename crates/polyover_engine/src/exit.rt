@@ -3,11 +3,10 @@
 ghost use Rattle.std.specs.Prelude.{◌≡◌};
 ghost use Rattle.overlay_geom.specs.declared.error.OverlayError.TheVariants.{Memory};
 ghost use Rattle.polyover_engine.specs.declared.exit.Exit.TheVariants.{Refused};
-ghost use Rattle.polyover_engine.specs.Exits.{exit_of_read, exit_of_input};
+ghost use Rattle.polyover_engine.specs.Exits.{exit_of_input};
 
 use overlay_geom::error::OverlayError;
 use polyover_text::input::InputError;
-use polyover_text::read::ReadError;
 use std::alloc::AllocError;
 
 /// How a run ended.
@@ -21,17 +20,6 @@ pub enum Exit {
     BadInput(usize),
     /// Reading or writing failed.
     Io,
-}
-
-impl From<ReadError> for Exit {
-    ghost from_gives = { λ e x. x ≡ exit_of_read e };
-
-    fn from(error: ReadError) -> Exit {
-        match error {
-            ReadError::Memory => Exit::Refused(OverlayError::Memory),
-            ReadError::Io => Exit::Io,
-        }
-    }
 }
 
 impl From<InputError> for Exit {

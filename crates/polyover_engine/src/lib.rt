@@ -5,3 +5,8 @@ mod answer;
 mod builder;
 pub mod engine;
 pub mod exit;
+mod noting_reader;
+mod noting_writer;
+mod read;
+mod turn;
+mod write;

@@ -3,7 +3,7 @@ use Rattle.std.proofs.Common.{◌≡◌, [], ◌∷◌, codes, sym, subst, refl}
 use Rattle.overlay_arrange.specs.declared.fill_rule.FillRule.{FillRule}
 use Rattle.polyover_text.specs.declared.query.OverlayQuery.{OverlayQuery}
 use Rattle.polyover_text.specs.declared.query.Query.TheVariants.{Edges, Overlay}
-use Rattle.polyover_text.specs.Grammar.{Word, Line, IsCommand, edges, overlay, fill_name, rule_name, AreOptionWords}
+use Rattle.polyover_text.specs.Grammar.{Word, Line, IsCommand, edges, overlay, fill_name, rule_name, default_output, SetOptions}
 
 -- after `run edges` stands the name of a fill rule
 pub edges_asked : (ws : Line) (f : Word) (rest : Line) (fill : FillRule)
@@ -14,7 +14,7 @@ edges_asked ws f rest fill words ended name =
 
 -- after `run overlay` stand the names of the rules, and then options
 pub overlay_asked : (ws : Line) (r f : Word) (rest more : Line) (asked : OverlayQuery)
-    → ws ≡ r ∷ rest → rest ≡ f ∷ more → r ≡ rule_name asked.overlay_rule → f ≡ fill_name asked.fill_rule → AreOptionWords more asked.output
+    → ws ≡ r ∷ rest → rest ≡ f ∷ more → r ≡ rule_name asked.overlay_rule → f ≡ fill_name asked.fill_rule → SetOptions default_output more asked.output
     → IsCommand (codes "run" ∷ codes "overlay" ∷ ws) (Overlay asked)
 overlay_asked ws r f rest more asked words left rule fill set =
     let all : ws ≡ rule_name asked.overlay_rule ∷ fill_name asked.fill_rule ∷ more = cc in

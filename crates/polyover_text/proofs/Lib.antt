@@ -8,8 +8,6 @@ pub mod Numbers
 pub mod OptionLists
 pub mod PointLists
 pub mod Printing
-pub mod Reading
 pub mod Readings
 pub mod SoFar
 pub mod Splits
-pub mod Writing

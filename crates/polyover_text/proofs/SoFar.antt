@@ -8,9 +8,9 @@ use Rattle.std.proofs.lemmas.List.Sums.{count_by-le-length}
 use Rattle.std.proofs.lemmas.List.Splits.{length-slice_split}
 use Rattle.polyover_text.specs.declared.query.Query.{Query}
 use Rattle.polyover_text.specs.declared.input.Reading.{Reading}
-use Rattle.polyover_text.specs.Grammar.{Line, words, input_lines, AreContours, none, Asks, IsGoodSoFar, IsFirstBad, bad, missing}
+use Rattle.polyover_text.specs.Grammar.{Line, words, input_lines, GivenFigures, no_figures, AreFigures, none, Asks, IsGoodSoFar, IsFirstBad, bad, missing}
 use Rattle.polyover_text.specs.Inputs.{Give, HasRead, TakesLine, RefusesLine}
-use Rattle.polyover_text.specs.Statements.{contours_at}
+use Rattle.polyover_text.specs.Statements.{figures_at}
 
 -- the first n lines are read, and these are left
 pub record HasReadSoFar {A : Type 0} (all : List Line) (left : List (List ℕ)) (n : ℕ) (r : Reading A) : Type 0 where
@@ -19,28 +19,28 @@ pub record HasReadSoFar {A : Type 0} (all : List Line) (left : List (List ℕ)) 
   pub counted : n ≡ length done
   pub read : HasRead done r
 
-pub nothing_read : {A : Type 0} (all : List Line) (left : List (List ℕ)) (r : Reading A) → all ≡ map words left → r.contours.items ≡ []
+pub nothing_read : {A : Type 0} (all : List Line) (left : List (List ℕ)) (r : Reading A) → all ≡ map words left → figures_at r.figures ≡ no_figures
     → r.query ≡ None → HasReadSoFar all left 0 r
 nothing_read all left r parts empty no_command = record {
   done = [];
   parts = parts;
   counted = refl;
-  read = subst (Give [] (contours_at r.contours.items)) (sym no_command) (subst (AreContours []) (sym (ap contours_at empty)) none);
+  read = subst (Give [] (figures_at r.figures)) (sym no_command) (subst (AreFigures 1 []) (sym empty) none);
 }
 
 pub one_more_read : {A : Type 0} (all : List Line) (left rest : List (List ℕ)) (line : List ℕ) (n : ℕ) (old new : Reading A)
-    → HasReadSoFar all left n old → left ≡ line ∷ rest → TakesLine (words line) old new → HasReadSoFar all rest (n + 1) new
+    → HasReadSoFar all left n old → left ≡ line ∷ rest → TakesLine (n + 1) (words line) old new → HasReadSoFar all rest (n + 1) new
 one_more_read all left rest line n old new h next taken = record {
   done = h.done ++ words line ∷ [];
   parts = h.parts ∙ ap (λ l. h.done ++ map words l) next ∙ sym (append_assoc h.done (words line ∷ []) (map words rest));
   counted = omega (arith, h.counted, length-append h.done (words line ∷ []));
-  read = taken.takes h.done h.read;
+  read = taken.takes h.done (ap (λ k. k + 1) h.counted) h.read;
 }
 
 -- what was read is good so far
-good_so_far : (ls : List Line) (cs : _) (query : Option Query) → Give ls cs query → IsGoodSoFar ls
-good_so_far ls cs None h = inl (cs, h)
-good_so_far ls cs (Some query) h = inr (cs, (query, h))
+good_so_far : (ls : List Line) (fs : GivenFigures) (query : Option Query) → Give ls fs query → IsGoodSoFar ls
+good_so_far ls fs None h = inl (fs, h)
+good_so_far ls fs (Some query) h = inr (fs, (query, h))
 
 -- the line that is refused is the first bad one
 pub first_bad : {A : Type 0} (all : List Line) (left rest : List (List ℕ)) (line : List ℕ) (n : ℕ) (r : Reading A)
@@ -53,7 +53,7 @@ first_bad all left rest line n r h next refused =
     let count : length more ≡ n + 1 = omega (arith, h.counted, length-append h.done (words line ∷ [])) in
     let after : take (n + 1) all ≡ more = ap (take (n + 1)) longer ∙ take_at more (map words rest) (n + 1) count in
     bad (omega (arith, count, ap length longer, length-append more (map words rest)))
-    (subst IsGoodSoFar (sym before) (good_so_far h.done (contours_at r.contours.items) r.query h.read))
+    (subst IsGoodSoFar (sym before) (good_so_far h.done (figures_at r.figures) r.query h.read))
     (λ good. refused.refuses h.done h.read (subst IsGoodSoFar after good))
 
 -- where no line is left, all are read
@@ -67,13 +67,13 @@ command_missing all left n r h ended no_command =
     let whole = all_lines all left n r h ended in
     let count : length all ≡ n = ap length whole ∙ sym h.counted in
     subst (λ k. IsFirstBad all (k + 1)) count
-    (missing (subst (λ l. AreContours l (contours_at r.contours.items)) (sym whole) (subst (Give h.done (contours_at r.contours.items)) no_command h.read)))
+    (missing (subst (λ l. AreFigures 1 l (figures_at r.figures)) (sym whole) (subst (Give h.done (figures_at r.figures)) no_command h.read)))
 
 pub all_read : {A : Type 0} (all : List Line) (left : List (List ℕ)) (n : ℕ) (r : Reading A) (query : Query)
-    → HasReadSoFar all left n r → left ≡ [] → r.query ≡ Some query → Asks all (contours_at r.contours.items) query
+    → HasReadSoFar all left n r → left ≡ [] → r.query ≡ Some query → Asks all (figures_at r.figures) query
 all_read all left n r query h ended held =
-    subst (λ l. Asks l (contours_at r.contours.items) query) (sym (all_lines all left n r h ended))
-    (subst (Give h.done (contours_at r.contours.items)) held h.read)
+    subst (λ l. Asks l (figures_at r.figures) query) (sym (all_lines all left n r h ended))
+    (subst (Give h.done (figures_at r.figures)) held h.read)
 
 last_line_le : (x : List ℕ) (b : Bool) → length (cond b [] (x ∷ [])) ≤ 1
 last_line_le x true = omega arith

@@ -1,8 +1,7 @@
--- The grammar of the input: lines, words, numbers, contours and the command, and which line is the first bad one.
+-- The grammar of the input: lines, words, numbers, figures and the command, and which line is the first bad one.
 use Rattle.std.specs.Prelude.{◌≡◌, ◌⊎◌, ℕ, ◌+◌, ◌<◌, ◌==◌, Bool, true, false, not, ℤ, pos, neg_ℤ}
 use Rattle.std.specs.Prelude.{List, [], ◌∷◌, ◌++◌, map, filter, take, length, All, codes}
 use Rattle.std.specs.List.{slice_split}
-use Rattle.std.specs.List.Sorted.{IsPermutation}
 use Rattle.std.specs.Str.Lines.{lines}
 use Rattle.std.specs.Str.Parse.{IsNumeral, digits_value}
 use Rattle.overlay_geom.specs.Numbers.{Within}
@@ -12,7 +11,6 @@ use Rattle.overlay_arrange.specs.declared.fill_rule.FillRule.TheVariants.{EvenOd
 use Rattle.overlay_arrange.specs.declared.overlay_rule.OverlayRule.{OverlayRule}
 use Rattle.overlay_arrange.specs.declared.overlay_rule.OverlayRule.TheVariants.{Subject as OfSubject, Clip as OfClip, Intersect, Union}
 use Rattle.overlay_arrange.specs.declared.overlay_rule.OverlayRule.TheVariants.{Difference, InverseDifference, Xor}
-use Rattle.overlay_arrange.specs.declared.options.ContourDirection.{ContourDirection}
 use Rattle.overlay_arrange.specs.declared.options.ContourDirection.TheVariants.{CounterClockwise, Clockwise}
 use Rattle.overlay_arrange.specs.declared.options.ShapeType.{ShapeType}
 use Rattle.overlay_arrange.specs.declared.options.ShapeType.TheVariants.{Subject, Clip}
@@ -91,55 +89,76 @@ rule_name Difference = codes "Difference"
 rule_name InverseDifference = codes "InverseDifference"
 rule_name Xor = codes "Xor"
 
--- the word that turns outlines clockwise
-abbrev pub direction_words : ContourDirection → List Word
-direction_words CounterClockwise = []
-direction_words Clockwise = codes "clockwise" ∷ []
+-- no option is set
+abbrev pub default_output : OutputOptions
+default_output = record { output_direction = CounterClockwise; preserve_output_collinear = false }
 
--- the word that keeps output points on one line
-abbrev pub keep_words : Bool → List Word
-keep_words false = []
-keep_words true = codes "keep" ∷ []
-
--- the words that set these options, each once
-abbrev pub option_words : OutputOptions → List Word
-option_words o = direction_words o.output_direction ++ keep_words o.preserve_output_collinear
-
--- the words set these options, each once, in any order
-abbrev pub AreOptionWords : List Word → OutputOptions → Type 0
-AreOptionWords ws o = IsPermutation (option_words o) ws
+-- the words, read from left to right, set options that were not set, one after another, until these options are set: `clockwise` turns
+-- outlines clockwise, and `keep` keeps output points on one line
+pub data SetOptions : OutputOptions → List Word → OutputOptions → Type 0 where
+  none : {o : OutputOptions} → SetOptions o [] o
+  clockwise : {old o : OutputOptions} {ws : List Word} → old.output_direction ≡ CounterClockwise
+      → SetOptions (record old { output_direction = Clockwise }) ws o → SetOptions old (codes "clockwise" ∷ ws) o
+  keep : {old o : OutputOptions} {ws : List Word} → old.preserve_output_collinear ≡ false
+      → SetOptions (record old { preserve_output_collinear = true }) ws o → SetOptions old (codes "keep" ∷ ws) o
 
 -- the line asks for this: `run edges FILL` for the edges under a fill rule, `run overlay RULE FILL OPT..` for the shapes of an overlay
 pub data IsCommand : Line → Query → Type 0 where
   edges : {fill : FillRule} → IsCommand (codes "run" ∷ codes "edges" ∷ fill_name fill ∷ []) (Edges fill)
-  overlay : {query : OverlayQuery} {ws : List Word} → AreOptionWords ws query.output
+  overlay : {query : OverlayQuery} {ws : List Word} → SetOptions default_output ws query.output
       → IsCommand (codes "run" ∷ codes "overlay" ∷ rule_name query.overlay_rule ∷ fill_name query.fill_rule ∷ ws) (Overlay query)
 
 -- ---- whole inputs
 
--- each line is blank, or gives the next of the contours
-pub data AreContours : List Line → List GivenPath → Type 0 where
-  none : AreContours [] []
-  blank : {ls : List Line} {cs : List GivenPath} → AreContours ls cs → AreContours ([] ∷ ls) cs
-  more : {l : Line} {c : GivenPath} {ls : List Line} {cs : List GivenPath} → GivesContour l c → AreContours ls cs → AreContours (l ∷ ls) (c ∷ cs)
+-- a contour, and the number of its line
+pub record GivenContour : Type 0 where
+  pub line : ℕ
+  pub path : GivenPath
 
--- the lines give contours, then one command, and then no word
-pub record Asks (ls : List Line) (cs : List GivenPath) (query : Query) : Type 0 where
+-- what lines give: contours, open paths and points
+pub record GivenFigures : Type 0 where
+  pub contours : List GivenContour
+  pub lines : List (List Point)
+  pub points : List Point
+
+abbrev pub no_figures : GivenFigures
+no_figures = record { contours = []; lines = []; points = [] }
+
+-- contours without the numbers of their lines
+abbrev pub contour_paths : List GivenContour → List GivenPath
+contour_paths cs = map (λ c. c.path) cs
+
+abbrev pub paths_of : GivenFigures → List GivenPath
+paths_of fs = contour_paths fs.contours
+
+-- a contour before the others
+abbrev pub before_contours : ℕ → GivenPath → GivenFigures → GivenFigures
+before_contours n c fs = record fs { contours = record { line = n; path = c } ∷ fs.contours }
+
+-- each line is blank, or gives the next of the figures; the first line has this number
+pub data AreFigures : ℕ → List Line → GivenFigures → Type 0 where
+  none : {n : ℕ} → AreFigures n [] no_figures
+  blank : {n : ℕ} {ls : List Line} {fs : GivenFigures} → AreFigures (n + 1) ls fs → AreFigures n ([] ∷ ls) fs
+  contour : {n : ℕ} {l : Line} {c : GivenPath} {ls : List Line} {fs : GivenFigures} → GivesContour l c → AreFigures (n + 1) ls fs
+      → AreFigures n (l ∷ ls) (before_contours n c fs)
+
+-- the lines, counted from 1, give figures, then one command, and then no word
+pub record Asks (ls : List Line) (fs : GivenFigures) (query : Query) : Type 0 where
   pub before : List Line
   pub line : Line
   pub after : List Line
   pub parts : ls ≡ before ++ line ∷ after
-  pub contours : AreContours before cs
+  pub figures : AreFigures 1 before fs
   pub command : IsCommand line query
   pub blank : All (λ l. l ≡ []) after
 
 -- ---- bad lines
 
--- the lines may begin an input: contours, or contours, the command and blank lines
+-- the lines may begin an input: figures, or figures, the command and blank lines
 abbrev pub IsGoodSoFar : List Line → Type 0
-IsGoodSoFar ls = ((cs : List GivenPath) × AreContours ls cs) ⊎ ((cs : List GivenPath) × ((query : Query) × Asks ls cs query))
+IsGoodSoFar ls = ((fs : GivenFigures) × AreFigures 1 ls fs) ⊎ ((fs : GivenFigures) × ((query : Query) × Asks ls fs query))
 
 -- the first bad line has this number, counted from 1; where a command is missing, it is the one after the last
 pub data IsFirstBad : List Line → ℕ → Type 0 where
   bad : {ls : List Line} {i : ℕ} → i < length ls → IsGoodSoFar (take i ls) → ¬ IsGoodSoFar (take (i + 1) ls) → IsFirstBad ls (i + 1)
-  missing : {ls : List Line} {cs : List GivenPath} → AreContours ls cs → IsFirstBad ls (length ls + 1)
+  missing : {ls : List Line} {fs : GivenFigures} → AreFigures 1 ls fs → IsFirstBad ls (length ls + 1)

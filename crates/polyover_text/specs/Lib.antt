@@ -6,4 +6,3 @@ pub mod Points
 pub mod Printed
 pub mod Statements
 pub mod Words
-pub mod Written

@@ -1,16 +1,12 @@
 -- Options of an overlay, set one by one.
-use Rattle.std.specs.Prelude.{◌≡◌, true, false, codes}
-use Rattle.overlay_arrange.specs.declared.options.ContourDirection.TheVariants.{CounterClockwise, Clockwise}
+use Rattle.std.specs.Prelude.{◌↔◌, List, ◌∷◌}
 use Rattle.polyover_text.specs.declared.options.OutputOptions.{OutputOptions}
-use Rattle.polyover_text.specs.Grammar.{Word}
+use Rattle.polyover_text.specs.Grammar.{Word, SetOptions}
 
--- no option is set
-abbrev pub default_output : OutputOptions
-default_output = record { output_direction = CounterClockwise; preserve_output_collinear = false }
+-- the word sets an option that is not set, and the new options have it set: words after it set what they set from there
+abbrev pub SetsOption : OutputOptions → Word → OutputOptions → Type 0
+SetsOption old w new = (ws : List Word) (o : OutputOptions) → SetOptions old (w ∷ ws) o ↔ SetOptions new ws o
 
--- the word names an option that is not set, and the new options have it set
-pub data SetsOption : OutputOptions → Word → OutputOptions → Type 0 where
-  clockwise : {old : OutputOptions} → old.output_direction ≡ CounterClockwise
-      → SetsOption old (codes "clockwise") (record old { output_direction = Clockwise })
-  keep : {old : OutputOptions} → old.preserve_output_collinear ≡ false
-      → SetsOption old (codes "keep") (record old { preserve_output_collinear = true })
+-- the word begins no option that is not set
+abbrev pub SetsNothing : OutputOptions → Word → Type 0
+SetsNothing old w = (ws : List Word) (o : OutputOptions) → ¬ (SetOptions old (w ∷ ws) o)

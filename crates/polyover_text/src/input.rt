@@ -2,22 +2,22 @@
 
 ghost use Rattle.std.specs.Prelude.{◌≡◌, MatchResult};
 ghost use Rattle.polyover_text.specs.Grammar.{words, input_lines, Asks};
-ghost use Rattle.polyover_text.specs.Statements.{contours_at};
+ghost use Rattle.polyover_text.specs.Statements.{figures_at};
 ghost use Rattle.polyover_text.specs.Inputs.{TakesLine, RefusesLine, IsNamedFault};
 ghost use Rattle.polyover_text.specs.declared.input.InputError.TheVariants.{Memory};
 
-use crate::contour::Contour;
+use crate::figures::{Figures, NumberedContour};
 use crate::line_error::LineError;
 use crate::lines::Lines;
 use crate::query::Query;
 use crate::statement::{Statement, parse_statement};
 use std::alloc::{AllocError, Allocator};
 
-/// Contours, and what is asked for.
+/// Figures, and what is asked for.
 #[derive(Drop)]
 pub struct Input<A: Allocator> {
-    /// The contours in the order of the input.
-    pub contours: Vec<Contour<A>, A>,
+    /// What the lines before the command give.
+    pub figures: Figures<A>,
     /// What is asked for.
     pub query: Query,
 }
@@ -34,20 +34,25 @@ pub enum InputError {
 // What the lines so far say.
 #[derive(Drop)]
 struct Reading<A: Allocator> {
-    contours: Vec<Contour<A>, A>,
+    figures: Figures<A>,
     query: Option<Query>,
 }
 
 impl<A: Allocator + Copy> Reading<A> {
-    // Takes the next line. On `Err` the line is not taken.
-    fn take(&mut self, alloc: A, line: &[u8]) -> Result<(), LineError>
+    // Takes the next line, which has this number. On `Err` the line is not taken.
+    fn take(&mut self, alloc: A, number: usize, line: &[u8]) -> Result<(), LineError>
         ensures { MatchResult result
-            (λ _. TakesLine (words line.now) self.old self.new)
+            (λ _. TakesLine number (words line.now) self.old self.new)
             (λ e. e ≡ LineError.Bad → RefusesLine (words line.now) self.old) }
     {
         match (parse_statement(alloc, line)?, self.query) {
             (Statement::Blank, _) => {}
-            (Statement::Add(contour), None) => self.contours.push(contour)?,
+            (Statement::Contour(contour), None) => {
+                let line = number;
+                self.figures
+                    .contours
+                    .push(NumberedContour { line, contour })?;
+            }
             (Statement::Run(query), None) => self.query = Some(query),
             (_, Some(_)) => return Err(LineError::Bad),
         }
@@ -55,28 +60,28 @@ impl<A: Allocator + Copy> Reading<A> {
     }
 }
 
-/// The contours and the command of an input, or its first bad line.
+/// The figures and the command of an input, or its first bad line.
 pub fn parse_input<A: Allocator + Copy>(alloc: A, text: &[u8]) -> Result<Input<A>, InputError>
     ensures { MatchResult result
-        (λ c. Asks (input_lines text.now) (contours_at c.contours.items) c.query)
+        (λ c. Asks (input_lines text.now) (figures_at c.figures) c.query)
         (λ e. IsNamedFault (input_lines text.now) e) }
 {
     let mut reading = Reading {
-        contours: Vec::new(alloc),
+        figures: Figures::new(alloc),
         query: None,
     };
     let mut number = 0;
     for line in Lines::new(text) {
         number += 1;
-        match reading.take(alloc, line) {
+        match reading.take(alloc, number, line) {
             Ok(()) => {}
             Err(LineError::Memory) => return Err(InputError::Memory),
             Err(LineError::Bad) => return Err(InputError::BadLine(number)),
         }
     }
-    let Reading { contours, query } = reading;
+    let Reading { figures, query } = reading;
     match query {
-        Some(query) => Ok(Input { contours, query }),
+        Some(query) => Ok(Input { figures, query }),
         None => Err(InputError::BadLine(number + 1)),
     }
 }

@@ -2,8 +2,8 @@
 
 ghost use Rattle.std.specs.Prelude.{◌≡◌, true, false, MatchOption};
 ghost use Rattle.polyover_text.specs.declared.options.OutputOptions.{OutputOptions};
-ghost use Rattle.polyover_text.specs.Grammar.{AreOptionWords};
-ghost use Rattle.polyover_text.specs.Options.{SetsOption, default_output};
+ghost use Rattle.polyover_text.specs.Grammar.{SetOptions, default_output};
+ghost use Rattle.polyover_text.specs.Options.{SetsOption, SetsNothing};
 ghost use Rattle.polyover_text.specs.Words.{words_left};
 
 use crate::words::Words;
@@ -18,15 +18,15 @@ pub struct OutputOptions {
     pub preserve_output_collinear: bool,
 }
 
-/// The options that the words name, in any order, each at most once. `None` where a word names no
-/// option, or one comes twice.
-pub fn parse_options(words: Words<'_>) -> Option<OutputOptions>
+/// The options that the words set, read from left to right, each at most once. `None` where a word begins
+/// no option, or one comes twice.
+pub fn parse_options(mut words: Words<'_>) -> Option<OutputOptions>
     ensures { MatchOption result
-        ((options : OutputOptions) → ¬ (AreOptionWords (words_left words.entry) options))
-        (λ options. AreOptionWords (words_left words.entry) options) }
+        ((options : OutputOptions) → ¬ (SetOptions default_output (words_left words.entry) options))
+        (λ options. SetOptions default_output (words_left words.entry) options) }
 {
     let mut options = OutputOptions::new();
-    for word in words {
+    while let Some(word) = words.next() {
         options = options.with(word)?;
     }
     Some(options)
@@ -47,7 +47,7 @@ impl OutputOptions {
     // set.
     fn with(self, word: &[u8]) -> Option<OutputOptions>
         ensures { MatchOption result
-            ((new : OutputOptions) → ¬ (SetsOption self word.now new))
+            (SetsNothing self word.now)
             (λ new. SetsOption self word.now new) }
     {
         match word {

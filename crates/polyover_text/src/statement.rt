@@ -19,8 +19,8 @@ use std::alloc::Allocator;
 pub enum Statement<A: Allocator> {
     /// Nothing: it has no word.
     Blank,
-    /// A contour is added.
-    Add(Contour<A>),
+    /// A contour.
+    Contour(Contour<A>),
     /// The command: this is asked for.
     Run(Query),
 }
@@ -52,5 +52,5 @@ fn parse_contour<A: Allocator>(
         (λ e. e ≡ LineError.Bad → SaysNothing (shape_name shape_type ∷ words_left words.entry)) }
 {
     let points = parse_points(alloc, words)?;
-    Ok(Statement::Add(Contour { shape_type, points }))
+    Ok(Statement::Contour(Contour { shape_type, points }))
 }

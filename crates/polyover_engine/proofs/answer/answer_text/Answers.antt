@@ -2,6 +2,7 @@ use Rattle.std.proofs.Common.{subst, ap, ◌∙◌}
 use Rattle.overlay_geom.specs.Paths.{plain_shapes}
 use Rattle.i_overlay.specs.OneShot.{IsResultOfPaths}
 use Rattle.polyover_text.specs.Printed.{lines_of_shapes}
+use Rattle.polyover_text.specs.Grammar.{contour_paths}
 use Rattle.polyover_text.specs.Statements.{contours_at}
 use Rattle.polyover_engine.specs.Answers.{asked_by}
 use Rattle.polyover_engine.proofs.answer.answer_text.Goals as goal
@@ -11,6 +12,6 @@ returns-in_ok-shapes_text-in-Overlay g c =
     let shapes = plain_shapes (λ z. z) c.in_ok-shapes-in-Overlay.shapes.items in
     rw c.in-Overlay.is (
       shapes,
-      subst (λ l. IsResultOfPaths (asked_by c.in-Overlay.query) (contours_at l) shapes) c.deref-in-Overlay.ensures.value c.in_ok-shapes-in-Overlay.ensures,
+      subst (λ l. IsResultOfPaths (asked_by c.in-Overlay.query) (contour_paths (contours_at l)) shapes) c.deref-in-Overlay.ensures.value c.in_ok-shapes-in-Overlay.ensures,
       c.in_ok-shapes_text-in-Overlay.ensures ∙ ap (λ l. lines_of_shapes (plain_shapes (λ z. z) l)) c.deref-in-Overlay-2.ensures.value,
     )

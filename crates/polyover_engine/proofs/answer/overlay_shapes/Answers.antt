@@ -1,6 +1,7 @@
 use Rattle.std.proofs.Common.{ap}
 use Rattle.std.proofs.lemmas.Result.{err_from_is_err_and}
 use Rattle.overlay_geom.specs.Paths.{plain_shapes}
+use Rattle.polyover_text.specs.Grammar.{contour_paths}
 use Rattle.polyover_text.specs.Statements.{contours_at}
 use Rattle.polyover_engine.proofs.Queries.{shapes_answered, adding_refused}
 use Rattle.polyover_engine.proofs.answer.overlay_shapes.Goals as goal
@@ -9,11 +10,11 @@ pub returns : goal.returns
 returns g c =
     let e = c.overlay.ensures in
     let held = c.builder.view_is in
-    shapes_answered (contours_at c.args.contours.now) c.in_ok-builder.builder c.in_ok-builder.ensures
+    shapes_answered (contour_paths (contours_at c.args.contours.now)) c.in_ok-builder.builder c.in_ok-builder.ensures
     (λ v. plain_shapes (λ z. z) v.items) c.args.query _ c.overlay.new.self c.overlay.result
     e.refusals (ap (λ b. b.edges) held) (ap (λ b. b.failed) held) e.arranged e.result
 
 pub returns-in_err-builder : goal.returns-in_err-builder
 returns-in_err-builder g c =
     let p = err_from_is_err_and c.from_residual.result c.from_residual.ensures.1 in
-    rw (p.1, p.2) (adding_refused (contours_at c.args.contours.now) _ c.in_err-builder.ensures)
+    rw (p.1, p.2) (adding_refused (contour_paths (contours_at c.args.contours.now)) _ c.in_err-builder.ensures)

@@ -5,47 +5,48 @@ use Rattle.overlay_geom.specs.Edges.{AddsContour}
 use Rattle.overlay_geom.specs.Points.{AllInRange}
 use Rattle.overlay_arrange.specs.Content.{edge_for}
 use Rattle.i_overlay.specs.Builder.{WouldWeighTooMuch}
+use Rattle.polyover_text.specs.Grammar.{contour_paths}
 use Rattle.polyover_text.specs.Points.{points_at}
-use Rattle.polyover_text.specs.Statements.{contour_at, contours_at}
+use Rattle.polyover_text.specs.Statements.{path_at, contour_at, contours_at}
 use Rattle.polyover_engine.specs.Builders.{HasAdded}
 use Rattle.polyover_engine.proofs.Builders.{nothing_added, contour_here, one_more_added, contour_refused}
 use Rattle.polyover_engine.proofs.builder.with_contours.Goals as goal
 
-pub loop-contour-init : goal.loop-contour-init
-loop-contour-init g c = nothing_added _ c.in_ok-overlay.ensures.empty c.in_ok-overlay.ensures.made
+pub loop-given-init : goal.loop-given-init
+loop-given-init g c = nothing_added _ c.in_ok-overlay.ensures.empty c.in_ok-overlay.ensures.made
 
 pub add_contour-requires : goal.add_contour-requires
 add_contour-requires g c =
-    let here = contour_here c.args.contours.now _ _ c.contour-item.result refl c.loop-contour-test.true c.contour-item.is in
+    let here = contour_here c.args.contours.now _ _ c.given-item.result refl c.loop-given-test.true c.given-item.is in
     subst (λ ps. AllInRange 4611686018427387903 (points_at ps)) (sym c.deref.ensures.value)
-    (subst (λ x. AllInRange 4611686018427387903 x.points) (sym here.1) (c.requires c.loop-contour.contour-index (contour_at c.contour-item.result) here.0))
+    (subst (λ x. AllInRange 4611686018427387903 x.points) (sym here.1) (c.requires c.loop-given.given-index (path_at c.given-item.result.contour) here.0))
 
 pub returns-in_err-add_contour : goal.returns-in_err-add_contour
 returns-in_err-add_contour g c =
     let p = err_from_is_err_and c.from_residual-in_err-add_contour.result c.from_residual-in_err-add_contour.ensures.1 in
-    let here = contour_here c.args.contours.now _ _ c.contour-item.result refl c.loop-contour-test.true c.contour-item.is in
+    let here = contour_here c.args.contours.now _ _ c.given-item.result refl c.loop-given-test.true c.given-item.is in
     let e = c.in_err-add_contour.ensures in
-    let b = c.loop-contour.overlay in
-    rw (p.1, p.2) (contour_refused _ c.loop-contour.contour-index (contour_at c.contour-item.result) b c.loop-contour.invariant here.0 here.1 _
+    let b = c.loop-given.overlay in
+    rw (p.1, p.2) (contour_refused _ c.loop-given.given-index (path_at c.given-item.result.contour) b c.loop-given.invariant here.0 here.1 _
     (λ same. e.failed.0 (ap Err same))
-    (λ same. subst (λ ps. WouldWeighTooMuch b.options.preserve_input_collinear c.contour-item.result.shape_type (points_at ps) b.edges)
+    (λ same. subst (λ ps. WouldWeighTooMuch b.options.preserve_input_collinear c.given-item.result.contour.shape_type (points_at ps) b.edges)
     c.deref.ensures.value (e.too_many (ap Err same)))
     (λ same. e.no_query (ap Err same)))
 
-pub loop-contour-preserved : goal.loop-contour-preserved
-loop-contour-preserved g c =
-    let here = contour_here c.args.contours.now _ _ c.contour-item.result refl c.loop-contour-test.true c.contour-item.is in
+pub loop-given-preserved : goal.loop-given-preserved
+loop-given-preserved g c =
+    let here = contour_here c.args.contours.now _ _ c.given-item.result refl c.loop-given-test.true c.given-item.is in
     let e = c.in_ok-add_contour.ensures in
-    let b = c.loop-contour.overlay in
-    one_more_added _ c.loop-contour.contour-index (contour_at c.contour-item.result) b c.loop-contour.invariant here.0 here.1 c.add_contour.new.self
+    let b = c.loop-given.overlay in
+    one_more_added _ c.loop-given.given-index (path_at c.given-item.result.contour) b c.loop-given.invariant here.0 here.1 c.add_contour.new.self
     (subst
-    (λ ps. AddsContour b.options.preserve_input_collinear (edge_for c.contour-item.result.shape_type) (points_at ps) b.edges c.add_contour.new.self.edges)
+    (λ ps. AddsContour b.options.preserve_input_collinear (edge_for c.given-item.result.contour.shape_type) (points_at ps) b.edges c.add_contour.new.self.edges)
     c.deref.ensures.value e.ok)
     e.light e.kept
 
 pub returns : goal.returns
 returns g c =
-    let cs = contours_at c.args.contours.now in
-    subst (λ l. HasAdded l c.loop-contour.overlay)
-    (take_all c.loop-contour.contour-index cs (omega (arith, length-map c.args.contours.now contour_at)))
-    c.loop-contour.invariant
+    let cs = contour_paths (contours_at c.args.contours.now) in
+    subst (λ l. HasAdded l c.loop-given.overlay)
+    (take_all c.loop-given.given-index cs (omega (arith, length-map c.args.contours.now contour_at, length-map (contours_at c.args.contours.now) (λ d. d.path))))
+    c.loop-given.invariant

@@ -10,8 +10,15 @@ answer_text-requires g c = asked_in_range _ _ _ c.in_ok-input.ensures
 pub returns-in_err-answer_text : goal.returns-in_err-answer_text
 returns-in_err-answer_text g c =
     let p = err_from_is_err_and c.from_residual-in_err-answer_text.result c.from_residual-in_err-answer_text.ensures.1 in
-    rw (p.1, p.2) (refused_for_read _ c.in_ok-bytes.bytes.items _ _ _ _ c.in_ok-bytes.ensures c.deref.ensures.value c.in_ok-input.ensures
-    c.in_err-answer_text.ensures)
+    rw (p.1, p.2) (record {
+      may = refused_for_read _ c.in_ok-bytes.bytes.items _ _ _ _ c.in_ok-bytes.ensures.bytes c.deref.ensures.value c.in_ok-input.ensures
+          c.in_err-answer_text.ensures;
+      no_fault = c.in_ok-bytes.ensures.no_fault;
+    })
 
 pub returns : goal.returns
-returns g c = answers_read _ c.in_ok-bytes.bytes.items _ _ _ _ c.in_ok-bytes.ensures c.deref.ensures.value c.in_ok-input.ensures c.in_ok-answer_text.ensures
+returns g c = record {
+  answers = answers_read _ c.in_ok-bytes.bytes.items _ _ _ _ c.in_ok-bytes.ensures.bytes c.deref.ensures.value c.in_ok-input.ensures
+      c.in_ok-answer_text.ensures;
+  no_fault = c.in_ok-bytes.ensures.no_fault;
+}

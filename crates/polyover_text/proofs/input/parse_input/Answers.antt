@@ -13,7 +13,7 @@ loop-line-init g c =
     record {
       can = tt;
       finite = tt;
-      read = nothing_read _ _ _ (ap (map words) (sym left)) c.new.ensures.items refl;
+      read = nothing_read _ _ _ (ap (map words) (sym left)) c.new.ensures refl;
     }
 
 pub overflow_add-number : goal.overflow_add-number

@@ -1,9 +1,10 @@
+use Rattle.std.proofs.Common.{refl}
 use Rattle.std.proofs.lemmas.Result.{err_from_is_err_and}
-use Rattle.polyover_text.specs.Statements.{contours_at}
+use Rattle.polyover_text.specs.Statements.{figures_at}
 use Rattle.polyover_text.proofs.GoodLines.{takes_blank, refuses_nothing}
 use Rattle.polyover_text.proofs.Readings.{refuses_after_command, takes_pushed}
 use Rattle.polyover_text.proofs.input.Reading.take.Goals as goal
-use Rattle.polyover_text.proofs.input.Reading.take.Goals.{in_default-Some-via-in-Add+in-Some, in_default-Some-via-in-Run+in-Some}
+use Rattle.polyover_text.proofs.input.Reading.take.Goals.{in_default-Some-via-in-Contour+in-Some, in_default-Some-via-in-Run+in-Some}
 
 pub returns-in_err-parse_statement : goal.returns-in_err-parse_statement
 returns-in_err-parse_statement g c =
@@ -13,7 +14,7 @@ returns-in_err-parse_statement g c =
 pub returns-in_default-Some : goal.returns-in_default-Some
 returns-in_default-Some g c =
     elim c.in_default-Some.branch [
-      | in_default-Some-via-in-Add+in-Some w ↦ λ e. refuses_after_command _ _ c.in_ok-parse_statement.field-0 _ c.in_ok-parse_statement.ensures
+      | in_default-Some-via-in-Contour+in-Some w ↦ λ e. refuses_after_command _ _ c.in_ok-parse_statement.field-0 _ c.in_ok-parse_statement.ensures
           w.in_default-Some.not-Blank-0 w.in_default-Some.is-1
       | in_default-Some-via-in-Run+in-Some w ↦ λ e. refuses_after_command _ _ c.in_ok-parse_statement.field-0 _ c.in_ok-parse_statement.ensures
           w.in_default-Some.not-Blank-0 w.in_default-Some.is-1
@@ -22,12 +23,12 @@ returns-in_default-Some g c =
 pub returns-in-Blank-default : goal.returns-in-Blank-default
 returns-in-Blank-default g c =
     let says = rw c.in-Blank-default.is-0 at c.in_ok-parse_statement.ensures in
-    record { takes = λ ls h. takes_blank ls (contours_at c.args.self.now.contours.items) c.args.self.now.query _ h says }
+    record { takes = λ ls e h. takes_blank ls (figures_at c.args.self.now.figures) c.args.self.now.query _ h says }
 
-pub returns-in_ok-push-in-Add-None : goal.returns-in_ok-push-in-Add-None
-returns-in_ok-push-in-Add-None g c =
-    let says = rw c.in-Add-None.is-0 at c.in_ok-parse_statement.ensures in
+pub returns-in_ok-push-in-Contour-None : goal.returns-in_ok-push-in-Contour-None
+returns-in_ok-push-in-Contour-None g c =
+    let says = rw c.in-Contour-None.is-0 at c.in_ok-parse_statement.ensures in
     record {
-      takes = λ ls h. takes_pushed ls _ c.args.self.now.contours.items c.push.new.self.items c.in-Add-None.contour _
-          c.in-Add-None.is-1 c.in_ok-push-in-Add-None.ensures.items says h;
+      takes = λ ls e h. takes_pushed ls _ c.args.self.now.figures (record c.args.self.now.figures { contours = c.push.new.self }) _ c.args.number _ c.in-Contour-None.is-1 refl
+          c.in_ok-push-in-Contour-None.ensures.items refl e says h;
     }

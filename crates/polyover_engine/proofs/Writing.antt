@@ -1,10 +1,10 @@
 -- What a writer that tells its bytes has taken of a text.
 use Rattle.std.proofs.Common.{◌≡◌, ℕ, ◌-◌, List, [], ◌++◌, Option, length, take, drop, sym, ap, subst, ◌∙◌, append_assoc}
-use Rattle.std.proofs.Common.{append-nil, take-append-drop, refl, Result, Ok, Err, MatchResult}
-use Rattle.std.specs.Io.KnownBytes.{Appends, Keeps}
-use Rattle.std.proofs.KnownBytes.{Appends-nil, Appends-trans, Appends-kept}
+use Rattle.std.proofs.Common.{append-nil, take-append-drop, refl}
+use Rattle.std.specs.Io.KnownBytes.{Appends}
+use Rattle.std.proofs.KnownBytes.{Appends-nil, Appends-trans}
 use Rattle.std.proofs.lemmas.List.{nil_from_length, take_rest}
-use Rattle.polyover_text.specs.Written.{AppendsBeginning}
+use Rattle.polyover_engine.specs.Written.{AppendsBeginning}
 
 -- what was written so far, and then the rest, is the text
 pub record HasWritten (old new : Option (List ℕ)) (text rest : List ℕ) : Type 0 where
@@ -26,8 +26,12 @@ more_written a b c text rest n h more = record {
 }
 
 -- a call that writes nothing
-pub same_written : (a b c : Option (List ℕ)) (text rest : List ℕ) → HasWritten a b text rest → Keeps b c → HasWritten a c text rest
-same_written a b c text rest h kept = record { written = h.written; parts = h.parts; appended = Appends-kept a b c h.written h.appended kept }
+pub none_written : (a b c : Option (List ℕ)) (text rest : List ℕ) → HasWritten a b text rest → Appends b c [] → HasWritten a c text rest
+none_written a b c text rest h none = record {
+  written = h.written ++ [];
+  parts = subst (λ l. text ≡ l ++ rest) (sym (append-nil h.written)) h.parts;
+  appended = Appends-trans a b c h.written [] h.appended none;
+}
 
 -- where no rest is left the whole text was written
 pub all_written : (a b : Option (List ℕ)) (text rest : List ℕ) → HasWritten a b text rest → length rest ≡ 0 → Appends a b text
@@ -35,8 +39,3 @@ all_written a b text rest h none = subst (Appends a b) (sym (h.parts ∙ ap (λ 
 
 pub beginning_written : (a b : Option (List ℕ)) (text rest : List ℕ) → HasWritten a b text rest → AppendsBeginning a b text
 beginning_written a b text rest h = record { written = h.written; unwritten = rest; parts = h.parts; appended = h.appended }
-
--- a fact for each of the two cases that reads nothing of the case
-pub either_way : {X E P Q : Type 0} (r : Result X E) → P → Q → MatchResult r (λ _. P) (λ _. Q)
-either_way (Ok x) p q = p
-either_way (Err e) p q = q
