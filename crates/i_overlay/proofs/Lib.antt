@@ -1,3 +1,4 @@
+pub mod AddedContours
 pub mod Balanced
 pub mod BoundAdded
 pub mod Builders
