@@ -54,13 +54,8 @@ pub(crate) fn extract_shapes<I: IntNumber, A: Allocator + Clone>(
     let walks = selected_walks(content, overlay_rule, fill_rule, direction, buffer)?;
     let alloc = content.allocator().clone()?;
     let numbers = bind(alloc.clone()?, &walks, direction)?;
-    assembled(
-        alloc,
-        &walks,
-        &numbers,
-        direction,
-        options.preserve_output_collinear,
-    )
+    let keeps_points = options.preserve_output_collinear;
+    assembled(alloc, &walks, &numbers, direction, keeps_points)
 }
 
 // The walks that the selected steps of the edges are cut into.

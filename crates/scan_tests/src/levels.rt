@@ -1,6 +1,7 @@
 //! A sweep over level edges by the trait alone, at each coordinate type.
 
-ghost use Rattle.std.specs.Prelude.{◌≡◌, ◌<◌, pos, OnOk};
+ghost use Rattle.std.specs.Prelude.{◌≡◌, ◌≤◌, ◌<◌, false, nat_eq, pos, OnOk};
+ghost use Rattle.std.specs.List.{list_any};
 ghost use Rattle.overlay_geom.specs.Lines.{plain_line};
 ghost use Rattle.overlay_geom.specs.Numbers.{Within};
 ghost use Rattle.scan_tests.specs.LevelEdges.{level_edge, upright_edge, IsLevelSweep};
@@ -92,6 +93,17 @@ impl<S> Levels<S> {
         }
     }
 
+    // Stops the test unless an edge from x to `end` at a height may come next.
+    fn check_next(&self, rt: &impl Abort, x: u8, end: u8, height: u8)
+        ensures later { self.now.reached ≤ x }
+        ensures long { x < end }
+        ensures free { list_any (λ i. nat_eq i height) self.now.heights.items ≡ false }
+    {
+        assert!(rt; self.reached <= x);
+        assert!(rt; x < end);
+        assert!(rt; !self.heights.contains(&height));
+    }
+
     // Inserts the edge from x to `end` at a height.
     fn insert<I: SmallNumber>(
         &mut self,
@@ -105,9 +117,7 @@ impl<S> Levels<S> {
         requires { IsLevelSweep I.limit self.old.reached self.old.heights.items (S.content self.old.scan) }
         ensures { OnOk result (IsLevelSweep I.limit self.new.reached self.new.heights.items (S.content self.new.scan)) }
     {
-        assert!(rt; self.reached <= x);
-        assert!(rt; x < end);
-        assert!(rt; !self.heights.contains(&height));
+        self.check_next(rt, x, end, height);
         let line: IntLine<I> = level(x, end, height);
         self.scan.insert(line, height, I::small(x))?;
         self.heights.push(height)?;
@@ -122,9 +132,7 @@ impl<S> Levels<S> {
         requires { IsLevelSweep I.limit self.old.reached self.old.heights.items (S.content self.old.scan) }
         ensures { IsLevelSweep I.limit self.new.reached self.new.heights.items (S.content self.new.scan) }
     {
-        assert!(rt; self.reached <= x);
-        assert!(rt; x < end);
-        assert!(rt; !self.heights.contains(&height));
+        self.check_next(rt, x, end, height);
         let line: IntLine<I> = level(x, end, height);
         self.reached = x;
         self.scan.first_less(I::small(x), NONE, line)

@@ -1,4 +1,6 @@
 -- The steps that are cut are the selected ones in another order.
+use Rattle.std.proofs.Common.{sym}
+use Rattle.std.proofs.lemmas.Option.{none-some}
 use Rattle.overlay_geom.specs.Edges.{subj_of, clip_of}
 use Rattle.overlay_plane.specs.Carried.{edges_in}
 use Rattle.overlay_plane.specs.Contours.{alternating}
@@ -40,3 +42,6 @@ returns-clause-long g c =
     let walks = plain_walks g.I.IntNumber.whole c.in_ok-walks.walks.items in
     walks_are_long g.I.IntNumber.limit es c.edges.ensures.content holds subj_of clip_of on_left walks
     (shuffled_cut holds subj_of clip_of es on_left ruled (plain_steps g.I.IntNumber.whole c.in_ok-open.open) c.in_ok-open.ensures.selected walks c.in_ok-walks.ensures.cut)
+
+pub returns-clause-buffer : goal.returns-clause-buffer
+returns-clause-buffer g c = λ none. none-some c.new.result (sym none)
