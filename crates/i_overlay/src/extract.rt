@@ -28,6 +28,7 @@ use overlay_geom::path::IntShapes;
 use overlay_walk::bind::bind;
 pub use overlay_walk::buffer::BooleanExtractionBuffer;
 use overlay_walk::contours::cut_into_contours;
+use overlay_walk::hand::HandRule;
 use overlay_walk::open_steps::OpenSteps;
 use overlay_walk::step::Step;
 use std::alloc::Allocator;
@@ -53,13 +54,8 @@ pub(crate) fn extract_shapes<I: IntNumber, A: Allocator + Clone>(
     let walks = selected_walks(content, overlay_rule, fill_rule, direction, buffer)?;
     let alloc = content.allocator().clone()?;
     let numbers = bind(alloc.clone()?, &walks, direction)?;
-    assembled(
-        alloc,
-        &walks,
-        &numbers,
-        direction,
-        options.preserve_output_collinear,
-    )
+    let keeps_points = options.preserve_output_collinear;
+    assembled(alloc, &walks, &numbers, direction, keeps_points)
 }
 
 // The walks that the selected steps of the edges are cut into.
@@ -85,8 +81,9 @@ fn selected_walks<I: IntNumber, A: Allocator + Clone>(
     };
     // (its contract says that the edges are in range)
     let _ = content.edges();
+    let rule = HandRule::OutlineOrHole(direction);
     let mut open = open_selected(content, overlay_rule, fill_rule, direction, room)?;
-    let walks = cut_into_contours(content.allocator().clone()?, &mut open, direction)?;
+    let walks = cut_into_contours(content.allocator().clone()?, &mut open, rule)?;
     *buffer = Some(BooleanExtractionBuffer::new(open.into_room()));
     Ok(walks)
 }

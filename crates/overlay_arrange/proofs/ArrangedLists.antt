@@ -1,23 +1,29 @@
 -- What the rounds say of a list that was split: the laws of arrangements put together.
-use Rattle.std.proofs.Common.{◌≡◌, ℕ, ◌≤◌, ◌^◌, List, refl, ap, arith}
+use Rattle.std.proofs.Common.{◌≡◌, ℕ, ◌+◌, ◌≤◌, ◌^◌, List, [], ◌∷◌, length, refl, sym, ap, ◌∙◌, subst, arith}
 use Rattle.std.specs.Prelude.{Result, Ok, Err, OnOk, IfErr, IsErrOf}
 use Rattle.overlay_geom.specs.declared.error.OverlayError.{OverlayError}
 use Rattle.overlay_geom.specs.declared.error.OverlayError.TheVariants.{Memory, NotSettled, TooManyEdges, Failed}
+use Rattle.overlay_geom.specs.Plane.{Step}
 use Rattle.overlay_geom.specs.Edges.{CountedEdge, ends_of}
 use Rattle.overlay_geom.specs.Merged.{IsMerged}
 use Rattle.overlay_geom.specs.Settled.{IsSettled}
-use Rattle.overlay_arrange.specs.Arranged.{IsArranged, MayRefuseSplitting}
+use Rattle.overlay_arrange.specs.Arranged.{IsArranged, IsArrangedCarrying, IsSplitCarrying, MayRefuseSplitting}
 use Rattle.overlay_arrange.specs.Content.{IsContent}
 use Rattle.overlay_arrange.proofs.RoundsTaken.{Leaves}
 use Rattle.overlay_plane.proofs.AfterRounds.{arrangements_keep_balance, arranged_stays_arranged, no_rounds_again}
-use Rattle.overlay_plane.proofs.CuttingRounds.{cutting_is_a_round}
+use Rattle.overlay_plane.proofs.CuttingRounds.{cutting_is_a_round, cutting_through}
+use Rattle.overlay_plane.proofs.DerivedLists.{given_weaker}
+use Rattle.overlay_plane.proofs.Entries.{Contains-map}
 use Rattle.overlay_plane.proofs.ExactRounds.{whole_meetings_are_exact}
 use Rattle.overlay_plane.proofs.HeldChains.{arrangements_hold_chains}
 use Rattle.overlay_plane.proofs.MovedPoints.{moving_rounds}
-use Rattle.overlay_plane.specs.Arrangements.{IsSplit, StaysUnsettled, WeighsTooMuch}
+use Rattle.overlay_plane.specs.Arrangements.{IsReachedBy, IsSplit, StaysUnsettled, WeighsTooMuch}
+use Rattle.overlay_plane.specs.Carried.{Carried, edges_in}
 use Rattle.overlay_plane.specs.CutPoints.{cut_edges}
+use Rattle.overlay_plane.specs.DerivedData.{AreGiven, ArePieces, AreCutAlong, CarriesMerged, GivesPiece, computed_chain, done, round}
 use Rattle.overlay_plane.specs.EdgeLists.{IsForwardBy}
 use Rattle.overlay_plane.specs.Meetings.{MeetInWholePoints}
+use Rattle.overlay_plane.specs.Rounds.{chain_of, pieces_of}
 
 -- the edges of a content lead forward
 pub forward_content : (limit : ℕ) (es : List CountedEdge) → IsContent limit es → IsForwardBy ends_of es
@@ -30,7 +36,7 @@ leaves_cut limit old es new content merged unsettled is =
     (round.0, round.1, (cc))
 
 -- a content that was split is arranged
-pub arranged_of_split : (limit most : ℕ) (old new : List CountedEdge) → IsContent limit old → IsSplit most old new → IsArranged most old new
+abbrev pub arranged_of_split : (limit most : ℕ) (old new : List CountedEdge) → IsContent limit old → IsSplit most old new → IsArranged most old new
 arranged_of_split limit most old new content split =
     let moving = moving_rounds split.rounds in
     let forward = forward_content limit old content in
@@ -80,3 +86,42 @@ pub refused_answer : {T : Type 0} (limit most : ℕ) (answer : Result T OverlayE
 refused_answer limit most (Ok v) old several content unsettled heavy usable = tt
 refused_answer limit most (Err e) old several content unsettled heavy usable =
     refused_so limit most old e several content (λ same. unsettled (ap Err same)) (λ same. heavy (ap Err same)) (λ same. usable (ap Err same))
+
+-- ---- with what edges carry
+
+module _ {C : Type 0} (merges : C → C → C → Type 0) (splits turns : C → C → Type 0) where
+  -- a merged content that is settled was split without a round
+  pub carried_at_once : (most : ℕ) (old new : List (Carried C)) → IsMerged (edges_in old) (edges_in new) → IsSettled (edges_in new) →
+      CarriesMerged merges old new → IsSplitCarrying merges splits turns most old new
+  carried_at_once most old new merged settled carries = record {
+    split = record { rounds = []; few = omega arith; reached = record { cut = tt; merged = merged; settled = settled } };
+    derived = done carries;
+  }
+
+  -- a content that is merged, cut, and then split was split with one round more
+  pub carried_on : (limit fewer most : ℕ) (old kept left new : List (Carried C)) → fewer + 1 ≤ most → IsContent limit (edges_in kept) →
+      IsMerged (edges_in old) (edges_in kept) → ¬ (IsSettled (edges_in kept)) → CarriesMerged merges old kept →
+      edges_in left ≡ cut_edges (edges_in kept) → AreCutAlong splits turns (computed_chain (edges_in kept)) kept left →
+      IsSplitCarrying merges splits turns fewer left new → IsSplitCarrying merges splits turns most old new
+  carried_on limit fewer most old kept left new le content merged unsettled carries left_is cut h =
+      let through = cutting_through (edges_in old) (edges_in kept) (forward_content limit (edges_in kept) content) merged unsettled in
+      let r = through.0 in
+      let cuts = through.1 in
+      let later : IsReachedBy h.split.rounds (pieces_of r) (edges_in new) =
+      subst (λ (es : List CountedEdge). IsReachedBy h.split.rounds es (edges_in new)) (left_is ∙ sym cuts.leaves) h.split.reached in
+      record {
+        split = record {
+          rounds = r ∷ h.split.rounds;
+          few = omega (arith, h.split.few);
+          reached = record { cut = (cuts.is, later.cut); merged = later.merged; settled = later.settled };
+        };
+        derived = round (sym cuts.edges) carries (given_weaker (ArePieces splits turns (computed_chain (edges_in kept))) (ArePieces splits turns (chain_of r))
+            (λ x part at_x pieces. subst (λ (ss : List Step). AreGiven (GivesPiece splits turns (length ss ≡ 1) x) ss part)
+            (sym (cuts.chains x.edge (Contains-map (λ (y : Carried C). y.edge) kept x at_x))) pieces) cut) h.derived;
+      }
+
+  -- where an answer says that a content was split, it is arranged
+  pub arranged_carrying : {T E : Type 0} (limit most : ℕ) (answer : Result T E) (old new : List (Carried C)) → IsContent limit (edges_in old) →
+      OnOk answer (IsSplitCarrying merges splits turns most old new) → OnOk answer (IsArrangedCarrying merges splits turns most old new)
+  arranged_carrying limit most (Ok v) old new content h = record { arranged = arranged_of_split limit most (edges_in old) (edges_in new) content h.split; derived = h.derived }
+  arranged_carrying limit most (Err e) old new content h = h

@@ -3,6 +3,10 @@ pub mod AlongEdges
 pub mod Appended
 pub mod ArrangedLists
 pub mod CarriedEdges
+pub mod CarriedLoop
+pub mod CarriedMerges
+pub mod CarriedPieces
+pub mod CarriedRuns
 pub mod Crossings
 pub mod CutContents
 pub mod DirectionBits

@@ -2,6 +2,7 @@
 use Rattle.std.proofs.Common.{◌≡◌, ℕ, ◌≤◌, Bool, true, false, cond, ℤ, pos, negsuc, neg_ℤ, ◌*ℤ◌, List, [], ◌∷◌, ◌++◌, map, get_or, refl, sym, ap, ap₂, subst, ◌∙◌, arith}
 use Rattle.std.specs.List.{All}
 use Rattle.std.specs.declared.cmp.Ordering.TheVariants.{Less, Equal, Greater}
+use Rattle.std.specs.Ordering.{is_eq}
 use Rattle.std.proofs.lemmas.Bool.{false_from_ne_true}
 use Rattle.std.proofs.lemmas.Int.{ints}
 use Rattle.std.proofs.lemmas.List.Elements.{All-nil, All-cons, All-head, All-map}
@@ -10,6 +11,7 @@ use Rattle.overlay_geom.specs.Plane.{Point, Edge, point_eq, point_lt, steps_betw
 use Rattle.overlay_geom.specs.Points.{InRange}
 use Rattle.overlay_geom.specs.Edges.{CountedEdge, weight}
 use Rattle.overlay_geom.proofs.Orders.{Decides-point_eq, point_lt-back}
+use Rattle.overlay_geom.proofs.PointComparisons.{point_cmp-is_tie}
 use Rattle.overlay_geom.proofs.PointOrder.{Decides-point_lt, before_is_other}
 use Rattle.overlay_geom.proofs.Weights.{edge_weight}
 use Rattle.overlay_plane.specs.Cutting.{piece_along}
@@ -26,18 +28,36 @@ other_where_after p q after =
     (λ same. let is = (Decides-point_eq p q).0 same in before_is_other q p ((Decides-point_lt q p).0 after) (ap (λ (r : Point). r.x) is) (ap (λ (r : Point). r.y) is))
 
 -- the step leads back: its points differ, and the first is not the smaller one
-record LeadsBack (p q : Point) : Type 0 where
-  apart : point_eq p q ≡ false
-  back : point_lt p q ≡ false
+pub record LeadsBack (p q : Point) : Type 0 where
+  pub apart : point_eq p q ≡ false
+  pub back : point_lt p q ≡ false
 
 -- so it does where the first compares as `Greater`
-back_where_greater : (p q : Point) → point_cmp p q ≡ Greater → LeadsBack p q
+pub back_where_greater : (p q : Point) → point_cmp p q ≡ Greater → LeadsBack p q
 back_where_greater p q greater = by (point_lt p q) (point_lt q p) refl refl greater
   where
     by : (s t : Bool) → point_lt p q ≡ s → point_lt q p ≡ t → cond s Less (cond t Greater Equal) ≡ Greater → LeadsBack p q
     by true t forth back h = absurd (cc)
     by false true forth back h = record { apart = other_where_after p q back; back = forth }
     by false false forth back h = absurd (cc)
+
+-- the step leads on: its points differ, and the first is the smaller one
+pub record LeadsOn (p q : Point) : Type 0 where
+  pub apart : point_eq p q ≡ false
+  pub on : point_lt p q ≡ true
+
+-- so it does where the first compares as `Less`
+pub on_where_less : (p q : Point) → point_cmp p q ≡ Less → LeadsOn p q
+on_where_less p q less = record { apart = sym (point_cmp-is_tie p q) ∙ ap is_eq less; on = by (point_lt p q) (point_lt q p) refl less }
+  where
+    by : (s t : Bool) → point_lt p q ≡ s → cond s Less (cond t Greater Equal) ≡ Less → point_lt p q ≡ true
+    by true t forth h = forth
+    by false true forth h = absurd (cc)
+    by false false forth h = absurd (cc)
+
+-- the points are one where they compare as `Equal`
+pub same_where_equal : (p q : Point) → point_cmp p q ≡ Equal → point_eq p q ≡ true
+same_where_equal p q equal = sym (point_cmp-is_tie p q) ∙ ap is_eq equal
 
 -- ---- the piece of a step
 
@@ -61,6 +81,18 @@ one_piece e p q t apart way =
 -- a number times 1 back
 times_back : (z : ℤ) → neg_ℤ z ≡ negsuc 0 *ℤ z
 times_back z = omega (arith, ints)
+
+-- a number times 1
+times_on : (z : ℤ) → z ≡ pos 1 *ℤ z
+times_on z = omega (arith, ints)
+
+-- the piece of a step that leads on has the edge's counts
+pub piece_forth : (a b p q : Point) (c k : Counts) → point_cmp p q ≡ Less → k ≡ c → edge_with p q k ∷ [] ≡ map (piece_along (edge_with a b c)) (steps_between p q)
+piece_forth a b p q c k less same =
+    let leads = on_where_less p q less in
+    ap (λ n. edge_with p q n ∷ []) same
+    ∙ ap₂ (λ subj clip. record { a = p; b = q; subj = subj; clip = clip; along = c.along; against = c.against } ∷ []) (times_on c.subj) (times_on c.clip)
+    ∙ sym (one_piece (edge_with a b c) p q true leads.apart leads.on)
 
 -- the piece of a step that leads back has the counts turned round
 pub piece_back : (a b p q : Point) (c k : Counts) → point_cmp p q ≡ Greater → k ≡ turned_counts c → edge_with q p k ∷ [] ≡ map (piece_along (edge_with a b c)) (steps_between p q)

@@ -3,9 +3,11 @@ use Rattle.std.specs.Prelude.{◌≡◌, ℕ, ◌≤◌, ◌^◌, List, length}
 use Rattle.overlay_geom.specs.Edges.{CountedEdge}
 use Rattle.overlay_geom.specs.declared.error.OverlayError.{OverlayError}
 use Rattle.overlay_geom.specs.declared.error.OverlayError.TheVariants.{Memory, NotSettled, TooManyEdges, Failed}
-use Rattle.overlay_plane.specs.Arrangements.{IsReachedBy, IsExact, StaysUnsettled, WeighsTooMuch}
+use Rattle.overlay_plane.specs.Arrangements.{IsReachedBy, IsSplit, IsExact, StaysUnsettled, WeighsTooMuch}
 use Rattle.overlay_plane.specs.Balance.{HasBalancedCounts}
+use Rattle.overlay_plane.specs.Carried.{Carried, edges_in}
 use Rattle.overlay_plane.specs.ChainLinks.{ChainsHold}
+use Rattle.overlay_plane.specs.DerivedData.{AreDerived}
 use Rattle.overlay_plane.specs.Meetings.{MeetInWholePoints}
 use Rattle.overlay_plane.specs.Rounds.{Round, MovingRounds}
 
@@ -28,6 +30,16 @@ pub record IsArranged (most : ℕ) (old new : List CountedEdge) : Type 0 where
   pub balanced : HasBalancedCounts old → HasBalancedCounts new
   -- what was arranged before stays as it is
   pub stays : WasArranged old → new ≡ old
+
+-- the second list is reached from the first one with so many cutting rounds at most, and what its edges carry is derived along these rounds
+pub record IsSplitCarrying {C : Type 0} (merges : C → C → C → Type 0) (splits turns : C → C → Type 0) (most : ℕ) (old new : List (Carried C)) : Type 0 where
+  pub split : IsSplit most (edges_in old) (edges_in new)
+  pub derived : AreDerived merges splits turns split.rounds old new
+
+-- the second list is an arrangement of the first one, and what its edges carry is derived along the rounds that led to it
+pub record IsArrangedCarrying {C : Type 0} (merges : C → C → C → Type 0) (splits turns : C → C → Type 0) (most : ℕ) (old new : List (Carried C)) : Type 0 where
+  pub arranged : IsArranged most (edges_in old) (edges_in new)
+  pub derived : AreDerived merges splits turns arranged.rounds old new
 
 -- so many rounds leave edges that are not settled; they did not meet in whole points alone, and were no arrangement already
 pub record CannotBeSettled (most : ℕ) (es : List CountedEdge) : Type 0 where

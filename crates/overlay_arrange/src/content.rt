@@ -6,6 +6,7 @@ ghost use Rattle.overlay_geom.specs.Edges.{weight};
 ghost use Rattle.overlay_geom.specs.Merged.{IsMerged};
 ghost use Rattle.overlay_geom.specs.Settled.{IsSettled};
 ghost use Rattle.overlay_plane.specs.Carried.{edges_in};
+ghost use Rattle.overlay_plane.specs.DerivedData.{CarriesMerged};
 ghost use Rattle.overlay_arrange.specs.Content.{plain_edge, plain_edges};
 ghost use Rattle.overlay_arrange.specs.Content.{carried_edge, carried_edges};
 ghost use Rattle.overlay_arrange.specs.Content.{IsAscending, IsContent, IsHeld};
@@ -106,10 +107,11 @@ impl<I: IntNumber, C: EdgeCount, A: Allocator> Content<I, C, A> {
         Ok(())
     }
 
-    /// Makes equal edges one with their counts summed, drops those without counts, and sorts the
-    /// rest. If memory is refused the content is left open.
+    /// Makes equal edges one with their counts summed and their data merged, drops those without
+    /// counts, and sorts the rest. If memory is refused the content is left open.
     pub fn merge(&mut self, store: &mut C::Store) -> Result<(), OverlayError>
         ensures ok { OnOk result (IsMerged (edges_in self.old) (edges_in self.new)) }
+        ensures carried { OnOk result (CarriesMerged C.merges self.old self.new) }
         ensures content { IsContent I.limit (edges_in self.new) }
         ensures err { IsOkUnless result OverlayError.Memory }
     {

@@ -11,11 +11,12 @@ ghost use Rattle.overlay_geom.specs.Points.{plain_point, plain_points, InRange, 
 ghost use Rattle.overlay_plane.specs.Carried.{edges_in};
 ghost use Rattle.overlay_plane.specs.CutPoints.{comes_first, cut_points, cut_edges, met_at};
 ghost use Rattle.overlay_plane.specs.Cutting.{piece_along};
+ghost use Rattle.overlay_plane.specs.DerivedData.{AreCutAlong, AreGiven, GivesPiece, computed_chain};
 ghost use Rattle.overlay_plane.specs.InOrder.{in_order};
-ghost use Rattle.overlay_arrange.specs.Content.{plain_edge, plain_edges};
+ghost use Rattle.overlay_arrange.specs.Content.{plain_edge, plain_edges, carried_edge, carried_edges};
 ghost use Rattle.overlay_arrange.specs.Content.{IsHeld, IsContent, IsAscending};
 ghost use Rattle.overlay_arrange.specs.Counts.{weight_of_counts};
-ghost use Rattle.overlay_arrange.specs.Cut.{IsEndOf, StaysWhole};
+ghost use Rattle.overlay_arrange.specs.Cut.{AddsGiven, IsEndOf, StaysWhole};
 
 use crate::content::Content;
 use crate::count::EdgeCount;
@@ -36,6 +37,7 @@ impl<I: IntNumber, C: EdgeCount, A: Allocator> Content<I, C, A> {
         A: Clone,
         requires { IsAscending (edges_in self.old) }
         ensures ok { OnOk result (edges_in self.new ≡ cut_edges (edges_in self.old)) }
+        ensures carried { OnOk result (AreCutAlong C.splits C.turns (computed_chain (edges_in self.old)) self.old self.new) }
         ensures too_many { IsErrOf result OverlayError.TooManyEdges → 2 ^ 31 ≤ weight (cut_edges (edges_in self.old)) }
         ensures only { IfErr result (λ e. (e ≡ OverlayError.Memory) ⊎ (e ≡ OverlayError.TooManyEdges)) }
     {
@@ -54,6 +56,8 @@ fn cut_edges<I: IntNumber, C: EdgeCount, A: Allocator + Clone>(
     requires content { IsContent I.limit (plain_edges I.whole C.counts edges.now) }
     requires ascending { IsAscending (plain_edges I.whole C.counts edges.now) }
     ensures ok { IfOk result (λ pieces. edges_in pieces ≡ cut_edges (plain_edges I.whole C.counts edges.now)) }
+    ensures carried { IfOk result (λ pieces. AreCutAlong C.splits C.turns
+        (computed_chain (plain_edges I.whole C.counts edges.now)) (carried_edges I.whole C.counts edges.now) pieces) }
     ensures too_many { IsErrOf result OverlayError.TooManyEdges
         → 2 ^ 31 ≤ weight (cut_edges (plain_edges I.whole C.counts edges.now)) }
     ensures only { IfErr result (λ e. (e ≡ OverlayError.Memory) ⊎ (e ≡ OverlayError.TooManyEdges)) }
@@ -80,6 +84,10 @@ fn push_pieces<I: IntNumber, C: EdgeCount, A: Allocator>(
     ensures ok { let whole = plain_edge I.whole C.counts e.now in
         OnOk result (edges_in pieces.new ≡ edges_in pieces.old
         ++ map (piece_along whole) (steps_through whole.a (plain_points I.whole points.now ++ whole.b ∷ []))) }
+    ensures carried { let whole = plain_edge I.whole C.counts e.now in
+        OnOk result (AddsGiven (GivesPiece C.splits C.turns
+        (StaysWhole whole (plain_points I.whole points.now)) (carried_edge I.whole C.counts e.now))
+        (steps_through whole.a (plain_points I.whole points.now ++ whole.b ∷ [])) pieces.old pieces.new) }
     ensures too_many { let whole = plain_edge I.whole C.counts e.now in
         IsErrOf result OverlayError.TooManyEdges → 2 ^ 31 ≤ weight (edges_in pieces.old
         ++ map (piece_along whole) (steps_through whole.a (plain_points I.whole points.now ++ whole.b ∷ []))) }
@@ -108,6 +116,9 @@ fn push_piece<I: IntNumber, C: EdgeCount, A: Allocator>(
     requires to { InRange I.limit (plain_point I.whole to) }
     ensures ok { OnOk result (edges_in pieces.new ≡ edges_in pieces.old ++ map (piece_along (plain_edge I.whole C.counts e.now))
         (steps_between (plain_point I.whole from) (plain_point I.whole to))) }
+    ensures carried { OnOk result (AddsGiven
+        (GivesPiece C.splits C.turns (IsTrue is_whole) (carried_edge I.whole C.counts e.now))
+        (steps_between (plain_point I.whole from) (plain_point I.whole to)) pieces.old pieces.new) }
     ensures too_many { IsErrOf result OverlayError.TooManyEdges → 2 ^ 31 ≤ weight (edges_in pieces.old
         ++ map (piece_along (plain_edge I.whole C.counts e.now))
         (steps_between (plain_point I.whole from) (plain_point I.whole to))) }
@@ -119,8 +130,8 @@ fn push_piece<I: IntNumber, C: EdgeCount, A: Allocator>(
     Ok(())
 }
 
-/// The piece of the edge from one point of its chain to the next, if they differ: its counts have
-/// the other sign where it runs against the edge.
+/// The piece of the edge from one point of its chain to the next, if they differ. It carries what
+/// the edge does, or, where that is cut, a split of it; turned round where it runs against the edge.
 fn piece<I: IntNumber, C: EdgeCount>(
     e: &CountedEdge<I, C>,
     from: IntPoint<I>,
@@ -129,9 +140,12 @@ fn piece<I: IntNumber, C: EdgeCount>(
     store: &mut C::Store,
 ) -> Option<CountedEdge<I, C>>
     requires light { weight_of_counts (C.counts e.now.count) < 2 ^ 31 }
-    ensures { option_to_list (option_map (plain_edge I.whole C.counts) result)
+    ensures counts { option_to_list (option_map (plain_edge I.whole C.counts) result)
         ≡ map (piece_along (plain_edge I.whole C.counts e.now))
         (steps_between (plain_point I.whole from) (plain_point I.whole to)) }
+    ensures carried { AreGiven (GivesPiece C.splits C.turns (IsTrue is_whole) (carried_edge I.whole C.counts e.now))
+        (steps_between (plain_point I.whole from) (plain_point I.whole to))
+        (option_to_list (option_map (carried_edge I.whole C.counts) result)) }
 {
     match compare_points(from, to) {
         Ordering::Equal => None,

@@ -6,7 +6,7 @@ ghost use Rattle.overlay_geom.specs.Edges.{weight};
 ghost use Rattle.overlay_geom.specs.Points.{plain_points, AllInRange};
 ghost use Rattle.overlay_plane.specs.Arrangements.{IsReachedBy};
 ghost use Rattle.overlay_plane.specs.Carried.{edges_in};
-ghost use Rattle.overlay_arrange.specs.Arranged.{IsArranged};
+ghost use Rattle.overlay_arrange.specs.Arranged.{IsArrangedCarrying};
 ghost use Rattle.overlay_arrange.specs.Content.{IsContent};
 ghost use Rattle.overlay_builder.specs.Held.{nothing_held, plain_held, AnswersQuery};
 ghost use Rattle.overlay_builder.specs.PathLists.{carried_weight, path_as, paths_as};
@@ -149,6 +149,8 @@ impl<I: IntNumber, C: EdgeCount, A: Allocator + Clone> BuilderCore<I, C, A> {
     /// core failed.
     pub fn arrange(&mut self, store: &mut C::Store) -> Result<bool, OverlayError>
         ensures query { AnswersQuery I.limit 64 (plain_held self.old) (plain_held self.new) result }
+        ensures carried { OnOk result
+            (IsArrangedCarrying C.merges C.splits C.turns 64 self.old.edges self.new.edges) }
         ensures untouched { IsErrOf result OverlayError.Failed → self.new ≡ self.old }
         ensures cut { IfOk result (λ is_cut. (is_cut ≡ false)
             ↔ IsReachedBy [] (edges_in self.old.edges) (edges_in self.new.edges)) }

@@ -51,6 +51,16 @@ pub record Arrives (steps : List Step) (v : Point) (s : Step) : Type 0 where
   pub among : Contains steps s
   pub at : s.to ≡ v
 
+-- two steps that leave run along different rays, where no two leave along one ray, and none has both ends in one point
+pub ways_apart : (steps : List Step) → ((s : Step) → Contains steps s → ¬ (s.from ≡ s.to)) →
+    ((s t : Step) → Contains steps s → Contains steps t → s.from ≡ t.from → AreOneWay s.from s.to t.to → s ≡ t) →
+    (v : Point) (s t : Step) → Leaves steps v s → Leaves steps v t → ¬ (s ≡ t) → Apart v s.to t.to
+ways_apart steps long one_leaves v s t h k different = record {
+  first = λ e. long s h.among (h.at ∙ sym e);
+  second = λ e. long t k.among (k.at ∙ sym e);
+  other_ways = λ one. different (one_leaves s t h.among k.among (h.at ∙ sym k.at) (subst (λ w. AreOneWay w s.to t.to) (sym h.at) one));
+}
+
 module _ (steps : List Step) (alternates : Alternates steps) where
   -- a step has another point at its other end
   pub leaves_long : (v : Point) (s : Step) → Leaves steps v s → ¬ (s.to ≡ v)
@@ -65,11 +75,7 @@ module _ (steps : List Step) (alternates : Alternates steps) where
 
   -- two steps that leave, two that arrive, and one that arrives with one that leaves run along different rays
   pub leaving_apart : (v : Point) (s t : Step) → Leaves steps v s → Leaves steps v t → ¬ (s ≡ t) → Apart v s.to t.to
-  leaving_apart v s t h k different = record {
-    first = leaves_long v s h;
-    second = leaves_long v t k;
-    other_ways = λ one. different (alternates.one_leaves s t h.among k.among (h.at ∙ sym k.at) (subst (λ w. AreOneWay w s.to t.to) (sym h.at) one));
-  }
+  leaving_apart = ways_apart steps alternates.long alternates.one_leaves
 
   pub arriving_apart : (v : Point) (s t : Step) → Arrives steps v s → Arrives steps v t → ¬ (s ≡ t) → Apart v s.from t.from
   arriving_apart v s t h k different = record {

@@ -22,7 +22,8 @@ use Rattle.overlay_plane.proofs.SingleEntries.{single_total}
 use Rattle.overlay_plane.proofs.Telescopes.{signed_rise, signed_rise-is}
 use Rattle.overlay_plane.proofs.ItemsRound.{item_round-here, place_of}
 use Rattle.overlay_plane.proofs.AtNodes.{same_steps, equal_steps}
-use Rattle.overlay_plane.proofs.NextSteps.{next_exists, next_unique, next_injective, next_surjective}
+use Rattle.overlay_plane.proofs.LeadingOn.{has_next, has_one_next}
+use Rattle.overlay_plane.proofs.NextSteps.{leads_on, next_injective, next_surjective}
 use Rattle.overlay_plane.proofs.ClosedParts.{closed_parts_alternate}
 use Rattle.overlay_plane.proofs.OrbitSteps.{goes_on_round, last_to_first, step_inside, apart_before}
 use Rattle.overlay_plane.proofs.OrbitsApart.{is_step_of_decides}
@@ -105,8 +106,8 @@ orbits_are_balanced es steps walks hand walk orbit = balanced_from_rises es step
 
 -- no step stands twice in an orbit
 pub orbits_have_each_once : OrbitsHaveEachOnce
-orbits_have_each_once steps alternates hand walk orbit i j d less within = false_from_ne_true (step_eq (get_or walk i d) (get_or walk j d))
-    (λ same. apart_before steps hand walk orbit alternates i j less within (at i (omega arith) ∙ same_steps (get_or walk i d) (get_or walk j d) same ∙ sym (at j within)))
+orbits_have_each_once steps hand leads walk orbit i j d less within = false_from_ne_true (step_eq (get_or walk i d) (get_or walk j d))
+    (λ same. apart_before steps hand walk orbit leads i j less within (at i (omega arith) ∙ same_steps (get_or walk i d) (get_or walk j d) same ∙ sym (at j within)))
   where
     at : (k : ℕ) → k < length walk → step_round walk k ≡ get_or walk k d
     at k h = item_round-here walk no_step k h ∙ get_or_default walk k no_step d h
@@ -116,7 +117,7 @@ orbits_have_each_once steps alternates hand walk orbit i j d less within = false
 module _ (steps : List Step) (alternates : Alternates steps) where
   -- what a step is followed by, if the test of whether it is in the set gives this
   next_by : (s : Step) (b : Bool) → is_step_of steps s ≡ b → Step
-  next_by s true e = (next_exists steps alternates right s ((is_step_of_decides steps s).0 e)).0
+  next_by s true e = (has_next steps right (leads_on steps alternates right) s ((is_step_of_decides steps s).0 e)).0
   next_by s false e = s
 
   -- the next step of a step of the set by the right hand
@@ -129,7 +130,7 @@ module _ (steps : List Step) (alternates : Alternates steps) where
   next_of-is s c = by (is_step_of steps s) refl
     where
       by : (b : Bool) (e : is_step_of steps s ≡ b) → IsNextStep steps right s (next_by s b e)
-      by true e = (next_exists steps alternates right s ((is_step_of_decides steps s).0 e)).1
+      by true e = (has_next steps right (leads_on steps alternates right) s ((is_step_of_decides steps s).0 e)).1
       by false e = absurd (both_ways (is_step_of steps s) e ((is_step_of_decides steps s).1 c))
 
   -- what a step follows, if the test of whether it is in the set gives this
@@ -159,7 +160,7 @@ module _ (steps : List Step) (alternates : Alternates steps) where
           (subst (λ u. IsNextStep steps right s u) (sym (same_steps t (next_of s) same)) (next_of-is s c)) (before_of-is t d).1)
 
       back : step_eq s (before_of t) ≡ true → step_eq t (next_of s) ≡ true
-      back same = equal_steps t (next_of s) (next_unique steps alternates right s t (next_of s) c
+      back same = equal_steps t (next_of s) (has_one_next steps right (leads_on steps alternates right) s t (next_of s) c
           (subst (λ u. IsNextStep steps right u t) (sym (same_steps s (before_of t) same)) (before_of-is t d).1) (next_of-is s c))
 
   module _ (once : HasEachOnce steps) (g : Point → ℤ) where

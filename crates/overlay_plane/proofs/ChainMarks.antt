@@ -1,10 +1,10 @@
 -- The chains of the added edges make the marks of the arrangement: no round changes which marks their steps are given along an edge.
-use Rattle.std.proofs.Common.{◌≡◌, ◌↔◌, Bool, true, false, List, [], ◌∷◌, Contains, refl, sym, ap, ◌∙◌, subst}
+use Rattle.std.proofs.Common.{◌≡◌, ◌↔◌, Bool, true, List, [], ◌∷◌, Contains, sym, ap, ◌∙◌, subst}
 use Rattle.std.specs.List.{All, Any}
-use Rattle.std.specs.Prelude.{map, flat_map}
+use Rattle.std.specs.Prelude.{flat_map}
 use Rattle.std.proofs.lemmas.Bool.{both_ways}
 use Rattle.std.proofs.lemmas.List.Elements.{All-contains, All-contains_itself, All-weaker}
-use Rattle.overlay_geom.specs.Plane.{Step, Edge, point_lt, edge_of, is_forward}
+use Rattle.overlay_geom.specs.Plane.{Step, point_lt, edge_of, is_forward}
 use Rattle.overlay_geom.specs.Edges.{CountedEdge, ends_of}
 use Rattle.overlay_geom.specs.Merged.{IsMerged}
 use Rattle.overlay_plane.specs.ChainLinks.{ChainLink, links_after, links_through, step_of, step_along, chain_through, IsMarkedBy}
@@ -14,7 +14,7 @@ use Rattle.overlay_plane.specs.Rounds.{Round, AreRounds, pieces_of, after_rounds
 use Rattle.overlay_plane.proofs.EdgeMarks.{mark, marks, along_edge, HasMarked, merged_marked, marked_merged}
 use Rattle.overlay_plane.proofs.EdgesOfSteps.{edge_by}
 use Rattle.overlay_plane.proofs.Entries.{Contains-map, Contains-from_map, Contains-from_any, any_of_entry}
-use Rattle.overlay_plane.proofs.MarkedLinks.{MakeMarks, IsGiven, make_after, only_entry, not_both}
+use Rattle.overlay_plane.proofs.MarkedLinks.{MakeMarks, make_after, only_entry, not_both}
 use Rattle.overlay_plane.proofs.Totals.{Contains-head}
 
 module _ (old : List CountedEdge) where

@@ -1,15 +1,16 @@
 -- A part of an alternating set that holds with each step its next step by a hand, and with each next step the step before
 -- it, alternates, and its steps have the same next steps in the part as in the set.
-use Rattle.std.proofs.Common.{◌≡◌, ◌↔◌, Bool, true, false, not, List, Contains, filter, refl, sym, ap, ◌∙◌, subst}
+use Rattle.std.proofs.Common.{◌≡◌, Bool, true, false, not, List, Contains, filter, refl, sym, ap, ◌∙◌, subst}
 use Rattle.overlay_geom.specs.Plane.{Point, Step}
 use Rattle.overlay_plane.specs.Turn.{Hand, is_met_before, IsMetBefore, IsNextStep}
 use Rattle.overlay_plane.specs.Turn.Hand.{left, right}
 use Rattle.overlay_plane.specs.Alternates.{Alternates}
 use Rattle.overlay_plane.specs.NextSteps.{IsClosedUnderNext, ClosedPartsAlternate}
-use Rattle.overlay_plane.proofs.Entries.{Contains-from_filter, Contains-filter, all_of_entries}
+use Rattle.overlay_plane.proofs.Entries.{Contains-from_filter, Contains-filter}
 use Rattle.overlay_plane.proofs.CyclicOrder.{AllApart, all_apart_shifted, all_apart_exchanged, met_shifted, met_by_other, met_after}
 use Rattle.overlay_plane.proofs.AtNodes.{Leaves, Arrives, arrives_long, leaving_apart, all_apart_leaving, all_apart_arriving}
-use Rattle.overlay_plane.proofs.NextSteps.{none_leaves_before, next_exists, next_unique, next_surjective, arrives_after}
+use Rattle.overlay_plane.proofs.LeadingOn.{none_leaves_before, has_next, next_alike}
+use Rattle.overlay_plane.proofs.NextSteps.{leads_on, next_surjective, arrives_after}
 
 module _ (steps : List Step) (alternates : Alternates steps) (hand : Hand) (taken : Step → Bool) (closed : IsClosedUnderNext steps hand taken) where
   -- the steps of the part
@@ -31,7 +32,7 @@ module _ (steps : List Step) (alternates : Alternates steps) (hand : Hand) (take
   next_in_part : (s : Step) → Contains part s → (t : Step) × Contains part t × IsNextStep steps hand s t
   next_in_part s c =
       let whole = from_part s c in
-      let next = next_exists steps alternates hand s whole.0 in
+      let next = has_next steps hand (leads_on steps alternates hand) s whole.0 in
       (next.0, Contains-filter taken steps next.0 (next.1).among (sym (closed s next.0 whole.0 next.1) ∙ whole.1), next.1)
 
   -- and with each next step the step before it
@@ -110,31 +111,13 @@ module _ (steps : List Step) (alternates : Alternates steps) (hand : Hand) (take
     comes_in = λ t c. let last = step_before_in_part steps alternates hand taken closed t c in (last.0, last.1, sym (last.2).leaves);
   }
 
-  -- a next step in the set is the next step in the part
-  next_from_steps : (s t : Step) → Contains (filter taken steps) s → IsNextStep steps hand s t → IsNextStep (filter taken steps) hand s t
-  next_from_steps s t c next = record {
-    among = Contains-filter taken steps t next.among (sym (closed s t (in_steps s c) next) ∙ (Contains-from_filter taken steps s c).1);
-    leaves = next.leaves;
-    first = all_of_entries (λ u. u.from ≡ s.to → is_met_before hand s.to s.from u.to t.to ≡ false) (filter taken steps) (λ u d e. none_leaves_before steps hand s t u next (record { among = in_steps u d; at = e }));
-  }
-
-  -- and the other way about
-  pub next_in_closed_part : (s t : Step) → Contains (filter taken steps) s → IsNextStep (filter taken steps) hand s t ↔ IsNextStep steps hand s t
-  next_in_closed_part s t c = (there, next_from_steps s t c)
-    where
-      there : IsNextStep (filter taken steps) hand s t → IsNextStep steps hand s t
-      there next =
-          let whole = next_exists steps alternates hand s (in_steps s c) in
-          let same = next_unique (filter taken steps) closed_part_alternates hand s whole.0 t c (next_from_steps s whole.0 c whole.1) next in
-          subst (λ w. IsNextStep steps hand s w) same whole.1
-
 -- the part and the rest, which is closed too
 pub closed_parts_alternate : ClosedPartsAlternate
 closed_parts_alternate steps alternates hand taken closed = record {
   taken_alternate = closed_part_alternates steps alternates hand taken closed;
   left_alternate = closed_part_alternates steps alternates hand (λ s. not (taken s)) rest_closed;
-  taken_next = next_in_closed_part steps alternates hand taken closed;
-  left_next = next_in_closed_part steps alternates hand (λ s. not (taken s)) rest_closed;
+  taken_next = next_alike steps hand (leads_on steps alternates hand) taken closed;
+  left_next = next_alike steps hand (leads_on steps alternates hand) (λ s. not (taken s)) rest_closed;
 }
   where
     rest_closed : IsClosedUnderNext steps hand (λ s. not (taken s))

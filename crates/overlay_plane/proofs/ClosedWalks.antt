@@ -11,6 +11,7 @@ use Rattle.overlay_plane.specs.Contours.{without, done, next, IsContour, OrbitsA
 use Rattle.overlay_plane.proofs.BalancedSteps.{orbits_have_each_once}
 use Rattle.overlay_plane.proofs.CutWalks.{left_alternates}
 use Rattle.overlay_plane.proofs.ItemsRound.{item_round-here, item_round-whole}
+use Rattle.overlay_plane.proofs.NextSteps.{alternating_steps_lead_on}
 use Rattle.overlay_plane.proofs.OrbitSteps.{goes_on_round, step_inside, three_steps}
 
 -- from s through the steps after it to q: each step is one between two points, and the next one begins where it ends
@@ -66,7 +67,7 @@ module _ (steps : List Step) (alternates : Alternates steps) (hand : Hand) where
   orbit_is_contour walk orbit = record {
     three = three_steps steps hand walk orbit alternates;
     leads_on = λ k. let one_more : k + 1 ≡ suc k = omega arith in ap (λ j. (step_round walk j).from) one_more ∙ (goes_on_round steps hand walk orbit k).leaves;
-    once = orbits_have_each_once steps alternates hand walk orbit;
+    once = orbits_have_each_once steps hand (alternating_steps_lead_on steps alternates hand) walk orbit;
     whole = orbit_whole walk orbit;
   }
 

@@ -1,4 +1,4 @@
--- A cut takes each step exactly once: an orbit has each of its steps once, and what it leaves alternates, with the other steps.
+-- A cut takes each step exactly once: an orbit has each of its steps once, and what it leaves can be cut, with the other steps.
 use Rattle.std.proofs.Common.{◌≡◌, ◌⊎◌, inl, inr, ⊎_elim, zero, suc, Bool, true, false, cond, not, ◌||◌, List}
 use Rattle.std.proofs.Common.{[], ◌∷◌, ◌++◌, take, Contains, refl, sym, ap, ◌∙◌, subst, arith}
 use Rattle.std.specs.Prelude.{slice_index_or}
@@ -9,14 +9,17 @@ use Rattle.std.proofs.lemmas.List.Sorted.{IsPermutation-refl, IsPermutation-appe
 use Rattle.overlay_geom.specs.Plane.{Step, step_eq}
 use Rattle.overlay_plane.specs.Turn.{Hand, step_round, IsOrbit, no_step}
 use Rattle.overlay_plane.specs.Alternates.{Alternates}
+use Rattle.overlay_plane.specs.NextSteps.{LeadsOn}
 use Rattle.overlay_plane.specs.Orbits.{is_step_of}
-use Rattle.overlay_plane.specs.Contours.{IsStart, without, IsCutInto, done, next, all_steps, CutsTakeEachOnce, IsFirstWalk, CutsAreOrbits}
+use Rattle.overlay_plane.specs.Contours.{IsStart, without, IsCutInto, done, next, CanBeCut, alternating, by_one_hand, CutsLeaveCuttable, all_steps, CutsTakeEachOnce, IsFirstWalk, CutsAreOrbits}
 use Rattle.overlay_plane.proofs.BalancedSteps.{orbits_have_each_once}
 use Rattle.overlay_plane.proofs.Entries.{Contains-from_filter, Contains-filter}
 use Rattle.overlay_plane.proofs.ItemsRound.{item_round-here}
 use Rattle.overlay_plane.proofs.LaterEntries.{Each, Each-from_all_pairs, Each-filter}
+use Rattle.overlay_plane.proofs.LeadingOn.{closed_parts_lead_on}
+use Rattle.overlay_plane.proofs.NextSteps.{alternating_steps_lead_on}
 use Rattle.overlay_plane.proofs.OrbitSteps.{orbits_are_cycles}
-use Rattle.overlay_plane.proofs.OrbitsApart.{is_step_of_decides, orbits_leave_the_rest}
+use Rattle.overlay_plane.proofs.OrbitsApart.{is_step_of_decides, orbits_are_closed, orbits_leave_the_rest}
 use Rattle.overlay_plane.proofs.ShuffledSteps.{Differ, shuffled_from_same}
 
 -- ---- what steps taken leave
@@ -52,16 +55,33 @@ Each-append (x ∷ xs) ys h k apart = (first, Each-append xs ys h.1 k (λ s c. (
     first : (s : Step) → Contains (xs ++ ys) s → step_eq x s ≡ false
     first s c = ⊎_elim (λ here. h.0 s here) (λ later. (apart_parts s later).0) (Contains-append_cases xs ys s c)
 
-module _ (steps : List Step) (alternates : Alternates steps) (hand : Hand) (walk : List Step) (orbit : IsOrbit steps hand walk) where
-  -- what the orbit leaves alternates
-  pub left_alternates : Alternates (without steps walk)
-  left_alternates = (orbits_leave_the_rest steps alternates hand walk orbit (is_step_of walk) (is_step_of_decides walk)).1.left_alternate
+-- what an orbit of steps that alternate leaves alternates
+pub left_alternates : (steps : List Step) → Alternates steps → (hand : Hand) (walk : List Step) → IsOrbit steps hand walk → Alternates (without steps walk)
+left_alternates steps alternates hand walk orbit = (orbits_leave_the_rest steps alternates hand walk orbit (is_step_of walk) (is_step_of_decides walk)).1.left_alternate
 
+-- what an orbit of steps that lead on leaves leads on
+left_leads_on : (steps : List Step) (hand : Hand) → LeadsOn steps hand → (walk : List Step) → IsOrbit steps hand walk → LeadsOn (without steps walk) hand
+left_leads_on steps hand leads walk orbit =
+    (closed_parts_lead_on steps hand leads (is_step_of walk) (orbits_are_closed steps hand leads walk orbit (is_step_of walk) (is_step_of_decides walk))).rest_leads_on
+
+-- so what an orbit by the rule's hand leaves can be cut
+pub cuts_leave_cuttable : CutsLeaveCuttable
+cuts_leave_cuttable hand_of steps (alternating alternates) s c = record {
+  leads_on = alternating_steps_lead_on steps alternates (hand_of s);
+  leaves = λ walk orbit. alternating (left_alternates steps alternates (hand_of s) walk orbit);
+}
+cuts_leave_cuttable hand_of steps (by_one_hand hand tells leads) s c = record {
+  leads_on = subst (λ h. LeadsOn steps h) (sym (tells s c)) leads;
+  leaves = λ walk orbit. by_one_hand hand (λ t d. tells t (left_parts steps walk t d).0)
+      (left_leads_on steps hand leads walk (subst (λ h. IsOrbit steps h walk) (tells s c) orbit));
+}
+
+module _ (steps : List Step) (hand : Hand) (leads : LeadsOn steps hand) (walk : List Step) (orbit : IsOrbit steps hand walk) where
   -- the steps are those of the orbit and those that it leaves
   pub walk_and_left : Each Differ steps → IsPermutation steps (walk ++ without steps walk)
   walk_and_left once = shuffled_from_same steps (walk ++ without steps walk) once
       (Each-append walk (without steps walk)
-      (Each-from_all_pairs Differ walk (orbits_have_each_once steps alternates hand walk orbit))
+      (Each-from_all_pairs Differ walk (orbits_have_each_once steps hand leads walk orbit))
       (Each-filter Differ (λ s. not (is_step_of walk s)) steps once)
       (λ s c. (left_parts steps walk s c).1))
       (λ s c. ⊎_elim
@@ -69,27 +89,28 @@ module _ (steps : List Step) (alternates : Alternates steps) (hand : Hand) (walk
       (λ apart. Contains-append_right walk (without steps walk) s (left_from steps walk s c apart))
       (by_taken walk s))
       (λ s c. ⊎_elim
-      (λ taken. All-contains (Contains steps) walk s (orbits_are_cycles steps alternates hand walk orbit).inside taken)
+      (λ taken. All-contains (Contains steps) walk s (orbits_are_cycles steps hand leads walk orbit).inside taken)
       (λ later. (left_parts steps walk s later).0)
       (Contains-append_cases walk (without steps walk) s c))
 
 -- ---- a cut
 
 -- the cut takes each step exactly once
-each_taken_once : (hand_of : Step → Hand) (steps : List Step) → Alternates steps → Each Differ steps → (walks : List (List Step)) →
+each_taken_once : (hand_of : Step → Hand) (steps : List Step) → CanBeCut hand_of steps → Each Differ steps → (walks : List (List Step)) →
     IsCutInto hand_of steps walks →
     IsPermutation steps (all_steps walks)
-each_taken_once hand_of steps alternates once walks done = IsPermutation-refl []
-each_taken_once hand_of steps alternates once walks (next {s} {ss} {rest} start orbit cut) =
+each_taken_once hand_of steps can once walks done = IsPermutation-refl []
+each_taken_once hand_of steps can once walks (next {s} {ss} {rest} start orbit cut) =
+    let cuttable = cuts_leave_cuttable hand_of steps can s start.among in
     IsPermutation-trans steps ((s ∷ ss) ++ without steps (s ∷ ss)) ((s ∷ ss) ++ all_steps rest)
-    (walk_and_left steps alternates (hand_of s) (s ∷ ss) orbit once)
+    (walk_and_left steps (hand_of s) cuttable.leads_on (s ∷ ss) orbit once)
     (IsPermutation-append_right (s ∷ ss) (without steps (s ∷ ss)) (all_steps rest)
-    (each_taken_once hand_of (without steps (s ∷ ss)) (left_alternates steps alternates (hand_of s) (s ∷ ss) orbit)
+    (each_taken_once hand_of (without steps (s ∷ ss)) (cuttable.leaves (s ∷ ss) orbit)
     (Each-filter Differ (λ t. not (is_step_of (s ∷ ss) t)) steps once) rest cut))
 
 -- the law
 pub cuts_take_each_once : CutsTakeEachOnce
-cuts_take_each_once hand_of steps alternates once walks cut = each_taken_once hand_of steps alternates (Each-from_all_pairs Differ steps once) walks cut
+cuts_take_each_once hand_of steps can once walks cut = each_taken_once hand_of steps can (Each-from_all_pairs Differ steps once) walks cut
 
 -- where nothing is taken, all steps are left
 pub without-none : (steps : List Step) → without steps [] ≡ steps

@@ -7,7 +7,7 @@ use Rattle.overlay_geom.specs.Edges.{CountedEdge}
 use Rattle.overlay_plane.specs.Alternates.{Alternates}
 use Rattle.overlay_plane.specs.Regions.{IsRuled}
 use Rattle.overlay_plane.specs.SelectedSteps.{selected_steps}
-use Rattle.overlay_plane.specs.Contours.{all_steps}
+use Rattle.overlay_plane.specs.Contours.{alternating, all_steps}
 use Rattle.overlay_plane.specs.ContourWindings.{CutsKeepWindings, ThinnedContoursWindAlike, ContoursWind}
 use Rattle.overlay_plane.proofs.AddedWindings.{winding-taken}
 use Rattle.overlay_plane.proofs.AlongLines.{winding_part}
@@ -20,7 +20,7 @@ use Rattle.overlay_plane.proofs.SelectedWindings.{selected_steps_wind, selected_
 -- a cut keeps the winding round each point
 pub cuts_keep_windings : CutsKeepWindings
 cuts_keep_windings hand_of steps alternates once walks cut p = total-IsPermutation (winding_part p) steps (all_steps walks)
-    (cuts_take_each_once hand_of steps alternates once walks cut)
+    (cuts_take_each_once hand_of steps (alternating alternates) once walks cut)
 
 -- lists of contours taken as given or thinned wind as those given
 pub thinned_contours_wind_alike : ThinnedContoursWindAlike

@@ -4,7 +4,7 @@ use Rattle.std.specs.List.{list_any}
 use Rattle.std.proofs.lemmas.Bool.{both_ways}
 use Rattle.std.proofs.lemmas.List.Elements.{All-contains}
 use Rattle.std.proofs.lemmas.List.Folds.{Any-from_list_any, list_any-from_Any}
-use Rattle.overlay_geom.specs.Plane.{Step, Edge, edge_eq, is_forward, edge_of}
+use Rattle.overlay_geom.specs.Plane.{Step, Edge, edge_eq, is_forward}
 use Rattle.overlay_geom.specs.Edges.{CountedEdge, ends_of, counts_nothing}
 use Rattle.overlay_geom.specs.Merged.{edges_between, joined_edge, IsMerged}
 use Rattle.overlay_geom.proofs.Marks.{uncounted}

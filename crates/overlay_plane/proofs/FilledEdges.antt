@@ -7,7 +7,7 @@ use Rattle.overlay_geom.specs.Edges.{CountedEdge, ends_of}
 use Rattle.overlay_geom.specs.Settled.{MeetInEnds}
 use Rattle.overlay_plane.specs.Regions.{holds_above, holds_below}
 use Rattle.overlay_plane.specs.SelectedSteps.{selected_steps, IsSelectedStep}
-use Rattle.overlay_plane.specs.Contours.{is_filled_above, outline_or_hole_hand, all_steps}
+use Rattle.overlay_plane.specs.Contours.{alternating, is_filled_above, outline_or_hole_hand, all_steps}
 use Rattle.overlay_plane.specs.Binding.{filled_above_edges, all_filled_above, AreCutFrom}
 use Rattle.overlay_plane.proofs.CutWalks.{cuts_take_each_once}
 use Rattle.overlay_plane.proofs.CutWindings.{selected_alternate}
@@ -56,7 +56,7 @@ module _ (holds : ℤ → ℤ → Bool) (subj clip : CountedEdge → ℤ) (es : 
   pub filled_kept : (s : Step) → Contains steps s → is_filled_above on_left s ≡ true → Contains (all_filled_above on_left walks) (edge_of s)
   filled_kept s c filled =
       let taken = Contains-permutation steps (all_steps walks) s
-      (cuts_take_each_once (outline_or_hole_hand on_left) steps (selected_alternate holds subj clip es cut.ruled on_left)
+      (cuts_take_each_once (outline_or_hole_hand on_left) steps (alternating (selected_alternate holds subj clip es cut.ruled on_left))
       (selected_steps_once holds subj clip es cut.ruled on_left) walks cut.cut) c in
       let walk = Contains-from_flat_map (λ (w : List Step). w) walks s taken in
       Contains-flat_map (filled_above_edges on_left) walks walk.0 (edge_of s) walk.1

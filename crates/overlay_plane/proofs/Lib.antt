@@ -31,6 +31,7 @@ pub mod CutWindings
 pub mod CutsExist
 pub mod CuttingRounds
 pub mod CyclicOrder
+pub mod DerivedLists
 pub mod Dropping
 pub mod EachOnce
 pub mod EdgeMarks
@@ -52,6 +53,7 @@ pub mod ItemsRound
 pub mod JoinedLists
 pub mod KeepingBalance
 pub mod LaterEntries
+pub mod LeadingOn
 pub mod LeastSteps
 pub mod LeftmostPoints
 pub mod LineForms
@@ -136,6 +138,7 @@ pub mod WalksApart
 pub mod WalksOfCuts
 pub mod WeighedLinks
 pub mod WhereEdgesStart
+pub mod WholeChains
 pub mod WholeCuts
 pub mod WholeOnEdges
 pub mod WholePlaces

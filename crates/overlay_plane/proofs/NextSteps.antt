@@ -2,48 +2,23 @@
 -- of one step.
 use Rattle.std.proofs.Common.{◌≡◌, ⊎_elim, false, List, Contains, refl, sym, ◌∙◌, subst}
 use Rattle.std.proofs.lemmas.Bool.{both_ways, false_from_ne_true}
-use Rattle.std.proofs.lemmas.List.Elements.{All-contains}
 use Rattle.overlay_geom.specs.Plane.{Step, point_eq}
 use Rattle.overlay_geom.proofs.Orders.{point_eq-same, point_eq-of_same}
 use Rattle.overlay_plane.specs.Turn.{Hand, is_met_before, IsMetBefore, IsNextStep}
 use Rattle.overlay_plane.specs.Alternates.{Alternates}
 use Rattle.overlay_plane.specs.Rays.{other_hand}
-use Rattle.overlay_plane.specs.NextSteps.{NextIsOneToOne}
+use Rattle.overlay_plane.specs.NextSteps.{LeadsOn, AlternatingStepsLeadOn, NextIsOneToOne}
 use Rattle.overlay_plane.proofs.Entries.{all_of_entries}
-use Rattle.overlay_plane.proofs.TurnOrder.{apart_exchanged, met_irreflexive, met_transitive, met_total, start_is_last}
+use Rattle.overlay_plane.proofs.TurnOrder.{apart_exchanged, met_irreflexive, met_transitive, start_is_last}
 use Rattle.overlay_plane.proofs.CyclicOrder.{AllApart, all_apart_shifted, met_shifted, met_by_other, met_after, not_both}
+use Rattle.overlay_plane.proofs.LeadingOn.{none_leaves_before, next_leaves, has_next, has_one_next}
 use Rattle.overlay_plane.proofs.Nearest.{IsNearest, nearest}
-use Rattle.overlay_plane.proofs.AtNodes.{by_steps, Leaves, Arrives, leaves_long, leaving_apart, arriving_apart, passing_apart, all_apart_leaving, all_apart_arriving, arrives_between_by, leaves_between_by}
-
--- none of the steps that leave is met before the next step
-pub none_leaves_before : (steps : List Step) (hand : Hand) (s t u : Step) → IsNextStep steps hand s t → Leaves steps s.to u → is_met_before hand s.to s.from u.to t.to ≡ false
-none_leaves_before steps hand s t u next h = All-contains (λ u. u.from ≡ s.to → is_met_before hand s.to s.from u.to t.to ≡ false) steps u next.first h.among h.at
+use Rattle.overlay_plane.proofs.AtNodes.{by_steps, Leaves, Arrives, leaves_long, arriving_apart, passing_apart, all_apart_leaving, all_apart_arriving, arrives_between_by, leaves_between_by}
 
 module _ (steps : List Step) (alternates : Alternates steps) (hand : Hand) where
   -- a step arrives at its own end
   arrives : (s : Step) → Contains steps s → Arrives steps s.to s
   arrives s c = record { among = c; at = refl }
-
-  -- the next step leaves there
-  pub next_leaves : (s t : Step) → IsNextStep steps hand s t → Leaves steps s.to t
-  next_leaves s t next = record { among = next.among; at = next.leaves }
-
-  -- each step has a next step: the one met first among those that leave its end
-  pub next_exists : (s : Step) → Contains steps s → (t : Step) × IsNextStep steps hand s t
-  next_exists s c =
-      let on = alternates.goes_on s c in
-      let first = nearest (λ w. point_eq w.from s.to) (λ w z. is_met_before hand s.to s.from w.to z.to) (λ w. met_irreflexive hand s.to s.from w.to) (λ w y z. met_transitive hand s.to s.from w.to y.to z.to (alternates.long s c)) steps on.0 on.1 (point_eq-of_same (on.0).from s.to on.2) in (
-        first.0,
-        record {
-          among = (first.1).among;
-          leaves = point_eq-same (first.0).from s.to (first.1).passed;
-          first = all_of_entries (λ u. u.from ≡ s.to → is_met_before hand s.to s.from u.to (first.0).to ≡ false) steps (λ u at e. (first.1).first u at (point_eq-of_same u.from s.to e));
-        },
-      )
-
-  -- and only one
-  pub next_unique : (s t u : Step) → Contains steps s → IsNextStep steps hand s t → IsNextStep steps hand s u → t ≡ u
-  next_unique s t u c to_t to_u = ⊎_elim (λ same. same) (λ different. absurd (⊎_elim (λ before. both_ways (is_met_before hand s.to s.from t.to u.to) (none_leaves_before steps hand s u t to_u (next_leaves s t to_t)) before) (λ after. both_ways (is_met_before hand s.to s.from u.to t.to) (none_leaves_before steps hand s t u to_t (next_leaves s u to_u)) after) (met_total hand s.to s.from t.to u.to (alternates.long s c) (leaving_apart steps alternates s.to t u (next_leaves s t to_t) (next_leaves s u to_u) different)))) (by_steps t u)
 
   -- no step that arrives is met before the next step
   pub none_arrives_before : (s t a : Step) → Contains steps s → IsNextStep steps hand s t → Arrives steps s.to a → is_met_before hand s.to s.from a.from t.to ≡ false
@@ -56,7 +31,7 @@ module _ (steps : List Step) (alternates : Alternates steps) (hand : Hand) where
 
   -- another step that arrives is met after the next step
   pub arrives_after : (s t a : Step) → Contains steps s → IsNextStep steps hand s t → Arrives steps s.to a → ¬ (s ≡ a) → IsMetBefore hand s.to s.from t.to a.from
-  arrives_after s t a c next h different = met_after hand s.to s.from a.from t.to (alternates.long s c) (passing_apart steps alternates s.to a t h (next_leaves s t next)) (none_arrives_before s t a c next h)
+  arrives_after s t a c next h different = met_after hand s.to s.from a.from t.to (alternates.long s c) (passing_apart steps alternates s.to a t h (next_leaves steps hand s t next)) (none_arrives_before s t a c next h)
 
   -- two steps with one next step are one
   pub next_injective : (s t u : Step) → Contains steps s → Contains steps t → IsNextStep steps hand s u → IsNextStep steps hand t u → s ≡ t
@@ -75,10 +50,14 @@ module _ (steps : List Step) (alternates : Alternates steps) (hand : Hand) where
       against different =
           let from_t_on = arrives_after t u s d from_t s_arrives (λ e. different (sym e)) in
           let at_s : IsMetBefore hand s.to t.from u.to s.from = subst (λ w. IsMetBefore hand w t.from u.to s.from) one_node from_t_on in
-          let apart : AllApart s.to t.from u.to s.from = all_apart_arriving steps alternates s.to t u s t_arrives (next_leaves s u from_s) (arrives s c) (λ e. different (sym e)) in
+          let apart : AllApart s.to t.from u.to s.from = all_apart_arriving steps alternates s.to t u s t_arrives (next_leaves steps hand s u from_s) (arrives s c) (λ e. different (sym e)) in
           let from_u = met_shifted hand s.to t.from u.to s.from apart at_s in
           let back = met_shifted hand s.to u.to s.from t.from (all_apart_shifted s.to t.from u.to s.from apart) from_u in
           not_both hand s.to s.from u.to t.from (alternates.long s c) (arrives_after s u t c from_s t_arrives different) back
+
+  -- so the steps lead on by the hand
+  pub leads_on : LeadsOn steps hand
+  leads_on = record { long = alternates.long; one_leaves = alternates.one_leaves; goes_on = alternates.goes_on; apart = next_injective }
 
   -- the step that arrives where t leaves and that the other hand meets first, turning from t
   before : (t : Step) → Contains steps t → (s : Step) × IsNearest (λ w. point_eq w.to t.from) (λ w z. is_met_before (other_hand hand) t.from t.to w.from z.from) steps s
@@ -121,11 +100,14 @@ module _ (steps : List Step) (alternates : Alternates steps) (hand : Hand) where
       node : s.to ≡ t.from
       node = point_eq-same s.to t.from near.passed
 
--- the laws together
+-- the laws
+pub alternating_steps_lead_on : AlternatingStepsLeadOn
+alternating_steps_lead_on steps alternates hand = leads_on steps alternates hand
+
 pub next_is_one_to_one : NextIsOneToOne
 next_is_one_to_one steps alternates hand = record {
-  exists = next_exists steps alternates hand;
-  unique = next_unique steps alternates hand;
+  exists = has_next steps hand (leads_on steps alternates hand);
+  unique = has_one_next steps hand (leads_on steps alternates hand);
   injective = next_injective steps alternates hand;
   surjective = next_surjective steps alternates hand;
   neighbours = λ s t u c next d at. none_arrives_before steps alternates hand s t u c next (record { among = d; at = at });

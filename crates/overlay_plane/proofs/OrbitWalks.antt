@@ -1,4 +1,4 @@
--- From each step of a set that alternates, following the next steps by a hand leads back to it: since the set is finite
+-- From each step of a set that leads on, following the next steps by a hand leads back to it: since the set is finite
 -- some step comes twice, and since no two steps have one next step the first to come twice is the one at the start.
 use Rattle.std.proofs.Common.{◌≡◌, ⊎_elim, ℕ, zero, suc, ◌+◌, ◌-◌, ◌<◌, false, List, length, map, Contains, sym, ap, ◌∙◌, subst, arith}
 use Rattle.std.specs.List.{range_with_len}
@@ -6,18 +6,18 @@ use Rattle.std.proofs.lemmas.Bool.{both_ways, cases_lt}
 use Rattle.std.proofs.lemmas.List.FromFn.{length-map-range_with_len, get_or-map-range_with_len}
 use Rattle.overlay_geom.specs.Plane.{Step, step_eq}
 use Rattle.overlay_plane.specs.Turn.{Hand, IsNextStep, step_round, IsOrbit, no_step}
-use Rattle.overlay_plane.specs.Alternates.{Alternates}
+use Rattle.overlay_plane.specs.NextSteps.{LeadsOn}
 use Rattle.overlay_plane.specs.Orbits.{OrbitsExist}
 use Rattle.overlay_plane.proofs.AtNodes.{same_steps, equal_steps}
-use Rattle.overlay_plane.proofs.NextSteps.{next_exists, next_injective}
+use Rattle.overlay_plane.proofs.LeadingOn.{has_next}
 use Rattle.overlay_plane.proofs.Pigeonhole.{IsFirst, first_below, Twice, pigeonhole}
 use Rattle.overlay_plane.proofs.ItemsRound.{item_round-here, item_round-whole, one_place}
 
-module _ (steps : List Step) (alternates : Alternates steps) (hand : Hand) (s : Step) (inside : Contains steps s) where
+module _ (steps : List Step) (hand : Hand) (leads : LeadsOn steps hand) (s : Step) (inside : Contains steps s) where
   -- the step that k next steps from s lead to
   abbrev reached : ℕ → (t : Step) × Contains steps t
   reached zero = (s, inside)
-  reached (suc k) = let next = next_exists steps alternates hand (reached k).0 (reached k).1 in (next.0, (next.1).among)
+  reached (suc k) = let next = has_next steps hand leads (reached k).0 (reached k).1 in (next.0, (next.1).among)
 
   -- that step alone
   abbrev at : ℕ → Step
@@ -25,7 +25,7 @@ module _ (steps : List Step) (alternates : Alternates steps) (hand : Hand) (s : 
 
   -- each is followed by its next step
   followed : (k : ℕ) → IsNextStep steps hand (at k) (at (suc k))
-  followed k = (next_exists steps alternates hand (reached k).0 (reached k).1).1
+  followed k = (has_next steps hand leads (reached k).0 (reached k).1).1
 
   -- the place of that step in the set
   abbrev place : ℕ → ℕ
@@ -35,7 +35,7 @@ module _ (steps : List Step) (alternates : Alternates steps) (hand : Hand) (s : 
   comes_again : (i j d : ℕ) → i + d ≡ j → at j ≡ at i → at d ≡ s
   comes_again zero j d e same = let here : d ≡ j = omega arith in ap at here ∙ same
   comes_again (suc i) zero d e same = absurd (omega arith)
-  comes_again (suc i) (suc j) d e same = comes_again i j d (omega arith) (next_injective steps alternates hand (at j) (at i) (at (suc i)) (reached j).1 (reached i).1 (subst (λ t. IsNextStep steps hand (at j) t) same (followed j)) (followed i))
+  comes_again (suc i) (suc j) d e same = comes_again i j d (omega arith) (leads.apart (at j) (at i) (at (suc i)) (reached j).1 (reached i).1 (subst (λ t. IsNextStep steps hand (at j) t) same (followed j)) (followed i))
 
   -- the number of steps after which s first comes again, less one
   returns : (k : ℕ) × IsFirst (λ k. step_eq (at (suc k)) s) (length steps) k
@@ -92,4 +92,4 @@ module _ (steps : List Step) (alternates : Alternates steps) (hand : Hand) (s : 
 
 -- for each step of the set
 pub orbits_exist : OrbitsExist
-orbits_exist steps alternates hand s inside = (orbit_walk steps alternates hand s inside, walk_is_orbit steps alternates hand s inside, walk_starts steps alternates hand s inside)
+orbits_exist steps hand s inside leads = (orbit_walk steps hand leads s inside, walk_is_orbit steps hand leads s inside, walk_starts steps hand leads s inside)

@@ -1,28 +1,28 @@
--- A step has one orbit, orbits that share a step have the same steps, and what an orbit leaves alternates, with orbits of
--- the whole set.
+-- A step has one orbit, orbits that share a step have the same steps, and what an orbit leaves leads on, or alternates, with
+-- orbits of the whole set.
 use Rattle.std.proofs.Common.{◌≡◌, ⊎_elim, ℕ, zero, suc, ◌+◌, ◌<◌, Bool, not, List, [], ◌∷◌, length, Contains, filter, sym, ◌∙◌, subst, arith}
 use Rattle.std.specs.Bool.{Decides}
 use Rattle.std.proofs.lemmas.Bool.{false≢true, cases_order, or_cases, or_left, or_right}
 use Rattle.std.proofs.lemmas.List.{ext_get_or}
 use Rattle.overlay_geom.specs.Plane.{Step, step_eq}
 use Rattle.overlay_plane.specs.Turn.{Hand, IsNextStep, step_round, IsOrbit, no_step}
-use Rattle.overlay_plane.specs.Alternates.{Alternates}
-use Rattle.overlay_plane.specs.NextSteps.{IsClosedUnderNext}
-use Rattle.overlay_plane.specs.Orbits.{is_step_of, OrbitsAreUnique, OrbitsAreApart, OrbitsLeaveTheRest, OrbitsOfTheRest}
+use Rattle.overlay_plane.specs.NextSteps.{LeadsOn, IsClosedUnderNext}
+use Rattle.overlay_plane.specs.Orbits.{is_step_of, OrbitsAreUnique, OrbitsAreApart, OrbitsAreClosed, OrbitsLeaveTheRest, OrbitsOfTheRest}
 use Rattle.overlay_plane.proofs.Tests.{same_tests}
 use Rattle.overlay_plane.proofs.Totals.{Contains-head, Contains-later}
 use Rattle.overlay_plane.proofs.LaterEntries.{Contains-cases}
 use Rattle.overlay_plane.proofs.AtNodes.{same_steps, equal_steps}
-use Rattle.overlay_plane.proofs.NextSteps.{next_unique}
+use Rattle.overlay_plane.proofs.LeadingOn.{has_one_next, closed_parts_lead_on}
+use Rattle.overlay_plane.proofs.NextSteps.{leads_on}
 use Rattle.overlay_plane.proofs.ClosedParts.{closed_parts_alternate}
 use Rattle.overlay_plane.proofs.ItemsRound.{item_round-here, item_round-whole}
 use Rattle.overlay_plane.proofs.OrbitSteps.{goes_on_round, step_inside, all_round, next_in_walk, step_before_in_walk}
 
-module _ (steps : List Step) (alternates : Alternates steps) (hand : Hand) where
+module _ (steps : List Step) (hand : Hand) (leads : LeadsOn steps hand) where
   -- orbits from one step go on alike
   same_at : (walk other : List Step) → IsOrbit steps hand walk → IsOrbit steps hand other → step_round walk 0 ≡ step_round other 0 → (k : ℕ) → step_round walk k ≡ step_round other k
   same_at walk other orbit orbit' e zero = e
-  same_at walk other orbit orbit' e (suc k) = next_unique steps alternates hand (step_round walk k) (step_round walk (suc k)) (step_round other (suc k)) (step_inside steps hand walk orbit k) (goes_on_round steps hand walk orbit k) (subst (λ s. IsNextStep steps hand s (step_round other (suc k))) (sym (same_at walk other orbit orbit' e k)) (goes_on_round steps hand other orbit' k))
+  same_at walk other orbit orbit' e (suc k) = has_one_next steps hand leads (step_round walk k) (step_round walk (suc k)) (step_round other (suc k)) (step_inside steps hand walk orbit k) (goes_on_round steps hand walk orbit k) (subst (λ s. IsNextStep steps hand s (step_round other (suc k))) (sym (same_at walk other orbit orbit' e k)) (goes_on_round steps hand other orbit' k))
 
   -- so neither ends before the other
   not_shorter : (walk other : List Step) → IsOrbit steps hand walk → IsOrbit steps hand other → step_round walk 0 ≡ step_round other 0 → ¬ (length walk < length other)
@@ -37,11 +37,11 @@ module _ (steps : List Step) (alternates : Alternates steps) (hand : Hand) where
 
   -- an orbit that shares a step with another one holds all its steps
   holds_all : (walk other : List Step) → IsOrbit steps hand walk → IsOrbit steps hand other → (s : Step) → Contains walk s → Contains other s → (t : Step) → Contains walk t → Contains other t
-  holds_all walk other orbit orbit' s in_walk in_other t c = all_round steps hand walk orbit (λ w. Contains other w) (λ w u inside next h. next_in_walk steps hand other orbit' alternates w u next h) s t in_walk c in_other
+  holds_all walk other orbit orbit' s in_walk in_other t c = all_round steps hand walk orbit (λ w. Contains other w) (λ w u inside next h. next_in_walk steps hand other orbit' leads w u next h) s t in_walk c in_other
 
   -- a test of the steps of an orbit is closed under next
   pub orbit_is_closed : (walk : List Step) → IsOrbit steps hand walk → (taken : Step → Bool) → ((s : Step) → Decides (taken s) (Contains walk s)) → IsClosedUnderNext steps hand taken
-  orbit_is_closed walk orbit taken decides s t inside next = same_tests (taken s) (taken t) (λ e. (decides t).1 (next_in_walk steps hand walk orbit alternates s t next ((decides s).0 e))) (λ e. (decides s).1 (step_before_in_walk steps hand walk orbit alternates s t inside next ((decides t).0 e)))
+  orbit_is_closed walk orbit taken decides s t inside next = same_tests (taken s) (taken t) (λ e. (decides t).1 (next_in_walk steps hand walk orbit leads s t next ((decides s).0 e))) (λ e. (decides s).1 (step_before_in_walk steps hand walk orbit leads s t inside next ((decides t).0 e)))
 
 -- the test for a walk's steps
 pub is_step_of_decides : (walk : List Step) (s : Step) → Decides (is_step_of walk s) (Contains walk s)
@@ -53,22 +53,26 @@ is_step_of_decides (t ∷ ts) s = (
 
 -- a step has one orbit
 pub orbits_are_unique : OrbitsAreUnique
-orbits_are_unique steps alternates hand walk other = one_orbit steps alternates hand walk other
+orbits_are_unique steps hand leads walk other = one_orbit steps hand leads walk other
 
 -- orbits that share a step have the same steps
 pub orbits_are_apart : OrbitsAreApart
-orbits_are_apart steps alternates hand walk other orbit orbit' s in_walk in_other t = (holds_all steps alternates hand walk other orbit orbit' s in_walk in_other t, holds_all steps alternates hand other walk orbit' orbit s in_other in_walk t)
+orbits_are_apart steps hand leads walk other orbit orbit' s in_walk in_other t = (holds_all steps hand leads walk other orbit orbit' s in_walk in_other t, holds_all steps hand leads other walk orbit' orbit s in_other in_walk t)
+
+-- a test of the steps of an orbit is closed
+pub orbits_are_closed : OrbitsAreClosed
+orbits_are_closed steps hand leads walk orbit test decides = orbit_is_closed steps hand leads walk orbit test decides
 
 -- what an orbit leaves alternates
 pub orbits_leave_the_rest : OrbitsLeaveTheRest
 orbits_leave_the_rest steps alternates hand walk orbit taken decides =
-    let closed = orbit_is_closed steps alternates hand walk orbit taken decides in
+    let closed = orbit_is_closed steps hand (leads_on steps alternates hand) walk orbit taken decides in
     (closed, closed_parts_alternate steps alternates hand taken closed)
 
 -- an orbit of what closed parts leave is an orbit of the whole set
 pub orbits_of_the_rest : OrbitsOfTheRest
-orbits_of_the_rest steps alternates hand taken closed walk orbit = record {
+orbits_of_the_rest steps hand leads taken closed walk orbit = record {
   some = orbit.some;
-  goes_on = λ k h. ((closed_parts_alternate steps alternates hand taken closed).left_next (step_round walk k) (step_round walk (k + 1)) (step_inside (filter (λ s. not (taken s)) steps) hand walk orbit k)).0 (orbit.goes_on k h);
+  goes_on = λ k h. ((closed_parts_lead_on steps hand leads taken closed).rest_next (step_round walk k) (step_round walk (k + 1)) (step_inside (filter (λ s. not (taken s)) steps) hand walk orbit k)).0 (orbit.goes_on k h);
   once = orbit.once;
 }

@@ -6,13 +6,12 @@ use Rattle.std.proofs.lemmas.Nat.{mod_below}
 use Rattle.std.proofs.lemmas.List.{length_push, get_or_append_left, get_or_push}
 use Rattle.overlay_geom.specs.Plane.{Step}
 use Rattle.overlay_plane.specs.Turn.{Hand, IsNextStep, step_round, IsOrbit, no_step}
-use Rattle.overlay_plane.specs.Alternates.{Alternates}
+use Rattle.overlay_plane.specs.NextSteps.{LeadsOn}
 use Rattle.overlay_plane.specs.OrbitsSoFar.{IsOrbitSoFar, last_of, OrbitsGrow}
-use Rattle.overlay_plane.proofs.NextSteps.{next_injective}
 use Rattle.overlay_plane.proofs.Pigeonhole.{Twice, pigeonhole}
 use Rattle.overlay_plane.proofs.ItemsRound.{item_round-here, item_round-whole, item_round-within, place_of, one_place}
 
-module _ (steps : List Step) (alternates : Alternates steps) (hand : Hand) (walk : List Step) (far : IsOrbitSoFar steps hand walk) where
+module _ (steps : List Step) (hand : Hand) (leads : LeadsOn steps hand) (walk : List Step) (far : IsOrbitSoFar steps hand walk) where
   -- each step but the last is followed by its next step
   followed : (k : ℕ) → suc k < length walk → IsNextStep steps hand (step_round walk k) (step_round walk (suc k))
   followed k h = let one_more : k + 1 ≡ suc k = omega arith in subst (λ j. IsNextStep steps hand (step_round walk k) (step_round walk j)) one_more (far.goes_on k (omega arith))
@@ -29,7 +28,7 @@ module _ (steps : List Step) (alternates : Alternates steps) (hand : Hand) (walk
   apart_so_far : (i j : ℕ) → i < j → j < length walk → ¬ (step_round walk i ≡ step_round walk j)
   apart_so_far zero j less h e = far.once j less h (sym e)
   apart_so_far (suc i) zero less h e = omega arith
-  apart_so_far (suc i) (suc j) less h e = apart_so_far i j (omega arith) (omega arith) (next_injective steps alternates hand (step_round walk i) (step_round walk j) (step_round walk (suc i)) (inside_round i) (inside_round j) (followed i (omega arith)) (subst (λ t. IsNextStep steps hand (step_round walk j) t) (sym e) (followed j h)))
+  apart_so_far (suc i) (suc j) less h e = apart_so_far i j (omega arith) (omega arith) (leads.apart (step_round walk i) (step_round walk j) (step_round walk (suc i)) (inside_round i) (inside_round j) (followed i (omega arith)) (subst (λ t. IsNextStep steps hand (step_round walk j) t) (sym e) (followed j h)))
 
   once_so_far : (i j : ℕ) → i < length walk → j < length walk → step_round walk i ≡ step_round walk j → i ≡ j
   once_so_far i j h k e = ⊎_elim (λ same. same) (λ either. ⊎_elim (λ less. absurd (apart_so_far i j less k e)) (λ more. absurd (apart_so_far j i more h (sym e))) either) (cases_order i j)
@@ -47,7 +46,7 @@ module _ (steps : List Step) (alternates : Alternates steps) (hand : Hand) (walk
     where
       by : (k : ℕ) × (k < length walk) × (step_round walk k ≡ t) → t ≡ step_round walk 0
       by (zero, h, e) = sym e
-      by (suc k, h, e) = absurd (apart_so_far k (length walk - 1) (omega arith) (let some = far.some in omega arith) (next_injective steps alternates hand (step_round walk k) (last_of walk) t (inside_round k) (inside_round (length walk - 1)) (subst (λ w. IsNextStep steps hand (step_round walk k) w) e (followed k h)) next))
+      by (suc k, h, e) = absurd (apart_so_far k (length walk - 1) (omega arith) (let some = far.some in omega arith) (leads.apart (step_round walk k) (last_of walk) t (inside_round k) (inside_round (length walk - 1)) (subst (λ w. IsNextStep steps hand (step_round walk k) w) e (followed k h)) next))
 
   -- where it is the first one, the walk is the orbit
   closes : IsNextStep steps hand (last_of walk) (step_round walk 0) → IsOrbit steps hand walk
@@ -88,12 +87,12 @@ module _ (steps : List Step) (alternates : Alternates steps) (hand : Hand) (walk
 pub orbits_grow : OrbitsGrow
 orbits_grow = record {
   begins = λ steps hand s c. record { some = omega arith; inside = c; goes_on = λ k h. absurd (omega arith); once = λ k positive h e. omega arith };
-  goes_round = λ steps alternates hand walk far. record {
-    inside = inside_round steps alternates hand walk far;
-    once_each = once_so_far steps alternates hand walk far;
-    few = few steps alternates hand walk far;
-    comes_to_new = comes_to_new steps alternates hand walk far;
-    closes = closes steps alternates hand walk far;
-    grows = grows steps alternates hand walk far;
+  goes_round = λ steps hand leads walk far. record {
+    inside = inside_round steps hand leads walk far;
+    once_each = once_so_far steps hand leads walk far;
+    few = few steps hand leads walk far;
+    comes_to_new = comes_to_new steps hand leads walk far;
+    closes = closes steps hand leads walk far;
+    grows = grows steps hand leads walk far;
   };
 }

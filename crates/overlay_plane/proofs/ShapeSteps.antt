@@ -8,7 +8,7 @@ use Rattle.overlay_geom.specs.Plane.{Point, PlanePoint, Step, steps_of, winding}
 use Rattle.overlay_geom.proofs.Totals.{total-IsPermutation}
 use Rattle.overlay_plane.specs.Alternates.{Alternates}
 use Rattle.overlay_plane.specs.SelectedSteps.{selected_steps}
-use Rattle.overlay_plane.specs.Contours.{outline_or_hole_hand, all_steps, IsContour}
+use Rattle.overlay_plane.specs.Contours.{alternating, outline_or_hole_hand, all_steps, IsContour}
 use Rattle.overlay_plane.specs.Binding.{shapes_of, walks_of, HaveShapes, ShapesHaveEachWalk}
 use Rattle.overlay_plane.specs.ShapeWindings.{steps_of_shapes, points_of_shapes, AreKeptOrThinned, ShapesHaveEachStep, ShapesWind}
 use Rattle.overlay_plane.proofs.AlongLines.{winding_part}
@@ -47,7 +47,7 @@ pub shapes_have_each_step : ShapesHaveEachStep
 shapes_have_each_step holds subj clip es on_left walks cut bound are_bound =
     subst (λ ss. IsPermutation steps ss) (sym (steps_of_all (shapes_of on_left bound) contours))
     (IsPermutation-trans steps (all_steps walks) (all_steps (walks_of (shapes_of on_left bound)))
-    (cuts_take_each_once (outline_or_hole_hand on_left) steps alternate (selected_steps_once holds subj clip es cut.ruled on_left) walks cut.cut)
+    (cuts_take_each_once (outline_or_hole_hand on_left) steps (alternating alternate) (selected_steps_once holds subj clip es cut.ruled on_left) walks cut.cut)
     (shapes_alike on_left walks bound are_bound have (λ (w : List Step). w)))
   where
     steps : List Step

@@ -11,7 +11,7 @@ use Rattle.overlay_geom.specs.Edges.{CountedEdge}
 use Rattle.overlay_geom.specs.Settled.{IsSettledBy}
 use Rattle.overlay_geom.proofs.Mapped.{AllPairs-map}
 use Rattle.overlay_plane.specs.SelectedSteps.{selected_steps}
-use Rattle.overlay_plane.specs.Contours.{is_filled_above, outline_or_hole_hand, all_steps, IsContour}
+use Rattle.overlay_plane.specs.Contours.{alternating, is_filled_above, outline_or_hole_hand, all_steps, IsContour}
 use Rattle.overlay_plane.specs.Anchors.{HasEachEdgeOnce}
 use Rattle.overlay_plane.specs.Binding.{AreCutFrom, all_filled_above, filled_above_edges}
 use Rattle.overlay_plane.proofs.CutWalks.{cuts_take_each_once}
@@ -37,7 +37,7 @@ module _ (holds : ℤ → ℤ → Bool) (subj clip : CountedEdge → ℤ) (es : 
 
   -- the walks have them in another order
   moved : IsPermutation selected (all_steps walks)
-  moved = cuts_take_each_once (outline_or_hole_hand on_left) selected (selected_alternate holds subj clip es cut.ruled on_left)
+  moved = cuts_take_each_once (outline_or_hole_hand on_left) selected (alternating (selected_alternate holds subj clip es cut.ruled on_left))
       (selected_steps_once holds subj clip es cut.ruled on_left) walks cut.cut
 
   -- a walk's step is selected

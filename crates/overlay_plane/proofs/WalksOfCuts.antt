@@ -21,6 +21,7 @@ use Rattle.overlay_plane.proofs.ClosedWalks.{orbits_are_contours}
 use Rattle.overlay_plane.proofs.CutWalks.{left_parts, cuts_are_orbits}
 use Rattle.overlay_plane.proofs.CutWindings.{selected_alternate}
 use Rattle.overlay_plane.proofs.LaterEntries.{Each-from_all_pairs, Each-weaker, AllPairs-from_each}
+use Rattle.overlay_plane.proofs.NextSteps.{alternating_steps_lead_on}
 use Rattle.overlay_plane.proofs.OrbitSteps.{orbits_are_cycles}
 use Rattle.overlay_plane.proofs.SelectedLists.{selected_steps_of_edges}
 use Rattle.overlay_plane.proofs.SelectedWindings.{along_edge}
@@ -127,7 +128,8 @@ module _ (holds : ℤ → ℤ → Bool) (subj clip : CountedEdge → ℤ) (es : 
 
         within : (s : Step) → Contains walk s → Contains remaining s
         within s c = All-contains (Contains remaining) walk s
-            (orbits_are_cycles remaining first.alternate (outline_or_hole_hand on_left (step_round walk 0)) walk first.orbit).inside c
+            (orbits_are_cycles remaining (outline_or_hole_hand on_left (step_round walk 0))
+            (alternating_steps_lead_on remaining first.alternate (outline_or_hole_hand on_left (step_round walk 0))) walk first.orbit).inside c
 
         contour : IsContour walk
         contour = orbits_are_contours remaining first.alternate (outline_or_hole_hand on_left (step_round walk 0)) walk first.orbit

@@ -7,7 +7,7 @@ use Rattle.overlay_geom.specs.Settled.{IsSettled}
 use Rattle.overlay_plane.specs.Turn.{Hand, IsNextStep, IsOrbit}
 use Rattle.overlay_plane.specs.Turn.Hand.{left, right}
 use Rattle.overlay_plane.specs.Alternates.{Alternates}
-use Rattle.overlay_plane.specs.NextSteps.{IsClosedUnderNext}
+use Rattle.overlay_plane.specs.NextSteps.{LeadsOn, IsClosedUnderNext}
 use Rattle.overlay_plane.specs.EdgeLists.{IsForwardBy, IsBalanced}
 use Rattle.overlay_plane.specs.Regions.{HasDistinctEnds, one_if}
 
@@ -84,7 +84,7 @@ WindingAcrossAlternatingSteps = (es : List CountedEdge) (steps taken : List Step
 
 -- no step stands twice in an orbit
 abbrev pub OrbitsHaveEachOnce : Type 0
-OrbitsHaveEachOnce = (steps : List Step) → Alternates steps → (hand : Hand) (walk : List Step) → IsOrbit steps hand walk → HasEachOnce walk
+OrbitsHaveEachOnce = (steps : List Step) (hand : Hand) → LeadsOn steps hand → (walk : List Step) → IsOrbit steps hand walk → HasEachOnce walk
 
 -- an orbit's steps have balanced counts
 abbrev pub OrbitsAreBalanced : Type 0

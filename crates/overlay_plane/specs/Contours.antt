@@ -7,6 +7,7 @@ use Rattle.overlay_geom.specs.Plane.{Step, is_forward, edge_of, steps_of, points
 use Rattle.overlay_plane.specs.Turn.{Hand, step_round, IsOrbit}
 use Rattle.overlay_plane.specs.Turn.Hand.{left, right}
 use Rattle.overlay_plane.specs.Alternates.{Alternates}
+use Rattle.overlay_plane.specs.NextSteps.{LeadsOn}
 use Rattle.overlay_plane.specs.Orbits.{is_step_of}
 use Rattle.overlay_plane.specs.BesideOrbits.{HasEachOnce}
 use Rattle.overlay_plane.specs.LeftmostSteps.{NoneHasEndBefore, NoneTakenAbove}
@@ -46,13 +47,27 @@ pub data IsCutInto (hand_of : Step → Hand) : List Step → List (List Step) �
   next : {steps : List Step} {s : Step} {ss : List Step} {rest : List (List Step)} → IsStart steps s → IsOrbit steps (hand_of s) (s ∷ ss) →
       IsCutInto hand_of (without steps (s ∷ ss)) rest → IsCutInto hand_of steps ((s ∷ ss) ∷ rest)
 
+-- the steps can be cut by the rule: they alternate, or the rule tells one hand for all of them, by which they lead on
+pub data CanBeCut (hand_of : Step → Hand) (steps : List Step) : Type 0 where
+  alternating : Alternates steps → CanBeCut hand_of steps
+  by_one_hand : (hand : Hand) → ((s : Step) → Contains steps s → hand_of s ≡ hand) → LeadsOn steps hand → CanBeCut hand_of steps
+
+-- so they lead on by the hand that any of them tells, and what an orbit by that hand leaves can be cut
+pub record LeavesCuttable (hand_of : Step → Hand) (steps : List Step) (s : Step) : Type 0 where
+  pub leads_on : LeadsOn steps (hand_of s)
+  pub leaves : (walk : List Step) → IsOrbit steps (hand_of s) walk → CanBeCut hand_of (without steps walk)
+
+abbrev pub CutsLeaveCuttable : Type 0
+CutsLeaveCuttable = (hand_of : Step → Hand) (steps : List Step) → CanBeCut hand_of steps → (s : Step) → Contains steps s →
+    LeavesCuttable hand_of steps s
+
 -- all steps of the walks
 abbrev pub all_steps : List (List Step) → List Step
 all_steps walks = flat_map (λ walk. walk) walks
 
 -- the cut takes each step exactly once
 abbrev pub CutsTakeEachOnce : Type 0
-CutsTakeEachOnce = (hand_of : Step → Hand) (steps : List Step) → Alternates steps → HasEachOnce steps → (walks : List (List Step)) →
+CutsTakeEachOnce = (hand_of : Step → Hand) (steps : List Step) → CanBeCut hand_of steps → HasEachOnce steps → (walks : List (List Step)) →
     IsCutInto hand_of steps walks → IsPermutation steps (all_steps walks)
 
 -- the walk is the orbit of the start of steps that alternate
@@ -66,9 +81,9 @@ abbrev pub CutsAreOrbits : Type 0
 CutsAreOrbits = (hand_of : Step → Hand) (steps : List Step) → Alternates steps → (walks : List (List Step)) → IsCutInto hand_of steps walks →
     (k : ℕ) → k < length walks → IsFirstWalk hand_of (without steps (all_steps (take k walks))) (slice_index_or walks k [])
 
--- every set of steps that alternates can be cut
+-- there is a cut of steps that can be cut
 abbrev pub CutsExist : Type 0
-CutsExist = (hand_of : Step → Hand) (steps : List Step) → Alternates steps → (walks : List (List Step)) × IsCutInto hand_of steps walks
+CutsExist = (hand_of : Step → Hand) (steps : List Step) → CanBeCut hand_of steps → (walks : List (List Step)) × IsCutInto hand_of steps walks
 
 -- the walk is a closed contour: three steps or more, all different; each leads to the next, and the last to the first; they are the steps of its points
 pub record IsContour (walk : List Step) : Type 0 where

@@ -11,6 +11,7 @@ pub mod ContourWindings
 pub mod Contours
 pub mod CutPoints
 pub mod Cutting
+pub mod DerivedData
 pub mod EdgeLists
 pub mod GreatestBelow
 pub mod Heights

@@ -3,7 +3,7 @@
 use Rattle.std.specs.Prelude.{◌≡◌, ◌≢◌, ℕ, ◌+◌, ◌-◌, ◌<◌, ◌≤◌, List, [], ◌∷◌, ◌++◌, length, Contains}
 use Rattle.overlay_geom.specs.Plane.{Step}
 use Rattle.overlay_plane.specs.Turn.{Hand, IsNextStep, step_round, IsOrbit}
-use Rattle.overlay_plane.specs.Alternates.{Alternates}
+use Rattle.overlay_plane.specs.NextSteps.{LeadsOn}
 
 -- each step of the walk but the last is followed by its next step, and the first one has not come again
 pub record IsOrbitSoFar (steps : List Step) (hand : Hand) (walk : List Step) : Type 0 where
@@ -28,4 +28,4 @@ pub record GoesRound (steps : List Step) (hand : Hand) (walk : List Step) : Type
 -- a step of the set alone is an orbit so far, and each orbit so far goes on round
 pub record OrbitsGrow : Type 0 where
   pub begins : (steps : List Step) (hand : Hand) (s : Step) → Contains steps s → IsOrbitSoFar steps hand (s ∷ [])
-  pub goes_round : (steps : List Step) → Alternates steps → (hand : Hand) (walk : List Step) → IsOrbitSoFar steps hand walk → GoesRound steps hand walk
+  pub goes_round : (steps : List Step) (hand : Hand) → LeadsOn steps hand → (walk : List Step) → IsOrbitSoFar steps hand walk → GoesRound steps hand walk

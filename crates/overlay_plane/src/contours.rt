@@ -1,9 +1,14 @@
-//! The cut of steps that alternate into contours.
+//! The cut of steps into walks: of steps that alternate into contours.
 
-ghost use Rattle.overlay_plane.specs.Contours.{CutsExist, CutsTakeEachOnce, CutsAreOrbits};
+ghost use Rattle.overlay_plane.specs.Contours.{CutsLeaveCuttable, CutsExist, CutsTakeEachOnce, CutsAreOrbits};
 ghost use Rattle.overlay_plane.specs.Contours.{OrbitsAreContours, CutsAreContours};
 
-/// Every set of steps that alternates can be cut.
+/// Steps that can be cut lead on by the hand that any of them tells, and what an orbit by that hand leaves can be cut.
+pub fn cuts_leave_cuttable()
+    ensures { CutsLeaveCuttable }
+{}
+
+/// There is a cut of steps that can be cut.
 pub fn cuts_exist()
     ensures { CutsExist }
 {}
@@ -13,17 +18,17 @@ pub fn cuts_take_each_once()
     ensures { CutsTakeEachOnce }
 {}
 
-/// What the first walks leave alternates, and the next walk is the orbit of its start.
+/// Where the steps alternate, what the first walks leave alternates, and the next walk is the orbit of its start.
 pub fn cuts_are_orbits()
     ensures { CutsAreOrbits }
 {}
 
-/// An orbit is a closed contour.
+/// An orbit of steps that alternate is a closed contour.
 pub fn orbits_are_contours()
     ensures { OrbitsAreContours }
 {}
 
-/// The walks that a cut gives are closed contours.
+/// The walks that a cut of steps that alternate gives are closed contours.
 pub fn cuts_are_contours()
     ensures { CutsAreContours }
 {}

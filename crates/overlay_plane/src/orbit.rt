@@ -1,7 +1,7 @@
-//! Orbits of a hand in a set of steps that alternates.
+//! Orbits of a hand in a set of steps that leads on by it.
 
 ghost use Rattle.overlay_plane.specs.Orbits.{OrbitsExist, OrbitsAreCycles, OrbitsHaveThreeSteps};
-ghost use Rattle.overlay_plane.specs.Orbits.{OrbitsAreUnique, OrbitsAreApart};
+ghost use Rattle.overlay_plane.specs.Orbits.{OrbitsAreUnique, OrbitsAreApart, OrbitsAreClosed};
 ghost use Rattle.overlay_plane.specs.Orbits.{OrbitsLeaveTheRest, OrbitsOfTheRest};
 ghost use Rattle.overlay_plane.specs.OrbitsSoFar.{OrbitsGrow};
 
@@ -15,7 +15,7 @@ pub fn orbits_are_cycles()
     ensures { OrbitsAreCycles }
 {}
 
-/// An orbit has three steps or more.
+/// An orbit of steps that alternate has three steps or more.
 pub fn orbits_have_three_steps()
     ensures { OrbitsHaveThreeSteps }
 {}
@@ -30,7 +30,12 @@ pub fn orbits_are_apart()
     ensures { OrbitsAreApart }
 {}
 
-/// What an orbit leaves alternates.
+/// A test that holds of the steps of an orbit holds of a step exactly where it holds of its next step.
+pub fn orbits_are_closed()
+    ensures { OrbitsAreClosed }
+{}
+
+/// What an orbit of steps that alternate leaves alternates.
 pub fn orbits_leave_the_rest()
     ensures { OrbitsLeaveTheRest }
 {}

@@ -19,7 +19,7 @@ use Rattle.overlay_plane.proofs.WhereEdgesStart.{covers_start, at_start_low, at_
 use Rattle.overlay_scan.specs.Lists.{is_lower_at_start, is_lower}
 
 -- a test by the sign of a number, and by another test where it is 0
-tested : (s : ℤ) (c u : Bool) → (pos 0 <ℤ s → u ≡ true) → (s <ℤ pos 0 → u ≡ false) → (s ≡ pos 0 → u ≡ c) →
+pub tested : (s : ℤ) (c u : Bool) → (pos 0 <ℤ s → u ≡ true) → (s <ℤ pos 0 → u ≡ false) → (s ≡ pos 0 → u ≡ c) →
     (int_lt (pos 0) s || (int_eq s (pos 0) && c)) ≡ u
 tested s c u low high level = by_sign s
     (λ less. ap (λ b. b || (int_eq s (pos 0) && c)) (test_from_ge (pos 0) s (omega linear)) ∙ ap (λ b. b && c) (not_zero less (int_eq s (pos 0)) refl) ∙ sym (high less))
@@ -30,7 +30,8 @@ tested s c u low high level = by_sign s
     not_zero less false e = e
     not_zero less true e = absurd (let zero = (Decides-int_eq s (pos 0)).0 e in omega linear)
 
-cross-side : (f : Edge) (p : Point) → cross_at f.a f.b p ≡ side f (in_plane p)
+-- the cross product at the start of an edge is the side of a point
+pub cross-side : (f : Edge) (p : Point) → cross_at f.a f.b p ≡ side f (in_plane p)
 cross-side f p = solve 6
     (λ ax ay bx by x y. (bx ⊖ ax) ⊗ (y ⊖ ay) ⊖ (by ⊖ ay) ⊗ (x ⊖ ax) ≗ (bx ⊖ ax) ⊗ (y ⊖ ay ⊗ number (pos 1)) ⊖ (by ⊖ ay) ⊗ (x ⊖ ax ⊗ number (pos 1))) tt f.a.x f.a.y f.b.x f.b.y p.x p.y
 
@@ -86,7 +87,7 @@ covers_before e x y over from to = and_from (int_le (e.a.x *ℤ pos 1) y) (int_l
     (test_from_lt y (e.b.x *ℤ pos 1) (let last = covers_to e x (pos 1) over in omega (arith, ints)))
 
 -- the start of an edge over x is at or before x, and before its end
-starts_before : (e : Edge) (x : ℤ) → covers e x (pos 1) ≡ true → e.a.x ≤ℤ x
+pub starts_before : (e : Edge) (x : ℤ) → covers e x (pos 1) ≡ true → e.a.x ≤ℤ x
 starts_before e x over = let from = covers_from e x (pos 1) over in omega (arith, ints)
 
 reaches : (e : Edge) (x : ℤ) → covers e x (pos 1) ≡ true → e.a.x <ℤ e.b.x

@@ -9,6 +9,7 @@ use Rattle.overlay_geom.proofs.Entries.{Contains-head, Contains-later, Contains-
 use Rattle.overlay_geom.proofs.Mapped.{mapped_more}
 use Rattle.overlay_geom.proofs.Merging.{AllPairs-head, AllPairs-tail}
 use Rattle.overlay_plane.proofs.Entries.{Contains-filter, Contains-from_filter}
+use Rattle.overlay_plane.specs.Anchors.{is_below_anchor}
 use Rattle.overlay_plane.specs.Heights.{is_under}
 use Rattle.overlay_scan.specs.Scan.{Entry}
 use Rattle.overlay_scan.specs.Laws.{LookUpGivesTheGreatest}
@@ -50,8 +51,8 @@ last_is R (x ∷ y ∷ ys) pairs f e =
 -- the law of specs/Laws
 pub look_up_gives_the_greatest : (V : Type 0) → LookUpGivesTheGreatest V
 look_up_gives_the_greatest V fs e x order f found =
-    let under : Entry V → Bool = λ g. is_under g.edge e x (pos 1) in
-    let last = last_is (λ g h. is_under g.edge h.edge x (pos 1) ≡ true) (filter under fs)
-    (AllPairs-filter (λ g h. is_under g.edge h.edge x (pos 1) ≡ true) under fs order) f found in
-    let at = Contains-from_filter under fs f last.0 in
-    record { entry = at.0; under = at.1; greatest = λ g in_list below. last.1 g (Contains-filter under fs g in_list below) }
+    let below : Entry V → Bool = λ g. is_below_anchor e g.edge in
+    let last = last_is (λ g h. is_under g.edge h.edge x (pos 1) ≡ true) (filter below fs)
+    (AllPairs-filter (λ g h. is_under g.edge h.edge x (pos 1) ≡ true) below fs order) f found in
+    let at = Contains-from_filter below fs f last.0 in
+    record { entry = at.0; below = at.1; greatest = λ g in_list is. last.1 g (Contains-filter below fs g in_list is) }

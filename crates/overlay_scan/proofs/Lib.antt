@@ -1,5 +1,6 @@
 pub mod Answered
 pub mod AtStarts
+pub mod BelowStarts
 pub mod LastEntries
 pub mod LinesFit
 pub mod Moving

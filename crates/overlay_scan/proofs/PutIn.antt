@@ -11,13 +11,15 @@ use Rattle.overlay_geom.specs.Settled.{MeetInEnds}
 use Rattle.overlay_geom.proofs.Merging.{AllPairs-head, AllPairs-tail}
 use Rattle.overlay_geom.proofs.OneLine.{meet_in_ends_exchanged}
 use Rattle.overlay_geom.proofs.Orders.{edge_eq-flip}
+use Rattle.overlay_plane.specs.Anchors.{is_below_anchor}
 use Rattle.overlay_plane.specs.Heights.{covers, is_under}
 use Rattle.overlay_plane.proofs.Entries.{All-first, All-rest}
 use Rattle.overlay_plane.proofs.Under.{under_transitive, under_total}
-use Rattle.overlay_scan.specs.Scan.{Entry, IsOver, AreLive, IsFromBottomToTop, IsPutIn, MeetsOthers, IsNewAmong}
+use Rattle.overlay_scan.specs.Scan.{Entry, IsOver, IsAsked, AreLive, IsFromBottomToTop, IsPutIn, MeetsOthers, IsNewAmong}
 use Rattle.overlay_scan.specs.declared.list.LiveEdge.{LiveEdge}
 use Rattle.overlay_scan.specs.Lists.{plain_entry, plain_entries, is_lower}
 use Rattle.overlay_scan.proofs.AtStarts.{lower_is_under}
+use Rattle.overlay_scan.proofs.BelowStarts.{IsBeside, lower_is_below, below_through}
 use Rattle.overlay_scan.proofs.Prefixes.{PassBefore, prefix-same, filter_is_prefix, prefix_passes, others_fail}
 
 -- ---- lists with one more item
@@ -59,10 +61,6 @@ module _ {V : Type 0} (limit : ℕ) (x : ℤ) (e : Edge) (fs : List (Entry V)) (
   pub count_agrees : prefix_len (λ f. is_lower f.edge e) fs ≡ prefix_len (λ f. is_under f.edge e x (pos 1)) fs
   count_agrees = prefix-same (λ f. is_lower f.edge e) (λ f. is_under f.edge e x (pos 1)) fs tests_agree
 
-  -- what is under the edge is what the count passes
-  pub found_under : take (prefix_len (λ f. is_lower f.edge e) fs) fs ≡ filter (λ f. is_under f.edge e x (pos 1)) fs
-  found_under = ap (λ n. take n fs) count_agrees ∙ sym (filter_is_prefix (λ f. is_under f.edge e x (pos 1)) fs under_before)
-
   module _ (fresh : IsNewAmong e fs) (value : V) where
     before : All (λ f. is_under f.edge e x (pos 1) ≡ true) (take (prefix_len (λ f. is_lower f.edge e) fs) fs)
     before = rw count_agrees (prefix_passes (λ f. is_under f.edge e x (pos 1)) fs)
@@ -91,6 +89,24 @@ module _ {V : Type 0} (limit : ℕ) (x : ℤ) (e : Edge) (fs : List (Entry V)) (
       under = before;
       over = after;
     }
+
+-- ---- the place of the start of an edge that is asked for
+
+module _ {V : Type 0} (limit : ℕ) (x : ℤ) (e : Edge) (fs : List (Entry V)) (live : AreLive limit x fs) (asked : IsAsked limit x e) (meets : MeetsOthers e fs) where
+  beside : All (λ f. IsBeside e asked.forward f.edge) fs
+  beside k d lt = record { over = subst (λ z. covers (get_or fs k d).edge z (pos 1) ≡ true) (sym asked.starts) (live.over k d lt).over; meets = meets k d lt }
+
+  -- what is under an entry that is below the start is below it
+  below_before : PassBefore (λ f. is_below_anchor e f.edge) fs
+  below_before i j d lt end below = below_through e asked.forward (get_or fs i d).edge (get_or fs j d).edge (beside i d (omega arith)) (beside j d end)
+      (meet_in_ends_exchanged (get_or fs j d).edge (get_or fs i d).edge (live.apart i j d lt end))
+      (subst (λ z. is_under (get_or fs i d).edge (get_or fs j d).edge z (pos 1) ≡ true) (sym asked.starts) (live.order i j d lt end)) below
+
+  -- what is below the start is what the count passes
+  pub found_below : take (prefix_len (λ f. is_lower f.edge e) fs) fs ≡ filter (λ f. is_below_anchor e f.edge) fs
+  found_below = ap (λ n. take n fs) (prefix-same (λ f. is_lower f.edge e) (λ f. is_below_anchor e f.edge) fs
+      (λ k d lt. lower_is_below e asked.forward (get_or fs k d).edge (beside k d lt)))
+      ∙ sym (filter_is_prefix (λ f. is_below_anchor e f.edge) fs below_before)
 
 -- what a new entry is put in to is live with it
 pub live_with : {V : Type 0} (limit : ℕ) (x : ℤ) (n : Entry V) (fs new : List (Entry V)) → AreLive limit x fs → IsOver limit x n.edge →

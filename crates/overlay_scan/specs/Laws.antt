@@ -1,16 +1,17 @@
 -- What look-ups find in a list from bottom to top.
 use Rattle.std.specs.Prelude.{◌≡◌, ◌⊎◌, true, ℤ, pos, List, Contains, Some}
 use Rattle.overlay_geom.specs.Plane.{Edge}
+use Rattle.overlay_plane.specs.Anchors.{is_below_anchor}
 use Rattle.overlay_plane.specs.Heights.{is_under}
 use Rattle.overlay_scan.specs.Scan.{Entry, IsFromBottomToTop, entry_below}
 
--- f is an entry under e at x, and every other entry that is so is under f
-pub record IsGreatestUnder {V : Type 0} (e : Edge) (x : ℤ) (fs : List (Entry V)) (f : Entry V) : Type 0 where
+-- f is an entry below the start of e, and every other entry that is so is under f at x
+pub record IsGreatestBelow {V : Type 0} (e : Edge) (x : ℤ) (fs : List (Entry V)) (f : Entry V) : Type 0 where
   pub entry : Contains fs f
-  pub under : is_under f.edge e x (pos 1) ≡ true
-  pub greatest : (g : Entry V) → Contains fs g → is_under g.edge e x (pos 1) ≡ true → (g ≡ f) ⊎ (is_under g.edge f.edge x (pos 1) ≡ true)
+  pub below : is_below_anchor e f.edge ≡ true
+  pub greatest : (g : Entry V) → Contains fs g → is_below_anchor e g.edge ≡ true → (g ≡ f) ⊎ (is_under g.edge f.edge x (pos 1) ≡ true)
 
--- in a list from bottom to top, the last entry under an edge is the greatest one
+-- in a list from bottom to top, the last entry below the start of an edge is the greatest one
 abbrev pub LookUpGivesTheGreatest : Type 0 → Type 0
-LookUpGivesTheGreatest V = (fs : List (Entry V)) (e : Edge) (x : ℤ) → IsFromBottomToTop x fs → (f : Entry V) → entry_below e x fs ≡ Some f →
-    IsGreatestUnder e x fs f
+LookUpGivesTheGreatest V = (fs : List (Entry V)) (e : Edge) (x : ℤ) → IsFromBottomToTop x fs → (f : Entry V) → entry_below e fs ≡ Some f →
+    IsGreatestBelow e x fs f

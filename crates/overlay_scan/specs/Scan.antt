@@ -5,10 +5,11 @@ use Rattle.std.specs.List.{last_or}
 use Rattle.std.specs.Ordering.{is_gt}
 use Rattle.std.specs.declared.cmp.Ordering.{Ordering}
 use Rattle.std.specs.declared.cmp.Ordering.TheVariants.{Less, Greater}
-use Rattle.overlay_geom.specs.Plane.{Edge, edge_eq}
+use Rattle.overlay_geom.specs.Plane.{Edge, edge_eq, point_lt}
 use Rattle.overlay_geom.specs.Points.{plain_point, InRange}
 use Rattle.overlay_geom.specs.Settled.{MeetInEnds}
 use Rattle.overlay_geom.specs.declared.point.IntPoint.{IntPoint}
+use Rattle.overlay_plane.specs.Anchors.{is_below_anchor}
 use Rattle.overlay_plane.specs.Heights.{covers, is_under}
 
 -- an edge, and the value that was inserted with it
@@ -44,6 +45,13 @@ pub record IsOver (limit : ℕ) (x : ℤ) (e : Edge) : Type 0 where
   pub a_in_range : InRange limit e.a
   pub b_in_range : InRange limit e.b
   pub over : covers e x (pos 1) ≡ true
+
+-- an edge that starts at x, and leads forward: both ends are in the coordinate range, and it may be vertical
+pub record IsAsked (limit : ℕ) (x : ℤ) (e : Edge) : Type 0 where
+  pub a_in_range : InRange limit e.a
+  pub b_in_range : InRange limit e.b
+  pub forward : point_lt e.a e.b ≡ true
+  pub starts : e.a.x ≡ x
 
 -- just right of x, each entry is under all later ones
 abbrev pub IsFromBottomToTop : {V : Type 0} → ℤ → List (Entry V) → Type 0
@@ -89,13 +97,14 @@ abbrev pub value_or : {V : Type 0} → V → Option (Entry V) → V
 value_or default None = default
 value_or default (Some f) = f.value
 
--- the last of the entries that are under e at x
-abbrev pub entry_below : {V : Type 0} → Edge → ℤ → List (Entry V) → Option (Entry V)
-entry_below e x fs = last_entry (λ f. is_under f.edge e x (pos 1)) fs
+-- the last of the entries that are strictly below the start of e, or start there with a smaller slope; a vertical edge has
+-- the greatest slope
+abbrev pub entry_below : {V : Type 0} → Edge → List (Entry V) → Option (Entry V)
+entry_below e fs = last_entry (λ f. is_below_anchor e f.edge) fs
 
--- its value, and the default where no entry is under e
-abbrev pub value_below : {V : Type 0} → V → Edge → ℤ → List (Entry V) → V
-value_below default e x fs = value_or default (entry_below e x fs)
+-- its value, and the default where no entry is so
+abbrev pub value_below : {V : Type 0} → V → Edge → List (Entry V) → V
+value_below default e fs = value_or default (entry_below e fs)
 
 -- the value of the last entry whose edge's answer is not Greater, and the default where there is none
 abbrev pub value_up_to : {V : Type 0} → V → (Edge → Ordering) → List (Entry V) → V

@@ -7,7 +7,7 @@ ghost use Rattle.overlay_geom.specs.Lines.{plain_line};
 ghost use Rattle.overlay_scan.specs.Lists.{plain_entry, plain_entries, plain_sweep};
 ghost use Rattle.overlay_scan.specs.Lists.{IsInRange, is_lower_at_start, is_lower};
 ghost use Rattle.overlay_scan.specs.Scan.{empty_sweep, live_at, moved_to, value_or};
-ghost use Rattle.overlay_scan.specs.Scan.{MayMoveTo, IsOver, IsSweep, IsPutIn};
+ghost use Rattle.overlay_scan.specs.Scan.{MayMoveTo, IsOver, IsAsked, IsSweep, IsPutIn};
 ghost use Rattle.overlay_scan.specs.Scan.{MeetsOthers, IsNewAmong, value_below};
 ghost use Rattle.overlay_scan.specs.Scan.{IsCallableOn, IsAnsweredBy};
 
@@ -88,10 +88,9 @@ impl<I: IntNumber, V: Copy, A: Allocator> Scan<I, V> for ScanList<I, V, A> {
     fn first_less(&mut self, x: I, default: V, edge: IntLine<I>) -> V
         requires state { IsSweep I.limit (plain_sweep I.whole self.old) }
         requires moves { MayMoveTo (I.whole x) (plain_sweep I.whole self.old) }
-        requires over { IsOver I.limit (I.whole x) (plain_line I.whole edge) }
-        requires starts { (plain_line I.whole edge).a.x ≡ I.whole x }
+        requires asked { IsAsked I.limit (I.whole x) (plain_line I.whole edge) }
         requires meets { MeetsOthers (plain_line I.whole edge) (live_at (I.whole x) (plain_sweep I.whole self.old).entries) }
-        ensures value { result ≡ value_below default (plain_line I.whole edge) (I.whole x)
+        ensures value { result ≡ value_below default (plain_line I.whole edge)
             (live_at (I.whole x) (plain_sweep I.whole self.old).entries) }
         ensures content { plain_sweep I.whole self.new ≡ moved_to (I.whole x) (plain_sweep I.whole self.old) }
         ensures state { IsSweep I.limit (plain_sweep I.whole self.new) }
@@ -182,7 +181,8 @@ fn value_before<I: IntNumber, V: Copy>(entries: &[LiveEdge<I, V>], n: usize, def
 }
 
 /// Returns whether f is under e, where both are over one x and meet in ends alone: this is seen where
-/// the one starts that starts later.
+/// the one starts that starts later. Where e is vertical and f is over its start, it returns whether f
+/// is below that start, or starts there.
 pub fn is_under<I: IntNumber, V: Copy>(f: &LiveEdge<I, V>, e: &LiveEdge<I, V>) -> bool
     requires one { IsInRange I.limit (plain_entry I.whole f.now).edge }
     requires other { IsInRange I.limit (plain_entry I.whole e.now).edge }

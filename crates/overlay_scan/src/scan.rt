@@ -3,7 +3,7 @@
 ghost use Rattle.std.specs.Prelude.{◌≡◌, Some, OnOk, OnErr, IsOkUnless};
 ghost use Rattle.overlay_geom.specs.Lines.{plain_line};
 ghost use Rattle.overlay_scan.specs.Scan.{Sweep, empty_sweep, live_at, moved_to};
-ghost use Rattle.overlay_scan.specs.Scan.{MayMoveTo, IsOver, IsSweep, IsPutIn};
+ghost use Rattle.overlay_scan.specs.Scan.{MayMoveTo, IsOver, IsAsked, IsSweep, IsPutIn};
 ghost use Rattle.overlay_scan.specs.Scan.{MeetsOthers, IsNewAmong, value_below};
 ghost use Rattle.overlay_scan.specs.Scan.{IsCallableOn, IsAnsweredBy, AnswersRise, value_up_to};
 
@@ -38,16 +38,17 @@ pub trait Scan<I: IntNumber, V: Copy> {
         ensures state { IsSweep I.limit (content self.new) }
         ensures only { IsOkUnless result OverlayError.Memory };
 
-    /// Moves to x, where the asked edge starts, and returns the value of the highest live edge that
-    /// is under it just right of x, or `default` where none is. The asked edge is not vertical, and
-    /// meets each other live edge in ends alone. Its ends are in range. It takes no memory.
+    /// Moves to x, where the asked edge starts, and returns the value of the highest of the live edges
+    /// that are strictly below its start and of those that start there with a smaller slope, or
+    /// `default` where there is none. The asked edge leads from its smaller to its larger end, and may
+    /// be vertical: then each edge that starts there has a smaller slope. It meets each other live edge
+    /// in ends alone. Its ends are in range. It takes no memory.
     fn first_less(&mut self, x: I, default: V, edge: IntLine<I>) -> V
         requires state { IsSweep I.limit (content self.old) }
         requires moves { MayMoveTo (I.whole x) (content self.old) }
-        requires over { IsOver I.limit (I.whole x) (plain_line I.whole edge) }
-        requires starts { (plain_line I.whole edge).a.x ≡ I.whole x }
+        requires asked { IsAsked I.limit (I.whole x) (plain_line I.whole edge) }
         requires meets { MeetsOthers (plain_line I.whole edge) (live_at (I.whole x) (content self.old).entries) }
-        ensures value { result ≡ value_below default (plain_line I.whole edge) (I.whole x)
+        ensures value { result ≡ value_below default (plain_line I.whole edge)
             (live_at (I.whole x) (content self.old).entries) }
         ensures content { content self.new ≡ moved_to (I.whole x) (content self.old) }
         ensures state { IsSweep I.limit (content self.new) };

@@ -22,7 +22,7 @@ use Rattle.overlay_plane.proofs.LowerEdges.{lower_at_is_under}
 use Rattle.overlay_plane.proofs.Tests.{lt_from_test, test_from_lt, le_from_test}
 use Rattle.overlay_plane.proofs.Under.{under_irreflexive, under_asymmetric}
 use Rattle.overlay_scan.specs.Scan.{Entry, Sweep, live_at, IsOver, AreLive, MeetsOthers, entry_below, value_or, value_below}
-use Rattle.overlay_scan.specs.Laws.{IsGreatestUnder}
+use Rattle.overlay_scan.specs.Laws.{IsGreatestBelow}
 use Rattle.overlay_scan.proofs.LastEntries.{look_up_gives_the_greatest}
 use Rattle.overlay_walk.specs.Parents.{IsSwept}
 use Rattle.overlay_walk.specs.WalkEdges.{IsFilledEntry, AreFilledEntries}
@@ -116,15 +116,15 @@ module _ (on_left : Bool) (walks : List (List Step)) (contours : All IsContour w
         let of_e = anchor_walked hole kept e anchor in
         below_an_anchor_is_under e f of_e.forward of_f.forward (one_or_meet e f of_e of_f) upright
 
-    -- an edge below the anchor is that of a live entry under it
+    -- an edge below the anchor is that of a live entry below it
     live_below : (f : Edge) → Contains (all_filled_above on_left walks) f → is_below_anchor e f ≡ true →
-        (g : Entry ℕ) × Contains live g × (g.edge ≡ f) × (is_under g.edge e e.a.x (pos 1) ≡ true)
+        (g : Entry ℕ) × Contains live g × (g.edge ≡ f) × (is_below_anchor e g.edge ≡ true)
     live_below f c below =
         let found = Contains-from_map (λ (g : Entry ℕ). g.edge) fs f (filled.all f c) in
         let of_g = filled_walked found.0 (All-contains (IsFilledEntry on_left walks) fs found.0 filled.from found.1) in
-        let parts = and_parts (covers (found.0).edge e.a.x (pos 1)) (is_under (found.0).edge e e.a.x (pos 1))
-        (sym (below_is (found.0).edge of_g) ∙ ap (is_below_anchor e) found.2 ∙ below) in
-        (found.0, covering found.0 found.1 parts.0, found.2, parts.1)
+        let there = ap (is_below_anchor e) found.2 ∙ below in
+        let parts = and_parts (covers (found.0).edge e.a.x (pos 1)) (is_under (found.0).edge e e.a.x (pos 1)) (sym (below_is (found.0).edge of_g) ∙ there) in
+        (found.0, covering found.0 found.1 parts.0, found.2, there)
 
     -- the next walk, of which this is the index, and the anchor
     pub record FindsWalk (value : ℕ) : Type 0 where
@@ -142,8 +142,8 @@ module _ (on_left : Bool) (walks : List (List Step)) (contours : All IsContour w
       over_it : (f : Entry ℕ) → Contains live f → covers f.edge e.a.x (pos 1) ≡ true
       over_it f c = (All-contains (λ h. IsOver limit e.a.x h.edge) live f are_live.over c).over
 
-      -- the greatest live entry under the anchor is the next one below
-      next_found : (f : Entry ℕ) → IsGreatestUnder e e.a.x live f → FindsWalk f.value
+      -- the greatest live entry below the anchor is the next one below
+      next_found : (f : Entry ℕ) → IsGreatestBelow e e.a.x live f → FindsWalk f.value
       next_found f great = record {
         next = (own f great.entry).walk;
         at = (own f great.entry).at;
@@ -153,7 +153,7 @@ module _ (on_left : Bool) (walks : List (List Step)) (contours : All IsContour w
           edge = f.edge;
           next_below = record {
             among = Contains-flat_map (filled_above_edges on_left) walks (own f great.entry).walk f.edge there (own f great.entry).has;
-            below = below_is f.edge (filled_walked f (own f great.entry)) ∙ ap₂ (λ s t. s && t) (over_it f great.entry) great.under;
+            below = great.below;
             greatest = no_greater;
           };
           kept = there;
@@ -178,15 +178,15 @@ module _ (on_left : Bool) (walks : List (List Step)) (contours : All IsContour w
               (over_it f great.entry) (over_it k found.1) ∙ not_under k (great.greatest k found.1 found.3))
 
       -- so the look-up finds nothing, or the next walk
-      pub look_up : (none : ℕ) → none ≡ length walks → Finds (value_below none e e.a.x live)
-      look_up none past = by (entry_below e e.a.x live) refl
+      pub look_up : (none : ℕ) → none ≡ length walks → Finds (value_below none e live)
+      look_up none past = by (entry_below e live) refl
         where
-          nothing : entry_below e e.a.x live ≡ None → (f : Edge) → Contains (all_filled_above on_left walks) f → is_below_anchor e f ≡ false
+          nothing : entry_below e live ≡ None → (f : Edge) → Contains (all_filled_above on_left walks) f → is_below_anchor e f ≡ false
           nothing is f c = false_from_ne_true (is_below_anchor e f) (λ below.
               let found = live_below f c below in
-              no_last (filter (λ h. is_under h.edge e e.a.x (pos 1)) live) found.0
-              (Contains-filter (λ h. is_under h.edge e e.a.x (pos 1)) live found.0 found.1 found.3) is)
+              no_last (filter (λ h. is_below_anchor e h.edge) live) found.0
+              (Contains-filter (λ h. is_below_anchor e h.edge) live found.0 found.1 found.3) is)
 
-          by : (o : Option (Entry ℕ)) → entry_below e e.a.x live ≡ o → Finds (value_or none o)
+          by : (o : Option (Entry ℕ)) → entry_below e live ≡ o → Finds (value_or none o)
           by None is = inl (past, record { anchor = e; anchored = anchor; none = nothing is })
           by (Some f) is = inr (next_found f (look_up_gives_the_greatest ℕ live e e.a.x are_live.order f is))

@@ -65,7 +65,7 @@ module _ (on_left : Bool) (walks : List (List Step)) (contours : All IsContour w
             (after_front (λ k. h.edge.a.x ≤ℤ k.edge.a.x) hs i h lt (later_starts hs i h lt is holes.order))
 
         -- it is told of the hole
-        pub told_on : (none : ℕ) → none ≡ length walks → (below : ℕ) → below ≡ value_below none h.edge h.edge.a.x (live_at h.edge.a.x s.entries) →
+        pub told_on : (none : ℕ) → none ≡ length walks → (below : ℕ) → below ≡ value_below none h.edge (live_at h.edge.a.x s.entries) →
             All (λ k. IsToldAt on_left walks parents k.value) (take i hs) →
             All (λ k. IsToldAt on_left walks (slice_set parents h.value (shape_of numbers parents below)) k.value) (take (i + 1) hs)
         told_on none past below found told =

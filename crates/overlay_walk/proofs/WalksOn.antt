@@ -6,15 +6,15 @@ use Rattle.std.proofs.lemmas.List.{length_push, length-drop, get_or_push, get_or
 use Rattle.std.proofs.lemmas.List.Elements.{All-contains}
 use Rattle.overlay_geom.specs.Plane.{Step, step_eq}
 use Rattle.overlay_plane.specs.Turn.{Hand, is_met_before, IsNextStep, step_round, IsOrbit, no_step}
-use Rattle.overlay_plane.specs.Alternates.{Alternates}
+use Rattle.overlay_plane.specs.NextSteps.{LeadsOn}
 use Rattle.overlay_plane.specs.Contours.{without}
 use Rattle.overlay_plane.specs.Orbits.{is_step_of}
 use Rattle.overlay_plane.specs.OrbitsSoFar.{IsOrbitSoFar, last_of, GoesRound}
-use Rattle.overlay_plane.proofs.AtNodes.{by_steps, leaving_apart}
+use Rattle.overlay_plane.proofs.AtNodes.{by_steps, ways_apart}
 use Rattle.overlay_plane.proofs.CutWalks.{left_parts, left_from, without-none, is_step_of-append, without-without}
 use Rattle.overlay_plane.proofs.Entries.{any_of_entry}
 use Rattle.overlay_plane.proofs.ItemsRound.{item_round-here, place_of, Contains-item_round}
-use Rattle.overlay_plane.proofs.NextSteps.{next_exists, next_leaves}
+use Rattle.overlay_plane.proofs.LeadingOn.{has_next, next_leaves}
 use Rattle.overlay_plane.proofs.OrbitsApart.{is_step_of_decides}
 use Rattle.overlay_plane.proofs.OrbitsSoFar.{orbits_grow}
 use Rattle.overlay_plane.proofs.TurnOrder.{met_total}
@@ -50,7 +50,7 @@ pub record IsUnderWay (steps : List Step) (hand : Hand) (start : Step) (walk : L
 pub sets_out : (steps : List Step) (hand : Hand) (start : Step) → Contains steps start → IsUnderWay steps hand start [] start steps
 sets_out steps hand start c = record { far = orbits_grow.begins steps hand start c; begins = refl; rest = sym (without-none steps) }
 
-module _ (steps : List Step) (alternates : Alternates steps) (hand : Hand) (start : Step) (walk : List Step) (s : Step) (left : List Step) (way : IsUnderWay steps hand start walk s left) where
+module _ (steps : List Step) (hand : Hand) (leads : LeadsOn steps hand) (start : Step) (walk : List Step) (s : Step) (left : List Step) (way : IsUnderWay steps hand start walk s left) where
   -- the walk so far
   abbrev all : List Step
   all = walk ++ s ∷ []
@@ -59,7 +59,7 @@ module _ (steps : List Step) (alternates : Alternates steps) (hand : Hand) (star
   longer = length_push walk s
 
   round : GoesRound steps hand all
-  round = orbits_grow.goes_round steps alternates hand all way.far
+  round = orbits_grow.goes_round steps hand leads all way.far
 
   -- it ends with the step
   ends : last_of all ≡ s
@@ -91,12 +91,12 @@ module _ (steps : List Step) (alternates : Alternates steps) (hand : Hand) (star
 
   -- a step that is left leaves its end
   pub way_goes_on : Any (λ t. t.from ≡ s.to) left
-  way_goes_on = let next = next_exists steps alternates hand s pending_inside in
+  way_goes_on = let next = has_next steps hand leads s pending_inside in
       any_of_entry (λ t. t.from ≡ s.to) left next.0 (next_left next.0 next.1) (next.1).leaves
 
   -- the next step among those left is the next one of all
   pub next_of_all : (t : Step) → IsNextStep left hand s t → IsNextStep steps hand s t
-  next_of_all t next = by (next_exists steps alternates hand s pending_inside)
+  next_of_all t next = by (has_next steps hand leads s pending_inside)
     where
       by : (u : Step) × IsNextStep steps hand s u → IsNextStep steps hand s t
       by (u, real) = ⊎_elim (λ same. subst (λ w. IsNextStep steps hand s w) same real) (λ different. absurd (against different)) (by_steps u t)
@@ -107,8 +107,8 @@ module _ (steps : List Step) (alternates : Alternates steps) (hand : Hand) (star
               (All-contains (λ w. w.from ≡ s.to → is_met_before hand s.to s.from w.to t.to ≡ false) left u next.first (next_left u real) real.leaves) before)
               (λ after. both_ways (is_met_before hand s.to s.from t.to u.to)
               (All-contains (λ w. w.from ≡ s.to → is_met_before hand s.to s.from w.to u.to ≡ false) steps t real.first (left_inside t next.among) next.leaves) after)
-              (met_total hand s.to s.from u.to t.to (alternates.long s pending_inside)
-              (leaving_apart steps alternates s.to u t (next_leaves steps alternates hand s u real) (record { among = left_inside t next.among; at = next.leaves }) different))
+              (met_total hand s.to s.from u.to t.to (leads.long s pending_inside)
+              (ways_apart steps leads.long leads.one_leaves s.to u t (next_leaves steps hand s u real) (record { among = left_inside t next.among; at = next.leaves }) different))
 
   module _ (t : Step) (after : List Step) (next : IsNextStep left hand s t) (taken : after ≡ without left (t ∷ [])) where
     -- the next step among those left is the next one of the walk's last step

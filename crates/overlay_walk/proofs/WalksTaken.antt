@@ -4,7 +4,7 @@ use Rattle.std.specs.Prelude.{Any, Contains}
 use Rattle.std.proofs.lemmas.List.{length-map, map-append}
 use Rattle.std.proofs.lemmas.List.Elements.{All-nil, All-push, All-weaker, All-contains, All-contains_itself}
 use Rattle.overlay_geom.specs.Plane.{Step}
-use Rattle.overlay_plane.specs.Alternates.{Alternates}
+use Rattle.overlay_plane.specs.NextSteps.{LeadsOn}
 use Rattle.overlay_plane.specs.BesideOrbits.{HasEachOnce}
 use Rattle.overlay_plane.specs.Contours.{without}
 use Rattle.overlay_plane.specs.Orbits.{is_step_of}
@@ -39,13 +39,13 @@ module _ {I D : Type 0} (whole : I → ℤ) (limit : ℕ) (all : List (StepTaken
     fewer = All-contains_itself all;
   }
 
-  module _ (alternates : Alternates (plain_steps whole all)) (walk : List (StepTaken I D)) (s : StepTaken I D) (left : List (StepTaken I D)) (taking : IsTaking whole limit all hand start walk s left) where
+  module _ (leads : LeadsOn (plain_steps whole all) hand) (walk : List (StepTaken I D)) (s : StepTaken I D) (left : List (StepTaken I D)) (taking : IsTaking whole limit all hand start walk s left) where
     -- the pending step is long, and goes on
     pub pending_long : IsLong limit (plain_step whole s)
     pending_long = All-contains (IsLong limit) (plain_steps whole all) (plain_step whole s) taking.long (Contains-map (plain_step whole) all s taking.pending)
 
     pub pending_goes_on : Any (λ t. t.from ≡ (plain_step whole s).to) (plain_steps whole left)
-    pending_goes_on = way_goes_on (plain_steps whole all) alternates hand (plain_step whole start) (plain_steps whole walk) (plain_step whole s) (plain_steps whole left) taking.way
+    pending_goes_on = way_goes_on (plain_steps whole all) hand leads (plain_step whole start) (plain_steps whole walk) (plain_step whole s) (plain_steps whole left) taking.way
 
     -- the steps left stand once each
     pub left_once : HasEachOnce (plain_steps whole all) → HasEachOnce (plain_steps whole left)
@@ -54,7 +54,7 @@ module _ {I D : Type 0} (whole : I → ℤ) (limit : ℕ) (all : List (StepTaken
     -- there are more steps than were walked
     pub more_than_walked : length walk + 1 ≤ length all
     more_than_walked =
-        let few = walked_few (plain_steps whole all) alternates hand (plain_step whole start) (plain_steps whole walk) (plain_step whole s) (plain_steps whole left) taking.way in
+        let few = walked_few (plain_steps whole all) hand leads (plain_step whole start) (plain_steps whole walk) (plain_step whole s) (plain_steps whole left) taking.way in
         let a = length-map walk (plain_step whole) in
         let b = length-map all (plain_step whole) in
         omega arith
@@ -74,11 +74,11 @@ module _ {I D : Type 0} (whole : I → ℤ) (limit : ℕ) (all : List (StepTaken
       -- where the start comes again the walk is the orbit, and what it took is gone
       pub taken_round : plain_step whole t ≡ plain_step whole start → IsOrbit (plain_steps whole all) hand (plain_steps whole (walk ++ s ∷ []))
       taken_round same = subst (λ ts. IsOrbit (plain_steps whole all) hand ts) (sym pushed)
-          (comes_round (plain_steps whole all) alternates hand (plain_step whole start) (plain_steps whole walk) (plain_step whole s) (plain_steps whole left) taking.way (plain_step whole t) (plain_steps whole after) next taken same)
+          (comes_round (plain_steps whole all) hand leads (plain_step whole start) (plain_steps whole walk) (plain_step whole s) (plain_steps whole left) taking.way (plain_step whole t) (plain_steps whole after) next taken same)
 
       pub all_taken : plain_step whole t ≡ plain_step whole start → plain_steps whole after ≡ without (plain_steps whole all) (plain_steps whole (walk ++ s ∷ []))
       all_taken same = subst (λ ts. plain_steps whole after ≡ without (plain_steps whole all) ts) (sym pushed)
-          (takes_all (plain_steps whole all) alternates hand (plain_step whole start) (plain_steps whole walk) (plain_step whole s) (plain_steps whole left) taking.way (plain_step whole t) (plain_steps whole after) next taken same)
+          (takes_all (plain_steps whole all) hand leads (plain_step whole start) (plain_steps whole walk) (plain_step whole s) (plain_steps whole left) taking.way (plain_step whole t) (plain_steps whole after) next taken same)
 
       module _ (among : Contains left t) (fewer : All (Contains left) after) where
         -- what is left was there
@@ -89,7 +89,7 @@ module _ {I D : Type 0} (whole : I → ℤ) (limit : ℕ) (all : List (StepTaken
         pub goes_on_taking : ¬ (plain_step whole t ≡ plain_step whole start) → IsTaking whole limit all hand start (walk ++ s ∷ []) t after
         goes_on_taking other = record {
           way = subst (λ ts. IsUnderWay (plain_steps whole all) hand (plain_step whole start) ts (plain_step whole t) (plain_steps whole after)) (sym pushed)
-              (walks_on (plain_steps whole all) alternates hand (plain_step whole start) (plain_steps whole walk) (plain_step whole s) (plain_steps whole left) taking.way (plain_step whole t) (plain_steps whole after) next taken other);
+              (walks_on (plain_steps whole all) hand leads (plain_step whole start) (plain_steps whole walk) (plain_step whole s) (plain_steps whole left) taking.way (plain_step whole t) (plain_steps whole after) next taken other);
           long = taking.long;
           walked = walked_on;
           pending = All-contains (Contains all) left t taking.fewer among;

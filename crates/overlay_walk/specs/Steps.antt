@@ -5,14 +5,27 @@ use Rattle.overlay_geom.specs.Points.{plain_point, InRange}
 use Rattle.overlay_plane.specs.Turn.{Hand, left, right}
 use Rattle.overlay_arrange.specs.declared.options.ContourDirection.{ContourDirection}
 use Rattle.overlay_arrange.specs.declared.options.ContourDirection.TheVariants.{CounterClockwise, Clockwise}
+use Rattle.overlay_plane.specs.Contours.{outline_or_hole_hand}
 use Rattle.overlay_walk.specs.declared.hand.Hand.{Hand as HandTaken}
 use Rattle.overlay_walk.specs.declared.hand.Hand.TheVariants.{Left, Right}
+use Rattle.overlay_walk.specs.declared.hand.HandRule.{HandRule}
+use Rattle.overlay_walk.specs.declared.hand.HandRule.TheVariants.{OutlineOrHole, Always}
 use Rattle.overlay_walk.specs.declared.step.Step.{Step as StepTaken}
 
 -- the hand
 abbrev pub plain_hand : HandTaken → Hand
 plain_hand Left = left
 plain_hand Right = right
+
+-- contours run with the filled side on the left where the direction is counterclockwise
+abbrev pub is_on_left : ContourDirection → Bool
+is_on_left CounterClockwise = true
+is_on_left Clockwise = false
+
+-- the hand by which a walk turns that begins with a step, as the rule tells it
+abbrev pub hand_told_by : HandRule → Step → Hand
+hand_told_by (OutlineOrHole direction) s = outline_or_hole_hand (is_on_left direction) s
+hand_told_by (Always hand) s = plain_hand hand
 
 -- the step at a step's numbers, and those of a list, and of walks
 abbrev pub plain_step : {I D : Type 0} → (I → ℤ) → StepTaken I D → Step
@@ -26,11 +39,6 @@ pub record IsLong (limit : ℕ) (s : Step) : Type 0 where
   pub from_in_range : InRange limit s.from
   pub to_in_range : InRange limit s.to
   pub apart : ¬ (s.from ≡ s.to)
-
--- contours run with the filled side on the left where the direction is counterclockwise
-abbrev pub is_on_left : ContourDirection → Bool
-is_on_left CounterClockwise = true
-is_on_left Clockwise = false
 
 -- no step leaves a smaller point than a step before it
 abbrev pub IsByStart : List Step → Type 0

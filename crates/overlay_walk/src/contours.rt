@@ -1,14 +1,13 @@
 //! The cut of steps into contours.
 
 ghost use Rattle.std.specs.Prelude.{◌≡◌, [], All, Contains, IfOk, OnOk, IsOkUnless};
-ghost use Rattle.overlay_plane.specs.Alternates.{Alternates};
 ghost use Rattle.overlay_plane.specs.BesideOrbits.{HasEachOnce};
-ghost use Rattle.overlay_plane.specs.Contours.{outline_or_hole_hand, IsCutInto};
-ghost use Rattle.overlay_walk.specs.Steps.{plain_hand, plain_step, plain_steps, is_on_left};
+ghost use Rattle.overlay_plane.specs.Contours.{outline_or_hole_hand, CanBeCut, IsCutInto};
+ghost use Rattle.overlay_walk.specs.Steps.{plain_hand, plain_step, plain_steps, is_on_left, hand_told_by};
 ghost use Rattle.overlay_walk.specs.Walks.{plain_walks};
 
 use crate::filled::is_filled_above;
-use crate::hand::Hand;
+use crate::hand::{Hand, HandRule};
 use crate::open_steps::OpenSteps;
 use crate::step::Step;
 use overlay_arrange::options::ContourDirection;
@@ -17,18 +16,17 @@ use overlay_geom::number::IntNumber;
 use std::alloc::Allocator;
 
 /// Walks all steps left: while there are any, the orbit of the step along the top edge at their leftmost
-/// lowest point. Where the direction is counterclockwise each step has its filled side on the left, else
-/// on the right. A walk that starts along an edge that is filled above is a hole, and turns through
-/// its empty side; each other is an outline, and turns through its filled side. At the end no
-/// step is left. The only refusal is `Memory`, after which the steps left are open.
+/// lowest point, by the hand that the rule tells of this step. The steps alternate round every node, or
+/// the rule tells one hand, by which they lead on. At the end no step is left. The only refusal is
+/// `Memory`, after which the steps left are open.
 pub fn cut_into_contours<I: IntNumber, D: Copy, A: Allocator + Clone>(
     alloc: A,
     steps: &mut OpenSteps<I, D, A>,
-    direction: ContourDirection,
+    rule: HandRule,
 ) -> Result<Vec<Vec<Step<I, D>, A>, A>, OverlayError>
-    requires alternate { Alternates (plain_steps I.whole steps.old) }
+    requires cuttable { CanBeCut (hand_told_by rule) (plain_steps I.whole steps.old) }
     requires once { HasEachOnce (plain_steps I.whole steps.old) }
-    ensures cut { IfOk result (λ ws. IsCutInto (outline_or_hole_hand (is_on_left direction)) (plain_steps I.whole steps.old)
+    ensures cut { IfOk result (λ ws. IsCutInto (hand_told_by rule) (plain_steps I.whole steps.old)
         (plain_walks I.whole ws.items)) }
     ensures among { IfOk result (λ ws. All (λ w. All (Contains steps.old) w.items) ws.items) }
     ensures none_left { OnOk result (steps.new ≡ []) }
@@ -36,10 +34,20 @@ pub fn cut_into_contours<I: IntNumber, D: Copy, A: Allocator + Clone>(
 {
     let mut contours = Vec::new(alloc);
     while let Some(start) = steps.start() {
-        let hand = hand_of(start, direction);
+        let hand = hand_by(rule, start);
         contours.push(steps.walk(start, hand)?)?;
     }
     Ok(contours)
+}
+
+/// The hand that the rule tells of a step.
+fn hand_by<I: IntNumber, D: Copy>(rule: HandRule, start: Step<I, D>) -> Hand
+    ensures { plain_hand result ≡ hand_told_by rule (plain_step I.whole start) }
+{
+    match rule {
+        HandRule::OutlineOrHole(direction) => hand_of(start, direction),
+        HandRule::Always(hand) => hand,
+    }
 }
 
 /// The hand by which the contour that starts with a step turns.

@@ -4,9 +4,9 @@ ghost use Rattle.std.specs.Prelude.{◌≡◌, ◌↔◌, [], ◌∷◌, None, A
 ghost use Rattle.std.specs.Prelude.{OnOk, IsOkUnless};
 ghost use Rattle.std.specs.List.Sorted.{IsPermutation};
 ghost use Rattle.overlay_geom.specs.Plane.{step_eq};
-ghost use Rattle.overlay_plane.specs.Alternates.{Alternates};
 ghost use Rattle.overlay_plane.specs.BesideOrbits.{HasEachOnce};
 ghost use Rattle.overlay_plane.specs.Contours.{IsStart, without};
+ghost use Rattle.overlay_plane.specs.NextSteps.{LeadsOn};
 ghost use Rattle.overlay_plane.specs.Turn.{IsNextStep, IsOrbit, step_round};
 ghost use Rattle.overlay_walk.specs.Steps.{plain_hand, plain_step, plain_steps};
 ghost use Rattle.overlay_walk.specs.Steps.{IsByStart, IsLong};
@@ -100,13 +100,14 @@ impl<I: IntNumber, D: Copy, A: Allocator + Clone> OpenSteps<I, D, A> {
 
     /// Takes the orbit of a step by a hand, in the steps left: each next step is the one that a ray
     /// meets first which turns by the hand, at the end of the step, from the way back along it. The
-    /// only refusal is `Memory`; what is left then is left open.
+    /// steps left lead on by the hand: at the end of each one leaves, and no two have the same next
+    /// step. The only refusal is `Memory`; what is left then is left open.
     pub fn walk(
         &mut self,
         start: Step<I, D>,
         hand: Hand,
     ) -> Result<Vec<Step<I, D>, A>, OverlayError>
-        requires alternate { Alternates (plain_steps I.whole self.old) }
+        requires leads_on { LeadsOn (plain_steps I.whole self.old) (plain_hand hand) }
         requires once { HasEachOnce (plain_steps I.whole self.old) }
         requires left { Contains self.old start }
         ensures orbit { IfOk result (λ w. IsOrbit (plain_steps I.whole self.old) (plain_hand hand) (plain_steps I.whole w.items)) }

@@ -9,7 +9,7 @@ ghost use Rattle.overlay_plane.specs.Anchors.{HasEachEdgeOnce};
 ghost use Rattle.overlay_plane.specs.Binding.{all_filled_above};
 ghost use Rattle.overlay_plane.specs.Contours.{IsContour, all_steps};
 ghost use Rattle.overlay_scan.specs.Scan.{empty_sweep, live_at, moved_to, value_below};
-ghost use Rattle.overlay_scan.specs.Scan.{IsOver, IsSweep, MayMoveTo, MeetsOthers};
+ghost use Rattle.overlay_scan.specs.Scan.{IsAsked, IsSweep, MayMoveTo, MeetsOthers};
 ghost use Rattle.overlay_walk.specs.Parents.{IsSwept, IsToldAt};
 ghost use Rattle.overlay_walk.specs.Steps.{is_on_left, IsLong};
 ghost use Rattle.overlay_walk.specs.WalkEdges.{walk_entry, walk_entries, IsByAnchor};
@@ -88,8 +88,8 @@ fn insert_up_to<I: IntNumber, S: Scan<I, usize>>(
     Ok(edges.len())
 }
 
-/// The index of the walk that has the highest edge of the scan under an anchor, just right of its
-/// point, or `none` where no edge is.
+/// The index of the walk that has the highest edge of the scan below an anchor, or `none` where no
+/// edge is.
 fn walk_below<I: IntNumber, S: Scan<I, usize>>(
     scan: &mut S,
     anchor: &WalkEdge<I>,
@@ -97,9 +97,9 @@ fn walk_below<I: IntNumber, S: Scan<I, usize>>(
 ) -> usize
     requires state { IsSweep I.limit (S.content scan.old) }
     requires moves { MayMoveTo (I.whole anchor.now.a.x) (S.content scan.old) }
-    requires over { IsOver I.limit (I.whole anchor.now.a.x) (walk_entry I.whole anchor.now).edge }
+    requires asked { IsAsked I.limit (I.whole anchor.now.a.x) (walk_entry I.whole anchor.now).edge }
     requires meets { MeetsOthers (walk_entry I.whole anchor.now).edge (live_at (I.whole anchor.now.a.x) (S.content scan.old).entries) }
-    ensures value { result ≡ value_below none (walk_entry I.whole anchor.now).edge (I.whole anchor.now.a.x)
+    ensures value { result ≡ value_below none (walk_entry I.whole anchor.now).edge
         (live_at (I.whole anchor.now.a.x) (S.content scan.old).entries) }
     ensures content { S.content scan.new ≡ moved_to (I.whole anchor.now.a.x) (S.content scan.old) }
     ensures state { IsSweep I.limit (S.content scan.new) }

@@ -1,7 +1,9 @@
 -- Level edges at different heights have no point in common.
-use Rattle.std.proofs.Common.{◌≡◌, ⊎_elim, ℕ, ◌≤◌, false, nat_eq, List, [], ◌∷◌, ◌++◌, get_or, Contains, Option, None, Some, ℤ, pos, ◌*ℤ◌, ◌≤ℤ◌, int_lt, refl, sym, ap, ◌∙◌, subst, arith}
+use Rattle.std.proofs.Common.{◌≡◌, ⊎_elim, ℕ, ◌+◌, ◌≤◌, false, ◌&&◌, nat_eq, List, [], ◌∷◌, ◌++◌, get_or, Contains, Option, None, Some, ℤ, pos, ◌+ℤ◌, ◌*ℤ◌, ◌<ℤ◌, ◌≤ℤ◌, int_lt, refl, sym, ap, ◌∙◌, subst, arith}
 use Rattle.std.proofs.lemmas.Int.{ints}
-use Rattle.std.proofs.lemmas.Bool.{both_ways, false_from_ne_true, eq-eqb}
+use Rattle.std.specs.Ordering.{int_eq}
+use Rattle.std.proofs.lemmas.Bool.{or_left, both_ways, false_from_ne_true, eq-eqb}
+use lib.IntN.{*ℤ_comm}
 use Rattle.std.specs.List.{All, list_any}
 use Rattle.std.specs.Option.{IfSome}
 use Rattle.std.proofs.lemmas.List.Elements.{All-weaker, All-filter, Contains-append_left, Contains-push}
@@ -9,9 +11,11 @@ use Rattle.std.proofs.lemmas.List.Folds.{list_any_at}
 use Rattle.overlay_geom.specs.Plane.{Edge, PlanePoint, IsOn, IsBetween, edge_eq}
 use Rattle.overlay_geom.specs.Settled.{MeetInEnds}
 use Rattle.overlay_geom.proofs.Orders.{edge_eq-same}
-use Rattle.overlay_geom.proofs.Signs.{eq_of_mul-eq}
-use Rattle.scan_tests.specs.LevelEdges.{level_edge, IsLevelAt, IsLevelSweep}
-use Rattle.overlay_scan.specs.Scan.{Sweep, live_at, moved_to, IsOver, IsSweep, IsPutIn, MayMoveTo, MeetsOthers, IsNewAmong}
+use Rattle.overlay_geom.proofs.Signs.{linear, eq_of_mul-eq, mul-lt, le_of_mul-le}
+use Rattle.overlay_plane.proofs.Tests.{test_from_lt}
+use Rattle.overlay_plane.proofs.Under.{covers_to}
+use Rattle.scan_tests.specs.LevelEdges.{level_edge, upright_edge, IsLevelAt, IsLevelSweep}
+use Rattle.overlay_scan.specs.Scan.{Sweep, live_at, moved_to, IsOver, IsSweep, IsPutIn, MayMoveTo, IsAsked, MeetsOthers, IsNewAmong}
 use Rattle.overlay_scan.proofs.PutIn.{All-with}
 
 -- a number between one and itself
@@ -45,6 +49,29 @@ still_before (Some z) x y later before = omega (arith, ints)
 
 reached_itself : (o : Option ℤ) (y : ℕ) → o ≡ Some (pos y) → IfSome o (λ z. z ≤ℤ pos y)
 reached_itself o y is = subst (λ o. IfSome o (λ z. z ≤ℤ pos y)) (sym is) (let same : pos y ≤ℤ pos y = omega (arith, ints) in same)
+
+-- no whole number lies between one and the next
+none_between : (h k d : ℤ) → pos 0 <ℤ d → ¬ (h ≡ k) → ¬ (h +ℤ pos 1 ≡ k) → (h *ℤ d) ≤ℤ (k *ℤ d) → (k *ℤ d) ≤ℤ ((h +ℤ pos 1) *ℤ d) → ⊥
+none_between h k d positive below above from to =
+    let low = le_of_mul-le d h k positive (rw (*ℤ_comm d h, *ℤ_comm d k) from) in
+    let high = le_of_mul-le d k (h +ℤ pos 1) positive (rw (*ℤ_comm d k, *ℤ_comm d (h +ℤ pos 1)) to) in
+    absurd (omega (arith, ints))
+
+-- a vertical edge from a height to the next one meets no level edge at another height
+upright_meets : (x h : ℕ) (f : Edge) (k : ℤ) → f.a.y ≡ k → f.b.y ≡ k → ¬ (pos h ≡ k) → ¬ (pos (h + 1) ≡ k) → MeetInEnds (upright_edge x h) f
+upright_meets x h f k fa fb below above p common =
+    let level = level_point f k p fa fb common.1 in
+    absurd (⊎_elim
+    (λ rises. none_between (pos h) k p.d p.positive below (subst (λ z. ¬ (z ≡ k)) (next h) above)
+    (subst (λ z. (pos h *ℤ p.d) ≤ℤ z) (sym level) rises.0)
+    (subst (λ z. (k *ℤ p.d) ≤ℤ (z *ℤ p.d)) (next h) (subst (λ z. z ≤ℤ (pos (h + 1) *ℤ p.d)) (sym level) rises.1)))
+    (λ falls. let low = falls.0 in let high = falls.1 in let positive = p.positive in
+    let less = mul-lt p.d (pos h) (pos (h + 1)) p.positive (omega (arith, ints)) in
+    let one = *ℤ_comm p.d (pos h) in let other = *ℤ_comm p.d (pos (h + 1)) in omega linear)
+    common.0.in_y)
+  where
+    next : (n : ℕ) → pos (n + 1) ≡ pos n +ℤ pos 1
+    next n = omega (arith, ints)
 
 module _ {V : Type 0} (limit x y end : ℕ) (hs : List ℕ) (s : Sweep V) (levels : IsLevelSweep limit x hs s) (later : x ≤ y) where
   live : All (λ f. IsLevelAt hs f.edge) (live_at (pos y) s.entries)
@@ -85,8 +112,33 @@ module _ {V : Type 0} (limit x y end : ℕ) (hs : List ℕ) (s : Sweep V) (level
 
     -- so the edge may be asked for
     pub asked : (z : ℤ) (e : Edge) → z ≡ pos y → e ≡ level_edge y end h → IsOver limit (pos y) (level_edge y end h) →
-        MayMoveTo z s × (IsOver limit z e × ((e.a.x ≡ z) × MeetsOthers e (live_at z s.entries)))
-    asked z e z_is e_is over = rw (z_is, e_is) (may_move, (over, (refl, meets)))
+        MayMoveTo z s × (IsAsked limit z e × MeetsOthers e (live_at z s.entries))
+    asked z e z_is e_is over = rw (z_is, e_is) (
+      may_move,
+      (
+        record {
+          a_in_range = over.a_in_range;
+          b_in_range = over.b_in_range;
+          forward = or_left (int_lt (pos y) (pos end)) (int_eq (pos y) (pos end) && int_lt (pos h) (pos h))
+              (test_from_lt (pos y) (pos end) (let last = covers_to (level_edge y end h) (pos y) (pos 1) over.over in omega (arith, ints)));
+          starts = refl;
+        },
+        meets,
+      ),
+    )
+
+    -- a vertical edge from there to the next height, at which no edge is, may be asked for
+    pub asked_upright : list_any (λ i. nat_eq i (h + 1)) hs ≡ false → (z : ℤ) (e : Edge) → z ≡ pos y → e ≡ upright_edge y h →
+        IsAsked limit (pos y) (upright_edge y h) → MayMoveTo z s × (IsAsked limit z e × MeetsOthers e (live_at z s.entries))
+    asked_upright next_free z e z_is e_is ask = rw (z_is, e_is) (
+      may_move,
+      (
+        ask,
+        All-weaker (λ f. IsLevelAt hs f.edge) (λ f. edge_eq (upright_edge y h) f.edge ≡ false → MeetInEnds (upright_edge y h) f.edge)
+            (λ f at other. upright_meets y h f.edge (pos at.height) at.a at.b (differ at.height at.held)
+            (λ same. not_held hs (h + 1) at.height next_free at.held (omega (arith, ints, same)))) (live_at (pos y) s.entries) live,
+      ),
+    )
 
     -- and put in
     pub insertable : (z : ℤ) (e : Edge) → z ≡ pos y → e ≡ level_edge y end h → IsOver limit (pos y) (level_edge y end h) →

@@ -1,10 +1,11 @@
 //! A sweep over level edges by the trait alone, at each coordinate type.
 
-ghost use Rattle.std.specs.Prelude.{◌≡◌, ◌<◌, pos, OnOk};
+ghost use Rattle.std.specs.Prelude.{◌≡◌, ◌≤◌, ◌<◌, false, nat_eq, pos, OnOk};
+ghost use Rattle.std.specs.List.{list_any};
 ghost use Rattle.overlay_geom.specs.Lines.{plain_line};
 ghost use Rattle.overlay_geom.specs.Numbers.{Within};
-ghost use Rattle.scan_tests.specs.LevelEdges.{level_edge, IsLevelSweep};
-ghost use Rattle.overlay_scan.specs.Scan.{empty_sweep, IsOver};
+ghost use Rattle.scan_tests.specs.LevelEdges.{level_edge, upright_edge, IsLevelSweep};
+ghost use Rattle.overlay_scan.specs.Scan.{empty_sweep, IsOver, IsAsked};
 
 use overlay_geom::error::OverlayError;
 use overlay_geom::number::IntNumber;
@@ -55,6 +56,18 @@ fn level<I: SmallNumber>(x: u8, end: u8, height: u8) -> IntLine<I>
     ]
 }
 
+// The vertical edge over x from a height to the next one.
+fn upright<I: SmallNumber>(x: u8, height: u8) -> IntLine<I>
+    requires { height < 255 }
+    ensures line { plain_line I.whole result ≡ upright_edge x height }
+    ensures asked { IsAsked I.limit (pos x) (upright_edge x height) }
+{
+    [
+        IntPoint::new(I::small(x), I::small(height)),
+        IntPoint::new(I::small(x), I::small(height + 1)),
+    ]
+}
+
 // A sweep over level edges at different heights. The value of each is its height.
 #[derive(Drop)]
 struct Levels<S> {
@@ -80,6 +93,17 @@ impl<S> Levels<S> {
         }
     }
 
+    // Stops the test unless an edge from x to `end` at a height may come next.
+    fn check_next(&self, rt: &impl Abort, x: u8, end: u8, height: u8)
+        ensures later { self.now.reached ≤ x }
+        ensures long { x < end }
+        ensures free { list_any (λ i. nat_eq i height) self.now.heights.items ≡ false }
+    {
+        assert!(rt; self.reached <= x);
+        assert!(rt; x < end);
+        assert!(rt; !self.heights.contains(&height));
+    }
+
     // Inserts the edge from x to `end` at a height.
     fn insert<I: SmallNumber>(
         &mut self,
@@ -93,9 +117,7 @@ impl<S> Levels<S> {
         requires { IsLevelSweep I.limit self.old.reached self.old.heights.items (S.content self.old.scan) }
         ensures { OnOk result (IsLevelSweep I.limit self.new.reached self.new.heights.items (S.content self.new.scan)) }
     {
-        assert!(rt; self.reached <= x);
-        assert!(rt; x < end);
-        assert!(rt; !self.heights.contains(&height));
+        self.check_next(rt, x, end, height);
         let line: IntLine<I> = level(x, end, height);
         self.scan.insert(line, height, I::small(x))?;
         self.heights.push(height)?;
@@ -110,10 +132,24 @@ impl<S> Levels<S> {
         requires { IsLevelSweep I.limit self.old.reached self.old.heights.items (S.content self.old.scan) }
         ensures { IsLevelSweep I.limit self.new.reached self.new.heights.items (S.content self.new.scan) }
     {
-        assert!(rt; self.reached <= x);
-        assert!(rt; x < end);
-        assert!(rt; !self.heights.contains(&height));
+        self.check_next(rt, x, end, height);
         let line: IntLine<I> = level(x, end, height);
+        self.reached = x;
+        self.scan.first_less(I::small(x), NONE, line)
+    }
+
+    // The height of the highest edge below a vertical one over x, from a height to the next one.
+    fn below_upright<I: SmallNumber>(&mut self, rt: &impl Abort, x: u8, height: u8) -> u8
+    where
+        S: Scan<I, u8>,
+        requires { IsLevelSweep I.limit self.old.reached self.old.heights.items (S.content self.old.scan) }
+        ensures { IsLevelSweep I.limit self.new.reached self.new.heights.items (S.content self.new.scan) }
+    {
+        assert!(rt; self.reached <= x);
+        assert!(rt; height < 255);
+        assert!(rt; !self.heights.contains(&height));
+        assert!(rt; !self.heights.contains(&(height + 1)));
+        let line: IntLine<I> = upright(x, height);
         self.reached = x;
         self.scan.first_less(I::small(x), NONE, line)
     }
@@ -161,6 +197,16 @@ fn check_two_edges<I: SmallNumber, S: Scan<I, u8>>(
     assert_eq!(rt; levels.below(rt, 0, 8, 8), 6);
     assert_eq!(rt; levels.below(rt, 1, 8, 1), NONE);
     Ok(())
+}
+
+// What is found below vertical edges, under both, between them and above both.
+fn check_uprights<I: SmallNumber, S: Scan<I, u8>>(rt: &impl Abort, levels: &mut Levels<S>)
+    requires { IsLevelSweep I.limit levels.old.reached levels.old.heights.items (S.content levels.old.scan) }
+    ensures { IsLevelSweep I.limit levels.new.reached levels.new.heights.items (S.content levels.new.scan) }
+{
+    assert_eq!(rt; levels.below_upright(rt, 1, 0), NONE);
+    assert_eq!(rt; levels.below_upright(rt, 1, 3), 2);
+    assert_eq!(rt; levels.below_upright(rt, 1, 7), 6);
 }
 
 // A third edge between them.
@@ -212,6 +258,7 @@ fn check_sweep<I: SmallNumber, S: Scan<I, u8> + Drop>(
 {
     let mut levels = Levels::new(alloc, scan);
     check_two_edges(rt, &mut levels)?;
+    check_uprights(rt, &mut levels);
     check_third_edge(rt, &mut levels)?;
     check_heights(rt, &mut levels);
     check_cleared(rt, &mut levels)

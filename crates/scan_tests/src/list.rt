@@ -39,6 +39,20 @@ fn which_edge_is_under_which_at_a_shared_start(rt: HostRuntime) {
 }
 
 #[test]
+fn which_edge_is_under_a_vertical_one(rt: HostRuntime) {
+    let upright = edge(2i32, 3, 2, 9);
+    let from_its_start = edge(2i32, 3, 6, 40);
+    let below_its_start = edge(0i32, 0, 10, 1);
+    let above_its_start = edge(0i32, 4, 10, 4);
+    let through_its_end = edge(0i32, 9, 2, 9);
+    assert!(rt; is_under(&from_its_start, &upright));
+    assert!(rt; is_under(&below_its_start, &upright));
+    assert!(rt; !is_under(&above_its_start, &upright));
+    assert!(rt; !is_under(&through_its_end, &upright));
+    assert!(rt; !is_under(&upright, &upright));
+}
+
+#[test]
 fn which_edge_is_under_which_at_the_ends_of_the_range(rt: HostRuntime) {
     let level = edge(-4611686018427387903i64, 0, 4611686018427387903, 1);
     let above = edge(0i64, 1, 1, 4611686018427387903);

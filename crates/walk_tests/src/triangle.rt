@@ -11,7 +11,7 @@ use overlay_geom::error::OverlayError;
 use overlay_geom::number::IntNumber;
 use overlay_geom::point::IntPoint;
 use overlay_walk::contours::cut_into_contours;
-use overlay_walk::hand::Hand;
+use overlay_walk::hand::{Hand, HandRule};
 use overlay_walk::open_steps::OpenSteps;
 use overlay_walk::step::Step;
 use std::alloc::Global;
@@ -76,7 +76,49 @@ fn has_numbers<I: IntNumber>(walk: &[Step<I, u8>], numbers: &[u8]) -> bool {
             .all(|(s, n)| s.edge_data == *n)
 }
 
-// Walks begin along the left edge, the top one at the leftmost lowest point, and take all steps.
+// A walk by the hand begins along the left edge, the top one at the leftmost lowest point, and takes all
+// steps.
+fn check_walk<I: IntNumber>(
+    rt: &impl Abort,
+    alloc: Global,
+    zero: I,
+    four: I,
+    hand: Hand,
+) -> Result<(), Fail>
+    requires zero { I.whole zero ≡ pos 0 }
+    requires four { I.whole four ≡ pos 4 }
+    requires limit { 4 ≤ I.limit }
+{
+    let mut steps = open_triangle(alloc, zero, four)?;
+    let start = steps.start().expect(rt, "steps are left");
+    assert_eq!(rt; start.edge_data, 3);
+    let walk = steps.walk(start, hand)?;
+    assert!(rt; has_numbers(&walk, &[3, 1, 2]));
+    assert!(rt; steps.start().is_none());
+    Ok(())
+}
+
+// And so does the one walk of the cut by the rule.
+fn check_cut<I: IntNumber>(
+    rt: &impl Abort,
+    alloc: Global,
+    zero: I,
+    four: I,
+    rule: HandRule,
+) -> Result<(), Fail>
+    requires zero { I.whole zero ≡ pos 0 }
+    requires four { I.whole four ≡ pos 4 }
+    requires limit { 4 ≤ I.limit }
+{
+    let mut steps = open_triangle(alloc, zero, four)?;
+    let contours = cut_into_contours(alloc, &mut steps, rule)?;
+    assert!(rt; contours.len() == 1);
+    assert!(rt; has_numbers(&contours[0], &[3, 1, 2]));
+    assert!(rt; steps.start().is_none());
+    Ok(())
+}
+
+// By either hand, and by each rule.
 fn check_triangle<I: IntNumber>(
     rt: &impl Abort,
     alloc: Global,
@@ -88,22 +130,15 @@ fn check_triangle<I: IntNumber>(
     requires limit { 4 ≤ I.limit }
 {
     for hand in [Hand::Left, Hand::Right] {
-        let mut steps = open_triangle(alloc, zero, four)?;
-        let start = steps.start().expect(rt, "steps are left");
-        assert_eq!(rt; start.edge_data, 3);
-        let walk = steps.walk(start, hand)?;
-        assert!(rt; has_numbers(&walk, &[3, 1, 2]));
-        assert!(rt; steps.start().is_none());
+        check_walk(rt, alloc, zero, four, hand)?;
     }
-    for direction in [
-        ContourDirection::CounterClockwise,
-        ContourDirection::Clockwise,
+    for rule in [
+        HandRule::OutlineOrHole(ContourDirection::CounterClockwise),
+        HandRule::OutlineOrHole(ContourDirection::Clockwise),
+        HandRule::Always(Hand::Left),
+        HandRule::Always(Hand::Right),
     ] {
-        let mut steps = open_triangle(alloc, zero, four)?;
-        let contours = cut_into_contours(alloc, &mut steps, direction)?;
-        assert!(rt; contours.len() == 1);
-        assert!(rt; has_numbers(&contours[0], &[3, 1, 2]));
-        assert!(rt; steps.start().is_none());
+        check_cut(rt, alloc, zero, four, rule)?;
     }
     Ok(())
 }

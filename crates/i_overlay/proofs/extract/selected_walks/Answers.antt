@@ -1,6 +1,9 @@
 -- The steps that are cut are the selected ones in another order.
+use Rattle.std.proofs.Common.{sym}
+use Rattle.std.proofs.lemmas.Option.{none-some}
 use Rattle.overlay_geom.specs.Edges.{subj_of, clip_of}
 use Rattle.overlay_plane.specs.Carried.{edges_in}
+use Rattle.overlay_plane.specs.Contours.{alternating}
 use Rattle.overlay_plane.proofs.ShuffledCuts.{shuffled_alternate, shuffled_once, shuffled_cut}
 use Rattle.overlay_arrange.specs.Rules.{rules_hold}
 use Rattle.overlay_arrange.proofs.RuledContents.{ruled_content}
@@ -9,12 +12,12 @@ use Rattle.overlay_walk.specs.Walks.{plain_walks}
 use Rattle.overlay_walk.proofs.SelectedLong.{walks_are_long}
 use Rattle.i_overlay.proofs.extract.selected_walks.Goals as goal
 
-pub cut_into_contours-requires-clause-alternate : goal.cut_into_contours-requires-clause-alternate
-cut_into_contours-requires-clause-alternate g c =
+pub cut_into_contours-requires-clause-cuttable : goal.cut_into_contours-requires-clause-cuttable
+cut_into_contours-requires-clause-cuttable g c =
     let es = edges_in c.args.content.now in
     let ruled = ruled_content g.I.IntNumber.limit es c.edges.ensures.content c.requires.ascending c.requires.settled c.requires.balanced c.args.fill_rule c.args.overlay_rule in
-    shuffled_alternate (rules_hold c.args.fill_rule c.args.overlay_rule) subj_of clip_of es (is_on_left c.args.direction) ruled
-    (plain_steps g.I.IntNumber.whole c.in_ok-open.open) c.in_ok-open.ensures.selected
+    alternating (shuffled_alternate (rules_hold c.args.fill_rule c.args.overlay_rule) subj_of clip_of es (is_on_left c.args.direction) ruled
+    (plain_steps g.I.IntNumber.whole c.in_ok-open.open) c.in_ok-open.ensures.selected)
 
 pub cut_into_contours-requires-clause-once : goal.cut_into_contours-requires-clause-once
 cut_into_contours-requires-clause-once g c =
@@ -39,3 +42,6 @@ returns-clause-long g c =
     let walks = plain_walks g.I.IntNumber.whole c.in_ok-walks.walks.items in
     walks_are_long g.I.IntNumber.limit es c.edges.ensures.content holds subj_of clip_of on_left walks
     (shuffled_cut holds subj_of clip_of es on_left ruled (plain_steps g.I.IntNumber.whole c.in_ok-open.open) c.in_ok-open.ensures.selected walks c.in_ok-walks.ensures.cut)
+
+pub returns-clause-buffer : goal.returns-clause-buffer
+returns-clause-buffer g c = λ none. none-some c.new.result (sym none)

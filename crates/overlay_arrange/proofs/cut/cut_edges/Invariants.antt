@@ -1,13 +1,21 @@
--- The pieces so far and those of the edges to come make the whole.
-use Rattle.std.proofs.Common.{◌≡◌, ◌++◌, drop}
+-- The pieces so far and those of the edges to come make the whole: what adds the latter to the former cuts all edges.
+use Rattle.std.proofs.Common.{◌≡◌, ◌++◌, List, drop}
 use Rattle.std.specs.List.{flat_map}
-use Rattle.overlay_plane.specs.Carried.{edges_in}
+use Rattle.overlay_plane.specs.Carried.{Carried, edges_in}
 use Rattle.overlay_plane.specs.CutPoints.{cut_points, cut_edges}
 use Rattle.overlay_plane.specs.Cutting.{pieces_through}
-use Rattle.overlay_arrange.specs.Content.{plain_edges}
+use Rattle.overlay_plane.specs.DerivedData.{ArePieces, AreCutAlong, computed_chain}
+use Rattle.overlay_arrange.specs.Content.{plain_edges, carried_edges}
+use Rattle.overlay_arrange.specs.Cut.{AddsGiven}
 use Rattle.overlay_arrange.proofs.cut.cut_edges.Given as goal
 
 abbrev pub invariant-loop-e : goal.invariant-loop-e
 invariant-loop-e g l =
     let plain = plain_edges g.I.IntNumber.whole g.C.EdgeCount.counts in
-    edges_in l.pieces ++ flat_map (pieces_through (cut_points (plain l.edges))) (plain (drop l.e-index l.edges)) ≡ cut_edges (plain l.edges)
+    let carried = carried_edges g.I.IntNumber.whole g.C.EdgeCount.counts in
+    let splits = g.C.EdgeCount.splits in
+    let turns = g.C.EdgeCount.turns in
+    (edges_in l.pieces ++ flat_map (pieces_through (cut_points (plain l.edges))) (plain (drop l.e-index l.edges)) ≡ cut_edges (plain l.edges))
+    × ((new : List (Carried g.row.C.Denot)) →
+    AddsGiven (ArePieces splits turns (computed_chain (plain l.edges))) (carried (drop l.e-index l.edges)) l.pieces new →
+    AreCutAlong splits turns (computed_chain (plain l.edges)) (carried l.edges) new)

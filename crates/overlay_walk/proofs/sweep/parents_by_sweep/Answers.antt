@@ -1,5 +1,5 @@
 -- One anchor more: what the calls ask, and what is told then.
-use Rattle.std.proofs.Common.{◌≡◌, ◌+◌, ◌<◌, ◌≤◌, ◌<ℤ◌, ℕ, false, List, slice_set, length, take, drop, sym, ap, ◌∙◌, subst, arith, rules}
+use Rattle.std.proofs.Common.{◌≡◌, ◌+◌, ◌<◌, ◌≤◌, ◌<ℤ◌, ℕ, false, List, slice_set, length, take, drop, refl, sym, ap, ◌∙◌, subst, arith, rules}
 use Rattle.std.specs.List.{All, AllPairs}
 use Rattle.std.proofs.lemmas.List.{length-map, length-set}
 use Rattle.std.proofs.lemmas.List.Elements.{All-contains}
@@ -59,23 +59,10 @@ walk_below-below-requires-clause-state g c = c.in_ok-from.ensures.swept.state
 pub walk_below-below-requires-clause-moves : goal.walk_below-below-requires-clause-moves
 walk_below-below-requires-clause-moves g c = c.in_ok-from.ensures.swept.moves
 
-pub walk_below-below-requires-clause-over : goal.walk_below-below-requires-clause-over
-walk_below-below-requires-clause-over g c =
-    let whole = g.I.IntNumber.whole in
-    let on_left = is_on_left c.args.direction in
-    let walks = plain_walks whole c.args.walks.now in
-    let hs = walk_entries whole c.deref-hole-items.result.now in
-    let h = walk_entry whole c.hole-item.result in
-    let i = c.loop-hole.hole-index in
-    let inside : i < length hs = rw length-map c.loop-hole-test.true in
-    let here = sym (read_mapped (walk_entry whole) c.deref-hole-items.result.now i c.hole-item.result h c.loop-hole-test.true c.hole-item.is) in
-    let holes : AreHoleEntries on_left walks hs =
-    subst (λ es. AreHoleEntries on_left walks (walk_entries whole es)) (sym c.deref-hole-items.ensures.value) c.in_ok-anchors.ensures.ok in
-    let own = All-contains (IsHoleEntry on_left walks) hs h holes.from (i, inside, sym here) in record {
-      a_in_range = (c.hole-item.result).a_in_range;
-      b_in_range = (c.hole-item.result).b_in_range;
-      over = anchor_over on_left walks c.requires.contours c.requires.settled c.requires.single h own;
-    }
+pub walk_below-below-requires-clause-asked : goal.walk_below-below-requires-clause-asked
+walk_below-below-requires-clause-asked g c =
+    let anchor = c.hole-item.result in
+    record { a_in_range = anchor.a_in_range; b_in_range = anchor.b_in_range; forward = anchor.forward; starts = refl }
 
 pub walk_below-below-requires-clause-meets : goal.walk_below-below-requires-clause-meets
 walk_below-below-requires-clause-meets g c =

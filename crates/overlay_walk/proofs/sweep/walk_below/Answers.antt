@@ -1,12 +1,11 @@
 -- The look-up asks what is asked here.
-use Rattle.std.proofs.Common.{refl}
 use Rattle.overlay_scan.proofs.LinesFit.{line_fits}
 use Rattle.overlay_walk.proofs.sweep.walk_below.Goals as goal
 
 pub first_less-requires : goal.first_less-requires
 first_less-requires g c = (
   line_fits _ _ g.met.I.IntNumber.small.align_bound g.met.I.IntNumber.small.size_bound,
-  (c.requires.state, (c.requires.moves, (c.requires.over, (refl, c.requires.meets)))),
+  (c.requires.state, (c.requires.moves, (c.requires.asked, c.requires.meets))),
 )
 
 pub returns : goal.returns

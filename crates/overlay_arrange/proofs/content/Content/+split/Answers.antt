@@ -2,7 +2,7 @@
 use Rattle.std.proofs.Common.{◌-◌, refl, arith}
 use Rattle.std.proofs.lemmas.Bool.{false≢true}
 use Rattle.std.proofs.lemmas.Result.{err_from_is_err_and}
-use Rattle.overlay_arrange.proofs.ArrangedLists.{leaves_cut}
+use Rattle.overlay_arrange.proofs.ArrangedLists.{leaves_cut, carried_at_once, carried_on}
 use Rattle.overlay_arrange.proofs.RoundsTaken.{split_at_once, unsettled_at_once, split_on, unsettled_on, heavy_on, heavy_at_once, uncut_where_settled, cut_where_unsettled}
 use Rattle.overlay_plane.specs.Carried.{edges_in}
 use Rattle.overlay_plane.specs.CutPoints.{cut_edges}
@@ -47,3 +47,15 @@ returns-in_err-split-clause-too_many g n c = λ same.
     let passed = err_from_is_err_and c.from_residual-in_err-split.result c.from_residual-in_err-split.ensures.1 in
     let first = leaves_cut g.I.IntNumber.limit (edges_in c.args.self.now) (edges_in c.merge.new.self) (edges_in c.cut.new.self) c.merge.ensures.content c.in_ok-merge.ensures.ok (λ settled. false≢true (c.if-is_settled.ensures.1 settled)) c.in_ok-cut.ensures.ok in
     heavy_on 2147483648 (c.args.rounds - 1) c.args.rounds _ _ (omega arith) first (c.in_err-split.ensures.too_many (cc))
+
+pub returns-then-is_settled-clause-carried : goal.returns-then-is_settled-clause-carried
+returns-then-is_settled-clause-carried g n c =
+    carried_at_once g.C.EdgeCount.merges g.C.EdgeCount.splits g.C.EdgeCount.turns c.args.rounds c.args.self.now c.merge.new.self
+    c.in_ok-merge.ensures.ok (c.if-is_settled.ensures.0 refl) c.in_ok-merge.ensures.carried
+
+pub returns-clause-carried : goal.returns-clause-carried
+returns-clause-carried g n c =
+    carried_on g.C.EdgeCount.merges g.C.EdgeCount.splits g.C.EdgeCount.turns g.I.IntNumber.limit (c.args.rounds - 1) c.args.rounds
+    c.args.self.now c.merge.new.self c.cut.new.self _ (omega arith) c.merge.ensures.content c.in_ok-merge.ensures.ok
+    (λ settled. false≢true (c.if-is_settled.ensures.1 settled)) c.in_ok-merge.ensures.carried c.in_ok-cut.ensures.ok c.in_ok-cut.ensures.carried
+    c.in_ok-split.ensures.carried

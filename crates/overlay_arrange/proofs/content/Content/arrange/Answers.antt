@@ -1,6 +1,6 @@
 -- A content that was split is arranged, and a refusal of its rounds is one of bringing it into an arrangement.
 use Rattle.std.proofs.Common.{arith}
-use Rattle.overlay_arrange.proofs.ArrangedLists.{arranged_answer, refused_answer}
+use Rattle.overlay_arrange.proofs.ArrangedLists.{arranged_answer, arranged_carrying, refused_answer}
 use Rattle.overlay_arrange.proofs.content.Content.arrange.Goals as goal
 
 pub returns-clause-arranged : goal.returns-clause-arranged
@@ -10,3 +10,7 @@ pub returns-clause-err : goal.returns-clause-err
 returns-clause-err g c =
     let split = c.split.ensures in
     refused_answer g.I.IntNumber.limit 64 c.split.result _ (omega arith) c.edges.ensures.content split.not_settled split.too_many split.usable
+
+pub returns-clause-carried : goal.returns-clause-carried
+returns-clause-carried g c =
+    arranged_carrying g.C.EdgeCount.merges g.C.EdgeCount.splits g.C.EdgeCount.turns g.I.IntNumber.limit 64 c.split.result _ _ c.edges.ensures.content c.split.ensures.carried

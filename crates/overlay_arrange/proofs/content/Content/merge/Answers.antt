@@ -17,3 +17,6 @@ returns-clause-ok g c =
 pub returns-clause-content : goal.returns-clause-content
 returns-clause-content g c =
     rw (edges_in-carried g.I.IntNumber.whole g.C.EdgeCount.counts c.merge-merged.new.edges.items) c.merge-merged.ensures.content
+
+pub returns-clause-carried : goal.returns-clause-carried
+returns-clause-carried g c = rw (← c.self.view_is) c.merge-merged.ensures.carried

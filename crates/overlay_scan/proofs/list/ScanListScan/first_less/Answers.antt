@@ -1,4 +1,4 @@
--- What is under the edge is what the count passes.
+-- What is below the start of the edge is what the count passes.
 use Rattle.std.proofs.Common.{sym, ap, ◌∙◌}
 use Rattle.std.proofs.lemmas.List.Elements.{All-same}
 use Rattle.overlay_geom.specs.Lines.{plain_line}
@@ -8,7 +8,7 @@ use Rattle.overlay_scan.proofs.Moving.{sweep_after_move, sweep_moved, live_in_ra
 use Rattle.overlay_scan.proofs.Prefixes.{fits_in}
 use Rattle.std.proofs.Common.{None, take}
 use Rattle.std.specs.List.{last_or}
-use Rattle.overlay_scan.proofs.PutIn.{counted, found_under}
+use Rattle.overlay_scan.proofs.PutIn.{counted, found_below}
 use Rattle.overlay_scan.proofs.list.ScanListScan.first_less.Goals as goal
 
 pub count_under-place-requires-clause-entries : goal.count_under-place-requires-clause-entries
@@ -38,7 +38,7 @@ returns-clause-value g c =
     ∙ ap (λ es. value_or c.args.default (last_or None (take c.count_under-place.result es)))
     (ap (plain_entries whole) c.deref-2.ensures.value ∙ ap (λ s. s.entries) c.move_to.ensures)
     ∙ ap (λ n. value_or c.args.default (last_or None (take n fs))) place
-    ∙ ap (λ es. value_or c.args.default (last_or None es)) (found_under g.I.IntNumber.limit x e fs live c.requires.over c.requires.meets)
+    ∙ ap (λ es. value_or c.args.default (last_or None es)) (found_below g.I.IntNumber.limit x e fs live c.requires.asked c.requires.meets)
 
 pub returns-clause-state : goal.returns-clause-state
 returns-clause-state g c =

@@ -22,24 +22,24 @@ loop-walk-init g c =
 pub take_next-step-requires-clause-once : goal.take_next-step-requires-clause-once
 take_next-step-requires-clause-once g c =
     let l = c.loop-walk in
-    left_once g.I.IntNumber.whole g.I.IntNumber.limit c.args.self.now (plain_hand c.args.hand) c.args.start c.requires.alternate l.walk.items l.step l.self l.invariant c.requires.once
+    left_once g.I.IntNumber.whole g.I.IntNumber.limit c.args.self.now (plain_hand c.args.hand) c.args.start c.requires.leads_on l.walk.items l.step l.self l.invariant c.requires.once
 
 pub take_next-step-requires-clause-long : goal.take_next-step-requires-clause-long
 take_next-step-requires-clause-long g c =
     let l = c.loop-walk in
-    pending_long g.I.IntNumber.whole g.I.IntNumber.limit c.args.self.now (plain_hand c.args.hand) c.args.start c.requires.alternate l.walk.items l.step l.self l.invariant
+    pending_long g.I.IntNumber.whole g.I.IntNumber.limit c.args.self.now (plain_hand c.args.hand) c.args.start c.requires.leads_on l.walk.items l.step l.self l.invariant
 
 pub take_next-step-requires-clause-goes_on : goal.take_next-step-requires-clause-goes_on
 take_next-step-requires-clause-goes_on g c =
     let l = c.loop-walk in
-    pending_goes_on g.I.IntNumber.whole g.I.IntNumber.limit c.args.self.now (plain_hand c.args.hand) c.args.start c.requires.alternate l.walk.items l.step l.self l.invariant
+    pending_goes_on g.I.IntNumber.whole g.I.IntNumber.limit c.args.self.now (plain_hand c.args.hand) c.args.start c.requires.leads_on l.walk.items l.step l.self l.invariant
 
 pub returns-then-is_same-clause-orbit : goal.returns-then-is_same-clause-orbit
 returns-then-is_same-clause-orbit g c =
     let l = c.loop-walk in
     let whole = g.I.IntNumber.whole in
     rw c.in_ok-push.ensures.items
-    (taken_round whole g.I.IntNumber.limit c.args.self.now (plain_hand c.args.hand) c.args.start c.requires.alternate l.walk.items l.step l.self l.invariant
+    (taken_round whole g.I.IntNumber.limit c.args.self.now (plain_hand c.args.hand) c.args.start c.requires.leads_on l.walk.items l.step l.self l.invariant
     c.take_next-step.result c.take_next-step.new.self c.take_next-step.ensures.next c.take_next-step.ensures.left
     (same_steps (plain_step whole c.take_next-step.result) (plain_step whole c.args.start) (sym c.is_same.ensures ∙ c.if-is_same.true)))
 
@@ -47,27 +47,27 @@ pub returns-then-is_same-clause-among : goal.returns-then-is_same-clause-among
 returns-then-is_same-clause-among g c =
     let l = c.loop-walk in
     rw c.in_ok-push.ensures.items
-    (walked_on g.I.IntNumber.whole g.I.IntNumber.limit c.args.self.now (plain_hand c.args.hand) c.args.start c.requires.alternate l.walk.items l.step l.self l.invariant)
+    (walked_on g.I.IntNumber.whole g.I.IntNumber.limit c.args.self.now (plain_hand c.args.hand) c.args.start c.requires.leads_on l.walk.items l.step l.self l.invariant)
 
 pub returns-then-is_same-clause-left : goal.returns-then-is_same-clause-left
 returns-then-is_same-clause-left g c =
     let l = c.loop-walk in
     let whole = g.I.IntNumber.whole in
     rw c.in_ok-push.ensures.items
-    (all_taken whole g.I.IntNumber.limit c.args.self.now (plain_hand c.args.hand) c.args.start c.requires.alternate l.walk.items l.step l.self l.invariant
+    (all_taken whole g.I.IntNumber.limit c.args.self.now (plain_hand c.args.hand) c.args.start c.requires.leads_on l.walk.items l.step l.self l.invariant
     c.take_next-step.result c.take_next-step.new.self c.take_next-step.ensures.next c.take_next-step.ensures.left
     (same_steps (plain_step whole c.take_next-step.result) (plain_step whole c.args.start) (sym c.is_same.ensures ∙ c.if-is_same.true)))
 
 pub returns-then-is_same-clause-fewer : goal.returns-then-is_same-clause-fewer
 returns-then-is_same-clause-fewer g c =
     let l = c.loop-walk in
-    fewer_taken g.I.IntNumber.whole g.I.IntNumber.limit c.args.self.now (plain_hand c.args.hand) c.args.start c.requires.alternate l.walk.items l.step l.self l.invariant
+    fewer_taken g.I.IntNumber.whole g.I.IntNumber.limit c.args.self.now (plain_hand c.args.hand) c.args.start c.requires.leads_on l.walk.items l.step l.self l.invariant
     c.take_next-step.result c.take_next-step.new.self c.take_next-step.ensures.next c.take_next-step.ensures.left c.take_next-step.ensures.among c.take_next-step.ensures.fewer
 
 pub loop-walk-smaller : goal.loop-walk-smaller
 loop-walk-smaller g c =
     let l = c.loop-walk in
-    let few = more_than_walked g.I.IntNumber.whole g.I.IntNumber.limit c.args.self.now (plain_hand c.args.hand) c.args.start c.requires.alternate l.walk.items l.step l.self l.invariant in
+    let few = more_than_walked g.I.IntNumber.whole g.I.IntNumber.limit c.args.self.now (plain_hand c.args.hand) c.args.start c.requires.leads_on l.walk.items l.step l.self l.invariant in
     let longer = ap length c.in_ok-push.ensures.items ∙ length_push l.walk.items l.step in
     omega (arith, few, longer)
 
@@ -78,6 +78,6 @@ loop-walk-preserved g c =
     let t = plain_step whole c.take_next-step.result in
     let start = plain_step whole c.args.start in
     rw c.in_ok-push.ensures.items
-    (goes_on_taking whole g.I.IntNumber.limit c.args.self.now (plain_hand c.args.hand) c.args.start c.requires.alternate l.walk.items l.step l.self l.invariant
+    (goes_on_taking whole g.I.IntNumber.limit c.args.self.now (plain_hand c.args.hand) c.args.start c.requires.leads_on l.walk.items l.step l.self l.invariant
     c.take_next-step.result c.take_next-step.new.self c.take_next-step.ensures.next c.take_next-step.ensures.left c.take_next-step.ensures.among c.take_next-step.ensures.fewer
     (λ same. both_ways (step_eq t start) (sym c.is_same.ensures ∙ c.if-is_same.false) (equal_steps t start same)))

@@ -1,28 +1,24 @@
 -- An edge at another height is put in.
 use Rattle.std.proofs.Common.{rules, ◌≡◌, ◌≤◌, false, nat_eq}
-use Rattle.std.specs.List.{list_any}
 use Rattle.scan_tests.proofs.LevelEdges.{insertable, put_in}
 use Rattle.overlay_scan.proofs.LinesFit.{line_fits}
 use Rattle.scan_tests.proofs.levels.Levels.insert.Goals as goal
 
 pub insert-requires : goal.insert-requires
 insert-requires g c =
-    let later : c.args.self.now.reached ≤ c.args.x = search rules in
-    let free : list_any (λ i. nat_eq i c.args.height) c.args.self.now.heights.items ≡ false = search rules in (
+    (
       line_fits _ _ g.met.I.IntNumber.small.align_bound g.met.I.IntNumber.small.size_bound,
       (
         c.requires.sweep,
         insertable g.I.IntNumber.limit c.args.self.now.reached c.args.x c.args.end c.args.self.now.heights.items
-            (g.S.Scan.content c.args.self.now.scan) c.requires later c.args.height free _ _
+            (g.S.Scan.content c.args.self.now.scan) c.requires c.check_next.ensures.later c.args.height c.check_next.ensures.free _ _
             c.small.ensures.value c.level-line.ensures.line c.level-line.ensures.over,
       ),
     )
 
 pub returns : goal.returns
 returns g c =
-    let later : c.args.self.now.reached ≤ c.args.x = search rules in
-    let free : list_any (λ i. nat_eq i c.args.height) c.args.self.now.heights.items ≡ false = search rules in
     put_in g.I.IntNumber.limit c.args.self.now.reached c.args.x c.args.end c.args.self.now.heights.items
-    (g.S.Scan.content c.args.self.now.scan) c.requires later c.args.height free c.args.height (g.S.Scan.content c.insert.new.self) _ _ _
+    (g.S.Scan.content c.args.self.now.scan) c.requires c.check_next.ensures.later c.args.height c.check_next.ensures.free c.args.height (g.S.Scan.content c.insert.new.self) _ _ _
     c.small.ensures.value c.level-line.ensures.line c.in_ok-push.ensures.items
     c.in_ok-insert.ensures.ok c.insert.ensures.reached c.insert.ensures.state
