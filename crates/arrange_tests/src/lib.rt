@@ -12,4 +12,6 @@ mod rounds;
 #[cfg(test)]
 mod string_count;
 #[cfg(test)]
+mod tallies;
+#[cfg(test)]
 mod thin;

@@ -8,8 +8,8 @@ ghost use Rattle.overlay_arrange.specs.Counts.{weight_of_counts};
 /// larger end, less how often back, and perhaps data.
 ///
 /// Where equal edges are merged their counts are summed; a piece that runs against its edge has
-/// the counts with the other sign. Data is merged, split and turned round with them; the contracts
-/// of an arrangement speak of the counts alone.
+/// the counts with the other sign. Data is merged, split and turned round with them, as a type says
+/// by `merges`, `splits` and `turns`; `Content::arrange` says by these what each edge carries.
 pub trait EdgeCount: Copy {
     /// What the data needs beside the edges; nothing for counts alone.
     type Store;

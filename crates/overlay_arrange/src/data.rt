@@ -23,7 +23,8 @@ pub struct EdgeDataMerge<C, D> {
 ///
 /// Where an edge with data is cut into two pieces or more, each piece has the `split` of its data,
 /// and a piece that runs against its edge the `reversed` of that; where equal edges are merged,
-/// `merge` gives the new data. An implementation says what each of the three may answer.
+/// `merge` gives the new data, of two at a time, in an order that is left open. An implementation
+/// says what each of the three may answer.
 pub trait OverlayEdgeData: Copy + PartialEq {
     /// What the three need beside the data, as a table in which new data is entered; `()` if
     /// they need nothing.
