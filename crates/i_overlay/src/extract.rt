@@ -25,6 +25,7 @@ use overlay_arrange::overlay_rule::OverlayRule;
 use overlay_geom::error::OverlayError;
 use overlay_geom::number::IntNumber;
 use overlay_geom::path::IntShapes;
+use overlay_scan::list::ScanList;
 use overlay_walk::bind::bind;
 pub use overlay_walk::buffer::BooleanExtractionBuffer;
 use overlay_walk::contours::cut_into_contours;
@@ -53,7 +54,8 @@ pub(crate) fn extract_shapes<I: IntNumber, A: Allocator + Clone>(
     let direction = options.output_direction;
     let walks = selected_walks(content, overlay_rule, fill_rule, direction, buffer)?;
     let alloc = content.allocator().clone()?;
-    let numbers = bind(alloc.clone()?, &walks, direction)?;
+    let mut scan: ScanList<I, usize, A> = ScanList::default(alloc.clone()?);
+    let numbers = bind(alloc.clone()?, &mut scan, &walks, direction)?;
     let keeps_points = options.preserve_output_collinear;
     assembled(alloc, &walks, &numbers, direction, keeps_points)
 }

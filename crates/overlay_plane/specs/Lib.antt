@@ -26,6 +26,7 @@ pub mod OrbitsSoFar
 pub mod Order
 pub mod Rays
 pub mod Regions
+pub mod Roles
 pub mod Rounds
 pub mod SelectedSteps
 pub mod ShapeWindings

@@ -1,10 +1,12 @@
 -- The walks, each with what is told of it.
 use Rattle.std.proofs.Common.{◌≡◌, ℕ, suc, Bool, true, List, [], ◌∷◌, length, map, get_or, Option, None, Some, refl, ap, arith}
 use Rattle.std.specs.List.{All, slice_get}
+use Rattle.std.specs.Option.{MatchOption}
 use Rattle.std.proofs.lemmas.List.Elements.{All-nil, All-cons}
 use Rattle.overlay_geom.specs.Plane.{Step}
-use Rattle.overlay_plane.specs.Binding.{is_hole, BoundWalk, AreBound}
-use Rattle.overlay_walk.specs.Parents.{IsTold, IsToldAt}
+use Rattle.overlay_plane.specs.Binding.{is_hole, IsParentOf, HasNoParent, BoundWalk, AreBound}
+use Rattle.overlay_walk.specs.Parents.{AreOutlineNumbers, IsToldAt}
+use Rattle.overlay_walk.proofs.OutlinesKnown.{hole_told}
 use Rattle.overlay_walk.specs.Walks.{bound_to}
 
 -- the walks are the same
@@ -22,9 +24,10 @@ each_bound P (w ∷ ws) (s ∷ shapes) same each = All-cons (λ b. P b.steps b.s
     (each_bound P ws shapes (omega (arith, same)) (λ n v at. each (suc n) v at))
 
 -- so the walks are bound
-pub are_bound : (on_left : Bool) (walks : List (List Step)) (shapes : List (Option ℕ)) → length shapes ≡ length walks →
-    ((n : ℕ) → IsToldAt on_left walks shapes n) → AreBound on_left walks (bound_to walks shapes)
-are_bound on_left walks shapes same told = record {
+pub are_bound : (on_left : Bool) (walks : List (List Step)) (numbers shapes : List (Option ℕ)) → AreOutlineNumbers on_left walks numbers →
+    length shapes ≡ length walks → ((n : ℕ) → IsToldAt on_left walks numbers shapes n) → AreBound on_left walks (bound_to walks shapes)
+are_bound on_left walks numbers shapes numbered same told = record {
   are = steps_bound walks shapes same;
-  told = each_bound (λ w shape. is_hole on_left w ≡ true → IsTold on_left walks w shape) walks shapes same (λ n w at. told n w at);
+  told = each_bound (λ w shape. is_hole on_left w ≡ true → MatchOption shape (HasNoParent on_left walks w) (λ m. IsParentOf on_left walks w m)) walks shapes same
+      (λ n w at. hole_told on_left walks numbers numbered shapes n (told n) w at);
 }

@@ -15,6 +15,7 @@ pub mod NextPlaces
 pub mod NextTaken
 pub mod OpenPlaces
 pub mod OutlineNumbers
+pub mod OutlinesKnown
 pub mod Runs
 pub mod SelectedLong
 pub mod Starts

@@ -12,7 +12,7 @@ use Rattle.overlay_plane.specs.Anchors.{HasEachEdgeOnce}
 use Rattle.overlay_plane.proofs.AnchorsLeadOn.{anchors_lead_on}
 use Rattle.overlay_plane.proofs.Entries.{Contains-flat_map, Contains-from_map}
 use Rattle.overlay_scan.specs.Scan.{Entry, Sweep, empty_sweep, live_at, moved_to, IsSweep, MeetsOthers, value_below}
-use Rattle.overlay_walk.specs.Parents.{IsSwept, AreOutlineNumbers, IsToldAt}
+use Rattle.overlay_walk.specs.Parents.{IsSwept, IsToldAt}
 use Rattle.overlay_walk.specs.WalkEdges.{IsFilledEntry, AreFilledEntries, IsHoleEntry, AreHoleEntries}
 use Rattle.overlay_walk.proofs.HoleEntries.{Contains-at}
 use Rattle.overlay_walk.proofs.HolesTold.{shape_of, told_none, told_next, all_told}
@@ -39,7 +39,7 @@ module _ (on_left : Bool) (walks : List (List Step)) (contours : All IsContour w
       (filled_walked on_left walks contours settled f (All-contains (IsFilledEntry on_left walks) fs f filled.from c))
       (filled_walked on_left walks contours settled g (All-contains (IsFilledEntry on_left walks) fs g filled.from d)) differ
 
-  module _ (single : All HasEachEdgeOnce walks) (h : Entry ℕ) (own : IsHoleEntry on_left walks h) where
+  module _ (single : All HasEachEdgeOnce walks) (known : List (Option ℕ)) (h : Entry ℕ) (own : IsHoleEntry walks known h) where
     -- the hole is one of the walks
     kept : Contains walks own.walk
     kept = Contains-at walks h.value own.walk own.at
@@ -55,7 +55,7 @@ module _ (on_left : Bool) (walks : List (List Step)) (contours : All IsContour w
       pub anchor_meets : MeetsOthers h.edge (live_at h.edge.a.x s.entries)
       anchor_meets = meets_anchor on_left walks contours settled fs filled limit own.walk kept h.edge own.has.anchor anchor_over n s swept rest
 
-      module _ (numbers : List (Option ℕ)) (numbered : AreOutlineNumbers on_left walks numbers) (hs : List (Entry ℕ)) (holes : AreHoleEntries on_left walks hs)
+      module _ (known_counted : length known ≡ length walks) (hs : List (Entry ℕ)) (holes : AreHoleEntries walks known hs)
           (parents : List (Option ℕ)) (counted : length parents ≡ length walks) (i : ℕ) (lt : i < length hs) (is : h ≡ get_or hs i h)
           (t : Sweep ℕ) (moved : t ≡ moved_to h.edge.a.x s) (state : IsSweep limit t) where
         -- the sweep may go on to the anchors after it
@@ -66,24 +66,24 @@ module _ (on_left : Bool) (walks : List (List Step)) (contours : All IsContour w
 
         -- it is told of the hole
         pub told_on : (none : ℕ) → none ≡ length walks → (below : ℕ) → below ≡ value_below none h.edge (live_at h.edge.a.x s.entries) →
-            All (λ k. IsToldAt on_left walks parents k.value) (take i hs) →
-            All (λ k. IsToldAt on_left walks (slice_set parents h.value (shape_of numbers parents below)) k.value) (take (i + 1) hs)
+            All (λ k. IsToldAt on_left walks known parents k.value) (take i hs) →
+            All (λ k. IsToldAt on_left walks known (slice_set parents h.value (shape_of known parents below)) k.value) (take (i + 1) hs)
         told_on none past below found told =
-            all_told on_left walks contours numbers numbered hs holes parents i h lt is told own.walk own.at own.has.anchor (shape_of numbers parents below)
+            all_told on_left walks contours known known_counted hs holes parents i h lt is told own.walk own.at own.has.anchor (shape_of known parents below)
             (subst (λ m. h.value < m) (sym counted) (slice_get_within walks h.value own.walk own.at))
             (⊎_elim
-            (λ nothing. told_none on_left walks contours numbers numbered hs holes parents i h lt is told own.walk own.at own.has.anchor below nothing.0 nothing.1)
-            (λ walk. told_next on_left walks contours numbers numbered hs holes parents i h lt is told own.walk own.at own.has.anchor below walk.next walk.at
+            (λ nothing. told_none on_left walks contours known known_counted hs holes parents i h lt is told own.walk own.at own.has.anchor below nothing.0 nothing.1)
+            (λ walk. told_next on_left walks contours known known_counted hs holes parents i h lt is told own.walk own.at own.has.anchor below walk.next walk.at
             walk.is_next walk.anchor_is)
             (subst (Finds on_left walks contours settled fs filled limit own.walk kept h.edge own.has.anchor anchor_over n s swept rest) (sym found)
             (look_up on_left walks contours settled fs filled limit own.walk kept h.edge own.has.anchor anchor_over n s swept rest
             (subst (IsSweep limit) moved state) none past)))
 
 -- where it is told of all anchors, it is told of each walk
-pub all_walks_told : (on_left : Bool) (walks : List (List Step)) (hs : List (Entry ℕ)) → AreHoleEntries on_left walks hs → (parents : List (Option ℕ)) (i : ℕ) →
-    length hs ≤ i → All (λ k. IsToldAt on_left walks parents k.value) (take i hs) → (n : ℕ) → IsToldAt on_left walks parents n
-all_walks_told on_left walks hs holes parents i le told n w at hole =
+pub all_walks_told : (on_left : Bool) (walks : List (List Step)) (known : List (Option ℕ)) (hs : List (Entry ℕ)) → AreHoleEntries walks known hs → (parents : List (Option ℕ)) (i : ℕ) →
+    length hs ≤ i → All (λ k. IsToldAt on_left walks known parents k.value) (take i hs) → (n : ℕ) → IsToldAt on_left walks known parents n
+all_walks_told on_left walks known hs holes parents i le told n w at hole =
     let found = Contains-from_map (λ (k : Entry ℕ). k.value) hs n (holes.all n w at hole) in
-    subst (IsToldAt on_left walks parents) found.2
-    (All-contains (λ k. IsToldAt on_left walks parents k.value) hs found.0 (subst (All (λ k. IsToldAt on_left walks parents k.value)) (take_all i hs le) told) found.1)
+    subst (IsToldAt on_left walks known parents) found.2
+    (All-contains (λ k. IsToldAt on_left walks known parents k.value) hs found.0 (subst (All (λ k. IsToldAt on_left walks known parents k.value)) (take_all i hs le) told) found.1)
     w at hole

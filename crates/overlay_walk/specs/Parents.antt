@@ -1,7 +1,8 @@
 -- What a sweep over walks has told so far.
 use Rattle.std.specs.Prelude.{◌≡◌, ℕ, Bool, true, ℤ, List, Contains, length, slice_get, slice_index_or, Option, None, Some, MatchOption}
 use Rattle.overlay_geom.specs.Plane.{Step}
-use Rattle.overlay_plane.specs.Binding.{is_hole, outlines, IsParentOf, HasNoParent}
+use Rattle.overlay_plane.specs.Binding.{is_hole, outlines}
+use Rattle.overlay_plane.specs.Roles.{IsTold}
 use Rattle.overlay_scan.specs.Scan.{Entry, Sweep, live_at, MayMoveTo, IsSweep}
 
 -- the live entries of the sweep are those of the list, at x and from there on
@@ -20,11 +21,7 @@ pub record AreOutlineNumbers (on_left : Bool) (walks : List (List Step)) (number
   pub counted : length numbers ≡ length walks
   pub told : (n : ℕ) (w : List Step) → slice_get walks n ≡ Some w → IsOutlineNumber on_left walks w (slice_index_or numbers n None)
 
--- what is told of a hole: its parent, or that it has none
-abbrev pub IsTold : Bool → List (List Step) → List Step → Option ℕ → Type 0
-IsTold on_left walks hole shape = MatchOption shape (HasNoParent on_left walks hole) (λ n. IsParentOf on_left walks hole n)
-
--- it is told of the walk with this index, if that is a hole
-abbrev pub IsToldAt : Bool → List (List Step) → List (Option ℕ) → ℕ → Type 0
-IsToldAt on_left walks shapes n = (w : List Step) → slice_get walks n ≡ Some w → is_hole on_left w ≡ true →
-    IsTold on_left walks w (slice_index_or shapes n None)
+-- it is told of the walk at place n, if that stands in no shape from the start
+abbrev pub IsToldAt : Bool → List (List Step) → List (Option ℕ) → List (Option ℕ) → ℕ → Type 0
+IsToldAt on_left walks known shapes n = (w : List Step) → slice_get walks n ≡ Some w → slice_index_or known n None ≡ None →
+    IsTold on_left walks known n (slice_index_or shapes n None)

@@ -10,6 +10,9 @@ use Rattle.overlay_walk.specs.declared.hand.Hand.{Hand as HandTaken}
 use Rattle.overlay_walk.specs.declared.hand.Hand.TheVariants.{Left, Right}
 use Rattle.overlay_walk.specs.declared.hand.HandRule.{HandRule}
 use Rattle.overlay_walk.specs.declared.hand.HandRule.TheVariants.{OutlineOrHole, Always}
+use Rattle.overlay_plane.specs.Roles.{Side, above, below}
+use Rattle.overlay_walk.specs.declared.side.Side.{Side as SideTaken}
+use Rattle.overlay_walk.specs.declared.side.Side.TheVariants.{Above, Below}
 use Rattle.overlay_walk.specs.declared.step.Step.{Step as StepTaken}
 
 -- the hand
@@ -39,6 +42,11 @@ pub record IsLong (limit : ℕ) (s : Step) : Type 0 where
   pub from_in_range : InRange limit s.from
   pub to_in_range : InRange limit s.to
   pub apart : ¬ (s.from ≡ s.to)
+
+-- the side
+abbrev pub plain_side : SideTaken → Side
+plain_side Above = above
+plain_side Below = below
 
 -- no step leaves a smaller point than a step before it
 abbrev pub IsByStart : List Step → Type 0

@@ -1,9 +1,9 @@
 -- Edges of walks as whole numbers, each an entry of a sweep whose value is the index of the walk.
-use Rattle.std.specs.Prelude.{◌≡◌, ℕ, Bool, true, false, ℤ, List, map, All, AllPairs, Contains, slice_get, Some}
+use Rattle.std.specs.Prelude.{◌≡◌, ℕ, Bool, false, ℤ, List, map, All, AllPairs, Contains, slice_get, slice_index_or, Option, None, Some}
 use Rattle.overlay_geom.specs.Plane.{Step, Edge, edge_eq}
 use Rattle.overlay_geom.specs.Points.{plain_point}
 use Rattle.overlay_plane.specs.Anchors.{IsAnchor, is_anchored_before}
-use Rattle.overlay_plane.specs.Binding.{is_hole, filled_above_edges, all_filled_above}
+use Rattle.overlay_plane.specs.Binding.{filled_above_edges, all_filled_above}
 use Rattle.overlay_scan.specs.Scan.{Entry}
 use Rattle.overlay_walk.specs.declared.walk_edge.WalkEdge.{WalkEdge}
 
@@ -39,17 +39,17 @@ pub record AreFilledEntries (on_left : Bool) (walks : List (List Step)) (fs : Li
   pub distinct : AllPairs (λ f g. edge_eq f.edge g.edge ≡ false) fs
   pub order : IsByAnchor fs
 
--- a hole, and its anchor
-pub record IsAnchored (on_left : Bool) (hole : List Step) (e : Edge) : Type 0 where
-  pub is : is_hole on_left hole ≡ true
-  pub anchor : IsAnchor hole e
+-- the walk at place n, which stands in no shape from the start, and its anchor
+pub record IsAnchored (known : List (Option ℕ)) (n : ℕ) (walk : List Step) (e : Edge) : Type 0 where
+  pub is : slice_index_or known n None ≡ None
+  pub anchor : IsAnchor walk e
 
--- the entry's walk is a hole, of which the entry's edge is the anchor
-abbrev pub IsHoleEntry : Bool → List (List Step) → Entry ℕ → Type 0
-IsHoleEntry on_left walks h = IsOfWalk walks h.value (λ w. IsAnchored on_left w h.edge)
+-- the entry's walk is such a one, of which the entry's edge is the anchor
+abbrev pub IsHoleEntry : List (List Step) → List (Option ℕ) → Entry ℕ → Type 0
+IsHoleEntry walks known h = IsOfWalk walks h.value (λ w. IsAnchored known h.value w h.edge)
 
--- the entries are the anchors of the holes among the walks, in their order
-pub record AreHoleEntries (on_left : Bool) (walks : List (List Step)) (hs : List (Entry ℕ)) : Type 0 where
-  pub from : All (IsHoleEntry on_left walks) hs
-  pub all : (n : ℕ) (w : List Step) → slice_get walks n ≡ Some w → is_hole on_left w ≡ true → Contains (map (λ h. h.value) hs) n
+-- the entries are the anchors of the walks that stand in no shape from the start, in their order
+pub record AreHoleEntries (walks : List (List Step)) (known : List (Option ℕ)) (hs : List (Entry ℕ)) : Type 0 where
+  pub from : All (IsHoleEntry walks known) hs
+  pub all : (n : ℕ) (w : List Step) → slice_get walks n ≡ Some w → slice_index_or known n None ≡ None → Contains (map (λ h. h.value) hs) n
   pub order : IsByAnchor hs

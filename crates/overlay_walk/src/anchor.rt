@@ -1,38 +1,37 @@
-//! The anchors of holes.
+//! The anchors of walks whose shapes are to be found.
 
 ghost use Rattle.std.specs.Prelude.{◌≡◌, ◌<◌, length, All, IfOk, IsOkUnless};
 ghost use Rattle.overlay_plane.specs.Anchors.{IsAnchor};
 ghost use Rattle.overlay_plane.specs.Contours.{IsContour};
-ghost use Rattle.overlay_walk.specs.Steps.{plain_steps, is_on_left, IsLong};
+ghost use Rattle.overlay_walk.specs.Steps.{plain_steps, IsLong};
 ghost use Rattle.overlay_walk.specs.WalkEdges.{walk_entry, walk_entries, AreHoleEntries};
 ghost use Rattle.overlay_walk.specs.Walks.{plain_walks};
 
 use crate::by_anchor::{compare_anchors, sort_by_anchor};
-use crate::filled::{edge_along, is_hole};
+use crate::filled::edge_along;
 use crate::step::Step;
 use crate::walk_edge::WalkEdge;
-use overlay_arrange::options::ContourDirection;
 use overlay_geom::error::OverlayError;
 use overlay_geom::number::IntNumber;
 use std::alloc::Allocator;
 
-/// The anchors of the holes among the walks, in their order, each with the index of its walk. The only
-/// refusal is `Memory`.
+/// The anchors of the walks that stand in no shape from the start, in their order, each with the index
+/// of its walk. The only refusal is `Memory`.
 pub fn hole_anchors<I: IntNumber, D: Copy, A: Allocator>(
     alloc: A,
     walks: &[Vec<Step<I, D>, A>],
-    direction: ContourDirection,
+    known: &[Option<usize>],
 ) -> Result<Vec<WalkEdge<I>, A>, OverlayError>
     requires long { All (All (IsLong I.limit)) (plain_walks I.whole walks.now) }
     requires contours { All IsContour (plain_walks I.whole walks.now) }
-    ensures ok { IfOk result (λ v. AreHoleEntries (is_on_left direction) (plain_walks I.whole walks.now) (walk_entries I.whole v.items)) }
+    requires known { length known.now ≡ length walks.now }
+    ensures ok { IfOk result (λ v. AreHoleEntries (plain_walks I.whole walks.now) known.now (walk_entries I.whole v.items)) }
     ensures err { IsOkUnless result OverlayError.Memory }
 {
     let mut anchors = Vec::new(alloc);
     for i in 0..walks.len() {
-        let walk = &walks[i];
-        if is_hole(walk, direction) {
-            anchors.push(anchor_of(walk, i))?;
+        if known[i].is_none() {
+            anchors.push(anchor_of(&walks[i], i))?;
         }
     }
     sort_by_anchor(&mut anchors)?;

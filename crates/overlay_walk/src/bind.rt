@@ -1,4 +1,4 @@
-//! Binding: the shape in which each hole stands.
+//! Binding: the shape in which each hole stands, and shapes found for walks in general.
 
 ghost use Rattle.std.specs.Prelude.{◌≡◌, false, length, All, AllPairs, IfOk, IsOkUnless};
 ghost use Rattle.overlay_geom.specs.Plane.{edge_of, edge_eq};
@@ -6,15 +6,20 @@ ghost use Rattle.overlay_geom.specs.Settled.{IsSettledBy};
 ghost use Rattle.overlay_plane.specs.Anchors.{HasEachEdgeOnce};
 ghost use Rattle.overlay_plane.specs.Binding.{AreBound, all_filled_above};
 ghost use Rattle.overlay_plane.specs.Contours.{IsContour, all_steps};
-ghost use Rattle.overlay_walk.specs.Steps.{is_on_left, IsLong};
+ghost use Rattle.overlay_plane.specs.Roles.{side_on_left};
+ghost use Rattle.overlay_scan.specs.Scan.{empty_sweep};
+ghost use Rattle.overlay_walk.specs.Parents.{IsToldAt};
+ghost use Rattle.overlay_walk.specs.Steps.{is_on_left, plain_side, IsLong};
 ghost use Rattle.overlay_walk.specs.Walks.{plain_walks, bound_to};
 
+use crate::outline_numbers::outline_numbers;
+use crate::side::Side;
 use crate::step::Step;
 use crate::sweep::parents_by_sweep;
 use overlay_arrange::options::ContourDirection;
 use overlay_geom::error::OverlayError;
 use overlay_geom::number::IntNumber;
-use overlay_scan::list::ScanList;
+use overlay_scan::scan::Scan;
 use std::alloc::Allocator;
 
 /// A list as long as that of the walks. At a hole stands the number of the shape in which it stands: the
@@ -24,9 +29,10 @@ use std::alloc::Allocator;
 ///
 /// Shapes are numbered from 0 by their outlines, in the order of the walks. The walks are contours whose
 /// edges meet in ends alone; none walks along an edge twice, and no two filled-above edges are equal.
-/// The only refusal is `Memory`.
-pub fn bind<I: IntNumber, D: Copy, A: Allocator + Clone>(
+/// The scan is empty at first; what it holds afterwards is left open. The only refusal is `Memory`.
+pub fn bind<I: IntNumber, D: Copy, A: Allocator + Clone, S: Scan<I, usize>>(
     alloc: A,
+    scan: &mut S,
     walks: &[Vec<Step<I, D>, A>],
     direction: ContourDirection,
 ) -> Result<Vec<Option<usize>, A>, OverlayError>
@@ -35,12 +41,60 @@ pub fn bind<I: IntNumber, D: Copy, A: Allocator + Clone>(
     requires single { All HasEachEdgeOnce (plain_walks I.whole walks.now) }
     requires distinct { AllPairs (λ e f. edge_eq e f ≡ false) (all_filled_above (is_on_left direction) (plain_walks I.whole walks.now)) }
     requires settled { IsSettledBy edge_of (all_steps (plain_walks I.whole walks.now)) }
+    requires empty { S.content scan.old ≡ empty_sweep }
     ensures counted { IfOk result (λ v. length v.items ≡ length walks.now) }
     ensures bound { IfOk result (λ v. AreBound (is_on_left direction) (plain_walks I.whole walks.now)
         (bound_to (plain_walks I.whole walks.now) v.items)) }
     ensures err { IsOkUnless result OverlayError.Memory }
 {
-    let mut scan: ScanList<I, usize, A> = ScanList::default(alloc.clone()?);
-    let parents = parents_by_sweep(alloc, &mut scan, walks, direction)?;
+    let numbers = outline_numbers(alloc.clone()?, walks, direction)?;
+    let parents = parents_by_sweep(alloc, scan, walks, &numbers, direction)?;
     Ok(parents)
+}
+
+/// A list as long as that of the walks, of which some stand in shapes from the start: outlines, and holes
+/// of an outline's own group, with the shape's number in `known`. At each other one, where `known` has
+/// None, stands the number that is found for it by the walk that has the next edge, among the edges that
+/// are filled on the side, below its anchor: the one that is known of that walk, or the one that is found
+/// for it. It is None where there is no such edge, or where none is found for that walk. What stands at
+/// the others is left open.
+///
+/// So by `Side::Above` holes find their parents, and by `Side::Below`, with the holes' numbers as known,
+/// an island the hole round it. The walks are as for [`bind`], with the edges that are filled on the side
+/// in place of the filled-above ones. The scan is empty at first; what it holds afterwards is left open.
+/// The only refusal is `Memory`.
+pub fn find_shapes<I: IntNumber, D: Copy, A: Allocator + Clone, S: Scan<I, usize>>(
+    alloc: A,
+    scan: &mut S,
+    walks: &[Vec<Step<I, D>, A>],
+    known: &[Option<usize>],
+    direction: ContourDirection,
+    side: Side,
+) -> Result<Vec<Option<usize>, A>, OverlayError>
+    requires long { All (All (IsLong I.limit)) (plain_walks I.whole walks.now) }
+    requires contours { All IsContour (plain_walks I.whole walks.now) }
+    requires single { All HasEachEdgeOnce (plain_walks I.whole walks.now) }
+    requires distinct { AllPairs (λ e f. edge_eq e f ≡ false)
+        (all_filled_above (side_on_left (plain_side side) (is_on_left direction)) (plain_walks I.whole walks.now)) }
+    requires settled { IsSettledBy edge_of (all_steps (plain_walks I.whole walks.now)) }
+    requires known { length known.now ≡ length walks.now }
+    requires empty { S.content scan.old ≡ empty_sweep }
+    ensures counted { IfOk result (λ v. length v.items ≡ length walks.now) }
+    ensures told { IfOk result (λ v. (n : _) → IsToldAt (side_on_left (plain_side side) (is_on_left direction))
+        (plain_walks I.whole walks.now) known.now v.items n) }
+    ensures err { IsOkUnless result OverlayError.Memory }
+{
+    parents_by_sweep(alloc, scan, walks, known, filled_above_as(direction, side))
+}
+
+/// The direction in which contours run whose filled-above edges are those that are filled on the side
+/// where contours run in this one.
+fn filled_above_as(direction: ContourDirection, side: Side) -> ContourDirection
+    ensures { is_on_left result ≡ side_on_left (plain_side side) (is_on_left direction) }
+{
+    match (side, direction) {
+        (Side::Above, direction) => direction,
+        (Side::Below, ContourDirection::CounterClockwise) => ContourDirection::Clockwise,
+        (Side::Below, ContourDirection::Clockwise) => ContourDirection::CounterClockwise,
+    }
 }

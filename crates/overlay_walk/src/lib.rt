@@ -16,6 +16,7 @@ pub mod nearest;
 mod next;
 pub mod open_steps;
 mod outline_numbers;
+pub mod side;
 pub mod step;
 mod sweep;
 mod walk_edge;

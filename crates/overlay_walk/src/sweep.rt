@@ -1,4 +1,4 @@
-//! The sweep over walks that finds the parents of holes.
+//! The sweep over walks that finds the shapes of those that stand in none from the start.
 
 ghost use Rattle.std.specs.Prelude.{◌≡◌, ◌<◌, ◌≤◌, length, take, drop, slice_index_or, None};
 ghost use Rattle.std.specs.Prelude.{◌<ℤ◌, false, cond, nat_lt, All, AllPairs, IfOk, IsOkUnless};
@@ -17,7 +17,6 @@ ghost use Rattle.overlay_walk.specs.Walks.{plain_walks};
 
 use crate::anchor::hole_anchors;
 use crate::filled_edges::filled_edges;
-use crate::outline_numbers::outline_numbers;
 use crate::step::Step;
 use crate::walk_edge::WalkEdge;
 use overlay_arrange::options::ContourDirection;
@@ -26,12 +25,14 @@ use overlay_geom::number::IntNumber;
 use overlay_scan::scan::Scan;
 use std::alloc::Allocator;
 
-/// For each walk the number of the shape in which it stands, if it is a hole and has a parent. The
-/// scan is empty at first; what it holds afterwards is left open. The only refusal is `Memory`.
+/// For each walk that stands in no shape from the start (`known` has None there) the number of the shape
+/// that is found for it by its next filled-above edge, if one is. The scan is empty at first; what it
+/// holds afterwards is left open. The only refusal is `Memory`.
 pub fn parents_by_sweep<I: IntNumber, D: Copy, A: Allocator + Clone, S: Scan<I, usize>>(
     alloc: A,
     scan: &mut S,
     walks: &[Vec<Step<I, D>, A>],
+    known: &[Option<usize>],
     direction: ContourDirection,
 ) -> Result<Vec<Option<usize>, A>, OverlayError>
     requires long { All (All (IsLong I.limit)) (plain_walks I.whole walks.now) }
@@ -39,21 +40,21 @@ pub fn parents_by_sweep<I: IntNumber, D: Copy, A: Allocator + Clone, S: Scan<I, 
     requires single { All HasEachEdgeOnce (plain_walks I.whole walks.now) }
     requires distinct { AllPairs (λ e f. edge_eq e f ≡ false) (all_filled_above (is_on_left direction) (plain_walks I.whole walks.now)) }
     requires settled { IsSettledBy edge_of (all_steps (plain_walks I.whole walks.now)) }
+    requires known { length known.now ≡ length walks.now }
     requires empty { S.content scan.old ≡ empty_sweep }
     ensures counted { IfOk result (λ v. length v.items ≡ length walks.now) }
-    ensures told { IfOk result (λ v. (n : _) → IsToldAt (is_on_left direction) (plain_walks I.whole walks.now) v.items n) }
+    ensures told { IfOk result (λ v. (n : _) → IsToldAt (is_on_left direction) (plain_walks I.whole walks.now) known.now v.items n) }
     ensures err { IsOkUnless result OverlayError.Memory }
 {
     let edges = filled_edges(alloc.clone()?, walks, direction)?;
-    let anchors = hole_anchors(alloc.clone()?, walks, direction)?;
-    let numbers = outline_numbers(alloc.clone()?, walks, direction)?;
+    let anchors = hole_anchors(alloc.clone()?, walks, known)?;
     let mut parents = Vec::new(alloc);
     parents.resize(walks.len(), None)?;
     let mut from = 0;
     for hole in &anchors {
         from = insert_up_to(scan, &edges, from, hole.a.x)?;
         let below = walk_below(scan, hole, walks.len());
-        parents[hole.walk] = shape_at(&numbers, &parents, below);
+        parents[hole.walk] = shape_at(known, &parents, below);
     }
     Ok(parents)
 }

@@ -12,6 +12,7 @@ ghost use Rattle.overlay_walk.specs.Walks.{plain_walks};
 use overlay_arrange::options::ContourDirection;
 use overlay_geom::error::OverlayError;
 use overlay_geom::point::IntPoint;
+use overlay_scan::list::ScanList;
 use overlay_walk::bind::bind;
 use overlay_walk::step::Step;
 use std::alloc::Global;
@@ -76,7 +77,13 @@ fn three_outlines_and_two_holes(
 #[test]
 fn holes_touching_one_outline(rt: HostRuntime) -> Result<(), Fail> {
     let walks = three_outlines_and_two_holes(rt.alloc())?;
-    let shapes = bind(rt.alloc(), &walks, ContourDirection::CounterClockwise)?;
+    let mut scan: ScanList<i32, usize, _> = ScanList::default(rt.alloc());
+    let shapes = bind(
+        rt.alloc(),
+        &mut scan,
+        &walks,
+        ContourDirection::CounterClockwise,
+    )?;
     assert_eq!(rt;
         shapes.as_slice(),
         &[None, None, None, Some(1), Some(1)][..]

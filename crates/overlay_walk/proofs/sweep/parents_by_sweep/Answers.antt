@@ -76,20 +76,17 @@ walk_below-below-requires-clause-meets g c =
     let i = c.loop-hole.hole-index in
     let inside : i < length hs = rw length-map c.loop-hole-test.true in
     let here = sym (read_mapped (walk_entry whole) c.deref-hole-items.result.now i c.hole-item.result h c.loop-hole-test.true c.hole-item.is) in
-    let holes : AreHoleEntries on_left walks hs =
-    subst (λ es. AreHoleEntries on_left walks (walk_entries whole es)) (sym c.deref-hole-items.ensures.value) c.in_ok-anchors.ensures.ok in
-    let own = All-contains (IsHoleEntry on_left walks) hs h holes.from (i, inside, sym here) in
+    let holes : AreHoleEntries walks c.args.known.now hs =
+    subst (λ es. AreHoleEntries walks c.args.known.now (walk_entries whole es)) (sym c.deref-hole-items.ensures.value) c.in_ok-anchors.ensures.ok in
+    let own = All-contains (IsHoleEntry walks c.args.known.now) hs h holes.from (i, inside, sym here) in
     let s = g.S.Scan.content c.insert_up_to.new.scan in
     let n = c.in_ok-from.from in
     let swept = subst (λ es. IsSwept limit h.edge.a.x (take n (walk_entries whole es)) s) c.deref.ensures.value c.in_ok-from.ensures.swept in
     let rest = subst (λ es. All (λ (f : Entry ℕ). h.edge.a.x <ℤ f.edge.a.x) (drop n (walk_entries whole es))) c.deref.ensures.value c.in_ok-from.ensures.rest in
-    anchor_meets on_left walks c.requires.contours c.requires.settled c.requires.single h own fs c.in_ok-edges.ensures.ok limit n s swept rest
+    anchor_meets on_left walks c.requires.contours c.requires.settled c.requires.single c.args.known.now h own fs c.in_ok-edges.ensures.ok limit n s swept rest
 
 pub shape_at-requires : goal.shape_at-requires
-shape_at-requires g c =
-    ap length c.deref-in-loop-hole-2.ensures.value ∙ c.loop-hole.invariant.0
-    ∙ sym (length-map c.args.walks.now (λ w. plain_steps g.I.IntNumber.whole w.items)) ∙ sym c.in_ok-numbers.ensures.ok.counted
-    ∙ sym (ap length c.deref-in-loop-hole.ensures.value)
+shape_at-requires g c = ap length c.deref-in-loop-hole.ensures.value ∙ c.loop-hole.invariant.0 ∙ sym c.requires.known
 
 pub index_mut-requires : goal.index_mut-requires
 index_mut-requires g c =
@@ -103,9 +100,9 @@ index_mut-requires g c =
     let i = c.loop-hole.hole-index in
     let inside : i < length hs = rw length-map c.loop-hole-test.true in
     let here = sym (read_mapped (walk_entry whole) c.deref-hole-items.result.now i c.hole-item.result h c.loop-hole-test.true c.hole-item.is) in
-    let holes : AreHoleEntries on_left walks hs =
-    subst (λ es. AreHoleEntries on_left walks (walk_entries whole es)) (sym c.deref-hole-items.ensures.value) c.in_ok-anchors.ensures.ok in
-    let own = All-contains (IsHoleEntry on_left walks) hs h holes.from (i, inside, sym here) in
+    let holes : AreHoleEntries walks c.args.known.now hs =
+    subst (λ es. AreHoleEntries walks c.args.known.now (walk_entries whole es)) (sym c.deref-hole-items.ensures.value) c.in_ok-anchors.ensures.ok in
+    let own = All-contains (IsHoleEntry walks c.args.known.now) hs h holes.from (i, inside, sym here) in
     let within = slice_get_within walks h.value own.walk own.at in
     let counted = c.loop-hole.invariant.0 in
     let mapped = length-map c.args.walks.now (λ w. plain_steps whole w.items) in
@@ -124,27 +121,27 @@ loop-hole-preserved g c =
     let i = c.loop-hole.hole-index in
     let inside : i < length hs = rw length-map c.loop-hole-test.true in
     let here = sym (read_mapped (walk_entry whole) c.deref-hole-items.result.now i c.hole-item.result h c.loop-hole-test.true c.hole-item.is) in
-    let holes : AreHoleEntries on_left walks hs =
-    subst (λ es. AreHoleEntries on_left walks (walk_entries whole es)) (sym c.deref-hole-items.ensures.value) c.in_ok-anchors.ensures.ok in
-    let own = All-contains (IsHoleEntry on_left walks) hs h holes.from (i, inside, sym here) in
+    let holes : AreHoleEntries walks c.args.known.now hs =
+    subst (λ es. AreHoleEntries walks c.args.known.now (walk_entries whole es)) (sym c.deref-hole-items.ensures.value) c.in_ok-anchors.ensures.ok in
+    let own = All-contains (IsHoleEntry walks c.args.known.now) hs h holes.from (i, inside, sym here) in
     let s = g.S.Scan.content c.insert_up_to.new.scan in
     let n = c.in_ok-from.from in
     let swept = subst (λ es. IsSwept limit h.edge.a.x (take n (walk_entries whole es)) s) c.deref.ensures.value c.in_ok-from.ensures.swept in
     let rest = subst (λ es. All (λ (f : Entry ℕ). h.edge.a.x <ℤ f.edge.a.x) (drop n (walk_entries whole es))) c.deref.ensures.value c.in_ok-from.ensures.rest in
     let t = g.S.Scan.content c.walk_below-below.new.scan in
-    let numbers = c.in_ok-numbers.numbers.items in
+    let known = c.args.known.now in
     let parents = c.loop-hole.parents.items in
     let mapped = length-map c.args.walks.now (λ w. plain_steps whole w.items) in
     let counted : length parents ≡ length walks = c.loop-hole.invariant.0 ∙ sym mapped in
-    let shape : c.shape_at.result ≡ shape_of numbers parents c.walk_below-below.result = c.shape_at.ensures
-    ∙ ap (λ ns. shape_of ns c.deref-in-loop-hole-2.result.now c.walk_below-below.result) c.deref-in-loop-hole.ensures.value
-    ∙ ap (λ ps. shape_of numbers ps c.walk_below-below.result) c.deref-in-loop-hole-2.ensures.value in (
+    let known_counted : length known ≡ length walks = c.requires.known ∙ sym mapped in
+    let shape : c.shape_at.result ≡ shape_of known parents c.walk_below-below.result = c.shape_at.ensures
+    ∙ ap (λ ps. shape_of known ps c.walk_below-below.result) c.deref-in-loop-hole.ensures.value in (
       length-set parents c.hole-item.result.walk c.shape_at.result ∙ c.loop-hole.invariant.0,
       subst (λ (es : List _). n ≤ length es) c.deref.ensures.value c.in_ok-from.ensures.within,
-      swept_on on_left walks c.requires.contours c.requires.settled c.requires.single h own fs c.in_ok-edges.ensures.ok limit n s swept rest numbers c.in_ok-numbers.ensures.ok hs holes parents counted i inside here t
+      swept_on on_left walks c.requires.contours c.requires.settled c.requires.single c.args.known.now h own fs c.in_ok-edges.ensures.ok limit n s swept rest known_counted hs holes parents counted i inside here t
           c.walk_below-below.ensures.content c.walk_below-below.ensures.state,
-      subst (λ o. All (λ (k : Entry ℕ). IsToldAt on_left walks (slice_set parents h.value o) k.value) (take (i + 1) hs)) (sym shape)
-          (told_on on_left walks c.requires.contours c.requires.settled c.requires.single h own fs c.in_ok-edges.ensures.ok limit n s swept rest numbers c.in_ok-numbers.ensures.ok hs holes parents counted i inside here t
+      subst (λ o. All (λ (k : Entry ℕ). IsToldAt on_left walks known (slice_set parents h.value o) k.value) (take (i + 1) hs)) (sym shape)
+          (told_on on_left walks c.requires.contours c.requires.settled c.requires.single c.args.known.now h own fs c.in_ok-edges.ensures.ok limit n s swept rest known_counted hs holes parents counted i inside here t
           c.walk_below-below.ensures.content c.walk_below-below.ensures.state (length c.args.walks.now) (sym mapped) c.walk_below-below.result
           c.walk_below-below.ensures.value c.loop-hole.invariant.3),
     )
@@ -155,7 +152,7 @@ returns-clause-told g c =
     let on_left = is_on_left c.args.direction in
     let walks = plain_walks whole c.args.walks.now in
     let hs = walk_entries whole c.deref-hole-items.result.now in
-    let holes : AreHoleEntries on_left walks hs =
-    subst (λ es. AreHoleEntries on_left walks (walk_entries whole es)) (sym c.deref-hole-items.ensures.value) c.in_ok-anchors.ensures.ok in
+    let holes : AreHoleEntries walks c.args.known.now hs =
+    subst (λ es. AreHoleEntries walks c.args.known.now (walk_entries whole es)) (sym c.deref-hole-items.ensures.value) c.in_ok-anchors.ensures.ok in
     let past : length hs ≤ c.loop-hole.hole-index = rw length-map c.loop-hole-test.false in
-    all_walks_told on_left walks hs holes c.loop-hole.parents.items c.loop-hole.hole-index past c.loop-hole.invariant.3
+    all_walks_told on_left walks c.args.known.now hs holes c.loop-hole.parents.items c.loop-hole.hole-index past c.loop-hole.invariant.3

@@ -15,4 +15,4 @@ invariant-loop-hole g l =
     (length l.parents.items ≡ length l.walks)
     × (l.from ≤ length l.edges.items)
     × All (λ h. IsSwept g.I.IntNumber.limit h.edge.a.x (take l.from es) (g.S.Scan.content l.scan)) (drop l.hole-index hs)
-    × All (λ h. IsToldAt (is_on_left l.fn.direction) (plain_walks whole l.walks) l.parents.items h.value) (take l.hole-index hs)
+    × All (λ h. IsToldAt (is_on_left l.fn.direction) (plain_walks whole l.walks) l.known l.parents.items h.value) (take l.hole-index hs)

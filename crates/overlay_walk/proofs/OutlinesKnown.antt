@@ -1,0 +1,53 @@
+-- Where outlines alone stand in shapes from the start, what is found for holes is their parents.
+use Rattle.std.proofs.Common.{◌≡◌, ℕ, Bool, true, not, List, Option, None, Some, refl, sym, ap, ◌∙◌, subst}
+use Rattle.std.specs.List.{filter, slice_get}
+use Rattle.std.specs.Option.{MatchOption}
+use Rattle.std.specs.Prelude.{slice_index_or}
+use Rattle.std.proofs.lemmas.Bool.{both_ways}
+use Rattle.overlay_geom.specs.Plane.{Step}
+use Rattle.overlay_plane.specs.Binding.{is_hole, outlines, IsNextWalk, IsParentOf, HasNoParent, HasNoneBelow}
+use Rattle.overlay_plane.specs.Binding.IsParentOf.{direct as direct_parent, through as through_parent}
+use Rattle.overlay_plane.specs.Binding.HasNoParent.{none as none_below, through as through_hole}
+use Rattle.overlay_plane.specs.Roles.{HasNextAt, IsFoundAt, IsNotFoundAt, IsTold}
+use Rattle.overlay_plane.specs.Roles.IsFoundAt.{direct, through}
+use Rattle.overlay_plane.specs.Roles.IsNotFoundAt.{none, through as through_not_found}
+use Rattle.overlay_plane.proofs.Entries.{Contains-from_filter}
+use Rattle.overlay_walk.specs.Parents.{IsOutlineNumber, AreOutlineNumbers, IsToldAt}
+use Rattle.overlay_walk.proofs.HoleEntries.{same_at, Contains-at}
+
+module _ (on_left : Bool) (walks : List (List Step)) (numbers : List (Option ℕ)) (numbered : AreOutlineNumbers on_left walks numbers) where
+  -- the number of the next walk
+  next_number : (i j : ℕ) (next : HasNextAt on_left walks i j) (o : Option ℕ) → slice_index_or numbers j None ≡ o → IsOutlineNumber on_left walks next.next o
+  next_number i j next o is = subst (IsOutlineNumber on_left walks next.next) is (numbered.told j next.next next.next_at)
+
+  -- and the next walk of the walk that stands there
+  next_of : (i j : ℕ) (next : HasNextAt on_left walks i j) (w : List Step) → slice_get walks i ≡ Some w → IsNextWalk on_left walks w next.next
+  next_of i j next w at = subst (λ v. IsNextWalk on_left walks v next.next) (same_at walks i next.walk w next.at at) next.is_next
+
+  found_is_parent : (i n : ℕ) → IsFoundAt on_left walks numbers i n → (w : List Step) → slice_get walks i ≡ Some w → IsParentOf on_left walks w n
+  found_is_parent i n (direct {j = j} next is) w at = direct_parent (next_of i j next w at) (next_number i j next (Some n) is)
+  found_is_parent i n (through {j = j} next is rest) w at = through_parent (next_of i j next w at) (next_number i j next None is)
+      (found_is_parent j n rest next.next next.next_at)
+
+  not_found_has_none : (i : ℕ) → IsNotFoundAt on_left walks numbers i → (w : List Step) → slice_get walks i ≡ Some w → HasNoParent on_left walks w
+  not_found_has_none i (none walk at_walk nothing) w at = none_below (subst (HasNoneBelow on_left walks) (same_at walks i walk w at_walk at) nothing)
+  not_found_has_none i (through_not_found {j = j} next is rest) w at = through_hole (next_of i j next w at) (next_number i j next None is)
+      (not_found_has_none j rest next.next next.next_at)
+
+  -- a hole has no number
+  no_number : (n : ℕ) (w : List Step) → slice_get walks n ≡ Some w → is_hole on_left w ≡ true → slice_index_or numbers n None ≡ None
+  no_number n w at hole = by (slice_index_or numbers n None) (numbered.told n w at)
+    where
+      by : (o : Option ℕ) → IsOutlineNumber on_left walks w o → o ≡ None
+      by None is = refl
+      by (Some m) is = absurd (both_ways (not (is_hole on_left w)) (ap not hole)
+          (Contains-from_filter (λ v. not (is_hole on_left v)) walks w (Contains-at (outlines on_left walks) m w is)).1)
+
+  -- what is told of it
+  pub hole_told : (shapes : List (Option ℕ)) (n : ℕ) → IsToldAt on_left walks numbers shapes n → (w : List Step) → slice_get walks n ≡ Some w →
+      is_hole on_left w ≡ true → MatchOption (slice_index_or shapes n None) (HasNoParent on_left walks w) (λ m. IsParentOf on_left walks w m)
+  hole_told shapes n told w at hole = by (slice_index_or shapes n None) (told w at (no_number n w at hole))
+    where
+      by : (o : Option ℕ) → IsTold on_left walks numbers n o → MatchOption o (HasNoParent on_left walks w) (λ m. IsParentOf on_left walks w m)
+      by None without = not_found_has_none n without w at
+      by (Some m) found = found_is_parent n m found w at
