@@ -57,5 +57,5 @@ fn answer<A: Allocator + Copy, Rd: Read>(
 {
     let bytes = read_all(alloc, reader)?;
     let input = parse_input(alloc, &bytes)?;
-    Ok(answer_text(alloc, &input)?)
+    answer_text(alloc, &input)
 }
