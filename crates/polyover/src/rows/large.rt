@@ -88,7 +88,7 @@ fn check_slowly(rt: &(impl Abort + Alloc), input: &[u8], wanted: &[u8], exit: Ex
 }
 
 // The lines, so many times, and then the last one.
-fn repeated(rt: &(impl Abort + Alloc), count: usize, lines: &[u8], last: &[u8]) -> Vec<u8> {
+fn repeated<T: Abort + Alloc>(rt: &T, count: usize, lines: &[u8], last: &[u8]) -> Vec<u8, T::A> {
     let mut input = Vec::new(rt.alloc());
     for _ in 0..count {
         let pushed = input.extend_from_slice(lines);
