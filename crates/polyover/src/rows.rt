@@ -2,7 +2,9 @@
 
 mod edges;
 mod faults;
+mod large;
 mod overlays;
+mod points;
 
 use crate::engine::run;
 use crate::exit::Exit;

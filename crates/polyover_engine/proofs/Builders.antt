@@ -20,15 +20,19 @@ pub nothing_added : (b : Builder ℕ) → b.edges ≡ [] → IsNewBuilder (λ n.
 nothing_added b empty made = record { holds = subst (HoldsPaths false []) (sym empty) (record { added = no_path; light = lit< tt }); made = made }
 
 -- the contour at a place of the list that is held
+pub given_here : {A : Type 0} (cs items : List (NumberedContour A)) (k : ℕ) (c : NumberedContour A) → items ≡ cs → k < length items → c ≡ get_or items k c
+    → (k < length (contours_at cs)) × (contour_at c ≡ get_or (contours_at cs) k (contour_at c))
+given_here cs items k c same within here = (
+  omega (arith, length-map cs contour_at, ap length same),
+  ap contour_at (here ∙ ap (λ l. get_or l k c) same) ∙ sym (get_or-map contour_at cs k c (contour_at c) (omega (arith, ap length same))),
+)
+
 pub contour_here : {A : Type 0} (cs items : List (NumberedContour A)) (k : ℕ) (c : NumberedContour A) → items ≡ cs → k < length items → c ≡ get_or items k c
     → (k < length (contour_paths (contours_at cs))) × (path_at c.contour ≡ get_or (contour_paths (contours_at cs)) k (path_at c.contour))
 contour_here cs items k c same within here =
-    let some : k < length cs = omega (arith, ap length same) in
-    let held : contour_at c ≡ get_or (contours_at cs) k (contour_at c) =
-    ap contour_at (here ∙ ap (λ l. get_or l k c) same) ∙ sym (get_or-map contour_at cs k c (contour_at c) some) in
-    let many : length (contours_at cs) ≡ length cs = length-map cs contour_at in (
-      omega (arith, length-map (contours_at cs) (λ d. d.path), many),
-      ap (λ d. d.path) held ∙ sym (get_or-map (λ d. d.path) (contours_at cs) k (contour_at c) (path_at c.contour) (omega (arith, many))),
+    let given = given_here cs items k c same within here in (
+      omega (arith, length-map (contours_at cs) (λ d. d.path), given.0),
+      ap (λ d. d.path) given.1 ∙ sym (get_or-map (λ d. d.path) (contours_at cs) k (contour_at c) (path_at c.contour) given.0),
     )
 
 module _ (cs : List GivenPath) (k : ℕ) (c : GivenPath) (old : Builder ℕ) (h : HasAdded (take k cs) old) (within : k < length cs)

@@ -1,6 +1,8 @@
 pub mod Builders
+pub mod Located
 pub mod Noted
 pub mod Queries
 pub mod Reading
 pub mod Refusals
+pub mod Subjects
 pub mod Writing

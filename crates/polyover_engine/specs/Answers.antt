@@ -1,18 +1,28 @@
--- What the program answers: the edges of the arrangement, or the shapes of an overlay, and their text.
-use Rattle.std.specs.Prelude.{◌≡◌, ℕ, List, map, false}
+-- What the program answers: the edges of the arrangement, the shapes of an overlay, or where points lie; and the text of it.
+use Rattle.std.specs.Prelude.{◌≡◌, ℕ, Bool, false, List, [], ◌∷◌, map, All}
+use Rattle.std.specs.List.{flat_map}
+use Rattle.overlay_geom.specs.Resolved.{IsResolved}
+use Rattle.overlay_geom.specs.declared.error.OverlayError.{OverlayError}
+use Rattle.overlay_geom.specs.declared.error.OverlayError.TheVariants.{Memory}
+use Rattle.overlay_relate.specs.Answers.{AnswersWhere, AnswersWhether}
+use Rattle.overlay_relate.specs.Locations.{shapes_edges, is_in_shapes, IsLocatedAmong}
+use Rattle.overlay_relate.specs.declared.location.PointLocation.{PointLocation}
 use Rattle.overlay_geom.specs.Edges.{CountedEdge}
 use Rattle.overlay_geom.specs.Plane.{Point}
 use Rattle.overlay_arrange.specs.declared.fill_rule.FillRule.{FillRule}
 use Rattle.overlay_arrange.specs.Arranged.{IsArranged}
 use Rattle.overlay_arrange.specs.Vectors.{Vector, vector_of}
-use Rattle.i_overlay.specs.OneShot.{IsResultOfPaths}
+use Rattle.i_overlay.specs.OneShot.{IsResultOfPaths, MayRefusePaths}
 use Rattle.i_overlay.specs.Overlay.{Asked}
 use Rattle.i_overlay.specs.Paths.{GivenPath, HoldsPaths}
 use Rattle.polyover_text.specs.declared.query.OverlayQuery.{OverlayQuery}
 use Rattle.polyover_text.specs.declared.query.Query.{Query}
-use Rattle.polyover_text.specs.declared.query.Query.TheVariants.{Edges, Overlay}
+use Rattle.polyover_text.specs.declared.query.Query.TheVariants.{Edges, Overlay, Contains, Locate}
 use Rattle.polyover_text.specs.Grammar.{GivenFigures, paths_of, Asks, input_lines}
-use Rattle.polyover_text.specs.Printed.{edge_lines, lines_of_shapes}
+use Rattle.polyover_text.specs.Printed.{edge_lines, lines_of_shapes, truth_line, location_line}
+use Rattle.polyover_engine.specs.declared.exit.Exit.{Exit}
+use Rattle.polyover_engine.specs.declared.exit.Exit.TheVariants.{Answered, Refused, BadInput, Io}
+use Rattle.polyover_engine.specs.Subjects.{subject_of, IsFirstUnresolved}
 
 -- ---- edges
 
@@ -35,12 +45,47 @@ asked_by q = record {
   preserve_output_collinear = q.output.preserve_output_collinear;
 }
 
+-- ---- points
+
+-- the contours of the subject are resolved, and the answers tell of each point on none of their edges whether it is inside them, as one shape
+pub record TellInside (fs : GivenFigures) (answers : List Bool) : Type 0 where
+  pub resolved : All IsResolved (subject_of fs.contours)
+  pub inside : AnswersWhether (shapes_edges (subject_of fs.contours ∷ [])) (is_in_shapes (subject_of fs.contours ∷ [])) fs.points answers
+
+-- the contours of the subject are resolved, and the answers tell where each point lies in them, as one shape
+pub record TellWhere (fs : GivenFigures) (answers : List PointLocation) : Type 0 where
+  pub resolved : All IsResolved (subject_of fs.contours)
+  pub located : AnswersWhere (IsLocatedAmong (subject_of fs.contours ∷ [])) fs.points answers
+
 -- ---- the answer
 
 -- the text answers the query on the figures
 abbrev pub Answers : GivenFigures → Query → List ℕ → Type 0
 Answers fs (Edges fill) text = (vs : List Vector) × AreEdges (paths_of fs) fill vs × (text ≡ edge_lines vs)
 Answers fs (Overlay query) text = (shapes : List (List (List Point))) × IsResultOfPaths (asked_by query) (paths_of fs) shapes × (text ≡ lines_of_shapes shapes)
+Answers fs Contains text = (answers : List Bool) × TellInside fs answers × (text ≡ flat_map truth_line answers)
+Answers fs Locate text = (answers : List PointLocation) × TellWhere fs answers × (text ≡ flat_map location_line answers)
+
+-- the query may be refused so: as the builder is, or for want of memory alone
+abbrev pub MayRefuseQuery : GivenFigures → Query → OverlayError → Type 0
+MayRefuseQuery fs (Edges fill) e = MayRefusePaths (paths_of fs) e
+MayRefuseQuery fs (Overlay query) e = MayRefusePaths (paths_of fs) e
+MayRefuseQuery fs Contains e = e ≡ Memory
+MayRefuseQuery fs Locate e = e ≡ Memory
+
+-- the query asks about points
+abbrev pub AsksAboutPoints : Query → Type 0
+AsksAboutPoints (Edges fill) = ⊥
+AsksAboutPoints (Overlay query) = ⊥
+AsksAboutPoints Contains = Unit {0}
+AsksAboutPoints Locate = Unit {0}
+
+-- why there is no answer
+abbrev pub EndsUnanswered : GivenFigures → Query → Exit → Type 0
+EndsUnanswered fs query Answered = ⊥
+EndsUnanswered fs query (Refused e) = MayRefuseQuery fs query e
+EndsUnanswered fs query (BadInput n) = AsksAboutPoints query × IsFirstUnresolved fs.contours n
+EndsUnanswered fs query Io = ⊥
 
 -- the text answers the input
 pub record IsAnswer (bytes text : List ℕ) : Type 0 where

@@ -3,12 +3,12 @@ use Rattle.std.specs.Prelude.{◌≡◌, ◌⊎◌, true, false, ℕ, List, Opti
 use Rattle.std.specs.Io.KnownBytes.{Appends, Keeps}
 use Rattle.overlay_geom.specs.declared.error.OverlayError.{OverlayError}
 use Rattle.overlay_geom.specs.declared.error.OverlayError.TheVariants.{Memory, NotSettled, TooManyEdges, Failed}
-use Rattle.i_overlay.specs.OneShot.{MayRefusePaths}
 use Rattle.polyover_engine.specs.declared.exit.Exit.{Exit}
 use Rattle.polyover_engine.specs.declared.exit.Exit.TheVariants.{Answered, Refused, BadInput, Io}
 use Rattle.polyover_text.specs.declared.query.Query.{Query}
-use Rattle.polyover_text.specs.Grammar.{GivenFigures, paths_of, Asks, IsFirstBad, input_lines}
-use Rattle.polyover_engine.specs.Answers.{IsAnswer}
+use Rattle.polyover_text.specs.Grammar.{GivenFigures, Asks, IsFirstBad, input_lines}
+use Rattle.polyover_engine.specs.Answers.{IsAnswer, MayRefuseQuery, AsksAboutPoints}
+use Rattle.polyover_engine.specs.Subjects.{IsFirstUnresolved}
 use Rattle.polyover_engine.specs.Written.{AppendsBeginning}
 use Rattle.polyover_engine.specs.declared.noting_reader.NotingReader.{NotingReader}
 use Rattle.polyover_engine.specs.declared.noting_writer.NotingWriter.{NotingWriter}
@@ -18,7 +18,7 @@ pub record IsRefused (bytes : List ℕ) (e : OverlayError) : Type 0 where
   pub figures : GivenFigures
   pub query : Query
   pub asks : Asks (input_lines bytes) figures query
-  pub refused : MayRefusePaths (paths_of figures) e
+  pub refused : MayRefuseQuery figures query e
 
 -- out of memory says nothing of the input
 abbrev pub MayBeRefused : List ℕ → OverlayError → Type 0
@@ -26,6 +26,18 @@ MayBeRefused bytes Memory = Unit {0}
 MayBeRefused bytes NotSettled = IsRefused bytes NotSettled
 MayBeRefused bytes TooManyEdges = IsRefused bytes TooManyEdges
 MayBeRefused bytes Failed = ⊥
+
+-- the input is good, and asks about points, and the line with this number gives the first contour of the subject that is not resolved
+pub record IsUnresolvedInput (bytes : List ℕ) (n : ℕ) : Type 0 where
+  pub figures : GivenFigures
+  pub query : Query
+  pub asks : Asks (input_lines bytes) figures query
+  pub asks_about_points : AsksAboutPoints query
+  pub unresolved : IsFirstUnresolved figures.contours n
+
+-- the line is the first bad one; or none is, and it gives a contour that has to be resolved
+abbrev pub IsBadInput : List ℕ → ℕ → Type 0
+IsBadInput bytes n = IsFirstBad (input_lines bytes) n ⊎ IsUnresolvedInput bytes n
 
 -- all of a text was written, which answers the input
 pub record WritesAnswer (given old new : Option (List ℕ)) : Type 0 where
@@ -56,7 +68,7 @@ module _ {R : Type 0} (remaining : R → Option (List ℕ)) (old new : NotingRea
   abbrev pub EndsUnwritten : Exit → Type 0
   EndsUnwritten Answered = ⊥
   EndsUnwritten (Refused e) = EndsRead (λ bytes. MayBeRefused bytes e)
-  EndsUnwritten (BadInput n) = EndsRead (λ bytes. IsFirstBad (input_lines bytes) n)
+  EndsUnwritten (BadInput n) = EndsRead (λ bytes. IsBadInput bytes n)
   EndsUnwritten Io = new.is_failed ≡ true
 
 -- nothing was written, and no fault is noted of the reader, nor of the writer
@@ -89,7 +101,7 @@ abbrev pub EndsNoted : {R W : Type 0} → (R → Option (List ℕ)) → (W → O
     → Exit → Type 0
 EndsNoted remaining contents r0 r1 w0 w1 Answered = EndsWritten contents (remaining r0.reader.now) r1 w0 w1
 EndsNoted remaining contents r0 r1 w0 w1 (Refused e) = StaysUnwritten r1 w0 w1 × IfSome (remaining r0.reader.now) (λ bytes. MayBeRefused bytes e)
-EndsNoted remaining contents r0 r1 w0 w1 (BadInput n) = StaysUnwritten r1 w0 w1 × IfSome (remaining r0.reader.now) (λ bytes. IsFirstBad (input_lines bytes) n)
+EndsNoted remaining contents r0 r1 w0 w1 (BadInput n) = StaysUnwritten r1 w0 w1 × IfSome (remaining r0.reader.now) (λ bytes. IsBadInput bytes n)
 EndsNoted remaining contents r0 r1 w0 w1 Io = FailsReading r1 w0 w1 ⊎ FailsWriting contents (remaining r0.reader.now) r1 w0 w1
 
 -- ---- of any reader and writer
@@ -99,5 +111,5 @@ EndsNoted remaining contents r0 r1 w0 w1 Io = FailsReading r1 w0 w1 ⊎ FailsWri
 abbrev pub EndsAs : Option (List ℕ) → Option (List ℕ) → Option (List ℕ) → Exit → Type 0
 EndsAs given old new Answered = WritesAnswer given old new
 EndsAs given old new (Refused e) = Keeps old new × IfSome given (λ bytes. MayBeRefused bytes e)
-EndsAs given old new (BadInput n) = Keeps old new × IfSome given (λ bytes. IsFirstBad (input_lines bytes) n)
+EndsAs given old new (BadInput n) = Keeps old new × IfSome given (λ bytes. IsBadInput bytes n)
 EndsAs given old new Io = Keeps old new ⊎ WritesBeginning given old new

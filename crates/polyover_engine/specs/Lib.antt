@@ -3,4 +3,5 @@ pub mod Builders
 pub mod Engine
 pub mod Exits
 pub mod Noted
+pub mod Subjects
 pub mod Written

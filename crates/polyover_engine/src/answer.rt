@@ -5,11 +5,14 @@ ghost use Rattle.overlay_geom.specs.Points.{AllInRange};
 ghost use Rattle.overlay_geom.specs.Paths.{plain_shapes};
 ghost use Rattle.overlay_arrange.specs.Vectors.{plain_vector};
 ghost use Rattle.i_overlay.specs.OneShot.{IsResultOfPaths, MayRefusePaths};
-ghost use Rattle.polyover_engine.specs.Answers.{Answers, AreEdges, asked_by};
-ghost use Rattle.polyover_text.specs.Grammar.{contour_paths, paths_of};
+ghost use Rattle.polyover_engine.specs.Answers.{Answers, AreEdges, EndsUnanswered, asked_by};
+ghost use Rattle.polyover_text.specs.Grammar.{contour_paths};
+ghost use Rattle.polyover_text.specs.Points.{FiguresInRange};
 ghost use Rattle.polyover_text.specs.Statements.{contours_at, figures_at};
 
 use crate::builder::with_contours;
+use crate::exit::Exit;
+use crate::points::{contains_text, locate_text};
 use i_overlay::fill_rule::FillRule;
 use i_overlay::vector::edge::DataVectorEdge;
 use overlay_geom::error::OverlayError;
@@ -22,15 +25,13 @@ use polyover_text::shape_text::shapes_text;
 use std::alloc::Allocator;
 
 /// The text of the answer to an input, whose points are in the coordinate range. Refusals are those
-/// of the builder to which the contours are added, and of the query on it.
-pub fn answer_text<A: Allocator + Copy>(
-    alloc: A,
-    input: &Input<A>,
-) -> Result<String<A>, OverlayError>
-    requires { All (λ c. AllInRange 4611686018427387903 c.points) (paths_of (figures_at input.now.figures)) }
+/// of the builder to which the contours are added, and of the query on it; where points are asked about,
+/// `Memory`, and `BadInput` at the line of the first contour of the subject that is not resolved.
+pub fn answer_text<A: Allocator + Copy>(alloc: A, input: &Input<A>) -> Result<String<A>, Exit>
+    requires { FiguresInRange (figures_at input.now.figures) }
     ensures { MatchResult result
         (λ text. Answers (figures_at input.now.figures) input.now.query (string_bytes text))
-        (λ e. MayRefusePaths (paths_of (figures_at input.now.figures)) e) }
+        (λ exit. EndsUnanswered (figures_at input.now.figures) input.now.query exit) }
 {
     match input.query {
         Query::Edges(fill_rule) => {
@@ -41,6 +42,8 @@ pub fn answer_text<A: Allocator + Copy>(
             let shapes = overlay_shapes(alloc, &input.figures.contours, query)?;
             Ok(shapes_text(alloc, &shapes)?)
         }
+        Query::Contains => contains_text(alloc, &input.figures),
+        Query::Locate => locate_text(alloc, &input.figures),
     }
 }
 

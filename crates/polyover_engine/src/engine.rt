@@ -42,7 +42,7 @@ fn run_noted<A: Allocator + Clone, Rd: Read, Wr: Write>(
 {
     match answer(&alloc, reader) {
         Ok(text) => write_all(writer, text.as_bytes()),
-        Err(exit) => exit,
+        Err(_) => Exit::Io,
     }
 }
 
@@ -57,5 +57,5 @@ fn answer<A: Allocator + Copy, Rd: Read>(
 {
     let bytes = read_all(alloc, reader)?;
     let input = parse_input(alloc, &bytes)?;
-    Ok(answer_text(alloc, &input)?)
+    answer_text(alloc, &input)
 }

@@ -7,7 +7,7 @@ ghost use Rattle.polyover_engine.specs.Exits.{exit_of_input};
 
 use overlay_geom::error::OverlayError;
 use polyover_text::input::InputError;
-use std::alloc::AllocError;
+use std::alloc::{AllocError, AllocFailed};
 
 /// How a run ended.
 #[derive(Debug, PartialEq, Eq, Drop)]
@@ -45,6 +45,14 @@ impl From<AllocError> for Exit {
     ghost from_gives = { λ _ x. x ≡ Refused Memory };
 
     fn from(_error: AllocError) -> Exit {
+        Exit::Refused(OverlayError::Memory)
+    }
+}
+
+impl<T: Drop> From<AllocFailed<T>> for Exit {
+    ghost from_gives = { λ _ x. x ≡ Refused Memory };
+
+    fn from(_error: AllocFailed<T>) -> Exit {
         Exit::Refused(OverlayError::Memory)
     }
 }

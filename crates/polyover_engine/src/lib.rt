@@ -7,6 +7,8 @@ pub mod engine;
 pub mod exit;
 mod noting_reader;
 mod noting_writer;
+mod points;
 mod read;
+mod subject;
 mod turn;
 mod write;

@@ -1,9 +1,10 @@
 -- The words of a command, taken one by one.
-use Rattle.std.proofs.Common.{◌≡◌, [], ◌∷◌, codes, sym, subst, refl}
+use Rattle.std.proofs.Common.{◌≡◌, ◌⊎◌, inl, inr, [], ◌∷◌, Option, Some, None, MatchOption, IfSome, codes, sym, subst, refl, ap, ◌∙◌}
+use Rattle.polyover_text.specs.declared.query.Query.{Query}
 use Rattle.overlay_arrange.specs.declared.fill_rule.FillRule.{FillRule}
 use Rattle.polyover_text.specs.declared.query.OverlayQuery.{OverlayQuery}
-use Rattle.polyover_text.specs.declared.query.Query.TheVariants.{Edges, Overlay}
-use Rattle.polyover_text.specs.Grammar.{Word, Line, IsCommand, edges, overlay, fill_name, rule_name, default_output, SetOptions}
+use Rattle.polyover_text.specs.declared.query.Query.TheVariants.{Edges, Overlay, Contains, Locate}
+use Rattle.polyover_text.specs.Grammar.{Word, Line, IsCommand, edges, overlay, contains, locate, fill_name, rule_name, default_output, SetOptions}
 
 -- after `run edges` stands the name of a fill rule
 pub edges_asked : (ws : Line) (f : Word) (rest : Line) (fill : FillRule)
@@ -29,3 +30,32 @@ pub edges_and_more : (ws : Line) (f w : Word) (rest more : Line) → ws ≡ f �
 edges_and_more ws f w rest more words left fill h =
     let all = command_for_edges (codes "run" ∷ codes "edges" ∷ ws) fill h in
     cc
+
+-- after `run contains`, and after `run locate`, stands no word
+last_word : (w : Word) (rest : Line) (query : Query) → IsCommand (codes "run" ∷ w ∷ rest) query → (w ≡ codes "contains") ⊎ (w ≡ codes "locate") → rest ≡ []
+last_word w rest query edges (inl e) = cc
+last_word w rest query edges (inr e) = cc
+last_word w rest query (overlay set) (inl e) = cc
+last_word w rest query (overlay set) (inr e) = cc
+last_word w rest query contains e = refl
+last_word w rest query locate e = refl
+
+-- the option holds such a query exactly where no word is left
+asked_alone : (ws rest : Line) (w : Word) (asked : Query) (o : Option Query) → ws ≡ w ∷ rest → (w ≡ codes "contains") ⊎ (w ≡ codes "locate")
+    → IsCommand (codes "run" ∷ w ∷ []) asked → MatchOption o (¬ (rest ≡ [])) (λ _. rest ≡ []) → IfSome o (λ q. q ≡ asked)
+    → MatchOption o ((query : Query) → ¬ (IsCommand (codes "run" ∷ ws) query)) (λ query. IsCommand (codes "run" ∷ ws) query)
+asked_alone ws rest w asked None words named command some value =
+    λ query h. some (last_word w rest query (subst (λ l. IsCommand (codes "run" ∷ l) query) words h) named)
+asked_alone ws rest w asked (Some q) words named command ended value =
+    subst (IsCommand (codes "run" ∷ ws)) (sym value)
+    (subst (λ l. IsCommand (codes "run" ∷ l) asked) (sym (words ∙ ap (λ l. w ∷ l) ended)) command)
+
+pub contains_asked : (ws rest : Line) (o : Option Query) → ws ≡ codes "contains" ∷ rest → MatchOption o (¬ (rest ≡ [])) (λ _. rest ≡ [])
+    → IfSome o (λ q. q ≡ Contains)
+    → MatchOption o ((query : Query) → ¬ (IsCommand (codes "run" ∷ ws) query)) (λ query. IsCommand (codes "run" ∷ ws) query)
+contains_asked ws rest o words last value = asked_alone ws rest (codes "contains") Contains o words (inl refl) contains last value
+
+pub locate_asked : (ws rest : Line) (o : Option Query) → ws ≡ codes "locate" ∷ rest → MatchOption o (¬ (rest ≡ [])) (λ _. rest ≡ [])
+    → IfSome o (λ q. q ≡ Locate)
+    → MatchOption o ((query : Query) → ¬ (IsCommand (codes "run" ∷ ws) query)) (λ query. IsCommand (codes "run" ∷ ws) query)
+locate_asked ws rest o words last value = asked_alone ws rest (codes "locate") Locate o words (inr refl) locate last value

@@ -3,8 +3,9 @@ use Rattle.std.proofs.Common.{◌≡◌, ◌≢◌, ◌∷◌, codes, refl, sym,
 use Rattle.overlay_arrange.specs.declared.options.ShapeType.{ShapeType}
 use Rattle.overlay_arrange.specs.declared.options.ShapeType.TheVariants.{Subject, Clip}
 use Rattle.overlay_arrange.specs.Paths.{GivenPath}
+use Rattle.overlay_geom.specs.Plane.{Point}
 use Rattle.polyover_text.specs.declared.query.Query.{Query}
-use Rattle.polyover_text.specs.Grammar.{Word, Line, shape_name, GivesContour, contour, IsCommand, edges, overlay}
+use Rattle.polyover_text.specs.Grammar.{Word, Line, shape_name, GivesContour, contour, GivesPoint, point, IsCommand, edges, overlay, contains, locate}
 use Rattle.polyover_text.specs.Statements.{SaysNothing}
 
 first_of_contour : (f : Word) (ws : Line) (c : GivenPath) → GivesContour (f ∷ ws) c → f ≡ shape_name c.shape_type
@@ -13,15 +14,22 @@ first_of_contour f ws c (contour h) = refl
 first_of_command : (f : Word) (ws : Line) (query : Query) → IsCommand (f ∷ ws) query → f ≡ codes "run"
 first_of_command f ws query edges = refl
 first_of_command f ws query (overlay options) = refl
+first_of_command f ws query contains = refl
+first_of_command f ws query locate = refl
+
+first_of_point : (f : Word) (ws : Line) (p : Point) → GivesPoint (f ∷ ws) p → f ≡ codes "point"
+first_of_point f ws p (point x y) = refl
 
 no_shape : (f : Word) → f ≢ codes "subject" → f ≢ codes "clip" → (shape_type : ShapeType) → f ≢ shape_name shape_type
 no_shape f subject clip Subject = subject
 no_shape f subject clip Clip = clip
 
 -- a line that begins with another word says nothing
-pub nothing_by_first_word : (l : Line) (f : Word) (ws : Line) → l ≡ f ∷ ws → f ≢ codes "subject" → f ≢ codes "clip" → f ≢ codes "run" → SaysNothing l
-nothing_by_first_word l f ws e subject clip run = subst SaysNothing (sym e) (record {
+pub nothing_by_first_word : (l : Line) (f : Word) (ws : Line) → l ≡ f ∷ ws → f ≢ codes "subject" → f ≢ codes "clip" → f ≢ codes "point" → f ≢ codes "run"
+    → SaysNothing l
+nothing_by_first_word l f ws e subject clip points run = subst SaysNothing (sym e) (record {
   some_word = λ none. cc;
   no_contour = λ c h. no_shape f subject clip c.shape_type (first_of_contour f ws c h);
+  no_point = λ p h. points (first_of_point f ws p h);
   no_command = λ query h. run (first_of_command f ws query h);
 })

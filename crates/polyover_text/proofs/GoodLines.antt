@@ -5,8 +5,9 @@ use Rattle.std.proofs.lemmas.List.Elements.{All-push}
 use Rattle.std.proofs.lemmas.List.{get_or_push, get_or-append-add, same_from_push}
 use Rattle.overlay_arrange.specs.Paths.{GivenPath}
 use Rattle.polyover_text.specs.declared.query.Query.{Query}
-use Rattle.polyover_text.specs.Grammar.{Word, Line, shape_name, GivesContour, contour, IsCommand, edges, overlay, Asks, IsGoodSoFar}
+use Rattle.polyover_text.specs.Grammar.{Word, Line, shape_name, GivesContour, contour, GivesPoint, point, IsCommand, edges, overlay, contains, locate, Asks, IsGoodSoFar}
 use Rattle.polyover_text.specs.Grammar.{GivenFigures, no_figures, before_contours, AreFigures, none, blank}
+use Rattle.overlay_geom.specs.Plane.{Point}
 use Rattle.overlay_arrange.specs.declared.options.ShapeType.{ShapeType}
 use Rattle.overlay_arrange.specs.declared.options.ShapeType.TheVariants.{Subject, Clip}
 use Rattle.polyover_text.specs.Inputs.{Give}
@@ -22,6 +23,7 @@ one_more_blank : (n : ℕ) (ls : List Line) (fs : GivenFigures) → AreFigures n
 one_more_blank n ls fs none = blank none
 one_more_blank n ls fs (blank h) = blank (one_more_blank _ _ _ h)
 one_more_blank n ls fs (contour first h) = contour first (one_more_blank _ _ _ h)
+one_more_blank n ls fs (point first h) = point first (one_more_blank _ _ _ h)
 
 one_more_contour : (n : ℕ) (ls : List Line) (fs : GivenFigures) (l : Line) (c : GivenPath) (m : ℕ) → AreFigures n ls fs → GivesContour l c
     → n + length ls ≡ m → AreFigures n (ls ++ l ∷ []) (after_contours fs m c)
@@ -29,6 +31,18 @@ one_more_contour n ls fs l c m none last e =
     subst (λ k. AreFigures n (l ∷ []) (before_contours k c no_figures)) (omega (arith, e)) (contour last none)
 one_more_contour n ls fs l c m (blank h) last e = blank (one_more_contour (n + 1) _ _ l c m h last (omega (arith, e)))
 one_more_contour n ls fs l c m (contour first h) last e = contour first (one_more_contour (n + 1) _ _ l c m h last (omega (arith, e)))
+one_more_contour n ls fs l c m (point first h) last e = point first (one_more_contour (n + 1) _ _ l c m h last (omega (arith, e)))
+
+-- a point after the others
+abbrev pub after_points : GivenFigures → Point → GivenFigures
+after_points fs p = record fs { points = fs.points ++ p ∷ [] }
+
+pub one_more_point : (n : ℕ) (ls : List Line) (fs : GivenFigures) (l : Line) (p : Point) → AreFigures n ls fs → GivesPoint l p
+    → AreFigures n (ls ++ l ∷ []) (after_points fs p)
+one_more_point n ls fs l p none last = point last none
+one_more_point n ls fs l p (blank h) last = blank (one_more_point _ _ _ l p h last)
+one_more_point n ls fs l p (contour first h) last = contour first (one_more_point _ _ _ l p h last)
+one_more_point n ls fs l p (point first h) last = point first (one_more_point _ _ _ l p h last)
 
 -- blank lines and one more
 all_blank : (ls : List Line) → All (λ l. l ≡ []) ls → All (λ l. l ≡ []) (ls ++ [] ∷ [])
@@ -58,18 +72,23 @@ takes_command ls fs l query h last =
 
 -- the line is blank, or gives a figure
 abbrev IsPlain : Line → Type 0
-IsPlain l = (l ≡ []) ⊎ ((c : GivenPath) × GivesContour l c)
+IsPlain l = (l ≡ []) ⊎ (((c : GivenPath) × GivesContour l c) ⊎ ((p : Point) × GivesPoint l p))
 
 -- so is each line among figures
 among_figures : (n : ℕ) (before : List Line) (l : Line) (after : List Line) (fs : GivenFigures) → AreFigures n (before ++ l ∷ after) fs → IsPlain l
 among_figures n [] l after fs (blank h) = inl refl
-among_figures n [] l after fs (contour first h) = inr (_, first)
+among_figures n [] l after fs (contour first h) = inr (inl (_, first))
+among_figures n [] l after fs (point first h) = inr (inr (_, first))
 among_figures n (b ∷ before) l after fs (blank h) = among_figures (n + 1) before l after _ h
 among_figures n (b ∷ before) l after fs (contour first h) = among_figures (n + 1) before l after _ h
+among_figures n (b ∷ before) l after fs (point first h) = among_figures (n + 1) before l after _ h
 
 -- a contour's line begins with the name of its shape
 contour_begins : (l : Line) (c : GivenPath) → GivesContour l c → (ws : List Word) × (l ≡ shape_name c.shape_type ∷ ws)
 contour_begins l c (contour h) = (_, refl)
+
+point_begins : (l : Line) (p : Point) → GivesPoint l p → (ws : List Word) × (l ≡ codes "point" ∷ ws)
+point_begins l p (point x y) = (_, refl)
 
 no_shape_is_run : (shape_type : ShapeType) → codes "run" ≡ shape_name shape_type → ⊥
 no_shape_is_run Subject e = cc
@@ -81,13 +100,16 @@ first_word v w vs ws e = cc
 -- a line that begins with `run` is not blank and gives no figure
 run_is_not_plain : (ws : List Word) → ¬ (IsPlain (codes "run" ∷ ws))
 run_is_not_plain ws (inl e) = cc
-run_is_not_plain ws (inr h) =
+run_is_not_plain ws (inr (inr h)) = let begins = point_begins _ h.0 h.1 in let e = begins.1 in cc
+run_is_not_plain ws (inr (inl h)) =
     let begins = contour_begins _ h.0 h.1 in
     no_shape_is_run h.0.shape_type (first_word _ _ _ _ begins.1)
 
 command_begins : (l : Line) (query : Query) → IsCommand l query → (ws : List Word) × (l ≡ codes "run" ∷ ws)
 command_begins l query edges = (_, refl)
 command_begins l query (overlay options) = (_, refl)
+command_begins l query contains = (_, refl)
+command_begins l query locate = (_, refl)
 
 command_is_not_plain : (l : Line) (query : Query) → IsCommand l query → ¬ (IsPlain l)
 command_is_not_plain l query h plain = let begins = command_begins l query h in run_is_not_plain begins.0 (subst IsPlain begins.1 plain)
@@ -117,7 +139,8 @@ no_command_among ls fs gs query h figures =
 
 not_plain : (l : Line) → SaysNothing l → ¬ (IsPlain l)
 not_plain l bad (inl e) = bad.some_word e
-not_plain l bad (inr h) = bad.no_contour h.0 h.1
+not_plain l bad (inr (inl h)) = bad.no_contour h.0 h.1
+not_plain l bad (inr (inr h)) = bad.no_point h.0 h.1
 
 pub refuses_nothing : (ls : List Line) (l : Line) → SaysNothing l → ¬ (IsGoodSoFar (ls ++ l ∷ []))
 refuses_nothing ls l bad (inl h) = not_plain l bad (among_figures 1 ls l [] h.0 h.1)
@@ -128,6 +151,7 @@ before_last : (n : ℕ) (ls : List Line) (l : Line) (fs : GivenFigures) → AreF
 before_last n [] l fs h = (no_figures, none)
 before_last n (x ∷ ls) l fs (blank h) = let rest = before_last (n + 1) ls l _ h in (rest.0, blank rest.1)
 before_last n (x ∷ ls) l fs (contour first h) = let rest = before_last (n + 1) ls l _ h in (_, contour first rest.1)
+before_last n (x ∷ ls) l fs (point first h) = let rest = before_last (n + 1) ls l _ h in (_, point first rest.1)
 
 pub refuses_word : (ls : List Line) (fs : GivenFigures) (query : Query) (l : Line) → Asks ls fs query → ¬ (l ≡ []) → ¬ (IsGoodSoFar (ls ++ l ∷ []))
 refuses_word ls fs query l h some (inl g) = let rest = before_last 1 ls l g.0 g.1 in no_command_among ls fs rest.0 query h rest.1

@@ -1,16 +1,18 @@
 -- What the program holds of the lines so far, when it takes one more line or refuses it.
-use Rattle.std.proofs.Common.{◌≡◌, ℕ, ◌+◌, List, [], ◌∷◌, ◌++◌, Option, Some, None, length, refl, sym, ap, subst, ◌∙◌}
+use Rattle.std.proofs.Common.{◌≡◌, ℕ, ◌+◌, ℤ, List, [], ◌∷◌, ◌++◌, Option, Some, None, map, length, refl, sym, ap, subst, ◌∙◌}
 use Rattle.std.proofs.lemmas.List.{map_push}
 use Rattle.polyover_text.specs.declared.query.Query.{Query}
 use Rattle.polyover_text.specs.declared.figures.Figures.{Figures}
 use Rattle.polyover_text.specs.declared.figures.NumberedContour.{NumberedContour}
 use Rattle.polyover_text.specs.declared.input.Reading.{Reading}
 use Rattle.polyover_text.specs.declared.statement.Statement.{Statement}
-use Rattle.polyover_text.specs.declared.statement.Statement.TheVariants.{Blank, Contour, Run}
-use Rattle.polyover_text.specs.Grammar.{Line, GivesContour, contour, IsCommand, edges, overlay, AreFigures}
+use Rattle.polyover_text.specs.declared.statement.Statement.TheVariants.{Blank, Contour, Point, Run}
+use Rattle.polyover_text.specs.Grammar.{Line, GivesContour, contour, GivesPoint, point, IsCommand, edges, overlay, contains, locate, AreFigures}
+use Rattle.overlay_geom.specs.Points.{plain_point}
+use Rattle.overlay_geom.specs.declared.point.IntPoint.{IntPoint}
 use Rattle.polyover_text.specs.Inputs.{Give, RefusesLine}
 use Rattle.polyover_text.specs.Statements.{path_at, contour_at, contours_at, figures_at, Says}
-use Rattle.polyover_text.proofs.GoodLines.{takes_contour, refuses_word}
+use Rattle.polyover_text.proofs.GoodLines.{takes_contour, one_more_point, refuses_word}
 
 contour_has_word : (l : Line) (c : _) → GivesContour l c → l ≡ [] → ⊥
 contour_has_word l c (contour h) e = cc
@@ -18,11 +20,17 @@ contour_has_word l c (contour h) e = cc
 command_has_word : (l : Line) (query : Query) → IsCommand l query → l ≡ [] → ⊥
 command_has_word l query edges e = cc
 command_has_word l query (overlay options) e = cc
+command_has_word l query contains e = cc
+command_has_word l query locate e = cc
+
+point_has_word : (l : Line) (p : _) → GivesPoint l p → l ≡ [] → ⊥
+point_has_word l p (point x y) e = cc
 
 -- a line that is not blank has a word
 has_word : {A : Type 0} (l : Line) (s : Statement A) → Says l s → (s ≡ Blank → ⊥) → l ≡ [] → ⊥
 has_word l Blank says other e = other refl
 has_word l (Contour c) says other e = contour_has_word l (path_at c) says e
+has_word l (Point p) says other e = point_has_word l (plain_point (λ z. z) p) says e
 has_word l (Run query) says other e = command_has_word l query says e
 
 -- after the command no word may come
@@ -42,3 +50,14 @@ takes_pushed ls l old new c n query none kept pushed numbered next says h =
     (subst (λ fs. AreFigures 1 (ls ++ l ∷ []) (figures_at fs)) (sym kept)
     (subst (λ cs. AreFigures 1 (ls ++ l ∷ []) (record (figures_at old) { contours = cs })) held
     (takes_contour ls (figures_at old) l (path_at c.contour) c.line (subst (Give ls (figures_at old)) none h) says (numbered ∙ next))))
+
+-- a point is held last
+pub takes_point : {A : Type 0} (ls : List Line) (l : Line) (old new : Figures A) (p : IntPoint ℤ) (query : Option Query) → query ≡ None
+    → new ≡ record old { points = new.points } → new.points.items ≡ old.points.items ++ p ∷ []
+    → GivesPoint l (plain_point (λ z. z) p) → Give ls (figures_at old) query → Give (ls ++ l ∷ []) (figures_at new) query
+takes_point ls l old new p query none kept pushed says h =
+    let held = sym (ap (map (plain_point (λ z. z))) pushed ∙ map_push (plain_point (λ z. z)) old.points.items p) in
+    subst (λ q. Give (ls ++ l ∷ []) (figures_at new) q) (sym none)
+    (subst (λ fs. AreFigures 1 (ls ++ l ∷ []) (figures_at fs)) (sym kept)
+    (subst (λ ps. AreFigures 1 (ls ++ l ∷ []) (record (figures_at old) { points = ps })) held
+    (one_more_point 1 ls (figures_at old) l (plain_point (λ z. z) p) (subst (Give ls (figures_at old)) none h) says)))

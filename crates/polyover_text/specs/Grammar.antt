@@ -18,7 +18,7 @@ use Rattle.overlay_arrange.specs.Paths.{GivenPath}
 use Rattle.polyover_text.specs.declared.options.OutputOptions.{OutputOptions}
 use Rattle.polyover_text.specs.declared.query.OverlayQuery.{OverlayQuery}
 use Rattle.polyover_text.specs.declared.query.Query.{Query}
-use Rattle.polyover_text.specs.declared.query.Query.TheVariants.{Edges, Overlay}
+use Rattle.polyover_text.specs.declared.query.Query.TheVariants.{Edges, Overlay, Contains, Locate}
 
 -- ---- lines and words
 
@@ -72,6 +72,12 @@ pub data GivesContour : Line → GivenPath → Type 0 where
   contour : {shape_type : ShapeType} {ws : List Word} {ps : List Point} → ArePoints ws ps
       → GivesContour (shape_name shape_type ∷ ws) (record { shape_type = shape_type; points = ps })
 
+-- ---- points
+
+-- the line gives a point: `point x y`
+pub data GivesPoint : Line → Point → Type 0 where
+  point : {v w : Word} {x y : ℤ} → IsCoordinate v x → IsCoordinate w y → GivesPoint (codes "point" ∷ v ∷ w ∷ []) (record { x = x; y = y })
+
 -- ---- the command
 
 abbrev pub fill_name : FillRule → Word
@@ -102,11 +108,14 @@ pub data SetOptions : OutputOptions → List Word → OutputOptions → Type 0 w
   keep : {old o : OutputOptions} {ws : List Word} → old.preserve_output_collinear ≡ false
       → SetOptions (record old { preserve_output_collinear = true }) ws o → SetOptions old (codes "keep" ∷ ws) o
 
--- the line asks for this: `run edges FILL` for the edges under a fill rule, `run overlay RULE FILL OPT..` for the shapes of an overlay
+-- the line asks for this: `run edges FILL` for the edges under a fill rule, `run overlay RULE FILL OPT..` for the shapes of an overlay,
+-- `run contains` for whether each point is inside the subject, `run locate` for where each point lies in it
 pub data IsCommand : Line → Query → Type 0 where
   edges : {fill : FillRule} → IsCommand (codes "run" ∷ codes "edges" ∷ fill_name fill ∷ []) (Edges fill)
   overlay : {query : OverlayQuery} {ws : List Word} → SetOptions default_output ws query.output
       → IsCommand (codes "run" ∷ codes "overlay" ∷ rule_name query.overlay_rule ∷ fill_name query.fill_rule ∷ ws) (Overlay query)
+  contains : IsCommand (codes "run" ∷ codes "contains" ∷ []) Contains
+  locate : IsCommand (codes "run" ∷ codes "locate" ∷ []) Locate
 
 -- ---- whole inputs
 
@@ -135,12 +144,18 @@ paths_of fs = contour_paths fs.contours
 abbrev pub before_contours : ℕ → GivenPath → GivenFigures → GivenFigures
 before_contours n c fs = record fs { contours = record { line = n; path = c } ∷ fs.contours }
 
+-- a point before the others
+abbrev pub before_points : Point → GivenFigures → GivenFigures
+before_points p fs = record fs { points = p ∷ fs.points }
+
 -- each line is blank, or gives the next of the figures; the first line has this number
 pub data AreFigures : ℕ → List Line → GivenFigures → Type 0 where
   none : {n : ℕ} → AreFigures n [] no_figures
   blank : {n : ℕ} {ls : List Line} {fs : GivenFigures} → AreFigures (n + 1) ls fs → AreFigures n ([] ∷ ls) fs
   contour : {n : ℕ} {l : Line} {c : GivenPath} {ls : List Line} {fs : GivenFigures} → GivesContour l c → AreFigures (n + 1) ls fs
       → AreFigures n (l ∷ ls) (before_contours n c fs)
+  point : {n : ℕ} {l : Line} {p : Point} {ls : List Line} {fs : GivenFigures} → GivesPoint l p → AreFigures (n + 1) ls fs
+      → AreFigures n (l ∷ ls) (before_points p fs)
 
 -- the lines, counted from 1, give figures, then one command, and then no word
 pub record Asks (ls : List Line) (fs : GivenFigures) (query : Query) : Type 0 where

@@ -1,9 +1,11 @@
--- The text of an answer: a line for each edge, or lines for each shape.
-use Rattle.std.specs.Prelude.{ℕ, List, [], ◌∷◌, ◌++◌, codes}
+-- The text of an answer: a line for each edge, lines for each shape, or a line for each point.
+use Rattle.std.specs.Prelude.{ℕ, Bool, true, false, List, [], ◌∷◌, ◌++◌, codes}
 use Rattle.std.specs.Fmt.{decimal, signed_decimal}
 use Rattle.std.specs.List.{flat_map}
 use Rattle.overlay_geom.specs.Plane.{Point}
 use Rattle.overlay_arrange.specs.Vectors.{Vector}
+use Rattle.overlay_relate.specs.declared.location.PointLocation.{PointLocation}
+use Rattle.overlay_relate.specs.declared.location.PointLocation.TheVariants.{Inside, Boundary, Outside}
 
 -- ---- edges
 
@@ -33,3 +35,16 @@ shape_lines contours = codes "shape" ++ 10 ∷ flat_map contour_line contours
 
 abbrev pub lines_of_shapes : List (List (List Point)) → List ℕ
 lines_of_shapes shapes = flat_map shape_lines shapes
+
+-- ---- points
+
+-- `true` or `false`, and LF
+abbrev pub truth_line : Bool → List ℕ
+truth_line true = codes "true\n"
+truth_line false = codes "false\n"
+
+-- `inside`, `boundary` or `outside`, and LF
+abbrev pub location_line : PointLocation → List ℕ
+location_line Inside = codes "inside\n"
+location_line Boundary = codes "boundary\n"
+location_line Outside = codes "outside\n"

@@ -1,6 +1,6 @@
 //! Commands in words.
 
-ghost use Rattle.std.specs.Prelude.{◌∷◌, MatchOption, codes};
+ghost use Rattle.std.specs.Prelude.{◌≡◌, [], ◌∷◌, MatchOption, IfSome, codes};
 ghost use Rattle.overlay_arrange.specs.declared.fill_rule.FillRule.{FillRule};
 ghost use Rattle.polyover_text.specs.declared.query.Query.{Query};
 ghost use Rattle.polyover_text.specs.declared.query.OverlayQuery.{OverlayQuery};
@@ -23,7 +23,20 @@ pub fn parse_command(mut words: Words<'_>) -> Option<Query>
     match words.next()? {
         b"edges" => Some(Query::Edges(parse_edges(words)?)),
         b"overlay" => Some(Query::Overlay(parse_overlay(words)?)),
+        b"contains" => if_last(words, Query::Contains),
+        b"locate" => if_last(words, Query::Locate),
         _ => None,
+    }
+}
+
+// The query, where no word is left.
+fn if_last(mut words: Words<'_>, query: Query) -> Option<Query>
+    ensures last { MatchOption result (¬ (words_left words.entry ≡ [])) (λ _. words_left words.entry ≡ []) }
+    ensures value { IfSome result (λ asked. asked ≡ query) }
+{
+    match words.next() {
+        None => Some(query),
+        Some(_word) => None,
     }
 }
 

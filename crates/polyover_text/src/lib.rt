@@ -10,6 +10,7 @@ mod fill;
 pub mod input;
 mod line_error;
 mod lines;
+pub mod location_text;
 mod number;
 pub mod options;
 mod points;

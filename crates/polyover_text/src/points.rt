@@ -1,8 +1,9 @@
 //! Points in words.
 
-ghost use Rattle.std.specs.Prelude.{◌≡◌, [], List, MatchResult, MatchOption};
+ghost use Rattle.std.specs.Prelude.{◌≡◌, [], ◌∷◌, List, MatchResult, MatchOption, codes};
 ghost use Rattle.overlay_geom.specs.Plane.{Point};
-ghost use Rattle.polyover_text.specs.Grammar.{ArePoints};
+ghost use Rattle.overlay_geom.specs.Points.{plain_point};
+ghost use Rattle.polyover_text.specs.Grammar.{ArePoints, GivesPoint};
 ghost use Rattle.polyover_text.specs.Points.{points_at, IsFirstPoint};
 ghost use Rattle.polyover_text.specs.Words.{words_left};
 
@@ -28,13 +29,28 @@ pub fn parse_points<A: Allocator>(
     Ok(points)
 }
 
-// The point that the next two words give, and `None` after the last word.
+/// The point whose coordinates the two words are, after the word `point`.
+pub fn parse_point(mut words: Words<'_>) -> Option<IntPoint<i64>>
+    ensures { MatchOption result
+        ((p : Point) → ¬ (GivesPoint (codes "point" ∷ words_left words.entry) p))
+        (λ p. GivesPoint (codes "point" ∷ words_left words.entry) (plain_point (λ z. z) p)) }
+{
+    let Ok(Some(point)) = next_point(&mut words) else {
+        return None;
+    };
+    match words.next() {
+        None => Some(point),
+        Some(_) => None,
+    }
+}
+
+// The point that the next two words give, and `None` after the last word. The only refusal is `Bad`.
 fn next_point(words: &mut Words<'_>) -> Result<Option<IntPoint<i64>>, LineError>
     ensures { MatchResult result
         (λ next. MatchOption next
         (words_left words.old ≡ [])
         (λ p. IsFirstPoint (words_left words.old) p (words_left words.new)))
-        (λ e. (ps : List Point) → ¬ (ArePoints (words_left words.old) ps)) }
+        (λ e. (e ≡ LineError.Bad) × ((ps : List Point) → ¬ (ArePoints (words_left words.old) ps))) }
 {
     let Some(x) = words.next() else {
         return Ok(None);

@@ -11,6 +11,10 @@ pub enum Query {
     Edges(FillRule),
     /// The shapes of an overlay.
     Overlay(OverlayQuery),
+    /// Whether each point is inside the subject.
+    Contains,
+    /// Where each point lies in the subject.
+    Locate,
 }
 
 /// The rules of an overlay, and how its output is to look.

@@ -2,16 +2,17 @@
 
 ghost use Rattle.std.specs.Prelude.{◌≡◌, ◌∷◌, MatchResult};
 ghost use Rattle.polyover_text.specs.Grammar.{words, shape_name};
-ghost use Rattle.polyover_text.specs.Statements.{Says, SaysNothing};
+ghost use Rattle.polyover_text.specs.Statements.{Says, IsFaultOf};
 ghost use Rattle.polyover_text.specs.Words.{words_left};
 
 use crate::command::parse_command;
 use crate::contour::Contour;
 use crate::line_error::LineError;
-use crate::points::parse_points;
+use crate::points::{parse_point, parse_points};
 use crate::query::Query;
 use crate::words::Words;
 use overlay_arrange::options::ShapeType;
+use overlay_geom::point::IntPoint;
 use std::alloc::Allocator;
 
 /// What a line says.
@@ -21,22 +22,31 @@ pub enum Statement<A: Allocator> {
     Blank,
     /// A contour.
     Contour(Contour<A>),
+    /// A point.
+    Point(IntPoint<i64>),
     /// The command: this is asked for.
     Run(Query),
 }
 
-/// What a line says, if it is of the grammar.
+/// What a line says, if it is of the grammar. `Memory` comes where a contour's points did not fit.
 pub fn parse_statement<A: Allocator>(alloc: A, line: &[u8]) -> Result<Statement<A>, LineError>
     ensures { MatchResult result
         (λ s. Says (words line.now) s)
-        (λ e. e ≡ LineError.Bad → SaysNothing (words line.now)) }
+        (λ e. IsFaultOf (words line.now) e) }
 {
     let mut words = Words::new(line);
     match words.next() {
         None => Ok(Statement::Blank),
         Some(b"subject") => parse_contour(alloc, ShapeType::Subject, words),
         Some(b"clip") => parse_contour(alloc, ShapeType::Clip, words),
-        Some(b"run") => Ok(Statement::Run(parse_command(words).ok_or(LineError::Bad)?)),
+        Some(b"point") => match parse_point(words) {
+            Some(point) => Ok(Statement::Point(point)),
+            None => Err(LineError::Bad),
+        },
+        Some(b"run") => match parse_command(words) {
+            Some(query) => Ok(Statement::Run(query)),
+            None => Err(LineError::Bad),
+        },
         Some(_) => Err(LineError::Bad),
     }
 }
@@ -49,7 +59,7 @@ fn parse_contour<A: Allocator>(
 ) -> Result<Statement<A>, LineError>
     ensures { MatchResult result
         (λ s. Says (shape_name shape_type ∷ words_left words.entry) s)
-        (λ e. e ≡ LineError.Bad → SaysNothing (shape_name shape_type ∷ words_left words.entry)) }
+        (λ e. IsFaultOf (shape_name shape_type ∷ words_left words.entry) e) }
 {
     let points = parse_points(alloc, words)?;
     Ok(Statement::Contour(Contour { shape_type, points }))

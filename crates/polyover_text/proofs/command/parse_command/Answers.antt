@@ -1,6 +1,7 @@
 use Rattle.std.proofs.Common.{◌≡◌, ◌∷◌, codes, ap, ◌∙◌, rules}
 use Rattle.std.proofs.lemmas.Slice.Eq.{text_from_reads}
 use Rattle.polyover_text.specs.Words.{words_left}
+use Rattle.polyover_text.proofs.Commands.{contains_asked, locate_asked}
 use Rattle.polyover_text.proofs.command.parse_command.Goals as goal
 
 pub returns-in_ok-parse_edges-in-edges : goal.returns-in_ok-parse_edges-in-edges
@@ -16,3 +17,15 @@ returns-in_ok-parse_overlay-in-overlay c =
     let line : words_left c.args.words ≡ codes "overlay" ∷ words_left c.next.new.self =
     c.in_ok-next.ensures.steps ∙ ap (λ w. w ∷ words_left c.next.new.self) first in
     rw line c.in_ok-parse_overlay-in-overlay.ensures
+
+pub returns-in-contains : goal.returns-in-contains
+returns-in-contains c =
+    let first : c.in_ok-next.field-0.now ≡ codes "contains" = search (rules, text_from_reads) in
+    contains_asked _ (words_left c.next.new.self) _ (c.in_ok-next.ensures.steps ∙ ap (λ w. w ∷ words_left c.next.new.self) first)
+    c.if_last-in-contains.ensures.last c.if_last-in-contains.ensures.value
+
+pub returns-in-locate : goal.returns-in-locate
+returns-in-locate c =
+    let first : c.in_ok-next.field-0.now ≡ codes "locate" = search (rules, text_from_reads) in
+    locate_asked _ (words_left c.next.new.self) _ (c.in_ok-next.ensures.steps ∙ ap (λ w. w ∷ words_left c.next.new.self) first)
+    c.if_last.ensures.last c.if_last.ensures.value

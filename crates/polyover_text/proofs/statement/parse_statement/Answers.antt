@@ -19,10 +19,11 @@ returns-in-Some-clip g c =
     sym c.new-words.ensures ∙ c.in-Some-clip.ensures.steps ∙ ap (λ w. w ∷ words_left c.next.new.self) first in
     rw line c.parse_contour.ensures
 
-pub returns-in-Some : goal.returns-in-Some
-returns-in-Some g c = λ e.
+pub returns : goal.returns
+returns g c =
     let f = c.in-Some.field-0.now in
     let subject : f ≢ codes "subject" = search rules in
     let clip : f ≢ codes "clip" = search rules in
+    let points : f ≢ codes "point" = search rules in
     let run : f ≢ codes "run" = search rules in
-    nothing_by_first_word _ f _ (sym c.new-words.ensures ∙ c.in-Some.ensures.steps) subject clip run
+    nothing_by_first_word _ f _ (sym c.new-words.ensures ∙ c.in-Some.ensures.steps) subject clip points run

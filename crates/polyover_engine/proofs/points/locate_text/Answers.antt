@@ -1,0 +1,36 @@
+use Rattle.std.proofs.Common.{sym, subst, ap, ◌∙◌, [], ◌∷◌}
+use Rattle.std.specs.Prelude.{All}
+use Rattle.std.specs.List.{flat_map}
+use Rattle.std.proofs.lemmas.List.Elements.{All-nil, All-cons}
+use Rattle.std.proofs.lemmas.Result.{err_from_is_err_and}
+use Rattle.overlay_geom.specs.Points.{AllInRange}
+use Rattle.overlay_geom.specs.Resolved.{IsResolved}
+use Rattle.polyover_text.specs.Points.{points_at}
+use Rattle.polyover_text.specs.Printed.{location_line}
+use Rattle.polyover_text.specs.Statements.{contours_at, figures_at}
+use Rattle.polyover_engine.proofs.Located.{tells_where, nothing_located}
+use Rattle.polyover_engine.proofs.points.locate_text.Goals as goal
+
+pub locate_points-requires-clause-self_in_range : goal.locate_points-requires-clause-self_in_range
+locate_points-requires-clause-self_in_range g c =
+    All-cons (All (AllInRange 4611686018427387903)) _ [] c.in_ok-shape.ensures.in_range (All-nil (All (AllInRange 4611686018427387903)))
+
+pub locate_points-requires-clause-resolved : goal.locate_points-requires-clause-resolved
+locate_points-requires-clause-resolved g c = All-cons (All IsResolved) _ [] c.in_ok-shape.ensures.resolved (All-nil (All IsResolved))
+
+pub locate_points-requires-clause-points_in_range : goal.locate_points-requires-clause-points_in_range
+locate_points-requires-clause-points_in_range g c =
+    subst (λ l. AllInRange 4611686018427387903 (points_at l)) (sym c.deref-2.ensures.value) c.requires.points
+
+pub returns-in_err-shape : goal.returns-in_err-shape
+returns-in_err-shape g c =
+    let p = err_from_is_err_and c.from_residual.result c.from_residual.ensures.1 in
+    rw (p.1, p.2) (nothing_located (figures_at c.args.figures.now) _ (ap contours_at c.deref.ensures.value) _ c.in_err-shape.ensures)
+
+pub returns : goal.returns
+returns g c = (
+  c.in_ok-locations.locations.items,
+  tells_where (figures_at c.args.figures.now) _ _ _ (ap contours_at c.deref.ensures.value) (ap points_at c.deref-2.ensures.value) c.in_ok-shape.ensures
+      _ c.in_ok-locations.ensures.located,
+  c.in_ok-locations_text.ensures ∙ ap (flat_map location_line) c.deref-3.ensures.value,
+)
