@@ -144,10 +144,9 @@ pub fn check_fills<I: OverlayInt, A: Allocator + Clone>(
     overlay: &mut Overlay<I, A>,
     rule: FillRule,
     fills: &[u8],
-) -> Result<(), OverlayError> {
-    let edges = edges(overlay, rule)?;
+) {
+    let edges = edges(overlay, rule).expect(rt, "the edges are given");
     assert!(rt; have_fills(&edges, fills));
-    Ok(())
 }
 
 // Whether the edges have these fills, in order.
@@ -189,9 +188,13 @@ pub fn check_edges<I: OverlayInt + PartialEq, A: Allocator + Clone>(
     overlay: &mut Overlay<I, A>,
     rule: FillRule,
     wanted: &[DataVectorEdge<I, ()>],
-) -> Result<(), OverlayError> {
-    assert!(rt; has_edges(overlay, rule, wanted)?);
-    Ok(())
+) {
+    assert!(rt; has_edges(overlay, rule, wanted) == Ok(true));
+}
+
+/// Checks that a call was answered.
+pub fn check_answered(rt: &impl Abort, answer: Result<(), OverlayError>) {
+    assert_eq!(rt; answer, Ok(()));
 }
 
 /// Whether a call was refused so.

@@ -32,23 +32,24 @@ fn steps_round<I: IntNumber>(
     let corner = IntPoint::new(zero, zero);
     let right = IntPoint::new(four, zero);
     let top = IntPoint::new(zero, four);
-    let mut steps = Vec::new(alloc);
-    steps.push(Step {
-        from: corner,
-        to: right,
-        edge_data: 1,
-    })?;
-    steps.push(Step {
-        from: right,
-        to: top,
-        edge_data: 2,
-    })?;
-    steps.push(Step {
-        from: top,
-        to: corner,
-        edge_data: 3,
-    })?;
-    Ok(steps)
+    let round = [
+        Step {
+            from: corner,
+            to: right,
+            edge_data: 1,
+        },
+        Step {
+            from: right,
+            to: top,
+            edge_data: 2,
+        },
+        Step {
+            from: top,
+            to: corner,
+            edge_data: 3,
+        },
+    ];
+    Ok(Vec::from_array(alloc, round)?)
 }
 
 // These steps, none of them taken.
@@ -76,7 +77,48 @@ fn has_numbers<I: IntNumber>(walk: &[Step<I, u8>], numbers: &[u8]) -> bool {
             .all(|(s, n)| s.edge_data == *n)
 }
 
-// Walks begin along the left edge, the top one at the leftmost lowest point, and take all steps.
+// The walk begins along the left edge, the top one at the leftmost lowest point, and takes all steps.
+fn check_walk<I: IntNumber>(
+    rt: &impl Abort,
+    alloc: Global,
+    zero: I,
+    four: I,
+    hand: Hand,
+) -> Result<(), Fail>
+    requires zero { I.whole zero ≡ pos 0 }
+    requires four { I.whole four ≡ pos 4 }
+    requires limit { 4 ≤ I.limit }
+{
+    let mut steps = open_triangle(alloc, zero, four)?;
+    let start = steps.start().expect(rt, "steps are left");
+    assert!(rt; start.edge_data == 3);
+    let walk = steps.walk(start, hand)?;
+    assert!(rt; has_numbers(&walk, &[3, 1, 2]));
+    assert!(rt; steps.start().is_none());
+    Ok(())
+}
+
+// The one contour begins along the left edge, and takes all steps.
+fn check_contours<I: IntNumber>(
+    rt: &impl Abort,
+    alloc: Global,
+    zero: I,
+    four: I,
+    direction: ContourDirection,
+) -> Result<(), Fail>
+    requires zero { I.whole zero ≡ pos 0 }
+    requires four { I.whole four ≡ pos 4 }
+    requires limit { 4 ≤ I.limit }
+{
+    let mut steps = open_triangle(alloc, zero, four)?;
+    let contours = cut_into_contours(alloc, &mut steps, direction)?;
+    assert!(rt; contours.len() == 1);
+    assert!(rt; has_numbers(&contours[0], &[3, 1, 2]));
+    assert!(rt; steps.start().is_none());
+    Ok(())
+}
+
+// By either hand, and in either direction.
 fn check_triangle<I: IntNumber>(
     rt: &impl Abort,
     alloc: Global,
@@ -87,25 +129,10 @@ fn check_triangle<I: IntNumber>(
     requires four { I.whole four ≡ pos 4 }
     requires limit { 4 ≤ I.limit }
 {
-    for hand in [Hand::Left, Hand::Right] {
-        let mut steps = open_triangle(alloc, zero, four)?;
-        let start = steps.start().expect(rt, "steps are left");
-        assert_eq!(rt; start.edge_data, 3);
-        let walk = steps.walk(start, hand)?;
-        assert!(rt; has_numbers(&walk, &[3, 1, 2]));
-        assert!(rt; steps.start().is_none());
-    }
-    for direction in [
-        ContourDirection::CounterClockwise,
-        ContourDirection::Clockwise,
-    ] {
-        let mut steps = open_triangle(alloc, zero, four)?;
-        let contours = cut_into_contours(alloc, &mut steps, direction)?;
-        assert!(rt; contours.len() == 1);
-        assert!(rt; has_numbers(&contours[0], &[3, 1, 2]));
-        assert!(rt; steps.start().is_none());
-    }
-    Ok(())
+    check_walk(rt, alloc, zero, four, Hand::Left)?;
+    check_walk(rt, alloc, zero, four, Hand::Right)?;
+    check_contours(rt, alloc, zero, four, ContourDirection::CounterClockwise)?;
+    check_contours(rt, alloc, zero, four, ContourDirection::Clockwise)
 }
 
 #[test]
