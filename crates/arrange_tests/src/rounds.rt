@@ -41,7 +41,8 @@ fn split_bow_tie(
     rounds: u32,
     wanted: Result<bool, OverlayError>,
 ) -> Result<Held<i32>, OverlayError> {
-    let mut content = with_subject(rt, alloc, &bow_tie(0i32, 10))?;
+    let contour = bow_tie(0i32, 10);
+    let mut content = with_subject(rt, alloc, &contour)?;
     assert!(rt; content.split(rounds, &mut ()) == wanted);
     Ok(content)
 }

@@ -135,7 +135,8 @@ pub fn edge_count<I: OverlayInt, A: Allocator + Clone>(
     overlay: &mut Overlay<I, A>,
     rule: FillRule,
 ) -> Result<usize, OverlayError> {
-    Ok(edges(overlay, rule)?.len())
+    let edges = edges(overlay, rule)?;
+    Ok(edges.len())
 }
 
 /// Checks the fills of the builder's edges, in order.

@@ -31,8 +31,9 @@ fn check_square<I: OverlayInt + PartialEq>(
     high: I,
     rule: FillRule,
 ) -> Result<(), OverlayError> {
-    let mut overlay = builder_with(rt, alloc, &square(low, high))?;
-    check_edges(rt, &mut overlay, rule, &square_edges(low, high));
+    let (contour, wanted) = (square(low, high), square_edges(low, high));
+    let mut overlay = builder_with(rt, alloc, &contour)?;
+    check_edges(rt, &mut overlay, rule, &wanted);
     Ok(())
 }
 
