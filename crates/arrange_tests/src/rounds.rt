@@ -34,12 +34,39 @@ fn bow_tie<I: Copy>(low: I, high: I) -> [IntPoint<I>; 4] {
     ]
 }
 
+// The contour from corner to corner of a square, split in so many rounds at most, with this answer.
+fn split_bow_tie(
+    rt: &impl Abort,
+    alloc: Global,
+    rounds: u32,
+    wanted: Result<bool, OverlayError>,
+) -> Result<Held<i32>, OverlayError> {
+    let contour = bow_tie(0i32, 10);
+    let mut content = with_subject(rt, alloc, &contour)?;
+    assert!(rt; content.split(rounds, &mut ()) == wanted);
+    Ok(content)
+}
+
+// The content has these edges, and no round is needed, nor changes any.
+fn check_settled(
+    rt: &impl Abort,
+    content: &mut Held<i32>,
+    wanted: &[CountedEdge<i32, ShapeCountBoolean>],
+) {
+    assert!(rt; content.edges() == wanted);
+    assert!(rt; content.split(0, &mut ()) == Ok(false));
+    assert!(rt; content.edges() == wanted);
+}
+
+#[test]
+fn a_crossing_is_not_settled_in_no_round(rt: HostRuntime) -> Result<(), Fail> {
+    split_bow_tie(&rt, rt.alloc(), 0, Err(OverlayError::NotSettled))?;
+    Ok(())
+}
+
 #[test]
 fn a_crossing_needs_one_round(rt: HostRuntime) -> Result<(), Fail> {
-    let mut content = with_subject(&rt, rt.alloc(), &bow_tie(0i32, 10))?;
-    assert_eq!(rt; content.split(0, &mut ()), Err(OverlayError::NotSettled));
-    let mut content = with_subject(&rt, rt.alloc(), &bow_tie(0i32, 10))?;
-    assert_eq!(rt; content.split(1, &mut ()), Ok(true));
+    let mut content = split_bow_tie(&rt, rt.alloc(), 1, Ok(true))?;
     let wanted = [
         edge(0, 0, 0, 10, -1),
         edge(0, 0, 5, 5, 1),
@@ -48,9 +75,7 @@ fn a_crossing_needs_one_round(rt: HostRuntime) -> Result<(), Fail> {
         edge(5, 5, 10, 10, 1),
         edge(10, 0, 10, 10, -1),
     ];
-    assert_eq!(rt; content.edges(), &wanted[..]);
-    assert_eq!(rt; content.split(0, &mut ()), Ok(false));
-    assert_eq!(rt; content.edges(), &wanted[..]);
+    check_settled(&rt, &mut content, &wanted);
     Ok(())
 }
 

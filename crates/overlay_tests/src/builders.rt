@@ -135,7 +135,8 @@ pub fn edge_count<I: OverlayInt, A: Allocator + Clone>(
     overlay: &mut Overlay<I, A>,
     rule: FillRule,
 ) -> Result<usize, OverlayError> {
-    Ok(edges(overlay, rule)?.len())
+    let edges = edges(overlay, rule)?;
+    Ok(edges.len())
 }
 
 /// Checks the fills of the builder's edges, in order.
@@ -144,10 +145,9 @@ pub fn check_fills<I: OverlayInt, A: Allocator + Clone>(
     overlay: &mut Overlay<I, A>,
     rule: FillRule,
     fills: &[u8],
-) -> Result<(), OverlayError> {
-    let edges = edges(overlay, rule)?;
+) {
+    let edges = edges(overlay, rule).expect(rt, "the edges are given");
     assert!(rt; have_fills(&edges, fills));
-    Ok(())
 }
 
 // Whether the edges have these fills, in order.
@@ -189,9 +189,13 @@ pub fn check_edges<I: OverlayInt + PartialEq, A: Allocator + Clone>(
     overlay: &mut Overlay<I, A>,
     rule: FillRule,
     wanted: &[DataVectorEdge<I, ()>],
-) -> Result<(), OverlayError> {
-    assert!(rt; has_edges(overlay, rule, wanted)?);
-    Ok(())
+) {
+    assert!(rt; has_edges(overlay, rule, wanted) == Ok(true));
+}
+
+/// Checks that a call was answered.
+pub fn check_answered(rt: &impl Abort, answer: Result<(), OverlayError>) {
+    assert_eq!(rt; answer, Ok(()));
 }
 
 /// Whether a call was refused so.

@@ -86,7 +86,8 @@ pub fn add_contours<I: OverlayInt + From<i16>>(
     ensures { overlay.new.options ≡ overlay.old.options }
 {
     for points in contours {
-        add(rt, overlay, &contour_of(alloc, points)?, shape_type)?;
+        let contour = contour_of(alloc, points)?;
+        add(rt, overlay, &contour, shape_type)?;
     }
     Ok(())
 }

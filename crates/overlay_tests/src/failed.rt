@@ -3,7 +3,7 @@
 ghost use Rattle.std.specs.Prelude.{◌≡◌, None};
 ghost use Rattle.std.specs.Iterator.{at_most};
 
-use crate::builders::{add, check_fills, edge_count, is_refused};
+use crate::builders::{add, check_answered, check_fills, edge_count, is_refused};
 use crate::contours::{OF_SQUARE, Points, SQUARE, builder_of, contour_of};
 use i_overlay::fill_rule::FillRule;
 use i_overlay::i_float::int::point::IntPoint;
@@ -18,11 +18,7 @@ use std::test::Fail;
 const NEEDLES: &[Points<'static>] = &[&[(2, 0), (0, 66), (2, -66)], &[(1, 0), (0, 67), (-1, 0)]];
 
 // Checks that the builder does not settle, and answers again once it is cleared.
-fn check_unsettled(
-    rt: &impl Abort,
-    overlay: &mut Overlay<i32, Global>,
-    contour: &[IntPoint<i32>],
-) -> Result<(), OverlayError> {
+fn check_unsettled(rt: &impl Abort, overlay: &mut Overlay<i32, Global>, contour: &[IntPoint<i32>]) {
     assert!(rt; edge_count(overlay, FillRule::NonZero) == Err(OverlayError::NotSettled));
     assert!(rt; edge_count(overlay, FillRule::NonZero) == Err(OverlayError::Failed));
     assert!(rt;
@@ -32,15 +28,15 @@ fn check_unsettled(
         )
     );
     overlay.clear();
-    add(rt, overlay, contour, ShapeType::Subject)?;
-    check_fills(rt, overlay, FillRule::NonZero, &OF_SQUARE)
+    check_answered(rt, add(rt, overlay, contour, ShapeType::Subject));
+    check_fills(rt, overlay, FillRule::NonZero, &OF_SQUARE);
 }
 
 #[test]
 fn a_builder_that_did_not_settle_fails_until_it_is_cleared(rt: HostRuntime) -> Result<(), Fail> {
     let contour = contour_of(rt.alloc(), SQUARE)?;
     let mut overlay = builder_of(&rt, rt.alloc(), NEEDLES, ShapeType::Subject)?;
-    check_unsettled(&rt, &mut overlay, &contour)?;
+    check_unsettled(&rt, &mut overlay, &contour);
     Ok(())
 }
 

@@ -18,8 +18,9 @@ use std::test::Fail;
 fn add_squares(rt: &impl Abort, overlay: &mut Refusable<'_>) -> Result<(), OverlayError>
     ensures { overlay.new.options ≡ overlay.old.options }
 {
-    add(rt, overlay, &square(0, 4), ShapeType::Subject)?;
-    add(rt, overlay, &square(2, 6), ShapeType::Clip)
+    let (subj, clip) = (square(0, 4), square(2, 6));
+    add(rt, overlay, &subj, ShapeType::Subject)?;
+    add(rt, overlay, &clip, ShapeType::Clip)
 }
 
 // Whether the one contour is the corner that both squares fill.

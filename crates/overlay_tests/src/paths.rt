@@ -1,8 +1,8 @@
 //! Constructors and adders on a subject and a clip side by side, at each coordinate type.
 
 use crate::builders::{
-    add_points, add_source, check_fills, from_subj, from_subj_and_clip, from_subj_and_clip_custom,
-    from_subj_custom, reinit_with_subj, reinit_with_subj_and_clip,
+    add_points, add_source, check_answered, check_fills, from_subj, from_subj_and_clip,
+    from_subj_and_clip_custom, from_subj_custom, reinit_with_subj, reinit_with_subj_and_clip,
 };
 use crate::contours::{OF_SQUARE, Points, SQUARE, contour_of, shape_of};
 use i_overlay::fill_rule::FillRule;
@@ -29,9 +29,9 @@ fn check_new<I: OverlayInt>(
     made: Result<Overlay<I, Global>, OverlayError>,
     keeps_points: bool,
     fills: &[u8],
-) -> Result<(), OverlayError> {
-    let mut overlay = made?;
-    check_held(rt, &mut overlay, keeps_points, fills)
+) {
+    let mut overlay = made.expect(rt, "a builder is made");
+    check_held(rt, &mut overlay, keeps_points, fills);
 }
 
 // The same, of the builder.
@@ -40,11 +40,11 @@ fn check_held<I: OverlayInt>(
     overlay: &mut Overlay<I, Global>,
     keeps_points: bool,
     fills: &[u8],
-) -> Result<(), OverlayError> {
+) {
     assert!(rt; overlay.options.preserve_input_collinear == keeps_points);
     assert!(rt; overlay.options.preserve_output_collinear == keeps_points);
     assert!(rt; overlay.boolean_buffer.is_some());
-    check_fills(rt, overlay, FillRule::NonZero, fills)
+    check_fills(rt, overlay, FillRule::NonZero, fills);
 }
 
 // Each constructor gives the edges of the subject, or of both.
@@ -53,21 +53,13 @@ fn check_constructors<I: OverlayInt>(
     alloc: Global,
     subj: PathRef<'_, I>,
     clip: PathRef<'_, I>,
-) -> Result<(), OverlayError> {
-    check_new(rt, from_subj(rt, alloc, &subj), false, &OF_SQUARE)?;
-    check_new(rt, from_subj_custom(rt, alloc, &subj), true, &OF_SQUARE)?;
-    check_new(
-        rt,
-        from_subj_and_clip(rt, alloc, &subj, &clip),
-        false,
-        &OF_BOTH,
-    )?;
-    check_new(
-        rt,
-        from_subj_and_clip_custom(rt, alloc, &subj, &clip),
-        true,
-        &OF_BOTH,
-    )
+) {
+    check_new(rt, from_subj(rt, alloc, &subj), false, &OF_SQUARE);
+    check_new(rt, from_subj_custom(rt, alloc, &subj), true, &OF_SQUARE);
+    let of_both = from_subj_and_clip(rt, alloc, &subj, &clip);
+    check_new(rt, of_both, false, &OF_BOTH);
+    let of_both = from_subj_and_clip_custom(rt, alloc, &subj, &clip);
+    check_new(rt, of_both, true, &OF_BOTH);
 }
 
 // A builder that keeps all points and has no buffer.
@@ -79,14 +71,10 @@ fn bare_builder<I: OverlayInt>(alloc: Global) -> Result<Overlay<I, Global>, Over
 }
 
 // Checks a builder that keeps all points and has no buffer.
-fn check_bare<I: OverlayInt>(
-    rt: &impl Abort,
-    overlay: &mut Overlay<I, Global>,
-    fills: &[u8],
-) -> Result<(), OverlayError> {
+fn check_bare<I: OverlayInt>(rt: &impl Abort, overlay: &mut Overlay<I, Global>, fills: &[u8]) {
     assert!(rt; overlay.options.preserve_input_collinear);
     assert!(rt; overlay.boolean_buffer.is_none());
-    check_fills(rt, overlay, FillRule::NonZero, fills)
+    check_fills(rt, overlay, FillRule::NonZero, fills);
 }
 
 // Dropping the edges and adding a subject and a clip, and then a subject alone, keeps the rest of the
@@ -98,7 +86,8 @@ fn check_reinits<I: OverlayInt>(
     clip: PathRef<'_, I>,
 ) -> Result<(), OverlayError> {
     let mut bare = bare_builder(alloc)?;
-    check_reinits_of(rt, &mut bare, subj, clip)
+    check_reinits_of(rt, &mut bare, subj, clip);
+    Ok(())
 }
 
 // The same, of such a builder.
@@ -107,11 +96,11 @@ fn check_reinits_of<I: OverlayInt>(
     bare: &mut Overlay<I, Global>,
     subj: PathRef<'_, I>,
     clip: PathRef<'_, I>,
-) -> Result<(), OverlayError> {
-    reinit_with_subj_and_clip(rt, bare, &subj, &clip)?;
-    check_bare(rt, bare, &OF_BOTH)?;
-    reinit_with_subj(rt, bare, &subj)?;
-    check_bare(rt, bare, &OF_SQUARE)
+) {
+    check_answered(rt, reinit_with_subj_and_clip(rt, bare, &subj, &clip));
+    check_bare(rt, bare, &OF_BOTH);
+    check_answered(rt, reinit_with_subj(rt, bare, &subj));
+    check_bare(rt, bare, &OF_SQUARE);
 }
 
 // An iterator and a source, added to an empty builder; and nothing is left of them in the end.
@@ -122,17 +111,8 @@ fn check_adders<I: OverlayInt>(
     clip: PathRef<'_, I>,
 ) -> Result<(), OverlayError> {
     let mut overlay = Overlay::new(alloc, 8)?;
-    check_adders_of(rt, &mut overlay, subj, clip)
-}
-
-// A source, added after them.
-fn check_source<I: OverlayInt>(
-    rt: &impl Abort,
-    overlay: &mut Overlay<I, Global>,
-    subj: PathRef<'_, I>,
-) -> Result<(), OverlayError> {
-    add_source(rt, overlay, &subj, ShapeType::Subject)?;
-    check_fills(rt, overlay, FillRule::NonZero, &OF_BOTH)
+    check_adders_of(rt, &mut overlay, subj, clip);
+    Ok(())
 }
 
 // The same, of such a builder.
@@ -141,12 +121,13 @@ fn check_adders_of<I: OverlayInt>(
     overlay: &mut Overlay<I, Global>,
     subj: PathRef<'_, I>,
     clip: PathRef<'_, I>,
-) -> Result<(), OverlayError> {
-    add_points(rt, overlay, clip.points, ShapeType::Clip)?;
-    check_fills(rt, overlay, FillRule::NonZero, &OF_RIGHT)?;
-    check_source(rt, overlay, subj)?;
+) {
+    check_answered(rt, add_points(rt, overlay, clip.points, ShapeType::Clip));
+    check_fills(rt, overlay, FillRule::NonZero, &OF_RIGHT);
+    check_answered(rt, add_source(rt, overlay, &subj, ShapeType::Subject));
+    check_fills(rt, overlay, FillRule::NonZero, &OF_BOTH);
     overlay.clear();
-    check_fills(rt, overlay, FillRule::NonZero, &[])
+    check_fills(rt, overlay, FillRule::NonZero, &[]);
 }
 
 // Each constructor and each adder gives the edges of the two squares, at a coordinate type.
@@ -157,7 +138,7 @@ fn check_sources<I: OverlayInt + From<i16>>(
     let left = contour_of::<I>(alloc, SQUARE)?;
     let right = contour_of::<I>(alloc, RIGHT)?;
     let (subj, clip) = (PathRef::new(&left), PathRef::new(&right));
-    check_constructors(rt, alloc, subj, clip)?;
+    check_constructors(rt, alloc, subj, clip);
     check_reinits(rt, alloc, subj, clip)?;
     check_adders(rt, alloc, subj, clip)
 }
@@ -189,6 +170,6 @@ fn all_paths_of_a_shape_are_added(rt: HostRuntime) -> Result<(), Fail> {
     let shape = shape_of::<i32>(rt.alloc(), FRAME)?;
     let mut overlay = from_subj(&rt, rt.alloc(), &shape)?;
     let fills = [2, 1, 2, 1, 2, 1, 2, 1, 2, 1, 2, 1];
-    check_fills(&rt, &mut overlay, FillRule::EvenOdd, &fills)?;
+    check_fills(&rt, &mut overlay, FillRule::EvenOdd, &fills);
     Ok(())
 }

@@ -16,13 +16,9 @@ use std::test::Fail;
 
 // Two squares apart from one another.
 fn two_squares(alloc: Global) -> Result<IntShape<i32, Global>, Fail> {
-    let mut shape = Vec::new(alloc);
-    for low in [0, 4] {
-        let mut contour = Vec::new(alloc);
-        contour.extend_from_slice(&square(low, low + 2))?;
-        shape.push(contour)?;
-    }
-    Ok(shape)
+    let left = Vec::from_array(alloc, square(0, 2))?;
+    let right = Vec::from_array(alloc, square(4, 6))?;
+    Ok(Vec::from_array(alloc, [left, right])?)
 }
 
 // How many edges the builder has, once memory is granted.
@@ -31,7 +27,17 @@ fn count_of(memory: &Refusing<Global>, overlay: &mut Refusable<'_>) -> Result<us
     edge_count(overlay, FillRule::NonZero)
 }
 
-// Checks how many edges stand once an adder answered: all of them, or fewer where memory was refused.
+// Checks how many edges stand after an answer: all of them, or fewer where memory was refused.
+fn check_added(rt: &impl Abort, added: Result<(), OverlayError>, count: usize, all: usize) {
+    if added.is_ok() {
+        assert!(rt; count == all);
+    } else {
+        assert!(rt; is_refused(added, OverlayError::Memory));
+        assert!(rt; count < all);
+    }
+}
+
+// How many edges stand once an adder answered, which is checked against all of them.
 fn count_after(
     rt: &impl Abort,
     memory: &Refusing<Global>,
@@ -40,12 +46,7 @@ fn count_after(
     all: usize,
 ) -> Result<usize, OverlayError> {
     let count = count_of(memory, overlay)?;
-    if added.is_ok() {
-        assert!(rt; count == all);
-        return Ok(count);
-    }
-    assert!(rt; is_refused(added, OverlayError::Memory));
-    assert!(rt; count < all);
+    check_added(rt, added, count, all);
     Ok(count)
 }
 
@@ -168,7 +169,7 @@ fn reinit_mends_a_failed_builder(rt: HostRuntime) -> Result<(), Fail> {
     memory.grant(PLENTY);
     check_failed(&rt, &mut overlay, &shape);
     reinit_with_subj(&rt, &mut overlay, &shape)?;
-    assert_eq!(rt; count_of(&memory, &mut overlay)?, 8);
+    assert!(rt; count_of(&memory, &mut overlay) == Ok(8));
     Ok(())
 }
 

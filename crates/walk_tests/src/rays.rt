@@ -89,19 +89,28 @@ fn ends_of_the_range(rt: HostRuntime) {
     check_ends_of_the_range(&rt, (-4611686018427387903i64, 4611686018427387903));
 }
 
+// Checks that the ray meets neither of p and q before the other.
+fn check_at_once<I: IntNumber>(rt: &impl Abort, ray: Ray<I>, p: IntPoint<I>, q: IntPoint<I>)
+    requires node { InRange I.limit (plain_point I.whole ray.node) }
+    requires start { InRange I.limit (plain_point I.whole ray.start) }
+    requires p { InRange I.limit (plain_point I.whole p) }
+    requires q { InRange I.limit (plain_point I.whole q) }
+{
+    assert!(rt; !ray.meets_before(p, q));
+    assert!(rt; !ray.meets_before(q, p));
+}
+
 #[test]
 fn start_comes_last(rt: HostRuntime) {
-    let (node, start) = (IntPoint::new(0i32, 0), IntPoint::new(2, 0));
-    let near = IntPoint::new(1, 0);
-    let before = IntPoint::new(3, -1);
+    let (node, start) = (point(&rt, 0i32, 0), point(&rt, 2, 0));
+    let (before, ahead) = (point(&rt, 3, -1), point(&rt, -5, 0));
+    let near = point(&rt, 1, 0);
     let hand = Hand::Right;
-    let ray = Ray { node, start, hand };
-    assert!(rt; ray.meets_before(before, start) && !ray.meets_before(start, before));
-    assert!(rt; ray.meets_before(before, near) && !ray.meets_before(near, before));
-    assert!(rt; !ray.meets_before(start, near) && !ray.meets_before(near, start));
-    let ahead = IntPoint::new(-5, 0);
-    assert!(rt; ray.meets_before(ahead, start) && !ray.meets_before(start, ahead));
-    assert!(rt; !ray.meets_before(start, start));
+    check_order(&rt, Ray { node, start, hand }, before, start);
+    check_order(&rt, Ray { node, start, hand }, before, near);
+    check_order(&rt, Ray { node, start, hand }, ahead, start);
+    check_at_once(&rt, Ray { node, start, hand }, start, near);
+    check_at_once(&rt, Ray { node, start, hand }, start, start);
 }
 
 // The nearest of some points round (0, 0) from (1, 0): the numbers are -1, 0, 1 and 2.

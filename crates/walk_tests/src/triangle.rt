@@ -91,7 +91,7 @@ fn check_walk<I: IntNumber>(
 {
     let mut steps = open_triangle(alloc, zero, four)?;
     let start = steps.start().expect(rt, "steps are left");
-    assert_eq!(rt; start.edge_data, 3);
+    assert!(rt; start.edge_data == 3);
     let walk = steps.walk(start, hand)?;
     assert!(rt; has_numbers(&walk, &[3, 1, 2]));
     assert!(rt; steps.start().is_none());

@@ -5,16 +5,15 @@ use Rattle.overlay_scan.proofs.LinesFit.{line_fits}
 use Rattle.scan_tests.proofs.levels.Levels.below.Goals as goal
 
 pub first_less-requires : goal.first_less-requires
-first_less-requires g c =
-    (
-      line_fits _ _ g.met.I.IntNumber.small.align_bound g.met.I.IntNumber.small.size_bound,
-      (
-        c.requires.sweep,
-        asked g.I.IntNumber.limit c.args.self.now.reached c.args.x c.args.end c.args.self.now.heights.items
-            (g.S.Scan.content c.args.self.now.scan) c.requires c.check_next.ensures.later c.args.height c.check_next.ensures.free _ _
-            c.small.ensures.value c.level-line.ensures.line c.level-line.ensures.over,
-      ),
-    )
+first_less-requires g c = (
+  line_fits _ _ g.met.I.IntNumber.small.align_bound g.met.I.IntNumber.small.size_bound,
+  (
+    c.requires.sweep,
+    asked g.I.IntNumber.limit c.args.self.now.reached c.args.x c.args.end c.args.self.now.heights.items
+        (g.S.Scan.content c.args.self.now.scan) c.requires c.check_next.ensures.later c.args.height c.check_next.ensures.free _ _
+        c.small.ensures.value c.level-line.ensures.line c.level-line.ensures.over,
+  ),
+)
 
 pub returns : goal.returns
 returns g c =
