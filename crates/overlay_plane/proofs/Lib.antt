@@ -75,6 +75,7 @@ pub mod Nearest
 pub mod NextAnchors
 pub mod NextOfHoles
 pub mod NextSteps
+pub mod NextUnder
 pub mod NextWindings
 pub mod NodeEnds
 pub mod NodeForms
@@ -127,6 +128,7 @@ pub mod Strip
 pub mod Telescopes
 pub mod Tests
 pub mod ThreeTurns
+pub mod TiedStarts
 pub mod Totals
 pub mod TurnOrder
 pub mod Turning
