@@ -77,6 +77,7 @@ pub mod Nearest
 pub mod NextAnchors
 pub mod NextOfHoles
 pub mod NextSteps
+pub mod NextUnder
 pub mod NextWindings
 pub mod NodeEnds
 pub mod NodeForms
@@ -129,6 +130,7 @@ pub mod Strip
 pub mod Telescopes
 pub mod Tests
 pub mod ThreeTurns
+pub mod TiedStarts
 pub mod Totals
 pub mod TurnOrder
 pub mod Turning

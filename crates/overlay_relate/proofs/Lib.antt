@@ -1,5 +1,14 @@
 pub mod Answered
+pub mod Asked
+pub mod ByStart
+pub mod Highest
+pub mod Insides
 pub mod Located
 pub mod OnEdges
+pub mod OnWalls
 pub mod Parities
 pub mod Pushed
+pub mod SortedEdges
+pub mod Swept
+pub mod SweptPoints
+pub mod Told

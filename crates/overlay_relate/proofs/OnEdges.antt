@@ -1,16 +1,15 @@
 -- Where a whole point lies by an edge: on it, or above it.
-use Rattle.std.proofs.Common.{◌≡◌, ◌↔◌, Bool, true, false, not, cond, ◌&&◌, ℤ, pos, ◌*ℤ◌, int_lt, int_le, refl, sym, ap, ◌∙◌, arith}
+use Rattle.std.proofs.Common.{◌≡◌, ◌↔◌, Bool, true, false, not, cond, ℤ, pos, refl, sym, ap, ◌∙◌, arith}
 use Rattle.std.specs.Ordering.{is_lt, is_eq, int_cmp}
 use Rattle.std.specs.declared.cmp.Ordering.TheVariants.{Less, Equal, Greater}
-use Rattle.std.proofs.lemmas.Bool.{false_from_ne_true, both_ways, and_parts, and_from}
+use Rattle.std.proofs.lemmas.Bool.{false_from_ne_true, both_ways}
 use Rattle.std.proofs.lemmas.Int.{ints}
-use Rattle.overlay_geom.specs.Plane.{Point, Edge, point_lt, cross_at, side, in_plane, is_strictly_below, IsOn}
+use Rattle.overlay_geom.specs.Plane.{Point, Edge, point_lt, cross_at, side, in_plane, IsOn}
 use Rattle.overlay_geom.specs.Resolved.{point_cmp}
 use Rattle.overlay_geom.proofs.AlongEdge.{over, place_of, sideE, on_of_order, order_of_on}
 use Rattle.overlay_geom.proofs.Cross.{crossE}
 use Rattle.overlay_geom.proofs.Identities.{solve, number, ◌≗◌}
 use Rattle.overlay_geom.proofs.PointOrder.{IsUpTo, Decides-point_lt, by_order, not_before_up_to}
-use Rattle.overlay_plane.proofs.Tests.{lt_from_test, ge_from_test, le_from_test, test_from_lt, test_from_le}
 
 -- a whole point's side is a cross product
 pub side-whole : (e : Edge) (v : Point) → side e (in_plane v) ≡ cross_at e.a e.b v
@@ -26,10 +25,10 @@ is_lt-point_cmp p q = by (point_lt p q) (point_lt q p)
     by false false = refl
 
 -- where one point is not smaller, the other is up to it
-up_to_where_not_less : (p q : Point) → point_lt q p ≡ false → IsUpTo p q
+pub up_to_where_not_less : (p q : Point) → point_lt q p ≡ false → IsUpTo p q
 up_to_where_not_less p q none = by_order p q (λ up. up) (λ before. absurd (both_ways (point_lt q p) none ((Decides-point_lt q p).1 before)))
 
-not_less_where_up_to : (p q : Point) → IsUpTo p q → point_lt q p ≡ false
+pub not_less_where_up_to : (p q : Point) → IsUpTo p q → point_lt q p ≡ false
 not_less_where_up_to p q up = false_from_ne_true (point_lt q p) (λ less. not_before_up_to q p ((Decides-point_lt q p).0 less) up)
 
 -- over 1 a whole point is itself
@@ -60,33 +59,6 @@ module _ (e : Edge) (v : Point) (forward : point_lt e.a e.b ≡ true) where
 
   pub to_where_on : IsOn e (in_plane v) → point_lt e.b v ≡ false
   to_where_on on = not_less_where_up_to v e.b ((whole_from v e.b).1 (order_of_on e (in_plane v) ((Decides-point_lt e.a e.b).0 forward) on).1)
-
-module _ (e : Edge) (v : Point) where
-  abbrev spans : Bool
-  spans = int_le (e.a.x *ℤ pos 1) v.x && int_lt v.x (e.b.x *ℤ pos 1)
-
-  -- an edge that starts right of the point is not below it
-  pub not_below_left : int_lt v.x e.a.x ≡ true → is_strictly_below e (in_plane v) ≡ false
-  not_below_left left = false_from_ne_true (is_strictly_below e (in_plane v)) (λ below.
-      let from = le_from_test (e.a.x *ℤ pos 1) v.x
-      (and_parts (int_le (e.a.x *ℤ pos 1) v.x) (int_lt v.x (e.b.x *ℤ pos 1)) (and_parts spans (int_lt (pos 0) (side e (in_plane v))) below).0).0 in
-      let less = lt_from_test v.x e.a.x left in omega (arith, ints))
-
-  -- nor is one that ends left of it or above it
-  pub not_below_right : int_lt v.x e.b.x ≡ false → is_strictly_below e (in_plane v) ≡ false
-  not_below_right right = false_from_ne_true (is_strictly_below e (in_plane v)) (λ below.
-      let to = lt_from_test v.x (e.b.x *ℤ pos 1)
-      (and_parts (int_le (e.a.x *ℤ pos 1) v.x) (int_lt v.x (e.b.x *ℤ pos 1)) (and_parts spans (int_lt (pos 0) (side e (in_plane v))) below).0).1 in
-      let more = ge_from_test v.x e.b.x right in omega (arith, ints))
-
-  -- over the point's abscissa its side decides
-  pub below_by_side : int_lt v.x e.a.x ≡ false → int_lt v.x e.b.x ≡ true → int_lt (pos 0) (cross_at e.a e.b v) ≡ is_strictly_below e (in_plane v)
-  below_by_side from to =
-      let start = ge_from_test v.x e.a.x from in
-      let end = lt_from_test v.x e.b.x to in
-      ap (λ s. int_lt (pos 0) s) (sym (side-whole e v))
-      ∙ sym (ap (λ b. b && int_lt (pos 0) (side e (in_plane v))) (and_from (int_le (e.a.x *ℤ pos 1) v.x) (int_lt v.x (e.b.x *ℤ pos 1))
-      (test_from_le (e.a.x *ℤ pos 1) v.x (omega (arith, ints))) (test_from_lt v.x (e.b.x *ℤ pos 1) (omega (arith, ints)))))
 
 -- what is not true is false
 pub false_where_not : (t : Bool) → not t ≡ true → t ≡ false

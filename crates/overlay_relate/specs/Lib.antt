@@ -2,3 +2,6 @@ pub mod Answers
 pub mod Joined
 pub mod Laws
 pub mod Locations
+pub mod Queries
+pub mod Sweeps
+pub mod Walls

@@ -1,19 +1,19 @@
 //! Where points lie in one contour.
 
 ghost use Rattle.std.specs.Prelude.{◌≡◌, ◌++◌, [], ◌∷◌, All, IfOk, OnOk, IsOkUnless};
-ghost use Rattle.overlay_geom.specs.Plane.{in_plane};
 ghost use Rattle.overlay_geom.specs.Points.{plain_point, plain_points, InRange, AllInRange};
 ghost use Rattle.overlay_geom.specs.Resolved.{plain_edges, edges_between, edges_through};
-ghost use Rattle.overlay_geom.specs.Resolved.{edges_of, IsLongEdge};
+ghost use Rattle.overlay_geom.specs.Resolved.{edges_of, IsLongEdge, IsResolved};
 ghost use Rattle.overlay_relate.specs.Answers.{AnswersWhere};
-ghost use Rattle.overlay_relate.specs.Locations.{IsLocatedBy, IsLocatedIn};
+ghost use Rattle.overlay_relate.specs.Locations.{IsLocatedIn};
 
-use crate::edge_tests::{is_below, is_on};
 use crate::location::PointLocation;
+use crate::sweep::locate_by_sweep;
 use overlay_geom::edge::{IntEdge, edge_between};
 use overlay_geom::error::OverlayError;
 use overlay_geom::number::IntNumber;
 use overlay_geom::point::IntPoint;
+use overlay_scan::list::ScanList;
 use std::alloc::Allocator;
 
 /// Where each of the points lies in the contour, in their order. The only refusal is `Memory`.
@@ -23,55 +23,16 @@ pub(crate) fn locate_in_contour<I: IntNumber, A: Allocator + Clone>(
     points: &[IntPoint<I>],
 ) -> Result<Vec<PointLocation, A>, OverlayError>
     requires contour { AllInRange I.limit (plain_points I.whole contour.now) }
+    requires resolved { IsResolved (plain_points I.whole contour.now) }
     requires points { AllInRange I.limit (plain_points I.whole points.now) }
     ensures located { IfOk result (λ v. AnswersWhere (IsLocatedIn (plain_points I.whole contour.now ∷ []))
         (plain_points I.whole points.now) v.items) }
     ensures err { IsOkUnless result OverlayError.Memory }
 {
     let edges = contour_edges(alloc.clone()?, contour)?;
-    let answers = locate_each(alloc, &edges, points)?;
+    let mut scan: ScanList<I, usize, A> = ScanList::default(alloc.clone()?);
+    let answers = locate_by_sweep(alloc, &mut scan, &edges, points)?;
     Ok(answers)
-}
-
-/// Where each of the points lies by the edges, in their order. The only refusal is `Memory`.
-fn locate_each<I: IntNumber, A: Allocator>(
-    alloc: A,
-    edges: &[IntEdge<I>],
-    points: &[IntPoint<I>],
-) -> Result<Vec<PointLocation, A>, OverlayError>
-    requires edges { All (IsLongEdge I.limit) (plain_edges I.whole edges.now) }
-    requires points { AllInRange I.limit (plain_points I.whole points.now) }
-    ensures located { IfOk result (λ v. AnswersWhere (IsLocatedBy (plain_edges I.whole edges.now))
-        (plain_points I.whole points.now) v.items) }
-    ensures err { IsOkUnless result OverlayError.Memory }
-{
-    let mut answers = Vec::with_capacity(alloc, points.len())?;
-    for p in points {
-        answers.push(locate(edges, p))?;
-    }
-    Ok(answers)
-}
-
-/// Where the point lies by the edges: on one, or else inside where an odd number are strictly below.
-fn locate<I: IntNumber>(edges: &[IntEdge<I>], p: &IntPoint<I>) -> PointLocation
-    requires edges { All (IsLongEdge I.limit) (plain_edges I.whole edges.now) }
-    requires point { InRange I.limit (plain_point I.whole p.now) }
-    ensures { IsLocatedBy (plain_edges I.whole edges.now) (in_plane (plain_point I.whole p.now)) result }
-{
-    let mut is_odd = false;
-    for e in edges {
-        if is_on(e, p) {
-            return PointLocation::Boundary;
-        }
-        if is_below(e, p) {
-            is_odd = !is_odd;
-        }
-    }
-    if is_odd {
-        PointLocation::Inside
-    } else {
-        PointLocation::Outside
-    }
 }
 
 /// The edges of a contour's steps, in their order. The only refusal is `Memory`.

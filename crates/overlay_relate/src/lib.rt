@@ -3,8 +3,12 @@
 
 pub mod containment;
 mod contour;
-mod edge_tests;
 mod joined;
 pub mod laws;
 pub mod location;
+mod queries;
 mod shapes;
+mod starts;
+mod sweep;
+mod walls;
+mod wide_edge;

@@ -3,6 +3,7 @@
 ghost use Rattle.std.specs.Prelude.{◌≡◌, All, IfOk, IsOkUnless};
 ghost use Rattle.overlay_geom.specs.Points.{plain_points, AllInRange};
 ghost use Rattle.overlay_geom.specs.Paths.{paths_of_shape, plain_shapes};
+ghost use Rattle.overlay_geom.specs.Resolved.{IsResolved};
 ghost use Rattle.overlay_relate.specs.Answers.{AnswersWhere};
 ghost use Rattle.overlay_relate.specs.Locations.{IsLocatedIn, IsLocatedAmong};
 
@@ -22,6 +23,7 @@ pub(crate) fn locate_in_shape<I: IntNumber, A: Allocator, B: Allocator + Clone>(
     points: &[IntPoint<I>],
 ) -> Result<Vec<PointLocation, B>, OverlayError>
     requires contours { All (AllInRange I.limit) (paths_of_shape I.whole contours.now) }
+    requires resolved { All IsResolved (paths_of_shape I.whole contours.now) }
     requires points { AllInRange I.limit (plain_points I.whole points.now) }
     ensures located { IfOk result (λ v. AnswersWhere (IsLocatedIn (paths_of_shape I.whole contours.now))
         (plain_points I.whole points.now) v.items) }
@@ -42,6 +44,7 @@ pub(crate) fn locate_in_shapes<I: IntNumber, A: Allocator, B: Allocator + Clone>
     points: &[IntPoint<I>],
 ) -> Result<Vec<PointLocation, B>, OverlayError>
     requires shapes { All (All (AllInRange I.limit)) (plain_shapes I.whole shapes.now) }
+    requires resolved { All (All IsResolved) (plain_shapes I.whole shapes.now) }
     requires points { AllInRange I.limit (plain_points I.whole points.now) }
     ensures located { IfOk result (λ v. AnswersWhere (IsLocatedAmong (plain_shapes I.whole shapes.now))
         (plain_points I.whole points.now) v.items) }

@@ -33,7 +33,7 @@ value_of d None = d
 value_of d (Some x) = x
 
 -- the last of several items is one of them, and R leads to it from each other one
-last_is : {X : Type 0} (R : X → X → Type 0) (xs : List X) → AllPairs R xs → (f : X) → last_or None xs ≡ Some f →
+pub last_is : {X : Type 0} (R : X → X → Type 0) (xs : List X) → AllPairs R xs → (f : X) → last_or None xs ≡ Some f →
     Contains xs f × ((g : X) → Contains xs g → (g ≡ f) ⊎ R g f)
 last_is R [] pairs f e = absurd (subst (λ o. IfSome o (λ _. ⊥)) e tt)
 last_is R (x ∷ []) pairs f e =

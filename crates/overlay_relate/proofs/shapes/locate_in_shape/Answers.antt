@@ -3,6 +3,7 @@ use Rattle.std.proofs.Common.{◌≡◌, ◌++◌, ◌∷◌, [], take, length, 
 use Rattle.overlay_geom.specs.Paths.{paths_of_shape}
 use Rattle.overlay_geom.specs.Plane.{Point, in_plane}
 use Rattle.overlay_geom.specs.Points.{plain_points, AllInRange}
+use Rattle.overlay_geom.specs.Resolved.{IsResolved}
 use Rattle.overlay_geom.proofs.Mapped.{All-mapped_at, mapped_more, mapped_whole}
 use Rattle.overlay_relate.specs.Answers.{AnswersEach, AnswersWhere}
 use Rattle.overlay_relate.specs.Joined.{joined_by}
@@ -26,6 +27,13 @@ locate_in_contour-requires-clause-contour g c =
     subst (λ xs. AllInRange g.I.IntNumber.limit (plain_points whole xs)) (sym c.deref.ensures.value)
     (All-mapped_at (AllInRange g.I.IntNumber.limit) (λ x. plain_points g.I.IntNumber.whole x.items) c.args.contours.now c.loop-contour.contour-index c.contour-item.result
     c.loop-contour-test.true c.contour-item.is c.requires.contours)
+
+pub locate_in_contour-requires-clause-resolved : goal.locate_in_contour-requires-clause-resolved
+locate_in_contour-requires-clause-resolved g c =
+    let whole = g.I.IntNumber.whole in
+    subst (λ xs. IsResolved (plain_points whole xs)) (sym c.deref.ensures.value)
+    (All-mapped_at IsResolved (λ x. plain_points g.I.IntNumber.whole x.items) c.args.contours.now c.loop-contour.contour-index c.contour-item.result
+    c.loop-contour-test.true c.contour-item.is c.requires.resolved)
 
 pub join_all-requires : goal.join_all-requires
 join_all-requires g c =

@@ -3,6 +3,7 @@ use Rattle.std.proofs.Common.{◌≡◌, ◌++◌, ◌∷◌, [], All, take, len
 use Rattle.overlay_geom.specs.Paths.{paths_of_shape, plain_shapes}
 use Rattle.overlay_geom.specs.Plane.{Point, in_plane}
 use Rattle.overlay_geom.specs.Points.{plain_points, AllInRange}
+use Rattle.overlay_geom.specs.Resolved.{IsResolved}
 use Rattle.overlay_geom.proofs.Mapped.{All-mapped_at, mapped_more, mapped_whole}
 use Rattle.overlay_relate.specs.Answers.{AnswersEach, AnswersWhere}
 use Rattle.overlay_relate.specs.Joined.{joined_by}
@@ -26,6 +27,13 @@ locate_in_shape-requires-clause-contours g c =
     subst (λ xs. All (AllInRange g.I.IntNumber.limit) (paths_of_shape whole xs)) (sym c.deref.ensures.value)
     (All-mapped_at (All (AllInRange g.I.IntNumber.limit)) (λ x. paths_of_shape whole x.items) c.args.shapes.now c.loop-shape.shape-index c.shape-item.result
     c.loop-shape-test.true c.shape-item.is c.requires.shapes)
+
+pub locate_in_shape-requires-clause-resolved : goal.locate_in_shape-requires-clause-resolved
+locate_in_shape-requires-clause-resolved g c =
+    let whole = g.I.IntNumber.whole in
+    subst (λ xs. All IsResolved (paths_of_shape whole xs)) (sym c.deref.ensures.value)
+    (All-mapped_at (All IsResolved) (λ x. paths_of_shape whole x.items) c.args.shapes.now c.loop-shape.shape-index c.shape-item.result
+    c.loop-shape-test.true c.shape-item.is c.requires.resolved)
 
 pub join_all-requires : goal.join_all-requires
 join_all-requires g c =

@@ -3,6 +3,7 @@ use Rattle.std.proofs.Common.{◌∷◌, [], All, sym, subst}
 use Rattle.std.proofs.lemmas.List.Elements.{All-head}
 use Rattle.overlay_geom.specs.Plane.{Point, in_plane}
 use Rattle.overlay_geom.specs.Points.{plain_points, AllInRange}
+use Rattle.overlay_geom.specs.Resolved.{IsResolved}
 use Rattle.overlay_relate.specs.Answers.{AnswersWhere}
 use Rattle.overlay_relate.specs.Locations.{IsLocatedIn, IsLocatedAmong}
 use Rattle.overlay_relate.specs.declared.location.PointLocation.{PointLocation}
@@ -16,6 +17,13 @@ locate_in_contour-requires-clause-contour g c =
     let P = AllInRange g.I.IntNumber.limit in
     subst (λ xs. P (plain_points whole xs)) (sym c.deref.ensures.value) (All-head P (plain_points whole c.args.self.now.items) []
     (All-head (All P) (plain_points whole c.args.self.now.items ∷ []) [] c.requires.self_in_range))
+
+pub locate_in_contour-requires-clause-resolved : goal.locate_in_contour-requires-clause-resolved
+locate_in_contour-requires-clause-resolved g c =
+    let whole = g.I.IntNumber.whole in
+    let P = IsResolved in
+    subst (λ xs. P (plain_points whole xs)) (sym c.deref.ensures.value) (All-head P (plain_points whole c.args.self.now.items) []
+    (All-head (All P) (plain_points whole c.args.self.now.items ∷ []) [] c.requires.resolved))
 
 pub returns-clause-located : goal.returns-clause-located
 returns-clause-located g c =

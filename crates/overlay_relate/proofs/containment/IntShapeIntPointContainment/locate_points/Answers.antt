@@ -4,6 +4,7 @@ use Rattle.std.proofs.lemmas.List.Elements.{All-head}
 use Rattle.overlay_geom.specs.Paths.{paths_of_shape}
 use Rattle.overlay_geom.specs.Plane.{Point, in_plane}
 use Rattle.overlay_geom.specs.Points.{plain_points, AllInRange}
+use Rattle.overlay_geom.specs.Resolved.{IsResolved}
 use Rattle.overlay_relate.specs.Answers.{AnswersWhere}
 use Rattle.overlay_relate.specs.Locations.{IsLocatedIn, IsLocatedAmong}
 use Rattle.overlay_relate.specs.declared.location.PointLocation.{PointLocation}
@@ -16,6 +17,12 @@ locate_in_shape-requires-clause-contours g c =
     let whole = g.I.IntNumber.whole in
     let P = All (AllInRange g.I.IntNumber.limit) in
     subst (λ xs. P (paths_of_shape whole xs)) (sym c.deref.ensures.value) (All-head P (paths_of_shape whole c.args.self.now.items) [] c.requires.self_in_range)
+
+pub locate_in_shape-requires-clause-resolved : goal.locate_in_shape-requires-clause-resolved
+locate_in_shape-requires-clause-resolved g c =
+    let whole = g.I.IntNumber.whole in
+    let P = All IsResolved in
+    subst (λ xs. P (paths_of_shape whole xs)) (sym c.deref.ensures.value) (All-head P (paths_of_shape whole c.args.self.now.items) [] c.requires.resolved)
 
 pub returns-clause-located : goal.returns-clause-located
 returns-clause-located g c =
