@@ -5,6 +5,8 @@ use overlay_arrange::content::Content;
 use overlay_arrange::count::ShapeCountBoolean;
 use overlay_arrange::edge::CountedEdge;
 use overlay_arrange::options::ShapeType;
+use overlay_builder::boolean::passing;
+use overlay_builder::path::{PathKind, add_path};
 use overlay_geom::error::OverlayError;
 use overlay_geom::number::IntNumber;
 use overlay_geom::point::{IntPoint, in_range};
@@ -20,7 +22,7 @@ fn with_subject<I: IntNumber>(
 ) -> Result<Held<I>, OverlayError> {
     let mut content = Content::with_capacity(alloc, 0)?;
     assert!(rt; in_range(contour));
-    content.push_contour(contour, ShapeType::Subject)?;
+    add_path(&mut content, contour, PathKind::Closed, passing(ShapeType::Subject))?;
     Ok(content)
 }
 

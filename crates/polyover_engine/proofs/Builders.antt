@@ -2,15 +2,18 @@
 use Rattle.std.proofs.Common.{◌≡◌, ℕ, ◌+◌, ◌^◌, ◌<◌, true, false, List, [], ◌∷◌, ◌++◌, length, get_or, take, drop}
 use Rattle.std.proofs.Common.{take-append-drop, refl, sym, ap, subst, ◌∙◌, lit<, arith}
 use Rattle.std.proofs.lemmas.Bool.{false≢true}
-use Rattle.std.proofs.lemmas.List.{length-map, get_or-map, take_more, drop_more}
+use Rattle.std.proofs.lemmas.List.{length-map, get_or-map, map-append, take_more, drop_more}
 use Rattle.overlay_geom.specs.Edges.{AddsContour, weight}
 use Rattle.overlay_geom.specs.declared.error.OverlayError.{OverlayError}
 use Rattle.overlay_geom.specs.declared.error.OverlayError.TheVariants.{Memory, NotSettled, TooManyEdges, Failed}
 use Rattle.overlay_arrange.specs.Content.{edge_for}
 use Rattle.i_overlay.specs.Adding.{MayRefuseBuilder}
 use Rattle.i_overlay.specs.Builder.{Builder, IsNewBuilder, WouldWeighTooMuch}
-use Rattle.i_overlay.specs.Paths.{GivenPath, AddsPaths, HoldsPaths, no_path}
-use Rattle.i_overlay.proofs.PathLists.{adds_last}
+use Rattle.i_overlay.specs.Paths.{GivenPath, HoldsPaths, added_path, added_paths}
+use Rattle.i_overlay.proofs.AddedContours.{of_contour}
+use Rattle.overlay_builder.specs.PathLists.{AddsPaths}
+use Rattle.overlay_builder.specs.PathLists.AddsPaths.{no_path}
+use Rattle.overlay_builder.proofs.PathLists.{adds_last}
 use Rattle.polyover_text.specs.declared.figures.NumberedContour.{NumberedContour}
 use Rattle.polyover_text.specs.Grammar.{contour_paths}
 use Rattle.polyover_text.specs.Statements.{path_at, contour_at, contours_at}
@@ -42,13 +45,19 @@ module _ (cs : List GivenPath) (k : ℕ) (c : GivenPath) (old : Builder ℕ) (h 
       → weight new.edges < 2 ^ 31 → new ≡ record old { edges = new.edges } → HasAdded (take (k + 1) cs) new
   one_more_added new adds light kept = record {
     holds = record {
-      added = subst (λ l. AddsPaths false l [] new.edges) (ap (λ x. take k cs ++ x ∷ []) here ∙ sym (take_more cs k c within))
-          (adds_last false (take k cs) c [] old.edges new.edges h.holds.added
-          (subst (λ keep. AddsContour keep (edge_for c.shape_type) c.points old.edges new.edges) h.made.options.input_kept adds));
+      added = subst (λ l. AddsPaths (added_paths false l) [] new.edges) (ap (λ x. take k cs ++ x ∷ []) here ∙ sym (take_more cs k c within))
+          (subst (λ l. AddsPaths l [] new.edges) (sym (map-append (added_path false) (take k cs) (c ∷ [])))
+          (adds_last (added_paths false (take k cs)) (added_path false c) [] old.edges new.edges h.holds.added
+          (of_contour false (edge_for c.shape_type) c.points old.edges new.edges
+          (subst (λ keep. AddsContour keep (edge_for c.shape_type) c.points old.edges new.edges) h.made.options.input_kept adds))));
       light = light;
     };
     made = subst (IsNewBuilder (λ n. n)) (sym kept) (record { ready = h.made.ready; options = h.made.options; buffer = h.made.buffer });
   }
+
+  -- the contours before it, it, and those after it
+  parted : cs ≡ take k cs ++ c ∷ drop (k + 1) cs
+  parted = sym (take-append-drop k cs) ∙ ap (λ l. take k cs ++ l) (drop_more cs k c within ∙ ap (λ x. x ∷ drop (k + 1) cs) (sym here))
 
   -- a refusal of the next contour
   pub contour_refused : (e : OverlayError) → (e ≡ Failed → old.failed ≡ true)
@@ -59,11 +68,11 @@ module _ (cs : List GivenPath) (k : ℕ) (c : GivenPath) (old : Builder ℕ) (h 
   contour_refused TooManyEdges failed heavy unsettled = (
     old.edges,
     record {
-      path = c;
+      path = added_path false c;
       added = record {
-        before = take k cs;
-        after = drop (k + 1) cs;
-        parts = sym (take-append-drop k cs) ∙ ap (λ l. take k cs ++ l) (drop_more cs k c within ∙ ap (λ x. x ∷ drop (k + 1) cs) (sym here));
+        before = added_paths false (take k cs);
+        after = added_paths false (drop (k + 1) cs);
+        parts = ap (added_paths false) parted ∙ map-append (added_path false) (take k cs) (c ∷ drop (k + 1) cs);
         added = h.holds.added;
       };
       refused = subst (λ keep. WouldWeighTooMuch keep c.shape_type c.points old.edges) h.made.options.input_kept (heavy refl);

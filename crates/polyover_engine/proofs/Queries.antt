@@ -7,12 +7,12 @@ use Rattle.overlay_geom.specs.Plane.{Point}
 use Rattle.overlay_arrange.specs.Arranged.{IsArranged}
 use Rattle.overlay_arrange.specs.Vectors.{Vector, vector_of}
 use Rattle.overlay_arrange.specs.declared.fill_rule.FillRule.{FillRule}
-use Rattle.i_overlay.specs.Builder.{Builder}
+use Rattle.overlay_builder.specs.Held.{AnswersQuery}
+use Rattle.i_overlay.specs.Builder.{Builder, held_by}
 use Rattle.i_overlay.specs.Overlay.{IsResult}
 use Rattle.i_overlay.specs.Adding.{MayRefuseBuilder}
 use Rattle.i_overlay.specs.OneShot.{IsResultOfPaths, MayRefusePaths}
 use Rattle.i_overlay.specs.Paths.{GivenPath, HoldsPaths}
-use Rattle.i_overlay.specs.Refusals.{RefusesAsQuery}
 use Rattle.i_overlay.proofs.OneShots.{query_refused, result_of_paths}
 use Rattle.polyover_text.specs.declared.query.OverlayQuery.{OverlayQuery}
 use Rattle.polyover_text.specs.declared.query.Query.{Query}
@@ -22,23 +22,24 @@ use Rattle.polyover_text.specs.Grammar.{GivenFigures, Asks, input_lines}
 
 module _ (cs : List GivenPath) (b : Builder ℕ) (h : HasAdded cs b) where
   -- what a query for the edges answers
-  pub edges_answered : {V : Type 0} (vectors : V → List Vector) (fill : FillRule) (new : Builder ℕ) (answer : Result V OverlayError)
-      → OnOk answer (IsArranged 64 b.edges new.edges) → IfOk answer (λ v. vectors v ≡ map (vector_of fill new.edges) new.edges) → RefusesAsQuery b new answer
+  pub edges_answered : {V : Type 0} (limit : ℕ) (vectors : V → List Vector) (fill : FillRule) (new : Builder ℕ) (answer : Result V OverlayError)
+      → AnswersQuery limit 64 (held_by b) (held_by new) answer → IfOk answer (λ v. vectors v ≡ map (vector_of fill new.edges) new.edges)
       → MatchResult answer (λ v. AreEdges cs fill (vectors v)) (λ e. MayRefusePaths cs e)
-  edges_answered vectors fill new (Ok v) arranged listed refused =
-      record { content = b.edges; edges = new.edges; holds = h.holds; arranged = arranged; listed = listed }
-  edges_answered vectors fill new (Err e) arranged listed refused = query_refused cs b new (Err e) h.holds h.made.ready refused
+  edges_answered limit vectors fill new (Ok v) query listed =
+      record { content = b.edges; edges = new.edges; holds = h.holds; arranged = query.arranged; listed = listed }
+  edges_answered limit vectors fill new (Err e) query listed =
+      query_refused limit cs (held_by b) (held_by new) (Err e) h.holds h.made.ready query
 
   -- what an overlay answers, whatever the settings are that it turns
-  pub shapes_answered : {V : Type 0} (shapes : V → List (List (List Point))) (query : OverlayQuery) (old new : Builder ℕ) (answer : Result V OverlayError)
-      → RefusesAsQuery old new answer → old.edges ≡ b.edges → old.failed ≡ b.failed
-      → OnOk answer (IsArranged 64 old.edges new.edges) → IfOk answer (λ v. IsResult (asked_by query) new.edges (shapes v))
+  pub shapes_answered : {V : Type 0} (limit : ℕ) (shapes : V → List (List (List Point))) (query : OverlayQuery) (old new : Builder ℕ)
+      (answer : Result V OverlayError) → AnswersQuery limit 64 (held_by old) (held_by new) answer → old.edges ≡ b.edges → old.failed ≡ b.failed
+      → IfOk answer (λ v. IsResult (asked_by query) new.edges (shapes v))
       → MatchResult answer (λ v. IsResultOfPaths (asked_by query) cs (shapes v)) (λ e. MayRefusePaths cs e)
-  shapes_answered shapes query old new (Ok v) refused content failed arranged result =
+  shapes_answered limit shapes query old new (Ok v) answers content failed result =
       result_of_paths {E = OverlayError} (Ok v) shapes (asked_by query) cs old.edges new.edges
-      (subst (HoldsPaths false cs) (sym content) h.holds) arranged result
-  shapes_answered shapes query old new (Err e) refused content failed arranged result =
-      query_refused cs old new (Err e) (subst (HoldsPaths false cs) (sym content) h.holds) (failed ∙ h.made.ready) refused
+      (subst (HoldsPaths false cs) (sym content) h.holds) answers.arranged result
+  shapes_answered limit shapes query old new (Err e) answers content failed result =
+      query_refused limit cs (held_by old) (held_by new) (Err e) (subst (HoldsPaths false cs) (sym content) h.holds) (failed ∙ h.made.ready) answers
 
 -- where the contours can't be added, there is no answer
 pub adding_refused : (cs : List GivenPath) (e : OverlayError) → MayRefuseBuilder false cs e → MayRefusePaths cs e
