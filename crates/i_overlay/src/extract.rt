@@ -47,7 +47,8 @@ pub(crate) fn extract_shapes<I: IntNumber, A: Allocator + Clone>(
     requires ascending { IsAscending (edges_in content.now) }
     requires settled { IsSettled (edges_in content.now) }
     requires balanced { HasBalancedCounts (edges_in content.now) }
-    ensures result { IfOk result (λ v. IsResult (asked fill_rule overlay_rule options) (edges_in content.now) (plain_shapes I.whole v.items)) }
+    ensures result { IfOk result (λ v. IsResult (asked fill_rule overlay_rule options)
+        (edges_in content.now) (plain_shapes I.whole v.items)) }
     ensures buffer { OnOk result (buffer.new ≢ None) }
     ensures err { IsOkUnless result OverlayError.Memory }
 {
@@ -71,8 +72,8 @@ fn selected_walks<I: IntNumber, A: Allocator + Clone>(
     requires ascending { IsAscending (edges_in content.now) }
     requires settled { IsSettled (edges_in content.now) }
     requires balanced { HasBalancedCounts (edges_in content.now) }
-    ensures cut { IfOk result (λ ws. AreCutFrom (rules_hold fill_rule overlay_rule) subj_of clip_of (edges_in content.now)
-        (is_on_left direction) (plain_walks I.whole ws.items)) }
+    ensures cut { IfOk result (λ ws. AreCutFrom (rules_hold fill_rule overlay_rule) subj_of clip_of
+        (edges_in content.now) (is_on_left direction) (plain_walks I.whole ws.items)) }
     ensures long { IfOk result (λ ws. All (All (IsLong I.limit)) (plain_walks I.whole ws.items)) }
     ensures buffer { OnOk result (buffer.new ≢ None) }
     ensures err { IsOkUnless result OverlayError.Memory }
@@ -99,8 +100,8 @@ fn open_selected<I: IntNumber, A: Allocator + Clone>(
     mut steps: Vec<Step<I, ()>, A>,
 ) -> Result<OpenSteps<I, (), A>, OverlayError>
     requires { steps.items ≡ [] }
-    ensures selected { IfOk result (λ o. IsPermutation (selected_steps (rules_hold fill_rule overlay_rule) subj_of clip_of
-        (is_on_left direction) (edges_in content.now)) (plain_steps I.whole o)) }
+    ensures selected { IfOk result (λ o. IsPermutation (selected_steps (rules_hold fill_rule overlay_rule)
+        subj_of clip_of (is_on_left direction) (edges_in content.now)) (plain_steps I.whole o)) }
     ensures err { IsOkUnless result OverlayError.Memory }
 {
     // (its contract says that the edges are in range)

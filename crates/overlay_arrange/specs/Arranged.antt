@@ -31,13 +31,16 @@ pub record IsArranged (most : ℕ) (old new : List CountedEdge) : Type 0 where
   -- what was arranged before stays as it is
   pub stays : WasArranged old → new ≡ old
 
--- the second list is reached from the first one with so many cutting rounds at most, and what its edges carry is derived along these rounds
-pub record IsSplitCarrying {C : Type 0} (merges : C → C → C → Type 0) (splits turns : C → C → Type 0) (most : ℕ) (old new : List (Carried C)) : Type 0 where
+-- the second list is reached from the first one with so many cutting rounds at most, and what its edges carry is derived
+-- along these rounds
+pub record IsSplitCarrying {C : Type 0} (merges : C → C → C → Type 0) (splits turns : C → C → Type 0) (most : ℕ)
+    (old new : List (Carried C)) : Type 0 where
   pub split : IsSplit most (edges_in old) (edges_in new)
   pub derived : AreDerived merges splits turns split.rounds old new
 
--- the second list is an arrangement of the first one, and what its edges carry is derived along the rounds that led to it
-pub record IsArrangedCarrying {C : Type 0} (merges : C → C → C → Type 0) (splits turns : C → C → Type 0) (most : ℕ) (old new : List (Carried C)) : Type 0 where
+-- the second list is an arrangement of the first one, and what its edges carry is derived along the rounds that led there
+pub record IsArrangedCarrying {C : Type 0} (merges : C → C → C → Type 0) (splits turns : C → C → Type 0) (most : ℕ)
+    (old new : List (Carried C)) : Type 0 where
   pub arranged : IsArranged most (edges_in old) (edges_in new)
   pub derived : AreDerived merges splits turns arranged.rounds old new
 

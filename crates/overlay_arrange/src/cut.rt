@@ -37,7 +37,8 @@ impl<I: IntNumber, C: EdgeCount, A: Allocator> Content<I, C, A> {
         A: Clone,
         requires { IsAscending (edges_in self.old) }
         ensures ok { OnOk result (edges_in self.new ≡ cut_edges (edges_in self.old)) }
-        ensures carried { OnOk result (AreCutAlong C.splits C.turns (computed_chain (edges_in self.old)) self.old self.new) }
+        ensures carried { OnOk result (AreCutAlong C.splits C.turns
+            (computed_chain (edges_in self.old)) self.old self.new) }
         ensures too_many { IsErrOf result OverlayError.TooManyEdges → 2 ^ 31 ≤ weight (cut_edges (edges_in self.old)) }
         ensures only { IfErr result (λ e. (e ≡ OverlayError.Memory) ⊎ (e ≡ OverlayError.TooManyEdges)) }
     {
@@ -114,7 +115,8 @@ fn push_piece<I: IntNumber, C: EdgeCount, A: Allocator>(
     requires light { weight_of_counts (C.counts e.now.count) < 2 ^ 31 }
     requires from { InRange I.limit (plain_point I.whole from) }
     requires to { InRange I.limit (plain_point I.whole to) }
-    ensures ok { OnOk result (edges_in pieces.new ≡ edges_in pieces.old ++ map (piece_along (plain_edge I.whole C.counts e.now))
+    ensures ok { OnOk result (edges_in pieces.new
+        ≡ edges_in pieces.old ++ map (piece_along (plain_edge I.whole C.counts e.now))
         (steps_between (plain_point I.whole from) (plain_point I.whole to))) }
     ensures carried { OnOk result (AddsGiven
         (GivesPiece C.splits C.turns (IsTrue is_whole) (carried_edge I.whole C.counts e.now))

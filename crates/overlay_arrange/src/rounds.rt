@@ -34,7 +34,8 @@ impl<I: IntNumber, C: EdgeCount, A: Allocator + Clone> Content<I, C, A> {
     pub fn arrange(&mut self, store: &mut C::Store) -> Result<bool, OverlayError>
         ensures arranged { OnOk result (IsArranged 64 (edges_in self.old) (edges_in self.new)) }
         ensures carried { OnOk result (IsArrangedCarrying C.merges C.splits C.turns 64 self.old self.new) }
-        ensures cut { IfOk result (λ is_cut. (is_cut ≡ false) ↔ IsReachedBy [] (edges_in self.old) (edges_in self.new)) }
+        ensures cut { IfOk result (λ is_cut. (is_cut ≡ false)
+            ↔ IsReachedBy [] (edges_in self.old) (edges_in self.new)) }
         ensures err { IfErr result (MayRefuseSplitting 64 (edges_in self.old)) }
     {
         // (its contract says that the edges are in range, and weigh less than 2^31)
@@ -47,9 +48,11 @@ impl<I: IntNumber, C: EdgeCount, A: Allocator + Clone> Content<I, C, A> {
     pub fn split(&mut self, rounds: u32, store: &mut C::Store) -> Result<bool, OverlayError>
         ensures split { OnOk result (IsSplit rounds (edges_in self.old) (edges_in self.new)) }
         ensures carried { OnOk result (IsSplitCarrying C.merges C.splits C.turns rounds self.old self.new) }
-        ensures cut { IfOk result (λ is_cut. (is_cut ≡ false) ↔ IsReachedBy [] (edges_in self.old) (edges_in self.new)) }
+        ensures cut { IfOk result (λ is_cut. (is_cut ≡ false)
+            ↔ IsReachedBy [] (edges_in self.old) (edges_in self.new)) }
         ensures not_settled { IsErrOf result OverlayError.NotSettled → StaysUnsettled rounds (edges_in self.old) }
-        ensures too_many { IsErrOf result OverlayError.TooManyEdges → WeighsTooMuch rounds (2 ^ 31) (edges_in self.old) }
+        ensures too_many { IsErrOf result OverlayError.TooManyEdges
+            → WeighsTooMuch rounds (2 ^ 31) (edges_in self.old) }
         ensures usable { result ≢ Err OverlayError.Failed }
     {
         self.merge(store)?;
