@@ -5,6 +5,9 @@ use Rattle.overlay_geom.specs.Merged.{HaveSameWindings}
 use Rattle.overlay_geom.specs.Paths.{paths_of_shape}
 use Rattle.overlay_plane.specs.Carried.{edges_in}
 use Rattle.overlay_plane.specs.Meetings.{MeetInWholePoints}
+use Rattle.overlay_builder.specs.Held.{AnswersQuery, plain_held}
+use Rattle.overlay_builder.proofs.Queries.{answers_after}
+use Rattle.i_overlay.specs.Builder.{held_by}
 use Rattle.i_overlay.proofs.NoShapes.{no_shapes_held}
 use Rattle.i_overlay.proofs.overlay.Overlay.overlay.Goals as goal
 
@@ -26,3 +29,14 @@ returns-clause-exact g c = λ whole.
     (subst (λ b. HaveSameWindings b.edges (edges_in c.arrange.new.self.edges)) c.self.view_is
     (c.in_ok-arrange.ensures.query.arranged.exact (subst (λ b. MeetInWholePoints b.edges) (sym c.self.view_is) whole)).windings))
     e.buffer
+
+pub returns-clause-query : goal.returns-clause-query
+returns-clause-query g c =
+    let limit = g.I.IntNumber.limit in
+    let new = plain_held c.set_failed.new.self in
+    let same : edges_in c.set_failed.new.self.edges ≡ edges_in c.arrange.new.self.edges =
+        ap (λ h. edges_in h.edges) c.set_failed.ensures ∙ ap (λ b. b.edges) c.self-2.view_is ∙ ap (λ b. b.edges) c.extract-shapes.ensures.kept in
+    subst (λ b. AnswersQuery limit 64 (held_by b) new c.extract-shapes.result) c.self.view_is
+    (answers_after limit 64 (plain_held c.self.inside.core) (plain_held c.arrange.new.self) new c.in_ok-arrange.field-0
+    c.in_ok-arrange.ensures.query c.extract-shapes.result same
+    (ap (λ h. h.failed) c.set_failed.ensures ∙ c.is_err.ensures.value) c.extract-shapes.ensures.err)
