@@ -19,6 +19,8 @@ mod one_call;
 mod overlays;
 #[cfg(test)]
 mod paths;
+#[cfg(test)]
+mod reexports;
 pub mod refusing;
 #[cfg(test)]
 mod rows;

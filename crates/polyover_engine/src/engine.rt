@@ -42,7 +42,7 @@ fn run_noted<A: Allocator + Clone, Rd: Read, Wr: Write>(
 {
     match answer(&alloc, reader) {
         Ok(text) => write_all(writer, text.as_bytes()),
-        Err(_) => Exit::Io,
+        Err(exit) => exit,
     }
 }
 

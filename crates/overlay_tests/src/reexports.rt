@@ -1,0 +1,106 @@
+//! Each constant and type that `i_overlay` passes on from the crates below, once by its path.
+
+use i_overlay::edge_data::{EdgeDataMerge, OverlayEdgeData};
+use i_overlay::error::OverlayError;
+use i_overlay::fill_rule::FillRule;
+use i_overlay::i_float::int::number::int::IntNumber;
+use i_overlay::i_float::int::number::uint::UIntNumber;
+use i_overlay::i_float::int::point::IntPoint;
+use i_overlay::i_float::int::vector::IntVector;
+use i_overlay::integer::{OverlayInt, in_range};
+use i_overlay::overlay::{ContourDirection, IntOverlayOptions, ShapeType};
+use i_overlay::overlay_rule::OverlayRule;
+use i_overlay::segm::boolean::ShapeCountBoolean;
+use i_overlay::segm::string::ShapeCountString;
+use i_overlay::solver::Solver;
+use i_overlay::vector::edge::{
+    CLIP_LEFT, CLIP_RIGHT, DataVectorEdge, SUBJ_LEFT, SUBJ_RIGHT, SideFill,
+};
+
+// The bits of the sides: above a step from left to right is its left side.
+#[test]
+fn bits_of_the_sides(rt: HostRuntime) {
+    let bits: [SideFill; 4] = [SUBJ_LEFT, SUBJ_RIGHT, CLIP_LEFT, CLIP_RIGHT];
+    assert_eq!(&rt; bits, [1, 2, 4, 8]);
+    let edge: DataVectorEdge<i32, ()> = DataVectorEdge {
+        a: IntPoint::new(0, 0),
+        b: IntPoint::new(1, 0),
+        fill: SUBJ_RIGHT | CLIP_LEFT,
+        edge_data: (),
+    };
+    assert_eq!(&rt; edge.fill, 6);
+}
+
+// The first of two coordinates, of any type of the trait's.
+fn lesser<I: IntNumber>(x: I, y: I) -> I {
+    if y.compare(x).is_lt() { y } else { x }
+}
+
+// Unmarked, as a number of any type of the trait's.
+fn nothing<U: UIntNumber>() -> U {
+    U::zero()
+}
+
+// Whether the point is in the coordinate range of its type.
+fn is_usable<I: OverlayInt>(point: IntPoint<I>) -> bool {
+    in_range(&[point])
+}
+
+#[test]
+fn traits_of_numbers(rt: HostRuntime) {
+    assert_eq!(&rt; lesser(5i32, -3i32), -3);
+    assert_eq!(&rt; lesser(5i64, 7i64), 5);
+    assert_eq!(&rt; nothing::<u32>(), 0);
+    assert_eq!(&rt; nothing::<u128>(), 0);
+    assert!(&rt; is_usable(IntPoint::new(16383i16, 0)));
+    assert!(&rt; !is_usable(IntPoint::new(16384i16, 0)));
+    let cross = IntVector::new(2i32, 3).cross_product(IntVector::new(5, 7));
+    assert_eq!(&rt; cross, -1);
+}
+
+#[test]
+fn rules_and_options(rt: HostRuntime) {
+    let rules = [
+        FillRule::EvenOdd,
+        FillRule::NonZero,
+        FillRule::Positive,
+        FillRule::Negative,
+    ];
+    assert!(&rt; rules[1] == FillRule::NonZero);
+    assert!(&rt; OverlayRule::Difference != OverlayRule::InverseDifference);
+    assert!(&rt; ShapeType::Subject != ShapeType::Clip);
+    let options: IntOverlayOptions<u64> = IntOverlayOptions::default();
+    assert!(&rt; options.output_direction == ContourDirection::CounterClockwise);
+    assert!(&rt; options.min_output_area == 0);
+    assert!(&rt; Solver::ABSOLUTE == Solver::default());
+    assert!(&rt; OverlayError::Memory != OverlayError::Failed);
+}
+
+// Data that says nothing.
+#[derive(Debug, Clone, Copy, PartialEq, Eq)]
+struct Unmarked;
+
+// The counts of the left side of a merge.
+fn left_count<D: Drop>(merge: EdgeDataMerge<ShapeCountBoolean, D>) -> ShapeCountBoolean {
+    merge.lhs_count
+}
+
+// Whether the data stays as it is where its edge is split.
+fn stays<D: OverlayEdgeData>(edge_data: D, store: &mut D::Store) -> bool {
+    edge_data.split(store) == edge_data
+}
+
+#[test]
+fn counts_and_data(rt: HostRuntime) {
+    let count = ShapeCountBoolean { subj: 1, clip: -2 };
+    let merge = EdgeDataMerge {
+        lhs_count: count,
+        rhs_count: ShapeCountBoolean { subj: 0, clip: 0 },
+        lhs_data: Unmarked,
+        rhs_data: Unmarked,
+    };
+    assert!(&rt; left_count(merge) == count);
+    assert!(&rt; stays((), &mut ()));
+    let string = ShapeCountString { subj: 1, clip: 2 };
+    assert!(&rt; string.subj == 1 && string.clip == 2);
+}
