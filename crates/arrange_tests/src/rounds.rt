@@ -15,7 +15,7 @@ use std::process::Abort;
 use std::test::Fail;
 
 // A content with the steps of a subject.
-fn with_subject<I: IntNumber>(
+pub(crate) fn with_subject<I: IntNumber>(
     rt: &impl Abort,
     alloc: Global,
     contour: &[IntPoint<I>],

@@ -1,16 +1,19 @@
 -- It is inside above the next edge where it is not inside above the highest live edge under it.
-use Rattle.std.proofs.Common.{◌≡◌, ⊎_elim, inl, inr, ℕ, ◌<◌, Bool, true, false, not, ℤ, pos, ◌<ℤ◌, List, [], ◌∷◌, ◌++◌, length, take, get_or, Contains, Option, None, Some, refl, sym, ap, ◌∙◌, subst, arith}
+use Rattle.std.proofs.Common.{◌≡◌, ⊎_elim, inl, inr, ℕ, ◌<◌, Bool, true, false, not, ◌&&◌, ℤ, pos, ◌<ℤ◌, List, [], ◌∷◌, ◌++◌, length, take, get_or, Contains, Option, None, Some, refl, sym, ap, ◌∙◌, subst, arith}
 use Rattle.std.specs.List.{last_or, filter}
 use Rattle.std.specs.Option.{MatchOption}
 use Rattle.std.proofs.lemmas.Bool.{false_from_ne_true}
 use Rattle.std.proofs.lemmas.Int.{ints}
 use Rattle.std.proofs.lemmas.List.{get_or_past, get_or-take, length_push, take_more}
 use Rattle.std.proofs.lemmas.List.Elements.{All-contains}
-use Rattle.overlay_geom.specs.Plane.{Edge, point_lt}
+use Rattle.overlay_geom.specs.Plane.{Edge, edge_eq, point_lt}
+use Rattle.overlay_geom.specs.Settled.{MeetInEnds}
+use Rattle.overlay_plane.specs.Anchors.{is_below_anchor}
 use Rattle.overlay_plane.specs.Heights.{covers, is_under}
+use Rattle.overlay_plane.proofs.BelowAnchors.{below_an_anchor_is_under}
 use Rattle.overlay_plane.proofs.Entries.{Contains-filter}
 use Rattle.overlay_plane.proofs.Under.{covers_from, covers_to}
-use Rattle.overlay_scan.specs.Laws.{IsGreatestUnder}
+use Rattle.overlay_scan.specs.Laws.{IsGreatestBelow}
 use Rattle.overlay_scan.specs.Scan.{Entry, Sweep, live_at, IsOver, AreLive, entry_below, value_or, value_below}
 use Rattle.overlay_scan.proofs.LastEntries.{look_up_gives_the_greatest}
 use Rattle.overlay_relate.specs.Answers.{AnswersEach}
@@ -52,35 +55,52 @@ module _ (es fs : List Edge) (of : AreOfContour es) (by : AreByStart es fs) (n :
   own_edge : Contains es e
   own_edge = by.from e (own fs by.sweepable n e lt is)
 
+  -- an entry that is live is of one of the edges
+  in_list : (f : Entry ℕ) → Contains live f → Contains fs f.edge
+  in_list f c = let at = live_from fs by.sweepable n e lt is limit s swept f c in let less = at.0 in (f.value, omega arith, at.1)
+
+  -- such an entry is below the start of the next edge where it is under that edge
+  below_is : (f : Entry ℕ) → Contains live f → is_below_anchor e f.edge ≡ is_under f.edge e e.a.x (pos 1)
+  below_is f c =
+      below_an_anchor_is_under e f.edge (leads e own_edge) (leads f.edge (by.from f.edge (in_list f c))) (met (edge_eq e f.edge) refl)
+      (over fs by.sweepable n e lt is)
+      ∙ ap (λ t. t && is_under f.edge e e.a.x (pos 1)) (All-contains (λ h. IsOver limit e.a.x h.edge) live f are_live.over c).over
+    where
+      met : (t : Bool) → edge_eq e f.edge ≡ t → (edge_eq e f.edge ≡ true) ⊎ MeetInEnds e f.edge
+      met true same = inl same
+      met false differ = inr (by.sweepable.settled e f.edge (own fs by.sweepable n e lt is) (in_list f c) differ)
+
   -- an edge under the next one is live
   entry_under : (f : Edge) → Contains es f → covers f e.a.x (pos 1) ≡ true → is_under f e e.a.x (pos 1) ≡ true →
       (k : Entry ℕ) × Contains live k × (k.edge ≡ f)
   entry_under f c over_f under = under_live fs by.sweepable n e lt is limit s swept f (by.all f c (covering_wide f e.a.x over_f)) (leads e own_edge) (leads f c) over_f under
 
   module _ (inside : List Bool) (counted : length inside ≡ n) (told : AreTold es fs inside) where
-    next_by : (o : Option (Entry ℕ)) → entry_below e e.a.x live ≡ o → not (get_or inside (value_or n o) false) ≡ inside_above es e
+    next_by : (o : Option (Entry ℕ)) → entry_below e live ≡ o → not (get_or inside (value_or n o) false) ≡ inside_above es e
     next_by None nothing =
         ap not (get_or_past inside n false (omega (arith, counted)))
         ∙ sym (inside_above_none es of e own_edge e.a.x (pos 1) (omega (arith, ints)) (over fs by.sweepable n e lt is)
         (λ f c over_f. false_from_ne_true (is_under f e e.a.x (pos 1)) (λ under.
         let found = entry_under f c over_f under in
-        no_last (filter (λ h. is_under h.edge e e.a.x (pos 1)) live) found.0
-        (Contains-filter (λ h. is_under h.edge e e.a.x (pos 1)) live found.0 found.1 (subst (λ h. is_under h e e.a.x (pos 1) ≡ true) (sym found.2) under)) nothing)))
+        no_last (filter (λ h. is_below_anchor e h.edge) live) found.0
+        (Contains-filter (λ h. is_below_anchor e h.edge) live found.0 found.1
+        (below_is found.0 found.1 ∙ subst (λ h. is_under h e e.a.x (pos 1) ≡ true) (sym found.2) under)) nothing)))
     next_by (Some f) found =
-        let great : IsGreatestUnder e e.a.x live f = look_up_gives_the_greatest ℕ live e e.a.x are_live.order f found in
+        let great : IsGreatestBelow e e.a.x live f = look_up_gives_the_greatest ℕ live e e.a.x are_live.order f found in
         let at = live_from fs by.sweepable n e lt is limit s swept f great.entry in
         let less = at.0 in
         ap not (told_at es fs inside told f.value f.edge false (omega (arith, counted)) at.1)
         ∙ sym (inside_above_next es of e own_edge e.a.x (pos 1) (omega (arith, ints)) (over fs by.sweepable n e lt is) f.edge
-        (by.from f.edge (f.value, omega arith, at.1)) (All-contains (λ h. IsOver limit e.a.x h.edge) live f are_live.over great.entry).over great.under
+        (by.from f.edge (f.value, omega arith, at.1)) (All-contains (λ h. IsOver limit e.a.x h.edge) live f are_live.over great.entry).over
+        (sym (below_is f great.entry) ∙ great.below)
         (λ h c over_h under. let k = entry_under h c over_h under in ⊎_elim
         (λ same. inl (sym k.2 ∙ ap (λ (g : Entry ℕ). g.edge) same))
         (λ lower. inr (subst (λ g. is_under g f.edge e.a.x (pos 1) ≡ true) k.2 lower))
-        (great.greatest k.0 k.1 (subst (λ g. is_under g e e.a.x (pos 1) ≡ true) (sym k.2) under))))
+        (great.greatest k.0 k.1 (below_is k.0 k.1 ∙ subst (λ g. is_under g e e.a.x (pos 1) ≡ true) (sym k.2) under))))
 
     -- so what the look-up gives tells of the next edge
-    pub next_told : (below : ℕ) → below ≡ value_below n e e.a.x live → not (get_or inside below false) ≡ inside_above es e
-    next_told below found = ap (λ i. not (get_or inside i false)) found ∙ next_by (entry_below e e.a.x live) refl
+    pub next_told : (below : ℕ) → below ≡ value_below n e live → not (get_or inside below false) ≡ inside_above es e
+    next_told below found = ap (λ i. not (get_or inside i false)) found ∙ next_by (entry_below e live) refl
 
     pub told_more : (t : Bool) → t ≡ inside_above es e → AreTold es fs (inside ++ t ∷ [])
     told_more t right =
