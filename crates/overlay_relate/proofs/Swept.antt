@@ -1,5 +1,6 @@
 -- A sweep over the first edges: what the next edge asks of it, and what it holds then.
-use Rattle.std.proofs.Common.{◌≡◌, ◌⊎◌, ⊎_elim, inl, inr, ℕ, zero, suc, ◌+◌, ◌<◌, true, false, ◌&&◌, ℤ, pos, ◌≤ℤ◌, ◌<ℤ◌, int_lt, List, ◌∷◌, ◌++◌, length, drop, get_or, Contains, Some, refl, sym, ap, ap₂, ◌∙◌, subst, arith}
+use Rattle.std.proofs.Common.{◌≡◌, ◌⊎◌, ⊎_elim, inl, inr, ℕ, zero, suc, ◌+◌, ◌<◌, true, false, ◌&&◌, ◌||◌, ℤ, pos, ◌≤ℤ◌, ◌<ℤ◌, int_lt, List, ◌∷◌, ◌++◌, length, drop, get_or, Contains, Some, refl, sym, ap, ap₂, ◌∙◌, subst, arith}
+use Rattle.std.specs.Ordering.{int_eq}
 use Rattle.std.specs.List.{All}
 use Rattle.std.specs.Option.{IfSome}
 use Rattle.std.proofs.lemmas.Bool.{cases_lt, both_ways, and_from, or_cases, or_left, or_right, false_from_ne_true}
@@ -22,7 +23,7 @@ use Rattle.overlay_plane.proofs.ShuffledSteps.{beside_one, one_or_beside}
 use Rattle.overlay_plane.proofs.Tests.{ge_from_test, lt_from_test, test_from_lt}
 use Rattle.overlay_plane.proofs.Under.{covers_to, under_irreflexive}
 use Rattle.overlay_plane.proofs.WhereEdgesStart.{covers_start}
-use Rattle.overlay_scan.specs.Scan.{Entry, Sweep, empty_sweep, live_at, moved_to, MayMoveTo, IsOver, AreLive, IsSweep, MeetsOthers, IsNewAmong, IsPutIn}
+use Rattle.overlay_scan.specs.Scan.{Entry, Sweep, empty_sweep, live_at, moved_to, MayMoveTo, IsAsked, IsOver, AreLive, IsSweep, MeetsOthers, IsNewAmong, IsPutIn}
 use Rattle.overlay_scan.proofs.Moving.{live_after_move}
 use Rattle.overlay_relate.specs.Sweeps.{AreSweepable, IsSwept}
 
@@ -81,6 +82,13 @@ module _ (fs : List Edge) (sweepable : AreSweepable fs) (n : ℕ) (e : Edge) (lt
   -- it is over its start
   pub over : covers e e.a.x (pos 1) ≡ true
   over = covers_start e wide
+
+  forward : point_lt e.a e.b ≡ true
+  forward = ap (λ t. t || (int_eq e.a.x e.b.x && int_lt e.a.y e.b.y)) (test_from_lt e.a.x e.b.x wide)
+
+  -- the scan may be asked for it
+  pub is_asked : (limit : ℕ) → InRange limit e.a → InRange limit e.b → IsAsked limit e.a.x e
+  is_asked limit a_in_range b_in_range = record { a_in_range = a_in_range; b_in_range = b_in_range; forward = forward; starts = refl }
 
   pub is_over : (limit : ℕ) → InRange limit e.a → InRange limit e.b → IsOver limit e.a.x e
   is_over limit a_in_range b_in_range = record { a_in_range = a_in_range; b_in_range = b_in_range; over = over }

@@ -5,7 +5,7 @@ use Rattle.overlay_geom.specs.Plane.{Edge}
 use Rattle.overlay_geom.proofs.Mapped.{read_mapped}
 use Rattle.overlay_scan.proofs.LinesFit.{line_fits}
 use Rattle.overlay_relate.specs.Sweeps.{wide_edge, wide_edges, AreTold, IsSwept}
-use Rattle.overlay_relate.proofs.Swept.{is_over, may_move, meets, fresh, later_starts, moved_on, put_in}
+use Rattle.overlay_relate.proofs.Swept.{is_asked, is_over, may_move, meets, fresh, later_starts, moved_on, put_in}
 use Rattle.overlay_relate.proofs.Told.{next_told, told_more}
 use Rattle.overlay_relate.proofs.sweep.put_next.Goals as goal
 
@@ -30,8 +30,8 @@ first_less-below-requires g c =
         (
           may_move fs c.requires.edges n e lt is limit s swept,
           (
-            is_over fs c.requires.edges n e lt is limit (c.index-edges-place.result).a_in_range (c.index-edges-place.result).b_in_range,
-            (refl, meets fs c.requires.edges n e lt is limit s swept),
+            is_asked fs c.requires.edges n e lt is limit (c.index-edges-place.result).a_in_range (c.index-edges-place.result).b_in_range,
+            meets fs c.requires.edges n e lt is limit s swept,
           ),
         ),
       ),
