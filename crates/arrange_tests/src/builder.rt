@@ -7,6 +7,7 @@ use overlay_builder::builder_core::BuilderCore;
 use overlay_builder::path::{PathKind, contour_kind};
 use overlay_geom::error::OverlayError;
 use overlay_geom::number::IntNumber;
+use overlay_geom::path::PathRef;
 use overlay_geom::point::{IntPoint, in_range};
 use std::alloc::Global;
 use std::process::Abort;
@@ -93,7 +94,8 @@ fn paths_of_a_resource_are_added_and_arranged(rt: HostRuntime) -> Result<(), Fai
     let mut core: Core<i32> = BuilderCore::with_capacity(rt.alloc(), 0)?;
     let path = path_with_a_straight_point(0i32, 2, 4);
     assert!(rt; in_range(&path));
-    core.add_paths(&path, PathKind::Thinned, passing(ShapeType::Clip))?;
+    let resource = PathRef::new(&path);
+    core.add_paths(&resource, PathKind::Thinned, passing(ShapeType::Clip))?;
     assert!(rt; core.content().len() == 3);
     assert!(rt; core.arrange(&mut ()) == Ok(false));
     assert!(rt; core.content().len() == 3);

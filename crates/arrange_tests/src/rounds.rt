@@ -22,7 +22,12 @@ pub(crate) fn with_subject<I: IntNumber>(
 ) -> Result<Held<I>, OverlayError> {
     let mut content = Content::with_capacity(alloc, 0)?;
     assert!(rt; in_range(contour));
-    add_path(&mut content, contour, PathKind::Closed, passing(ShapeType::Subject))?;
+    add_path(
+        &mut content,
+        contour,
+        PathKind::Closed,
+        passing(ShapeType::Subject),
+    )?;
     Ok(content)
 }
 

@@ -149,6 +149,7 @@ impl<I: OverlayInt, A: Allocator + Clone> Overlay<I, A> {
         ensures err { IsOkUnless result OverlayError.Memory }
     {
         let buffer = &mut self.boolean_buffer;
-        extract_shapes(self.core.content(), overlay_rule, fill_rule, self.options, buffer)
+        let content = self.core.content();
+        extract_shapes(content, overlay_rule, fill_rule, self.options, buffer)
     }
 }

@@ -14,6 +14,7 @@ thinned_is_shorter ps qs (drop_one k within straight rest) = inr (shorter (thinn
   where
     one_less : length (remove ps k) + 1 ≡ length ps
     one_less = length-remove ps k within
+
     shorter : (qs ≡ remove ps k) ⊎ (length qs < length (remove ps k)) → length qs < length ps
     shorter (inl same) = omega (arith, ap length same, one_less)
     shorter (inr less) = omega (arith, less, one_less)
@@ -25,6 +26,7 @@ none_is_straight ps qs (drop_one k within straight rest) same = absurd (too_shor
   where
     one_less : length (remove ps k) + 1 ≡ length ps
     one_less = length-remove ps k within
+
     too_short : ¬ ((qs ≡ remove ps k) ⊎ (length qs < length (remove ps k)))
     too_short (inl is) = omega (arith, ap length same, ap length is, one_less)
     too_short (inr less) = omega (arith, less, ap length same, one_less)

@@ -3,11 +3,12 @@ use Rattle.std.proofs.Common.{◌≡◌, inl, ℕ, false, List, map, Option, Som
 use Rattle.std.specs.Prelude.{Result, Ok, Err, OnOk, IfOk, MatchResult}
 use Rattle.overlay_geom.specs.declared.error.OverlayError.{OverlayError}
 use Rattle.overlay_geom.specs.declared.error.OverlayError.TheVariants.{Memory, NotSettled, TooManyEdges, Failed}
+use Rattle.overlay_geom.specs.Edges.{CountedEdge}
 use Rattle.overlay_geom.specs.Plane.{Point}
 use Rattle.overlay_arrange.specs.Arranged.{IsArranged}
 use Rattle.overlay_arrange.specs.Vectors.{Vector, vector_of}
 use Rattle.overlay_arrange.specs.declared.fill_rule.FillRule.{FillRule}
-use Rattle.overlay_builder.specs.Held.{AnswersQuery}
+use Rattle.overlay_builder.specs.Held.{Held, AnswersQuery}
 use Rattle.i_overlay.specs.Builder.{Builder, held_by}
 use Rattle.i_overlay.specs.Overlay.{IsResult}
 use Rattle.i_overlay.specs.Adding.{MayRefuseBuilder}
@@ -22,24 +23,24 @@ use Rattle.polyover_text.specs.Grammar.{GivenFigures, Asks, input_lines}
 
 module _ (cs : List GivenPath) (b : Builder ℕ) (h : HasAdded cs b) where
   -- what a query for the edges answers
-  pub edges_answered : {V : Type 0} (limit : ℕ) (vectors : V → List Vector) (fill : FillRule) (new : Builder ℕ) (answer : Result V OverlayError)
-      → AnswersQuery limit 64 (held_by b) (held_by new) answer → IfOk answer (λ v. vectors v ≡ map (vector_of fill new.edges) new.edges)
+  pub edges_answered : {V : Type 0} (limit : ℕ) (vectors : V → List Vector) (fill : FillRule) (new : Held CountedEdge) (answer : Result V OverlayError)
+      → AnswersQuery limit 64 (held_by b) new answer → IfOk answer (λ v. vectors v ≡ map (vector_of fill new.edges) new.edges)
       → MatchResult answer (λ v. AreEdges cs fill (vectors v)) (λ e. MayRefusePaths cs e)
   edges_answered limit vectors fill new (Ok v) query listed =
       record { content = b.edges; edges = new.edges; holds = h.holds; arranged = query.arranged; listed = listed }
   edges_answered limit vectors fill new (Err e) query listed =
-      query_refused limit cs (held_by b) (held_by new) (Err e) h.holds h.made.ready query
+      query_refused limit cs (held_by b) new (Err e) h.holds h.made.ready query
 
   -- what an overlay answers, whatever the settings are that it turns
-  pub shapes_answered : {V : Type 0} (limit : ℕ) (shapes : V → List (List (List Point))) (query : OverlayQuery) (old new : Builder ℕ)
-      (answer : Result V OverlayError) → AnswersQuery limit 64 (held_by old) (held_by new) answer → old.edges ≡ b.edges → old.failed ≡ b.failed
+  pub shapes_answered : {V : Type 0} (limit : ℕ) (shapes : V → List (List (List Point))) (query : OverlayQuery)
+      (old new : Held CountedEdge) (answer : Result V OverlayError) → AnswersQuery limit 64 old new answer → old.edges ≡ b.edges → old.failed ≡ b.failed
       → IfOk answer (λ v. IsResult (asked_by query) new.edges (shapes v))
       → MatchResult answer (λ v. IsResultOfPaths (asked_by query) cs (shapes v)) (λ e. MayRefusePaths cs e)
   shapes_answered limit shapes query old new (Ok v) answers content failed result =
       result_of_paths {E = OverlayError} (Ok v) shapes (asked_by query) cs old.edges new.edges
       (subst (HoldsPaths false cs) (sym content) h.holds) answers.arranged result
   shapes_answered limit shapes query old new (Err e) answers content failed result =
-      query_refused limit cs (held_by old) (held_by new) (Err e) (subst (HoldsPaths false cs) (sym content) h.holds) (failed ∙ h.made.ready) answers
+      query_refused limit cs old new (Err e) (subst (HoldsPaths false cs) (sym content) h.holds) (failed ∙ h.made.ready) answers
 
 -- where the contours can't be added, there is no answer
 pub adding_refused : (cs : List GivenPath) (e : OverlayError) → MayRefuseBuilder false cs e → MayRefusePaths cs e

@@ -32,23 +32,24 @@ fn steps_round<I: IntNumber>(
     let corner = IntPoint::new(zero, zero);
     let right = IntPoint::new(four, zero);
     let top = IntPoint::new(zero, four);
-    let mut steps = Vec::new(alloc);
-    steps.push(Step {
-        from: corner,
-        to: right,
-        edge_data: 1,
-    })?;
-    steps.push(Step {
-        from: right,
-        to: top,
-        edge_data: 2,
-    })?;
-    steps.push(Step {
-        from: top,
-        to: corner,
-        edge_data: 3,
-    })?;
-    Ok(steps)
+    let round = [
+        Step {
+            from: corner,
+            to: right,
+            edge_data: 1,
+        },
+        Step {
+            from: right,
+            to: top,
+            edge_data: 2,
+        },
+        Step {
+            from: top,
+            to: corner,
+            edge_data: 3,
+        },
+    ];
+    Ok(Vec::from_array(alloc, round)?)
 }
 
 // These steps, none of them taken.

@@ -9,6 +9,6 @@ pub returns-clause-left_out : goal.returns-clause-left_out
 returns-clause-left_out g c =
     let at = plain_point g.I.IntNumber.whole in
     let few : c.len.result ≡ length (plain_points g.I.IntNumber.whole c.in_ok-bent.bent.items) =
-        omega (arith, c.len.ensures, c.in_ok-bent.bent.ok.0, length-map c.in_ok-bent.bent.items at) in
+    omega (arith, c.len.ensures, c.in_ok-bent.bent.ok.0, length-map c.in_ok-bent.bent.items at) in
     left_out c.len.result (length c.args.points.now) (plain_points g.I.IntNumber.whole c.args.points.now)
     (plain_points g.I.IntNumber.whole c.in_ok-bent.bent.items) few (sym (length-map c.args.points.now at)) c.in_ok-bent.ensures.ok

@@ -11,7 +11,7 @@ returns g c =
     let e = c.overlay.ensures in
     let held = c.builder.view_is in
     shapes_answered (contour_paths (contours_at c.args.contours.now)) c.in_ok-builder.builder c.in_ok-builder.ensures
-    _ (λ v. plain_shapes (λ z. z) v.items) c.args.query _ c.overlay.new.self c.overlay.result
+    _ (λ v. plain_shapes (λ z. z) v.items) c.args.query _ _ c.overlay.result
     e.query (ap (λ b. b.edges) held) (ap (λ b. b.failed) held) e.result
 
 pub returns-in_err-builder : goal.returns-in_err-builder

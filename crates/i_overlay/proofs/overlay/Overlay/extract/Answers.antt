@@ -10,15 +10,15 @@ use Rattle.i_overlay.proofs.overlay.Overlay.extract.Goals as goal
 
 pub extract_shapes-requires-clause-ascending : goal.extract_shapes-requires-clause-ascending
 extract_shapes-requires-clause-ascending g c =
-    subst (λ es. IsAscending (edges_in es)) (sym c.content.ensures.edges) (subst (λ b. IsAscending b.edges) (sym c.self.view_is) c.requires.ascending)
+    subst (λ es. IsAscending (edges_in es)) (sym c.content-content.ensures.edges) (subst (λ b. IsAscending b.edges) (sym c.self.view_is) c.requires.ascending)
 
 pub extract_shapes-requires-clause-settled : goal.extract_shapes-requires-clause-settled
 extract_shapes-requires-clause-settled g c =
-    subst (λ es. IsSettled (edges_in es)) (sym c.content.ensures.edges) (subst (λ b. IsSettled b.edges) (sym c.self.view_is) c.requires.settled)
+    subst (λ es. IsSettled (edges_in es)) (sym c.content-content.ensures.edges) (subst (λ b. IsSettled b.edges) (sym c.self.view_is) c.requires.settled)
 
 pub returns-clause-result : goal.returns-clause-result
 returns-clause-result g c =
     subst (λ b. IfOk c.extract_shapes.result (λ v. IsResult (asked c.args.fill_rule c.args.overlay_rule b.options) b.edges
     (plain_shapes g.I.IntNumber.whole v.items))) c.self.view_is
     (subst (λ es. IfOk c.extract_shapes.result (λ v. IsResult (asked c.args.fill_rule c.args.overlay_rule c.self.inside.options) (edges_in es)
-    (plain_shapes g.I.IntNumber.whole v.items))) c.content.ensures.edges c.extract_shapes.ensures.result)
+    (plain_shapes g.I.IntNumber.whole v.items))) c.content-content.ensures.edges c.extract_shapes.ensures.result)

@@ -15,7 +15,7 @@ pub returns-clause-empty : goal.returns-clause-empty
 returns-clause-empty g c = λ none.
     let e = c.extract-shapes.ensures in
     let same : edges_in c.arrange.new.self.edges ≡ [] =
-        sym (ap (λ b. b.edges) e.kept) ∙ sym (ap (λ b. b.edges) c.self-2.view_is) ∙ sym (ap (λ h. edges_in h.edges) c.set_failed.ensures) ∙ none in
+    sym (ap (λ b. b.edges) e.kept) ∙ sym (ap (λ b. b.edges) c.self-2.view_is) ∙ sym (ap (λ h. edges_in h.edges) c.set_failed.ensures) ∙ none in
     no_shapes_held c.extract-shapes.result (λ v. v.items) (λ s. paths_of_shape g.I.IntNumber.whole s.items) _ (edges_in c.arrange.new.self.edges)
     e.result same
 
@@ -23,7 +23,7 @@ pub returns-clause-exact : goal.returns-clause-exact
 returns-clause-exact g c = λ whole.
     let e = c.extract-shapes.ensures in
     let same : edges_in c.set_failed.new.self.edges ≡ edges_in c.arrange.new.self.edges =
-        ap (λ h. edges_in h.edges) c.set_failed.ensures ∙ ap (λ b. b.edges) c.self-2.view_is ∙ ap (λ b. b.edges) e.kept in
+    ap (λ h. edges_in h.edges) c.set_failed.ensures ∙ ap (λ b. b.edges) c.self-2.view_is ∙ ap (λ b. b.edges) e.kept in
     on_ok_weaker c.extract-shapes.result
     (λ there. subst (HaveSameWindings c.args.self.now.edges) (sym same)
     (subst (λ b. HaveSameWindings b.edges (edges_in c.arrange.new.self.edges)) c.self.view_is
@@ -35,7 +35,7 @@ returns-clause-query g c =
     let limit = g.I.IntNumber.limit in
     let new = plain_held c.set_failed.new.self in
     let same : edges_in c.set_failed.new.self.edges ≡ edges_in c.arrange.new.self.edges =
-        ap (λ h. edges_in h.edges) c.set_failed.ensures ∙ ap (λ b. b.edges) c.self-2.view_is ∙ ap (λ b. b.edges) c.extract-shapes.ensures.kept in
+    ap (λ h. edges_in h.edges) c.set_failed.ensures ∙ ap (λ b. b.edges) c.self-2.view_is ∙ ap (λ b. b.edges) c.extract-shapes.ensures.kept in
     subst (λ b. AnswersQuery limit 64 (held_by b) new c.extract-shapes.result) c.self.view_is
     (answers_after limit 64 (plain_held c.self.inside.core) (plain_held c.arrange.new.self) new c.in_ok-arrange.field-0
     c.in_ok-arrange.ensures.query c.extract-shapes.result same
