@@ -15,6 +15,7 @@ pub mod integer;
 pub mod laws;
 pub mod overlay;
 pub mod overlay_rule;
+pub mod point_location;
 pub mod segm;
 mod select;
 pub mod single;

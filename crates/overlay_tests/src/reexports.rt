@@ -10,12 +10,14 @@ use i_overlay::i_float::int::vector::IntVector;
 use i_overlay::integer::{OverlayInt, in_range};
 use i_overlay::overlay::{ContourDirection, IntOverlayOptions, ShapeType};
 use i_overlay::overlay_rule::OverlayRule;
+use i_overlay::point_location::{IntPointContainment, PointLocation};
 use i_overlay::segm::boolean::ShapeCountBoolean;
 use i_overlay::segm::string::ShapeCountString;
 use i_overlay::solver::Solver;
 use i_overlay::vector::edge::{
     CLIP_LEFT, CLIP_RIGHT, DataVectorEdge, SUBJ_LEFT, SUBJ_RIGHT, SideFill,
 };
+use std::alloc::Global;
 
 // The bits of the sides: above a step from left to right is its left side.
 #[test]
@@ -103,4 +105,16 @@ fn counts_and_data(rt: HostRuntime) {
     assert!(&rt; stays((), &mut ()));
     let string = ShapeCountString { subj: 1, clip: 2 };
     assert!(&rt; string.subj == 1 && string.clip == 2);
+}
+
+// Whether points may be located in it.
+fn may_hold_points<R: IntPointContainment<i32>>(_holder: &R) -> bool {
+    true
+}
+
+#[test]
+fn points_in_contours(rt: HostRuntime) {
+    let contour: Vec<IntPoint<i32>, Global> = Vec::new(rt.alloc());
+    assert!(&rt; may_hold_points(&contour));
+    assert!(&rt; PointLocation::Inside != PointLocation::Boundary);
 }
