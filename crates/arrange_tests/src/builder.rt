@@ -4,7 +4,7 @@ use overlay_arrange::count::ShapeCountBoolean;
 use overlay_arrange::options::ShapeType;
 use overlay_builder::boolean::passing;
 use overlay_builder::builder_core::BuilderCore;
-use overlay_builder::path::{PathKind, contour_kind};
+use overlay_builder::path::{PathKind, StepCounts, contour_kind};
 use overlay_geom::error::OverlayError;
 use overlay_geom::number::IntNumber;
 use overlay_geom::path::PathRef;
@@ -110,5 +110,26 @@ fn the_first_edges_are_left(rt: HostRuntime) -> Result<(), Fail> {
     content.truncate(1);
     assert!(rt; content.len() == 1);
     assert!(rt; content.edges()[0].b == path[1]);
+    Ok(())
+}
+
+#[test]
+fn a_path_that_weighs_too_much_is_refused(rt: HostRuntime) -> Result<(), Fail> {
+    let heavy = ShapeCountBoolean {
+        subj: 1073741824,
+        clip: 0,
+    };
+    let heavy_steps = StepCounts {
+        along: heavy,
+        back: heavy,
+    };
+    let mut core: Core<i32> = BuilderCore::with_capacity(rt.alloc(), 0)?;
+    let path = [IntPoint::new(0i32, 0), IntPoint::new(4, 0)];
+    assert!(rt; in_range(&path));
+    let first = core.add_path(&path, PathKind::Open, heavy_steps);
+    assert!(rt; first == Ok(false));
+    let second = core.add_path(&path, PathKind::Open, heavy_steps);
+    assert!(rt; second == Err(OverlayError::TooManyEdges));
+    assert!(rt; core.content().len() == 1);
     Ok(())
 }
