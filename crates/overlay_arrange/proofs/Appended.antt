@@ -30,6 +30,16 @@ next_mapped f k plain old new x ws i w within at is maps before =
     ∙ ap (λ zs. zs ++ k (plain w) ∷ []) before
     ∙ sym (ap (map k) (mapped_more plain ws i w within at) ∙ map-append k (map plain (take i ws)) (plain w ∷ []))
 
+-- so it is where the list has what they are mapped to
+pub next_listed : {W Y Z : Type 0} (k : Y → Z) (plain : W → Y) (old new : List Z) (z : Z) (ws : List W) (i : ℕ) (w : W)
+    → i < length ws → w ≡ get_or ws i w → new ≡ old ++ z ∷ [] → z ≡ k (plain w)
+    → old ≡ map k (map plain (take i ws)) → new ≡ map k (map plain (take (i + 1) ws))
+next_listed k plain old new z ws i w within at is maps before =
+    is
+    ∙ ap (λ y. old ++ y ∷ []) maps
+    ∙ ap (λ zs. zs ++ k (plain w) ∷ []) before
+    ∙ sym (ap (map k) (mapped_more plain ws i w within at) ∙ map-append k (map plain (take i ws)) (plain w ∷ []))
+
 -- what a test keeps of two items is what it keeps of the one and of the other
 pub two_kept : {X : Type 0} (p : X → Bool) (old more new : List X) (x y : X)
     → more ≡ old ++ filter p (x ∷ []) → new ≡ more ++ filter p (y ∷ []) → new ≡ old ++ filter p (x ∷ y ∷ [])

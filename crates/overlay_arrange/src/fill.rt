@@ -5,7 +5,8 @@ ghost use Rattle.std.specs.Prelude.{map, IfOk, IsOkUnless};
 ghost use Rattle.overlay_geom.specs.Numbers.{Within};
 ghost use Rattle.overlay_geom.specs.Plane.{midpoint, side, is_strictly_below};
 ghost use Rattle.overlay_geom.specs.Edges.{ends_of, subj_of, clip_of, winding_below};
-ghost use Rattle.overlay_arrange.specs.Content.{plain_edge, plain_edges, IsHeld, IsContent};
+ghost use Rattle.overlay_geom.specs.Settled.{IsSettled};
+ghost use Rattle.overlay_arrange.specs.Content.{plain_edge, plain_edges, IsHeld, IsContent, IsAscending};
 ghost use Rattle.overlay_arrange.specs.Rules.{is_filled, bit, bits_of, fill_bits};
 ghost use Rattle.overlay_arrange.specs.Vectors.{plain_vector, vector_of};
 
@@ -162,4 +163,24 @@ pub fn filled_edges<I: IntNumber, C: EdgeCount, A: Allocator>(
         })?;
     }
     Ok(filled)
+}
+
+/// The filled sides of every edge of an arrangement, in the order of the edges.
+pub fn fills_of_edges<I: IntNumber, C: EdgeCount, A: Allocator + Clone>(
+    alloc: A,
+    edges: &[CountedEdge<I, C>],
+    rule: FillRule,
+) -> Result<Vec<SideFill, A>, OverlayError>
+    requires content { IsContent I.limit (plain_edges I.whole C.counts edges.now) }
+    requires ascending { IsAscending (plain_edges I.whole C.counts edges.now) }
+    requires settled { IsSettled (plain_edges I.whole C.counts edges.now) }
+    ensures ok { let es = plain_edges I.whole C.counts edges.now in
+        IfOk result (λ v. v.items ≡ map (fill_bits rule es) es) }
+    ensures err { IsOkUnless result OverlayError.Memory }
+{
+    let mut fills = Vec::with_capacity(alloc, edges.len())?;
+    for edge in edges {
+        fills.push(fill_of(edges, edge, rule))?;
+    }
+    Ok(fills)
 }
