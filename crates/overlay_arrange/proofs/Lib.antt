@@ -11,6 +11,7 @@ pub mod Crossings
 pub mod CutContents
 pub mod DirectionBits
 pub mod EdgeOrder
+pub mod FilledVectors
 pub mod FirstEdges
 pub mod HeldRuns
 pub mod HeldWeight

@@ -11,15 +11,13 @@ ghost use Rattle.overlay_arrange.specs.Content.{plain_edge, plain_edges};
 ghost use Rattle.overlay_arrange.specs.Content.{carried_edge, carried_edges};
 ghost use Rattle.overlay_arrange.specs.Content.{IsAscending, IsContent, IsHeld};
 ghost use Rattle.overlay_arrange.specs.Counts.{weight_of_counts};
-ghost use Rattle.overlay_arrange.specs.Vectors.{plain_vector, vector_of};
 
 use crate::count::EdgeCount;
 use crate::edge::CountedEdge;
-use crate::fill::filled_edges;
 use crate::fill_rule::FillRule;
+use crate::graph::Graph;
 use crate::merge::{merge, weight_of};
 use crate::settle::is_settled;
-use crate::vector::DataVectorEdge;
 use overlay_geom::error::OverlayError;
 use overlay_geom::number::IntNumber;
 use std::alloc::Allocator;
@@ -145,17 +143,15 @@ impl<I: IntNumber, C: EdgeCount, A: Allocator> Content<I, C, A> {
         is_settled(&self.edges)
     }
 
-    /// Every edge in order, with its filled sides.
-    pub fn filled_edges(
-        &self,
-        rule: FillRule,
-    ) -> Result<Vec<DataVectorEdge<I, ()>, A>, OverlayError>
+    /// The graph of the edges under a fill rule. They are an arrangement. The only refusal is `Memory`.
+    pub fn graph(&self, fill_rule: FillRule) -> Result<Graph<I, C, A>, OverlayError>
     where
         A: Clone,
-        ensures ok { IfOk result (λ v.
-            map (plain_vector I.whole) v.items ≡ map (vector_of rule (edges_in self.now)) (edges_in self.now)) }
+        requires ascending { IsAscending (edges_in self.now) }
+        requires settled { IsSettled (edges_in self.now) }
+        ensures ok { IfOk result (λ g. g ≡ record { fill_rule = fill_rule; edges = self.now }) }
         ensures err { IsOkUnless result OverlayError.Memory }
     {
-        filled_edges(self.edges.allocator().clone()?, &self.edges, rule)
+        Graph::new(self.edges.allocator().clone()?, &self.edges, fill_rule)
     }
 }

@@ -1,0 +1,10 @@
+-- The edges so far have their filled sides.
+use Rattle.std.proofs.Common.{◌≡◌, map, take}
+use Rattle.overlay_arrange.specs.Content.{carried_edges}
+use Rattle.overlay_arrange.specs.Graphs.{carried_vectors}
+use Rattle.overlay_arrange.proofs.graph.with_fills.Given as goal
+
+abbrev pub invariant-loop-i : goal.invariant-loop-i
+invariant-loop-i g l =
+    (carried_vectors g.I.IntNumber.whole g.C.EdgeCount.counts l.filled.items ≡ carried_edges g.I.IntNumber.whole g.C.EdgeCount.counts (take l.i l.edges))
+    × (map (λ e. e.fill) l.filled.items ≡ take l.i l.fills)

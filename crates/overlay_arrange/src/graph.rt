@@ -1,0 +1,144 @@
+//! The graph of an arrangement: its edges in order, each with what it carries and its filled sides.
+
+ghost use Rattle.std.specs.Prelude.{◌≡◌, map, length, IfOk, IsOkUnless};
+ghost use Rattle.overlay_geom.specs.Settled.{IsSettled};
+ghost use Rattle.overlay_arrange.specs.Content.{plain_edges, carried_edges, IsContent, IsAscending};
+ghost use Rattle.overlay_arrange.specs.Graphs.{graph_edges, carried_vectors, IsArrangement};
+ghost use Rattle.overlay_arrange.specs.Vectors.{plain_vector, vector_of};
+
+use crate::count::EdgeCount;
+use crate::edge::CountedEdge;
+use crate::fill::fills_of_edges;
+use crate::fill_rule::FillRule;
+use crate::vector::{DataVectorEdge, SideFill};
+use overlay_geom::error::OverlayError;
+use overlay_geom::number::IntNumber;
+use std::alloc::Allocator;
+use std::marker::Model;
+
+/// The edges of an arrangement in order, each with what it carries and with its filled sides under a
+/// fill rule. It is made once (`Content::graph`), and extractions read it.
+#[derive(Drop)]
+pub struct Graph<I: IntNumber, C: EdgeCount, A: Allocator> {
+    fill_rule: FillRule,
+    // from their smaller to their larger ends
+    edges: Vec<DataVectorEdge<I, C>, A>,
+}
+
+impl<I: IntNumber, C: EdgeCount, A: Allocator> Model for Graph<I, C, A> {
+    ghost use Rattle.std.specs.Prelude.{map};
+    ghost use Rattle.overlay_plane.specs.Carried.{edges_in};
+    ghost use Rattle.overlay_arrange.specs.Graphs.{Graph, carried_vectors, AreFilledBy};
+
+    ghost Value = { Graph C };
+
+    ghost view = { λ g. record {
+      fill_rule = g.fill_rule;
+      edges = carried_vectors I.whole C.counts g.edges.items;
+    } };
+
+    ghost invariant = { λ g. AreFilledBy I.limit g.fill_rule
+        (edges_in (carried_vectors I.whole C.counts g.edges.items)) (map (λ v. v.fill) g.edges.items) };
+}
+
+impl<I: IntNumber, C: EdgeCount, A: Allocator + Clone> Graph<I, C, A> {
+    /// The graph of the edges of an arrangement. The only refusal is `Memory`.
+    pub(crate) fn new(
+        alloc: A,
+        edges: &[CountedEdge<I, C>],
+        fill_rule: FillRule,
+    ) -> Result<Self, OverlayError>
+        requires content { IsContent I.limit (plain_edges I.whole C.counts edges.now) }
+        requires ascending { IsAscending (plain_edges I.whole C.counts edges.now) }
+        requires settled { IsSettled (plain_edges I.whole C.counts edges.now) }
+        ensures ok { IfOk result (λ g.
+            g ≡ record { fill_rule = fill_rule; edges = carried_edges I.whole C.counts edges.now }) }
+        ensures err { IsOkUnless result OverlayError.Memory }
+    {
+        let fills = fills_of_edges(alloc.clone()?, edges, fill_rule)?;
+        let edges = with_fills(alloc, edges, &fills)?;
+        Ok(Graph { fill_rule, edges })
+    }
+}
+
+impl<I: IntNumber, C: EdgeCount, A: Allocator> Graph<I, C, A> {
+    /// The edges in order, each from its smaller to its larger end, with what it carries, and with its
+    /// filled sides seen on this way. They are an arrangement.
+    pub fn edges(&self) -> &[DataVectorEdge<I, C>]
+        ensures carried { carried_vectors I.whole C.counts result.now ≡ self.now.edges }
+        ensures filled { map (plain_vector I.whole) result.now
+            ≡ map (vector_of self.now.fill_rule (graph_edges self.now)) (graph_edges self.now) }
+        ensures arranged { IsArrangement I.limit (graph_edges self.now) }
+    {
+        &self.edges
+    }
+
+    /// Does nothing. Its contract says that the edges are an arrangement, for callers whose proofs need
+    /// it.
+    pub fn note_arrangement(&self)
+        ensures { IsArrangement I.limit (graph_edges self.now) }
+    {
+        let _ = self.edges();
+    }
+
+    /// The allocator of the edges.
+    pub fn allocator(&self) -> &A {
+        self.edges.allocator()
+    }
+}
+
+impl<I: IntNumber, C: EdgeCount, A: Allocator + Clone> Graph<I, C, A> {
+    /// The edges in order with their filled sides, without what they carry. The only refusal is
+    /// `Memory`.
+    pub fn separate_vectors(&self) -> Result<Vec<DataVectorEdge<I, ()>, A>, OverlayError>
+        ensures ok { IfOk result (λ v. map (plain_vector I.whole) v.items
+            ≡ map (vector_of self.now.fill_rule (graph_edges self.now)) (graph_edges self.now)) }
+        ensures err { IsOkUnless result OverlayError.Memory }
+    {
+        without_data(self.edges.allocator().clone()?, self.edges())
+    }
+}
+
+// The edges with these filled sides.
+fn with_fills<I: IntNumber, C: EdgeCount, A: Allocator>(
+    alloc: A,
+    edges: &[CountedEdge<I, C>],
+    fills: &[SideFill],
+) -> Result<Vec<DataVectorEdge<I, C>, A>, OverlayError>
+    requires { length fills.now ≡ length edges.now }
+    ensures edges { IfOk result (λ v.
+        carried_vectors I.whole C.counts v.items ≡ carried_edges I.whole C.counts edges.now) }
+    ensures fills { IfOk result (λ v. map (λ e. e.fill) v.items ≡ fills.now) }
+    ensures err { IsOkUnless result OverlayError.Memory }
+{
+    let mut filled = Vec::with_capacity(alloc, edges.len())?;
+    for i in 0..edges.len() {
+        filled.push(DataVectorEdge {
+            a: edges[i].a,
+            b: edges[i].b,
+            fill: fills[i],
+            edge_data: edges[i].count,
+        })?;
+    }
+    Ok(filled)
+}
+
+// The edges with their filled sides alone.
+fn without_data<I: IntNumber, C: Copy, A: Allocator>(
+    alloc: A,
+    edges: &[DataVectorEdge<I, C>],
+) -> Result<Vec<DataVectorEdge<I, ()>, A>, OverlayError>
+    ensures ok { IfOk result (λ v. map (plain_vector I.whole) v.items ≡ map (plain_vector I.whole) edges.now) }
+    ensures err { IsOkUnless result OverlayError.Memory }
+{
+    let mut vectors = Vec::with_capacity(alloc, edges.len())?;
+    for edge in edges {
+        vectors.push(DataVectorEdge {
+            a: edge.a,
+            b: edge.b,
+            fill: edge.fill,
+            edge_data: (),
+        })?;
+    }
+    Ok(vectors)
+}
