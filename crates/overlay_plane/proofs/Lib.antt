@@ -103,6 +103,8 @@ pub mod RoundNodes
 pub mod RoundedAlong
 pub mod SameOrder
 pub mod SameWay
+pub mod RoledShapes
+pub mod RoledWalks
 pub mod SelectedAlternate
 pub mod SelectedLists
 pub mod SelectedWindings

@@ -5,6 +5,7 @@ pub mod Arrangements
 pub mod Balance
 pub mod BesideOrbits
 pub mod Binding
+pub mod BoundContours
 pub mod Carried
 pub mod ChainLinks
 pub mod ContourWindings
@@ -19,6 +20,7 @@ pub mod InOrder
 pub mod Leftmost
 pub mod LeftmostSteps
 pub mod Meetings
+pub mod MinimumArea
 pub mod NextSteps
 pub mod Nodes
 pub mod Orbits
@@ -26,6 +28,7 @@ pub mod OrbitsSoFar
 pub mod Order
 pub mod Rays
 pub mod Regions
+pub mod RoledContours
 pub mod Roles
 pub mod Rounds
 pub mod SelectedSteps

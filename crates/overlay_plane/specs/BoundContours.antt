@@ -1,0 +1,64 @@
+-- Contours bound to shapes: each hole that stands in none from the start to the one that is found for it.
+use Rattle.std.specs.Prelude.{◌≡◌, ℕ, ◌==◌, Bool, ◌&&◌, List, [], ◌∷◌, ◌++◌, map, length, filter, slice_get, slice_index_or, Option, Some, None, MatchBool}
+use Rattle.std.specs.List.{flat_map}
+use Rattle.overlay_geom.specs.Plane.{Step}
+use Rattle.overlay_plane.specs.Binding.{is_number}
+use Rattle.overlay_plane.specs.Roles.{IsTold}
+use Rattle.overlay_plane.specs.RoledContours.{Role, outline, own_hole, free_hole, Contour, stands_in, is_outline, is_own_hole_of, is_free_hole}
+
+-- the walks of contours, and the shapes in which they stand from the start
+abbrev pub walks_in : List Contour → List (List Step)
+walks_in contours = map (λ c. c.steps) contours
+
+abbrev pub known_in : List Contour → List (Option ℕ)
+known_in contours = map (λ c. stands_in c.role) contours
+
+-- there is one outline alone
+abbrev pub has_one_shape : List Contour → Bool
+has_one_shape contours = length (filter (λ c. is_outline c.role) contours) == 1
+
+-- what is told of the contour at place i, a hole whose shape is to be found: where there is one shape alone, that one; else its parent,
+-- or that it has none
+abbrev pub IsShapeFound : Bool → List Contour → ℕ → Option ℕ → Type 0
+IsShapeFound on_left contours i shape =
+    MatchBool (has_one_shape contours) (shape ≡ Some 0) (IsTold on_left (walks_in contours) (known_in contours) i shape)
+
+-- the contours' shapes, as far as they are to be found; what stands at the others is left open
+pub record AreShapesFound (on_left : Bool) (contours : List Contour) (shapes : List (Option ℕ)) : Type 0 where
+  pub counted : length shapes ≡ length contours
+  pub found : (i : ℕ) (c : Contour) → slice_get contours i ≡ Some c → c.role ≡ free_hole →
+      IsShapeFound on_left contours i (slice_index_or shapes i None)
+
+-- ---- shapes
+
+-- a contour, and the shape that is found for it
+pub record BoundContour : Type 0 where
+  pub contour : Contour
+  pub shape : Option ℕ
+
+-- the contours, each with the shape that is found for it
+abbrev pub contours_bound : List Contour → List (Option ℕ) → List BoundContour
+contours_bound [] shapes = []
+contours_bound (c ∷ cs) [] = []
+contours_bound (c ∷ cs) (s ∷ shapes) = record { contour = c; shape = s } ∷ contours_bound cs shapes
+
+-- the holes of the n-th outline's group, and those for which the n-th shape is found, each in their order
+abbrev pub own_holes : List BoundContour → ℕ → List (List Step)
+own_holes bound n = map (λ b. b.contour.steps) (filter (λ b. is_own_hole_of n b.contour.role) bound)
+
+abbrev pub found_holes : List BoundContour → ℕ → List (List Step)
+found_holes bound n = map (λ b. b.contour.steps) (filter (λ b. is_free_hole b.contour.role && is_number n b.shape) bound)
+
+-- the shape that a contour begins, if it is an outline: the outline, the holes of its own group, and the holes that are found for it
+abbrev pub shape_begun_by : List BoundContour → Role → List Step → List (List (List Step))
+shape_begun_by bound (outline n) steps = (steps ∷ own_holes bound n ++ found_holes bound n) ∷ []
+shape_begun_by bound (own_hole n) steps = []
+shape_begun_by bound free_hole steps = []
+
+-- the shapes, in the order of their outlines
+abbrev pub shapes_bound : List BoundContour → List (List (List Step))
+shapes_bound bound = flat_map (λ b. shape_begun_by bound b.contour.role b.contour.steps) bound
+
+-- no hole is left out
+abbrev pub NoHoleIsLost : List Contour → List (Option ℕ) → Type 0
+NoHoleIsLost contours shapes = (i : ℕ) (c : Contour) → slice_get contours i ≡ Some c → c.role ≡ free_hole → ¬ (slice_index_or shapes i None ≡ None)
