@@ -1,5 +1,5 @@
 -- What the core of a builder adds, as contours of the subject or of the clip.
-use Rattle.std.proofs.Common.{◌≡◌, ◌++◌, Bool, true, false, List, [], ◌∷◌, map, refl, sym, ap, subst, ◌∙◌}
+use Rattle.std.proofs.Common.{◌≡◌, Bool, true, false, List, [], ◌∷◌, map, refl, ap, subst}
 use Rattle.std.specs.Prelude.{Result}
 use Rattle.overlay_geom.specs.Edges.{CountedEdge, AddsContour, weight}
 use Rattle.overlay_geom.specs.Plane.{Point, Step}

@@ -26,7 +26,7 @@ use std::alloc::Allocator;
 /// to be kept, those on one line with their two neighbours are dropped. The only refusal is `Memory`.
 pub(crate) fn assembled<I: IntNumber, A: Allocator + Clone>(
     alloc: A,
-    walks: &[Vec<Step<I, ()>, A>],
+    walks: &[Vec<Step<I>, A>],
     numbers: &[Option<usize>],
     direction: ContourDirection,
     keeps_points: bool,
@@ -57,7 +57,7 @@ pub(crate) fn assembled<I: IntNumber, A: Allocator + Clone>(
 // A shape for each outline among the walks, which has no holes yet.
 fn outline_shapes<I: IntNumber, A: Allocator + Clone>(
     alloc: A,
-    walks: &[Vec<Step<I, ()>, A>],
+    walks: &[Vec<Step<I>, A>],
     direction: ContourDirection,
     keeps_points: bool,
 ) -> Result<IntShapes<I, A>, OverlayError>
@@ -97,7 +97,7 @@ fn push_outline<I: IntNumber, A: Allocator>(
 fn push_bound<I: IntNumber, A: Allocator + Clone>(
     alloc: A,
     shapes: &mut IntShapes<I, A>,
-    walk: &[Step<I, ()>],
+    walk: &[Step<I>],
     number: Option<usize>,
     direction: ContourDirection,
     keeps_points: bool,
@@ -142,7 +142,7 @@ fn push_contour<I: IntNumber, A: Allocator>(
 // neighbours unless they are to be kept.
 fn contour<I: IntNumber, A: Allocator + Clone>(
     alloc: A,
-    walk: &[Step<I, ()>],
+    walk: &[Step<I>],
     keeps_points: bool,
 ) -> Result<IntContour<I, A>, OverlayError>
     requires { All (IsLong I.limit) (plain_steps I.whole walk.now) }
@@ -159,7 +159,7 @@ fn contour<I: IntNumber, A: Allocator + Clone>(
 // The points at which the steps of the walk begin.
 fn points_of<I: IntNumber, A: Allocator>(
     alloc: A,
-    walk: &[Step<I, ()>],
+    walk: &[Step<I>],
 ) -> Result<IntContour<I, A>, OverlayError>
     ensures ok { IfOk result (λ v. plain_points I.whole v.items ≡ points_of (plain_steps I.whole walk.now)) }
     ensures err { IsOkUnless result OverlayError.Memory }

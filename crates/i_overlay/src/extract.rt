@@ -2,7 +2,7 @@
 
 ghost use Rattle.std.specs.Prelude.{◌≡◌, ◌≢◌, [], None, All, IfOk, OnOk, IsOkUnless};
 ghost use Rattle.std.specs.List.Sorted.{IsPermutation};
-ghost use Rattle.overlay_geom.specs.Edges.{subj_of, clip_of};
+ghost use Rattle.overlay_geom.specs.Edges.{all_ends, subj_of, clip_of};
 ghost use Rattle.overlay_geom.specs.Paths.{plain_shapes};
 ghost use Rattle.overlay_geom.specs.Settled.{IsSettled};
 ghost use Rattle.overlay_plane.specs.Balance.{HasBalancedCounts};
@@ -11,7 +11,7 @@ ghost use Rattle.overlay_plane.specs.Carried.{edges_in};
 ghost use Rattle.overlay_plane.specs.SelectedSteps.{selected_steps};
 ghost use Rattle.overlay_arrange.specs.Content.{IsAscending};
 ghost use Rattle.overlay_arrange.specs.Rules.{rules_hold};
-ghost use Rattle.overlay_walk.specs.Steps.{is_on_left, plain_steps, IsLong};
+ghost use Rattle.overlay_walk.specs.Steps.{is_on_left, plain_steps, IsLong, RunsAlong};
 ghost use Rattle.overlay_walk.specs.Walks.{plain_walks};
 ghost use Rattle.i_overlay.specs.Overlay.{asked, IsResult};
 
@@ -68,7 +68,7 @@ fn selected_walks<I: IntNumber, A: Allocator + Clone>(
     fill_rule: FillRule,
     direction: ContourDirection,
     buffer: &mut Option<BooleanExtractionBuffer<I, A>>,
-) -> Result<Vec<Vec<Step<I, ()>, A>, A>, OverlayError>
+) -> Result<Vec<Vec<Step<I>, A>, A>, OverlayError>
     requires ascending { IsAscending (edges_in content.now) }
     requires settled { IsSettled (edges_in content.now) }
     requires balanced { HasBalancedCounts (edges_in content.now) }
@@ -91,17 +91,18 @@ fn selected_walks<I: IntNumber, A: Allocator + Clone>(
     Ok(walks)
 }
 
-// The selected steps of the edges, none of them walked, in the room of a list.
+// The selected steps of the edges, none of them walked, in the room of a list; each with its edge's number.
 fn open_selected<I: IntNumber, A: Allocator + Clone>(
     content: &Content<I, ShapeCountBoolean, A>,
     overlay_rule: OverlayRule,
     fill_rule: FillRule,
     direction: ContourDirection,
-    mut steps: Vec<Step<I, ()>, A>,
-) -> Result<OpenSteps<I, (), A>, OverlayError>
+    mut steps: Vec<Step<I>, A>,
+) -> Result<OpenSteps<I, A>, OverlayError>
     requires { steps.items ≡ [] }
     ensures selected { IfOk result (λ o. IsPermutation (selected_steps (rules_hold fill_rule overlay_rule)
         subj_of clip_of (is_on_left direction) (edges_in content.now)) (plain_steps I.whole o)) }
+    ensures along { IfOk result (All (RunsAlong I.whole (all_ends (edges_in content.now)))) }
     ensures err { IsOkUnless result OverlayError.Memory }
 {
     // (its contract says that the edges are in range)

@@ -1,10 +1,11 @@
 //! The selected steps: those along edges on exactly one side of which the overlay rule holds.
 
 ghost use Rattle.std.specs.Prelude.{◌≡◌, ◌++◌, map, flat_map, option_map, option_to_list};
-ghost use Rattle.std.specs.Prelude.{OnOk, IsOkUnless};
+ghost use Rattle.std.specs.Prelude.{List, slice_get, Some, All, IfSome, OnOk, IsOkUnless};
+ghost use Rattle.overlay_geom.specs.Plane.{Edge};
 ghost use Rattle.overlay_plane.specs.SelectedSteps.{step_with_left};
 ghost use Rattle.overlay_arrange.specs.Vectors.{plain_vector};
-ghost use Rattle.overlay_walk.specs.Steps.{is_on_left, plain_step, plain_steps};
+ghost use Rattle.overlay_walk.specs.Steps.{is_on_left, plain_step, plain_steps, IsAlong, RunsAlong};
 ghost use Rattle.i_overlay.specs.Selection.{ends, bits_hold_above, bits_hold_below, steps_by_bits};
 
 use overlay_arrange::options::ContourDirection;
@@ -17,50 +18,58 @@ use overlay_geom::number::IntNumber;
 use overlay_walk::step::Step;
 use std::alloc::Allocator;
 
-/// Adds the selected steps of the edges, in their order. The only refusal is `Memory`, and then some
-/// of them may stand.
+/// Adds the selected steps of the edges, in their order, each with the number of its edge. The only
+/// refusal is `Memory`, and then some of them may stand.
 pub(crate) fn push_selected<I: IntNumber, A: Allocator>(
-    steps: &mut Vec<Step<I, ()>, A>,
+    steps: &mut Vec<Step<I>, A>,
     edges: &[DataVectorEdge<I, ()>],
     rule: OverlayRule,
     direction: ContourDirection,
 ) -> Result<(), OverlayError>
     ensures ok { OnOk result (plain_steps I.whole steps.new.items ≡ plain_steps I.whole steps.old.items
         ++ flat_map (steps_by_bits rule (is_on_left direction)) (map (plain_vector I.whole) edges.now)) }
+    ensures along { OnOk result (All (RunsAlong I.whole (map (λ v. ends (plain_vector I.whole v)) edges.now)) steps.old.items
+        → All (RunsAlong I.whole (map (λ v. ends (plain_vector I.whole v)) edges.now)) steps.new.items) }
     ensures err { IsOkUnless result OverlayError.Memory }
 {
-    for edge in edges {
-        push_step(steps, *edge, rule, direction)?;
+    for number in 0..edges.len() {
+        push_step(steps, edges[number], number, rule, direction)?;
     }
     Ok(())
 }
 
-// Adds the selected step of the edge, if there is one.
+// Adds the selected step of the edge with this number, if there is one.
 fn push_step<I: IntNumber, A: Allocator>(
-    steps: &mut Vec<Step<I, ()>, A>,
+    steps: &mut Vec<Step<I>, A>,
     edge: DataVectorEdge<I, ()>,
+    number: usize,
     rule: OverlayRule,
     direction: ContourDirection,
 ) -> Result<(), OverlayError>
     ensures ok { OnOk result (plain_steps I.whole steps.new.items ≡ plain_steps I.whole steps.old.items
         ++ steps_by_bits rule (is_on_left direction) (plain_vector I.whole edge)) }
+    ensures along { OnOk result ((es : List Edge) → slice_get es number ≡ Some (ends (plain_vector I.whole edge))
+        → All (RunsAlong I.whole es) steps.old.items → All (RunsAlong I.whole es) steps.new.items) }
     ensures err { IsOkUnless result OverlayError.Memory }
 {
-    if let Some(step) = selected_step(edge, rule, direction) {
+    if let Some(step) = selected_step(edge, number, rule, direction) {
         steps.push(step)?;
     }
     Ok(())
 }
 
-// The step along the edge with the side where the rule holds on its left, or on its right where the
-// direction is clockwise. There is none where the rule holds on both sides, or on neither.
+// The step along the edge with this number that has the side where the rule holds on its left, or on
+// its right where the direction is clockwise. There is none where the rule holds on both sides, or on
+// neither.
 fn selected_step<I: IntNumber>(
     edge: DataVectorEdge<I, ()>,
+    number: usize,
     rule: OverlayRule,
     direction: ContourDirection,
-) -> Option<Step<I, ()>>
-    ensures { option_to_list (option_map (plain_step I.whole) result)
+) -> Option<Step<I>>
+    ensures step { option_to_list (option_map (plain_step I.whole) result)
         ≡ steps_by_bits rule (is_on_left direction) (plain_vector I.whole edge) }
+    ensures along { IfSome result (IsAlong I.whole number (ends (plain_vector I.whole edge))) }
 {
     let above = holds_above(rule, edge.fill);
     let below = holds_below(rule, edge.fill);
@@ -71,12 +80,13 @@ fn selected_step<I: IntNumber>(
         ContourDirection::CounterClockwise => above,
         ContourDirection::Clockwise => below,
     };
-    Some(step_along(edge, goes_along))
+    Some(step_along(edge, number, goes_along))
 }
 
-// The step along the edge from a to b, or back.
-fn step_along<I: IntNumber>(edge: DataVectorEdge<I, ()>, goes_along: bool) -> Step<I, ()>
-    ensures { plain_step I.whole result ≡ step_with_left goes_along (ends (plain_vector I.whole edge)) }
+// The step along the edge with this number from a to b, or back.
+fn step_along<I: IntNumber>(edge: DataVectorEdge<I, ()>, number: usize, goes_along: bool) -> Step<I>
+    ensures step { plain_step I.whole result ≡ step_with_left goes_along (ends (plain_vector I.whole edge)) }
+    ensures number { result.edge ≡ number }
 {
     let (from, to) = if goes_along {
         (edge.a, edge.b)
@@ -86,7 +96,7 @@ fn step_along<I: IntNumber>(edge: DataVectorEdge<I, ()>, goes_along: bool) -> St
     Step {
         from,
         to,
-        edge_data: (),
+        edge: number,
     }
 }
 

@@ -16,7 +16,7 @@ use Rattle.overlay_walk.proofs.NextPlaces.{next_step, some_next}
 use Rattle.overlay_walk.proofs.OpenPlaces.{unmarked-map, unmarked_at}
 use Rattle.overlay_walk.proofs.TakenSteps.{unmarked-set}
 
-module _ {I D : Type 0} (whole : I → ℤ) (steps : List (StepTaken I D)) (marks : List Bool) (same : length marks ≡ length steps) (hand : Hand) (s : Step) where
+module _ {I : Type 0} (whole : I → ℤ) (steps : List (StepTaken I)) (marks : List Bool) (same : length marks ≡ length steps) (hand : Hand) (s : Step) where
   -- the steps' numbers are as many
   same_plain : length marks ≡ length (plain_steps whole steps)
   same_plain = same ∙ sym (length-map steps (plain_step whole))
@@ -25,7 +25,7 @@ module _ {I D : Type 0} (whole : I → ℤ) (steps : List (StepTaken I D)) (mark
   pub some_is_found : Any (λ t. t.from ≡ s.to) (plain_steps whole (unmarked steps marks)) → ¬ (IsNextPlace (plain_steps whole steps) marks hand s None)
   some_is_found on = some_next (plain_steps whole steps) marks hand s same_plain (subst (Any (λ t. t.from ≡ s.to)) (unmarked-map (plain_step whole) steps marks) on)
 
-  module _ (m : ℕ) (t : StepTaken I D) (is : t ≡ get_or steps m t) (next : IsNextAt (plain_steps whole steps) marks hand s m) where
+  module _ (m : ℕ) (t : StepTaken I) (is : t ≡ get_or steps m t) (next : IsNextAt (plain_steps whole steps) marks hand s m) where
     within : m < length steps
     within = subst (λ n. m < n) (length-map steps (plain_step whole)) next.below
 

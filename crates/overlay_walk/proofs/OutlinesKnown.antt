@@ -1,6 +1,6 @@
 -- Where outlines alone stand in shapes from the start, what is found for holes is their parents.
-use Rattle.std.proofs.Common.{◌≡◌, ℕ, Bool, true, not, List, Option, None, Some, refl, sym, ap, ◌∙◌, subst}
-use Rattle.std.specs.List.{filter, slice_get}
+use Rattle.std.proofs.Common.{◌≡◌, ℕ, Bool, true, not, List, Option, None, Some, refl, ap, subst}
+use Rattle.std.specs.List.{slice_get}
 use Rattle.std.specs.Option.{MatchOption}
 use Rattle.std.specs.Prelude.{slice_index_or}
 use Rattle.std.proofs.lemmas.Bool.{both_ways}

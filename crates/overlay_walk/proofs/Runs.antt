@@ -44,9 +44,9 @@ same_unless_smaller p q less more = by (point_eq p q) refl
 
 -- ---- sorted steps
 
-module _ {I D : Type 0} (whole : I → ℤ) where
+module _ {I : Type 0} (whole : I → ℤ) where
   -- steps by the points that they leave
-  abbrev pub leaves_smaller : StepTaken I D → StepTaken I D → Bool
+  abbrev pub leaves_smaller : StepTaken I → StepTaken I → Bool
   leaves_smaller s t = point_lt (plain_step whole s).from (plain_step whole t).from
 
   -- that is an order in which any two steps compare
@@ -57,30 +57,30 @@ module _ {I D : Type 0} (whole : I → ℤ) where
   }
 
   -- steps sorted by it are in order
-  pub IsByStart-from_sorted : (ss : List (StepTaken I D)) → IsSortedBy leaves_smaller ss → IsByStart (plain_steps whole ss)
+  pub IsByStart-from_sorted : (ss : List (StepTaken I)) → IsSortedBy leaves_smaller ss → IsByStart (plain_steps whole ss)
   IsByStart-from_sorted ss up =
       AllPairs-map (λ (s t : Step). point_lt t.from s.from ≡ false) (plain_step whole) ss
       (λ i j d l m. sorted_far leaves_smaller leaves_smaller-order ss up i j d (omega arith) m)
 
   -- a list with a place has an entry
-  some_entry : (ss : List (StepTaken I D)) (k : ℕ) → k < length ss → StepTaken I D
+  some_entry : (ss : List (StepTaken I)) (k : ℕ) → k < length ss → StepTaken I
   some_entry [] k h = absurd (elim h [ ])
   some_entry (s ∷ ss) k h = s
 
   -- the step leaves a point smaller than p, or a point up to p
-  abbrev pub leaves_below : Point → StepTaken I D → Bool
+  abbrev pub leaves_below : Point → StepTaken I → Bool
   leaves_below p s = point_lt (plain_step whole s).from p
 
-  abbrev pub leaves_up_to : Point → StepTaken I D → Bool
+  abbrev pub leaves_up_to : Point → StepTaken I → Bool
   leaves_up_to p s = not (point_lt p (plain_step whole s).from)
 
-  module _ (ss : List (StepTaken I D)) (by_start : IsByStart (plain_steps whole ss)) (p : Point) where
+  module _ (ss : List (StepTaken I)) (by_start : IsByStart (plain_steps whole ss)) (p : Point) where
     -- the numbers of the step at a place
-    plain_at : (k : ℕ) (d : StepTaken I D) (e : Step) → k < length ss → get_or (plain_steps whole ss) k e ≡ plain_step whole (get_or ss k d)
+    plain_at : (k : ℕ) (d : StepTaken I) (e : Step) → k < length ss → get_or (plain_steps whole ss) k e ≡ plain_step whole (get_or ss k d)
     plain_at k d e h = get_or-map (plain_step whole) ss k d e h
 
     -- of two places the later one holds no step that leaves a smaller point
-    later_leaves : (i j : ℕ) (d : StepTaken I D) → i ≤ j → j < length ss →
+    later_leaves : (i j : ℕ) (d : StepTaken I) → i ≤ j → j < length ss →
         point_lt (plain_step whole (get_or ss j d)).from (plain_step whole (get_or ss i d)).from ≡ false
     later_leaves i j d up h = ⊎_elim
         (λ less. subst (λ s. point_lt s.from (plain_step whole (get_or ss i d)).from ≡ false) (plain_at j d (plain_step whole d) h)
@@ -113,7 +113,7 @@ module _ {I D : Type 0} (whole : I → ℤ) where
     }
       where
         -- what leaves a smaller point is up to p
-        below_is_in_front : (s : StepTaken I D) → leaves_below p s ≡ true → leaves_up_to p s ≡ true
+        below_is_in_front : (s : StepTaken I) → leaves_below p s ≡ true → leaves_up_to p s ≡ true
         below_is_in_front s less = ap not (point_lt-order.one_way (plain_step whole s).from p less)
 
         ordered : low ≤ high

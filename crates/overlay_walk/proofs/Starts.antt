@@ -152,12 +152,12 @@ module _ (ss : List Step) (marks : List Bool) (same : length marks ≡ length ss
       (or_right (point_lt (edge_of t).a (edge_of (step_at ss m)).a) (is_left_at_start t (step_at ss m))
       (and_from (point_eq (edge_of t).a (edge_of (step_at ss m)).a) (turns_left (edge_of (step_at ss m)) (edge_of t)) (point_eq-of_same _ _ at) left))))
 
-module _ {I D : Type 0} (whole : I → ℤ) (limit : ℕ) (steps : List (StepTaken I D)) (marks : List Bool) (same : length marks ≡ length steps) where
+module _ {I : Type 0} (whole : I → ℤ) (limit : ℕ) (steps : List (StepTaken I)) (marks : List Bool) (same : length marks ≡ length steps) where
   -- where no place is found, no step is left
   pub none_left : ((k : ℕ) → 0 ≤ k → k < length steps → is_open marks k ≡ false) → unmarked steps marks ≡ []
   none_left none = unmarked-all steps marks same (λ k h. none k (omega arith) h)
 
-  module _ (long : All (IsLong limit) (plain_steps whole steps)) (m : ℕ) (s : StepTaken I D) (is : s ≡ get_or steps m s)
+  module _ (long : All (IsLong limit) (plain_steps whole steps)) (m : ℕ) (s : StepTaken I) (is : s ≡ get_or steps m s)
       (first : IsFirstPlace (is_open marks) (is_place_started_before (plain_steps whole steps)) 0 (length steps) m) where
     -- the step at the place that is found is left
     pub start_left : Contains (unmarked steps marks) s

@@ -21,14 +21,14 @@ pub without_once : (steps taken : List Step) → HasEachOnce steps → HasEachOn
 without_once steps taken once = AllPairs-from_each Differ (without steps taken) (Each-filter Differ (λ t. not (is_step_of taken t)) steps (Each-from_all_pairs Differ steps once))
 
 -- a walk under way, of steps in range; walked, pending and left are steps that there were
-pub record IsTaking {I D : Type 0} (whole : I → ℤ) (limit : ℕ) (all : List (StepTaken I D)) (hand : Hand) (start : StepTaken I D) (walk : List (StepTaken I D)) (s : StepTaken I D) (left : List (StepTaken I D)) : Type 0 where
+pub record IsTaking {I : Type 0} (whole : I → ℤ) (limit : ℕ) (all : List (StepTaken I)) (hand : Hand) (start : StepTaken I) (walk : List (StepTaken I)) (s : StepTaken I) (left : List (StepTaken I)) : Type 0 where
   pub way : IsUnderWay (plain_steps whole all) hand (plain_step whole start) (plain_steps whole walk) (plain_step whole s) (plain_steps whole left)
   pub long : All (IsLong limit) (plain_steps whole all)
   pub walked : All (Contains all) walk
   pub pending : Contains all s
   pub fewer : All (Contains all) left
 
-module _ {I D : Type 0} (whole : I → ℤ) (limit : ℕ) (all : List (StepTaken I D)) (hand : Hand) (start : StepTaken I D) where
+module _ {I : Type 0} (whole : I → ℤ) (limit : ℕ) (all : List (StepTaken I)) (hand : Hand) (start : StepTaken I) where
   -- how it begins
   pub begins_taking : All (IsLong limit) (plain_steps whole all) → Contains all start → IsTaking whole limit all hand start [] start all
   begins_taking long c = record {
@@ -39,7 +39,7 @@ module _ {I D : Type 0} (whole : I → ℤ) (limit : ℕ) (all : List (StepTaken
     fewer = All-contains_itself all;
   }
 
-  module _ (leads : LeadsOn (plain_steps whole all) hand) (walk : List (StepTaken I D)) (s : StepTaken I D) (left : List (StepTaken I D)) (taking : IsTaking whole limit all hand start walk s left) where
+  module _ (leads : LeadsOn (plain_steps whole all) hand) (walk : List (StepTaken I)) (s : StepTaken I) (left : List (StepTaken I)) (taking : IsTaking whole limit all hand start walk s left) where
     -- the pending step is long, and goes on
     pub pending_long : IsLong limit (plain_step whole s)
     pending_long = All-contains (IsLong limit) (plain_steps whole all) (plain_step whole s) taking.long (Contains-map (plain_step whole) all s taking.pending)
@@ -69,7 +69,7 @@ module _ {I D : Type 0} (whole : I → ℤ) (limit : ℕ) (all : List (StepTaken
     pub walk_begins : step_round (plain_steps whole (walk ++ s ∷ [])) 0 ≡ plain_step whole start
     walk_begins = ap (λ ts. step_round ts 0) pushed ∙ taking.way.begins
 
-    module _ (t : StepTaken I D) (after : List (StepTaken I D)) (next : IsNextStep (plain_steps whole left) hand (plain_step whole s) (plain_step whole t))
+    module _ (t : StepTaken I) (after : List (StepTaken I)) (next : IsNextStep (plain_steps whole left) hand (plain_step whole s) (plain_step whole t))
         (taken : plain_steps whole after ≡ without (plain_steps whole left) (plain_step whole t ∷ [])) where
       -- where the start comes again the walk is the orbit, and what it took is gone
       pub taken_round : plain_step whole t ≡ plain_step whole start → IsOrbit (plain_steps whole all) hand (plain_steps whole (walk ++ s ∷ []))

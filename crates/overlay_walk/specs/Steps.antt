@@ -1,7 +1,8 @@
 -- Steps that a program walks, as whole numbers.
-use Rattle.std.specs.Prelude.{◌≡◌, ℕ, Bool, true, false, cond, ℤ, List, [], ◌∷◌, map, AllPairs}
-use Rattle.overlay_geom.specs.Plane.{Step, point_lt}
+use Rattle.std.specs.Prelude.{◌≡◌, ℕ, Bool, true, false, cond, ℤ, List, [], ◌∷◌, map, AllPairs, slice_get, Some}
+use Rattle.overlay_geom.specs.Plane.{Step, Edge, point_lt}
 use Rattle.overlay_geom.specs.Points.{plain_point, InRange}
+use Rattle.overlay_plane.specs.SelectedSteps.{step_with_left}
 use Rattle.overlay_plane.specs.Turn.{Hand, left, right}
 use Rattle.overlay_arrange.specs.declared.options.ContourDirection.{ContourDirection}
 use Rattle.overlay_arrange.specs.declared.options.ContourDirection.TheVariants.{CounterClockwise, Clockwise}
@@ -31,11 +32,23 @@ hand_told_by (OutlineOrHole direction) s = outline_or_hole_hand (is_on_left dire
 hand_told_by (Always hand) s = plain_hand hand
 
 -- the step at a step's numbers, and those of a list, and of walks
-abbrev pub plain_step : {I D : Type 0} → (I → ℤ) → StepTaken I D → Step
+abbrev pub plain_step : {I : Type 0} → (I → ℤ) → StepTaken I → Step
 plain_step whole s = record { from = plain_point whole s.from; to = plain_point whole s.to }
 
-abbrev pub plain_steps : {I D : Type 0} → (I → ℤ) → List (StepTaken I D) → List Step
+abbrev pub plain_steps : {I : Type 0} → (I → ℤ) → List (StepTaken I) → List Step
 plain_steps whole ss = map (plain_step whole) ss
+
+-- the step leads along the edge, with the upper side of it on its left or the lower one, and has this number
+pub record IsAlong {I : Type 0} (whole : I → ℤ) (number : ℕ) (e : Edge) (s : StepTaken I) : Type 0 where
+  pub above : Bool
+  pub along : plain_step whole s ≡ step_with_left above e
+  pub numbered : s.edge ≡ number
+
+-- the step leads along the edge that stands in the list at the place that it has as its number
+pub record RunsAlong {I : Type 0} (whole : I → ℤ) (edges : List Edge) (s : StepTaken I) : Type 0 where
+  pub edge : Edge
+  pub stands : slice_get edges s.edge ≡ Some edge
+  pub along : IsAlong whole s.edge edge s
 
 -- a step between two different points in range
 pub record IsLong (limit : ℕ) (s : Step) : Type 0 where

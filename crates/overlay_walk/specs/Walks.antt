@@ -6,7 +6,7 @@ use Rattle.overlay_walk.specs.declared.step.Step.{Step as StepTaken}
 use Rattle.overlay_walk.specs.Steps.{plain_steps}
 
 -- the walks at walks' numbers
-abbrev pub plain_walks : {I D A : Type 0} → (I → ℤ) → List (Vec (StepTaken I D) A) → List (List Step)
+abbrev pub plain_walks : {I A : Type 0} → (I → ℤ) → List (Vec (StepTaken I) A) → List (List Step)
 plain_walks whole ws = map (λ w. plain_steps whole w.items) ws
 
 -- the walks, each with the number of a shape, or none, that is told of it

@@ -17,9 +17,9 @@ use std::alloc::Allocator;
 
 /// The anchors of the walks that stand in no shape from the start, in their order, each with the index
 /// of its walk. The only refusal is `Memory`.
-pub fn hole_anchors<I: IntNumber, D: Copy, A: Allocator>(
+pub fn hole_anchors<I: IntNumber, A: Allocator>(
     alloc: A,
-    walks: &[Vec<Step<I, D>, A>],
+    walks: &[Vec<Step<I>, A>],
     known: &[Option<usize>],
 ) -> Result<Vec<WalkEdge<I>, A>, OverlayError>
     requires long { All (All (IsLong I.limit)) (plain_walks I.whole walks.now) }
@@ -39,7 +39,7 @@ pub fn hole_anchors<I: IntNumber, D: Copy, A: Allocator>(
 }
 
 /// The anchor of a walk with this index: the lowest of its edges at its leftmost lowest point.
-fn anchor_of<I: IntNumber, D: Copy>(walk: &[Step<I, D>], index: usize) -> WalkEdge<I>
+fn anchor_of<I: IntNumber>(walk: &[Step<I>], index: usize) -> WalkEdge<I>
     requires some { 0 < length walk.now }
     requires long { All (IsLong I.limit) (plain_steps I.whole walk.now) }
     ensures index { (walk_entry I.whole result).value ≡ index }

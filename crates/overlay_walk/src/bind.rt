@@ -30,10 +30,10 @@ use std::alloc::Allocator;
 /// Shapes are numbered from 0 by their outlines, in the order of the walks. The walks are contours whose
 /// edges meet in ends alone; none walks along an edge twice, and no two filled-above edges are equal.
 /// The scan is empty at first; what it holds afterwards is left open. The only refusal is `Memory`.
-pub fn bind<I: IntNumber, D: Copy, A: Allocator + Clone, S: Scan<I, usize>>(
+pub fn bind<I: IntNumber, A: Allocator + Clone, S: Scan<I, usize>>(
     alloc: A,
     scan: &mut S,
-    walks: &[Vec<Step<I, D>, A>],
+    walks: &[Vec<Step<I>, A>],
     direction: ContourDirection,
 ) -> Result<Vec<Option<usize>, A>, OverlayError>
     requires long { All (All (IsLong I.limit)) (plain_walks I.whole walks.now) }
@@ -63,10 +63,10 @@ pub fn bind<I: IntNumber, D: Copy, A: Allocator + Clone, S: Scan<I, usize>>(
 /// an island the hole round it. The walks are as for [`bind`], with the edges that are filled on the side
 /// in place of the filled-above ones. The scan is empty at first; what it holds afterwards is left open.
 /// The only refusal is `Memory`.
-pub fn find_shapes<I: IntNumber, D: Copy, A: Allocator + Clone, S: Scan<I, usize>>(
+pub fn find_shapes<I: IntNumber, A: Allocator + Clone, S: Scan<I, usize>>(
     alloc: A,
     scan: &mut S,
-    walks: &[Vec<Step<I, D>, A>],
+    walks: &[Vec<Step<I>, A>],
     known: &[Option<usize>],
     direction: ContourDirection,
     side: Side,

@@ -11,7 +11,7 @@ use std::marker::Model;
 #[derive(Drop)]
 pub struct BooleanExtractionBuffer<I: IntNumber, A: Allocator> {
     // without items
-    room: Vec<Step<I, ()>, A>,
+    room: Vec<Step<I>, A>,
 }
 
 impl<I: IntNumber, A: Allocator> Model for BooleanExtractionBuffer<I, A> {
@@ -33,13 +33,13 @@ impl<I: IntNumber, A: Allocator> BooleanExtractionBuffer<I, A> {
     }
 
     /// The room of a list, whose steps are dropped.
-    pub fn new(mut room: Vec<Step<I, ()>, A>) -> Self {
+    pub fn new(mut room: Vec<Step<I>, A>) -> Self {
         room.clear();
         BooleanExtractionBuffer { room }
     }
 
     /// The room, as a list without steps.
-    pub fn into_room(self) -> Vec<Step<I, ()>, A>
+    pub fn into_room(self) -> Vec<Step<I>, A>
         ensures { result.items ≡ [] }
     {
         self.room

@@ -19,11 +19,11 @@ use std::alloc::Allocator;
 /// lowest point, by the hand that the rule tells of this step. The steps alternate round every node, or
 /// the rule tells one hand, by which they lead on. At the end no step is left. The only refusal is
 /// `Memory`, after which the steps left are open.
-pub fn cut_into_contours<I: IntNumber, D: Copy, A: Allocator + Clone>(
+pub fn cut_into_contours<I: IntNumber, A: Allocator + Clone>(
     alloc: A,
-    steps: &mut OpenSteps<I, D, A>,
+    steps: &mut OpenSteps<I, A>,
     rule: HandRule,
-) -> Result<Vec<Vec<Step<I, D>, A>, A>, OverlayError>
+) -> Result<Vec<Vec<Step<I>, A>, A>, OverlayError>
     requires cuttable { CanBeCut (hand_told_by rule) (plain_steps I.whole steps.old) }
     requires once { HasEachOnce (plain_steps I.whole steps.old) }
     ensures cut { IfOk result (λ ws. IsCutInto (hand_told_by rule) (plain_steps I.whole steps.old)
@@ -41,7 +41,7 @@ pub fn cut_into_contours<I: IntNumber, D: Copy, A: Allocator + Clone>(
 }
 
 /// The hand that the rule tells of a step.
-fn hand_by<I: IntNumber, D: Copy>(rule: HandRule, start: Step<I, D>) -> Hand
+fn hand_by<I: IntNumber>(rule: HandRule, start: Step<I>) -> Hand
     ensures { plain_hand result ≡ hand_told_by rule (plain_step I.whole start) }
 {
     match rule {
@@ -51,7 +51,7 @@ fn hand_by<I: IntNumber, D: Copy>(rule: HandRule, start: Step<I, D>) -> Hand
 }
 
 /// The hand by which the contour that starts with a step turns.
-fn hand_of<I: IntNumber, D: Copy>(start: Step<I, D>, direction: ContourDirection) -> Hand
+fn hand_of<I: IntNumber>(start: Step<I>, direction: ContourDirection) -> Hand
     ensures { plain_hand result ≡ outline_or_hole_hand (is_on_left direction) (plain_step I.whole start) }
 {
     let (filled, empty) = match direction {

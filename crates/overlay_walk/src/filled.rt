@@ -14,10 +14,7 @@ use overlay_geom::number::IntNumber;
 
 /// Whether the filled side of the step is the upper one of its edge. It is the step's left side where
 /// the direction is counterclockwise, else its right one.
-pub fn is_filled_above<I: IntNumber, D: Copy>(
-    step: &Step<I, D>,
-    direction: ContourDirection,
-) -> bool
+pub fn is_filled_above<I: IntNumber>(step: &Step<I>, direction: ContourDirection) -> bool
     ensures { result ≡ is_filled_above (is_on_left direction) (plain_step I.whole step.now) }
 {
     match direction {
@@ -27,7 +24,7 @@ pub fn is_filled_above<I: IntNumber, D: Copy>(
 }
 
 /// Whether the walk is a hole: it begins with an edge that is filled above.
-pub fn is_hole<I: IntNumber, D: Copy>(walk: &[Step<I, D>], direction: ContourDirection) -> bool
+pub fn is_hole<I: IntNumber>(walk: &[Step<I>], direction: ContourDirection) -> bool
     ensures { result ≡ is_hole (is_on_left direction) (plain_steps I.whole walk.now) }
 {
     match walk {
@@ -37,7 +34,7 @@ pub fn is_hole<I: IntNumber, D: Copy>(walk: &[Step<I, D>], direction: ContourDir
 }
 
 /// The edge along which a step of the walk with this index leads.
-pub(crate) fn edge_along<I: IntNumber, D: Copy>(step: &Step<I, D>, walk: usize) -> WalkEdge<I>
+pub(crate) fn edge_along<I: IntNumber>(step: &Step<I>, walk: usize) -> WalkEdge<I>
     requires { IsLong I.limit (plain_step I.whole step.now) }
     ensures { walk_entry I.whole result ≡ record { edge = edge_of (plain_step I.whole step.now); value = walk } }
 {

@@ -20,9 +20,9 @@ use std::alloc::Allocator;
 
 /// The filled-above edges of all walks, in the order of their smaller ends, each with the index of its
 /// walk. The only refusal is `Memory`.
-pub fn filled_edges<I: IntNumber, D: Copy, A: Allocator>(
+pub fn filled_edges<I: IntNumber, A: Allocator>(
     alloc: A,
-    walks: &[Vec<Step<I, D>, A>],
+    walks: &[Vec<Step<I>, A>],
     direction: ContourDirection,
 ) -> Result<Vec<WalkEdge<I>, A>, OverlayError>
     requires long { All (All (IsLong I.limit)) (plain_walks I.whole walks.now) }
@@ -36,9 +36,9 @@ pub fn filled_edges<I: IntNumber, D: Copy, A: Allocator>(
 }
 
 /// The same, walk by walk.
-fn edges_walk_by_walk<I: IntNumber, D: Copy, A: Allocator>(
+fn edges_walk_by_walk<I: IntNumber, A: Allocator>(
     alloc: A,
-    walks: &[Vec<Step<I, D>, A>],
+    walks: &[Vec<Step<I>, A>],
     direction: ContourDirection,
 ) -> Result<Vec<WalkEdge<I>, A>, OverlayError>
     requires long { All (All (IsLong I.limit)) (plain_walks I.whole walks.now) }
@@ -55,9 +55,9 @@ fn edges_walk_by_walk<I: IntNumber, D: Copy, A: Allocator>(
 }
 
 /// Adds the filled-above edges of a walk with this index.
-fn push_filled<I: IntNumber, D: Copy, A: Allocator>(
+fn push_filled<I: IntNumber, A: Allocator>(
     edges: &mut Vec<WalkEdge<I>, A>,
-    walk: &[Step<I, D>],
+    walk: &[Step<I>],
     index: usize,
     direction: ContourDirection,
 ) -> Result<(), OverlayError>

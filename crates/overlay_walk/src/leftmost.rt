@@ -14,7 +14,7 @@ use std::cmp::Ordering;
 
 /// The place of the step along the top edge at the leftmost lowest point of the steps that are not
 /// taken, or None where all are.
-pub fn place_of_start<I: IntNumber, D: Copy>(steps: &[Step<I, D>], taken: &[bool]) -> Option<usize>
+pub fn place_of_start<I: IntNumber>(steps: &[Step<I>], taken: &[bool]) -> Option<usize>
     requires marks { length taken.now ≡ length steps.now }
     requires long { All (IsLong I.limit) (plain_steps I.whole steps.now) }
     ensures { IsFirstOf (is_open taken.now) (is_place_started_before (plain_steps I.whole steps.now)) 0 (length steps.now) result }
@@ -27,8 +27,8 @@ pub fn place_of_start<I: IntNumber, D: Copy>(steps: &[Step<I, D>], taken: &[bool
 }
 
 /// A place where it is open and its step starts before the one found so far, else that one.
-fn first_of<I: IntNumber, D: Copy>(
-    steps: &[Step<I, D>],
+fn first_of<I: IntNumber>(
+    steps: &[Step<I>],
     taken: &[bool],
     found: Option<usize>,
     place: usize,
@@ -47,11 +47,7 @@ fn first_of<I: IntNumber, D: Copy>(
 }
 
 /// Whether the step at a place starts before the one found so far, if there is one.
-fn is_start_of<I: IntNumber, D: Copy>(
-    steps: &[Step<I, D>],
-    found: Option<usize>,
-    place: usize,
-) -> bool
+fn is_start_of<I: IntNumber>(steps: &[Step<I>], found: Option<usize>, place: usize) -> bool
     requires place { place < length steps.now }
     requires found { IfSome found (λ k. k < length steps.now) }
     requires long { All (IsLong I.limit) (plain_steps I.whole steps.now) }
@@ -65,7 +61,7 @@ fn is_start_of<I: IntNumber, D: Copy>(
 
 /// Whether the edge of a step starts in a smaller point than that of another one, or in the same
 /// point and leads to the left of it.
-pub fn starts_before<I: IntNumber, D: Copy>(s: Step<I, D>, t: Step<I, D>) -> bool
+pub fn starts_before<I: IntNumber>(s: Step<I>, t: Step<I>) -> bool
     requires s { IsLong I.limit (plain_step I.whole s) }
     requires t { IsLong I.limit (plain_step I.whole t) }
     ensures { result ≡ starts_before (plain_step I.whole s) (plain_step I.whole t) }

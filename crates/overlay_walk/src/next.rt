@@ -17,10 +17,10 @@ use overlay_geom::point::IntPoint;
 /// The place of the step that a ray meets first which turns by the hand, at the end of a step from
 /// the way back along it, among the steps that leave that end and are not taken; or None where
 /// there is none.
-pub fn place_of_next<I: IntNumber, D: Copy>(
-    steps: &[Step<I, D>],
+pub fn place_of_next<I: IntNumber>(
+    steps: &[Step<I>],
     taken: &[bool],
-    step: Step<I, D>,
+    step: Step<I>,
     hand: Hand,
 ) -> Option<usize>
     requires marks { length taken.now ≡ length steps.now }
@@ -45,7 +45,7 @@ pub fn place_of_next<I: IntNumber, D: Copy>(
 }
 
 /// The places of the steps that leave a point: the first of them, and the one after the last.
-fn run_from<I: IntNumber, D: Copy>(steps: &[Step<I, D>], p: IntPoint<I>) -> (usize, usize)
+fn run_from<I: IntNumber>(steps: &[Step<I>], p: IntPoint<I>) -> (usize, usize)
     requires { IsByStart (plain_steps I.whole steps.now) }
     ensures { IsRun (plain_steps I.whole steps.now) (plain_point I.whole p) result.0 result.1 }
 {

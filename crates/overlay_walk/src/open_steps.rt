@@ -23,19 +23,19 @@ use std::marker::Model;
 
 /// Steps between different points in range, and which of them are left to be walked.
 #[derive(Drop)]
-pub struct OpenSteps<I: IntNumber, D: Copy, A: Allocator> {
+pub struct OpenSteps<I: IntNumber, A: Allocator> {
     // in the order of the points that they leave
-    steps: Vec<Step<I, D>, A>,
+    steps: Vec<Step<I>, A>,
     // which of them a walk has taken
     taken: Vec<bool, A>,
 }
 
-impl<I: IntNumber, D: Copy, A: Allocator> Model for OpenSteps<I, D, A> {
+impl<I: IntNumber, A: Allocator> Model for OpenSteps<I, A> {
     ghost use Rattle.std.specs.Prelude.{◌≡◌, List, length, All};
     ghost use Rattle.overlay_walk.specs.declared.step.Step.{Step};
     ghost use Rattle.overlay_walk.specs.Steps.{plain_steps, IsByStart, IsLong, unmarked};
 
-    ghost Value = { List (Step I D) };
+    ghost Value = { List (Step I) };
 
     ghost view = { λ o. unmarked o.steps.items o.taken.items };
 
@@ -43,9 +43,9 @@ impl<I: IntNumber, D: Copy, A: Allocator> Model for OpenSteps<I, D, A> {
         × (IsByStart (plain_steps I.whole o.steps.items) × All (IsLong I.limit) (plain_steps I.whole o.steps.items)) };
 }
 
-impl<I: IntNumber, D: Copy, A: Allocator> OpenSteps<I, D, A> {
+impl<I: IntNumber, A: Allocator> OpenSteps<I, A> {
     /// The room of the steps, to be used again, as a list without steps.
-    pub fn into_room(self) -> Vec<Step<I, D>, A>
+    pub fn into_room(self) -> Vec<Step<I>, A>
         ensures { result.items ≡ [] }
     {
         let mut room = self.steps;
@@ -55,7 +55,7 @@ impl<I: IntNumber, D: Copy, A: Allocator> OpenSteps<I, D, A> {
 
     /// The step along the top edge at the leftmost lowest point of the steps left, or None where
     /// none is left.
-    pub fn start(&self) -> Option<Step<I, D>>
+    pub fn start(&self) -> Option<Step<I>>
         ensures none { (result ≡ None) ↔ (self.now ≡ []) }
         ensures some { IfSome result (λ s. Contains self.now s) }
         ensures start { IfSome result (λ s. IsStart (plain_steps I.whole self.now) (plain_step I.whole s)) }
@@ -65,7 +65,7 @@ impl<I: IntNumber, D: Copy, A: Allocator> OpenSteps<I, D, A> {
     }
 
     // Takes the next step by a hand after a step at whose end the steps left go on.
-    fn take_next(&mut self, step: Step<I, D>, hand: Hand) -> Step<I, D>
+    fn take_next(&mut self, step: Step<I>, hand: Hand) -> Step<I>
         requires once { HasEachOnce (plain_steps I.whole self.old) }
         requires long { IsLong I.limit (plain_step I.whole step) }
         requires goes_on { Any (λ t. t.from ≡ (plain_step I.whole step).to) (plain_steps I.whole self.old) }
@@ -85,9 +85,9 @@ impl<I: IntNumber, D: Copy, A: Allocator> OpenSteps<I, D, A> {
     }
 }
 
-impl<I: IntNumber, D: Copy, A: Allocator + Clone> OpenSteps<I, D, A> {
+impl<I: IntNumber, A: Allocator + Clone> OpenSteps<I, A> {
     /// All the steps, none of them taken. The only refusal is `Memory`.
-    pub fn new(mut steps: Vec<Step<I, D>, A>) -> Result<Self, OverlayError>
+    pub fn new(mut steps: Vec<Step<I>, A>) -> Result<Self, OverlayError>
         requires { All (IsLong I.limit) (plain_steps I.whole steps.items) }
         ensures all { IfOk result (λ o. IsPermutation steps.items o) }
         ensures err { IsOkUnless result OverlayError.Memory }
@@ -102,11 +102,7 @@ impl<I: IntNumber, D: Copy, A: Allocator + Clone> OpenSteps<I, D, A> {
     /// meets first which turns by the hand, at the end of the step, from the way back along it. The
     /// steps left lead on by the hand: at the end of each one leaves, and no two have the same next
     /// step. The only refusal is `Memory`; what is left then is left open.
-    pub fn walk(
-        &mut self,
-        start: Step<I, D>,
-        hand: Hand,
-    ) -> Result<Vec<Step<I, D>, A>, OverlayError>
+    pub fn walk(&mut self, start: Step<I>, hand: Hand) -> Result<Vec<Step<I>, A>, OverlayError>
         requires leads_on { LeadsOn (plain_steps I.whole self.old) (plain_hand hand) }
         requires once { HasEachOnce (plain_steps I.whole self.old) }
         requires left { Contains self.old start }
@@ -131,9 +127,7 @@ impl<I: IntNumber, D: Copy, A: Allocator + Clone> OpenSteps<I, D, A> {
 }
 
 /// Puts the steps into the order of the points that they leave.
-fn sort_steps<I: IntNumber, D: Copy, A: Allocator>(
-    steps: &mut Vec<Step<I, D>, A>,
-) -> Result<(), OverlayError>
+fn sort_steps<I: IntNumber, A: Allocator>(steps: &mut Vec<Step<I>, A>) -> Result<(), OverlayError>
     ensures permutation { IsPermutation steps.old.items steps.new.items }
     ensures order { OnOk result (IsByStart (plain_steps I.whole steps.new.items)) }
     ensures err { IsOkUnless result OverlayError.Memory }
@@ -143,7 +137,7 @@ fn sort_steps<I: IntNumber, D: Copy, A: Allocator>(
 }
 
 /// Whether two steps lead between the same points.
-fn is_same<I: IntNumber, D: Copy>(s: Step<I, D>, t: Step<I, D>) -> bool
+fn is_same<I: IntNumber>(s: Step<I>, t: Step<I>) -> bool
     ensures { result ≡ step_eq (plain_step I.whole s) (plain_step I.whole t) }
 {
     compare_points(s.from, t.from).is_eq() && compare_points(s.to, t.to).is_eq()

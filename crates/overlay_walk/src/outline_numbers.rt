@@ -14,9 +14,9 @@ use std::alloc::Allocator;
 
 /// For each walk its number among the outlines, counted from 0, or None for a hole. The only refusal
 /// is `Memory`.
-pub fn outline_numbers<I: IntNumber, D: Copy, A: Allocator>(
+pub fn outline_numbers<I: IntNumber, A: Allocator>(
     alloc: A,
-    walks: &[Vec<Step<I, D>, A>],
+    walks: &[Vec<Step<I>, A>],
     direction: ContourDirection,
 ) -> Result<Vec<Option<usize>, A>, OverlayError>
     ensures ok { IfOk result (λ v. AreOutlineNumbers (is_on_left direction) (plain_walks I.whole walks.now) v.items) }

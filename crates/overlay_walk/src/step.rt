@@ -9,26 +9,26 @@ use overlay_arrange::edge::compare_points;
 use overlay_geom::number::IntNumber;
 use overlay_geom::point::IntPoint;
 
-/// A step along an edge, and what the edge carries.
+/// A step along an edge, and the number of this edge.
 #[derive(Debug, Clone, Copy, PartialEq, Eq)]
-pub struct Step<I, D> {
+pub struct Step<I> {
     /// Where it begins.
     pub from: IntPoint<I>,
     /// Where it ends.
     pub to: IntPoint<I>,
-    /// What its edge carries.
-    pub edge_data: D,
+    /// The place of its edge in the list of edges of which the steps are made.
+    pub edge: usize,
 }
 
 /// Whether the step leads from its edge's smaller end to the larger one.
-pub(crate) fn is_forward<I: IntNumber, D: Copy>(step: &Step<I, D>) -> bool
+pub(crate) fn is_forward<I: IntNumber>(step: &Step<I>) -> bool
     ensures { result ≡ is_forward (plain_step I.whole step.now) }
 {
     compare_points(step.from, step.to).is_lt()
 }
 
 /// The ends of the edge along which the step leads, the smaller one first.
-pub(crate) fn ends_of<I: IntNumber, D: Copy>(step: Step<I, D>) -> (IntPoint<I>, IntPoint<I>)
+pub(crate) fn ends_of<I: IntNumber>(step: Step<I>) -> (IntPoint<I>, IntPoint<I>)
     ensures start { plain_point I.whole result.0 ≡ (edge_of (plain_step I.whole step)).a }
     ensures end { plain_point I.whole result.1 ≡ (edge_of (plain_step I.whole step)).b }
 {

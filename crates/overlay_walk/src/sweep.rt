@@ -28,10 +28,10 @@ use std::alloc::Allocator;
 /// For each walk that stands in no shape from the start (`known` has None there) the number of the shape
 /// that is found for it by its next filled-above edge, if one is. The scan is empty at first; what it
 /// holds afterwards is left open. The only refusal is `Memory`.
-pub fn parents_by_sweep<I: IntNumber, D: Copy, A: Allocator + Clone, S: Scan<I, usize>>(
+pub fn parents_by_sweep<I: IntNumber, A: Allocator + Clone, S: Scan<I, usize>>(
     alloc: A,
     scan: &mut S,
-    walks: &[Vec<Step<I, D>, A>],
+    walks: &[Vec<Step<I>, A>],
     known: &[Option<usize>],
     direction: ContourDirection,
 ) -> Result<Vec<Option<usize>, A>, OverlayError>

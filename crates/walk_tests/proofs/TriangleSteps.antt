@@ -133,7 +133,7 @@ triangle_once =
 -- ---- in the program's steps
 
 -- steps that are the triangle's, in whichever order, alternate
-pub shuffled_alternates : {I D : Type 0} (whole : I → ℤ) (ss os : List (StepTaken I D)) → plain_steps whole ss ≡ triangle → IsPermutation ss os →
+pub shuffled_alternates : {I : Type 0} (whole : I → ℤ) (ss os : List (StepTaken I)) → plain_steps whole ss ≡ triangle → IsPermutation ss os →
     Alternates (plain_steps whole os)
 shuffled_alternates whole ss os is moved = alternate_alike triangle (plain_steps whole os)
     (same_shuffled triangle (plain_steps whole os)
@@ -141,7 +141,7 @@ shuffled_alternates whole ss os is moved = alternate_alike triangle (plain_steps
     triangle_alternates
 
 -- and each stands once
-pub shuffled_once : {I D : Type 0} (whole : I → ℤ) (ss os : List (StepTaken I D)) → plain_steps whole ss ≡ triangle → IsPermutation ss os →
+pub shuffled_once : {I : Type 0} (whole : I → ℤ) (ss os : List (StepTaken I)) → plain_steps whole ss ≡ triangle → IsPermutation ss os →
     HasEachOnce (plain_steps whole os)
 shuffled_once whole ss os is moved = once_shuffled triangle (plain_steps whole os)
     (subst (λ ts. IsPermutation ts (plain_steps whole os)) is (IsPermutation-map (plain_step whole) ss os moved)) triangle_once

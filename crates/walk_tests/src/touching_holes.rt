@@ -19,13 +19,13 @@ use std::alloc::Global;
 use std::test::Fail;
 
 // The step from the point (ax, ay) to the point (bx, by).
-fn step(ax: i32, ay: i32, bx: i32, by: i32) -> Step<i32, ()>
+fn step(ax: i32, ay: i32, bx: i32, by: i32) -> Step<i32>
     ensures { plain_step (λ z. z) result ≡ record { from = record { x = ax; y = ay }; to = record { x = bx; y = by } } }
 {
     Step {
         from: IntPoint::new(ax, ay),
         to: IntPoint::new(bx, by),
-        edge_data: (),
+        edge: 0,
     }
 }
 
@@ -35,7 +35,7 @@ fn step(ax: i32, ay: i32, bx: i32, by: i32) -> Step<i32, ()>
 // point along this edge, which is filled below; a hole leaves it along one that is filled above.
 fn three_outlines_and_two_holes(
     alloc: Global,
-) -> Result<Vec<Vec<Step<i32, ()>, Global>, Global>, OverlayError>
+) -> Result<Vec<Vec<Step<i32>, Global>, Global>, OverlayError>
     ensures long { IfOk result (λ v. All (All (IsLong 1073741823)) (plain_walks (λ z. z) v.items)) }
     ensures contours { IfOk result (λ v. All IsContour (plain_walks (λ z. z) v.items)) }
     ensures single { IfOk result (λ v. All HasEachEdgeOnce (plain_walks (λ z. z) v.items)) }

@@ -23,7 +23,7 @@ fn steps_round<I: IntNumber>(
     alloc: Global,
     zero: I,
     four: I,
-) -> Result<Vec<Step<I, u8>, Global>, OverlayError>
+) -> Result<Vec<Step<I>, Global>, OverlayError>
     requires zero { I.whole zero ≡ pos 0 }
     requires four { I.whole four ≡ pos 4 }
     ensures { IfOk result (λ v. plain_steps I.whole v.items
@@ -36,17 +36,17 @@ fn steps_round<I: IntNumber>(
         Step {
             from: corner,
             to: right,
-            edge_data: 1,
+            edge: 1,
         },
         Step {
             from: right,
             to: top,
-            edge_data: 2,
+            edge: 2,
         },
         Step {
             from: top,
             to: corner,
-            edge_data: 3,
+            edge: 3,
         },
     ];
     Ok(Vec::from_array(alloc, round)?)
@@ -57,7 +57,7 @@ fn open_triangle<I: IntNumber>(
     alloc: Global,
     zero: I,
     four: I,
-) -> Result<OpenSteps<I, u8, Global>, OverlayError>
+) -> Result<OpenSteps<I, Global>, OverlayError>
     requires zero { I.whole zero ≡ pos 0 }
     requires four { I.whole four ≡ pos 4 }
     requires limit { 4 ≤ I.limit }
@@ -69,12 +69,8 @@ fn open_triangle<I: IntNumber>(
 }
 
 // Whether these are the numbers of the steps, in order.
-fn has_numbers<I: IntNumber>(walk: &[Step<I, u8>], numbers: &[u8]) -> bool {
-    walk.len() == numbers.len()
-        && walk
-            .iter()
-            .zip(numbers.iter())
-            .all(|(s, n)| s.edge_data == *n)
+fn has_numbers<I: IntNumber>(walk: &[Step<I>], numbers: &[usize]) -> bool {
+    walk.len() == numbers.len() && walk.iter().zip(numbers.iter()).all(|(s, n)| s.edge == *n)
 }
 
 // A walk by the hand begins along the left edge, the top one at the leftmost lowest point, and takes all
@@ -92,7 +88,7 @@ fn check_walk<I: IntNumber>(
 {
     let mut steps = open_triangle(alloc, zero, four)?;
     let start = steps.start().expect(rt, "steps are left");
-    assert!(rt; start.edge_data == 3);
+    assert!(rt; start.edge == 3);
     let walk = steps.walk(start, hand)?;
     assert!(rt; has_numbers(&walk, &[3, 1, 2]));
     assert!(rt; steps.start().is_none());

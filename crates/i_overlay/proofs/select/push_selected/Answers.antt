@@ -1,16 +1,26 @@
--- The next edge moves from what is to come to what stands.
-use Rattle.std.proofs.Common.{◌+◌, map, drop}
+-- The next edge moves from what is to come to what stands, and its step has its number.
+use Rattle.std.proofs.Common.{◌≡◌, ◌+◌, Some, map, drop, refl, ap, ◌∙◌}
+use Rattle.std.specs.List.{slice_get}
+use Rattle.std.specs.Option.{option_map}
+use Rattle.std.proofs.lemmas.Option.{slice_get-map, slice_get_read}
 use Rattle.overlay_geom.proofs.Mapped.{mapped_rest}
 use Rattle.overlay_arrange.specs.Vectors.{plain_vector}
 use Rattle.overlay_arrange.proofs.Appended.{next_appended}
 use Rattle.overlay_walk.specs.Steps.{is_on_left, plain_steps}
-use Rattle.i_overlay.specs.Selection.{steps_by_bits}
+use Rattle.i_overlay.specs.Selection.{ends, steps_by_bits}
 use Rattle.i_overlay.proofs.select.push_selected.Goals as goal
 
-pub loop-edge-preserved : goal.loop-edge-preserved
-loop-edge-preserved g c =
+pub loop-number-preserved : goal.loop-number-preserved
+loop-number-preserved g c =
     let vector = plain_vector g.I.IntNumber.whole in
-    next_appended (steps_by_bits c.args.rule (is_on_left c.args.direction)) (plain_steps g.I.IntNumber.whole c.loop-edge.steps.items) _
-    (vector c.edge-item.result) (map vector (drop (c.loop-edge.edge-index + 1) c.args.edges.now)) _ _
-    (mapped_rest vector c.args.edges.now c.loop-edge.edge-index c.edge-item.result c.loop-edge-test.true c.edge-item.is)
-    c.loop-edge.invariant c.in_ok-push_step.ensures.ok
+    let edges = c.args.edges.now in
+    let edge = c.index-edges-number.result in
+    let stands : slice_get (map (λ v. ends (vector v)) edges) c.loop-number.number ≡ Some (ends (vector edge)) =
+    slice_get-map (λ v. ends (vector v)) edges c.loop-number.number
+    ∙ ap (option_map (λ v. ends (vector v))) (slice_get_read edges _ c.loop-number.number edge refl c.loop-number-test.true c.index-edges-number.is) in (
+      next_appended (steps_by_bits c.args.rule (is_on_left c.args.direction)) (plain_steps g.I.IntNumber.whole c.loop-number.steps.items) _
+          (vector edge) (map vector (drop (c.loop-number.number + 1) edges)) _ _
+          (mapped_rest vector edges c.loop-number.number edge c.loop-number-test.true c.index-edges-number.is)
+          c.loop-number.invariant.0 c.in_ok-push_step.ensures.ok,
+      λ stood. c.in_ok-push_step.ensures.along (map (λ v. ends (vector v)) edges) stands (c.loop-number.invariant.1 stood),
+    )

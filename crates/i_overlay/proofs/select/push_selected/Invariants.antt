@@ -1,14 +1,16 @@
--- The steps so far and those of the edges to come make the whole.
-use Rattle.std.proofs.Common.{◌≡◌, ◌++◌, map, drop}
+-- The steps so far and those of the edges to come make the whole, and each runs along its edge if those that stood at first do.
+use Rattle.std.proofs.Common.{◌≡◌, ◌++◌, map, drop, All}
 use Rattle.std.specs.List.{flat_map}
 use Rattle.overlay_arrange.specs.Vectors.{plain_vector}
-use Rattle.overlay_walk.specs.Steps.{is_on_left, plain_steps}
-use Rattle.i_overlay.specs.Selection.{steps_by_bits}
+use Rattle.overlay_walk.specs.Steps.{is_on_left, plain_steps, RunsAlong}
+use Rattle.i_overlay.specs.Selection.{ends, steps_by_bits}
 use Rattle.i_overlay.proofs.select.push_selected.Given as goal
 
-abbrev pub invariant-loop-edge : goal.invariant-loop-edge
-invariant-loop-edge g l =
-    plain_steps g.I.IntNumber.whole l.steps.items
-    ++ flat_map (steps_by_bits l.rule (is_on_left l.direction)) (map (plain_vector g.I.IntNumber.whole) (drop l.edge-index l.edges))
+abbrev pub invariant-loop-number : goal.invariant-loop-number
+invariant-loop-number g l =
+    (plain_steps g.I.IntNumber.whole l.steps.items
+    ++ flat_map (steps_by_bits l.rule (is_on_left l.direction)) (map (plain_vector g.I.IntNumber.whole) (drop l.number l.edges))
     ≡ plain_steps g.I.IntNumber.whole l.initial.steps.items
-    ++ flat_map (steps_by_bits l.rule (is_on_left l.direction)) (map (plain_vector g.I.IntNumber.whole) l.edges)
+    ++ flat_map (steps_by_bits l.rule (is_on_left l.direction)) (map (plain_vector g.I.IntNumber.whole) l.edges))
+    × (All (RunsAlong g.I.IntNumber.whole (map (λ v. ends (plain_vector g.I.IntNumber.whole v)) l.edges)) l.initial.steps.items
+    → All (RunsAlong g.I.IntNumber.whole (map (λ v. ends (plain_vector g.I.IntNumber.whole v)) l.edges)) l.steps.items)

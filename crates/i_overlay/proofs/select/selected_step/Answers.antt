@@ -8,13 +8,13 @@ use Rattle.i_overlay.proofs.OneSide.{no_step, one_step}
 use Rattle.i_overlay.proofs.select.selected_step.Goals as goal
 use Rattle.i_overlay.proofs.select.selected_step.Goals.{in-CounterClockwise, in-Clockwise}
 
-pub returns-then-above-below : goal.returns-then-above-below
-returns-then-above-below g c =
+pub returns-then-above-below-clause-step : goal.returns-then-above-below-clause-step
+returns-then-above-below-clause-step g c =
     no_step (is_on_left c.args.direction) (λ t. step_with_left t (ends (plain_vector g.I.IntNumber.whole c.args.edge))) _ _ _ _
     c.holds_above-above.ensures c.holds_below-below.ensures c.if-above-below.true
 
-pub returns : goal.returns
-returns g c =
+pub returns-clause-step : goal.returns-clause-step
+returns-clause-step g c =
     let above = c.holds_above-above.result in
     let below = c.holds_below-below.result in
     let along : c.match-direction.goes_along ≡ cond (is_on_left c.args.direction) above below = elim c.match-direction.branch [
@@ -22,4 +22,7 @@ returns g c =
       | in-Clockwise w ↦ w.goes_along-is ∙ ap (λ d. cond (is_on_left d) above below) (sym w.in-Clockwise.is)
     ] in
     one_step (is_on_left c.args.direction) (λ t. step_with_left t (ends (plain_vector g.I.IntNumber.whole c.args.edge))) above below _ _
-    c.holds_above-above.ensures c.holds_below-below.ensures c.match-direction.goes_along _ c.if-above-below.false along c.step_along.ensures
+    c.holds_above-above.ensures c.holds_below-below.ensures c.match-direction.goes_along _ c.if-above-below.false along c.step_along.ensures.step
+
+pub returns-clause-along : goal.returns-clause-along
+returns-clause-along g c = record { above = c.match-direction.goes_along; along = c.step_along.ensures.step; numbered = c.step_along.ensures.number }

@@ -1,5 +1,5 @@
 -- The anchor of a walk that stands in no shape is added, and at last all are sorted.
-use Rattle.std.proofs.Common.{◌≡◌, ◌+◌, ◌∷◌, [], List, None, length, ◌<◌, not, get_or, sym, ap, ◌∙◌, subst, arith}
+use Rattle.std.proofs.Common.{◌+◌, ◌∷◌, [], List, None, length, ◌<◌, not, get_or, sym, ap, ◌∙◌, subst, arith}
 use Rattle.std.proofs.lemmas.List.{length-map, map-append}
 use Rattle.std.proofs.lemmas.List.Sorted.{IsPermutation-map}
 use Rattle.overlay_plane.specs.Contours.{IsContour}

@@ -6,7 +6,7 @@ use Rattle.overlay_walk.specs.Steps.{plain_step, plain_steps, is_on_left}
 use Rattle.overlay_walk.specs.declared.step.Step.{Step as StepTaken}
 use Rattle.overlay_walk.proofs.filled.is_hole.Goals as goal
 
-first_tells : {I D : Type 0} (whole : I → ℤ) (on_left : Bool) (ss : List (StepTaken I D)) (s : StepTaken I D) → 1 ≤ length ss
+first_tells : {I : Type 0} (whole : I → ℤ) (on_left : Bool) (ss : List (StepTaken I)) (s : StepTaken I) → 1 ≤ length ss
     → s ≡ get_or ss 0 s → is_hole on_left (plain_steps whole ss) ≡ is_filled_above on_left (plain_step whole s)
 first_tells whole on_left [] s some at = absurd (omega (arith, some))
 first_tells whole on_left (t ∷ ss) s some at = ap (λ u. is_filled_above on_left (plain_step whole u)) (sym at)

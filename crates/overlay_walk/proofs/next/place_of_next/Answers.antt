@@ -12,7 +12,7 @@ use Rattle.overlay_walk.proofs.next.place_of_next.Goals as goal
 use Rattle.overlay_walk.proofs.next.place_of_next.Goals.{then-is_open+then-add, else-is_open, else-is_open-via-then-is_open+else-add, else-is_open-via-else-is_open}
 
 -- the end of a step that is read, as a whole point
-end_is : {I D : Type 0} (whole : I → ℤ) (steps : List (StepTaken I D)) (i : ℕ) (d : StepTaken I D) → i < length steps →
+end_is : {I : Type 0} (whole : I → ℤ) (steps : List (StepTaken I)) (i : ℕ) (d : StepTaken I) → i < length steps →
     plain_point whole (get_or steps i d).to ≡ (step_at (plain_steps whole steps) i).to
 end_is whole steps i d within = ap (λ (s : Step). s.to) (sym (get_or-map (plain_step whole) steps i d _ within))
 

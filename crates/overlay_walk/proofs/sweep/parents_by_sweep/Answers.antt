@@ -13,7 +13,7 @@ use Rattle.overlay_walk.specs.Steps.{plain_steps, is_on_left}
 use Rattle.overlay_walk.specs.WalkEdges.{walk_entry, walk_entries, IsHoleEntry, AreHoleEntries, IsByAnchor}
 use Rattle.overlay_walk.specs.Walks.{plain_walks}
 use Rattle.overlay_walk.proofs.HolesTold.{shape_of}
-use Rattle.overlay_walk.proofs.Sweeping.{nothing_swept, at_front, entries_settled, anchor_over, anchor_meets, swept_on, told_on, all_walks_told}
+use Rattle.overlay_walk.proofs.Sweeping.{nothing_swept, at_front, entries_settled, anchor_meets, swept_on, told_on, all_walks_told}
 use Rattle.overlay_walk.proofs.sweep.parents_by_sweep.Goals as goal
 
 pub loop-hole-init : goal.loop-hole-init

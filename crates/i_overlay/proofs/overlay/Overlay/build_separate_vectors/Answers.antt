@@ -1,5 +1,5 @@
 -- The edges are arranged, and then listed.
-use Rattle.std.proofs.Common.{sym, ap, subst, ◌∙◌}
+use Rattle.std.proofs.Common.{ap, subst, ◌∙◌}
 use Rattle.overlay_plane.specs.Carried.{edges_in}
 use Rattle.overlay_builder.specs.Held.{AnswersQuery, plain_held}
 use Rattle.overlay_builder.proofs.Queries.{answers_after}

@@ -11,7 +11,7 @@ use Rattle.overlay_walk.proofs.OpenPlaces.{unmarked-fewer}
 use Rattle.overlay_walk.proofs.open_steps.OpenSteps.take_next.Goals as goal
 
 -- the place is one of the steps
-place_within : {I D : Type 0} (whole : I → ℤ) (steps : List (StepTaken I D)) (marks : List Bool) (hand : Hand) (s : Step) (m : ℕ)
+place_within : {I : Type 0} (whole : I → ℤ) (steps : List (StepTaken I)) (marks : List Bool) (hand : Hand) (s : Step) (m : ℕ)
     → IsNextPlace (plain_steps whole steps) marks hand s (Some m) → m < length steps
 place_within whole steps marks hand s m next = omega (arith, next.below, length-map steps (plain_step whole))
 
@@ -20,11 +20,11 @@ place_of_next-requires-clause-marks g c = ap length c.deref-2.ensures.value ∙ 
 
 pub place_of_next-requires-clause-by_start : goal.place_of_next-requires-clause-by_start
 place_of_next-requires-clause-by_start g c =
-    subst (λ (ss : List (StepTaken g.row.I.Denot g.row.D.Denot)). IsByStart (plain_steps g.I.IntNumber.whole ss)) (sym c.deref.ensures.value) c.self.invariant.1.0
+    subst (λ (ss : List (StepTaken g.row.I.Denot)). IsByStart (plain_steps g.I.IntNumber.whole ss)) (sym c.deref.ensures.value) c.self.invariant.1.0
 
 pub place_of_next-requires-clause-long : goal.place_of_next-requires-clause-long
 place_of_next-requires-clause-long g c =
-    subst (λ (ss : List (StepTaken g.row.I.Denot g.row.D.Denot)). All (IsLong g.I.IntNumber.limit) (plain_steps g.I.IntNumber.whole ss)) (sym c.deref.ensures.value)
+    subst (λ (ss : List (StepTaken g.row.I.Denot)). All (IsLong g.I.IntNumber.limit) (plain_steps g.I.IntNumber.whole ss)) (sym c.deref.ensures.value)
     c.self.invariant.1.1
 
 pub index_mut-requires : goal.index_mut-requires
