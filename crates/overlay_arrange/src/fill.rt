@@ -8,12 +8,11 @@ ghost use Rattle.overlay_geom.specs.Edges.{ends_of, subj_of, clip_of, winding_be
 ghost use Rattle.overlay_geom.specs.Settled.{IsSettled};
 ghost use Rattle.overlay_arrange.specs.Content.{plain_edge, plain_edges, IsHeld, IsContent, IsAscending};
 ghost use Rattle.overlay_arrange.specs.Rules.{is_filled, bit, bits_of, fill_bits};
-ghost use Rattle.overlay_arrange.specs.Vectors.{plain_vector, vector_of};
 
 use crate::count::EdgeCount;
 use crate::edge::CountedEdge;
 use crate::fill_rule::FillRule;
-use crate::vector::{CLIP_LEFT, CLIP_RIGHT, DataVectorEdge, SUBJ_LEFT, SUBJ_RIGHT, SideFill};
+use crate::vector::{CLIP_LEFT, CLIP_RIGHT, SUBJ_LEFT, SUBJ_RIGHT, SideFill};
 use overlay_geom::error::OverlayError;
 use overlay_geom::number::{IntNumber, WideIntNumber};
 use overlay_geom::vector::cross_at;
@@ -139,30 +138,6 @@ pub fn fill_of<I: IntNumber, C: EdgeCount>(
     let below = windings_below(edges, edge);
     let above = below.beyond(edge);
     bits_between(below, above, rule)
-}
-
-/// Every edge of the list in order, with its filled sides seen on the way from a to b.
-pub fn filled_edges<I: IntNumber, C: EdgeCount, A: Allocator>(
-    alloc: A,
-    edges: &[CountedEdge<I, C>],
-    rule: FillRule,
-) -> Result<Vec<DataVectorEdge<I, ()>, A>, OverlayError>
-    requires content { IsContent I.limit (plain_edges I.whole C.counts edges.now) }
-    ensures ok { let es = plain_edges I.whole C.counts edges.now in
-        IfOk result (λ v. map (plain_vector I.whole) v.items ≡ map (vector_of rule es) es) }
-    ensures err { IsOkUnless result OverlayError.Memory }
-{
-    let mut filled = Vec::with_capacity(alloc, edges.len())?;
-    for edge in edges {
-        let fill = fill_of(edges, edge, rule);
-        filled.push(DataVectorEdge {
-            a: edge.a,
-            b: edge.b,
-            fill,
-            edge_data: (),
-        })?;
-    }
-    Ok(filled)
 }
 
 /// The filled sides of every edge of an arrangement, in the order of the edges.

@@ -14,7 +14,6 @@ pub mod NextBelow
 pub mod NextPlaces
 pub mod NextTaken
 pub mod OpenPlaces
-pub mod OutlineNumbers
 pub mod OutlinesKnown
 pub mod Runs
 pub mod SelectedLong

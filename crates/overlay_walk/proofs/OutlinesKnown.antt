@@ -8,17 +8,36 @@ use Rattle.overlay_geom.specs.Plane.{Step}
 use Rattle.overlay_plane.specs.Binding.{is_hole, outlines, IsNextWalk, IsParentOf, HasNoParent, HasNoneBelow}
 use Rattle.overlay_plane.specs.Binding.IsParentOf.{direct as direct_parent, through as through_parent}
 use Rattle.overlay_plane.specs.Binding.HasNoParent.{none as none_below, through as through_hole}
+use Rattle.overlay_plane.specs.BoundContours.{known_in}
+use Rattle.overlay_plane.specs.RoledContours.{contours_from}
 use Rattle.overlay_plane.specs.Roles.{HasNextAt, IsFoundAt, IsNotFoundAt, IsTold}
 use Rattle.overlay_plane.specs.Roles.IsFoundAt.{direct, through}
 use Rattle.overlay_plane.specs.Roles.IsNotFoundAt.{none, through as through_not_found}
 use Rattle.overlay_plane.proofs.Entries.{Contains-from_filter}
-use Rattle.overlay_walk.specs.Parents.{IsOutlineNumber, AreOutlineNumbers, IsToldAt}
+use Rattle.overlay_plane.proofs.RoledWalks.{IsNumberedFrom, numbered_from}
+use Rattle.overlay_walk.specs.Parents.{IsToldAt}
 use Rattle.overlay_walk.proofs.HoleEntries.{same_at, Contains-at}
 
-module _ (on_left : Bool) (walks : List (List Step)) (numbers : List (Option ℕ)) (numbered : AreOutlineNumbers on_left walks numbers) where
+-- the number of an outline among the outlines; a hole has none
+abbrev IsOutlineNumber : Bool → List (List Step) → List Step → Option ℕ → Type 0
+IsOutlineNumber on_left walks w number = MatchOption number (is_hole on_left w ≡ true) (λ n. slice_get (outlines on_left walks) n ≡ Some w)
+
+module _ (on_left : Bool) (walks : List (List Step)) where
+  -- the shapes in which the walks stand from the start, as contours
+  abbrev numbers : List (Option ℕ)
+  numbers = known_in (contours_from on_left 0 walks)
+
+  -- they are the outlines' numbers
+  numbered : (n : ℕ) (w : List Step) → slice_get walks n ≡ Some w → IsOutlineNumber on_left walks w (slice_index_or numbers n None)
+  numbered n w at = by (slice_index_or numbers n None) (numbered_from on_left 0 walks n w at)
+    where
+      by : (number : Option ℕ) → IsNumberedFrom on_left 0 (outlines on_left walks) w number → IsOutlineNumber on_left walks w number
+      by None is = is
+      by (Some m) (j, e, there) = subst (λ k. slice_get (outlines on_left walks) k ≡ Some w) (sym e) there
+
   -- the number of the next walk
   next_number : (i j : ℕ) (next : HasNextAt on_left walks i j) (o : Option ℕ) → slice_index_or numbers j None ≡ o → IsOutlineNumber on_left walks next.next o
-  next_number i j next o is = subst (IsOutlineNumber on_left walks next.next) is (numbered.told j next.next next.next_at)
+  next_number i j next o is = subst (IsOutlineNumber on_left walks next.next) is (numbered j next.next next.next_at)
 
   -- and the next walk of the walk that stands there
   next_of : (i j : ℕ) (next : HasNextAt on_left walks i j) (w : List Step) → slice_get walks i ≡ Some w → IsNextWalk on_left walks w next.next
@@ -36,7 +55,7 @@ module _ (on_left : Bool) (walks : List (List Step)) (numbers : List (Option ℕ
 
   -- a hole has no number
   no_number : (n : ℕ) (w : List Step) → slice_get walks n ≡ Some w → is_hole on_left w ≡ true → slice_index_or numbers n None ≡ None
-  no_number n w at hole = by (slice_index_or numbers n None) (numbered.told n w at)
+  no_number n w at hole = by (slice_index_or numbers n None) (numbered n w at)
     where
       by : (o : Option ℕ) → IsOutlineNumber on_left walks w o → o ≡ None
       by None is = refl

@@ -1,7 +1,6 @@
 -- What a sweep over walks has told so far.
 use Rattle.std.specs.Prelude.{◌≡◌, ℕ, Bool, true, ℤ, List, Contains, length, slice_get, slice_index_or, Option, None, Some, MatchOption}
 use Rattle.overlay_geom.specs.Plane.{Step}
-use Rattle.overlay_plane.specs.Binding.{is_hole, outlines}
 use Rattle.overlay_plane.specs.Roles.{IsTold}
 use Rattle.overlay_scan.specs.Scan.{Entry, Sweep, live_at, MayMoveTo, IsSweep}
 
@@ -11,15 +10,6 @@ pub record IsSwept (limit : ℕ) (x : ℤ) (fs : List (Entry ℕ)) (s : Sweep �
   pub moves : MayMoveTo x s
   pub from : (f : Entry ℕ) → Contains (live_at x s.entries) f → Contains fs f
   pub all : (f : Entry ℕ) → Contains (live_at x fs) f → Contains (live_at x s.entries) f
-
--- the number of an outline among the outlines; a hole has none
-abbrev pub IsOutlineNumber : Bool → List (List Step) → List Step → Option ℕ → Type 0
-IsOutlineNumber on_left walks w number = MatchOption number (is_hole on_left w ≡ true) (λ n. slice_get (outlines on_left walks) n ≡ Some w)
-
--- the walks' numbers among the outlines
-pub record AreOutlineNumbers (on_left : Bool) (walks : List (List Step)) (numbers : List (Option ℕ)) : Type 0 where
-  pub counted : length numbers ≡ length walks
-  pub told : (n : ℕ) (w : List Step) → slice_get walks n ≡ Some w → IsOutlineNumber on_left walks w (slice_index_or numbers n None)
 
 -- it is told of the walk at place n, if that stands in no shape from the start
 abbrev pub IsToldAt : Bool → List (List Step) → List (Option ℕ) → List (Option ℕ) → ℕ → Type 0

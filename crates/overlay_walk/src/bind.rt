@@ -1,18 +1,20 @@
 //! Binding: the shape in which each hole stands, and shapes found for walks in general.
 
-ghost use Rattle.std.specs.Prelude.{◌≡◌, false, length, All, AllPairs, IfOk, IsOkUnless};
+ghost use Rattle.std.specs.Prelude.{◌≡◌, false, length, All, AllPairs, Some, IfOk, IsOkUnless};
 ghost use Rattle.overlay_geom.specs.Plane.{edge_of, edge_eq};
 ghost use Rattle.overlay_geom.specs.Settled.{IsSettledBy};
 ghost use Rattle.overlay_plane.specs.Anchors.{HasEachEdgeOnce};
-ghost use Rattle.overlay_plane.specs.Binding.{AreBound, all_filled_above};
+ghost use Rattle.overlay_plane.specs.Binding.{all_filled_above};
+ghost use Rattle.overlay_plane.specs.BoundContours.{AreShapesFound};
 ghost use Rattle.overlay_plane.specs.Contours.{IsContour, all_steps};
+ghost use Rattle.overlay_plane.specs.RoledContours.{contours_from};
 ghost use Rattle.overlay_plane.specs.Roles.{side_on_left};
 ghost use Rattle.overlay_scan.specs.Scan.{empty_sweep};
 ghost use Rattle.overlay_walk.specs.Parents.{IsToldAt};
 ghost use Rattle.overlay_walk.specs.Steps.{is_on_left, plain_side, IsLong};
-ghost use Rattle.overlay_walk.specs.Walks.{plain_walks, bound_to};
+ghost use Rattle.overlay_walk.specs.Walks.{plain_walks};
 
-use crate::outline_numbers::outline_numbers;
+use crate::outline_numbers::{count_outlines, outline_numbers};
 use crate::side::Side;
 use crate::step::Step;
 use crate::sweep::parents_by_sweep;
@@ -22,10 +24,10 @@ use overlay_geom::number::IntNumber;
 use overlay_scan::scan::Scan;
 use std::alloc::Allocator;
 
-/// A list as long as that of the walks. At a hole stands the number of the shape in which it stands: the
-/// one whose outline has the next filled-above edge below the hole's anchor, or that of the hole that has
-/// it. It is None for a hole with no such edge, or with that of such a hole. What stands at an outline is
-/// left open.
+/// A list as long as that of the walks. At a hole stands the number of the shape in which it stands. Where
+/// there is one outline alone that is its shape. Else it is the one whose outline has the next
+/// filled-above edge below the hole's anchor, or that of the hole that has it, and None for a hole with no
+/// such edge, or with that of such a hole. What stands at an outline is left open.
 ///
 /// Shapes are numbered from 0 by their outlines, in the order of the walks. The walks are contours whose
 /// edges meet in ends alone; none walks along an edge twice, and no two filled-above edges are equal.
@@ -42,14 +44,30 @@ pub fn bind<I: IntNumber, A: Allocator + Clone, S: Scan<I, usize>>(
     requires distinct { AllPairs (λ e f. edge_eq e f ≡ false) (all_filled_above (is_on_left direction) (plain_walks I.whole walks.now)) }
     requires settled { IsSettledBy edge_of (all_steps (plain_walks I.whole walks.now)) }
     requires empty { S.content scan.old ≡ empty_sweep }
-    ensures counted { IfOk result (λ v. length v.items ≡ length walks.now) }
-    ensures bound { IfOk result (λ v. AreBound (is_on_left direction) (plain_walks I.whole walks.now)
-        (bound_to (plain_walks I.whole walks.now) v.items)) }
+    ensures found { IfOk result (λ v. AreShapesFound (is_on_left direction)
+        (contours_from (is_on_left direction) 0 (plain_walks I.whole walks.now)) v.items) }
     ensures err { IsOkUnless result OverlayError.Memory }
 {
+    if count_outlines(walks, direction) == 1 {
+        return all_in_first(alloc, walks.len());
+    }
     let numbers = outline_numbers(alloc.clone()?, walks, direction)?;
     let parents = parents_by_sweep(alloc, scan, walks, &numbers, direction)?;
     Ok(parents)
+}
+
+/// The number of the first shape, so often.
+fn all_in_first<A: Allocator>(
+    alloc: A,
+    count: usize,
+) -> Result<Vec<Option<usize>, A>, OverlayError>
+    ensures counted { IfOk result (λ v. length v.items ≡ count) }
+    ensures first { IfOk result (λ v. All (λ s. s ≡ Some 0) v.items) }
+    ensures err { IsOkUnless result OverlayError.Memory }
+{
+    let mut numbers = Vec::new(alloc);
+    numbers.resize(count, Some(0))?;
+    Ok(numbers)
 }
 
 /// A list as long as that of the walks, of which some stand in shapes from the start: outlines, and holes

@@ -1,7 +1,9 @@
 //! The numbers of outlines.
 
-ghost use Rattle.std.specs.Prelude.{IfOk, IsOkUnless};
-ghost use Rattle.overlay_walk.specs.Parents.{AreOutlineNumbers};
+ghost use Rattle.std.specs.Prelude.{◌≡◌, length, IfOk, IsOkUnless};
+ghost use Rattle.overlay_plane.specs.Binding.{outlines};
+ghost use Rattle.overlay_plane.specs.BoundContours.{known_in};
+ghost use Rattle.overlay_plane.specs.RoledContours.{contours_from};
 ghost use Rattle.overlay_walk.specs.Steps.{is_on_left};
 ghost use Rattle.overlay_walk.specs.Walks.{plain_walks};
 
@@ -19,7 +21,8 @@ pub fn outline_numbers<I: IntNumber, A: Allocator>(
     walks: &[Vec<Step<I>, A>],
     direction: ContourDirection,
 ) -> Result<Vec<Option<usize>, A>, OverlayError>
-    ensures ok { IfOk result (λ v. AreOutlineNumbers (is_on_left direction) (plain_walks I.whole walks.now) v.items) }
+    ensures ok { IfOk result (λ v. v.items
+        ≡ known_in (contours_from (is_on_left direction) 0 (plain_walks I.whole walks.now))) }
     ensures err { IsOkUnless result OverlayError.Memory }
 {
     let mut numbers = Vec::new(alloc);
@@ -33,4 +36,20 @@ pub fn outline_numbers<I: IntNumber, A: Allocator>(
         }
     }
     Ok(numbers)
+}
+
+/// How many of the walks are outlines.
+pub fn count_outlines<I: IntNumber, A: Allocator>(
+    walks: &[Vec<Step<I>, A>],
+    direction: ContourDirection,
+) -> usize
+    ensures { result ≡ length (outlines (is_on_left direction) (plain_walks I.whole walks.now)) }
+{
+    let mut count = 0;
+    for i in 0..walks.len() {
+        if !is_hole(&walks[i], direction) {
+            count += 1;
+        }
+    }
+    count
 }
