@@ -14,9 +14,11 @@ pub mod NextBelow
 pub mod NextPlaces
 pub mod NextTaken
 pub mod OpenPlaces
+pub mod OutlineNumbers
 pub mod OutlinesKnown
 pub mod Runs
 pub mod SelectedLong
+pub mod ShapesFound
 pub mod Starts
 pub mod Sweeping
 pub mod SweptEntries

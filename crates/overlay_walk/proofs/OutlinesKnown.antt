@@ -1,5 +1,5 @@
 -- Where outlines alone stand in shapes from the start, what is found for holes is their parents.
-use Rattle.std.proofs.Common.{◌≡◌, ℕ, Bool, true, not, List, Option, None, Some, refl, ap, subst}
+use Rattle.std.proofs.Common.{◌≡◌, ℕ, Bool, true, not, List, Option, None, Some, refl, ap, subst, arith}
 use Rattle.std.specs.List.{slice_get}
 use Rattle.std.specs.Option.{MatchOption}
 use Rattle.std.specs.Prelude.{slice_index_or}
@@ -33,7 +33,7 @@ module _ (on_left : Bool) (walks : List (List Step)) where
     where
       by : (number : Option ℕ) → IsNumberedFrom on_left 0 (outlines on_left walks) w number → IsOutlineNumber on_left walks w number
       by None is = is
-      by (Some m) (j, e, there) = subst (λ k. slice_get (outlines on_left walks) k ≡ Some w) (sym e) there
+      by (Some m) (j, e, there) = let same : j ≡ m = omega (arith, e) in subst (λ k. slice_get (outlines on_left walks) k ≡ Some w) same there
 
   -- the number of the next walk
   next_number : (i j : ℕ) (next : HasNextAt on_left walks i j) (o : Option ℕ) → slice_index_or numbers j None ≡ o → IsOutlineNumber on_left walks next.next o
@@ -54,7 +54,7 @@ module _ (on_left : Bool) (walks : List (List Step)) where
       (not_found_has_none j rest next.next next.next_at)
 
   -- a hole has no number
-  no_number : (n : ℕ) (w : List Step) → slice_get walks n ≡ Some w → is_hole on_left w ≡ true → slice_index_or numbers n None ≡ None
+  pub no_number : (n : ℕ) (w : List Step) → slice_get walks n ≡ Some w → is_hole on_left w ≡ true → slice_index_or numbers n None ≡ None
   no_number n w at hole = by (slice_index_or numbers n None) (numbered n w at)
     where
       by : (o : Option ℕ) → IsOutlineNumber on_left walks w o → o ≡ None

@@ -61,8 +61,7 @@ fn all_in_first<A: Allocator>(
     alloc: A,
     count: usize,
 ) -> Result<Vec<Option<usize>, A>, OverlayError>
-    ensures counted { IfOk result (λ v. length v.items ≡ count) }
-    ensures first { IfOk result (λ v. All (λ s. s ≡ Some 0) v.items) }
+    ensures ok { IfOk result (λ v. (length v.items ≡ count) × All (λ s. s ≡ Some 0) v.items) }
     ensures err { IsOkUnless result OverlayError.Memory }
 {
     let mut numbers = Vec::new(alloc);
