@@ -5,7 +5,5 @@ pub mod BoundAdded
 pub mod Builders
 pub mod NoShapes
 pub mod OneShots
-pub mod OneSide
 pub mod Results
-pub mod SelectedByBits
 pub mod TwoSources

@@ -1,12 +1,14 @@
 -- Over no edges there is no shape.
-use Rattle.std.proofs.Common.{◌≡◌, List, [], ◌∷◌, map, length, refl, ap, subst, arith}
+use Rattle.std.proofs.Common.{◌≡◌, List, [], ◌∷◌, false, map, length, refl, ap, subst, arith, ◌∙◌}
+use Rattle.std.specs.List.{filter}
 use Rattle.std.specs.Prelude.{Bool, Result, Ok, Err, IfOk}
 use Rattle.overlay_geom.specs.Plane.{Point, Step}
 use Rattle.overlay_geom.specs.Edges.{CountedEdge}
 use Rattle.overlay_plane.specs.Contours.{IsCutInto, done, next}
+use Rattle.overlay_plane.specs.RoledContours.{Contour, contours_from, IsCut, IsCutBy}
 use Rattle.overlay_plane.specs.ShapeWindings.{AreKeptOrThinned}
 use Rattle.overlay_plane.specs.Turn.{Hand}
-use Rattle.i_overlay.specs.Overlay.{Asked, shapes_found, IsResult}
+use Rattle.i_overlay.specs.Overlay.{Asked, filled_on_left, is_kept, shapes_found, IsResult}
 
 -- no steps are cut into no walks
 no_walks : (hand_of : Step → Hand) (walks : List (List Step)) → IsCutInto hand_of [] walks → walks ≡ []
@@ -24,14 +26,20 @@ none_shown keep [] [] same shown = refl
 none_shown keep [] (r ∷ rs) same shown = absurd shown
 none_shown keep (s ∷ ss) result same shown = let long = ap length same in absurd (omega arith)
 
+-- nor into contours
+no_contours : (on_left : Bool) (keeps : List Step → Bool) (contours : List Contour) → IsCut on_left keeps [] contours → contours ≡ []
+no_contours on_left keeps contours is = is.are ∙ ap (λ ws. contours_from on_left 0 (filter keeps ws)) (no_walks _ is.walks is.cut)
+
 -- so the result over no edges has no shape
-pub no_shapes : (q : Asked) (result : List (List (List Point))) → IsResult q [] result → result ≡ []
-no_shapes q result is =
-    let no_bound = none_of_none (λ b. b.steps) is.bound (subst (λ ws. map (λ b. b.steps) is.bound ≡ ws) (no_walks _ is.walks is.cut) is.are_bound.are) in
-    none_shown q.preserve_output_collinear _ result (ap (shapes_found q) no_bound) is.shown
+pub no_shapes : (q : Asked) (result : List (List (List Point))) → q.ogc ≡ false → IsResult q [] result → result ≡ []
+no_shapes q result no_groups is =
+    let none = no_contours (filled_on_left q) (is_kept q) is.contours
+    (subst (λ t. IsCutBy t (filled_on_left q) (is_kept q) [] is.contours) no_groups is.cut) in
+    none_shown q.preserve_output_collinear _ result (ap (λ cs. shapes_found cs is.shapes) none) is.shown
 
 -- nor has the list that holds it
 pub no_shapes_held : {X Y E : Type 0} (r : Result X E) (items : X → List Y) (f : Y → List (List Point)) (q : Asked) (es : List CountedEdge)
-    → IfOk r (λ v. IsResult q es (map f (items v))) → es ≡ [] → IfOk r (λ v. items v ≡ [])
-no_shapes_held (Ok v) items f q es is none = none_of_none f (items v) (no_shapes q _ (subst (λ es. IsResult q es (map f (items v))) none is))
-no_shapes_held (Err e) items f q es is none = tt
+    → q.ogc ≡ false → IfOk r (λ v. IsResult q es (map f (items v))) → es ≡ [] → IfOk r (λ v. items v ≡ [])
+no_shapes_held (Ok v) items f q es no_groups is none =
+    none_of_none f (items v) (no_shapes q _ no_groups (subst (λ es. IsResult q es (map f (items v))) none is))
+no_shapes_held (Err e) items f q es no_groups is none = tt

@@ -1,5 +1,5 @@
 -- What a new builder, to which paths were added, answers of the paths.
-use Rattle.std.proofs.Common.{◌≡◌, ◌⊎◌, inl, inr, ℕ, false, List, sym, ap, ap₂, ◌∙◌}
+use Rattle.std.proofs.Common.{◌≡◌, ◌⊎◌, inl, inr, ℕ, Bool, false, List, sym, ap, ap₂, ◌∙◌}
 use Rattle.std.proofs.lemmas.Bool.{false≢true}
 use Rattle.std.specs.Prelude.{Result, Ok, Err, IfOk, IfErr, OnOk}
 use Rattle.overlay_geom.specs.declared.error.OverlayError.{OverlayError}
@@ -10,6 +10,8 @@ use Rattle.overlay_arrange.specs.Arranged.{IsArranged, MayRefuseSplitting}
 use Rattle.overlay_arrange.specs.Options.{AreOptions}
 use Rattle.overlay_arrange.specs.declared.fill_rule.FillRule.{FillRule}
 use Rattle.overlay_arrange.specs.declared.overlay_rule.OverlayRule.{OverlayRule}
+use Rattle.overlay_arrange.specs.declared.options.ContourDirection.{ContourDirection}
+use Rattle.overlay_arrange.specs.declared.options.ContourDirection.TheVariants.{CounterClockwise}
 use Rattle.overlay_arrange.specs.declared.options.IntOverlayOptions.{IntOverlayOptions}
 use Rattle.overlay_builder.specs.Held.{Held, AnswersQuery}
 use Rattle.i_overlay.specs.OneShot.{asked_by_default, IsResultOfPaths, MayRefusePaths}
@@ -17,10 +19,14 @@ use Rattle.i_overlay.specs.Overlay.{Asked, asked, IsResult}
 use Rattle.i_overlay.specs.Paths.{GivenPath, HoldsPaths}
 
 -- what the default options ask for
-pub asked_of_default : {U : Type 0} (natural : U → ℕ) (fill : FillRule) (rule : OverlayRule) (o : IntOverlayOptions U) → AreOptions natural false false false o
-    → asked fill rule o ≡ asked_by_default fill rule
-asked_of_default natural fill rule o are =
-    ap₂ {C = Asked} (λ d k. record { fill = fill; rule = rule; output_direction = d; preserve_output_collinear = k }) are.direction are.output_kept
+pub asked_of_default : {U : Type 0} (wide_limit : ℕ) (natural : U → ℕ) (fill : FillRule) (rule : OverlayRule) (o : IntOverlayOptions U)
+    → AreOptions natural false false false o → asked wide_limit natural fill rule o ≡ asked_by_default wide_limit fill rule
+asked_of_default wide_limit natural fill rule o are =
+    ap₂ (λ d k. by d k o.ogc (natural o.min_output_area)) are.direction are.output_kept
+    ∙ ap₂ (λ t n. by CounterClockwise false t n) are.for_ogc are.area
+  where
+    by : ContourDirection → Bool → Bool → ℕ → Asked
+    by d k t n = record { fill = fill; rule = rule; output_direction = d; preserve_output_collinear = k; ogc = t; min_output_area = n; wide_limit = wide_limit }
 
 -- the result of a query on a content that the paths give is one of the paths
 pub result_of_paths : {V E : Type 0} (r : Result V E) (shapes : V → List (List (List Point))) (q : Asked) (paths : List GivenPath)

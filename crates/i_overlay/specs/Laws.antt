@@ -22,8 +22,9 @@ SelectedStepsWindRoundRegion = (q : Asked) (limit most : ℕ) (old new : List Co
 abbrev pub turned_to : ContourDirection → Asked → Asked
 turned_to direction q = record q { output_direction = direction }
 
--- where results of one arrangement are asked for in the two directions, the one winds against the other round each point off the edges
+-- where results of one arrangement are asked for in the two directions, with minimum area zero, the one winds against the other round each
+-- point off the edges
 abbrev pub DirectionTurnsWindings : Type 0
 DirectionTurnsWindings = (q : Asked) (es : List CountedEdge) (left right : List (List (List Point))) →
-    IsResult (turned_to CounterClockwise q) es left → IsResult (turned_to Clockwise q) es right →
+    q.min_output_area ≡ 0 → IsResult (turned_to CounterClockwise q) es left → IsResult (turned_to Clockwise q) es right →
     (p : PlanePoint) → IsOff (map ends_of es) p → winding (steps_of_shapes right) p ≡ neg_ℤ (winding (steps_of_shapes left) p)

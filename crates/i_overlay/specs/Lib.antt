@@ -5,4 +5,3 @@ pub mod Laws
 pub mod OneShot
 pub mod Overlay
 pub mod Paths
-pub mod Selection

@@ -1,5 +1,5 @@
 -- What an overlay of two resources answers that leaves no builder.
-use Rattle.std.specs.Prelude.{◌⊎◌, false, List}
+use Rattle.std.specs.Prelude.{◌⊎◌, ℕ, false, List}
 use Rattle.overlay_geom.specs.Plane.{Point}
 use Rattle.overlay_geom.specs.Edges.{CountedEdge}
 use Rattle.overlay_geom.specs.declared.error.OverlayError.{OverlayError}
@@ -13,8 +13,16 @@ use Rattle.i_overlay.specs.Overlay.{Asked, IsResult}
 use Rattle.i_overlay.specs.Paths.{GivenPath, HoldsPaths}
 
 -- what rules ask for with the default options
-abbrev pub asked_by_default : FillRule → OverlayRule → Asked
-asked_by_default fill rule = record { fill = fill; rule = rule; output_direction = CounterClockwise; preserve_output_collinear = false }
+abbrev pub asked_by_default : ℕ → FillRule → OverlayRule → Asked
+asked_by_default wide_limit fill rule = record {
+  fill = fill;
+  rule = rule;
+  output_direction = CounterClockwise;
+  preserve_output_collinear = false;
+  ogc = false;
+  min_output_area = 0;
+  wide_limit = wide_limit;
+}
 
 -- the result over some arrangement of the edges that the paths give
 pub record IsResultOfPaths (q : Asked) (paths : List GivenPath) (result : List (List (List Point))) : Type 0 where

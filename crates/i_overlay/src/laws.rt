@@ -10,7 +10,7 @@ pub fn selected_steps_wind_round_region()
 {}
 
 /// Of one arrangement, the contours in the one output direction wind against those in the other, round
-/// each point off its edges.
+/// each point off its edges, with minimum area zero.
 pub fn direction_turns_windings()
     ensures { DirectionTurnsWindings }
 {}

@@ -17,7 +17,6 @@ pub mod overlay;
 pub mod overlay_rule;
 pub mod point_location;
 pub mod segm;
-mod select;
 pub mod single;
 pub mod solver;
 pub mod string;

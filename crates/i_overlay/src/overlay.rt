@@ -89,7 +89,7 @@ impl<I: OverlayInt, A: Allocator + Clone> Overlay<I, A> {
         ensures untouched { IsErrOf result OverlayError.Failed → self.new ≡ self.old }
     {
         self.core.arrange(&mut ())?;
-        let listed = self.core.content().filled_edges(fill_rule);
+        let listed = self.list(fill_rule);
         self.core.set_failed(listed.is_err());
         listed
     }
@@ -114,7 +114,8 @@ impl<I: OverlayInt, A: Allocator + Clone> Overlay<I, A> {
         requires no_ogc { self.old.options.ogc ≡ false }
         requires all_areas { I.WideUInt.natural self.old.options.min_output_area ≡ 0 }
         ensures query { AnswersQuery I.limit 64 (held_by self.old) (held_by self.new) result }
-        ensures result { IfOk result (λ v. IsResult (asked fill_rule overlay_rule self.old.options)
+        ensures result { IfOk result (λ v. IsResult
+            (asked I.Wide.limit I.WideUInt.natural fill_rule overlay_rule self.old.options)
             self.new.edges (plain_shapes I.whole v.items)) }
         ensures empty { self.new.edges ≡ [] → IfOk result (λ v. v.items ≡ []) }
         ensures exact { MeetInWholePoints self.old.edges
@@ -133,6 +134,18 @@ impl<I: OverlayInt, A: Allocator + Clone> Overlay<I, A> {
         shapes
     }
 
+    // The arranged edges with their filled sides.
+    fn list(&self, fill_rule: FillRule) -> Result<Vec<DataVectorEdge<I, ()>, A>, OverlayError>
+        requires ascending { IsAscending self.now.edges }
+        requires settled { IsSettled self.now.edges }
+        ensures listed { IfOk result (λ v.
+            map (plain_vector I.whole) v.items ≡ map (vector_of fill_rule self.now.edges) self.now.edges) }
+        ensures err { IsOkUnless result OverlayError.Memory }
+    {
+        let graph = self.core.content().graph(fill_rule)?;
+        graph.separate_vectors()
+    }
+
     // The shapes round the region of the arranged edges. The buffer is there afterwards.
     fn extract(
         &mut self,
@@ -142,14 +155,16 @@ impl<I: OverlayInt, A: Allocator + Clone> Overlay<I, A> {
         requires usable { self.old.failed ≡ false }
         requires ascending { IsAscending self.old.edges }
         requires settled { IsSettled self.old.edges }
-        ensures result { IfOk result (λ v. IsResult (asked fill_rule overlay_rule self.old.options)
+        requires no_ogc { self.old.options.ogc ≡ false }
+        requires all_areas { I.WideUInt.natural self.old.options.min_output_area ≡ 0 }
+        ensures result { IfOk result (λ v. IsResult
+            (asked I.Wide.limit I.WideUInt.natural fill_rule overlay_rule self.old.options)
             self.old.edges (plain_shapes I.whole v.items)) }
         ensures kept { self.new ≡ record self.old { boolean_buffer = self.new.boolean_buffer } }
         ensures buffer { OnOk result (self.new.boolean_buffer ≡ Some tt) }
         ensures err { IsOkUnless result OverlayError.Memory }
     {
-        let buffer = &mut self.boolean_buffer;
-        let content = self.core.content();
-        extract_shapes(content, overlay_rule, fill_rule, self.options, buffer)
+        let graph = self.core.content().graph(fill_rule)?;
+        extract_shapes(&graph, overlay_rule, self.options, &mut self.boolean_buffer)
     }
 }

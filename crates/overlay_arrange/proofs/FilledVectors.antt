@@ -3,7 +3,7 @@ use Rattle.std.proofs.Common.{◌≡◌, ℕ, ℤ, List, [], ◌∷◌, map, ref
 use Rattle.overlay_geom.specs.Points.{plain_point}
 use Rattle.overlay_geom.specs.Edges.{CountedEdge}
 use Rattle.overlay_plane.specs.Carried.{edges_in}
-use Rattle.overlay_arrange.specs.Content.{carried_edges, plain_edges, IsContent, IsAscending}
+use Rattle.overlay_arrange.specs.Content.{carried_edges, plain_edges}
 use Rattle.overlay_arrange.specs.Counts.{Counts}
 use Rattle.overlay_arrange.specs.Graphs.{carried_vectors, AreFilledBy, IsArrangement}
 use Rattle.overlay_arrange.specs.Rules.{fill_bits}

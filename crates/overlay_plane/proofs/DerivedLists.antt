@@ -1,11 +1,7 @@
 -- Lists of edges with what they carry: shuffled and merged by runs, and given part by part.
-use Rattle.std.proofs.Common.{◌≡◌, ◌⊎◌, Bool, true, false, cond, List, [], ◌∷◌, ◌++◌, map, Contains, refl, sym, ap, ◌∙◌, subst, append_assoc}
-use Rattle.std.specs.List.{All, AllPairs, filter}
-use Rattle.std.specs.List.Sorted.{IsPermutation}
+use Rattle.std.proofs.Common.{List, [], ◌∷◌, ◌++◌, Contains, sym, subst, append_assoc}
 use Rattle.std.proofs.lemmas.List.{append-nil}
-use Rattle.std.proofs.lemmas.List.Elements.{All-cons, All-head, All-nil, All-tail}
 use Rattle.overlay_plane.specs.DerivedData.{AreGiven, none, next}
-use Rattle.overlay_plane.proofs.LaterEntries.{Contains-cases}
 use Rattle.overlay_plane.proofs.Totals.{Contains-head, Contains-later}
 
 module _ {X Y : Type 0} (gives : X → List Y → Type 0) where

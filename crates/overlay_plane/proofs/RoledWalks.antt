@@ -1,13 +1,13 @@
 -- What stands at a place of walks, and of the contours that they are without groups.
-use Rattle.std.proofs.Common.{◌≡◌, ℕ, zero, suc, ◌+◌, Bool, true, false, cond, not, List, [], ◌∷◌, map, Option, Some, None, refl, sym, ap, ◌∙◌, subst, arith}
+use Rattle.std.proofs.Common.{◌≡◌, ℕ, zero, suc, ◌+◌, Bool, true, false, cond, not, List, [], ◌∷◌, Option, Some, None, refl, sym, ap, ◌∙◌, subst, arith}
 use Rattle.std.specs.Prelude.{slice_index_or}
-use Rattle.std.specs.List.{filter, slice_get}
+use Rattle.std.specs.List.{slice_get}
 use Rattle.std.specs.Option.{MatchOption}
 use Rattle.std.proofs.lemmas.Bool.{false≢true}
 use Rattle.std.proofs.lemmas.Option.{none-some}
 use Rattle.overlay_geom.specs.Plane.{Step}
 use Rattle.overlay_plane.specs.Binding.{is_hole, outlines}
-use Rattle.overlay_plane.specs.RoledContours.{Role, outline, free_hole, Contour, contours_from, is_free_hole, hole_to_bind, outline_of}
+use Rattle.overlay_plane.specs.RoledContours.{free_hole, Contour, contours_from, is_free_hole, hole_to_bind, outline_of}
 use Rattle.overlay_plane.specs.BoundContours.{known_in}
 
 -- what is one thing, where there is some, is one

@@ -1,5 +1,5 @@
 -- The walks, each with what is told of it.
-use Rattle.std.proofs.Common.{◌≡◌, ℕ, suc, ◌==◌, Bool, true, false, ℤ, List, [], ◌∷◌, length, map, get_or, Contains, Option, None, Some, refl, sym, ap, ap₂, ◌∙◌, subst, arith}
+use Rattle.std.proofs.Common.{◌≡◌, ℕ, suc, Bool, true, false, ℤ, List, [], ◌∷◌, length, map, get_or, Contains, Option, None, Some, refl, sym, ap, ap₂, ◌∙◌, subst, arith}
 use Rattle.std.specs.Prelude.{slice_index_or, MatchBool}
 use Rattle.std.specs.List.{All, filter, slice_get}
 use Rattle.std.specs.Option.{MatchOption}

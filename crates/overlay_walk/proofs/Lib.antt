@@ -13,10 +13,12 @@ pub mod NearestPoints
 pub mod NextBelow
 pub mod NextPlaces
 pub mod NextTaken
+pub mod OneSide
 pub mod OpenPlaces
 pub mod OutlineNumbers
 pub mod OutlinesKnown
 pub mod Runs
+pub mod SelectedByBits
 pub mod SelectedLong
 pub mod ShapesFound
 pub mod Starts

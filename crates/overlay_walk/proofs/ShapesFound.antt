@@ -1,14 +1,14 @@
 -- The shapes of contours that are cut without groups: the first one for all, where there is one alone, or what a sweep tells.
-use Rattle.std.proofs.Common.{◌≡◌, ◌≢◌, ℕ, ◌<◌, ◌==◌, Bool, true, false, List, map, length, Option, None, Some, sym, ap, ◌∙◌, subst, arith}
+use Rattle.std.proofs.Common.{◌≡◌, ◌≢◌, ℕ, ◌==◌, Bool, List, length, Option, None, Some, sym, ap, ◌∙◌, subst, arith}
 use Rattle.std.specs.Prelude.{slice_index_or, MatchBool}
-use Rattle.std.specs.List.{All, filter, slice_get}
+use Rattle.std.specs.List.{All}
 use Rattle.std.proofs.lemmas.Bool.{eqb-true, eq-eqb, false_from_ne_true}
 use Rattle.std.proofs.lemmas.List.{length-map}
 use Rattle.std.proofs.lemmas.Option.{slice_get_within}
 use Rattle.overlay_geom.specs.Plane.{Step}
 use Rattle.overlay_plane.specs.Binding.{outlines}
-use Rattle.overlay_plane.specs.BoundContours.{walks_in, known_in, has_one_shape, IsShapeFound, AreShapesFound}
-use Rattle.overlay_plane.specs.RoledContours.{Contour, contours_from, is_outline, free_hole}
+use Rattle.overlay_plane.specs.BoundContours.{walks_in, known_in, has_one_shape, AreShapesFound}
+use Rattle.overlay_plane.specs.RoledContours.{Contour, contours_from}
 use Rattle.overlay_plane.specs.Roles.{IsTold}
 use Rattle.overlay_plane.proofs.RoledShapes.{walks_from, outlines_counted}
 use Rattle.overlay_plane.proofs.RoledWalks.{free_hole_at}

@@ -1,5 +1,5 @@
 -- What a sweep over walks has told so far.
-use Rattle.std.specs.Prelude.{◌≡◌, ℕ, Bool, true, ℤ, List, Contains, length, slice_get, slice_index_or, Option, None, Some, MatchOption}
+use Rattle.std.specs.Prelude.{◌≡◌, ℕ, Bool, ℤ, List, Contains, slice_get, slice_index_or, Option, None, Some}
 use Rattle.overlay_geom.specs.Plane.{Step}
 use Rattle.overlay_plane.specs.Roles.{IsTold}
 use Rattle.overlay_scan.specs.Scan.{Entry, Sweep, live_at, MayMoveTo, IsSweep}

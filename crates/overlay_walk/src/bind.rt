@@ -57,10 +57,7 @@ pub fn bind<I: IntNumber, A: Allocator + Clone, S: Scan<I, usize>>(
 }
 
 /// The number of the first shape, so often.
-fn all_in_first<A: Allocator>(
-    alloc: A,
-    count: usize,
-) -> Result<Vec<Option<usize>, A>, OverlayError>
+fn all_in_first<A: Allocator>(alloc: A, count: usize) -> Result<Vec<Option<usize>, A>, OverlayError>
     ensures ok { IfOk result (λ v. (length v.items ≡ count) × All (λ s. s ≡ Some 0) v.items) }
     ensures err { IsOkUnless result OverlayError.Memory }
 {

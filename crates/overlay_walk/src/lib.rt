@@ -16,6 +16,8 @@ pub mod nearest;
 mod next;
 pub mod open_steps;
 mod outline_numbers;
+pub mod select;
+pub mod selected;
 pub mod side;
 pub mod step;
 mod sweep;

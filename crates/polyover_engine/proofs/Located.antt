@@ -1,6 +1,5 @@
 -- What is told of the points of an input, and why nothing is.
-use Rattle.std.proofs.Common.{◌≡◌, Bool, List, [], ◌∷◌, sym, subst}
-use Rattle.overlay_geom.specs.declared.error.OverlayError.TheVariants.{Memory}
+use Rattle.std.proofs.Common.{◌≡◌, Bool, List, [], ◌∷◌, subst}
 use Rattle.overlay_geom.specs.Plane.{Point}
 use Rattle.overlay_geom.specs.Resolved.{IsResolved}
 use Rattle.overlay_relate.specs.Answers.{AnswersWhere, AnswersWhether}

@@ -1,16 +1,16 @@
 -- What a query on a builder, to which all contours were added, says of the contours; and the text of its answer.
-use Rattle.std.proofs.Common.{◌≡◌, inl, ℕ, false, List, map, Option, Some, None, IfSome, sym, subst, ◌∙◌}
-use Rattle.std.specs.Prelude.{Result, Ok, Err, OnOk, IfOk, MatchResult}
+use Rattle.std.proofs.Common.{◌≡◌, inl, ℕ, Bool, false, List, map, Option, Some, None, IfSome, sym, ap₂, subst, ◌∙◌}
+use Rattle.std.specs.Prelude.{Result, Ok, Err, IfOk, MatchResult}
 use Rattle.overlay_geom.specs.declared.error.OverlayError.{OverlayError}
 use Rattle.overlay_geom.specs.declared.error.OverlayError.TheVariants.{Memory, NotSettled, TooManyEdges, Failed}
 use Rattle.overlay_geom.specs.Edges.{CountedEdge}
 use Rattle.overlay_geom.specs.Plane.{Point}
-use Rattle.overlay_arrange.specs.Arranged.{IsArranged}
 use Rattle.overlay_arrange.specs.Vectors.{Vector, vector_of}
 use Rattle.overlay_arrange.specs.declared.fill_rule.FillRule.{FillRule}
+use Rattle.overlay_arrange.specs.declared.options.IntOverlayOptions.{IntOverlayOptions}
 use Rattle.overlay_builder.specs.Held.{Held, AnswersQuery}
 use Rattle.i_overlay.specs.Builder.{Builder, held_by}
-use Rattle.i_overlay.specs.Overlay.{IsResult}
+use Rattle.i_overlay.specs.Overlay.{Asked, asked, IsResult}
 use Rattle.i_overlay.specs.Adding.{MayRefuseBuilder}
 use Rattle.i_overlay.specs.OneShot.{IsResultOfPaths, MayRefusePaths}
 use Rattle.i_overlay.specs.Paths.{GivenPath, HoldsPaths}
@@ -20,6 +20,11 @@ use Rattle.polyover_text.specs.declared.query.Query.{Query}
 use Rattle.polyover_engine.specs.Answers.{AreEdges, Answers, IsAnswer, asked_by}
 use Rattle.polyover_engine.specs.Builders.{HasAdded}
 use Rattle.polyover_text.specs.Grammar.{GivenFigures, Asks, input_lines}
+
+-- what is asked of a builder with these options, of which the query turns two
+abbrev pub asked_with : OverlayQuery → IntOverlayOptions ℕ → Asked
+asked_with query options = asked 170141183460469231731687303715884105727 (λ n. n) query.fill_rule query.overlay_rule
+    (record options { output_direction = query.output.output_direction; preserve_output_collinear = query.output.preserve_output_collinear })
 
 module _ (cs : List GivenPath) (b : Builder ℕ) (h : HasAdded cs b) where
   -- what a query for the edges answers
@@ -31,14 +36,22 @@ module _ (cs : List GivenPath) (b : Builder ℕ) (h : HasAdded cs b) where
   edges_answered limit vectors fill new (Err e) query listed =
       query_refused limit cs (held_by b) new (Err e) h.holds h.made.ready query
 
+  -- what a query asks of it, as its settings say
+  asked_of_query : (query : OverlayQuery) → asked_with query b.options ≡ asked_by query
+  asked_of_query query = ap₂ (λ t n. by t n) h.made.options.for_ogc h.made.options.area
+    where
+      by : Bool → ℕ → Asked
+      by t n = record (asked_by query) { ogc = t; min_output_area = n }
+
   -- what an overlay answers, whatever the settings are that it turns
   pub shapes_answered : {V : Type 0} (limit : ℕ) (shapes : V → List (List (List Point))) (query : OverlayQuery)
       (old new : Held CountedEdge) (answer : Result V OverlayError) → AnswersQuery limit 64 old new answer → old.edges ≡ b.edges → old.failed ≡ b.failed
-      → IfOk answer (λ v. IsResult (asked_by query) new.edges (shapes v))
+      → IfOk answer (λ v. IsResult (asked_with query b.options) new.edges (shapes v))
       → MatchResult answer (λ v. IsResultOfPaths (asked_by query) cs (shapes v)) (λ e. MayRefusePaths cs e)
   shapes_answered limit shapes query old new (Ok v) answers content failed result =
       result_of_paths {E = OverlayError} (Ok v) shapes (asked_by query) cs old.edges new.edges
-      (subst (HoldsPaths false cs) (sym content) h.holds) answers.arranged result
+      (subst (HoldsPaths false cs) (sym content) h.holds) answers.arranged
+      (subst (λ q. IsResult q new.edges (shapes v)) (asked_of_query query) result)
   shapes_answered limit shapes query old new (Err e) answers content failed result =
       query_refused limit cs old new (Err e) (subst (HoldsPaths false cs) (sym content) h.holds) (failed ∙ h.made.ready) answers
 

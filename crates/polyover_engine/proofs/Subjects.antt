@@ -1,17 +1,17 @@
 -- The contours of the subject, taken one by one.
-use Rattle.std.proofs.Common.{◌≡◌, ℕ, ◌+◌, ◌<◌, ℤ, map, List, [], ◌∷◌, ◌++◌, length, get_or, take, drop, All, take-append-drop, refl, sym, ap, subst, ◌∙◌}
+use Rattle.std.proofs.Common.{◌≡◌, ℕ, ◌+◌, ◌<◌, ℤ, map, List, [], ◌∷◌, ◌++◌, length, get_or, take, drop, All, take-append-drop, sym, ap, subst, ◌∙◌}
 use Rattle.std.proofs.lemmas.List.{take_more, drop_more, flat_map_more, map_push}
 use Rattle.std.proofs.lemmas.List.Elements.{All-append, All-nil, All-cons}
 use Rattle.overlay_geom.specs.Plane.{Point}
 use Rattle.overlay_geom.specs.Points.{AllInRange}
 use Rattle.overlay_geom.specs.Resolved.{IsResolved}
 use Rattle.overlay_geom.specs.declared.point.IntPoint.{IntPoint}
-use Rattle.overlay_arrange.specs.declared.options.ShapeType.TheVariants.{Subject, Clip}
+use Rattle.overlay_arrange.specs.declared.options.ShapeType.TheVariants.{Subject}
 use Rattle.polyover_text.specs.Points.{points_at}
 use Rattle.polyover_text.specs.Grammar.{GivenContour}
 use Rattle.polyover_engine.specs.declared.exit.Exit.{Exit}
 use Rattle.polyover_engine.specs.declared.exit.Exit.TheVariants.{Answered, Refused, BadInput, Io}
-use Rattle.polyover_engine.specs.Subjects.{subject_part, subject_of, IsFirstUnresolved, IsSubject, HasNoSubject, AddsContour, IsNotAdded}
+use Rattle.polyover_engine.specs.Subjects.{subject_part, subject_of, IsSubject, HasNoSubject, AddsContour, IsNotAdded}
 
 pub no_subject_yet : (shape : List (List Point)) → shape ≡ [] → IsSubject [] shape
 no_subject_yet shape empty = record {

@@ -43,6 +43,9 @@ asked_by q = record {
   rule = q.overlay_rule;
   output_direction = q.output.output_direction;
   preserve_output_collinear = q.output.preserve_output_collinear;
+  ogc = false;
+  min_output_area = 0;
+  wide_limit = 170141183460469231731687303715884105727;
 }
 
 -- ---- points

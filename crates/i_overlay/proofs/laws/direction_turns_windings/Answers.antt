@@ -7,4 +7,4 @@ turned true = refl
 turned false = refl
 
 pub returns : goal.returns
-returns c = λ q es left right l r p off. r.winds p off ∙ turned _ ∙ ap neg_ℤ (sym (l.winds p off))
+returns c = λ q es left right all l r p off. r.winds all p off ∙ turned _ ∙ ap neg_ℤ (sym (l.winds all p off))

@@ -1,10 +1,9 @@
 -- Each hole's shape is found.
-use Rattle.std.proofs.Common.{◌≡◌, ◌==◌, length, sym, ap, ◌∙◌, subst}
+use Rattle.std.proofs.Common.{length, sym, ap, ◌∙◌, subst}
 use Rattle.std.proofs.lemmas.List.{length-map}
 use Rattle.std.proofs.lemmas.Result.{IfOk-weaker}
-use Rattle.overlay_plane.specs.BoundContours.{known_in, AreShapesFound}
+use Rattle.overlay_plane.specs.BoundContours.{AreShapesFound}
 use Rattle.overlay_plane.specs.RoledContours.{Contour, contours_from, stands_in}
-use Rattle.overlay_plane.proofs.RoledShapes.{walks_from}
 use Rattle.overlay_walk.specs.Parents.{IsToldAt}
 use Rattle.overlay_walk.specs.Steps.{plain_steps, is_on_left}
 use Rattle.overlay_walk.specs.Walks.{plain_walks}

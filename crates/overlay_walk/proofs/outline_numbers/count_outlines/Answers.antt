@@ -1,5 +1,5 @@
 -- One more walk is counted, if it is an outline.
-use Rattle.std.proofs.Common.{◌≡◌, ◌+◌, ◌≤◌, drop, length, sym, ap, ◌∙◌, subst, arith}
+use Rattle.std.proofs.Common.{◌≡◌, ◌+◌, ◌≤◌, drop, length, sym, ◌∙◌, subst, arith}
 use Rattle.overlay_plane.specs.Binding.{outlines}
 use Rattle.overlay_walk.specs.Steps.{plain_steps, is_on_left}
 use Rattle.overlay_walk.specs.Walks.{plain_walks}

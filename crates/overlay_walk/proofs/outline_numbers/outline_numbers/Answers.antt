@@ -21,15 +21,17 @@ loop-i-preserved g c =
     let at = walk_at whole c.args.walks.now i c.index-walks-i.result c.deref.result.now c.loop-i-test.true c.index-walks-i.is c.deref.ensures.value in
     elim c.if-is_hole.branch [
       | then-is_hole+in_ok-push v ↦
-          subst (λ n. (c.if-is_hole.numbers.items ++ known_in (contours_from on_left n (drop (i + 1) walks)) ≡ all) × (n ≤ i + 1)) (sym v.outlines-is)
-          (subst (λ ns. ns ++ known_in (contours_from on_left c.loop-i.outlines (drop (i + 1) walks)) ≡ all)
-          (sym (ap (λ (ns : _). ns.items) v.numbers-is ∙ v.in_ok-push.ensures.items))
-          (hole_numbered on_left walks i w at c.loop-i.outlines c.loop-i.numbers.items all (sym c.is_hole.ensures ∙ v.if-is_hole.true) c.loop-i.invariant.0),
-          omega (arith, few))
+          subst (λ n. (c.if-is_hole.numbers.items ++ known_in (contours_from on_left n (drop (i + 1) walks)) ≡ all) × (n ≤ i + 1)) (sym v.outlines-is) (
+            subst (λ ns. ns ++ known_in (contours_from on_left c.loop-i.outlines (drop (i + 1) walks)) ≡ all)
+                (sym (ap (λ (ns : _). ns.items) v.numbers-is ∙ v.in_ok-push.ensures.items))
+                (hole_numbered on_left walks i w at c.loop-i.outlines c.loop-i.numbers.items all (sym c.is_hole.ensures ∙ v.if-is_hole.true) c.loop-i.invariant.0),
+            omega (arith, few),
+          )
       | else-is_hole+in_ok-push-2 v ↦
-          subst (λ n. (c.if-is_hole.numbers.items ++ known_in (contours_from on_left n (drop (i + 1) walks)) ≡ all) × (n ≤ i + 1)) (sym v.outlines-is)
-          (subst (λ ns. ns ++ known_in (contours_from on_left (c.loop-i.outlines + 1) (drop (i + 1) walks)) ≡ all)
-          (sym (ap (λ (ns : _). ns.items) v.numbers-is ∙ v.in_ok-push-2.ensures.items))
-          (outline_numbered on_left walks i w at c.loop-i.outlines c.loop-i.numbers.items all (sym c.is_hole.ensures ∙ v.if-is_hole.false) c.loop-i.invariant.0),
-          omega (arith, few))
+          subst (λ n. (c.if-is_hole.numbers.items ++ known_in (contours_from on_left n (drop (i + 1) walks)) ≡ all) × (n ≤ i + 1)) (sym v.outlines-is) (
+            subst (λ ns. ns ++ known_in (contours_from on_left (c.loop-i.outlines + 1) (drop (i + 1) walks)) ≡ all)
+                (sym (ap (λ (ns : _). ns.items) v.numbers-is ∙ v.in_ok-push-2.ensures.items))
+                (outline_numbered on_left walks i w at c.loop-i.outlines c.loop-i.numbers.items all (sym c.is_hole.ensures ∙ v.if-is_hole.false) c.loop-i.invariant.0),
+            omega (arith, few),
+          )
     ]

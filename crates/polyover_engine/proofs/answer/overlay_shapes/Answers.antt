@@ -1,9 +1,11 @@
-use Rattle.std.proofs.Common.{ap}
+use Rattle.std.proofs.Common.{ap, subst}
+use Rattle.std.specs.Prelude.{IfOk}
 use Rattle.std.proofs.lemmas.Result.{err_from_is_err_and}
 use Rattle.overlay_geom.specs.Paths.{plain_shapes}
+use Rattle.i_overlay.specs.Overlay.{IsResult}
 use Rattle.polyover_text.specs.Grammar.{contour_paths}
 use Rattle.polyover_text.specs.Statements.{contours_at}
-use Rattle.polyover_engine.proofs.Queries.{shapes_answered, adding_refused}
+use Rattle.polyover_engine.proofs.Queries.{asked_with, shapes_answered, adding_refused}
 use Rattle.polyover_engine.proofs.answer.overlay_shapes.Goals as goal
 
 pub returns : goal.returns
@@ -12,7 +14,8 @@ returns g c =
     let held = c.builder.view_is in
     shapes_answered (contour_paths (contours_at c.args.contours.now)) c.in_ok-builder.builder c.in_ok-builder.ensures
     _ (λ v. plain_shapes (λ z. z) v.items) c.args.query _ _ c.overlay.result
-    e.query (ap (λ b. b.edges) held) (ap (λ b. b.failed) held) e.result
+    e.query (ap (λ b. b.edges) held) (ap (λ b. b.failed) held)
+    (subst (λ b. IfOk c.overlay.result (λ v. IsResult (asked_with c.args.query b.options) c.overlay.new.self.edges (plain_shapes (λ z. z) v.items))) held e.result)
 
 pub returns-in_err-builder : goal.returns-in_err-builder
 returns-in_err-builder g c =

@@ -1,5 +1,4 @@
 use Rattle.std.proofs.Common.{rules}
-use Rattle.polyover_engine.specs.Engine.{EndsAs}
 use Rattle.polyover_engine.proofs.Noted.{ends_as_noted}
 use Rattle.polyover_engine.proofs.engine.run.Goals as goal
 

@@ -10,7 +10,7 @@ pub returns-clause-query : goal.returns-clause-query
 returns-clause-query g c =
     let limit = g.I.IntNumber.limit in
     let new = plain_held c.set_failed.new.self in
-    subst (λ b. AnswersQuery limit 64 (held_by b) new c.filled_edges-listed.result) c.self.view_is
+    subst (λ b. AnswersQuery limit 64 (held_by b) new c.list-listed.result) c.self.view_is
     (answers_after limit 64 (plain_held c.self.inside.core) (plain_held c.arrange.new.self) new c.in_ok-arrange.field-0
-    c.in_ok-arrange.ensures.query c.filled_edges-listed.result (ap (λ h. edges_in h.edges) c.set_failed.ensures)
-    (ap (λ h. h.failed) c.set_failed.ensures ∙ c.is_err.ensures.value) c.filled_edges-listed.ensures.err)
+    c.in_ok-arrange.ensures.query c.list-listed.result (ap (λ h. edges_in h.edges) c.set_failed.ensures)
+    (ap (λ h. h.failed) c.set_failed.ensures ∙ c.is_err.ensures.value) c.list-listed.ensures.err)

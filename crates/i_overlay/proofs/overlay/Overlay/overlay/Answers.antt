@@ -1,5 +1,5 @@
 -- Over no edges there is no shape; and a refusal is remembered.
-use Rattle.std.proofs.Common.{◌≡◌, [], sym, ap, subst, ◌∙◌}
+use Rattle.std.proofs.Common.{◌≡◌, false, [], sym, ap, subst, ◌∙◌}
 use Rattle.std.proofs.lemmas.Result.{on_ok_weaker}
 use Rattle.overlay_geom.specs.Merged.{HaveSameWindings}
 use Rattle.overlay_geom.specs.Paths.{paths_of_shape}
@@ -8,6 +8,7 @@ use Rattle.overlay_plane.specs.Meetings.{MeetInWholePoints}
 use Rattle.overlay_builder.specs.Held.{AnswersQuery, plain_held}
 use Rattle.overlay_builder.proofs.Queries.{answers_after}
 use Rattle.i_overlay.specs.Builder.{held_by}
+use Rattle.i_overlay.specs.Overlay.{asked}
 use Rattle.i_overlay.proofs.NoShapes.{no_shapes_held}
 use Rattle.i_overlay.proofs.overlay.Overlay.overlay.Goals as goal
 
@@ -16,8 +17,9 @@ returns-clause-empty g c = λ none.
     let e = c.extract-shapes.ensures in
     let same : edges_in c.arrange.new.self.edges ≡ [] =
     sym (ap (λ b. b.edges) e.kept) ∙ sym (ap (λ b. b.edges) c.self-2.view_is) ∙ sym (ap (λ h. edges_in h.edges) c.set_failed.ensures) ∙ none in
-    no_shapes_held c.extract-shapes.result (λ v. v.items) (λ s. paths_of_shape g.I.IntNumber.whole s.items) _ (edges_in c.arrange.new.self.edges)
-    e.result same
+    no_shapes_held c.extract-shapes.result (λ v. v.items) (λ s. paths_of_shape g.I.IntNumber.whole s.items)
+    (asked g.I.Wide.WideIntNumber.limit g.I.WideUInt.UIntNumber.natural c.args.fill_rule c.args.overlay_rule c.self.inside.options)
+    (edges_in c.arrange.new.self.edges) (subst (λ b. b.options.ogc ≡ false) (sym c.self.view_is) c.requires.no_ogc) e.result same
 
 pub returns-clause-exact : goal.returns-clause-exact
 returns-clause-exact g c = λ whole.

@@ -1,6 +1,6 @@
 -- The counted edges of the content are those of the list that is given out.
 use Rattle.std.proofs.Common.{ap, ◌∙◌}
-use Rattle.overlay_arrange.specs.Content.{carried_edges, plain_edges, IsContent}
+use Rattle.overlay_arrange.specs.Content.{plain_edges}
 use Rattle.overlay_arrange.proofs.CarriedEdges.{plain_edges-seen}
 use Rattle.overlay_arrange.proofs.content.Content.edges.Goals as goal
 

@@ -1,9 +1,4 @@
 -- What is merged is the content as contracts see it.
-use Rattle.std.proofs.Common.{◌≡◌, List, subst, sym}
-use Rattle.std.specs.Prelude.{OnOk}
-use Rattle.overlay_geom.specs.Edges.{CountedEdge}
-use Rattle.overlay_geom.specs.Merged.{IsMerged}
-use Rattle.overlay_arrange.specs.Content.{IsContent}
 use Rattle.overlay_arrange.proofs.CarriedEdges.{edges_in-carried, plain_edges-seen}
 use Rattle.overlay_arrange.proofs.content.Content.merge.Goals as goal
 

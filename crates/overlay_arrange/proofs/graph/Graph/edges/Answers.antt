@@ -1,5 +1,5 @@
 -- The edges that are given out are those of the graph, with its fill bits.
-use Rattle.std.proofs.Common.{sym, ap, subst, ◌∙◌}
+use Rattle.std.proofs.Common.{ap, subst, ◌∙◌}
 use Rattle.std.proofs.Common.{◌≡◌, map}
 use Rattle.overlay_arrange.specs.Graphs.{graph_edges, IsArrangement}
 use Rattle.overlay_arrange.specs.Vectors.{plain_vector, vector_of}

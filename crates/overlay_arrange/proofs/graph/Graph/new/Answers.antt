@@ -1,5 +1,5 @@
 -- What is made is a graph.
-use Rattle.std.proofs.Common.{sym, subst, ◌∙◌}
+use Rattle.std.proofs.Common.{◌∙◌}
 use Rattle.overlay_arrange.proofs.FilledVectors.{graph_made}
 use Rattle.overlay_arrange.proofs.graph.Graph.new.Goals as goal
 

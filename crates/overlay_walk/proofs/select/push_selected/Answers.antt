@@ -7,8 +7,8 @@ use Rattle.overlay_geom.proofs.Mapped.{mapped_rest}
 use Rattle.overlay_arrange.specs.Vectors.{plain_vector}
 use Rattle.overlay_arrange.proofs.Appended.{next_appended}
 use Rattle.overlay_walk.specs.Steps.{is_on_left, plain_steps}
-use Rattle.i_overlay.specs.Selection.{ends, steps_by_bits}
-use Rattle.i_overlay.proofs.select.push_selected.Goals as goal
+use Rattle.overlay_walk.specs.Selection.{ends, steps_by_bits}
+use Rattle.overlay_walk.proofs.select.push_selected.Goals as goal
 
 pub loop-number-preserved : goal.loop-number-preserved
 loop-number-preserved g c =

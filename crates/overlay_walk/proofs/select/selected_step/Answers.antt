@@ -3,10 +3,10 @@ use Rattle.std.proofs.Common.{◌≡◌, cond, sym, ap, ◌∙◌}
 use Rattle.overlay_plane.specs.SelectedSteps.{step_with_left}
 use Rattle.overlay_arrange.specs.Vectors.{plain_vector}
 use Rattle.overlay_walk.specs.Steps.{is_on_left}
-use Rattle.i_overlay.specs.Selection.{ends}
-use Rattle.i_overlay.proofs.OneSide.{no_step, one_step}
-use Rattle.i_overlay.proofs.select.selected_step.Goals as goal
-use Rattle.i_overlay.proofs.select.selected_step.Goals.{in-CounterClockwise, in-Clockwise}
+use Rattle.overlay_walk.specs.Selection.{ends}
+use Rattle.overlay_walk.proofs.OneSide.{no_step, one_step}
+use Rattle.overlay_walk.proofs.select.selected_step.Goals as goal
+use Rattle.overlay_walk.proofs.select.selected_step.Goals.{in-CounterClockwise, in-Clockwise}
 
 pub returns-then-above-below-clause-step : goal.returns-then-above-below-clause-step
 returns-then-above-below-clause-step g c =

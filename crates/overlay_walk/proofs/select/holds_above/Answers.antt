@@ -2,7 +2,7 @@
 use Rattle.std.proofs.Common.{ap₂, ◌∙◌}
 use Rattle.overlay_arrange.specs.Rules.{rule_holds}
 use Rattle.overlay_arrange.proofs.DirectionBits.{has_bit-masked}
-use Rattle.i_overlay.proofs.select.holds_above.Goals as goal
+use Rattle.overlay_walk.proofs.select.holds_above.Goals as goal
 
 pub returns : goal.returns
 returns c = c.holds.ensures ∙ ap₂ (rule_holds c.args.rule) (has_bit-masked c.args.fill 0) (has_bit-masked c.args.fill 2)

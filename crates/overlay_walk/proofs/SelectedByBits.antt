@@ -12,7 +12,7 @@ use Rattle.overlay_arrange.specs.Vectors.{Vector, vector_of}
 use Rattle.overlay_arrange.specs.declared.fill_rule.FillRule.{FillRule}
 use Rattle.overlay_arrange.specs.declared.overlay_rule.OverlayRule.{OverlayRule}
 use Rattle.overlay_arrange.proofs.SideBits.{bits_show_sides}
-use Rattle.i_overlay.specs.Selection.{bits_hold_above, bits_hold_below, steps_by_bits}
+use Rattle.overlay_walk.specs.Selection.{bits_hold_above, bits_hold_below, steps_by_bits}
 
 module _ (fill : FillRule) (rule : OverlayRule) (es : List CountedEdge) where
   -- the bits tell whether the rules hold above an edge, and below it

@@ -6,8 +6,9 @@ ghost use Rattle.overlay_geom.specs.Plane.{Edge};
 ghost use Rattle.overlay_plane.specs.SelectedSteps.{step_with_left};
 ghost use Rattle.overlay_arrange.specs.Vectors.{plain_vector};
 ghost use Rattle.overlay_walk.specs.Steps.{is_on_left, plain_step, plain_steps, IsAlong, RunsAlong};
-ghost use Rattle.i_overlay.specs.Selection.{ends, bits_hold_above, bits_hold_below, steps_by_bits};
+ghost use Rattle.overlay_walk.specs.Selection.{ends, bits_hold_above, bits_hold_below, steps_by_bits};
 
+use crate::step::Step;
 use overlay_arrange::options::ContourDirection;
 use overlay_arrange::overlay_rule::OverlayRule;
 use overlay_arrange::vector::{
@@ -15,14 +16,13 @@ use overlay_arrange::vector::{
 };
 use overlay_geom::error::OverlayError;
 use overlay_geom::number::IntNumber;
-use overlay_walk::step::Step;
 use std::alloc::Allocator;
 
 /// Adds the selected steps of the edges, in their order, each with the number of its edge. The only
 /// refusal is `Memory`, and then some of them may stand.
-pub(crate) fn push_selected<I: IntNumber, A: Allocator>(
+pub fn push_selected<I: IntNumber, D: Copy, A: Allocator>(
     steps: &mut Vec<Step<I>, A>,
-    edges: &[DataVectorEdge<I, ()>],
+    edges: &[DataVectorEdge<I, D>],
     rule: OverlayRule,
     direction: ContourDirection,
 ) -> Result<(), OverlayError>
@@ -39,9 +39,9 @@ pub(crate) fn push_selected<I: IntNumber, A: Allocator>(
 }
 
 // Adds the selected step of the edge with this number, if there is one.
-fn push_step<I: IntNumber, A: Allocator>(
+fn push_step<I: IntNumber, D: Copy, A: Allocator>(
     steps: &mut Vec<Step<I>, A>,
-    edge: DataVectorEdge<I, ()>,
+    edge: DataVectorEdge<I, D>,
     number: usize,
     rule: OverlayRule,
     direction: ContourDirection,
@@ -61,8 +61,8 @@ fn push_step<I: IntNumber, A: Allocator>(
 // The step along the edge with this number that has the side where the rule holds on its left, or on
 // its right where the direction is clockwise. There is none where the rule holds on both sides, or on
 // neither.
-fn selected_step<I: IntNumber>(
-    edge: DataVectorEdge<I, ()>,
+fn selected_step<I: IntNumber, D: Copy>(
+    edge: DataVectorEdge<I, D>,
     number: usize,
     rule: OverlayRule,
     direction: ContourDirection,
@@ -84,7 +84,11 @@ fn selected_step<I: IntNumber>(
 }
 
 // The step along the edge with this number from a to b, or back.
-fn step_along<I: IntNumber>(edge: DataVectorEdge<I, ()>, number: usize, goes_along: bool) -> Step<I>
+fn step_along<I: IntNumber, D: Copy>(
+    edge: DataVectorEdge<I, D>,
+    number: usize,
+    goes_along: bool,
+) -> Step<I>
     ensures step { plain_step I.whole result ≡ step_with_left goes_along (ends (plain_vector I.whole edge)) }
     ensures number { result.edge ≡ number }
 {

@@ -3,8 +3,8 @@ use Rattle.std.proofs.Common.{◌≡◌, ◌++◌, map, drop, All}
 use Rattle.std.specs.List.{flat_map}
 use Rattle.overlay_arrange.specs.Vectors.{plain_vector}
 use Rattle.overlay_walk.specs.Steps.{is_on_left, plain_steps, RunsAlong}
-use Rattle.i_overlay.specs.Selection.{ends, steps_by_bits}
-use Rattle.i_overlay.proofs.select.push_selected.Given as goal
+use Rattle.overlay_walk.specs.Selection.{ends, steps_by_bits}
+use Rattle.overlay_walk.proofs.select.push_selected.Given as goal
 
 abbrev pub invariant-loop-number : goal.invariant-loop-number
 invariant-loop-number g l =

@@ -1,0 +1,51 @@
+-- What an overlay is asked for, and the steps that it selects.
+use Rattle.std.specs.Prelude.{ℕ, Bool, ℤ, List}
+use Rattle.overlay_geom.specs.Plane.{Step}
+use Rattle.overlay_geom.specs.Edges.{CountedEdge, subj_of, clip_of}
+use Rattle.overlay_plane.specs.SelectedSteps.{selected_steps}
+use Rattle.overlay_plane.specs.MinimumArea.{reaches}
+use Rattle.overlay_arrange.specs.Rules.{rules_hold}
+use Rattle.overlay_arrange.specs.declared.fill_rule.FillRule.{FillRule}
+use Rattle.overlay_arrange.specs.declared.overlay_rule.OverlayRule.{OverlayRule}
+use Rattle.overlay_arrange.specs.declared.options.ContourDirection.{ContourDirection}
+use Rattle.overlay_arrange.specs.declared.options.IntOverlayOptions.{IntOverlayOptions}
+use Rattle.overlay_walk.specs.Steps.{is_on_left}
+
+-- what an overlay is asked for: the rules, and how the output is to look; and the greatest number of the type in which
+-- areas are summed
+pub record Asked : Type 0 where
+  pub fill : FillRule
+  pub rule : OverlayRule
+  pub output_direction : ContourDirection
+  pub preserve_output_collinear : Bool
+  pub ogc : Bool
+  pub min_output_area : ℕ
+  pub wide_limit : ℕ
+
+-- what rules and options ask for
+abbrev pub asked : {U : Type 0} → ℕ → (U → ℕ) → FillRule → OverlayRule → IntOverlayOptions U → Asked
+asked wide_limit natural fill rule options = record {
+  fill = fill;
+  rule = rule;
+  output_direction = options.output_direction;
+  preserve_output_collinear = options.preserve_output_collinear;
+  ogc = options.ogc;
+  min_output_area = natural options.min_output_area;
+  wide_limit = wide_limit;
+}
+
+-- the two rules hold of a winding of the subject and one of the clip: the region asked for is where they hold of the windings
+abbrev pub region_asked : Asked → ℤ → ℤ → Bool
+region_asked q = rules_hold q.fill q.rule
+
+-- contours have the region on their left where the output is counterclockwise, on their right where it is clockwise
+abbrev pub filled_on_left : Asked → Bool
+filled_on_left q = is_on_left q.output_direction
+
+-- the selected steps of the edges: those of the edges on exactly one side of which the region is, each with that side on its left or right, as contours have it
+abbrev pub selected_of : Asked → List CountedEdge → List Step
+selected_of q es = selected_steps (region_asked q) subj_of clip_of (filled_on_left q) es
+
+-- the contour has three points or more, and reaches the minimum area
+abbrev pub is_kept : Asked → List Step → Bool
+is_kept q walk = reaches q.wide_limit q.min_output_area walk

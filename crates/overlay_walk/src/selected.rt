@@ -1,0 +1,80 @@
+//! The walks that the selected steps of a graph are cut into.
+
+ghost use Rattle.std.specs.Prelude.{◌≡◌, ◌≢◌, [], None, All, IfOk, OnOk, IsOkUnless};
+ghost use Rattle.std.specs.List.Sorted.{IsPermutation};
+ghost use Rattle.overlay_geom.specs.Edges.{all_ends, subj_of, clip_of};
+ghost use Rattle.overlay_plane.specs.Balance.{HasBalancedCounts};
+ghost use Rattle.overlay_plane.specs.Binding.{AreCutFrom};
+ghost use Rattle.overlay_plane.specs.SelectedSteps.{selected_steps};
+ghost use Rattle.overlay_arrange.specs.Graphs.{graph_edges};
+ghost use Rattle.overlay_arrange.specs.Rules.{rules_hold};
+ghost use Rattle.overlay_walk.specs.Steps.{is_on_left, plain_steps, IsLong, RunsAlong};
+ghost use Rattle.overlay_walk.specs.Walks.{plain_walks};
+
+use crate::buffer::BooleanExtractionBuffer;
+use crate::contours::cut_into_contours;
+use crate::hand::HandRule;
+use crate::open_steps::OpenSteps;
+use crate::select::push_selected;
+use crate::step::Step;
+use overlay_arrange::count::EdgeCount;
+use overlay_arrange::graph::Graph;
+use overlay_arrange::options::ContourDirection;
+use overlay_arrange::overlay_rule::OverlayRule;
+use overlay_geom::error::OverlayError;
+use overlay_geom::number::IntNumber;
+use std::alloc::Allocator;
+
+/// The walks that the selected steps of the graph are cut into: those along the edges on exactly one
+/// side of which the rules hold, that of the graph and the overlay rule, with this side on the left
+/// where the direction is counterclockwise, else on the right. Outlines turn through their filled side,
+/// holes through their empty one. Each step has the number of its edge in the graph. The counts of the
+/// edges are balanced.
+///
+/// The buffer is taken for its room and given back, if there is none a new one. The only refusal is
+/// `Memory`, after which there may be none.
+pub fn selected_walks<I: IntNumber, C: EdgeCount, A: Allocator + Clone>(
+    graph: &Graph<I, C, A>,
+    overlay_rule: OverlayRule,
+    direction: ContourDirection,
+    buffer: &mut Option<BooleanExtractionBuffer<I, A>>,
+) -> Result<Vec<Vec<Step<I>, A>, A>, OverlayError>
+    requires { HasBalancedCounts (graph_edges graph.now) }
+    ensures cut { IfOk result (λ ws. AreCutFrom (rules_hold graph.now.fill_rule overlay_rule) subj_of clip_of
+        (graph_edges graph.now) (is_on_left direction) (plain_walks I.whole ws.items)) }
+    ensures along { IfOk result (λ ws.
+        All (λ w. All (RunsAlong I.whole (all_ends (graph_edges graph.now))) w.items) ws.items) }
+    ensures long { IfOk result (λ ws. All (All (IsLong I.limit)) (plain_walks I.whole ws.items)) }
+    ensures buffer { OnOk result (buffer.new ≢ None) }
+    ensures err { IsOkUnless result OverlayError.Memory }
+{
+    graph.note_arrangement();
+    let room = match buffer.take() {
+        Some(held) => held.into_room(),
+        None => Vec::new(graph.allocator().clone()?),
+    };
+    let rule = HandRule::OutlineOrHole(direction);
+    let mut open = open_selected(graph, overlay_rule, direction, room)?;
+    let walks = cut_into_contours(graph.allocator().clone()?, &mut open, rule)?;
+    *buffer = Some(BooleanExtractionBuffer::new(open.into_room()));
+    Ok(walks)
+}
+
+// The selected steps of the graph, none of them walked, in the room of a list; each with its edge's
+// number.
+fn open_selected<I: IntNumber, C: EdgeCount, A: Allocator + Clone>(
+    graph: &Graph<I, C, A>,
+    overlay_rule: OverlayRule,
+    direction: ContourDirection,
+    mut steps: Vec<Step<I>, A>,
+) -> Result<OpenSteps<I, A>, OverlayError>
+    requires { steps.items ≡ [] }
+    ensures selected { IfOk result (λ o. IsPermutation (selected_steps (rules_hold graph.now.fill_rule overlay_rule)
+        subj_of clip_of (is_on_left direction) (graph_edges graph.now)) (plain_steps I.whole o)) }
+    ensures along { IfOk result (All (RunsAlong I.whole (all_ends (graph_edges graph.now)))) }
+    ensures err { IsOkUnless result OverlayError.Memory }
+{
+    let edges = graph.edges();
+    push_selected(&mut steps, edges, overlay_rule, direction)?;
+    OpenSteps::new(steps)
+}
