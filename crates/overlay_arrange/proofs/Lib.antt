@@ -24,3 +24,5 @@ pub mod RunsLoop
 pub mod RunsMerged
 pub mod SettledLists
 pub mod SideBits
+pub mod Sweepable
+pub mod SweptFills

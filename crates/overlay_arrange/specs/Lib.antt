@@ -8,4 +8,5 @@ pub mod Paths
 pub mod Rules
 pub mod Runs
 pub mod Settle
+pub mod Starts
 pub mod Vectors

@@ -13,33 +13,12 @@ ghost use Rattle.overlay_arrange.specs.Vectors.{plain_vector, vector_of};
 use crate::count::EdgeCount;
 use crate::edge::CountedEdge;
 use crate::fill_rule::FillRule;
-use crate::vector::{CLIP_LEFT, CLIP_RIGHT, DataVectorEdge, SUBJ_LEFT, SUBJ_RIGHT, SideFill};
+use crate::vector::{DataVectorEdge, SideFill};
+use crate::windings::{Windings, bits_between};
 use overlay_geom::error::OverlayError;
 use overlay_geom::number::{IntNumber, WideIntNumber};
 use overlay_geom::vector::cross_at;
 use std::alloc::Allocator;
-
-/// How often the subject, and the clip, wind round a point.
-#[derive(Debug, Clone, Copy)]
-struct Windings {
-    subj: i64,
-    clip: i64,
-}
-
-impl Windings {
-    /// The windings beyond the edge: its counts are added.
-    fn beyond<I, C: EdgeCount>(self, edge: &CountedEdge<I, C>) -> Windings
-        requires subj { Within (2 ^ 31) self.subj }
-        requires clip { Within (2 ^ 31) self.clip }
-        ensures subj { result.subj ≡ self.subj +ℤ (C.counts edge.now.count).subj }
-        ensures clip { result.clip ≡ self.clip +ℤ (C.counts edge.now.count).clip }
-    {
-        Windings {
-            subj: self.subj + i64::from(edge.count.subj()),
-            clip: self.clip + i64::from(edge.count.clip()),
-        }
-    }
-}
 
 /// Whether the midpoint of the edge f is in the span of the edge e, of which the right end is no part.
 fn is_middle_in_span<I: IntNumber, C: EdgeCount>(
@@ -100,29 +79,6 @@ fn windings_below<I: IntNumber, C: EdgeCount>(
         }
     }
     windings
-}
-
-/// The bit of a side where it is filled, and 0 elsewhere.
-fn bit_if(is_filled: bool, side: SideFill) -> SideFill
-    ensures value { result ≡ bit is_filled side }
-    ensures at_most { result ≤ side }
-{
-    if is_filled { side } else { 0 }
-}
-
-/// The fill bits of an edge between the windings below it and those above it.
-fn bits_between(below: Windings, above: Windings, rule: FillRule) -> SideFill
-    ensures { result ≡ bits_of (record {
-      subj_above = is_filled rule above.subj;
-      subj_below = is_filled rule below.subj;
-      clip_above = is_filled rule above.clip;
-      clip_below = is_filled rule below.clip;
-    }) }
-{
-    bit_if(rule.fills(above.subj), SUBJ_LEFT)
-        + bit_if(rule.fills(below.subj), SUBJ_RIGHT)
-        + bit_if(rule.fills(above.clip), CLIP_LEFT)
-        + bit_if(rule.fills(below.clip), CLIP_RIGHT)
 }
 
 /// The sides of the edge that are filled among the edges of the list.

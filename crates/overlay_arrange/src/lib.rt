@@ -15,5 +15,8 @@ pub mod options;
 pub mod overlay_rule;
 mod rounds;
 mod settle;
+mod starting_edge;
+mod starts;
 pub mod string_count;
 pub mod vector;
+mod windings;
