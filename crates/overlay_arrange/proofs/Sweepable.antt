@@ -1,11 +1,11 @@
 -- The edges of an arrangement by their starts may be swept over, and have the windings and fill bits that they have in the arrangement's order.
-use Rattle.std.proofs.Common.{◌≡◌, ℕ, ◌^◌, ◌<◌, Bool, true, false, cond, ℤ, pos, ◌+ℤ◌, ◌-ℤ◌, ◌*ℤ◌, List, map, Contains, refl, sym, ap, ap₂, ◌∙◌, subst}
+use Rattle.std.proofs.Common.{◌≡◌, ℕ, ◌^◌, ◌<◌, true, false, cond, ℤ, pos, ◌+ℤ◌, ◌-ℤ◌, ◌*ℤ◌, List, map, Contains, sym, ap₂, ◌∙◌, subst}
 use Rattle.std.specs.List.{AllPairs}
 use Rattle.std.specs.List.Sorted.{IsPermutation}
 use Rattle.std.proofs.lemmas.List.Elements.{All-contains}
 use Rattle.std.proofs.lemmas.List.Sorted.{All-permutation, Contains-permutation, IsPermutation-map, IsPermutation-sym}
 use Rattle.overlay_geom.specs.Plane.{midpoint, point_lt, edge_eq, is_strictly_below}
-use Rattle.overlay_geom.specs.Edges.{CountedEdge, ends_of, subj_of, clip_of, winding_below, winding_above, weight}
+use Rattle.overlay_geom.specs.Edges.{CountedEdge, ends_of, subj_of, clip_of, winding_below}
 use Rattle.overlay_geom.specs.Numbered.{Numbered, numbered}
 use Rattle.overlay_geom.specs.Settled.{IsSettled}
 use Rattle.overlay_geom.proofs.Mapped.{AllPairs-map}
@@ -72,3 +72,11 @@ module _ (es fs : List CountedEdge) (moved : IsPermutation es fs) where
       clip = balanced_arrangement clip_of balanced.clip;
       order = order;
     }
+
+-- the edges by their starts, without their places
+pub by_start_sweepable : (limit : ℕ) (es : List CountedEdge) → IsContent limit es → IsAscending es → IsSettled es → HasBalancedCounts es →
+    (ns : List (Numbered CountedEdge)) → AreByStart es ns → (fs : List CountedEdge) → map (λ n. n.item) ns ≡ fs → IsSweepable limit fs
+by_start_sweepable limit es content ascending settled balanced ns by fs items =
+    sweepable es fs (subst (IsPermutation es) items (starts_permuted es ns by)) limit content ascending settled balanced
+    (subst (AllPairs (λ (e f : CountedEdge). is_anchored_before (ends_of f) (ends_of e) ≡ false)) items
+    (AllPairs-map (λ (e f : CountedEdge). is_anchored_before (ends_of f) (ends_of e) ≡ false) (λ (n : Numbered CountedEdge). n.item) ns by.order))

@@ -1,23 +1,23 @@
 -- A sweep over edges by their starts: what the next edge asks of it, and what the look-up gives.
-use Rattle.std.proofs.Common.{◌≡◌, ℕ, ◌+◌, ◌<◌, true, false, ℤ, pos, ◌+ℤ◌, ◌<ℤ◌, ◌≤ℤ◌, int_lt, List, [], ◌∷◌, ◌++◌, length, take, drop, get_or, Contains, Some, refl, sym, ap, ap₂, ◌∙◌, subst, arith}
+use Rattle.std.proofs.Common.{◌≡◌, ℕ, ◌+◌, ◌<◌, true, false, ℤ, pos, ◌≤ℤ◌, int_lt, List, [], ◌∷◌, ◌++◌, length, take, drop, get_or, Contains, Some, refl, sym, ap, ap₂, ◌∙◌, subst, arith}
 use Rattle.std.specs.List.{All, AllPairs}
 use Rattle.std.proofs.lemmas.Int.{ints}
 use Rattle.std.proofs.lemmas.List.{length-map, take_more, take-append-drop}
-use Rattle.std.proofs.lemmas.List.Elements.{All-contains, Contains-append_left}
-use Rattle.overlay_geom.specs.Plane.{edge_eq, point_lt}
+use Rattle.std.proofs.lemmas.List.Elements.{All-contains, All-weaker, Contains-append_left}
+use Rattle.overlay_geom.specs.Plane.{edge_eq}
 use Rattle.overlay_geom.specs.Edges.{CountedEdge, ends_of, subj_of, clip_of, winding_below, winding_above}
 use Rattle.overlay_geom.specs.Settled.{IsSettledBy, MeetInEnds}
 use Rattle.overlay_geom.proofs.Mapped.{AllPairs-map, read_mapped}
-use Rattle.overlay_plane.specs.Anchors.{is_anchored_before, is_below_anchor}
+use Rattle.overlay_plane.specs.Anchors.{is_anchored_before}
 use Rattle.overlay_plane.proofs.Entries.{Contains-filter, Contains-from_map, Contains-map}
 use Rattle.overlay_plane.proofs.Tests.{lt_from_test, test_from_lt}
 use Rattle.overlay_plane.proofs.Under.{covers_to}
 use Rattle.overlay_plane.proofs.WhereEdgesStart.{covers_start}
-use Rattle.overlay_scan.specs.Scan.{Entry, Sweep, live_at, moved_to, IsAsked, IsOver, IsSweep, IsPutIn, MeetsOthers, IsNewAmong, value_below}
+use Rattle.overlay_scan.specs.Scan.{Entry, Sweep, live_at, IsAsked, IsOver, IsSweep, IsPutIn, MeetsOthers, IsNewAmong, value_below}
 use Rattle.overlay_scan.specs.Sweeps.{IsByStart, IsSwept, entry_of}
-use Rattle.overlay_scan.proofs.EntriesByStart.{below_stands_before, meets_live, new_among_live}
+use Rattle.overlay_scan.proofs.EntriesByStart.{at_front, after_front, later_starts, below_stands_before, meets_live, new_among_live}
 use Rattle.overlay_scan.proofs.Moving.{live_after_move}
-use Rattle.overlay_scan.proofs.SweptEntries.{ended, put_in}
+use Rattle.overlay_scan.proofs.SweptEntries.{asked_at, ended, put_in}
 use Rattle.overlay_scan.proofs.WindingsBelow.{below_is_over}
 use Rattle.overlay_scan.proofs.WindingsLookedUp.{AreLiveEdges, winding_looked_up}
 use Rattle.overlay_arrange.specs.Content.{IsHeld}
@@ -118,3 +118,17 @@ module _ (limit : ℕ) (fs : List CountedEdge) (sweepable : IsSweepable limit fs
       -- a vertical one is passed over
       pub swept_past : int_lt e.a.x e.b.x ≡ false → IsSwept limit e.a.x (take (i + 1) (wound_entries fs)) s
       swept_past upright = subst (λ gs. IsSwept limit e.a.x gs s) (sym more) (ended limit e.a.x (take i (wound_entries fs)) s swept (wound fs e) upright)
+
+    -- the sweep may go on to the edges after it
+    pub swept_on : (t : Sweep Windings) → IsSwept limit e.a.x (take (i + 1) (wound_entries fs)) t →
+        All (λ f. IsSwept limit f.edge.a.x (take (i + 1) (wound_entries fs)) t) (drop (i + 1) (wound_entries fs))
+    swept_on t swept = All-weaker (λ (f : Entry Windings). e.a.x ≤ℤ f.edge.a.x) (λ f. IsSwept limit f.edge.a.x (take (i + 1) (wound_entries fs)) t)
+        (λ f le. asked_at limit e.a.x (take (i + 1) (wound_entries fs)) t swept f.edge.a.x le) (drop (i + 1) (wound_entries fs))
+        (after_front (λ (f : Entry Windings). e.a.x ≤ℤ f.edge.a.x) (wound_entries fs) i (wound fs e) within
+        (later_starts (wound_entries fs) i (wound fs e) within there entries_by_start))
+
+-- what the sweep holds for all edges left it holds for the next one
+pub swept_for_next : (limit : ℕ) (fs : List CountedEdge) (i : ℕ) (e : CountedEdge) → i < length fs → get_or fs i e ≡ e → (s : Sweep Windings) →
+    All (λ f. IsSwept limit f.edge.a.x (take i (wound_entries fs)) s) (drop i (wound_entries fs)) → IsSwept limit e.a.x (take i (wound_entries fs)) s
+swept_for_next limit fs i e lt is s all = at_front (λ (f : Entry Windings). IsSwept limit f.edge.a.x (take i (wound_entries fs)) s) (wound_entries fs) i (wound fs e)
+    (let l = length-map fs (wound fs) in omega (arith, l, lt)) (sym (read_mapped (wound fs) fs i e (wound fs e) lt (sym is))) all

@@ -49,10 +49,7 @@ fn edges_with_places<I: IntNumber, C: EdgeCount, A: Allocator>(
 
 /// `Less` exactly where the first edge starts before the second: by their smaller ends, and from one point
 /// by their slopes.
-fn compare_starts<I: IntNumber, C: Copy>(
-    e: &StartingEdge<I, C>,
-    f: &StartingEdge<I, C>,
-) -> Ordering
+fn compare_starts<I: IntNumber, C: Copy>(e: &StartingEdge<I, C>, f: &StartingEdge<I, C>) -> Ordering
     ensures { is_lt result ≡ is_anchored_before (starting_ends I.whole e.now) (starting_ends I.whole f.now) }
 {
     match compare_points(e.edge.a, f.edge.a) {

@@ -1,11 +1,9 @@
 -- The winding above the edge is the one below it and its own count, and neither gets further from 0 than the weight.
-use Rattle.std.proofs.Common.{◌≡◌, ℕ, ℤ, ◌+ℤ◌, List}
 use Rattle.overlay_geom.specs.Plane.{midpoint}
-use Rattle.overlay_geom.specs.Edges.{CountedEdge, ends_of, subj_of, clip_of, winding_below}
+use Rattle.overlay_geom.specs.Edges.{ends_of, subj_of, clip_of}
 use Rattle.overlay_geom.proofs.WindingSums.{subj_weighed, clip_weighed, winding_by-light}
 use Rattle.overlay_arrange.specs.Content.{plain_edge, plain_edges}
-use Rattle.overlay_arrange.specs.Rules.{is_filled, bits_of, fill_bits}
-use Rattle.overlay_arrange.specs.declared.fill_rule.FillRule.{FillRule}
+use Rattle.overlay_arrange.proofs.SideBits.{bits_between_windings}
 use Rattle.overlay_arrange.proofs.fill.fill_of.Goals as goal
 
 pub beyond-above-requires-clause-subj : goal.beyond-above-requires-clause-subj
@@ -14,16 +12,9 @@ beyond-above-requires-clause-subj g c = winding_by-light subj_of subj_weighed (p
 pub beyond-above-requires-clause-clip : goal.beyond-above-requires-clause-clip
 beyond-above-requires-clause-clip g c = winding_by-light clip_of clip_weighed (plain_edges g.I.IntNumber.whole g.C.EdgeCount.counts c.args.edges.now) (midpoint (ends_of (plain_edge g.I.IntNumber.whole g.C.EdgeCount.counts c.args.edge.now))) 2147483648 c.windings_below-below.result.clip c.requires.content.light c.windings_below-below.ensures.clip
 
--- the bits between the windings below an edge and those beyond it are its fill bits
-read_fill_bits : (rule : FillRule) (es : List CountedEdge) (e : CountedEdge) (n : ℕ) (subj clip subj_above clip_above : ℤ) →
-    subj ≡ winding_below subj_of es e → clip ≡ winding_below clip_of es e → subj_above ≡ subj +ℤ e.subj → clip_above ≡ clip +ℤ e.clip →
-    n ≡ bits_of (record { subj_above = is_filled rule subj_above; subj_below = is_filled rule subj; clip_above = is_filled rule clip_above; clip_below = is_filled rule clip }) →
-    n ≡ fill_bits rule es e
-read_fill_bits rule es e n subj clip subj_above clip_above s c sa ca bits = rw (← c, ← s, ← ca, ← sa) bits
-
 pub returns : goal.returns
 returns g c =
-    read_fill_bits c.args.rule (plain_edges g.I.IntNumber.whole g.C.EdgeCount.counts c.args.edges.now)
+    bits_between_windings c.args.rule (plain_edges g.I.IntNumber.whole g.C.EdgeCount.counts c.args.edges.now)
     (plain_edge g.I.IntNumber.whole g.C.EdgeCount.counts c.args.edge.now) c.bits_between.result
     c.windings_below-below.result.subj c.windings_below-below.result.clip c.beyond-above.result.subj c.beyond-above.result.clip
     c.windings_below-below.ensures.subj c.windings_below-below.ensures.clip c.beyond-above.ensures.subj c.beyond-above.ensures.clip
