@@ -3,6 +3,7 @@ pub mod Content
 pub mod Counts
 pub mod Cut
 pub mod EdgeData
+pub mod Ends
 pub mod Options
 pub mod Paths
 pub mod Rules

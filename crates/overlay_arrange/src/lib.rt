@@ -2,8 +2,10 @@
 //! ends alone, and given the sides that the shapes fill.
 #![tactic(auto)]
 
+pub mod balance;
 pub mod content;
 pub mod count;
+mod counted_end;
 mod crossing;
 mod cut;
 pub mod data;
