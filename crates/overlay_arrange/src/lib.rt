@@ -11,6 +11,7 @@ mod cut;
 pub mod data;
 pub mod edge;
 mod fill;
+mod fill_rays;
 pub mod fill_rule;
 mod fill_sweep;
 mod merge;

@@ -38,8 +38,9 @@ returns-then-not-is_zero g c =
     let before = sym test ∙ c.if-is_lt.true in (
       λ t. absurd (false≢true t),
       λ cancel. c.if-not-is_zero.ensures.1 (
-      none_so_far (λ n. n.subj) ns i p c.loop-end.sum.subj c.loop-end.invariant.0 n lt is c.requires.order before cancel.subj,
-      none_so_far (λ n. n.clip) ns i p c.loop-end.sum.clip c.loop-end.invariant.1 n lt is c.requires.order before cancel.clip),
+        none_so_far (λ n. n.subj) ns i p c.loop-end.sum.subj c.loop-end.invariant.0 n lt is c.requires.order before cancel.subj,
+        none_so_far (λ n. n.clip) ns i p c.loop-end.sum.clip c.loop-end.invariant.1 n lt is c.requires.order before cancel.clip,
+      ),
     )
 
 pub with_end-sum-requires-clause-subj : goal.with_end-sum-requires-clause-subj
@@ -108,6 +109,7 @@ returns g c =
         clip = all_cancel (λ n. n.clip) ns i p c.loop-end.sum.clip c.loop-end.invariant.1 past zeros.1;
       },
       λ cancel. c.is_zero-2.ensures.1 (
-      sum_cancels (λ n. n.subj) ns i p c.loop-end.sum.subj c.loop-end.invariant.0 past cancel.subj,
-      sum_cancels (λ n. n.clip) ns i p c.loop-end.sum.clip c.loop-end.invariant.1 past cancel.clip),
+        sum_cancels (λ n. n.subj) ns i p c.loop-end.sum.subj c.loop-end.invariant.0 past cancel.subj,
+        sum_cancels (λ n. n.clip) ns i p c.loop-end.sum.clip c.loop-end.invariant.1 past cancel.clip,
+      ),
     )

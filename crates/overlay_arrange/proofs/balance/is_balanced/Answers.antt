@@ -33,5 +33,5 @@ returns-clause-balanced g c =
     (IsPermutation-map (plain_end whole) c.in_ok-ends.ends.items sorted c.in_ok-sort_by.ensures.permutation) in (
       λ t. balanced_where_cancelled es (plain_ends whole sorted) moved (subst (λ ns. CancelOut (plain_ends whole ns)) c.deref.ensures.value (c.cancel_out.ensures.0 t)),
       λ balanced. c.cancel_out.ensures.1 (subst (λ ns. CancelOut (plain_ends whole ns)) (sym c.deref.ensures.value)
-      (cancelled_where_balanced es (plain_ends whole sorted) moved balanced)),
+          (cancelled_where_balanced es (plain_ends whole sorted) moved balanced)),
     )

@@ -4,8 +4,8 @@ use Rattle.overlay_geom.specs.Edges.{ends_of, subj_of, clip_of}
 use Rattle.overlay_geom.proofs.WindingSums.{subj_weighed, clip_weighed, winding_by-front, winding_by-counted, winding_by-passed}
 use Rattle.overlay_arrange.specs.Content.{plain_edge, IsHeld}
 use Rattle.overlay_geom.proofs.Mapped.{All-mapped_at}
-use Rattle.overlay_arrange.proofs.fill.windings_below.Goals as goal
-use Rattle.overlay_arrange.proofs.fill.windings_below.Goals.{then-is_below_middle, else-is_below_middle}
+use Rattle.overlay_arrange.proofs.fill_rays.windings_below.Goals as goal
+use Rattle.overlay_arrange.proofs.fill_rays.windings_below.Goals.{then-is_below_middle, else-is_below_middle}
 
 pub is_below_middle-requires-clause-e : goal.is_below_middle-requires-clause-e
 is_below_middle-requires-clause-e g c =

@@ -3,7 +3,7 @@ use Rattle.overlay_geom.proofs.Mapped.{All-mapped_at}
 use Rattle.overlay_arrange.specs.Content.{plain_edge, plain_edges, IsHeld}
 use Rattle.overlay_arrange.specs.Rules.{fill_bits}
 use Rattle.overlay_arrange.proofs.Appended.{next_listed}
-use Rattle.overlay_arrange.proofs.fill.fills_of_edges.Goals as goal
+use Rattle.overlay_arrange.proofs.fill_rays.fills_by_rays.Goals as goal
 
 pub fill_of-requires-clause-held : goal.fill_of-requires-clause-held
 fill_of-requires-clause-held g c =

@@ -4,7 +4,7 @@ use Rattle.overlay_geom.specs.Edges.{ends_of, subj_of, clip_of}
 use Rattle.overlay_geom.proofs.WindingSums.{subj_weighed, clip_weighed, winding_by-light}
 use Rattle.overlay_arrange.specs.Content.{plain_edge, plain_edges}
 use Rattle.overlay_arrange.proofs.SideBits.{bits_between_windings}
-use Rattle.overlay_arrange.proofs.fill.fill_of.Goals as goal
+use Rattle.overlay_arrange.proofs.fill_rays.fill_of.Goals as goal
 
 pub beyond-above-requires-clause-subj : goal.beyond-above-requires-clause-subj
 beyond-above-requires-clause-subj g c = winding_by-light subj_of subj_weighed (plain_edges g.I.IntNumber.whole g.C.EdgeCount.counts c.args.edges.now) (midpoint (ends_of (plain_edge g.I.IntNumber.whole g.C.EdgeCount.counts c.args.edge.now))) 2147483648 c.windings_below-below.result.subj c.requires.content.light c.windings_below-below.ensures.subj

@@ -2,7 +2,7 @@
 use Rattle.overlay_geom.specs.Edges.{ends_of}
 use Rattle.overlay_geom.proofs.Midpoints.{is_left-midpoint}
 use Rattle.overlay_arrange.specs.Content.{plain_edge}
-use Rattle.overlay_arrange.proofs.fill.is_middle_left.Goals as goal
+use Rattle.overlay_arrange.proofs.fill_rays.is_middle_left.Goals as goal
 
 pub returns : goal.returns
 returns g c =

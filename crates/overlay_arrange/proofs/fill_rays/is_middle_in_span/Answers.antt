@@ -3,7 +3,7 @@ use Rattle.std.proofs.Common.{◌≡◌, true, false, pos, ◌+ℤ◌, ◌*ℤ�
 use Rattle.overlay_geom.specs.Edges.{ends_of}
 use Rattle.overlay_geom.proofs.Midpoints.{is_from-midpoint, is_to-midpoint}
 use Rattle.overlay_arrange.specs.Content.{plain_edge}
-use Rattle.overlay_arrange.proofs.fill.is_middle_in_span.Goals as goal
+use Rattle.overlay_arrange.proofs.fill_rays.is_middle_in_span.Goals as goal
 
 pub returns-then-is_le : goal.returns-then-is_le
 returns-then-is_le g c =

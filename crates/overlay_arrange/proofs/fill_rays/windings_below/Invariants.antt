@@ -2,7 +2,7 @@
 use Rattle.std.proofs.Common.{◌≡◌, take}
 use Rattle.overlay_geom.specs.Edges.{subj_of, clip_of, winding_below}
 use Rattle.overlay_arrange.specs.Content.{plain_edge, plain_edges}
-use Rattle.overlay_arrange.proofs.fill.windings_below.Given as goal
+use Rattle.overlay_arrange.proofs.fill_rays.windings_below.Given as goal
 
 abbrev pub invariant-loop-e : goal.invariant-loop-e
 invariant-loop-e g l = record {
