@@ -2,6 +2,7 @@
 use Rattle.std.proofs.Common.{◌≡◌, Bool, true, false, cond, ℕ, ◌+◌, ◌<◌, List, [], ◌∷◌, ◌++◌, map, length, take, get_or, refl, sym, ◌∙◌, ap, append_assoc, append-nil}
 use Rattle.std.specs.List.{filter, flat_map}
 use Rattle.std.proofs.lemmas.List.{map-append}
+use Rattle.overlay_geom.proofs.JoinedLists.{joined_push}
 use Rattle.overlay_geom.proofs.Mapped.{mapped_more}
 
 -- with an item pushed, the mapped list has what that is mapped to
@@ -39,6 +40,18 @@ next_listed k plain old new z ws i w within at is maps before =
     ∙ ap (λ y. old ++ y ∷ []) maps
     ∙ ap (λ zs. zs ++ k (plain w) ∷ []) before
     ∙ sym (ap (map k) (mapped_more plain ws i w within at) ∙ map-append k (map plain (take i ws)) (plain w ∷ []))
+
+-- with the two items pushed that one more item gives, a list is still what the items read so far give
+pub next_two_joined : {W X Y Z : Type 0} (f : X → Z) (k : Y → List Z) (plain : W → Y) (old more new : List X) (x y : X) (ws : List W) (i : ℕ) (w : W)
+    → i < length ws → w ≡ get_or ws i w → more ≡ old ++ x ∷ [] → new ≡ more ++ y ∷ [] → f x ∷ f y ∷ [] ≡ k (plain w)
+    → map f old ≡ flat_map k (map plain (take i ws)) → map f new ≡ flat_map k (map plain (take (i + 1) ws))
+next_two_joined f k plain old more new x y ws i w within at first second gives before =
+    mapped_pushed f more new y (f y) second refl
+    ∙ ap (λ zs. zs ++ f y ∷ []) (mapped_pushed f old more x (f x) first refl)
+    ∙ append_assoc (map f old) (f x ∷ []) (f y ∷ [])
+    ∙ ap (λ zs. zs ++ f x ∷ f y ∷ []) before
+    ∙ ap (λ zs. flat_map k (map plain (take i ws)) ++ zs) gives
+    ∙ sym (ap (flat_map k) (mapped_more plain ws i w within at) ∙ joined_push k (map plain (take i ws)) (plain w))
 
 -- what a test keeps of two items is what it keeps of the one and of the other
 pub two_kept : {X : Type 0} (p : X → Bool) (old more new : List X) (x y : X)

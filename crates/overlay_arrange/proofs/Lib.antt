@@ -7,10 +7,12 @@ pub mod CarriedLoop
 pub mod CarriedMerges
 pub mod CarriedPieces
 pub mod CarriedRuns
+pub mod CountedEnds
 pub mod Crossings
 pub mod CutContents
 pub mod DirectionBits
 pub mod EdgeOrder
+pub mod EndSums
 pub mod FilledVectors
 pub mod FirstEdges
 pub mod HeldRuns
@@ -25,3 +27,6 @@ pub mod RunsLoop
 pub mod RunsMerged
 pub mod SettledLists
 pub mod SideBits
+pub mod Sweepable
+pub mod SweptFills
+pub mod TurnedCounts

@@ -1,7 +1,9 @@
 -- The fill bits of an edge tell which of its sides are filled.
-use Rattle.std.proofs.Common.{◌≡◌, Bool, true, false, refl}
+use Rattle.std.proofs.Common.{◌≡◌, ℕ, ℤ, ◌+ℤ◌, Bool, true, false, List, refl}
+use Rattle.overlay_geom.specs.Edges.{CountedEdge, subj_of, clip_of, winding_below}
 use Rattle.overlay_arrange.specs.Counts.{has_bit}
-use Rattle.overlay_arrange.specs.Rules.{Fills, bits_of}
+use Rattle.overlay_arrange.specs.Rules.{Fills, is_filled, bits_of, fill_bits}
+use Rattle.overlay_arrange.specs.declared.fill_rule.FillRule.{FillRule}
 
 -- each bit is set where its side is filled
 pub record ShowsSides (f : Fills) : Type 0 where
@@ -33,3 +35,10 @@ sides false false false false = record { subj_above = refl; subj_below = refl; c
 -- the bits of any fills
 pub bits_show_sides : (f : Fills) → ShowsSides f
 bits_show_sides f = sides f.subj_above f.subj_below f.clip_above f.clip_below
+
+-- the bits between the windings below an edge and those beyond it are its fill bits
+pub bits_between_windings : (rule : FillRule) (es : List CountedEdge) (e : CountedEdge) (n : ℕ) (subj clip subj_above clip_above : ℤ) →
+    subj ≡ winding_below subj_of es e → clip ≡ winding_below clip_of es e → subj_above ≡ subj +ℤ e.subj → clip_above ≡ clip +ℤ e.clip →
+    n ≡ bits_of (record { subj_above = is_filled rule subj_above; subj_below = is_filled rule subj; clip_above = is_filled rule clip_above; clip_below = is_filled rule clip }) →
+    n ≡ fill_bits rule es e
+bits_between_windings rule es e n subj clip subj_above clip_above s c sa ca bits = rw (← c, ← s, ← ca, ← sa) bits

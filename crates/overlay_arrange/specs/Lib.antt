@@ -3,10 +3,12 @@ pub mod Content
 pub mod Counts
 pub mod Cut
 pub mod EdgeData
+pub mod Ends
 pub mod Graphs
 pub mod Options
 pub mod Paths
 pub mod Rules
 pub mod Runs
 pub mod Settle
+pub mod Starts
 pub mod Vectors

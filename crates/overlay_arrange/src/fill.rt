@@ -1,144 +1,21 @@
-//! The filled sides of an edge: a ray straight down from its midpoint counts the edges below.
+//! The filled sides of edges.
 
-ghost use Rattle.std.specs.Prelude.{◌≡◌, ◌^◌, ◌≤◌, ◌&&◌, pos, ◌+ℤ◌, ◌*ℤ◌, int_lt, int_le};
-ghost use Rattle.std.specs.Prelude.{map, IfOk, IsOkUnless};
-ghost use Rattle.overlay_geom.specs.Numbers.{Within};
-ghost use Rattle.overlay_geom.specs.Plane.{midpoint, side, is_strictly_below};
-ghost use Rattle.overlay_geom.specs.Edges.{ends_of, subj_of, clip_of, winding_below};
+ghost use Rattle.std.specs.Prelude.{◌≡◌, map, IfOk, IsOkUnless};
 ghost use Rattle.overlay_geom.specs.Settled.{IsSettled};
-ghost use Rattle.overlay_arrange.specs.Content.{plain_edge, plain_edges, IsHeld, IsContent, IsAscending};
-ghost use Rattle.overlay_arrange.specs.Rules.{is_filled, bit, bits_of, fill_bits};
+ghost use Rattle.overlay_arrange.specs.Content.{plain_edges, IsContent, IsAscending};
+ghost use Rattle.overlay_arrange.specs.Rules.{fill_bits};
 
+use crate::balance::is_balanced;
 use crate::count::EdgeCount;
 use crate::edge::CountedEdge;
+use crate::fill_rays::fills_by_rays;
 use crate::fill_rule::FillRule;
-use crate::vector::{CLIP_LEFT, CLIP_RIGHT, SUBJ_LEFT, SUBJ_RIGHT, SideFill};
+use crate::fill_sweep::fills_by_sweep;
+use crate::vector::SideFill;
 use overlay_geom::error::OverlayError;
-use overlay_geom::number::{IntNumber, WideIntNumber};
-use overlay_geom::vector::cross_at;
+use overlay_geom::number::IntNumber;
+use overlay_scan::list::ScanList;
 use std::alloc::Allocator;
-
-/// How often the subject, and the clip, wind round a point.
-#[derive(Debug, Clone, Copy)]
-struct Windings {
-    subj: i64,
-    clip: i64,
-}
-
-impl Windings {
-    /// The windings beyond the edge: its counts are added.
-    fn beyond<I, C: EdgeCount>(self, edge: &CountedEdge<I, C>) -> Windings
-        requires subj { Within (2 ^ 31) self.subj }
-        requires clip { Within (2 ^ 31) self.clip }
-        ensures subj { result.subj ≡ self.subj +ℤ (C.counts edge.now.count).subj }
-        ensures clip { result.clip ≡ self.clip +ℤ (C.counts edge.now.count).clip }
-    {
-        Windings {
-            subj: self.subj + i64::from(edge.count.subj()),
-            clip: self.clip + i64::from(edge.count.clip()),
-        }
-    }
-}
-
-/// Whether the midpoint of the edge f is in the span of the edge e, of which the right end is no part.
-fn is_middle_in_span<I: IntNumber, C: EdgeCount>(
-    e: &CountedEdge<I, C>,
-    f: &CountedEdge<I, C>,
-) -> bool
-    requires e { IsHeld I.limit (plain_edge I.whole C.counts e.now) }
-    requires f { IsHeld I.limit (plain_edge I.whole C.counts f.now) }
-    ensures { let middle = midpoint (ends_of (plain_edge I.whole C.counts f.now)) in
-        let d = middle.d in
-        result ≡ (int_le (I.whole e.now.a.x *ℤ d) middle.x && int_lt middle.x (I.whole e.now.b.x *ℤ d)) }
-{
-    let middle = f.a.x.plus(f.b.x);
-    let from = e.a.x.plus(e.a.x).compare(middle);
-    let to = middle.compare(e.b.x.plus(e.b.x));
-    from.is_le() && to.is_lt()
-}
-
-/// Whether the midpoint of the edge f lies strictly to the left of the edge e.
-fn is_middle_left<I: IntNumber, C: EdgeCount>(e: &CountedEdge<I, C>, f: &CountedEdge<I, C>) -> bool
-    requires e { IsHeld I.limit (plain_edge I.whole C.counts e.now) }
-    requires f { IsHeld I.limit (plain_edge I.whole C.counts f.now) }
-    ensures { let middle = midpoint (ends_of (plain_edge I.whole C.counts f.now)) in
-        result ≡ int_lt (pos 0) (side (ends_of (plain_edge I.whole C.counts e.now)) middle) }
-{
-    // The midpoint's side is the sum of the two products, which may be too large.
-    let first = cross_at(e.a, e.b, f.a);
-    let second = cross_at(e.a, e.b, f.b);
-    first.compare(second.negate()).is_gt()
-}
-
-/// Whether the edge e lies strictly below the midpoint of the edge f.
-fn is_below_middle<I: IntNumber, C: EdgeCount>(e: &CountedEdge<I, C>, f: &CountedEdge<I, C>) -> bool
-    requires e { IsHeld I.limit (plain_edge I.whole C.counts e.now) }
-    requires f { IsHeld I.limit (plain_edge I.whole C.counts f.now) }
-    ensures { let middle = midpoint (ends_of (plain_edge I.whole C.counts f.now)) in
-        result ≡ is_strictly_below (ends_of (plain_edge I.whole C.counts e.now)) middle }
-{
-    is_middle_in_span(e, f) && is_middle_left(e, f)
-}
-
-/// The windings just below the midpoint of the edge.
-fn windings_below<I: IntNumber, C: EdgeCount>(
-    edges: &[CountedEdge<I, C>],
-    edge: &CountedEdge<I, C>,
-) -> Windings
-    requires content { IsContent I.limit (plain_edges I.whole C.counts edges.now) }
-    requires held { IsHeld I.limit (plain_edge I.whole C.counts edge.now) }
-    ensures subj { let e = plain_edge I.whole C.counts edge.now in
-        result.subj ≡ winding_below subj_of (plain_edges I.whole C.counts edges.now) e }
-    ensures clip { let e = plain_edge I.whole C.counts edge.now in
-        result.clip ≡ winding_below clip_of (plain_edges I.whole C.counts edges.now) e }
-{
-    let mut windings = Windings { subj: 0, clip: 0 };
-    for e in edges {
-        if is_below_middle(e, edge) {
-            windings = windings.beyond(e);
-        }
-    }
-    windings
-}
-
-/// The bit of a side where it is filled, and 0 elsewhere.
-fn bit_if(is_filled: bool, side: SideFill) -> SideFill
-    ensures value { result ≡ bit is_filled side }
-    ensures at_most { result ≤ side }
-{
-    if is_filled { side } else { 0 }
-}
-
-/// The fill bits of an edge between the windings below it and those above it.
-fn bits_between(below: Windings, above: Windings, rule: FillRule) -> SideFill
-    ensures { result ≡ bits_of (record {
-      subj_above = is_filled rule above.subj;
-      subj_below = is_filled rule below.subj;
-      clip_above = is_filled rule above.clip;
-      clip_below = is_filled rule below.clip;
-    }) }
-{
-    bit_if(rule.fills(above.subj), SUBJ_LEFT)
-        + bit_if(rule.fills(below.subj), SUBJ_RIGHT)
-        + bit_if(rule.fills(above.clip), CLIP_LEFT)
-        + bit_if(rule.fills(below.clip), CLIP_RIGHT)
-}
-
-/// The sides of the edge that are filled among the edges of the list.
-pub fn fill_of<I: IntNumber, C: EdgeCount>(
-    edges: &[CountedEdge<I, C>],
-    edge: &CountedEdge<I, C>,
-    rule: FillRule,
-) -> SideFill
-    requires content { IsContent I.limit (plain_edges I.whole C.counts edges.now) }
-    requires held { IsHeld I.limit (plain_edge I.whole C.counts edge.now) }
-    ensures { let e = plain_edge I.whole C.counts edge.now in
-        result ≡ fill_bits rule (plain_edges I.whole C.counts edges.now) e }
-{
-    let below = windings_below(edges, edge);
-    let above = below.beyond(edge);
-    bits_between(below, above, rule)
-}
 
 /// The filled sides of every edge of an arrangement, in the order of the edges.
 pub fn fills_of_edges<I: IntNumber, C: EdgeCount, A: Allocator + Clone>(
@@ -153,9 +30,11 @@ pub fn fills_of_edges<I: IntNumber, C: EdgeCount, A: Allocator + Clone>(
         IfOk result (λ v. v.items ≡ map (fill_bits rule es) es) }
     ensures err { IsOkUnless result OverlayError.Memory }
 {
-    let mut fills = Vec::with_capacity(alloc, edges.len())?;
-    for edge in edges {
-        fills.push(fill_of(edges, edge, rule))?;
+    if is_balanced(alloc.clone()?, edges)? {
+        let mut scan = ScanList::default(alloc.clone()?);
+        fills_by_sweep(alloc, &mut scan, edges, rule)
+    } else {
+        // What edges carry may have any counts, and then no sweep tells the winding below an edge.
+        fills_by_rays(alloc, edges, rule)
     }
-    Ok(fills)
 }

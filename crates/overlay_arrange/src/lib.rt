@@ -2,19 +2,26 @@
 //! ends alone, and given the sides that the shapes fill.
 #![tactic(auto)]
 
+pub mod balance;
 pub mod content;
 pub mod count;
+mod counted_end;
 mod crossing;
 mod cut;
 pub mod data;
 pub mod edge;
 mod fill;
+mod fill_rays;
 pub mod fill_rule;
+mod fill_sweep;
 pub mod graph;
 mod merge;
 pub mod options;
 pub mod overlay_rule;
 mod rounds;
 mod settle;
+mod starting_edge;
+mod starts;
 pub mod string_count;
 pub mod vector;
+mod windings;

@@ -16,6 +16,7 @@ pub mod MergedOnce
 pub mod MergedWindings
 pub mod Merging
 pub mod Midpoints
+pub mod Numbered
 pub mod OnWay
 pub mod OneLine
 pub mod Orders

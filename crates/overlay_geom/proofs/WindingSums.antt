@@ -16,7 +16,7 @@ pub record IsWeighed (count : CountedEdge → ℤ) : Type 0 where
   pub within : (e : CountedEdge) → Within (edge_weight e) (count e)
 
 -- a number is as far from 0 as its absolute value
-within_abs : (z : ℤ) → Within (nat_abs z) z
+pub within_abs : (z : ℤ) → Within (nat_abs z) z
 within_abs (pos n) = record { low = omega (arith, ints); high = omega (arith, ints) }
 within_abs (negsuc n) = record { low = omega (arith, ints); high = omega (arith, ints) }
 

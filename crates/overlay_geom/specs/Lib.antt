@@ -1,6 +1,7 @@
 pub mod Edges
 pub mod Lines
 pub mod Merged
+pub mod Numbered
 pub mod Numbers
 pub mod Paths
 pub mod Placed

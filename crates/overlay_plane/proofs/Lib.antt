@@ -44,6 +44,7 @@ pub mod ExactRounds
 pub mod FilledEdges
 pub mod FoundEntries
 pub mod GreatestBelow
+pub mod GreatestTaken
 pub mod HeldChains
 pub mod HoleParents
 pub mod HoleWindings
@@ -119,6 +120,7 @@ pub mod ShuffledSteps
 pub mod Sides
 pub mod SingleEntries
 pub mod SmallerPoints
+pub mod SortedStarts
 pub mod SortedSteps
 pub mod SplitLists
 pub mod SpokeRays

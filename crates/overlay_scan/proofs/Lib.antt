@@ -1,8 +1,12 @@
 pub mod Answered
 pub mod AtStarts
 pub mod BelowStarts
+pub mod EntriesByStart
 pub mod LastEntries
 pub mod LinesFit
 pub mod Moving
 pub mod Prefixes
 pub mod PutIn
+pub mod SweptEntries
+pub mod WindingsBelow
+pub mod WindingsLookedUp

@@ -11,6 +11,7 @@ use Rattle.std.proofs.lemmas.List.Sorted.{sorted_far}
 use Rattle.overlay_geom.specs.Plane.{Point, Step, point_lt, point_eq}
 use Rattle.overlay_geom.proofs.Mapped.{AllPairs-map}
 use Rattle.overlay_geom.proofs.Orders.{point_order, point_order-total, point_lt-is_less, point_lt-back, point_eq-same, point_lt-itself, point_lt-order}
+pub use Rattle.overlay_geom.proofs.PointComparisons.{point_cmp-is_less}
 use Rattle.overlay_geom.proofs.PointOrder.{point_lt-after_up_to, point_lt-before_up_to}
 use Rattle.overlay_arrange.specs.Content.{point_cmp}
 use Rattle.overlay_arrange.proofs.EdgeOrder.{point_cmp-is_order}
@@ -20,10 +21,7 @@ use Rattle.overlay_walk.specs.declared.step.Step.{Step as StepTaken}
 
 -- ---- the order of points
 
--- the comparison answers `Less` where the first point is smaller, and `Greater` where the second is
-pub point_cmp-is_less : (p q : Point) → is_lt (point_cmp p q) ≡ point_lt p q
-point_cmp-is_less p q = ap is_lt (point_cmp-is_order p q) ∙ sym (point_lt-is_less p q)
-
+-- the comparison answers `Greater` where the second point is smaller
 pub point_cmp-is_greater : (p q : Point) → is_gt (point_cmp p q) ≡ point_lt q p
 point_cmp-is_greater p q =
     ap is_gt (point_cmp-is_order p q) ∙ greater (point_order p q)

@@ -1,0 +1,100 @@
+//! Whether as many steps of the subject, and of the clip, enter each point as leave it.
+
+ghost use Rattle.std.specs.Prelude.{◌≡◌, ◌^◌, ◌↔◌, ◌+ℤ◌, ◌*ℤ◌, pos, neg_ℤ, IsTrue, IfOk, OnOk, IsOkUnless};
+ghost use Rattle.std.specs.List.Sorted.{IsPermutation};
+ghost use Rattle.overlay_geom.specs.Numbers.{Within};
+ghost use Rattle.overlay_plane.specs.Balance.{HasBalancedCounts};
+ghost use Rattle.overlay_arrange.specs.Content.{plain_edges, IsContent};
+ghost use Rattle.overlay_arrange.specs.Ends.{plain_ends, all_counted_ends, AreSummable, CancelOut};
+
+use crate::count::EdgeCount;
+use crate::counted_end::CountedEnd;
+use crate::edge::{CountedEdge, compare_points};
+use crate::windings::Windings;
+use overlay_geom::error::OverlayError;
+use overlay_geom::number::IntNumber;
+use std::alloc::Allocator;
+
+/// Whether the counts of the edges are balanced: as many steps of the subject enter each point as leave
+/// it, and as many of the clip. The only refusal is `Memory`.
+pub fn is_balanced<I: IntNumber, C: EdgeCount, A: Allocator>(
+    alloc: A,
+    edges: &[CountedEdge<I, C>],
+) -> Result<bool, OverlayError>
+    requires { IsContent I.limit (plain_edges I.whole C.counts edges.now) }
+    ensures balanced { IfOk result (λ b. IsTrue b ↔ HasBalancedCounts (plain_edges I.whole C.counts edges.now)) }
+    ensures err { IsOkUnless result OverlayError.Memory }
+{
+    let mut ends = ends_of(alloc, edges)?;
+    ends.sort_by(|m, n| compare_points(m.point, n.point))?;
+    Ok(cancel_out(&ends))
+}
+
+/// The ends of all edges with their counts.
+fn ends_of<I: IntNumber, C: EdgeCount, A: Allocator>(
+    alloc: A,
+    edges: &[CountedEdge<I, C>],
+) -> Result<Vec<CountedEnd<I>, A>, OverlayError>
+    ensures ok { IfOk result (λ v. plain_ends I.whole v.items ≡ all_counted_ends (plain_edges I.whole C.counts edges.now)) }
+    ensures err { IsOkUnless result OverlayError.Memory }
+{
+    let mut ends = Vec::new(alloc);
+    for edge in edges {
+        let subj = i64::from(edge.count.subj());
+        let clip = i64::from(edge.count.clip());
+        ends.push(CountedEnd {
+            point: edge.a,
+            subj: -subj,
+            clip: -clip,
+        })?;
+        ends.push(CountedEnd {
+            point: edge.b,
+            subj,
+            clip,
+        })?;
+    }
+    Ok(ends)
+}
+
+/// Whether the counts of the ends at each point add up to 0.
+fn cancel_out<I: IntNumber>(ends: &[CountedEnd<I>]) -> bool
+    requires { AreSummable (plain_ends I.whole ends.now) }
+    ensures { IsTrue result ↔ CancelOut (plain_ends I.whole ends.now) }
+{
+    if ends.is_empty() {
+        return true;
+    }
+    let first = &ends[0];
+    let mut point = first.point;
+    let mut sum = Windings { subj: 0, clip: 0 };
+    for end in ends {
+        if compare_points(point, end.point).is_lt() {
+            if !is_zero(sum) {
+                return false;
+            }
+            point = end.point;
+        }
+        sum = with_end(sum, end);
+    }
+    is_zero(sum)
+}
+
+/// Whether both sums are 0.
+fn is_zero(sum: Windings) -> bool
+    ensures { IsTrue result ↔ (sum.subj ≡ pos 0) × (sum.clip ≡ pos 0) }
+{
+    sum.subj == 0 && sum.clip == 0
+}
+
+/// The sums with the counts of one end more.
+fn with_end<I>(sum: Windings, end: &CountedEnd<I>) -> Windings
+    requires subj { Within (2 ^ 33) (sum.subj +ℤ end.now.subj) }
+    requires clip { Within (2 ^ 33) (sum.clip +ℤ end.now.clip) }
+    ensures subj { result.subj ≡ sum.subj +ℤ end.now.subj }
+    ensures clip { result.clip ≡ sum.clip +ℤ end.now.clip }
+{
+    Windings {
+        subj: sum.subj + end.subj,
+        clip: sum.clip + end.clip,
+    }
+}

@@ -1,0 +1,82 @@
+//! The filled sides of the edges of an arrangement with balanced counts, by one sweep from left to right.
+
+ghost use Rattle.std.specs.Prelude.{◌≡◌, ◌+◌, ◌<◌, length, map, take, slice_index_or, IfOk, OnOk, IsOkUnless};
+ghost use Rattle.overlay_geom.specs.Settled.{IsSettled};
+ghost use Rattle.overlay_plane.specs.Balance.{HasBalancedCounts};
+ghost use Rattle.overlay_scan.specs.Scan.{empty_sweep};
+ghost use Rattle.overlay_scan.specs.Sweeps.{IsSwept};
+ghost use Rattle.overlay_arrange.specs.Content.{plain_edges, IsContent, IsAscending};
+ghost use Rattle.overlay_arrange.specs.Rules.{fill_bits};
+ghost use Rattle.overlay_arrange.specs.Starts.{plain_starts, wound_entries, IsSweepable};
+
+use crate::count::EdgeCount;
+use crate::edge::CountedEdge;
+use crate::fill_rule::FillRule;
+use crate::starting_edge::StartingEdge;
+use crate::starts::edges_by_start;
+use crate::vector::SideFill;
+use crate::windings::{Windings, bits_between};
+use overlay_geom::error::OverlayError;
+use overlay_geom::number::IntNumber;
+use overlay_scan::scan::Scan;
+use std::alloc::Allocator;
+
+/// The filled sides of every edge, in the order of the edges. The scan is empty at first; what it holds
+/// afterwards is left open. The only refusal is `Memory`.
+pub(crate) fn fills_by_sweep<
+    I: IntNumber,
+    C: EdgeCount,
+    A: Allocator + Clone,
+    S: Scan<I, Windings>,
+>(
+    alloc: A,
+    scan: &mut S,
+    edges: &[CountedEdge<I, C>],
+    rule: FillRule,
+) -> Result<Vec<SideFill, A>, OverlayError>
+    requires content { IsContent I.limit (plain_edges I.whole C.counts edges.now) }
+    requires ascending { IsAscending (plain_edges I.whole C.counts edges.now) }
+    requires settled { IsSettled (plain_edges I.whole C.counts edges.now) }
+    requires balanced { HasBalancedCounts (plain_edges I.whole C.counts edges.now) }
+    requires empty { S.content scan.old ≡ empty_sweep }
+    ensures ok { let es = plain_edges I.whole C.counts edges.now in
+        IfOk result (λ v. v.items ≡ map (fill_bits rule es) es) }
+    ensures err { IsOkUnless result OverlayError.Memory }
+{
+    let starting = edges_by_start(alloc.clone()?, edges)?;
+    let mut fills = Vec::new(alloc);
+    fills.resize(edges.len(), 0)?;
+    for i in 0..starting.len() {
+        let fill = next_fill(scan, &starting, i, rule)?;
+        fills[starting[i].place] = fill;
+    }
+    Ok(fills)
+}
+
+/// The filled sides of the edge to which the sweep comes next, which is put in with the windings above it,
+/// unless it is vertical. The only refusal is `Memory`.
+fn next_fill<I: IntNumber, C: EdgeCount, S: Scan<I, Windings>>(
+    scan: &mut S,
+    starting: &[StartingEdge<I, C>],
+    i: usize,
+    rule: FillRule,
+) -> Result<SideFill, OverlayError>
+    requires edges { IsSweepable I.limit (plain_starts I.whole C.counts starting.now) }
+    requires within { i < length starting.now }
+    requires swept { (e : _) → slice_index_or (plain_starts I.whole C.counts starting.now) i e ≡ e
+        → IsSwept I.limit e.a.x (take i (wound_entries (plain_starts I.whole C.counts starting.now))) (S.content scan.old) }
+    ensures swept { OnOk result ((e : _) → slice_index_or (plain_starts I.whole C.counts starting.now) i e ≡ e
+        → IsSwept I.limit e.a.x (take (i + 1) (wound_entries (plain_starts I.whole C.counts starting.now))) (S.content scan.new)) }
+    ensures fill { IfOk result (λ n. (e : _) → slice_index_or (plain_starts I.whole C.counts starting.now) i e ≡ e
+        → n ≡ fill_bits rule (plain_starts I.whole C.counts starting.now) e) }
+    ensures err { IsOkUnless result OverlayError.Memory }
+{
+    let next = &starting[i];
+    let outside = Windings { subj: 0, clip: 0 };
+    let below = scan.first_less(next.edge.a.x, outside, [next.edge.a, next.edge.b]);
+    let above = below.beyond(&next.edge);
+    if next.edge.a.x.compare(next.edge.b.x).is_lt() {
+        scan.insert([next.edge.a, next.edge.b], above, next.edge.a.x)?;
+    }
+    Ok(bits_between(below, above, rule))
+}

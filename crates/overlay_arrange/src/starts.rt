@@ -1,0 +1,59 @@
+//! The edges of a list in the order in which a sweep comes to them.
+
+ghost use Rattle.std.specs.Prelude.{◌≡◌, IfOk, IsOkUnless};
+ghost use Rattle.std.specs.Ordering.{is_lt};
+ghost use Rattle.overlay_geom.specs.Numbered.{numbered};
+ghost use Rattle.overlay_plane.specs.Anchors.{is_anchored_before};
+ghost use Rattle.overlay_arrange.specs.Content.{plain_edges, IsContent};
+ghost use Rattle.overlay_arrange.specs.Starts.{starting_ends, numbered_starts, AreByStart};
+
+use crate::count::EdgeCount;
+use crate::edge::{CountedEdge, compare_points};
+use crate::starting_edge::StartingEdge;
+use overlay_geom::error::OverlayError;
+use overlay_geom::number::{IntNumber, WideIntNumber};
+use overlay_geom::vector::cross_at;
+use std::alloc::Allocator;
+use std::cmp::Ordering;
+
+/// The edges by their smaller ends, and those from one point from the lower slope to the higher one. The
+/// only refusal is `Memory`.
+pub(crate) fn edges_by_start<I: IntNumber, C: EdgeCount, A: Allocator>(
+    alloc: A,
+    edges: &[CountedEdge<I, C>],
+) -> Result<Vec<StartingEdge<I, C>, A>, OverlayError>
+    requires { IsContent I.limit (plain_edges I.whole C.counts edges.now) }
+    ensures ok { IfOk result (λ v. AreByStart (plain_edges I.whole C.counts edges.now) (numbered_starts I.whole C.counts v.items)) }
+    ensures err { IsOkUnless result OverlayError.Memory }
+{
+    let mut starting = edges_with_places(alloc, edges)?;
+    starting.sort_by(|e, f| compare_starts(e, f))?;
+    Ok(starting)
+}
+
+/// The edges in their order, each with its place.
+fn edges_with_places<I: IntNumber, C: EdgeCount, A: Allocator>(
+    alloc: A,
+    edges: &[CountedEdge<I, C>],
+) -> Result<Vec<StartingEdge<I, C>, A>, OverlayError>
+    requires { IsContent I.limit (plain_edges I.whole C.counts edges.now) }
+    ensures ok { IfOk result (λ v. numbered_starts I.whole C.counts v.items ≡ numbered 0 (plain_edges I.whole C.counts edges.now)) }
+    ensures err { IsOkUnless result OverlayError.Memory }
+{
+    let mut starting = Vec::with_capacity(alloc, edges.len())?;
+    for (place, edge) in edges.iter().enumerate() {
+        starting.push(StartingEdge { edge: *edge, place })?;
+    }
+    Ok(starting)
+}
+
+/// `Less` exactly where the first edge starts before the second: by their smaller ends, and from one point
+/// by their slopes.
+fn compare_starts<I: IntNumber, C: Copy>(e: &StartingEdge<I, C>, f: &StartingEdge<I, C>) -> Ordering
+    ensures { is_lt result ≡ is_anchored_before (starting_ends I.whole e.now) (starting_ends I.whole f.now) }
+{
+    match compare_points(e.edge.a, f.edge.a) {
+        Ordering::Equal => cross_at(e.edge.a, f.edge.b, e.edge.b).sign(),
+        other => other,
+    }
+}
