@@ -1,5 +1,6 @@
 pub mod Adding
 pub mod AlongEdges
+pub mod ApartInY
 pub mod Appended
 pub mod ArrangedLists
 pub mod CarriedEdges

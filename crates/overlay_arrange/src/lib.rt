@@ -15,5 +15,6 @@ pub mod options;
 pub mod overlay_rule;
 mod rounds;
 mod settle;
+mod spans;
 pub mod string_count;
 pub mod vector;

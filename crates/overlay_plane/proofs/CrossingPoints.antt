@@ -100,10 +100,10 @@ abbrev pub crossing_point : (e f : Edge) → pos 0 <ℤ across e f → PlanePoin
 crossing_point e f positive = point_along e (to_line e f) (across e f) positive
 
 -- where e crosses f's line, f crosses e's, in the same numbers
-record CrossAlike (e f : Edge) : Type 0 where
-  x : e.a.x *ℤ across e f +ℤ (e.b.x -ℤ e.a.x) *ℤ to_line e f ≡ f.a.x *ℤ across f e +ℤ (f.b.x -ℤ f.a.x) *ℤ to_line f e
-  y : e.a.y *ℤ across e f +ℤ (e.b.y -ℤ e.a.y) *ℤ to_line e f ≡ f.a.y *ℤ across f e +ℤ (f.b.y -ℤ f.a.y) *ℤ to_line f e
-  d : across e f ≡ across f e
+pub record CrossAlike (e f : Edge) : Type 0 where
+  pub x : e.a.x *ℤ across e f +ℤ (e.b.x -ℤ e.a.x) *ℤ to_line e f ≡ f.a.x *ℤ across f e +ℤ (f.b.x -ℤ f.a.x) *ℤ to_line f e
+  pub y : e.a.y *ℤ across e f +ℤ (e.b.y -ℤ e.a.y) *ℤ to_line e f ≡ f.a.y *ℤ across f e +ℤ (f.b.y -ℤ f.a.y) *ℤ to_line f e
+  pub d : across e f ≡ across f e
 
 -- e goes from f's left side to its right, and so f from e's right side to its left
 alike_leftward : (e f : Edge) → GoesRight e f → GoesLeft f e → CrossAlike e f
@@ -126,7 +126,7 @@ alike_leftward e f right left = record {
 }
 
 -- so it is whichever way they go
-cross_alike : (e f : Edge) → IsAcross e f → IsAcross f e → CrossAlike e f
+pub cross_alike : (e f : Edge) → IsAcross e f → IsAcross f e → CrossAlike e f
 cross_alike e f (inl (f_low, f_high, f_less)) (inr (e_high, e_low, e_less)) = alike_leftward e f (goes_right e f e_low e_less) (goes_left f e f_low f_less)
 cross_alike e f (inr (f_high, f_low, f_less)) (inl (e_low, e_high, e_less)) =
     let back = alike_leftward f e (goes_right f e f_low f_less) (goes_left e f e_low e_less) in
