@@ -25,7 +25,17 @@ apart_from_test e f test = by (is_below e f) refl test
     by true is h = inl (below_from_test e f is)
     by false is h = inr (below_from_test f e h)
 
--- they meet in ends alone
+-- the test does not ask which of the two is which
+pub apart_exchanged : (e f : Edge) → are_apart_in_y e f ≡ true → are_apart_in_y f e ≡ true
+apart_exchanged e f = by (is_below e f) (is_below f e)
+  where
+    by : (s t : Bool) → (s || t) ≡ true → (t || s) ≡ true
+    by true true h = refl
+    by true false h = refl
+    by false true h = refl
+    by false false h = h
+
+-- edges that test as apart meet in ends alone
 pub meet_in_ends_where_apart : (e f : Edge) → are_apart_in_y e f ≡ true → MeetInEnds e f
 meet_in_ends_where_apart e f test p common = absurd (apart_in_y_have_no_common e f p (apart_from_test e f test) common)
 

@@ -13,10 +13,13 @@ pub mod CutContents
 pub mod DirectionBits
 pub mod EdgeOrder
 pub mod FirstEdges
+pub mod GatheredMeetings
 pub mod HeldRuns
 pub mod HeldWeight
-pub mod MeetingEdges
+pub mod LedThrough
+pub mod MeetingRuns
 pub mod MergedContent
+pub mod PairMeetings
 pub mod Pieces
 pub mod RoundsTaken
 pub mod RuledContents

@@ -3,6 +3,7 @@ pub mod Content
 pub mod Counts
 pub mod Cut
 pub mod EdgeData
+pub mod Meetings
 pub mod Options
 pub mod Paths
 pub mod Rules

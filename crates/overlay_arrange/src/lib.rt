@@ -10,6 +10,7 @@ pub mod data;
 pub mod edge;
 mod fill;
 pub mod fill_rule;
+mod meetings;
 mod merge;
 pub mod options;
 pub mod overlay_rule;

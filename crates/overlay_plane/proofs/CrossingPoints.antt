@@ -93,6 +93,19 @@ part_way_across e f (inr (high, low, less)) =
     let whole = right.whole in
     (omega linear, omega linear, omega linear)
 
+-- and where it ends on that line, it goes all the way to it
+pub whole_way_across : (e f : Edge) → IsAcross f e → cross_at f.a f.b e.b ≡ pos 0 → to_line e f ≡ across e f
+whole_way_across e f (inl (low, high, less)) on_line =
+    let left = goes_left e f low less in
+    let from = left.from in
+    let whole = left.whole in
+    omega linear
+whole_way_across e f (inr (high, low, less)) on_line =
+    let right = goes_right e f low less in
+    let from = right.from in
+    let whole = right.whole in
+    omega linear
+
 -- ---- the common point
 
 -- the point of e at which it crosses f's line

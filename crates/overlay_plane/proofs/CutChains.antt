@@ -37,7 +37,7 @@ along_itself e = (
 )
 
 -- so it leads itself through its ends alone
-met_at_itself : (e : Edge) (v : Point) → Contains (met_at e e) v → (v ≡ e.a) ⊎ (v ≡ e.b)
+pub met_at_itself : (e : Edge) (v : Point) → Contains (met_at e e) v → (v ≡ e.a) ⊎ (v ≡ e.b)
 met_at_itself e v at_v = ⊎_elim (λ is. inl (sym is)) (λ is. inr (sym is))
     (end_held e e v (along_itself e) (subst (λ vs. Contains vs v) (met_along e e (along_itself e)) at_v)).0
 
