@@ -3,14 +3,12 @@ use Rattle.std.proofs.Common.{◌≡◌, Bool, true, false, cond, List, [], ◌�
 use Rattle.std.specs.Prelude.{IsTrue, MatchBool, ◌↔◌}
 use Rattle.std.specs.declared.cmp.Ordering.TheVariants.{Less, Equal, Greater}
 use Rattle.std.proofs.lemmas.Bool.{false≢true}
-use Rattle.overlay_geom.specs.Plane.{Point, Step, point_eq, point_lt, steps_between}
+use Rattle.overlay_geom.specs.Plane.{Point, Step, is_forward, point_eq, point_lt, steps_between, steps_through}
 use Rattle.overlay_geom.specs.Edges.{CountedEdge}
 use Rattle.overlay_plane.specs.Carried.{Carried}
-use Rattle.overlay_plane.specs.CutPoints.{cut_points}
 use Rattle.overlay_plane.specs.Cutting.{piece_along}
 use Rattle.overlay_plane.specs.DerivedData.{AreGiven, none, ArePieces, GivesPiece, computed_chain}
 use Rattle.overlay_plane.proofs.DerivedLists.{given_both, given_one, given_weaker}
-use Rattle.overlay_plane.proofs.WholeChains.{one_step_where_whole, whole_where_one_step}
 use Rattle.overlay_arrange.specs.Content.{edge_with, point_cmp}
 use Rattle.overlay_arrange.specs.Counts.{Counts, turned_counts}
 use Rattle.overlay_arrange.specs.Cut.{AddsGiven, StaysWhole}
@@ -127,12 +125,14 @@ module _ {C : Type 0} (splits turns : C → C → Type 0) (is_whole : Bool) (a b
 
 -- ---- the pieces of an edge
 
--- pieces added along the chain that is computed of an edge are the edge's pieces
-pub pieces_added : {C : Type 0} (splits turns : C → C → Type 0) (es : List CountedEdge) (x : Carried C) {old new : List (Carried C)} →
-    point_lt x.edge.a x.edge.b ≡ true →
-    AddsGiven (GivesPiece splits turns (StaysWhole x.edge (cut_points es x.edge)) x) (computed_chain es x.edge) old new →
+-- pieces added along the chain that is computed of an edge are the edge's pieces, through whichever points that chain was found
+pub pieces_added : {C : Type 0} (splits turns : C → C → Type 0) (es : List CountedEdge) (x : Carried C) (vs : List Point) {old new : List (Carried C)} →
+    steps_through x.edge.a (vs ++ x.edge.b ∷ []) ≡ computed_chain es x.edge →
+    StaysWhole x.edge vs ↔ (length (computed_chain es x.edge) ≡ 1) →
+    AddsGiven (GivesPiece splits turns (StaysWhole x.edge vs) x) (steps_through x.edge.a (vs ++ x.edge.b ∷ [])) old new →
     AddsGiven (ArePieces splits turns (computed_chain es)) (x ∷ []) old new
-pieces_added splits turns es x forward adds =
-    let alike = adds_alike splits turns (StaysWhole x.edge (cut_points es x.edge)) (length (computed_chain es x.edge) ≡ 1)
-    (one_step_where_whole es x.edge forward, whole_where_one_step es x.edge) x adds in
+pieces_added splits turns es x vs {old} {new} chain whole adds =
+    let gives = GivesPiece splits turns (length (computed_chain es x.edge) ≡ 1) x in
+    let alike = subst (λ ss. AddsGiven gives ss old new) chain
+    (adds_alike splits turns (StaysWhole x.edge vs) (length (computed_chain es x.edge) ≡ 1) whole x adds) in
     record { more = alike.more; given = given_one (ArePieces splits turns (computed_chain es)) x alike.more alike.given; added = alike.added }

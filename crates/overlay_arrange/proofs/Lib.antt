@@ -1,5 +1,6 @@
 pub mod Adding
 pub mod AlongEdges
+pub mod ApartInY
 pub mod Appended
 pub mod ArrangedLists
 pub mod CarriedEdges
@@ -15,10 +16,13 @@ pub mod EdgeOrder
 pub mod EndSums
 pub mod FilledVectors
 pub mod FirstEdges
+pub mod GatheredMeetings
 pub mod HeldRuns
 pub mod HeldWeight
-pub mod MeetingEdges
+pub mod LedThrough
+pub mod MeetingRuns
 pub mod MergedContent
+pub mod PairMeetings
 pub mod Pieces
 pub mod RoundsTaken
 pub mod RuledContents

@@ -1,63 +1,129 @@
-//! The whole points through which one edge leads another one.
+//! The whole points through which two edges lead one another.
 
-ghost use Rattle.std.specs.Prelude.{◌≡◌, ◌++◌, ◌∷◌, [], filter, pos, nat_abs, OnOk, IsOkUnless};
+ghost use Rattle.std.specs.Prelude.{◌≡◌, ◌↔◌, ◌∷◌, [], filter, pos, nat_abs, IsTrue, OnOk, IsOkUnless};
 ghost use Rattle.overlay_geom.specs.Numbers.{Within};
 ghost use Rattle.overlay_geom.specs.Edges.{ends_of};
-ghost use Rattle.overlay_geom.specs.Placed.{IsAcross};
-ghost use Rattle.overlay_geom.specs.Points.{plain_point, plain_points};
-ghost use Rattle.overlay_plane.specs.CutPoints.{is_between, crossing, met_at};
+ghost use Rattle.overlay_geom.specs.Placed.{IsAcross, IsAlong};
+ghost use Rattle.overlay_geom.specs.Plane.{cross_at};
+ghost use Rattle.overlay_geom.specs.Points.{plain_point, InRange};
+ghost use Rattle.overlay_plane.specs.CutPoints.{is_between, crossing};
 ghost use Rattle.overlay_arrange.specs.Content.{plain_edge, IsHeld};
+ghost use Rattle.overlay_arrange.specs.Cut.{IsEndOf};
+ghost use Rattle.overlay_arrange.specs.Meetings.{plain_meetings, AddsBoth, AddsPoints};
 
 use crate::count::EdgeCount;
 use crate::edge::{CountedEdge, compare_points};
+use crate::meetings::Meeting;
 use crate::settle::place_by;
-use overlay_geom::edge_pair::Place;
+use crate::spans::are_apart_in_y;
+use overlay_geom::edge_pair::{Place, is_same};
 use overlay_geom::error::OverlayError;
 use overlay_geom::number::{IntNumber, WideIntNumber};
 use overlay_geom::point::IntPoint;
 use overlay_geom::vector::cross_at;
 use std::alloc::Allocator;
 
-/// Appends the whole points through which f leads e: f's ends on e where the two lie on one line,
-/// and where they cross the point nearest the crossing.
+/// Adds the whole points through which the edges e at place i and f at place j lead one another: the
+/// ends of each on the other where the two lie on one line, and where they cross the point nearest
+/// the crossing.
 pub(crate) fn push_meetings<I: IntNumber, C: EdgeCount, A: Allocator>(
-    points: &mut Vec<IntPoint<I>, A>,
+    meetings: &mut Vec<Meeting<I>, A>,
+    i: usize,
     e: &CountedEdge<I, C>,
+    j: usize,
     f: &CountedEdge<I, C>,
 ) -> Result<(), OverlayError>
     requires one { IsHeld I.limit (plain_edge I.whole C.counts e.now) }
     requires other { IsHeld I.limit (plain_edge I.whole C.counts f.now) }
-    ensures ok { OnOk result (plain_points I.whole points.new.items ≡ plain_points I.whole points.old.items
-        ++ met_at (ends_of (plain_edge I.whole C.counts e.now)) (ends_of (plain_edge I.whole C.counts f.now))) }
+    ensures ok { OnOk result (AddsBoth i (plain_edge I.whole C.counts e.now) j (plain_edge I.whole C.counts f.now)
+        (plain_meetings I.whole meetings.old.items) (plain_meetings I.whole meetings.new.items)) }
     ensures only { IsOkUnless result OverlayError.Memory }
 {
+    if are_apart_in_y(e, f) {
+        return Ok(());
+    }
     match place_by(e, f) {
-        Place::Along => push_ends_between(points, e, f),
+        Place::Along => push_ends(meetings, i, e, j, f),
         Place::Beside => Ok(()),
-        Place::Across => push_crossing(points, e, f),
+        Place::Across => push_crossing(meetings, i, e, j, f),
     }
 }
 
-/// Appends the whole point nearest the one in which e crosses f, where e goes across f's line too.
-fn push_crossing<I: IntNumber, C: EdgeCount, A: Allocator>(
-    points: &mut Vec<IntPoint<I>, A>,
+/// Adds the ends of each of the two edges that lie on the other one. They lie on one line.
+fn push_ends<I: IntNumber, C: EdgeCount, A: Allocator>(
+    meetings: &mut Vec<Meeting<I>, A>,
+    i: usize,
     e: &CountedEdge<I, C>,
+    j: usize,
+    f: &CountedEdge<I, C>,
+) -> Result<(), OverlayError>
+    requires one { IsHeld I.limit (plain_edge I.whole C.counts e.now) }
+    requires other { IsHeld I.limit (plain_edge I.whole C.counts f.now) }
+    requires along { IsAlong (ends_of (plain_edge I.whole C.counts e.now)) (ends_of (plain_edge I.whole C.counts f.now)) }
+    ensures ok { OnOk result (AddsBoth i (plain_edge I.whole C.counts e.now) j (plain_edge I.whole C.counts f.now)
+        (plain_meetings I.whole meetings.old.items) (plain_meetings I.whole meetings.new.items)) }
+    ensures only { IsOkUnless result OverlayError.Memory }
+{
+    push_ends_between(meetings, i, e, f)?;
+    push_ends_between(meetings, j, f, e)
+}
+
+/// Adds the whole point nearest the one in which the two edges cross, if e goes across f's line too.
+fn push_crossing<I: IntNumber, C: EdgeCount, A: Allocator>(
+    meetings: &mut Vec<Meeting<I>, A>,
+    i: usize,
+    e: &CountedEdge<I, C>,
+    j: usize,
     f: &CountedEdge<I, C>,
 ) -> Result<(), OverlayError>
     requires one { IsHeld I.limit (plain_edge I.whole C.counts e.now) }
     requires other { IsHeld I.limit (plain_edge I.whole C.counts f.now) }
     requires across { IsAcross (ends_of (plain_edge I.whole C.counts e.now)) (ends_of (plain_edge I.whole C.counts f.now)) }
-    ensures ok { OnOk result (plain_points I.whole points.new.items ≡ plain_points I.whole points.old.items
-        ++ met_at (ends_of (plain_edge I.whole C.counts e.now)) (ends_of (plain_edge I.whole C.counts f.now))) }
+    ensures ok { OnOk result (AddsBoth i (plain_edge I.whole C.counts e.now) j (plain_edge I.whole C.counts f.now)
+        (plain_meetings I.whole meetings.old.items) (plain_meetings I.whole meetings.new.items)) }
     ensures only { IsOkUnless result OverlayError.Memory }
 {
     if matches!(place_by(f, e), Place::Across) {
-        points.push(crossing(e, f))?;
+        let v = common_point(e, f);
+        push_inside(meetings, i, e, v)?;
+        push_inside(meetings, j, f, v)?;
     }
     Ok(())
 }
 
-/// The whole point nearest the one in which e crosses f's line.
+/// The whole point nearest the one in which the two edges cross: an end of the one on the line of
+/// the other one, where there is one.
+fn common_point<I: IntNumber, C: EdgeCount>(
+    e: &CountedEdge<I, C>,
+    f: &CountedEdge<I, C>,
+) -> IntPoint<I>
+    requires one { IsHeld I.limit (plain_edge I.whole C.counts e.now) }
+    requires other { IsHeld I.limit (plain_edge I.whole C.counts f.now) }
+    requires forth { IsAcross (ends_of (plain_edge I.whole C.counts e.now)) (ends_of (plain_edge I.whole C.counts f.now)) }
+    requires back { IsAcross (ends_of (plain_edge I.whole C.counts f.now)) (ends_of (plain_edge I.whole C.counts e.now)) }
+    ensures { plain_point I.whole result
+        ≡ crossing (ends_of (plain_edge I.whole C.counts e.now)) (ends_of (plain_edge I.whole C.counts f.now)) }
+{
+    if is_on_line(e, f.a) {
+        f.a
+    } else if is_on_line(e, f.b) {
+        f.b
+    } else {
+        crossing(e, f)
+    }
+}
+
+/// Whether the point lies on the edge's line.
+fn is_on_line<I: IntNumber, C: EdgeCount>(e: &CountedEdge<I, C>, v: IntPoint<I>) -> bool
+    requires edge { IsHeld I.limit (plain_edge I.whole C.counts e.now) }
+    requires point { InRange I.limit (plain_point I.whole v) }
+    ensures { let whole = plain_edge I.whole C.counts e.now in
+        IsTrue result ↔ (cross_at whole.a whole.b (plain_point I.whole v) ≡ pos 0) }
+{
+    cross_at(e.a, e.b, v).sign().is_eq()
+}
+
+/// The whole point nearest the one in which e crosses f's line: an end of e where it is on that line.
 fn crossing<I: IntNumber, C: EdgeCount>(e: &CountedEdge<I, C>, f: &CountedEdge<I, C>) -> IntPoint<I>
     requires one { IsHeld I.limit (plain_edge I.whole C.counts e.now) }
     requires other { IsHeld I.limit (plain_edge I.whole C.counts f.now) }
@@ -67,6 +133,12 @@ fn crossing<I: IntNumber, C: EdgeCount>(e: &CountedEdge<I, C>, f: &CountedEdge<I
 {
     let t = magnitude(cross_at(f.a, f.b, e.a));
     let d = magnitude((f.b - f.a).cross_product(e.b - e.a));
+    if t.sign().is_eq() {
+        return e.a;
+    }
+    if t.compare(d).is_eq() {
+        return e.b;
+    }
     IntPoint {
         x: e.a.x.part_way(e.b.x, t, d),
         y: e.a.y.part_way(e.b.y, t, d),
@@ -86,36 +158,63 @@ fn magnitude<W: WideIntNumber>(number: W) -> W
     }
 }
 
-/// Appends the ends of f that lie between those of e.
+/// Adds the ends of f that lie between those of e.
 fn push_ends_between<I: IntNumber, C: EdgeCount, A: Allocator>(
-    points: &mut Vec<IntPoint<I>, A>,
+    meetings: &mut Vec<Meeting<I>, A>,
+    i: usize,
     e: &CountedEdge<I, C>,
     f: &CountedEdge<I, C>,
 ) -> Result<(), OverlayError>
     ensures ok { let g = plain_edge I.whole C.counts e.now in
         let h = plain_edge I.whole C.counts f.now in
-        OnOk result (plain_points I.whole points.new.items
-        ≡ plain_points I.whole points.old.items ++ filter (is_between (ends_of g)) (h.a ∷ h.b ∷ [])) }
+        OnOk result (AddsPoints i g (filter (is_between (ends_of g)) (h.a ∷ h.b ∷ []))
+        (plain_meetings I.whole meetings.old.items) (plain_meetings I.whole meetings.new.items)) }
     ensures only { IsOkUnless result OverlayError.Memory }
 {
-    push_between(points, e, f.a)?;
-    push_between(points, e, f.b)
+    push_between(meetings, i, e, f.a)?;
+    push_between(meetings, i, e, f.b)
 }
 
-/// Appends the point if it lies between the ends of e.
+/// Adds the point if it lies between the ends of e.
 fn push_between<I: IntNumber, C: EdgeCount, A: Allocator>(
-    points: &mut Vec<IntPoint<I>, A>,
+    meetings: &mut Vec<Meeting<I>, A>,
+    i: usize,
     e: &CountedEdge<I, C>,
     v: IntPoint<I>,
 ) -> Result<(), OverlayError>
-    ensures ok { OnOk result (plain_points I.whole points.new.items ≡ plain_points I.whole points.old.items
-        ++ filter (is_between (ends_of (plain_edge I.whole C.counts e.now))) (plain_point I.whole v ∷ [])) }
+    ensures ok { let whole = plain_edge I.whole C.counts e.now in
+        OnOk result (AddsPoints i whole (filter (is_between (ends_of whole)) (plain_point I.whole v ∷ []))
+        (plain_meetings I.whole meetings.old.items) (plain_meetings I.whole meetings.new.items)) }
     ensures only { IsOkUnless result OverlayError.Memory }
 {
     if is_between(e, v) {
-        points.push(v)?;
+        push_inside(meetings, i, e, v)?;
     }
     Ok(())
+}
+
+/// Adds the point, unless it is an end of e.
+fn push_inside<I: IntNumber, C: EdgeCount, A: Allocator>(
+    meetings: &mut Vec<Meeting<I>, A>,
+    i: usize,
+    e: &CountedEdge<I, C>,
+    v: IntPoint<I>,
+) -> Result<(), OverlayError>
+    ensures ok { OnOk result (AddsPoints i (plain_edge I.whole C.counts e.now) (plain_point I.whole v ∷ [])
+        (plain_meetings I.whole meetings.old.items) (plain_meetings I.whole meetings.new.items)) }
+    ensures only { IsOkUnless result OverlayError.Memory }
+{
+    if !is_end_of(e, v) {
+        meetings.push(Meeting { place: i, point: v })?;
+    }
+    Ok(())
+}
+
+/// Whether the point is an end of the edge.
+pub(crate) fn is_end_of<I: IntNumber, C: EdgeCount>(e: &CountedEdge<I, C>, v: IntPoint<I>) -> bool
+    ensures { IsTrue result ↔ IsEndOf (plain_edge I.whole C.counts e.now) (plain_point I.whole v) }
+{
+    is_same(v, e.a) || is_same(v, e.b)
 }
 
 /// Whether the point is no smaller than the edge's smaller end and no larger than its larger one.

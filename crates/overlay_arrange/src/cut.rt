@@ -2,27 +2,28 @@
 //! the others meet it.
 
 ghost use Rattle.std.specs.Prelude.{◌≡◌, ◌⊎◌, ◌↔◌, ◌^◌, ◌<◌, ◌≤◌, ◌++◌, ◌∷◌, [], IsTrue, All};
-ghost use Rattle.std.specs.Prelude.{map, flat_map, IfOk, IfErr, OnOk, IsOkUnless, IsErrOf};
+ghost use Rattle.std.specs.Prelude.{map, IfOk, IfErr, OnOk, IsOkUnless, IsErrOf};
 ghost use Rattle.std.specs.Prelude.{MatchBool, option_map, option_to_list, cond, int_le, int_lt};
 ghost use Rattle.std.specs.Ordering.{is_lt};
 ghost use Rattle.overlay_geom.specs.Edges.{ends_of, weight};
 ghost use Rattle.overlay_geom.specs.Plane.{steps_between, steps_through};
 ghost use Rattle.overlay_geom.specs.Points.{plain_point, plain_points, InRange, AllInRange};
 ghost use Rattle.overlay_plane.specs.Carried.{edges_in};
-ghost use Rattle.overlay_plane.specs.CutPoints.{comes_first, cut_points, cut_edges, met_at};
+ghost use Rattle.overlay_plane.specs.CutPoints.{comes_first, cut_edges};
 ghost use Rattle.overlay_plane.specs.Cutting.{piece_along};
 ghost use Rattle.overlay_plane.specs.DerivedData.{AreCutAlong, AreGiven, GivesPiece, computed_chain};
 ghost use Rattle.overlay_plane.specs.InOrder.{in_order};
 ghost use Rattle.overlay_arrange.specs.Content.{plain_edge, plain_edges, carried_edge, carried_edges};
 ghost use Rattle.overlay_arrange.specs.Content.{IsHeld, IsContent, IsAscending};
 ghost use Rattle.overlay_arrange.specs.Counts.{weight_of_counts};
-ghost use Rattle.overlay_arrange.specs.Cut.{AddsGiven, IsEndOf, StaysWhole};
+ghost use Rattle.overlay_arrange.specs.Cut.{AddsGiven, StaysWhole};
+ghost use Rattle.overlay_arrange.specs.Meetings.{plain_meetings, AreByPlace, ArePointsAt};
 
 use crate::content::Content;
 use crate::count::EdgeCount;
-use crate::crossing::push_meetings;
+use crate::crossing::is_end_of;
 use crate::edge::{CountedEdge, compare_points};
-use overlay_geom::edge_pair::is_same;
+use crate::meetings::{Meeting, gather, run_at};
 use overlay_geom::error::OverlayError;
 use overlay_geom::number::IntNumber;
 use overlay_geom::point::IntPoint;
@@ -63,9 +64,10 @@ fn cut_edges<I: IntNumber, C: EdgeCount, A: Allocator + Clone>(
         → 2 ^ 31 ≤ weight (cut_edges (plain_edges I.whole C.counts edges.now)) }
     ensures only { IfErr result (λ e. (e ≡ OverlayError.Memory) ⊎ (e ≡ OverlayError.TooManyEdges)) }
 {
+    let meetings = gather(alloc.clone()?, edges)?;
     let mut pieces = Content::with_capacity(alloc.clone()?, edges.len())?;
-    for e in edges {
-        let points = points_on(alloc.clone()?, edges, e)?;
+    for (i, e) in edges.iter().enumerate() {
+        let points = points_at(alloc.clone()?, &meetings, i, e)?;
         push_pieces(&mut pieces, e, &points, store)?;
     }
     Ok(pieces)
@@ -184,54 +186,37 @@ fn stays_whole<I: IntNumber, C: EdgeCount>(e: &CountedEdge<I, C>, points: &[IntP
     true
 }
 
-/// Whether the point is an end of the edge.
-fn is_end_of<I: IntNumber, C: EdgeCount>(e: &CountedEdge<I, C>, v: IntPoint<I>) -> bool
-    ensures { IsTrue result ↔ IsEndOf (plain_edge I.whole C.counts e.now) (plain_point I.whole v) }
-{
-    is_same(v, e.a) || is_same(v, e.b)
-}
-
-/// The whole points through which the edges lead e, in their order along e.
-fn points_on<I: IntNumber, C: EdgeCount, A: Allocator>(
+/// The points of the meetings of e, which is the edge at place i, in their order along it. The
+/// meetings stand by their places.
+fn points_at<I: IntNumber, C: EdgeCount, A: Allocator>(
     alloc: A,
-    edges: &[CountedEdge<I, C>],
+    meetings: &[Meeting<I>],
+    i: usize,
     e: &CountedEdge<I, C>,
 ) -> Result<Vec<IntPoint<I>, A>, OverlayError>
-    requires one { IsHeld I.limit (plain_edge I.whole C.counts e.now) }
-    requires others { All (IsHeld I.limit) (plain_edges I.whole C.counts edges.now) }
-    requires ascending { IsAscending (plain_edges I.whole C.counts edges.now) }
-    ensures ok { IfOk result (λ points. plain_points I.whole points.items
-        ≡ cut_points (plain_edges I.whole C.counts edges.now) (plain_edge I.whole C.counts e.now)) }
+    requires { AreByPlace (plain_meetings I.whole meetings.now) }
+    ensures ok { IfOk result (λ points. ArePointsAt (plain_meetings I.whole meetings.now) i
+        (ends_of (plain_edge I.whole C.counts e.now)) (plain_points I.whole points.items)) }
     ensures err { IsOkUnless result OverlayError.Memory }
 {
-    let mut points = meetings_on(alloc, edges, e)?;
+    let (low, high) = run_at(meetings, i);
+    let mut points = points_of(alloc, &meetings[low..high])?;
     sort_along(&mut points, e)?;
     Ok(points)
 }
 
-/// The whole points through which the edges lead e, edge by edge. The edges ascend, so those after
-/// the first one that starts to the right of e lead it nowhere.
-fn meetings_on<I: IntNumber, C: EdgeCount, A: Allocator>(
+/// The points of the meetings.
+fn points_of<I: IntNumber, A: Allocator>(
     alloc: A,
-    edges: &[CountedEdge<I, C>],
-    e: &CountedEdge<I, C>,
+    meetings: &[Meeting<I>],
 ) -> Result<Vec<IntPoint<I>, A>, OverlayError>
-    requires one { IsHeld I.limit (plain_edge I.whole C.counts e.now) }
-    requires others { All (IsHeld I.limit) (plain_edges I.whole C.counts edges.now) }
-    requires ascending { IsAscending (plain_edges I.whole C.counts edges.now) }
-    ensures ok { let g = plain_edge I.whole C.counts e.now in
-        IfOk result (λ points. plain_points I.whole points.items
-        ≡ flat_map (λ f. met_at (ends_of g) (ends_of f)) (plain_edges I.whole C.counts edges.now)) }
+    ensures ok { IfOk result (λ points. plain_points I.whole points.items
+        ≡ map (λ m. m.point) (plain_meetings I.whole meetings.now)) }
     ensures err { IsOkUnless result OverlayError.Memory }
 {
     let mut points = Vec::new(alloc);
-    for f in edges {
-        if f.a.x.compare(e.b.x).is_gt() {
-            return Ok(points);
-        }
-        if f.b.x.compare(e.a.x).is_ge() {
-            push_meetings(&mut points, e, f)?;
-        }
+    for m in meetings {
+        points.push(m.point)?;
     }
     Ok(points)
 }

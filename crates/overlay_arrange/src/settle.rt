@@ -9,6 +9,7 @@ ghost use Rattle.overlay_arrange.specs.Settle.{AreSettled};
 
 use crate::count::EdgeCount;
 use crate::edge::CountedEdge;
+use crate::spans::are_apart_in_y;
 use overlay_geom::edge::IntEdge;
 use overlay_geom::edge_pair;
 use overlay_geom::edge_pair::Place;
@@ -51,14 +52,16 @@ fn is_settled_with<I: IntNumber, C: EdgeCount>(
     true
 }
 
-/// Whether the two edges meet in ends alone. An edge does not meet itself so.
+/// Whether the two edges meet in ends alone. An edge does not meet itself so. Most edges that meet
+/// nowhere lie at heights that are apart, which is found without a product.
 fn meet_in_ends<I: IntNumber, C: EdgeCount>(e: &CountedEdge<I, C>, f: &CountedEdge<I, C>) -> bool
     requires one { IsHeld I.limit (plain_edge I.whole C.counts e.now) }
     requires other { IsHeld I.limit (plain_edge I.whole C.counts f.now) }
     ensures settles { IsTrue result
         ↔ MeetInEnds (ends_of (plain_edge I.whole C.counts e.now)) (ends_of (plain_edge I.whole C.counts f.now)) }
 {
-    edge_pair::meet_in_ends(IntEdge { a: e.a, b: e.b }, IntEdge { a: f.a, b: f.b })
+    are_apart_in_y(e, f)
+        || edge_pair::meet_in_ends(IntEdge { a: e.a, b: e.b }, IntEdge { a: f.a, b: f.b })
 }
 
 /// Where f lies by the line of e.

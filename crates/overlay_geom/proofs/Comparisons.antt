@@ -1,8 +1,10 @@
 -- What the comparison of two whole numbers answers, and what their tests tell.
-use Rattle.std.proofs.Common.{◌≡◌, Bool, true, false, cond, ℤ, ◌<ℤ◌, int_lt, int_le, refl, arith}
+use Rattle.std.proofs.Common.{◌≡◌, Bool, true, false, cond, ℤ, ◌<ℤ◌, int_lt, int_le, refl, sym, ◌∙◌, arith}
 use Rattle.std.specs.Bool.{Decides}
-use Rattle.std.specs.Ordering.{is_lt, is_le, is_gt, int_cmp}
+use Rattle.std.specs.Ordering.{MatchOrdering, is_lt, is_le, is_gt, is_eq, int_cmp}
+use Rattle.std.specs.declared.cmp.Ordering.{Ordering}
 use Rattle.std.specs.declared.cmp.Ordering.TheVariants.{Less, Equal, Greater}
+use Rattle.std.proofs.lemmas.Cmp.{int_ranked}
 use Rattle.std.proofs.lemmas.Int.{ints}
 
 -- the comparison answers `Less` where the first number is below the second
@@ -25,3 +27,12 @@ is_le-int_cmp x y = grind (arith, ints)
 -- the test tells whether the first number is below the second
 pub Decides-int_lt : (x y : ℤ) → Decides (int_lt x y) (x <ℤ y)
 Decides-int_lt x y = (λ h. grind (arith, ints), λ h. grind (arith, ints))
+
+-- numbers that a program finds equal are one
+pub same_from_compared : (x y : ℤ) (o : Ordering) (r : Bool) → o ≡ int_cmp x y → r ≡ is_eq o → r ≡ true → x ≡ y
+same_from_compared x y o r order answer equal = by o (int_ranked x y o order) (sym answer ∙ equal)
+  where
+    by : (o : Ordering) → MatchOrdering o (x <ℤ y) (x ≡ y) (y <ℤ x) → is_eq o ≡ true → x ≡ y
+    by Less m h = absurd (cc)
+    by Equal m h = m
+    by Greater m h = absurd (cc)

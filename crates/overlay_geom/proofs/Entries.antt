@@ -1,5 +1,5 @@
 -- The first entry of a list and the later ones.
-use Rattle.std.proofs.Common.{◌≡◌, ◌⊎◌, inl, inr, zero, suc, List, ◌∷◌, refl, arith}
+use Rattle.std.proofs.Common.{◌≡◌, ◌⊎◌, inl, inr, ℕ, zero, suc, ◌<◌, List, [], ◌∷◌, length, refl, arith}
 use Rattle.std.specs.List.{Contains}
 
 -- a list contains its first entry
@@ -14,3 +14,8 @@ Contains-later y xs x c = (suc c.0, let h = c.1 in omega arith, c.2)
 pub Contains-cases : {X : Type 0} (y : X) (ys : List X) (z : X) → Contains (y ∷ ys) z → (y ≡ z) ⊎ Contains ys z
 Contains-cases y ys z (zero, h, e) = inl e
 Contains-cases y ys z (suc k, h, e) = inr (k, omega arith, e)
+
+-- a list with a place has an entry
+pub some_entry : {X : Type 0} (xs : List X) (k : ℕ) → k < length xs → X
+some_entry [] k h = absurd (omega arith)
+some_entry (x ∷ xs) k h = x

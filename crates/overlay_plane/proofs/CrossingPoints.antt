@@ -93,6 +93,19 @@ part_way_across e f (inr (high, low, less)) =
     let whole = right.whole in
     (omega linear, omega linear, omega linear)
 
+-- and where it ends on that line, it goes all the way to it
+pub whole_way_across : (e f : Edge) → IsAcross f e → cross_at f.a f.b e.b ≡ pos 0 → to_line e f ≡ across e f
+whole_way_across e f (inl (low, high, less)) on_line =
+    let left = goes_left e f low less in
+    let from = left.from in
+    let whole = left.whole in
+    omega linear
+whole_way_across e f (inr (high, low, less)) on_line =
+    let right = goes_right e f low less in
+    let from = right.from in
+    let whole = right.whole in
+    omega linear
+
 -- ---- the common point
 
 -- the point of e at which it crosses f's line
@@ -100,10 +113,10 @@ abbrev pub crossing_point : (e f : Edge) → pos 0 <ℤ across e f → PlanePoin
 crossing_point e f positive = point_along e (to_line e f) (across e f) positive
 
 -- where e crosses f's line, f crosses e's, in the same numbers
-record CrossAlike (e f : Edge) : Type 0 where
-  x : e.a.x *ℤ across e f +ℤ (e.b.x -ℤ e.a.x) *ℤ to_line e f ≡ f.a.x *ℤ across f e +ℤ (f.b.x -ℤ f.a.x) *ℤ to_line f e
-  y : e.a.y *ℤ across e f +ℤ (e.b.y -ℤ e.a.y) *ℤ to_line e f ≡ f.a.y *ℤ across f e +ℤ (f.b.y -ℤ f.a.y) *ℤ to_line f e
-  d : across e f ≡ across f e
+pub record CrossAlike (e f : Edge) : Type 0 where
+  pub x : e.a.x *ℤ across e f +ℤ (e.b.x -ℤ e.a.x) *ℤ to_line e f ≡ f.a.x *ℤ across f e +ℤ (f.b.x -ℤ f.a.x) *ℤ to_line f e
+  pub y : e.a.y *ℤ across e f +ℤ (e.b.y -ℤ e.a.y) *ℤ to_line e f ≡ f.a.y *ℤ across f e +ℤ (f.b.y -ℤ f.a.y) *ℤ to_line f e
+  pub d : across e f ≡ across f e
 
 -- e goes from f's left side to its right, and so f from e's right side to its left
 alike_leftward : (e f : Edge) → GoesRight e f → GoesLeft f e → CrossAlike e f
@@ -126,7 +139,7 @@ alike_leftward e f right left = record {
 }
 
 -- so it is whichever way they go
-cross_alike : (e f : Edge) → IsAcross e f → IsAcross f e → CrossAlike e f
+pub cross_alike : (e f : Edge) → IsAcross e f → IsAcross f e → CrossAlike e f
 cross_alike e f (inl (f_low, f_high, f_less)) (inr (e_high, e_low, e_less)) = alike_leftward e f (goes_right e f e_low e_less) (goes_left f e f_low f_less)
 cross_alike e f (inr (f_high, f_low, f_less)) (inl (e_low, e_high, e_less)) =
     let back = alike_leftward f e (goes_right f e f_low f_less) (goes_left e f e_low e_less) in

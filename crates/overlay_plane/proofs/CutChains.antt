@@ -37,14 +37,14 @@ along_itself e = (
 )
 
 -- so it leads itself through its ends alone
-met_at_itself : (e : Edge) (v : Point) → Contains (met_at e e) v → (v ≡ e.a) ⊎ (v ≡ e.b)
+pub met_at_itself : (e : Edge) (v : Point) → Contains (met_at e e) v → (v ≡ e.a) ⊎ (v ≡ e.b)
 met_at_itself e v at_v = ⊎_elim (λ is. inl (sym is)) (λ is. inr (sym is))
     (end_held e e v (along_itself e) (subst (λ vs. Contains vs v) (met_along e e (along_itself e)) at_v)).0
 
 -- ---- two lists between two ends
 
 -- the point is one of the ends or in the list
-abbrev IsEndOrIn : Point → Point → List Point → Point → Type 0
+abbrev pub IsEndOrIn : Point → Point → List Point → Point → Type 0
 IsEndOrIn a b vs v = (v ≡ a) ⊎ ((v ≡ b) ⊎ Contains vs v)
 
 -- where the entries of one list are ends or in the other, its entries with the ends are those of the other with the ends
@@ -180,4 +180,16 @@ module _ (es : List CountedEdge) (forward : IsForwardBy ends_of es) (e : Counted
       (record {
         forth = entries_with_ends e.a e.b rounded (cut_points es e) rounded_is_computed;
         back = entries_with_ends e.a e.b (cut_points es e) rounded computed_is_rounded;
+      })
+
+  -- so has the chain through any other points in order along e that are, but for ends, the computed ones
+  pub same_chain_through : (us : List Point) → Each IsUpTo us → ((v : Point) → Contains us v → Contains (cut_points es e) v)
+      → ((v : Point) → Contains (cut_points es e) v → IsEndOrIn e.a e.b us v)
+      → steps_through e.a (us ++ e.b ∷ []) ≡ steps_through e.a (cut_points es e ++ e.b ∷ [])
+  same_chain_through us us_in_order computed_of all = same_chain_steps IsUpTo (along-reflexive (ends_of e)) (along-antisymmetric (ends_of e)) e.a (us ++ e.b ∷ []) (cut_points es e ++ e.b ∷ [])
+      (Each-between_ends IsUpTo e.a e.b us ends_in_order (λ v at_v. computed_within v (computed_of v at_v)) us_in_order)
+      (Each-between_ends IsUpTo e.a e.b (cut_points es e) ends_in_order computed_within computed_in_order)
+      (record {
+        forth = entries_with_ends e.a e.b us (cut_points es e) (λ v at_v. inr (inr (computed_of v at_v)));
+        back = entries_with_ends e.a e.b (cut_points es e) us all;
       })

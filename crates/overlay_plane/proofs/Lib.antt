@@ -114,6 +114,7 @@ pub mod SettledPieces
 pub mod ShapeNumbers
 pub mod ShapeSteps
 pub mod ShapeWalks
+pub mod SharedCrossings
 pub mod ShuffledCuts
 pub mod ShuffledPairs
 pub mod ShuffledSteps

@@ -1,5 +1,5 @@
 -- The whole points through which one edge leads another one lie within the other one's span in x and in y; and edges whose spans
--- in x are apart meet nowhere.
+-- in x or in y are apart meet nowhere.
 use Rattle.std.proofs.Common.{◌≡◌, ◌⊎◌, inl, inr, pos, ◌*ℤ◌, ◌<ℤ◌, ◌≤ℤ◌, List, [], ◌∷◌, Contains, refl, sym, subst, ◌∙◌, arith}
 use Rattle.std.specs.List.{All}
 use Rattle.std.proofs.lemmas.Int.{ints}
@@ -84,15 +84,15 @@ empty_of_none : {X : Type 0} (xs : List X) → ((x : X) → Contains xs x → �
 empty_of_none [] none = refl
 empty_of_none (x ∷ xs) none = absurd (none x (Contains-head x xs))
 
--- and the one leads the other through no whole point
-pub apart_meet_nowhere : (e f : Edge) → IsBefore e.a e.b → IsBefore f.a f.b → AreApartInX e f → met_at e f ≡ []
-apart_meet_nowhere e f e_forward f_forward apart = by_placement e f along (λ line beside. met_beside e f line beside) across_it
+-- where no point is common, the one leads the other through no whole point
+pub meet_nowhere : (e f : Edge) → IsBefore e.a e.b → IsBefore f.a f.b → ((p : PlanePoint) → ¬ (IsCommon e f p)) → met_at e f ≡ []
+meet_nowhere e f e_forward f_forward none = by_placement e f along (λ line beside. met_beside e f line beside) across_it
   where
     along : IsAlong e f → met_at e f ≡ []
     along line = met_along e f line ∙ empty_of_none (ends_between e f) (λ v at. off v (held_end_of v line at))
       where
         off : (v : Point) → IsHeldBy e v × IsHeldBy f v → ⊥
-        off v held = apart_have_no_common e f (in_plane v) e_forward f_forward apart (common_of_held e f v e_forward f_forward held.0 held.1)
+        off v held = none (in_plane v) (common_of_held e f v e_forward f_forward held.0 held.1)
 
         held_end_of : (v : Point) → IsAlong e f → Contains (ends_between e f) v → IsHeldBy e v × IsHeldBy f v
         held_end_of v line at = let found = end_held e f v line at in (found.1, holds_its_ends f v f_forward found.0)
@@ -100,4 +100,37 @@ apart_meet_nowhere e f e_forward f_forward apart = by_placement e f along (λ li
     across_it : AreCrossing e f → met_at e f ≡ []
     across_it c =
         let way : IsPartWay e f = part_way_across e f (both_across e f c).1 in
-        absurd (apart_have_no_common e f (crossing_point e f way.2) e_forward f_forward apart (crossing_is_common e f way.2 c))
+        absurd (none (crossing_point e f way.2) (crossing_is_common e f way.2 c))
+
+-- so it is where the edges are apart in x
+pub apart_meet_nowhere : (e f : Edge) → IsBefore e.a e.b → IsBefore f.a f.b → AreApartInX e f → met_at e f ≡ []
+apart_meet_nowhere e f e_forward f_forward apart =
+    meet_nowhere e f e_forward f_forward (λ p. apart_have_no_common e f p e_forward f_forward apart)
+
+-- ---- one below the other
+
+-- both ends of e lie below both ends of f
+pub record IsBelow (e f : Edge) : Type 0 where
+  pub a_below_a : e.a.y <ℤ f.a.y
+  pub a_below_b : e.a.y <ℤ f.b.y
+  pub b_below_a : e.b.y <ℤ f.a.y
+  pub b_below_b : e.b.y <ℤ f.b.y
+
+-- so no point of e is on f
+below_have_no_common : (e f : Edge) (p : PlanePoint) → IsBelow e f → ¬ (IsCommon e f p)
+below_have_no_common e f p below (on_e, on_f) = by on_e.in_y on_f.in_y
+  where
+    by : IsBetween p.y (e.a.y *ℤ p.d) (e.b.y *ℤ p.d) → IsBetween p.y (f.a.y *ℤ p.d) (f.b.y *ℤ p.d) → ⊥
+    by (inl (low, high)) (inl (from, to)) = let less = over_lt e.b.y f.a.y p.d p.positive below.b_below_a in omega linear
+    by (inl (low, high)) (inr (from, to)) = let less = over_lt e.b.y f.b.y p.d p.positive below.b_below_b in omega linear
+    by (inr (low, high)) (inl (from, to)) = let less = over_lt e.a.y f.a.y p.d p.positive below.a_below_a in omega linear
+    by (inr (low, high)) (inr (from, to)) = let less = over_lt e.a.y f.b.y p.d p.positive below.a_below_b in omega linear
+
+-- the one edge lies, in y, wholly below the other one
+abbrev pub AreApartInY : Edge → Edge → Type 0
+AreApartInY e f = IsBelow e f ⊎ IsBelow f e
+
+-- of edges apart in y, no point of the one is on the other
+pub apart_in_y_have_no_common : (e f : Edge) (p : PlanePoint) → AreApartInY e f → ¬ (IsCommon e f p)
+apart_in_y_have_no_common e f p (inl below) common = below_have_no_common e f p below common
+apart_in_y_have_no_common e f p (inr above) (on_e, on_f) = below_have_no_common f e p above (on_f, on_e)

@@ -109,7 +109,7 @@ across_of_rest e f apart not_beside =
     (λ left. by_lt_z (pos 0) (cross_at e.a e.b f.b) (λ too. absurd (not_beside (inl (left, too)))) (λ le. inr (le, omega linear, omega linear)))
 
 -- where f goes across e's line, e does not lie along f's
-not_along_back : (e f : Edge) → IsAcross e f → ¬ (IsAlong f e)
+pub not_along_back : (e f : Edge) → IsAcross e f → ¬ (IsAlong f e)
 not_along_back e f across (at_a, at_b) = by across
   where
     by : IsAcross e f → ⊥

@@ -92,7 +92,7 @@ module _ (e : Edge) (forward : point_lt e.a e.b ≡ true) where
   later_is_larger v (inr is) up = is
 
   -- points in order along the edge, each of them an end of it, are passed with one step
-  one_step_through : (vs : List Point) → All (IsEither e.a e.b) vs → Each (IsUpToAlong e) vs → length (steps_through e.a (vs ++ e.b ∷ [])) ≡ 1
+  pub one_step_through : (vs : List Point) → All (IsEither e.a e.b) vs → Each (IsUpToAlong e) vs → length (steps_through e.a (vs ++ e.b ∷ [])) ≡ 1
   one_step_through [] all order = ap (λ ss. length (ss ++ [])) (a_step e.a e.b test_apart)
   one_step_through (v ∷ vs) all order = by (one_step_through vs (All-tail (IsEither e.a e.b) v vs all) order.1) (All-head (IsEither e.a e.b) v vs all)
     where
@@ -111,14 +111,3 @@ module _ (e : Edge) (forward : point_lt e.a e.b ≡ true) where
           ap (λ u. length (steps_between e.a u ++ steps_through u (vs ++ e.b ∷ []))) is
           ∙ ap (λ ss. length (steps_between e.a e.b ++ ss)) (none_where_all e.b vs all_larger)
           ∙ ap (λ ss. length (ss ++ [])) (a_step e.a e.b test_apart)
-
-module _ (es : List CountedEdge) (e : CountedEdge) where
-  -- where the chain of an edge has one step, the points that it is led through are its ends
-  pub whole_where_one_step : length (computed_chain es e) ≡ 1 → All (IsEither e.a e.b) (cut_points es e)
-  whole_where_one_step one = ends_where_one_step e.a e.b (cut_points es e) one
-
-  -- and where they are, the chain has one step
-  pub one_step_where_whole : point_lt e.a e.b ≡ true → All (IsEither e.a e.b) (cut_points es e) → length (computed_chain es e) ≡ 1
-  one_step_where_whole forward all =
-      one_step_through (ends_of e) forward (cut_points es e) all
-      (Each-in_weak_order (comes_first (ends_of e)) (IsUpToAlong (ends_of e)) (along-order (ends_of e)) (flat_map (λ f. met_at (ends_of e) (ends_of f)) es))

@@ -1,5 +1,5 @@
 -- Steps sorted by the points that they leave: the comparison is an order, and the steps that leave a point stand side by side.
-use Rattle.std.proofs.Common.{◌≡◌, ⊎_elim, ℕ, ◌<◌, ◌≤◌, Bool, true, false, not, ℤ, List, [], ◌∷◌, length, get_or, refl, ap, sym, ◌∙◌, subst, arith}
+use Rattle.std.proofs.Common.{◌≡◌, ⊎_elim, ℕ, ◌<◌, ◌≤◌, Bool, true, false, not, ℤ, List, length, get_or, refl, ap, sym, ◌∙◌, subst, arith}
 use Rattle.std.specs.Cmp.{IsStrictWeakOrder}
 use Rattle.std.specs.List.Sorted.{IsSortedBy, IsPartitionedBy, IsPartitionPoint}
 use Rattle.std.specs.Ordering.{is_lt, is_gt, ordering_reverse}
@@ -9,6 +9,7 @@ use Rattle.std.proofs.lemmas.Bool.{both_ways, false_from_ne_true, cases_lt}
 use Rattle.std.proofs.lemmas.List.{length-map, get_or-map}
 use Rattle.std.proofs.lemmas.List.Sorted.{sorted_far}
 use Rattle.overlay_geom.specs.Plane.{Point, Step, point_lt, point_eq}
+use Rattle.overlay_geom.proofs.Entries.{some_entry}
 use Rattle.overlay_geom.proofs.Mapped.{AllPairs-map}
 use Rattle.overlay_geom.proofs.Orders.{point_order, point_order-total, point_lt-is_less, point_lt-back, point_eq-same, point_lt-itself, point_lt-order}
 pub use Rattle.overlay_geom.proofs.PointComparisons.{point_cmp-is_less}
@@ -59,11 +60,6 @@ module _ {I : Type 0} (whole : I → ℤ) where
   IsByStart-from_sorted ss up =
       AllPairs-map (λ (s t : Step). point_lt t.from s.from ≡ false) (plain_step whole) ss
       (λ i j d l m. sorted_far leaves_smaller leaves_smaller-order ss up i j d (omega arith) m)
-
-  -- a list with a place has an entry
-  some_entry : (ss : List (StepTaken I)) (k : ℕ) → k < length ss → StepTaken I
-  some_entry [] k h = absurd (elim h [ ])
-  some_entry (s ∷ ss) k h = s
 
   -- the step leaves a point smaller than p, or a point up to p
   abbrev pub leaves_below : Point → StepTaken I → Bool

@@ -1,15 +1,24 @@
--- An edge beside the other one's line leads it nowhere.
-use Rattle.std.proofs.Common.{inl}
-use Rattle.overlay_geom.specs.Edges.{ends_of}
-use Rattle.overlay_plane.specs.CutPoints.{met_at}
-use Rattle.overlay_plane.proofs.Placements.{met_beside}
+-- Edges at heights that are apart, and edges of which the one lies beside the other one's line, meet nowhere.
+use Rattle.std.proofs.Common.{sym, ◌∙◌}
+use Rattle.overlay_geom.proofs.PointOrder.{Decides-point_lt}
 use Rattle.overlay_arrange.specs.Content.{plain_edge}
-use Rattle.overlay_arrange.proofs.Appended.{nothing_appended}
-use Rattle.overlay_arrange.proofs.Crossings.{beside_is_not_along}
+use Rattle.overlay_arrange.specs.Meetings.{plain_meetings}
+use Rattle.overlay_arrange.proofs.PairMeetings.{none_where_apart, none_where_beside}
 use Rattle.overlay_arrange.proofs.crossing.push_meetings.Goals as goal
+
+pub returns-then-are_apart_in_y-clause-ok : goal.returns-then-are_apart_in_y-clause-ok
+returns-then-are_apart_in_y-clause-ok g c =
+    let whole = g.I.IntNumber.whole in
+    let e = plain_edge whole g.C.EdgeCount.counts c.args.e.now in
+    let f = plain_edge whole g.C.EdgeCount.counts c.args.f.now in
+    none_where_apart c.args.i e c.args.j f (plain_meetings whole c.args.meetings.now.items)
+    ((Decides-point_lt e.a e.b).0 c.requires.one.forward) ((Decides-point_lt f.a f.b).0 c.requires.other.forward)
+    (sym c.are_apart_in_y.ensures ∙ c.if-are_apart_in_y.true)
 
 pub returns-in-Beside-clause-ok : goal.returns-in-Beside-clause-ok
 returns-in-Beside-clause-ok g c =
-    let e = ends_of (plain_edge g.I.IntNumber.whole g.C.EdgeCount.counts c.args.e.now) in
-    let f = ends_of (plain_edge g.I.IntNumber.whole g.C.EdgeCount.counts c.args.f.now) in
-    nothing_appended _ (met_at e f) (met_beside e f (beside_is_not_along e f c.in-Beside.ensures) (inl c.in-Beside.ensures))
+    let whole = g.I.IntNumber.whole in
+    let e = plain_edge whole g.C.EdgeCount.counts c.args.e.now in
+    let f = plain_edge whole g.C.EdgeCount.counts c.args.f.now in
+    none_where_beside c.args.i e c.args.j f (plain_meetings whole c.args.meetings.now.items)
+    ((Decides-point_lt f.a f.b).0 c.requires.other.forward) c.in-Beside.ensures

@@ -9,13 +9,13 @@ use Rattle.overlay_arrange.specs.Content.{plain_edges, carried_edges}
 use Rattle.overlay_arrange.specs.Cut.{AddsGiven}
 use Rattle.overlay_arrange.proofs.cut.cut_edges.Given as goal
 
-abbrev pub invariant-loop-e : goal.invariant-loop-e
-invariant-loop-e g l =
+abbrev pub invariant-loop-i : goal.invariant-loop-i
+invariant-loop-i g l =
     let plain = plain_edges g.I.IntNumber.whole g.C.EdgeCount.counts in
     let carried = carried_edges g.I.IntNumber.whole g.C.EdgeCount.counts in
     let splits = g.C.EdgeCount.splits in
     let turns = g.C.EdgeCount.turns in
-    (edges_in l.pieces ++ flat_map (pieces_through (cut_points (plain l.edges))) (plain (drop l.e-index l.edges)) ≡ cut_edges (plain l.edges))
+    (edges_in l.pieces ++ flat_map (pieces_through (cut_points (plain l.edges))) (plain (drop l.i l.edges)) ≡ cut_edges (plain l.edges))
     × ((new : List (Carried g.row.C.Denot)) →
-    AddsGiven (ArePieces splits turns (computed_chain (plain l.edges))) (carried (drop l.e-index l.edges)) l.pieces new →
+    AddsGiven (ArePieces splits turns (computed_chain (plain l.edges))) (carried (drop l.i l.edges)) l.pieces new →
     AreCutAlong splits turns (computed_chain (plain l.edges)) (carried l.edges) new)

@@ -3,7 +3,7 @@ use Rattle.std.proofs.Common.{inr, ⊎_elim}
 use Rattle.std.proofs.lemmas.Bool.Decides.{Decides-at, not_from_Decides}
 use Rattle.overlay_geom.specs.Points.{plain_point}
 use Rattle.overlay_geom.proofs.Orders.{Decides-point_eq}
-use Rattle.overlay_arrange.proofs.cut.is_end_of.Goals as goal
+use Rattle.overlay_arrange.proofs.crossing.is_end_of.Goals as goal
 
 pub returns-else-is_same : goal.returns-else-is_same
 returns-else-is_same g c =

@@ -1,0 +1,140 @@
+-- The meetings of two edges with one another: what pushing points adds, and what there is to add where the two lie in a given way.
+use Rattle.std.proofs.Common.{◌≡◌, ◌≢◌, ⊎_elim, inl, inr, ℕ, Bool, true, false, List, [], ◌∷◌, ◌++◌, cond, Contains, filter, refl, sym, ap, ◌∙◌, subst, arith}
+use Rattle.std.proofs.lemmas.List.Elements.{Contains-append_left, Contains-append_right, Contains-append_cases, Contains-push, Contains-push_cases, filter-append}
+use Rattle.overlay_geom.specs.Plane.{Point, Edge}
+use Rattle.overlay_geom.specs.Edges.{CountedEdge, ends_of}
+use Rattle.overlay_geom.specs.Placed.{IsAlong, IsBeside, IsAcross}
+use Rattle.overlay_geom.specs.Resolved.{IsPlaced}
+use Rattle.overlay_geom.specs.declared.edge_pair.Place.{Place}
+use Rattle.overlay_geom.specs.declared.edge_pair.Place.TheVariants.{Along, Beside, Across}
+use Rattle.overlay_geom.proofs.Entries.{Contains-cases}
+use Rattle.overlay_geom.proofs.Meeting.{across_not_along}
+use Rattle.overlay_geom.proofs.OneLine.{along_exchanged}
+use Rattle.overlay_geom.proofs.PointOrder.{IsBefore}
+use Rattle.overlay_plane.specs.CutPoints.{crossing, is_between, met_at}
+use Rattle.overlay_plane.proofs.Placements.{ends_between, met_along, met_beside, not_along_back}
+use Rattle.overlay_plane.proofs.SharedCrossings.{crossing_alike}
+use Rattle.overlay_arrange.specs.Cut.{IsEndOf}
+use Rattle.overlay_arrange.specs.Meetings.{AddsBoth, AddsPoints, Meeting}
+use Rattle.overlay_arrange.specs.Settle.{are_apart_in_y}
+use Rattle.overlay_arrange.proofs.ApartInY.{apart_exchanged, nowhere_where_apart}
+use Rattle.overlay_arrange.proofs.Crossings.{beside_is_not_along, met_where_both_across, met_where_one_across}
+
+-- ---- what pushing adds
+
+-- a list of one point has no other one
+only_entry : (v w : Point) → Contains (v ∷ []) w → v ≡ w
+only_entry v w at = ⊎_elim (λ is. is) (λ none. absurd (omega (arith, none.1))) (Contains-cases v [] w at)
+
+module _ (i : ℕ) (e : CountedEdge) where
+  -- no points add nothing
+  pub no_points_added : (ms : List Meeting) → AddsPoints i e [] ms ms
+  no_points_added ms = record { kept = λ m at. at; led = λ m at. inl at; all = λ v at. absurd (omega (arith, at.1)) }
+
+  -- an end of the edge may be left out
+  pub end_left_out : (v : Point) (ms : List Meeting) → IsEndOf e v → AddsPoints i e (v ∷ []) ms ms
+  end_left_out v ms end = record {
+    kept = λ m at. at;
+    led = λ m at. inl at;
+    all = λ w at. inl (subst (IsEndOf e) (only_entry v w at) end);
+  }
+
+  -- a point is pushed
+  pub point_pushed : (v : Point) (old new : List Meeting) → new ≡ old ++ record { place = i; point = v } ∷ [] → AddsPoints i e (v ∷ []) old new
+  point_pushed v old new is = record {
+    kept = λ m at. subst (λ ms. Contains ms m) (sym is) (Contains-append_left old (pushed ∷ []) m at);
+    led = λ m at. ⊎_elim (λ there. inl there)
+        (λ same. inr (sym (ap (λ (n : Meeting). n.place) same), subst (Contains (v ∷ [])) (ap (λ (n : Meeting). n.point) same) (Contains-push [] v)))
+        (Contains-push_cases old pushed m (subst (λ ms. Contains ms m) is at));
+    all = λ w at. inr (subst (λ ms. Contains ms (record { place = i; point = w })) (sym is)
+        (subst (λ u. Contains (old ++ pushed ∷ []) (record { place = i; point = u })) (only_entry v w at) (Contains-push old pushed)));
+  }
+    where
+      pushed : Meeting
+      pushed = record { place = i; point = v }
+
+  -- some points are added, and then others
+  pub points_added : {us vs : List Point} {old mid new : List Meeting} → AddsPoints i e us old mid → AddsPoints i e vs mid new → AddsPoints i e (us ++ vs) old new
+  points_added {us} {vs} first second = record {
+    kept = λ m at. second.kept m (first.kept m at);
+    led = λ m at. ⊎_elim
+        (λ before. ⊎_elim (λ old_one. inl old_one) (λ led. inr (led.0, Contains-append_left us vs m.point led.1)) (first.led m before))
+        (λ led. inr (led.0, Contains-append_right us vs m.point led.1)) (second.led m at);
+    all = λ v at. ⊎_elim
+        (λ one. ⊎_elim (λ end. inl end) (λ there. inr (second.kept (record { place = i; point = v }) there)) (first.all v one))
+        (λ other. second.all v other) (Contains-append_cases us vs v at);
+  }
+
+  -- a point that passes a test is added
+  pub kept_added : (p : Point → Bool) (v : Point) {old new : List Meeting} → p v ≡ true → AddsPoints i e (v ∷ []) old new → AddsPoints i e (filter p (v ∷ [])) old new
+  kept_added p v {old} {new} passes adds = subst (λ vs. AddsPoints i e vs old new) (sym (ap (λ t. cond t (v ∷ []) []) passes)) adds
+
+  -- and of another one nothing
+  pub dropped_added : (p : Point → Bool) (v : Point) (ms : List Meeting) → p v ≢ true → AddsPoints i e (filter p (v ∷ [])) ms ms
+  dropped_added p v ms fails = by (p v) refl
+    where
+      by : (t : Bool) → p v ≡ t → AddsPoints i e (cond t (v ∷ []) []) ms ms
+      by true is = absurd (fails is)
+      by false is = no_points_added ms
+
+  -- what a test keeps of two points
+  pub two_added : (p : Point → Bool) (v w : Point) {old mid new : List Meeting} → AddsPoints i e (filter p (v ∷ [])) old mid → AddsPoints i e (filter p (w ∷ [])) mid new →
+      AddsPoints i e (filter p (v ∷ w ∷ [])) old new
+  two_added p v w {old} {mid} {new} first second =
+      subst (λ vs. AddsPoints i e vs old new) (sym (filter-append p (v ∷ []) (w ∷ []))) (points_added first second)
+
+-- ---- what there is to add
+
+module _ (i : ℕ) (e : CountedEdge) (j : ℕ) (f : CountedEdge) where
+  -- where neither leads the other one anywhere there is nothing
+  none_added : (ms : List Meeting) → met_at (ends_of e) (ends_of f) ≡ [] → met_at (ends_of f) (ends_of e) ≡ [] → AddsBoth i e j f ms ms
+  none_added ms forth back = record {
+    between = ms;
+    one = subst (λ vs. AddsPoints i e vs ms ms) (sym forth) (no_points_added i e ms);
+    other = subst (λ vs. AddsPoints j f vs ms ms) (sym back) (no_points_added j f ms);
+  }
+
+  -- so it is where the edges lie at heights that are apart
+  pub none_where_apart : (ms : List Meeting) → IsBefore e.a e.b → IsBefore f.a f.b → are_apart_in_y (ends_of e) (ends_of f) ≡ true → AddsBoth i e j f ms ms
+  none_where_apart ms e_forward f_forward apart =
+      none_added ms (nowhere_where_apart (ends_of e) (ends_of f) e_forward f_forward apart)
+      (nowhere_where_apart (ends_of f) (ends_of e) f_forward e_forward (apart_exchanged (ends_of e) (ends_of f) apart))
+
+  -- and where the one lies beside the other one's line
+  pub none_where_beside : (ms : List Meeting) → IsBefore f.a f.b → IsBeside (ends_of e) (ends_of f) → AddsBoth i e j f ms ms
+  none_where_beside ms f_forward beside =
+      none_added ms (met_beside (ends_of e) (ends_of f) off (inl beside))
+      (met_beside (ends_of f) (ends_of e) (λ along. off (along_exchanged (ends_of f) (ends_of e) f_forward along)) (inr beside))
+    where
+      off : ¬ (IsAlong (ends_of e) (ends_of f))
+      off = beside_is_not_along (ends_of e) (ends_of f) beside
+
+  -- and where the one goes across the other one's line, but not the other one across its
+  pub none_where_one_across : (ms : List Meeting) (place : Place) → IsBefore f.a f.b → IsAcross (ends_of e) (ends_of f) → IsPlaced place (ends_of f) (ends_of e) → place ≢ Across →
+      AddsBoth i e j f ms ms
+  none_where_one_across ms place f_forward forth placed other =
+      none_added ms (met_where_one_across (ends_of e) (ends_of f) place f_forward forth placed other) (by place placed other)
+    where
+      by : (p : Place) → IsPlaced p (ends_of f) (ends_of e) → p ≢ Across → met_at (ends_of f) (ends_of e) ≡ []
+      by Along back isnt = absurd (across_not_along (ends_of e) (ends_of f) f_forward forth back)
+      by Beside back isnt = met_beside (ends_of f) (ends_of e) (not_along_back (ends_of e) (ends_of f) forth) (inl back)
+      by Across back isnt = absurd (isnt refl)
+
+  -- where they lie on one line there are their ends
+  pub ends_added : {old mid new : List Meeting} → IsBefore e.a e.b → IsAlong (ends_of e) (ends_of f) →
+      AddsPoints i e (ends_between (ends_of e) (ends_of f)) old mid → AddsPoints j f (ends_between (ends_of f) (ends_of e)) mid new → AddsBoth i e j f old new
+  ends_added {old} {mid} {new} e_forward along first second = record {
+    between = mid;
+    one = subst (λ vs. AddsPoints i e vs old mid) (sym (met_along (ends_of e) (ends_of f) along)) first;
+    other = subst (λ vs. AddsPoints j f vs mid new) (sym (met_along (ends_of f) (ends_of e) (along_exchanged (ends_of e) (ends_of f) e_forward along))) second;
+  }
+
+  -- and where each goes across the other one's line there is one point
+  pub crossing_added : (v : Point) {old mid new : List Meeting} → IsAcross (ends_of e) (ends_of f) → IsAcross (ends_of f) (ends_of e) → v ≡ crossing (ends_of e) (ends_of f) →
+      AddsPoints i e (v ∷ []) old mid → AddsPoints j f (v ∷ []) mid new → AddsBoth i e j f old new
+  crossing_added v {old} {mid} {new} forth back is first second = record {
+    between = mid;
+    one = subst (λ vs. AddsPoints i e vs old mid) (ap (λ u. u ∷ []) is ∙ sym (met_where_both_across (ends_of e) (ends_of f) forth back)) first;
+    other = subst (λ vs. AddsPoints j f vs mid new)
+        (ap (λ u. u ∷ []) (is ∙ crossing_alike (ends_of e) (ends_of f) forth back) ∙ sym (met_where_both_across (ends_of f) (ends_of e) back forth)) second;
+  }

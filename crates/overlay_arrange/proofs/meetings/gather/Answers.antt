@@ -1,0 +1,30 @@
+-- Each edge adds what it and the later ones lead one another through; sorting keeps what is gathered.
+use Rattle.std.proofs.Common.{List, map, sym, subst, arith}
+use Rattle.std.proofs.lemmas.List.{length-map}
+use Rattle.std.proofs.lemmas.List.Sorted.{Contains-permutation, IsPermutation-map, IsPermutation-sym}
+use Rattle.overlay_arrange.specs.Content.{plain_edge, plain_edges}
+use Rattle.overlay_arrange.specs.Meetings.{plain_meeting, plain_meetings, AreGathered, HasBefore}
+use Rattle.overlay_arrange.specs.declared.meetings.Meeting.{Meeting}
+use Rattle.overlay_arrange.proofs.GatheredMeetings.{all_gathered, gathered_moved, none_gathered}
+use Rattle.overlay_arrange.proofs.meetings.gather.Goals as goal
+
+pub loop-i-init : goal.loop-i-init
+loop-i-init g c =
+    let es = plain_edges g.I.IntNumber.whole g.C.EdgeCount.counts c.args.edges.now in
+    subst (λ (ms : List (Meeting _)). AreGathered es (HasBefore 0) (plain_meetings g.I.IntNumber.whole ms)) (sym c.new-meetings.ensures.items) (none_gathered es)
+
+pub gather_from-requires-clause-gathered : goal.gather_from-requires-clause-gathered
+gather_from-requires-clause-gathered g c = c.loop-i.invariant
+
+pub loop-i-preserved : goal.loop-i-preserved
+loop-i-preserved g c = c.in_ok-gather_from.ensures.ok
+
+pub returns-clause-ok : goal.returns-clause-ok
+returns-clause-ok g c =
+    let es = plain_edges g.I.IntNumber.whole g.C.EdgeCount.counts c.args.edges.now in
+    let count = length-map c.args.edges.now (plain_edge g.I.IntNumber.whole g.C.EdgeCount.counts) in
+    let old = plain_meetings g.I.IntNumber.whole c.loop-i.meetings.items in
+    let new = plain_meetings g.I.IntNumber.whole c.sort_by_place.new.meetings.items in
+    let moved = IsPermutation-map (plain_meeting g.I.IntNumber.whole) c.loop-i.meetings.items c.sort_by_place.new.meetings.items c.sort_by_place.ensures.permutation in
+    gathered_moved es (λ m at. Contains-permutation old new m moved at) (λ m at. Contains-permutation new old m (IsPermutation-sym old new moved) at)
+    (all_gathered es c.loop-i.i (omega (arith, count, c.loop-i-test.false)) c.loop-i.invariant)

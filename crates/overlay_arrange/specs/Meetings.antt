@@ -1,0 +1,77 @@
+-- The whole points through which the edges of a list are led, each with the place of its edge.
+use Rattle.std.specs.Prelude.{◌≡◌, ◌⊎◌, ℕ, ◌<◌, ◌≤◌, ℤ, List, map, length, slice_index_or, AllPairs, Contains}
+use Rattle.overlay_geom.specs.Plane.{Point, Edge}
+use Rattle.overlay_geom.specs.Edges.{CountedEdge, ends_of}
+use Rattle.overlay_geom.specs.Points.{plain_point}
+use Rattle.overlay_plane.specs.CutPoints.{comes_first, cut_points, met_at}
+use Rattle.overlay_plane.specs.InOrder.{in_order}
+use Rattle.overlay_arrange.specs.Cut.{IsEndOf}
+use Rattle.overlay_arrange.specs.declared.meetings.Meeting.{Meeting as HeldMeeting}
+
+-- a whole point through which the edge at the place is led
+pub record Meeting : Type 0 where
+  pub place : ℕ
+  pub point : Point
+
+-- the meeting at a meeting's numbers
+abbrev pub plain_meeting : {I : Type 0} → (I → ℤ) → HeldMeeting I → Meeting
+plain_meeting whole m = record { place = m.place; point = plain_point whole m.point }
+
+-- and of each meeting of a list
+abbrev pub plain_meetings : {I : Type 0} → (I → ℤ) → List (HeldMeeting I) → List Meeting
+plain_meetings whole ms = map (plain_meeting whole) ms
+
+-- ---- adding
+
+-- the points are added as meetings of the edge e at place i; its own ends may be left out
+pub record AddsPoints (i : ℕ) (e : CountedEdge) (vs : List Point) (old new : List Meeting) : Type 0 where
+  pub kept : (m : Meeting) → Contains old m → Contains new m
+  pub led : (m : Meeting) → Contains new m → Contains old m ⊎ ((m.place ≡ i) × Contains vs m.point)
+  pub all : (v : Point) → Contains vs v → IsEndOf e v ⊎ Contains new (record { place = i; point = v })
+
+-- the points through which the edges e at place i and f at place j lead one another are added
+pub record AddsBoth (i : ℕ) (e : CountedEdge) (j : ℕ) (f : CountedEdge) (old new : List Meeting) : Type 0 where
+  pub between : List Meeting
+  pub one : AddsPoints i e (met_at (ends_of e) (ends_of f)) old between
+  pub other : AddsPoints j f (met_at (ends_of f) (ends_of e)) between new
+
+-- ---- gathering
+
+-- x is the entry at place i
+abbrev pub IsAt : {X : Type 0} → List X → ℕ → X → Type 0
+IsAt xs i x = (i < length xs) × (slice_index_or xs i x ≡ x)
+
+-- the meetings of the edges that stand at such pairs of places: all of them, but for the edges' own ends
+pub record AreGathered (es : List CountedEdge) (Pair : ℕ → ℕ → Type 0) (ms : List Meeting) : Type 0 where
+  pub led : (m : Meeting) → Contains ms m →
+      (e : CountedEdge) × IsAt es m.place e × Contains (cut_points es e) m.point
+  pub all : (i j : ℕ) (e f : CountedEdge) → IsAt es i e → IsAt es j f → Pair i j → (v : Point) →
+      Contains (met_at (ends_of e) (ends_of f)) v → IsEndOf e v ⊎ Contains ms (record { place = i; point = v })
+
+-- one of the two places comes before place n
+abbrev pub HasBefore : ℕ → ℕ → ℕ → Type 0
+HasBefore n i j = (i < n) ⊎ (j < n)
+
+-- the meetings of all edges of the list
+abbrev pub AreMeetings : List CountedEdge → List Meeting → Type 0
+AreMeetings es ms = AreGathered es (HasBefore (length es)) ms
+
+-- the meetings stand by their places
+abbrev pub AreByPlace : List Meeting → Type 0
+AreByPlace ms = AllPairs (λ m n. m.place ≤ n.place) ms
+
+-- ---- taking
+
+-- from the one place up to the other one stand the meetings of the edge at place i
+pub record IsRunAt (ms : List Meeting) (i low high : ℕ) : Type 0 where
+  pub ordered : low ≤ high
+  pub within : high ≤ length ms
+  pub from : (k : ℕ) (m : Meeting) → low ≤ k → k < high → IsAt ms k m → m.place ≡ i
+  pub all : (k : ℕ) (m : Meeting) → IsAt ms k m → m.place ≡ i → (low ≤ k) × (k < high)
+
+-- the points are those of the meetings of the edge at place i, in their order along it
+pub record ArePointsAt (ms : List Meeting) (i : ℕ) (e : Edge) (vs : List Point) : Type 0 where
+  pub from : (v : Point) → Contains vs v → Contains ms (record { place = i; point = v })
+  pub all : (v : Point) → Contains ms (record { place = i; point = v }) → Contains vs v
+  pub points : List Point
+  pub order : vs ≡ in_order (comes_first e) points
