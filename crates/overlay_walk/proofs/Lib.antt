@@ -6,6 +6,7 @@ pub mod EntriesByAnchor
 pub mod FilledEntries
 pub mod FirstPlaces
 pub mod HeldAnchors
+pub mod HeldStarts
 pub mod HoleEntries
 pub mod HolesTold
 pub mod InnerProducts
@@ -18,6 +19,8 @@ pub mod OutlineNumbers
 pub mod OutlinesKnown
 pub mod Runs
 pub mod SelectedLong
+pub mod StartOrder
+pub mod StartPlaces
 pub mod Starts
 pub mod Sweeping
 pub mod SweptEntries
