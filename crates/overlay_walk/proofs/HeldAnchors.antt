@@ -9,24 +9,24 @@ use Rattle.overlay_geom.specs.declared.number.WideIntNumber.{Ghosts as WideGhost
 use Rattle.overlay_geom.specs.declared.number.UIntNumber.{Ghosts as UIntGhosts}
 use Rattle.overlay_plane.specs.Anchors.{is_anchored_before}
 use Rattle.overlay_scan.specs.Scan.{Entry}
-use Rattle.overlay_walk.specs.declared.walk_edge.WalkEdge.{WalkEdge}
-use Rattle.overlay_walk.specs.WalkEdges.{walk_entry, walk_entries, IsByAnchor}
+use Rattle.overlay_walk.specs.declared.numbered_edge.NumberedEdge.{NumberedEdge}
+use Rattle.overlay_walk.specs.WalkEdges.{numbered_entry, numbered_entries, IsByAnchor}
 use Rattle.overlay_plane.proofs.AnchorOrder.{anchored_before-one_way, anchored_before-chain}
 
 module _ {I W U : Type 0} (i : IntGhosts I W U) (w : WideGhosts W) (u : UIntGhosts U) where
   -- the first is anchored before the second
-  abbrev pub held_before : WalkEdge I W U i w u → WalkEdge I W U i w u → Bool
-  held_before e f = is_anchored_before (walk_entry i.whole e).edge (walk_entry i.whole f).edge
+  abbrev pub held_before : NumberedEdge I W U i w u → NumberedEdge I W U i w u → Bool
+  held_before e f = is_anchored_before (numbered_entry i.whole e).edge (numbered_entry i.whole f).edge
 
   -- any two compare
   pub held_before-order : IsStrictWeakOrder held_before
   held_before-order = record {
-    one_way = λ e f. anchored_before-one_way (walk_entry i.whole e).edge (walk_entry i.whole f).edge e.forward f.forward;
-    chain = λ e f h. anchored_before-chain (walk_entry i.whole e).edge (walk_entry i.whole f).edge (walk_entry i.whole h).edge e.forward f.forward h.forward;
+    one_way = λ e f. anchored_before-one_way (numbered_entry i.whole e).edge (numbered_entry i.whole f).edge e.forward f.forward;
+    chain = λ e f h. anchored_before-chain (numbered_entry i.whole e).edge (numbered_entry i.whole f).edge (numbered_entry i.whole h).edge e.forward f.forward h.forward;
   }
 
   -- sorted edges are in the order of anchors
-  pub IsByAnchor-from_sorted : (es : List (WalkEdge I W U i w u)) → IsSortedBy held_before es → IsByAnchor (walk_entries i.whole es)
+  pub IsByAnchor-from_sorted : (es : List (NumberedEdge I W U i w u)) → IsSortedBy held_before es → IsByAnchor (numbered_entries i.whole es)
   IsByAnchor-from_sorted es up =
-      AllPairs-map (λ (e f : Entry ℕ). is_anchored_before f.edge e.edge ≡ false) (walk_entry i.whole) es
+      AllPairs-map (λ (e f : Entry ℕ). is_anchored_before f.edge e.edge ≡ false) (numbered_entry i.whole) es
       (λ j k d l m. sorted_far held_before held_before-order es up j k d (omega arith) m)

@@ -6,6 +6,7 @@ pub mod EntriesByAnchor
 pub mod FilledEntries
 pub mod FirstPlaces
 pub mod HeldAnchors
+pub mod HeldStarts
 pub mod HoleEntries
 pub mod HolesTold
 pub mod InnerProducts
@@ -21,6 +22,8 @@ pub mod Runs
 pub mod SelectedByBits
 pub mod SelectedLong
 pub mod ShapesFound
+pub mod StartOrder
+pub mod StartPlaces
 pub mod Starts
 pub mod Sweeping
 pub mod SweptEntries

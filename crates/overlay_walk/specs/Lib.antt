@@ -1,8 +1,10 @@
 pub mod Asked
+pub mod Kept
 pub mod Nearest
 pub mod Parents
 pub mod Places
 pub mod Selection
+pub mod Starts
 pub mod Steps
 pub mod WalkEdges
 pub mod Walks

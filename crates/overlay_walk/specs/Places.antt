@@ -1,6 +1,6 @@
 -- Places of a list of steps: which of them are open, what stands at them, and the first one by an order.
-use Rattle.std.specs.Prelude.{◌≡◌, ℕ, ◌<◌, ◌≤◌, Bool, true, false, cond, not, ◌&&◌, ◌||◌, List, length, slice_index_or, Option, Some, None}
-use Rattle.overlay_geom.specs.Plane.{Point, Step, point_lt, point_eq, edge_of}
+use Rattle.std.specs.Prelude.{◌≡◌, ℕ, ◌<◌, ◌≤◌, Bool, true, false, cond, not, ◌&&◌, ◌||◌, List, length, slice_index_or, Option, Some, None, All, AllPairs, Contains}
+use Rattle.overlay_geom.specs.Plane.{Point, Step, Edge, point_lt, point_eq, edge_of}
 use Rattle.overlay_plane.specs.Nodes.{turns_left}
 use Rattle.overlay_plane.specs.Turn.{Hand, is_met_before, no_step}
 
@@ -33,14 +33,24 @@ comes_first comes_before (Some k) i = comes_before i k
 abbrev pub first_so_far : (ℕ → Bool) → (ℕ → ℕ → Bool) → Option ℕ → ℕ → Option ℕ
 first_so_far is_open comes_before found i = cond (is_open i && comes_first comes_before found i) (Some i) found
 
--- the edge of s starts in a smaller point than that of t, or in the same and leads to the left of it
-abbrev pub starts_before : Step → Step → Bool
-starts_before s t =
-    point_lt (edge_of s).a (edge_of t).a || (point_eq (edge_of s).a (edge_of t).a && turns_left (edge_of t) (edge_of s))
+-- the edge e starts in a smaller point than f, or in the same and leads to the left of it
+abbrev pub starts_before : Edge → Edge → Bool
+starts_before e f = point_lt e.a f.a || (point_eq e.a f.a && turns_left f e)
 
--- the same of the steps at two places
+-- so does the edge of the step at place j before that of the step at place k
 abbrev pub is_place_started_before : List Step → ℕ → ℕ → Bool
-is_place_started_before ss j k = starts_before (step_at ss j) (step_at ss k)
+is_place_started_before ss j k = starts_before (edge_of (step_at ss j)) (edge_of (step_at ss k))
+
+-- the places of the steps, by where their edges start
+pub record ArePlacesByStart (ss : List Step) (places : List ℕ) : Type 0 where
+  pub within : All (λ k. k < length ss) places
+  pub all : (k : ℕ) → k < length ss → Contains places k
+  pub order : AllPairs (λ j k. is_place_started_before ss k j ≡ false) places
+
+-- of the places in the list none of the first n is open
+pub record ArePassed (marks : List Bool) (places : List ℕ) (n : ℕ) : Type 0 where
+  pub within : n ≤ length places
+  pub shut : (i : ℕ) → i < n → is_open marks (slice_index_or places i 0) ≡ false
 
 -- the places of the steps that leave the point are those from low up to high
 pub record IsRun (ss : List Step) (p : Point) (low high : ℕ) : Type 0 where

@@ -1,18 +1,18 @@
--- Edges of walks as whole numbers, each an entry of a sweep whose value is the index of the walk.
+-- Numbered edges as whole numbers, each an entry of a sweep whose value is the number: those of walks have the index of the walk.
 use Rattle.std.specs.Prelude.{◌≡◌, ℕ, Bool, false, ℤ, List, map, All, AllPairs, Contains, slice_get, slice_index_or, Option, None, Some}
 use Rattle.overlay_geom.specs.Plane.{Step, Edge, edge_eq}
 use Rattle.overlay_geom.specs.Points.{plain_point}
 use Rattle.overlay_plane.specs.Anchors.{IsAnchor, is_anchored_before}
 use Rattle.overlay_plane.specs.Binding.{filled_above_edges, all_filled_above}
 use Rattle.overlay_scan.specs.Scan.{Entry}
-use Rattle.overlay_walk.specs.declared.walk_edge.WalkEdge.{WalkEdge}
+use Rattle.overlay_walk.specs.declared.numbered_edge.NumberedEdge.{NumberedEdge}
 
 -- the entry at an edge's numbers, and those of a list
-abbrev pub walk_entry : {I W U : Type 0} {i w u : _} → (I → ℤ) → WalkEdge I W U i w u → Entry ℕ
-walk_entry whole e = record { edge = record { a = plain_point whole e.a; b = plain_point whole e.b }; value = e.walk }
+abbrev pub numbered_entry : {I W U : Type 0} {i w u : _} → (I → ℤ) → NumberedEdge I W U i w u → Entry ℕ
+numbered_entry whole e = record { edge = record { a = plain_point whole e.a; b = plain_point whole e.b }; value = e.number }
 
-abbrev pub walk_entries : {I W U : Type 0} {i w u : _} → (I → ℤ) → List (WalkEdge I W U i w u) → List (Entry ℕ)
-walk_entries whole es = map (walk_entry whole) es
+abbrev pub numbered_entries : {I W U : Type 0} {i w u : _} → (I → ℤ) → List (NumberedEdge I W U i w u) → List (Entry ℕ)
+numbered_entries whole es = map (numbered_entry whole) es
 
 -- no edge is anchored before one that stands before it
 abbrev pub IsByAnchor : List (Entry ℕ) → Type 0

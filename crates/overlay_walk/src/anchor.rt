@@ -4,13 +4,13 @@ ghost use Rattle.std.specs.Prelude.{◌≡◌, ◌<◌, length, All, IfOk, IsOkU
 ghost use Rattle.overlay_plane.specs.Anchors.{IsAnchor};
 ghost use Rattle.overlay_plane.specs.Contours.{IsContour};
 ghost use Rattle.overlay_walk.specs.Steps.{plain_steps, IsLong};
-ghost use Rattle.overlay_walk.specs.WalkEdges.{walk_entry, walk_entries, AreHoleEntries};
+ghost use Rattle.overlay_walk.specs.WalkEdges.{numbered_entry, numbered_entries, AreHoleEntries};
 ghost use Rattle.overlay_walk.specs.Walks.{plain_walks};
 
 use crate::by_anchor::{compare_anchors, sort_by_anchor};
 use crate::filled::edge_along;
+use crate::numbered_edge::NumberedEdge;
 use crate::step::Step;
-use crate::walk_edge::WalkEdge;
 use overlay_geom::error::OverlayError;
 use overlay_geom::number::IntNumber;
 use std::alloc::Allocator;
@@ -21,11 +21,11 @@ pub fn hole_anchors<I: IntNumber, A: Allocator>(
     alloc: A,
     walks: &[Vec<Step<I>, A>],
     known: &[Option<usize>],
-) -> Result<Vec<WalkEdge<I>, A>, OverlayError>
+) -> Result<Vec<NumberedEdge<I>, A>, OverlayError>
     requires long { All (All (IsLong I.limit)) (plain_walks I.whole walks.now) }
     requires contours { All IsContour (plain_walks I.whole walks.now) }
     requires known { length known.now ≡ length walks.now }
-    ensures ok { IfOk result (λ v. AreHoleEntries (plain_walks I.whole walks.now) known.now (walk_entries I.whole v.items)) }
+    ensures ok { IfOk result (λ v. AreHoleEntries (plain_walks I.whole walks.now) known.now (numbered_entries I.whole v.items)) }
     ensures err { IsOkUnless result OverlayError.Memory }
 {
     let mut anchors = Vec::new(alloc);
@@ -39,11 +39,11 @@ pub fn hole_anchors<I: IntNumber, A: Allocator>(
 }
 
 /// The anchor of a walk with this index: the lowest of its edges at its leftmost lowest point.
-fn anchor_of<I: IntNumber>(walk: &[Step<I>], index: usize) -> WalkEdge<I>
+fn anchor_of<I: IntNumber>(walk: &[Step<I>], index: usize) -> NumberedEdge<I>
     requires some { 0 < length walk.now }
     requires long { All (IsLong I.limit) (plain_steps I.whole walk.now) }
-    ensures index { (walk_entry I.whole result).value ≡ index }
-    ensures anchor { IsAnchor (plain_steps I.whole walk.now) (walk_entry I.whole result).edge }
+    ensures index { (numbered_entry I.whole result).value ≡ index }
+    ensures anchor { IsAnchor (plain_steps I.whole walk.now) (numbered_entry I.whole result).edge }
 {
     let mut anchor = edge_along(&walk[0], index);
     for i in 1..walk.len() {

@@ -5,10 +5,10 @@ ghost use Rattle.overlay_geom.specs.Plane.{edge_of};
 ghost use Rattle.overlay_plane.specs.Binding.{is_hole};
 ghost use Rattle.overlay_plane.specs.Contours.{is_filled_above};
 ghost use Rattle.overlay_walk.specs.Steps.{plain_step, plain_steps, is_on_left, IsLong};
-ghost use Rattle.overlay_walk.specs.WalkEdges.{walk_entry};
+ghost use Rattle.overlay_walk.specs.WalkEdges.{numbered_entry};
 
+use crate::numbered_edge::NumberedEdge;
 use crate::step::{Step, is_forward};
-use crate::walk_edge::WalkEdge;
 use overlay_arrange::options::ContourDirection;
 use overlay_geom::number::IntNumber;
 
@@ -33,23 +33,23 @@ pub fn is_hole<I: IntNumber>(walk: &[Step<I>], direction: ContourDirection) -> b
     }
 }
 
-/// The edge along which a step of the walk with this index leads.
-pub(crate) fn edge_along<I: IntNumber>(step: &Step<I>, walk: usize) -> WalkEdge<I>
+/// The edge along which a step leads, with a number.
+pub(crate) fn edge_along<I: IntNumber>(step: &Step<I>, number: usize) -> NumberedEdge<I>
     requires { IsLong I.limit (plain_step I.whole step.now) }
-    ensures { walk_entry I.whole result ≡ record { edge = edge_of (plain_step I.whole step.now); value = walk } }
+    ensures { numbered_entry I.whole result ≡ record { edge = edge_of (plain_step I.whole step.now); value = number } }
 {
     let Step { from, to, .. } = *step;
     if is_forward(step) {
-        WalkEdge {
+        NumberedEdge {
             a: from,
             b: to,
-            walk,
+            number,
         }
     } else {
-        WalkEdge {
+        NumberedEdge {
             a: to,
             b: from,
-            walk,
+            number,
         }
     }
 }

@@ -1,76 +1,77 @@
-//! The step along the top edge at the leftmost lowest point of steps.
+//! The places of steps by where their edges start, and the first of them that is not taken.
 
-ghost use Rattle.std.specs.Prelude.{◌≡◌, ◌<◌, length, All, IfSome};
-ghost use Rattle.overlay_walk.specs.Places.{is_open, is_place_started_before, starts_before};
-ghost use Rattle.overlay_walk.specs.Places.{comes_first, first_so_far, IsFirstOf};
-ghost use Rattle.overlay_walk.specs.Steps.{plain_step, plain_steps, IsLong};
+ghost use Rattle.std.specs.Prelude.{◌≡◌, ◌<◌, true, length, map, slice_index_or, All, IfOk, IsOkUnless};
+ghost use Rattle.overlay_walk.specs.Places.{is_open, ArePassed, ArePlacesByStart};
+ghost use Rattle.overlay_walk.specs.Starts.{HaveEdges};
+ghost use Rattle.overlay_walk.specs.Steps.{plain_steps, IsLong};
+ghost use Rattle.overlay_walk.specs.WalkEdges.{numbered_entries};
 
+use crate::by_start::sort_by_start;
+use crate::filled::edge_along;
 use crate::marks::is_open;
-use crate::step::{Step, ends_of};
-use overlay_arrange::edge::compare_points;
-use overlay_geom::number::{IntNumber, WideIntNumber};
-use overlay_geom::vector::cross_at;
-use std::cmp::Ordering;
+use crate::numbered_edge::NumberedEdge;
+use crate::step::Step;
+use overlay_geom::error::OverlayError;
+use overlay_geom::number::IntNumber;
+use std::alloc::Allocator;
 
-/// The place of the step along the top edge at the leftmost lowest point of the steps that are not
-/// taken, or None where all are.
-pub fn place_of_start<I: IntNumber>(steps: &[Step<I>], taken: &[bool]) -> Option<usize>
-    requires marks { length taken.now ≡ length steps.now }
-    requires long { All (IsLong I.limit) (plain_steps I.whole steps.now) }
-    ensures { IsFirstOf (is_open taken.now) (is_place_started_before (plain_steps I.whole steps.now)) 0 (length steps.now) result }
-{
-    let mut found = None;
-    for i in 0..steps.len() {
-        found = first_of(steps, taken, found, i);
-    }
-    found
-}
-
-/// A place where it is open and its step starts before the one found so far, else that one.
-fn first_of<I: IntNumber>(
+/// The places of the steps, by where their edges start: by the smaller ends, and those from one point
+/// from the top edge down. The only refusal is `Memory`.
+pub fn places_by_start<I: IntNumber, A: Allocator + Clone>(
+    alloc: A,
     steps: &[Step<I>],
-    taken: &[bool],
-    found: Option<usize>,
-    place: usize,
-) -> Option<usize>
-    requires marks { length taken.now ≡ length steps.now }
-    requires place { place < length steps.now }
-    requires found { IfSome found (λ k. k < length steps.now) }
-    requires long { All (IsLong I.limit) (plain_steps I.whole steps.now) }
-    ensures { result ≡ first_so_far (is_open taken.now) (is_place_started_before (plain_steps I.whole steps.now)) found place }
+) -> Result<Vec<usize, A>, OverlayError>
+    requires { All (IsLong I.limit) (plain_steps I.whole steps.now) }
+    ensures ok { IfOk result (λ v. ArePlacesByStart (plain_steps I.whole steps.now) v.items) }
+    ensures err { IsOkUnless result OverlayError.Memory }
 {
-    if is_open(taken, place) && is_start_of(steps, found, place) {
-        Some(place)
-    } else {
-        found
-    }
+    let mut edges = edges_along(alloc.clone()?, steps)?;
+    sort_by_start(&mut edges)?;
+    numbers_of(alloc, &edges)
 }
 
-/// Whether the step at a place starts before the one found so far, if there is one.
-fn is_start_of<I: IntNumber>(steps: &[Step<I>], found: Option<usize>, place: usize) -> bool
-    requires place { place < length steps.now }
-    requires found { IfSome found (λ k. k < length steps.now) }
-    requires long { All (IsLong I.limit) (plain_steps I.whole steps.now) }
-    ensures { result ≡ comes_first (is_place_started_before (plain_steps I.whole steps.now)) found place }
+/// The edges of the steps, each with its step's place.
+fn edges_along<I: IntNumber, A: Allocator>(
+    alloc: A,
+    steps: &[Step<I>],
+) -> Result<Vec<NumberedEdge<I>, A>, OverlayError>
+    requires { All (IsLong I.limit) (plain_steps I.whole steps.now) }
+    ensures ok { IfOk result (λ v. HaveEdges (plain_steps I.whole steps.now) (length steps.now) (numbered_entries I.whole v.items)) }
+    ensures err { IsOkUnless result OverlayError.Memory }
 {
-    match found {
-        Some(k) => starts_before(steps[place], steps[k]),
-        None => true,
+    let mut edges = Vec::with_capacity(alloc, steps.len())?;
+    for place in 0..steps.len() {
+        edges.push(edge_along(&steps[place], place))?;
     }
+    Ok(edges)
 }
 
-/// Whether the edge of a step starts in a smaller point than that of another one, or in the same
-/// point and leads to the left of it.
-pub fn starts_before<I: IntNumber>(s: Step<I>, t: Step<I>) -> bool
-    requires s { IsLong I.limit (plain_step I.whole s) }
-    requires t { IsLong I.limit (plain_step I.whole t) }
-    ensures { result ≡ starts_before (plain_step I.whole s) (plain_step I.whole t) }
+/// The numbers of the edges, in their order.
+fn numbers_of<I: IntNumber, A: Allocator>(
+    alloc: A,
+    edges: &[NumberedEdge<I>],
+) -> Result<Vec<usize, A>, OverlayError>
+    ensures ok { IfOk result (λ v. v.items ≡ map (λ f. f.value) (numbered_entries I.whole edges.now)) }
+    ensures err { IsOkUnless result OverlayError.Memory }
 {
-    let (a, b) = ends_of(s);
-    let (start, end) = ends_of(t);
-    match compare_points(a, start) {
-        Ordering::Less => true,
-        Ordering::Equal => cross_at(a, end, b).sign().is_gt(),
-        Ordering::Greater => false,
+    let mut numbers = Vec::with_capacity(alloc, edges.len())?;
+    for edge in edges {
+        numbers.push(edge.number)?;
     }
+    Ok(numbers)
+}
+
+/// How many of the places are taken, up to the first open one, where those up to a number of them are.
+pub fn first_open(places: &[usize], taken: &[bool], passed: usize) -> usize
+    requires within { All (λ k. k < length taken.now) places.now }
+    requires passed { ArePassed taken.now places.now passed }
+    ensures passed { ArePassed taken.now places.now result }
+    ensures open { result < length places.now → is_open taken.now (slice_index_or places.now result 0) ≡ true }
+{
+    for i in passed..places.len() {
+        if is_open(taken, places[i]) {
+            return i;
+        }
+    }
+    places.len()
 }

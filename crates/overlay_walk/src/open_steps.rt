@@ -12,7 +12,7 @@ ghost use Rattle.overlay_walk.specs.Steps.{plain_hand, plain_step, plain_steps};
 ghost use Rattle.overlay_walk.specs.Steps.{IsByStart, IsLong};
 
 use crate::hand::Hand;
-use crate::leftmost::place_of_start;
+use crate::leftmost::{first_open, places_by_start};
 use crate::next::place_of_next;
 use crate::step::Step;
 use overlay_arrange::edge::compare_points;
@@ -28,19 +28,23 @@ pub struct OpenSteps<I: IntNumber, A: Allocator> {
     steps: Vec<Step<I>, A>,
     // which of them a walk has taken
     taken: Vec<bool, A>,
+    // their places, by where their edges start
+    places: Vec<usize, A>,
+    // how many of these places are known to be taken, from the first one on
+    passed: usize,
 }
 
 impl<I: IntNumber, A: Allocator> Model for OpenSteps<I, A> {
-    ghost use Rattle.std.specs.Prelude.{◌≡◌, List, length, All};
+    ghost use Rattle.std.specs.Prelude.{List};
     ghost use Rattle.overlay_walk.specs.declared.step.Step.{Step};
-    ghost use Rattle.overlay_walk.specs.Steps.{plain_steps, IsByStart, IsLong, unmarked};
+    ghost use Rattle.overlay_walk.specs.Kept.{AreKept};
+    ghost use Rattle.overlay_walk.specs.Steps.{unmarked};
 
     ghost Value = { List (Step I) };
 
     ghost view = { λ o. unmarked o.steps.items o.taken.items };
 
-    ghost invariant = { λ o. (length o.taken.items ≡ length o.steps.items)
-        × (IsByStart (plain_steps I.whole o.steps.items) × All (IsLong I.limit) (plain_steps I.whole o.steps.items)) };
+    ghost invariant = { λ o. AreKept I.whole I.limit o.steps.items o.taken.items o.places.items o.passed };
 }
 
 impl<I: IntNumber, A: Allocator> OpenSteps<I, A> {
@@ -55,13 +59,17 @@ impl<I: IntNumber, A: Allocator> OpenSteps<I, A> {
 
     /// The step along the top edge at the leftmost lowest point of the steps left, or None where
     /// none is left.
-    pub fn start(&self) -> Option<Step<I>>
-        ensures none { (result ≡ None) ↔ (self.now ≡ []) }
-        ensures some { IfSome result (λ s. Contains self.now s) }
-        ensures start { IfSome result (λ s. IsStart (plain_steps I.whole self.now) (plain_step I.whole s)) }
+    pub fn start(&mut self) -> Option<Step<I>>
+        ensures none { (result ≡ None) ↔ (self.old ≡ []) }
+        ensures some { IfSome result (λ s. Contains self.old s) }
+        ensures start { IfSome result (λ s. IsStart (plain_steps I.whole self.old) (plain_step I.whole s)) }
+        ensures left { self.new ≡ self.old }
     {
-        let place = place_of_start(&self.steps, &self.taken)?;
-        Some(self.steps[place])
+        self.passed = first_open(&self.places, &self.taken, self.passed);
+        if self.passed == self.places.len() {
+            return None;
+        }
+        Some(self.steps[self.places[self.passed]])
     }
 
     // Takes the next step by a hand after a step at whose end the steps left go on.
@@ -93,9 +101,15 @@ impl<I: IntNumber, A: Allocator + Clone> OpenSteps<I, A> {
         ensures err { IsOkUnless result OverlayError.Memory }
     {
         sort_steps(&mut steps)?;
+        let places = places_by_start(steps.allocator().clone()?, &steps)?;
         let mut taken = Vec::new(steps.allocator().clone()?);
         taken.resize(steps.len(), false)?;
-        Ok(OpenSteps { steps, taken })
+        Ok(OpenSteps {
+            steps,
+            taken,
+            places,
+            passed: 0,
+        })
     }
 
     /// Takes the orbit of a step by a hand, in the steps left: each next step is the one that a ray

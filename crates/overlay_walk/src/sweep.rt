@@ -12,13 +12,13 @@ ghost use Rattle.overlay_scan.specs.Scan.{empty_sweep, live_at, moved_to, value_
 ghost use Rattle.overlay_scan.specs.Scan.{IsAsked, IsSweep, MayMoveTo, MeetsOthers};
 ghost use Rattle.overlay_walk.specs.Parents.{IsSwept, IsToldAt};
 ghost use Rattle.overlay_walk.specs.Steps.{is_on_left, IsLong};
-ghost use Rattle.overlay_walk.specs.WalkEdges.{walk_entry, walk_entries, IsByAnchor};
+ghost use Rattle.overlay_walk.specs.WalkEdges.{numbered_entry, numbered_entries, IsByAnchor};
 ghost use Rattle.overlay_walk.specs.Walks.{plain_walks};
 
 use crate::anchor::hole_anchors;
 use crate::filled_edges::filled_edges;
+use crate::numbered_edge::NumberedEdge;
 use crate::step::Step;
-use crate::walk_edge::WalkEdge;
 use overlay_arrange::options::ContourDirection;
 use overlay_geom::error::OverlayError;
 use overlay_geom::number::IntNumber;
@@ -54,7 +54,7 @@ pub fn parents_by_sweep<I: IntNumber, A: Allocator + Clone, S: Scan<I, usize>>(
     for hole in &anchors {
         from = insert_up_to(scan, &edges, from, hole.a.x)?;
         let below = walk_below(scan, hole, walks.len());
-        parents[hole.walk] = shape_at(known, &parents, below);
+        parents[hole.number] = shape_at(known, &parents, below);
     }
     Ok(parents)
 }
@@ -63,18 +63,18 @@ pub fn parents_by_sweep<I: IntNumber, A: Allocator + Clone, S: Scan<I, usize>>(
 /// first edge that starts to the right of x. The only refusal is `Memory`.
 fn insert_up_to<I: IntNumber, S: Scan<I, usize>>(
     scan: &mut S,
-    edges: &[WalkEdge<I>],
+    edges: &[NumberedEdge<I>],
     from: usize,
     x: I,
 ) -> Result<usize, OverlayError>
     requires from { from ≤ length edges.now }
-    requires order { IsByAnchor (walk_entries I.whole edges.now) }
-    requires distinct { AllPairs (λ f g. edge_eq f.edge g.edge ≡ false) (walk_entries I.whole edges.now) }
-    requires settled { IsSettledBy (λ f. f.edge) (walk_entries I.whole edges.now) }
-    requires swept { IsSwept I.limit (I.whole x) (take from (walk_entries I.whole edges.now)) (S.content scan.old) }
+    requires order { IsByAnchor (numbered_entries I.whole edges.now) }
+    requires distinct { AllPairs (λ f g. edge_eq f.edge g.edge ≡ false) (numbered_entries I.whole edges.now) }
+    requires settled { IsSettledBy (λ f. f.edge) (numbered_entries I.whole edges.now) }
+    requires swept { IsSwept I.limit (I.whole x) (take from (numbered_entries I.whole edges.now)) (S.content scan.old) }
     ensures within { IfOk result (λ n. n ≤ length edges.now) }
-    ensures swept { IfOk result (λ n. IsSwept I.limit (I.whole x) (take n (walk_entries I.whole edges.now)) (S.content scan.new)) }
-    ensures rest { IfOk result (λ n. All (λ f. I.whole x <ℤ f.edge.a.x) (drop n (walk_entries I.whole edges.now))) }
+    ensures swept { IfOk result (λ n. IsSwept I.limit (I.whole x) (take n (numbered_entries I.whole edges.now)) (S.content scan.new)) }
+    ensures rest { IfOk result (λ n. All (λ f. I.whole x <ℤ f.edge.a.x) (drop n (numbered_entries I.whole edges.now))) }
     ensures err { IsOkUnless result OverlayError.Memory }
 {
     for i in from..edges.len() {
@@ -83,7 +83,7 @@ fn insert_up_to<I: IntNumber, S: Scan<I, usize>>(
             return Ok(i);
         }
         if x.compare(e.b.x).is_lt() {
-            scan.insert([e.a, e.b], e.walk, x)?;
+            scan.insert([e.a, e.b], e.number, x)?;
         }
     }
     Ok(edges.len())
@@ -93,14 +93,14 @@ fn insert_up_to<I: IntNumber, S: Scan<I, usize>>(
 /// edge is.
 fn walk_below<I: IntNumber, S: Scan<I, usize>>(
     scan: &mut S,
-    anchor: &WalkEdge<I>,
+    anchor: &NumberedEdge<I>,
     none: usize,
 ) -> usize
     requires state { IsSweep I.limit (S.content scan.old) }
     requires moves { MayMoveTo (I.whole anchor.now.a.x) (S.content scan.old) }
-    requires asked { IsAsked I.limit (I.whole anchor.now.a.x) (walk_entry I.whole anchor.now).edge }
-    requires meets { MeetsOthers (walk_entry I.whole anchor.now).edge (live_at (I.whole anchor.now.a.x) (S.content scan.old).entries) }
-    ensures value { result ≡ value_below none (walk_entry I.whole anchor.now).edge
+    requires asked { IsAsked I.limit (I.whole anchor.now.a.x) (numbered_entry I.whole anchor.now).edge }
+    requires meets { MeetsOthers (numbered_entry I.whole anchor.now).edge (live_at (I.whole anchor.now.a.x) (S.content scan.old).entries) }
+    ensures value { result ≡ value_below none (numbered_entry I.whole anchor.now).edge
         (live_at (I.whole anchor.now.a.x) (S.content scan.old).entries) }
     ensures content { S.content scan.new ≡ moved_to (I.whole anchor.now.a.x) (S.content scan.old) }
     ensures state { IsSweep I.limit (S.content scan.new) }

@@ -11,7 +11,7 @@ use std::test::Fail;
 // Among no steps there is no start; a buffer takes the list over.
 fn check_none<I: IntNumber>(rt: &impl Abort, alloc: Global) -> Result<(), OverlayError> {
     let buffer: BooleanExtractionBuffer<I, Global> = BooleanExtractionBuffer::default(alloc);
-    let open = OpenSteps::new(buffer.into_room())?;
+    let mut open = OpenSteps::new(buffer.into_room())?;
     assert!(rt; open.start().is_none());
     let buffer = BooleanExtractionBuffer::new(open.into_room());
     assert_eq!(rt; buffer.into_room().len(), 0);

@@ -9,7 +9,7 @@ use Rattle.overlay_plane.proofs.AnchorOrder.{anchored_before-itself}
 use Rattle.overlay_plane.proofs.Entries.{Contains-map}
 use Rattle.overlay_scan.specs.Scan.{Entry}
 use Rattle.overlay_walk.specs.Steps.{plain_step, plain_steps, IsLong}
-use Rattle.overlay_walk.specs.WalkEdges.{walk_entry}
+use Rattle.overlay_walk.specs.WalkEdges.{numbered_entry}
 use Rattle.overlay_walk.proofs.AnchorsFound.{NotBefore, anchor_found, still_first}
 use Rattle.overlay_walk.proofs.anchor.anchor_of.Goals as goal
 use Rattle.overlay_walk.proofs.anchor.anchor_of.Goals.{then-is_lt, else-is_lt}
@@ -29,7 +29,7 @@ loop-i-init g c =
     let whole = g.I.IntNumber.whole in
     let walk = c.args.walk.now in
     let step = plain_step whole c.index-walk-0.result in
-    let e : Edge = (walk_entry whole c.edge_along-anchor.result).edge in
+    let e : Edge = (numbered_entry whole c.edge_along-anchor.result).edge in
     let is : e ≡ edge_of step = ap (λ (x : Entry ℕ). x.edge) c.edge_along-anchor.ensures in (
       ap (λ (x : Entry ℕ). x.value) c.edge_along-anchor.ensures,
       subst (Contains (map edge_of (plain_steps whole walk))) (sym is) (Contains-map edge_of (plain_steps whole walk) step
@@ -44,8 +44,8 @@ loop-i-preserved g c =
     let walk = c.args.walk.now in
     let i = c.loop-i.i in
     let step = plain_step whole c.index-walk-i.result in
-    let e : Edge = (walk_entry whole c.loop-i.anchor).edge in
-    let f : Edge = (walk_entry whole c.edge_along-edge.result).edge in
+    let e : Edge = (numbered_entry whole c.loop-i.anchor).edge in
+    let f : Edge = (numbered_entry whole c.edge_along-edge.result).edge in
     let is : f ≡ edge_of step = ap (λ (x : Entry ℕ). x.edge) c.edge_along-edge.ensures in
     let told = sym c.compare_anchors.ensures ∙ sym c.is_lt.ensures in
     elim c.if-is_lt.branch [
@@ -74,6 +74,6 @@ pub returns-clause-anchor : goal.returns-clause-anchor
 returns-clause-anchor g c =
     let whole = g.I.IntNumber.whole in
     let steps = plain_steps whole c.args.walk.now in
-    let e : Edge = (walk_entry whole c.loop-i.anchor).edge in
+    let e : Edge = (numbered_entry whole c.loop-i.anchor).edge in
     anchor_found steps (λ s at. (All-contains (IsLong g.I.IntNumber.limit) steps s c.requires.long at).apart) e c.loop-i.invariant.1
     (subst (All (NotBefore e)) (mapped_whole (plain_step whole) c.args.walk.now c.loop-i.i c.loop-i-test.false) c.loop-i.invariant.2)

@@ -4,7 +4,7 @@ use Rattle.std.proofs.lemmas.List.{length-map, map-append}
 use Rattle.std.proofs.lemmas.List.Sorted.{IsPermutation-map}
 use Rattle.overlay_plane.specs.Contours.{IsContour}
 use Rattle.overlay_walk.specs.Steps.{plain_step, plain_steps}
-use Rattle.overlay_walk.specs.WalkEdges.{walk_entry, walk_entries}
+use Rattle.overlay_walk.specs.WalkEdges.{numbered_entry, numbered_entries}
 use Rattle.overlay_walk.specs.Walks.{plain_walks}
 use Rattle.overlay_walk.proofs.HoleEntries.{none_from_test, some_from_test, HaveHoles, hole_pushed, known_passed, holes_sorted}
 use Rattle.overlay_walk.proofs.WalksRead.{walk_at, walk_has, long_walk}
@@ -29,28 +29,28 @@ loop-i-preserved g c =
     let known = c.args.known.now in
     let walks = plain_walks whole c.args.walks.now in
     let i = c.loop-i.i in
-    let hs = walk_entries whole c.loop-i.anchors.items in
+    let hs = numbered_entries whole c.loop-i.anchors.items in
     elim c.if-is_none.branch [
       | then-is_none+in_ok-push w ↦
-          let h = walk_entry whole w.anchor_of.result in
-          let items = ap (λ (v : _). walk_entries whole v.items) w.anchors-is ∙ ap (walk_entries whole) w.in_ok-push.ensures.items
-          ∙ map-append (walk_entry whole) c.loop-i.anchors.items (w.anchor_of.result ∷ []) in
+          let h = numbered_entry whole w.anchor_of.result in
+          let items = ap (λ (v : _). numbered_entries whole v.items) w.anchors-is ∙ ap (numbered_entries whole) w.in_ok-push.ensures.items
+          ∙ map-append (numbered_entry whole) c.loop-i.anchors.items (w.anchor_of.result ∷ []) in
           subst (HaveHoles walks known (i + 1)) (sym items)
           (hole_pushed walks known i hs _ h c.loop-i.invariant
           (walk_at whole c.args.walks.now i w.index-walks-i.result _ c.loop-i-test.true w.index-walks-i.is w.deref.ensures.value)
           (none_from_test (get_or known i None) (c.is_none.ensures ∙ ap not w.if-is_none.true))
           w.anchor_of.ensures.index w.anchor_of.ensures.anchor)
       | else-is_none w ↦
-          subst (HaveHoles walks known (i + 1)) (sym (ap (λ (v : _). walk_entries whole v.items) w.anchors-is))
+          subst (HaveHoles walks known (i + 1)) (sym (ap (λ (v : _). numbered_entries whole v.items) w.anchors-is))
           (known_passed walks known i hs c.loop-i.invariant (some_from_test (get_or known i None) (c.is_none.ensures ∙ ap not w.if-is_none.false)))
     ]
 
 pub returns-clause-ok : goal.returns-clause-ok
 returns-clause-ok g c =
     let whole = g.I.IntNumber.whole in
-    holes_sorted (plain_walks whole c.args.walks.now) c.args.known.now c.loop-i.i (walk_entries whole c.loop-i.anchors.items)
-    (walk_entries whole c.sort_by_anchor.new.edges.items)
+    holes_sorted (plain_walks whole c.args.walks.now) c.args.known.now c.loop-i.i (numbered_entries whole c.loop-i.anchors.items)
+    (numbered_entries whole c.sort_by_anchor.new.edges.items)
     (let past = c.loop-i-test.false in let end = c.loop-i.auto.i-end in omega (arith, length-map c.args.walks.now (λ w. plain_steps whole w.items)))
     c.loop-i.invariant
-    (IsPermutation-map (walk_entry whole) c.loop-i.anchors.items c.sort_by_anchor.new.edges.items c.in_ok-sort_by_anchor.ensures.permutation)
+    (IsPermutation-map (numbered_entry whole) c.loop-i.anchors.items c.sort_by_anchor.new.edges.items c.in_ok-sort_by_anchor.ensures.permutation)
     c.in_ok-sort_by_anchor.ensures.order

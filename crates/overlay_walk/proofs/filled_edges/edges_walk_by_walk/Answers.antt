@@ -2,7 +2,7 @@
 use Rattle.std.proofs.Common.{◌+◌, sym, subst}
 use Rattle.std.proofs.lemmas.Option.{get_or_from_slice_get, slice_get_within}
 use Rattle.overlay_walk.specs.Steps.{plain_steps, is_on_left}
-use Rattle.overlay_walk.specs.WalkEdges.{walk_entries}
+use Rattle.overlay_walk.specs.WalkEdges.{numbered_entries}
 use Rattle.overlay_walk.specs.Walks.{plain_walks}
 use Rattle.overlay_walk.proofs.FilledEntries.{HaveFilled, filled_added}
 use Rattle.overlay_walk.proofs.WalksRead.{walk_at, long_walk}
@@ -20,5 +20,5 @@ loop-i-preserved g c =
     let at = walk_at whole c.args.walks.now c.loop-i.i c.index-walks-i.result c.deref.result.now c.loop-i-test.true c.index-walks-i.is c.deref.ensures.value in
     let w = plain_steps whole c.deref.result.now in
     subst (HaveFilled (is_on_left c.args.direction) walks (c.loop-i.i + 1)) (sym c.in_ok-push_filled.ensures.ok)
-    (filled_added (is_on_left c.args.direction) walks c.loop-i.i (walk_entries whole c.loop-i.edges.items) w c.loop-i.invariant
+    (filled_added (is_on_left c.args.direction) walks c.loop-i.i (numbered_entries whole c.loop-i.edges.items) w c.loop-i.invariant
     (slice_get_within walks c.loop-i.i w at) (get_or_from_slice_get walks c.loop-i.i w w at) at)

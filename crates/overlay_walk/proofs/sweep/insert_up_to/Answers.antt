@@ -6,7 +6,7 @@ use Rattle.overlay_geom.proofs.Mapped.{read_mapped}
 use Rattle.overlay_scan.specs.Scan.{Entry}
 use Rattle.overlay_scan.proofs.LinesFit.{line_fits}
 use Rattle.overlay_walk.specs.Parents.{IsSwept}
-use Rattle.overlay_walk.specs.WalkEdges.{walk_entry, walk_entries}
+use Rattle.overlay_walk.specs.WalkEdges.{numbered_entry, numbered_entries}
 use Rattle.overlay_walk.proofs.EntriesByAnchor.{new_among_live, meets_live, over_x, right_of_order}
 use Rattle.overlay_walk.proofs.SweptEntries.{ended, put_in}
 use Rattle.overlay_walk.proofs.sweep.insert_up_to.Goals as goal
@@ -16,10 +16,10 @@ pub returns-then-is_lt-clause-rest : goal.returns-then-is_lt-clause-rest
 returns-then-is_lt-clause-rest g c =
     let whole = g.I.IntNumber.whole in
     let x = whole c.args.x in
-    let e = walk_entry whole c.index-edges-i.result in
-    let es = walk_entries whole c.args.edges.now in
+    let e = numbered_entry whole c.index-edges-i.result in
+    let es = numbered_entries whole c.args.edges.now in
     let inside : c.loop-i.i < length es = rw length-map c.loop-i-test.true in
-    let here = sym (read_mapped (walk_entry whole) c.args.edges.now c.loop-i.i c.index-edges-i.result e c.loop-i-test.true c.index-edges-i.is) in
+    let here = sym (read_mapped (numbered_entry whole) c.args.edges.now c.loop-i.i c.index-edges-i.result e c.loop-i-test.true c.index-edges-i.is) in
     let test : c.is_lt.result ≡ int_lt x e.edge.a.x = rw (c.is_lt.ensures, c.compare.ensures) (is_lt-int_cmp x e.edge.a.x) in
     right_of_order es c.loop-i.i e inside here x c.requires.order (sym test ∙ c.if-is_lt.true)
 
@@ -28,12 +28,12 @@ insert-requires g c =
     let whole = g.I.IntNumber.whole in
     let x = whole c.args.x in
     let limit = g.I.IntNumber.limit in
-    let e = walk_entry whole c.index-edges-i.result in
-    let es = walk_entries whole c.args.edges.now in
+    let e = numbered_entry whole c.index-edges-i.result in
+    let es = numbered_entries whole c.args.edges.now in
     let s = g.S.Scan.content c.loop-i.scan in
     let swept = c.loop-i.invariant in
     let inside : c.loop-i.i < length es = rw length-map c.loop-i-test.true in
-    let here = sym (read_mapped (walk_entry whole) c.args.edges.now c.loop-i.i c.index-edges-i.result e c.loop-i-test.true c.index-edges-i.is) in
+    let here = sym (read_mapped (numbered_entry whole) c.args.edges.now c.loop-i.i c.index-edges-i.result e c.loop-i-test.true c.index-edges-i.is) in
     let starts : c.is_lt.result ≡ int_lt x e.edge.a.x = rw (c.is_lt.ensures, c.compare.ensures) (is_lt-int_cmp x e.edge.a.x) in
     let ends : c.is_lt-in-loop-i.result ≡ int_lt x e.edge.b.x =
     rw (c.is_lt-in-loop-i.ensures, c.compare-in-loop-i.ensures) (is_lt-int_cmp x e.edge.b.x) in (
@@ -59,11 +59,11 @@ loop-i-preserved g c =
     let x = whole c.args.x in
     let limit = g.I.IntNumber.limit in
     let content = g.S.Scan.content in
-    let e = walk_entry whole c.index-edges-i.result in
-    let es = walk_entries whole c.args.edges.now in
+    let e = numbered_entry whole c.index-edges-i.result in
+    let es = numbered_entries whole c.args.edges.now in
     let i = c.loop-i.i in
     let inside : i < length es = rw length-map c.loop-i-test.true in
-    let here = sym (read_mapped (walk_entry whole) c.args.edges.now i c.index-edges-i.result e c.loop-i-test.true c.index-edges-i.is) in
+    let here = sym (read_mapped (numbered_entry whole) c.args.edges.now i c.index-edges-i.result e c.loop-i-test.true c.index-edges-i.is) in
     let more : take (i + 1) es ≡ take i es ++ e ∷ [] = take_more es i e inside ∙ ap (λ (f : Entry ℕ). take i es ++ f ∷ []) (sym here) in
     let ends : c.is_lt-in-loop-i.result ≡ int_lt x e.edge.b.x =
     rw (c.is_lt-in-loop-i.ensures, c.compare-in-loop-i.ensures) (is_lt-int_cmp x e.edge.b.x) in

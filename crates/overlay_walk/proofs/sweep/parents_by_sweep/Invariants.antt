@@ -3,15 +3,15 @@ use Rattle.std.proofs.Common.{◌≡◌, ◌≤◌, length, take, drop}
 use Rattle.std.specs.List.{All}
 use Rattle.overlay_walk.specs.Parents.{IsSwept, IsToldAt}
 use Rattle.overlay_walk.specs.Steps.{is_on_left}
-use Rattle.overlay_walk.specs.WalkEdges.{walk_entries}
+use Rattle.overlay_walk.specs.WalkEdges.{numbered_entries}
 use Rattle.overlay_walk.specs.Walks.{plain_walks}
 use Rattle.overlay_walk.proofs.sweep.parents_by_sweep.Given as goal
 
 abbrev pub invariant-loop-hole : goal.invariant-loop-hole
 invariant-loop-hole g l =
     let whole = g.I.IntNumber.whole in
-    let es = walk_entries whole l.edges.items in
-    let hs = walk_entries whole l.hole-items in
+    let es = numbered_entries whole l.edges.items in
+    let hs = numbered_entries whole l.hole-items in
     (length l.parents.items ≡ length l.walks)
     × (l.from ≤ length l.edges.items)
     × All (λ h. IsSwept g.I.IntNumber.limit h.edge.a.x (take l.from es) (g.S.Scan.content l.scan)) (drop l.hole-index hs)

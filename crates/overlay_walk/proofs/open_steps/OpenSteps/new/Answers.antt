@@ -1,16 +1,34 @@
--- Sorted, the steps are the same ones, and no mark is set.
-use Rattle.std.proofs.Common.{subst, sym, rules}
+-- Sorted, the steps are the same ones, no mark is set, and none is passed.
+use Rattle.std.proofs.Common.{List, subst, sym, rules}
+use Rattle.std.specs.List.{All}
 use Rattle.std.specs.List.Sorted.{IsPermutation}
 use Rattle.std.proofs.lemmas.List.Sorted.{IsPermutation-map, All-permutation}
-use Rattle.overlay_walk.specs.Steps.{plain_step, IsLong}
+use Rattle.overlay_walk.specs.Places.{ArePlacesByStart}
+use Rattle.overlay_walk.specs.Steps.{plain_step, plain_steps, IsLong}
+use Rattle.overlay_walk.specs.declared.step.Step.{Step as StepTaken}
 use Rattle.overlay_walk.proofs.OpenPlaces.{unmarked-cleared}
+use Rattle.overlay_walk.proofs.StartPlaces.{none_passed}
 use Rattle.overlay_walk.proofs.open_steps.OpenSteps.new.Goals as goal
+
+pub places_by_start-requires : goal.places_by_start-requires
+places_by_start-requires g c =
+    let whole = g.I.IntNumber.whole in
+    let kept = IsPermutation-map (plain_step whole) c.args.steps.items c.sort_steps.new.steps.items c.sort_steps.ensures.permutation in
+    subst (λ (ss : List (StepTaken g.row.I.Denot)). All (IsLong g.I.IntNumber.limit) (plain_steps whole ss)) (sym c.deref.ensures.value)
+    (All-permutation (IsLong g.I.IntNumber.limit) _ _ kept c.requires)
 
 pub invariant_of-result : goal.invariant_of-result
 invariant_of-result g c =
     let whole = g.I.IntNumber.whole in
     let kept = IsPermutation-map (plain_step whole) c.args.steps.items c.sort_steps.new.steps.items c.sort_steps.ensures.permutation in
-    (search rules, (c.in_ok-sort_steps.ensures.order, All-permutation (IsLong g.I.IntNumber.limit) _ _ kept c.requires))
+    record {
+      marked = search rules;
+      leaving = c.in_ok-sort_steps.ensures.order;
+      long = All-permutation (IsLong g.I.IntNumber.limit) _ _ kept c.requires;
+      starting = subst (λ (ss : List (StepTaken g.row.I.Denot)). ArePlacesByStart (plain_steps whole ss) c.in_ok-places.places.items) c.deref.ensures.value
+          c.in_ok-places.ensures.ok;
+      passing = none_passed c.resize.new.self.items c.in_ok-places.places.items;
+    }
 
 pub returns-clause-all : goal.returns-clause-all
 returns-clause-all g c =

@@ -8,6 +8,7 @@ use Rattle.overlay_walk.specs.Steps.{plain_hand, plain_step, plain_steps, IsBySt
 use Rattle.overlay_walk.specs.declared.step.Step.{Step as StepTaken}
 use Rattle.overlay_walk.proofs.NextTaken.{some_is_found, found_left, found_next, others_left}
 use Rattle.overlay_walk.proofs.OpenPlaces.{unmarked-fewer}
+use Rattle.overlay_walk.proofs.StartPlaces.{passed_still}
 use Rattle.overlay_walk.proofs.open_steps.OpenSteps.take_next.Goals as goal
 
 -- the place is one of the steps
@@ -16,22 +17,22 @@ place_within : {I : Type 0} (whole : I → ℤ) (steps : List (StepTaken I)) (ma
 place_within whole steps marks hand s m next = omega (arith, next.below, length-map steps (plain_step whole))
 
 pub place_of_next-requires-clause-marks : goal.place_of_next-requires-clause-marks
-place_of_next-requires-clause-marks g c = ap length c.deref-2.ensures.value ∙ c.self.invariant.0 ∙ sym (ap length c.deref.ensures.value)
+place_of_next-requires-clause-marks g c = ap length c.deref-2.ensures.value ∙ c.self.invariant.marked ∙ sym (ap length c.deref.ensures.value)
 
 pub place_of_next-requires-clause-by_start : goal.place_of_next-requires-clause-by_start
 place_of_next-requires-clause-by_start g c =
-    subst (λ (ss : List (StepTaken g.row.I.Denot)). IsByStart (plain_steps g.I.IntNumber.whole ss)) (sym c.deref.ensures.value) c.self.invariant.1.0
+    subst (λ (ss : List (StepTaken g.row.I.Denot)). IsByStart (plain_steps g.I.IntNumber.whole ss)) (sym c.deref.ensures.value) c.self.invariant.leaving
 
 pub place_of_next-requires-clause-long : goal.place_of_next-requires-clause-long
 place_of_next-requires-clause-long g c =
     subst (λ (ss : List (StepTaken g.row.I.Denot)). All (IsLong g.I.IntNumber.limit) (plain_steps g.I.IntNumber.whole ss)) (sym c.deref.ensures.value)
-    c.self.invariant.1.1
+    c.self.invariant.long
 
 pub index_mut-requires : goal.index_mut-requires
 index_mut-requires g c =
     let within = place_within g.I.IntNumber.whole c.self.inside.steps.items c.self.inside.taken.items (plain_hand c.args.hand) (plain_step g.I.IntNumber.whole c.args.step)
     c.in-Some.place (rw (c.deref.ensures.value, c.deref-2.ensures.value) at c.in-Some.ensures) in
-    omega (arith, within, c.self.invariant.0)
+    omega (arith, within, c.self.invariant.marked)
 
 pub index-requires : goal.index-requires
 index-requires g c =
@@ -40,31 +41,38 @@ index-requires g c =
     omega (arith, within, c.self.inside.steps.ok.0)
 
 pub invariant_of-self : goal.invariant_of-self
-invariant_of-self g c = (length-set _ _ _ ∙ c.self.invariant.0, c.self.invariant.1)
+invariant_of-self g c =
+    record {
+      marked = length-set _ _ _ ∙ c.self.invariant.marked;
+      leaving = c.self.invariant.leaving;
+      long = c.self.invariant.long;
+      starting = c.self.invariant.starting;
+      passing = passed_still c.self.inside.taken.items c.self.inside.places.items c.self.inside.passed c.in-Some.place c.self.invariant.passing;
+    }
 
 pub unreachable-requires : goal.unreachable-requires
 unreachable-requires g c =
-    some_is_found g.I.IntNumber.whole c.self.inside.steps.items c.self.inside.taken.items c.self.invariant.0 (plain_hand c.args.hand) (plain_step g.I.IntNumber.whole c.args.step)
+    some_is_found g.I.IntNumber.whole c.self.inside.steps.items c.self.inside.taken.items c.self.invariant.marked (plain_hand c.args.hand) (plain_step g.I.IntNumber.whole c.args.step)
     (rw c.self.view_is c.requires.goes_on) (rw (c.deref.ensures.value, c.deref-2.ensures.value) at c.in-None.ensures)
 
 pub returns-clause-among : goal.returns-clause-among
 returns-clause-among g c =
     rw (← c.self.view_is)
-    (found_left g.I.IntNumber.whole c.self.inside.steps.items c.self.inside.taken.items c.self.invariant.0 (plain_hand c.args.hand) (plain_step g.I.IntNumber.whole c.args.step)
+    (found_left g.I.IntNumber.whole c.self.inside.steps.items c.self.inside.taken.items c.self.invariant.marked (plain_hand c.args.hand) (plain_step g.I.IntNumber.whole c.args.step)
     c.in-Some.place c.index.result.now c.index.ensures (rw (c.deref.ensures.value, c.deref-2.ensures.value) at c.in-Some.ensures))
 
 pub returns-clause-next : goal.returns-clause-next
 returns-clause-next g c =
     rw (← c.self.view_is)
-    (found_next g.I.IntNumber.whole c.self.inside.steps.items c.self.inside.taken.items c.self.invariant.0 (plain_hand c.args.hand) (plain_step g.I.IntNumber.whole c.args.step)
+    (found_next g.I.IntNumber.whole c.self.inside.steps.items c.self.inside.taken.items c.self.invariant.marked (plain_hand c.args.hand) (plain_step g.I.IntNumber.whole c.args.step)
     c.in-Some.place c.index.result.now c.index.ensures (rw (c.deref.ensures.value, c.deref-2.ensures.value) at c.in-Some.ensures))
 
 pub returns-clause-left : goal.returns-clause-left
 returns-clause-left g c =
     rw (← c.self.view_is)
-    (others_left g.I.IntNumber.whole c.self.inside.steps.items c.self.inside.taken.items c.self.invariant.0 (plain_hand c.args.hand) (plain_step g.I.IntNumber.whole c.args.step)
+    (others_left g.I.IntNumber.whole c.self.inside.steps.items c.self.inside.taken.items c.self.invariant.marked (plain_hand c.args.hand) (plain_step g.I.IntNumber.whole c.args.step)
     c.in-Some.place c.index.result.now c.index.ensures (rw (c.deref.ensures.value, c.deref-2.ensures.value) at c.in-Some.ensures)
     (rw c.self.view_is c.requires.once))
 
 pub returns-clause-fewer : goal.returns-clause-fewer
-returns-clause-fewer g c = rw (← c.self.view_is) (unmarked-fewer c.self.inside.steps.items c.self.inside.taken.items c.in-Some.place c.self.invariant.0)
+returns-clause-fewer g c = rw (← c.self.view_is) (unmarked-fewer c.self.inside.steps.items c.self.inside.taken.items c.in-Some.place c.self.invariant.marked)

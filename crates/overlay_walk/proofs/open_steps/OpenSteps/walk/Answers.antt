@@ -16,7 +16,7 @@ loop-walk-init g c =
     let steps = c.self.inside.steps.items in
     let marks = c.self.inside.taken.items in
     let long : All (IsLong limit) (plain_steps whole c.args.self.now) = rw (← c.self.view_is) (subst (All (IsLong limit)) (sym (unmarked-map (plain_step whole) steps marks))
-    (unmarked_hold (IsLong limit) (plain_steps whole steps) marks (c.self.invariant.0 ∙ sym (length-map steps (plain_step whole))) c.self.invariant.1.1)) in
+    (unmarked_hold (IsLong limit) (plain_steps whole steps) marks (c.self.invariant.marked ∙ sym (length-map steps (plain_step whole))) c.self.invariant.long)) in
     rw c.new-walk.ensures.items (begins_taking whole limit c.args.self.now (plain_hand c.args.hand) c.args.start long c.requires.left)
 
 pub take_next-step-requires-clause-once : goal.take_next-step-requires-clause-once

@@ -1,4 +1,4 @@
-//! Edges of walks.
+//! Edges with numbers.
 
 ghost use Rattle.std.specs.Prelude.{◌≡◌, true};
 ghost use Rattle.overlay_geom.specs.Plane.{point_lt};
@@ -7,15 +7,16 @@ ghost use Rattle.overlay_geom.specs.Points.{plain_point, InRange};
 use overlay_geom::number::IntNumber;
 use overlay_geom::point::IntPoint;
 
-/// An edge along which a walk leads, from its smaller to its larger end, and the walk's index.
+/// An edge, from its smaller to its larger end, and the number of what leads along it: of a walk its index,
+/// of a step its place.
 #[derive(Drop)]
-pub struct WalkEdge<I: IntNumber> {
+pub struct NumberedEdge<I: IntNumber> {
     /// Its smaller end.
     pub a: IntPoint<I>,
     /// Its larger end.
     pub b: IntPoint<I>,
-    /// The index of the walk.
-    pub walk: usize,
+    /// The number.
+    pub number: usize,
     pub ghost a_in_range: { InRange I.limit (plain_point I.whole a) },
     pub ghost b_in_range: { InRange I.limit (plain_point I.whole b) },
     pub ghost forward: { point_lt (plain_point I.whole a) (plain_point I.whole b) ≡ true },

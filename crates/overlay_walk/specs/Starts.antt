@@ -1,0 +1,19 @@
+-- The edges of steps, each an entry whose value is the place of its step, and their order by where they start.
+use Rattle.std.specs.Prelude.{◌≡◌, ℕ, ◌<◌, false, List, length, map, All, AllPairs, Contains}
+use Rattle.overlay_geom.specs.Plane.{Step, edge_of}
+use Rattle.overlay_scan.specs.Scan.{Entry}
+use Rattle.overlay_walk.specs.Places.{step_at, starts_before}
+
+-- the entry is the edge of the step at a place, with this place
+pub record IsEdgeAt (ss : List Step) (f : Entry ℕ) : Type 0 where
+  pub below : f.value < length ss
+  pub along : f.edge ≡ edge_of (step_at ss f.value)
+
+-- the entries are edges of the steps, and among them are those at the first n places
+pub record HaveEdges (ss : List Step) (n : ℕ) (fs : List (Entry ℕ)) : Type 0 where
+  pub from : All (IsEdgeAt ss) fs
+  pub all : (k : ℕ) → k < n → Contains (map (λ f. f.value) fs) k
+
+-- no edge starts before one that stands before it
+abbrev pub AreInStartOrder : List (Entry ℕ) → Type 0
+AreInStartOrder fs = AllPairs (λ f g. starts_before g.edge f.edge ≡ false) fs

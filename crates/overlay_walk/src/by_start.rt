@@ -1,0 +1,40 @@
+//! The order of edges by where they start.
+
+ghost use Rattle.std.specs.Prelude.{◌≡◌, OnOk, IsOkUnless};
+ghost use Rattle.std.specs.List.Sorted.{IsPermutation};
+ghost use Rattle.std.specs.Ordering.{is_lt};
+ghost use Rattle.overlay_walk.specs.Places.{starts_before};
+ghost use Rattle.overlay_walk.specs.Starts.{AreInStartOrder};
+ghost use Rattle.overlay_walk.specs.WalkEdges.{numbered_entry, numbered_entries};
+
+use crate::numbered_edge::NumberedEdge;
+use overlay_arrange::edge::compare_points;
+use overlay_geom::error::OverlayError;
+use overlay_geom::number::{IntNumber, WideIntNumber};
+use overlay_geom::vector::cross_at;
+use std::alloc::Allocator;
+use std::cmp::Ordering;
+
+/// Sorts the edges by their smaller ends, and those from one point from the top one down. The only
+/// refusal is `Memory`.
+pub fn sort_by_start<I: IntNumber, A: Allocator>(
+    edges: &mut Vec<NumberedEdge<I>, A>,
+) -> Result<(), OverlayError>
+    ensures permutation { IsPermutation edges.old.items edges.new.items }
+    ensures order { OnOk result (AreInStartOrder (numbered_entries I.whole edges.new.items)) }
+    ensures err { IsOkUnless result OverlayError.Memory }
+{
+    edges.sort_by(|e, f| compare_starts(e, f))?;
+    Ok(())
+}
+
+/// `Less` exactly where the first edge starts in a smaller point than the second, or in the same point
+/// and leads to the left of it.
+pub fn compare_starts<I: IntNumber>(e: &NumberedEdge<I>, f: &NumberedEdge<I>) -> Ordering
+    ensures { is_lt result ≡ starts_before (numbered_entry I.whole e.now).edge (numbered_entry I.whole f.now).edge }
+{
+    match compare_points(e.a, f.a) {
+        Ordering::Equal => cross_at(e.a, e.b, f.b).sign(),
+        other => other,
+    }
+}
