@@ -2,10 +2,8 @@ pub mod AnchorsFound
 pub mod BoundTo
 pub mod BoundWalks
 pub mod CutsOn
-pub mod EntriesByAnchor
 pub mod FilledEntries
 pub mod FirstPlaces
-pub mod HeldAnchors
 pub mod HoleEntries
 pub mod HolesTold
 pub mod InnerProducts
@@ -20,9 +18,7 @@ pub mod Runs
 pub mod SelectedLong
 pub mod Starts
 pub mod Sweeping
-pub mod SweptEntries
 pub mod TakenSteps
-pub mod TiedAnchors
 pub mod WalksOn
 pub mod WalksRead
 pub mod WalksTaken

@@ -1,16 +1,9 @@
 -- What a sweep over walks has told so far.
-use Rattle.std.specs.Prelude.{◌≡◌, ℕ, Bool, true, ℤ, List, Contains, length, slice_get, slice_index_or, Option, None, Some, MatchOption}
+use Rattle.std.specs.Prelude.{◌≡◌, ℕ, Bool, true, List, length, slice_get, slice_index_or, Option, None, Some, MatchOption}
 use Rattle.overlay_geom.specs.Plane.{Step}
 use Rattle.overlay_plane.specs.Binding.{is_hole, outlines}
 use Rattle.overlay_plane.specs.Roles.{IsTold}
-use Rattle.overlay_scan.specs.Scan.{Entry, Sweep, live_at, MayMoveTo, IsSweep}
-
--- the live entries of the sweep are those of the list, at x and from there on
-pub record IsSwept (limit : ℕ) (x : ℤ) (fs : List (Entry ℕ)) (s : Sweep ℕ) : Type 0 where
-  pub state : IsSweep limit s
-  pub moves : MayMoveTo x s
-  pub from : (f : Entry ℕ) → Contains (live_at x s.entries) f → Contains fs f
-  pub all : (f : Entry ℕ) → Contains (live_at x fs) f → Contains (live_at x s.entries) f
+pub use Rattle.overlay_scan.specs.Sweeps.{IsSwept}
 
 -- the number of an outline among the outlines; a hole has none
 abbrev pub IsOutlineNumber : Bool → List (List Step) → List Step → Option ℕ → Type 0
