@@ -30,7 +30,8 @@ pub fn fills_of_edges<I: IntNumber, C: EdgeCount, A: Allocator + Clone>(
         IfOk result (λ v. v.items ≡ map (fill_bits rule es) es) }
     ensures err { IsOkUnless result OverlayError.Memory }
 {
-    if is_balanced(alloc.clone()?, edges)? {
+    let balanced = is_balanced(alloc.clone()?, edges)?;
+    if balanced {
         let mut scan = ScanList::default(alloc.clone()?);
         fills_by_sweep(alloc, &mut scan, edges, rule)
     } else {

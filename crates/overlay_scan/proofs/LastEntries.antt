@@ -1,7 +1,7 @@
 -- The last entry of a list, and of those that pass a test.
 use Rattle.std.proofs.Common.{◌≡◌, ◌⊎◌, inl, inr, Bool, true, ℕ, ◌+◌, ◌-◌, ◌≤◌, List, [], ◌∷◌, ◌++◌, length, map, take, get_or, Option, None, Some, refl, sym, ap, ◌∙◌, subst, arith, pos}
 use Rattle.std.specs.List.{AllPairs, Contains, filter, last_or}
-use Rattle.std.specs.Option.{IfSome}
+use Rattle.std.specs.Option.{IfSome, MatchOption}
 use Rattle.std.proofs.lemmas.List.{take-map}
 use Rattle.std.proofs.lemmas.List.Elements.{All-contains}
 use Rattle.std.proofs.lemmas.List.Kept.{AllPairs-filter}
@@ -47,6 +47,15 @@ last_is R (x ∷ y ∷ ys) pairs f e =
         | inr later ↦ rest.1 g later
       ],
     )
+
+some_last : {X : Type 0} (x : X) (xs : List X) → last_or (Some x) xs ≡ None → ⊥
+some_last x [] none = subst (λ o. MatchOption o ⊥ (λ _. Unit {0})) none tt
+some_last x (y ∷ ys) none = some_last y ys none
+
+-- a list with an item has a last one
+pub no_last : {X : Type 0} (xs : List X) (x : X) → Contains xs x → last_or None xs ≡ None → ⊥
+no_last [] x c none = elim c.1 [ ]
+no_last (y ∷ ys) x c none = some_last y ys none
 
 -- the law of specs/Laws
 pub look_up_gives_the_greatest : (V : Type 0) → LookUpGivesTheGreatest V

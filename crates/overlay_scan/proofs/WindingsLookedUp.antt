@@ -1,7 +1,6 @@
 -- Where live edges stand with the windings above them, the look-up below the start of an edge gives the winding below that edge.
-use Rattle.std.proofs.Common.{◌≡◌, ◌⊎◌, ⊎_elim, inl, inr, Bool, true, false, ℤ, pos, List, [], ◌∷◌, Contains, Option, None, Some, refl, sym, ap, ◌∙◌, subst}
-use Rattle.std.specs.List.{last_or, filter}
-use Rattle.std.specs.Option.{MatchOption}
+use Rattle.std.proofs.Common.{◌≡◌, ◌⊎◌, ⊎_elim, inl, inr, Bool, true, false, ℤ, pos, List, Contains, Option, None, Some, refl, sym, ap, ◌∙◌, subst}
+use Rattle.std.specs.List.{filter}
 use Rattle.std.proofs.lemmas.Bool.{false_from_ne_true}
 use Rattle.overlay_geom.specs.Plane.{Edge, edge_eq}
 use Rattle.overlay_geom.specs.Edges.{CountedEdge, ends_of, winding_below, winding_above}
@@ -14,17 +13,8 @@ use Rattle.overlay_plane.proofs.SingleEntries.{one_entry}
 use Rattle.overlay_scan.specs.Laws.{IsGreatestBelow}
 use Rattle.overlay_scan.specs.Scan.{Entry, IsFromBottomToTop, entry_below, value_or, value_below}
 use Rattle.overlay_scan.specs.Sweeps.{entry_of}
-use Rattle.overlay_scan.proofs.LastEntries.{look_up_gives_the_greatest}
+use Rattle.overlay_scan.proofs.LastEntries.{no_last, look_up_gives_the_greatest}
 use Rattle.overlay_scan.proofs.WindingsBelow.{winding_with_none_below, winding_above_the_greatest}
-
-some_last : {X : Type 0} (x : X) (xs : List X) → last_or (Some x) xs ≡ None → ⊥
-some_last x [] none = subst (λ o. MatchOption o ⊥ (λ _. Unit {0})) none tt
-some_last x (y ∷ ys) none = some_last y ys none
-
--- a list with an item has a last one
-pub no_last : {X : Type 0} (xs : List X) (x : X) → Contains xs x → last_or None xs ≡ None → ⊥
-no_last [] x c none = elim c.1 [ ]
-no_last (y ∷ ys) x c none = some_last y ys none
 
 -- the live entries are those of edges of the list, and among them are all that are below the start of e
 pub record AreLiveEdges {V : Type 0} (value : CountedEdge → V) (es : List CountedEdge) (e : CountedEdge) (live : List (Entry V)) : Type 0 where

@@ -2,10 +2,8 @@ pub mod AnchorsFound
 pub mod BoundTo
 pub mod BoundWalks
 pub mod CutsOn
-pub mod EntriesByAnchor
 pub mod FilledEntries
 pub mod FirstPlaces
-pub mod HeldAnchors
 pub mod HeldStarts
 pub mod HoleEntries
 pub mod HolesTold
@@ -26,9 +24,7 @@ pub mod StartOrder
 pub mod StartPlaces
 pub mod Starts
 pub mod Sweeping
-pub mod SweptEntries
 pub mod TakenSteps
-pub mod TiedAnchors
 pub mod WalksOn
 pub mod WalksRead
 pub mod WalksTaken

@@ -23,19 +23,10 @@ use Rattle.overlay_plane.proofs.Tests.{lt_from_test, test_from_lt, le_from_test}
 use Rattle.overlay_plane.proofs.Under.{under_irreflexive, under_asymmetric}
 use Rattle.overlay_scan.specs.Scan.{Entry, Sweep, live_at, IsOver, AreLive, MeetsOthers, entry_below, value_or, value_below}
 use Rattle.overlay_scan.specs.Laws.{IsGreatestBelow}
-use Rattle.overlay_scan.proofs.LastEntries.{look_up_gives_the_greatest}
+use Rattle.overlay_scan.proofs.LastEntries.{no_last, look_up_gives_the_greatest}
 use Rattle.overlay_walk.specs.Parents.{IsSwept}
 use Rattle.overlay_walk.specs.WalkEdges.{IsFilledEntry, AreFilledEntries}
 use Rattle.overlay_walk.proofs.HoleEntries.{Contains-at}
-
--- a list with an entry has a last one
-some_last : {X : Type 0} (x : X) (xs : List X) → last_or (Some x) xs ≡ None → ⊥
-some_last x [] none = subst (λ o. MatchOption o ⊥ (λ _. Unit {0})) none tt
-some_last x (y ∷ ys) none = some_last y ys none
-
-no_last : {X : Type 0} (xs : List X) (x : X) → Contains xs x → last_or None xs ≡ None → ⊥
-no_last [] x c none = elim c.1 [ ]
-no_last (y ∷ ys) x c none = some_last y ys none
 
 module _ (on_left : Bool) (walks : List (List Step)) (contours : All IsContour walks) (settled : IsSettledBy edge_of (all_steps walks)) where
   -- an edge of a walk: that of a step, which leads forward

@@ -12,7 +12,7 @@ use Rattle.overlay_plane.proofs.Tests.{lt_from_test, test_from_lt}
 use Rattle.overlay_arrange.specs.Content.{point_cmp}
 use Rattle.overlay_arrange.proofs.EdgeOrder.{point_cmp-is_tie}
 use Rattle.overlay_walk.specs.Places.{starts_before}
-use Rattle.overlay_walk.proofs.TiedAnchors.{tied_before}
+use Rattle.overlay_plane.proofs.TiedStarts.{tied_before}
 
 -- the edges start in one point, and the first leads to the left of the second
 abbrev pub is_left_at_start : Edge → Edge → Bool

@@ -12,25 +12,15 @@ use Rattle.overlay_plane.specs.Anchors.{HasEachEdgeOnce}
 use Rattle.overlay_plane.proofs.AnchorsLeadOn.{anchors_lead_on}
 use Rattle.overlay_plane.proofs.Entries.{Contains-flat_map, Contains-from_map}
 use Rattle.overlay_scan.specs.Scan.{Entry, Sweep, empty_sweep, live_at, moved_to, IsSweep, MeetsOthers, value_below}
+pub use Rattle.overlay_scan.proofs.EntriesByStart.{at_front}
+use Rattle.overlay_scan.proofs.EntriesByStart.{after_front, later_starts}
+pub use Rattle.overlay_scan.proofs.SweptEntries.{nothing_swept}
+use Rattle.overlay_scan.proofs.SweptEntries.{moved_on}
 use Rattle.overlay_walk.specs.Parents.{IsSwept, IsToldAt}
 use Rattle.overlay_walk.specs.WalkEdges.{IsFilledEntry, AreFilledEntries, IsHoleEntry, AreHoleEntries}
 use Rattle.overlay_walk.proofs.HoleEntries.{Contains-at}
 use Rattle.overlay_walk.proofs.HolesTold.{shape_of, told_none, told_next, all_told}
-use Rattle.overlay_walk.proofs.EntriesByAnchor.{later_starts}
 use Rattle.overlay_walk.proofs.NextBelow.{filled_walked, walked_meet, meets_anchor, Finds, look_up}
-use Rattle.overlay_walk.proofs.SweptEntries.{moved_on}
-
--- before the sweep there are no entries
-pub nothing_swept : (limit : ℕ) (x : ℤ) (s : Sweep ℕ) → s ≡ empty_sweep → IsSwept limit x [] s
-nothing_swept limit x s is = subst (IsSwept limit x []) (sym is) (record { state = refl; moves = tt; from = λ f c. c; all = λ f c. c })
-
--- what holds from a place on holds there
-pub at_front : {X : Type 0} (P : X → Type 0) (xs : List X) (i : ℕ) (x : X) → i < length xs → x ≡ get_or xs i x → All P (drop i xs) → P x
-at_front P xs i x lt is all = subst P (sym is) (All-head P (get_or xs i x) (drop (i + 1) xs) (subst (All P) (drop_more xs i x lt) all))
-
--- and after it
-pub after_front : {X : Type 0} (P : X → Type 0) (xs : List X) (i : ℕ) (x : X) → i < length xs → All P (drop i xs) → All P (drop (i + 1) xs)
-after_front P xs i x lt all = All-tail P (get_or xs i x) (drop (i + 1) xs) (subst (All P) (drop_more xs i x lt) all)
 
 module _ (on_left : Bool) (walks : List (List Step)) (contours : All IsContour walks) (settled : IsSettledBy edge_of (all_steps walks)) where
   -- the filled-above edges meet in ends alone

@@ -2,9 +2,10 @@
 use Rattle.std.specs.Prelude.{◌≡◌, ℕ, Bool, false, ℤ, List, map, All, AllPairs, Contains, slice_get, slice_index_or, Option, None, Some}
 use Rattle.overlay_geom.specs.Plane.{Step, Edge, edge_eq}
 use Rattle.overlay_geom.specs.Points.{plain_point}
-use Rattle.overlay_plane.specs.Anchors.{IsAnchor, is_anchored_before}
+use Rattle.overlay_plane.specs.Anchors.{IsAnchor}
 use Rattle.overlay_plane.specs.Binding.{filled_above_edges, all_filled_above}
 use Rattle.overlay_scan.specs.Scan.{Entry}
+use Rattle.overlay_scan.specs.Sweeps.{IsByStart}
 use Rattle.overlay_walk.specs.declared.numbered_edge.NumberedEdge.{NumberedEdge}
 
 -- the entry at an edge's numbers, and those of a list
@@ -16,7 +17,7 @@ numbered_entries whole es = map (numbered_entry whole) es
 
 -- no edge is anchored before one that stands before it
 abbrev pub IsByAnchor : List (Entry ℕ) → Type 0
-IsByAnchor es = AllPairs (λ e f. is_anchored_before f.edge e.edge ≡ false) es
+IsByAnchor es = IsByStart es
 
 -- the filled-above edges of the walk with this index
 abbrev pub filled_entries : Bool → ℕ → List Step → List (Entry ℕ)

@@ -1,8 +1,8 @@
 -- From one point the cross product tells.
 use Rattle.std.proofs.Common.{ap, sym, ◌∙◌}
 use Rattle.std.specs.Ordering.{is_lt}
+use Rattle.overlay_plane.proofs.TiedStarts.{tied_before}
 use Rattle.overlay_walk.specs.WalkEdges.{numbered_entry}
-use Rattle.overlay_walk.proofs.TiedAnchors.{tied_before}
 use Rattle.overlay_walk.proofs.by_anchor.compare_anchors.Goals as goal
 
 pub returns-in-Equal : goal.returns-in-Equal

@@ -7,8 +7,8 @@ use Rattle.overlay_scan.specs.Scan.{Entry}
 use Rattle.overlay_scan.proofs.LinesFit.{line_fits}
 use Rattle.overlay_walk.specs.Parents.{IsSwept}
 use Rattle.overlay_walk.specs.WalkEdges.{numbered_entry, numbered_entries}
-use Rattle.overlay_walk.proofs.EntriesByAnchor.{new_among_live, meets_live, over_x, right_of_order}
-use Rattle.overlay_walk.proofs.SweptEntries.{ended, put_in}
+use Rattle.overlay_scan.proofs.EntriesByStart.{new_among_live, meets_live, over_x, right_of_order}
+use Rattle.overlay_scan.proofs.SweptEntries.{ended, put_in}
 use Rattle.overlay_walk.proofs.sweep.insert_up_to.Goals as goal
 use Rattle.overlay_walk.proofs.sweep.insert_up_to.Goals.{then-is_lt-2+in_ok-insert, else-is_lt-2}
 
