@@ -1,18 +1,18 @@
 -- The pieces of an edge with what they carry: what a program makes of a step, and pieces that are added to others.
-use Rattle.std.proofs.Common.{◌≡◌, Bool, true, false, cond, ℤ, List, [], ◌∷◌, ◌++◌, map, length, get_or, refl, sym, ap, subst, ◌∙◌, append_assoc, append-nil}
+use Rattle.std.proofs.Common.{◌≡◌, Bool, true, false, cond, List, [], ◌∷◌, ◌++◌, map, length, get_or, refl, sym, ap, subst, ◌∙◌, append_assoc, append-nil}
 use Rattle.std.specs.Prelude.{IsTrue, MatchBool, ◌↔◌}
 use Rattle.std.specs.declared.cmp.Ordering.TheVariants.{Less, Equal, Greater}
 use Rattle.std.proofs.lemmas.Bool.{false≢true}
-use Rattle.overlay_geom.specs.Plane.{Point, Step, is_forward, point_eq, point_lt, steps_between, steps_through}
+use Rattle.overlay_geom.specs.Plane.{Point, Step, point_eq, point_lt, steps_between, steps_through}
 use Rattle.overlay_geom.specs.Edges.{CountedEdge}
 use Rattle.overlay_plane.specs.Carried.{Carried}
 use Rattle.overlay_plane.specs.Cutting.{piece_along}
-use Rattle.overlay_plane.specs.DerivedData.{AreGiven, none, next, ArePieces, GivesPiece, IsPieceOf, computed_chain}
+use Rattle.overlay_plane.specs.DerivedData.{AreGiven, none, ArePieces, GivesPiece, computed_chain}
 use Rattle.overlay_plane.proofs.DerivedLists.{given_both, given_one, given_weaker}
 use Rattle.overlay_arrange.specs.Content.{edge_with, point_cmp}
 use Rattle.overlay_arrange.specs.Counts.{Counts, turned_counts}
 use Rattle.overlay_arrange.specs.Cut.{AddsGiven, StaysWhole}
-use Rattle.overlay_arrange.proofs.Pieces.{LeadsBack, back_where_greater, LeadsOn, on_where_less, same_where_equal, piece_back, piece_forth}
+use Rattle.overlay_arrange.proofs.Pieces.{back_where_greater, on_where_less, same_where_equal, piece_back, piece_forth}
 
 -- ---- what is added
 
