@@ -1,33 +1,51 @@
 -- Edges of which the one lies wholly below the other one meet nowhere.
-use Rattle.std.proofs.Common.{◌≡◌, inl, inr, Bool, true, false, ◌||◌, [], refl}
+use Rattle.std.proofs.Common.{◌≡◌, inl, inr, Bool, true, false, cond, ◌||◌, ◌<ℤ◌, ◌≤ℤ◌, int_lt, [], refl}
 use Rattle.std.specs.Bool.{Decides}
-use Rattle.std.proofs.lemmas.Bool.Decides.{Decides-and, Decides-or}
-use Rattle.overlay_geom.specs.Plane.{Point, Edge}
+use Rattle.std.proofs.lemmas.Bool.{false≢true}
+use Rattle.std.proofs.lemmas.Int.{by_lt_z}
+use Rattle.overlay_geom.specs.Plane.{Edge}
 use Rattle.overlay_geom.specs.Settled.{MeetInEnds}
 use Rattle.overlay_geom.proofs.Comparisons.{Decides-int_lt}
 use Rattle.overlay_geom.proofs.PointOrder.{IsBefore}
+use Rattle.overlay_geom.proofs.Signs.{linear}
 use Rattle.overlay_plane.specs.CutPoints.{met_at}
 use Rattle.overlay_plane.proofs.MetInBox.{AreApartInY, IsBelow, apart_in_y_have_no_common, meet_nowhere}
-use Rattle.overlay_arrange.specs.Settle.{are_apart_in_y, is_below}
+use Rattle.overlay_arrange.specs.Settle.{are_apart_in_y, highest, lowest}
 
--- an edge that tests as below another one is
-below_from_test : (e f : Edge) → is_below e f ≡ true → IsBelow e f
+-- each end of an edge lies between its lowest and its highest height
+record IsSpan (e : Edge) : Type 0 where
+  a_from : lowest e ≤ℤ e.a.y
+  b_from : lowest e ≤ℤ e.b.y
+  a_to : e.a.y ≤ℤ highest e
+  b_to : e.b.y ≤ℤ highest e
+
+span : (e : Edge) → IsSpan e
+span e = let found = by (int_lt e.a.y e.b.y) (Decides-int_lt e.a.y e.b.y) in record { a_from = found.0; b_from = found.1; a_to = found.2; b_to = found.3 }
+  where
+    by : (t : Bool) → Decides t (e.a.y <ℤ e.b.y) → (cond t e.a.y e.b.y ≤ℤ e.a.y) × (cond t e.a.y e.b.y ≤ℤ e.b.y) × (e.a.y ≤ℤ cond t e.b.y e.a.y) × (e.b.y ≤ℤ cond t e.b.y e.a.y)
+    by true d = let less = d.0 refl in (omega linear, omega linear, omega linear, omega linear)
+    by false d = by_lt_z e.a.y e.b.y (λ less. absurd (false≢true (d.1 less))) (λ at_least. (omega linear, omega linear, omega linear, omega linear))
+
+-- an edge whose highest end lies below the other one's lowest one is below it
+below_from_test : (e f : Edge) → int_lt (highest e) (lowest f) ≡ true → IsBelow e f
 below_from_test e f test =
-    let found = (Decides-and _ _ (Decides-and _ _ (Decides-and _ _ (Decides-int_lt e.a.y f.a.y) (Decides-int_lt e.a.y f.b.y))
-    (Decides-int_lt e.b.y f.a.y)) (Decides-int_lt e.b.y f.b.y)).0 test in
-    record { a_below_a = found.0.0.0; a_below_b = found.0.0.1; b_below_a = found.0.1; b_below_b = found.1 }
+    let less = (Decides-int_lt (highest e) (lowest f)).0 test in
+    let of_e = span e in
+    let of_f = span f in
+    let ea = of_e.a_to in let eb = of_e.b_to in let fa = of_f.a_from in let fb = of_f.b_from in
+    record { a_below_a = omega linear; a_below_b = omega linear; b_below_a = omega linear; b_below_b = omega linear }
 
 -- edges that test as apart are
 apart_from_test : (e f : Edge) → are_apart_in_y e f ≡ true → AreApartInY e f
-apart_from_test e f test = by (is_below e f) refl test
+apart_from_test e f test = by (int_lt (highest e) (lowest f)) refl test
   where
-    by : (t : Bool) → is_below e f ≡ t → (t || is_below f e) ≡ true → AreApartInY e f
+    by : (t : Bool) → int_lt (highest e) (lowest f) ≡ t → (t || int_lt (highest f) (lowest e)) ≡ true → AreApartInY e f
     by true is h = inl (below_from_test e f is)
     by false is h = inr (below_from_test f e h)
 
 -- the test does not ask which of the two is which
 pub apart_exchanged : (e f : Edge) → are_apart_in_y e f ≡ true → are_apart_in_y f e ≡ true
-apart_exchanged e f = by (is_below e f) (is_below f e)
+apart_exchanged e f = by (int_lt (highest e) (lowest f)) (int_lt (highest f) (lowest e))
   where
     by : (s t : Bool) → (s || t) ≡ true → (t || s) ≡ true
     by true true h = refl

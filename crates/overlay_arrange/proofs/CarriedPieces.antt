@@ -3,7 +3,7 @@ use Rattle.std.proofs.Common.{◌≡◌, Bool, true, false, cond, List, [], ◌�
 use Rattle.std.specs.Prelude.{IsTrue, MatchBool, ◌↔◌}
 use Rattle.std.specs.declared.cmp.Ordering.TheVariants.{Less, Equal, Greater}
 use Rattle.std.proofs.lemmas.Bool.{false≢true}
-use Rattle.overlay_geom.specs.Plane.{Point, Step, is_forward, point_eq, point_lt, steps_between, steps_through}
+use Rattle.overlay_geom.specs.Plane.{Point, Step, point_eq, point_lt, steps_between, steps_through}
 use Rattle.overlay_geom.specs.Edges.{CountedEdge}
 use Rattle.overlay_plane.specs.Carried.{Carried}
 use Rattle.overlay_plane.specs.Cutting.{piece_along}

@@ -1,7 +1,7 @@
 -- The meetings of two edges with one another: what pushing points adds, and what there is to add where the two lie in a given way.
 use Rattle.std.proofs.Common.{◌≡◌, ◌≢◌, ⊎_elim, inl, inr, ℕ, Bool, true, false, List, [], ◌∷◌, ◌++◌, cond, Contains, filter, refl, sym, ap, ◌∙◌, subst, arith}
 use Rattle.std.proofs.lemmas.List.Elements.{Contains-append_left, Contains-append_right, Contains-append_cases, Contains-push, Contains-push_cases, filter-append}
-use Rattle.overlay_geom.specs.Plane.{Point, Edge}
+use Rattle.overlay_geom.specs.Plane.{Point}
 use Rattle.overlay_geom.specs.Edges.{CountedEdge, ends_of}
 use Rattle.overlay_geom.specs.Placed.{IsAlong, IsBeside, IsAcross}
 use Rattle.overlay_geom.specs.Resolved.{IsPlaced}
@@ -11,7 +11,7 @@ use Rattle.overlay_geom.proofs.Entries.{Contains-cases}
 use Rattle.overlay_geom.proofs.Meeting.{across_not_along}
 use Rattle.overlay_geom.proofs.OneLine.{along_exchanged}
 use Rattle.overlay_geom.proofs.PointOrder.{IsBefore}
-use Rattle.overlay_plane.specs.CutPoints.{crossing, is_between, met_at}
+use Rattle.overlay_plane.specs.CutPoints.{crossing, met_at}
 use Rattle.overlay_plane.proofs.Placements.{ends_between, met_along, met_beside, not_along_back}
 use Rattle.overlay_plane.proofs.SharedCrossings.{crossing_alike}
 use Rattle.overlay_arrange.specs.Cut.{IsEndOf}

@@ -84,9 +84,9 @@ fn push_crossing<I: IntNumber, C: EdgeCount, A: Allocator>(
     ensures only { IsOkUnless result OverlayError.Memory }
 {
     if matches!(place_by(f, e), Place::Across) {
-        let v = common_point(e, f);
-        push_inside(meetings, i, e, v)?;
-        push_inside(meetings, j, f, v)?;
+        let point = common_point(e, f);
+        push_inside(meetings, i, e, point)?;
+        push_inside(meetings, j, f, point)?;
     }
     Ok(())
 }

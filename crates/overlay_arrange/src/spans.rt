@@ -1,29 +1,33 @@
 //! Whether two edges lie at heights that are apart.
 
-ghost use Rattle.std.specs.Prelude.{◌≡◌, int_lt};
+ghost use Rattle.std.specs.Prelude.{◌≡◌, int_lt, cond};
 ghost use Rattle.overlay_geom.specs.Edges.{ends_of};
 ghost use Rattle.overlay_arrange.specs.Content.{plain_edge};
-ghost use Rattle.overlay_arrange.specs.Settle.{are_apart_in_y, is_below};
+ghost use Rattle.overlay_arrange.specs.Settle.{are_apart_in_y};
 
 use crate::count::EdgeCount;
 use crate::edge::CountedEdge;
 use overlay_geom::number::IntNumber;
 
-/// Whether the one edge lies wholly below the other one, so that they have no height in common.
+/// Whether the one edge lies wholly below the other one, so that they have no height in common. All
+/// four heights are read before any test, so that no test waits for another one.
 pub(crate) fn are_apart_in_y<I: IntNumber, C: EdgeCount>(
     e: &CountedEdge<I, C>,
     f: &CountedEdge<I, C>,
 ) -> bool
     ensures { result ≡ are_apart_in_y (ends_of (plain_edge I.whole C.counts e.now)) (ends_of (plain_edge I.whole C.counts f.now)) }
 {
-    is_below(e, f) || is_below(f, e)
+    let (low, high) = ordered(e.a.y, e.b.y);
+    let (from, to) = ordered(f.a.y, f.b.y);
+    is_less(high, from) || is_less(to, low)
 }
 
-/// Whether both ends of the first edge lie below both ends of the second one.
-fn is_below<I: IntNumber, C: EdgeCount>(e: &CountedEdge<I, C>, f: &CountedEdge<I, C>) -> bool
-    ensures { result ≡ is_below (ends_of (plain_edge I.whole C.counts e.now)) (ends_of (plain_edge I.whole C.counts f.now)) }
+/// The lesser and the greater one of two numbers.
+fn ordered<I: IntNumber>(y: I, z: I) -> (I, I)
+    ensures low { I.whole result.0 ≡ cond (int_lt (I.whole y) (I.whole z)) (I.whole y) (I.whole z) }
+    ensures high { I.whole result.1 ≡ cond (int_lt (I.whole y) (I.whole z)) (I.whole z) (I.whole y) }
 {
-    is_less(e.a.y, f.a.y) && is_less(e.a.y, f.b.y) && is_less(e.b.y, f.a.y) && is_less(e.b.y, f.b.y)
+    if is_less(y, z) { (y, z) } else { (z, y) }
 }
 
 /// Whether the first number is less than the second one.

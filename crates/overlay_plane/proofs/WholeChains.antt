@@ -1,17 +1,13 @@
 -- An edge stays whole where each point that it is led through is an end of it: then its chain has one step, and else more.
 use Rattle.std.proofs.Common.{◌≡◌, ◌⊎◌, inl, inr, ⊎_elim, Bool, true, false, cond, List, [], ◌∷◌, ◌++◌, length, refl, sym, ap, ◌∙◌, subst, arith}
-use Rattle.std.specs.List.{All, flat_map}
+use Rattle.std.specs.List.{All}
 use Rattle.std.proofs.lemmas.Bool.{both_ways}
 use Rattle.std.proofs.lemmas.List.Elements.{All-cons, All-head, All-nil, All-tail, All-weaker, All-contains}
 use Rattle.overlay_geom.specs.Plane.{Point, Step, Edge, point_eq, point_lt, steps_between, steps_through}
-use Rattle.overlay_geom.specs.Edges.{CountedEdge, ends_of}
 use Rattle.overlay_geom.proofs.Orders.{Decides-point_eq, point_lt-itself}
 use Rattle.overlay_geom.proofs.PointOrder.{Decides-point_lt}
-use Rattle.overlay_plane.specs.CutPoints.{comes_first, cut_points, met_at}
-use Rattle.overlay_plane.specs.DerivedData.{computed_chain}
-use Rattle.overlay_plane.proofs.AlongOrder.{IsUpToAlong, along-order, along-antisymmetric, start_up_to_end}
+use Rattle.overlay_plane.proofs.AlongOrder.{IsUpToAlong, along-antisymmetric, start_up_to_end}
 use Rattle.overlay_plane.proofs.Entries.{all_of_entries}
-use Rattle.overlay_plane.proofs.InOrderLists.{Each-in_weak_order}
 use Rattle.overlay_plane.proofs.LaterEntries.{Each}
 
 -- the point is an end of the edge from a to b

@@ -1,5 +1,4 @@
 -- The two edges cross where each goes across the other one's line.
-use Rattle.overlay_geom.specs.Edges.{ends_of}
 use Rattle.overlay_geom.specs.Points.{plain_point}
 use Rattle.overlay_geom.proofs.PointOrder.{Decides-point_lt}
 use Rattle.overlay_arrange.specs.Content.{plain_edge}
@@ -14,7 +13,7 @@ returns-in_ok-push_inside-2-clause-ok g c =
     let e = plain_edge whole g.C.EdgeCount.counts c.args.e.now in
     let f = plain_edge whole g.C.EdgeCount.counts c.args.f.now in
     elim c.match-matches.branch [
-      | in-Across w ↦ crossing_added c.args.i e c.args.j f (plain_point whole c.common_point-v.result) c.requires.across w.in-Across.ensures c.common_point-v.ensures
+      | in-Across w ↦ crossing_added c.args.i e c.args.j f (plain_point whole c.common_point-point.result) c.requires.across w.in-Across.ensures c.common_point-point.ensures
           c.in_ok-push_inside.ensures.ok c.in_ok-push_inside-2.ensures.ok
       | in_default w ↦ absurd (cc (w.matches-is, c.if-matches.true))
     ]

@@ -63,7 +63,7 @@ returns-in_err-push_pieces-clause-too_many g c =
     let led = led_at g.I.IntNumber.limit g.I.IntNumber.whole g.C.EdgeCount.counts c.args.edges.now i c.index-edges-i.result c.in_ok-meetings.meetings.items c.deref.result.now c.in_ok-points.points.items c.deref-in-loop-i.result.now
     c.requires.content.held c.loop-i-test.true c.index-edges-i.is c.in_ok-meetings.ensures.ok c.deref.ensures.value c.in_ok-points.ensures.ok c.deref-in-loop-i.ensures.value in
     λ refused. heavy_beginning 2147483648 (edges_in c.loop-i.pieces ++ pieces e) (flat_map pieces rest) _ all
-        (subst (λ ss. 2147483648 ≤ weight (edges_in c.loop-i.pieces ++ map (piece_along e) ss)) led.chain (c.push_pieces.ensures.too_many (search rules)))
+    (subst (λ ss. 2147483648 ≤ weight (edges_in c.loop-i.pieces ++ map (piece_along e) ss)) led.chain (c.push_pieces.ensures.too_many (search rules)))
 
 pub loop-i-preserved : goal.loop-i-preserved
 loop-i-preserved g c =

@@ -1,5 +1,5 @@
 -- Each edge adds what it and the later ones lead one another through; sorting keeps what is gathered.
-use Rattle.std.proofs.Common.{List, map, sym, subst, arith}
+use Rattle.std.proofs.Common.{List, sym, subst, arith}
 use Rattle.std.proofs.lemmas.List.{length-map}
 use Rattle.std.proofs.lemmas.List.Sorted.{Contains-permutation, IsPermutation-map, IsPermutation-sym}
 use Rattle.overlay_arrange.specs.Content.{plain_edge, plain_edges}
