@@ -1,6 +1,7 @@
 pub mod Answered
 pub mod AtStarts
 pub mod BelowStarts
+pub mod Halves
 pub mod LastEntries
 pub mod LinesFit
 pub mod Moving

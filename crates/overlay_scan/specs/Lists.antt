@@ -1,5 +1,5 @@
 -- What a list of entries with points of the program stands for, and the test which of two edges is the lower one.
-use Rattle.std.specs.Prelude.{Bool, cond, not, ◌&&◌, ◌||◌, ℕ, ℤ, pos, int_lt, List, map, option_map}
+use Rattle.std.specs.Prelude.{◌≡◌, true, AllPairs, Bool, cond, not, ◌&&◌, ◌||◌, ℕ, ℤ, pos, int_lt, List, map, option_map}
 use Rattle.std.specs.Ordering.{int_eq}
 use Rattle.overlay_geom.specs.Plane.{Edge, cross_at}
 use Rattle.overlay_geom.specs.Points.{plain_point, InRange}
@@ -31,3 +31,7 @@ is_lower_at_start f e = int_lt (pos 0) (cross_at f.a f.b e.a) || (int_eq (cross_
 -- f is lower than e just right of the start of the one that starts later
 abbrev pub is_lower : Edge → Edge → Bool
 is_lower f e = cond (int_lt e.a.x f.a.x) (not (is_lower_at_start e f)) (is_lower_at_start f e)
+
+-- an item passes if a later one does
+abbrev pub PassBefore : {X : Type 0} → (X → Bool) → List X → Type 0
+PassBefore test xs = AllPairs (λ x y. test y ≡ true → test x ≡ true) xs

@@ -5,11 +5,11 @@ ghost use Rattle.std.specs.List.{last_or, prefix_len};
 ghost use Rattle.std.specs.Ordering.{is_gt};
 ghost use Rattle.overlay_geom.specs.Lines.{plain_line};
 ghost use Rattle.overlay_scan.specs.Lists.{plain_entry, plain_entries, plain_sweep};
-ghost use Rattle.overlay_scan.specs.Lists.{IsInRange, is_lower_at_start, is_lower};
+ghost use Rattle.overlay_scan.specs.Lists.{IsInRange, PassBefore, is_lower_at_start, is_lower};
 ghost use Rattle.overlay_scan.specs.Scan.{empty_sweep, live_at, moved_to, value_or};
 ghost use Rattle.overlay_scan.specs.Scan.{MayMoveTo, IsOver, IsAsked, IsSweep, IsPutIn};
 ghost use Rattle.overlay_scan.specs.Scan.{MeetsOthers, IsNewAmong, value_below};
-ghost use Rattle.overlay_scan.specs.Scan.{IsCallableOn, IsAnsweredBy};
+ghost use Rattle.overlay_scan.specs.Scan.{IsCallableOn, IsAnsweredBy, AnswersRise};
 
 use crate::scan::Scan;
 use overlay_geom::error::OverlayError;
@@ -31,7 +31,7 @@ pub struct LiveEdge<I, V> {
     pub value: V,
 }
 
-/// A [`Scan`] that keeps its edges in a vector. Each call goes through all live edges.
+/// A [`Scan`] that keeps its edges in a vector. Look-ups go by halves.
 #[derive(Drop)]
 pub struct ScanList<I, V, A: Allocator> {
     // from bottom to top
@@ -125,21 +125,27 @@ fn live_edge<I: IntNumber, V: Copy>(line: IntLine<I>, value: V) -> LiveEdge<I, V
     LiveEdge { a, b, value }
 }
 
-// How many entries are under the edge, from the bottom on.
+// How many entries are under the edge, from the bottom on: above one that is not, none is.
 fn count_under<I: IntNumber, V: Copy>(entries: &[LiveEdge<I, V>], e: LiveEdge<I, V>) -> usize
     requires entries { All (λ f. IsInRange I.limit f.edge) (plain_entries I.whole entries.now) }
     requires edge { IsInRange I.limit (plain_entry I.whole e).edge }
+    requires front { PassBefore (λ f. is_lower f.edge (plain_entry I.whole e).edge) (plain_entries I.whole entries.now) }
     ensures { result ≡ prefix_len (λ f. is_lower f.edge (plain_entry I.whole e).edge) (plain_entries I.whole entries.now) }
 {
-    for (i, f) in entries.iter().enumerate() {
-        if !is_under(f, &e) {
-            return i;
+    let mut low = 0;
+    let mut high = entries.len();
+    while low < high {
+        let middle = low + (high - low) / 2;
+        if is_under(&entries[middle], &e) {
+            low = middle + 1;
+        } else {
+            high = middle;
         }
     }
-    entries.len()
+    low
 }
 
-// How many entries the order does not answer Greater, from the bottom on.
+// How many entries the order does not answer Greater, from the bottom on, where its answers rise.
 fn count_up_to<I: IntNumber, V: Copy, F: Fn(IntLine<I>) -> Ordering + Drop>(
     entries: &[LiveEdge<I, V>],
     order: F,
@@ -147,14 +153,20 @@ fn count_up_to<I: IntNumber, V: Copy, F: Fn(IntLine<I>) -> Ordering + Drop>(
     requires { IsCallableOn I.whole (F.pre order) (plain_entries I.whole entries.now) }
     ensures fits { result ≤ length entries.now }
     ensures count { (answer : _) → IsAnsweredBy I.whole (F.post order) answer (plain_entries I.whole entries.now)
+        → AnswersRise answer (plain_entries I.whole entries.now)
         → result ≡ prefix_len (λ f. not (is_gt (answer f.edge))) (plain_entries I.whole entries.now) }
 {
-    for (i, f) in entries.iter().enumerate() {
-        if ask(&order, f).is_gt() {
-            return i;
+    let mut low = 0;
+    let mut high = entries.len();
+    while low < high {
+        let middle = low + (high - low) / 2;
+        if ask(&order, &entries[middle]).is_gt() {
+            high = middle;
+        } else {
+            low = middle + 1;
         }
     }
-    entries.len()
+    low
 }
 
 // What the order answers for an entry's line.
