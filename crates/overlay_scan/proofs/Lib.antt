@@ -3,6 +3,7 @@ pub mod AtStarts
 pub mod BelowStarts
 pub mod Halves
 pub mod LastEntries
+pub mod LeastEnds
 pub mod LinesFit
 pub mod Moving
 pub mod Prefixes

@@ -21,8 +21,8 @@ pub record IsInRange (limit : ℕ) (e : Edge) : Type 0 where
   pub b : InRange limit e.b
 
 -- the list's entries, and where the sweep is
-abbrev pub plain_sweep : {I V A : Type 0} → (I → ℤ) → ScanList I V A → Sweep V
-plain_sweep whole s = record { entries = plain_entries whole s.entries.items; reached = option_map whole s.reached }
+abbrev pub plain_sweep : {I V A W U : Type 0} → (I → ℤ) → ScanList I V A W U → Sweep V
+plain_sweep whole s = record { entries = plain_entries whole s.live; reached = option_map whole s.reached }
 
 -- f is lower than e just right of the start of e: it passes below the start, or starts there to the right of e
 abbrev pub is_lower_at_start : Edge → Edge → Bool

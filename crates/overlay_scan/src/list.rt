@@ -11,6 +11,7 @@ ghost use Rattle.overlay_scan.specs.Scan.{MayMoveTo, IsOver, IsAsked, IsSweep, I
 ghost use Rattle.overlay_scan.specs.Scan.{MeetsOthers, IsNewAmong, value_below};
 ghost use Rattle.overlay_scan.specs.Scan.{IsCallableOn, IsAnsweredBy, AnswersRise};
 
+use crate::live::LiveEdges;
 use crate::scan::Scan;
 use overlay_geom::error::OverlayError;
 use overlay_geom::number::{IntNumber, WideIntNumber};
@@ -31,11 +32,12 @@ pub struct LiveEdge<I, V> {
     pub value: V,
 }
 
-/// A [`Scan`] that keeps its edges in a vector. Look-ups go by halves.
+/// A [`Scan`] that keeps its edges in a list. Look-ups go by halves, and edges are dropped only where
+/// one has ended.
 #[derive(Drop)]
-pub struct ScanList<I, V, A: Allocator> {
-    // from bottom to top
-    entries: Vec<LiveEdge<I, V>, A>,
+pub struct ScanList<I: IntNumber, V: Copy, A: Allocator> {
+    // the edges over the line
+    live: LiveEdges<I, V, A>,
     // the x that was moved to last, and none after `clear`
     reached: Option<I>,
 }
@@ -46,7 +48,7 @@ impl<I: IntNumber, V: Copy, A: Allocator> ScanList<I, V, A> {
         ensures { plain_sweep I.whole result ≡ empty_sweep }
     {
         ScanList {
-            entries: Vec::new(alloc),
+            live: LiveEdges::new(alloc),
             reached: None,
         }
     }
@@ -55,7 +57,7 @@ impl<I: IntNumber, V: Copy, A: Allocator> ScanList<I, V, A> {
     fn move_to(&mut self, x: I)
         ensures { plain_sweep I.whole self.new ≡ moved_to (I.whole x) (plain_sweep I.whole self.old) }
     {
-        self.entries.retain(|f| x.compare(f.b.x).is_lt());
+        self.live.drop_ended(x);
         self.reached = Some(x);
     }
 }
@@ -80,8 +82,8 @@ impl<I: IntNumber, V: Copy, A: Allocator> Scan<I, V> for ScanList<I, V, A> {
     {
         self.move_to(x);
         let entry = live_edge(edge, value);
-        let place = count_under(&self.entries, entry);
-        self.entries.insert(place, entry)?;
+        let place = count_under(self.live.as_slice(), entry);
+        self.live.insert(place, entry)?;
         Ok(())
     }
 
@@ -96,8 +98,8 @@ impl<I: IntNumber, V: Copy, A: Allocator> Scan<I, V> for ScanList<I, V, A> {
         ensures state { IsSweep I.limit (plain_sweep I.whole self.new) }
     {
         self.move_to(x);
-        let place = count_under(&self.entries, live_edge(edge, default));
-        value_before(&self.entries, place, default)
+        let place = count_under(self.live.as_slice(), live_edge(edge, default));
+        value_before(self.live.as_slice(), place, default)
     }
 
     fn first_less_or_equal_by<F: Fn(IntLine<I>) -> Ordering + Drop>(
@@ -107,12 +109,12 @@ impl<I: IntNumber, V: Copy, A: Allocator> Scan<I, V> for ScanList<I, V, A> {
         order: F,
     ) -> V {
         self.move_to(x);
-        let place = count_up_to(&self.entries, order);
-        value_before(&self.entries, place, default)
+        let place = count_up_to(self.live.as_slice(), order);
+        value_before(self.live.as_slice(), place, default)
     }
 
     fn clear(&mut self) {
-        self.entries.clear();
+        self.live.clear();
         self.reached = None;
     }
 }
