@@ -6,7 +6,7 @@ use Rattle.std.specs.declared.cmp.Ordering.TheVariants.{Less, Equal, Greater}
 use Rattle.std.proofs.lemmas.Bool.{false≢true}
 use Rattle.overlay_geom.specs.Plane.{Edge}
 use Rattle.overlay_scan.specs.Scan.{Entry, IsAtMost, AnswersRise}
-use Rattle.overlay_scan.proofs.Prefixes.{PassBefore}
+use Rattle.overlay_scan.specs.Lists.{PassBefore}
 
 -- what is at most an answer that is not Greater is not Greater
 not_greater : (o p : Ordering) → IsAtMost o p → not (is_gt p) ≡ true → not (is_gt o) ≡ true

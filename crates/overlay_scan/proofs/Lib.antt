@@ -2,7 +2,9 @@ pub mod Answered
 pub mod AtStarts
 pub mod BelowStarts
 pub mod EntriesByStart
+pub mod Halves
 pub mod LastEntries
+pub mod LeastEnds
 pub mod LinesFit
 pub mod Moving
 pub mod Prefixes

@@ -1,39 +1,12 @@
--- How many entries pass a test from the first one on, as a loop counts them; and which ones pass where none does after one that fails.
-use Rattle.std.proofs.Common.{◌≡◌, Bool, true, false, cond, ℕ, suc, ◌+◌, ◌<◌, ◌≤◌, List, [], ◌∷◌, length, map, take, drop, get_or, refl, sym, ap, ◌∙◌, arith}
-use Rattle.std.specs.List.{All, AllPairs, filter, prefix_len}
+-- How many entries pass a test from the first one on, and which ones pass where none does after one that fails.
+use Rattle.std.proofs.Common.{◌≡◌, Bool, true, false, cond, ℕ, suc, ◌+◌, ◌≤◌, List, [], ◌∷◌, length, map, take, drop, refl, sym, ap, ◌∙◌, arith}
+use Rattle.std.specs.List.{All, filter, prefix_len}
 use Rattle.std.proofs.lemmas.Bool.{false≢true}
-use Rattle.std.proofs.lemmas.List.{drop_all, length-map}
+use Rattle.std.proofs.lemmas.List.{length-map}
 use Rattle.std.proofs.lemmas.List.Sums.{prefix_len-le-length}
 use Rattle.std.proofs.lemmas.List.Elements.{All-nil, All-cons, All-head, All-tail, All-weaker}
-use Rattle.overlay_geom.proofs.Mapped.{mapped_rest}
 use Rattle.overlay_geom.proofs.Merging.{AllPairs-head, AllPairs-tail}
-
-plus_zero : (i : ℕ) → i + 0 ≡ i
-plus_zero i = omega arith
-
-plus_one : (i n : ℕ) → i + (1 + n) ≡ i + 1 + n
-plus_one i n = omega arith
-
--- the first i items of the mapped list pass, and then those that pass of the rest
-abbrev pub HavePassed : {X Y : Type 0} → (Y → Bool) → (X → Y) → List X → ℕ → Type 0
-HavePassed test h xs i = prefix_len test (map h xs) ≡ i + prefix_len test (map h (drop i xs))
-
--- the count at an item that fails
-pub prefix_stops : {X Y : Type 0} (test : Y → Bool) (h : X → Y) (xs : List X) (i : ℕ) (x : X) → i < length xs → x ≡ get_or xs i x →
-    test (h x) ≡ false → HavePassed test h xs i → prefix_len test (map h xs) ≡ i
-prefix_stops test h xs i x lt is fails so_far = so_far ∙ ap (λ l. i + prefix_len test l) (mapped_rest h xs i x lt is)
-    ∙ ap (λ b. i + cond b (1 + prefix_len test (map h (drop (i + 1) xs))) 0) fails ∙ plus_zero i
-
--- one more that passes
-pub prefix_goes_on : {X Y : Type 0} (test : Y → Bool) (h : X → Y) (xs : List X) (i : ℕ) (x : X) → i < length xs → x ≡ get_or xs i x →
-    test (h x) ≡ true → HavePassed test h xs i → HavePassed test h xs (i + 1)
-prefix_goes_on test h xs i x lt is passes so_far = so_far ∙ ap (λ l. i + prefix_len test l) (mapped_rest h xs i x lt is)
-    ∙ ap (λ b. i + cond b (1 + prefix_len test (map h (drop (i + 1) xs))) 0) passes ∙ plus_one i (prefix_len test (map h (drop (i + 1) xs)))
-
--- the count where all have passed
-pub prefix_ends : {X Y : Type 0} (test : Y → Bool) (h : X → Y) (xs : List X) (i : ℕ) → length xs ≤ i → i ≤ length xs → HavePassed test h xs i →
-    prefix_len test (map h xs) ≡ length xs
-prefix_ends test h xs i le ge so_far = so_far ∙ ap (λ l. i + prefix_len test (map h l)) (drop_all i xs le) ∙ plus_zero i ∙ omega arith
+use Rattle.overlay_scan.specs.Lists.{PassBefore}
 
 -- no more pass than there are
 pub prefix_fits : {X Y : Type 0} (test : Y → Bool) (h : X → Y) (xs : List X) → prefix_len test (map h xs) ≤ length xs
@@ -50,10 +23,6 @@ pub prefix-same : {X : Type 0} (s t : X → Bool) (xs : List X) → All (λ x. s
 prefix-same s t [] h = refl
 prefix-same s t (x ∷ xs) h = ap (λ b. cond b (1 + prefix_len s xs) 0) (All-head (λ x. s x ≡ t x) x xs h)
     ∙ ap (λ n. cond (t x) (1 + n) 0) (prefix-same s t xs (All-tail (λ x. s x ≡ t x) x xs h))
-
--- an item passes if a later one does
-abbrev pub PassBefore : {X : Type 0} → (X → Bool) → List X → Type 0
-PassBefore test xs = AllPairs (λ x y. test y ≡ true → test x ≡ true) xs
 
 -- what fails if it makes x pass, which fails
 fails_with : (s t : Bool) → s ≡ false → (t ≡ true → s ≡ true) → t ≡ false

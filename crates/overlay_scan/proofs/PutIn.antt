@@ -17,10 +17,10 @@ use Rattle.overlay_plane.proofs.Entries.{All-first, All-rest}
 use Rattle.overlay_plane.proofs.Under.{under_transitive, under_total}
 use Rattle.overlay_scan.specs.Scan.{Entry, IsOver, IsAsked, AreLive, IsFromBottomToTop, IsPutIn, MeetsOthers, IsNewAmong}
 use Rattle.overlay_scan.specs.declared.list.LiveEdge.{LiveEdge}
-use Rattle.overlay_scan.specs.Lists.{plain_entry, plain_entries, is_lower}
+use Rattle.overlay_scan.specs.Lists.{plain_entry, plain_entries, PassBefore, is_lower}
 use Rattle.overlay_scan.proofs.AtStarts.{lower_is_under}
 use Rattle.overlay_scan.proofs.BelowStarts.{IsBeside, lower_is_below, below_through}
-use Rattle.overlay_scan.proofs.Prefixes.{PassBefore, prefix-same, filter_is_prefix, prefix_passes, others_fail}
+use Rattle.overlay_scan.proofs.Prefixes.{prefix-same, filter_is_prefix, prefix_passes, others_fail}
 
 -- ---- lists with one more item
 
@@ -56,6 +56,10 @@ module _ {V : Type 0} (limit : ℕ) (x : ℤ) (e : Edge) (fs : List (Entry V)) (
       let f = get_or fs i d in
       let g = get_or fs j d in
       under_transitive f.edge g.edge e x (pos 1) (omega (arith, ints)) (live.over i d (omega arith)).over (live.over j d end).over at_e.over (live.order i j d lt end) below
+
+  -- so it passes in the front of the list alone
+  pub lower_before : PassBefore (λ f. is_lower f.edge e) fs
+  lower_before i j d lt end lower = tests_agree i d (omega arith) ∙ under_before i j d lt end (sym (tests_agree j d end) ∙ lower)
 
   -- how many entries the test counts
   pub count_agrees : prefix_len (λ f. is_lower f.edge e) fs ≡ prefix_len (λ f. is_under f.edge e x (pos 1)) fs
@@ -102,10 +106,18 @@ module _ {V : Type 0} (limit : ℕ) (x : ℤ) (e : Edge) (fs : List (Entry V)) (
       (meet_in_ends_exchanged (get_or fs j d).edge (get_or fs i d).edge (live.apart i j d lt end))
       (subst (λ z. is_under (get_or fs i d).edge (get_or fs j d).edge z (pos 1) ≡ true) (sym asked.starts) (live.order i j d lt end)) below
 
+  -- the test says which entries are below the start
+  tests_below : All (λ f. is_lower f.edge e ≡ is_below_anchor e f.edge) fs
+  tests_below k d lt = lower_is_below e asked.forward (get_or fs k d).edge (beside k d lt)
+
+  -- so it passes in the front of the list alone
+  pub asked_before : PassBefore (λ f. is_lower f.edge e) fs
+  asked_before i j d lt end lower = tests_below i d (omega arith) ∙ below_before i j d lt end (sym (tests_below j d end) ∙ lower)
+
   -- what is below the start is what the count passes
   pub found_below : take (prefix_len (λ f. is_lower f.edge e) fs) fs ≡ filter (λ f. is_below_anchor e f.edge) fs
   found_below = ap (λ n. take n fs) (prefix-same (λ f. is_lower f.edge e) (λ f. is_below_anchor e f.edge) fs
-      (λ k d lt. lower_is_below e asked.forward (get_or fs k d).edge (beside k d lt)))
+      tests_below)
       ∙ sym (filter_is_prefix (λ f. is_below_anchor e f.edge) fs below_before)
 
 -- what a new entry is put in to is live with it

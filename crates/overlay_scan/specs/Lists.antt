@@ -1,5 +1,5 @@
 -- What a list of entries with points of the program stands for, and the test which of two edges is the lower one.
-use Rattle.std.specs.Prelude.{Bool, cond, not, ◌&&◌, ◌||◌, ℕ, ℤ, pos, int_lt, List, map, option_map}
+use Rattle.std.specs.Prelude.{◌≡◌, true, AllPairs, Bool, cond, not, ◌&&◌, ◌||◌, ℕ, ℤ, pos, int_lt, List, map, option_map}
 use Rattle.std.specs.Ordering.{int_eq}
 use Rattle.overlay_geom.specs.Plane.{Edge, cross_at}
 use Rattle.overlay_geom.specs.Points.{plain_point, InRange}
@@ -21,8 +21,8 @@ pub record IsInRange (limit : ℕ) (e : Edge) : Type 0 where
   pub b : InRange limit e.b
 
 -- the list's entries, and where the sweep is
-abbrev pub plain_sweep : {I V A : Type 0} → (I → ℤ) → ScanList I V A → Sweep V
-plain_sweep whole s = record { entries = plain_entries whole s.entries.items; reached = option_map whole s.reached }
+abbrev pub plain_sweep : {I V A W U : Type 0} → (I → ℤ) → ScanList I V A W U → Sweep V
+plain_sweep whole s = record { entries = plain_entries whole s.live; reached = option_map whole s.reached }
 
 -- f is lower than e just right of the start of e: it passes below the start, or starts there to the right of e
 abbrev pub is_lower_at_start : Edge → Edge → Bool
@@ -31,3 +31,7 @@ is_lower_at_start f e = int_lt (pos 0) (cross_at f.a f.b e.a) || (int_eq (cross_
 -- f is lower than e just right of the start of the one that starts later
 abbrev pub is_lower : Edge → Edge → Bool
 is_lower f e = cond (int_lt e.a.x f.a.x) (not (is_lower_at_start e f)) (is_lower_at_start f e)
+
+-- an item passes if a later one does
+abbrev pub PassBefore : {X : Type 0} → (X → Bool) → List X → Type 0
+PassBefore test xs = AllPairs (λ x y. test y ≡ true → test x ≡ true) xs

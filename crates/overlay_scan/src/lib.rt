@@ -3,4 +3,5 @@
 
 pub mod laws;
 pub mod list;
+mod live;
 pub mod scan;

@@ -5,12 +5,13 @@ ghost use Rattle.std.specs.List.{last_or, prefix_len};
 ghost use Rattle.std.specs.Ordering.{is_gt};
 ghost use Rattle.overlay_geom.specs.Lines.{plain_line};
 ghost use Rattle.overlay_scan.specs.Lists.{plain_entry, plain_entries, plain_sweep};
-ghost use Rattle.overlay_scan.specs.Lists.{IsInRange, is_lower_at_start, is_lower};
+ghost use Rattle.overlay_scan.specs.Lists.{IsInRange, PassBefore, is_lower_at_start, is_lower};
 ghost use Rattle.overlay_scan.specs.Scan.{empty_sweep, live_at, moved_to, value_or};
 ghost use Rattle.overlay_scan.specs.Scan.{MayMoveTo, IsOver, IsAsked, IsSweep, IsPutIn};
 ghost use Rattle.overlay_scan.specs.Scan.{MeetsOthers, IsNewAmong, value_below};
-ghost use Rattle.overlay_scan.specs.Scan.{IsCallableOn, IsAnsweredBy};
+ghost use Rattle.overlay_scan.specs.Scan.{IsCallableOn, IsAnsweredBy, AnswersRise};
 
+use crate::live::LiveEdges;
 use crate::scan::Scan;
 use overlay_geom::error::OverlayError;
 use overlay_geom::number::{IntNumber, WideIntNumber};
@@ -31,11 +32,12 @@ pub struct LiveEdge<I, V> {
     pub value: V,
 }
 
-/// A [`Scan`] that keeps its edges in a vector. Each call goes through all live edges.
+/// A [`Scan`] that keeps its edges in a list. Look-ups go by halves, and edges are dropped only where
+/// one has ended.
 #[derive(Drop)]
-pub struct ScanList<I, V, A: Allocator> {
-    // from bottom to top
-    entries: Vec<LiveEdge<I, V>, A>,
+pub struct ScanList<I: IntNumber, V: Copy, A: Allocator> {
+    // the edges over the line
+    live: LiveEdges<I, V, A>,
     // the x that was moved to last, and none after `clear`
     reached: Option<I>,
 }
@@ -46,7 +48,7 @@ impl<I: IntNumber, V: Copy, A: Allocator> ScanList<I, V, A> {
         ensures { plain_sweep I.whole result ≡ empty_sweep }
     {
         ScanList {
-            entries: Vec::new(alloc),
+            live: LiveEdges::new(alloc),
             reached: None,
         }
     }
@@ -55,7 +57,7 @@ impl<I: IntNumber, V: Copy, A: Allocator> ScanList<I, V, A> {
     fn move_to(&mut self, x: I)
         ensures { plain_sweep I.whole self.new ≡ moved_to (I.whole x) (plain_sweep I.whole self.old) }
     {
-        self.entries.retain(|f| x.compare(f.b.x).is_lt());
+        self.live.drop_ended(x);
         self.reached = Some(x);
     }
 }
@@ -80,8 +82,8 @@ impl<I: IntNumber, V: Copy, A: Allocator> Scan<I, V> for ScanList<I, V, A> {
     {
         self.move_to(x);
         let entry = live_edge(edge, value);
-        let place = count_under(&self.entries, entry);
-        self.entries.insert(place, entry)?;
+        let place = count_under(self.live.as_slice(), entry);
+        self.live.insert(place, entry)?;
         Ok(())
     }
 
@@ -96,8 +98,8 @@ impl<I: IntNumber, V: Copy, A: Allocator> Scan<I, V> for ScanList<I, V, A> {
         ensures state { IsSweep I.limit (plain_sweep I.whole self.new) }
     {
         self.move_to(x);
-        let place = count_under(&self.entries, live_edge(edge, default));
-        value_before(&self.entries, place, default)
+        let place = count_under(self.live.as_slice(), live_edge(edge, default));
+        value_before(self.live.as_slice(), place, default)
     }
 
     fn first_less_or_equal_by<F: Fn(IntLine<I>) -> Ordering + Drop>(
@@ -107,12 +109,12 @@ impl<I: IntNumber, V: Copy, A: Allocator> Scan<I, V> for ScanList<I, V, A> {
         order: F,
     ) -> V {
         self.move_to(x);
-        let place = count_up_to(&self.entries, order);
-        value_before(&self.entries, place, default)
+        let place = count_up_to(self.live.as_slice(), order);
+        value_before(self.live.as_slice(), place, default)
     }
 
     fn clear(&mut self) {
-        self.entries.clear();
+        self.live.clear();
         self.reached = None;
     }
 }
@@ -125,21 +127,27 @@ fn live_edge<I: IntNumber, V: Copy>(line: IntLine<I>, value: V) -> LiveEdge<I, V
     LiveEdge { a, b, value }
 }
 
-// How many entries are under the edge, from the bottom on.
+// How many entries are under the edge, from the bottom on: above one that is not, none is.
 fn count_under<I: IntNumber, V: Copy>(entries: &[LiveEdge<I, V>], e: LiveEdge<I, V>) -> usize
     requires entries { All (λ f. IsInRange I.limit f.edge) (plain_entries I.whole entries.now) }
     requires edge { IsInRange I.limit (plain_entry I.whole e).edge }
+    requires front { PassBefore (λ f. is_lower f.edge (plain_entry I.whole e).edge) (plain_entries I.whole entries.now) }
     ensures { result ≡ prefix_len (λ f. is_lower f.edge (plain_entry I.whole e).edge) (plain_entries I.whole entries.now) }
 {
-    for (i, f) in entries.iter().enumerate() {
-        if !is_under(f, &e) {
-            return i;
+    let mut low = 0;
+    let mut high = entries.len();
+    while low < high {
+        let middle = low + (high - low) / 2;
+        if is_under(&entries[middle], &e) {
+            low = middle + 1;
+        } else {
+            high = middle;
         }
     }
-    entries.len()
+    low
 }
 
-// How many entries the order does not answer Greater, from the bottom on.
+// How many entries the order does not answer Greater, from the bottom on, where its answers rise.
 fn count_up_to<I: IntNumber, V: Copy, F: Fn(IntLine<I>) -> Ordering + Drop>(
     entries: &[LiveEdge<I, V>],
     order: F,
@@ -147,14 +155,20 @@ fn count_up_to<I: IntNumber, V: Copy, F: Fn(IntLine<I>) -> Ordering + Drop>(
     requires { IsCallableOn I.whole (F.pre order) (plain_entries I.whole entries.now) }
     ensures fits { result ≤ length entries.now }
     ensures count { (answer : _) → IsAnsweredBy I.whole (F.post order) answer (plain_entries I.whole entries.now)
+        → AnswersRise answer (plain_entries I.whole entries.now)
         → result ≡ prefix_len (λ f. not (is_gt (answer f.edge))) (plain_entries I.whole entries.now) }
 {
-    for (i, f) in entries.iter().enumerate() {
-        if ask(&order, f).is_gt() {
-            return i;
+    let mut low = 0;
+    let mut high = entries.len();
+    while low < high {
+        let middle = low + (high - low) / 2;
+        if ask(&order, &entries[middle]).is_gt() {
+            high = middle;
+        } else {
+            low = middle + 1;
         }
     }
-    entries.len()
+    low
 }
 
 // What the order answers for an entry's line.
