@@ -35,7 +35,8 @@ fn counted_ends<I: IntNumber, C: EdgeCount, A: Allocator>(
     alloc: A,
     edges: &[CountedEdge<I, C>],
 ) -> Result<Vec<CountedEnd<I>, A>, OverlayError>
-    ensures ok { IfOk result (λ v. plain_ends I.whole v.items ≡ all_counted_ends (plain_edges I.whole C.counts edges.now)) }
+    ensures ok { IfOk result (λ v.
+        plain_ends I.whole v.items ≡ all_counted_ends (plain_edges I.whole C.counts edges.now)) }
     ensures err { IsOkUnless result OverlayError.Memory }
 {
     let mut ends = Vec::new(alloc);

@@ -1,9 +1,8 @@
 -- The ends of one edge more.
-use Rattle.std.proofs.Common.{◌≡◌, ◌∷◌, [], ℤ, neg_ℤ, List, ap, ap₂, ◌∙◌, subst, sym}
+use Rattle.std.proofs.Common.{◌∷◌, [], ℤ, neg_ℤ, List, ap₂, ◌∙◌}
 use Rattle.overlay_geom.specs.Points.{plain_point}
-use Rattle.overlay_geom.proofs.Mapped.{mapped_whole}
 use Rattle.overlay_arrange.specs.Content.{plain_edge}
-use Rattle.overlay_arrange.specs.Ends.{CountedEnd, plain_end, counted_ends, all_counted_ends}
+use Rattle.overlay_arrange.specs.Ends.{CountedEnd, plain_end, counted_ends}
 use Rattle.overlay_arrange.proofs.Appended.{next_two_joined}
 use Rattle.overlay_arrange.proofs.TurnedCounts.{widened, turned_fits, turned_is}
 use Rattle.overlay_arrange.proofs.balance.counted_ends.Goals as goal
