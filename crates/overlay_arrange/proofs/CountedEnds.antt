@@ -1,26 +1,24 @@
 -- The ends of edges with their counts cancel out where the edges' counts are balanced.
-use Rattle.std.proofs.Common.{◌≡◌, ℕ, ◌+◌, ◌*◌, ◌^◌, ◌<◌, ◌≤◌, Bool, false, ℤ, pos, negsuc, neg_ℤ, ◌+ℤ◌, ◌-ℤ◌, ◌*ℤ◌, List, [], ◌∷◌, refl, sym, ap, ◌∙◌, subst, arith}
+use Rattle.std.proofs.Common.{◌≡◌, ℕ, ◌*◌, ◌^◌, ◌<◌, ◌≤◌, Bool, false, ℤ, pos, negsuc, neg_ℤ, ◌+ℤ◌, ◌-ℤ◌, ◌*ℤ◌, List, [], ◌∷◌, refl, sym, ◌∙◌, arith}
 use Rattle.std.specs.Prelude.{nat_abs, sum_by}
 use Rattle.std.specs.Cmp.{IsStrictWeakOrder}
-use Rattle.std.specs.List.{AllPairs, flat_map}
 use Rattle.std.specs.List.Sorted.{IsPermutation, IsSortedBy}
 use Rattle.std.proofs.lemmas.List.Sorted.{sorted_far, sum_by-IsPermutation}
 use Rattle.std.proofs.lemmas.List.Sums.{sum_by-append}
-use Rattle.overlay_geom.specs.Edges.{CountedEdge, ends_of, subj_of, clip_of, weight}
+use Rattle.overlay_geom.specs.Edges.{CountedEdge, weight}
 use Rattle.overlay_geom.specs.Plane.{Point, point_lt, total}
 use Rattle.overlay_geom.specs.Points.{plain_point}
 use Rattle.overlay_geom.proofs.Identities.{solve, number, ◌⊕◌, ◌⊖◌, ◌⊗◌, ⊝◌, ◌≗◌}
 use Rattle.overlay_geom.proofs.Mapped.{AllPairs-map}
 use Rattle.overlay_geom.proofs.Orders.{point_lt-order}
 use Rattle.overlay_geom.proofs.Totals.{total-IsPermutation}
-use Rattle.overlay_geom.proofs.Weights.{edge_weight, weight-cons}
+use Rattle.overlay_geom.proofs.Weights.{weight-cons}
 use Rattle.overlay_plane.specs.Balance.{HasBalancedCounts}
-use Rattle.overlay_plane.specs.EdgeLists.{IsBalanced}
 use Rattle.overlay_plane.proofs.JoinedLists.{total-flat_map}
 use Rattle.overlay_plane.proofs.Totals.{total-same}
 use Rattle.overlay_arrange.specs.Ends.{CountedEnd, plain_end, plain_ends, counted_ends, all_counted_ends, end_weight, AreSummable, CancelOut}
 use Rattle.overlay_arrange.specs.declared.counted_end.CountedEnd.{CountedEnd as HeldEnd}
-use Rattle.overlay_arrange.proofs.EndSums.{AreByPoint, SumsUpToNone}
+use Rattle.overlay_arrange.proofs.EndSums.{AreByPoint}
 
 -- what the ends of an edge count, each times a number of its point, is the edge's count times what the number rises by
 risen : (c u v : ℤ) → neg_ℤ c *ℤ u +ℤ (c *ℤ v +ℤ pos 0) ≡ c *ℤ (v -ℤ u)

@@ -1,5 +1,5 @@
 -- A count of 32 bits, and the count with the other sign, in 64 bits.
-use Rattle.std.proofs.Common.{◌≡◌, ℕ, ◌<◌, ℤ, pos, negsuc, neg_ℤ, ◌-ℤ◌, to_z, of_z, w32, w64, FitsSigned, lit<, sym, ap, ◌∙◌, subst, arith}
+use Rattle.std.proofs.Common.{◌≡◌, ◌<◌, ℤ, pos, negsuc, neg_ℤ, ◌-ℤ◌, to_z, of_z, w32, w64, FitsSigned, lit<, sym, ap, ◌∙◌, subst, arith}
 use Rattle.std.proofs.lemmas.Int.{ints, to_z-of_z}
 use lib.Signed.{mag}
 use Rattle.overlay_geom.specs.Numbers.{Within}

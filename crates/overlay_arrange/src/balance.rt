@@ -25,17 +25,18 @@ pub fn is_balanced<I: IntNumber, C: EdgeCount, A: Allocator>(
     ensures balanced { IfOk result (λ b. IsTrue b ↔ HasBalancedCounts (plain_edges I.whole C.counts edges.now)) }
     ensures err { IsOkUnless result OverlayError.Memory }
 {
-    let mut ends = ends_of(alloc, edges)?;
+    let mut ends = counted_ends(alloc, edges)?;
     ends.sort_by(|m, n| compare_points(m.point, n.point))?;
     Ok(cancel_out(&ends))
 }
 
 /// The ends of all edges with their counts.
-fn ends_of<I: IntNumber, C: EdgeCount, A: Allocator>(
+fn counted_ends<I: IntNumber, C: EdgeCount, A: Allocator>(
     alloc: A,
     edges: &[CountedEdge<I, C>],
 ) -> Result<Vec<CountedEnd<I>, A>, OverlayError>
-    ensures ok { IfOk result (λ v. plain_ends I.whole v.items ≡ all_counted_ends (plain_edges I.whole C.counts edges.now)) }
+    ensures ok { IfOk result (λ v.
+        plain_ends I.whole v.items ≡ all_counted_ends (plain_edges I.whole C.counts edges.now)) }
     ensures err { IsOkUnless result OverlayError.Memory }
 {
     let mut ends = Vec::new(alloc);

@@ -63,12 +63,12 @@ fn next_fill<I: IntNumber, C: EdgeCount, S: Scan<I, Windings>>(
 ) -> Result<SideFill, OverlayError>
     requires edges { IsSweepable I.limit (plain_starts I.whole C.counts starting.now) }
     requires within { i < length starting.now }
-    requires swept { (e : _) → slice_index_or (plain_starts I.whole C.counts starting.now) i e ≡ e
-        → IsSwept I.limit e.a.x (take i (wound_entries (plain_starts I.whole C.counts starting.now))) (S.content scan.old) }
-    ensures swept { OnOk result ((e : _) → slice_index_or (plain_starts I.whole C.counts starting.now) i e ≡ e
-        → IsSwept I.limit e.a.x (take (i + 1) (wound_entries (plain_starts I.whole C.counts starting.now))) (S.content scan.new)) }
-    ensures fill { IfOk result (λ n. (e : _) → slice_index_or (plain_starts I.whole C.counts starting.now) i e ≡ e
-        → n ≡ fill_bits rule (plain_starts I.whole C.counts starting.now) e) }
+    requires swept { let fs = plain_starts I.whole C.counts starting.now in (e : _) → slice_index_or fs i e ≡ e
+        → IsSwept I.limit e.a.x (take i (wound_entries fs)) (S.content scan.old) }
+    ensures swept { let fs = plain_starts I.whole C.counts starting.now in OnOk result ((e : _)
+        → slice_index_or fs i e ≡ e → IsSwept I.limit e.a.x (take (i + 1) (wound_entries fs)) (S.content scan.new)) }
+    ensures fill { let fs = plain_starts I.whole C.counts starting.now in IfOk result (λ n. (e : _)
+        → slice_index_or fs i e ≡ e → n ≡ fill_bits rule fs e) }
     ensures err { IsOkUnless result OverlayError.Memory }
 {
     let next = &starting[i];

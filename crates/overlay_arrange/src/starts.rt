@@ -23,7 +23,8 @@ pub(crate) fn edges_by_start<I: IntNumber, C: EdgeCount, A: Allocator>(
     edges: &[CountedEdge<I, C>],
 ) -> Result<Vec<StartingEdge<I, C>, A>, OverlayError>
     requires { IsContent I.limit (plain_edges I.whole C.counts edges.now) }
-    ensures ok { IfOk result (λ v. AreByStart (plain_edges I.whole C.counts edges.now) (numbered_starts I.whole C.counts v.items)) }
+    ensures ok { IfOk result (λ v. AreByStart
+        (plain_edges I.whole C.counts edges.now) (numbered_starts I.whole C.counts v.items)) }
     ensures err { IsOkUnless result OverlayError.Memory }
 {
     let mut starting = edges_with_places(alloc, edges)?;
@@ -37,7 +38,8 @@ fn edges_with_places<I: IntNumber, C: EdgeCount, A: Allocator>(
     edges: &[CountedEdge<I, C>],
 ) -> Result<Vec<StartingEdge<I, C>, A>, OverlayError>
     requires { IsContent I.limit (plain_edges I.whole C.counts edges.now) }
-    ensures ok { IfOk result (λ v. numbered_starts I.whole C.counts v.items ≡ numbered 0 (plain_edges I.whole C.counts edges.now)) }
+    ensures ok { IfOk result (λ v.
+        numbered_starts I.whole C.counts v.items ≡ numbered 0 (plain_edges I.whole C.counts edges.now)) }
     ensures err { IsOkUnless result OverlayError.Memory }
 {
     let mut starting = Vec::with_capacity(alloc, edges.len())?;

@@ -1,9 +1,9 @@
 -- One end more, at the last point or at another one.
-use Rattle.std.proofs.Common.{◌≡◌, ◌+◌, ◌<◌, ◌≤◌, false, ℤ, ◌+ℤ◌, length, drop, get_or, refl, sym, ap, ◌∙◌, subst, rules}
+use Rattle.std.proofs.Common.{◌≡◌, ◌+◌, ◌<◌, ◌≤◌, false, ◌+ℤ◌, length, drop, get_or, refl, sym, ap, ◌∙◌, subst, rules}
 use Rattle.std.specs.List.{All}
 use Rattle.std.proofs.lemmas.Bool.{false≢true}
 use Rattle.std.proofs.lemmas.List.{length-map}
-use Rattle.overlay_geom.specs.Plane.{Point, point_lt}
+use Rattle.overlay_geom.specs.Plane.{point_lt}
 use Rattle.overlay_geom.specs.Points.{plain_point}
 use Rattle.overlay_geom.proofs.Mapped.{read_mapped}
 use Rattle.overlay_geom.proofs.PointComparisons.{point_cmp-is_less}

@@ -2,7 +2,7 @@
 use Rattle.std.proofs.Common.{◌≡◌, take}
 use Rattle.overlay_arrange.specs.Content.{plain_edges}
 use Rattle.overlay_arrange.specs.Ends.{plain_ends, all_counted_ends}
-use Rattle.overlay_arrange.proofs.balance.ends_of.Given as goal
+use Rattle.overlay_arrange.proofs.balance.counted_ends.Given as goal
 
 abbrev pub invariant-loop-edge : goal.invariant-loop-edge
 invariant-loop-edge g l =

@@ -1,12 +1,11 @@
 -- The ends of one edge more.
-use Rattle.std.proofs.Common.{◌≡◌, ◌∷◌, [], ℤ, neg_ℤ, List, ap, ap₂, ◌∙◌, subst, sym}
+use Rattle.std.proofs.Common.{◌∷◌, [], ℤ, neg_ℤ, List, ap₂, ◌∙◌}
 use Rattle.overlay_geom.specs.Points.{plain_point}
-use Rattle.overlay_geom.proofs.Mapped.{mapped_whole}
 use Rattle.overlay_arrange.specs.Content.{plain_edge}
-use Rattle.overlay_arrange.specs.Ends.{CountedEnd, plain_end, counted_ends, all_counted_ends}
+use Rattle.overlay_arrange.specs.Ends.{CountedEnd, plain_end, counted_ends}
 use Rattle.overlay_arrange.proofs.Appended.{next_two_joined}
 use Rattle.overlay_arrange.proofs.TurnedCounts.{widened, turned_fits, turned_is}
-use Rattle.overlay_arrange.proofs.balance.ends_of.Goals as goal
+use Rattle.overlay_arrange.proofs.balance.counted_ends.Goals as goal
 
 pub overflow_sub-subj : goal.overflow_sub-subj
 overflow_sub-subj g c = turned_fits c.subj.result c.from-subj.result c.subj.type_inv c.from-subj.ensures
