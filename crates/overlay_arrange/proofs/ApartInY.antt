@@ -20,11 +20,14 @@ record IsSpan (e : Edge) : Type 0 where
   b_to : e.b.y ≤ℤ highest e
 
 span : (e : Edge) → IsSpan e
-span e = let found = by (int_lt e.a.y e.b.y) (Decides-int_lt e.a.y e.b.y) in record { a_from = found.0; b_from = found.1; a_to = found.2; b_to = found.3 }
+span e = let found = by (int_lt e.a.y e.b.y)
+    (Decides-int_lt e.a.y e.b.y) in record { a_from = found.0; b_from = found.1; a_to = found.2; b_to = found.3 }
   where
-    by : (t : Bool) → Decides t (e.a.y <ℤ e.b.y) → (cond t e.a.y e.b.y ≤ℤ e.a.y) × (cond t e.a.y e.b.y ≤ℤ e.b.y) × (e.a.y ≤ℤ cond t e.b.y e.a.y) × (e.b.y ≤ℤ cond t e.b.y e.a.y)
+    by : (t : Bool) → Decides t (e.a.y <ℤ e.b.y) →
+        (cond t e.a.y e.b.y ≤ℤ e.a.y) × (cond t e.a.y e.b.y ≤ℤ e.b.y) × (e.a.y ≤ℤ cond t e.b.y e.a.y) × (e.b.y ≤ℤ cond t e.b.y e.a.y)
     by true d = let less = d.0 refl in (omega linear, omega linear, omega linear, omega linear)
-    by false d = by_lt_z e.a.y e.b.y (λ less. absurd (false≢true (d.1 less))) (λ at_least. (omega linear, omega linear, omega linear, omega linear))
+    by false d = by_lt_z e.a.y e.b.y (λ less. absurd (false≢true (d.1 less)))
+        (λ at_least. (omega linear, omega linear, omega linear, omega linear))
 
 -- an edge whose highest end lies below the other one's lowest one is below it
 below_from_test : (e f : Edge) → int_lt (highest e) (lowest f) ≡ true → IsBelow e f
@@ -58,6 +61,7 @@ pub meet_in_ends_where_apart : (e f : Edge) → are_apart_in_y e f ≡ true → 
 meet_in_ends_where_apart e f test p common = absurd (apart_in_y_have_no_common e f p (apart_from_test e f test) common)
 
 -- and the one leads the other through no whole point
-pub nowhere_where_apart : (e f : Edge) → IsBefore e.a e.b → IsBefore f.a f.b → are_apart_in_y e f ≡ true → met_at e f ≡ []
+pub nowhere_where_apart : (e f : Edge) → IsBefore e.a e.b → IsBefore f.a f.b → are_apart_in_y e f ≡ true →
+    met_at e f ≡ []
 nowhere_where_apart e f e_forward f_forward test =
     meet_nowhere e f e_forward f_forward (λ p. apart_in_y_have_no_common e f p (apart_from_test e f test))

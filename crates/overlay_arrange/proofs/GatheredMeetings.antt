@@ -16,7 +16,7 @@ use Rattle.overlay_plane.proofs.InOrderLists.{Contains-put_in_order}
 use Rattle.overlay_plane.proofs.MetInBox.{apart_meet_nowhere}
 use Rattle.overlay_arrange.specs.Content.{IsAscending, IsHeld}
 use Rattle.overlay_arrange.specs.Cut.{IsEndOf}
-use Rattle.overlay_arrange.specs.Meetings.{AddsBoth, AreGathered, AreMeetings, HasBefore, IsAt, Meeting}
+use Rattle.overlay_arrange.specs.Meetings.{AddsBoth, AreGathered, AreMeetings, HasBefore, IsAt, IsEndOrMet, Meeting}
 use Rattle.overlay_arrange.proofs.SettledLists.{right_from}
 
 -- at one place stands one entry
@@ -24,52 +24,69 @@ pub one_entry : {X : Type 0} (xs : List X) (i : ℕ) (x y : X) → IsAt xs i x �
 one_entry xs i x y at_x at_y = sym at_x.1 ∙ get_or_default xs i x y at_x.0 ∙ at_y.1
 
 -- an entry of a list that is read stands there in the mapped list
-pub placed_in_mapped : {X Y : Type 0} (f : X → Y) (xs : List X) (i : ℕ) (x : X) → i < length xs → x ≡ get_or xs i x → IsAt (map f xs) i (f x)
+pub placed_in_mapped : {X Y : Type 0} (f : X → Y) (xs : List X) (i : ℕ) (x : X) → i < length xs → x ≡ get_or xs i x →
+    IsAt (map f xs) i (f x)
 placed_in_mapped f xs i x within is = (let count = length-map xs f in omega (arith, within), read_mapped f xs i x (f x) within is)
+
+-- a place before the one after i is i, or comes before i
+at_or_before : (k i : ℕ) → k < i + 1 → (k ≡ i) ⊎ (k < i)
+at_or_before k i lt = eq-or-lt_of_le (let le : k ≤ i = omega (arith, lt) in le)
 
 -- one of the two places comes before place i; or the one is i, and the other one comes before place j
 abbrev pub IsLookedAt : ℕ → ℕ → ℕ → ℕ → Type 0
 IsLookedAt i j k l = HasBefore i k l ⊎ (((k ≡ i) × (l < j)) ⊎ ((l ≡ i) × (k < j)))
+
+-- h leads g through v
+abbrev IsLedBy : CountedEdge → CountedEdge → Point → Type 0
+IsLedBy g h v = Contains (met_at (ends_of g) (ends_of h)) v
+
+-- h leads g through nothing but g's ends
+abbrev LeadsNowhere : CountedEdge → CountedEdge → Type 0
+LeadsNowhere g h = (v : Point) → IsLedBy g h v → IsEndOf g v
 
 module _ (es : List CountedEdge) where
   -- at first no pair has been looked at
   pub none_gathered : AreGathered es (HasBefore 0) []
   none_gathered = record {
     led = λ m at. absurd (omega (arith, at.1));
-    all = λ i j e f at_e at_f before v at. ⊎_elim (λ (lt : i < 0). absurd (omega (arith, lt))) (λ (lt : j < 0). absurd (omega (arith, lt))) before;
+    all = λ i j e f at_e at_f before v at. ⊎_elim (λ (lt : i < 0). absurd (omega (arith, lt)))
+        (λ (lt : j < 0). absurd (omega (arith, lt))) before;
   }
 
   -- what is gathered of some pairs is gathered of others, if those lead one another nowhere but to their ends, or were looked at
   gathered_of_more : {Some More : ℕ → ℕ → Type 0} {ms : List Meeting} → AreGathered es Some ms →
-      ((k l : ℕ) (g h : CountedEdge) → IsAt es k g → IsAt es l h → More k l → Some k l ⊎ ((v : Point) → Contains (met_at (ends_of g) (ends_of h)) v → IsEndOf g v)) →
+      ((k l : ℕ) (g h : CountedEdge) → IsAt es k g → IsAt es l h → More k l → Some k l ⊎ LeadsNowhere g h) →
       AreGathered es More ms
   gathered_of_more gathered more = record {
     led = gathered.led;
-    all = λ k l g h at_g at_h pair v at. ⊎_elim (λ some. gathered.all k l g h at_g at_h some v at) (λ ends. inl (ends v at)) (more k l g h at_g at_h pair);
+    all = λ k l g h at_g at_h pair v at. ⊎_elim (λ some. gathered.all k l g h at_g at_h some v at)
+        (λ ends. inl (ends v at)) (more k l g h at_g at_h pair);
   }
 
   module _ (i : ℕ) (e : CountedEdge) (at_e : IsAt es i e) where
     -- an edge leads itself through its ends alone
-    pub itself_looked_at : {ms : List Meeting} → AreGathered es (HasBefore i) ms → AreGathered es (IsLookedAt i (i + 1)) ms
+    pub itself_looked_at : {ms : List Meeting} → AreGathered es (HasBefore i) ms →
+        AreGathered es (IsLookedAt i (i + 1)) ms
     itself_looked_at gathered = gathered_of_more gathered (λ k l g h at_g at_h pair. by k l g h at_g at_h pair)
       where
-        own : (k l : ℕ) (g h : CountedEdge) → IsAt es k g → IsAt es l h → k ≡ l → (v : Point) → Contains (met_at (ends_of g) (ends_of h)) v → IsEndOf g v
+        own : (k l : ℕ) (g h : CountedEdge) → IsAt es k g → IsAt es l h → k ≡ l → LeadsNowhere g h
         own k l g h at_g at_h same v at =
             let is : h ≡ g = one_entry es k h g (subst (λ n. IsAt es n h) (sym same) at_h) at_g in
             met_at_itself (ends_of g) v (subst (λ u. Contains (met_at (ends_of g) (ends_of u)) v) is at)
 
         by : (k l : ℕ) (g h : CountedEdge) → IsAt es k g → IsAt es l h → IsLookedAt i (i + 1) k l →
-            HasBefore i k l ⊎ ((v : Point) → Contains (met_at (ends_of g) (ends_of h)) v → IsEndOf g v)
+            HasBefore i k l ⊎ LeadsNowhere g h
         by k l g h at_g at_h (inl before) = inl before
         by k l g h at_g at_h (inr (inl (k_is, lt))) = ⊎_elim (λ (l_is : l ≡ i). inr (own k l g h at_g at_h (k_is ∙ sym l_is))) (λ (less : l < i). inl (inr less))
-            (eq-or-lt_of_le (let le : l ≤ i = omega (arith, lt) in le))
+            (at_or_before l i lt)
         by k l g h at_g at_h (inr (inr (l_is, lt))) = ⊎_elim (λ (k_is : k ≡ i). inr (own k l g h at_g at_h (k_is ∙ sym l_is))) (λ (less : k < i). inl (inl less))
-            (eq-or-lt_of_le (let le : k ≤ i = omega (arith, lt) in le))
+            (at_or_before k i lt)
 
     -- the pair of e and the edge at place j is looked at
     module _ (j : ℕ) (f : CountedEdge) (at_f : IsAt es j f) {old new : List Meeting} (gathered : AreGathered es (IsLookedAt i j) old) (adds : AddsBoth i e j f old new) where
       -- a point through which the second edge leads the first one is one of its computed points
-      computed : (k l : ℕ) (g h : CountedEdge) → IsAt es k g → IsAt es l h → (m : Meeting) → m.place ≡ k → Contains (met_at (ends_of g) (ends_of h)) m.point →
+      computed : (k l : ℕ) (g h : CountedEdge) → IsAt es k g → IsAt es l h → (m : Meeting) → m.place ≡ k →
+          Contains (met_at (ends_of g) (ends_of h)) m.point →
           (d : CountedEdge) × IsAt es m.place d × Contains (cut_points es d) m.point
       computed k l g h at_g at_h m is at = (
         g,
@@ -79,12 +96,14 @@ module _ (es : List CountedEdge) where
       )
 
       -- what was there is kept
-      kept : (k : ℕ) (v : Point) → Contains old (record { place = k; point = v }) → Contains new (record { place = k; point = v })
-      kept k v at = adds.other.kept (record { place = k; point = v }) (adds.one.kept (record { place = k; point = v }) at)
+      kept : (k : ℕ) (v : Point) → Contains old (record { place = k; point = v }) →
+          Contains new (record { place = k; point = v })
+      kept k v at = adds.other.kept (record { place = k; point = v })
+          (adds.one.kept (record { place = k; point = v }) at)
 
       -- the two edges lead one another through what was added
-      forth : (k l : ℕ) (g h : CountedEdge) → IsAt es k g → IsAt es l h → k ≡ i → l ≡ j → (v : Point) → Contains (met_at (ends_of g) (ends_of h)) v →
-          IsEndOf g v ⊎ Contains new (record { place = k; point = v })
+      forth : (k l : ℕ) (g h : CountedEdge) → IsAt es k g → IsAt es l h → k ≡ i → l ≡ j →
+          (v : Point) → IsLedBy g h v → IsEndOrMet new k g v
       forth k l g h at_g at_h k_is l_is v at =
           let g_is : e ≡ g = one_entry es k e g (subst (λ n. IsAt es n e) (sym k_is) at_e) at_g in
           let h_is : f ≡ h = one_entry es l f h (subst (λ n. IsAt es n f) (sym l_is) at_f) at_h in
@@ -92,8 +111,8 @@ module _ (es : List CountedEdge) where
           (λ there. inr (subst (λ n. Contains new (record { place = n; point = v })) (sym k_is) (adds.other.kept (record { place = i; point = v }) there)))
           (adds.one.all v (rw (g_is, h_is) at))
 
-      back : (k l : ℕ) (g h : CountedEdge) → IsAt es k g → IsAt es l h → k ≡ j → l ≡ i → (v : Point) → Contains (met_at (ends_of g) (ends_of h)) v →
-          IsEndOf g v ⊎ Contains new (record { place = k; point = v })
+      back : (k l : ℕ) (g h : CountedEdge) → IsAt es k g → IsAt es l h → k ≡ j → l ≡ i →
+          (v : Point) → IsLedBy g h v → IsEndOrMet new k g v
       back k l g h at_g at_h k_is l_is v at =
           let g_is : f ≡ g = one_entry es k f g (subst (λ n. IsAt es n f) (sym k_is) at_f) at_g in
           let h_is : e ≡ h = one_entry es l e h (subst (λ n. IsAt es n e) (sym l_is) at_e) at_h in
@@ -109,30 +128,39 @@ module _ (es : List CountedEdge) where
         all = λ k l g h at_g at_h pair v at. by k l g h at_g at_h pair v at;
       }
         where
-          earlier : (k l : ℕ) (g h : CountedEdge) → IsAt es k g → IsAt es l h → IsLookedAt i j k l → (v : Point) → Contains (met_at (ends_of g) (ends_of h)) v →
-              IsEndOf g v ⊎ Contains new (record { place = k; point = v })
-          earlier k l g h at_g at_h pair v at = ⊎_elim (λ end. inl end) (λ there. inr (kept k v there)) (gathered.all k l g h at_g at_h pair v at)
+          earlier : (k l : ℕ) (g h : CountedEdge) → IsAt es k g → IsAt es l h → IsLookedAt i j k l → (v : Point) →
+              IsLedBy g h v →
+              IsEndOrMet new k g v
+          earlier k l g h at_g at_h pair v at = ⊎_elim (λ end. inl end) (λ there. inr (kept k v there))
+              (gathered.all k l g h at_g at_h pair v at)
 
-          by : (k l : ℕ) (g h : CountedEdge) → IsAt es k g → IsAt es l h → IsLookedAt i (j + 1) k l → (v : Point) → Contains (met_at (ends_of g) (ends_of h)) v →
-              IsEndOf g v ⊎ Contains new (record { place = k; point = v })
+          by : (k l : ℕ) (g h : CountedEdge) → IsAt es k g → IsAt es l h → IsLookedAt i (j + 1) k l → (v : Point) →
+              IsLedBy g h v →
+              IsEndOrMet new k g v
           by k l g h at_g at_h (inl before) v at = earlier k l g h at_g at_h (inl before) v at
           by k l g h at_g at_h (inr (inl (k_is, lt))) v at = ⊎_elim (λ (l_is : l ≡ j). forth k l g h at_g at_h k_is l_is v at)
-              (λ (less : l < j). earlier k l g h at_g at_h (inr (inl (k_is, less))) v at) (eq-or-lt_of_le (let le : l ≤ j = omega (arith, lt) in le))
+              (λ (less : l < j). earlier k l g h at_g at_h (inr (inl (k_is, less))) v at) (at_or_before l j lt)
           by k l g h at_g at_h (inr (inr (l_is, lt))) v at = ⊎_elim (λ (k_is : k ≡ j). back k l g h at_g at_h k_is l_is v at)
-              (λ (less : k < j). earlier k l g h at_g at_h (inr (inr (l_is, less))) v at) (eq-or-lt_of_le (let le : k ≤ j = omega (arith, lt) in le))
+              (λ (less : k < j). earlier k l g h at_g at_h (inr (inr (l_is, less))) v at) (at_or_before k j lt)
 
     -- where all later edges have been looked at, the pairs with e have
-    pub all_looked_at : (j : ℕ) {ms : List Meeting} → length es ≤ j → AreGathered es (IsLookedAt i j) ms → AreGathered es (HasBefore (i + 1)) ms
-    all_looked_at j past gathered = gathered_of_more gathered (λ k l g h at_g at_h pair. inl (by k l at_g.0 at_h.0 pair))
+    pub all_looked_at : (j : ℕ) {ms : List Meeting} → length es ≤ j → AreGathered es (IsLookedAt i j) ms →
+        AreGathered es (HasBefore (i + 1)) ms
+    all_looked_at j past gathered = gathered_of_more gathered
+        (λ k l g h at_g at_h pair. inl (by k l at_g.0 at_h.0 pair))
       where
         by : (k l : ℕ) → k < length es → l < length es → HasBefore (i + 1) k l → IsLookedAt i j k l
-        by k l k_in l_in (inl lt) = ⊎_elim (λ (is : k ≡ i). inr (inl (is, omega (arith, l_in, past)))) (λ (less : k < i). inl (inl less)) (eq-or-lt_of_le (let le : k ≤ i = omega (arith, lt) in le))
-        by k l k_in l_in (inr lt) = ⊎_elim (λ (is : l ≡ i). inr (inr (is, omega (arith, k_in, past)))) (λ (less : l < i). inl (inr less)) (eq-or-lt_of_le (let le : l ≤ i = omega (arith, lt) in le))
+        by k l k_in l_in (inl lt) = ⊎_elim (λ (is : k ≡ i). inr (inl (is, omega (arith, l_in, past))))
+            (λ (less : k < i). inl (inl less)) (at_or_before k i lt)
+        by k l k_in l_in (inr lt) = ⊎_elim (λ (is : l ≡ i). inr (inr (is, omega (arith, k_in, past))))
+            (λ (less : l < i). inl (inr less)) (at_or_before l i lt)
 
     -- so they have where the edge at place j starts right of e's end: it and those after it lead e nowhere, and e them
-    pub rest_passed_over : (limit : ℕ) (j : ℕ) (f : CountedEdge) {ms : List Meeting} → All (IsHeld limit) es → IsAscending es → IsAt es j f → e.b.x <ℤ f.a.x →
+    pub rest_passed_over : (limit : ℕ) (j : ℕ) (f : CountedEdge) {ms : List Meeting} → All (IsHeld limit) es →
+        IsAscending es → IsAt es j f → e.b.x <ℤ f.a.x →
         AreGathered es (IsLookedAt i j) ms → AreGathered es (HasBefore (i + 1)) ms
-    rest_passed_over limit j f held up at_f right gathered = gathered_of_more gathered (λ k l g h at_g at_h pair. by k l g h at_g at_h pair)
+    rest_passed_over limit j f held up at_f right gathered = gathered_of_more gathered
+        (λ k l g h at_g at_h pair. by k l g h at_g at_h pair)
       where
         holds : (k : ℕ) (g : CountedEdge) → IsAt es k g → IsHeld limit g
         holds k g at = subst (IsHeld limit) at.1 (held k g at.0)
@@ -142,38 +170,44 @@ module _ (es : List CountedEdge) where
             subst (λ (u : CountedEdge). e.b.x <ℤ u.a.x) at.1
             (right_from e es j l h up later at.0 (subst (λ (u : CountedEdge). e.b.x <ℤ u.a.x) (sym at_f.1 ∙ get_or_default es j f h at_f.0) right))
 
-        nowhere : (k l : ℕ) (g h : CountedEdge) → IsAt es k g → IsAt es l h → k ≡ i → j ≤ l → met_at (ends_of g) (ends_of h) ≡ []
+        nowhere : (k l : ℕ) (g h : CountedEdge) → IsAt es k g → IsAt es l h → k ≡ i → j ≤ l →
+            met_at (ends_of g) (ends_of h) ≡ []
         nowhere k l g h at_g at_h is later =
             let g_is : e ≡ g = one_entry es k e g (subst (λ n. IsAt es n e) (sym is) at_e) at_g in
             apart_meet_nowhere (ends_of g) (ends_of h) ((Decides-point_lt g.a g.b).0 (holds k g at_g).forward) ((Decides-point_lt h.a h.b).0 (holds l h at_h).forward)
             (inl (subst (λ (u : CountedEdge). u.b.x <ℤ h.a.x) g_is (starts_right l h at_h later)))
 
-        nowhere_back : (k l : ℕ) (g h : CountedEdge) → IsAt es k g → IsAt es l h → l ≡ i → j ≤ k → met_at (ends_of g) (ends_of h) ≡ []
+        nowhere_back : (k l : ℕ) (g h : CountedEdge) → IsAt es k g → IsAt es l h → l ≡ i → j ≤ k →
+            met_at (ends_of g) (ends_of h) ≡ []
         nowhere_back k l g h at_g at_h is later =
             let h_is : e ≡ h = one_entry es l e h (subst (λ n. IsAt es n e) (sym is) at_e) at_h in
             apart_meet_nowhere (ends_of g) (ends_of h) ((Decides-point_lt g.a g.b).0 (holds k g at_g).forward) ((Decides-point_lt h.a h.b).0 (holds l h at_h).forward)
             (inr (subst (λ (u : CountedEdge). u.b.x <ℤ g.a.x) h_is (starts_right k g at_g later)))
 
-        no_end : (g h : CountedEdge) → met_at (ends_of g) (ends_of h) ≡ [] → (v : Point) → Contains (met_at (ends_of g) (ends_of h)) v → IsEndOf g v
-        no_end g h none v at = let empty = subst (λ (vs : List Point). Contains vs v) none at in absurd (omega (arith, empty.1))
+        no_end : (g h : CountedEdge) → met_at (ends_of g) (ends_of h) ≡ [] → LeadsNowhere g h
+        no_end g h none v at = let empty = subst (λ (vs : List Point). Contains vs v) none at in absurd
+            (omega (arith, empty.1))
 
         by : (k l : ℕ) (g h : CountedEdge) → IsAt es k g → IsAt es l h → HasBefore (i + 1) k l →
-            IsLookedAt i j k l ⊎ ((v : Point) → Contains (met_at (ends_of g) (ends_of h)) v → IsEndOf g v)
+            IsLookedAt i j k l ⊎ LeadsNowhere g h
         by k l g h at_g at_h (inl lt) = ⊎_elim
             (λ (is : k ≡ i). ⊎_elim (λ (less : l < j). inl (inr (inl (is, less)))) (λ (later : j ≤ l). inr (no_end g h (nowhere k l g h at_g at_h is later))) (cases_lt l j))
-            (λ (less : k < i). inl (inl (inl less))) (eq-or-lt_of_le (let le : k ≤ i = omega (arith, lt) in le))
+            (λ (less : k < i). inl (inl (inl less))) (at_or_before k i lt)
         by k l g h at_g at_h (inr lt) = ⊎_elim
             (λ (is : l ≡ i). ⊎_elim (λ (less : k < j). inl (inr (inr (is, less)))) (λ (later : j ≤ k). inr (no_end g h (nowhere_back k l g h at_g at_h is later))) (cases_lt k j))
-            (λ (less : l < i). inl (inl (inr less))) (eq-or-lt_of_le (let le : l ≤ i = omega (arith, lt) in le))
+            (λ (less : l < i). inl (inl (inr less))) (at_or_before l i lt)
 
   -- where all places have been looked at, the meetings are those of all edges
   pub all_gathered : (n : ℕ) {ms : List Meeting} → length es ≤ n → AreGathered es (HasBefore n) ms → AreMeetings es ms
-  all_gathered n past gathered = gathered_of_more gathered (λ k l g h at_g at_h pair. inl (inl (omega (arith, at_g.0, past))))
+  all_gathered n past gathered = gathered_of_more gathered
+      (λ k l g h at_g at_h pair. inl (inl (omega (arith, at_g.0, past))))
 
   -- in another order they are so too
-  pub gathered_moved : {Pair : ℕ → ℕ → Type 0} {old new : List Meeting} → ((m : Meeting) → Contains old m → Contains new m) → ((m : Meeting) → Contains new m → Contains old m) →
+  pub gathered_moved : {Pair : ℕ → ℕ → Type 0} {old new : List Meeting} →
+      ((m : Meeting) → Contains old m → Contains new m) → ((m : Meeting) → Contains new m → Contains old m) →
       AreGathered es Pair old → AreGathered es Pair new
   gathered_moved there from gathered = record {
     led = λ m at. gathered.led m (from m at);
-    all = λ k l g h at_g at_h pair v at. ⊎_elim (λ end. inl end) (λ was. inr (there (record { place = k; point = v }) was)) (gathered.all k l g h at_g at_h pair v at);
+    all = λ k l g h at_g at_h pair v at. ⊎_elim (λ end. inl end)
+        (λ was. inr (there (record { place = k; point = v }) was)) (gathered.all k l g h at_g at_h pair v at);
   }

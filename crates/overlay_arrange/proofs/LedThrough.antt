@@ -26,7 +26,8 @@ use Rattle.overlay_arrange.proofs.GatheredMeetings.{one_entry}
 -- ---- the points of a run
 
 -- a part of a list has the entries at its places
-ranged : {X : Type 0} (xs : List X) (low high k : ℕ) (x : X) → low ≤ k → k < high → high ≤ length xs → IsAt xs k x → Contains (slice_range xs low high) x
+ranged : {X : Type 0} (xs : List X) (low high k : ℕ) (x : X) → low ≤ k → k < high → high ≤ length xs → IsAt xs k x →
+    Contains (slice_range xs low high) x
 ranged xs low high k x past inside within at = (
   k - low,
   omega (arith, length-take (high - low) (drop low xs), length-drop low xs),
@@ -35,7 +36,8 @@ ranged xs low high k x past inside within at = (
 )
 
 -- and no others
-from_ranged : {X : Type 0} (xs : List X) (low high : ℕ) (x : X) → high ≤ length xs → Contains (slice_range xs low high) x →
+from_ranged : {X : Type 0} (xs : List X) (low high : ℕ) (x : X) → high ≤ length xs →
+    Contains (slice_range xs low high) x →
     (k : ℕ) × (low ≤ k) × (k < high) × IsAt xs k x
 from_ranged xs low high x within at =
     let count = length-take (high - low) (drop low xs) in
@@ -47,7 +49,8 @@ from_ranged xs low high x within at =
     )
 
 -- the points of the run of an edge, put in their order along it, are its points
-pub points_of_run : (ms : List Meeting) (i : ℕ) (e : Edge) (low high : ℕ) (us vs : List Point) → IsRunAt ms i low high → us ≡ map (λ m. m.point) (slice_range ms low high) →
+pub points_of_run : (ms : List Meeting) (i : ℕ) (e : Edge) (low high : ℕ) (us vs : List Point) →
+    IsRunAt ms i low high → us ≡ map (λ m. m.point) (slice_range ms low high) →
     vs ≡ in_order (comes_first e) us → ArePointsAt ms i e vs
 points_of_run ms i e low high us vs run are order = record { from = from; all = all; points = us; order = order }
   where
@@ -87,7 +90,8 @@ module _ (limit : ℕ) (es : List CountedEdge) (held : All (IsHeld limit) es) (i
   held_e = subst (IsHeld limit) at_e.1 (held i e at_e.0)
 
   -- so an edge is led through the points of its meetings
-  pub led_through : (ms : List Meeting) (vs : List Point) → AreMeetings es ms → ArePointsAt ms i (ends_of e) vs → IsLedThrough limit es e vs
+  pub led_through : (ms : List Meeting) (vs : List Point) → AreMeetings es ms → ArePointsAt ms i (ends_of e) vs →
+      IsLedThrough limit es e vs
   led_through ms vs meetings points = record {
     chain = chain;
     whole = (

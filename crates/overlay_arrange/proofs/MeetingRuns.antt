@@ -29,7 +29,8 @@ module _ {I : Type 0} (whole : I → ℤ) where
   }
 
   -- sorted by it, meetings stand by their places
-  pub AreByPlace-from_sorted : (ms : List (HeldMeeting I)) → IsSortedBy is_earlier ms → AreByPlace (plain_meetings whole ms)
+  pub AreByPlace-from_sorted : (ms : List (HeldMeeting I)) → IsSortedBy is_earlier ms →
+      AreByPlace (plain_meetings whole ms)
   AreByPlace-from_sorted ms up = AllPairs-map (λ (m n : Meeting). m.place ≤ n.place) (plain_meeting whole) ms
       (λ j k d less within. let not_less = sorted_far is_earlier is_earlier-order ms up j k d (omega arith) within in grind (arith, not_less))
 
@@ -42,11 +43,13 @@ module _ {I : Type 0} (whole : I → ℤ) where
 
   module _ (ms : List (HeldMeeting I)) (by_place : AreByPlace (plain_meetings whole ms)) where
     -- a place of the list and that of its numbers
-    plain_at : (k : ℕ) (d : HeldMeeting I) (m : Meeting) → k < length ms → get_or (plain_meetings whole ms) k m ≡ plain_meeting whole (get_or ms k d)
+    plain_at : (k : ℕ) (d : HeldMeeting I) (m : Meeting) → k < length ms →
+        get_or (plain_meetings whole ms) k m ≡ plain_meeting whole (get_or ms k d)
     plain_at k d m within = get_or-map (plain_meeting whole) ms k d m within
 
     -- no later meeting has a smaller place
-    no_smaller_later : (j k : ℕ) (d : HeldMeeting I) → j ≤ k → k < length ms → (get_or ms j d).place ≤ (get_or ms k d).place
+    no_smaller_later : (j k : ℕ) (d : HeldMeeting I) → j ≤ k → k < length ms →
+        (get_or ms j d).place ≤ (get_or ms k d).place
     no_smaller_later j k d le within =
         ⊎_elim (λ (same : j ≡ k). subst (λ n. (get_or ms j d).place ≤ (get_or ms n d).place) same (omega arith))
         (λ (less : j < k).

@@ -40,7 +40,8 @@ module _ (i : ℕ) (e : CountedEdge) where
   }
 
   -- a point is pushed
-  pub point_pushed : (v : Point) (old new : List Meeting) → new ≡ old ++ record { place = i; point = v } ∷ [] → AddsPoints i e (v ∷ []) old new
+  pub point_pushed : (v : Point) (old new : List Meeting) → new ≡ old ++ record { place = i; point = v } ∷ [] →
+      AddsPoints i e (v ∷ []) old new
   point_pushed v old new is = record {
     kept = λ m at. subst (λ ms. Contains ms m) (sym is) (Contains-append_left old (pushed ∷ []) m at);
     led = λ m at. ⊎_elim (λ there. inl there)
@@ -54,7 +55,8 @@ module _ (i : ℕ) (e : CountedEdge) where
       pushed = record { place = i; point = v }
 
   -- some points are added, and then others
-  pub points_added : {us vs : List Point} {old mid new : List Meeting} → AddsPoints i e us old mid → AddsPoints i e vs mid new → AddsPoints i e (us ++ vs) old new
+  pub points_added : {us vs : List Point} {old mid new : List Meeting} → AddsPoints i e us old mid →
+      AddsPoints i e vs mid new → AddsPoints i e (us ++ vs) old new
   points_added {us} {vs} first second = record {
     kept = λ m at. second.kept m (first.kept m at);
     led = λ m at. ⊎_elim
@@ -66,11 +68,14 @@ module _ (i : ℕ) (e : CountedEdge) where
   }
 
   -- a point that passes a test is added
-  pub kept_added : (p : Point → Bool) (v : Point) {old new : List Meeting} → p v ≡ true → AddsPoints i e (v ∷ []) old new → AddsPoints i e (filter p (v ∷ [])) old new
-  kept_added p v {old} {new} passes adds = subst (λ vs. AddsPoints i e vs old new) (sym (ap (λ t. cond t (v ∷ []) []) passes)) adds
+  pub kept_added : (p : Point → Bool) (v : Point) {old new : List Meeting} → p v ≡ true →
+      AddsPoints i e (v ∷ []) old new → AddsPoints i e (filter p (v ∷ [])) old new
+  kept_added p v {old} {new} passes adds = subst (λ vs. AddsPoints i e vs old new)
+      (sym (ap (λ t. cond t (v ∷ []) []) passes)) adds
 
   -- and of another one nothing
-  pub dropped_added : (p : Point → Bool) (v : Point) (ms : List Meeting) → p v ≢ true → AddsPoints i e (filter p (v ∷ [])) ms ms
+  pub dropped_added : (p : Point → Bool) (v : Point) (ms : List Meeting) → p v ≢ true →
+      AddsPoints i e (filter p (v ∷ [])) ms ms
   dropped_added p v ms fails = by (p v) refl
     where
       by : (t : Bool) → p v ≡ t → AddsPoints i e (cond t (v ∷ []) []) ms ms
@@ -78,7 +83,8 @@ module _ (i : ℕ) (e : CountedEdge) where
       by false is = no_points_added ms
 
   -- what a test keeps of two points
-  pub two_added : (p : Point → Bool) (v w : Point) {old mid new : List Meeting} → AddsPoints i e (filter p (v ∷ [])) old mid → AddsPoints i e (filter p (w ∷ [])) mid new →
+  pub two_added : (p : Point → Bool) (v w : Point) {old mid new : List Meeting} →
+      AddsPoints i e (filter p (v ∷ [])) old mid → AddsPoints i e (filter p (w ∷ [])) mid new →
       AddsPoints i e (filter p (v ∷ w ∷ [])) old new
   two_added p v w {old} {mid} {new} first second =
       subst (λ vs. AddsPoints i e vs old new) (sym (filter-append p (v ∷ []) (w ∷ []))) (points_added first second)
@@ -87,7 +93,8 @@ module _ (i : ℕ) (e : CountedEdge) where
 
 module _ (i : ℕ) (e : CountedEdge) (j : ℕ) (f : CountedEdge) where
   -- where neither leads the other one anywhere there is nothing
-  none_added : (ms : List Meeting) → met_at (ends_of e) (ends_of f) ≡ [] → met_at (ends_of f) (ends_of e) ≡ [] → AddsBoth i e j f ms ms
+  none_added : (ms : List Meeting) → met_at (ends_of e) (ends_of f) ≡ [] → met_at (ends_of f) (ends_of e) ≡ [] →
+      AddsBoth i e j f ms ms
   none_added ms forth back = record {
     between = ms;
     one = subst (λ vs. AddsPoints i e vs ms ms) (sym forth) (no_points_added i e ms);
@@ -95,13 +102,15 @@ module _ (i : ℕ) (e : CountedEdge) (j : ℕ) (f : CountedEdge) where
   }
 
   -- so it is where the edges lie at heights that are apart
-  pub none_where_apart : (ms : List Meeting) → IsBefore e.a e.b → IsBefore f.a f.b → are_apart_in_y (ends_of e) (ends_of f) ≡ true → AddsBoth i e j f ms ms
+  pub none_where_apart : (ms : List Meeting) → IsBefore e.a e.b → IsBefore f.a f.b →
+      are_apart_in_y (ends_of e) (ends_of f) ≡ true → AddsBoth i e j f ms ms
   none_where_apart ms e_forward f_forward apart =
       none_added ms (nowhere_where_apart (ends_of e) (ends_of f) e_forward f_forward apart)
       (nowhere_where_apart (ends_of f) (ends_of e) f_forward e_forward (apart_exchanged (ends_of e) (ends_of f) apart))
 
   -- and where the one lies beside the other one's line
-  pub none_where_beside : (ms : List Meeting) → IsBefore f.a f.b → IsBeside (ends_of e) (ends_of f) → AddsBoth i e j f ms ms
+  pub none_where_beside : (ms : List Meeting) → IsBefore f.a f.b → IsBeside (ends_of e) (ends_of f) →
+      AddsBoth i e j f ms ms
   none_where_beside ms f_forward beside =
       none_added ms (met_beside (ends_of e) (ends_of f) off (inl beside))
       (met_beside (ends_of f) (ends_of e) (λ along. off (along_exchanged (ends_of f) (ends_of e) f_forward along)) (inr beside))
@@ -110,7 +119,8 @@ module _ (i : ℕ) (e : CountedEdge) (j : ℕ) (f : CountedEdge) where
       off = beside_is_not_along (ends_of e) (ends_of f) beside
 
   -- and where the one goes across the other one's line, but not the other one across its
-  pub none_where_one_across : (ms : List Meeting) (place : Place) → IsBefore f.a f.b → IsAcross (ends_of e) (ends_of f) → IsPlaced place (ends_of f) (ends_of e) → place ≢ Across →
+  pub none_where_one_across : (ms : List Meeting) (place : Place) → IsBefore f.a f.b →
+      IsAcross (ends_of e) (ends_of f) → IsPlaced place (ends_of f) (ends_of e) → place ≢ Across →
       AddsBoth i e j f ms ms
   none_where_one_across ms place f_forward forth placed other =
       none_added ms (met_where_one_across (ends_of e) (ends_of f) place f_forward forth placed other) (by place placed other)
@@ -126,15 +136,18 @@ module _ (i : ℕ) (e : CountedEdge) (j : ℕ) (f : CountedEdge) where
   ends_added {old} {mid} {new} e_forward along first second = record {
     between = mid;
     one = subst (λ vs. AddsPoints i e vs old mid) (sym (met_along (ends_of e) (ends_of f) along)) first;
-    other = subst (λ vs. AddsPoints j f vs mid new) (sym (met_along (ends_of f) (ends_of e) (along_exchanged (ends_of e) (ends_of f) e_forward along))) second;
+    other = subst (λ vs. AddsPoints j f vs mid new)
+        (sym (met_along (ends_of f) (ends_of e) (along_exchanged (ends_of e) (ends_of f) e_forward along))) second;
   }
 
   -- and where each goes across the other one's line there is one point
-  pub crossing_added : (v : Point) {old mid new : List Meeting} → IsAcross (ends_of e) (ends_of f) → IsAcross (ends_of f) (ends_of e) → v ≡ crossing (ends_of e) (ends_of f) →
+  pub crossing_added : (v : Point) {old mid new : List Meeting} → IsAcross (ends_of e) (ends_of f) →
+      IsAcross (ends_of f) (ends_of e) → v ≡ crossing (ends_of e) (ends_of f) →
       AddsPoints i e (v ∷ []) old mid → AddsPoints j f (v ∷ []) mid new → AddsBoth i e j f old new
   crossing_added v {old} {mid} {new} forth back is first second = record {
     between = mid;
-    one = subst (λ vs. AddsPoints i e vs old mid) (ap (λ u. u ∷ []) is ∙ sym (met_where_both_across (ends_of e) (ends_of f) forth back)) first;
+    one = subst (λ vs. AddsPoints i e vs old mid)
+        (ap (λ u. u ∷ []) is ∙ sym (met_where_both_across (ends_of e) (ends_of f) forth back)) first;
     other = subst (λ vs. AddsPoints j f vs mid new)
         (ap (λ u. u ∷ []) (is ∙ crossing_alike (ends_of e) (ends_of f) forth back) ∙ sym (met_where_both_across (ends_of f) (ends_of e) back forth)) second;
   }

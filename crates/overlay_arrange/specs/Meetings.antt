@@ -21,13 +21,17 @@ plain_meeting whole m = record { place = m.place; point = plain_point whole m.po
 abbrev pub plain_meetings : {I : Type 0} → (I → ℤ) → List (HeldMeeting I) → List Meeting
 plain_meetings whole ms = map (plain_meeting whole) ms
 
+-- v is an end of the edge e at place i, or one of its meetings
+abbrev pub IsEndOrMet : List Meeting → ℕ → CountedEdge → Point → Type 0
+IsEndOrMet ms i e v = IsEndOf e v ⊎ Contains ms (record { place = i; point = v })
+
 -- ---- adding
 
 -- the points are added as meetings of the edge e at place i; its own ends may be left out
 pub record AddsPoints (i : ℕ) (e : CountedEdge) (vs : List Point) (old new : List Meeting) : Type 0 where
   pub kept : (m : Meeting) → Contains old m → Contains new m
   pub led : (m : Meeting) → Contains new m → Contains old m ⊎ ((m.place ≡ i) × Contains vs m.point)
-  pub all : (v : Point) → Contains vs v → IsEndOf e v ⊎ Contains new (record { place = i; point = v })
+  pub all : (v : Point) → Contains vs v → IsEndOrMet new i e v
 
 -- the points through which the edges e at place i and f at place j lead one another are added
 pub record AddsBoth (i : ℕ) (e : CountedEdge) (j : ℕ) (f : CountedEdge) (old new : List Meeting) : Type 0 where
@@ -46,7 +50,7 @@ pub record AreGathered (es : List CountedEdge) (Pair : ℕ → ℕ → Type 0) (
   pub led : (m : Meeting) → Contains ms m →
       (e : CountedEdge) × IsAt es m.place e × Contains (cut_points es e) m.point
   pub all : (i j : ℕ) (e f : CountedEdge) → IsAt es i e → IsAt es j f → Pair i j → (v : Point) →
-      Contains (met_at (ends_of e) (ends_of f)) v → IsEndOf e v ⊎ Contains ms (record { place = i; point = v })
+      Contains (met_at (ends_of e) (ends_of f)) v → IsEndOrMet ms i e v
 
 -- one of the two places comes before place n
 abbrev pub HasBefore : ℕ → ℕ → ℕ → Type 0

@@ -15,7 +15,8 @@ crossing_alike e f forth back =
     let alike : CrossAlike e f = cross_alike e f forth back in
     at (ap₂ nearest alike.x alike.d) (ap₂ nearest alike.y alike.d)
   where
-    at : {x z y w : ℤ} → x ≡ z → y ≡ w → (let p : Point = record { x = x; y = y } in let q : Point = record { x = z; y = w } in p ≡ q)
+    at : {x z y w : ℤ} → x ≡ z → y ≡ w →
+        (let p : Point = record { x = x; y = y } in let q : Point = record { x = z; y = w } in p ≡ q)
     at x_is y_is = ap₂ (λ x y. record { x = x; y = y }) x_is y_is
 
 -- none of the way from u to v is u
@@ -47,11 +48,13 @@ crossing_at_end e f across_f on_line =
     (ap (λ t. part_way e.a.y e.b.y t (across e f)) on_line ∙ all_of_the_way e.a.y e.b.y (across e f) positive)
 
 -- where f begins on e's line, e crosses f's line there
-pub crossing_at_other_start : (e f : Edge) → IsAcross e f → IsAcross f e → cross_at e.a e.b f.a ≡ pos 0 → crossing e f ≡ f.a
+pub crossing_at_other_start : (e f : Edge) → IsAcross e f → IsAcross f e → cross_at e.a e.b f.a ≡ pos 0 →
+    crossing e f ≡ f.a
 crossing_at_other_start e f forth back on_line =
     crossing_alike e f forth back ∙ crossing_at_start f e forth (ap (λ z. pos (nat_abs z)) on_line)
 
 -- and where f ends on e's line, there
-pub crossing_at_other_end : (e f : Edge) → IsAcross e f → IsAcross f e → cross_at e.a e.b f.b ≡ pos 0 → crossing e f ≡ f.b
+pub crossing_at_other_end : (e f : Edge) → IsAcross e f → IsAcross f e → cross_at e.a e.b f.b ≡ pos 0 →
+    crossing e f ≡ f.b
 crossing_at_other_end e f forth back on_line =
     crossing_alike e f forth back ∙ crossing_at_end f e forth (whole_way_across f e forth on_line)
