@@ -98,7 +98,8 @@ impl<I: IntNumber, V: Copy, A: Allocator> Scan<I, V> for ScanList<I, V, A> {
         ensures state { IsSweep I.limit (plain_sweep I.whole self.new) }
     {
         self.move_to(x);
-        let place = count_under(self.live.as_slice(), live_edge(edge, default));
+        let asked = live_edge(edge, default);
+        let place = count_under(self.live.as_slice(), asked);
         value_before(self.live.as_slice(), place, default)
     }
 
