@@ -1,5 +1,5 @@
--- Lists that begin with others, and what they weigh.
-use Rattle.std.proofs.Common.{◌≡◌, ℕ, ◌≤◌, ◌++◌, map, take, length, List, ap, ◌∙◌, arith}
+-- Lists that begin with others, and what they weigh; what is left where more is refused.
+use Rattle.std.proofs.Common.{◌≡◌, ℕ, ◌≤◌, ◌++◌, map, take, length, List, Result, Ok, Err, OnErr, ap, ◌∙◌, arith}
 use Rattle.std.proofs.Math.Seq.{take-append_seam}
 use Rattle.std.proofs.lemmas.List.{map-append}
 use Rattle.std.proofs.lemmas.List.Sums.{sum_by-append}
@@ -18,3 +18,8 @@ heavy_front see limit first rest whole is heavy =
     let all = ap (λ xs. weight (map see xs)) is in
     let parts = ap weight (map-append see first rest) in
     omega (arith, both, all, parts, heavy)
+
+-- a fact is one on a refusal
+pub on_refusal : {X E P : Type 0} (answer : Result X E) → P → OnErr answer P
+on_refusal (Ok x) holds = tt
+on_refusal (Err e) holds = holds

@@ -1,5 +1,6 @@
 pub mod BentPart
 pub mod BentStack
+pub mod FirstPoints
 pub mod Fronts
 pub mod LeftOut
 pub mod Mapped
