@@ -1,6 +1,4 @@
 mod Rows
-pub mod AddedContours
-pub mod Balanced
 pub mod BoundAdded
 pub mod Builders
 pub mod NoShapes

@@ -16,7 +16,7 @@ use Rattle.overlay_arrange.specs.declared.options.IntOverlayOptions.{IntOverlayO
 use Rattle.overlay_builder.specs.Held.{Held, AnswersQuery}
 use Rattle.i_overlay.specs.OneShot.{asked_by_default, IsResultOfPaths, MayRefusePaths}
 use Rattle.i_overlay.specs.Overlay.{Asked, asked, IsResult}
-use Rattle.i_overlay.specs.Paths.{GivenPath, HoldsPaths}
+use Rattle.overlay_builder.specs.GivenPaths.{GivenPath, HoldsPaths}
 
 -- what the default options ask for
 pub asked_of_default : {U : Type 0} (wide_limit : ℕ) (natural : U → ℕ) (fill : FillRule) (rule : OverlayRule) (o : IntOverlayOptions U)

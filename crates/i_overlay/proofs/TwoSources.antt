@@ -8,7 +8,7 @@ use Rattle.overlay_builder.specs.PathLists.{AddsAsAsked as HeldAddsAsAsked}
 use Rattle.overlay_builder.proofs.PathLists.{first_refused, both_added}
 use Rattle.i_overlay.specs.Adding.{AddsAsAsked}
 use Rattle.i_overlay.specs.Builder.{Builder, held_by}
-use Rattle.i_overlay.specs.Paths.{GivenPath, added_path, added_paths}
+use Rattle.overlay_builder.specs.GivenPaths.{GivenPath, added_path, added_paths}
 
 module _ {U V : Type 0} (ps qs : List GivenPath) (old mid : Builder U) where
   -- where one of the first paths is refused, the others are not added

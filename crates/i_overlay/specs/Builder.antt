@@ -1,15 +1,9 @@
 -- What contracts see of an overlay builder, and what its calls do to it.
 use Rattle.std.specs.Prelude.{◌≡◌, ℕ, Bool, false, List, [], Option, Some}
-use Rattle.overlay_geom.specs.Plane.{Point}
-use Rattle.overlay_geom.specs.Edges.{CountedEdge, weight}
-use Rattle.overlay_plane.specs.Balance.{HasBalancedCounts}
-use Rattle.i_overlay.specs.declared.solver.Solver.{Solver}
-use Rattle.overlay_arrange.specs.Content.{edge_for}
+use Rattle.overlay_geom.specs.Edges.{CountedEdge}
+use Rattle.overlay_builder.specs.declared.solver.Solver.{Solver}
 use Rattle.overlay_builder.specs.Held.{Held}
-use Rattle.overlay_builder.specs.PathLists.{path_as, WouldWeighTooMuch as BuilderWouldWeighTooMuch}
-use Rattle.overlay_builder.specs.Paths.{contour_kind}
 use Rattle.overlay_arrange.specs.Options.{AreOptions}
-use Rattle.overlay_arrange.specs.declared.options.ShapeType.{ShapeType}
 use Rattle.overlay_arrange.specs.declared.options.IntOverlayOptions.{IntOverlayOptions}
 
 -- a builder: its settings, whether it holds a buffer for extractions (of which nothing is seen), the counted edges that it holds, and whether a query was
@@ -35,15 +29,6 @@ pub record IsNewBuilder {U : Type 0} (natural : U → ℕ) (b : Builder U) : Typ
 abbrev pub cleared : {U : Type 0} → Builder U → Builder U
 cleared b = record b { edges = []; failed = false }
 
--- what a builder holds that has not failed has balanced counts, since closed contours alone were added
-abbrev pub IsBalancedUnlessFailed : Bool → List CountedEdge → Type 0
-IsBalancedUnlessFailed failed es = failed ≡ false → HasBalancedCounts es
-
 -- the part of it that all builders have
 abbrev pub held_by : {U : Type 0} → Builder U → Held CountedEdge
 held_by b = record { edges = b.edges; failed = b.failed }
-
--- adding the contour would bring the weight to 2^31
-abbrev pub WouldWeighTooMuch : Bool → ShapeType → List Point → List CountedEdge → Type 0
-WouldWeighTooMuch keep_points shape_type given old =
-    BuilderWouldWeighTooMuch weight (path_as (contour_kind keep_points) (edge_for shape_type) given) old

@@ -8,9 +8,8 @@ use Rattle.overlay_arrange.specs.Arranged.{IsArranged, MayRefuseSplitting}
 use Rattle.overlay_arrange.specs.declared.fill_rule.FillRule.{FillRule}
 use Rattle.overlay_arrange.specs.declared.overlay_rule.OverlayRule.{OverlayRule}
 use Rattle.overlay_arrange.specs.declared.options.ContourDirection.TheVariants.{CounterClockwise}
-use Rattle.i_overlay.specs.Adding.{SomePathWeighsTooMuch}
+use Rattle.overlay_builder.specs.GivenPaths.{SomePathWeighsTooMuch, GivenPath, HoldsPaths}
 use Rattle.i_overlay.specs.Overlay.{Asked, IsResult}
-use Rattle.i_overlay.specs.Paths.{GivenPath, HoldsPaths}
 
 -- what rules ask for with the default options
 abbrev pub asked_by_default : ℕ → FillRule → OverlayRule → Asked

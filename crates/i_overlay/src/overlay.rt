@@ -49,7 +49,8 @@ pub struct Overlay<I: OverlayInt, A: Allocator> {
 
 impl<I: OverlayInt, A: Allocator> Model for Overlay<I, A> {
     ghost use Rattle.overlay_plane.specs.Carried.{edges_in};
-    ghost use Rattle.i_overlay.specs.Builder.{Builder, IsBalancedUnlessFailed};
+    ghost use Rattle.overlay_builder.specs.GivenPaths.{IsBalancedUnlessFailed};
+    ghost use Rattle.i_overlay.specs.Builder.{Builder};
 
     ghost Value = { Builder I.WideUInt };
 

@@ -4,7 +4,7 @@ ghost use Rattle.std.specs.Prelude.{All, IfOk, IfErr};
 ghost use Rattle.overlay_geom.specs.Paths.{plain_shapes};
 ghost use Rattle.overlay_geom.specs.Points.{AllInRange};
 ghost use Rattle.i_overlay.specs.OneShot.{asked_by_default, IsResultOfPaths, MayRefusePaths};
-ghost use Rattle.i_overlay.specs.Paths.{subject_and_clip};
+ghost use Rattle.overlay_builder.specs.GivenPaths.{subject_and_clip};
 
 use crate::overlay::Overlay;
 use overlay_arrange::fill_rule::FillRule;

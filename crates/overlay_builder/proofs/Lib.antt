@@ -1,3 +1,5 @@
+pub mod AddedContours
+pub mod Balanced
 pub mod BentPart
 pub mod BentStack
 pub mod FirstPoints

@@ -4,4 +4,6 @@
 pub mod boolean;
 pub mod builder_core;
 pub mod path;
+pub mod points;
+pub mod solver;
 pub mod thin;

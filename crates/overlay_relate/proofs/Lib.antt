@@ -1,3 +1,4 @@
+pub mod AddedShapes
 pub mod Answered
 pub mod Asked
 pub mod ByStart
@@ -7,6 +8,7 @@ pub mod Located
 pub mod OnEdges
 pub mod OnWalls
 pub mod Parities
+pub mod PredicateBuilders
 pub mod Pushed
 pub mod SortedEdges
 pub mod Swept

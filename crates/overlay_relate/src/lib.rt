@@ -1,4 +1,4 @@
-//! Where points lie: inside contours and shapes, on their edges, or outside.
+//! Where points lie: inside contours and shapes, on their edges, or outside; and how two shapes lie to each other.
 #![tactic(auto)]
 
 pub mod containment;
@@ -6,6 +6,7 @@ mod contour;
 mod joined;
 pub mod laws;
 pub mod location;
+pub mod predicate_overlay;
 mod queries;
 mod shapes;
 mod starts;

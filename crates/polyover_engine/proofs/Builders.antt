@@ -7,10 +7,9 @@ use Rattle.overlay_geom.specs.Edges.{AddsContour, weight}
 use Rattle.overlay_geom.specs.declared.error.OverlayError.{OverlayError}
 use Rattle.overlay_geom.specs.declared.error.OverlayError.TheVariants.{Memory, NotSettled, TooManyEdges, Failed}
 use Rattle.overlay_arrange.specs.Content.{edge_for}
-use Rattle.i_overlay.specs.Adding.{MayRefuseBuilder}
-use Rattle.i_overlay.specs.Builder.{Builder, IsNewBuilder, WouldWeighTooMuch}
-use Rattle.i_overlay.specs.Paths.{GivenPath, HoldsPaths, added_path, added_paths}
-use Rattle.i_overlay.proofs.AddedContours.{of_contour}
+use Rattle.overlay_builder.specs.GivenPaths.{MayRefuseBuilder, WouldWeighTooMuch, GivenPath, HoldsPaths, added_path, added_paths}
+use Rattle.i_overlay.specs.Builder.{Builder, IsNewBuilder}
+use Rattle.overlay_builder.proofs.AddedContours.{of_contour}
 use Rattle.overlay_builder.specs.PathLists.{AddsPaths}
 use Rattle.overlay_builder.specs.PathLists.AddsPaths.{no_path}
 use Rattle.overlay_builder.proofs.PathLists.{adds_last}

@@ -11,9 +11,8 @@ use Rattle.overlay_arrange.specs.declared.options.IntOverlayOptions.{IntOverlayO
 use Rattle.overlay_builder.specs.Held.{Held, AnswersQuery}
 use Rattle.i_overlay.specs.Builder.{Builder, held_by}
 use Rattle.i_overlay.specs.Overlay.{Asked, asked, IsResult}
-use Rattle.i_overlay.specs.Adding.{MayRefuseBuilder}
+use Rattle.overlay_builder.specs.GivenPaths.{MayRefuseBuilder, GivenPath, HoldsPaths}
 use Rattle.i_overlay.specs.OneShot.{IsResultOfPaths, MayRefusePaths}
-use Rattle.i_overlay.specs.Paths.{GivenPath, HoldsPaths}
 use Rattle.i_overlay.proofs.OneShots.{query_refused, result_of_paths}
 use Rattle.polyover_text.specs.declared.query.OverlayQuery.{OverlayQuery}
 use Rattle.polyover_text.specs.declared.query.Query.{Query}

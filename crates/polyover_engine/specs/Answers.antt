@@ -14,7 +14,7 @@ use Rattle.overlay_arrange.specs.Arranged.{IsArranged}
 use Rattle.overlay_arrange.specs.Vectors.{Vector, vector_of}
 use Rattle.i_overlay.specs.OneShot.{IsResultOfPaths, MayRefusePaths}
 use Rattle.i_overlay.specs.Overlay.{Asked}
-use Rattle.i_overlay.specs.Paths.{GivenPath, HoldsPaths}
+use Rattle.overlay_builder.specs.GivenPaths.{GivenPath, HoldsPaths}
 use Rattle.polyover_text.specs.declared.query.OverlayQuery.{OverlayQuery}
 use Rattle.polyover_text.specs.declared.query.Query.{Query}
 use Rattle.polyover_text.specs.declared.query.Query.TheVariants.{Edges, Overlay, Contains, Locate}

@@ -2,7 +2,7 @@
 
 ghost use Rattle.std.specs.Prelude.{MatchResult, All, false};
 ghost use Rattle.overlay_geom.specs.Points.{AllInRange};
-ghost use Rattle.i_overlay.specs.Adding.{MayRefuseBuilder};
+ghost use Rattle.overlay_builder.specs.GivenPaths.{MayRefuseBuilder};
 ghost use Rattle.polyover_engine.specs.Builders.{HasAdded};
 ghost use Rattle.polyover_text.specs.Grammar.{contour_paths};
 ghost use Rattle.polyover_text.specs.Statements.{contours_at};

@@ -22,8 +22,8 @@ pub struct Answers {
     pub locations: Vec<PointLocation, Global>,
 }
 
-// Stops the test where the points are out of range, or the contour is not resolved.
-fn assert_contour<I: OverlayInt>(rt: &impl Abort, contour: &[IntPoint<I>])
+/// Stops the test where the points are out of range, or the contour is not resolved.
+pub fn assert_contour<I: OverlayInt>(rt: &impl Abort, contour: &[IntPoint<I>])
     ensures range { AllInRange I.limit (plain_points I.whole contour.now) }
     ensures resolved { IsResolved (plain_points I.whole contour.now) }
 {
@@ -31,8 +31,8 @@ fn assert_contour<I: OverlayInt>(rt: &impl Abort, contour: &[IntPoint<I>])
     assert!(rt; is_resolved(contour));
 }
 
-// The same for each contour.
-fn assert_shape<I: OverlayInt, A: Allocator>(rt: &impl Abort, contours: &[IntContour<I, A>])
+/// The same for each contour.
+pub fn assert_shape<I: OverlayInt, A: Allocator>(rt: &impl Abort, contours: &[IntContour<I, A>])
     ensures range { All (AllInRange I.limit) (paths_of_shape I.whole contours.now) }
     ensures resolved { All IsResolved (paths_of_shape I.whole contours.now) }
 {
@@ -41,8 +41,8 @@ fn assert_shape<I: OverlayInt, A: Allocator>(rt: &impl Abort, contours: &[IntCon
     }
 }
 
-// The same for each shape.
-fn assert_shapes<I: OverlayInt, A: Allocator>(rt: &impl Abort, shapes: &[IntShape<I, A>])
+/// The same for each shape.
+pub fn assert_shapes<I: OverlayInt, A: Allocator>(rt: &impl Abort, shapes: &[IntShape<I, A>])
     ensures range { All (All (AllInRange I.limit)) (plain_shapes I.whole shapes.now) }
     ensures resolved { All (All IsResolved) (plain_shapes I.whole shapes.now) }
 {

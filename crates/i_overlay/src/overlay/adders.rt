@@ -1,18 +1,19 @@
 //! What is added to a builder: closed contours, one by one or all paths of a resource.
 
 ghost use Rattle.std.specs.Prelude.{◌≡◌, ◌≢◌, ◌↔◌, ◌^◌, ◌<◌, true, List, All};
-ghost use Rattle.std.specs.Prelude.{Err, OnOk, OnErr, IfOk, IsOkUnless, IsErrOf};
+ghost use Rattle.std.specs.Prelude.{Err, OnOk, OnErr, IsErrOf};
 ghost use Rattle.std.specs.Iterator.{Drains, IsFinite};
 ghost use Rattle.overlay_arrange.specs.Content.{edge_for};
 ghost use Rattle.overlay_geom.specs.Edges.{AddsContour, weight};
 ghost use Rattle.overlay_geom.specs.Points.{plain_points, AllInRange};
 ghost use Rattle.i_overlay.specs.Adding.{AddsAsAsked};
-ghost use Rattle.i_overlay.specs.Builder.{cleared, WouldWeighTooMuch};
-ghost use Rattle.i_overlay.specs.Paths.{paths_for, subject_and_clip};
+ghost use Rattle.i_overlay.specs.Builder.{cleared};
+ghost use Rattle.overlay_builder.specs.GivenPaths.{paths_for, subject_and_clip, WouldWeighTooMuch};
 
 use crate::overlay::{Overlay, ShapeType};
 use overlay_builder::boolean::passing;
 use overlay_builder::path::contour_kind;
+use overlay_builder::points::gathered;
 use overlay_geom::error::OverlayError;
 use overlay_geom::integer::OverlayInt;
 use overlay_geom::point::IntPoint;
@@ -140,21 +141,4 @@ impl<I: OverlayInt, A: Allocator + Clone> Overlay<I, A> {
         self.clear();
         self.add_source(subj, ShapeType::Subject)
     }
-}
-
-// The points that the iterator gives, in order.
-fn gathered<I: OverlayInt, A: Allocator, P: Iterator<Item = IntPoint<I>> + Drop>(
-    alloc: A,
-    iter: P,
-) -> Result<Vec<IntPoint<I>, A>, OverlayError>
-    requires can { P.can_next iter }
-    requires ends { IsFinite (P.remaining iter) }
-    ensures ok { IfOk result (λ v. Drains P.next_gives iter v.items) }
-    ensures err { IsOkUnless result OverlayError.Memory }
-{
-    let mut points = Vec::new(alloc);
-    for point in iter {
-        points.push(point)?;
-    }
-    Ok(points)
 }

@@ -2,9 +2,8 @@
 
 ghost use Rattle.std.specs.Prelude.{◌≡◌, [], All, false, IfOk, IfErr, IsOkUnless};
 ghost use Rattle.overlay_geom.specs.Points.{AllInRange};
-ghost use Rattle.i_overlay.specs.Adding.{MayRefuseBuilder};
+ghost use Rattle.overlay_builder.specs.GivenPaths.{MayRefuseBuilder, paths_for, subject_and_clip, HoldsPaths};
 ghost use Rattle.i_overlay.specs.Builder.{empty_builder, IsNewBuilder};
-ghost use Rattle.i_overlay.specs.Paths.{paths_for, subject_and_clip, HoldsPaths};
 
 use crate::overlay::{IntOverlayOptions, Overlay, ShapeType};
 use crate::solver::Solver;

@@ -4,7 +4,7 @@ use Rattle.std.proofs.lemmas.Result.{err_from_is_err_and}
 use Rattle.overlay_geom.specs.Edges.{AddsContour}
 use Rattle.overlay_geom.specs.Points.{AllInRange}
 use Rattle.overlay_arrange.specs.Content.{edge_for}
-use Rattle.i_overlay.specs.Builder.{WouldWeighTooMuch}
+use Rattle.overlay_builder.specs.GivenPaths.{WouldWeighTooMuch}
 use Rattle.polyover_text.specs.Grammar.{contour_paths}
 use Rattle.polyover_text.specs.Points.{points_at}
 use Rattle.polyover_text.specs.Statements.{path_at, contour_at, contours_at}

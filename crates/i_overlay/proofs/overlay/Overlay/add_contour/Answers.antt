@@ -6,9 +6,9 @@ use Rattle.overlay_geom.specs.Points.{plain_points}
 use Rattle.overlay_plane.specs.Carried.{edges_in}
 use Rattle.overlay_arrange.specs.Content.{edge_for}
 use Rattle.overlay_builder.proofs.SourcePaths.{error_of}
-use Rattle.i_overlay.specs.Builder.{WouldWeighTooMuch}
-use Rattle.i_overlay.proofs.AddedContours.{as_contour, contour_added, contour_too_heavy}
-use Rattle.i_overlay.proofs.Balanced.{contour_keeps_balance}
+use Rattle.overlay_builder.specs.GivenPaths.{WouldWeighTooMuch}
+use Rattle.overlay_builder.proofs.AddedContours.{as_contour, contour_added, contour_too_heavy}
+use Rattle.overlay_builder.proofs.Balanced.{contour_keeps_balance}
 use Rattle.i_overlay.proofs.overlay.Overlay.add_contour.Goals as goal
 
 pub returns-in_err-add_path-clause-too_many : goal.returns-in_err-add_path-clause-too_many

@@ -4,7 +4,7 @@ use Rattle.std.proofs.lemmas.Result.{on_ok_weaker}
 use Rattle.overlay_arrange.specs.Content.{edge_for}
 use Rattle.overlay_geom.specs.Edges.{AddsContour}
 use Rattle.overlay_geom.specs.Points.{plain_points}
-use Rattle.i_overlay.specs.Builder.{WouldWeighTooMuch}
+use Rattle.overlay_builder.specs.GivenPaths.{WouldWeighTooMuch}
 use Rattle.i_overlay.proofs.overlay.Overlay.add_path_iter.Goals as goal
 
 pub returns-clause-ok : goal.returns-clause-ok

@@ -4,9 +4,9 @@ use Rattle.overlay_geom.specs.Edges.{weight}
 use Rattle.overlay_builder.specs.Held.{plain_held}
 use Rattle.overlay_builder.specs.PathLists.{AddsAsAsked}
 use Rattle.i_overlay.specs.Builder.{held_by}
-use Rattle.i_overlay.specs.Paths.{added_paths, paths_for}
-use Rattle.i_overlay.proofs.AddedContours.{contours_added}
-use Rattle.i_overlay.proofs.Balanced.{adding_keeps_balance}
+use Rattle.overlay_builder.specs.GivenPaths.{added_paths, paths_for}
+use Rattle.overlay_builder.proofs.AddedContours.{contours_added}
+use Rattle.overlay_builder.proofs.Balanced.{adding_keeps_balance}
 use Rattle.i_overlay.proofs.Builders.{only_edges_new}
 use Rattle.i_overlay.proofs.overlay.Overlay.add_source.Goals as goal
 

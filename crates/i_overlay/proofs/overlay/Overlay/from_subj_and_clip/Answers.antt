@@ -1,8 +1,7 @@
 -- Points on one line are dropped, as the default options say.
 use Rattle.std.proofs.Common.{subst}
 use Rattle.std.specs.Prelude.{IfOk, IfErr}
-use Rattle.i_overlay.specs.Adding.{MayRefuseBuilder}
-use Rattle.i_overlay.specs.Paths.{subject_and_clip, HoldsPaths}
+use Rattle.overlay_builder.specs.GivenPaths.{MayRefuseBuilder, subject_and_clip, HoldsPaths}
 use Rattle.i_overlay.proofs.overlay.Overlay.from_subj_and_clip.Goals as goal
 
 pub returns-clause-ok : goal.returns-clause-ok

@@ -2,7 +2,7 @@
 use Rattle.std.proofs.Common.{subst}
 use Rattle.overlay_arrange.specs.declared.options.ShapeType.TheVariants.{Subject}
 use Rattle.i_overlay.specs.Adding.{AddsAsAsked}
-use Rattle.i_overlay.specs.Paths.{paths_for}
+use Rattle.overlay_builder.specs.GivenPaths.{paths_for}
 use Rattle.i_overlay.proofs.overlay.Overlay.reinit_with_subj.Goals as goal
 
 pub returns : goal.returns

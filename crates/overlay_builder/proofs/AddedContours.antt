@@ -16,7 +16,7 @@ use Rattle.overlay_builder.specs.Paths.{AddsPath, contour_kind, passed_edge}
 use Rattle.overlay_builder.specs.declared.path.PathKind.{PathKind}
 use Rattle.overlay_builder.specs.declared.path.StepCounts.{StepCounts}
 use Rattle.overlay_builder.proofs.Mapped.{seen, one_seen, heavy_seen, adding_seen}
-use Rattle.i_overlay.specs.Paths.{added_paths, paths_for}
+use Rattle.overlay_builder.specs.GivenPaths.{added_paths, paths_for}
 
 -- a path that is taken as a contour adds what a contour does
 pub as_contour : (keep : Bool) (f : Step → CountedEdge) (ps : List Point) (old new : List CountedEdge)

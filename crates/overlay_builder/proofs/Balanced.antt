@@ -19,7 +19,7 @@ use Rattle.overlay_builder.specs.Held.{Held}
 use Rattle.overlay_builder.specs.PathLists.{AddedPath, AddsOne, AddsPaths, AddsAsAsked, StopsAtPath}
 use Rattle.overlay_builder.specs.PathLists.AddsPaths.{no_path, path_and_others}
 use Rattle.overlay_builder.specs.Paths.{AddsPath, contour_kind}
-use Rattle.i_overlay.specs.Paths.{GivenPath, added_path, added_paths}
+use Rattle.overlay_builder.specs.GivenPaths.{GivenPath, added_path, added_paths}
 
 -- ---- one contour
 

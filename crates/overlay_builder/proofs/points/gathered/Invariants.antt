@@ -1,6 +1,6 @@
 -- The points so far are those that the iterator gave.
 use Rattle.std.proofs.Common.{◌≡◌}
-use Rattle.i_overlay.proofs.overlay.adders.gathered.Given as goal
+use Rattle.overlay_builder.proofs.points.gathered.Given as goal
 
 abbrev pub invariant-loop-point : goal.invariant-loop-point
 invariant-loop-point g l =

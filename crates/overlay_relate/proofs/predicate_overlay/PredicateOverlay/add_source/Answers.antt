@@ -1,0 +1,33 @@
+-- The paths are added by the core, as contours of the subject or of the clip, and keep the counts balanced.
+use Rattle.std.proofs.Common.{sym, subst, ◌∙◌, false, refl}
+use Rattle.overlay_geom.specs.Edges.{weight}
+use Rattle.overlay_builder.specs.Held.{plain_held}
+use Rattle.overlay_builder.specs.PathLists.{AddsAsAsked}
+use Rattle.overlay_relate.specs.PredicateBuilder.{held_by}
+use Rattle.overlay_builder.specs.GivenPaths.{added_paths, paths_for}
+use Rattle.overlay_builder.proofs.AddedContours.{contours_added}
+use Rattle.overlay_builder.proofs.Balanced.{adding_keeps_balance}
+use Rattle.overlay_relate.proofs.PredicateBuilders.{only_edges_new}
+use Rattle.overlay_builder.specs.declared.path.PathKind.TheVariants.{Thinned}
+use Rattle.overlay_relate.proofs.predicate_overlay.PredicateOverlay.add_source.Goals as goal
+
+pub invariant_of-self : goal.invariant_of-self
+invariant_of-self g c = λ ready.
+    let paths = g.R0.IntShapeResource.paths c.args.resource.now in
+    adding_keeps_balance false (paths_for c.args.shape_type paths) (plain_held c.self.inside.core) (plain_held c.add_paths.new.self) c.add_paths.result
+    (contours_added false c.args.shape_type Thinned c.passing.result refl c.passing.ensures paths
+    c.self.inside.core c.add_paths.new.self c.add_paths.result c.add_paths.ensures)
+    (c.self.invariant (sym c.add_paths.ensures.kept ∙ ready))
+
+pub returns : goal.returns
+returns g c =
+    let paths = g.R0.IntShapeResource.paths c.args.resource.now in
+    let given = paths_for c.args.shape_type paths in
+    record {
+      added = subst
+          (λ b. AddsAsAsked weight (added_paths false given) (held_by b) (plain_held c.add_paths.new.self) c.add_paths.result)
+          c.self.view_is
+          (contours_added false c.args.shape_type Thinned c.passing.result refl c.passing.ensures paths
+          c.self.inside.core c.add_paths.new.self c.add_paths.result c.add_paths.ensures);
+      kept = only_edges_new _ _ _ _ c.self.view_is c.add_paths.ensures.kept;
+    }

@@ -1,0 +1,48 @@
+//! The builder for predicates: contours are added, and predicates of the two shapes are asked.
+
+use overlay_arrange::count::ShapeCountBoolean;
+use overlay_arrange::fill_rule::FillRule;
+use overlay_builder::builder_core::BuilderCore;
+use overlay_builder::solver::Solver;
+use overlay_geom::integer::OverlayInt;
+use std::alloc::Allocator;
+use std::marker::Model;
+
+mod adders;
+mod borrowed;
+mod constructors;
+mod lists;
+
+pub use overlay_arrange::options::ShapeType;
+
+/// A builder that holds counted edges of a subject and of a clip, and tells how the two shapes lie to
+/// each other. Points on one line with their two neighbours are always dropped from what is added.
+///
+/// A query that is refused leaves the builder failed: every call that returns a result then answers
+/// `Failed`, until `clear` or `reinit_with_subj_and_clip`.
+#[derive(Drop)]
+pub struct PredicateOverlay<I: OverlayInt, A: Allocator> {
+    /// How edges are split where they meet.
+    pub solver: Solver,
+    /// Which windings fill a shape.
+    pub fill_rule: FillRule,
+    // the edges, and whether a query was refused since the builder was last cleared
+    core: BuilderCore<I, ShapeCountBoolean, A>,
+}
+
+impl<I: OverlayInt, A: Allocator> Model for PredicateOverlay<I, A> {
+    ghost use Rattle.overlay_plane.specs.Carried.{edges_in};
+    ghost use Rattle.overlay_builder.specs.GivenPaths.{IsBalancedUnlessFailed};
+    ghost use Rattle.overlay_relate.specs.PredicateBuilder.{PredicateBuilder};
+
+    ghost Value = { PredicateBuilder };
+
+    ghost view = { λ o. record {
+      solver = o.solver;
+      fill_rule = o.fill_rule;
+      edges = edges_in o.core.edges;
+      failed = o.core.failed;
+    } };
+
+    ghost invariant = { λ o. IsBalancedUnlessFailed o.core.failed (edges_in o.core.edges) };
+}

@@ -1,0 +1,133 @@
+//! What is added to a builder for predicates: closed contours, one by one or all paths of a resource.
+
+ghost use Rattle.std.specs.Prelude.{◌≡◌, ◌≢◌, ◌↔◌, ◌^◌, ◌<◌, true, false, List, All};
+ghost use Rattle.std.specs.Prelude.{Err, OnOk, OnErr, IsErrOf};
+ghost use Rattle.std.specs.Iterator.{Drains, IsFinite};
+ghost use Rattle.overlay_arrange.specs.Content.{edge_for};
+ghost use Rattle.overlay_geom.specs.Edges.{AddsContour, weight};
+ghost use Rattle.overlay_geom.specs.Points.{plain_points, AllInRange};
+ghost use Rattle.overlay_builder.specs.GivenPaths.{paths_for, subject_and_clip, WouldWeighTooMuch};
+ghost use Rattle.overlay_relate.specs.PredicateBuilder.{cleared, AddsAsAsked};
+
+use crate::predicate_overlay::{PredicateOverlay, ShapeType};
+use overlay_builder::boolean::passing;
+use overlay_builder::path::PathKind;
+use overlay_builder::points::gathered;
+use overlay_geom::error::OverlayError;
+use overlay_geom::integer::OverlayInt;
+use overlay_geom::point::IntPoint;
+use overlay_geom::resource::IntShapeResource;
+use std::alloc::Allocator;
+
+impl<I: OverlayInt, A: Allocator + Clone> PredicateOverlay<I, A> {
+    /// Adds the steps of a contour: from each point to the next, and from the last to the first; a
+    /// step between equal points is none. Points on one line with their two neighbours are dropped
+    /// first. The points are in the coordinate range.
+    ///
+    /// Refusals, which leave the builder as it was: `Failed` before anything else, `TooManyEdges`
+    /// where the weight would come to 2^31, `Memory`.
+    pub fn add_contour(
+        &mut self,
+        contour: &[IntPoint<I>],
+        shape_type: ShapeType,
+    ) -> Result<(), OverlayError>
+        requires { AllInRange I.limit (plain_points I.whole contour.now) }
+        ensures ok { OnOk result (AddsContour false (edge_for shape_type)
+            (plain_points I.whole contour.now) self.old.edges self.new.edges) }
+        ensures light { OnOk result (weight self.new.edges < 2 ^ 31) }
+        ensures kept { self.new ≡ record self.old { edges = self.new.edges } }
+        ensures err { OnErr result (self.new ≡ self.old) }
+        ensures failed { IsErrOf result OverlayError.Failed ↔ (self.old.failed ≡ true) }
+        ensures too_many { IsErrOf result OverlayError.TooManyEdges
+            → WouldWeighTooMuch false shape_type (plain_points I.whole contour.now) self.old.edges }
+        ensures no_query { result ≢ Err OverlayError.NotSettled }
+    {
+        self.core
+            .add_path(contour, PathKind::Thinned, passing(shape_type))?;
+        Ok(())
+    }
+
+    /// Adds one contour, as `add_contour` does, whose points the iterator gives. It ends, and the
+    /// points are in the coordinate range. Refusals, which leave the builder as it was, are those of
+    /// `add_contour`; where the builder has failed the iterator is not asked.
+    pub fn add_path_iter<P: Iterator<Item = IntPoint<I>> + Drop>(
+        &mut self,
+        iter: P,
+        shape_type: ShapeType,
+    ) -> Result<(), OverlayError>
+        requires can { P.can_next iter }
+        requires ends { IsFinite (P.remaining iter) }
+        requires in_range { (ps : List (IntPoint I)) → Drains P.next_gives iter ps
+            → AllInRange I.limit (plain_points I.whole ps) }
+        ensures ok { OnOk result ((ps : List (IntPoint I)) × Drains P.next_gives iter ps
+            × AddsContour false (edge_for shape_type)
+            (plain_points I.whole ps) self.old.edges self.new.edges) }
+        ensures light { OnOk result (weight self.new.edges < 2 ^ 31) }
+        ensures kept { self.new ≡ record self.old { edges = self.new.edges } }
+        ensures err { OnErr result (self.new ≡ self.old) }
+        ensures failed { IsErrOf result OverlayError.Failed ↔ (self.old.failed ≡ true) }
+        ensures too_many { IsErrOf result OverlayError.TooManyEdges
+            → (ps : List (IntPoint I)) × Drains P.next_gives iter ps
+            × WouldWeighTooMuch false shape_type (plain_points I.whole ps) self.old.edges }
+        ensures no_query { result ≢ Err OverlayError.NotSettled }
+    {
+        self.core.check_usable()?;
+        let points = gathered(self.core.content().allocator().clone()?, iter)?;
+        self.add_contour(&points, shape_type)
+    }
+
+    /// Adds all paths of the resource in order, each as `add_contour` does. The points are in the
+    /// coordinate range.
+    ///
+    /// Refusals: `Failed` before anything else, and then nothing is changed; `TooManyEdges` at a
+    /// path that would bring the weight to 2^31; `Memory` at some path, it is not said which. After
+    /// these two exactly the paths before that one are added.
+    pub fn add_source<R0: IntShapeResource<I>>(
+        &mut self,
+        resource: &R0,
+        shape_type: ShapeType,
+    ) -> Result<(), OverlayError>
+        requires { All (AllInRange I.limit) (R0.paths resource.now) }
+        ensures { AddsAsAsked (paths_for shape_type (R0.paths resource.now)) self.old self.new result }
+    {
+        self.core
+            .add_paths(resource, PathKind::Thinned, passing(shape_type))
+    }
+
+    /// Drops the edges and mends a failed builder; `solver` and `fill_rule` stay. It takes no memory.
+    pub fn clear(&mut self)
+        ensures { self.new ≡ cleared self.old }
+    {
+        self.core.clear();
+    }
+
+    /// Drops the edges and mends a failed builder, and then adds the paths of `subj` as the subject
+    /// and those of `clip` as the clip. `solver` and `fill_rule` stay. The points are in the
+    /// coordinate range.
+    ///
+    /// Refusals are `TooManyEdges` and `Memory`, as those of `add_source`: exactly the paths before
+    /// the refused one are added then.
+    pub fn reinit_with_subj_and_clip<R0: IntShapeResource<I>, R1: IntShapeResource<I>>(
+        &mut self,
+        subj: &R0,
+        clip: &R1,
+    ) -> Result<(), OverlayError>
+        requires subj_in_range { All (AllInRange I.limit) (R0.paths subj.now) }
+        requires clip_in_range { All (AllInRange I.limit) (R1.paths clip.now) }
+        ensures { AddsAsAsked (subject_and_clip (R0.paths subj.now) (R1.paths clip.now))
+            (cleared self.old) self.new result }
+    {
+        self.reinit_with_subj(subj)?;
+        self.add_source(clip, ShapeType::Clip)
+    }
+
+    // Drops the edges and mends a failed builder, and then adds the paths of `subj` as the subject.
+    fn reinit_with_subj<R0: IntShapeResource<I>>(&mut self, subj: &R0) -> Result<(), OverlayError>
+        requires { All (AllInRange I.limit) (R0.paths subj.now) }
+        ensures { AddsAsAsked (paths_for ShapeType.Subject (R0.paths subj.now))
+            (cleared self.old) self.new result }
+    {
+        self.clear();
+        self.add_source(subj, ShapeType::Subject)
+    }
+}

@@ -1,0 +1,91 @@
+//! Builders for predicates, empty or with the paths of a subject and of a clip.
+
+ghost use Rattle.std.specs.Prelude.{◌≡◌, All, false, IfOk, IfErr, IsOkUnless};
+ghost use Rattle.overlay_geom.specs.Points.{AllInRange};
+ghost use Rattle.overlay_builder.specs.GivenPaths.{subject_and_clip, HoldsPaths, MayRefuseBuilder};
+ghost use Rattle.overlay_relate.specs.PredicateBuilder.{empty_builder};
+
+use crate::predicate_overlay::PredicateOverlay;
+use overlay_arrange::fill_rule::FillRule;
+use overlay_builder::builder_core::BuilderCore;
+use overlay_builder::solver::Solver;
+use overlay_geom::error::OverlayError;
+use overlay_geom::integer::OverlayInt;
+use overlay_geom::resource::IntShapeResource;
+use std::alloc::Allocator;
+
+impl<I: OverlayInt, A: Allocator + Clone> PredicateOverlay<I, A> {
+    /// An empty builder with room for `capacity` edges, the rule EvenOdd and the default solver. The
+    /// only refusal is `Memory`.
+    pub fn new(alloc: A, capacity: usize) -> Result<Self, OverlayError>
+        ensures ok { IfOk result (λ o. o ≡ empty_builder FillRule.EvenOdd o.solver) }
+        ensures err { IsOkUnless result OverlayError.Memory }
+    {
+        PredicateOverlay::with_settings(alloc, capacity, FillRule::EvenOdd, Solver::ABSOLUTE)
+    }
+
+    /// A builder with the paths of `subj` as the subject and those of `clip` as the clip, each a
+    /// closed contour, the rule EvenOdd and the default solver. The points are in the coordinate
+    /// range. Refusals: `TooManyEdges` where a path, added after those before it, would bring the
+    /// weight to 2^31; `Memory`.
+    pub fn from_subj_and_clip<R0: IntShapeResource<I>, R1: IntShapeResource<I>>(
+        alloc: A,
+        subj: &R0,
+        clip: &R1,
+    ) -> Result<Self, OverlayError>
+        requires subj_in_range { All (AllInRange I.limit) (R0.paths subj.now) }
+        requires clip_in_range { All (AllInRange I.limit) (R1.paths clip.now) }
+        ensures ok { IfOk result (λ o. HoldsPaths false (subject_and_clip (R0.paths subj.now) (R1.paths clip.now)) o.edges) }
+        ensures made { IfOk result (λ o. o ≡ record (empty_builder FillRule.EvenOdd o.solver) { edges = o.edges }) }
+        ensures err { IfErr result (MayRefuseBuilder false
+            (subject_and_clip (R0.paths subj.now) (R1.paths clip.now))) }
+    {
+        PredicateOverlay::from_subj_and_clip_custom(
+            alloc,
+            subj,
+            clip,
+            FillRule::EvenOdd,
+            Solver::ABSOLUTE,
+        )
+    }
+
+    /// A builder with the paths of `subj` as the subject and those of `clip` as the clip, each a
+    /// closed contour, this rule and this solver. The points are in the coordinate range. Refusals:
+    /// `TooManyEdges` where a path, added after those before it, would bring the weight to 2^31;
+    /// `Memory`.
+    pub fn from_subj_and_clip_custom<R0: IntShapeResource<I>, R1: IntShapeResource<I>>(
+        alloc: A,
+        subj: &R0,
+        clip: &R1,
+        fill_rule: FillRule,
+        solver: Solver,
+    ) -> Result<Self, OverlayError>
+        requires subj_in_range { All (AllInRange I.limit) (R0.paths subj.now) }
+        requires clip_in_range { All (AllInRange I.limit) (R1.paths clip.now) }
+        ensures ok { IfOk result (λ o. HoldsPaths false (subject_and_clip (R0.paths subj.now) (R1.paths clip.now)) o.edges) }
+        ensures made { IfOk result (λ o. o ≡ record (empty_builder fill_rule solver) { edges = o.edges }) }
+        ensures err { IfErr result (MayRefuseBuilder false
+            (subject_and_clip (R0.paths subj.now) (R1.paths clip.now))) }
+    {
+        let mut overlay = PredicateOverlay::with_settings(alloc, 0, fill_rule, solver)?;
+        overlay.reinit_with_subj_and_clip(subj, clip)?;
+        Ok(overlay)
+    }
+
+    // An empty builder with room for so many edges, and these settings.
+    fn with_settings(
+        alloc: A,
+        capacity: usize,
+        fill_rule: FillRule,
+        solver: Solver,
+    ) -> Result<Self, OverlayError>
+        ensures ok { IfOk result (λ o. o ≡ empty_builder fill_rule solver) }
+        ensures err { IsOkUnless result OverlayError.Memory }
+    {
+        Ok(PredicateOverlay {
+            solver,
+            fill_rule,
+            core: BuilderCore::with_capacity(alloc, capacity)?,
+        })
+    }
+}
