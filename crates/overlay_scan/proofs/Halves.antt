@@ -1,5 +1,6 @@
 -- A list whose items pass a test in its front alone, searched by halves.
-use Rattle.std.proofs.Common.{◌≡◌, ⊎_elim, Bool, true, false, cond, ℕ, zero, suc, ◌+◌, ◌-◌, ◌/◌, ◌<◌, ◌≤◌, List, [], ◌∷◌, length, map, get_or, sym, ap, ◌∙◌, subst, arith}
+use Rattle.std.proofs.Common.{◌≡◌, ⊎_elim, Bool, true, false, cond}
+use Rattle.std.proofs.Common.{ℕ, zero, suc, ◌+◌, ◌-◌, ◌/◌, ◌<◌, ◌≤◌, List, [], ◌∷◌, length, map, get_or, sym, ap, ◌∙◌, subst, arith}
 use Rattle.std.specs.List.{prefix_len}
 use Rattle.std.proofs.lemmas.Bool.{both_ways, false_from_ne_true, cases_lt}
 use Rattle.std.proofs.lemmas.List.{get_or_default, length-map}
@@ -23,7 +24,8 @@ module _ {X : Type 0} (test : X → Bool) where
   pub all_between : (xs : List X) (n : ℕ) → length xs ≤ n → IsBetween test xs 0 n
   all_between xs n all = record { passes = λ k d h before. absurd (omega arith); fails = λ k d h after. absurd (omega arith) }
 
-  module _ (xs : List X) (front : PassBefore test xs) (low high m : ℕ) (x : X) (within : m < length xs) (is : get_or xs m x ≡ x) (between : IsBetween test xs low high) where
+  module _ (xs : List X) (front : PassBefore test xs) (low high m : ℕ) (x : X) (within : m < length xs)
+      (is : get_or xs m x ≡ x) (between : IsBetween test xs low high) where
     here : (d : X) → get_or xs m d ≡ x
     here d = get_or_default xs m d x within ∙ is
 
@@ -63,14 +65,16 @@ module _ {X Y : Type 0} (test : Y → Bool) (h : X → Y) (xs : List X) where
   pub begun : IsBetween test (map h xs) 0 (length xs)
   begun = all_between test (map h xs) (length xs) (let l = length-map xs h in omega arith)
 
-  module _ (front : PassBefore test (map h xs)) (low high m : ℕ) (x : X) (within : m < length xs) (is : x ≡ get_or xs m x) (between : IsBetween test (map h xs) low high) where
+  module _ (front : PassBefore test (map h xs)) (low high m : ℕ) (x : X) (within : m < length xs)
+      (is : x ≡ get_or xs m x) (between : IsBetween test (map h xs) low high) where
     pub read_passes : test (h x) ≡ true → IsBetween test (map h xs) (m + 1) high
     read_passes = upper_half test (map h xs) front low high m (h x) (rw length-map within) (read_mapped h xs m x (h x) within is) between
 
     pub read_fails : test (h x) ≡ false → IsBetween test (map h xs) low m
     read_fails = lower_half test (map h xs) front low high m (h x) (rw length-map within) (read_mapped h xs m x (h x) within is) between
 
-  pub counted_by_halves : (low high : ℕ) → low ≤ high → high ≤ low → high ≤ length xs → IsBetween test (map h xs) low high → prefix_len test (map h xs) ≡ low
+  pub counted_by_halves : (low high : ℕ) → low ≤ high → high ≤ low → high ≤ length xs → IsBetween test (map h xs) low high →
+      prefix_len test (map h xs) ≡ low
   counted_by_halves low high up down within between =
       let same : high ≡ low = omega arith in
       count_is test (map h xs) low (let l = length-map xs h in omega arith) (subst (IsBetween test (map h xs) low) same between)

@@ -1,5 +1,6 @@
 -- What an x before which no edge ends tells of edges.
-use Rattle.std.proofs.Common.{◌≡◌, Bool, true, false, not, cond, ℕ, ◌+◌, ◌<◌, ◌≤◌, ℤ, ◌≤ℤ◌, int_lt, List, [], ◌∷◌, ◌++◌, length, take, drop, get_or, sym, ap, ◌∙◌, subst, arith}
+use Rattle.std.proofs.Common.{◌≡◌, Bool, true, false, not, cond}
+use Rattle.std.proofs.Common.{ℕ, ◌+◌, ◌<◌, ◌≤◌, ℤ, ◌≤ℤ◌, int_lt, List, [], ◌∷◌, ◌++◌, length, take, drop, get_or, sym, ap, ◌∙◌, subst, arith}
 use Rattle.std.specs.List.{All, filter, insert}
 use Rattle.std.specs.Option.{IfSome}
 use Rattle.std.specs.Prelude.{Option, Some, None}
@@ -38,7 +39,8 @@ module _ {I V : Type 0} (whole : I → ℤ) where
       (All-weaker (EndsFrom end) (λ f. int_lt (whole x) (whole f.b.x) ≡ true) (λ f from. test_from_lt (whole x) (whole f.b.x) (omega (arith, ints))) fs all)
 
   -- none ends before what is before that
-  pub none_before : (end : Option I) (fs : List (LiveEdge I V)) (x : I) → NoneEndsBefore whole end fs → IfSome end (λ y. whole x ≤ℤ whole y) → All (EndsFrom x) fs
+  pub none_before : (end : Option I) (fs : List (LiveEdge I V)) (x : I) → NoneEndsBefore whole end fs →
+      IfSome end (λ y. whole x ≤ℤ whole y) → All (EndsFrom x) fs
   none_before None fs x none before = subst (All (EndsFrom x)) (sym none) (All-nil (EndsFrom x))
   none_before (Some end) fs x all before = All-weaker (EndsFrom end) (EndsFrom x) (λ f from. omega (arith, ints)) fs all
 
@@ -57,5 +59,6 @@ module _ {I V : Type 0} (whole : I → ℤ) where
       (All-push (EndsFrom x) (take i fs) f (none_before end (take i fs) x none before) from)
 
   -- and at last all are
-  pub all_looked_at : (end : Option I) (fs : List (LiveEdge I V)) (i : ℕ) → length fs ≤ i → NoneEndsBefore whole end (take i fs) → NoneEndsBefore whole end fs
+  pub all_looked_at : (end : Option I) (fs : List (LiveEdge I V)) (i : ℕ) → length fs ≤ i →
+      NoneEndsBefore whole end (take i fs) → NoneEndsBefore whole end fs
   all_looked_at end fs i past none = subst (NoneEndsBefore whole end) (take_all i fs past) none

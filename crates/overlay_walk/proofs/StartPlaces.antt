@@ -1,5 +1,6 @@
 -- The places of steps by where their edges start, and those of them that are passed.
-use Rattle.std.proofs.Common.{◌≡◌, ⊎_elim, ℕ, ◌+◌, ◌<◌, ◌≤◌, Bool, true, false, List, [], ◌∷◌, ◌++◌, length, map, get_or, Contains, sym, ap, ◌∙◌, subst, below_more, arith}
+use Rattle.std.proofs.Common.{◌≡◌, ⊎_elim, ℕ}
+use Rattle.std.proofs.Common.{◌+◌, ◌<◌, ◌≤◌, Bool, true, false, List, [], ◌∷◌, ◌++◌, length, map, get_or, Contains, sym, ap, ◌∙◌, subst, below_more, arith}
 use Rattle.std.specs.List.{All}
 use Rattle.std.specs.List.Sorted.{IsPermutation}
 use Rattle.std.specs.Prelude.{set}
@@ -20,7 +21,8 @@ use Rattle.overlay_walk.proofs.StartOrder.{starts_before-itself}
 
 module _ (ss : List Step) where
   -- the edge of the next step is added
-  pub edge_pushed : (n : ℕ) (fs : List (Entry ℕ)) (f : Entry ℕ) → HaveEdges ss n fs → n < length ss → f ≡ record { edge = edge_of (step_at ss n); value = n } →
+  pub edge_pushed : (n : ℕ) (fs : List (Entry ℕ)) (f : Entry ℕ) → HaveEdges ss n fs →
+      n < length ss → f ≡ record { edge = edge_of (step_at ss n); value = n } →
       HaveEdges ss (n + 1) (fs ++ f ∷ [])
   edge_pushed n fs f have within is = record {
     from = All-push (IsEdgeAt ss) fs f have.from (subst (IsEdgeAt ss) (sym is) (record { below = within; along = λ i. edge_of (step_at ss n) }));
@@ -55,7 +57,8 @@ module _ (marks : List Bool) (places : List ℕ) where
   none_passed = record { within = omega arith; shut = λ i h. absurd (omega arith) }
 
   -- one more, which is not open
-  pub passed_more : (n : ℕ) → ArePassed marks places n → n < length places → is_open marks (get_or places n 0) ≡ false → ArePassed marks places (n + 1)
+  pub passed_more : (n : ℕ) → ArePassed marks places n → n < length places →
+      is_open marks (get_or places n 0) ≡ false → ArePassed marks places (n + 1)
   passed_more n passed within shut = record {
     within = omega arith;
     shut = below_more (λ i. is_open marks (get_or places i 0) ≡ false) n passed.shut shut;
@@ -90,17 +93,20 @@ module _ (marks : List Bool) (places : List ℕ) where
           (later stands.0 stands.1 (subst (λ j. is_open marks j ≡ true) (sym stands.2 ∙ get_or_default_zero places stands.0 k stands.1) at));
     }
       where
-        later : (i : ℕ) → i < length places → is_open marks (get_or places i 0) ≡ true → is_place_started_before ss (get_or places i 0) (get_or places n 0) ≡ false
+        later : (i : ℕ) → i < length places → is_open marks (get_or places i 0) ≡ true →
+            is_place_started_before ss (get_or places i 0) (get_or places n 0) ≡ false
         later i h at = ⊎_elim
             (λ earlier. absurd (both_ways (is_open marks (get_or places i 0)) (passed.shut i earlier) at))
             (λ up. ⊎_elim (λ after. by_start.order n i 0 after h)
             (λ back. let same : n ≡ i = omega arith in
-            subst (λ j. is_place_started_before ss (get_or places j 0) (get_or places n 0) ≡ false) same (starts_before-itself (edge_of (step_at ss (get_or places n 0)))))
+            subst (λ j. is_place_started_before ss (get_or places j 0) (get_or places n 0) ≡ false) same
+            (starts_before-itself (edge_of (step_at ss (get_or places n 0)))))
             (cases_lt n i))
             (cases_lt i n)
 
     -- so it is, read with its own default
-    pub place_read : (count m : ℕ) → length ss ≡ count → n < length places → m ≡ get_or places n m → (n < length places → is_open marks (get_or places n 0) ≡ true) →
+    pub place_read : (count m : ℕ) → length ss ≡ count → n < length places → m ≡ get_or places n m →
+        (n < length places → is_open marks (get_or places n 0) ≡ true) →
         IsFirstPlace (is_open marks) (is_place_started_before ss) 0 count m
     place_read count m counted within is opened =
         subst (λ k. IsFirstPlace (is_open marks) (is_place_started_before ss) 0 k m) counted

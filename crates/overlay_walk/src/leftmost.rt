@@ -36,7 +36,8 @@ fn edges_along<I: IntNumber, A: Allocator>(
     steps: &[Step<I>],
 ) -> Result<Vec<NumberedEdge<I>, A>, OverlayError>
     requires { All (IsLong I.limit) (plain_steps I.whole steps.now) }
-    ensures ok { IfOk result (λ v. HaveEdges (plain_steps I.whole steps.now) (length steps.now) (numbered_entries I.whole v.items)) }
+    ensures ok { IfOk result (λ v. HaveEdges (plain_steps I.whole steps.now) (length steps.now)
+        (numbered_entries I.whole v.items)) }
     ensures err { IsOkUnless result OverlayError.Memory }
 {
     let mut edges = Vec::with_capacity(alloc, steps.len())?;

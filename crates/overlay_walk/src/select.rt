@@ -28,7 +28,8 @@ pub fn push_selected<I: IntNumber, D: Copy, A: Allocator>(
 ) -> Result<(), OverlayError>
     ensures ok { OnOk result (plain_steps I.whole steps.new.items ≡ plain_steps I.whole steps.old.items
         ++ flat_map (steps_by_bits rule (is_on_left direction)) (map (plain_vector I.whole) edges.now)) }
-    ensures along { OnOk result (All (RunsAlong I.whole (map (λ v. ends (plain_vector I.whole v)) edges.now)) steps.old.items
+    ensures along { OnOk result (
+        All (RunsAlong I.whole (map (λ v. ends (plain_vector I.whole v)) edges.now)) steps.old.items
         → All (RunsAlong I.whole (map (λ v. ends (plain_vector I.whole v)) edges.now)) steps.new.items) }
     ensures err { IsOkUnless result OverlayError.Memory }
 {
