@@ -1,10 +1,10 @@
 -- How points compare, as one ordering.
-use Rattle.std.proofs.Common.{◌≡◌, cond, refl, ap, ap₂, sym, ◌∙◌}
-use Rattle.std.specs.Ordering.{is_lt, is_eq, ordering_reverse}
+use Rattle.std.proofs.Common.{◌≡◌, Bool, true, false, cond, List, [], ◌∷◌, map, refl, ap, ap₂, sym, ◌∙◌}
+use Rattle.std.specs.Ordering.{is_lt, is_eq, int_cmp, ordering_reverse, ordering_then}
 use Rattle.std.specs.declared.cmp.Ordering.{Ordering}
 use Rattle.std.specs.declared.cmp.Ordering.TheVariants.{Less, Equal, Greater}
-use Rattle.overlay_geom.specs.Plane.{Point, point_eq, point_lt}
-use Rattle.overlay_geom.specs.Resolved.{point_cmp}
+use Rattle.overlay_geom.specs.Plane.{Point, Edge, edge_of, point_eq, point_lt}
+use Rattle.overlay_geom.specs.Resolved.{point_cmp, edges_between}
 use Rattle.overlay_geom.proofs.Orders.{point_order, point_order-total, point_lt-is_less, point_eq-is_tie}
 
 -- an ordering is found again by two tests: whether it is `Less`, and whether it is so the other way round
@@ -26,3 +26,21 @@ point_cmp-is_tie p q = ap is_eq (point_cmp-is_order p q) ∙ sym (point_eq-is_ti
 -- the comparison answers `Less` where the first point is smaller
 pub point_cmp-is_less : (p q : Point) → is_lt (point_cmp p q) ≡ point_lt p q
 point_cmp-is_less p q = ap is_lt (point_cmp-is_order p q) ∙ sym (point_lt-is_less p q)
+
+-- points at one abscissa compare by their heights
+pub tied_at_abscissa : (p q : Point) → int_cmp p.x q.x ≡ Equal → int_cmp p.y q.y ≡ point_cmp p q
+tied_at_abscissa p q tied = sym (ap (λ o. ordering_then o (int_cmp p.y q.y)) tied) ∙ sym (point_cmp-is_order p q)
+
+-- the first of two points is not the other one, nor smaller, where it is the greater one
+module _ (p q : Point) (greater : point_cmp p q ≡ Greater) where
+  pub greater_differs : point_eq p q ≡ false
+  greater_differs = sym (point_cmp-is_tie p q) ∙ ap is_eq greater
+
+  pub greater_is_after : point_lt p q ≡ false
+  greater_is_after = sym (point_cmp-is_less p q) ∙ ap is_lt greater
+
+  -- and the edge between them begins at the other one
+  pub edge_from_greater : record { a = q; b = p } ∷ [] ≡ edges_between p q
+  edge_from_greater =
+      sym (ap (λ t. map edge_of (cond t [] (record { from = p; to = q } ∷ []))) greater_differs
+      ∙ ap (λ t. cond {A = Edge} t (record { a = p; b = q }) (record { a = q; b = p }) ∷ []) greater_is_after)
