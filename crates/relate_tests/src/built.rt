@@ -3,8 +3,10 @@
 use crate::asked::{assert_contour, assert_shape, assert_shapes, points};
 use overlay_arrange::fill_rule::FillRule;
 use overlay_builder::solver::Solver;
+use overlay_geom::error::OverlayError;
 use overlay_geom::integer::OverlayInt;
 use overlay_geom::path::{IntShape, IntShapes};
+use overlay_geom::point::{IntPoint, in_range};
 use overlay_relate::predicate_overlay::{PredicateOverlay, ShapeType};
 use std::alloc::Global;
 use std::process::Abort;
@@ -34,19 +36,38 @@ fn constructors<I: OverlayInt + From<i16>>(rt: &impl Abort, alloc: Global) -> Re
     Ok(())
 }
 
+// Adds a contour that is in range and whose points come one by one.
+fn add_points<I: OverlayInt>(
+    rt: &impl Abort,
+    overlay: &mut PredicateOverlay<I, Global>,
+    points: &[IntPoint<I>],
+    shape_type: ShapeType,
+) -> Result<(), OverlayError> {
+    assert!(rt; in_range(points));
+    overlay.add_path_iter(points.iter().copied(), shape_type)
+}
+
 // Each adder is granted.
 fn adders<I: OverlayInt + From<i16>>(rt: &impl Abort, alloc: Global) -> Result<(), Fail> {
     let contour = points::<I>(alloc, &SQUARE)?;
     assert_contour(rt, &contour);
     let mut overlay: PredicateOverlay<I, Global> = PredicateOverlay::new(alloc, 0)?;
     overlay.add_contour(&contour, ShapeType::Subject)?;
-    overlay.add_path_iter(contour.iter().copied(), ShapeType::Clip)?;
+    add_points(rt, &mut overlay, &contour, ShapeType::Clip)?;
     let shape = square::<I>(alloc)?;
     assert_shape(rt, &shape);
     overlay.add_source(&shape, ShapeType::Clip)?;
-    overlay.reinit_with_subj_and_clip(&shape, &shape)?;
     overlay.clear();
     overlay.fill_rule = FillRule::NonZero;
+    Ok(())
+}
+
+// The paths of a subject and of a clip are put in the place of what is held.
+fn again<I: OverlayInt + From<i16>>(rt: &impl Abort, alloc: Global) -> Result<(), Fail> {
+    let mut overlay: PredicateOverlay<I, Global> = PredicateOverlay::new(alloc, 0)?;
+    let shape = square::<I>(alloc)?;
+    assert_shape(rt, &shape);
+    overlay.reinit_with_subj_and_clip(&shape, &shape)?;
     Ok(())
 }
 
@@ -72,6 +93,9 @@ fn builders_for_predicates(rt: HostRuntime) -> Result<(), Fail> {
     adders::<i16>(&rt, rt.alloc())?;
     adders::<i32>(&rt, rt.alloc())?;
     adders::<i64>(&rt, rt.alloc())?;
+    again::<i16>(&rt, rt.alloc())?;
+    again::<i32>(&rt, rt.alloc())?;
+    again::<i64>(&rt, rt.alloc())?;
     lists::<i16>(&rt, rt.alloc())?;
     lists::<i32>(&rt, rt.alloc())?;
     lists::<i64>(&rt, rt.alloc())

@@ -40,13 +40,8 @@ impl<I: OverlayInt, A: Allocator + Clone> PredicateOverlay<I, A> {
         ensures err { IfErr result (MayRefuseBuilder false
             (subject_and_clip (R0.paths subj.now) (R1.paths clip.now))) }
     {
-        PredicateOverlay::from_subj_and_clip_custom(
-            alloc,
-            subj,
-            clip,
-            FillRule::EvenOdd,
-            Solver::ABSOLUTE,
-        )
+        let fill_rule = FillRule::EvenOdd;
+        PredicateOverlay::from_subj_and_clip_custom(alloc, subj, clip, fill_rule, Solver::ABSOLUTE)
     }
 
     /// A builder with the paths of `subj` as the subject and those of `clip` as the clip, each a

@@ -56,7 +56,7 @@ impl<I: OverlayInt, A: Allocator + Clone> PredicateOverlay<I, A> {
         let _ = self.core.content();
         self.core.check_usable()?;
         for shape in shapes {
-            self.add_source(shape, shape_type)?;
+            self.add_shape(shape, shape_type)?;
         }
         Ok(())
     }
