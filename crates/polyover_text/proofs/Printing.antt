@@ -34,3 +34,8 @@ contour_written contour rest first i old begun mid parts done start h =
 
 pub no_points_written : (contour : List (IntPoint ℤ)) (old : List ℕ) → length contour ≡ 0 → old ++ 10 ∷ [] ≡ old ++ contour_line (plain_points (λ z. z) contour)
 no_points_written contour old none = ap (λ l. old ++ contour_line (plain_points (λ z. z) l)) (sym (nil_from_length contour none))
+
+-- what is added where room is found is added on a success
+pub line_added : {V E : Type 0} (r : Result V E) (new old line : List ℕ) → new ≡ (if is_ok r then old ++ line else old) → OnOk r (new ≡ old ++ line)
+line_added (Ok x) new old line is = is
+line_added (Err e) new old line is = tt
