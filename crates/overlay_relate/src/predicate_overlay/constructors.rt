@@ -35,7 +35,8 @@ impl<I: OverlayInt, A: Allocator + Clone> PredicateOverlay<I, A> {
     ) -> Result<Self, OverlayError>
         requires subj_in_range { All (AllInRange I.limit) (R0.paths subj.now) }
         requires clip_in_range { All (AllInRange I.limit) (R1.paths clip.now) }
-        ensures ok { IfOk result (λ o. HoldsPaths false (subject_and_clip (R0.paths subj.now) (R1.paths clip.now)) o.edges) }
+        ensures ok { IfOk result (λ o. HoldsPaths false
+            (subject_and_clip (R0.paths subj.now) (R1.paths clip.now)) o.edges) }
         ensures made { IfOk result (λ o. o ≡ record (empty_builder FillRule.EvenOdd o.solver) { edges = o.edges }) }
         ensures err { IfErr result (MayRefuseBuilder false
             (subject_and_clip (R0.paths subj.now) (R1.paths clip.now))) }
@@ -57,7 +58,8 @@ impl<I: OverlayInt, A: Allocator + Clone> PredicateOverlay<I, A> {
     ) -> Result<Self, OverlayError>
         requires subj_in_range { All (AllInRange I.limit) (R0.paths subj.now) }
         requires clip_in_range { All (AllInRange I.limit) (R1.paths clip.now) }
-        ensures ok { IfOk result (λ o. HoldsPaths false (subject_and_clip (R0.paths subj.now) (R1.paths clip.now)) o.edges) }
+        ensures ok { IfOk result (λ o. HoldsPaths false
+            (subject_and_clip (R0.paths subj.now) (R1.paths clip.now)) o.edges) }
         ensures made { IfOk result (λ o. o ≡ record (empty_builder fill_rule solver) { edges = o.edges }) }
         ensures err { IfErr result (MayRefuseBuilder false
             (subject_and_clip (R0.paths subj.now) (R1.paths clip.now))) }

@@ -1,5 +1,5 @@
 -- The shapes are added one after another; where one is refused those before it stay.
-use Rattle.std.proofs.Common.{◌≡◌, ◌<◌, ◌^◌, rules, All, true, false, Err, length, sym, subst}
+use Rattle.std.proofs.Common.{◌≡◌, ◌<◌, ◌^◌, rules, All, true, false, Err, subst}
 use Rattle.std.proofs.lemmas.List.{length-map}
 use Rattle.std.proofs.lemmas.Result.{err_from_is_err_and}
 use Rattle.overlay_geom.specs.Edges.{weight}
@@ -7,7 +7,6 @@ use Rattle.overlay_geom.specs.Paths.{paths_of_shape}
 use Rattle.overlay_geom.specs.Points.{AllInRange}
 use Rattle.overlay_geom.specs.declared.error.OverlayError.TheVariants.{Failed}
 use Rattle.overlay_geom.proofs.Mapped.{read_mapped}
-use Rattle.overlay_builder.specs.GivenPaths.{paths_for}
 use Rattle.overlay_relate.proofs.AddedShapes.{none_added, failed_refuses, next_shape_added, next_shape_refused}
 use Rattle.overlay_relate.proofs.predicate_overlay.PredicateOverlay.add_shapes.Goals as goal
 
