@@ -1,6 +1,6 @@
 -- Lists that stand one after another in one list, each as a range of places: paths as ranges of points, and shapes as
 -- ranges of paths.
-use Rattle.std.specs.Prelude.{ℕ, ℤ, List, [], ◌∷◌, map, length, slice_range, if◌then◌else◌, leb, ◌&&◌}
+use Rattle.std.specs.Prelude.{ℕ, ◌+◌, ◌≤◌, ℤ, List, [], ◌∷◌, map, All, length, slice_range, if◌then◌else◌, leb, ◌&&◌}
 use Rattle.std.specs.declared.ops.Range.{Range}
 use Rattle.overlay_geom.specs.Plane.{Point}
 use Rattle.overlay_geom.specs.Points.{plain_points}
@@ -23,10 +23,24 @@ abbrev pub first_range : List (Range ℕ) → Range ℕ
 first_range [] = no_range
 first_range (r ∷ rs) = r
 
+-- the range of the items of ys behind those of xs
+abbrev pub range_behind : {X : Type 0} → List X → List X → Range ℕ
+range_behind xs ys = record { start = length xs; end = length xs + length ys }
+
 -- the whole points of each range of points
 abbrev pub paths_in : {I : Type 0} → (I → ℤ) → List (IntPoint I) → List (Range ℕ) → List (List Point)
 paths_in whole points ranges = map (λ r. plain_points whole (part_in points r)) ranges
 
 -- the paths of each range of a list of ranges of points
-abbrev pub shapes_in : {I : Type 0} → (I → ℤ) → List (IntPoint I) → List (Range ℕ) → List (Range ℕ) → List (List (List Point))
+abbrev pub shapes_in : {I : Type 0} → (I → ℤ) → List (IntPoint I) → List (Range ℕ) → List (Range ℕ)
+    → List (List (List Point))
 shapes_in whole points contours shapes = map (λ s. paths_in whole points (part_in contours s)) shapes
+
+-- the range is inside a list of this length
+pub record IsInside (n : ℕ) (r : Range ℕ) : Type 0 where
+  pub rises : r.start ≤ r.end
+  pub ends : r.end ≤ n
+
+-- and so is each of several ranges
+abbrev pub AreInside : ℕ → List (Range ℕ) → Type 0
+AreInside n rs = All (IsInside n) rs

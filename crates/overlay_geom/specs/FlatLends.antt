@@ -11,8 +11,11 @@ use Rattle.overlay_geom.specs.contracts.flat.contours.FlatContoursBuffer.{the_ro
 
 -- b with ws written over as many of its points, from the start of its first contour on
 abbrev pub with_first : {I A : Type 0} → FlatContoursBuffer I A → List (IntPoint I) → FlatContoursBuffer I A
-with_first b ws = record b { points = with_items_from b.points (range_within (length b.points.items) (first_range b.ranges.items)).start ws }
+with_first b ws =
+    let first = range_within (length b.points.items) (first_range b.ranges.items) in
+    record b { points = with_items_from b.points first.start ws }
 
 -- b ends with the last points behind r written over those of its first contour
-abbrev pub LendsFirst : (I A : RattleType) → Ghosts A.Denot → MutBor (FlatContoursBuffer I.Denot A.Denot) → MutBor (List (IntPoint I.Denot)) → Fml
+abbrev pub LendsFirst : (I A : RattleType) → Ghosts A.Denot → MutBor (FlatContoursBuffer I.Denot A.Denot)
+    → MutBor (List (IntPoint I.Denot)) → Fml
 LendsFirst I A heap b r = Lends (the_row I A heap) (Array (point-row I) 0) b r (with_first b.now)

@@ -1,9 +1,9 @@
 //! Contours whose points stand in one list.
 
-ghost use Rattle.std.specs.Prelude.{◌≡◌, ◌+◌, ◌≤◌, ◌==◌, ◌++◌, ◌∷◌, [], length, IfOk, IsOk, OnOk, OnErr, IsOkUnless};
-ghost use Rattle.std.specs.Prelude.{vec_capacity};
+ghost use Rattle.std.specs.Prelude.{◌≡◌, ◌≤◌, ◌==◌, ◌++◌, ◌∷◌, [], length, vec_capacity};
+ghost use Rattle.std.specs.Prelude.{IfOk, IsOk, OnOk, OnErr, IsOkUnless};
 ghost use Rattle.std.specs.Borrow.{sem};
-ghost use Rattle.overlay_geom.specs.Flat.{part_in, first_range, paths_in};
+ghost use Rattle.overlay_geom.specs.Flat.{part_in, first_range, range_behind, paths_in};
 ghost use Rattle.overlay_geom.specs.FlatLends.{LendsFirst};
 
 use crate::error::OverlayError;
@@ -99,8 +99,8 @@ impl<I: IntNumber, A: Allocator> FlatContoursBuffer<I, A> {
     /// buffer stays as it is.
     pub fn add_contour(&mut self, contour: &[IntPoint<I>]) -> Result<(), OverlayError>
         ensures points { OnOk result (self.new.points.items ≡ self.old.points.items ++ contour.now) }
-        ensures ranges { OnOk result (self.new.ranges.items ≡ self.old.ranges.items
-            ++ record { start = length self.old.points.items; end = length self.old.points.items + length contour.now } ∷ []) }
+        ensures ranges { OnOk result (self.new.ranges.items
+            ≡ self.old.ranges.items ++ range_behind self.old.points.items contour.now ∷ []) }
         ensures same_points { OnErr result (self.new.points.items ≡ self.old.points.items) }
         ensures same_ranges { OnErr result (self.new.ranges.items ≡ self.old.ranges.items) }
         ensures only { IsOkUnless result OverlayError.Memory }

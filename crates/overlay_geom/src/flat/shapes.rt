@@ -127,7 +127,8 @@ fn shapes_of<I: IntNumber, A: Allocator + Clone>(
     contours: &[Range<usize>],
     ranges: &[Range<usize>],
 ) -> Result<IntShapes<I, A>, OverlayError>
-    ensures ok { IfOk result (λ ss. plain_shapes I.whole ss.items ≡ shapes_in I.whole points.now contours.now ranges.now) }
+    ensures ok { IfOk result (λ ss. plain_shapes I.whole ss.items
+        ≡ shapes_in I.whole points.now contours.now ranges.now) }
     ensures only { IsOkUnless result OverlayError.Memory }
 {
     let mut shapes = Vec::new(alloc.clone()?);
