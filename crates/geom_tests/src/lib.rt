@@ -6,6 +6,8 @@ mod coordinate;
 #[cfg(test)]
 mod error;
 #[cfg(test)]
+mod flat;
+#[cfg(test)]
 mod path;
 #[cfg(test)]
 mod point;

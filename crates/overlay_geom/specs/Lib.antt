@@ -1,4 +1,6 @@
 pub mod Edges
+pub mod Flat
+pub mod FlatLends
 pub mod Lines
 pub mod Merged
 pub mod Numbered

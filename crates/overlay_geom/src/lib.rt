@@ -4,6 +4,7 @@
 pub mod edge;
 pub mod edge_pair;
 pub mod error;
+pub mod flat;
 pub mod integer;
 pub mod number;
 pub mod path;

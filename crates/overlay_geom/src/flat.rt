@@ -1,0 +1,53 @@
+//! Contours and shapes whose points stand in one list.
+
+ghost use Rattle.std.specs.Prelude.{◌≡◌, ◌≤◌, length, IfOk, IsOkUnless};
+ghost use Rattle.overlay_geom.specs.Flat.{range_within, part_in};
+
+pub mod contours;
+pub mod shapes;
+
+use crate::error::OverlayError;
+use std::alloc::Allocator;
+use std::ops::Range;
+
+// The range itself if it is inside a list of this length, else one without places.
+fn range_within(range: &Range<usize>, count: usize) -> Range<usize>
+    ensures value { result ≡ range_within count range.now }
+    ensures begins { result.start ≤ result.end }
+    ensures ends { result.end ≤ count }
+{
+    if range.start <= range.end && range.end <= count {
+        range.start..range.end
+    } else {
+        0..0
+    }
+}
+
+// The items at the places of the range; none if it is not inside the list.
+fn part_in<'a, T>(items: &'a [T], range: &Range<usize>) -> &'a [T]
+    ensures { result.now ≡ part_in items.now range.now }
+{
+    let within = range_within(range, items.len());
+    &items[within.start..within.end]
+}
+
+// The items of the list in a list of their own.
+fn copied<T: Copy, A: Allocator>(alloc: A, items: &[T]) -> Result<Vec<T, A>, OverlayError>
+    ensures ok { IfOk result (λ v. v.items ≡ items.now) }
+    ensures only { IsOkUnless result OverlayError.Memory }
+{
+    let mut list = Vec::new(alloc);
+    list.extend_from_slice(items)?;
+    Ok(list)
+}
+
+// The ranges of the list in a list of their own.
+fn copied_ranges<A: Allocator>(
+    alloc: A,
+    ranges: &[Range<usize>],
+) -> Result<Vec<Range<usize>, A>, OverlayError>
+    ensures ok { IfOk result (λ v. v.items ≡ ranges.now) }
+    ensures only { IsOkUnless result OverlayError.Memory }
+{
+    Ok(ranges.to_vec(alloc)?)
+}

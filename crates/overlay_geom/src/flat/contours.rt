@@ -1,0 +1,140 @@
+//! Contours whose points stand in one list.
+
+ghost use Rattle.std.specs.Prelude.{◌≡◌, ◌≤◌, ◌==◌, ◌++◌, ◌∷◌, [], length, vec_capacity};
+ghost use Rattle.std.specs.Prelude.{IfOk, IsOk, OnOk, OnErr, IsOkUnless};
+ghost use Rattle.std.specs.Borrow.{sem};
+ghost use Rattle.overlay_geom.specs.Flat.{part_in, first_range, range_behind, paths_in};
+ghost use Rattle.overlay_geom.specs.FlatLends.{LendsFirst};
+
+use crate::error::OverlayError;
+use crate::flat::{copied, copied_ranges, part_in, range_within};
+use crate::number::IntNumber;
+use crate::point::IntPoint;
+use crate::resource::IntShapeResource;
+use std::alloc::Allocator;
+use std::ops::Range;
+
+/// Contours whose points stand in one list, each contour as a range of it. A range that is not inside
+/// the points is an empty contour.
+#[derive(Drop)]
+#[derive_where(Debug, PartialEq, Eq; I)]
+pub struct FlatContoursBuffer<I, A: Allocator> {
+    /// The points of all contours.
+    pub points: Vec<IntPoint<I>, A>,
+    /// The places of each contour's points, contour by contour.
+    pub ranges: Vec<Range<usize>, A>,
+}
+
+impl<I: IntNumber, A: Allocator + Clone> FlatContoursBuffer<I, A> {
+    /// No contours. Their memory will be that of the allocator; none is taken yet. It is refused only
+    /// where a copy of the allocator is.
+    pub fn default(alloc: A) -> Result<Self, OverlayError>
+        ensures points { IfOk result (λ b. b.points.items ≡ []) }
+        ensures ranges { IfOk result (λ b. b.ranges.items ≡ []) }
+        ensures succeeds { A.is_infallible alloc → IsOk result }
+        ensures only { IsOkUnless result OverlayError.Memory }
+    {
+        let points = Vec::new(alloc.clone()?);
+        Ok(FlatContoursBuffer {
+            points,
+            ranges: Vec::new(alloc),
+        })
+    }
+
+    /// Returns the contours in a buffer of their own, by the same points and ranges.
+    pub fn clone(&self) -> Result<Self, OverlayError>
+        ensures points { IfOk result (λ b. b.points.items ≡ self.now.points.items) }
+        ensures ranges { IfOk result (λ b. b.ranges.items ≡ self.now.ranges.items) }
+        ensures only { IsOkUnless result OverlayError.Memory }
+    {
+        let points = copied(self.points.allocator().clone()?, &self.points)?;
+        let ranges = copied_ranges(self.ranges.allocator().clone()?, &self.ranges)?;
+        Ok(FlatContoursBuffer { points, ranges })
+    }
+}
+
+impl<I: IntNumber, A: Allocator> FlatContoursBuffer<I, A> {
+    /// Returns whether there is exactly one range, inside the points or not.
+    pub fn is_single_contour(&self) -> bool
+        ensures { result ≡ (length self.now.ranges.items == 1) }
+    {
+        self.ranges.len() == 1
+    }
+
+    /// Returns the points of the first contour; without a contour, none.
+    pub fn as_first_contour(&self) -> &[IntPoint<I>]
+        ensures { result.now ≡ part_in self.now.points.items (first_range self.now.ranges.items) }
+    {
+        let first = self.first_range();
+        part_in(&self.points, &first)
+    }
+
+    /// Lends the points of the first contour, to be written over; without a contour, none.
+    pub fn as_first_contour_mut(&mut self) -> &mut [IntPoint<I>]
+        ensures* writes_back { sem 𝓛 (LendsFirst I.row A.row A.Allocator self.entry result) }
+        ensures value { result.now ≡ part_in self.old.points.items (first_range self.old.ranges.items) }
+    {
+        let first = self.first_range();
+        let within = range_within(&first, self.points.len());
+        self.points.slice_mut(within)
+    }
+
+    /// Drops all contours, and takes room for so many points and so many contours. If that is refused,
+    /// the buffer is empty all the same.
+    pub fn clear_and_reserve(&mut self, points: usize, contours: usize) -> Result<(), OverlayError>
+        ensures points { self.new.points.items ≡ [] }
+        ensures ranges { self.new.ranges.items ≡ [] }
+        ensures points_fit { OnOk result (points ≤ vec_capacity self.new.points) }
+        ensures contours_fit { OnOk result (contours ≤ vec_capacity self.new.ranges) }
+        ensures only { IsOkUnless result OverlayError.Memory }
+    {
+        self.points.clear();
+        self.ranges.clear();
+        self.points.reserve(points)?;
+        self.ranges.reserve(contours)?;
+        Ok(())
+    }
+
+    /// Adds these points as the last contour, behind the points that are there. If that is refused, the
+    /// buffer stays as it is.
+    pub fn add_contour(&mut self, contour: &[IntPoint<I>]) -> Result<(), OverlayError>
+        ensures points { OnOk result (self.new.points.items ≡ self.old.points.items ++ contour.now) }
+        ensures ranges { OnOk result (self.new.ranges.items
+            ≡ self.old.ranges.items ++ range_behind self.old.points.items contour.now ∷ []) }
+        ensures same_points { OnErr result (self.new.points.items ≡ self.old.points.items) }
+        ensures same_ranges { OnErr result (self.new.ranges.items ≡ self.old.ranges.items) }
+        ensures only { IsOkUnless result OverlayError.Memory }
+    {
+        let start = self.points.len();
+        self.points.extend_from_slice(contour)?;
+        if let Err(refused) = self.ranges.push(start..self.points.len()) {
+            self.points.truncate(start);
+            return Err(refused.into());
+        }
+        Ok(())
+    }
+
+    // The first range; without one, a range without places.
+    fn first_range(&self) -> Range<usize>
+        ensures { result ≡ first_range self.now.ranges.items }
+    {
+        match self.ranges.first() {
+            Some(range) => range.start..range.end,
+            None => 0..0,
+        }
+    }
+}
+
+impl<I: IntNumber, A: Allocator> IntShapeResource<I> for FlatContoursBuffer<I, A> {
+    ghost paths = { λ b. paths_in I.whole b.points.items b.ranges.items };
+
+    /// Returns how many ranges there are.
+    fn path_count(&self) -> usize {
+        self.ranges.len()
+    }
+
+    /// Returns the points of the contour with this number; none if its range is not inside the points.
+    fn path(&self, index: usize) -> &[IntPoint<I>] {
+        part_in(&self.points, &self.ranges[index])
+    }
+}

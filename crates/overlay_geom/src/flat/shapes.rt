@@ -1,0 +1,140 @@
+//! Shapes whose points stand in one list.
+
+ghost use Rattle.std.specs.Prelude.{◌≡◌, ◌≤◌, [], IfOk, IsOk, IsOkUnless, vec_capacity};
+ghost use Rattle.overlay_geom.specs.Flat.{paths_in, shapes_in};
+ghost use Rattle.overlay_geom.specs.Paths.{paths_of_shape, plain_shapes};
+
+use crate::error::OverlayError;
+use crate::flat::{copied, copied_ranges, part_in};
+use crate::number::IntNumber;
+use crate::path::{IntShape, IntShapes};
+use crate::point::IntPoint;
+use std::alloc::Allocator;
+use std::ops::Range;
+
+/// Shapes whose points stand in one list: each contour is a range of the points, and each shape a range
+/// of the contours. A range that is not inside its list is without points, or without contours.
+#[derive(Drop)]
+#[derive_where(Debug, PartialEq, Eq; I)]
+pub struct FlatShapesBuffer<I, A: Allocator> {
+    /// The points of all contours.
+    pub points: Vec<IntPoint<I>, A>,
+    /// The places of each contour's points, contour by contour.
+    pub contour_ranges: Vec<Range<usize>, A>,
+    /// The places of each shape's contours, shape by shape.
+    pub shape_ranges: Vec<Range<usize>, A>,
+}
+
+impl<I: IntNumber, A: Allocator + Clone> FlatShapesBuffer<I, A> {
+    /// No shapes. Their memory will be that of the allocator; none is taken yet. It is refused only where
+    /// a copy of the allocator is.
+    pub fn default(alloc: A) -> Result<Self, OverlayError>
+        ensures points { IfOk result (λ b. b.points.items ≡ []) }
+        ensures contour_ranges { IfOk result (λ b. b.contour_ranges.items ≡ []) }
+        ensures shape_ranges { IfOk result (λ b. b.shape_ranges.items ≡ []) }
+        ensures succeeds { A.is_infallible alloc → IsOk result }
+        ensures only { IsOkUnless result OverlayError.Memory }
+    {
+        let points = Vec::new(alloc.clone()?);
+        let contour_ranges = Vec::new(alloc.clone()?);
+        Ok(FlatShapesBuffer {
+            points,
+            contour_ranges,
+            shape_ranges: Vec::new(alloc),
+        })
+    }
+
+    /// No shapes, with room for so many points, contours and shapes.
+    pub fn with_capacity(
+        alloc: A,
+        points: usize,
+        contours: usize,
+        shapes: usize,
+    ) -> Result<Self, OverlayError>
+        ensures points { IfOk result (λ b. b.points.items ≡ []) }
+        ensures contour_ranges { IfOk result (λ b. b.contour_ranges.items ≡ []) }
+        ensures shape_ranges { IfOk result (λ b. b.shape_ranges.items ≡ []) }
+        ensures points_fit { IfOk result (λ b. points ≤ vec_capacity b.points) }
+        ensures contours_fit { IfOk result (λ b. contours ≤ vec_capacity b.contour_ranges) }
+        ensures shapes_fit { IfOk result (λ b. shapes ≤ vec_capacity b.shape_ranges) }
+        ensures only { IsOkUnless result OverlayError.Memory }
+    {
+        let points = Vec::with_capacity(alloc.clone()?, points)?;
+        let contour_ranges = Vec::with_capacity(alloc.clone()?, contours)?;
+        let shape_ranges = Vec::with_capacity(alloc, shapes)?;
+        Ok(FlatShapesBuffer {
+            points,
+            contour_ranges,
+            shape_ranges,
+        })
+    }
+
+    /// Returns the shapes in a buffer of their own, by the same points and ranges.
+    pub fn clone(&self) -> Result<Self, OverlayError>
+        ensures points { IfOk result (λ b. b.points.items ≡ self.now.points.items) }
+        ensures contour_ranges { IfOk result (λ b. b.contour_ranges.items ≡ self.now.contour_ranges.items) }
+        ensures shape_ranges { IfOk result (λ b. b.shape_ranges.items ≡ self.now.shape_ranges.items) }
+        ensures only { IsOkUnless result OverlayError.Memory }
+    {
+        let alloc = self.points.allocator();
+        let points = copied(alloc.clone()?, &self.points)?;
+        let contour_ranges = copied_ranges(alloc.clone()?, &self.contour_ranges)?;
+        let shape_ranges = copied_ranges(alloc.clone()?, &self.shape_ranges)?;
+        Ok(FlatShapesBuffer {
+            points,
+            contour_ranges,
+            shape_ranges,
+        })
+    }
+
+    /// Returns the shapes as lists of contours, each with the points of its range, in the order of the
+    /// ranges.
+    pub fn to_shapes(&self) -> Result<IntShapes<I, A>, OverlayError>
+        ensures ok { IfOk result (λ ss. plain_shapes I.whole ss.items
+            ≡ shapes_in I.whole self.now.points.items self.now.contour_ranges.items self.now.shape_ranges.items) }
+        ensures only { IsOkUnless result OverlayError.Memory }
+    {
+        shapes_of(
+            self.points.allocator(),
+            &self.points,
+            &self.contour_ranges,
+            &self.shape_ranges,
+        )
+    }
+}
+
+// A contour for each range, of the points at its places.
+fn contours_of<I: IntNumber, A: Allocator + Clone>(
+    alloc: &A,
+    points: &[IntPoint<I>],
+    ranges: &[Range<usize>],
+) -> Result<IntShape<I, A>, OverlayError>
+    ensures ok { IfOk result (λ s. paths_of_shape I.whole s.items ≡ paths_in I.whole points.now ranges.now) }
+    ensures only { IsOkUnless result OverlayError.Memory }
+{
+    let mut contours = Vec::new(alloc.clone()?);
+    for range in ranges {
+        let contour = copied(alloc.clone()?, part_in(points, range))?;
+        contours.push(contour)?;
+    }
+    Ok(contours)
+}
+
+// A shape for each range of contours, which are ranges of the points.
+fn shapes_of<I: IntNumber, A: Allocator + Clone>(
+    alloc: &A,
+    points: &[IntPoint<I>],
+    contours: &[Range<usize>],
+    ranges: &[Range<usize>],
+) -> Result<IntShapes<I, A>, OverlayError>
+    ensures ok { IfOk result (λ ss. plain_shapes I.whole ss.items
+        ≡ shapes_in I.whole points.now contours.now ranges.now) }
+    ensures only { IsOkUnless result OverlayError.Memory }
+{
+    let mut shapes = Vec::new(alloc.clone()?);
+    for range in ranges {
+        let shape = contours_of(alloc, points, part_in(contours, range))?;
+        shapes.push(shape)?;
+    }
+    Ok(shapes)
+}
