@@ -7,6 +7,8 @@ use Rattle.std.proofs.lemmas.List.Elements.{All-contains, All-weaker}
 use Rattle.overlay_geom.specs.Plane.{Point, Edge, point_lt, steps_through}
 use Rattle.overlay_geom.specs.Edges.{CountedEdge, ends_of}
 use Rattle.overlay_geom.specs.Points.{InRange}
+use Rattle.overlay_geom.proofs.OneLine.{holds_start, holds_end}
+use Rattle.overlay_geom.proofs.PointOrder.{IsBefore}
 use Rattle.overlay_plane.specs.CutPoints.{comes_first, cut_points, met_at}
 use Rattle.overlay_plane.specs.DerivedData.{computed_chain}
 use Rattle.overlay_plane.specs.EdgeLists.{IsForwardBy}
@@ -17,8 +19,9 @@ use Rattle.overlay_plane.proofs.Entries.{all_of_entries, Contains-from_flat_map,
 use Rattle.overlay_plane.proofs.InOrderLists.{Contains-in_order, Contains-put_in_order, Each-in_weak_order}
 use Rattle.overlay_plane.proofs.LaterEntries.{Each}
 use Rattle.overlay_plane.proofs.WholeChains.{ends_where_one_step, one_step_through}
+use Rattle.overlay_plane.proofs.WholeOnEdges.{forward_from_test}
 use Rattle.overlay_arrange.specs.Content.{IsHeld}
-use Rattle.overlay_arrange.specs.Cut.{StaysWhole}
+use Rattle.overlay_arrange.specs.Cut.{AreLedAlongLines, IsOnLineOf, StaysWhole}
 use Rattle.overlay_arrange.specs.Meetings.{AreMeetings, ArePointsAt, IsAt, IsRunAt, Meeting}
 use Rattle.overlay_arrange.proofs.CutContents.{cut_points_in_range}
 use Rattle.overlay_arrange.proofs.GatheredMeetings.{one_entry}
@@ -78,6 +81,7 @@ points_of_run ms i e low high us vs run are order = record { from = from; all = 
 pub record IsLedThrough (limit : ℕ) (es : List CountedEdge) (e : CountedEdge) (vs : List Point) : Type 0 where
   pub chain : steps_through e.a (vs ++ e.b ∷ []) ≡ computed_chain es e
   pub whole : StaysWhole e vs ↔ (length (computed_chain es e) ≡ 1)
+  pub on_line : All (IsOnLineOf e) vs ↔ AreLedAlongLines es e
   pub in_range : All (InRange limit) vs
 
 module _ (limit : ℕ) (es : List CountedEdge) (held : All (IsHeld limit) es) (i : ℕ) (e : CountedEdge) (at_e : IsAt es i e) where
@@ -89,6 +93,10 @@ module _ (limit : ℕ) (es : List CountedEdge) (held : All (IsHeld limit) es) (i
   held_e : IsHeld limit e
   held_e = subst (IsHeld limit) at_e.1 (held i e at_e.0)
 
+  -- and leads from its smaller end to its larger one
+  leads : IsBefore e.a e.b
+  leads = forward_from_test (ends_of e) held_e.forward
+
   -- so an edge is led through the points of its meetings
   pub led_through : (ms : List Meeting) (vs : List Point) → AreMeetings es ms → ArePointsAt ms i (ends_of e) vs →
       IsLedThrough limit es e vs
@@ -97,6 +105,10 @@ module _ (limit : ℕ) (es : List CountedEdge) (held : All (IsHeld limit) es) (i
     whole = (
       λ all. ap length (sym chain) ∙ one_step_through (ends_of e) held_e.forward vs all in_their_order,
       λ one. ends_where_one_step e.a e.b vs (ap length chain ∙ one),
+    );
+    on_line = (
+      λ all. all_of_entries (IsOnLineOf e) (cut_points es e) (λ v at. on_line_of all v (all_computed v at)),
+      λ all. all_of_entries (IsOnLineOf e) vs (λ v at. All-contains (IsOnLineOf e) (cut_points es e) v all (computed_of v at)),
     );
     in_range = all_of_entries (InRange limit) vs
         (λ v at. All-contains (InRange limit) (cut_points es e) v (cut_points_in_range limit es e held_e) (computed_of v at));
@@ -117,6 +129,12 @@ module _ (limit : ℕ) (es : List CountedEdge) (held : All (IsHeld limit) es) (i
           (Contains-in_order (comes_first (ends_of e)) (flat_map (λ f. met_at (ends_of e) (ends_of f)) es) v at) in
           ⊎_elim (λ end. ⊎_elim (λ is. inl is) (λ is. inr (inl is)) end) (λ there. inr (inr (points.all v there)))
           (meetings.all i from.1.0 e from.0 at_e (from.1.1, from.1.2) (inl at_e.0) v from.2)
+
+      -- an end of e, and a point on its line, lie there
+      on_line_of : All (IsOnLineOf e) vs → (v : Point) → IsEndOrIn e.a e.b vs v → IsOnLineOf e v
+      on_line_of all v (inl is) = subst (IsOnLineOf e) (sym is) (holds_start (ends_of e) leads).on_line
+      on_line_of all v (inr (inl is)) = subst (IsOnLineOf e) (sym is) (holds_end (ends_of e) leads).on_line
+      on_line_of all v (inr (inr there)) = All-contains (IsOnLineOf e) vs v all there
 
       chain : steps_through e.a (vs ++ e.b ∷ []) ≡ computed_chain es e
       chain = same_chain_through es forward e (i, at_e.0, at_e.1) vs in_their_order computed_of all_computed

@@ -34,3 +34,4 @@ pub mod SideBits
 pub mod Sweepable
 pub mod SweptFills
 pub mod TurnedCounts
+pub mod WholeMeetings

@@ -23,7 +23,7 @@ use Rattle.overlay_arrange.proofs.Crossings.{beside_is_not_along, met_where_both
 -- ---- what pushing adds
 
 -- a list of one point has no other one
-only_entry : (v w : Point) → Contains (v ∷ []) w → v ≡ w
+pub only_entry : (v w : Point) → Contains (v ∷ []) w → v ≡ w
 only_entry v w at = ⊎_elim (λ is. is) (λ none. absurd (omega (arith, none.1))) (Contains-cases v [] w at)
 
 module _ (i : ℕ) (e : CountedEdge) where

@@ -1,7 +1,9 @@
--- What the functions that cut edges answer: whether an edge stays whole, and the pieces that are added.
-use Rattle.std.specs.Prelude.{◌≡◌, ◌⊎◌, ◌++◌, List, All}
-use Rattle.overlay_geom.specs.Plane.{Point}
+-- What the functions that cut edges answer: whether an edge stays whole, whether it is led along its line, and the pieces that are
+-- added.
+use Rattle.std.specs.Prelude.{◌≡◌, ◌⊎◌, ◌++◌, pos, List, All}
+use Rattle.overlay_geom.specs.Plane.{Point, cross_at}
 use Rattle.overlay_geom.specs.Edges.{CountedEdge}
+use Rattle.overlay_plane.specs.CutPoints.{cut_points}
 use Rattle.overlay_plane.specs.DerivedData.{AreGiven}
 
 -- v is an end of the edge
@@ -11,6 +13,14 @@ IsEndOf e v = (v ≡ e.a) ⊎ (v ≡ e.b)
 -- the chain through the points is the edge itself
 abbrev pub StaysWhole : CountedEdge → List Point → Type 0
 StaysWhole e vs = All (IsEndOf e) vs
+
+-- v lies on the edge's line
+abbrev pub IsOnLineOf : CountedEdge → Point → Type 0
+IsOnLineOf e v = cross_at e.a e.b v ≡ pos 0
+
+-- the whole points through which the edges of the list lead e lie on its line: none was rounded to another point
+abbrev pub AreLedAlongLines : List CountedEdge → CountedEdge → Type 0
+AreLedAlongLines es e = All (IsOnLineOf e) (cut_points es e)
 
 -- the second list is the first one, followed by what the entries give
 pub record AddsGiven {X Y : Type 0} (gives : X → List Y → Type 0) (xs : List X) (old new : List Y) : Type 0 where

@@ -114,7 +114,7 @@ fn common_point<I: IntNumber, C: EdgeCount>(
 }
 
 /// Whether the point lies on the edge's line.
-fn is_on_line<I: IntNumber, C: EdgeCount>(e: &CountedEdge<I, C>, v: IntPoint<I>) -> bool
+pub(crate) fn is_on_line<I: IntNumber, C: EdgeCount>(e: &CountedEdge<I, C>, v: IntPoint<I>) -> bool
     requires edge { IsHeld I.limit (plain_edge I.whole C.counts e.now) }
     requires point { InRange I.limit (plain_point I.whole v) }
     ensures { let whole = plain_edge I.whole C.counts e.now in

@@ -2,7 +2,7 @@
 //! the others meet it.
 
 ghost use Rattle.std.specs.Prelude.{◌≡◌, ◌⊎◌, ◌↔◌, ◌^◌, ◌<◌, ◌≤◌, ◌++◌, ◌∷◌, [], IsTrue, All};
-ghost use Rattle.std.specs.Prelude.{map, IfOk, IfErr, OnOk, IsOkUnless, IsErrOf};
+ghost use Rattle.std.specs.Prelude.{false, map, IfOk, IfErr, OnOk, IsOkUnless, IsErrOf};
 ghost use Rattle.std.specs.Prelude.{MatchBool, option_map, option_to_list, cond, int_le, int_lt};
 ghost use Rattle.std.specs.Ordering.{is_lt};
 ghost use Rattle.overlay_geom.specs.Edges.{ends_of, weight};
@@ -13,15 +13,16 @@ ghost use Rattle.overlay_plane.specs.CutPoints.{comes_first, cut_edges};
 ghost use Rattle.overlay_plane.specs.Cutting.{piece_along};
 ghost use Rattle.overlay_plane.specs.DerivedData.{AreCutAlong, AreGiven, GivesPiece, computed_chain};
 ghost use Rattle.overlay_plane.specs.InOrder.{in_order};
+ghost use Rattle.overlay_plane.specs.Meetings.{MeetInWholePoints};
 ghost use Rattle.overlay_arrange.specs.Content.{plain_edge, plain_edges, carried_edge, carried_edges};
 ghost use Rattle.overlay_arrange.specs.Content.{IsHeld, IsContent, IsAscending};
 ghost use Rattle.overlay_arrange.specs.Counts.{weight_of_counts};
-ghost use Rattle.overlay_arrange.specs.Cut.{AddsGiven, StaysWhole};
+ghost use Rattle.overlay_arrange.specs.Cut.{AddsGiven, IsOnLineOf, StaysWhole};
 ghost use Rattle.overlay_arrange.specs.Meetings.{plain_meetings, AreByPlace, ArePointsAt};
 
 use crate::content::Content;
 use crate::count::EdgeCount;
-use crate::crossing::is_end_of;
+use crate::crossing::{is_end_of, is_on_line};
 use crate::edge::{CountedEdge, compare_points};
 use crate::meetings::{Meeting, gather, run_at};
 use overlay_geom::error::OverlayError;
@@ -32,45 +33,55 @@ use std::cmp::Ordering;
 
 impl<I: IntNumber, C: EdgeCount, A: Allocator> Content<I, C, A> {
     /// Cuts each edge into the pieces of the chain through the whole points in which the others
-    /// meet it. The edges ascend. If it is refused the content is left open.
-    pub fn cut(&mut self, store: &mut C::Store) -> Result<(), OverlayError>
+    /// meet it. Returns whether some point was rounded: if none was, the edges met only in whole points
+    /// or overlapped. The edges ascend. If it is refused the content is left open.
+    pub fn cut(&mut self, store: &mut C::Store) -> Result<bool, OverlayError>
     where
         A: Clone,
         requires { IsAscending (edges_in self.old) }
         ensures ok { OnOk result (edges_in self.new ≡ cut_edges (edges_in self.old)) }
         ensures carried { OnOk result (AreCutAlong C.splits C.turns
             (computed_chain (edges_in self.old)) self.old self.new) }
+        ensures rounded { IfOk result (λ is_rounded.
+            (is_rounded ≡ false) ↔ MeetInWholePoints (edges_in self.old)) }
         ensures too_many { IsErrOf result OverlayError.TooManyEdges → 2 ^ 31 ≤ weight (cut_edges (edges_in self.old)) }
         ensures only { IfErr result (λ e. (e ≡ OverlayError.Memory) ⊎ (e ≡ OverlayError.TooManyEdges)) }
     {
         let alloc = self.allocator().clone()?;
-        *self = cut_edges(alloc, self.edges(), store)?;
-        Ok(())
+        let (pieces, is_rounded) = cut_edges(alloc, self.edges(), store)?;
+        *self = pieces;
+        Ok(is_rounded)
     }
 }
 
-/// The pieces of all edges, of each one along its chain.
+/// The pieces of all edges, of each one along its chain, and whether some point of a chain was rounded.
 fn cut_edges<I: IntNumber, C: EdgeCount, A: Allocator + Clone>(
     alloc: A,
     edges: &[CountedEdge<I, C>],
     store: &mut C::Store,
-) -> Result<Content<I, C, A>, OverlayError>
+) -> Result<(Content<I, C, A>, bool), OverlayError>
     requires content { IsContent I.limit (plain_edges I.whole C.counts edges.now) }
     requires ascending { IsAscending (plain_edges I.whole C.counts edges.now) }
-    ensures ok { IfOk result (λ pieces. edges_in pieces ≡ cut_edges (plain_edges I.whole C.counts edges.now)) }
-    ensures carried { IfOk result (λ pieces. AreCutAlong C.splits C.turns
-        (computed_chain (plain_edges I.whole C.counts edges.now)) (carried_edges I.whole C.counts edges.now) pieces) }
+    ensures ok { IfOk result (λ cut. edges_in cut.0 ≡ cut_edges (plain_edges I.whole C.counts edges.now)) }
+    ensures carried { IfOk result (λ cut. AreCutAlong C.splits C.turns
+        (computed_chain (plain_edges I.whole C.counts edges.now)) (carried_edges I.whole C.counts edges.now) cut.0) }
+    ensures rounded { IfOk result (λ cut. (cut.1 ≡ false)
+        ↔ MeetInWholePoints (plain_edges I.whole C.counts edges.now)) }
     ensures too_many { IsErrOf result OverlayError.TooManyEdges
         → 2 ^ 31 ≤ weight (cut_edges (plain_edges I.whole C.counts edges.now)) }
     ensures only { IfErr result (λ e. (e ≡ OverlayError.Memory) ⊎ (e ≡ OverlayError.TooManyEdges)) }
 {
     let meetings = gather(alloc.clone()?, edges)?;
     let mut pieces = Content::with_capacity(alloc.clone()?, edges.len())?;
+    let mut is_rounded = false;
     for (i, e) in edges.iter().enumerate() {
         let points = points_at(alloc.clone()?, &meetings, i, e)?;
         push_pieces(&mut pieces, e, &points, store)?;
+        if !are_on_line(e, &points) {
+            is_rounded = true;
+        }
     }
-    Ok(pieces)
+    Ok((pieces, is_rounded))
 }
 
 /// Adds the pieces of an edge along the chain from its smaller end to its larger one through the
@@ -180,6 +191,21 @@ fn stays_whole<I: IntNumber, C: EdgeCount>(e: &CountedEdge<I, C>, points: &[IntP
 {
     for v in points {
         if !is_end_of(e, *v) {
+            return false;
+        }
+    }
+    true
+}
+
+/// Whether each of the points lies on the edge's line.
+fn are_on_line<I: IntNumber, C: EdgeCount>(e: &CountedEdge<I, C>, points: &[IntPoint<I>]) -> bool
+    requires held { IsHeld I.limit (plain_edge I.whole C.counts e.now) }
+    requires points { AllInRange I.limit (plain_points I.whole points.now) }
+    ensures { IsTrue result
+        ↔ All (IsOnLineOf (plain_edge I.whole C.counts e.now)) (plain_points I.whole points.now) }
+{
+    for v in points {
+        if !is_on_line(e, *v) {
             return false;
         }
     }

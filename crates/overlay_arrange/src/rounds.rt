@@ -39,7 +39,7 @@ impl<I: IntNumber, C: EdgeCount, A: Allocator + Clone> Content<I, C, A> {
         ensures err { IfErr result (MayRefuseSplitting 64 (edges_in self.old)) }
     {
         // (its contract says that the edges are in range, and weigh less than 2^31)
-        let _ = self.edges();
+        self.note_limits();
         self.split(ROUNDS, store)
     }
 
@@ -62,8 +62,12 @@ impl<I: IntNumber, C: EdgeCount, A: Allocator + Clone> Content<I, C, A> {
         if rounds == 0 {
             return Err(OverlayError::NotSettled);
         }
-        self.cut(store)?;
-        self.split(rounds - 1, store)?;
+        if self.cut(store)? {
+            self.split(rounds - 1, store)?;
+        } else {
+            // (no point was rounded, so the pieces meet in ends alone)
+            self.merge(store)?;
+        }
         Ok(true)
     }
 }

@@ -1,28 +1,32 @@
 -- Each edge is held and light, and is led through points in range; a heavy beginning makes a heavy whole.
 use Rattle.std.proofs.Common.{◌≡◌, ℕ, ◌≤◌, ◌<◌, ◌+◌, ◌++◌, ℤ, List, All, length, map, get_or, drop, refl, sym, subst, ap, ◌∙◌, append-nil, arith, rules}
+use Rattle.std.proofs.lemmas.Bool.{false≢true}
 use Rattle.std.proofs.lemmas.List.{at_drop_all}
 use Rattle.overlay_arrange.specs.declared.edge.CountedEdge.{CountedEdge}
 use Rattle.std.specs.List.{flat_map}
 use Rattle.overlay_geom.specs.Edges.{ends_of, weight}
 use Rattle.overlay_geom.specs.Points.{plain_points}
 use Rattle.overlay_geom.specs.declared.point.IntPoint.{IntPoint}
-use Rattle.overlay_geom.proofs.Mapped.{All-mapped_at, Contains-mapped, mapped_rest}
+use Rattle.overlay_geom.proofs.Mapped.{All-mapped_at, Contains-mapped, mapped_rest, mapped_whole}
 use Rattle.overlay_plane.specs.Carried.{Carried, edges_in}
 use Rattle.overlay_plane.specs.CutPoints.{cut_points}
 use Rattle.overlay_plane.specs.Cutting.{piece_along, pieces_through}
 use Rattle.overlay_plane.specs.DerivedData.{ArePieces, computed_chain}
 use Rattle.overlay_arrange.specs.Content.{carried_edge, carried_edges, plain_edge, plain_edges, IsHeld}
 use Rattle.overlay_arrange.specs.Counts.{Counts}
-use Rattle.overlay_arrange.specs.Cut.{AddsGiven}
+use Rattle.overlay_arrange.specs.Cut.{AddsGiven, AreLedAlongLines}
 use Rattle.overlay_arrange.specs.Meetings.{plain_meetings, AreMeetings, ArePointsAt}
 use Rattle.overlay_arrange.specs.declared.meetings.Meeting.{Meeting}
 use Rattle.overlay_arrange.proofs.Appended.{next_appended}
+use Rattle.overlay_arrange.proofs.ArrangedLists.{forward_content}
 use Rattle.overlay_arrange.proofs.CarriedPieces.{adds_all, adds_both, adds_none, pieces_added}
 use Rattle.overlay_arrange.proofs.CutContents.{weight_of_entry}
 use Rattle.overlay_arrange.proofs.GatheredMeetings.{placed_in_mapped}
 use Rattle.overlay_arrange.proofs.LedThrough.{IsLedThrough, led_through}
 use Rattle.overlay_arrange.proofs.Pieces.{heavy_beginning}
+use Rattle.overlay_arrange.proofs.WholeMeetings.{none_rounded, one_more_along, one_more_off, whole_meetings_on_lines}
 use Rattle.overlay_arrange.proofs.cut.cut_edges.Goals as goal
+use Rattle.overlay_arrange.proofs.cut.cut_edges.Goals.{then-not-are_on_line, else-not-are_on_line}
 
 pub push_pieces-requires-clause-held : goal.push_pieces-requires-clause-held
 push_pieces-requires-clause-held g c =
@@ -74,6 +78,9 @@ loop-i-preserved g c =
     let rest = plain_edges g.I.IntNumber.whole g.C.EdgeCount.counts (drop (i + 1) c.args.edges.now) in
     let led = led_at g.I.IntNumber.limit g.I.IntNumber.whole g.C.EdgeCount.counts c.args.edges.now i c.index-edges-i.result c.in_ok-meetings.meetings.items c.deref.result.now c.in_ok-points.points.items c.deref-in-loop-i.result.now
     c.requires.content.held c.loop-i-test.true c.index-edges-i.is c.in_ok-meetings.ensures.ok c.deref.ensures.value c.in_ok-points.ensures.ok c.deref-in-loop-i.ensures.value in
+    let along = AreLedAlongLines es in
+    let tested = led_at g.I.IntNumber.limit g.I.IntNumber.whole g.C.EdgeCount.counts c.args.edges.now i c.index-edges-i.result c.in_ok-meetings.meetings.items c.deref.result.now c.in_ok-points.points.items c.deref-in-loop-i-2.result.now
+    c.requires.content.held c.loop-i-test.true c.index-edges-i.is c.in_ok-meetings.ensures.ok c.deref.ensures.value c.in_ok-points.ensures.ok c.deref-in-loop-i-2.ensures.value in
     let carry = carried_edge g.I.IntNumber.whole g.C.EdgeCount.counts in
     let splits = g.C.EdgeCount.splits in
     let turns = g.C.EdgeCount.turns in
@@ -83,6 +90,12 @@ loop-i-preserved g c =
       λ new adds. (rw next at c.loop-i.invariant.1) new
           (adds_both (ArePieces splits turns (computed_chain es))
           (pieces_added splits turns es (carry c.index-edges-i.result) _ led.chain led.whole c.in_ok-push_pieces.ensures.carried) adds),
+      elim c.if-not-are_on_line.branch [
+        | then-not-are_on_line w ↦ one_more_off along plain c.args.edges.now i c.index-edges-i.result c.loop-i-test.true c.index-edges-i.is
+            c.if-not-are_on_line.is_rounded (λ led_along. false≢true (w.if-not-are_on_line.ensures.1 (tested.on_line.1 led_along))) w.is_rounded-is
+        | else-not-are_on_line w ↦ one_more_along along plain c.args.edges.now i c.index-edges-i.result c.loop-i-test.true c.index-edges-i.is
+            c.loop-i.is_rounded c.if-not-are_on_line.is_rounded c.loop-i.invariant.2 (tested.on_line.0 (w.if-not-are_on_line.ensures.0 refl)) w.is_rounded-is
+      ],
     )
 
 pub returns-clause-ok : goal.returns-clause-ok
@@ -97,7 +110,7 @@ pub loop-i-init : goal.loop-i-init
 loop-i-init g c =
     let es = plain_edges g.I.IntNumber.whole g.C.EdgeCount.counts c.args.edges.now in
     let gives = ArePieces g.C.EdgeCount.splits g.C.EdgeCount.turns (computed_chain es) in
-    rw (c.in_ok-pieces.ensures.empty) (refl, λ new adds. adds_all gives adds)
+    rw (c.in_ok-pieces.ensures.empty) (refl, λ new adds. adds_all gives adds, none_rounded (AreLedAlongLines es))
 
 pub returns-clause-carried : goal.returns-clause-carried
 returns-clause-carried g c =
@@ -107,3 +120,25 @@ returns-clause-carried g c =
     let none = at_drop_all (λ (fs : List (CountedEdge _ _)). carried_edges g.I.IntNumber.whole g.C.EdgeCount.counts fs) c.args.edges.now c.loop-i.i past in
     c.loop-i.invariant.1 c.loop-i.pieces
     (subst (λ (xs : List (Carried g.row.C.Denot)). AddsGiven gives xs c.loop-i.pieces c.loop-i.pieces) (sym none) (adds_none gives c.loop-i.pieces))
+
+pub are_on_line-requires-clause-held : goal.are_on_line-requires-clause-held
+are_on_line-requires-clause-held g c =
+    All-mapped_at (IsHeld g.I.IntNumber.limit) (plain_edge g.I.IntNumber.whole g.C.EdgeCount.counts) c.args.edges.now c.loop-i.i c.index-edges-i.result
+    c.loop-i-test.true c.index-edges-i.is c.requires.content.held
+
+pub are_on_line-requires-clause-points : goal.are_on_line-requires-clause-points
+are_on_line-requires-clause-points g c =
+    (led_at g.I.IntNumber.limit g.I.IntNumber.whole g.C.EdgeCount.counts c.args.edges.now c.loop-i.i c.index-edges-i.result c.in_ok-meetings.meetings.items c.deref.result.now c.in_ok-points.points.items c.deref-in-loop-i-2.result.now
+    c.requires.content.held c.loop-i-test.true c.index-edges-i.is c.in_ok-meetings.ensures.ok c.deref.ensures.value c.in_ok-points.ensures.ok c.deref-in-loop-i-2.ensures.value).in_range
+
+pub returns-clause-rounded : goal.returns-clause-rounded
+returns-clause-rounded g c =
+    let plain = plain_edge g.I.IntNumber.whole g.C.EdgeCount.counts in
+    let es = plain_edges g.I.IntNumber.whole g.C.EdgeCount.counts c.args.edges.now in
+    let past : length c.args.edges.now ≤ c.loop-i.i = search rules in
+    let found = c.loop-i.invariant.2 in
+    let law = whole_meetings_on_lines es (forward_content g.I.IntNumber.limit es c.requires.content) in
+    let all = mapped_whole plain c.args.edges.now c.loop-i.i past in (
+      λ none. law.0 (subst (All (AreLedAlongLines es)) all (found.0 none)),
+      λ whole. found.1 (subst (All (AreLedAlongLines es)) (sym all) (law.1 whole)),
+    )

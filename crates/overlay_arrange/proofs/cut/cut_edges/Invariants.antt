@@ -1,12 +1,13 @@
--- The pieces so far and those of the edges to come make the whole: what adds the latter to the former cuts all edges.
-use Rattle.std.proofs.Common.{◌≡◌, ◌++◌, List, drop}
+-- The pieces so far and those of the edges to come make the whole: what adds the latter to the former cuts all edges. No point was
+-- rounded where the edges so far are led along their lines.
+use Rattle.std.proofs.Common.{◌≡◌, ◌↔◌, ◌++◌, false, List, All, take, drop}
 use Rattle.std.specs.List.{flat_map}
 use Rattle.overlay_plane.specs.Carried.{Carried, edges_in}
 use Rattle.overlay_plane.specs.CutPoints.{cut_points, cut_edges}
 use Rattle.overlay_plane.specs.Cutting.{pieces_through}
 use Rattle.overlay_plane.specs.DerivedData.{ArePieces, AreCutAlong, computed_chain}
 use Rattle.overlay_arrange.specs.Content.{plain_edges, carried_edges}
-use Rattle.overlay_arrange.specs.Cut.{AddsGiven}
+use Rattle.overlay_arrange.specs.Cut.{AddsGiven, AreLedAlongLines}
 use Rattle.overlay_arrange.proofs.cut.cut_edges.Given as goal
 
 abbrev pub invariant-loop-i : goal.invariant-loop-i
@@ -19,3 +20,4 @@ invariant-loop-i g l =
     × ((new : List (Carried g.row.C.Denot)) →
     AddsGiven (ArePieces splits turns (computed_chain (plain l.edges))) (carried (drop l.i l.edges)) l.pieces new →
     AreCutAlong splits turns (computed_chain (plain l.edges)) (carried l.edges) new)
+    × ((l.is_rounded ≡ false) ↔ All (AreLedAlongLines (plain l.edges)) (plain (take l.i l.edges)))

@@ -2,8 +2,10 @@
 use Rattle.std.proofs.Common.{◌-◌, refl, arith}
 use Rattle.std.proofs.lemmas.Bool.{false≢true}
 use Rattle.std.proofs.lemmas.Result.{err_from_is_err_and}
-use Rattle.overlay_arrange.proofs.ArrangedLists.{leaves_cut, carried_at_once, carried_on}
+use Rattle.overlay_arrange.proofs.ArrangedLists.{forward_content, leaves_cut, carried_at_once, carried_on}
 use Rattle.overlay_arrange.proofs.RoundsTaken.{split_at_once, unsettled_at_once, split_on, unsettled_on, heavy_on, heavy_at_once, uncut_where_settled, cut_where_unsettled}
+use Rattle.overlay_arrange.proofs.WholeMeetings.{settled_where_whole}
+use Rattle.overlay_geom.specs.Settled.{IsSettled}
 use Rattle.overlay_plane.specs.Carried.{edges_in}
 use Rattle.overlay_plane.specs.CutPoints.{cut_edges}
 use Rattle.overlay_arrange.proofs.content.Content.+split.Goals as goal
@@ -25,16 +27,16 @@ returns-in_err-cut-clause-too_many g n c = λ same.
     (λ settled. false≢true (c.if-is_settled.ensures.1 settled)) refl in
     heavy_at_once 2147483648 c.args.rounds _ _ (omega arith) first (c.in_err-cut.ensures.too_many (cc))
 
-pub returns-clause-split : goal.returns-clause-split
-returns-clause-split g n c =
+pub returns-in_ok-split-clause-split : goal.returns-in_ok-split-clause-split
+returns-in_ok-split-clause-split g n c =
     let first = leaves_cut g.I.IntNumber.limit (edges_in c.args.self.now) (edges_in c.merge.new.self) (edges_in c.cut.new.self) c.merge.ensures.content c.in_ok-merge.ensures.ok (λ settled. false≢true (c.if-is_settled.ensures.1 settled)) c.in_ok-cut.ensures.ok in
     split_on (c.args.rounds - 1) c.args.rounds _ _ _ (omega arith) first c.in_ok-split.ensures.split
 
 pub returns-then-is_settled-clause-cut : goal.returns-then-is_settled-clause-cut
 returns-then-is_settled-clause-cut g n c = uncut_where_settled c.in_ok-merge.ensures.ok (c.if-is_settled.ensures.0 refl)
 
-pub returns-clause-cut : goal.returns-clause-cut
-returns-clause-cut g n c = cut_where_unsettled c.in_ok-merge.ensures.ok (λ settled. false≢true (c.if-is_settled.ensures.1 settled))
+pub returns-in_ok-split-clause-cut : goal.returns-in_ok-split-clause-cut
+returns-in_ok-split-clause-cut g n c = cut_where_unsettled c.in_ok-merge.ensures.ok (λ settled. false≢true (c.if-is_settled.ensures.1 settled))
 
 pub returns-in_err-split-clause-not_settled : goal.returns-in_err-split-clause-not_settled
 returns-in_err-split-clause-not_settled g n c = λ same.
@@ -53,9 +55,34 @@ returns-then-is_settled-clause-carried g n c =
     carried_at_once g.C.EdgeCount.merges g.C.EdgeCount.splits g.C.EdgeCount.turns c.args.rounds c.args.self.now c.merge.new.self
     c.in_ok-merge.ensures.ok (c.if-is_settled.ensures.0 refl) c.in_ok-merge.ensures.carried
 
-pub returns-clause-carried : goal.returns-clause-carried
-returns-clause-carried g n c =
+pub returns-in_ok-split-clause-carried : goal.returns-in_ok-split-clause-carried
+returns-in_ok-split-clause-carried g n c =
     carried_on g.C.EdgeCount.merges g.C.EdgeCount.splits g.C.EdgeCount.turns g.I.IntNumber.limit (c.args.rounds - 1) c.args.rounds
     c.args.self.now c.merge.new.self c.cut.new.self _ (omega arith) c.merge.ensures.content c.in_ok-merge.ensures.ok
     (λ settled. false≢true (c.if-is_settled.ensures.1 settled)) c.in_ok-merge.ensures.carried c.in_ok-cut.ensures.ok c.in_ok-cut.ensures.carried
     c.in_ok-split.ensures.carried
+
+-- where no point was rounded, the pieces, merged, are settled
+pub returns-in_ok-merge-2-clause-split : goal.returns-in_ok-merge-2-clause-split
+returns-in_ok-merge-2-clause-split g n c =
+    let unsettled : ¬ (IsSettled (edges_in c.merge.new.self)) = λ settled. false≢true (c.if-is_settled.ensures.1 settled) in
+    let first = leaves_cut g.I.IntNumber.limit (edges_in c.args.self.now) (edges_in c.merge.new.self) (edges_in c.cut.new.self) c.merge.ensures.content c.in_ok-merge.ensures.ok unsettled c.in_ok-cut.ensures.ok in
+    let settled = settled_where_whole (edges_in c.args.self.now) (edges_in c.merge.new.self) (edges_in c.cut.new.self) (edges_in c.merge-else-branch.new.self)
+    (forward_content g.I.IntNumber.limit (edges_in c.merge.new.self) c.merge.ensures.content) c.in_ok-merge.ensures.ok unsettled
+    (c.in_ok-cut.ensures.rounded.0 c.if-branch.false) c.in_ok-cut.ensures.ok c.in_ok-merge-2.ensures.ok in
+    split_on (c.args.rounds - 1) c.args.rounds _ _ _ (omega arith) first (split_at_once (c.args.rounds - 1) _ _ c.in_ok-merge-2.ensures.ok settled)
+
+pub returns-in_ok-merge-2-clause-cut : goal.returns-in_ok-merge-2-clause-cut
+returns-in_ok-merge-2-clause-cut g n c = cut_where_unsettled c.in_ok-merge.ensures.ok (λ settled. false≢true (c.if-is_settled.ensures.1 settled))
+
+pub returns-in_ok-merge-2-clause-carried : goal.returns-in_ok-merge-2-clause-carried
+returns-in_ok-merge-2-clause-carried g n c =
+    let unsettled : ¬ (IsSettled (edges_in c.merge.new.self)) = λ settled. false≢true (c.if-is_settled.ensures.1 settled) in
+    let settled = settled_where_whole (edges_in c.args.self.now) (edges_in c.merge.new.self) (edges_in c.cut.new.self) (edges_in c.merge-else-branch.new.self)
+    (forward_content g.I.IntNumber.limit (edges_in c.merge.new.self) c.merge.ensures.content) c.in_ok-merge.ensures.ok unsettled
+    (c.in_ok-cut.ensures.rounded.0 c.if-branch.false) c.in_ok-cut.ensures.ok c.in_ok-merge-2.ensures.ok in
+    carried_on g.C.EdgeCount.merges g.C.EdgeCount.splits g.C.EdgeCount.turns g.I.IntNumber.limit (c.args.rounds - 1) c.args.rounds
+    c.args.self.now c.merge.new.self c.cut.new.self _ (omega arith) c.merge.ensures.content c.in_ok-merge.ensures.ok
+    unsettled c.in_ok-merge.ensures.carried c.in_ok-cut.ensures.ok c.in_ok-cut.ensures.carried
+    (carried_at_once g.C.EdgeCount.merges g.C.EdgeCount.splits g.C.EdgeCount.turns (c.args.rounds - 1) c.cut.new.self c.merge-else-branch.new.self
+    c.in_ok-merge-2.ensures.ok settled c.in_ok-merge-2.ensures.carried)
