@@ -1,6 +1,6 @@
 -- A loop over pairs of ascending edges that gathers the points through which they lead one another: what a pair adds, and which
 -- pairs may be left out.
-use Rattle.std.proofs.Common.{◌≡◌, ◌⊎◌, ⊎_elim, inl, inr, ℕ, ◌+◌, ◌<◌, ◌≤◌, ◌<ℤ◌, List, [], All, Contains, length, map, get_or, sym, ◌∙◌, subst, arith}
+use Rattle.std.proofs.Common.{◌≡◌, ◌⊎◌, ⊎_elim, inl, inr, true, ℕ, ◌+◌, ◌<◌, ◌≤◌, ◌<ℤ◌, List, [], All, Contains, length, map, get_or, sym, ◌∙◌, subst, arith}
 use Rattle.std.specs.List.{flat_map}
 use Rattle.std.proofs.lemmas.Bool.{cases_lt}
 use Rattle.std.proofs.lemmas.List.{get_or_default, length-map}
@@ -8,7 +8,7 @@ use Rattle.std.proofs.Math.Nat.{eq-or-lt_of_le}
 use Rattle.overlay_geom.specs.Plane.{Point}
 use Rattle.overlay_geom.specs.Edges.{CountedEdge, ends_of}
 use Rattle.overlay_geom.proofs.Mapped.{read_mapped}
-use Rattle.overlay_geom.proofs.PointOrder.{Decides-point_lt}
+use Rattle.overlay_geom.proofs.PointOrder.{IsBefore, Decides-point_lt}
 use Rattle.overlay_plane.specs.CutPoints.{comes_first, cut_points, met_at}
 use Rattle.overlay_plane.proofs.CutChains.{met_at_itself}
 use Rattle.overlay_plane.proofs.Entries.{Contains-flat_map}
@@ -16,7 +16,9 @@ use Rattle.overlay_plane.proofs.InOrderLists.{Contains-put_in_order}
 use Rattle.overlay_plane.proofs.MetInBox.{apart_meet_nowhere}
 use Rattle.overlay_arrange.specs.Content.{IsAscending, IsHeld}
 use Rattle.overlay_arrange.specs.Cut.{IsEndOf}
-use Rattle.overlay_arrange.specs.Meetings.{AddsBoth, AreGathered, AreMeetings, HasBefore, IsAt, IsEndOrMet, Meeting}
+use Rattle.overlay_arrange.specs.Meetings.{AddsBoth, AreGathered, AreMeetings, HasBefore, IsAt, IsEndOrMet, IsRunEnd, Meeting}
+use Rattle.overlay_arrange.specs.Settle.{are_apart_in_y}
+use Rattle.overlay_arrange.proofs.ApartInY.{apart_exchanged, nowhere_where_apart}
 use Rattle.overlay_arrange.proofs.SettledLists.{right_from}
 
 -- at one place stands one entry
@@ -196,6 +198,47 @@ module _ (es : List CountedEdge) where
         by k l g h at_g at_h (inr lt) = ⊎_elim
             (λ (is : l ≡ i). ⊎_elim (λ (less : k < j). inl (inr (inr (is, less)))) (λ (later : j ≤ k). inr (no_end g h (nowhere_back k l g h at_g at_h is later))) (cases_lt k j))
             (λ (less : l < i). inl (inl (inr less))) (at_or_before l i lt)
+
+    -- those from place j up to a later one at heights apart from e's may be passed over
+    pub apart_passed_over : (limit j to : ℕ) {ms : List Meeting} → All (IsHeld limit) es →
+        ((k : ℕ) (f : CountedEdge) → j ≤ k → k < to → IsAt es k f → are_apart_in_y (ends_of e) (ends_of f) ≡ true) →
+        AreGathered es (IsLookedAt i j) ms → AreGathered es (IsLookedAt i to) ms
+    apart_passed_over limit j to held apart gathered = gathered_of_more gathered
+        (λ k l g h at_g at_h pair. by k l g h at_g at_h pair)
+      where
+        leads : (k : ℕ) (g : CountedEdge) → IsAt es k g → IsBefore g.a g.b
+        leads k g at = (Decides-point_lt g.a g.b).0 (subst (IsHeld limit) at.1 (held k g at.0)).forward
+
+        nowhere : (k l : ℕ) (g h : CountedEdge) → IsAt es k g → IsAt es l h → k ≡ i → j ≤ l → l < to → LeadsNowhere g h
+        nowhere k l g h at_g at_h is later less v at =
+            let g_is : e ≡ g = one_entry es k e g (subst (λ n. IsAt es n e) (sym is) at_e) at_g in
+            let test = subst (λ (u : CountedEdge). are_apart_in_y (ends_of u) (ends_of h) ≡ true) g_is (apart l h later less at_h) in
+            let empty = subst (λ (vs : List Point). Contains vs v) (nowhere_where_apart (ends_of g) (ends_of h) (leads k g at_g) (leads l h at_h) test) at in
+            absurd (omega (arith, empty.1))
+
+        nowhere_back : (k l : ℕ) (g h : CountedEdge) → IsAt es k g → IsAt es l h → l ≡ i → j ≤ k → k < to → LeadsNowhere g h
+        nowhere_back k l g h at_g at_h is later less v at =
+            let h_is : e ≡ h = one_entry es l e h (subst (λ n. IsAt es n e) (sym is) at_e) at_h in
+            let test = subst (λ (u : CountedEdge). are_apart_in_y (ends_of u) (ends_of g) ≡ true) h_is (apart k g later less at_g) in
+            let empty = subst (λ (vs : List Point). Contains vs v) (nowhere_where_apart (ends_of g) (ends_of h) (leads k g at_g) (leads l h at_h)
+            (apart_exchanged (ends_of h) (ends_of g) test)) at in
+            absurd (omega (arith, empty.1))
+
+        by : (k l : ℕ) (g h : CountedEdge) → IsAt es k g → IsAt es l h → IsLookedAt i to k l → IsLookedAt i j k l ⊎ LeadsNowhere g h
+        by k l g h at_g at_h (inl before) = inl (inl before)
+        by k l g h at_g at_h (inr (inl (k_is, lt))) = ⊎_elim (λ (less : l < j). inl (inr (inl (k_is, less))))
+            (λ (later : j ≤ l). inr (nowhere k l g h at_g at_h k_is later lt)) (cases_lt l j)
+        by k l g h at_g at_h (inr (inr (l_is, lt))) = ⊎_elim (λ (less : k < j). inl (inr (inr (l_is, less))))
+            (λ (later : j ≤ k). inr (nowhere_back k l g h at_g at_h l_is later lt)) (cases_lt k j)
+
+    -- where those up to the end of e's run have been looked at, the pairs with e have
+    pub run_looked_at : (limit end : ℕ) {ms : List Meeting} → All (IsHeld limit) es → IsAscending es → IsRunEnd es i end →
+        AreGathered es (IsLookedAt i end) ms → AreGathered es (HasBefore (i + 1)) ms
+    run_looked_at limit end held up run gathered = ⊎_elim
+        (λ (inside : end < length es). let f = get_or es end e in
+        let at_f : IsAt es end f = (inside, get_or_default es end f e inside) in
+        rest_passed_over limit end f held up at_f (run.right e f at_e at_f) gathered)
+        (λ (past : length es ≤ end). all_looked_at end past gathered) (cases_lt end (length es))
 
   -- where all places have been looked at, the meetings are those of all edges
   pub all_gathered : (n : ℕ) {ms : List Meeting} → length es ≤ n → AreGathered es (HasBefore n) ms → AreMeetings es ms

@@ -17,6 +17,7 @@ pub mod EndSums
 pub mod FilledVectors
 pub mod FirstEdges
 pub mod GatheredMeetings
+pub mod HeightBlocks
 pub mod HeldRuns
 pub mod HeldWeight
 pub mod LedThrough
@@ -26,6 +27,7 @@ pub mod PairMeetings
 pub mod Pieces
 pub mod RoundsTaken
 pub mod RuledContents
+pub mod RunEnds
 pub mod RunsAlike
 pub mod RunsLoop
 pub mod RunsMerged

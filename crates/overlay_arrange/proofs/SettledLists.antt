@@ -22,7 +22,7 @@ use Rattle.overlay_arrange.specs.Settle.{AreSettled}
 -- ---- edges that start further right
 
 -- an edge that comes later starts no further left
-starts_no_further_left : (e f : Edge) → edge_lt e f ≡ true → e.a.x ≤ℤ f.a.x
+pub starts_no_further_left : (e f : Edge) → edge_lt e f ≡ true → e.a.x ≤ℤ f.a.x
 starts_no_further_left e f comes =
     elim ((Decides-or _ _ (Decides-point_lt e.a f.a) (Decides-and _ _ (Decides-point_eq e.a f.a) (Decides-point_lt e.b f.b))).0 comes) [
       | inl before ↦ before.x
@@ -30,7 +30,7 @@ starts_no_further_left e f comes =
     ]
 
 -- an edge that starts right of another one's end meets it in ends alone
-starting_right : (limit : ℕ) (e f : CountedEdge) → IsHeld limit e → IsHeld limit f → e.b.x <ℤ f.a.x → AreSettled e f
+pub starting_right : (limit : ℕ) (e f : CountedEdge) → IsHeld limit e → IsHeld limit f → e.b.x <ℤ f.a.x → AreSettled e f
 starting_right limit e f e_held f_held right =
     apart_meet_in_ends (ends_of e) (ends_of f)
     ((Decides-point_lt e.a e.b).0 e_held.forward) ((Decides-point_lt f.a f.b).0 f_held.forward)

@@ -17,8 +17,8 @@ use Rattle.overlay_geom.proofs.Rounded.{nearest_point-rounding}
 use Rattle.overlay_geom.proofs.Signs.{mul-zero}
 use Rattle.overlay_plane.specs.CutPoints.{comes_first, crossing, cut_points, cut_edges, is_between, met_at}
 use Rattle.overlay_plane.specs.EdgeLists.{IsForwardBy}
-use Rattle.overlay_plane.specs.Meetings.{IsMeetingPoint, MeetInWholePoints}
-use Rattle.overlay_plane.specs.Rounds.{Round, pieces_of}
+use Rattle.overlay_plane.specs.Meetings.{MeetInWholePoints}
+use Rattle.overlay_plane.specs.Rounds.{Round}
 use Rattle.overlay_plane.proofs.CommonPoints.{along_of_parallel, common_is_meeting, one_on_both}
 use Rattle.overlay_plane.proofs.CrossingPoints.{IsPartWay, part_way_across, crossing_point, crossing_is_common}
 use Rattle.overlay_plane.proofs.CuttingRounds.{CutsThrough, cutting_through}

@@ -5,6 +5,7 @@ pub mod Cut
 pub mod EdgeData
 pub mod Ends
 pub mod Graphs
+pub mod Heights
 pub mod Meetings
 pub mod Options
 pub mod Paths

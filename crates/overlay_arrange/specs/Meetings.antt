@@ -1,11 +1,12 @@
 -- The whole points through which the edges of a list are led, each with the place of its edge.
-use Rattle.std.specs.Prelude.{◌≡◌, ◌⊎◌, ℕ, ◌<◌, ◌≤◌, ℤ, List, map, length, slice_index_or, AllPairs, Contains}
+use Rattle.std.specs.Prelude.{◌≡◌, ◌⊎◌, ℕ, ◌<◌, ◌≤◌, ℤ, ◌<ℤ◌, List, map, length, slice_index_or, AllPairs, Contains}
 use Rattle.overlay_geom.specs.Plane.{Point, Edge}
 use Rattle.overlay_geom.specs.Edges.{CountedEdge, ends_of}
 use Rattle.overlay_geom.specs.Points.{plain_point}
 use Rattle.overlay_plane.specs.CutPoints.{comes_first, cut_points, met_at}
 use Rattle.overlay_plane.specs.InOrder.{in_order}
 use Rattle.overlay_arrange.specs.Cut.{IsEndOf}
+use Rattle.overlay_arrange.specs.Settle.{AreSettled}
 use Rattle.overlay_arrange.specs.declared.meetings.Meeting.{Meeting as HeldMeeting}
 
 -- a whole point through which the edge at the place is led
@@ -44,6 +45,16 @@ pub record AddsBoth (i : ℕ) (e : CountedEdge) (j : ℕ) (f : CountedEdge) (old
 -- x is the entry at place i
 abbrev pub IsAt : {X : Type 0} → List X → ℕ → X → Type 0
 IsAt xs i x = (i < length xs) × (slice_index_or xs i x ≡ x)
+
+-- the edges from the place on start right of the end of the edge at place i, which comes before them
+pub record IsRunEnd (es : List CountedEdge) (i end : ℕ) : Type 0 where
+  pub after : i < end
+  pub within : end ≤ length es
+  pub right : (e f : CountedEdge) → IsAt es i e → IsAt es end f → e.b.x <ℤ f.a.x
+
+-- the edge at place i meets those after it, up to place j, in ends alone
+abbrev pub AreSettledUpTo : List CountedEdge → ℕ → ℕ → Type 0
+AreSettledUpTo es i j = (k : ℕ) (e f : CountedEdge) → i < k → k < j → IsAt es i e → IsAt es k f → AreSettled e f
 
 -- the meetings of the edges that stand at such pairs of places: all of them, but for the edges' own ends
 pub record AreGathered (es : List CountedEdge) (Pair : ℕ → ℕ → Type 0) (ms : List Meeting) : Type 0 where

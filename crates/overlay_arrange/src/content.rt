@@ -135,12 +135,16 @@ impl<I: IntNumber, C: EdgeCount, A: Allocator> Content<I, C, A> {
         let _ = self.edges();
     }
 
-    /// Whether any two different edges meet in ends alone. The edges ascend, as they do once merged.
-    pub(crate) fn is_settled(&self) -> bool
+    /// Whether any two different edges meet in ends alone. The edges ascend, as they do once merged. The
+    /// only refusal is `Memory`.
+    pub(crate) fn is_settled(&self) -> Result<bool, OverlayError>
+    where
+        A: Clone,
         requires { IsAscending (edges_in self.now) }
-        ensures { IsTrue result ↔ IsSettled (edges_in self.now) }
+        ensures ok { IfOk result (λ is_settled. IsTrue is_settled ↔ IsSettled (edges_in self.now)) }
+        ensures err { IsOkUnless result OverlayError.Memory }
     {
-        is_settled(&self.edges)
+        is_settled(self.edges.allocator().clone()?, &self.edges)
     }
 
     /// The graph of the edges under a fill rule. They are an arrangement. The only refusal is `Memory`.

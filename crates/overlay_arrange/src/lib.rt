@@ -15,6 +15,7 @@ mod fill_rays;
 pub mod fill_rule;
 mod fill_sweep;
 pub mod graph;
+mod heights;
 mod meetings;
 mod merge;
 pub mod options;

@@ -3,12 +3,15 @@
 ghost use Rattle.std.specs.Prelude.{◌≡◌, ◌+◌, ◌<◌, length, All, IfOk, OnOk, OnErr, IsOkUnless};
 ghost use Rattle.std.specs.List.Sorted.{IsPermutation};
 ghost use Rattle.overlay_arrange.specs.Content.{plain_edges, IsHeld, IsAscending};
+ghost use Rattle.overlay_arrange.specs.Heights.{plain_spans, AreHeightsOf};
 ghost use Rattle.overlay_arrange.specs.Meetings.{plain_meetings, AreByPlace, AreGathered, AreMeetings};
 ghost use Rattle.overlay_arrange.specs.Meetings.{HasBefore, IsRunAt};
 
 use crate::count::EdgeCount;
 use crate::crossing::push_meetings;
 use crate::edge::CountedEdge;
+use crate::heights::{HeightLists, height_lists, heights_of, next_near};
+use crate::spans::run_end;
 use overlay_geom::error::OverlayError;
 use overlay_geom::number::IntNumber;
 use overlay_geom::point::IntPoint;
@@ -25,7 +28,7 @@ pub(crate) struct Meeting<I> {
 
 /// The whole points through which the edges lead one another, by the places of the edges that they
 /// lead. An edge's own ends may be missing: they change nothing. The edges ascend.
-pub(crate) fn gather<I: IntNumber, C: EdgeCount, A: Allocator>(
+pub(crate) fn gather<I: IntNumber, C: EdgeCount, A: Allocator + Clone>(
     alloc: A,
     edges: &[CountedEdge<I, C>],
 ) -> Result<Vec<Meeting<I>, A>, OverlayError>
@@ -36,23 +39,28 @@ pub(crate) fn gather<I: IntNumber, C: EdgeCount, A: Allocator>(
     ensures order { IfOk result (λ meetings. AreByPlace (plain_meetings I.whole meetings.items)) }
     ensures err { IsOkUnless result OverlayError.Memory }
 {
+    let heights = height_lists(alloc.clone()?, edges)?;
     let mut meetings = Vec::new(alloc);
     for i in 0..edges.len() {
-        gather_from(&mut meetings, edges, i)?;
+        gather_from(&mut meetings, edges, &heights, i)?;
     }
     sort_by_place(&mut meetings)?;
     Ok(meetings)
 }
 
 /// Adds the points through which the edge at place i and the later ones lead one another. These are
-/// looked at up to the first one that starts right of the edge's end.
+/// looked at up to the first one that starts right of the edge's end, and those at heights apart from
+/// the edge's are passed over.
 fn gather_from<I: IntNumber, C: EdgeCount, A: Allocator>(
     meetings: &mut Vec<Meeting<I>, A>,
     edges: &[CountedEdge<I, C>],
+    heights: &HeightLists<I, A>,
     i: usize,
 ) -> Result<(), OverlayError>
     requires held { All (IsHeld I.limit) (plain_edges I.whole C.counts edges.now) }
     requires ascending { IsAscending (plain_edges I.whole C.counts edges.now) }
+    requires heights { AreHeightsOf (plain_edges I.whole C.counts edges.now)
+        (plain_spans I.whole heights.now.edges.items) (plain_spans I.whole heights.now.blocks.items) }
     requires within { i < length edges.now }
     requires gathered { AreGathered (plain_edges I.whole C.counts edges.now)
         (HasBefore i) (plain_meetings I.whole meetings.old.items) }
@@ -61,12 +69,12 @@ fn gather_from<I: IntNumber, C: EdgeCount, A: Allocator>(
     ensures err { IsOkUnless result OverlayError.Memory }
 {
     let e = &edges[i];
-    for j in i + 1..edges.len() {
-        let f = &edges[j];
-        if e.b.x.compare(f.a.x).is_lt() {
-            return Ok(());
-        }
-        push_meetings(meetings, i, e, j, f)?;
+    let of = heights_of(e);
+    let end = run_end(edges, i);
+    let mut j = next_near(heights, of, i + 1, end);
+    while j < end {
+        push_meetings(meetings, i, e, j, &edges[j])?;
+        j = next_near(heights, of, j + 1, end);
     }
     Ok(())
 }

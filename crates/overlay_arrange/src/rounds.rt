@@ -56,7 +56,8 @@ impl<I: IntNumber, C: EdgeCount, A: Allocator + Clone> Content<I, C, A> {
         ensures usable { result ≢ Err OverlayError.Failed }
     {
         self.merge(store)?;
-        if self.is_settled() {
+        let is_settled = self.is_settled()?;
+        if is_settled {
             return Ok(false);
         }
         if rounds == 0 {

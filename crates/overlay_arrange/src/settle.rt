@@ -1,53 +1,69 @@
 //! Whether the edges of a list meet in ends alone.
 
-ghost use Rattle.std.specs.Prelude.{◌↔◌, All, IsTrue};
+ghost use Rattle.std.specs.Prelude.{◌↔◌, ◌<◌, length, All, IsTrue, IfOk, IsOkUnless};
 ghost use Rattle.overlay_geom.specs.Edges.{ends_of};
 ghost use Rattle.overlay_geom.specs.Resolved.{IsPlaced};
 ghost use Rattle.overlay_geom.specs.Settled.{MeetInEnds, IsSettled};
 ghost use Rattle.overlay_arrange.specs.Content.{plain_edge, plain_edges, IsHeld, IsAscending};
-ghost use Rattle.overlay_arrange.specs.Settle.{AreSettled};
+ghost use Rattle.overlay_arrange.specs.Heights.{plain_spans, AreHeightsOf};
+ghost use Rattle.overlay_arrange.specs.Meetings.{AreSettledUpTo};
 
 use crate::count::EdgeCount;
 use crate::edge::CountedEdge;
-use crate::spans::are_apart_in_y;
+use crate::heights::{HeightLists, height_lists, heights_of, next_near};
+use crate::spans::{are_apart_in_y, run_end};
 use overlay_geom::edge::IntEdge;
 use overlay_geom::edge_pair;
 use overlay_geom::edge_pair::Place;
+use overlay_geom::error::OverlayError;
 use overlay_geom::number::IntNumber;
+use std::alloc::Allocator;
 
 /// Whether any two different edges share a point of the plane only where it is an end of both. The
-/// edges ascend.
-pub fn is_settled<I: IntNumber, C: EdgeCount>(edges: &[CountedEdge<I, C>]) -> bool
+/// edges ascend. The only refusal is `Memory`.
+pub fn is_settled<I: IntNumber, C: EdgeCount, A: Allocator + Clone>(
+    alloc: A,
+    edges: &[CountedEdge<I, C>],
+) -> Result<bool, OverlayError>
     requires held { All (IsHeld I.limit) (plain_edges I.whole C.counts edges.now) }
     requires ascending { IsAscending (plain_edges I.whole C.counts edges.now) }
-    ensures { IsTrue result ↔ IsSettled (plain_edges I.whole C.counts edges.now) }
+    ensures ok { IfOk result (λ is_settled.
+        IsTrue is_settled ↔ IsSettled (plain_edges I.whole C.counts edges.now)) }
+    ensures err { IsOkUnless result OverlayError.Memory }
 {
-    for (i, e) in edges.iter().enumerate() {
-        if !is_settled_with(e, &edges[i + 1..]) {
-            return false;
+    let heights = height_lists(alloc, edges)?;
+    for i in 0..edges.len() {
+        if !is_settled_from(edges, &heights, i) {
+            return Ok(false);
         }
     }
-    true
+    Ok(true)
 }
 
-/// Whether the edge meets each of the others in ends alone. They ascend, and are looked at up to the
-/// first one that starts right of the edge's end.
-fn is_settled_with<I: IntNumber, C: EdgeCount>(
-    e: &CountedEdge<I, C>,
-    others: &[CountedEdge<I, C>],
+/// Whether the edge at place i meets each of the later ones in ends alone. They ascend, and are looked at
+/// up to the first one that starts right of the edge's end; those at heights apart from the edge's are
+/// passed over.
+fn is_settled_from<I: IntNumber, C: EdgeCount, A: Allocator>(
+    edges: &[CountedEdge<I, C>],
+    heights: &HeightLists<I, A>,
+    i: usize,
 ) -> bool
-    requires one { IsHeld I.limit (plain_edge I.whole C.counts e.now) }
-    requires others { All (IsHeld I.limit) (plain_edges I.whole C.counts others.now) }
-    requires ascending { IsAscending (plain_edges I.whole C.counts others.now) }
-    ensures { IsTrue result ↔ All (AreSettled (plain_edge I.whole C.counts e.now)) (plain_edges I.whole C.counts others.now) }
+    requires held { All (IsHeld I.limit) (plain_edges I.whole C.counts edges.now) }
+    requires ascending { IsAscending (plain_edges I.whole C.counts edges.now) }
+    requires heights { AreHeightsOf (plain_edges I.whole C.counts edges.now)
+        (plain_spans I.whole heights.now.edges.items) (plain_spans I.whole heights.now.blocks.items) }
+    requires within { i < length edges.now }
+    ensures { IsTrue result ↔ AreSettledUpTo (plain_edges I.whole C.counts edges.now) i (length edges.now) }
 {
-    for f in others {
-        if e.b.x.compare(f.a.x).is_lt() {
-            return true;
-        }
-        if !meet_in_ends(e, f) {
+    let e = &edges[i];
+    let of = heights_of(e);
+    let end = run_end(edges, i);
+    let mut j = next_near(heights, of, i + 1, end);
+    while j < end {
+        if !meet_in_ends(e, &edges[j]) {
             return false;
         }
+        j = next_near(heights, of, j + 1, end);
     }
     true
 }

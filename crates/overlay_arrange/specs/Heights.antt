@@ -1,0 +1,61 @@
+-- The heights between which edges lie, of each edge and of blocks of 16 edges, and what it is to pass over the edges that lie at
+-- heights apart from those of another one.
+use Rattle.std.specs.Prelude.{◌≡◌, ℕ, ◌<◌, ◌≤◌, ◌/◌, true, Bool, ◌||◌, ℤ, ◌≤ℤ◌, int_lt, List, map, length, slice_index_or}
+use Rattle.overlay_geom.specs.Edges.{CountedEdge, ends_of}
+use Rattle.overlay_arrange.specs.Meetings.{IsAt}
+use Rattle.overlay_arrange.specs.Settle.{lowest, highest}
+use Rattle.overlay_arrange.specs.declared.heights.Heights.{Heights}
+
+-- the least and the greatest height of something
+pub record Span : Type 0 where
+  pub low : ℤ
+  pub high : ℤ
+
+-- those of an edge, and of each edge of a list
+abbrev pub span_of : CountedEdge → Span
+span_of e = record { low = lowest (ends_of e); high = highest (ends_of e) }
+
+abbrev pub spans_of : List CountedEdge → List Span
+spans_of es = map span_of es
+
+-- the span at a program's numbers, and each one of a list
+abbrev pub plain_span : {I : Type 0} → (I → ℤ) → Heights I → Span
+plain_span whole h = record { low = whole h.low; high = whole h.high }
+
+abbrev pub plain_spans : {I : Type 0} → (I → ℤ) → List (Heights I) → List Span
+plain_spans whole hs = map (plain_span whole) hs
+
+-- the one lies wholly below the other one
+abbrev pub are_apart : Span → Span → Bool
+are_apart s t = int_lt s.high t.low || int_lt t.high s.low
+
+abbrev pub IsApart : Span → Span → Type 0
+IsApart s t = are_apart s t ≡ true
+
+-- the heights of the second span are among those of the first one
+pub record Covers (s t : Span) : Type 0 where
+  pub low : s.low ≤ℤ t.low
+  pub high : t.high ≤ℤ s.high
+
+-- each of the spans is covered by that of its block of 16
+abbrev pub AreBlocks : List Span → List Span → Type 0
+AreBlocks spans blocks = (k : ℕ) (s d : Span) → IsAt spans k s → (k / 16 < length blocks) × Covers (slice_index_or blocks (k / 16) d) s
+
+-- the spans are those of the edges, and covered by those of their blocks
+pub record AreHeightsOf (es : List CountedEdge) (spans blocks : List Span) : Type 0 where
+  pub are : spans ≡ spans_of es
+  pub covered : AreBlocks spans blocks
+
+-- the places from the one up to the other one lie in one block of 16
+abbrev pub IsInBlock : ℕ → ℕ → Type 0
+IsInBlock from to = (k : ℕ) → from ≤ k → k < to → k / 16 ≡ from / 16
+
+-- the spans from one place up to another one lie apart from s
+abbrev pub AreApartFrom : List Span → Span → ℕ → ℕ → Type 0
+AreApartFrom spans s from to = (k : ℕ) (t : Span) → from ≤ k → k < to → IsAt spans k t → IsApart s t
+
+-- a place between the two, before which the spans lie apart from s
+pub record IsNextNear (spans : List Span) (s : Span) (from to at : ℕ) : Type 0 where
+  pub from_on : from ≤ at
+  pub up_to : at ≤ to
+  pub passed : AreApartFrom spans s from at
