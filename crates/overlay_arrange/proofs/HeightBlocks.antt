@@ -45,14 +45,6 @@ apart_under s t u covers apart =
 
 -- ---- passing over
 
--- from a place up to that place there is none
-pub none_passed : (spans : List Span) (s : Span) (at : ℕ) → AreApartFrom spans s at at
-none_passed spans s at = λ k t from less. absurd (omega (arith, from, less))
-
--- from one place up to a second one, and from that up to a third one
-pub passed_on : (spans : List Span) (s : Span) (from mid to : ℕ) → AreApartFrom spans s from mid → AreApartFrom spans s mid to → AreApartFrom spans s from to
-passed_on spans s from mid to first second = λ k t past less at_t. ⊎_elim (λ before. first k t past before at_t) (λ later. second k t later less at_t) (cases_lt k mid)
-
 -- a place has a block
 pub block_at : (spans blocks : List Span) (k : ℕ) → AreBlocks spans blocks → k < length spans → k / 16 < length blocks
 block_at spans blocks k cover inside = let s = some_entry spans k inside in (cover k (get_or spans k s) s (inside, get_or_default spans k (get_or spans k s) s inside)).0

@@ -45,17 +45,6 @@ right_from e fs i k d up le within right =
       | inr later ↦ let further = starts_no_further_left (ends_of (get_or fs i d)) (ends_of (get_or fs k d)) (up i k d later within) in omega linear
     ]
 
--- so the edge meets all of them in ends alone if it meets those before it so
-pub settled_from_right : (limit : ℕ) (e : CountedEdge) (fs : List CountedEdge) (i : ℕ) (f : CountedEdge)
-    → IsHeld limit e → All (IsHeld limit) fs → IsAscending fs → ((d : CountedEdge) → get_or fs i d ≡ f) → e.b.x <ℤ f.a.x
-    → All (AreSettled e) (take i fs) → All (AreSettled e) fs
-settled_from_right limit e fs i f e_held held up at right before = λ k d within.
-    elim (cases_lt k i) [
-      | inl earlier ↦ subst (AreSettled e) (get_or-take i fs k d earlier) (before k d (omega (arith, length-take i fs)))
-      | inr later ↦ starting_right limit e (get_or fs k d) e_held (held k d within)
-          (right_from e fs i k d up later within (subst (λ (g : CountedEdge). e.b.x <ℤ g.a.x) (sym (at d)) right))
-    ]
-
 -- ---- settled lists
 
 -- no edges are settled
@@ -87,16 +76,3 @@ settled_with_later es i e settled up at = λ k d within.
     (settled (get_or es i d) (get_or es (i + 1 + k) d)
     (All-contains_itself es i d (omega arith)) (All-contains_itself es (i + 1 + k) d inside)
     (edge_eq-from_lt (ends_of (get_or es i d)) (ends_of (get_or es (i + 1 + k) d)) comes)))
-
--- ---- the later ones of a list
-
--- those of ascending edges ascend
-pub ascending_later : (es : List CountedEdge) (i : ℕ) → IsAscending es → IsAscending (drop i es)
-ascending_later es i up = λ j k d lt within.
-    rw (get_or-drop i es j d, get_or-drop i es k d) (up (i + j) (i + k) d (omega arith) (omega (arith, length-drop i es, within)))
-
--- the part of a list from a place to its end, mapped, is what is left from there of the mapped list
-pub mapped_from : {X Y : Type 0} (f : X → Y) (xs : List X) (i : ℕ) → map f (slice_range xs i (length xs)) ≡ drop i (map f xs)
-mapped_from f xs i =
-    let short : length (drop i xs) ≤ length xs - i = omega (arith, length-drop i xs) in
-    ap (map f) (take_all (length xs - i) (drop i xs) short) ∙ sym (drop-map f i xs)
