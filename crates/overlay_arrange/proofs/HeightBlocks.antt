@@ -1,12 +1,11 @@
 -- Edges at heights that are apart from another one's, found by the heights of each edge and of blocks of 16: what covers heights
 -- that are apart covers none that are not, and how the blocks are made, place by place.
-use Rattle.std.proofs.Common.{◌≡◌, ◌≢◌, ◌⊎◌, ⊎_elim, inl, inr, ℕ, ◌+◌, ◌*◌, ◌-◌, ◌/◌, ◌%◌, ◌<◌, ◌≤◌, Bool, true, false, cond, ◌||◌, ℤ, ◌≤ℤ◌, ◌<ℤ◌, int_lt}
-use Rattle.std.proofs.Common.{List, [], ◌∷◌, ◌++◌, All, length, map, take, drop, slice_range, get_or, set, refl, sym, ap, ◌∙◌, subst, arith}
+use Rattle.std.proofs.Common.{◌≡◌, ◌≢◌, ◌⊎◌, ⊎_elim, inl, inr, ℕ, ◌+◌, ◌*◌, ◌-◌, ◌/◌, ◌%◌, ◌<◌, ◌≤◌, true, ◌<ℤ◌}
+use Rattle.std.proofs.Common.{List, [], ◌∷◌, ◌++◌, All, length, take, drop, slice_range, get_or, set, sym, ap, ◌∙◌, subst, arith}
 use Rattle.std.specs.Bool.{Decides}
-use Rattle.std.proofs.lemmas.Bool.{cases_eq, cases_lt}
+use Rattle.std.proofs.lemmas.Bool.{cases_eq}
 use Rattle.std.proofs.lemmas.Bool.Decides.{Decides-or}
-use Rattle.std.proofs.lemmas.Int.{by_lt_z}
-use Rattle.std.proofs.lemmas.List.{get_or_default, get_or-map, get_or_push, get_or-set_same, get_or-set_other, get_or-drop, get_or-take, length-append, length-drop, length-map, length-set, length-take, take-map}
+use Rattle.std.proofs.lemmas.List.{get_or_default, get_or-map, get_or_push, get_or-set_same, get_or-set_other, get_or-drop, get_or-take, length-append, length-drop, length-map, length-set, length-take}
 use Rattle.std.proofs.Math.ListN.{get_or-append}
 use Rattle.std.proofs.Math.Nat.{div-add-mod, div-eq_of_lt-le, mod-lt}
 use Rattle.std.proofs.Math.Nat.{eq-or-lt_of_le}

@@ -1,5 +1,5 @@
 -- One edge more with its heights.
-use Rattle.std.proofs.Common.{◌≡◌, ◌++◌, ◌∷◌, [], take, ap, ap₂, sym, ◌∙◌}
+use Rattle.std.proofs.Common.{◌++◌, ◌∷◌, [], take, ap, ap₂, sym, ◌∙◌}
 use Rattle.std.proofs.lemmas.List.{map-append}
 use Rattle.overlay_geom.proofs.Mapped.{mapped_more, mapped_whole}
 use Rattle.overlay_arrange.specs.Content.{plain_edge, plain_edges}

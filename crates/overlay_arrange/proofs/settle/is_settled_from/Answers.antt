@@ -1,5 +1,5 @@
 -- A loop over the later edges up to the end of the edge's run: each that is not passed over meets the edge in ends alone, or the answer is no.
-use Rattle.std.proofs.Common.{◌≡◌, ◌+◌, ◌<◌, length, refl, sym, subst, arith}
+use Rattle.std.proofs.Common.{◌≡◌, ◌+◌, ◌<◌, length, refl, subst, arith}
 use Rattle.std.proofs.lemmas.List.{length-map}
 use Rattle.overlay_geom.proofs.Mapped.{All-mapped_at}
 use Rattle.overlay_arrange.specs.Content.{plain_edge, plain_edges, IsHeld}
