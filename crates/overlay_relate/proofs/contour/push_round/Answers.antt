@@ -44,9 +44,9 @@ returns-clause-ok g c =
     let old = plain_edges whole c.loop-to.edges.items in
     let new = plain_edges whole c.push_step-2.new.edges.items in
     let all = plain_edges whole c.args.edges.now.items
-        ++ edges_through first (plain_points whole c.args.contour.now ++ first ∷ []) in
+    ++ edges_through first (plain_points whole c.args.contour.now ++ first ∷ []) in
     let none = drop_all c.loop-to.to-index c.args.contour.now c.loop-to-test.false in
     let left : old ++ edges_through from (first ∷ []) ≡ all =
-        subst (λ ps. old ++ edges_through from (plain_points whole ps ++ first ∷ []) ≡ all) none c.loop-to.invariant.2 in
+    subst (λ ps. old ++ edges_through from (plain_points whole ps ++ first ∷ []) ≡ all) none c.loop-to.invariant.2 in
     on_ok_weaker c.push_step-2.result
     (λ is. sym (append-nil new) ∙ edges_next from first [] old new all left is) c.push_step-2.ensures.ok
