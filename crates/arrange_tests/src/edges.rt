@@ -10,10 +10,10 @@ use std::alloc::Global;
 use std::process::Abort;
 
 /// Edges that a subject and a clip pass.
-pub type Held<I> = Content<I, ShapeCountBoolean, Global>;
+pub(crate) type Held<I> = Content<I, ShapeCountBoolean, Global>;
 
 /// An edge that the subject passes so often.
-pub fn edge<I>(ax: I, ay: I, bx: I, by: I, subj: i32) -> CountedEdge<I, ShapeCountBoolean> {
+pub(crate) fn edge<I>(ax: I, ay: I, bx: I, by: I, subj: i32) -> CountedEdge<I, ShapeCountBoolean> {
     CountedEdge {
         a: IntPoint::new(ax, ay),
         b: IntPoint::new(bx, by),
@@ -22,7 +22,7 @@ pub fn edge<I>(ax: I, ay: I, bx: I, by: I, subj: i32) -> CountedEdge<I, ShapeCou
 }
 
 /// Adds an edge, which leads from its smaller to its larger end in the coordinate range.
-pub fn push<I: IntNumber>(
+pub(crate) fn push<I: IntNumber>(
     rt: &impl Abort,
     content: &mut Held<I>,
     edge: CountedEdge<I, ShapeCountBoolean>,
@@ -39,7 +39,7 @@ pub fn push<I: IntNumber>(
 }
 
 /// A content with these edges.
-pub fn with_edges<I: IntNumber>(
+pub(crate) fn with_edges<I: IntNumber>(
     rt: &impl Abort,
     alloc: Global,
     edges: &[CountedEdge<I, ShapeCountBoolean>],

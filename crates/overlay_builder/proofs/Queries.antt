@@ -1,5 +1,5 @@
--- What a query of a builder's core answers: where it had failed, where its edges are arranged, and where more is asked of them.
-use Rattle.std.proofs.Common.{◌≡◌, inl, inr, ℕ, true, false, is_err, refl, sym, ap, subst, ◌∙◌}
+-- What a query of a builder's core answers: where its edges are arranged, and where more is asked of them.
+use Rattle.std.proofs.Common.{◌≡◌, inr, ℕ, true, false, is_err, sym, ap, subst, ◌∙◌}
 use Rattle.std.proofs.lemmas.Bool.{false≢true}
 use Rattle.std.proofs.lemmas.Result.{IfErr-weaker}
 use Rattle.std.specs.Prelude.{Result, Ok, Err, OnOk, IfErr, IsErrOf}
@@ -11,19 +11,6 @@ use Rattle.overlay_arrange.specs.Content.{IsContent}
 use Rattle.overlay_builder.specs.Held.{Held, AnswersQuery}
 
 module _ {V : Type 0} (limit most : ℕ) (old : Held CountedEdge) where
-  -- a builder that had failed refuses, and stays as it is
-  pub refuses_failed : old.failed ≡ true → AnswersQuery {V = V} limit most old old (Err Failed)
-  refuses_failed had = record {
-    usable = tt;
-    stays_usable = tt;
-    arranged = tt;
-    content = tt;
-    fails = had;
-    failed = (λ same. had, λ again. refl);
-    untouched = λ same. refl;
-    err = inl refl;
-  }
-
   module _ (ready : old.failed ≡ false) (new : Held CountedEdge) where
     -- one that had not answers by the arrangement of its edges, or remembers that it was refused
     pub answers_arranged : (r : Result V OverlayError) → OnOk r (IsArranged most old.edges new.edges) → IsContent limit new.edges

@@ -1,12 +1,11 @@
 -- The marks of strings on counted edges: what an edge without counts has, marks of edges between two ends, and what marks weigh.
 use Rattle.std.proofs.Common.{◌≡◌, ℕ, ◌+◌, ◌≤◌, Bool, true, false, cond, not, ◌&&◌, ◌||◌, pos, List, [], ◌∷◌, refl, ap, sym, ◌∙◌, arith}
-use Rattle.std.specs.List.{filter, list_any, sum_by}
+use Rattle.std.specs.List.{filter, list_any}
 use Rattle.std.specs.List.Sorted.{IsPermutation}
 use Rattle.std.specs.Ordering.{int_eq}
 use Rattle.std.proofs.lemmas.Bool.{and_parts, not-true}
 use Rattle.std.proofs.lemmas.Bool.Decides.{Decides-int_eq}
 use Rattle.std.proofs.lemmas.List.Sorted.{list_any-IsPermutation}
-use Rattle.std.proofs.lemmas.List.Sums.{sum_by-cons}
 use Rattle.overlay_geom.specs.Plane.{Edge}
 use Rattle.overlay_geom.specs.Edges.{CountedEdge, counts_nothing}
 use Rattle.overlay_geom.specs.Merged.{edges_between}
@@ -66,12 +65,3 @@ mark_weight b = cond b 1 0
 pub mark_weight-or : (x y : Bool) → mark_weight (x || y) ≤ mark_weight x + mark_weight y
 mark_weight-or true y = omega arith
 mark_weight-or false y = omega arith
-
--- a mark that is set where any of a list is weighs no more than those of the list
-pub mark_weight-any : {X : Type 0} (mark : X → Bool) (xs : List X) → mark_weight (list_any mark xs) ≤ sum_by (λ x. mark_weight (mark x)) xs
-mark_weight-any mark [] = omega arith
-mark_weight-any mark (x ∷ xs) =
-    let rest = mark_weight-any mark xs in
-    let either = mark_weight-or (mark x) (list_any mark xs) in
-    let all = sum_by-cons (λ x. mark_weight (mark x)) x xs in
-    omega arith

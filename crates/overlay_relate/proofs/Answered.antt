@@ -41,11 +41,6 @@ module _ {X Y : Type 0} (R : X → Y → Type 0) where
         (follows (get_or (x ∷ xs) n d) (get_or (y ∷ ys) n y) (all.each n d y lt));
   }
 
--- each query answered alike
-pub answers_alike : {X Y : Type 0} (R : X → Y → Type 0) (y : Y) → ((x : X) → R x y) → (xs : List X) (ys : List Y) → length ys ≡ length xs →
-    ((n : ℕ) (e : Y) → n < length xs → get_or ys n e ≡ y) → AnswersEach R xs ys
-answers_alike R y right xs ys counted same = record { counted = counted; each = λ n d e lt. subst (R (get_or xs n d)) (sym (same n e lt)) (right (get_or xs n d)) }
-
 -- ---- joined
 
 pub zip_with-length : {X Y Z : Type 0} (f : X → Y → Z) (xs : List X) (ys : List Y) → length ys ≡ length xs → length (zip_with f xs ys) ≡ length xs

@@ -1,34 +1,24 @@
 -- The edges of a contour that are not vertical, in the order of their starts.
-use Rattle.std.proofs.Common.{◌≡◌, ◌≢◌, ◌<ℤ◌, Bool, true, false, List, get_or, Contains, sym, subst, arith}
-use Rattle.std.specs.Cmp.{IsStrictWeakOrder}
+use Rattle.std.proofs.Common.{◌≡◌, ◌<ℤ◌, Bool, true, false, List, Contains, sym, subst}
 use Rattle.std.specs.List.{AllPairs, filter}
 use Rattle.std.specs.List.Sorted.{IsPermutation, IsSortedBy}
-use Rattle.std.proofs.lemmas.Bool.{both_ways, or_left, false_from_ne_true}
+use Rattle.std.proofs.lemmas.Bool.{or_left}
 use Rattle.std.proofs.lemmas.List.Kept.{AllPairs-filter}
-use Rattle.std.proofs.lemmas.List.Sorted.{Contains-permutation, IsPermutation-sym, sorted_far}
-use Rattle.std.proofs.lemmas.Map.Keys.{IsDistinct-IsPermutation}
-use Rattle.std.proofs.lemmas.Map.Made.{AllPairs-from_IsDistinct, IsDistinct-from_AllPairs}
+use Rattle.std.proofs.lemmas.List.Sorted.{Contains-permutation, IsPermutation-sym}
 use Rattle.overlay_geom.specs.Plane.{Edge, edge_eq, point_lt}
 use Rattle.overlay_geom.proofs.Mapped.{AllPairs-map}
-use Rattle.overlay_geom.proofs.Orders.{Decides-edge_eq, edge_eq-same, edge_eq-itself}
+use Rattle.overlay_geom.proofs.Orders.{edge_eq-exchanged}
 use Rattle.overlay_geom.specs.declared.number.IntNumber.{Ghosts as IntGhosts}
 use Rattle.overlay_geom.specs.declared.number.WideIntNumber.{Ghosts as WideGhosts}
 use Rattle.overlay_geom.specs.declared.number.UIntNumber.{Ghosts as UIntGhosts}
 use Rattle.overlay_plane.specs.Anchors.{is_anchored_before}
-use Rattle.overlay_plane.proofs.AnchorOrder.{anchored_before-one_way, anchored_before-chain}
 use Rattle.overlay_plane.proofs.Entries.{all_of_entries, Contains-filter, Contains-from_filter}
-use Rattle.overlay_plane.proofs.StepsAlong.{edge_eq-either}
+use Rattle.overlay_plane.proofs.ShuffledPairs.{pairs_shuffled}
+use Rattle.overlay_plane.proofs.SortedStarts.{starts_before, by_start-from_sorted}
 use Rattle.overlay_plane.proofs.Tests.{lt_from_test, test_from_lt}
 use Rattle.overlay_relate.specs.Sweeps.{wide_edge, wide_edges, is_wide, AreOfContour, AreByStart}
 use Rattle.overlay_relate.specs.declared.wide_edge.WideEdge.{WideEdge}
 use Rattle.overlay_relate.proofs.Insides.{distinct, settled}
-
--- edges that differ do so in each order
-differ_shuffled : (es fs : List Edge) → IsPermutation es fs → AllPairs (λ e f. edge_eq e f ≡ false) es → AllPairs (λ e f. edge_eq e f ≡ false) fs
-differ_shuffled es fs moved differ =
-    let apart : AllPairs (λ e f. e ≢ f) es = λ i j d l m same. both_ways _ (differ i j d l m) (subst (λ f. edge_eq (get_or es i d) f ≡ true) same (edge_eq-itself (get_or es i d))) in
-    let still = AllPairs-from_IsDistinct Decides-edge_eq fs (IsDistinct-IsPermutation edge_eq edge_eq-either es fs moved (IsDistinct-from_AllPairs Decides-edge_eq es apart)) in
-    λ i j d l m. false_from_ne_true _ (λ same. still i j d l m (edge_eq-same _ _ same))
 
 -- sorted, the edges that are not vertical are those by start
 pub by_start_sorted : (es : List Edge) → AreOfContour es → (gs fs : List Edge) → gs ≡ filter is_wide es → IsPermutation gs fs →
@@ -39,7 +29,7 @@ by_start_sorted es of gs fs is moved order = record {
   sweepable = record {
     wide = all_of_entries (λ e. e.a.x <ℤ e.b.x) fs (λ e c. lt_from_test e.a.x e.b.x (kept e c).1);
     settled = λ e f c d. settled es of e f (kept e c).0 (kept f d).0;
-    distinct = differ_shuffled gs fs moved (subst (AllPairs (λ e f. edge_eq e f ≡ false)) (sym is) (AllPairs-filter (λ e f. edge_eq e f ≡ false) is_wide es (distinct es of)));
+    distinct = pairs_shuffled edge_eq edge_eq-exchanged gs fs moved (subst (AllPairs (λ e f. edge_eq e f ≡ false)) (sym is) (AllPairs-filter (λ e f. edge_eq e f ≡ false) is_wide es (distinct es of)));
     order = order;
   };
 }
@@ -48,22 +38,17 @@ by_start_sorted es of gs fs is moved order = record {
     kept e c = Contains-from_filter is_wide es e (subst (λ hs. Contains hs e) is (Contains-permutation fs gs e (IsPermutation-sym gs fs moved) c))
 
 module _ {I W U : Type 0} (i : IntGhosts I W U) (w : WideGhosts W) (u : UIntGhosts U) where
-  -- the first starts before the second
-  abbrev pub held_before : WideEdge I W U i w u → WideEdge I W U i w u → Bool
-  held_before e f = is_anchored_before (wide_edge i.whole e) (wide_edge i.whole f)
-
-  leads : (e : WideEdge I W U i w u) → point_lt (wide_edge i.whole e).a (wide_edge i.whole e).b ≡ true
+  -- each leads forward
+  pub leads : (e : WideEdge I W U i w u) → point_lt (wide_edge i.whole e).a (wide_edge i.whole e).b ≡ true
   leads e = or_left _ _ (test_from_lt (i.whole e.a.x) (i.whole e.b.x) e.wide)
 
-  -- any two compare
-  pub held_before-order : IsStrictWeakOrder held_before
-  held_before-order = record {
-    one_way = λ e f. anchored_before-one_way (wide_edge i.whole e) (wide_edge i.whole f) (leads e) (leads f);
-    chain = λ e f h. anchored_before-chain (wide_edge i.whole e) (wide_edge i.whole f) (wide_edge i.whole h) (leads e) (leads f) (leads h);
-  }
+  -- the first starts before the second
+  abbrev pub held_before : WideEdge I W U i w u → WideEdge I W U i w u → Bool
+  held_before = starts_before (wide_edge i.whole) leads
 
   -- sorted edges are in the order of their starts
-  pub by_start-from_sorted : (es : List (WideEdge I W U i w u)) → IsSortedBy held_before es → AllPairs (λ e f. is_anchored_before f e ≡ false) (wide_edges i.whole es)
-  by_start-from_sorted es up =
+  pub by_start : (es : List (WideEdge I W U i w u)) → IsSortedBy held_before es
+      → AllPairs (λ e f. is_anchored_before f e ≡ false) (wide_edges i.whole es)
+  by_start es up =
       AllPairs-map (λ (e f : Edge). is_anchored_before f e ≡ false) (wide_edge i.whole) es
-      (λ j k d l m. sorted_far held_before held_before-order es up j k d (omega (arith, l)) m)
+      (by_start-from_sorted (wide_edge i.whole) leads es up)

@@ -23,11 +23,10 @@ use Rattle.overlay_plane.proofs.Tests.{lt_from_test, ge_from_test, test_from_lt,
 use Rattle.overlay_plane.proofs.Under.{covers_from, covers_to, covers_wide, shared_just_right}
 use Rattle.overlay_plane.proofs.WhereEdgesStart.{covers_spans}
 use Rattle.overlay_scan.specs.Scan.{Entry, Sweep, live_at, MayMoveTo, IsOver, AreLive, IsAtMost, AnswersRise, last_entry, value_or, value_up_to}
-use Rattle.overlay_scan.proofs.LastEntries.{last_is}
+use Rattle.overlay_scan.proofs.LastEntries.{last_is, no_last}
 use Rattle.overlay_relate.specs.Sweeps.{IsSwept, IsFound, side_answer}
 use Rattle.overlay_relate.proofs.OnEdges.{side-whole, false_where_not}
 use Rattle.overlay_relate.proofs.Swept.{live_are}
-use Rattle.overlay_relate.proofs.Told.{no_last}
 
 -- an edge that is under another one just right of an abscissa is not above it there
 pub weakly_under : (f e : Edge) (x d : ℤ) → pos 0 <ℤ d → MeetInEnds e f → covers f x d ≡ true → covers e x d ≡ true → is_under f e x d ≡ true → pos 0 ≤ℤ gap f e x d

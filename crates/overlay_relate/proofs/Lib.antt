@@ -2,7 +2,6 @@ pub mod AddedShapes
 pub mod Answered
 pub mod Asked
 pub mod ByStart
-pub mod FilledPoints
 pub mod Highest
 pub mod Insides
 pub mod Located

@@ -1,7 +1,7 @@
 -- Odd windings: each edge strictly below a point turns the parity of the winding there.
-use Rattle.std.proofs.Common.{◌≡◌, Bool, true, false, not, cond, ℤ, pos, negsuc, ◌+ℤ◌, List, [], ◌∷◌, ◌++◌, map, refl, ap, ◌∙◌, arith}
+use Rattle.std.proofs.Common.{◌≡◌, Bool, true, false, not, cond, ℤ, pos, negsuc, ◌+ℤ◌, List, [], ◌∷◌, map, refl, ap, ◌∙◌, arith}
 use Rattle.std.proofs.lemmas.Int.{ints}
-use Rattle.overlay_geom.specs.Plane.{PlanePoint, Step, Edge, edge_of, is_forward, is_strictly_below, winding}
+use Rattle.overlay_geom.specs.Plane.{PlanePoint, Step, edge_of, is_forward, is_strictly_below, winding}
 use Rattle.overlay_relate.specs.Locations.{differ, is_odd, odd_below}
 
 pub differ-assoc : (r s t : Bool) → differ r (differ s t) ≡ differ (differ r s) t
@@ -14,15 +14,6 @@ differ-assoc false s t = refl
 pub differ-false : (t : Bool) → differ t false ≡ t
 differ-false true = refl
 differ-false false = refl
-
-pub differ-true : (t : Bool) → differ t true ≡ not t
-differ-true true = refl
-differ-true false = refl
-
--- with one edge more
-pub odd_below-push : (es : List Edge) (e : Edge) (p : PlanePoint) → odd_below (es ++ e ∷ []) p ≡ differ (odd_below es p) (is_strictly_below e p)
-odd_below-push [] e p = differ-false (is_strictly_below e p)
-odd_below-push (f ∷ es) e p = ap (differ (is_strictly_below f p)) (odd_below-push es e p) ∙ differ-assoc (is_strictly_below f p) (odd_below es p) (is_strictly_below e p)
 
 -- 1 more, or 1 less, turns the parity
 odd_more : (w : ℤ) → is_odd (pos 1 +ℤ w) ≡ not (is_odd w)

@@ -1,10 +1,9 @@
 -- Edges pushed one by one.
-use Rattle.std.proofs.Common.{◌≡◌, List, [], ◌∷◌, ◌++◌, map, All, None, refl, sym, ap, ◌∙◌, subst, append_assoc}
-use Rattle.std.specs.List.{slice_get}
+use Rattle.std.proofs.Common.{◌≡◌, List, [], ◌∷◌, ◌++◌, map, All, sym, ap, ◌∙◌, subst, append_assoc}
 use Rattle.std.proofs.lemmas.List.{map-append}
 use Rattle.std.proofs.lemmas.List.Elements.{All-push}
 use Rattle.overlay_geom.specs.Plane.{Point, Edge}
-use Rattle.overlay_geom.specs.Resolved.{edges_between, edges_through, edges_of}
+use Rattle.overlay_geom.specs.Resolved.{edges_between, edges_through}
 use Rattle.overlay_geom.proofs.ResolvedSteps.{edges_through-more}
 
 -- what holds of each item, mapped, holds of one more
@@ -17,8 +16,3 @@ pub edges_next : (from to : Point) (rest : List Point) (old new whole : List Edg
 edges_next from to rest old new whole h e =
     ap (λ es. es ++ edges_through to rest) e ∙ append_assoc old (edges_between from to) (edges_through to rest)
     ∙ ap (λ es. old ++ es) (sym (edges_through-more from to rest)) ∙ h
-
--- no points have no edges
-pub none_first : {X : Type 0} (f : X → Point) (xs : List X) → None ≡ slice_get xs 0 → edges_of (map f xs) ≡ []
-none_first f [] none = refl
-none_first f (x ∷ xs) none = absurd (cc)

@@ -3,27 +3,26 @@ use Rattle.std.proofs.Common.{◌≡◌, ◌⊎◌, ⊎_elim, inl, inr, ℕ, zer
 use Rattle.std.specs.Ordering.{int_eq}
 use Rattle.std.specs.List.{All}
 use Rattle.std.specs.Option.{IfSome}
-use Rattle.std.proofs.lemmas.Bool.{cases_lt, both_ways, and_from, or_cases, or_left, or_right, false_from_ne_true}
+use Rattle.std.proofs.lemmas.Bool.{cases_lt, both_ways, and_from, false_from_ne_true}
 use Rattle.std.proofs.lemmas.Int.{ints}
 use Rattle.std.proofs.Math.Nat.{eq-or-lt_of_le}
 use Rattle.std.proofs.lemmas.List.{get_or_default, get_or-drop, length-drop, drop_more}
 use Rattle.std.proofs.lemmas.List.Elements.{All-head, All-tail, All-weaker, All-contains, Contains-append_right}
-use Rattle.overlay_geom.specs.Plane.{Edge, edge_eq, point_lt, point_eq, is_strictly_below, in_plane}
+use Rattle.overlay_geom.specs.Plane.{Edge, edge_eq, point_lt}
 use Rattle.overlay_geom.specs.Points.{InRange}
 use Rattle.overlay_geom.specs.Settled.{MeetInEnds}
 use Rattle.overlay_geom.proofs.Entries.{Contains-head}
 use Rattle.overlay_geom.proofs.Orders.{edge_eq-flip, edge_eq-itself, edge_eq-same}
 use Rattle.overlay_plane.specs.Anchors.{is_anchored_before, is_below_anchor}
 use Rattle.overlay_plane.specs.Heights.{covers, is_under}
-use Rattle.overlay_plane.specs.Nodes.{turns_left}
 use Rattle.overlay_plane.proofs.BelowAnchors.{below_an_anchor_is_under}
 use Rattle.overlay_plane.proofs.Entries.{all_of_entries, Contains-filter, Contains-from_filter}
-use Rattle.overlay_plane.proofs.LeftmostPoints.{below_starts_before}
 use Rattle.overlay_plane.proofs.ShuffledSteps.{beside_one, one_or_beside}
-use Rattle.overlay_plane.proofs.Tests.{ge_from_test, lt_from_test, test_from_lt}
+use Rattle.overlay_plane.proofs.Tests.{lt_from_test, test_from_lt}
 use Rattle.overlay_plane.proofs.Under.{covers_to, under_irreflexive}
 use Rattle.overlay_plane.proofs.WhereEdgesStart.{covers_start}
 use Rattle.overlay_scan.specs.Scan.{Entry, Sweep, empty_sweep, live_at, moved_to, MayMoveTo, IsAsked, IsOver, AreLive, IsSweep, MeetsOthers, IsNewAmong, IsPutIn}
+use Rattle.overlay_scan.proofs.EntriesByStart.{start_order, below_is_before}
 use Rattle.overlay_scan.proofs.Moving.{live_after_move}
 use Rattle.overlay_relate.specs.Sweeps.{AreSweepable, IsSwept}
 
@@ -39,11 +38,6 @@ nothing_swept limit fs s is = subst (IsSwept limit fs 0) (sym is) (record {
   from = λ f c. absurd (let within = c.1 in omega (arith, within));
   all = λ i e lt at x may ends. absurd (omega (arith, lt));
 })
-
--- the later of two starts no further left
-start_order : (e f : Edge) → is_anchored_before f e ≡ false → e.a.x ≤ℤ f.a.x
-start_order e f later = ge_from_test f.a.x e.a.x (false_from_ne_true (int_lt f.a.x e.a.x)
-    (λ less. both_ways (is_anchored_before f e) later (or_left (point_lt f.a e.a) _ (or_left (int_lt f.a.x e.a.x) _ less))))
 
 module _ (fs : List Edge) (sweepable : AreSweepable fs) (n : ℕ) (e : Edge) (lt : n < length fs) (is : get_or fs n e ≡ e) where
   -- from the next edge on all start no further left
@@ -140,10 +134,7 @@ module _ (fs : List Edge) (sweepable : AreSweepable fs) (n : ℕ) (e : Edge) (lt
             ∙ and_from (covers h e.a.x (pos 1)) (is_under h e e.a.x (pos 1)) over_h under
 
         before : is_anchored_before h e ≡ true
-        before = ⊎_elim
-            (λ low. or_left (point_lt h.a e.a) (point_eq h.a e.a && turns_left h e) (below_starts_before h e.a low))
-            (λ beside. or_right (point_lt h.a e.a) (point_eq h.a e.a && turns_left h e) beside)
-            (or_cases (is_strictly_below h (in_plane e.a)) (point_eq h.a e.a && turns_left h e) below)
+        before = below_is_before e h below
 
         early : c.0 < n
         early = ⊎_elim (λ less. less) (λ more. absurd (later (eq-or-lt_of_le more))) (cases_lt c.0 n)

@@ -1,7 +1,6 @@
 -- It is inside above the next edge where it is not inside above the highest live edge under it.
 use Rattle.std.proofs.Common.{◌≡◌, ◌⊎◌, ⊎_elim, inl, inr, ℕ, ◌<◌, Bool, true, false, not, ◌&&◌, ℤ, pos, ◌<ℤ◌, List, [], ◌∷◌, ◌++◌, length, take, get_or, Contains, Option, None, Some, refl, sym, ap, ◌∙◌, subst, arith}
-use Rattle.std.specs.List.{last_or, filter}
-use Rattle.std.specs.Option.{MatchOption}
+use Rattle.std.specs.List.{filter}
 use Rattle.std.proofs.lemmas.Bool.{false_from_ne_true}
 use Rattle.std.proofs.lemmas.Int.{ints}
 use Rattle.std.proofs.lemmas.List.{get_or_past, get_or-take, length_push, take_more}
@@ -15,21 +14,12 @@ use Rattle.overlay_plane.proofs.Entries.{Contains-filter}
 use Rattle.overlay_plane.proofs.Under.{covers_from, covers_to}
 use Rattle.overlay_scan.specs.Laws.{IsGreatestBelow}
 use Rattle.overlay_scan.specs.Scan.{Entry, Sweep, live_at, IsOver, AreLive, entry_below, value_or, value_below}
-use Rattle.overlay_scan.proofs.LastEntries.{look_up_gives_the_greatest}
+use Rattle.overlay_scan.proofs.LastEntries.{no_last, look_up_gives_the_greatest}
 use Rattle.overlay_relate.specs.Answers.{AnswersEach}
 use Rattle.overlay_relate.specs.Sweeps.{AreOfContour, AreByStart, AreTold, IsSwept, inside_above}
 use Rattle.overlay_relate.proofs.Answered.{answers_more}
 use Rattle.overlay_relate.proofs.Insides.{inside_above_none, inside_above_next}
 use Rattle.overlay_relate.proofs.Swept.{own, over, may_move, live_are, live_from, under_live}
-
-some_last : {X : Type 0} (x : X) (xs : List X) → last_or (Some x) xs ≡ None → ⊥
-some_last x [] none = subst (λ o. MatchOption o ⊥ (λ _. Unit {0})) none tt
-some_last x (y ∷ xs) none = some_last y xs none
-
--- a list with an item has a last one
-pub no_last : {X : Type 0} (xs : List X) (x : X) → Contains xs x → last_or None xs ≡ None → ⊥
-no_last [] x c none = elim c.1 [ ]
-no_last (y ∷ ys) x c none = some_last y ys none
 
 -- an edge that covers an abscissa is not vertical
 pub covering_wide : (e : Edge) (x : ℤ) → covers e x (pos 1) ≡ true → e.a.x <ℤ e.b.x

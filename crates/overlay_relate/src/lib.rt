@@ -1,4 +1,4 @@
-//! Where points lie: inside contours and shapes, on their edges, or outside; and how two shapes lie to each other.
+//! Where points lie: inside contours and shapes, on their edges, or outside; and a builder that holds two shapes.
 #![tactic(auto)]
 
 pub mod containment;

@@ -1,8 +1,9 @@
 //! Points in the order in which a sweep comes to them.
 
 ghost use Rattle.std.specs.Prelude.{◌≡◌, length, IfOk, IsOkUnless};
+ghost use Rattle.overlay_geom.specs.Numbered.{numbered};
 ghost use Rattle.overlay_geom.specs.Points.{plain_points};
-ghost use Rattle.overlay_relate.specs.Queries.{plain_queries, placed, AreQueries};
+ghost use Rattle.overlay_relate.specs.Queries.{plain_queries, AreQueries};
 
 use overlay_geom::error::OverlayError;
 use overlay_geom::number::IntNumber;
@@ -36,7 +37,7 @@ fn queries_in_order<I: IntNumber, A: Allocator>(
     alloc: A,
     points: &[IntPoint<I>],
 ) -> Result<Vec<Query<I>, A>, OverlayError>
-    ensures ok { IfOk result (λ v. plain_queries I.whole v.items ≡ placed 0 (plain_points I.whole points.now)) }
+    ensures ok { IfOk result (λ v. plain_queries I.whole v.items ≡ numbered 0 (plain_points I.whole points.now)) }
     ensures err { IsOkUnless result OverlayError.Memory }
 {
     let mut queries = Vec::with_capacity(alloc, points.len())?;

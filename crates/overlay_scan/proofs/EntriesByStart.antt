@@ -28,9 +28,16 @@ pub after_front : {X : Type 0} (P : X → Type 0) (xs : List X) (i : ℕ) (x : X
 after_front P xs i x lt all = All-tail P (get_or xs i x) (drop (i + 1) xs) (subst (All P) (drop_more xs i x lt) all)
 
 -- the later of two starts no further left
-start_order : (e f : Edge) → is_anchored_before f e ≡ false → e.a.x ≤ℤ f.a.x
+pub start_order : (e f : Edge) → is_anchored_before f e ≡ false → e.a.x ≤ℤ f.a.x
 start_order e f later = ge_from_test f.a.x e.a.x (false_from_ne_true (int_lt f.a.x e.a.x)
     (λ less. both_ways (is_anchored_before f e) later (or_left (point_lt f.a e.a) _ (or_left (int_lt f.a.x e.a.x) _ less))))
+
+-- an edge below a start starts before it
+pub below_is_before : (e f : Edge) → is_below_anchor e f ≡ true → is_anchored_before f e ≡ true
+below_is_before e f below = ⊎_elim
+    (λ low. or_left (point_lt f.a e.a) (point_eq f.a e.a && turns_left f e) (below_starts_before f e.a low))
+    (λ beside. or_right (point_lt f.a e.a) (point_eq f.a e.a && turns_left f e) beside)
+    (or_cases (is_strictly_below f (in_plane e.a)) (point_eq f.a e.a && turns_left f e) below)
 
 module _ {V : Type 0} (es : List (Entry V)) (i : ℕ) (e : Entry V) (lt : i < length es) (is : e ≡ get_or es i e) where
   -- from the place of an entry on all start no further left
@@ -70,10 +77,7 @@ module _ {V : Type 0} (es : List (Entry V)) (i : ℕ) (e : Entry V) (lt : i < le
       (cases_lt c.0 i)
     where
       before : is_anchored_before f.edge e.edge ≡ true
-      before = ⊎_elim
-          (λ low. or_left (point_lt f.edge.a e.edge.a) (point_eq f.edge.a e.edge.a && turns_left f.edge e.edge) (below_starts_before f.edge e.edge.a low))
-          (λ beside. or_right (point_lt f.edge.a e.edge.a) (point_eq f.edge.a e.edge.a && turns_left f.edge e.edge) beside)
-          (or_cases (is_strictly_below f.edge (in_plane e.edge.a)) (point_eq f.edge.a e.edge.a && turns_left f.edge e.edge) below)
+      before = below_is_before e.edge f.edge below
 
       not_later : (i ≡ c.0) ⊎ (i < c.0) → ⊥
       not_later (inl here) = both_ways (is_anchored_before f.edge e.edge)

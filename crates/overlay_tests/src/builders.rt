@@ -15,12 +15,14 @@ use std::alloc::Allocator;
 use std::process::Abort;
 
 /// An empty builder.
-pub fn empty<I: OverlayInt, A: Allocator + Clone>(alloc: A) -> Result<Overlay<I, A>, OverlayError> {
+pub(crate) fn empty<I: OverlayInt, A: Allocator + Clone>(
+    alloc: A,
+) -> Result<Overlay<I, A>, OverlayError> {
     Overlay::new(alloc, 0)
 }
 
 /// Adds a contour that is in range.
-pub fn add<I: OverlayInt, A: Allocator + Clone>(
+pub(crate) fn add<I: OverlayInt, A: Allocator + Clone>(
     rt: &impl Abort,
     overlay: &mut Overlay<I, A>,
     contour: &[IntPoint<I>],
@@ -33,7 +35,7 @@ pub fn add<I: OverlayInt, A: Allocator + Clone>(
 }
 
 /// Adds a contour that is in range and whose points come one by one.
-pub fn add_points<I: OverlayInt, A: Allocator + Clone>(
+pub(crate) fn add_points<I: OverlayInt, A: Allocator + Clone>(
     rt: &impl Abort,
     overlay: &mut Overlay<I, A>,
     points: &[IntPoint<I>],
@@ -44,7 +46,7 @@ pub fn add_points<I: OverlayInt, A: Allocator + Clone>(
 }
 
 /// Adds the paths of a resource, which are in range.
-pub fn add_source<I: OverlayInt, A: Allocator + Clone, R0: IntShapeResource<I>>(
+pub(crate) fn add_source<I: OverlayInt, A: Allocator + Clone, R0: IntShapeResource<I>>(
     rt: &impl Abort,
     overlay: &mut Overlay<I, A>,
     resource: &R0,
@@ -55,7 +57,7 @@ pub fn add_source<I: OverlayInt, A: Allocator + Clone, R0: IntShapeResource<I>>(
 }
 
 /// Puts the paths of a subject in the place of what the builder holds.
-pub fn reinit_with_subj<I: OverlayInt, A: Allocator + Clone, R0: IntShapeResource<I>>(
+pub(crate) fn reinit_with_subj<I: OverlayInt, A: Allocator + Clone, R0: IntShapeResource<I>>(
     rt: &impl Abort,
     overlay: &mut Overlay<I, A>,
     subj: &R0,
@@ -65,7 +67,7 @@ pub fn reinit_with_subj<I: OverlayInt, A: Allocator + Clone, R0: IntShapeResourc
 }
 
 /// Puts the paths of a subject and a clip in the place of what the builder holds.
-pub fn reinit_with_subj_and_clip<
+pub(crate) fn reinit_with_subj_and_clip<
     I: OverlayInt,
     A: Allocator + Clone,
     R0: IntShapeResource<I>,
@@ -77,7 +79,7 @@ pub fn reinit_with_subj_and_clip<
 }
 
 /// A builder with the paths of a subject.
-pub fn from_subj<I: OverlayInt, A: Allocator + Clone, R0: IntShapeResource<I>>(
+pub(crate) fn from_subj<I: OverlayInt, A: Allocator + Clone, R0: IntShapeResource<I>>(
     rt: &impl Abort,
     alloc: A,
     subj: &R0,
@@ -87,7 +89,7 @@ pub fn from_subj<I: OverlayInt, A: Allocator + Clone, R0: IntShapeResource<I>>(
 }
 
 /// The same, which keeps all points.
-pub fn from_subj_custom<I: OverlayInt, A: Allocator + Clone, R0: IntShapeResource<I>>(
+pub(crate) fn from_subj_custom<I: OverlayInt, A: Allocator + Clone, R0: IntShapeResource<I>>(
     rt: &impl Abort,
     alloc: A,
     subj: &R0,
@@ -98,7 +100,7 @@ pub fn from_subj_custom<I: OverlayInt, A: Allocator + Clone, R0: IntShapeResourc
 }
 
 /// A builder with the paths of a subject and a clip.
-pub fn from_subj_and_clip<
+pub(crate) fn from_subj_and_clip<
     I: OverlayInt,
     A: Allocator + Clone,
     R0: IntShapeResource<I>,
@@ -110,7 +112,7 @@ pub fn from_subj_and_clip<
 }
 
 /// The same, which keeps all points.
-pub fn from_subj_and_clip_custom<
+pub(crate) fn from_subj_and_clip_custom<
     I: OverlayInt,
     A: Allocator + Clone,
     R0: IntShapeResource<I>,
@@ -123,7 +125,7 @@ pub fn from_subj_and_clip_custom<
 }
 
 /// The edges of the builder.
-pub fn edges<I: OverlayInt, A: Allocator + Clone>(
+pub(crate) fn edges<I: OverlayInt, A: Allocator + Clone>(
     overlay: &mut Overlay<I, A>,
     rule: FillRule,
 ) -> Result<Vec<DataVectorEdge<I, ()>, A>, OverlayError> {
@@ -131,7 +133,7 @@ pub fn edges<I: OverlayInt, A: Allocator + Clone>(
 }
 
 /// How many edges the builder has.
-pub fn edge_count<I: OverlayInt, A: Allocator + Clone>(
+pub(crate) fn edge_count<I: OverlayInt, A: Allocator + Clone>(
     overlay: &mut Overlay<I, A>,
     rule: FillRule,
 ) -> Result<usize, OverlayError> {
@@ -140,7 +142,7 @@ pub fn edge_count<I: OverlayInt, A: Allocator + Clone>(
 }
 
 /// Checks the fills of the builder's edges, in order.
-pub fn check_fills<I: OverlayInt, A: Allocator + Clone>(
+pub(crate) fn check_fills<I: OverlayInt, A: Allocator + Clone>(
     rt: &impl Abort,
     overlay: &mut Overlay<I, A>,
     rule: FillRule,
@@ -164,7 +166,7 @@ fn have_fills<I>(edges: &[DataVectorEdge<I, ()>], fills: &[u8]) -> bool {
 }
 
 /// An edge with its fill.
-pub fn edge<I>(a: IntPoint<I>, b: IntPoint<I>, fill: u8) -> DataVectorEdge<I, ()> {
+pub(crate) fn edge<I>(a: IntPoint<I>, b: IntPoint<I>, fill: u8) -> DataVectorEdge<I, ()> {
     DataVectorEdge {
         a,
         b,
@@ -174,7 +176,7 @@ pub fn edge<I>(a: IntPoint<I>, b: IntPoint<I>, fill: u8) -> DataVectorEdge<I, ()
 }
 
 /// Whether the builder has these edges, in order.
-pub fn has_edges<I: OverlayInt + PartialEq, A: Allocator + Clone>(
+pub(crate) fn has_edges<I: OverlayInt + PartialEq, A: Allocator + Clone>(
     overlay: &mut Overlay<I, A>,
     rule: FillRule,
     wanted: &[DataVectorEdge<I, ()>],
@@ -184,7 +186,7 @@ pub fn has_edges<I: OverlayInt + PartialEq, A: Allocator + Clone>(
 }
 
 /// Checks the edges of the builder, in order.
-pub fn check_edges<I: OverlayInt + PartialEq, A: Allocator + Clone>(
+pub(crate) fn check_edges<I: OverlayInt + PartialEq, A: Allocator + Clone>(
     rt: &impl Abort,
     overlay: &mut Overlay<I, A>,
     rule: FillRule,
@@ -194,12 +196,12 @@ pub fn check_edges<I: OverlayInt + PartialEq, A: Allocator + Clone>(
 }
 
 /// Checks that a call was answered.
-pub fn check_answered(rt: &impl Abort, answer: Result<(), OverlayError>) {
+pub(crate) fn check_answered(rt: &impl Abort, answer: Result<(), OverlayError>) {
     assert_eq!(rt; answer, Ok(()));
 }
 
 /// Whether a call was refused so.
-pub fn is_refused(answer: Result<(), OverlayError>, error: OverlayError) -> bool {
+pub(crate) fn is_refused(answer: Result<(), OverlayError>, error: OverlayError) -> bool {
     match answer {
         Ok(()) => false,
         Err(e) => e == error,

@@ -14,16 +14,16 @@ use std::alloc::Global;
 use std::process::Abort;
 
 /// Points by their coordinates, small enough for each coordinate type.
-pub type Points<'a> = &'a [(i16, i16)];
+pub(crate) type Points<'a> = &'a [(i16, i16)];
 
 /// A square, counterclockwise.
-pub const SQUARE: Points<'static> = &[(0, 0), (2, 0), (2, 2), (0, 2)];
+pub(crate) const SQUARE: Points<'static> = &[(0, 0), (2, 0), (2, 2), (0, 2)];
 
 /// The fills of its edges where it is added as a subject.
-pub const OF_SQUARE: [u8; 4] = [2, 1, 2, 1];
+pub(crate) const OF_SQUARE: [u8; 4] = [2, 1, 2, 1];
 
 /// The contour with these points.
-pub fn contour_of<I: OverlayInt + From<i16>>(
+pub(crate) fn contour_of<I: OverlayInt + From<i16>>(
     alloc: Global,
     points: Points<'_>,
 ) -> Result<IntContour<I, Global>, OverlayError> {
@@ -43,7 +43,7 @@ fn point_of<I: OverlayInt + From<i16>>(point: (i16, i16)) -> IntPoint<I> {
 }
 
 /// The shape with these contours.
-pub fn shape_of<I: OverlayInt + From<i16>>(
+pub(crate) fn shape_of<I: OverlayInt + From<i16>>(
     alloc: Global,
     contours: &[Points<'_>],
 ) -> Result<IntShape<I, Global>, OverlayError> {
@@ -55,7 +55,7 @@ pub fn shape_of<I: OverlayInt + From<i16>>(
 }
 
 /// These shapes.
-pub fn shapes_of<I: OverlayInt + From<i16>>(
+pub(crate) fn shapes_of<I: OverlayInt + From<i16>>(
     alloc: Global,
     shapes: &[&[Points<'_>]],
 ) -> Result<IntShapes<I, Global>, OverlayError> {
@@ -67,7 +67,10 @@ pub fn shapes_of<I: OverlayInt + From<i16>>(
 }
 
 /// Stops the test where a path is out of range.
-pub fn assert_in_range<I: OverlayInt, R0: IntShapeResource<I>>(rt: &impl Abort, resource: &R0)
+pub(crate) fn assert_in_range<I: OverlayInt, R0: IntShapeResource<I>>(
+    rt: &impl Abort,
+    resource: &R0,
+)
     ensures { All (AllInRange I.limit) (R0.paths resource.now) }
 {
     for index in 0..resource.path_count() {
@@ -76,7 +79,7 @@ pub fn assert_in_range<I: OverlayInt, R0: IntShapeResource<I>>(rt: &impl Abort, 
 }
 
 /// Adds contours that are in range, one by one.
-pub fn add_contours<I: OverlayInt + From<i16>>(
+pub(crate) fn add_contours<I: OverlayInt + From<i16>>(
     rt: &impl Abort,
     alloc: Global,
     overlay: &mut Overlay<I, Global>,
@@ -93,7 +96,7 @@ pub fn add_contours<I: OverlayInt + From<i16>>(
 }
 
 /// A builder with these contours.
-pub fn builder_of(
+pub(crate) fn builder_of(
     rt: &impl Abort,
     alloc: Global,
     contours: &[Points<'_>],

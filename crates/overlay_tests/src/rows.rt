@@ -16,17 +16,17 @@ use std::test::Fail;
 
 /// What is asked of an overlay, and the shapes that it is to give.
 #[derive(Drop)]
-pub struct Row<'a> {
+pub(crate) struct Row<'a> {
     /// The contours of the subject.
-    pub subj: &'a [Points<'a>],
+    pub(crate) subj: &'a [Points<'a>],
     /// The contours of the clip.
-    pub clip: &'a [Points<'a>],
+    pub(crate) clip: &'a [Points<'a>],
     /// The overlay rule.
-    pub rule: OverlayRule,
+    pub(crate) rule: OverlayRule,
     /// The fill rule.
-    pub fill: FillRule,
+    pub(crate) fill: FillRule,
     /// The shapes that the answer has.
-    pub wanted: &'a [&'a [Points<'a>]],
+    pub(crate) wanted: &'a [&'a [Points<'a>]],
 }
 
 // A builder with the row's contours.
@@ -76,7 +76,7 @@ fn holds<I: OverlayInt + PartialEq + From<i16>>(
 }
 
 /// Checks the row with the default options.
-pub fn check<I: OverlayInt + PartialEq + From<i16>>(
+pub(crate) fn check<I: OverlayInt + PartialEq + From<i16>>(
     rt: &impl Abort,
     alloc: Global,
     row: &Row<'_>,
@@ -86,7 +86,7 @@ pub fn check<I: OverlayInt + PartialEq + From<i16>>(
 }
 
 /// Checks the row with clockwise output.
-pub fn check_clockwise<I: OverlayInt + PartialEq + From<i16>>(
+pub(crate) fn check_clockwise<I: OverlayInt + PartialEq + From<i16>>(
     rt: &impl Abort,
     alloc: Global,
     row: &Row<'_>,
@@ -100,7 +100,7 @@ pub fn check_clockwise<I: OverlayInt + PartialEq + From<i16>>(
 }
 
 /// Checks the row where points on one line stay.
-pub fn check_kept<I: OverlayInt + PartialEq + From<i16>>(
+pub(crate) fn check_kept<I: OverlayInt + PartialEq + From<i16>>(
     rt: &impl Abort,
     alloc: Global,
     row: &Row<'_>,
@@ -110,7 +110,7 @@ pub fn check_kept<I: OverlayInt + PartialEq + From<i16>>(
 }
 
 /// Checks the fills of the edges of the row's contours.
-pub fn check_edges<I: OverlayInt + From<i16>>(
+pub(crate) fn check_edges<I: OverlayInt + From<i16>>(
     rt: &impl Abort,
     alloc: Global,
     row: &Row<'_>,

@@ -8,10 +8,10 @@ use overlay_geom::point::IntPoint;
 use std::alloc::Global;
 
 /// More requests than a call on two squares makes.
-pub const PLENTY: u64 = 1000;
+pub(crate) const PLENTY: u64 = 1000;
 
 /// A builder whose memory may be refused.
-pub type Refusable<'a> = Overlay<i32, &'a Refusing<Global>>;
+pub(crate) type Refusable<'a> = Overlay<i32, &'a Refusing<Global>>;
 
 // A point by its coordinates.
 fn corner<I>(x: I, y: I) -> IntPoint<I> {
@@ -19,7 +19,7 @@ fn corner<I>(x: I, y: I) -> IntPoint<I> {
 }
 
 /// The square between two coordinates, counterclockwise.
-pub fn square<I: Copy>(low: I, high: I) -> [IntPoint<I>; 4] {
+pub(crate) fn square<I: Copy>(low: I, high: I) -> [IntPoint<I>; 4] {
     [
         corner(low, low),
         corner(high, low),
@@ -29,7 +29,7 @@ pub fn square<I: Copy>(low: I, high: I) -> [IntPoint<I>; 4] {
 }
 
 /// The edges of this square with their fills, where it is added as a subject.
-pub fn square_edges<I: Copy>(low: I, high: I) -> [DataVectorEdge<I, ()>; 4] {
+pub(crate) fn square_edges<I: Copy>(low: I, high: I) -> [DataVectorEdge<I, ()>; 4] {
     let [a, b, c, d] = square(low, high);
     [edge(a, d, 2), edge(a, b, 1), edge(d, c, 2), edge(b, c, 1)]
 }

@@ -1,23 +1,21 @@
 -- The filled-above edges of the first walks.
-use Rattle.std.proofs.Common.{◌≡◌, ℕ, ◌+◌, ◌<◌, ◌≢◌, Bool, true, false, List, [], ◌∷◌, ◌++◌, cond, length, map, take, get_or, Contains, refl, sym, ap, ap₂, ◌∙◌, subst, append-nil, arith}
+use Rattle.std.proofs.Common.{◌≡◌, ℕ, ◌+◌, ◌<◌, Bool, true, false, List, [], ◌∷◌, ◌++◌, cond, length, map, take, get_or, Contains, refl, sym, ap, ap₂, ◌∙◌, subst, append-nil, arith}
 use Rattle.std.specs.List.{All, AllPairs, filter, slice_get}
 use Rattle.std.specs.Prelude.{Some}
 use Rattle.std.specs.List.Sorted.{IsPermutation}
-use Rattle.std.proofs.lemmas.Bool.{both_ways, false_from_ne_true}
 use Rattle.std.proofs.lemmas.Grind.{flat_map-append}
 use Rattle.std.proofs.lemmas.List.{map-append, take_more, get_or-map, length-map}
 use Rattle.std.proofs.lemmas.List.Elements.{All-append, filter-append}
 use Rattle.std.proofs.lemmas.List.Sorted.{All-permutation, Contains-permutation, IsPermutation-map}
-use Rattle.std.proofs.lemmas.Map.Keys.{IsDistinct-IsPermutation}
-use Rattle.std.proofs.lemmas.Map.Made.{AllPairs-from_IsDistinct, IsDistinct-from_AllPairs}
 use Rattle.overlay_geom.specs.Plane.{Step, Edge, edge_of, edge_eq}
-use Rattle.overlay_geom.proofs.Orders.{Decides-edge_eq, edge_eq-same, edge_eq-itself}
+use Rattle.overlay_geom.proofs.Orders.{edge_eq-exchanged}
 use Rattle.overlay_plane.specs.Contours.{is_filled_above}
 use Rattle.overlay_plane.specs.Binding.{filled_above_edges, all_filled_above}
 use Rattle.overlay_plane.proofs.Entries.{all_of_entries, Contains-from_map}
-use Rattle.overlay_plane.proofs.StepsAlong.{edge_eq-either}
+use Rattle.overlay_plane.proofs.ShuffledPairs.{pairs_shuffled}
 use Rattle.overlay_scan.specs.Scan.{Entry}
-use Rattle.overlay_walk.specs.WalkEdges.{filled_entries, IsFilledEntry, AreFilledEntries, IsByAnchor}
+use Rattle.overlay_scan.specs.Sweeps.{IsByStart}
+use Rattle.overlay_walk.specs.WalkEdges.{filled_entries, IsFilledEntry, AreFilledEntries}
 
 -- one more step, which is filled above
 pub filled_more : (on_left : Bool) (n : ℕ) (ss : List Step) (s : Step) → is_filled_above on_left s ≡ true →
@@ -47,13 +45,6 @@ AllPairs-unmap R f xs h i j d l m =
     subst (λ y. R y (f (get_or xs j d))) (get_or-map f xs i d (f d) (omega (arith, l, m)))
     (subst (λ y. R (get_or (map f xs) i (f d)) y) (get_or-map f xs j d (f d) m) (h i j (f d) l (rw length-map m)))
 
--- edges that differ do so in each order
-pub differ_shuffled : (es fs : List Edge) → IsPermutation es fs → AllPairs (λ e f. edge_eq e f ≡ false) es → AllPairs (λ e f. edge_eq e f ≡ false) fs
-differ_shuffled es fs moved differ =
-    let apart : AllPairs (λ e f. e ≢ f) es = λ i j d l m same. both_ways _ (differ i j d l m) (subst (λ f. edge_eq (get_or es i d) f ≡ true) same (edge_eq-itself (get_or es i d))) in
-    let still = AllPairs-from_IsDistinct Decides-edge_eq fs (IsDistinct-IsPermutation edge_eq edge_eq-either es fs moved (IsDistinct-from_AllPairs Decides-edge_eq es apart)) in
-    λ i j d l m. false_from_ne_true _ (λ same. still i j d l m (edge_eq-same _ _ same))
-
 module _ (on_left : Bool) (walks : List (List Step)) where
   -- the entries are those of the first i walks
   pub record HaveFilled (i : ℕ) (fs : List (Entry ℕ)) : Type 0 where
@@ -76,7 +67,7 @@ module _ (on_left : Bool) (walks : List (List Step)) where
 
   -- all of them, sorted
   pub filled_sorted : (fs gs : List (Entry ℕ)) → map (λ f. f.edge) fs ≡ all_filled_above on_left walks → All (IsFilledEntry on_left walks) fs →
-      AllPairs (λ e f. edge_eq e f ≡ false) (all_filled_above on_left walks) → IsPermutation fs gs → IsByAnchor gs → AreFilledEntries on_left walks gs
+      AllPairs (λ e f. edge_eq e f ≡ false) (all_filled_above on_left walks) → IsPermutation fs gs → IsByStart gs → AreFilledEntries on_left walks gs
   filled_sorted fs gs edges from distinct moved order = record {
     from = All-permutation (IsFilledEntry on_left walks) fs gs moved from;
     all = λ e c. Contains-permutation (map (λ f. f.edge) fs) (map (λ f. f.edge) gs) e mapped (subst (λ es. Contains es e) (sym edges) c);
@@ -88,4 +79,4 @@ module _ (on_left : Bool) (walks : List (List Step)) where
       mapped = IsPermutation-map (λ f. f.edge) fs gs moved
 
       differ : AllPairs (λ e f. edge_eq e f ≡ false) (map (λ (f : Entry ℕ). f.edge) gs)
-      differ = differ_shuffled (map (λ f. f.edge) fs) (map (λ f. f.edge) gs) mapped (subst (AllPairs (λ e f. edge_eq e f ≡ false)) (sym edges) distinct)
+      differ = pairs_shuffled edge_eq edge_eq-exchanged (map (λ f. f.edge) fs) (map (λ f. f.edge) gs) mapped (subst (AllPairs (λ e f. edge_eq e f ≡ false)) (sym edges) distinct)

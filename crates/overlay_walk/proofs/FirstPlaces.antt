@@ -2,7 +2,27 @@
 use Rattle.std.proofs.Common.{◌≡◌, ⊎_elim, ℕ, ◌+◌, ◌<◌, ◌≤◌, Bool, true, false, cond, ◌&&◌, refl, sym, subst, arith}
 use Rattle.std.specs.Prelude.{Option, Some, None, IfSome}
 use Rattle.std.proofs.lemmas.Bool.{both_ways, false_from_ne_true, cases_lt}
-use Rattle.overlay_walk.specs.Places.{IsFirstOf, comes_first, first_so_far}
+
+-- the place between two places that is open, and before which no other open one comes
+pub record IsFirstPlace (is_open : ℕ → Bool) (comes_before : ℕ → ℕ → Bool) (low high m : ℕ) : Type 0 where
+  pub above : low ≤ m
+  pub below : m < high
+  pub untaken : is_open m ≡ true
+  pub first : (k : ℕ) → low ≤ k → k < high → is_open k ≡ true → comes_before k m ≡ false
+
+-- there is such a place, or none is open
+abbrev pub IsFirstOf : (ℕ → Bool) → (ℕ → ℕ → Bool) → ℕ → ℕ → Option ℕ → Type 0
+IsFirstOf is_open comes_before low high None = (k : ℕ) → low ≤ k → k < high → is_open k ≡ false
+IsFirstOf is_open comes_before low high (Some m) = IsFirstPlace is_open comes_before low high m
+
+-- the place comes before the one found so far, if there is one
+abbrev pub comes_first : (ℕ → ℕ → Bool) → Option ℕ → ℕ → Bool
+comes_first comes_before None i = true
+comes_first comes_before (Some k) i = comes_before i k
+
+-- the place where it is open and comes first, else the one found so far
+abbrev pub first_so_far : (ℕ → Bool) → (ℕ → ℕ → Bool) → Option ℕ → ℕ → Option ℕ
+first_so_far is_open comes_before found i = cond (is_open i && comes_first comes_before found i) (Some i) found
 
 -- the place found lies below the end
 pub found_below : (is_open : ℕ → Bool) (before : ℕ → ℕ → Bool) (low high bound : ℕ) (found : Option ℕ) → high ≤ bound → IsFirstOf is_open before low high found →

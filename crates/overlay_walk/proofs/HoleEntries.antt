@@ -12,7 +12,8 @@ use Rattle.std.proofs.lemmas.Option.{slice_get_within, get_or_from_slice_get}
 use Rattle.overlay_geom.specs.Plane.{Step}
 use Rattle.overlay_plane.specs.Anchors.{IsAnchor}
 use Rattle.overlay_scan.specs.Scan.{Entry}
-use Rattle.overlay_walk.specs.WalkEdges.{IsHoleEntry, AreHoleEntries, IsByAnchor}
+use Rattle.overlay_scan.specs.Sweeps.{IsByStart}
+use Rattle.overlay_walk.specs.WalkEdges.{IsHoleEntry, AreHoleEntries}
 
 -- what stands at one place is one
 pub same_at : (walks : List (List Step)) (n : ℕ) (v w : List Step) → slice_get walks n ≡ Some v → slice_get walks n ≡ Some w → v ≡ w
@@ -60,7 +61,7 @@ module _ (walks : List (List Step)) (known : List (Option ℕ)) where
   known_passed i hs have is = record { from = have.from; all = below_more (HasEntry hs) i have.all (λ v at_v is_v. absurd (is is_v)) }
 
   -- all of them, sorted
-  pub holes_sorted : (i : ℕ) (hs gs : List (Entry ℕ)) → length walks ≡ i → HaveHoles i hs → IsPermutation hs gs → IsByAnchor gs →
+  pub holes_sorted : (i : ℕ) (hs gs : List (Entry ℕ)) → length walks ≡ i → HaveHoles i hs → IsPermutation hs gs → IsByStart gs →
       AreHoleEntries walks known gs
   holes_sorted i hs gs whole have moved order = record {
     from = All-permutation (IsHoleEntry walks known) hs gs moved have.from;

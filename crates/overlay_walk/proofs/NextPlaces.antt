@@ -9,9 +9,9 @@ use Rattle.overlay_plane.proofs.Entries.{all_of_entries, Contains-from_any}
 use Rattle.overlay_plane.proofs.Tests.{same_tests}
 use Rattle.overlay_plane.proofs.TurnOrder.{met_irreflexive, met_transitive}
 use Rattle.overlay_walk.specs.Nearest.{Nearest, HasSeen, IsMetFirst, IsNearer}
-use Rattle.overlay_walk.specs.Places.{is_open, step_at, comes_first, IsFirstOf, IsRun, IsNextAt, IsNextPlace}
+use Rattle.overlay_walk.specs.Places.{is_open, step_at, IsRun, IsNextAt, IsNextPlace}
 use Rattle.overlay_walk.specs.Steps.{unmarked}
-use Rattle.overlay_walk.proofs.FirstPlaces.{looked_at}
+use Rattle.overlay_walk.proofs.FirstPlaces.{comes_first, IsFirstOf, looked_at}
 use Rattle.overlay_walk.proofs.OpenPlaces.{unmarked_at, place_of_unmarked}
 
 -- a ray that turns by the hand at v from u meets the step at place j before that at k

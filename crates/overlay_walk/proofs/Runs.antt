@@ -17,7 +17,7 @@ use Rattle.overlay_geom.proofs.PointOrder.{point_lt-after_up_to, point_lt-before
 use Rattle.overlay_arrange.specs.Content.{point_cmp}
 use Rattle.overlay_arrange.proofs.EdgeOrder.{point_cmp-is_order}
 use Rattle.overlay_walk.specs.Places.{step_at, IsRun}
-use Rattle.overlay_walk.specs.Steps.{plain_step, plain_steps, IsByStart}
+use Rattle.overlay_walk.specs.Steps.{plain_step, plain_steps, IsByFrom}
 use Rattle.overlay_walk.specs.declared.step.Step.{Step as StepTaken}
 
 -- ---- the order of points
@@ -56,8 +56,8 @@ module _ {I : Type 0} (whole : I → ℤ) where
   }
 
   -- steps sorted by it are in order
-  pub IsByStart-from_sorted : (ss : List (StepTaken I)) → IsSortedBy leaves_smaller ss → IsByStart (plain_steps whole ss)
-  IsByStart-from_sorted ss up =
+  pub IsByFrom-from_sorted : (ss : List (StepTaken I)) → IsSortedBy leaves_smaller ss → IsByFrom (plain_steps whole ss)
+  IsByFrom-from_sorted ss up =
       AllPairs-map (λ (s t : Step). point_lt t.from s.from ≡ false) (plain_step whole) ss
       (λ i j d l m. sorted_far leaves_smaller leaves_smaller-order ss up i j d (omega arith) m)
 
@@ -68,7 +68,7 @@ module _ {I : Type 0} (whole : I → ℤ) where
   abbrev pub leaves_up_to : Point → StepTaken I → Bool
   leaves_up_to p s = not (point_lt p (plain_step whole s).from)
 
-  module _ (ss : List (StepTaken I)) (by_start : IsByStart (plain_steps whole ss)) (p : Point) where
+  module _ (ss : List (StepTaken I)) (by_start : IsByFrom (plain_steps whole ss)) (p : Point) where
     -- the numbers of the step at a place
     plain_at : (k : ℕ) (d : StepTaken I) (e : Step) → k < length ss → get_or (plain_steps whole ss) k e ≡ plain_step whole (get_or ss k d)
     plain_at k d e h = get_or-map (plain_step whole) ss k d e h

@@ -12,8 +12,9 @@ use Rattle.std.proofs.lemmas.List.Sorted.{All-permutation, Contains-permutation,
 use Rattle.overlay_geom.specs.Plane.{Step, edge_of}
 use Rattle.overlay_geom.proofs.Mapped.{AllPairs-map}
 use Rattle.overlay_scan.specs.Scan.{Entry}
-use Rattle.overlay_walk.specs.Places.{is_open, step_at, starts_before, is_place_started_before, ArePlacesByStart, ArePassed, IsFirstPlace}
+use Rattle.overlay_walk.specs.Places.{is_open, step_at, starts_before, is_place_started_before, ArePlacesByStart, ArePassed}
 use Rattle.overlay_walk.specs.Starts.{IsEdgeAt, HaveEdges, AreInStartOrder}
+use Rattle.overlay_walk.proofs.FirstPlaces.{IsFirstPlace}
 use Rattle.overlay_walk.proofs.OpenPlaces.{marked_is_open}
 use Rattle.overlay_walk.proofs.StartOrder.{starts_before-itself}
 

@@ -6,9 +6,10 @@ use Rattle.overlay_geom.specs.Plane.{Step, edge_of}
 use Rattle.overlay_geom.proofs.Mapped.{read_mapped}
 use Rattle.overlay_plane.specs.Contours.{IsStart}
 use Rattle.overlay_plane.proofs.LongSteps.{start_from_tests}
-use Rattle.overlay_walk.specs.Places.{is_open, step_at, starts_before, is_place_started_before, IsFirstPlace}
+use Rattle.overlay_walk.specs.Places.{is_open, step_at, starts_before, is_place_started_before}
 use Rattle.overlay_walk.specs.Steps.{plain_step, plain_steps, unmarked, IsLong}
 use Rattle.overlay_walk.specs.declared.step.Step.{Step as StepTaken}
+use Rattle.overlay_walk.proofs.FirstPlaces.{IsFirstPlace}
 use Rattle.overlay_walk.proofs.OpenPlaces.{unmarked-map, unmarked-all, unmarked_at, place_of_unmarked}
 use Rattle.overlay_walk.proofs.StartOrder.{not_by_points, not_by_slopes}
 

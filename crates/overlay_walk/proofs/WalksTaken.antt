@@ -1,5 +1,5 @@
 -- The steps that a walk takes: a walk under way, with what its edges carry.
-use Rattle.std.proofs.Common.{◌≡◌, ℕ, ◌+◌, ◌≤◌, not, ℤ, List, [], ◌∷◌, ◌++◌, length, All, sym, ap, ◌∙◌, subst, arith}
+use Rattle.std.proofs.Common.{◌≡◌, ℕ, ◌+◌, ◌≤◌, not, ℤ, List, [], ◌∷◌, ◌++◌, length, All, sym, subst, arith}
 use Rattle.std.specs.Prelude.{Any, Contains}
 use Rattle.std.proofs.lemmas.List.{length-map, map-append}
 use Rattle.std.proofs.lemmas.List.Elements.{All-nil, All-push, All-weaker, All-contains, All-contains_itself}
@@ -8,7 +8,7 @@ use Rattle.overlay_plane.specs.NextSteps.{LeadsOn}
 use Rattle.overlay_plane.specs.BesideOrbits.{HasEachOnce}
 use Rattle.overlay_plane.specs.Contours.{without}
 use Rattle.overlay_plane.specs.Orbits.{is_step_of}
-use Rattle.overlay_plane.specs.Turn.{Hand, IsNextStep, IsOrbit, step_round}
+use Rattle.overlay_plane.specs.Turn.{Hand, IsNextStep, IsOrbit}
 use Rattle.overlay_plane.proofs.Entries.{Contains-map}
 use Rattle.overlay_plane.proofs.LaterEntries.{Each-from_all_pairs, AllPairs-from_each, Each-filter}
 use Rattle.overlay_plane.proofs.ShuffledSteps.{Differ}
@@ -65,9 +65,6 @@ module _ {I : Type 0} (whole : I → ℤ) (limit : ℕ) (all : List (StepTaken I
 
     pub walked_on : All (Contains all) (walk ++ s ∷ [])
     walked_on = All-push (Contains all) walk s taking.walked taking.pending
-
-    pub walk_begins : step_round (plain_steps whole (walk ++ s ∷ [])) 0 ≡ plain_step whole start
-    walk_begins = ap (λ ts. step_round ts 0) pushed ∙ taking.way.begins
 
     module _ (t : StepTaken I) (after : List (StepTaken I)) (next : IsNextStep (plain_steps whole left) hand (plain_step whole s) (plain_step whole t))
         (taken : plain_steps whole after ≡ without (plain_steps whole left) (plain_step whole t ∷ [])) where

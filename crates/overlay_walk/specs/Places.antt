@@ -1,5 +1,5 @@
--- Places of a list of steps: which of them are open, what stands at them, and the first one by an order.
-use Rattle.std.specs.Prelude.{◌≡◌, ℕ, ◌<◌, ◌≤◌, Bool, true, false, cond, not, ◌&&◌, ◌||◌, List, length, slice_index_or, Option, Some, None, All, AllPairs, Contains}
+-- Places of a list of steps: which of them are open, what stands at them, and their order by where edges start.
+use Rattle.std.specs.Prelude.{◌≡◌, ℕ, ◌<◌, ◌≤◌, Bool, true, false, not, ◌&&◌, ◌||◌, List, length, slice_index_or, Option, Some, None, All, AllPairs, Contains}
 use Rattle.overlay_geom.specs.Plane.{Point, Step, Edge, point_lt, point_eq, edge_of}
 use Rattle.overlay_plane.specs.Nodes.{turns_left}
 use Rattle.overlay_plane.specs.Turn.{Hand, is_met_before, no_step}
@@ -11,27 +11,6 @@ is_open marks k = not (slice_index_or marks k true)
 -- the step at a place
 abbrev pub step_at : List Step → ℕ → Step
 step_at ss k = slice_index_or ss k no_step
-
--- the place between two places that is open, and before which no other open one comes
-pub record IsFirstPlace (is_open : ℕ → Bool) (comes_before : ℕ → ℕ → Bool) (low high m : ℕ) : Type 0 where
-  pub above : low ≤ m
-  pub below : m < high
-  pub untaken : is_open m ≡ true
-  pub first : (k : ℕ) → low ≤ k → k < high → is_open k ≡ true → comes_before k m ≡ false
-
--- there is such a place, or none is open
-abbrev pub IsFirstOf : (ℕ → Bool) → (ℕ → ℕ → Bool) → ℕ → ℕ → Option ℕ → Type 0
-IsFirstOf is_open comes_before low high None = (k : ℕ) → low ≤ k → k < high → is_open k ≡ false
-IsFirstOf is_open comes_before low high (Some m) = IsFirstPlace is_open comes_before low high m
-
--- the place comes before the one found so far, if there is one
-abbrev pub comes_first : (ℕ → ℕ → Bool) → Option ℕ → ℕ → Bool
-comes_first comes_before None i = true
-comes_first comes_before (Some k) i = comes_before i k
-
--- the place where it is open and comes first, else the one found so far
-abbrev pub first_so_far : (ℕ → Bool) → (ℕ → ℕ → Bool) → Option ℕ → ℕ → Option ℕ
-first_so_far is_open comes_before found i = cond (is_open i && comes_first comes_before found i) (Some i) found
 
 -- the edge e starts in a smaller point than f, or in the same and leads to the left of it
 abbrev pub starts_before : Edge → Edge → Bool

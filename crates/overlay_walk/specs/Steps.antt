@@ -62,8 +62,8 @@ plain_side Above = above
 plain_side Below = below
 
 -- no step leaves a smaller point than a step before it
-abbrev pub IsByStart : List Step → Type 0
-IsByStart ss = AllPairs (λ s t. point_lt t.from s.from ≡ false) ss
+abbrev pub IsByFrom : List Step → Type 0
+IsByFrom ss = AllPairs (λ s t. point_lt t.from s.from ≡ false) ss
 
 -- the entries whose marks are false
 abbrev pub unmarked : {X : Type 0} → List X → List Bool → List X

@@ -15,10 +15,6 @@ numbered_entry whole e = record { edge = record { a = plain_point whole e.a; b =
 abbrev pub numbered_entries : {I W U : Type 0} {i w u : _} → (I → ℤ) → List (NumberedEdge I W U i w u) → List (Entry ℕ)
 numbered_entries whole es = map (numbered_entry whole) es
 
--- no edge is anchored before one that stands before it
-abbrev pub IsByAnchor : List (Entry ℕ) → Type 0
-IsByAnchor es = IsByStart es
-
 -- the filled-above edges of the walk with this index
 abbrev pub filled_entries : Bool → ℕ → List Step → List (Entry ℕ)
 filled_entries on_left n walk = map (λ e. record { edge = e; value = n }) (filled_above_edges on_left walk)
@@ -38,7 +34,7 @@ pub record AreFilledEntries (on_left : Bool) (walks : List (List Step)) (fs : Li
   pub from : All (IsFilledEntry on_left walks) fs
   pub all : (e : Edge) → Contains (all_filled_above on_left walks) e → Contains (map (λ f. f.edge) fs) e
   pub distinct : AllPairs (λ f g. edge_eq f.edge g.edge ≡ false) fs
-  pub order : IsByAnchor fs
+  pub order : IsByStart fs
 
 -- the walk at place n, which stands in no shape from the start, and its anchor
 pub record IsAnchored (known : List (Option ℕ)) (n : ℕ) (walk : List Step) (e : Edge) : Type 0 where
@@ -53,4 +49,4 @@ IsHoleEntry walks known h = IsOfWalk walks h.value (λ w. IsAnchored known h.val
 pub record AreHoleEntries (walks : List (List Step)) (known : List (Option ℕ)) (hs : List (Entry ℕ)) : Type 0 where
   pub from : All (IsHoleEntry walks known) hs
   pub all : (n : ℕ) (w : List Step) → slice_get walks n ≡ Some w → slice_index_or known n None ≡ None → Contains (map (λ h. h.value) hs) n
-  pub order : IsByAnchor hs
+  pub order : IsByStart hs

@@ -4,7 +4,8 @@ ghost use Rattle.std.specs.Prelude.{◌≡◌, OnOk, IsOkUnless};
 ghost use Rattle.std.specs.List.Sorted.{IsPermutation};
 ghost use Rattle.std.specs.Ordering.{is_lt};
 ghost use Rattle.overlay_plane.specs.Anchors.{is_anchored_before};
-ghost use Rattle.overlay_walk.specs.WalkEdges.{numbered_entry, numbered_entries, IsByAnchor};
+ghost use Rattle.overlay_scan.specs.Sweeps.{IsByStart};
+ghost use Rattle.overlay_walk.specs.WalkEdges.{numbered_entry, numbered_entries};
 
 use crate::numbered_edge::NumberedEdge;
 use overlay_arrange::edge::compare_points;
@@ -20,7 +21,7 @@ pub fn sort_by_anchor<I: IntNumber, A: Allocator>(
     edges: &mut Vec<NumberedEdge<I>, A>,
 ) -> Result<(), OverlayError>
     ensures permutation { IsPermutation edges.old.items edges.new.items }
-    ensures order { OnOk result (IsByAnchor (numbered_entries I.whole edges.new.items)) }
+    ensures order { OnOk result (IsByStart (numbered_entries I.whole edges.new.items)) }
     ensures err { IsOkUnless result OverlayError.Memory }
 {
     edges.sort_by(|e, f| compare_anchors(e, f))?;

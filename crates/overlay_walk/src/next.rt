@@ -4,7 +4,7 @@ ghost use Rattle.std.specs.Prelude.{◌≡◌, length, All};
 ghost use Rattle.overlay_geom.specs.Points.{plain_point};
 ghost use Rattle.overlay_walk.specs.Places.{IsRun, IsNextPlace};
 ghost use Rattle.overlay_walk.specs.Steps.{plain_hand, plain_step, plain_steps};
-ghost use Rattle.overlay_walk.specs.Steps.{IsByStart, IsLong};
+ghost use Rattle.overlay_walk.specs.Steps.{IsByFrom, IsLong};
 
 use crate::hand::Hand;
 use crate::marks::is_open;
@@ -24,7 +24,7 @@ pub fn place_of_next<I: IntNumber>(
     hand: Hand,
 ) -> Option<usize>
     requires marks { length taken.now ≡ length steps.now }
-    requires by_start { IsByStart (plain_steps I.whole steps.now) }
+    requires by_start { IsByFrom (plain_steps I.whole steps.now) }
     requires long { All (IsLong I.limit) (plain_steps I.whole steps.now) }
     requires step { IsLong I.limit (plain_step I.whole step) }
     ensures { IsNextPlace (plain_steps I.whole steps.now) taken.now (plain_hand hand) (plain_step I.whole step) result }
@@ -46,7 +46,7 @@ pub fn place_of_next<I: IntNumber>(
 
 /// The places of the steps that leave a point: the first of them, and the one after the last.
 fn run_from<I: IntNumber>(steps: &[Step<I>], p: IntPoint<I>) -> (usize, usize)
-    requires { IsByStart (plain_steps I.whole steps.now) }
+    requires { IsByFrom (plain_steps I.whole steps.now) }
     ensures { IsRun (plain_steps I.whole steps.now) (plain_point I.whole p) result.0 result.1 }
 {
     let low = steps.partition_point(|s| compare_points(s.from, p).is_lt());

@@ -9,7 +9,7 @@ ghost use Rattle.overlay_plane.specs.Contours.{IsStart, without};
 ghost use Rattle.overlay_plane.specs.NextSteps.{LeadsOn};
 ghost use Rattle.overlay_plane.specs.Turn.{IsNextStep, IsOrbit, step_round};
 ghost use Rattle.overlay_walk.specs.Steps.{plain_hand, plain_step, plain_steps};
-ghost use Rattle.overlay_walk.specs.Steps.{IsByStart, IsLong};
+ghost use Rattle.overlay_walk.specs.Steps.{IsByFrom, IsLong};
 
 use crate::hand::Hand;
 use crate::leftmost::{first_open, places_by_start};
@@ -143,7 +143,7 @@ impl<I: IntNumber, A: Allocator + Clone> OpenSteps<I, A> {
 /// Puts the steps into the order of the points that they leave.
 fn sort_steps<I: IntNumber, A: Allocator>(steps: &mut Vec<Step<I>, A>) -> Result<(), OverlayError>
     ensures permutation { IsPermutation steps.old.items steps.new.items }
-    ensures order { OnOk result (IsByStart (plain_steps I.whole steps.new.items)) }
+    ensures order { OnOk result (IsByFrom (plain_steps I.whole steps.new.items)) }
     ensures err { IsOkUnless result OverlayError.Memory }
 {
     steps.sort_by(|s, t| compare_points(s.from, t.from))?;

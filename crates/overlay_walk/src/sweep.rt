@@ -10,9 +10,10 @@ ghost use Rattle.overlay_plane.specs.Binding.{all_filled_above};
 ghost use Rattle.overlay_plane.specs.Contours.{IsContour, all_steps};
 ghost use Rattle.overlay_scan.specs.Scan.{empty_sweep, live_at, moved_to, value_below};
 ghost use Rattle.overlay_scan.specs.Scan.{IsAsked, IsSweep, MayMoveTo, MeetsOthers};
+ghost use Rattle.overlay_scan.specs.Sweeps.{IsByStart};
 ghost use Rattle.overlay_walk.specs.Parents.{IsSwept, IsToldAt};
 ghost use Rattle.overlay_walk.specs.Steps.{is_on_left, IsLong};
-ghost use Rattle.overlay_walk.specs.WalkEdges.{numbered_entry, numbered_entries, IsByAnchor};
+ghost use Rattle.overlay_walk.specs.WalkEdges.{numbered_entry, numbered_entries};
 ghost use Rattle.overlay_walk.specs.Walks.{plain_walks};
 
 use crate::anchor::hole_anchors;
@@ -68,7 +69,7 @@ fn insert_up_to<I: IntNumber, S: Scan<I, usize>>(
     x: I,
 ) -> Result<usize, OverlayError>
     requires from { from ≤ length edges.now }
-    requires order { IsByAnchor (numbered_entries I.whole edges.now) }
+    requires order { IsByStart (numbered_entries I.whole edges.now) }
     requires distinct { AllPairs (λ f g. edge_eq f.edge g.edge ≡ false) (numbered_entries I.whole edges.now) }
     requires settled { IsSettledBy (λ f. f.edge) (numbered_entries I.whole edges.now) }
     requires swept { IsSwept I.limit (I.whole x) (take from (numbered_entries I.whole edges.now)) (S.content scan.old) }

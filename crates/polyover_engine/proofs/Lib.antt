@@ -2,7 +2,6 @@ pub mod Builders
 pub mod Located
 pub mod Noted
 pub mod Queries
-pub mod Reading
 pub mod Refusals
 pub mod Subjects
 pub mod Writing

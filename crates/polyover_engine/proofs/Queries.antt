@@ -16,13 +16,13 @@ use Rattle.i_overlay.specs.OneShot.{IsResultOfPaths, MayRefusePaths}
 use Rattle.i_overlay.proofs.OneShots.{query_refused, result_of_paths}
 use Rattle.polyover_text.specs.declared.query.OverlayQuery.{OverlayQuery}
 use Rattle.polyover_text.specs.declared.query.Query.{Query}
-use Rattle.polyover_engine.specs.Answers.{AreEdges, Answers, IsAnswer, asked_by}
+use Rattle.polyover_engine.specs.Answers.{AreEdges, Answers, IsAnswer, asked_by, greatest_i128}
 use Rattle.polyover_engine.specs.Builders.{HasAdded}
 use Rattle.polyover_text.specs.Grammar.{GivenFigures, Asks, input_lines}
 
 -- what is asked of a builder with these options, of which the query turns two
 abbrev pub asked_with : OverlayQuery → IntOverlayOptions ℕ → Asked
-asked_with query options = asked 170141183460469231731687303715884105727 (λ n. n) query.fill_rule query.overlay_rule
+asked_with query options = asked greatest_i128 (λ n. n) query.fill_rule query.overlay_rule
     (record options { output_direction = query.output.output_direction; preserve_output_collinear = query.output.preserve_output_collinear })
 
 module _ (cs : List GivenPath) (b : Builder ℕ) (h : HasAdded cs b) where

@@ -13,13 +13,6 @@ use Rattle.polyover_engine.specs.declared.exit.Exit.{Exit}
 use Rattle.polyover_engine.specs.declared.exit.Exit.TheVariants.{Answered, Refused, BadInput, Io}
 use Rattle.polyover_engine.specs.Subjects.{subject_part, subject_of, IsSubject, HasNoSubject, AddsContour, IsNotAdded}
 
-pub no_subject_yet : (shape : List (List Point)) → shape ≡ [] → IsSubject [] shape
-no_subject_yet shape empty = record {
-  shown = empty;
-  resolved = subst (All IsResolved) (sym empty) (All-nil IsResolved);
-  in_range = subst (All (AllInRange 4611686018427387903)) (sym empty) (All-nil (AllInRange 4611686018427387903));
-}
-
 module _ (cs : List GivenContour) (k : ℕ) (c : GivenContour) (old : List (List Point)) (h : IsSubject (take k cs) old) (within : k < length cs)
     (here : c ≡ get_or cs k c) where
   -- the next contour of the list is taken

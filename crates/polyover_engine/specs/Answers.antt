@@ -36,6 +36,10 @@ pub record AreEdges (cs : List GivenPath) (fill : FillRule) (vs : List Vector) :
 
 -- ---- shapes
 
+-- the greatest number of i128, the type in which areas of contours at i64 are summed
+abbrev pub greatest_i128 : ℕ
+greatest_i128 = 170141183460469231731687303715884105727
+
 -- what the query asks of an overlay
 abbrev pub asked_by : OverlayQuery → Asked
 asked_by q = record {
@@ -45,7 +49,7 @@ asked_by q = record {
   preserve_output_collinear = q.output.preserve_output_collinear;
   ogc = false;
   min_output_area = 0;
-  wide_limit = 170141183460469231731687303715884105727;
+  wide_limit = greatest_i128;
 }
 
 -- ---- points

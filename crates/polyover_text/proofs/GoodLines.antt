@@ -64,10 +64,6 @@ pub takes_contour : (ls : List Line) (fs : GivenFigures) (l : Line) (c : GivenPa
     → AreFigures 1 (ls ++ l ∷ []) (after_contours fs n c)
 takes_contour ls fs l c n h last e = one_more_contour 1 ls fs l c n h last (omega (arith, e))
 
-pub takes_command : (ls : List Line) (fs : GivenFigures) (l : Line) (query : Query) → AreFigures 1 ls fs → IsCommand l query → Asks (ls ++ l ∷ []) fs query
-takes_command ls fs l query h last =
-    record { before = ls; line = l; after = []; parts = refl; figures = h; command = last; blank = λ k d h. absurd (omega arith) }
-
 -- ---- lines that may not
 
 -- the line is blank, or gives a figure

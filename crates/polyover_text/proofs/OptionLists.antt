@@ -1,5 +1,5 @@
 -- The options of a list of words, set one by one.
-use Rattle.std.proofs.Common.{◌≡◌, ◌≢◌, true, false, [], ◌∷◌, Option, Some, None, MatchOption, codes, refl, sym, subst}
+use Rattle.std.proofs.Common.{◌≡◌, true, false, [], ◌∷◌, Option, Some, None, MatchOption, codes, sym, subst}
 use Rattle.std.proofs.Common.{◌↔◌}
 use Rattle.overlay_arrange.specs.declared.options.ContourDirection.TheVariants.{CounterClockwise, Clockwise}
 use Rattle.polyover_text.specs.declared.options.OutputOptions.{OutputOptions}
@@ -9,9 +9,6 @@ use Rattle.polyover_text.specs.Options.{SetsOption, SetsNothing}
 -- what the words set is what the words left set from the options so far
 pub record HaveSet (ws : Line) (so_far : OutputOptions) (left : Line) : Type 0 where
   pub same : (o : OutputOptions) → SetOptions default_output ws o ↔ SetOptions so_far left o
-
-pub none_set : (ws : Line) → HaveSet ws default_output ws
-none_set ws = record { same = λ o. (λ h. h, λ h. h) }
 
 pub one_more_set : (ws : Line) (old new : OutputOptions) (left rest : Line) (w : Word) → HaveSet ws old left → left ≡ w ∷ rest
     → SetsOption old w new → HaveSet ws new rest
@@ -56,8 +53,3 @@ points_kept old w None named set = subst (SetsNothing old) (sym named) (λ ws o 
 points_kept old w (Some new) named h =
     subst (λ v. SetsOption old v new) (sym named) (subst (SetsOption old (codes "keep")) (sym h.1)
     (λ ws o. (λ all. (after_keep old o ws all).1, λ others. keep h.0 others)))
-
--- a word that is none of the two
-pub begins_no_option : (old o : OutputOptions) (w : Word) (ws : Line) → w ≢ codes "clockwise" → w ≢ codes "keep" → ¬ (SetOptions old (w ∷ ws) o)
-begins_no_option old o w ws no_clockwise no_keep (clockwise e h) = no_clockwise refl
-begins_no_option old o w ws no_clockwise no_keep (keep e h) = no_keep refl

@@ -55,9 +55,6 @@ one_point ws p (point x y) = more x y none
 two_words : (ws : Line) (p : Point) → GivesPoint (codes "point" ∷ ws) p → (v : Word) × ((w : Word) × (ws ≡ v ∷ w ∷ []))
 two_words ws p (point x y) = (_, (_, refl))
 
-pub no_point_of_none : (ws : Line) → ws ≡ [] → (p : Point) → ¬ (GivesPoint (codes "point" ∷ ws) p)
-no_point_of_none ws ended p h = let two = two_words ws p h in let parts = two.1.1 in cc
-
 pub no_point : (ws : Line) → ((ps : List Point) → ¬ (ArePoints ws ps)) → (p : Point) → ¬ (GivesPoint (codes "point" ∷ ws) p)
 no_point ws bad p h = bad (p ∷ []) (one_point ws p h)
 

@@ -8,8 +8,8 @@ use Rattle.std.proofs.lemmas.List.Sums.{count_by-le-length}
 use Rattle.std.proofs.lemmas.List.Splits.{length-slice_split}
 use Rattle.polyover_text.specs.declared.query.Query.{Query}
 use Rattle.polyover_text.specs.declared.input.Reading.{Reading}
-use Rattle.polyover_text.specs.Grammar.{Line, words, input_lines, GivenFigures, no_figures, AreFigures, none, Asks, IsGoodSoFar, IsFirstBad, bad, missing}
-use Rattle.polyover_text.specs.Inputs.{Give, HasRead, TakesLine, RefusesLine}
+use Rattle.polyover_text.specs.Grammar.{Line, words, input_lines, GivenFigures, no_figures, AreFigures, none, IsGoodSoFar, IsFirstBad, bad, missing}
+use Rattle.polyover_text.specs.Inputs.{Give, HasRead, RefusesLine}
 use Rattle.polyover_text.specs.Statements.{figures_at}
 
 -- the first n lines are read, and these are left
@@ -26,15 +26,6 @@ nothing_read all left r parts empty no_command = record {
   parts = parts;
   counted = refl;
   read = subst (Give [] (figures_at r.figures)) (sym no_command) (subst (AreFigures 1 []) (sym empty) none);
-}
-
-pub one_more_read : {A : Type 0} (all : List Line) (left rest : List (List ℕ)) (line : List ℕ) (n : ℕ) (old new : Reading A)
-    → HasReadSoFar all left n old → left ≡ line ∷ rest → TakesLine (n + 1) (words line) old new → HasReadSoFar all rest (n + 1) new
-one_more_read all left rest line n old new h next taken = record {
-  done = h.done ++ words line ∷ [];
-  parts = h.parts ∙ ap (λ l. h.done ++ map words l) next ∙ sym (append_assoc h.done (words line ∷ []) (map words rest));
-  counted = omega (arith, h.counted, length-append h.done (words line ∷ []));
-  read = taken.takes h.done (ap (λ k. k + 1) h.counted) h.read;
 }
 
 -- what was read is good so far
@@ -68,12 +59,6 @@ command_missing all left n r h ended no_command =
     let count : length all ≡ n = ap length whole ∙ sym h.counted in
     subst (λ k. IsFirstBad all (k + 1)) count
     (missing (subst (λ l. AreFigures 1 l (figures_at r.figures)) (sym whole) (subst (Give h.done (figures_at r.figures)) no_command h.read)))
-
-pub all_read : {A : Type 0} (all : List Line) (left : List (List ℕ)) (n : ℕ) (r : Reading A) (query : Query)
-    → HasReadSoFar all left n r → left ≡ [] → r.query ≡ Some query → Asks all (figures_at r.figures) query
-all_read all left n r query h ended held =
-    subst (λ l. Asks l (figures_at r.figures) query) (sym (all_lines all left n r h ended))
-    (subst (Give h.done (figures_at r.figures)) held h.read)
 
 last_line_le : (x : List ℕ) (b : Bool) → length (cond b [] (x ∷ [])) ≤ 1
 last_line_le x true = omega arith

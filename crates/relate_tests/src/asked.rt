@@ -17,13 +17,13 @@ use std::test::Fail;
 
 /// What was answered: whether each point is inside, and where it lies.
 #[derive(Drop)]
-pub struct Answers {
-    pub inside: Vec<bool, Global>,
-    pub locations: Vec<PointLocation, Global>,
+pub(crate) struct Answers {
+    pub(crate) inside: Vec<bool, Global>,
+    pub(crate) locations: Vec<PointLocation, Global>,
 }
 
 /// Stops the test where the points are out of range, or the contour is not resolved.
-pub fn assert_contour<I: OverlayInt>(rt: &impl Abort, contour: &[IntPoint<I>])
+pub(crate) fn assert_contour<I: OverlayInt>(rt: &impl Abort, contour: &[IntPoint<I>])
     ensures range { AllInRange I.limit (plain_points I.whole contour.now) }
     ensures resolved { IsResolved (plain_points I.whole contour.now) }
 {
@@ -32,7 +32,10 @@ pub fn assert_contour<I: OverlayInt>(rt: &impl Abort, contour: &[IntPoint<I>])
 }
 
 /// The same for each contour.
-pub fn assert_shape<I: OverlayInt, A: Allocator>(rt: &impl Abort, contours: &[IntContour<I, A>])
+pub(crate) fn assert_shape<I: OverlayInt, A: Allocator>(
+    rt: &impl Abort,
+    contours: &[IntContour<I, A>],
+)
     ensures range { All (AllInRange I.limit) (paths_of_shape I.whole contours.now) }
     ensures resolved { All IsResolved (paths_of_shape I.whole contours.now) }
 {
@@ -42,7 +45,7 @@ pub fn assert_shape<I: OverlayInt, A: Allocator>(rt: &impl Abort, contours: &[In
 }
 
 /// The same for each shape.
-pub fn assert_shapes<I: OverlayInt, A: Allocator>(rt: &impl Abort, shapes: &[IntShape<I, A>])
+pub(crate) fn assert_shapes<I: OverlayInt, A: Allocator>(rt: &impl Abort, shapes: &[IntShape<I, A>])
     ensures range { All (All (AllInRange I.limit)) (plain_shapes I.whole shapes.now) }
     ensures resolved { All (All IsResolved) (plain_shapes I.whole shapes.now) }
 {
@@ -52,7 +55,7 @@ pub fn assert_shapes<I: OverlayInt, A: Allocator>(rt: &impl Abort, shapes: &[Int
 }
 
 /// Asks a contour about the points.
-pub fn ask_contour<I: OverlayInt>(
+pub(crate) fn ask_contour<I: OverlayInt>(
     rt: &impl Abort,
     alloc: Global,
     contour: &IntContour<I, Global>,
@@ -66,7 +69,7 @@ pub fn ask_contour<I: OverlayInt>(
 }
 
 /// Asks a shape about the points.
-pub fn ask_shape<I: OverlayInt>(
+pub(crate) fn ask_shape<I: OverlayInt>(
     rt: &impl Abort,
     alloc: Global,
     shape: &IntShape<I, Global>,
@@ -80,7 +83,7 @@ pub fn ask_shape<I: OverlayInt>(
 }
 
 /// Asks several shapes about the points.
-pub fn ask_shapes<I: OverlayInt>(
+pub(crate) fn ask_shapes<I: OverlayInt>(
     rt: &impl Abort,
     alloc: Global,
     shapes: &IntShapes<I, Global>,
@@ -94,7 +97,7 @@ pub fn ask_shapes<I: OverlayInt>(
 }
 
 /// The points with these coordinates.
-pub fn points<I: OverlayInt + From<i16>>(
+pub(crate) fn points<I: OverlayInt + From<i16>>(
     alloc: Global,
     coordinates: &[[i16; 2]],
 ) -> Result<Vec<IntPoint<I>, Global>, Fail> {

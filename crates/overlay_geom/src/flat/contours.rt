@@ -3,8 +3,9 @@
 ghost use Rattle.std.specs.Prelude.{◌≡◌, ◌≤◌, ◌==◌, ◌++◌, ◌∷◌, [], length, vec_capacity};
 ghost use Rattle.std.specs.Prelude.{IfOk, IsOk, OnOk, OnErr, IsOkUnless};
 ghost use Rattle.std.specs.Borrow.{sem};
-ghost use Rattle.overlay_geom.specs.Flat.{part_in, first_range, range_behind, paths_in};
+ghost use Rattle.overlay_geom.specs.Flat.{part_in, first_range, range_behind, paths_in, AreInside};
 ghost use Rattle.overlay_geom.specs.FlatLends.{LendsFirst};
+ghost use Rattle.overlay_geom.specs.Points.{plain_points};
 
 use crate::error::OverlayError;
 use crate::flat::{copied, copied_ranges, part_in, range_within};
@@ -95,12 +96,18 @@ impl<I: IntNumber, A: Allocator> FlatContoursBuffer<I, A> {
         Ok(())
     }
 
-    /// Adds these points as the last contour, behind the points that are there. If that is refused, the
-    /// buffer stays as it is.
+    /// Adds these points as the last contour, behind the points that are there. If all ranges were inside
+    /// the points, they are so again, and the contours are those before and this one. If it is refused,
+    /// the buffer stays as it is. The only refusal is `Memory`.
     pub fn add_contour(&mut self, contour: &[IntPoint<I>]) -> Result<(), OverlayError>
         ensures points { OnOk result (self.new.points.items ≡ self.old.points.items ++ contour.now) }
         ensures ranges { OnOk result (self.new.ranges.items
             ≡ self.old.ranges.items ++ range_behind self.old.points.items contour.now ∷ []) }
+        ensures inside { OnOk result (AreInside (length self.old.points.items) self.old.ranges.items
+            → AreInside (length self.new.points.items) self.new.ranges.items) }
+        ensures paths { OnOk result (AreInside (length self.old.points.items) self.old.ranges.items
+            → paths_in I.whole self.new.points.items self.new.ranges.items
+            ≡ paths_in I.whole self.old.points.items self.old.ranges.items ++ plain_points I.whole contour.now ∷ []) }
         ensures same_points { OnErr result (self.new.points.items ≡ self.old.points.items) }
         ensures same_ranges { OnErr result (self.new.ranges.items ≡ self.old.ranges.items) }
         ensures only { IsOkUnless result OverlayError.Memory }

@@ -1,5 +1,7 @@
 -- The next step moves from what is to come to what stands.
-use Rattle.std.proofs.Common.{◌≡◌, ◌++◌, ◌∷◌, [], ◌+◌, drop}
+use Rattle.std.proofs.Common.{◌≡◌, ◌++◌, ◌∷◌, [], ◌+◌, drop, sym, ◌∙◌, subst, append-nil}
+use Rattle.std.proofs.lemmas.List.{drop_all}
+use Rattle.std.proofs.lemmas.Result.{on_ok_weaker}
 use Rattle.overlay_geom.specs.Points.{plain_point, plain_points, InRange}
 use Rattle.overlay_geom.specs.Resolved.{plain_edges, edges_through}
 use Rattle.overlay_geom.proofs.Mapped.{All-mapped_at, mapped_rest}
@@ -33,3 +35,18 @@ loop-to-preserved g c =
       c.push_step.ensures.long,
       edges_next from to rest old _ all left c.in_ok-push_step.ensures.ok,
     )
+
+pub returns-clause-ok : goal.returns-clause-ok
+returns-clause-ok g c =
+    let whole = g.I.IntNumber.whole in
+    let first = plain_point whole c.args.first in
+    let from = plain_point whole c.loop-to.from in
+    let old = plain_edges whole c.loop-to.edges.items in
+    let new = plain_edges whole c.push_step-2.new.edges.items in
+    let all = plain_edges whole c.args.edges.now.items
+    ++ edges_through first (plain_points whole c.args.contour.now ++ first ∷ []) in
+    let none = drop_all c.loop-to.to-index c.args.contour.now c.loop-to-test.false in
+    let left : old ++ edges_through from (first ∷ []) ≡ all =
+    subst (λ ps. old ++ edges_through from (plain_points whole ps ++ first ∷ []) ≡ all) none c.loop-to.invariant.2 in
+    on_ok_weaker c.push_step-2.result
+    (λ is. sym (append-nil new) ∙ edges_next from first [] old new all left is) c.push_step-2.ensures.ok

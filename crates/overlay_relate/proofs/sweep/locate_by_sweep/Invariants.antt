@@ -20,6 +20,6 @@ invariant-loop-query g l =
     (length l.answers.items ≡ length l.points)
     × (length l.inside.items ≤ length l.starting.items)
     × IsSwept g.I.IntNumber.limit fs (length l.inside.items) s
-    × All (λ q. MayMoveTo q.point.x s) (drop l.query-index qs)
+    × All (λ q. MayMoveTo q.item.x s) (drop l.query-index qs)
     × AreTold es fs l.inside.items
-    × All (λ q. IsLocatedBy es (in_plane q.point) (get_or l.answers.items q.place Outside)) (take l.query-index qs)
+    × All (λ q. IsLocatedBy es (in_plane q.item) (get_or l.answers.items q.place Outside)) (take l.query-index qs)

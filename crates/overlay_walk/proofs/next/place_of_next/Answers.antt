@@ -4,9 +4,10 @@ use Rattle.std.proofs.lemmas.List.{length-map, get_or-map}
 use Rattle.overlay_geom.specs.Plane.{Step}
 use Rattle.overlay_geom.specs.Points.{plain_point}
 use Rattle.overlay_geom.proofs.Mapped.{All-mapped_at}
-use Rattle.overlay_walk.specs.Places.{is_open, step_at, IsFirstOf}
+use Rattle.overlay_walk.specs.Places.{is_open, step_at}
 use Rattle.overlay_walk.specs.Steps.{plain_hand, plain_step, plain_steps, IsLong}
 use Rattle.overlay_walk.specs.declared.step.Step.{Step as StepTaken}
+use Rattle.overlay_walk.proofs.FirstPlaces.{IsFirstOf}
 use Rattle.overlay_walk.proofs.NextPlaces.{is_place_met_before, next_place, place_added, place_passed}
 use Rattle.overlay_walk.proofs.next.place_of_next.Goals as goal
 use Rattle.overlay_walk.proofs.next.place_of_next.Goals.{then-is_open+then-add, else-is_open, else-is_open-via-then-is_open+else-add, else-is_open-via-else-is_open}

@@ -1,8 +1,9 @@
 -- The place is the first one of those so far in the run, and the end of its step is the point held.
 use Rattle.std.proofs.Common.{◌≡◌}
 use Rattle.overlay_geom.specs.Points.{plain_point}
-use Rattle.overlay_walk.specs.Places.{is_open, IsFirstOf}
+use Rattle.overlay_walk.specs.Places.{is_open}
 use Rattle.overlay_walk.specs.Steps.{plain_hand, plain_steps}
+use Rattle.overlay_walk.proofs.FirstPlaces.{IsFirstOf}
 use Rattle.overlay_walk.proofs.NextPlaces.{is_place_met_before, held_at}
 use Rattle.overlay_walk.proofs.next.place_of_next.Given as goal
 

@@ -4,13 +4,13 @@ use Rattle.std.specs.Ordering.{is_lt}
 use Rattle.std.proofs.lemmas.List.Sorted.{answers_always}
 use Rattle.overlay_arrange.specs.Content.{point_cmp}
 use Rattle.overlay_walk.specs.Steps.{plain_step}
-use Rattle.overlay_walk.proofs.Runs.{point_cmp-is_less, leaves_smaller, leaves_smaller-order, IsByStart-from_sorted}
+use Rattle.overlay_walk.proofs.Runs.{point_cmp-is_less, leaves_smaller, leaves_smaller-order, IsByFrom-from_sorted}
 use Rattle.overlay_walk.proofs.open_steps.sort_steps.Goals as goal
 
 pub returns-clause-order : goal.returns-clause-order
 returns-clause-order g c =
     let whole = g.I.IntNumber.whole in
-    IsByStart-from_sorted whole c.sort_by.new.self.items
+    IsByFrom-from_sorted whole c.sort_by.new.self.items
     (c.in_ok-sort_by.ensures.sorted (leaves_smaller whole) (leaves_smaller-order whole) (answers_always _ _ _ (λ f a r h k.
     let answer : r ≡ point_cmp (plain_step whole a.0.now).from (plain_step whole a.1.0.now).from = search rules in
     ap is_lt answer ∙ point_cmp-is_less (plain_step whole a.0.now).from (plain_step whole a.1.0.now).from)))

@@ -8,9 +8,10 @@ use Rattle.overlay_geom.specs.Plane.{edge_eq}
 use Rattle.overlay_geom.specs.Settled.{IsSettledBy}
 use Rattle.overlay_geom.proofs.Mapped.{read_mapped}
 use Rattle.overlay_scan.specs.Scan.{Entry}
+use Rattle.overlay_scan.specs.Sweeps.{IsByStart}
 use Rattle.overlay_walk.specs.Parents.{IsSwept, IsToldAt}
 use Rattle.overlay_walk.specs.Steps.{plain_steps, is_on_left}
-use Rattle.overlay_walk.specs.WalkEdges.{numbered_entry, numbered_entries, IsHoleEntry, AreHoleEntries, IsByAnchor}
+use Rattle.overlay_walk.specs.WalkEdges.{numbered_entry, numbered_entries, IsHoleEntry, AreHoleEntries}
 use Rattle.overlay_walk.specs.Walks.{plain_walks}
 use Rattle.overlay_walk.proofs.HolesTold.{shape_of}
 use Rattle.overlay_walk.proofs.Sweeping.{nothing_swept, at_front, entries_settled, anchor_meets, swept_on, told_on, all_walks_told}
@@ -26,7 +27,7 @@ loop-hole-init g c = (
 
 pub insert_up_to-requires-clause-order : goal.insert_up_to-requires-clause-order
 insert_up_to-requires-clause-order g c =
-    subst (λ es. IsByAnchor (numbered_entries g.I.IntNumber.whole es)) (sym c.deref.ensures.value) c.in_ok-edges.ensures.ok.order
+    subst (λ es. IsByStart (numbered_entries g.I.IntNumber.whole es)) (sym c.deref.ensures.value) c.in_ok-edges.ensures.ok.order
 
 pub insert_up_to-requires-clause-distinct : goal.insert_up_to-requires-clause-distinct
 insert_up_to-requires-clause-distinct g c =

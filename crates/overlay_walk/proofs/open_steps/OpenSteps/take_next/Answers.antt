@@ -4,7 +4,7 @@ use Rattle.std.proofs.lemmas.List.{length-map, length-set}
 use Rattle.overlay_geom.specs.Plane.{Step}
 use Rattle.overlay_plane.specs.Turn.{Hand}
 use Rattle.overlay_walk.specs.Places.{IsNextPlace}
-use Rattle.overlay_walk.specs.Steps.{plain_hand, plain_step, plain_steps, IsByStart, IsLong}
+use Rattle.overlay_walk.specs.Steps.{plain_hand, plain_step, plain_steps, IsByFrom, IsLong}
 use Rattle.overlay_walk.specs.declared.step.Step.{Step as StepTaken}
 use Rattle.overlay_walk.proofs.NextTaken.{some_is_found, found_left, found_next, others_left}
 use Rattle.overlay_walk.proofs.OpenPlaces.{unmarked-fewer}
@@ -21,7 +21,7 @@ place_of_next-requires-clause-marks g c = ap length c.deref-2.ensures.value ∙ 
 
 pub place_of_next-requires-clause-by_start : goal.place_of_next-requires-clause-by_start
 place_of_next-requires-clause-by_start g c =
-    subst (λ (ss : List (StepTaken g.row.I.Denot)). IsByStart (plain_steps g.I.IntNumber.whole ss)) (sym c.deref.ensures.value) c.self.invariant.leaving
+    subst (λ (ss : List (StepTaken g.row.I.Denot)). IsByFrom (plain_steps g.I.IntNumber.whole ss)) (sym c.deref.ensures.value) c.self.invariant.leaving
 
 pub place_of_next-requires-clause-long : goal.place_of_next-requires-clause-long
 place_of_next-requires-clause-long g c =
