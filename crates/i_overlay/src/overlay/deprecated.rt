@@ -38,7 +38,8 @@ impl<I: OverlayInt, A: Allocator + Clone> Overlay<I, A> {
         ensures err { IfErr result (MayRefuseBuilder false (subject_and_clip
             (plain_points I.whole subj.now ∷ []) (plain_points I.whole clip.now ∷ []))) }
     {
-        let (subj_path, clip_path) = (PathRef::new(subj), PathRef::new(clip));
+        let subj_path = PathRef { points: subj };
+        let clip_path = PathRef { points: clip };
         Overlay::from_subj_and_clip(alloc, &subj_path, &clip_path)
     }
 
@@ -62,7 +63,8 @@ impl<I: OverlayInt, A: Allocator + Clone> Overlay<I, A> {
         ensures err { IfErr result (MayRefuseBuilder options.preserve_input_collinear (subject_and_clip
             (plain_points I.whole subj.now ∷ []) (plain_points I.whole clip.now ∷ []))) }
     {
-        let (subj_path, clip_path) = (PathRef::new(subj), PathRef::new(clip));
+        let subj_path = PathRef { points: subj };
+        let clip_path = PathRef { points: clip };
         Overlay::from_subj_and_clip_custom(alloc, &subj_path, &clip_path, options, solver)
     }
 
