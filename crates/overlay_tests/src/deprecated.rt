@@ -115,13 +115,23 @@ fn check_shapes<I: OverlayInt + PartialEq + From<i16>>(
 ) -> Result<(), OverlayError> {
     let subj = shapes_of::<I>(alloc, &[&[LOWER_BY_FIVE]])?;
     let clip = shapes_of::<I>(alloc, &[&[APART], &[UPPER]])?;
-    assert_in_range(rt, &BorrowedShapes { shapes: &subj });
-    assert_in_range(rt, &BorrowedShapes { shapes: &clip });
-    let mut overlay = Overlay::with_shapes(alloc, &subj, &clip)?;
+    let (subj, clip) = (
+        BorrowedShapes { shapes: &subj },
+        BorrowedShapes { shapes: &clip },
+    );
+    assert_in_range(rt, &subj);
+    assert_in_range(rt, &clip);
+    let mut overlay = Overlay::with_shapes(alloc, subj.shapes, clip.shapes)?;
     check(rt, alloc, &mut overlay, OverlayRule::Intersect, CORNER)?;
     let options = IntOverlayOptions::keep_all_points();
     let solver = Solver::ABSOLUTE;
-    let mut overlay = Overlay::with_shapes_options(alloc, &subj, &clip, options, solver)?;
+    let mut overlay = Overlay::with_shapes_options(
+        alloc,
+        subj.shapes,
+        clip.shapes,
+        options,
+        solver,
+    )?;
     let rule = OverlayRule::Difference;
     check(rt, alloc, &mut overlay, rule, REST_BY_SEVEN)
 }
@@ -147,9 +157,10 @@ fn check_adder_of_shapes<I: OverlayInt + PartialEq + From<i16>>(
     alloc: Global,
 ) -> Result<(), OverlayError> {
     let subj = shapes_of::<I>(alloc, &[&[LOWER], &[APART]])?;
-    assert_in_range(rt, &BorrowedShapes { shapes: &subj });
+    let subj = BorrowedShapes { shapes: &subj };
+    assert_in_range(rt, &subj);
     let mut overlay = Overlay::new(alloc, 0)?;
-    overlay.add_shapes(&subj, ShapeType::Subject)?;
+    overlay.add_shapes(subj.shapes, ShapeType::Subject)?;
     let rule = OverlayRule::Subject;
     check(rt, alloc, &mut overlay, rule, LOWER_AND_APART)
 }
