@@ -4,6 +4,7 @@ use overlay_geom::number::IntNumber;
 use overlay_geom::path::{IntContour, IntShape, IntShapes, PathRef};
 use overlay_geom::point::IntPoint;
 use overlay_geom::resource::IntShapeResource;
+use overlay_geom::resource::borrowed::{BorrowedContours, BorrowedShapes};
 use std::alloc::Global;
 use std::test::Fail;
 
@@ -82,6 +83,26 @@ fn has_contours_of_all<I: IntNumber + PartialEq>(
     )
 }
 
+// Whether borrowed contours are each a path, and borrowed shapes have the contours of each as paths.
+fn lends_paths<I: IntNumber + PartialEq>(
+    alloc: Global,
+    outline: &[IntPoint<I>],
+    hole: &[IntPoint<I>],
+) -> Result<bool, Fail> {
+    let shape = shape_of(alloc, outline, hole)?;
+    let contours = BorrowedContours { contours: &shape };
+    let shapes = [shape_of(alloc, hole, outline)?, Vec::new(alloc)];
+    let shapes = BorrowedShapes { shapes: &shapes };
+    Ok(
+        contours.path_count() == 2
+            && has_path(&contours, 0, outline)
+            && has_path(&contours, 1, hole)
+            && shapes.path_count() == 2
+            && has_path(&shapes, 0, hole)
+            && has_path(&shapes, 1, outline),
+    )
+}
+
 // The triangle with its right angle at (low, low) and legs up to the other coordinate.
 fn triangle<I: Copy>(low: I, high: I) -> [IntPoint<I>; 3] {
     [
@@ -97,6 +118,7 @@ fn paths_at_i16(rt: HostRuntime) -> Result<(), Fail> {
     assert!(rt; is_one_path(rt.alloc(), &outline)?);
     assert!(rt; has_outline_and_hole(rt.alloc(), &outline, &hole)?);
     assert!(rt; has_contours_of_all(rt.alloc(), &outline, &hole)?);
+    assert!(rt; lends_paths(rt.alloc(), &outline, &hole)?);
     Ok(())
 }
 
@@ -106,6 +128,7 @@ fn paths_at_i32(rt: HostRuntime) -> Result<(), Fail> {
     assert!(rt; is_one_path(rt.alloc(), &outline)?);
     assert!(rt; has_outline_and_hole(rt.alloc(), &outline, &hole)?);
     assert!(rt; has_contours_of_all(rt.alloc(), &outline, &hole)?);
+    assert!(rt; lends_paths(rt.alloc(), &outline, &hole)?);
     Ok(())
 }
 
@@ -115,6 +138,7 @@ fn paths_at_i64(rt: HostRuntime) -> Result<(), Fail> {
     assert!(rt; is_one_path(rt.alloc(), &outline)?);
     assert!(rt; has_outline_and_hole(rt.alloc(), &outline, &hole)?);
     assert!(rt; has_contours_of_all(rt.alloc(), &outline, &hole)?);
+    assert!(rt; lends_paths(rt.alloc(), &outline, &hole)?);
     Ok(())
 }
 

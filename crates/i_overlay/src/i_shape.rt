@@ -1,5 +1,14 @@
 //! Paths, shapes and what has paths, under the paths of the crate that they come from in Rust.
 
+/// Contours and shapes whose points stand in one list.
+pub mod flat {
+    /// The lists.
+    pub mod buffer {
+        pub use overlay_geom::flat::contours::FlatContoursBuffer;
+        pub use overlay_geom::flat::shapes::FlatShapesBuffer;
+    }
+}
+
 /// Whole numbers.
 pub mod int {
     /// Paths.

@@ -27,6 +27,7 @@ use std::marker::Model;
 
 mod adders;
 mod constructors;
+mod deprecated;
 
 pub use overlay_arrange::options::{ContourDirection, IntOverlayOptions, ShapeType};
 

@@ -6,6 +6,8 @@ ghost use Rattle.overlay_geom.specs.Paths.{paths_of_shape, paths_of_shapes, coun
 ghost use Rattle.overlay_geom.specs.Plane.{Point};
 ghost use Rattle.overlay_geom.specs.Points.{plain_points};
 
+pub mod borrowed;
+
 use crate::number::IntNumber;
 use crate::path::{IntContour, IntShape, IntShapes, PathRef};
 use crate::point::IntPoint;

@@ -9,7 +9,6 @@ use std::alloc::Allocator;
 use std::marker::Model;
 
 mod adders;
-mod borrowed;
 mod constructors;
 mod lists;
 

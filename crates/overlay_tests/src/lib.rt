@@ -8,6 +8,8 @@ mod builders;
 #[cfg(test)]
 mod contours;
 #[cfg(test)]
+mod deprecated;
+#[cfg(test)]
 mod edges;
 #[cfg(test)]
 mod failed;

@@ -7,6 +7,7 @@ use i_overlay::i_float::int::number::int::IntNumber;
 use i_overlay::i_float::int::number::uint::UIntNumber;
 use i_overlay::i_float::int::point::IntPoint;
 use i_overlay::i_float::int::vector::IntVector;
+use i_overlay::i_shape::flat::buffer::{FlatContoursBuffer, FlatShapesBuffer};
 use i_overlay::integer::{OverlayInt, in_range};
 use i_overlay::overlay::{ContourDirection, IntOverlayOptions, ShapeType};
 use i_overlay::overlay_rule::OverlayRule;
@@ -18,6 +19,7 @@ use i_overlay::vector::edge::{
     CLIP_LEFT, CLIP_RIGHT, DataVectorEdge, SUBJ_LEFT, SUBJ_RIGHT, SideFill,
 };
 use std::alloc::Global;
+use std::test::Fail;
 
 // The bits of the sides: above a step from left to right is its left side.
 #[test]
@@ -117,4 +119,13 @@ fn points_in_contours(rt: HostRuntime) {
     let contour: Vec<IntPoint<i32>, Global> = Vec::new(rt.alloc());
     assert!(&rt; may_hold_points(&contour));
     assert!(&rt; PointLocation::Inside != PointLocation::Boundary);
+}
+
+#[test]
+fn flat_buffers(rt: HostRuntime) -> Result<(), Fail> {
+    let contours: FlatContoursBuffer<i32, Global> = FlatContoursBuffer::default(rt.alloc())?;
+    assert!(&rt; !contours.is_single_contour());
+    let shapes: FlatShapesBuffer<i32, Global> = FlatShapesBuffer::default(rt.alloc())?;
+    assert_eq!(&rt; shapes.to_shapes()?.len(), 0);
+    Ok(())
 }

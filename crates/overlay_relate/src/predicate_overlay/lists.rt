@@ -6,11 +6,11 @@ ghost use Rattle.overlay_geom.specs.Points.{AllInRange};
 ghost use Rattle.overlay_builder.specs.GivenPaths.{paths_for};
 ghost use Rattle.overlay_relate.specs.PredicateBuilder.{AddsAsAsked};
 
-use crate::predicate_overlay::borrowed::BorrowedContours;
 use crate::predicate_overlay::{PredicateOverlay, ShapeType};
 use overlay_geom::error::OverlayError;
 use overlay_geom::integer::OverlayInt;
 use overlay_geom::path::{IntContour, IntShape};
+use overlay_geom::resource::borrowed::BorrowedContours;
 use std::alloc::Allocator;
 
 impl<I: OverlayInt, A: Allocator + Clone> PredicateOverlay<I, A> {

@@ -1,0 +1,5 @@
+-- The paths added are those of the resource.
+use Rattle.i_overlay.proofs.overlay.Overlay.add_shapes.Goals as goal
+
+pub returns : goal.returns
+returns g c = c.add_source.ensures

@@ -1,0 +1,52 @@
+//! Contours and shapes that are borrowed from a list, as resources.
+
+ghost use Rattle.overlay_geom.specs.Paths.{paths_of_shape, paths_of_shapes, counted_paths};
+
+use crate::number::IntNumber;
+use crate::path::{IntContour, IntShape};
+use crate::point::IntPoint;
+use crate::resource::{IntShapeResource, contour_at, count_contours};
+use std::alloc::Allocator;
+
+/// Contours that are borrowed: each is a path.
+#[derive(Drop)]
+pub struct BorrowedContours<'a, I: IntNumber, B: Allocator> {
+    /// The contours, in order.
+    pub contours: &'a [IntContour<I, B>],
+}
+
+impl<'a, I: IntNumber, B: Allocator> IntShapeResource<I> for BorrowedContours<'a, I, B> {
+    ghost paths = { λ b. paths_of_shape I.whole b.contours.now };
+
+    /// Returns how many contours there are.
+    fn path_count(&self) -> usize {
+        self.contours.len()
+    }
+
+    /// Returns the points of the contour with this number.
+    fn path(&self, index: usize) -> &[IntPoint<I>] {
+        &self.contours[index]
+    }
+}
+
+/// Shapes that are borrowed: each contour of each shape is a path.
+#[derive(Drop)]
+pub struct BorrowedShapes<'a, I: IntNumber, B: Allocator> {
+    /// The shapes, in order.
+    pub shapes: &'a [IntShape<I, B>],
+}
+
+impl<'a, I: IntNumber, B: Allocator> IntShapeResource<I> for BorrowedShapes<'a, I, B> {
+    ghost paths = { λ b. counted_paths (paths_of_shapes I.whole b.shapes.now) };
+
+    /// Returns how many contours the shapes have together, at most `usize::MAX`.
+    fn path_count(&self) -> usize {
+        count_contours(self.shapes)
+    }
+
+    /// Returns the points of the contour with this number, where contours are counted through all
+    /// shapes, in order.
+    fn path(&self, index: usize) -> &[IntPoint<I>] {
+        contour_at(self.shapes, index)
+    }
+}
