@@ -57,7 +57,7 @@ returns-clause-result g c =
     let found : AreShapesFound on_left (contours_from on_left 0 walks) shapes =
     subst (λ ws. AreShapesFound on_left (contours_from on_left 0 (plain_walks whole ws)) shapes) c.deref.ensures.value c.in_ok-shapes.ensures.found in
     IfOk-weaker c.assembled.result _ _
-    (λ v shown. result_shown (asked g.I.Wide.WideIntNumber.limit g.I.WideUInt.UIntNumber.natural c.args.graph.now.fill_rule c.args.overlay_rule c.args.options)
+    (λ v shown. result_shown (asked g.I.Wide.WideIntNumber.width g.I.WideUInt.UIntNumber.natural c.args.graph.now.fill_rule c.args.overlay_rule c.args.options)
     (graph_edges c.args.graph.now) c.requires.no_ogc c.requires.all_areas walks c.in_ok-walks.ensures.cut shapes found
     (plain_shapes whole v.items) shown)
     (subst (λ ns. IfOk c.assembled.result (λ v. AreKeptOrThinned keep (points_of_shapes (shapes_of on_left (bound_to walks ns))) (plain_shapes whole v.items))) c.deref-3.ensures.value
