@@ -47,7 +47,7 @@ counts_pass_once t pass is s = ap (λ p. boolean_counts (count_of_step p s)) is
 -- and of counts without data
 pub dataless_pass_once : (t : ShapeType) (pass : StepCounts (CountWithData (Unit {0}))) → pass ≡ passing_without_data t →
     PassesOnce (λ k. boolean_counts k.count) t pass
-dataless_pass_once t pass is s = ap (λ p. boolean_counts (count_of_step p s).count) is ∙ ap boolean_counts (by (is_forward s))
+dataless_pass_once t pass is s = ap (λ (p : StepCounts (CountWithData (Unit {0}))). boolean_counts (count_of_step p s).count) is ∙ ap boolean_counts (by (is_forward s))
   where
     by : (forward : Bool) → (cond forward (passing_without_data t).along (passing_without_data t).back).count
         ≡ cond forward (count_for t (pos 1)) (count_for t (negsuc 0))
