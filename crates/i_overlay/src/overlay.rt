@@ -199,7 +199,7 @@ impl<I: OverlayInt, A: Allocator + Clone> Overlay<I, A> {
     ) -> Result<Option<OverlayGraph<'_, I, (), A>>, OverlayError>
         ensures arranged { IfOk result (λ v. IsArranged 64 self.old.edges (edges_viewed v)) }
         ensures view { IfOk result (λ v. IfSome v (IsView fill_rule self.old.options)) }
-        ensures* after { sem 𝓛 (Rests (the_row I.row A.row A.Allocator) self.entry (λ new.
+        ensures* after { sem 𝓛 (Rests (the_row I.row A.row I.Wide.row I.WideUInt.row I.IntNumber I.Wide.WideIntNumber I.WideUInt.UIntNumber A.Allocator) self.entry (λ new.
             EndsViewed I.limit self.old new result)) }
     {
         self.core.arrange(&mut ())?;
@@ -211,10 +211,11 @@ impl<I: OverlayInt, A: Allocator + Clone> Overlay<I, A> {
             }
         };
         self.graph = Some(graph);
-        match &self.graph {
+        let lent = &*self;
+        match &lent.graph {
             Some(graph) if !graph.edges().is_empty() => Ok(Some(OverlayGraph {
                 graph,
-                options: &self.options,
+                options: &lent.options,
             })),
             _ => Ok(None),
         }

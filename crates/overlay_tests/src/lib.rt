@@ -12,6 +12,8 @@ mod edges;
 #[cfg(test)]
 mod failed;
 #[cfg(test)]
+mod minimum;
+#[cfg(test)]
 mod names;
 #[cfg(test)]
 mod one_call;
@@ -34,3 +36,5 @@ mod shapes;
 mod sources;
 #[cfg(test)]
 mod squares;
+#[cfg(test)]
+mod views;

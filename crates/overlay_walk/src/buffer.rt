@@ -34,14 +34,14 @@ impl<I: IntNumber, A: Allocator> BooleanExtractionBuffer<I, A> {
     }
 
     /// Takes the room, as a list without steps; the buffer is left with none.
-    pub(crate) fn take_room(&mut self, alloc: A) -> Vec<Step<I>, A>
+    pub fn take_room(&mut self, alloc: A) -> Vec<Step<I>, A>
         ensures { result.items ≡ [] }
     {
         mem::replace(&mut self.room, Vec::new(alloc))
     }
 
     /// Puts the room of a list in the place of the buffer's, and drops its steps.
-    pub(crate) fn put_room(&mut self, mut room: Vec<Step<I>, A>) {
+    pub fn put_room(&mut self, mut room: Vec<Step<I>, A>) {
         room.clear();
         self.room = room;
     }
