@@ -2,6 +2,7 @@
 use Rattle.std.proofs.Common.{◌≡◌, ◌⊎◌, inl, inr, ℕ, Bool, false, List, sym, ap, ap₂, ◌∙◌}
 use Rattle.std.proofs.lemmas.Bool.{false≢true}
 use Rattle.std.specs.Prelude.{Result, Ok, Err, IfOk, IfErr, OnOk}
+use Rattle.std.specs.Int.{Width}
 use Rattle.overlay_geom.specs.declared.error.OverlayError.{OverlayError}
 use Rattle.overlay_geom.specs.declared.error.OverlayError.TheVariants.{Memory, NotSettled, TooManyEdges, Failed}
 use Rattle.overlay_geom.specs.Edges.{CountedEdge}
@@ -19,14 +20,14 @@ use Rattle.i_overlay.specs.Overlay.{Asked, asked, IsResult}
 use Rattle.overlay_builder.specs.GivenPaths.{GivenPath, HoldsPaths}
 
 -- what the default options ask for
-pub asked_of_default : {U : Type 0} (wide_limit : ℕ) (natural : U → ℕ) (fill : FillRule) (rule : OverlayRule) (o : IntOverlayOptions U)
-    → AreOptions natural false false false o → asked wide_limit natural fill rule o ≡ asked_by_default wide_limit fill rule
-asked_of_default wide_limit natural fill rule o are =
+pub asked_of_default : {U : Type 0} (area_width : Width) (natural : U → ℕ) (fill : FillRule) (rule : OverlayRule) (o : IntOverlayOptions U)
+    → AreOptions natural false false false o → asked area_width natural fill rule o ≡ asked_by_default area_width fill rule
+asked_of_default area_width natural fill rule o are =
     ap₂ (λ d k. by d k o.ogc (natural o.min_output_area)) are.direction are.output_kept
     ∙ ap₂ (λ t n. by CounterClockwise false t n) are.for_ogc are.area
   where
     by : ContourDirection → Bool → Bool → ℕ → Asked
-    by d k t n = record { fill = fill; rule = rule; output_direction = d; preserve_output_collinear = k; ogc = t; min_output_area = n; wide_limit = wide_limit }
+    by d k t n = record { fill = fill; rule = rule; output_direction = d; preserve_output_collinear = k; ogc = t; min_output_area = n; area_width = area_width }
 
 -- the result of a query on a content that the paths give is one of the paths
 pub result_of_paths : {V E : Type 0} (r : Result V E) (shapes : V → List (List (List Point))) (q : Asked) (paths : List GivenPath)

@@ -28,3 +28,15 @@ abbrev pub DirectionTurnsWindings : Type 0
 DirectionTurnsWindings = (q : Asked) (es : List CountedEdge) (left right : List (List (List Point))) →
     q.min_output_area ≡ 0 → IsResult (turned_to CounterClockwise q) es left → IsResult (turned_to Clockwise q) es right →
     (p : PlanePoint) → IsOff (map ends_of es) p → winding (steps_of_shapes right) p ≡ neg_ℤ (winding (steps_of_shapes left) p)
+
+-- the same region is asked for, with the same output direction
+pub record AskAlike (q r : Asked) : Type 0 where
+  pub fill : q.fill ≡ r.fill
+  pub rule : q.rule ≡ r.rule
+  pub direction : q.output_direction ≡ r.output_direction
+
+-- where results of one arrangement are asked for alike, each with minimum area zero, they wind alike round each point off the edges
+abbrev pub SameRegionSameWindings : Type 0
+SameRegionSameWindings = (q r : Asked) (es : List CountedEdge) (left right : List (List (List Point))) → AskAlike q r →
+    q.min_output_area ≡ 0 → r.min_output_area ≡ 0 → IsResult q es left → IsResult r es right →
+    (p : PlanePoint) → IsOff (map ends_of es) p → winding (steps_of_shapes right) p ≡ winding (steps_of_shapes left) p

@@ -4,3 +4,4 @@ pub mod Builder
 pub mod Laws
 pub mod OneShot
 pub mod Overlay
+pub mod Views

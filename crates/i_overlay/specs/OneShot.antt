@@ -1,5 +1,6 @@
 -- What an overlay of two resources answers that leaves no builder.
-use Rattle.std.specs.Prelude.{◌⊎◌, ℕ, false, List}
+use Rattle.std.specs.Prelude.{◌⊎◌, false, List}
+use Rattle.std.specs.Int.{Width}
 use Rattle.overlay_geom.specs.Plane.{Point}
 use Rattle.overlay_geom.specs.Edges.{CountedEdge}
 use Rattle.overlay_geom.specs.declared.error.OverlayError.{OverlayError}
@@ -12,15 +13,15 @@ use Rattle.overlay_builder.specs.GivenPaths.{SomePathWeighsTooMuch, GivenPath, H
 use Rattle.i_overlay.specs.Overlay.{Asked, IsResult}
 
 -- what rules ask for with the default options
-abbrev pub asked_by_default : ℕ → FillRule → OverlayRule → Asked
-asked_by_default wide_limit fill rule = record {
+abbrev pub asked_by_default : Width → FillRule → OverlayRule → Asked
+asked_by_default area_width fill rule = record {
   fill = fill;
   rule = rule;
   output_direction = CounterClockwise;
   preserve_output_collinear = false;
   ogc = false;
   min_output_area = 0;
-  wide_limit = wide_limit;
+  area_width = area_width;
 }
 
 -- the result over some arrangement of the edges that the paths give

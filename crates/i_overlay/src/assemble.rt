@@ -6,10 +6,10 @@ ghost use Rattle.overlay_geom.specs.Paths.{plain_shapes};
 ghost use Rattle.overlay_geom.specs.Plane.{points_of};
 ghost use Rattle.overlay_geom.specs.Points.{plain_points};
 ghost use Rattle.overlay_geom.specs.Thinned.{IsKeptOrThinned};
-ghost use Rattle.overlay_plane.specs.Binding.{is_hole, outlines, shapes_begun, shapes_of, AreBound};
+ghost use Rattle.overlay_plane.specs.Binding.{is_hole, outlines, shapes_begun, shapes_of};
 ghost use Rattle.overlay_plane.specs.ShapeWindings.{points_of_shapes, AreKeptOrThinned};
 ghost use Rattle.overlay_walk.specs.Steps.{is_on_left, plain_steps, IsLong};
-ghost use Rattle.overlay_walk.specs.Walks.{plain_walks, bound_to};
+ghost use Rattle.overlay_walk.specs.Walks.{plain_walks, bound_to, AreNumbered};
 ghost use Rattle.i_overlay.specs.Assembly.{AddsBound};
 
 use overlay_arrange::options::ContourDirection;
@@ -32,7 +32,7 @@ pub(crate) fn assembled<I: IntNumber, A: Allocator + Clone>(
     keeps_points: bool,
 ) -> Result<IntShapes<I, A>, OverlayError>
     requires long { All (All (IsLong I.limit)) (plain_walks I.whole walks.now) }
-    requires bound { AreBound (is_on_left direction) (plain_walks I.whole walks.now)
+    requires numbered { AreNumbered (is_on_left direction) (plain_walks I.whole walks.now)
         (bound_to (plain_walks I.whole walks.now) numbers.now) }
     ensures shapes { IfOk result (λ v. AreKeptOrThinned keeps_points
         (points_of_shapes (shapes_of (is_on_left direction) (bound_to (plain_walks I.whole walks.now) numbers.now)))
@@ -138,9 +138,9 @@ fn push_contour<I: IntNumber, A: Allocator>(
     Ok(())
 }
 
-// The points at which the steps of the walk begin, without those on one line with their two
-// neighbours unless they are to be kept.
-fn contour<I: IntNumber, A: Allocator + Clone>(
+/// The points at which the steps of the walk begin, without those on one line with their two
+/// neighbours unless they are to be kept. The only refusal is `Memory`.
+pub(crate) fn contour<I: IntNumber, A: Allocator + Clone>(
     alloc: A,
     walk: &[Step<I>],
     keeps_points: bool,

@@ -1,6 +1,6 @@
 //! Laws of what overlays answer.
 
-ghost use Rattle.i_overlay.specs.Laws.{DirectionTurnsWindings, SelectedStepsWindRoundRegion};
+ghost use Rattle.i_overlay.specs.Laws.{DirectionTurnsWindings, SameRegionSameWindings, SelectedStepsWindRoundRegion};
 
 /// Of an arrangement of edges with balanced counts, the selected steps wind once, in the output
 /// direction, round each point where the rules hold of the windings there, and zero times round each
@@ -13,4 +13,11 @@ pub fn selected_steps_wind_round_region()
 /// each point off its edges, with minimum area zero.
 pub fn direction_turns_windings()
     ensures { DirectionTurnsWindings }
+{}
+
+/// Of one arrangement, the shapes that a view gives and those of `Overlay::overlay` wind alike round
+/// each point off its edges, where they are asked for with the same rules and output direction and with
+/// minimum area zero; whatever the other options are.
+pub fn same_region_same_windings()
+    ensures { SameRegionSameWindings }
 {}

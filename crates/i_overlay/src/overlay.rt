@@ -1,24 +1,34 @@
 //! The overlay builder: contours are added, and queries are answered.
 
-ghost use Rattle.std.specs.Prelude.{◌≡◌, false, [], map, Some, IfOk, OnOk, IsOkUnless, IsErrOf};
+ghost use Rattle.std.specs.Prelude.{◌≡◌, false, [], map, Some, IfOk, IfSome, OnOk, OnErr, IsOkUnless, IsErrOf};
+ghost use Rattle.std.specs.Borrow.{sem};
+ghost use Rattle.std.specs.Io.BufRead.{Rests};
+ghost use Rattle.overlay_arrange.specs.Arranged.{IsArranged};
 ghost use Rattle.overlay_arrange.specs.Content.{IsAscending};
 ghost use Rattle.overlay_arrange.specs.Vectors.{plain_vector, vector_of};
+ghost use Rattle.overlay_geom.specs.Flat.{paths_in};
 ghost use Rattle.overlay_geom.specs.Merged.{HaveSameWindings};
+ghost use Rattle.overlay_geom.specs.Packed.{IsPacked};
 ghost use Rattle.overlay_geom.specs.Paths.{plain_shapes};
 ghost use Rattle.overlay_geom.specs.Settled.{IsSettled};
 ghost use Rattle.overlay_plane.specs.Meetings.{MeetInWholePoints};
 ghost use Rattle.overlay_builder.specs.Held.{AnswersQuery};
 ghost use Rattle.i_overlay.specs.Builder.{held_by};
-ghost use Rattle.i_overlay.specs.Overlay.{asked, IsResult};
+ghost use Rattle.i_overlay.specs.Overlay.{asked, IsResult, IsContoursResult};
+ghost use Rattle.i_overlay.specs.Views.{edges_viewed, IsView, EndsViewed};
+ghost use Rattle.i_overlay.specs.contracts.overlay.Overlay.{the_row};
 
-use crate::extract::extract_shapes;
+use crate::extract::{emptied, extract_contours, extract_shapes};
+use crate::graph::OverlayGraph;
 use crate::solver::Solver;
-use overlay_arrange::count::ShapeCountBoolean;
+use overlay_arrange::data::CountWithData;
 use overlay_arrange::fill_rule::FillRule;
+use overlay_arrange::graph::Graph;
 use overlay_arrange::overlay_rule::OverlayRule;
 use overlay_arrange::vector::DataVectorEdge;
 use overlay_builder::builder_core::BuilderCore;
 use overlay_geom::error::OverlayError;
+use overlay_geom::flat::contours::FlatContoursBuffer;
 use overlay_geom::integer::OverlayInt;
 use overlay_geom::path::IntShapes;
 use overlay_walk::buffer::BooleanExtractionBuffer;
@@ -45,7 +55,9 @@ pub struct Overlay<I: OverlayInt, A: Allocator> {
     /// gone: `None`, which is as good as an empty one.
     pub boolean_buffer: Option<BooleanExtractionBuffer<I, A>>,
     // the edges, and whether a query was refused since the builder was last cleared
-    core: BuilderCore<I, ShapeCountBoolean, A>,
+    core: BuilderCore<I, CountWithData<()>, A>,
+    // the graph of the last view, which it lends from; nothing else reads it
+    graph: Option<Graph<I, CountWithData<()>, A>>,
 }
 
 impl<I: OverlayInt, A: Allocator> Model for Overlay<I, A> {
@@ -103,9 +115,11 @@ impl<I: OverlayInt, A: Allocator + Clone> Overlay<I, A> {
     ///
     /// Outlines run in the direction `options.output_direction`, and holes against it. A hole that
     /// touches its outline is a part of the outline. Unless `options.preserve_output_collinear`,
-    /// points on one line with their two neighbours are dropped. Where no edge is left there is no
-    /// shape. `options.ogc` is not set, and `options.min_output_area` is 0. After an answer there is
-    /// a buffer, `boolean_buffer`.
+    /// points on one line with their two neighbours are dropped. Contours whose area, wrapped to the
+    /// wide type and halved downwards, is below `options.min_output_area` are left out, and so are
+    /// holes that lie in none of several shapes that are left; the area is that of the contour
+    /// before points are dropped. Where no edge is left there is no shape. `options.ogc` is not set.
+    /// After an answer there is a buffer, `boolean_buffer`.
     ///
     /// Refusals are those of `build_separate_vectors`.
     pub fn overlay(
@@ -114,10 +128,9 @@ impl<I: OverlayInt, A: Allocator + Clone> Overlay<I, A> {
         fill_rule: FillRule,
     ) -> Result<IntShapes<I, A>, OverlayError>
         requires no_ogc { self.old.options.ogc ≡ false }
-        requires all_areas { I.WideUInt.natural self.old.options.min_output_area ≡ 0 }
         ensures query { AnswersQuery I.limit 64 (held_by self.old) (held_by self.new) result }
         ensures result { IfOk result (λ v. IsResult
-            (asked I.Wide.limit I.WideUInt.natural fill_rule overlay_rule self.old.options)
+            (asked I.Wide.width I.WideUInt.natural fill_rule overlay_rule self.old.options)
             self.new.edges (plain_shapes I.whole v.items)) }
         ensures empty { self.new.edges ≡ [] → IfOk result (λ v. v.items ≡ []) }
         ensures exact { MeetInWholePoints self.old.edges
@@ -134,6 +147,79 @@ impl<I: OverlayInt, A: Allocator + Clone> Overlay<I, A> {
         let shapes = self.extract(overlay_rule, fill_rule);
         self.core.set_failed(shapes.is_err());
         shapes
+    }
+
+    /// Splits the edges where they meet, as `build_separate_vectors` does, and writes the contours round
+    /// the region of the plane where the rules hold into the output, one behind the other, in the order
+    /// in which they are found. What the output held is dropped.
+    ///
+    /// Contours are as those of `overlay`, but in one list: outlines and holes are not bound to shapes,
+    /// so that none is left out but those below `options.min_output_area`. `options.ogc` is not read.
+    /// After an answer there is a buffer, `boolean_buffer`.
+    ///
+    /// Refusals are those of `build_separate_vectors`; after any of them the output is empty.
+    pub fn overlay_into<B: Allocator>(
+        &mut self,
+        overlay_rule: OverlayRule,
+        fill_rule: FillRule,
+        output: &mut FlatContoursBuffer<I, B>,
+    ) -> Result<(), OverlayError>
+        ensures query { AnswersQuery I.limit 64 (held_by self.old) (held_by self.new) result }
+        ensures result { OnOk result (IsContoursResult
+            (asked I.Wide.width I.WideUInt.natural fill_rule overlay_rule self.old.options)
+            self.new.edges (paths_in I.whole output.new.points.items output.new.ranges.items)) }
+        ensures packed { OnOk result (IsPacked output.new.points.items output.new.ranges.items) }
+        ensures no_points { OnErr result (output.new.points.items ≡ []) }
+        ensures no_ranges { OnErr result (output.new.ranges.items ≡ []) }
+        ensures exact { MeetInWholePoints self.old.edges
+            → OnOk result (HaveSameWindings self.old.edges self.new.edges) }
+        ensures kept { self.new ≡ record self.old {
+          edges = self.new.edges;
+          boolean_buffer = self.new.boolean_buffer;
+          failed = self.new.failed;
+        } }
+        ensures untouched { IsErrOf result OverlayError.Failed → self.new ≡ self.old }
+        ensures buffer { OnOk result (self.new.boolean_buffer ≡ Some tt) }
+    {
+        emptied(output);
+        self.core.arrange(&mut ())?;
+        let written = self.extract_into(overlay_rule, fill_rule, output);
+        self.core.set_failed(written.is_err());
+        written
+    }
+
+    /// Splits the edges where they meet, as `build_separate_vectors` does, and gives a view of this
+    /// arrangement, with its sides filled under the rule, that can be asked for shapes any number of
+    /// times: `None` exactly where the arrangement has no edge. The builder is lent to the view, with
+    /// its options as they are now.
+    ///
+    /// Refusals are those of `build_separate_vectors`.
+    pub fn build_graph_view(
+        &mut self,
+        fill_rule: FillRule,
+    ) -> Result<Option<OverlayGraph<'_, I, (), A>>, OverlayError>
+        ensures arranged { IfOk result (λ v. IsArranged 64 self.old.edges (edges_viewed v)) }
+        ensures view { IfOk result (λ v. IfSome v (IsView fill_rule self.old.options)) }
+        ensures* after { sem 𝓛 (Rests (the_row I.row A.row I.Wide.row I.WideUInt.row I.IntNumber I.Wide.WideIntNumber I.WideUInt.UIntNumber A.Allocator) self.entry (λ new.
+            EndsViewed I.limit self.old new result)) }
+    {
+        self.core.arrange(&mut ())?;
+        let graph = match self.core.content().graph(fill_rule) {
+            Ok(graph) => graph,
+            Err(refused) => {
+                self.core.set_failed(true);
+                return Err(refused);
+            }
+        };
+        self.graph = Some(graph);
+        let lent = &*self;
+        match &lent.graph {
+            Some(graph) if !graph.edges().is_empty() => Ok(Some(OverlayGraph {
+                graph,
+                options: &lent.options,
+            })),
+            _ => Ok(None),
+        }
     }
 
     // The arranged edges with their filled sides.
@@ -158,15 +244,53 @@ impl<I: OverlayInt, A: Allocator + Clone> Overlay<I, A> {
         requires ascending { IsAscending self.old.edges }
         requires settled { IsSettled self.old.edges }
         requires no_ogc { self.old.options.ogc ≡ false }
-        requires all_areas { I.WideUInt.natural self.old.options.min_output_area ≡ 0 }
         ensures result { IfOk result (λ v. IsResult
-            (asked I.Wide.limit I.WideUInt.natural fill_rule overlay_rule self.old.options)
+            (asked I.Wide.width I.WideUInt.natural fill_rule overlay_rule self.old.options)
             self.old.edges (plain_shapes I.whole v.items)) }
         ensures kept { self.new ≡ record self.old { boolean_buffer = self.new.boolean_buffer } }
         ensures buffer { OnOk result (self.new.boolean_buffer ≡ Some tt) }
         ensures err { IsOkUnless result OverlayError.Memory }
     {
         let graph = self.core.content().graph(fill_rule)?;
-        extract_shapes(&graph, overlay_rule, self.options, &mut self.boolean_buffer)
+        let mut buffer = match self.boolean_buffer.take() {
+            Some(buffer) => buffer,
+            None => BooleanExtractionBuffer::default(graph.allocator().clone()?),
+        };
+        let shapes = extract_shapes(&graph, overlay_rule, self.options, &mut buffer);
+        self.boolean_buffer = Some(buffer);
+        shapes
+    }
+
+    // The contours round the region of the arranged edges, written into the output. The buffer is there
+    // afterwards.
+    fn extract_into<B: Allocator>(
+        &mut self,
+        overlay_rule: OverlayRule,
+        fill_rule: FillRule,
+        output: &mut FlatContoursBuffer<I, B>,
+    ) -> Result<(), OverlayError>
+        requires usable { self.old.failed ≡ false }
+        requires ascending { IsAscending self.old.edges }
+        requires settled { IsSettled self.old.edges }
+        requires no_points { output.old.points.items ≡ [] }
+        requires no_ranges { output.old.ranges.items ≡ [] }
+        ensures result { OnOk result (IsContoursResult
+            (asked I.Wide.width I.WideUInt.natural fill_rule overlay_rule self.old.options)
+            self.old.edges (paths_in I.whole output.new.points.items output.new.ranges.items)) }
+        ensures packed { OnOk result (IsPacked output.new.points.items output.new.ranges.items) }
+        ensures no_points { OnErr result (output.new.points.items ≡ []) }
+        ensures no_ranges { OnErr result (output.new.ranges.items ≡ []) }
+        ensures kept { self.new ≡ record self.old { boolean_buffer = self.new.boolean_buffer } }
+        ensures buffer { OnOk result (self.new.boolean_buffer ≡ Some tt) }
+        ensures err { IsOkUnless result OverlayError.Memory }
+    {
+        let graph = self.core.content().graph(fill_rule)?;
+        let mut buffer = match self.boolean_buffer.take() {
+            Some(buffer) => buffer,
+            None => BooleanExtractionBuffer::default(graph.allocator().clone()?),
+        };
+        let written = extract_contours(&graph, overlay_rule, self.options, &mut buffer, output);
+        self.boolean_buffer = Some(buffer);
+        written
     }
 }

@@ -32,7 +32,7 @@ pub trait SingleIntOverlay<I: OverlayInt>: IntShapeResource<I> {
         requires self_in_range { All (AllInRange I.limit) (Self.paths self.now) }
         requires other_in_range { All (AllInRange I.limit) (R1.paths other.now) }
         ensures result { IfOk result (λ v. IsResultOfPaths
-            (asked_by_default I.Wide.limit fill_rule overlay_rule)
+            (asked_by_default I.Wide.width fill_rule overlay_rule)
             (subject_and_clip (Self.paths self.now) (R1.paths other.now)) (plain_shapes I.whole v.items)) }
         ensures err { IfErr result (MayRefusePaths (subject_and_clip (Self.paths self.now) (R1.paths other.now))) };
 }

@@ -2,10 +2,11 @@
 
 ghost use Rattle.std.specs.Prelude.{◌≡◌};
 ghost use Rattle.overlay_arrange.specs.Content.{count_for};
-ghost use Rattle.overlay_builder.specs.Passing.{passing};
+ghost use Rattle.overlay_builder.specs.Passing.{passing, passing_without_data, without_data};
 
 use crate::path::StepCounts;
 use overlay_arrange::count::ShapeCountBoolean;
+use overlay_arrange::data::CountWithData;
 use overlay_arrange::options::ShapeType;
 
 /// What the shape adds to the counts of an edge that it passes `count` times.
@@ -32,5 +33,26 @@ pub fn passing(shape_type: ShapeType) -> StepCounts<ShapeCountBoolean>
     StepCounts {
         along: count_for(shape_type, 1),
         back: count_for(shape_type, -1),
+    }
+}
+
+/// The same for edges that carry data, of which these have none.
+pub fn passing_without_data(shape_type: ShapeType) -> StepCounts<CountWithData<()>>
+    ensures { result ≡ passing_without_data shape_type }
+{
+    let passing = passing(shape_type);
+    StepCounts {
+        along: without_data(passing.along),
+        back: without_data(passing.back),
+    }
+}
+
+/// The counts, and no data.
+fn without_data(count: ShapeCountBoolean) -> CountWithData<()>
+    ensures { result ≡ without_data count }
+{
+    CountWithData {
+        count,
+        edge_data: (),
     }
 }

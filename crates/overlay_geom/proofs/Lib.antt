@@ -21,6 +21,7 @@ pub mod Numbered
 pub mod OnWay
 pub mod OneLine
 pub mod Orders
+pub mod PackedPaths
 pub mod Places
 pub mod PointComparisons
 pub mod PointOrder

@@ -5,6 +5,7 @@ pub mod Lines
 pub mod Merged
 pub mod Numbered
 pub mod Numbers
+pub mod Packed
 pub mod Paths
 pub mod Placed
 pub mod Plane

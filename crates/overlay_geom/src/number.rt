@@ -1,7 +1,8 @@
 //! Numbers that coordinates are made of, and the wider ones that hold their products.
 
-ghost use Rattle.std.specs.Prelude.{◌≡◌, ◌↔◌, IsTrue, ℕ, ◌*◌};
+ghost use Rattle.std.specs.Prelude.{◌≡◌, ◌↔◌, IsTrue, ℕ, ◌*◌, ◌/◌, nat_abs, nat_le};
 ghost use Rattle.std.specs.Prelude.{ℤ, pos, neg_ℤ, ◌+ℤ◌, ◌-ℤ◌, ◌*ℤ◌, ◌<ℤ◌, ◌≤ℤ◌};
+ghost use Rattle.std.specs.Int.{Width, int_wrap};
 ghost use Rattle.std.specs.Ordering.{int_cmp};
 ghost use Rattle.overlay_geom.specs.Numbers.{Within};
 ghost use Rattle.overlay_geom.specs.Rounding.{nearest};
@@ -23,6 +24,10 @@ pub trait UIntNumber: Copy {
     /// Returns the number 0.
     fn zero() -> Self
         ensures { natural result ≡ 0 };
+
+    /// Returns whether the number is the other one or greater.
+    fn is_at_least(self, other: Self) -> bool
+        ensures { result ≡ nat_le (natural other) (natural self) };
 }
 
 /// A signed number twice as wide as a coordinate: `i32`, `i64` or `i128`.
@@ -33,6 +38,17 @@ pub trait WideIntNumber: Copy {
 
     // How far from 0 a number of the type may lie that can be negated, 2^(2B-1) - 1.
     ghost limit: { ℕ };
+
+    // How many bits the type has, 2B: sums are wrapped to them.
+    ghost width: { Width };
+
+    /// Returns the number 0.
+    fn zero() -> Self
+        ensures { whole result ≡ pos 0 };
+
+    /// Returns the sum, wrapped to the numbers of the type where it is none of them.
+    fn wrapping_add(self, other: Self) -> Self
+        ensures { whole result ≡ int_wrap width (whole self +ℤ whole other) };
 
     /// Returns how the number compares with another one.
     fn compare(self, other: Self) -> Ordering
@@ -94,6 +110,11 @@ pub trait IntNumber: Copy {
         requires by { Within (2 * limit) (whole by) }
         ensures value { Self.Wide.whole result ≡ whole ax *ℤ whole by -ℤ whole ay *ℤ whole bx }
         ensures fits { Within Self.Wide.limit (Self.Wide.whole result) };
+
+    /// Returns half of the number without its sign, rounded down: the area of a contour, in squared
+    /// units, from its double area.
+    fn halved_area(double_area: Self::Wide) -> Self::WideUInt
+        ensures { Self.WideUInt.natural result ≡ nat_abs (Self.Wide.whole double_area) / 2 };
 
     /// Returns the coordinate nearest the one that lies `t / d` of the way from this one to
     /// another, the greater of two equally near ones. Both coordinates are in range, and

@@ -5,6 +5,7 @@ pub mod AlongOrder
 pub mod AnchorOrder
 pub mod Anchors
 pub mod AnchorsLeadOn
+pub mod Areas
 pub mod AtNodes
 pub mod BalancedSteps
 pub mod BeforeTheSteps
@@ -53,6 +54,7 @@ pub mod InOrderLists
 pub mod ItemsRound
 pub mod JoinedLists
 pub mod KeepingBalance
+pub mod KeptWalks
 pub mod LaterEntries
 pub mod LeadingOn
 pub mod LeastSteps
@@ -100,12 +102,12 @@ pub mod RegionBelow
 pub mod ResultWindings
 pub mod RisesOver
 pub mod RisesRound
+pub mod RoledShapes
+pub mod RoledWalks
 pub mod RoundNodes
 pub mod RoundedAlong
 pub mod SameOrder
 pub mod SameWay
-pub mod RoledShapes
-pub mod RoledWalks
 pub mod SelectedAlternate
 pub mod SelectedLists
 pub mod SelectedWindings

@@ -2,12 +2,13 @@
 -- keeps them all.
 use Rattle.std.proofs.Common.{◌≡◌, ℕ, suc, Bool, true, false, cond, not, ◌&&◌, nat_abs, List, [], ◌∷◌, ◌++◌, map, length, refl, ap, ap₂, ◌∙◌, rules}
 use Rattle.std.specs.Prelude.{nat_le, ◌/◌, ◌≤◌}
+use Rattle.std.specs.Int.{Width, int_wrap}
 use Rattle.std.specs.List.{filter, flat_map, All}
 use Rattle.std.proofs.lemmas.List.Elements.{All-head, All-tail}
 use Rattle.overlay_geom.specs.Plane.{Step, points_of}
 use Rattle.overlay_plane.specs.Binding.{is_hole, outlines, BoundWalk, is_number, holes_of, shapes_begun, shapes_of}
 use Rattle.overlay_plane.specs.Contours.{IsContour}
-use Rattle.overlay_plane.specs.MinimumArea.{double_area, wrapped_to, reaches}
+use Rattle.overlay_plane.specs.MinimumArea.{double_area, reaches}
 use Rattle.overlay_plane.specs.RoledContours.{Contour, contours_from, is_outline, is_free_hole, hole_to_bind, outline_of}
 use Rattle.overlay_plane.specs.BoundContours.{BoundContour, walks_in, contours_bound, own_holes, found_holes, shape_begun_by, shapes_bound}
 
@@ -94,15 +95,15 @@ module _ (on_left : Bool) where
       (λ m. ap₂ (λ hs gs. hs ++ gs) (no_own_holes 0 m bound) (found_alike 0 m bound)) 0 bound
 
 -- a contour reaches the minimum area zero
-reaches_zero : (limit : ℕ) (walk : List Step) → IsContour walk → reaches limit 0 walk ≡ true
-reaches_zero limit walk c = three (length walk) c.three
+reaches_zero : (width : Width) (walk : List Step) → IsContour walk → reaches width 0 walk ≡ true
+reaches_zero width walk c = three (length walk) c.three
   where
-    three : (n : ℕ) → 3 ≤ n → (nat_le 3 n && nat_le 0 (nat_abs (wrapped_to limit (double_area (points_of walk))) / 2)) ≡ true
+    three : (n : ℕ) → 3 ≤ n → (nat_le 3 n && nat_le 0 (nat_abs (int_wrap width (double_area (points_of walk))) / 2)) ≡ true
     three n most = search rules
 
 -- so with it all contours are kept
-pub all_kept : (limit : ℕ) (walks : List (List Step)) → All IsContour walks → filter (reaches limit 0) walks ≡ walks
-all_kept limit [] contours = refl
-all_kept limit (w ∷ ws) contours =
-    ap (λ t. cond t (w ∷ filter (reaches limit 0) ws) (filter (reaches limit 0) ws)) (reaches_zero limit w (All-head IsContour w ws contours))
-    ∙ ap (λ vs. w ∷ vs) (all_kept limit ws (All-tail IsContour w ws contours))
+pub all_kept : (width : Width) (walks : List (List Step)) → All IsContour walks → filter (reaches width 0) walks ≡ walks
+all_kept width [] contours = refl
+all_kept width (w ∷ ws) contours =
+    ap (λ t. cond t (w ∷ filter (reaches width 0) ws) (filter (reaches width 0) ws)) (reaches_zero width w (All-head IsContour w ws contours))
+    ∙ ap (λ vs. w ∷ vs) (all_kept width ws (All-tail IsContour w ws contours))

@@ -29,6 +29,13 @@ filled_above_of_all on_left (w ∷ ws) =
     ∙ sym (map-append edge_of (filter (is_filled_above on_left) w) (filter (is_filled_above on_left) (all_steps ws)))
     ∙ ap (map edge_of) (sym (filter-append (is_filled_above on_left) w (all_steps ws)))
 
+-- no two of them are equal where no edge stands twice among the steps
+pub distinct_above : (on_left : Bool) (walks : List (List Step)) → HasEachEdgeOnce (all_steps walks) →
+    AllPairs (λ e f. edge_eq e f ≡ false) (all_filled_above on_left walks)
+distinct_above on_left walks once = subst (λ fs. AllPairs (λ e f. edge_eq e f ≡ false) fs) (sym (filled_above_of_all on_left walks))
+    (AllPairs-map (λ e f. edge_eq e f ≡ false) edge_of (filter (is_filled_above on_left) (all_steps walks))
+    (AllPairs-filter (λ s t. edge_eq (edge_of s) (edge_of t) ≡ false) (is_filled_above on_left) (all_steps walks) once))
+
 module _ (holds : ℤ → ℤ → Bool) (subj clip : CountedEdge → ℤ) (es : List CountedEdge) (on_left : Bool) (walks : List (List Step))
     (cut : AreCutFrom holds subj clip es on_left walks) where
   -- the selected steps
@@ -36,13 +43,13 @@ module _ (holds : ℤ → ℤ → Bool) (subj clip : CountedEdge → ℤ) (es : 
   selected = selected_steps holds subj clip on_left es
 
   -- the walks have them in another order
-  moved : IsPermutation selected (all_steps walks)
-  moved = cuts_take_each_once (outline_or_hole_hand on_left) selected (alternating (selected_alternate holds subj clip es cut.ruled on_left))
+  pub walks_have_each_step : IsPermutation selected (all_steps walks)
+  walks_have_each_step = cuts_take_each_once (outline_or_hole_hand on_left) selected (alternating (selected_alternate holds subj clip es cut.ruled on_left))
       (selected_steps_once holds subj clip es cut.ruled on_left) walks cut.cut
 
   -- a walk's step is selected
   pub from_selected : (s : Step) → Contains (all_steps walks) s → Contains selected s
-  from_selected s c = Contains-permutation (all_steps walks) selected s (IsPermutation-sym selected (all_steps walks) moved) c
+  from_selected s c = Contains-permutation (all_steps walks) selected s (IsPermutation-sym selected (all_steps walks) walks_have_each_step) c
 
   -- each walk is a contour
   pub walks_are_contours : All IsContour walks
@@ -53,16 +60,14 @@ module _ (holds : ℤ → ℤ → Bool) (subj clip : CountedEdge → ℤ) (es : 
   walks_have_each_edge_once = all_of_entries HasEachEdgeOnce walks (λ w c. (walk_of_a_cut holds subj clip es on_left cut.ruled walks cut.cut w c).each_edge_once)
 
   -- no edge stands twice among all walks
-  all_edges_once : HasEachEdgeOnce (all_steps walks)
-  all_edges_once = edges_once_shuffled selected (all_steps walks) moved
+  pub all_edges_once : HasEachEdgeOnce (all_steps walks)
+  all_edges_once = edges_once_shuffled selected (all_steps walks) walks_have_each_step
       (different_edges selected (selected_alternate holds subj clip es cut.ruled on_left) selected (λ s c. c)
       (selected_steps_once holds subj clip es cut.ruled on_left))
 
   -- so no two of the filled-above edges are equal
   pub filled_above_distinct : AllPairs (λ e f. edge_eq e f ≡ false) (all_filled_above on_left walks)
-  filled_above_distinct = subst (λ fs. AllPairs (λ e f. edge_eq e f ≡ false) fs) (sym (filled_above_of_all on_left walks))
-      (AllPairs-map (λ e f. edge_eq e f ≡ false) edge_of (filter (is_filled_above on_left) (all_steps walks))
-      (AllPairs-filter (λ s t. edge_eq (edge_of s) (edge_of t) ≡ false) (is_filled_above on_left) (all_steps walks) all_edges_once))
+  filled_above_distinct = distinct_above on_left walks all_edges_once
 
   -- and they meet in ends alone
   pub walks_settled : IsSettledBy edge_of (all_steps walks)

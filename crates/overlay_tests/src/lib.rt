@@ -14,6 +14,8 @@ mod edges;
 #[cfg(test)]
 mod failed;
 #[cfg(test)]
+mod minimum;
+#[cfg(test)]
 mod names;
 #[cfg(test)]
 mod one_call;
@@ -36,3 +38,5 @@ mod shapes;
 mod sources;
 #[cfg(test)]
 mod squares;
+#[cfg(test)]
+mod views;

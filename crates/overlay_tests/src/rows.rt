@@ -29,8 +29,8 @@ pub(crate) struct Row<'a> {
     pub(crate) wanted: &'a [&'a [Points<'a>]],
 }
 
-// A builder with the row's contours.
-fn builder_of<I: OverlayInt + From<i16>>(
+/// A builder with the row's contours and these options.
+pub(crate) fn builder_of<I: OverlayInt + From<i16>>(
     rt: &impl Abort,
     alloc: Global,
     row: &Row<'_>,
@@ -50,8 +50,7 @@ fn answers<I: OverlayInt + PartialEq + From<i16>>(
     overlay: &mut Overlay<I, Global>,
     row: &Row<'_>,
 ) -> Result<bool, OverlayError>
-    requires no_ogc { overlay.old.options.ogc ≡ false }
-    requires all_areas { I.WideUInt.natural overlay.old.options.min_output_area ≡ 0 }
+    requires { overlay.old.options.ogc ≡ false }
     ensures { overlay.new.options ≡ overlay.old.options }
 {
     let wanted = shapes_of(alloc, row.wanted)?;
@@ -66,8 +65,7 @@ fn holds<I: OverlayInt + PartialEq + From<i16>>(
     row: &Row<'_>,
     options: IntOverlayOptions<I::WideUInt>,
 ) -> Result<bool, OverlayError>
-    requires no_ogc { options.ogc ≡ false }
-    requires all_areas { I.WideUInt.natural options.min_output_area ≡ 0 }
+    requires { options.ogc ≡ false }
 {
     let mut overlay = builder_of(rt, alloc, row, options)?;
     let first = answers::<I>(alloc, &mut overlay, row) == Ok(true);
@@ -106,6 +104,21 @@ pub(crate) fn check_kept<I: OverlayInt + PartialEq + From<i16>>(
     row: &Row<'_>,
 ) -> Result<(), Fail> {
     assert!(rt; holds::<I>(rt, alloc, row, IntOverlayOptions::keep_all_points())?);
+    Ok(())
+}
+
+/// Checks the row with this minimum area.
+pub fn check_minimum<I: OverlayInt + PartialEq + From<i16>>(
+    rt: &impl Abort,
+    alloc: Global,
+    row: &Row<'_>,
+    min_output_area: I::WideUInt,
+) -> Result<(), Fail> {
+    let options = IntOverlayOptions {
+        min_output_area,
+        ..IntOverlayOptions::default()
+    };
+    assert!(rt; holds::<I>(rt, alloc, row, options)?);
     Ok(())
 }
 

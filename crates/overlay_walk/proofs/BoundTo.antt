@@ -1,11 +1,10 @@
 -- Walks with what is told of them, as a loop over both lists finds them.
 use Rattle.std.proofs.Common.{◌≡◌, ℕ, zero, suc, ◌+◌, ◌<◌, ◌≤◌, List, [], ◌∷◌, ◌++◌, map, take, length, get_or, refl, sym, ap, ap₂, ◌∙◌, subst, arith}
-use Rattle.std.specs.Prelude.{Bool, true, Option, Some, None, MatchOption, IfSome}
+use Rattle.std.specs.Prelude.{Bool, true, Option, Some, None, IfSome}
 use Rattle.std.proofs.lemmas.List.{take_more, length-map}
 use Rattle.overlay_geom.specs.Plane.{Step}
-use Rattle.overlay_plane.specs.Binding.{BoundWalk, IsBound, AreBound, IsParentOf, HasNoParent, is_hole, outlines}
-use Rattle.overlay_plane.proofs.HolesAdded.{parent_is_counted}
-use Rattle.overlay_walk.specs.Walks.{bound_to}
+use Rattle.overlay_plane.specs.Binding.{BoundWalk, is_hole, outlines}
+use Rattle.overlay_walk.specs.Walks.{bound_to, AreNumbered}
 
 -- no more walks are told of than there are numbers
 length-bound_to-le : (ws : List (List Step)) (ns : List (Option ℕ)) → length (bound_to ws ns) ≤ length ns
@@ -42,20 +41,11 @@ bound_more ws ns k w n in_walks in_numbers is_walk is_number =
     ∙ ap (λ b. take k (bound_to ws ns) ++ b ∷ []) (at.0 ∙ ap₂ with_number is_walk (sym is_number))
 
 -- the number of a hole is that of an outline
-pub bound_is_counted : (on_left : Bool) (ws : List (List Step)) (ns : List (Option ℕ)) → AreBound on_left ws (bound_to ws ns) →
+pub bound_is_counted : (on_left : Bool) (ws : List (List Step)) (ns : List (Option ℕ)) → AreNumbered on_left ws (bound_to ws ns) →
     (k : ℕ) (w : List Step) (n : Option ℕ) → k < length ws → get_or ws k w ≡ w → n ≡ get_or ns k n → is_hole on_left w ≡ true →
     IfSome n (λ m. m < length (outlines on_left ws))
-bound_is_counted on_left ws ns b k w n inside is_walk is_number hole = by n told
-  where
-    enough : length ws ≤ length ns
-    enough = numbers_enough ws ns b.are
-
-    at : (get_or (bound_to ws ns) k (with_number w n) ≡ with_number (get_or ws k w) (get_or ns k n)) × (k < length (bound_to ws ns))
-    at = bound_at ws ns k w n (with_number w n) inside (let e = enough in omega arith)
-
-    told : MatchOption n (HasNoParent on_left ws w) (λ m. IsParentOf on_left ws w m)
-    told = subst (IsBound on_left ws) (at.0 ∙ ap₂ with_number is_walk (sym is_number)) (b.told k (with_number w n) at.1) hole
-
-    by : (s : Option ℕ) → MatchOption s (HasNoParent on_left ws w) (λ m. IsParentOf on_left ws w m) → IfSome s (λ m. m < length (outlines on_left ws))
-    by None h = tt
-    by (Some m) h = parent_is_counted on_left ws w m h
+bound_is_counted on_left ws ns b k w n inside is_walk is_number hole =
+    let enough = numbers_enough ws ns b.are in
+    let at = bound_at ws ns k w n (with_number w n) inside (omega arith) in
+    subst (λ (x : BoundWalk). is_hole on_left x.steps ≡ true → IfSome x.shape (λ m. m < length (outlines on_left ws)))
+    (at.0 ∙ ap₂ with_number is_walk (sym is_number)) (b.numbered k (with_number w n) at.1) hole

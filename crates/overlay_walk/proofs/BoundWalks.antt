@@ -1,6 +1,6 @@
 -- The walks, each with what is told of it.
-use Rattle.std.proofs.Common.{◌≡◌, ℕ, suc, Bool, true, false, ℤ, List, [], ◌∷◌, length, map, get_or, Contains, Option, None, Some, refl, sym, ap, ap₂, ◌∙◌, subst, arith}
-use Rattle.std.specs.Prelude.{slice_index_or, MatchBool}
+use Rattle.std.proofs.Common.{◌≡◌, ℕ, ◌<◌, suc, Bool, true, false, ℤ, List, [], ◌∷◌, length, map, get_or, Contains, Option, None, Some, refl, sym, ap, ap₂, ◌∙◌, subst, arith}
+use Rattle.std.specs.Prelude.{slice_index_or, MatchBool, IfSome}
 use Rattle.std.specs.List.{All, filter, slice_get}
 use Rattle.std.specs.Option.{MatchOption}
 use Rattle.std.proofs.lemmas.Bool.{eqb-true}
@@ -18,7 +18,7 @@ use Rattle.overlay_plane.proofs.RoledShapes.{walks_from, outlines_counted, shape
 use Rattle.overlay_plane.proofs.RoledWalks.{hole_at, free_hole_at}
 use Rattle.overlay_walk.proofs.HoleEntries.{Contains-at}
 use Rattle.overlay_walk.proofs.OutlinesKnown.{hole_told}
-use Rattle.overlay_walk.specs.Walks.{bound_to}
+use Rattle.overlay_walk.specs.Walks.{bound_to, AreNumbered}
 
 -- the walks are the same
 steps_bound : (ws : List (List Step)) (shapes : List (Option ℕ)) → length shapes ≡ length ws → map (λ (b : BoundWalk). b.steps) (bound_to ws shapes) ≡ ws
@@ -41,6 +41,41 @@ each_bound P (w ∷ ws) [] same each = absurd (omega (arith, same))
 each_bound P (w ∷ ws) (s ∷ shapes) same each = All-cons (λ b. P b.steps b.shape) (record { steps = w; shape = s }) (bound_to ws shapes) (each 0 w refl)
     (each_bound P ws shapes (omega (arith, same)) (λ n v at. each (suc n) v at))
 
+-- where there is one shape, there is one outline
+one_outline : (on_left : Bool) (walks : List (List Step)) → has_one_shape (contours_from on_left 0 walks) ≡ true → length (outlines on_left walks) ≡ 1
+one_outline on_left walks one = sym (outlines_counted on_left 0 walks)
+    ∙ eqb-true (length (filter (λ (c : Contour). is_outline c.role) (contours_from on_left 0 walks))) 1 one
+
+module _ (on_left : Bool) (walks : List (List Step)) (shapes : List (Option ℕ))
+    (found : AreShapesFound on_left (contours_from on_left 0 walks) shapes) where
+  -- the number that is found for a hole is that of an outline
+  number_found : (n : ℕ) (w : List Step) → slice_get walks n ≡ Some w → is_hole on_left w ≡ true →
+      IfSome (slice_index_or shapes n None) (λ m. m < length (outlines on_left walks))
+  number_found n w at hole = by (has_one_shape (contours_from on_left 0 walks)) refl (found.found n (hole_to_bind w) (hole_at on_left 0 walks n w at hole) refl)
+    where
+      counted : (o : Option ℕ) → MatchOption o (HasNoParent on_left walks w) (λ m. IsParentOf on_left walks w m) →
+          IfSome o (λ m. m < length (outlines on_left walks))
+      counted None h = tt
+      counted (Some m) h = parent_is_counted on_left walks w m h
+
+      by : (one : Bool) → has_one_shape (contours_from on_left 0 walks) ≡ one →
+          MatchBool one (slice_index_or shapes n None ≡ Some 0)
+          (IsTold on_left (walks_in (contours_from on_left 0 walks)) (known_in (contours_from on_left 0 walks)) n (slice_index_or shapes n None)) →
+          IfSome (slice_index_or shapes n None) (λ m. m < length (outlines on_left walks))
+      by true one is = subst (λ s. IfSome s (λ m. m < length (outlines on_left walks))) (sym is) (let lone = one_outline on_left walks one in omega (arith, lone))
+      by false several told = counted (slice_index_or shapes n None) (hole_told on_left walks shapes n
+          (λ v there free. subst (λ ws. IsTold on_left ws (known_in (contours_from on_left 0 walks)) n (slice_index_or shapes n None)) (walks_from on_left 0 walks) told)
+          w at hole)
+
+  -- so the walks are numbered
+  pub are_numbered : AreNumbered on_left walks (bound_to walks shapes)
+  are_numbered =
+      let counted : length shapes ≡ length walks = found.counted ∙ sym (length-map (contours_from on_left 0 walks) (λ (c : Contour). c.steps)) ∙ ap length (walks_from on_left 0 walks) in
+      record {
+        are = steps_bound walks shapes counted;
+        numbered = each_bound (λ w shape. is_hole on_left w ≡ true → IfSome shape (λ n. n < length (outlines on_left walks))) walks shapes counted number_found;
+      }
+
 module _ (holds : ℤ → ℤ → Bool) (subj clip : CountedEdge → ℤ) (es : List CountedEdge) (on_left : Bool) (walks : List (List Step))
     (cut : AreCutFrom holds subj clip es on_left walks) (shapes : List (Option ℕ))
     (found : AreShapesFound on_left (contours_from on_left 0 walks) shapes) where
@@ -50,8 +85,7 @@ module _ (holds : ℤ → ℤ → Bool) (subj clip : CountedEdge → ℤ) (es : 
   only_parent one w at hole =
       let parent = (holes_have_parents holds subj clip es on_left walks cut w at hole).0 in
       let counted = parent_is_counted on_left walks w parent.0 parent.1 in
-      let lone : length (outlines on_left walks) ≡ 1 = sym (outlines_counted on_left 0 walks)
-      ∙ eqb-true (length (filter (λ (c : Contour). is_outline c.role) (contours_from on_left 0 walks))) 1 one in
+      let lone = one_outline on_left walks one in
       subst (IsParentOf on_left walks w) (omega (arith, counted, lone)) parent.1
 
   -- what is found for a hole is its parent

@@ -16,6 +16,7 @@ pub mod OneSide
 pub mod OpenPlaces
 pub mod OutlineNumbers
 pub mod OutlinesKnown
+pub mod PointsRead
 pub mod Runs
 pub mod SelectedByBits
 pub mod SelectedLong

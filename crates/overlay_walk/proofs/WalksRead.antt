@@ -2,7 +2,9 @@
 use Rattle.std.proofs.Common.{◌≡◌, ℕ, ◌+◌, ◌<◌, ℤ, List, [], ◌∷◌, ◌++◌, All, take, length, get_or, sym, ap, ◌∙◌, subst}
 use Rattle.std.specs.List.{slice_get}
 use Rattle.std.specs.Prelude.{Vec, Some}
-use Rattle.std.proofs.lemmas.List.{length-map}
+use Rattle.std.proofs.lemmas.List.{length-map, map-append}
+use Rattle.std.proofs.lemmas.List.Elements.{All-head}
+use Rattle.overlay_plane.proofs.Entries.{All-rest}
 use Rattle.std.proofs.lemmas.Option.{slice_get_read}
 use Rattle.overlay_geom.specs.Plane.{Step}
 use Rattle.overlay_geom.proofs.Mapped.{mapped_more, read_mapped, All-mapped_at}
@@ -41,3 +43,10 @@ module _ {I A : Type 0} (whole : I → ℤ) where
       w ≡ get_or ws k w → ss ≡ w.items → All (All (IsLong limit)) (plain_walks whole ws) → All (IsLong limit) (plain_steps whole ss)
   long_walk limit ws k w ss inside is same long =
       subst (λ us. All (IsLong limit) (plain_steps whole us)) (sym same) (walk_has whole ws k w inside is (All (IsLong limit)) long)
+
+-- what holds of all walks holds of one that stands among them
+pub walk_among : {I A : Type 0} (whole : I → ℤ) (ws before : List (Vec (StepTaken I) A)) (w : Vec (StepTaken I) A) (rest : List (Vec (StepTaken I) A)) →
+    ws ≡ before ++ w ∷ rest → (P : List Step → Type 0) → All P (plain_walks whole ws) → P (plain_steps whole w.items)
+walk_among whole ws before w rest is P all =
+    All-head P (plain_steps whole w.items) (plain_walks whole rest) (All-rest P (plain_walks whole before) (plain_steps whole w.items ∷ plain_walks whole rest)
+    (subst (All P) (ap (plain_walks whole) is ∙ map-append (at_numbers whole) before (w ∷ rest)) all))

@@ -1,5 +1,6 @@
 -- What an overlay is asked for, and the steps that it selects.
 use Rattle.std.specs.Prelude.{ℕ, Bool, ℤ, List}
+use Rattle.std.specs.Int.{Width}
 use Rattle.overlay_geom.specs.Plane.{Step}
 use Rattle.overlay_geom.specs.Edges.{CountedEdge, subj_of, clip_of}
 use Rattle.overlay_plane.specs.SelectedSteps.{selected_steps}
@@ -11,7 +12,7 @@ use Rattle.overlay_arrange.specs.declared.options.ContourDirection.{ContourDirec
 use Rattle.overlay_arrange.specs.declared.options.IntOverlayOptions.{IntOverlayOptions}
 use Rattle.overlay_walk.specs.Steps.{is_on_left}
 
--- what an overlay is asked for: the rules, and how the output is to look; and the greatest number of the type in which
+-- what an overlay is asked for: the rules, and how the output is to look; and how many bits the type has in which
 -- areas are summed
 pub record Asked : Type 0 where
   pub fill : FillRule
@@ -20,18 +21,18 @@ pub record Asked : Type 0 where
   pub preserve_output_collinear : Bool
   pub ogc : Bool
   pub min_output_area : ℕ
-  pub wide_limit : ℕ
+  pub area_width : Width
 
 -- what rules and options ask for
-abbrev pub asked : {U : Type 0} → ℕ → (U → ℕ) → FillRule → OverlayRule → IntOverlayOptions U → Asked
-asked wide_limit natural fill rule options = record {
+abbrev pub asked : {U : Type 0} → Width → (U → ℕ) → FillRule → OverlayRule → IntOverlayOptions U → Asked
+asked area_width natural fill rule options = record {
   fill = fill;
   rule = rule;
   output_direction = options.output_direction;
   preserve_output_collinear = options.preserve_output_collinear;
   ogc = options.ogc;
   min_output_area = natural options.min_output_area;
-  wide_limit = wide_limit;
+  area_width = area_width;
 }
 
 -- the two rules hold of a winding of the subject and one of the clip: the region asked for is where they hold of the windings
@@ -48,4 +49,4 @@ selected_of q es = selected_steps (region_asked q) subj_of clip_of (filled_on_le
 
 -- the contour has three points or more, and reaches the minimum area
 abbrev pub is_kept : Asked → List Step → Bool
-is_kept q walk = reaches q.wide_limit q.min_output_area walk
+is_kept q walk = reaches q.area_width q.min_output_area walk

@@ -1,7 +1,7 @@
 -- Walks, each the list of its steps, as whole numbers; and what is told of them.
-use Rattle.std.specs.Prelude.{ℕ, ℤ, List, [], ◌∷◌, map, Option, Vec}
+use Rattle.std.specs.Prelude.{◌≡◌, ◌<◌, ℕ, ℤ, Bool, true, List, [], ◌∷◌, map, length, All, Option, IfSome, Vec}
 use Rattle.overlay_geom.specs.Plane.{Step}
-use Rattle.overlay_plane.specs.Binding.{BoundWalk}
+use Rattle.overlay_plane.specs.Binding.{BoundWalk, is_hole, outlines}
 use Rattle.overlay_walk.specs.declared.step.Step.{Step as StepTaken}
 use Rattle.overlay_walk.specs.Steps.{plain_steps}
 
@@ -14,3 +14,8 @@ abbrev pub bound_to : List (List Step) → List (Option ℕ) → List BoundWalk
 bound_to [] shapes = []
 bound_to (w ∷ ws) [] = []
 bound_to (w ∷ ws) (s ∷ shapes) = record { steps = w; shape = s } ∷ bound_to ws shapes
+
+-- the walks, and of each hole among them the number of a shape that there is, or none
+pub record AreNumbered (on_left : Bool) (walks : List (List Step)) (bound : List BoundWalk) : Type 0 where
+  pub are : map (λ b. b.steps) bound ≡ walks
+  pub numbered : All (λ b. is_hole on_left b.steps ≡ true → IfSome b.shape (λ n. n < length (outlines on_left walks))) bound

@@ -6,6 +6,7 @@ use crate::step::Step;
 use overlay_geom::number::IntNumber;
 use std::alloc::Allocator;
 use std::marker::Model;
+use std::mem;
 
 /// Room for an extraction of contours, to be used again. It holds no step, so that it changes no answer.
 #[derive(Drop)]
@@ -32,16 +33,16 @@ impl<I: IntNumber, A: Allocator> BooleanExtractionBuffer<I, A> {
         }
     }
 
-    /// The room of a list, whose steps are dropped.
-    pub fn new(mut room: Vec<Step<I>, A>) -> Self {
-        room.clear();
-        BooleanExtractionBuffer { room }
-    }
-
-    /// The room, as a list without steps.
-    pub fn into_room(self) -> Vec<Step<I>, A>
+    /// Takes the room, as a list without steps; the buffer is left with none.
+    pub fn take_room(&mut self, alloc: A) -> Vec<Step<I>, A>
         ensures { result.items ≡ [] }
     {
-        self.room
+        mem::replace(&mut self.room, Vec::new(alloc))
+    }
+
+    /// Puts the room of a list in the place of the buffer's, and drops its steps.
+    pub fn put_room(&mut self, mut room: Vec<Step<I>, A>) {
+        room.clear();
+        self.room = room;
     }
 }

@@ -3,6 +3,7 @@
 #![tactic(auto)]
 
 mod anchor;
+pub mod area;
 pub mod bind;
 pub mod buffer;
 mod by_anchor;

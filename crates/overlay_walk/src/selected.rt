@@ -1,6 +1,6 @@
 //! The walks that the selected steps of a graph are cut into.
 
-ghost use Rattle.std.specs.Prelude.{◌≡◌, ◌≢◌, [], None, All, IfOk, OnOk, IsOkUnless};
+ghost use Rattle.std.specs.Prelude.{◌≡◌, [], All, IfOk, IsOkUnless};
 ghost use Rattle.std.specs.List.Sorted.{IsPermutation};
 ghost use Rattle.overlay_geom.specs.Edges.{all_ends, subj_of, clip_of};
 ghost use Rattle.overlay_plane.specs.Balance.{HasBalancedCounts};
@@ -31,13 +31,13 @@ use std::alloc::Allocator;
 /// holes through their empty one. Each step has the number of its edge in the graph. The counts of the
 /// edges are balanced.
 ///
-/// The buffer is taken for its room and given back, if there is none a new one. The only refusal is
-/// `Memory`, after which there may be none.
+/// The buffer lends its room. The only refusal is `Memory`, after which the buffer may be left without
+/// room.
 pub fn selected_walks<I: IntNumber, C: EdgeCount, A: Allocator + Clone>(
     graph: &Graph<I, C, A>,
     overlay_rule: OverlayRule,
     direction: ContourDirection,
-    buffer: &mut Option<BooleanExtractionBuffer<I, A>>,
+    buffer: &mut BooleanExtractionBuffer<I, A>,
 ) -> Result<Vec<Vec<Step<I>, A>, A>, OverlayError>
     requires { HasBalancedCounts (graph_edges graph.now) }
     ensures cut { IfOk result (λ ws. AreCutFrom (rules_hold graph.now.fill_rule overlay_rule) subj_of clip_of
@@ -45,18 +45,14 @@ pub fn selected_walks<I: IntNumber, C: EdgeCount, A: Allocator + Clone>(
     ensures along { IfOk result (λ ws.
         All (λ w. All (RunsAlong I.whole (all_ends (graph_edges graph.now))) w.items) ws.items) }
     ensures long { IfOk result (λ ws. All (All (IsLong I.limit)) (plain_walks I.whole ws.items)) }
-    ensures buffer { OnOk result (buffer.new ≢ None) }
     ensures err { IsOkUnless result OverlayError.Memory }
 {
     graph.note_arrangement();
-    let room = match buffer.take() {
-        Some(held) => held.into_room(),
-        None => Vec::new(graph.allocator().clone()?),
-    };
+    let room = buffer.take_room(graph.allocator().clone()?);
     let rule = HandRule::OutlineOrHole(direction);
     let mut open = open_selected(graph, overlay_rule, direction, room)?;
     let walks = cut_into_contours(graph.allocator().clone()?, &mut open, rule)?;
-    *buffer = Some(BooleanExtractionBuffer::new(open.into_room()));
+    buffer.put_room(open.into_room());
     Ok(walks)
 }
 

@@ -8,13 +8,13 @@ use std::alloc::Global;
 use std::process::Abort;
 use std::test::Fail;
 
-// Among no steps there is no start; a buffer takes the list over.
+// Among no steps there is no start; a buffer lends its room and takes another one.
 fn check_none<I: IntNumber>(rt: &impl Abort, alloc: Global) -> Result<(), OverlayError> {
-    let buffer: BooleanExtractionBuffer<I, Global> = BooleanExtractionBuffer::default(alloc);
-    let mut open = OpenSteps::new(buffer.into_room())?;
+    let mut buffer: BooleanExtractionBuffer<I, Global> = BooleanExtractionBuffer::default(alloc);
+    let mut open = OpenSteps::new(buffer.take_room(alloc))?;
     assert!(rt; open.start().is_none());
-    let buffer = BooleanExtractionBuffer::new(open.into_room());
-    assert_eq!(rt; buffer.into_room().len(), 0);
+    buffer.put_room(open.into_room());
+    assert_eq!(rt; buffer.take_room(alloc).len(), 0);
     Ok(())
 }
 

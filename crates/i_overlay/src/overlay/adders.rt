@@ -11,7 +11,7 @@ ghost use Rattle.i_overlay.specs.Builder.{cleared};
 ghost use Rattle.overlay_builder.specs.GivenPaths.{paths_for, subject_and_clip, WouldWeighTooMuch};
 
 use crate::overlay::{Overlay, ShapeType};
-use overlay_builder::boolean::passing;
+use overlay_builder::boolean::passing_without_data;
 use overlay_builder::path::contour_kind;
 use overlay_builder::points::gathered;
 use overlay_geom::error::OverlayError;
@@ -45,7 +45,7 @@ impl<I: OverlayInt, A: Allocator + Clone> Overlay<I, A> {
         ensures no_query { result ≢ Err OverlayError.NotSettled }
     {
         let kind = contour_kind(self.options.preserve_input_collinear);
-        self.core.add_path(contour, kind, passing(shape_type))?;
+        self.core.add_path(contour, kind, passing_without_data(shape_type))?;
         Ok(())
     }
 
@@ -94,7 +94,7 @@ impl<I: OverlayInt, A: Allocator + Clone> Overlay<I, A> {
         ensures { AddsAsAsked (paths_for shape_type (R0.paths resource.now)) self.old self.new result }
     {
         let kind = contour_kind(self.options.preserve_input_collinear);
-        self.core.add_paths(resource, kind, passing(shape_type))
+        self.core.add_paths(resource, kind, passing_without_data(shape_type))
     }
 
     /// Drops the edges and mends a failed builder; `solver`, `options` and `boolean_buffer` stay.
@@ -103,6 +103,7 @@ impl<I: OverlayInt, A: Allocator + Clone> Overlay<I, A> {
         ensures { self.new ≡ cleared self.old }
     {
         self.core.clear();
+        self.graph = None;
     }
 
     /// Drops the edges and mends a failed builder, and then adds the paths of `subj` as the subject

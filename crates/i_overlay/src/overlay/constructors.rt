@@ -42,6 +42,7 @@ impl<I: OverlayInt, A: Allocator + Clone> Overlay<I, A> {
             options,
             boolean_buffer: Some(BooleanExtractionBuffer::default(alloc.clone()?)),
             core: BuilderCore::with_capacity(alloc, capacity)?,
+            graph: None,
         })
     }
 

@@ -39,6 +39,10 @@ impl IntNumber for i16 {
         i32::from(ax) * i32::from(by) - i32::from(ay) * i32::from(bx)
     }
 
+    fn halved_area(double_area: i32) -> u32 {
+        double_area.unsigned_abs() / 2
+    }
+
     fn part_way(self, to: i16, t: i32, d: i32) -> i16 {
         let (from, to) = (i64::from(self), i64::from(to));
         nearest_on_way(from, to, i128::from(t), i128::from(d)) as i16
@@ -78,6 +82,10 @@ impl IntNumber for i32 {
         i64::from(ax) * i64::from(by) - i64::from(ay) * i64::from(bx)
     }
 
+    fn halved_area(double_area: i64) -> u64 {
+        double_area.unsigned_abs() / 2
+    }
+
     fn part_way(self, to: i32, t: i64, d: i64) -> i32 {
         let (from, to) = (i64::from(self), i64::from(to));
         nearest_on_way(from, to, i128::from(t), i128::from(d)) as i32
@@ -115,6 +123,10 @@ impl IntNumber for i64 {
 
     fn cross(ax: i64, ay: i64, bx: i64, by: i64) -> i128 {
         i128::from(ax) * i128::from(by) - i128::from(ay) * i128::from(bx)
+    }
+
+    fn halved_area(double_area: i128) -> u128 {
+        double_area.unsigned_abs() / 2
     }
 
     fn part_way(self, to: i64, t: i128, d: i128) -> i64 {

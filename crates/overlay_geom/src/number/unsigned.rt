@@ -8,6 +8,10 @@ impl UIntNumber for u32 {
     fn zero() -> u32 {
         0
     }
+
+    fn is_at_least(self, other: u32) -> bool {
+        other <= self
+    }
 }
 
 impl UIntNumber for u64 {
@@ -16,6 +20,10 @@ impl UIntNumber for u64 {
     fn zero() -> u64 {
         0
     }
+
+    fn is_at_least(self, other: u64) -> bool {
+        other <= self
+    }
 }
 
 impl UIntNumber for u128 {
@@ -23,5 +31,9 @@ impl UIntNumber for u128 {
 
     fn zero() -> u128 {
         0
+    }
+
+    fn is_at_least(self, other: u128) -> bool {
+        other <= self
     }
 }

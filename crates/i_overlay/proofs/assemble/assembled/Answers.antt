@@ -17,7 +17,7 @@ pub bounds-numbers-k : goal.bounds-numbers-k
 bounds-numbers-k g c =
     let whole = g.I.IntNumber.whole in
     let long = length-map c.args.walks.now (λ (w : _). plain_steps whole w.items) in
-    let enough = numbers_enough (plain_walks whole c.args.walks.now) c.args.numbers.now c.requires.bound.are in
+    let enough = numbers_enough (plain_walks whole c.args.walks.now) c.args.numbers.now c.requires.numbered.are in
     let inside = c.loop-k-test.true in
     omega arith
 
@@ -37,14 +37,14 @@ push_bound-requires-clause-counted g c =
     let w = plain_steps whole c.index-walks-k.result.items in
     let n = get_or numbers k None in
     let long = length-map c.args.walks.now (λ (v : _). plain_steps whole v.items) in
-    let enough = numbers_enough ws numbers c.requires.bound.are in
+    let enough = numbers_enough ws numbers c.requires.numbered.are in
     let read = c.loop-k-test.true in
     let inside : k < length ws = subst (λ m. k < m) (sym long) read in
     let in_numbers : k < length numbers = omega arith in
     let is_walk = walk_read whole c.args.walks.now k c.index-walks-k.result read c.index-walks-k.is w in
     let shown = length-shown c.args.keeps_points on_left (take k (bound_to ws numbers)) (outlines on_left ws) (plain_shapes whole c.loop-k.shapes.items) c.loop-k.invariant in
     λ hole. subst (λ l. IfSome n (λ m. m < l)) (sym shown ∙ length-map c.loop-k.shapes.items (λ (s : _). paths_of_shape whole s.items))
-    (bound_is_counted on_left ws numbers c.requires.bound k w n inside is_walk (get_or_default numbers k None n in_numbers)
+    (bound_is_counted on_left ws numbers c.requires.numbered k w n inside is_walk (get_or_default numbers k None n in_numbers)
     (subst (λ ss. is_hole on_left (plain_steps whole ss) ≡ true) c.deref.ensures.value hole))
 
 pub loop-k-preserved : goal.loop-k-preserved
@@ -58,7 +58,7 @@ loop-k-preserved g c =
     let w = plain_steps whole c.index-walks-k.result.items in
     let n = get_or numbers k None in
     let long = length-map c.args.walks.now (λ (v : _). plain_steps whole v.items) in
-    let enough = numbers_enough ws numbers c.requires.bound.are in
+    let enough = numbers_enough ws numbers c.requires.numbered.are in
     let read = c.loop-k-test.true in
     let inside : k < length ws = subst (λ m. k < m) (sym long) read in
     let in_numbers : k < length numbers = omega arith in

@@ -44,9 +44,6 @@ returns-clause-long g c =
     walks_are_long g.I.IntNumber.limit es c.note_arrangement.ensures.content holds subj_of clip_of on_left walks
     (shuffled_cut holds subj_of clip_of es on_left ruled (plain_steps g.I.IntNumber.whole c.in_ok-open.open) c.in_ok-open.ensures.selected walks c.in_ok-walks.ensures.cut)
 
-pub returns-clause-buffer : goal.returns-clause-buffer
-returns-clause-buffer g c = λ none. none-some c.new.result (sym none)
-
 pub returns-clause-along : goal.returns-clause-along
 returns-clause-along g c =
     let along = RunsAlong g.I.IntNumber.whole (all_ends (graph_edges c.args.graph.now)) in

@@ -18,7 +18,7 @@ returns-clause-empty g c = λ none.
     let same : edges_in c.arrange.new.self.edges ≡ [] =
     sym (ap (λ b. b.edges) e.kept) ∙ sym (ap (λ b. b.edges) c.self-2.view_is) ∙ sym (ap (λ h. edges_in h.edges) c.set_failed.ensures) ∙ none in
     no_shapes_held c.extract-shapes.result (λ v. v.items) (λ s. paths_of_shape g.I.IntNumber.whole s.items)
-    (asked g.I.Wide.WideIntNumber.limit g.I.WideUInt.UIntNumber.natural c.args.fill_rule c.args.overlay_rule c.self.inside.options)
+    (asked g.I.Wide.WideIntNumber.width g.I.WideUInt.UIntNumber.natural c.args.fill_rule c.args.overlay_rule c.self.inside.options)
     (edges_in c.arrange.new.self.edges) (subst (λ b. b.options.ogc ≡ false) (sym c.self.view_is) c.requires.no_ogc) e.result same
 
 pub returns-clause-exact : goal.returns-clause-exact

@@ -13,7 +13,7 @@ returns-clause-result g c =
     let made = c.in_ok-overlay.ensures in
     let new = c.overlay.new.self in
     result_of_paths c.overlay.result (λ v. plain_shapes g.I.IntNumber.whole v.items)
-    (asked_by_default g.I.Wide.WideIntNumber.limit c.args.fill_rule c.args.overlay_rule) _ _ new.edges made.ok c.overlay.ensures.query.arranged
+    (asked_by_default g.I.Wide.WideIntNumber.width c.args.fill_rule c.args.overlay_rule) _ _ new.edges made.ok c.overlay.ensures.query.arranged
     (subst (λ q. IfOk c.overlay.result (λ v. IsResult q new.edges (plain_shapes g.I.IntNumber.whole v.items)))
     (asked_of_default _ _ c.args.fill_rule c.args.overlay_rule c.in_ok-overlay.overlay.options made.made.options) c.overlay.ensures.result)
 

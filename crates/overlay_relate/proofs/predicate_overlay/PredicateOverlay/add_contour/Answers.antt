@@ -7,7 +7,8 @@ use Rattle.overlay_plane.specs.Carried.{edges_in}
 use Rattle.overlay_arrange.specs.Content.{edge_for}
 use Rattle.overlay_builder.proofs.SourcePaths.{error_of}
 use Rattle.overlay_builder.specs.GivenPaths.{WouldWeighTooMuch}
-use Rattle.overlay_builder.proofs.AddedContours.{as_contour, contour_added, contour_too_heavy}
+use Rattle.overlay_arrange.specs.Counts.{boolean_counts}
+use Rattle.overlay_builder.proofs.AddedContours.{counts_pass_once, as_contour, contour_added, contour_too_heavy}
 use Rattle.overlay_builder.proofs.Balanced.{contour_keeps_balance}
 use Rattle.overlay_builder.specs.declared.path.PathKind.TheVariants.{Thinned}
 use Rattle.overlay_relate.proofs.predicate_overlay.PredicateOverlay.add_contour.Goals as goal
@@ -17,8 +18,8 @@ returns-in_err-add_path-clause-too_many g c =
     let points = plain_points g.I.IntNumber.whole c.args.contour.now in
     let p = err_from_is_err_and c.from_residual.result c.from_residual.ensures.1 in
     rw (p.1, p.2) (λ same. subst (λ b. WouldWeighTooMuch false c.args.shape_type points b.edges) c.self.view_is
-    (contour_too_heavy false c.args.shape_type Thinned c.passing.result
-    refl c.passing.ensures points c.self.inside.core.edges
+    (contour_too_heavy false c.args.shape_type boolean_counts Thinned c.passing.result refl
+    (counts_pass_once c.args.shape_type c.passing.result c.passing.ensures) points c.self.inside.core.edges
     (c.in_err-add_path.ensures.too_many (ap Err (ap error_of same)))))
 
 pub invariant_of-self-2 : goal.invariant_of-self-2
@@ -26,7 +27,8 @@ invariant_of-self-2 g c = λ ready.
     let points = plain_points g.I.IntNumber.whole c.args.contour.now in
     let e = c.in_ok-add_path.ensures in
     contour_keeps_balance false c.args.shape_type points (edges_in c.self.inside.core.edges) (edges_in c.add_path.new.self.edges)
-    (contour_added false c.args.shape_type Thinned c.passing.result refl c.passing.ensures points
+    (contour_added false c.args.shape_type boolean_counts Thinned c.passing.result refl
+    (counts_pass_once c.args.shape_type c.passing.result c.passing.ensures) points
     c.self.inside.core.edges c.add_path.new.self.edges e.ok)
     (c.self.invariant (sym (ap (λ h. h.failed) e.kept) ∙ ready))
 
@@ -36,5 +38,6 @@ returns-clause-ok g c =
     let new = edges_in c.add_path.new.self.edges in
     subst (λ b. AddsContour false (edge_for c.args.shape_type) points b.edges new) c.self.view_is
     (as_contour false (edge_for c.args.shape_type) points (edges_in c.self.inside.core.edges) new
-    (contour_added false c.args.shape_type Thinned c.passing.result refl c.passing.ensures points
+    (contour_added false c.args.shape_type boolean_counts Thinned c.passing.result refl
+    (counts_pass_once c.args.shape_type c.passing.result c.passing.ensures) points
     c.self.inside.core.edges c.add_path.new.self.edges c.in_ok-add_path.ensures.ok))

@@ -5,7 +5,8 @@ use Rattle.overlay_builder.specs.Held.{plain_held}
 use Rattle.overlay_builder.specs.PathLists.{AddsAsAsked}
 use Rattle.overlay_relate.specs.PredicateBuilder.{held_by}
 use Rattle.overlay_builder.specs.GivenPaths.{added_paths, paths_for}
-use Rattle.overlay_builder.proofs.AddedContours.{contours_added}
+use Rattle.overlay_arrange.specs.Counts.{boolean_counts}
+use Rattle.overlay_builder.proofs.AddedContours.{counts_pass_once, contours_added}
 use Rattle.overlay_builder.proofs.Balanced.{adding_keeps_balance}
 use Rattle.overlay_relate.proofs.PredicateBuilders.{only_edges_new}
 use Rattle.overlay_builder.specs.declared.path.PathKind.TheVariants.{Thinned}
@@ -15,7 +16,8 @@ pub invariant_of-self : goal.invariant_of-self
 invariant_of-self g c = λ ready.
     let paths = g.R0.IntShapeResource.paths c.args.resource.now in
     adding_keeps_balance false (paths_for c.args.shape_type paths) (plain_held c.self.inside.core) (plain_held c.add_paths.new.self) c.add_paths.result
-    (contours_added false c.args.shape_type Thinned c.passing.result refl c.passing.ensures paths
+    (contours_added false c.args.shape_type boolean_counts Thinned c.passing.result refl
+    (counts_pass_once c.args.shape_type c.passing.result c.passing.ensures) paths
     c.self.inside.core c.add_paths.new.self c.add_paths.result c.add_paths.ensures)
     (c.self.invariant (sym c.add_paths.ensures.kept ∙ ready))
 
@@ -27,7 +29,8 @@ returns g c =
       added = subst
           (λ b. AddsAsAsked weight (added_paths false given) (held_by b) (plain_held c.add_paths.new.self) c.add_paths.result)
           c.self.view_is
-          (contours_added false c.args.shape_type Thinned c.passing.result refl c.passing.ensures paths
+          (contours_added false c.args.shape_type boolean_counts Thinned c.passing.result refl
+    (counts_pass_once c.args.shape_type c.passing.result c.passing.ensures) paths
           c.self.inside.core c.add_paths.new.self c.add_paths.result c.add_paths.ensures);
       kept = only_edges_new _ _ _ _ c.self.view_is c.add_paths.ensures.kept;
     }

@@ -1,0 +1,7 @@
+-- The sum is wrapped to the bits of the type.
+use Rattle.std.proofs.lemmas.Int.{wrapping_add_is}
+use Rattle.std.specs.Int.{w32}
+use Rattle.overlay_geom.proofs.number.wide.I32WideIntNumber.wrapping_add.Goals as goal
+
+pub returns : goal.returns
+returns c = wrapping_add_is w32 c.args.self c.args.other c.ranges.self c.ranges.other
