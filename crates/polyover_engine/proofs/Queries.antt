@@ -1,5 +1,6 @@
 -- What a query on a builder, to which all contours were added, says of the contours; and the text of its answer.
 use Rattle.std.proofs.Common.{◌≡◌, inl, ℕ, Bool, false, List, map, Option, Some, None, IfSome, sym, ap₂, subst, ◌∙◌}
+use Rattle.std.specs.Int.{w128}
 use Rattle.std.specs.Prelude.{Result, Ok, Err, IfOk, MatchResult}
 use Rattle.overlay_geom.specs.declared.error.OverlayError.{OverlayError}
 use Rattle.overlay_geom.specs.declared.error.OverlayError.TheVariants.{Memory, NotSettled, TooManyEdges, Failed}
@@ -16,13 +17,13 @@ use Rattle.i_overlay.specs.OneShot.{IsResultOfPaths, MayRefusePaths}
 use Rattle.i_overlay.proofs.OneShots.{query_refused, result_of_paths}
 use Rattle.polyover_text.specs.declared.query.OverlayQuery.{OverlayQuery}
 use Rattle.polyover_text.specs.declared.query.Query.{Query}
-use Rattle.polyover_engine.specs.Answers.{AreEdges, Answers, IsAnswer, asked_by, greatest_i128}
+use Rattle.polyover_engine.specs.Answers.{AreEdges, Answers, IsAnswer, asked_by}
 use Rattle.polyover_engine.specs.Builders.{HasAdded}
 use Rattle.polyover_text.specs.Grammar.{GivenFigures, Asks, input_lines}
 
 -- what is asked of a builder with these options, of which the query turns two
 abbrev pub asked_with : OverlayQuery → IntOverlayOptions ℕ → Asked
-asked_with query options = asked greatest_i128 (λ n. n) query.fill_rule query.overlay_rule
+asked_with query options = asked w128 (λ n. n) query.fill_rule query.overlay_rule
     (record options { output_direction = query.output.output_direction; preserve_output_collinear = query.output.preserve_output_collinear })
 
 module _ (cs : List GivenPath) (b : Builder ℕ) (h : HasAdded cs b) where

@@ -1,5 +1,6 @@
 -- What the program answers: the edges of the arrangement, the shapes of an overlay, or where points lie; and the text of it.
 use Rattle.std.specs.Prelude.{◌≡◌, ℕ, Bool, false, List, [], ◌∷◌, map, All}
+use Rattle.std.specs.Int.{w128}
 use Rattle.std.specs.List.{flat_map}
 use Rattle.overlay_geom.specs.Resolved.{IsResolved}
 use Rattle.overlay_geom.specs.declared.error.OverlayError.{OverlayError}
@@ -36,11 +37,7 @@ pub record AreEdges (cs : List GivenPath) (fill : FillRule) (vs : List Vector) :
 
 -- ---- shapes
 
--- the greatest number of i128, the type in which areas of contours at i64 are summed
-abbrev pub greatest_i128 : ℕ
-greatest_i128 = 170141183460469231731687303715884105727
-
--- what the query asks of an overlay
+-- what the query asks of an overlay; areas at i64 are summed in i128
 abbrev pub asked_by : OverlayQuery → Asked
 asked_by q = record {
   fill = q.fill_rule;
@@ -49,7 +46,7 @@ asked_by q = record {
   preserve_output_collinear = q.output.preserve_output_collinear;
   ogc = false;
   min_output_area = 0;
-  wide_limit = greatest_i128;
+  area_width = w128;
 }
 
 -- ---- points
