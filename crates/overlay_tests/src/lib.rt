@@ -20,6 +20,8 @@ mod names;
 #[cfg(test)]
 mod one_call;
 #[cfg(test)]
+mod one_list;
+#[cfg(test)]
 mod overlays;
 #[cfg(test)]
 mod paths;
@@ -38,5 +40,3 @@ mod shapes;
 mod sources;
 #[cfg(test)]
 mod squares;
-#[cfg(test)]
-mod views;

@@ -12,5 +12,5 @@ abbrev pub invariant-loop-walk : goal.invariant-loop-walk
 invariant-loop-walk g l =
     let whole = g.I.IntNumber.whole in
     AllZip (IsKeptOrThinned l.keeps_points) (map points_of (plain_walks whole (take l.walk-index l.walks)))
-    (paths_in whole l.output.now.points.items l.output.now.ranges.items)
-    × IsPacked l.output.now.points.items l.output.now.ranges.items
+    (paths_in whole l.output.points.items l.output.ranges.items)
+    × IsPacked l.output.points.items l.output.ranges.items

@@ -1,0 +1,78 @@
+//! Contours in one list, at each coordinate type.
+
+use crate::contours::{Points, contour_of};
+use crate::rows::{Row, builder_of};
+use i_overlay::fill_rule::FillRule;
+use i_overlay::overlay::{IntOverlayOptions, Overlay};
+use i_overlay::overlay_rule::OverlayRule;
+use overlay_geom::error::OverlayError;
+use overlay_geom::flat::contours::FlatContoursBuffer;
+use overlay_geom::integer::OverlayInt;
+use std::alloc::Global;
+use std::process::Abort;
+use std::test::Fail;
+
+// A square with a hole that touches its left side.
+const TOUCHING: Row<'static> = Row {
+    subj: &[
+        &[(0, 0), (6, 0), (6, 6), (0, 6)],
+        &[(0, 3), (2, 4), (2, 2)],
+    ],
+    clip: &[],
+    rule: OverlayRule::Subject,
+    fill: FillRule::EvenOdd,
+    wanted: &[],
+};
+
+const ONE_CONTOUR: Points<'static> = &[
+    (0, 3),
+    (0, 0),
+    (6, 0),
+    (6, 6),
+    (0, 6),
+    (0, 3),
+    (2, 4),
+    (2, 2),
+];
+
+// Checks that one contour with these points is all that the buffer holds.
+fn check_one<I: OverlayInt + PartialEq + From<i16>>(
+    rt: &impl Abort,
+    alloc: Global,
+    buffer: &FlatContoursBuffer<I, Global>,
+    points: Points<'_>,
+) -> Result<(), OverlayError> {
+    let wanted = contour_of::<I>(alloc, points)?;
+    assert!(rt; buffer.points == wanted);
+    assert!(rt; buffer.ranges.len() == 1);
+    assert!(rt; *buffer.as_first_contour() == *wanted);
+    Ok(())
+}
+
+// What was in the buffer is gone, and the contour stands there as it was walked.
+fn check_into<I: OverlayInt + PartialEq + From<i16>>(
+    rt: &impl Abort,
+    alloc: Global,
+) -> Result<(), OverlayError> {
+    let mut output: FlatContoursBuffer<I, Global> = FlatContoursBuffer::default(alloc)?;
+    output.add_contour(&contour_of::<I>(alloc, &[(1, 1), (2, 2), (3, 1)])?)?;
+    let mut overlay: Overlay<I, Global> =
+        builder_of(rt, alloc, &TOUCHING, IntOverlayOptions::default())?;
+    overlay.overlay_into(OverlayRule::Subject, FillRule::EvenOdd, &mut output)?;
+    check_one(rt, alloc, &output, ONE_CONTOUR)
+}
+
+#[test]
+fn contours_at_i16(rt: HostRuntime) -> Result<(), Fail> {
+    Ok(check_into::<i16>(&rt, rt.alloc())?)
+}
+
+#[test]
+fn contours_at_i32(rt: HostRuntime) -> Result<(), Fail> {
+    Ok(check_into::<i32>(&rt, rt.alloc())?)
+}
+
+#[test]
+fn contours_at_i64(rt: HostRuntime) -> Result<(), Fail> {
+    Ok(check_into::<i64>(&rt, rt.alloc())?)
+}
