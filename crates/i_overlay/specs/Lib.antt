@@ -4,4 +4,3 @@ pub mod Builder
 pub mod Laws
 pub mod OneShot
 pub mod Overlay
-pub mod Views

@@ -15,9 +15,8 @@ pub fn direction_turns_windings()
     ensures { DirectionTurnsWindings }
 {}
 
-/// Of one arrangement, the shapes that a view gives and those of `Overlay::overlay` wind alike round
-/// each point off its edges, where they are asked for with the same rules and output direction and with
-/// minimum area zero; whatever the other options are.
+/// Of one arrangement, shapes that are asked for with the same rules and output direction wind alike
+/// round each point off its edges, with minimum area zero, whatever the other options are.
 pub fn same_region_same_windings()
     ensures { SameRegionSameWindings }
 {}

@@ -9,7 +9,6 @@ pub mod edge_data;
 pub mod error;
 pub mod extract;
 pub mod fill_rule;
-pub mod graph;
 pub mod i_float;
 pub mod i_shape;
 pub mod integer;

@@ -1,9 +1,6 @@
 //! The overlay builder: contours are added, and queries are answered.
 
-ghost use Rattle.std.specs.Prelude.{◌≡◌, false, [], map, Some, IfOk, IfSome, OnOk, OnErr, IsOkUnless, IsErrOf};
-ghost use Rattle.std.specs.Borrow.{sem};
-ghost use Rattle.std.specs.Io.BufRead.{Rests};
-ghost use Rattle.overlay_arrange.specs.Arranged.{IsArranged};
+ghost use Rattle.std.specs.Prelude.{◌≡◌, false, [], map, Some, IfOk, OnOk, OnErr, IsOkUnless, IsErrOf};
 ghost use Rattle.overlay_arrange.specs.Content.{IsAscending};
 ghost use Rattle.overlay_arrange.specs.Vectors.{plain_vector, vector_of};
 ghost use Rattle.overlay_geom.specs.Flat.{paths_in};
@@ -15,15 +12,11 @@ ghost use Rattle.overlay_plane.specs.Meetings.{MeetInWholePoints};
 ghost use Rattle.overlay_builder.specs.Held.{AnswersQuery};
 ghost use Rattle.i_overlay.specs.Builder.{held_by};
 ghost use Rattle.i_overlay.specs.Overlay.{asked, IsResult, IsContoursResult};
-ghost use Rattle.i_overlay.specs.Views.{edges_viewed, IsView, EndsViewed};
-ghost use Rattle.i_overlay.specs.contracts.overlay.Overlay.{the_row};
 
 use crate::extract::{emptied, extract_contours, extract_shapes};
-use crate::graph::OverlayGraph;
 use crate::solver::Solver;
 use overlay_arrange::data::CountWithData;
 use overlay_arrange::fill_rule::FillRule;
-use overlay_arrange::graph::Graph;
 use overlay_arrange::overlay_rule::OverlayRule;
 use overlay_arrange::vector::DataVectorEdge;
 use overlay_builder::builder_core::BuilderCore;
@@ -55,8 +48,6 @@ pub struct Overlay<I: OverlayInt, A: Allocator> {
     pub boolean_buffer: Option<BooleanExtractionBuffer<I, A>>,
     // the edges, and whether a query was refused since the builder was last cleared
     core: BuilderCore<I, CountWithData<()>, A>,
-    // the graph of the last view, which it lends from; nothing else reads it
-    graph: Option<Graph<I, CountWithData<()>, A>>,
 }
 
 impl<I: OverlayInt, A: Allocator> Model for Overlay<I, A> {
@@ -185,40 +176,6 @@ impl<I: OverlayInt, A: Allocator + Clone> Overlay<I, A> {
         let written = self.extract_into(overlay_rule, fill_rule, output);
         self.core.set_failed(written.is_err());
         written
-    }
-
-    /// Splits the edges where they meet, as `build_separate_vectors` does, and gives a view of this
-    /// arrangement, with its sides filled under the rule, that can be asked for shapes any number of
-    /// times: `None` exactly where the arrangement has no edge. The builder is lent to the view, with
-    /// its options as they are now.
-    ///
-    /// Refusals are those of `build_separate_vectors`.
-    pub fn build_graph_view(
-        &mut self,
-        fill_rule: FillRule,
-    ) -> Result<Option<OverlayGraph<'_, I, (), A>>, OverlayError>
-        ensures arranged { IfOk result (λ v. IsArranged 64 self.old.edges (edges_viewed v)) }
-        ensures view { IfOk result (λ v. IfSome v (IsView fill_rule self.old.options)) }
-        ensures* after { sem 𝓛 (Rests (the_row I.row A.row I.Wide.row I.WideUInt.row I.IntNumber I.Wide.WideIntNumber I.WideUInt.UIntNumber A.Allocator) self.entry (λ new.
-            EndsViewed I.limit self.old new result)) }
-    {
-        self.core.arrange(&mut ())?;
-        let graph = match self.core.content().graph(fill_rule) {
-            Ok(graph) => graph,
-            Err(refused) => {
-                self.core.set_failed(true);
-                return Err(refused);
-            }
-        };
-        self.graph = Some(graph);
-        let lent = &*self;
-        match &lent.graph {
-            Some(graph) if !graph.edges().is_empty() => Ok(Some(OverlayGraph {
-                graph,
-                options: &lent.options,
-            })),
-            _ => Ok(None),
-        }
     }
 
     // The arranged edges with their filled sides.

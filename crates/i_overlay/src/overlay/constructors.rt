@@ -42,7 +42,6 @@ impl<I: OverlayInt, A: Allocator + Clone> Overlay<I, A> {
             options,
             boolean_buffer: Some(BooleanExtractionBuffer::default(alloc.clone()?)),
             core: BuilderCore::with_capacity(alloc, capacity)?,
-            graph: None,
         })
     }
 
