@@ -1,6 +1,7 @@
 mod Rows
 pub mod BoundAdded
 pub mod Builders
+pub mod ContoursAdded
 pub mod NoShapes
 pub mod OneShots
 pub mod Results

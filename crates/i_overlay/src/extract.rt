@@ -77,10 +77,7 @@ pub(crate) fn extract_contours<I: IntNumber, C: EdgeCount, A: Allocator + Clone,
     ensures err { IsOkUnless result OverlayError.Memory }
 {
     emptied(output);
-    let written = match kept_walks(graph, overlay_rule, options, buffer) {
-        Ok(walks) => write_contours(graph.allocator(), &walks, options.preserve_output_collinear, output),
-        Err(refused) => Err(refused),
-    };
+    let written = write_contours(graph, overlay_rule, options, buffer, output);
     if written.is_err() {
         emptied(output);
     }
@@ -96,8 +93,30 @@ pub(crate) fn emptied<I: IntNumber, B: Allocator>(output: &mut FlatContoursBuffe
     output.ranges.clear();
 }
 
+// Writes the contours into the output, which is empty at first. Where it is refused some may stand.
+fn write_contours<I: IntNumber, C: EdgeCount, A: Allocator + Clone, B: Allocator>(
+    graph: &Graph<I, C, A>,
+    overlay_rule: OverlayRule,
+    options: IntOverlayOptions<I::WideUInt>,
+    buffer: &mut BooleanExtractionBuffer<I, A>,
+    output: &mut FlatContoursBuffer<I, B>,
+) -> Result<(), OverlayError>
+    requires balanced { HasBalancedCounts (graph_edges graph.now) }
+    requires no_points { output.old.points.items ≡ [] }
+    requires no_ranges { output.old.ranges.items ≡ [] }
+    ensures result { OnOk result (IsContoursResult
+        (asked I.Wide.width I.WideUInt.natural graph.now.fill_rule overlay_rule options)
+        (graph_edges graph.now) (paths_in I.whole output.new.points.items output.new.ranges.items)) }
+    ensures packed { OnOk result (IsPacked output.new.points.items output.new.ranges.items) }
+    ensures err { IsOkUnless result OverlayError.Memory }
+{
+    let walks = kept_walks(graph, overlay_rule, options, buffer)?;
+    let keeps_points = options.preserve_output_collinear;
+    add_contours(graph.allocator(), &walks, keeps_points, output)
+}
+
 // Adds the contours of the walks to the output, which is empty at first.
-fn write_contours<I: IntNumber, A: Allocator + Clone, B: Allocator>(
+fn add_contours<I: IntNumber, A: Allocator + Clone, B: Allocator>(
     alloc: &A,
     walks: &[Vec<Step<I>, A>],
     keeps_points: bool,

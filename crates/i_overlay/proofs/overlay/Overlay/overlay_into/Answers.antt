@@ -1,5 +1,5 @@
 -- The contours are written from the arranged edges; and a refusal is remembered.
-use Rattle.std.proofs.Common.{sym, ap, subst, ◌∙◌}
+use Rattle.std.proofs.Common.{◌≡◌, sym, ap, subst, ◌∙◌}
 use Rattle.std.proofs.lemmas.Result.{on_ok_weaker}
 use Rattle.overlay_geom.specs.Merged.{HaveSameWindings}
 use Rattle.overlay_plane.specs.Carried.{edges_in}
