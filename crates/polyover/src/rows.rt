@@ -32,7 +32,7 @@ fn check_reader<R: Read + Drop>(
 #[test]
 fn bad_lines(rt: HostRuntime) {
     let run_last = "run edges NonZero";
-    let rows: [(&[u8], usize); 18] = [
+    let rows: [(&[u8], usize); 19] = [
         (b"", 1),
         (b"subject 0 0 1\nrun edges NonZero\n", 1),
         (b"subject 4611686018427387904 0\nrun edges NonZero\n", 1),
@@ -51,6 +51,7 @@ fn bad_lines(rt: HostRuntime) {
         (b"subject 0 0\n\n", 3),
         (b"run overlay Union NonZero\n\nclip\n", 3),
         (b"clip 0 0\nrun overlay Union NonZero ogc\n", 2),
+        (b"\nclip 0 0\nrun overlay Union NonZero min\n", 3),
     ];
     for (input, line) in rows {
         check(&rt, input, "", Exit::BadInput(line));
@@ -60,7 +61,7 @@ fn bad_lines(rt: HostRuntime) {
 
 #[test]
 fn bad_commands(rt: HostRuntime) {
-    let rows: [&[u8]; 19] = [
+    let rows: [&[u8]; 26] = [
         b"run",
         b"run 7",
         b"run overlay",
@@ -76,8 +77,15 @@ fn bad_commands(rt: HostRuntime) {
         b"run overlay Union NonZero keep clockwise keep",
         b"run overlay Union NonZero ogc",
         b"run overlay Union NonZero ogc ogc",
-        b"run overlay Union NonZero min 5",
+        b"run overlay Union NonZero min",
         b"run overlay Union NonZero min -1",
+        b"run overlay Union NonZero min +4",
+        b"run overlay Union NonZero min x",
+        b"run overlay Union NonZero min keep",
+        b"run overlay Union NonZero min 4 4",
+        b"run overlay Union NonZero min 4 min 4",
+        b"run overlay Union NonZero min 0 keep min 0",
+        b"run overlay Union NonZero min 170141183460469231731687303715884105728",
         b"run overlay Union NonZero Clockwise",
         b"overlay Union NonZero",
     ];

@@ -1,7 +1,7 @@
 -- What a query on a builder, to which all contours were added, says of the contours; and the text of its answer.
-use Rattle.std.proofs.Common.{◌≡◌, inl, ℕ, Bool, false, List, map, Option, Some, None, IfSome, sym, ap₂, subst, ◌∙◌}
+use Rattle.std.proofs.Common.{◌≡◌, inl, ℕ, false, List, map, Option, Some, None, IfSome, sym, ap, subst, ◌∙◌}
+use Rattle.std.specs.Prelude.{Result, Ok, Err, IfOk, MatchResult, unwrap_or}
 use Rattle.std.specs.Int.{w128}
-use Rattle.std.specs.Prelude.{Result, Ok, Err, IfOk, MatchResult}
 use Rattle.overlay_geom.specs.declared.error.OverlayError.{OverlayError}
 use Rattle.overlay_geom.specs.declared.error.OverlayError.TheVariants.{Memory, NotSettled, TooManyEdges, Failed}
 use Rattle.overlay_geom.specs.Edges.{CountedEdge}
@@ -21,10 +21,13 @@ use Rattle.polyover_engine.specs.Answers.{AreEdges, Answers, IsAnswer, asked_by}
 use Rattle.polyover_engine.specs.Builders.{HasAdded}
 use Rattle.polyover_text.specs.Grammar.{GivenFigures, Asks, input_lines}
 
--- what is asked of a builder with these options, of which the query turns two
+-- what is asked of a builder with these options, of which the query sets three
 abbrev pub asked_with : OverlayQuery → IntOverlayOptions ℕ → Asked
-asked_with query options = asked w128 (λ n. n) query.fill_rule query.overlay_rule
-    (record options { output_direction = query.output.output_direction; preserve_output_collinear = query.output.preserve_output_collinear })
+asked_with query options = asked w128 (λ n. n) query.fill_rule query.overlay_rule (record options {
+  output_direction = query.output.output_direction;
+  preserve_output_collinear = query.output.preserve_output_collinear;
+  min_output_area = unwrap_or query.output.min_output_area 0;
+})
 
 module _ (cs : List GivenPath) (b : Builder ℕ) (h : HasAdded cs b) where
   -- what a query for the edges answers
@@ -38,12 +41,9 @@ module _ (cs : List GivenPath) (b : Builder ℕ) (h : HasAdded cs b) where
 
   -- what a query asks of it, as its settings say
   asked_of_query : (query : OverlayQuery) → asked_with query b.options ≡ asked_by query
-  asked_of_query query = ap₂ (λ t n. by t n) h.made.options.for_ogc h.made.options.area
-    where
-      by : Bool → ℕ → Asked
-      by t n = record (asked_by query) { ogc = t; min_output_area = n }
+  asked_of_query query = ap (λ t. record (asked_by query) { ogc = t }) h.made.options.for_ogc
 
-  -- what an overlay answers, whatever the settings are that it turns
+  -- what an overlay answers, whatever the settings are that it sets
   pub shapes_answered : {V : Type 0} (limit : ℕ) (shapes : V → List (List (List Point))) (query : OverlayQuery)
       (old new : Held CountedEdge) (answer : Result V OverlayError) → AnswersQuery limit 64 old new answer → old.edges ≡ b.edges → old.failed ≡ b.failed
       → IfOk answer (λ v. IsResult (asked_with query b.options) new.edges (shapes v))

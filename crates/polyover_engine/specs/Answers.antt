@@ -1,5 +1,5 @@
 -- What the program answers: the edges of the arrangement, the shapes of an overlay, or where points lie; and the text of it.
-use Rattle.std.specs.Prelude.{◌≡◌, ℕ, Bool, false, List, [], ◌∷◌, map, All}
+use Rattle.std.specs.Prelude.{◌≡◌, ℕ, Bool, false, List, [], ◌∷◌, map, All, unwrap_or}
 use Rattle.std.specs.Int.{w128}
 use Rattle.std.specs.List.{flat_map}
 use Rattle.overlay_geom.specs.Resolved.{IsResolved}
@@ -45,7 +45,7 @@ asked_by q = record {
   output_direction = q.output.output_direction;
   preserve_output_collinear = q.output.preserve_output_collinear;
   ogc = false;
-  min_output_area = 0;
+  min_output_area = unwrap_or q.output.min_output_area 0;
   area_width = w128;
 }
 

@@ -1,12 +1,12 @@
 -- The points of an input are in the coordinate range.
-use Rattle.std.proofs.Common.{ℕ, List, All}
+use Rattle.std.proofs.Common.{ℕ, List}
 use Rattle.std.proofs.lemmas.List.Elements.{All-nil, All-cons}
 use Rattle.overlay_arrange.specs.Paths.{GivenPath}
 use Rattle.polyover_text.specs.declared.query.Query.{Query}
 use Rattle.overlay_geom.specs.Plane.{Point}
 use Rattle.overlay_geom.specs.Points.{InRange, AllInRange}
 use Rattle.polyover_text.specs.Points.{FiguresInRange}
-use Rattle.polyover_text.specs.Grammar.{Word, Line, GivesContour, contour, GivesPoint, point, ArePoints, none, more, GivenFigures, paths_of, AreFigures, blank, Asks}
+use Rattle.polyover_text.specs.Grammar.{Word, Line, GivesContour, contour, GivesPoint, point, ArePoints, none, more, GivenFigures, AreFigures, blank, Asks}
 
 points_in_range : (ws : List Word) (ps : List Point) → ArePoints ws ps → AllInRange 4611686018427387903 ps
 points_in_range ws ps none = All-nil (InRange 4611686018427387903)

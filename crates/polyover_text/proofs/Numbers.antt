@@ -2,6 +2,9 @@
 use Rattle.std.proofs.Common.{FitsSigned, w64, negsuc, ◌≡◌, ◌≢◌, ℕ, ◌≤◌, ◌==◌, true, false, ℤ, pos, List}
 use Rattle.std.proofs.Common.{[], ◌∷◌, get_or, refl, sym, ◌∙◌, subst, arith, inl, inr, lit<}
 use Rattle.std.proofs.lemmas.Int.{ints}
+use Rattle.std.specs.Int.{w128}
+use Rattle.std.specs.Prelude.{Result, Ok, Err, MatchOption, OkIff, unsigned_abs, ◌≤ℤ◌}
+use Rattle.std.specs.Result.{result_ok}
 use Rattle.overlay_geom.specs.Numbers.{Within}
 use Rattle.std.specs.Str.{IsUtf8}
 use Rattle.std.specs.Str.Parse.{IsNumeral, digits_value, without_leading_sign, signed_digits_value}
@@ -11,7 +14,7 @@ use Rattle.std.proofs.lemmas.Fmt.{IsAscii-from_digits}
 use Rattle.std.proofs.lemmas.Str.{IsUtf8-from_ascii}
 use Rattle.std.proofs.lemmas.Str.Ascii.{IsAscii-cons}
 use Rattle.std.proofs.lemmas.Str.Parse.{digit_at}
-use Rattle.polyover_text.specs.Grammar.{Word, IsNumber, plain, negative, IsCoordinate}
+use Rattle.polyover_text.specs.Grammar.{Word, IsNumber, plain, negative, IsArea}
 
 -- a numeral begins with a digit
 first_of_numeral : (digits : List ℕ) → IsNumeral 10 digits → (48 ≤ get_or digits 0 0) × (get_or digits 0 0 ≤ 57)
@@ -68,24 +71,49 @@ numeral_is_number (b ∷ digits) c h = elim (cases_eq b 45) [
   | inr no_minus ↦ plain_numeral (b ∷ digits) c h no_minus
 ]
 
+-- a number is a text that `parse` reads
+pub text_of_number : (word text : List ℕ) (c : ℤ) → text ≡ word → IsNumber word c → IsSignedNumeral text c
+text_of_number word text c same h = subst (λ w. IsSignedNumeral w c) (sym same) (number_is_numeral word c h)
+
+-- a text that begins with a plus sign is no number
+pub plus_begins_no_number : (word text : List ℕ) → text ≡ word → true ≡ (get_or text 0 0 == 43)
+    → (c : ℤ) → ¬ (IsNumber word c)
+plus_begins_no_number word text same test c h =
+    let plus : get_or text 0 0 ≡ 43 = grind (arith, nat_tests) in
+    (text_of_number word text c same h).no_plus plus
+
 -- a text that does not begin with a plus sign and that `parse` reads is a number
-pub parsed_is_number : (word text : List ℕ) (c : ℤ) → text ≡ word → false ≡ (get_or text 0 0 == 43) → IsNumeral 10 (without_leading_sign text)
-    → c ≡ signed_digits_value 10 text → IsNumber word c
-parsed_is_number word text c same test digits value =
-    let no_plus : get_or text 0 0 ≢ 43 = grind (arith, nat_tests) in
+pub parsed_is_number : (word text : List ℕ) (c : ℤ) → text ≡ word → get_or text 0 0 ≢ 43
+    → IsNumeral 10 (without_leading_sign text) → c ≡ signed_digits_value 10 text → IsNumber word c
+parsed_is_number word text c same no_plus digits value =
     subst (λ w. IsNumber w c) same (numeral_is_number text c (record { no_plus = no_plus; numeral = digits; value = value }))
 
--- a coordinate is a number that `parse` reads
-pub text_of_coordinate : (word text : List ℕ) (c : ℤ) → text ≡ word → IsCoordinate word c → IsSignedNumeral text c
-text_of_coordinate word text c same h = subst (λ w. IsSignedNumeral w c) (sym same) (number_is_numeral word c h.number)
-
--- a text that begins with a plus sign is no coordinate
-pub plus_begins_no_coordinate : (word text : List ℕ) → text ≡ word → true ≡ (get_or text 0 0 == 43) → (c : ℤ) → ¬ (IsCoordinate word c)
-plus_begins_no_coordinate word text same test c h =
-    let plus : get_or text 0 0 ≡ 43 = grind (arith, nat_tests) in
-    (text_of_coordinate word text c same h).no_plus plus
+-- ---- coordinates
 
 -- a coordinate fits 64 bits
 pub coordinate_fits : (c : ℤ) → Within 4611686018427387903 c → FitsSigned w64 c
 coordinate_fits (pos n) h = record { sfits = omega (arith, ints, h.high) }
 coordinate_fits (negsuc n) h = record { sfits = omega (arith, ints, h.low) }
+
+-- ---- areas
+
+-- a text is an area where `parse` reads it as a number that is not negative
+pub area_read : {E : Type 0} (word text : List ℕ) (z : ℤ) (r : Result ℕ E) → text ≡ word → get_or text 0 0 ≢ 43
+    → IsNumeral 10 (without_leading_sign text) → FitsSigned w128 z → z ≡ signed_digits_value 10 text
+    → OkIff r (pos 0 ≤ℤ z) (unsigned_abs z)
+    → MatchOption (result_ok r) ((n : ℕ) → ¬ (IsArea word n)) (λ n. IsArea word n)
+area_read word text (pos m) (Ok n) same no_plus digits fits value read =
+    subst (IsArea word) (sym read.1)
+    (record { number = parsed_is_number word text (pos m) same no_plus digits value; in_range = fits.sfits })
+area_read word text (negsuc m) (Ok n) same no_plus digits fits value read = absurd (omega (arith, ints, read.0))
+area_read word text z (Err e) same no_plus digits fits value below_zero = λ n h.
+    let same_number : z ≡ pos n = value ∙ sym (text_of_number word text (pos n) same h.number).value in
+    below_zero (subst (λ v. pos 0 ≤ℤ v) (sym same_number) (omega (arith, ints)))
+
+-- and where it reads no number, it is none
+pub no_area_read : (word text : List ℕ) → text ≡ word
+    → ¬ (IsNumeral 10 (without_leading_sign text) × FitsSigned w128 (signed_digits_value 10 text))
+    → (n : ℕ) → ¬ (IsArea word n)
+no_area_read word text same none n h =
+    let numeral = text_of_number word text (pos n) same h.number in
+    none (numeral.numeral, subst (FitsSigned w128) numeral.value (record { sfits = h.in_range }))

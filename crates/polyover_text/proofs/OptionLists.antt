@@ -1,31 +1,37 @@
 -- The options of a list of words, set one by one.
-use Rattle.std.proofs.Common.{◌≡◌, true, false, [], ◌∷◌, Option, Some, None, MatchOption, codes, sym, subst}
-use Rattle.std.proofs.Common.{◌↔◌}
+use Rattle.std.proofs.Common.{◌≡◌, ◌≢◌, ◌↔◌, ℕ, pos, true, false, [], ◌∷◌, codes, refl, sym, subst, ◌∙◌}
+use Rattle.std.proofs.Common.{Option, Some, None, MatchOption, is_some}
+use Rattle.std.proofs.lemmas.Bool.{false≢true}
 use Rattle.overlay_arrange.specs.declared.options.ContourDirection.TheVariants.{CounterClockwise, Clockwise}
 use Rattle.polyover_text.specs.declared.options.OutputOptions.{OutputOptions}
-use Rattle.polyover_text.specs.Grammar.{Word, Line, default_output, SetOptions, none, clockwise, keep}
+use Rattle.polyover_text.specs.Grammar.{Word, Line, IsArea, default_output, SetOptions, none, clockwise, keep, min}
 use Rattle.polyover_text.specs.Options.{SetsOption, SetsNothing}
+use Rattle.polyover_text.proofs.Numbers.{number_is_numeral}
 
 -- what the words set is what the words left set from the options so far
 pub record HaveSet (ws : Line) (so_far : OutputOptions) (left : Line) : Type 0 where
   pub same : (o : OutputOptions) → SetOptions default_output ws o ↔ SetOptions so_far left o
 
-pub one_more_set : (ws : Line) (old new : OutputOptions) (left rest : Line) (w : Word) → HaveSet ws old left → left ≡ w ∷ rest
-    → SetsOption old w new → HaveSet ws new rest
-one_more_set ws old new left rest w h next sets = record {
+pub none_set : (ws : Line) → HaveSet ws default_output ws
+none_set ws = record { same = λ o. (λ h. h, λ h. h) }
+
+pub one_more_set : (ws : Line) (old new : OutputOptions) (left mid rest : Line) (w : Word) → HaveSet ws old left
+    → left ≡ w ∷ mid → SetsOption old (w ∷ mid) new rest → HaveSet ws new rest
+one_more_set ws old new left mid rest w h next sets = record {
   same = λ o.
       let here = subst (λ l. SetOptions default_output ws o ↔ SetOptions old l o) next (h.same o) in
-      (λ all. (sets rest o).0 (here.0 all), λ others. here.1 ((sets rest o).1 others));
+      (λ all. (sets o).0 (here.0 all), λ others. here.1 ((sets o).1 others));
 }
 
 -- where no word is left, the options so far are those that the words set
 pub all_set : (ws : Line) (options : OutputOptions) (left : Line) → HaveSet ws options left → left ≡ [] → SetOptions default_output ws options
 all_set ws options left h ended = (h.same options).1 (subst (λ l. SetOptions options l options) (sym ended) none)
 
--- a word that begins no option is of no options
-pub none_with_word : (ws : Line) (old : OutputOptions) (left rest : Line) (w : Word) → HaveSet ws old left → left ≡ w ∷ rest → SetsNothing old w
-    → (o : OutputOptions) → ¬ (SetOptions default_output ws o)
-none_with_word ws old left rest w h next nothing o all = nothing rest o (subst (λ l. SetOptions old l o) next ((h.same o).0 all))
+-- words that set no options are of no options
+pub none_with_word : (ws : Line) (old : OutputOptions) (left rest : Line) (w : Word) → HaveSet ws old left
+    → left ≡ w ∷ rest → SetsNothing old (w ∷ rest) → (o : OutputOptions) → ¬ (SetOptions default_output ws o)
+none_with_word ws old left rest w h next nothing o all =
+    nothing o (subst (λ l. SetOptions old l o) next ((h.same o).0 all))
 
 -- ---- one option
 
@@ -37,19 +43,93 @@ after_keep : (old o : OutputOptions) (ws : Line) → SetOptions old (codes "keep
     → (old.preserve_output_collinear ≡ false) × SetOptions (record old { preserve_output_collinear = true }) ws o
 after_keep old o ws (keep e h) = (e, h)
 
-pub turned_clockwise : (old : OutputOptions) (w : Word) (o : Option OutputOptions) → w ≡ codes "clockwise"
+pub turned_clockwise : (old : OutputOptions) (w : Word) (ws : Line) (o : Option OutputOptions) → w ≡ codes "clockwise"
     → MatchOption o (old.output_direction ≡ Clockwise) (λ new. (old.output_direction ≡ CounterClockwise) × (new ≡ record old { output_direction = Clockwise }))
-    → MatchOption o (SetsNothing old w) (λ new. SetsOption old w new)
-turned_clockwise old w None named set = subst (SetsNothing old) (sym named) (λ ws o h. let e = (after_clockwise old o ws h).0 in cc)
-turned_clockwise old w (Some new) named h =
-    subst (λ v. SetsOption old v new) (sym named) (subst (SetsOption old (codes "clockwise")) (sym h.1)
-    (λ ws o. (λ all. (after_clockwise old o ws all).1, λ others. clockwise h.0 others)))
+    → MatchOption o (SetsNothing old (w ∷ ws)) (λ new. SetsOption old (w ∷ ws) new ws)
+turned_clockwise old w ws None named set =
+    subst (λ v. SetsNothing old (v ∷ ws)) (sym named) (λ o h. let e = (after_clockwise old o ws h).0 in cc)
+turned_clockwise old w ws (Some new) named h =
+    subst (λ v. SetsOption old (v ∷ ws) new ws) (sym named)
+    (subst (λ v. SetsOption old (codes "clockwise" ∷ ws) v ws) (sym h.1)
+    (λ o. (λ all. (after_clockwise old o ws all).1, λ others. clockwise h.0 others)))
 
-pub points_kept : (old : OutputOptions) (w : Word) (o : Option OutputOptions) → w ≡ codes "keep"
+pub points_kept : (old : OutputOptions) (w : Word) (ws : Line) (o : Option OutputOptions) → w ≡ codes "keep"
     → MatchOption o (old.preserve_output_collinear ≡ true)
     (λ new. (old.preserve_output_collinear ≡ false) × (new ≡ record old { preserve_output_collinear = true }))
-    → MatchOption o (SetsNothing old w) (λ new. SetsOption old w new)
-points_kept old w None named set = subst (SetsNothing old) (sym named) (λ ws o h. let e = (after_keep old o ws h).0 in cc)
-points_kept old w (Some new) named h =
-    subst (λ v. SetsOption old v new) (sym named) (subst (SetsOption old (codes "keep")) (sym h.1)
-    (λ ws o. (λ all. (after_keep old o ws all).1, λ others. keep h.0 others)))
+    → MatchOption o (SetsNothing old (w ∷ ws)) (λ new. SetsOption old (w ∷ ws) new ws)
+points_kept old w ws None named set =
+    subst (λ v. SetsNothing old (v ∷ ws)) (sym named) (λ o h. let e = (after_keep old o ws h).0 in cc)
+points_kept old w ws (Some new) named h =
+    subst (λ v. SetsOption old (v ∷ ws) new ws) (sym named)
+    (subst (λ v. SetsOption old (codes "keep" ∷ ws) v ws) (sym h.1)
+    (λ o. (λ all. (after_keep old o ws all).1, λ others. keep h.0 others)))
+
+-- ---- the minimum area
+
+-- what the words after `min` are
+record AfterMin (old o : OutputOptions) (ws : Line) : Type 0 where
+  pub w : Word
+  pub n : ℕ
+  pub rest : Line
+  pub parts : ws ≡ w ∷ rest
+  pub unset : old.min_output_area ≡ None
+  pub area : IsArea w n
+  pub others : SetOptions (record old { min_output_area = Some n }) rest o
+
+after_min : (old o : OutputOptions) (ws : Line) → SetOptions old (codes "min" ∷ ws) o → AfterMin old o ws
+after_min old o ws (min unset area h) =
+    record { w = _; n = _; rest = _; parts = refl; unset = unset; area = area; others = h }
+
+-- a word is one area
+same_area : (w : Word) (n m : ℕ) → IsArea w n → IsArea w m → n ≡ m
+same_area w n m h k =
+    let same : pos n ≡ pos m =
+    (number_is_numeral w (pos n) h.number).value ∙ sym (number_is_numeral w (pos m) k.number).value in
+    cc
+
+pub set_before : (old : OutputOptions) (ws : Line) → true ≡ is_some old.min_output_area
+    → SetsNothing old (codes "min" ∷ ws)
+set_before old ws set o h = false≢true (sym (subst (λ m. true ≡ is_some m) (after_min old o ws h).unset set))
+
+pub no_word_left : (old : OutputOptions) (ws : Line) → ws ≡ [] → SetsNothing old (codes "min" ∷ ws)
+no_word_left old ws ended o h = let parts = (after_min old o ws h).parts in cc
+
+pub no_area : (old : OutputOptions) (ws : Line) (w : Word) (rest : Line) → ws ≡ w ∷ rest → ((n : ℕ) → ¬ (IsArea w n))
+    → SetsNothing old (codes "min" ∷ ws)
+no_area old ws w rest words no_number o h =
+    let after = after_min old o ws h in
+    let parts = after.parts in
+    let same : after.w ≡ w = cc in
+    no_number after.n (subst (λ v. IsArea v after.n) same after.area)
+
+area_set_after : (old o : OutputOptions) (ws : Line) (w : Word) (n : ℕ) (rest : Line) → ws ≡ w ∷ rest → IsArea w n
+    → AfterMin old o ws → SetOptions (record old { min_output_area = Some n }) rest o
+area_set_after old o ws w n rest words area after =
+    let parts = after.parts in
+    let word : after.w ≡ w = cc in
+    let others : after.rest ≡ rest = cc in
+    let number : after.n ≡ n = same_area w after.n n (subst (λ v. IsArea v after.n) word after.area) area in
+    subst (λ m. SetOptions (record old { min_output_area = Some m }) rest o) number
+    (subst (λ l. SetOptions (record old { min_output_area = Some after.n }) l o) others after.others)
+
+none_where_unset : (area : Option ℕ) → false ≡ is_some area → area ≡ None
+none_where_unset None unset = refl
+none_where_unset (Some n) unset = absurd (false≢true unset)
+
+pub area_set : (old : OutputOptions) (ws : Line) (w : Word) (n : ℕ) (rest : Line) → ws ≡ w ∷ rest
+    → false ≡ is_some old.min_output_area → IsArea w n
+    → SetsOption old (codes "min" ∷ ws) (record old { min_output_area = Some n }) rest
+area_set old ws w n rest words unset area = λ o. (
+  λ all. area_set_after old o ws w n rest words area (after_min old o ws all),
+  λ others. subst (λ l. SetOptions old (codes "min" ∷ l) o) (sym words)
+      (min (none_where_unset old.min_output_area unset) area others),
+)
+
+-- ---- other words
+
+-- a word that is none of the three
+pub begins_no_option : (old o : OutputOptions) (w : Word) (ws : Line) → w ≢ codes "clockwise" → w ≢ codes "keep"
+    → w ≢ codes "min" → ¬ (SetOptions old (w ∷ ws) o)
+begins_no_option old o w ws no_clockwise no_keep no_min (clockwise e h) = no_clockwise refl
+begins_no_option old o w ws no_clockwise no_keep no_min (keep e h) = no_keep refl
+begins_no_option old o w ws no_clockwise no_keep no_min (min e a h) = no_min refl

@@ -1,6 +1,6 @@
 -- The grammar of the input: lines, words, numbers, figures and the command, and which line is the first bad one.
-use Rattle.std.specs.Prelude.{◌≡◌, ◌⊎◌, ℕ, ◌+◌, ◌<◌, ◌==◌, Bool, true, false, not, ℤ, pos, neg_ℤ}
-use Rattle.std.specs.Prelude.{List, [], ◌∷◌, ◌++◌, map, filter, take, length, All, codes}
+use Rattle.std.specs.Prelude.{◌≡◌, ◌⊎◌, ℕ, ◌+◌, ◌^◌, ◌<◌, ◌==◌, Bool, true, false, not, ℤ, pos, neg_ℤ}
+use Rattle.std.specs.Prelude.{List, [], ◌∷◌, ◌++◌, map, filter, take, length, All, codes, Some, None}
 use Rattle.std.specs.List.{slice_split}
 use Rattle.std.specs.Str.Lines.{lines}
 use Rattle.std.specs.Str.Parse.{IsNumeral, digits_value}
@@ -54,6 +54,11 @@ pub record IsCoordinate (word : Word) (c : ℤ) : Type 0 where
   pub number : IsNumber word c
   pub in_range : Within 4611686018427387903 c
 
+-- the word is a number from 0 to 2^127 - 1
+pub record IsArea (word : Word) (n : ℕ) : Type 0 where
+  pub number : IsNumber word (pos n)
+  pub in_range : n < 2 ^ 127
+
 -- the words are the points' coordinates, x before y
 pub data ArePoints : List Word → List Point → Type 0 where
   none : ArePoints [] []
@@ -97,16 +102,22 @@ rule_name Xor = codes "Xor"
 
 -- no option is set
 abbrev pub default_output : OutputOptions
-default_output = record { output_direction = CounterClockwise; preserve_output_collinear = false }
+default_output = record {
+  output_direction = CounterClockwise;
+  preserve_output_collinear = false;
+  min_output_area = None;
+}
 
 -- the words, read from left to right, set options that were not set, one after another, until these options are set: `clockwise` turns
--- outlines clockwise, and `keep` keeps output points on one line
+-- outlines clockwise, `keep` keeps output points on one line, and `min` with a number sets the minimum area
 pub data SetOptions : OutputOptions → List Word → OutputOptions → Type 0 where
   none : {o : OutputOptions} → SetOptions o [] o
   clockwise : {old o : OutputOptions} {ws : List Word} → old.output_direction ≡ CounterClockwise
       → SetOptions (record old { output_direction = Clockwise }) ws o → SetOptions old (codes "clockwise" ∷ ws) o
   keep : {old o : OutputOptions} {ws : List Word} → old.preserve_output_collinear ≡ false
       → SetOptions (record old { preserve_output_collinear = true }) ws o → SetOptions old (codes "keep" ∷ ws) o
+  min : {old o : OutputOptions} {w : Word} {n : ℕ} {ws : List Word} → old.min_output_area ≡ None → IsArea w n
+      → SetOptions (record old { min_output_area = Some n }) ws o → SetOptions old (codes "min" ∷ w ∷ ws) o
 
 -- the line asks for this: `run edges FILL` for the edges under a fill rule, `run overlay RULE FILL OPT..` for the shapes of an overlay,
 -- `run contains` for whether each point is inside the subject, `run locate` for where each point lies in it

@@ -1,12 +1,13 @@
 -- Options of an overlay, set one by one.
-use Rattle.std.specs.Prelude.{◌↔◌, List, ◌∷◌}
+use Rattle.std.specs.Prelude.{◌↔◌}
 use Rattle.polyover_text.specs.declared.options.OutputOptions.{OutputOptions}
-use Rattle.polyover_text.specs.Grammar.{Word, SetOptions}
+use Rattle.polyover_text.specs.Grammar.{Line, SetOptions}
 
--- the word sets an option that is not set, and the new options have it set: words after it set what they set from there
-abbrev pub SetsOption : OutputOptions → Word → OutputOptions → Type 0
-SetsOption old w new = (ws : List Word) (o : OutputOptions) → SetOptions old (w ∷ ws) o ↔ SetOptions new ws o
+-- the words begin with those of an option that is not set, and the new options have it set: all the words set what the
+-- rest sets from there
+abbrev pub SetsOption : OutputOptions → Line → OutputOptions → Line → Type 0
+SetsOption old ws new rest = (o : OutputOptions) → SetOptions old ws o ↔ SetOptions new rest o
 
--- the word begins no option that is not set
-abbrev pub SetsNothing : OutputOptions → Word → Type 0
-SetsNothing old w = (ws : List Word) (o : OutputOptions) → ¬ (SetOptions old (w ∷ ws) o)
+-- the words set no options, as they do not begin with those of an option that is not set
+abbrev pub SetsNothing : OutputOptions → Line → Type 0
+SetsNothing old ws = (o : OutputOptions) → ¬ (SetOptions old ws o)

@@ -163,6 +163,48 @@ fn options_stand_in_any_order(rt: HostRuntime) {
     check_overlay(&rt, SIDE_BY_SIDE, "Subject NonZero keep clockwise", wanted);
 }
 
+// A square of area 36 with a square hole of area 4.
+const FRAME: &str = "subject 0 0 6 0 6 6 0 6\nsubject 2 2 2 4 4 4 4 2\n";
+
+#[test]
+fn contours_below_the_minimum_area_are_left_out(rt: HostRuntime) {
+    let square = "shape\n2 4 2 2 4 2 4 4\n";
+    check_overlay(&rt, TWO_SQUARES, "Intersect EvenOdd min 4", square);
+    check_overlay(&rt, TWO_SQUARES, "Intersect EvenOdd min 5", "");
+    let outline = "shape\n0 6 0 0 6 0 6 6\n";
+    let both = "shape\n0 6 0 0 6 0 6 6\n2 2 2 4 4 4 4 2\n";
+    let rows = [
+        ("Subject EvenOdd", both),
+        ("Subject EvenOdd min 0", both),
+        ("Subject EvenOdd min -0", both),
+        ("Subject EvenOdd min 4", both),
+        ("Subject EvenOdd min 5", outline),
+        ("Subject EvenOdd min 36", outline),
+        ("Subject EvenOdd min 37", ""),
+        (
+            "Subject EvenOdd min 170141183460469231731687303715884105727",
+            "",
+        ),
+    ];
+    for (command, wanted) in rows {
+        check_overlay(&rt, FRAME, command, wanted);
+    }
+}
+
+#[test]
+fn a_minimum_area_stands_at_any_place_among_options(rt: HostRuntime) {
+    let both = "shape\n0 0 0 6 6 6 6 0\n2 4 2 2 4 2 4 4\n";
+    let outline = "shape\n0 0 0 6 6 6 6 0\n";
+    let rows = [
+        ("Subject EvenOdd min 4 keep clockwise", both),
+        ("Subject EvenOdd clockwise min 007 keep", outline),
+        ("Subject EvenOdd keep clockwise min 5", outline),
+    ];
+    for (command, wanted) in rows {
+        check_overlay(&rt, FRAME, command, wanted);
+    }
+}
+
 // Two bars of which the second covers the right half of the first and as much beside it.
 const BARS: &str = "subject 0 0 4 0 4 1 0 1\nclip 2 0 6 0 6 1 2 1\n";
 

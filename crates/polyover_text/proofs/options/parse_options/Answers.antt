@@ -3,10 +3,12 @@ use Rattle.polyover_text.proofs.options.parse_options.Goals as goal
 
 pub returns-in_err-options : goal.returns-in_err-options
 returns-in_err-options c =
-    rw c.from_residual.ensures (none_with_word _ _ _ _ _ c.loop-word.invariant c.in-Some.ensures.steps c.in_err-options.ensures)
+    rw c.from_residual.ensures
+    (none_with_word _ _ _ _ _ c.loop-word.invariant c.in-Some.ensures.steps c.in_err-options.ensures.option)
 
 pub loop-word-preserved : goal.loop-word-preserved
-loop-word-preserved c = one_more_set _ _ _ _ _ _ c.loop-word.invariant c.in-Some.ensures.steps c.in_ok-options.ensures
+loop-word-preserved c =
+    one_more_set _ _ _ _ _ _ _ c.loop-word.invariant c.in-Some.ensures.steps c.in_ok-options.ensures.option
 
 pub returns : goal.returns
 returns c = all_set _ _ _ c.loop-word.invariant c.in_default.ensures.steps.0
