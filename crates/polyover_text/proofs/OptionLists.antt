@@ -12,9 +12,6 @@ use Rattle.polyover_text.proofs.Numbers.{number_is_numeral}
 pub record HaveSet (ws : Line) (so_far : OutputOptions) (left : Line) : Type 0 where
   pub same : (o : OutputOptions) → SetOptions default_output ws o ↔ SetOptions so_far left o
 
-pub none_set : (ws : Line) → HaveSet ws default_output ws
-none_set ws = record { same = λ o. (λ h. h, λ h. h) }
-
 pub one_more_set : (ws : Line) (old new : OutputOptions) (left mid rest : Line) (w : Word) → HaveSet ws old left
     → left ≡ w ∷ mid → SetsOption old (w ∷ mid) new rest → HaveSet ws new rest
 one_more_set ws old new left mid rest w h next sets = record {
