@@ -23,7 +23,9 @@ fn names_of_the_original(rt: HostRuntime) -> Result<(), Fail> {
     assert_eq!(rt; PathRef::new(&path).path_count(), 1);
     let line: IntLine<i32> = [IntPoint::new(1, 2), IntPoint::new(3, 4)];
     assert_eq!(rt; line[1].x, 3);
-    let buffer: BooleanExtractionBuffer<i32, Global> = BooleanExtractionBuffer::default(rt.alloc());
-    assert_eq!(rt; buffer.into_room().len(), 0);
+    let mut buffer: BooleanExtractionBuffer<i32, Global> = BooleanExtractionBuffer::default(
+        rt.alloc(),
+    );
+    assert_eq!(rt; buffer.take_room(rt.alloc()).len(), 0);
     Ok(())
 }

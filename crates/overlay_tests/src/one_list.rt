@@ -14,10 +14,7 @@ use std::test::Fail;
 
 // A square with a hole that touches its left side.
 const TOUCHING: Row<'static> = Row {
-    subj: &[
-        &[(0, 0), (6, 0), (6, 6), (0, 6)],
-        &[(0, 3), (2, 4), (2, 2)],
-    ],
+    subj: &[&[(0, 0), (6, 0), (6, 6), (0, 6)], &[(0, 3), (2, 4), (2, 2)]],
     clip: &[],
     rule: OverlayRule::Subject,
     fill: FillRule::EvenOdd,
@@ -56,8 +53,12 @@ fn check_into<I: OverlayInt + PartialEq + From<i16>>(
 ) -> Result<(), OverlayError> {
     let mut output: FlatContoursBuffer<I, Global> = FlatContoursBuffer::default(alloc)?;
     output.add_contour(&contour_of::<I>(alloc, &[(1, 1), (2, 2), (3, 1)])?)?;
-    let mut overlay: Overlay<I, Global> =
-        builder_of(rt, alloc, &TOUCHING, IntOverlayOptions::default())?;
+    let mut overlay: Overlay<I, Global> = builder_of(
+        rt,
+        alloc,
+        &TOUCHING,
+        IntOverlayOptions::default(),
+    )?;
     overlay.overlay_into(OverlayRule::Subject, FillRule::EvenOdd, &mut output)?;
     check_one(rt, alloc, &output, ONE_CONTOUR)
 }

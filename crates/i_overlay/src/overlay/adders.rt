@@ -45,7 +45,8 @@ impl<I: OverlayInt, A: Allocator + Clone> Overlay<I, A> {
         ensures no_query { result ≢ Err OverlayError.NotSettled }
     {
         let kind = contour_kind(self.options.preserve_input_collinear);
-        self.core.add_path(contour, kind, passing_without_data(shape_type))?;
+        self.core
+            .add_path(contour, kind, passing_without_data(shape_type))?;
         Ok(())
     }
 
@@ -94,7 +95,8 @@ impl<I: OverlayInt, A: Allocator + Clone> Overlay<I, A> {
         ensures { AddsAsAsked (paths_for shape_type (R0.paths resource.now)) self.old self.new result }
     {
         let kind = contour_kind(self.options.preserve_input_collinear);
-        self.core.add_paths(resource, kind, passing_without_data(shape_type))
+        self.core
+            .add_paths(resource, kind, passing_without_data(shape_type))
     }
 
     /// Drops the edges and mends a failed builder; `solver`, `options` and `boolean_buffer` stay.

@@ -19,11 +19,12 @@ loop-i-init g c =
     let some : 0 < length ws = search rules in
     let counted = points_counted whole ws in
     let first = plain_point whole (get_or ws 0 c.index-walk-0.result).from in
-    let none = drop_all (length ws) ps (omega (arith, counted)) in
-    (omega arith,
-    point_in_range whole ws 0 c.index-walk-0.result some g.I.IntNumber.limit c.requires,
-    ap (next_in first) none,
-    c.zero-sum.ensures ∙ sym (wrapped_nothing w) ∙ ap (λ r. int_wrap w (rest_sum first r)) (sym none))
+    let none = drop_all (length ws) ps (omega (arith, counted)) in (
+      omega arith,
+      point_in_range whole ws 0 c.index-walk-0.result some g.I.IntNumber.limit c.requires,
+      ap (next_in first) none,
+      c.zero-sum.ensures ∙ sym (wrapped_nothing w) ∙ ap (λ r. int_wrap w (rest_sum first r)) (sym none),
+    )
 
 pub cross-requires-clause-p : goal.cross-requires-clause-p
 cross-requires-clause-p g c =
@@ -48,11 +49,12 @@ loop-i-preserved g c =
     let first = plain_point whole (get_or ws 0 c.index-walk-0.result).from in
     let v = plain_point whole (get_or ws k c.index-walk-i.result).from in
     let is : get_or ps k v ≡ v = point_read whole ws k c.index-walk-i.result inside v in
-    let after : i ≡ k + 1 = omega (arith, more) in
-    (omega (arith, most),
-    point_in_range whole ws k c.index-walk-i.result inside g.I.IntNumber.limit c.requires,
-    next_in_more first ps k v in_points is,
-    c.wrapping_add-sum.ensures
-    ∙ ap₂ (λ a b. int_wrap w (a +ℤ b)) (c.cross.ensures ∙ ap (cross_of v) (sym c.loop-i.invariant.2)) c.loop-i.invariant.3
-    ∙ ap (λ n. int_wrap w (cross_of v (next_in first (drop n ps)) +ℤ int_wrap w (rest_sum first (drop n ps)))) after
-    ∙ wrapped_rest_more w first ps k v in_points is)
+    let after : i ≡ k + 1 = omega (arith, more) in (
+      omega (arith, most),
+      point_in_range whole ws k c.index-walk-i.result inside g.I.IntNumber.limit c.requires,
+      next_in_more first ps k v in_points is,
+      c.wrapping_add-sum.ensures
+          ∙ ap₂ (λ a b. int_wrap w (a +ℤ b)) (c.cross.ensures ∙ ap (cross_of v) (sym c.loop-i.invariant.2)) c.loop-i.invariant.3
+          ∙ ap (λ n. int_wrap w (cross_of v (next_in first (drop n ps)) +ℤ int_wrap w (rest_sum first (drop n ps)))) after
+          ∙ wrapped_rest_more w first ps k v in_points is,
+    )

@@ -31,7 +31,7 @@ returns g c =
           (λ b. AddsAsAsked weight (added_paths b.options.preserve_input_collinear given) (held_by b) (plain_held c.add_paths.new.self) c.add_paths.result)
           c.self.view_is
           (contours_added keep c.args.shape_type (λ k. boolean_counts k.count) c.contour_kind-kind.result c.passing_without_data.result
-    c.contour_kind-kind.ensures (dataless_pass_once c.args.shape_type c.passing_without_data.result c.passing_without_data.ensures) paths
+          c.contour_kind-kind.ensures (dataless_pass_once c.args.shape_type c.passing_without_data.result c.passing_without_data.ensures) paths
           c.self.inside.core c.add_paths.new.self c.add_paths.result c.add_paths.ensures);
       kept = only_edges_new _ _ _ _ c.self.view_is c.add_paths.ensures.kept;
     }

@@ -30,7 +30,7 @@ returns g c =
           (λ b. AddsAsAsked weight (added_paths false given) (held_by b) (plain_held c.add_paths.new.self) c.add_paths.result)
           c.self.view_is
           (contours_added false c.args.shape_type boolean_counts Thinned c.passing.result refl
-    (counts_pass_once c.args.shape_type c.passing.result c.passing.ensures) paths
+          (counts_pass_once c.args.shape_type c.passing.result c.passing.ensures) paths
           c.self.inside.core c.add_paths.new.self c.add_paths.result c.add_paths.ensures);
       kept = only_edges_new _ _ _ _ c.self.view_is c.add_paths.ensures.kept;
     }
