@@ -212,7 +212,8 @@ fn an_edge_that_ends_on_another_cuts_it(rt: HostRuntime) -> Result<(), Fail> {
 
 #[test]
 fn a_piece_may_run_against_its_edge(rt: HostRuntime) -> Result<(), Fail> {
-    // The steep edge is led through (1, 5), where it is crossed at 4/5 and 5: the piece from there down to (1, 0) runs back.
+    // The steep edge is led through (1, 5), where it is crossed at 4/5 and 5: the piece from there down to (1, 0) runs
+    // back.
     let edges = [edge(0, 25, 1, 0, 1), edge(0, 5, 7, 5, 1)];
     let wanted = [
         edge(0, 5, 1, 5, 1),

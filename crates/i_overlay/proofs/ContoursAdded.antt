@@ -21,20 +21,25 @@ module _ {I : Type 0} (whole : I → ℤ) (keep : Bool) where
     pub packed : IsPacked points ranges
 
   -- nothing shows no walks
-  pub show_none : (points : List (IntPoint I)) (ranges : List (Range ℕ)) → points ≡ [] → ranges ≡ [] → Show [] points ranges
+  pub show_none : (points : List (IntPoint I)) (ranges : List (Range ℕ)) → points ≡ [] → ranges ≡ [] →
+      Show [] points ranges
   show_none points ranges no_points no_ranges = record {
     shown = subst (λ rs. AllZip (IsKeptOrThinned keep) [] (paths_in whole points rs)) (sym no_ranges) tt;
     packed = packed_none points ranges no_points no_ranges;
   }
 
   -- a walk more
-  pub show_more : (walks : List (List Step)) (w : List Step) (points contour : List (IntPoint I)) (ranges : List (Range ℕ)) →
+  pub show_more : (walks : List (List Step)) (w : List Step) (points contour : List (IntPoint I))
+      (ranges : List (Range ℕ)) →
       Show walks points ranges → IsKeptOrThinned keep (points_of w) (plain_points whole contour) →
       Show (walks ++ w ∷ []) (points ++ contour) (ranges ++ range_behind points contour ∷ [])
   show_more walks w points contour ranges h taken = record {
     shown = subst (AllZip (IsKeptOrThinned keep) (map points_of (walks ++ w ∷ [])))
         (sym (paths_added whole points contour ranges (packed_inside points ranges h.packed)))
-        (subst (λ given. AllZip (IsKeptOrThinned keep) given (paths_in whole points ranges ++ plain_points whole contour ∷ [])) (sym (map-append points_of walks (w ∷ [])))
-        (AllZip-push (IsKeptOrThinned keep) (map points_of walks) (paths_in whole points ranges) (points_of w) (plain_points whole contour) h.shown taken));
+        (subst (λ given. AllZip (IsKeptOrThinned keep) given
+        (paths_in whole points ranges ++ plain_points whole contour ∷ []))
+        (sym (map-append points_of walks (w ∷ [])))
+        (AllZip-push (IsKeptOrThinned keep) (map points_of walks) (paths_in whole points ranges) (points_of w)
+        (plain_points whole contour) h.shown taken));
     packed = packed_more points contour ranges h.packed;
   }

@@ -21,14 +21,17 @@ none_of_none f [] same = refl
 none_of_none f (x ∷ xs) same = let long = ap length same in absurd (omega arith)
 
 -- no shapes are kept, or thinned, as none
-none_shown : (keep : Bool) (shapes result : List (List (List Point))) → shapes ≡ [] → AreKeptOrThinned keep shapes result → result ≡ []
+none_shown : (keep : Bool) (shapes result : List (List (List Point))) → shapes ≡ [] →
+    AreKeptOrThinned keep shapes result → result ≡ []
 none_shown keep [] [] same shown = refl
 none_shown keep [] (r ∷ rs) same shown = absurd shown
 none_shown keep (s ∷ ss) result same shown = let long = ap length same in absurd (omega arith)
 
 -- nor into contours
-no_contours : (on_left : Bool) (keeps : List Step → Bool) (contours : List Contour) → IsCut on_left keeps [] contours → contours ≡ []
-no_contours on_left keeps contours is = is.are ∙ ap (λ ws. contours_from on_left 0 (filter keeps ws)) (no_walks _ is.walks is.cut)
+no_contours : (on_left : Bool) (keeps : List Step → Bool) (contours : List Contour) → IsCut on_left keeps [] contours →
+    contours ≡ []
+no_contours on_left keeps contours is = is.are ∙ ap (λ ws. contours_from on_left 0 (filter keeps ws))
+    (no_walks _ is.walks is.cut)
 
 -- so the result over no edges has no shape
 pub no_shapes : (q : Asked) (result : List (List (List Point))) → q.ogc ≡ false → IsResult q [] result → result ≡ []
@@ -38,7 +41,8 @@ no_shapes q result no_groups is =
     none_shown q.preserve_output_collinear _ result (ap (λ cs. shapes_found cs is.shapes) none) is.shown
 
 -- nor has the list that holds it
-pub no_shapes_held : {X Y E : Type 0} (r : Result X E) (items : X → List Y) (f : Y → List (List Point)) (q : Asked) (es : List CountedEdge)
+pub no_shapes_held : {X Y E : Type 0} (r : Result X E) (items : X → List Y) (f : Y → List (List Point)) (q : Asked)
+    (es : List CountedEdge)
     → q.ogc ≡ false → IfOk r (λ v. IsResult q es (map f (items v))) → es ≡ [] → IfOk r (λ v. items v ≡ [])
 no_shapes_held (Ok v) items f q es no_groups is none =
     none_of_none f (items v) (no_shapes q _ no_groups (subst (λ es. IsResult q es (map f (items v))) none is))

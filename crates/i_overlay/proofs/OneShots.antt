@@ -20,17 +20,28 @@ use Rattle.i_overlay.specs.Overlay.{Asked, asked, IsResult}
 use Rattle.overlay_builder.specs.GivenPaths.{GivenPath, HoldsPaths}
 
 -- what the default options ask for
-pub asked_of_default : {U : Type 0} (area_width : Width) (natural : U → ℕ) (fill : FillRule) (rule : OverlayRule) (o : IntOverlayOptions U)
-    → AreOptions natural false false false o → asked area_width natural fill rule o ≡ asked_by_default area_width fill rule
+pub asked_of_default : {U : Type 0} (area_width : Width) (natural : U → ℕ) (fill : FillRule) (rule : OverlayRule)
+    (o : IntOverlayOptions U)
+    → AreOptions natural false false false o → asked area_width natural fill rule o ≡ asked_by_default
+    area_width fill rule
 asked_of_default area_width natural fill rule o are =
     ap₂ (λ d k. by d k o.ogc (natural o.min_output_area)) are.direction are.output_kept
     ∙ ap₂ (λ t n. by CounterClockwise false t n) are.for_ogc are.area
   where
     by : ContourDirection → Bool → Bool → ℕ → Asked
-    by d k t n = record { fill = fill; rule = rule; output_direction = d; preserve_output_collinear = k; ogc = t; min_output_area = n; area_width = area_width }
+    by d k t n = record {
+      fill = fill;
+      rule = rule;
+      output_direction = d;
+      preserve_output_collinear = k;
+      ogc = t;
+      min_output_area = n;
+      area_width = area_width;
+    }
 
 -- the result of a query on a content that the paths give is one of the paths
-pub result_of_paths : {V E : Type 0} (r : Result V E) (shapes : V → List (List (List Point))) (q : Asked) (paths : List GivenPath)
+pub result_of_paths : {V E : Type 0} (r : Result V E) (shapes : V → List (List (List Point))) (q : Asked)
+    (paths : List GivenPath)
     (content edges : List CountedEdge) → HoldsPaths false paths content → OnOk r (IsArranged 64 content edges)
     → IfOk r (λ v. IsResult q edges (shapes v)) → IfOk r (λ v. IsResultOfPaths q paths (shapes v))
 result_of_paths (Ok v) shapes q paths content edges holds arranged is =
@@ -38,8 +49,10 @@ result_of_paths (Ok v) shapes q paths content edges holds arranged is =
 result_of_paths (Err e) shapes q paths content edges holds arranged is = tt
 
 -- the refusal of a query on the paths
-pub query_refused : {V : Type 0} (limit : ℕ) (paths : List GivenPath) (old new : Held CountedEdge) (r : Result V OverlayError)
-    → HoldsPaths false paths old.edges → old.failed ≡ false → AnswersQuery limit 64 old new r → IfErr r (MayRefusePaths paths)
+pub query_refused : {V : Type 0} (limit : ℕ) (paths : List GivenPath) (old new : Held CountedEdge)
+    (r : Result V OverlayError)
+    → HoldsPaths false paths old.edges → old.failed ≡ false → AnswersQuery limit 64 old new r
+    → IfErr r (MayRefusePaths paths)
 query_refused limit paths old new (Ok v) holds ready h = tt
 query_refused limit paths old new (Err e) holds ready h = paths_refused e (unfailed h.err)
   where

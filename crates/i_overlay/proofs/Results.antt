@@ -15,10 +15,11 @@ use Rattle.overlay_plane.proofs.ResultWindings.{steps_of_contours, results_wind}
 use Rattle.overlay_plane.proofs.RoledShapes.{walks_from, all_kept}
 use Rattle.overlay_plane.proofs.ShapeSteps.{shapes_have_each_step, shapes_wind}
 use Rattle.overlay_plane.proofs.WalksApart.{walks_are_contours, walks_have_each_step}
-use Rattle.overlay_walk.specs.Walks.{bound_to}
+use Rattle.overlay_walk.specs.Walks.{with_shape_numbers}
 use Rattle.overlay_walk.proofs.BoundWalks.{are_bound, no_hole_is_lost, bound_contours}
 use Rattle.overlay_walk.proofs.ShapesFound.{as_many}
-use Rattle.i_overlay.specs.Overlay.{Asked, region_asked, filled_on_left, selected_of, is_kept, shapes_found, AreKeptWalks, IsResult, IsContoursResult}
+use Rattle.i_overlay.specs.Overlay.{Asked, region_asked, filled_on_left, selected_of, is_kept, shapes_found}
+use Rattle.i_overlay.specs.Overlay.{AreKeptWalks, IsResult, IsContoursResult}
 
 -- what is taken as it is given is the same
 same_contours : (given taken : List (List Point)) → AllZip (λ g t. t ≡ g) given taken → taken ≡ given
@@ -34,7 +35,8 @@ module _ (q : Asked) (es : List CountedEdge) (kept : List (List Step)) (are : Ar
   -- with the minimum area zero all walks are kept
   all_walks : q.min_output_area ≡ 0 → kept ≡ are.walks
   all_walks all = are.are ∙ subst (λ n. filter (reaches q.area_width n) are.walks ≡ are.walks) (sym all)
-      (all_kept q.area_width are.walks (walks_are_contours (region_asked q) subj_of clip_of es (filled_on_left q) are.walks are.cut))
+      (all_kept q.area_width are.walks
+      (walks_are_contours (region_asked q) subj_of clip_of es (filled_on_left q) are.walks are.cut))
 
   -- so the selected steps are cut into the walks that are kept
   cut_all : q.min_output_area ≡ 0 → AreCutFrom (region_asked q) subj_of clip_of es (filled_on_left q) kept
@@ -51,35 +53,42 @@ module _ (q : Asked) (es : List CountedEdge) (kept : List (List Step)) (are : Ar
 
   module _ (shapes : List (Option ℕ)) (found : AreShapesFound (filled_on_left q) contours shapes) where
     abbrev bound : List BoundWalk
-    bound = bound_to kept shapes
+    bound = with_shape_numbers kept shapes
 
     bound_are : q.min_output_area ≡ 0 → AreBound (filled_on_left q) kept bound
     bound_are all = are_bound (region_asked q) subj_of clip_of es (filled_on_left q) kept (cut_all all) shapes found
 
     -- both give the same shapes
     same_found : points_of_shapes (shapes_of (filled_on_left q) bound) ≡ shapes_found contours shapes
-    same_found = ap points_of_shapes (sym (bound_contours (filled_on_left q) kept shapes (found.counted ∙ as_many (filled_on_left q) kept)))
+    same_found = ap points_of_shapes
+        (sym (bound_contours (filled_on_left q) kept shapes (found.counted ∙ as_many (filled_on_left q) kept)))
 
     -- the shapes have each selected step once
-    each_once : q.min_output_area ≡ 0 → IsPermutation (selected_of q es) (steps_of_shapes (shapes_found contours shapes))
+    each_once : q.min_output_area ≡ 0 →
+        IsPermutation (selected_of q es) (steps_of_shapes (shapes_found contours shapes))
     each_once all = subst (λ ss. IsPermutation (selected_of q es) (steps_of_shapes ss)) same_found
-        (shapes_have_each_step (region_asked q) subj_of clip_of es (filled_on_left q) kept (cut_all all) bound (bound_are all))
+        (shapes_have_each_step (region_asked q) subj_of clip_of es (filled_on_left q) kept (cut_all all) bound
+        (bound_are all))
 
     -- what shows the shapes is the result
     pub result_shown : q.ogc ≡ false → (result : List (List (List Point))) →
-        AreKeptOrThinned q.preserve_output_collinear (points_of_shapes (shapes_of (filled_on_left q) bound)) result → IsResult q es result
+        AreKeptOrThinned q.preserve_output_collinear (points_of_shapes (shapes_of (filled_on_left q) bound)) result →
+        IsResult q es result
     result_shown no_groups result shown = record {
       contours = contours;
-      cut = subst (λ t. IsCutBy t (filled_on_left q) (is_kept q) (selected_of q es) contours) (sym no_groups) contours_cut;
+      cut = subst (λ t. IsCutBy t (filled_on_left q) (is_kept q) (selected_of q es) contours)
+          (sym no_groups) contours_cut;
       shapes = shapes;
       found = found;
       shown = shown_found;
-      none_lost = λ all. no_hole_is_lost (region_asked q) subj_of clip_of es (filled_on_left q) kept (cut_all all) shapes found;
+      none_lost = λ all. no_hole_is_lost (region_asked q) subj_of clip_of es (filled_on_left q) kept
+          (cut_all all) shapes found;
       each_once = each_once;
       kept_each_once = λ all keep. subst (λ ss. IsPermutation (selected_of q es) (steps_of_shapes ss))
           (sym (same_shapes (shapes_found contours shapes) result
           (subst (λ k. AreKeptOrThinned k (shapes_found contours shapes) result) keep shown_found))) (each_once all);
-      winds = λ all p off. shapes_wind (region_asked q) subj_of clip_of es (filled_on_left q) kept (cut_all all) bound (bound_are all)
+      winds = λ all p off. shapes_wind (region_asked q) subj_of clip_of es (filled_on_left q) kept (cut_all all) bound
+          (bound_are all)
           q.preserve_output_collinear result shown p;
     }
       where
@@ -97,17 +106,20 @@ module _ (q : Asked) (es : List CountedEdge) (kept : List (List Step)) (are : Ar
   each_in_list all =
       let cut = cut_all all in
       subst (IsPermutation (selected_of q es))
-      (sym (steps_of_contours kept (walks_are_contours (region_asked q) subj_of clip_of es (filled_on_left q) kept cut)))
+      (sym (steps_of_contours kept (walks_are_contours (region_asked q) subj_of clip_of es
+      (filled_on_left q) kept cut)))
       (walks_have_each_step (region_asked q) subj_of clip_of es (filled_on_left q) kept cut)
 
   -- what shows them is the result
-  pub contours_shown : (result : List (List Point)) → AllZip (IsKeptOrThinned q.preserve_output_collinear) (map points_of kept) result →
+  pub contours_shown : (result : List (List Point)) → AllZip (IsKeptOrThinned q.preserve_output_collinear)
+      (map points_of kept) result →
       IsContoursResult q es result
   contours_shown result shown = record {
     contours = contours;
     cut = contours_cut;
     shown = subst (λ ps. AllZip (IsKeptOrThinned q.preserve_output_collinear) ps result) (sym same_points) shown;
-    each_once = λ all. subst (λ ps. IsPermutation (selected_of q es) (flat_map steps_of ps)) (sym same_points) (each_in_list all);
+    each_once = λ all. subst (λ ps. IsPermutation (selected_of q es) (flat_map steps_of ps)) (sym same_points)
+        (each_in_list all);
     kept_each_once = λ all keep. subst (λ ps. IsPermutation (selected_of q es) (flat_map steps_of ps))
         (sym (same_contours (map points_of kept) result
         (subst (λ k. AllZip (IsKeptOrThinned k) (map points_of kept) result) keep shown))) (each_in_list all);

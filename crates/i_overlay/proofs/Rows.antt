@@ -23,11 +23,13 @@ abbrev beside : List Point
 beside = at 2 0 ∷ at 4 0 ∷ at 4 2 ∷ at 2 2 ∷ []
 
 abbrev square : List CountedEdge
-square = passed (at 0 0) (at 0 2) (negsuc 0) (pos 0) ∷ passed (at 0 0) (at 2 0) (pos 1) (pos 0) ∷ passed (at 0 2) (at 2 2) (negsuc 0) (pos 0) ∷ passed (at 2 0) (at 2 2) (pos 1) (pos 0) ∷ []
+square = passed (at 0 0) (at 0 2) (negsuc 0) (pos 0) ∷ passed (at 0 0) (at 2 0) (pos 1) (pos 0) ∷ passed (at 0 2)
+    (at 2 2) (negsuc 0) (pos 0) ∷ passed (at 2 0) (at 2 2) (pos 1) (pos 0) ∷ []
 
 -- a counterclockwise square as a subject: its lower and right edges are passed forward, its upper and left ones back
 square_added : map subject_edge (steps_of corners)
-    ≡ passed (at 0 0) (at 2 0) (pos 1) (pos 0) ∷ passed (at 2 0) (at 2 2) (pos 1) (pos 0) ∷ passed (at 0 2) (at 2 2) (negsuc 0) (pos 0) ∷ passed (at 0 0) (at 0 2) (negsuc 0) (pos 0) ∷ []
+    ≡ passed (at 0 0) (at 2 0) (pos 1) (pos 0) ∷ passed (at 2 0) (at 2 2) (pos 1) (pos 0) ∷ passed (at 0 2) (at 2 2)
+    (negsuc 0) (pos 0) ∷ passed (at 0 0) (at 0 2) (negsuc 0) (pos 0) ∷ []
 square_added = refl
 
 square_weight : weight square ≡ 4
@@ -58,13 +60,15 @@ pair_bits : map (fill_bits NonZero pair) pair ≡ 2 ∷ 1 ∷ 2 ∷ 9 ∷ 4 ∷ 
 pair_bits = refl
 
 -- the edge that the two share, joined of the two that were added
-pair_joined : joined_edge (map subject_edge (steps_of corners) ++ map clip_edge (steps_of beside)) (record { a = at 2 0; b = at 2 2 })
+pair_joined : joined_edge (map subject_edge (steps_of corners) ++ map clip_edge (steps_of beside))
+    (record { a = at 2 0; b = at 2 2 })
     ≡ passed (at 2 0) (at 2 2) (pos 1) (negsuc 0)
 pair_joined = refl
 
 -- a square added twice is filled twice, which is not odd
 abbrev twice : List CountedEdge
-twice = passed (at 0 0) (at 0 2) (negsuc 1) (pos 0) ∷ passed (at 0 0) (at 2 0) (pos 2) (pos 0) ∷ passed (at 0 2) (at 2 2) (negsuc 1) (pos 0) ∷ passed (at 2 0) (at 2 2) (pos 2) (pos 0) ∷ []
+twice = passed (at 0 0) (at 0 2) (negsuc 1) (pos 0) ∷ passed (at 0 0) (at 2 0) (pos 2) (pos 0) ∷ passed (at 0 2)
+    (at 2 2) (negsuc 1) (pos 0) ∷ passed (at 2 0) (at 2 2) (pos 2) (pos 0) ∷ []
 
 twice_bits : map (fill_bits EvenOdd twice) twice ≡ 0 ∷ 0 ∷ 0 ∷ 0 ∷ []
 twice_bits = refl

@@ -7,7 +7,9 @@ use Rattle.i_overlay.specs.Builder.{Builder, held_by}
 use Rattle.overlay_builder.specs.GivenPaths.{GivenPath, added_paths}
 
 -- a call that adds the paths answers so, of the builder before and of the one afterwards
-pub record AddsAsAsked {U V : Type 0} (paths : List GivenPath) (old new : Builder U) (result : Result V OverlayError) : Type 0 where
-  pub added : BuilderAddsAsAsked weight (added_paths old.options.preserve_input_collinear paths) (held_by old) (held_by new) result
+pub record AddsAsAsked {U V : Type 0} (paths : List GivenPath) (old new : Builder U)
+    (result : Result V OverlayError) : Type 0 where
+  pub added : BuilderAddsAsAsked weight (added_paths old.options.preserve_input_collinear paths) (held_by old)
+      (held_by new) result
   -- nothing but the edges changes, whatever is answered
   pub kept : new ≡ record old { edges = new.edges }

@@ -4,7 +4,8 @@ use Rattle.overlay_geom.specs.Plane.{Point, Step}
 use Rattle.overlay_plane.specs.Binding.{BoundWalk, shapes_begun}
 use Rattle.overlay_plane.specs.ShapeWindings.{points_of_shapes, AreKeptOrThinned}
 
--- where the old shapes show the shapes that these outlines begin with the holes among these walks, the new ones show them with this walk too
+-- where the old shapes show the shapes that these outlines begin with the holes among these walks, the new ones show
+-- them with this walk too
 abbrev pub AddsBound : Bool → Bool → BoundWalk → List (List (List Point)) → List (List (List Point)) → Type 0
 AddsBound keep on_left b old new = (bound : List BoundWalk) (os : List (List Step)) →
     AreKeptOrThinned keep (points_of_shapes (shapes_begun on_left bound 0 os)) old →

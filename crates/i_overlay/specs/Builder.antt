@@ -6,8 +6,8 @@ use Rattle.overlay_builder.specs.Held.{Held}
 use Rattle.overlay_arrange.specs.Options.{AreOptions}
 use Rattle.overlay_arrange.specs.declared.options.IntOverlayOptions.{IntOverlayOptions}
 
--- a builder: its settings, whether it holds a buffer for extractions (of which nothing is seen), the counted edges that it holds, and whether a query was
--- refused since it was last cleared
+-- a builder: its settings, whether it holds a buffer for extractions (of which nothing is seen), the counted edges that
+-- it holds, and whether a query was refused since it was last cleared
 pub record Builder (U : Type 0) : Type 0 where
   pub solver : Solver
   pub options : IntOverlayOptions U
@@ -17,9 +17,16 @@ pub record Builder (U : Type 0) : Type 0 where
 
 -- a new builder with these settings: it has a buffer, no edges, and has not failed
 abbrev pub empty_builder : {U : Type 0} → IntOverlayOptions U → Solver → Builder U
-empty_builder options solver = record { solver = solver; options = options; boolean_buffer = Some tt; edges = []; failed = false }
+empty_builder options solver = record {
+  solver = solver;
+  options = options;
+  boolean_buffer = Some tt;
+  edges = [];
+  failed = false;
+}
 
--- a builder as the constructors without settings make it, whatever it holds: it has not failed, and has the default options and a buffer
+-- a builder as the constructors without settings make it, whatever it holds: it has not failed, and has the default
+-- options and a buffer
 pub record IsNewBuilder {U : Type 0} (natural : U → ℕ) (b : Builder U) : Type 0 where
   pub ready : b.failed ≡ false
   pub options : AreOptions natural false false false b.options

@@ -4,3 +4,5 @@ pub mod Builder
 pub mod Laws
 pub mod OneShot
 pub mod Overlay
+pub mod Relations
+pub mod Views

@@ -9,7 +9,7 @@ ghost use Rattle.overlay_geom.specs.Thinned.{IsKeptOrThinned};
 ghost use Rattle.overlay_plane.specs.Binding.{is_hole, outlines, shapes_begun, shapes_of};
 ghost use Rattle.overlay_plane.specs.ShapeWindings.{points_of_shapes, AreKeptOrThinned};
 ghost use Rattle.overlay_walk.specs.Steps.{is_on_left, plain_steps, IsLong};
-ghost use Rattle.overlay_walk.specs.Walks.{plain_walks, bound_to, AreNumbered};
+ghost use Rattle.overlay_walk.specs.Walks.{plain_walks, with_shape_numbers, AreNumbered};
 ghost use Rattle.i_overlay.specs.Assembly.{AddsBound};
 
 use overlay_arrange::options::ContourDirection;
@@ -33,9 +33,10 @@ pub(crate) fn assembled<I: IntNumber, A: Allocator + Clone>(
 ) -> Result<IntShapes<I, A>, OverlayError>
     requires long { All (All (IsLong I.limit)) (plain_walks I.whole walks.now) }
     requires numbered { AreNumbered (is_on_left direction) (plain_walks I.whole walks.now)
-        (bound_to (plain_walks I.whole walks.now) numbers.now) }
+        (with_shape_numbers (plain_walks I.whole walks.now) numbers.now) }
     ensures shapes { IfOk result (λ v. AreKeptOrThinned keeps_points
-        (points_of_shapes (shapes_of (is_on_left direction) (bound_to (plain_walks I.whole walks.now) numbers.now)))
+        (points_of_shapes (shapes_of (is_on_left direction)
+        (with_shape_numbers (plain_walks I.whole walks.now) numbers.now)))
         (plain_shapes I.whole v.items)) }
     ensures err { IsOkUnless result OverlayError.Memory }
 {
@@ -63,7 +64,8 @@ fn outline_shapes<I: IntNumber, A: Allocator + Clone>(
 ) -> Result<IntShapes<I, A>, OverlayError>
     requires long { All (All (IsLong I.limit)) (plain_walks I.whole walks.now) }
     ensures begun { IfOk result (λ v. AreKeptOrThinned keeps_points
-        (points_of_shapes (shapes_begun (is_on_left direction) [] 0 (outlines (is_on_left direction) (plain_walks I.whole walks.now))))
+        (points_of_shapes (shapes_begun (is_on_left direction) [] 0
+        (outlines (is_on_left direction) (plain_walks I.whole walks.now))))
         (plain_shapes I.whole v.items)) }
     ensures err { IsOkUnless result OverlayError.Memory }
 {
@@ -146,7 +148,8 @@ pub(crate) fn contour<I: IntNumber, A: Allocator + Clone>(
     keeps_points: bool,
 ) -> Result<IntContour<I, A>, OverlayError>
     requires { All (IsLong I.limit) (plain_steps I.whole walk.now) }
-    ensures ok { IfOk result (λ v. IsKeptOrThinned keeps_points (points_of (plain_steps I.whole walk.now)) (plain_points I.whole v.items)) }
+    ensures ok { IfOk result (λ v. IsKeptOrThinned keeps_points (points_of (plain_steps I.whole walk.now))
+        (plain_points I.whole v.items)) }
     ensures err { IsOkUnless result OverlayError.Memory }
 {
     let points = points_of(alloc.clone()?, walk)?;

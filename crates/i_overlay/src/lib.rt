@@ -1,7 +1,8 @@
 //! Boolean operations on polygons with whole coordinates.
 //!
 //! Contours are added to an [`overlay::Overlay`] as subject or clip, and queries are answered on
-//! what was added. [`single::SingleIntOverlay`] answers in one call.
+//! what was added. [`single::SingleIntOverlay`] answers in one call. [`relate::IntRelate`] tells how two
+//! resources lie to each other.
 #![tactic(auto)]
 
 mod assemble;
@@ -9,6 +10,7 @@ pub mod edge_data;
 pub mod error;
 pub mod extract;
 pub mod fill_rule;
+pub mod graph;
 pub mod i_float;
 pub mod i_shape;
 pub mod integer;
@@ -16,8 +18,10 @@ pub mod laws;
 pub mod overlay;
 pub mod overlay_rule;
 pub mod point_location;
+pub mod relate;
 pub mod segm;
 pub mod single;
 pub mod solver;
 pub mod string;
 pub mod vector;
+mod viewed_graph;

@@ -2,6 +2,7 @@
 
 ghost use Rattle.std.specs.Prelude.{◌≡◌, false, [], map, Some, IfOk, OnOk, OnErr, IsOkUnless, IsErrOf};
 ghost use Rattle.overlay_arrange.specs.Content.{IsAscending};
+ghost use Rattle.overlay_arrange.specs.Graphs.{graph_edges};
 ghost use Rattle.overlay_arrange.specs.Vectors.{plain_vector, vector_of};
 ghost use Rattle.overlay_geom.specs.Flat.{paths_in};
 ghost use Rattle.overlay_geom.specs.Merged.{HaveSameWindings};
@@ -15,8 +16,10 @@ ghost use Rattle.i_overlay.specs.Overlay.{asked, IsResult, IsContoursResult};
 
 use crate::extract::{emptied, extract_contours, extract_shapes};
 use crate::solver::Solver;
+use crate::viewed_graph::ViewedGraph;
 use overlay_arrange::data::CountWithData;
 use overlay_arrange::fill_rule::FillRule;
+use overlay_arrange::graph::Graph;
 use overlay_arrange::overlay_rule::OverlayRule;
 use overlay_arrange::vector::DataVectorEdge;
 use overlay_builder::builder_core::BuilderCore;
@@ -31,6 +34,7 @@ use std::marker::Model;
 mod adders;
 mod constructors;
 mod deprecated;
+mod views;
 
 pub use overlay_arrange::options::{ContourDirection, IntOverlayOptions, ShapeType};
 
@@ -49,6 +53,8 @@ pub struct Overlay<I: OverlayInt, A: Allocator> {
     pub boolean_buffer: Option<BooleanExtractionBuffer<I, A>>,
     // the edges, and whether a query was refused since the builder was last cleared
     core: BuilderCore<I, CountWithData<()>, A>,
+    // what the last view shows; no answer reads it
+    viewed: Option<ViewedGraph<I, CountWithData<()>, A>>,
 }
 
 impl<I: OverlayInt, A: Allocator> Model for Overlay<I, A> {
@@ -106,11 +112,13 @@ impl<I: OverlayInt, A: Allocator + Clone> Overlay<I, A> {
     ///
     /// Outlines run in the direction `options.output_direction`, and holes against it. A hole that
     /// touches its outline is a part of the outline. Unless `options.preserve_output_collinear`,
-    /// points on one line with their two neighbours are dropped. Contours whose area, wrapped to the
-    /// wide type and halved downwards, is below `options.min_output_area` are left out, and so are
-    /// holes that lie in none of several shapes that are left; the area is that of the contour
-    /// before points are dropped. Where no edge is left there is no shape. `options.ogc` is not set.
-    /// After an answer there is a buffer, `boolean_buffer`.
+    /// points on one line with their two neighbours are dropped. Where no edge is left there is no
+    /// shape. `options.ogc` is not set. After an answer there is a buffer, `boolean_buffer`.
+    ///
+    /// A contour is left out where its double area before points are dropped, wrapped to the wide
+    /// type, without its sign and halved downwards, is below `options.min_output_area`. Of the holes
+    /// that stay all go to the shape that stays, where it is the only one; where several stay, each
+    /// goes to its parent among what is left, and one without a parent is left out.
     ///
     /// Refusals are those of `build_separate_vectors`.
     pub fn overlay(
@@ -187,8 +195,7 @@ impl<I: OverlayInt, A: Allocator + Clone> Overlay<I, A> {
             map (plain_vector I.whole) v.items ≡ map (vector_of fill_rule self.now.edges) self.now.edges) }
         ensures err { IsOkUnless result OverlayError.Memory }
     {
-        let graph = self.core.content().graph(fill_rule)?;
-        graph.separate_vectors()
+        self.graph_filled_by(fill_rule)?.separate_vectors()
     }
 
     // The shapes round the region of the arranged edges. The buffer is there afterwards.
@@ -208,18 +215,15 @@ impl<I: OverlayInt, A: Allocator + Clone> Overlay<I, A> {
         ensures buffer { OnOk result (self.new.boolean_buffer ≡ Some tt) }
         ensures err { IsOkUnless result OverlayError.Memory }
     {
-        let graph = self.core.content().graph(fill_rule)?;
-        let mut buffer = match self.boolean_buffer.take() {
-            Some(buffer) => buffer,
-            None => BooleanExtractionBuffer::default(graph.allocator().clone()?),
-        };
+        let graph = self.graph_filled_by(fill_rule)?;
+        let mut buffer = taken(&mut self.boolean_buffer, graph.allocator())?;
         let shapes = extract_shapes(&graph, overlay_rule, self.options, &mut buffer);
         self.boolean_buffer = Some(buffer);
         shapes
     }
 
-    // The contours round the region of the arranged edges, written into the output. The buffer is there
-    // afterwards.
+    // The contours round the region of the arranged edges, written into the output, which is empty at
+    // first. The buffer is there afterwards.
     fn extract_into<B: Allocator>(
         &mut self,
         overlay_rule: OverlayRule,
@@ -241,13 +245,37 @@ impl<I: OverlayInt, A: Allocator + Clone> Overlay<I, A> {
         ensures buffer { OnOk result (self.new.boolean_buffer ≡ Some tt) }
         ensures err { IsOkUnless result OverlayError.Memory }
     {
-        let graph = self.core.content().graph(fill_rule)?;
-        let mut buffer = match self.boolean_buffer.take() {
-            Some(buffer) => buffer,
-            None => BooleanExtractionBuffer::default(graph.allocator().clone()?),
-        };
+        let graph = self.graph_filled_by(fill_rule)?;
+        let mut buffer = taken(&mut self.boolean_buffer, graph.allocator())?;
         let written = extract_contours(&graph, overlay_rule, self.options, &mut buffer, output);
         self.boolean_buffer = Some(buffer);
         written
+    }
+
+    // The graph of the arranged edges.
+    fn graph_filled_by(
+        &self,
+        fill_rule: FillRule,
+    ) -> Result<Graph<I, CountWithData<()>, A>, OverlayError>
+        requires ascending { IsAscending self.now.edges }
+        requires settled { IsSettled self.now.edges }
+        ensures edges { IfOk result (λ g. graph_edges g ≡ self.now.edges) }
+        ensures rule { IfOk result (λ g. g.fill_rule ≡ fill_rule) }
+        ensures err { IsOkUnless result OverlayError.Memory }
+    {
+        self.core.content().graph(fill_rule)
+    }
+}
+
+// The buffer that was there, or an empty one. The only refusal is `Memory`.
+fn taken<I: OverlayInt, A: Allocator + Clone>(
+    buffer: &mut Option<BooleanExtractionBuffer<I, A>>,
+    alloc: &A,
+) -> Result<BooleanExtractionBuffer<I, A>, OverlayError>
+    ensures { IsOkUnless result OverlayError.Memory }
+{
+    match buffer.take() {
+        Some(buffer) => Ok(buffer),
+        None => Ok(BooleanExtractionBuffer::default(alloc.clone()?)),
     }
 }

@@ -1,5 +1,6 @@
 -- Adding steps to a list of counted edges one by one: what stands and what is to come stay the whole.
-use Rattle.std.proofs.Common.{◌≡◌, ◌≤◌, ◌++◌, [], ◌∷◌, map, take, length, List, sym, ◌∙◌, ap, append_assoc, append-nil, arith, length-take}
+use Rattle.std.proofs.Common.{◌≡◌, ◌≤◌, ◌++◌, [], ◌∷◌, map, take, length, List, sym, ◌∙◌, ap, append_assoc, append-nil}
+use Rattle.std.proofs.Common.{arith, length-take}
 use Rattle.std.proofs.lemmas.List.{map-append, take-take}
 use Rattle.overlay_geom.specs.Plane.{Point, Step, steps_between, steps_through}
 

@@ -1,20 +1,19 @@
 -- Lists to which something was appended, as a program that appends it finds them.
-use Rattle.std.proofs.Common.{◌≡◌, Bool, true, false, cond, ℕ, ◌+◌, ◌<◌, List, [], ◌∷◌, ◌++◌, map, length, take, get_or, refl, sym, ◌∙◌, ap, append_assoc, append-nil}
-use Rattle.std.specs.List.{filter, flat_map}
+use Rattle.std.proofs.Common.{◌≡◌, ℕ, ◌+◌, ◌<◌, List, [], ◌∷◌, ◌++◌, map, length, take, get_or, refl, sym, ◌∙◌, ap}
+use Rattle.std.proofs.Common.{append_assoc}
+use Rattle.std.specs.List.{flat_map}
 use Rattle.std.proofs.lemmas.List.{map-append}
 use Rattle.overlay_geom.proofs.JoinedLists.{joined_push}
 use Rattle.overlay_geom.proofs.Mapped.{mapped_more}
 
 -- with an item pushed, the mapped list has what that is mapped to
-pub mapped_pushed : {X Y : Type 0} (f : X → Y) (old new : List X) (x : X) (y : Y) → new ≡ old ++ x ∷ [] → f x ≡ y → map f new ≡ map f old ++ y ∷ []
+pub mapped_pushed : {X Y : Type 0} (f : X → Y) (old new : List X) (x : X) (y : Y) → new ≡ old ++ x ∷ [] → f x ≡ y →
+    map f new ≡ map f old ++ y ∷ []
 mapped_pushed f old new x y is maps = ap (map f) is ∙ map-append f old (x ∷ []) ∙ ap (λ z. map f old ++ z ∷ []) maps
 
--- with nothing appended, a list is as it was
-pub nothing_appended : {X : Type 0} (xs none : List X) → none ≡ [] → xs ≡ xs ++ none
-nothing_appended xs none is = sym (append-nil xs) ∙ ap (λ ys. xs ++ ys) (sym is)
-
 -- what the next entry gives moves from what is to come to what stands
-pub next_appended : {X Y : Type 0} (f : X → List Y) (old new : List Y) (x : X) (xs rest : List X) (whole : List Y) → rest ≡ x ∷ xs
+pub next_appended : {X Y : Type 0} (f : X → List Y) (old new : List Y) (x : X) (xs rest : List X) (whole : List Y) →
+    rest ≡ x ∷ xs
     → old ++ flat_map f rest ≡ whole → new ≡ old ++ f x → new ++ flat_map f xs ≡ whole
 next_appended f old new x xs rest whole begins before appended =
     ap (λ ys. ys ++ flat_map f xs) appended
@@ -23,7 +22,8 @@ next_appended f old new x xs rest whole begins before appended =
     ∙ before
 
 -- with one more item pushed, a list is still what the items read so far are mapped to
-pub next_mapped : {W X Y Z : Type 0} (f : X → Z) (k : Y → Z) (plain : W → Y) (old new : List X) (x : X) (ws : List W) (i : ℕ) (w : W)
+pub next_mapped : {W X Y Z : Type 0} (f : X → Z) (k : Y → Z) (plain : W → Y) (old new : List X) (x : X) (ws : List W)
+    (i : ℕ) (w : W)
     → i < length ws → w ≡ get_or ws i w → new ≡ old ++ x ∷ [] → f x ≡ k (plain w)
     → map f old ≡ map k (map plain (take i ws)) → map f new ≡ map k (map plain (take (i + 1) ws))
 next_mapped f k plain old new x ws i w within at is maps before =
@@ -42,7 +42,8 @@ next_listed k plain old new z ws i w within at is maps before =
     ∙ sym (ap (map k) (mapped_more plain ws i w within at) ∙ map-append k (map plain (take i ws)) (plain w ∷ []))
 
 -- with the two items pushed that one more item gives, a list is still what the items read so far give
-pub next_two_joined : {W X Y Z : Type 0} (f : X → Z) (k : Y → List Z) (plain : W → Y) (old more new : List X) (x y : X) (ws : List W) (i : ℕ) (w : W)
+pub next_two_joined : {W X Y Z : Type 0} (f : X → Z) (k : Y → List Z) (plain : W → Y) (old more new : List X) (x y : X)
+    (ws : List W) (i : ℕ) (w : W)
     → i < length ws → w ≡ get_or ws i w → more ≡ old ++ x ∷ [] → new ≡ more ++ y ∷ [] → f x ∷ f y ∷ [] ≡ k (plain w)
     → map f old ≡ flat_map k (map plain (take i ws)) → map f new ≡ flat_map k (map plain (take (i + 1) ws))
 next_two_joined f k plain old more new x y ws i w within at first second gives before =
@@ -52,16 +53,3 @@ next_two_joined f k plain old more new x y ws i w within at first second gives b
     ∙ ap (λ zs. zs ++ f x ∷ f y ∷ []) before
     ∙ ap (λ zs. flat_map k (map plain (take i ws)) ++ zs) gives
     ∙ sym (ap (flat_map k) (mapped_more plain ws i w within at) ∙ joined_push k (map plain (take i ws)) (plain w))
-
--- what a test keeps of two items is what it keeps of the one and of the other
-pub two_kept : {X : Type 0} (p : X → Bool) (old more new : List X) (x y : X)
-    → more ≡ old ++ filter p (x ∷ []) → new ≡ more ++ filter p (y ∷ []) → new ≡ old ++ filter p (x ∷ y ∷ [])
-two_kept p old more new x y first second =
-    second
-    ∙ ap (λ zs. zs ++ filter p (y ∷ [])) first
-    ∙ append_assoc old (filter p (x ∷ [])) (filter p (y ∷ []))
-    ∙ ap (λ zs. old ++ zs) (by (p x))
-  where
-    by : (b : Bool) → cond b (x ∷ []) [] ++ filter p (y ∷ []) ≡ cond b (x ∷ filter p (y ∷ [])) (filter p (y ∷ []))
-    by true = refl
-    by false = refl

@@ -20,7 +20,8 @@ use Rattle.overlay_plane.proofs.MovedPoints.{moving_rounds}
 use Rattle.overlay_plane.specs.Arrangements.{IsReachedBy, IsSplit, StaysUnsettled, WeighsTooMuch}
 use Rattle.overlay_plane.specs.Carried.{Carried, edges_in}
 use Rattle.overlay_plane.specs.CutPoints.{cut_edges}
-use Rattle.overlay_plane.specs.DerivedData.{AreGiven, ArePieces, AreCutAlong, CarriesMerged, GivesPiece, computed_chain, done, round}
+use Rattle.overlay_plane.specs.DerivedData.{AreGiven, ArePieces, AreCutAlong, CarriesMerged, GivesPiece, computed_chain}
+use Rattle.overlay_plane.specs.DerivedData.{done, round}
 use Rattle.overlay_plane.specs.EdgeLists.{IsForwardBy}
 use Rattle.overlay_plane.specs.Meetings.{MeetInWholePoints}
 use Rattle.overlay_plane.specs.Rounds.{chain_of, pieces_of}
@@ -30,13 +31,15 @@ pub forward_content : (limit : ℕ) (es : List CountedEdge) → IsContent limit 
 forward_content limit es content = λ k d l. (content.held k d l).forward
 
 -- a merged content that is not settled is cut by a round
-pub leaves_cut : (limit : ℕ) (old es new : List CountedEdge) → IsContent limit es → IsMerged old es → ¬ (IsSettled es) → new ≡ cut_edges es → Leaves old new
+pub leaves_cut : (limit : ℕ) (old es new : List CountedEdge) → IsContent limit es → IsMerged old es → ¬ (IsSettled es) →
+    new ≡ cut_edges es → Leaves old new
 leaves_cut limit old es new content merged unsettled is =
     let round = cutting_is_a_round old es (forward_content limit es content) merged unsettled in
     (round.0, round.1, (cc))
 
 -- a content that was split is arranged
-abbrev pub arranged_of_split : (limit most : ℕ) (old new : List CountedEdge) → IsContent limit old → IsSplit most old new → IsArranged most old new
+abbrev pub arranged_of_split : (limit most : ℕ) (old new : List CountedEdge) → IsContent limit old →
+    IsSplit most old new → IsArranged most old new
 arranged_of_split limit most old new content split =
     let moving = moving_rounds split.rounds in
     let forward = forward_content limit old content in
@@ -47,25 +50,29 @@ arranged_of_split limit most old new content split =
       moving = moving.0;
       moved = moving.1;
       chains = arrangements_hold_chains split.rounds moving.0 old new forward split.reached moving.1;
-      exact = λ whole. whole_meetings_are_exact.exact split.rounds moving.0 old new forward whole split.reached moving.1;
+      exact = λ whole. whole_meetings_are_exact.exact split.rounds moving.0 old new forward whole
+          split.reached moving.1;
       balanced = arrangements_keep_balance split.rounds old new split.reached;
       stays = λ was. arranged_stays_arranged was.1 split.rounds was.0 old new was.2 split.reached;
     }
 
 -- so it is where an answer says that it was split
-pub arranged_answer : {T E : Type 0} (limit most : ℕ) (answer : Result T E) (old new : List CountedEdge) → IsContent limit old →
+pub arranged_answer : {T E : Type 0} (limit most : ℕ) (answer : Result T E) (old new : List CountedEdge) →
+    IsContent limit old →
     OnOk answer (IsSplit most old new) → OnOk answer (IsArranged most old new)
 arranged_answer limit most (Ok v) old new content h = arranged_of_split limit most old new content h
 arranged_answer limit most (Err e) old new content h = h
 
 -- where edges meet only in whole points or overlap, more than one round cannot be taken, so they do not stay unsettled
-settles_whole : (limit most : ℕ) (old : List CountedEdge) → 2 ≤ most → IsContent limit old → MeetInWholePoints old → ¬ (StaysUnsettled most old)
+settles_whole : (limit most : ℕ) (old : List CountedEdge) → 2 ≤ most → IsContent limit old → MeetInWholePoints old →
+    ¬ (StaysUnsettled most old)
 settles_whole limit most old several content whole stays =
     let few = whole_meetings_are_exact.few stays.rounds old (forward_content limit old content) whole stays.cut in
     omega (arith, few, stays.all_taken)
 
 -- a refusal of rounds is one of bringing the edges into an arrangement
-refused_so : (limit most : ℕ) (old : List CountedEdge) (e : OverlayError) → 2 ≤ most → IsContent limit old → (e ≡ NotSettled → StaysUnsettled most old) →
+refused_so : (limit most : ℕ) (old : List CountedEdge) (e : OverlayError) → 2 ≤ most → IsContent limit old →
+    (e ≡ NotSettled → StaysUnsettled most old) →
     (e ≡ TooManyEdges → WeighsTooMuch most (2 ^ 31) old) → ¬ (e ≡ Failed) → MayRefuseSplitting most old e
 refused_so limit most old Memory several content unsettled heavy usable = tt
 refused_so limit most old NotSettled several content unsettled heavy usable = let stays = unsettled refl in record {
@@ -80,48 +87,70 @@ refused_so limit most old TooManyEdges several content unsettled heavy usable = 
 refused_so limit most old Failed several content unsettled heavy usable = usable refl
 
 -- so it is where an answer is such a refusal
-pub refused_answer : {T : Type 0} (limit most : ℕ) (answer : Result T OverlayError) (old : List CountedEdge) → 2 ≤ most → IsContent limit old →
-    (IsErrOf answer NotSettled → StaysUnsettled most old) → (IsErrOf answer TooManyEdges → WeighsTooMuch most (2 ^ 31) old) → ¬ (answer ≡ Err Failed) →
+pub refused_answer : {T : Type 0} (limit most : ℕ) (answer : Result T OverlayError) (old : List CountedEdge) →
+    2 ≤ most → IsContent limit old →
+    (IsErrOf answer NotSettled → StaysUnsettled most old) →
+    (IsErrOf answer TooManyEdges → WeighsTooMuch most (2 ^ 31) old) → ¬ (answer ≡ Err Failed) →
     IfErr answer (MayRefuseSplitting most old)
 refused_answer limit most (Ok v) old several content unsettled heavy usable = tt
 refused_answer limit most (Err e) old several content unsettled heavy usable =
-    refused_so limit most old e several content (λ same. unsettled (ap Err same)) (λ same. heavy (ap Err same)) (λ same. usable (ap Err same))
+    refused_so limit most old e several content (λ same. unsettled (ap Err same)) (λ same. heavy (ap Err same))
+    (λ same. usable (ap Err same))
 
 -- ---- with what edges carry
 
-module _ {C : Type 0} (merges : C → C → C → Type 0) (splits turns : C → C → Type 0) where
+module _ {C : Type 0} (merges : C → C → C → Type 0) (splits reverses : C → C → Type 0) where
   -- a merged content that is settled was split without a round
-  pub carried_at_once : (most : ℕ) (old new : List (Carried C)) → IsMerged (edges_in old) (edges_in new) → IsSettled (edges_in new) →
-      CarriesMerged merges old new → IsSplitCarrying merges splits turns most old new
+  pub carried_at_once : (most : ℕ) (old new : List (Carried C)) → IsMerged (edges_in old) (edges_in new) →
+      IsSettled (edges_in new) →
+      CarriesMerged merges old new → IsSplitCarrying merges splits reverses most old new
   carried_at_once most old new merged settled carries = record {
-    split = record { rounds = []; few = omega arith; reached = record { cut = tt; merged = merged; settled = settled } };
+    split = record {
+      rounds = [];
+      few = omega arith;
+      reached =
+          record { cut = tt; merged = merged; settled = settled };
+    };
     derived = done carries;
   }
 
   -- a content that is merged, cut, and then split was split with one round more
-  pub carried_on : (limit fewer most : ℕ) (old kept left new : List (Carried C)) → fewer + 1 ≤ most → IsContent limit (edges_in kept) →
+  pub carried_on : (limit fewer most : ℕ) (old kept left new : List (Carried C)) → fewer + 1 ≤ most →
+      IsContent limit (edges_in kept) →
       IsMerged (edges_in old) (edges_in kept) → ¬ (IsSettled (edges_in kept)) → CarriesMerged merges old kept →
-      edges_in left ≡ cut_edges (edges_in kept) → AreCutAlong splits turns (computed_chain (edges_in kept)) kept left →
-      IsSplitCarrying merges splits turns fewer left new → IsSplitCarrying merges splits turns most old new
+      edges_in left ≡ cut_edges (edges_in kept) →
+      AreCutAlong splits reverses (computed_chain (edges_in kept)) kept left →
+      IsSplitCarrying merges splits reverses fewer left new → IsSplitCarrying merges splits reverses most old new
   carried_on limit fewer most old kept left new le content merged unsettled carries left_is cut h =
-      let through = cutting_through (edges_in old) (edges_in kept) (forward_content limit (edges_in kept) content) merged unsettled in
+      let through = cutting_through (edges_in old) (edges_in kept) (forward_content limit (edges_in kept) content)
+      merged unsettled in
       let r = through.0 in
       let cuts = through.1 in
       let later : IsReachedBy h.split.rounds (pieces_of r) (edges_in new) =
-      subst (λ (es : List CountedEdge). IsReachedBy h.split.rounds es (edges_in new)) (left_is ∙ sym cuts.leaves) h.split.reached in
+      subst (λ (es : List CountedEdge). IsReachedBy h.split.rounds es (edges_in new)) (left_is ∙ sym cuts.leaves)
+      h.split.reached in
       record {
         split = record {
           rounds = r ∷ h.split.rounds;
           few = omega (arith, h.split.few);
           reached = record { cut = (cuts.is, later.cut); merged = later.merged; settled = later.settled };
         };
-        derived = round (sym cuts.edges) carries (given_weaker (ArePieces splits turns (computed_chain (edges_in kept))) (ArePieces splits turns (chain_of r))
-            (λ x part at_x pieces. subst (λ (ss : List Step). AreGiven (GivesPiece splits turns (length ss ≡ 1) x) ss part)
+        derived = round (sym cuts.edges) carries
+            (given_weaker (ArePieces splits reverses (computed_chain (edges_in kept)))
+            (ArePieces splits reverses (chain_of r))
+            (λ x part at_x pieces. subst (λ (ss : List Step). AreGiven (GivesPiece splits reverses (length ss ≡ 1) x) ss
+            part)
             (sym (cuts.chains x.edge (Contains-map (λ (y : Carried C). y.edge) kept x at_x))) pieces) cut) h.derived;
       }
 
   -- where an answer says that a content was split, it is arranged
-  pub arranged_carrying : {T E : Type 0} (limit most : ℕ) (answer : Result T E) (old new : List (Carried C)) → IsContent limit (edges_in old) →
-      OnOk answer (IsSplitCarrying merges splits turns most old new) → OnOk answer (IsArrangedCarrying merges splits turns most old new)
-  arranged_carrying limit most (Ok v) old new content h = record { arranged = arranged_of_split limit most (edges_in old) (edges_in new) content h.split; derived = h.derived }
+  pub arranged_carrying : {T E : Type 0} (limit most : ℕ) (answer : Result T E) (old new : List (Carried C)) →
+      IsContent limit (edges_in old) →
+      OnOk answer (IsSplitCarrying merges splits reverses most old new) →
+      OnOk answer (IsArrangedCarrying merges splits reverses most old new)
+  arranged_carrying limit most (Ok v) old new content h =
+      record {
+        arranged = arranged_of_split limit most (edges_in old) (edges_in new) content h.split;
+        derived = h.derived;
+      }
   arranged_carrying limit most (Err e) old new content h = h

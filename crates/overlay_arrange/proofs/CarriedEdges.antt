@@ -12,6 +12,7 @@ pub edges_in-carried : {I C : Type 0} (whole : I → ℤ) (counts : C → Counts
 edges_in-carried whole counts es = map-map (λ x. x.edge) _ es
 
 -- so they are, where contracts see the held ones as another list
-pub plain_edges-seen : {I C : Type 0} (whole : I → ℤ) (counts : C → Counts) (es : List (HeldEdge I C)) (xs : List (Carried C)) →
+pub plain_edges-seen : {I C : Type 0} (whole : I → ℤ) (counts : C → Counts) (es : List (HeldEdge I C))
+    (xs : List (Carried C)) →
     carried_edges whole counts es ≡ xs → plain_edges whole counts es ≡ edges_in xs
 plain_edges-seen whole counts es xs seen = sym (edges_in-carried whole counts es) ∙ ap edges_in seen

@@ -1,5 +1,6 @@
 -- The pieces of an edge with what they carry: what a program makes of a step, and pieces that are added to others.
-use Rattle.std.proofs.Common.{◌≡◌, Bool, true, false, cond, List, [], ◌∷◌, ◌++◌, map, length, get_or, refl, sym, ap, subst, ◌∙◌, append_assoc, append-nil}
+use Rattle.std.proofs.Common.{◌≡◌, Bool, true, false, cond, List, [], ◌∷◌, ◌++◌, map, length, get_or, refl, sym, ap}
+use Rattle.std.proofs.Common.{subst, ◌∙◌, append_assoc, append-nil}
 use Rattle.std.specs.Prelude.{IsTrue, MatchBool, ◌↔◌}
 use Rattle.std.specs.declared.cmp.Ordering.TheVariants.{Less, Equal, Greater}
 use Rattle.std.proofs.lemmas.Bool.{false≢true}
@@ -10,7 +11,7 @@ use Rattle.overlay_plane.specs.Cutting.{piece_along}
 use Rattle.overlay_plane.specs.DerivedData.{AreGiven, none, ArePieces, GivesPiece, computed_chain}
 use Rattle.overlay_plane.proofs.DerivedLists.{given_both, given_one, given_weaker}
 use Rattle.overlay_arrange.specs.Content.{edge_with, point_cmp}
-use Rattle.overlay_arrange.specs.Counts.{Counts, turned_counts}
+use Rattle.overlay_arrange.specs.Counts.{Counts, reversed_counts}
 use Rattle.overlay_arrange.specs.Cut.{AddsGiven, StaysWhole}
 use Rattle.overlay_arrange.proofs.Pieces.{back_where_greater, on_where_less, same_where_equal, piece_back, piece_forth}
 
@@ -22,7 +23,8 @@ module _ {X Y : Type 0} (gives : X → List Y → Type 0) where
   adds_none ys = record { more = []; given = none; added = sym (append-nil ys) }
 
   -- what is added after another addition is added with it
-  pub adds_both : {xs zs : List X} {old mid new : List Y} → AddsGiven gives xs old mid → AddsGiven gives zs mid new → AddsGiven gives (xs ++ zs) old new
+  pub adds_both : {xs zs : List X} {old mid new : List Y} → AddsGiven gives xs old mid → AddsGiven gives zs mid new →
+      AddsGiven gives (xs ++ zs) old new
   adds_both {old} first later = record {
     more = first.more ++ later.more;
     given = given_both gives first.given later.given;
@@ -35,10 +37,10 @@ module _ {X Y : Type 0} (gives : X → List Y → Type 0) where
 
 -- ---- the piece of a step
 
-module _ {C : Type 0} (splits turns : C → C → Type 0) where
+module _ {C : Type 0} (splits reverses : C → C → Type 0) where
   -- an edge stays whole where another test says so
   pub gives_alike : (IsWhole Stays : Type 0) → IsWhole ↔ Stays → (x : Carried C) (s : Step) (ys : List (Carried C)) →
-      GivesPiece splits turns IsWhole x s ys → GivesPiece splits turns Stays x s ys
+      GivesPiece splits reverses IsWhole x s ys → GivesPiece splits reverses Stays x s ys
   gives_alike IsWhole Stays same x s ys (y, is, piece) = (
     y,
     is,
@@ -47,32 +49,38 @@ module _ {C : Type 0} (splits turns : C → C → Type 0) where
       part = piece.part;
       kept = λ stays. piece.kept (same.1 stays);
       split = λ not_so. piece.split (λ whole. not_so (same.0 whole));
-      turned = piece.turned;
+      reversed = piece.reversed;
     },
   )
 
   -- so its pieces are added in that sense too
-  pub adds_alike : (IsWhole Stays : Type 0) → IsWhole ↔ Stays → (x : Carried C) {ss : List Step} {old new : List (Carried C)} →
-      AddsGiven (GivesPiece splits turns IsWhole x) ss old new → AddsGiven (GivesPiece splits turns Stays x) ss old new
+  pub adds_alike : (IsWhole Stays : Type 0) → IsWhole ↔ Stays →
+      (x : Carried C) {ss : List Step} {old new : List (Carried C)} →
+      AddsGiven (GivesPiece splits reverses IsWhole x) ss old new →
+      AddsGiven (GivesPiece splits reverses Stays x) ss old new
   adds_alike IsWhole Stays same x {ss} adds = record {
     more = adds.more;
-    given = given_weaker (GivesPiece splits turns IsWhole x) (GivesPiece splits turns Stays x) (λ s ys at. gives_alike IsWhole Stays same x s ys) adds.given;
+    given = given_weaker (GivesPiece splits reverses IsWhole x) (GivesPiece splits reverses Stays x)
+        (λ s ys at. gives_alike IsWhole Stays same x s ys) adds.given;
     added = adds.added;
   }
 
   -- between equal points there is no piece
-  pub none_given : (IsWhole : Type 0) (x : Carried C) (p q : Point) → point_cmp p q ≡ Equal → AreGiven (GivesPiece splits turns IsWhole x) (steps_between p q) []
+  pub none_given : (IsWhole : Type 0) (x : Carried C) (p q : Point) → point_cmp p q ≡ Equal →
+      AreGiven (GivesPiece splits reverses IsWhole x) (steps_between p q) []
   none_given IsWhole x p q equal =
-      subst (λ (ss : List Step). AreGiven (GivesPiece splits turns IsWhole x) ss []) (sym (ap (λ t. cond t [] (record { from = p; to = q } ∷ [])) (same_where_equal p q equal))) none
+      subst (λ (ss : List Step). AreGiven (GivesPiece splits reverses IsWhole x) ss [])
+      (sym (ap (λ t. cond t [] (record { from = p; to = q } ∷ [])) (same_where_equal p q equal))) none
 
   -- between two other points there is one
   given_piece : (is_whole : Bool) (x y : Carried C) (p q : Point) (part : C) → point_eq p q ≡ false →
-      y.edge ∷ [] ≡ map (piece_along x.edge) (steps_between p q) → MatchBool is_whole (part ≡ x.carries) (splits x.carries part) →
-      MatchBool (point_lt p q) (y.carries ≡ part) (turns part y.carries) →
-      AreGiven (GivesPiece splits turns (IsTrue is_whole) x) (steps_between p q) (y ∷ [])
-  given_piece is_whole x y p q part apart is cut turned =
-      subst (λ (ss : List Step). AreGiven (GivesPiece splits turns (IsTrue is_whole) x) ss (y ∷ [])) (sym one_step)
-      (given_one (GivesPiece splits turns (IsTrue is_whole) x) step (y ∷ []) (
+      y.edge ∷ [] ≡ map (piece_along x.edge) (steps_between p q) → MatchBool is_whole (part ≡ x.carries)
+      (splits x.carries part) →
+      MatchBool (point_lt p q) (y.carries ≡ part) (reverses part y.carries) →
+      AreGiven (GivesPiece splits reverses (IsTrue is_whole) x) (steps_between p q) (y ∷ [])
+  given_piece is_whole x y p q part apart is cut reversed =
+      subst (λ (ss : List Step). AreGiven (GivesPiece splits reverses (IsTrue is_whole) x) ss (y ∷ [])) (sym one_step)
+      (given_one (GivesPiece splits reverses (IsTrue is_whole) x) step (y ∷ []) (
         y,
         refl,
         record {
@@ -80,7 +88,7 @@ module _ {C : Type 0} (splits turns : C → C → Type 0) where
           part = part;
           kept = kept is_whole cut;
           split = split is_whole cut;
-          turned = turned;
+          reversed = reversed;
         },
       ))
     where
@@ -101,38 +109,53 @@ module _ {C : Type 0} (splits turns : C → C → Type 0) where
       split true h not_so = absurd (not_so refl)
       split false h not_so = h
 
-module _ {C : Type 0} (splits turns : C → C → Type 0) (is_whole : Bool) (a b p q : Point) (counts : C → Counts) (c part : C) where
+module _ {C : Type 0} (splits reverses : C → C → Type 0) (is_whole : Bool) (a b p q : Point) (counts : C → Counts)
+    (c part : C) where
   -- a piece that runs along its edge carries the part
-  pub piece_given_along : point_cmp p q ≡ Less → counts part ≡ counts c → MatchBool is_whole (part ≡ c) (splits c part) →
-      AreGiven (GivesPiece splits turns (IsTrue is_whole) (record { edge = edge_with a b (counts c); carries = c })) (steps_between p q)
+  pub piece_given_along : point_cmp p q ≡ Less → counts part ≡ counts c →
+      MatchBool is_whole (part ≡ c) (splits c part) →
+      AreGiven (GivesPiece splits reverses (IsTrue is_whole) (record { edge = edge_with a b (counts c); carries = c }))
+      (steps_between p q)
       (record { edge = edge_with p q (counts part); carries = part } ∷ [])
   piece_given_along less same cut =
       let leads = on_where_less p q less in
-      given_piece splits turns is_whole (record { edge = edge_with a b (counts c); carries = c }) (record { edge = edge_with p q (counts part); carries = part }) p q part
+      given_piece splits reverses is_whole (record { edge = edge_with a b (counts c); carries = c })
+      (record { edge = edge_with p q (counts part); carries = part }) p q part
       leads.apart (piece_forth a b p q (counts c) (counts part) less same) cut
-      (subst (λ t. MatchBool t (part ≡ part) (turns part part)) (sym leads.on) refl)
+      (subst (λ t. MatchBool t (part ≡ part) (reverses part part)) (sym leads.on) refl)
 
-  -- and one that runs against its edge carries it turned round
-  pub piece_given_back : (turned : C) → point_cmp p q ≡ Greater → counts turned ≡ turned_counts (counts c) → MatchBool is_whole (part ≡ c) (splits c part) →
-      turns part turned →
-      AreGiven (GivesPiece splits turns (IsTrue is_whole) (record { edge = edge_with a b (counts c); carries = c })) (steps_between p q)
-      (record { edge = edge_with q p (counts turned); carries = turned } ∷ [])
-  piece_given_back turned greater same cut turns_so =
+  -- and one that runs against its edge carries it reversed
+  pub piece_given_back : (reversed : C) → point_cmp p q ≡ Greater → counts reversed ≡ reversed_counts (counts c) →
+      MatchBool is_whole (part ≡ c) (splits c part) →
+      reverses part reversed →
+      AreGiven (GivesPiece splits reverses (IsTrue is_whole) (record { edge = edge_with a b (counts c); carries = c }))
+      (steps_between p q)
+      (record { edge = edge_with q p (counts reversed); carries = reversed } ∷ [])
+  piece_given_back reversed greater same cut reverses_so =
       let leads = back_where_greater p q greater in
-      given_piece splits turns is_whole (record { edge = edge_with a b (counts c); carries = c }) (record { edge = edge_with q p (counts turned); carries = turned }) p q part
-      leads.apart (piece_back a b p q (counts c) (counts turned) greater same) cut
-      (subst (λ t. MatchBool t (turned ≡ part) (turns part turned)) (sym leads.back) turns_so)
+      given_piece splits reverses is_whole (record { edge = edge_with a b (counts c); carries = c })
+      (record { edge = edge_with q p (counts reversed); carries = reversed }) p q part
+      leads.apart (piece_back a b p q (counts c) (counts reversed) greater same) cut
+      (subst (λ t. MatchBool t (reversed ≡ part) (reverses part reversed)) (sym leads.back) reverses_so)
 
 -- ---- the pieces of an edge
 
--- pieces added along the chain that is computed of an edge are the edge's pieces, through whichever points that chain was found
-pub pieces_added : {C : Type 0} (splits turns : C → C → Type 0) (es : List CountedEdge) (x : Carried C) (vs : List Point) {old new : List (Carried C)} →
+-- pieces added along the chain that is computed of an edge are the edge's pieces, through whichever points that chain
+-- was found
+pub pieces_added : {C : Type 0} (splits reverses : C → C → Type 0) (es : List CountedEdge) (x : Carried C)
+    (vs : List Point) {old new : List (Carried C)} →
     steps_through x.edge.a (vs ++ x.edge.b ∷ []) ≡ computed_chain es x.edge →
     StaysWhole x.edge vs ↔ (length (computed_chain es x.edge) ≡ 1) →
-    AddsGiven (GivesPiece splits turns (StaysWhole x.edge vs) x) (steps_through x.edge.a (vs ++ x.edge.b ∷ [])) old new →
-    AddsGiven (ArePieces splits turns (computed_chain es)) (x ∷ []) old new
-pieces_added splits turns es x vs {old} {new} chain whole adds =
-    let gives = GivesPiece splits turns (length (computed_chain es x.edge) ≡ 1) x in
+    AddsGiven (GivesPiece splits reverses (StaysWhole x.edge vs) x) (steps_through x.edge.a (vs ++ x.edge.b ∷ [])) old
+    new →
+    AddsGiven (ArePieces splits reverses (computed_chain es)) (x ∷ []) old new
+pieces_added splits reverses es x vs {old} {new} chain whole adds =
+    let gives = GivesPiece splits reverses (length (computed_chain es x.edge) ≡ 1) x in
     let alike = subst (λ ss. AddsGiven gives ss old new) chain
-    (adds_alike splits turns (StaysWhole x.edge vs) (length (computed_chain es x.edge) ≡ 1) whole x adds) in
-    record { more = alike.more; given = given_one (ArePieces splits turns (computed_chain es)) x alike.more alike.given; added = alike.added }
+    (adds_alike splits reverses (StaysWhole x.edge vs) (length (computed_chain es x.edge) ≡ 1) whole x adds) in
+    record {
+      more = alike.more;
+      given = given_one (ArePieces splits reverses (computed_chain es)) x alike.more
+          alike.given;
+      added = alike.added;
+    }

@@ -1,5 +1,6 @@
 -- The ends of edges with their counts cancel out where the edges' counts are balanced.
-use Rattle.std.proofs.Common.{◌≡◌, ℕ, ◌*◌, ◌^◌, ◌<◌, ◌≤◌, Bool, false, ℤ, pos, negsuc, neg_ℤ, ◌+ℤ◌, ◌-ℤ◌, ◌*ℤ◌, List, [], ◌∷◌, refl, sym, ◌∙◌, arith}
+use Rattle.std.proofs.Common.{◌≡◌, ℕ, ◌*◌, ◌^◌, ◌<◌, ◌≤◌, Bool, false, ℤ, pos, negsuc, neg_ℤ, ◌+ℤ◌, ◌-ℤ◌, ◌*ℤ◌, List}
+use Rattle.std.proofs.Common.{[], ◌∷◌, refl, sym, ◌∙◌, arith}
 use Rattle.std.specs.Prelude.{nat_abs, sum_by}
 use Rattle.std.specs.Cmp.{IsStrictWeakOrder}
 use Rattle.std.specs.List.Sorted.{IsPermutation, IsSortedBy}
@@ -16,7 +17,8 @@ use Rattle.overlay_geom.proofs.Weights.{weight-cons}
 use Rattle.overlay_plane.specs.Balance.{HasBalancedCounts}
 use Rattle.overlay_plane.proofs.JoinedLists.{total-flat_map}
 use Rattle.overlay_plane.proofs.Totals.{total-same}
-use Rattle.overlay_arrange.specs.Ends.{CountedEnd, plain_end, plain_ends, counted_ends, all_counted_ends, end_weight, AreSummable, CancelOut}
+use Rattle.overlay_arrange.specs.Ends.{CountedEnd, plain_end, plain_ends, counted_ends, all_counted_ends, end_weight}
+use Rattle.overlay_arrange.specs.Ends.{AreSummable, CancelOut}
 use Rattle.overlay_arrange.specs.declared.counted_end.CountedEnd.{CountedEnd as HeldEnd}
 use Rattle.overlay_arrange.proofs.EndSums.{AreByPoint}
 
@@ -25,19 +27,23 @@ risen : (c u v : ℤ) → neg_ℤ c *ℤ u +ℤ (c *ℤ v +ℤ pos 0) ≡ c *ℤ
 risen c u v = solve 3 (λ c u v. ⊝ c ⊗ u ⊕ (c ⊗ v ⊕ number (pos 0)) ≗ c ⊗ (v ⊖ u)) tt c u v
 
 module _ (es : List CountedEdge) (g : Point → ℤ) where
-  subj_sums : total (λ (n : CountedEnd). n.subj *ℤ g n.point) (all_counted_ends es) ≡ total (λ (e : CountedEdge). e.subj *ℤ (g e.b -ℤ g e.a)) es
+  subj_sums : total (λ (n : CountedEnd). n.subj *ℤ g n.point) (all_counted_ends es) ≡ total
+      (λ (e : CountedEdge). e.subj *ℤ (g e.b -ℤ g e.a)) es
   subj_sums = total-flat_map (λ (n : CountedEnd). n.subj *ℤ g n.point) counted_ends es
-      ∙ total-same (λ e. total (λ (n : CountedEnd). n.subj *ℤ g n.point) (counted_ends e)) (λ e. e.subj *ℤ (g e.b -ℤ g e.a)) es (λ e c. risen e.subj (g e.a) (g e.b))
+      ∙ total-same (λ e. total (λ (n : CountedEnd). n.subj *ℤ g n.point) (counted_ends e))
+      (λ e. e.subj *ℤ (g e.b -ℤ g e.a)) es (λ e c. risen e.subj (g e.a) (g e.b))
 
-  clip_sums : total (λ (n : CountedEnd). n.clip *ℤ g n.point) (all_counted_ends es) ≡ total (λ (e : CountedEdge). e.clip *ℤ (g e.b -ℤ g e.a)) es
+  clip_sums : total (λ (n : CountedEnd). n.clip *ℤ g n.point) (all_counted_ends es) ≡ total
+      (λ (e : CountedEdge). e.clip *ℤ (g e.b -ℤ g e.a)) es
   clip_sums = total-flat_map (λ (n : CountedEnd). n.clip *ℤ g n.point) counted_ends es
-      ∙ total-same (λ e. total (λ (n : CountedEnd). n.clip *ℤ g n.point) (counted_ends e)) (λ e. e.clip *ℤ (g e.b -ℤ g e.a)) es (λ e c. risen e.clip (g e.a) (g e.b))
+      ∙ total-same (λ e. total (λ (n : CountedEnd). n.clip *ℤ g n.point) (counted_ends e))
+      (λ e. e.clip *ℤ (g e.b -ℤ g e.a)) es (λ e c. risen e.clip (g e.a) (g e.b))
 
 -- the weight of a count does not ask for its sign
-weight_turned : (z : ℤ) → nat_abs (neg_ℤ z) ≡ nat_abs z
-weight_turned (pos ℕ.zero) = refl
-weight_turned (pos (ℕ.suc n)) = refl
-weight_turned (negsuc n) = refl
+weight_reversed : (z : ℤ) → nat_abs (neg_ℤ z) ≡ nat_abs z
+weight_reversed (pos ℕ.zero) = refl
+weight_reversed (pos (ℕ.suc n)) = refl
+weight_reversed (negsuc n) = refl
 
 -- the ends weigh at most twice what the edges do
 ends_light : (es : List CountedEdge) → sum_by end_weight (all_counted_ends es) ≤ 2 * weight es
@@ -46,29 +52,34 @@ ends_light (e ∷ es) =
     let rest = ends_light es in
     let both = sum_by-append end_weight (counted_ends e) (all_counted_ends es) in
     let all = weight-cons e es in
-    let s = weight_turned e.subj in
-    let c = weight_turned e.clip in
+    let s = weight_reversed e.subj in
+    let c = weight_reversed e.clip in
     omega arith
 
 module _ (es : List CountedEdge) (ns : List CountedEnd) (moved : IsPermutation (all_counted_ends es) ns) where
   -- in any order of the ends
   pub balanced_where_cancelled : CancelOut ns → HasBalancedCounts es
   balanced_where_cancelled cancel = record {
-    subj = λ g. sym (subj_sums es g) ∙ sym (total-IsPermutation (λ n. n.subj *ℤ g n.point) (all_counted_ends es) ns moved) ∙ cancel.subj g;
-    clip = λ g. sym (clip_sums es g) ∙ sym (total-IsPermutation (λ n. n.clip *ℤ g n.point) (all_counted_ends es) ns moved) ∙ cancel.clip g;
+    subj = λ g. sym (subj_sums es g)
+        ∙ sym (total-IsPermutation (λ n. n.subj *ℤ g n.point) (all_counted_ends es) ns moved) ∙ cancel.subj g;
+    clip = λ g. sym (clip_sums es g)
+        ∙ sym (total-IsPermutation (λ n. n.clip *ℤ g n.point) (all_counted_ends es) ns moved) ∙ cancel.clip g;
   }
 
   pub cancelled_where_balanced : HasBalancedCounts es → CancelOut ns
   cancelled_where_balanced balanced = record {
-    subj = λ g. total-IsPermutation (λ n. n.subj *ℤ g n.point) (all_counted_ends es) ns moved ∙ subj_sums es g ∙ balanced.subj g;
-    clip = λ g. total-IsPermutation (λ n. n.clip *ℤ g n.point) (all_counted_ends es) ns moved ∙ clip_sums es g ∙ balanced.clip g;
+    subj = λ g. total-IsPermutation (λ n. n.subj *ℤ g n.point) (all_counted_ends es) ns moved ∙ subj_sums es g
+        ∙ balanced.subj g;
+    clip = λ g. total-IsPermutation (λ n. n.clip *ℤ g n.point) (all_counted_ends es) ns moved ∙ clip_sums es g
+        ∙ balanced.clip g;
   }
 
   -- they may be summed up where they stand by their points
   pub summable : weight es < 2 ^ 31 → AreByPoint ns → AreSummable ns
   summable light order = record {
     order = order;
-    light = let at_most = ends_light es in let same = sum_by-IsPermutation end_weight (all_counted_ends es) ns moved in omega arith;
+    light = let at_most = ends_light es in let same = sum_by-IsPermutation end_weight (all_counted_ends es) ns moved in
+        omega arith;
   }
 
 module _ {I : Type 0} (whole : I → ℤ) where
@@ -79,9 +90,11 @@ module _ {I : Type 0} (whole : I → ℤ) where
   pub held_before-order : IsStrictWeakOrder held_before
   held_before-order = record {
     one_way = λ m n. point_lt-order.one_way (plain_point whole m.point) (plain_point whole n.point);
-    chain = λ m n o. point_lt-order.chain (plain_point whole m.point) (plain_point whole n.point) (plain_point whole o.point);
+    chain = λ m n o. point_lt-order.chain (plain_point whole m.point) (plain_point whole n.point)
+        (plain_point whole o.point);
   }
 
   pub by_point-from_sorted : (ns : List (HeldEnd I)) → IsSortedBy held_before ns → AreByPoint (plain_ends whole ns)
-  by_point-from_sorted ns up = AllPairs-map (λ (m n : CountedEnd). point_lt n.point m.point ≡ false) (plain_end whole) ns
+  by_point-from_sorted ns up = AllPairs-map (λ (m n : CountedEnd). point_lt n.point m.point ≡ false)
+      (plain_end whole) ns
       (λ j k d l m. sorted_far held_before held_before-order ns up j k d (omega (arith, l)) m)

@@ -1,6 +1,7 @@
--- Edges that go across one another's lines: how far along the one the other one crosses it, and the point through which it leads it.
+-- Edges that go across one another's lines: how far along the one the other one crosses it, and the point through which
+-- it leads it.
 use Rattle.std.proofs.Common.{◌≡◌, ◌≢◌, inl, inr, Bool, true, false, cond, not, ◌∷◌, [], refl, sym, ap, ◌∙◌}
-use Rattle.std.specs.Ordering.{is_ge, is_lt}
+use Rattle.std.specs.Ordering.{is_ge}
 use Rattle.std.specs.declared.cmp.Ordering.{Ordering}
 use Rattle.std.specs.declared.cmp.Ordering.TheVariants.{Less, Equal, Greater}
 use Rattle.overlay_geom.specs.Plane.{Point, Edge, point_lt}
@@ -25,17 +26,9 @@ is_ge-point_cmp p q = by (point_lt p q) (point_lt q p)
     by false false = refl
 
 -- so a program finds it that asks for the order of the two
-pub not_before : (p q : Point) (o : Ordering) (r : Bool) → o ≡ point_cmp p q → r ≡ is_ge o → (t : Bool) → r ≡ t → not (point_lt p q) ≡ t
+pub not_before : (p q : Point) (o : Ordering) (r : Bool) → o ≡ point_cmp p q → r ≡ is_ge o → (t : Bool) → r ≡ t →
+    not (point_lt p q) ≡ t
 not_before p q o r order answer t is = sym (is_ge-point_cmp p q) ∙ ap is_ge (sym order) ∙ sym answer ∙ is
-
--- and one that asks whether the first point is smaller
-pub found_before : (p q : Point) (o : Ordering) (r : Bool) → o ≡ point_cmp p q → r ≡ is_lt o → r ≡ point_lt p q
-found_before p q o r order answer = answer ∙ ap is_lt order ∙ by (point_lt p q) (point_lt q p)
-  where
-    by : (s t : Bool) → is_lt (cond s Less (cond t Greater Equal)) ≡ s
-    by true t = refl
-    by false true = refl
-    by false false = refl
 
 -- an edge that goes across e's line is not along it
 across_is_not_along : (e f : Edge) → IsAcross e f → ¬ (IsAlong e f)
@@ -51,10 +44,17 @@ across_is_not_beside e f (inr (high, low, less)) (inr (right, too)) = omega line
 
 -- two edges each of which goes across the other one's line lead one another through the point nearest their crossing
 pub met_where_both_across : (e f : Edge) → IsAcross e f → IsAcross f e → met_at e f ≡ crossing e f ∷ []
-met_where_both_across e f forth back = met_across e f (record { apart = across_is_not_along e f forth; not_beside = across_is_not_beside e f forth; not_back = across_is_not_beside f e back })
+met_where_both_across e f forth back = met_across e f
+    (record {
+      apart = across_is_not_along e f forth;
+      not_beside = across_is_not_beside e f forth;
+      not_back =
+          across_is_not_beside f e back;
+    })
 
 -- where f goes across e's line, but e not across f's, they meet nowhere
-pub met_where_one_across : (e f : Edge) (place : Place) → IsBefore f.a f.b → IsAcross e f → IsPlaced place f e → place ≢ Across → met_at e f ≡ []
+pub met_where_one_across : (e f : Edge) (place : Place) → IsBefore f.a f.b → IsAcross e f → IsPlaced place f e →
+    place ≢ Across → met_at e f ≡ []
 met_where_one_across e f Along forward forth placed other = absurd (across_not_along e f forward forth placed)
 met_where_one_across e f Beside forward forth placed other = met_beside e f (across_is_not_along e f forth) (inr placed)
 met_where_one_across e f Across forward forth placed other = absurd (other refl)

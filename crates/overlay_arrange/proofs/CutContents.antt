@@ -1,4 +1,5 @@
--- What a round of cutting knows of the edges that it cuts: each is as light as all, and the points through which it is led are in range.
+-- What a round of cutting knows of the edges that it cuts: each is as light as all, and the points through which it is
+-- led are in range.
 use Rattle.std.proofs.Common.{inl, inr, ℕ, ◌≤◌, ℤ, List, [], ◌∷◌, ap, arith}
 use Rattle.std.specs.List.{All, Contains, flat_map}
 use Rattle.std.proofs.lemmas.List.Elements.{All-nil, All-append, All-contains, All-weaker}
@@ -25,8 +26,10 @@ weight_of_entry es e at =
 
 -- what lies between two numbers within a limit is within it
 within_between : (limit : ℕ) (z u v : ℤ) → Within limit u → Within limit v → IsBetween z u v → Within limit z
-within_between limit z u v of_u of_v (inl (low, high)) = let from = of_u.low in let to = of_v.high in record { low = omega linear; high = omega linear }
-within_between limit z u v of_u of_v (inr (low, high)) = let from = of_v.low in let to = of_u.high in record { low = omega linear; high = omega linear }
+within_between limit z u v of_u of_v (inl (low, high)) = let from = of_u.low in let to = of_v.high in
+    record { low = omega linear; high = omega linear }
+within_between limit z u v of_u of_v (inr (low, high)) = let from = of_v.low in let to = of_u.high in
+    record { low = omega linear; high = omega linear }
 
 -- a point in the box of an edge in range is in range
 in_range_in_box : (limit : ℕ) (e : CountedEdge) (v : Point) → IsHeld limit e → IsInBox (ends_of e) v → InRange limit v
@@ -36,12 +39,14 @@ in_range_in_box limit e v held box = record {
 }
 
 -- what holds of all that each entry gives holds of all that they give
-all_given : {X Y : Type 0} (P : Y → Type 0) (f : X → List Y) (xs : List X) → ((x : X) → All P (f x)) → All P (flat_map f xs)
+all_given : {X Y : Type 0} (P : Y → Type 0) (f : X → List Y) (xs : List X) → ((x : X) → All P (f x)) →
+    All P (flat_map f xs)
 all_given P f [] each = All-nil P
 all_given P f (x ∷ xs) each = All-append P (f x) (flat_map f xs) (each x) (all_given P f xs each)
 
 -- the points through which an edge in range is led are in range
-pub cut_points_in_range : (limit : ℕ) (es : List CountedEdge) (e : CountedEdge) → IsHeld limit e → All (InRange limit) (cut_points es e)
+pub cut_points_in_range : (limit : ℕ) (es : List CountedEdge) (e : CountedEdge) → IsHeld limit e →
+    All (InRange limit) (cut_points es e)
 cut_points_in_range limit es e held =
     all_of_entries (InRange limit) (cut_points es e)
     (λ v at. All-contains (InRange limit) met v led (Contains-in_order (comes_first (ends_of e)) met v at))
@@ -51,4 +56,6 @@ cut_points_in_range limit es e held =
 
     led : All (InRange limit) met
     led = all_given (InRange limit) (λ f. met_at (ends_of e) (ends_of f)) es
-        (λ f. All-weaker (IsInBox (ends_of e)) (InRange limit) (λ v box. in_range_in_box limit e v held box) (met_at (ends_of e) (ends_of f)) (met_at-in_box (ends_of e) (ends_of f) ((Decides-point_lt e.a e.b).0 held.forward)))
+        (λ f. All-weaker (IsInBox (ends_of e)) (InRange limit) (λ v box. in_range_in_box limit e v held box)
+        (met_at (ends_of e) (ends_of f))
+        (met_at-in_box (ends_of e) (ends_of f) ((Decides-point_lt e.a e.b).0 held.forward)))

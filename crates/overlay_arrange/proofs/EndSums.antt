@@ -1,6 +1,7 @@
--- Ends by their points, summed up: where each counts times a number of its point, the sum so far is that of the counts times the number of the last point,
--- as long as the counts at each point before that one cancel out.
-use Rattle.std.proofs.Common.{◌≡◌, ℕ, zero, suc, ◌+◌, ◌^◌, ◌<◌, ◌≤◌, Bool, true, false, cond, ℤ, pos, ◌+ℤ◌, ◌*ℤ◌, List, [], ◌∷◌, ◌++◌, length, take, drop, get_or, refl, sym, ap, ap₂, ◌∙◌, subst, arith}
+-- Ends by their points, summed up: where each counts times a number of its point, the sum so far is that of the counts
+-- times the number of the last point, as long as the counts at each point before that one cancel out.
+use Rattle.std.proofs.Common.{◌≡◌, ℕ, zero, suc, ◌+◌, ◌^◌, ◌<◌, ◌≤◌, Bool, true, false, cond, ℤ, pos, ◌+ℤ◌, ◌*ℤ◌, List}
+use Rattle.std.proofs.Common.{[], ◌∷◌, ◌++◌, length, take, drop, get_or, refl, sym, ap, ap₂, ◌∙◌, subst, arith}
 use Rattle.std.specs.Prelude.{sum_by}
 use Rattle.std.specs.List.{All, AllPairs}
 use Rattle.std.proofs.lemmas.Bool.{both_ways}
@@ -52,29 +53,36 @@ abbrev pub AreByPoint : List CountedEnd → Type 0
 AreByPoint ns = AllPairs (λ m n. point_lt n.point m.point ≡ false) ns
 
 -- from an end's place on none is at a smaller point
-pub none_before : (ns : List CountedEnd) → AreByPoint ns → (i : ℕ) (n : CountedEnd) → i < length ns → get_or ns i n ≡ n →
+pub none_before : (ns : List CountedEnd) → AreByPoint ns → (i : ℕ) (n : CountedEnd) → i < length ns →
+    get_or ns i n ≡ n →
     All (λ m. point_lt m.point n.point ≡ false) (drop i ns)
-none_before ns order i n lt is k d h = subst (λ (m : CountedEnd). point_lt m.point n.point ≡ false) (sym (get_or-drop i ns k d)) (by k h)
+none_before ns order i n lt is k d h = subst (λ (m : CountedEnd). point_lt m.point n.point ≡ false)
+    (sym (get_or-drop i ns k d)) (by k h)
   where
     by : (k : ℕ) → k < length (drop i ns) → point_lt (get_or ns (i + k) d).point n.point ≡ false
     by zero h = let here : i ≡ i + 0 = omega arith in
-        subst (λ (m : CountedEnd). point_lt m.point n.point ≡ false) (sym is ∙ get_or_default ns i n d lt ∙ ap (λ j. get_or ns j d) here) (point_lt-itself n.point)
+        subst (λ (m : CountedEnd). point_lt m.point n.point ≡ false) (sym is ∙ get_or_default ns i n d lt
+        ∙ ap (λ j. get_or ns j d) here) (point_lt-itself n.point)
     by (suc k) h = let l = length-drop i ns in
-        subst (λ (m : CountedEnd). point_lt (get_or ns (i + suc k) d).point m.point ≡ false) (get_or_default ns i d n lt ∙ is)
+        subst (λ (m : CountedEnd). point_lt (get_or ns (i + suc k) d).point m.point ≡ false)
+        (get_or_default ns i d n lt ∙ is)
         (order i (i + suc k) d (omega arith) (omega arith))
 
 -- what begins with an end from which none is at a smaller point
-pub first_here : (ns : List CountedEnd) (i : ℕ) (n : CountedEnd) → i < length ns → get_or ns i n ≡ n → (p : Point) → All (λ m. point_lt m.point p ≡ false) (drop i ns) →
+pub first_here : (ns : List CountedEnd) (i : ℕ) (n : CountedEnd) → i < length ns → get_or ns i n ≡ n →
+    (p : Point) → All (λ m. point_lt m.point p ≡ false) (drop i ns) →
     point_lt n.point p ≡ false
 first_here ns i n lt is p least = at_front (λ (m : CountedEnd). point_lt m.point p ≡ false) ns i n lt (sym is) least
 
 -- nor after it
-pub none_before_after : (ns : List CountedEnd) → AreByPoint ns → (i : ℕ) (n : CountedEnd) → i < length ns → get_or ns i n ≡ n →
+pub none_before_after : (ns : List CountedEnd) → AreByPoint ns → (i : ℕ) (n : CountedEnd) → i < length ns →
+    get_or ns i n ≡ n →
     All (λ m. point_lt m.point n.point ≡ false) (drop (i + 1) ns)
 none_before_after ns order i n lt is k d h =
     let l = length-drop (i + 1) ns in
     subst (λ (m : CountedEnd). point_lt m.point n.point ≡ false) (sym (get_or-drop (i + 1) ns k d))
-    (subst (λ (m : CountedEnd). point_lt (get_or ns (i + 1 + k) d).point m.point ≡ false) (get_or_default ns i d n lt ∙ is)
+    (subst (λ (m : CountedEnd). point_lt (get_or ns (i + 1 + k) d).point m.point ≡ false)
+    (get_or_default ns i d n lt ∙ is)
     (order i (i + 1 + k) d (omega arith) (omega arith)))
 
 module _ (count : CountedEnd → ℤ) (ns : List CountedEnd) where
@@ -97,7 +105,8 @@ module _ (count : CountedEnd → ℤ) (ns : List CountedEnd) where
   module _ (i : ℕ) (p : Point) (sum : ℤ) (so_far : SumsUpAt i p sum) where
     module _ (n : CountedEnd) (lt : i < length ns) (is : get_or ns i n ≡ n) where
       more : (f : Point → ℤ) → total (weighed f) (take (i + 1) ns) ≡ sum *ℤ f p +ℤ count n *ℤ f n.point
-      more f = ap (total (weighed f)) (take_more ns i n lt ∙ ap (λ m. take i ns ++ m ∷ []) is) ∙ total-append (weighed f) (take i ns) (n ∷ [])
+      more f = ap (total (weighed f)) (take_more ns i n lt ∙ ap (λ m. take i ns ++ m ∷ []) is)
+          ∙ total-append (weighed f) (take i ns) (n ∷ [])
           ∙ ap₂ (λ a b. a +ℤ b) (so_far f) (last (weighed f n))
         where
           last : (z : ℤ) → z +ℤ pos 0 ≡ z
@@ -105,19 +114,24 @@ module _ (count : CountedEnd → ℤ) (ns : List CountedEnd) where
 
       -- one end more at the same point
       pub same_point : p ≡ n.point → SumsUpAt (i + 1) n.point (sum +ℤ count n)
-      same_point same f = more f ∙ ap (λ q. sum *ℤ f q +ℤ count n *ℤ f n.point) same ∙ both_times sum (count n) (f n.point)
+      same_point same f = more f ∙ ap (λ q. sum *ℤ f q +ℤ count n *ℤ f n.point) same
+          ∙ both_times sum (count n) (f n.point)
 
       -- one at another point, where those before cancel out
       pub next_point : sum ≡ pos 0 → SumsUpAt (i + 1) n.point (sum +ℤ count n)
-      next_point none f = more f ∙ ap (λ s. s *ℤ f p +ℤ count n *ℤ f n.point) none ∙ ap (λ z. z +ℤ count n *ℤ f n.point) (no_times (f p) ∙ sym (no_times (f n.point)))
+      next_point none f = more f ∙ ap (λ s. s *ℤ f p +ℤ count n *ℤ f n.point) none ∙ ap (λ z. z +ℤ count n *ℤ f n.point)
+          (no_times (f p) ∙ sym (no_times (f n.point)))
           ∙ ap (λ s. s *ℤ f n.point +ℤ count n *ℤ f n.point) (sym none) ∙ both_times sum (count n) (f n.point)
 
       -- it stays near 0
-      pub sum_within : ((m : CountedEnd) → Within (end_weight m) (count m)) → sum_by end_weight ns < 2 ^ 33 → Within (2 ^ 33) (sum +ℤ count n)
+      pub sum_within : ((m : CountedEnd) → Within (end_weight m) (count m)) → sum_by end_weight ns < 2 ^ 33 →
+          Within (2 ^ 33) (sum +ℤ count n)
       sum_within near light =
           let part = sum_by-take-le end_weight ns (i + 1) in
-          let all = total-within (weighed (λ q. pos 1)) end_weight (λ m. subst (Within (end_weight m)) (sym (times_one (count m))) (near m)) (take (i + 1) ns) in
-          let is_sum : total (weighed (λ q. pos 1)) (take (i + 1) ns) ≡ sum +ℤ count n = more (λ q. pos 1) ∙ ap₂ (λ a b. a +ℤ b) (times_one sum) (times_one (count n)) in
+          let all = total-within (weighed (λ q. pos 1)) end_weight
+          (λ m. subst (Within (end_weight m)) (sym (times_one (count m))) (near m)) (take (i + 1) ns) in
+          let is_sum : total (weighed (λ q. pos 1)) (take (i + 1) ns) ≡ sum +ℤ count n = more (λ q. pos 1)
+          ∙ ap₂ (λ a b. a +ℤ b) (times_one sum) (times_one (count n)) in
           let near_sum = subst (Within (sum_by end_weight (take (i + 1) ns))) is_sum all in
           record { low = omega (arith, ints); high = omega (arith, ints) }
 
@@ -125,7 +139,8 @@ module _ (count : CountedEnd → ℤ) (ns : List CountedEnd) where
       pub none_so_far : AreByPoint ns → point_lt p n.point ≡ true → SumsUpToNone → sum ≡ pos 0
       none_so_far order before none =
           sym (times_one sum) ∙ ap (λ t. sum *ℤ cond t (pos 0) (pos 1)) (sym (point_lt-itself p)) ∙ sym (so_far up_to)
-          ∙ sym (without (total (weighed up_to) (take i ns)) (total (weighed up_to) (drop i ns)) rest) ∙ sym (total-append (weighed up_to) (take i ns) (drop i ns))
+          ∙ sym (without (total (weighed up_to) (take i ns)) (total (weighed up_to) (drop i ns)) rest)
+          ∙ sym (total-append (weighed up_to) (take i ns) (drop i ns))
           ∙ ap (total (weighed up_to)) (take-append-drop i ns) ∙ none up_to
         where
           up_to : Point → ℤ
@@ -137,13 +152,16 @@ module _ (count : CountedEnd → ℤ) (ns : List CountedEnd) where
           rest : total (weighed up_to) (drop i ns) ≡ pos 0
           rest = total-zero (weighed up_to) (drop i ns) (λ m c.
               ap (λ t. count m *ℤ cond t (pos 0) (pos 1)) (point_lt-before_up_to p n.point m.point before
-              (All-contains (λ (k : CountedEnd). point_lt k.point n.point ≡ false) (drop i ns) m (none_before ns order i n lt is) c))
+              (All-contains (λ (k : CountedEnd). point_lt k.point n.point ≡ false) (drop i ns) m
+              (none_before ns order i n lt is) c))
               ∙ times_none (count m))
 
     -- in the end all cancel out where the sum is 0
     pub all_cancel : length ns ≤ i → sum ≡ pos 0 → SumsUpToNone
-    all_cancel past none f = ap (total (weighed f)) (sym (take_all i ns past)) ∙ so_far f ∙ ap (λ s. s *ℤ f p) none ∙ no_times (f p)
+    all_cancel past none f = ap (total (weighed f)) (sym (take_all i ns past)) ∙ so_far f ∙ ap (λ s. s *ℤ f p) none
+        ∙ no_times (f p)
 
     -- and the sum is 0 where they do
     pub sum_cancels : length ns ≤ i → SumsUpToNone → sum ≡ pos 0
-    sum_cancels past none = sym (times_one sum) ∙ sym (so_far (λ q. pos 1)) ∙ ap (total (weighed (λ q. pos 1))) (take_all i ns past) ∙ none (λ q. pos 1)
+    sum_cancels past none = sym (times_one sum) ∙ sym (so_far (λ q. pos 1))
+        ∙ ap (total (weighed (λ q. pos 1))) (take_all i ns past) ∙ none (λ q. pos 1)

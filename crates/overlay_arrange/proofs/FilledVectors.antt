@@ -27,10 +27,12 @@ module _ {I C : Type 0} (whole : I → ℤ) (counts : C → Counts) where
   vectors_by : (bits : CountedEdge → ℕ) (vs : List (DataVectorEdge I C)) →
       map (λ v. v.fill) vs ≡ map bits (edges_in (carried_vectors whole counts vs)) →
       map (plain_vector whole) vs
-      ≡ map (λ e. let v : Vector = record { a = e.a; b = e.b; fill = bits e } in v) (edges_in (carried_vectors whole counts vs))
+      ≡ map (λ e. let v : Vector = record { a = e.a; b = e.b; fill = bits e } in
+      v) (edges_in (carried_vectors whole counts vs))
   vectors_by bits [] filled = refl
   vectors_by bits (v ∷ vs) filled = ap₂ (λ w ws. w ∷ ws)
-      (ap (λ n. let w : Vector = record { a = plain_point whole v.a; b = plain_point whole v.b; fill = n } in w) (ap first filled))
+      (ap (λ n. let w : Vector = record { a = plain_point whole v.a; b = plain_point whole v.b; fill = n } in
+      w) (ap first filled))
       (vectors_by bits vs (ap others filled))
 
   -- so those of a graph are the vectors of its edges
@@ -38,11 +40,14 @@ module _ {I C : Type 0} (whole : I → ℤ) (counts : C → Counts) where
       AreFilledBy limit rule (edges_in (carried_vectors whole counts vs)) (map (λ v. v.fill) vs) →
       map (plain_vector whole) vs
       ≡ map (vector_of rule (edges_in (carried_vectors whole counts vs))) (edges_in (carried_vectors whole counts vs))
-  vectors_listed limit rule vs filled = vectors_by (fill_bits rule (edges_in (carried_vectors whole counts vs))) vs filled.filled
+  vectors_listed limit rule vs filled = vectors_by (fill_bits rule (edges_in (carried_vectors whole counts vs))) vs
+      filled.filled
 
   -- and what is made of an arrangement and its fill bits is a graph
-  pub graph_made : (limit : ℕ) (rule : FillRule) (es : List (HeldEdge I C)) (vs : List (DataVectorEdge I C)) (fills : List ℕ) →
-      IsArrangement limit (plain_edges whole counts es) → fills ≡ map (fill_bits rule (plain_edges whole counts es)) (plain_edges whole counts es) →
+  pub graph_made : (limit : ℕ) (rule : FillRule) (es : List (HeldEdge I C)) (vs : List (DataVectorEdge I C))
+      (fills : List ℕ) →
+      IsArrangement limit (plain_edges whole counts es) → fills ≡ map (fill_bits rule (plain_edges whole counts es))
+      (plain_edges whole counts es) →
       carried_vectors whole counts vs ≡ carried_edges whole counts es → map (λ v. v.fill) vs ≡ fills →
       AreFilledBy limit rule (edges_in (carried_vectors whole counts vs)) (map (λ v. v.fill) vs)
   graph_made limit rule es vs fills arranged bits same filled =

@@ -14,7 +14,8 @@ first_are_content limit count es h =
     record { held = All-take (IsHeld limit) count es h.held; light = omega (arith, lighter, h.light) }
 
 -- so it may where the first items are seen as edges
-pub first_seen : {X : Type 0} (limit count : ℕ) (see : X → CountedEdge) (xs ys : List X) → ys ≡ take count xs → IsContent limit (map see xs)
+pub first_seen : {X : Type 0} (limit count : ℕ) (see : X → CountedEdge) (xs ys : List X) → ys ≡ take count xs →
+    IsContent limit (map see xs)
     → IsContent limit (map see ys)
 first_seen limit count see xs ys are h =
     subst (λ zs. IsContent limit (map see zs)) (sym are)

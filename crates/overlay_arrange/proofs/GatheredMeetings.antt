@@ -1,6 +1,7 @@
--- A loop over pairs of ascending edges that gathers the points through which they lead one another: what a pair adds, and which
--- pairs may be left out.
-use Rattle.std.proofs.Common.{◌≡◌, ◌⊎◌, ⊎_elim, inl, inr, true, ℕ, ◌+◌, ◌<◌, ◌≤◌, ◌<ℤ◌, List, [], All, Contains, length, map, get_or, sym, ◌∙◌, subst, arith}
+-- A loop over pairs of ascending edges that gathers the points through which they lead one another: what a pair adds,
+-- and which pairs may be left out.
+use Rattle.std.proofs.Common.{◌≡◌, ◌⊎◌, ⊎_elim, inl, inr, ℕ, ◌+◌, ◌<◌, ◌≤◌, ◌<ℤ◌, List, [], All, Contains, length, map}
+use Rattle.std.proofs.Common.{get_or, sym, ◌∙◌, subst, arith}
 use Rattle.std.specs.List.{flat_map}
 use Rattle.std.proofs.lemmas.Bool.{cases_lt}
 use Rattle.std.proofs.lemmas.List.{get_or_default, length-map}
@@ -16,8 +17,9 @@ use Rattle.overlay_plane.proofs.InOrderLists.{Contains-put_in_order}
 use Rattle.overlay_plane.proofs.MetInBox.{apart_meet_nowhere}
 use Rattle.overlay_arrange.specs.Content.{IsAscending, IsHeld}
 use Rattle.overlay_arrange.specs.Cut.{IsEndOf}
-use Rattle.overlay_arrange.specs.Meetings.{AddsBoth, AreGathered, AreMeetings, HasBefore, IsAt, IsEndOrMet, IsRunEnd, Meeting}
-use Rattle.overlay_arrange.specs.Settle.{are_apart_in_y}
+use Rattle.overlay_arrange.specs.Heights.{span_of, IsApart}
+use Rattle.overlay_arrange.specs.Meetings.{AddsBoth, AreGathered, AreMeetings, HasBefore, IsAt, IsEndOrMet, IsRunEnd}
+use Rattle.overlay_arrange.specs.Meetings.{Meeting}
 use Rattle.overlay_arrange.proofs.ApartInY.{apart_exchanged, nowhere_where_apart}
 use Rattle.overlay_arrange.proofs.SettledLists.{right_from}
 
@@ -28,7 +30,11 @@ one_entry xs i x y at_x at_y = sym at_x.1 ∙ get_or_default xs i x y at_x.0 ∙
 -- an entry of a list that is read stands there in the mapped list
 pub placed_in_mapped : {X Y : Type 0} (f : X → Y) (xs : List X) (i : ℕ) (x : X) → i < length xs → x ≡ get_or xs i x →
     IsAt (map f xs) i (f x)
-placed_in_mapped f xs i x within is = (let count = length-map xs f in omega (arith, within), read_mapped f xs i x (f x) within is)
+placed_in_mapped f xs i x within is = (
+  let count = length-map xs f in
+      omega (arith, within),
+  read_mapped f xs i x (f x) within is,
+)
 
 -- a place before the one after i is i, or comes before i
 at_or_before : (k i : ℕ) → k < i + 1 → (k ≡ i) ⊎ (k < i)
@@ -55,7 +61,8 @@ module _ (es : List CountedEdge) where
         (λ (lt : j < 0). absurd (omega (arith, lt))) before;
   }
 
-  -- what is gathered of some pairs is gathered of others, if those lead one another nowhere but to their ends, or were looked at
+  -- what is gathered of some pairs is gathered of others, if those lead one another nowhere but to their ends, or were
+  -- looked at
   gathered_of_more : {Some More : ℕ → ℕ → Type 0} {ms : List Meeting} → AreGathered es Some ms →
       ((k l : ℕ) (g h : CountedEdge) → IsAt es k g → IsAt es l h → More k l → Some k l ⊎ LeadsNowhere g h) →
       AreGathered es More ms
@@ -79,13 +86,16 @@ module _ (es : List CountedEdge) where
         by : (k l : ℕ) (g h : CountedEdge) → IsAt es k g → IsAt es l h → IsLookedAt i (i + 1) k l →
             HasBefore i k l ⊎ LeadsNowhere g h
         by k l g h at_g at_h (inl before) = inl before
-        by k l g h at_g at_h (inr (inl (k_is, lt))) = ⊎_elim (λ (l_is : l ≡ i). inr (own k l g h at_g at_h (k_is ∙ sym l_is))) (λ (less : l < i). inl (inr less))
+        by k l g h at_g at_h (inr (inl (k_is, lt))) = ⊎_elim
+            (λ (l_is : l ≡ i). inr (own k l g h at_g at_h (k_is ∙ sym l_is))) (λ (less : l < i). inl (inr less))
             (at_or_before l i lt)
-        by k l g h at_g at_h (inr (inr (l_is, lt))) = ⊎_elim (λ (k_is : k ≡ i). inr (own k l g h at_g at_h (k_is ∙ sym l_is))) (λ (less : k < i). inl (inl less))
+        by k l g h at_g at_h (inr (inr (l_is, lt))) = ⊎_elim
+            (λ (k_is : k ≡ i). inr (own k l g h at_g at_h (k_is ∙ sym l_is))) (λ (less : k < i). inl (inl less))
             (at_or_before k i lt)
 
     -- the pair of e and the edge at place j is looked at
-    module _ (j : ℕ) (f : CountedEdge) (at_f : IsAt es j f) {old new : List Meeting} (gathered : AreGathered es (IsLookedAt i j) old) (adds : AddsBoth i e j f old new) where
+    module _ (j : ℕ) (f : CountedEdge) (at_f : IsAt es j f) {old new : List Meeting}
+        (gathered : AreGathered es (IsLookedAt i j) old) (adds : AddsBoth i e j f old new) where
       -- a point through which the second edge leads the first one is one of its computed points
       computed : (k l : ℕ) (g h : CountedEdge) → IsAt es k g → IsAt es l h → (m : Meeting) → m.place ≡ k →
           Contains (met_at (ends_of g) (ends_of h)) m.point →
@@ -110,7 +120,8 @@ module _ (es : List CountedEdge) where
           let g_is : e ≡ g = one_entry es k e g (subst (λ n. IsAt es n e) (sym k_is) at_e) at_g in
           let h_is : f ≡ h = one_entry es l f h (subst (λ n. IsAt es n f) (sym l_is) at_f) at_h in
           ⊎_elim (λ end. inl (subst (λ u. IsEndOf u v) g_is end))
-          (λ there. inr (subst (λ n. Contains new (record { place = n; point = v })) (sym k_is) (adds.other.kept (record { place = i; point = v }) there)))
+          (λ there. inr (subst (λ n. Contains new (record { place = n; point = v })) (sym k_is)
+          (adds.other.kept (record { place = i; point = v }) there)))
           (adds.one.all v (rw (g_is, h_is) at))
 
       back : (k l : ℕ) (g h : CountedEdge) → IsAt es k g → IsAt es l h → k ≡ j → l ≡ i →
@@ -125,7 +136,8 @@ module _ (es : List CountedEdge) where
       pub pair_gathered : AreGathered es (IsLookedAt i (j + 1)) new
       pair_gathered = record {
         led = λ m at. ⊎_elim
-            (λ before. ⊎_elim (λ there. gathered.led m there) (λ led. computed i j e f at_e at_f m led.0 led.1) (adds.one.led m before))
+            (λ before. ⊎_elim (λ there. gathered.led m there) (λ led. computed i j e f at_e at_f m led.0 led.1)
+            (adds.one.led m before))
             (λ led. computed j i f e at_f at_e m led.0 led.1) (adds.other.led m at);
         all = λ k l g h at_g at_h pair v at. by k l g h at_g at_h pair v at;
       }
@@ -140,9 +152,11 @@ module _ (es : List CountedEdge) where
               IsLedBy g h v →
               IsEndOrMet new k g v
           by k l g h at_g at_h (inl before) v at = earlier k l g h at_g at_h (inl before) v at
-          by k l g h at_g at_h (inr (inl (k_is, lt))) v at = ⊎_elim (λ (l_is : l ≡ j). forth k l g h at_g at_h k_is l_is v at)
+          by k l g h at_g at_h (inr (inl (k_is, lt))) v at = ⊎_elim
+              (λ (l_is : l ≡ j). forth k l g h at_g at_h k_is l_is v at)
               (λ (less : l < j). earlier k l g h at_g at_h (inr (inl (k_is, less))) v at) (at_or_before l j lt)
-          by k l g h at_g at_h (inr (inr (l_is, lt))) v at = ⊎_elim (λ (k_is : k ≡ j). back k l g h at_g at_h k_is l_is v at)
+          by k l g h at_g at_h (inr (inr (l_is, lt))) v at = ⊎_elim
+              (λ (k_is : k ≡ j). back k l g h at_g at_h k_is l_is v at)
               (λ (less : k < j). earlier k l g h at_g at_h (inr (inr (l_is, less))) v at) (at_or_before k j lt)
 
     -- where all later edges have been looked at, the pairs with e have
@@ -170,20 +184,23 @@ module _ (es : List CountedEdge) where
         starts_right : (l : ℕ) (h : CountedEdge) → IsAt es l h → j ≤ l → e.b.x <ℤ h.a.x
         starts_right l h at later =
             subst (λ (u : CountedEdge). e.b.x <ℤ u.a.x) at.1
-            (right_from e es j l h up later at.0 (subst (λ (u : CountedEdge). e.b.x <ℤ u.a.x) (sym at_f.1 ∙ get_or_default es j f h at_f.0) right))
+            (right_from e es j l h up later at.0
+            (subst (λ (u : CountedEdge). e.b.x <ℤ u.a.x) (sym at_f.1 ∙ get_or_default es j f h at_f.0) right))
 
         nowhere : (k l : ℕ) (g h : CountedEdge) → IsAt es k g → IsAt es l h → k ≡ i → j ≤ l →
             met_at (ends_of g) (ends_of h) ≡ []
         nowhere k l g h at_g at_h is later =
             let g_is : e ≡ g = one_entry es k e g (subst (λ n. IsAt es n e) (sym is) at_e) at_g in
-            apart_meet_nowhere (ends_of g) (ends_of h) ((Decides-point_lt g.a g.b).0 (holds k g at_g).forward) ((Decides-point_lt h.a h.b).0 (holds l h at_h).forward)
+            apart_meet_nowhere (ends_of g) (ends_of h) ((Decides-point_lt g.a g.b).0 (holds k g at_g).forward)
+            ((Decides-point_lt h.a h.b).0 (holds l h at_h).forward)
             (inl (subst (λ (u : CountedEdge). u.b.x <ℤ h.a.x) g_is (starts_right l h at_h later)))
 
         nowhere_back : (k l : ℕ) (g h : CountedEdge) → IsAt es k g → IsAt es l h → l ≡ i → j ≤ k →
             met_at (ends_of g) (ends_of h) ≡ []
         nowhere_back k l g h at_g at_h is later =
             let h_is : e ≡ h = one_entry es l e h (subst (λ n. IsAt es n e) (sym is) at_e) at_h in
-            apart_meet_nowhere (ends_of g) (ends_of h) ((Decides-point_lt g.a g.b).0 (holds k g at_g).forward) ((Decides-point_lt h.a h.b).0 (holds l h at_h).forward)
+            apart_meet_nowhere (ends_of g) (ends_of h) ((Decides-point_lt g.a g.b).0 (holds k g at_g).forward)
+            ((Decides-point_lt h.a h.b).0 (holds l h at_h).forward)
             (inr (subst (λ (u : CountedEdge). u.b.x <ℤ g.a.x) h_is (starts_right k g at_g later)))
 
         no_end : (g h : CountedEdge) → met_at (ends_of g) (ends_of h) ≡ [] → LeadsNowhere g h
@@ -193,15 +210,17 @@ module _ (es : List CountedEdge) where
         by : (k l : ℕ) (g h : CountedEdge) → IsAt es k g → IsAt es l h → HasBefore (i + 1) k l →
             IsLookedAt i j k l ⊎ LeadsNowhere g h
         by k l g h at_g at_h (inl lt) = ⊎_elim
-            (λ (is : k ≡ i). ⊎_elim (λ (less : l < j). inl (inr (inl (is, less)))) (λ (later : j ≤ l). inr (no_end g h (nowhere k l g h at_g at_h is later))) (cases_lt l j))
+            (λ (is : k ≡ i). ⊎_elim (λ (less : l < j). inl (inr (inl (is, less))))
+            (λ (later : j ≤ l). inr (no_end g h (nowhere k l g h at_g at_h is later))) (cases_lt l j))
             (λ (less : k < i). inl (inl (inl less))) (at_or_before k i lt)
         by k l g h at_g at_h (inr lt) = ⊎_elim
-            (λ (is : l ≡ i). ⊎_elim (λ (less : k < j). inl (inr (inr (is, less)))) (λ (later : j ≤ k). inr (no_end g h (nowhere_back k l g h at_g at_h is later))) (cases_lt k j))
+            (λ (is : l ≡ i). ⊎_elim (λ (less : k < j). inl (inr (inr (is, less))))
+            (λ (later : j ≤ k). inr (no_end g h (nowhere_back k l g h at_g at_h is later))) (cases_lt k j))
             (λ (less : l < i). inl (inl (inr less))) (at_or_before l i lt)
 
     -- those from place j up to a later one at heights apart from e's may be passed over
     pub apart_passed_over : (limit j to : ℕ) {ms : List Meeting} → All (IsHeld limit) es →
-        ((k : ℕ) (f : CountedEdge) → j ≤ k → k < to → IsAt es k f → are_apart_in_y (ends_of e) (ends_of f) ≡ true) →
+        ((k : ℕ) (f : CountedEdge) → j ≤ k → k < to → IsAt es k f → IsApart (span_of e) (span_of f)) →
         AreGathered es (IsLookedAt i j) ms → AreGathered es (IsLookedAt i to) ms
     apart_passed_over limit j to held apart gathered = gathered_of_more gathered
         (λ k l g h at_g at_h pair. by k l g h at_g at_h pair)
@@ -212,19 +231,23 @@ module _ (es : List CountedEdge) where
         nowhere : (k l : ℕ) (g h : CountedEdge) → IsAt es k g → IsAt es l h → k ≡ i → j ≤ l → l < to → LeadsNowhere g h
         nowhere k l g h at_g at_h is later less v at =
             let g_is : e ≡ g = one_entry es k e g (subst (λ n. IsAt es n e) (sym is) at_e) at_g in
-            let test = subst (λ (u : CountedEdge). are_apart_in_y (ends_of u) (ends_of h) ≡ true) g_is (apart l h later less at_h) in
-            let empty = subst (λ (vs : List Point). Contains vs v) (nowhere_where_apart (ends_of g) (ends_of h) (leads k g at_g) (leads l h at_h) test) at in
+            let test = subst (λ (u : CountedEdge). IsApart (span_of u) (span_of h)) g_is (apart l h later less at_h) in
+            let empty = subst (λ (vs : List Point). Contains vs v)
+            (nowhere_where_apart g h (leads k g at_g) (leads l h at_h) test) at in
             absurd (omega (arith, empty.1))
 
-        nowhere_back : (k l : ℕ) (g h : CountedEdge) → IsAt es k g → IsAt es l h → l ≡ i → j ≤ k → k < to → LeadsNowhere g h
+        nowhere_back : (k l : ℕ) (g h : CountedEdge) → IsAt es k g → IsAt es l h → l ≡ i → j ≤ k → k < to →
+            LeadsNowhere g h
         nowhere_back k l g h at_g at_h is later less v at =
             let h_is : e ≡ h = one_entry es l e h (subst (λ n. IsAt es n e) (sym is) at_e) at_h in
-            let test = subst (λ (u : CountedEdge). are_apart_in_y (ends_of u) (ends_of g) ≡ true) h_is (apart k g later less at_g) in
-            let empty = subst (λ (vs : List Point). Contains vs v) (nowhere_where_apart (ends_of g) (ends_of h) (leads k g at_g) (leads l h at_h)
-            (apart_exchanged (ends_of h) (ends_of g) test)) at in
+            let test = subst (λ (u : CountedEdge). IsApart (span_of u) (span_of g)) h_is (apart k g later less at_g) in
+            let empty = subst (λ (vs : List Point). Contains vs v)
+            (nowhere_where_apart g h (leads k g at_g) (leads l h at_h)
+            (apart_exchanged (span_of h) (span_of g) test)) at in
             absurd (omega (arith, empty.1))
 
-        by : (k l : ℕ) (g h : CountedEdge) → IsAt es k g → IsAt es l h → IsLookedAt i to k l → IsLookedAt i j k l ⊎ LeadsNowhere g h
+        by : (k l : ℕ) (g h : CountedEdge) → IsAt es k g → IsAt es l h → IsLookedAt i to k l →
+            IsLookedAt i j k l ⊎ LeadsNowhere g h
         by k l g h at_g at_h (inl before) = inl (inl before)
         by k l g h at_g at_h (inr (inl (k_is, lt))) = ⊎_elim (λ (less : l < j). inl (inr (inl (k_is, less))))
             (λ (later : j ≤ l). inr (nowhere k l g h at_g at_h k_is later lt)) (cases_lt l j)
@@ -232,7 +255,8 @@ module _ (es : List CountedEdge) where
             (λ (later : j ≤ k). inr (nowhere_back k l g h at_g at_h l_is later lt)) (cases_lt k j)
 
     -- where those up to the end of e's run have been looked at, the pairs with e have
-    pub run_looked_at : (limit end : ℕ) {ms : List Meeting} → All (IsHeld limit) es → IsAscending es → IsRunEnd es i end →
+    pub run_looked_at : (limit end : ℕ) {ms : List Meeting} → All (IsHeld limit) es → IsAscending es →
+        IsRunEnd es i end →
         AreGathered es (IsLookedAt i end) ms → AreGathered es (HasBefore (i + 1)) ms
     run_looked_at limit end held up run gathered = ⊎_elim
         (λ (inside : end < length es). let f = get_or es end e in

@@ -1,5 +1,6 @@
 -- The points of an edge's meetings, taken in their order along it, make the chain that is computed of it.
-use Rattle.std.proofs.Common.{◌≡◌, ⊎_elim, inl, inr, ℕ, ◌+◌, ◌-◌, ◌<◌, ◌≤◌, true, List, [], ◌∷◌, ◌++◌, All, Contains, length, map, drop, get_or, slice_range, refl, sym, ap, ◌∙◌, subst, arith}
+use Rattle.std.proofs.Common.{◌≡◌, ⊎_elim, inl, inr, ℕ, ◌+◌, ◌-◌, ◌<◌, ◌≤◌, true, List, [], ◌∷◌, ◌++◌, All, Contains}
+use Rattle.std.proofs.Common.{length, map, drop, get_or, slice_range, refl, sym, ap, ◌∙◌, subst, arith}
 use Rattle.std.specs.Prelude.{◌↔◌}
 use Rattle.std.specs.List.{flat_map}
 use Rattle.std.proofs.lemmas.List.{get_or-take, get_or-drop, length-take, length-drop}
@@ -48,7 +49,11 @@ from_ranged xs low high x within at =
       low + at.0,
       omega arith,
       omega arith,
-      (omega arith, sym (get_or-drop low xs at.0 x) ∙ sym (get_or-take (high - low) (drop low xs) at.0 x inside) ∙ at.2),
+      (
+        omega arith,
+        sym (get_or-drop low xs at.0 x) ∙ sym (get_or-take (high - low) (drop low xs) at.0 x inside)
+            ∙ at.2,
+      ),
     )
 
 -- the points of the run of an edge, put in their order along it, are its points
@@ -60,7 +65,8 @@ points_of_run ms i e low high us vs run are order = record { from = from; all = 
     from : (v : Point) → Contains vs v → Contains ms (record { place = i; point = v })
     from v at =
         let in_us = Contains-in_order (comes_first e) us v (subst (λ ws. Contains ws v) order at) in
-        let met = Contains-from_map (λ (m : Meeting). m.point) (slice_range ms low high) v (subst (λ ws. Contains ws v) are in_us) in
+        let met = Contains-from_map (λ (m : Meeting). m.point) (slice_range ms low high) v
+        (subst (λ ws. Contains ws v) are in_us) in
         let place = from_ranged ms low high met.0 run.within met.1 in
         let same : met.0.place ≡ i = run.from place.0 met.0 place.1 place.2 place.3 in
         let found : Contains ms met.0 = (place.0, place.3.0, place.3.1) in
@@ -73,7 +79,8 @@ points_of_run ms i e low high us vs run are order = record { from = from; all = 
         let inside = run.all at.0 m (at.1, at.2) refl in
         let in_range = ranged ms low high at.0 m inside.0 inside.1 run.within (at.1, at.2) in
         subst (λ ws. Contains ws v) (sym order) (Contains-put_in_order (comes_first e) us v
-        (subst (λ ws. Contains ws v) (sym are) (Contains-map (λ (n : Meeting). n.point) (slice_range ms low high) m in_range)))
+        (subst (λ ws. Contains ws v) (sym are)
+        (Contains-map (λ (n : Meeting). n.point) (slice_range ms low high) m in_range)))
 
 -- ---- the chain through them
 
@@ -84,7 +91,8 @@ pub record IsLedThrough (limit : ℕ) (es : List CountedEdge) (e : CountedEdge) 
   pub on_line : All (IsOnLineOf e) vs ↔ AreLedAlongLines es e
   pub in_range : All (InRange limit) vs
 
-module _ (limit : ℕ) (es : List CountedEdge) (held : All (IsHeld limit) es) (i : ℕ) (e : CountedEdge) (at_e : IsAt es i e) where
+module _ (limit : ℕ) (es : List CountedEdge) (held : All (IsHeld limit) es) (i : ℕ) (e : CountedEdge)
+    (at_e : IsAt es i e) where
   -- the edges run forward
   forward : IsForwardBy ends_of es
   forward = All-weaker (IsHeld limit) (λ f. point_lt f.a f.b ≡ true) (λ f h. h.forward) es held
@@ -108,15 +116,18 @@ module _ (limit : ℕ) (es : List CountedEdge) (held : All (IsHeld limit) es) (i
     );
     on_line = (
       λ all. all_of_entries (IsOnLineOf e) (cut_points es e) (λ v at. on_line_of all v (all_computed v at)),
-      λ all. all_of_entries (IsOnLineOf e) vs (λ v at. All-contains (IsOnLineOf e) (cut_points es e) v all (computed_of v at)),
+      λ all. all_of_entries (IsOnLineOf e) vs (λ v at. All-contains (IsOnLineOf e) (cut_points es e) v all
+          (computed_of v at)),
     );
     in_range = all_of_entries (InRange limit) vs
-        (λ v at. All-contains (InRange limit) (cut_points es e) v (cut_points_in_range limit es e held_e) (computed_of v at));
+        (λ v at. All-contains (InRange limit) (cut_points es e) v (cut_points_in_range limit es e held_e)
+        (computed_of v at));
   }
     where
       in_their_order : Each (IsUpToAlong (ends_of e)) vs
       in_their_order = subst (Each (IsUpToAlong (ends_of e))) (sym points.order)
-          (Each-in_weak_order (comes_first (ends_of e)) (IsUpToAlong (ends_of e)) (along-order (ends_of e)) points.points)
+          (Each-in_weak_order (comes_first (ends_of e)) (IsUpToAlong (ends_of e)) (along-order (ends_of e))
+          points.points)
 
       computed_of : (v : Point) → Contains vs v → Contains (cut_points es e) v
       computed_of v at =

@@ -35,5 +35,5 @@ pub mod SettledLists
 pub mod SideBits
 pub mod Sweepable
 pub mod SweptFills
-pub mod TurnedCounts
+pub mod ReversedCounts
 pub mod WholeMeetings

@@ -1,5 +1,6 @@
 -- Meetings that stand by their places: sorting brings them there, and those of one edge stand side by side.
-use Rattle.std.proofs.Common.{◌≡◌, ⊎_elim, ℕ, ◌<◌, ◌≤◌, Bool, true, false, ℤ, nat_lt, nat_le, List, length, get_or, ap, sym, ◌∙◌, subst, arith}
+use Rattle.std.proofs.Common.{◌≡◌, ⊎_elim, ℕ, ◌<◌, ◌≤◌, Bool, true, false, ℤ, nat_lt, nat_le, List, length, get_or, ap}
+use Rattle.std.proofs.Common.{sym, ◌∙◌, subst, arith}
 use Rattle.std.specs.Cmp.{IsStrictWeakOrder}
 use Rattle.std.specs.List.Sorted.{IsSortedBy, IsPartitionedBy, IsPartitionPoint}
 use Rattle.std.specs.Ordering.{is_lt, nat_cmp}
@@ -32,7 +33,8 @@ module _ {I : Type 0} (whole : I → ℤ) where
   pub AreByPlace-from_sorted : (ms : List (HeldMeeting I)) → IsSortedBy is_earlier ms →
       AreByPlace (plain_meetings whole ms)
   AreByPlace-from_sorted ms up = AllPairs-map (λ (m n : Meeting). m.place ≤ n.place) (plain_meeting whole) ms
-      (λ j k d less within. let not_less = sorted_far is_earlier is_earlier-order ms up j k d (omega arith) within in grind (arith, not_less))
+      (λ j k d less within. let not_less = sorted_far is_earlier is_earlier-order ms up j k d (omega arith) within in
+      grind (arith, not_less))
 
   -- the meeting's place comes before i, or is at most i
   abbrev pub is_before : ℕ → HeldMeeting I → Bool
@@ -70,7 +72,8 @@ module _ {I : Type 0} (whole : I → ℤ) where
     -- between the two fronts stand the meetings of the edge at place i
     pub run_between : (i low high : ℕ) → low ≤ length ms → high ≤ length ms →
         IsPartitionPoint (λ m. is_before i m ≡ true) (λ m. is_before i m ≡ false) ms low →
-        IsPartitionPoint (λ m. is_up_to i m ≡ true) (λ m. is_up_to i m ≡ false) ms high → IsRunAt (plain_meetings whole ms) i low high
+        IsPartitionPoint (λ m. is_up_to i m ≡ true) (λ m. is_up_to i m ≡ false) ms high →
+        IsRunAt (plain_meetings whole ms) i low high
     run_between i low high low_in high_in before up_to = record {
       ordered = ordered;
       within = let l = length-map ms (plain_meeting whole) in omega arith;
@@ -97,8 +100,10 @@ module _ {I : Type 0} (whole : I → ℤ) where
 
         stands : (k : ℕ) (m : Meeting) → IsAt (plain_meetings whole ms) k m → m.place ≡ i → (low ≤ k) × (k < high)
         stands k m at is_i = (
-          ⊎_elim (λ (less : k < low). let small = before.0 k d (omega arith) less in absurd (grind (arith, here, small))) (λ le. le) (cases_lt k low),
-          ⊎_elim (λ less. less) (λ (past : high ≤ k). let large = up_to.1 k d past within in absurd (grind (arith, here, large))) (cases_lt k high),
+          ⊎_elim (λ (less : k < low). let small = before.0 k d (omega arith) less in
+              absurd (grind (arith, here, small))) (λ le. le) (cases_lt k low),
+          ⊎_elim (λ less. less) (λ (past : high ≤ k). let large = up_to.1 k d past within in
+              absurd (grind (arith, here, large))) (cases_lt k high),
         )
           where
             within : k < length ms

@@ -21,15 +21,18 @@ IsHeld-same_ends limit e f ends held = record {
 }
 
 -- a joined edge with counts has the ends of an edge of the list
-pub IsHeld-joined : (limit : ℕ) (old : List CountedEdge) → All (IsHeld limit) old → (e : CountedEdge) → e ≡ joined_edge old (ends_of e) → counts_nothing e ≡ false → IsHeld limit e
+pub IsHeld-joined : (limit : ℕ) (old : List CountedEdge) → All (IsHeld limit) old →
+    (e : CountedEdge) → e ≡ joined_edge old (ends_of e) → counts_nothing e ≡ false → IsHeld limit e
 IsHeld-joined limit old held e joined full =
     elim (find_between old (ends_of e)) [
-      | inl none ↦ absurd (both_ways (counts_nothing e) full (ap counts_nothing joined ∙ joined_none old (ends_of e) none))
+      | inl none ↦ absurd (both_ways (counts_nothing e) full (ap counts_nothing joined
+          ∙ joined_none old (ends_of e) none))
       | inr found ↦ IsHeld-same_ends limit found.0 e found.2 (All-contains (IsHeld limit) old found.0 held found.1)
     ]
 
 -- what a builder may hold it may hold merged
-pub IsContent-merged : (limit : ℕ) (old new : List CountedEdge) → IsContent limit old → IsMerged old new → IsContent limit new
+pub IsContent-merged : (limit : ℕ) (old new : List CountedEdge) → IsContent limit old → IsMerged old new →
+    IsContent limit new
 IsContent-merged limit old new content merged = record {
   held = λ k d l. IsHeld-joined limit old content.held (get_or new k d) (merged.joined k d l).0 (merged.joined k d l).1;
   light = omega (arith, weight_of_merged old new merged, content.light);

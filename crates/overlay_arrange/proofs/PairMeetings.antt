@@ -1,6 +1,9 @@
--- The meetings of two edges with one another: what pushing points adds, and what there is to add where the two lie in a given way.
-use Rattle.std.proofs.Common.{◌≡◌, ◌≢◌, ⊎_elim, inl, inr, ℕ, Bool, true, false, List, [], ◌∷◌, ◌++◌, cond, Contains, filter, refl, sym, ap, ◌∙◌, subst, arith}
-use Rattle.std.proofs.lemmas.List.Elements.{Contains-append_left, Contains-append_right, Contains-append_cases, Contains-push, Contains-push_cases, filter-append}
+-- The meetings of two edges with one another: what pushing points adds, and what there is to add where the two lie in a
+-- given way.
+use Rattle.std.proofs.Common.{◌≡◌, ◌≢◌, ⊎_elim, inl, inr, ℕ, Bool, List, [], ◌∷◌, ◌++◌, Contains, filter, refl, sym, ap}
+use Rattle.std.proofs.Common.{◌∙◌, subst, arith}
+use Rattle.std.proofs.lemmas.List.Elements.{Contains-append_left, Contains-append_right, Contains-append_cases}
+use Rattle.std.proofs.lemmas.List.Elements.{Contains-push, Contains-push_cases, filter-append}
 use Rattle.overlay_geom.specs.Plane.{Point}
 use Rattle.overlay_geom.specs.Edges.{CountedEdge, ends_of}
 use Rattle.overlay_geom.specs.Placed.{IsAlong, IsBeside, IsAcross}
@@ -16,8 +19,6 @@ use Rattle.overlay_plane.proofs.Placements.{ends_between, met_along, met_beside,
 use Rattle.overlay_plane.proofs.SharedCrossings.{crossing_alike}
 use Rattle.overlay_arrange.specs.Cut.{IsEndOf}
 use Rattle.overlay_arrange.specs.Meetings.{AddsBoth, AddsPoints, Meeting}
-use Rattle.overlay_arrange.specs.Settle.{are_apart_in_y}
-use Rattle.overlay_arrange.proofs.ApartInY.{apart_exchanged, nowhere_where_apart}
 use Rattle.overlay_arrange.proofs.Crossings.{beside_is_not_along, met_where_both_across, met_where_one_across}
 
 -- ---- what pushing adds
@@ -45,10 +46,14 @@ module _ (i : ℕ) (e : CountedEdge) where
   point_pushed v old new is = record {
     kept = λ m at. subst (λ ms. Contains ms m) (sym is) (Contains-append_left old (pushed ∷ []) m at);
     led = λ m at. ⊎_elim (λ there. inl there)
-        (λ same. inr (sym (ap (λ (n : Meeting). n.place) same), subst (Contains (v ∷ [])) (ap (λ (n : Meeting). n.point) same) (Contains-push [] v)))
+        (λ same. inr (
+          sym (ap (λ (n : Meeting). n.place) same),
+          subst (Contains (v ∷ [])) (ap (λ (n : Meeting). n.point) same) (Contains-push [] v),
+        ))
         (Contains-push_cases old pushed m (subst (λ ms. Contains ms m) is at));
     all = λ w at. inr (subst (λ ms. Contains ms (record { place = i; point = w })) (sym is)
-        (subst (λ u. Contains (old ++ pushed ∷ []) (record { place = i; point = u })) (only_entry v w at) (Contains-push old pushed)));
+        (subst (λ u. Contains (old ++ pushed ∷ []) (record { place = i; point = u })) (only_entry v w at)
+        (Contains-push old pushed)));
   }
     where
       pushed : Meeting
@@ -60,27 +65,14 @@ module _ (i : ℕ) (e : CountedEdge) where
   points_added {us} {vs} first second = record {
     kept = λ m at. second.kept m (first.kept m at);
     led = λ m at. ⊎_elim
-        (λ before. ⊎_elim (λ old_one. inl old_one) (λ led. inr (led.0, Contains-append_left us vs m.point led.1)) (first.led m before))
+        (λ before. ⊎_elim (λ old_one. inl old_one) (λ led. inr (led.0, Contains-append_left us vs m.point led.1))
+        (first.led m before))
         (λ led. inr (led.0, Contains-append_right us vs m.point led.1)) (second.led m at);
     all = λ v at. ⊎_elim
-        (λ one. ⊎_elim (λ end. inl end) (λ there. inr (second.kept (record { place = i; point = v }) there)) (first.all v one))
+        (λ one. ⊎_elim (λ end. inl end) (λ there. inr (second.kept (record { place = i; point = v }) there))
+        (first.all v one))
         (λ other. second.all v other) (Contains-append_cases us vs v at);
   }
-
-  -- a point that passes a test is added
-  pub kept_added : (p : Point → Bool) (v : Point) {old new : List Meeting} → p v ≡ true →
-      AddsPoints i e (v ∷ []) old new → AddsPoints i e (filter p (v ∷ [])) old new
-  kept_added p v {old} {new} passes adds = subst (λ vs. AddsPoints i e vs old new)
-      (sym (ap (λ t. cond t (v ∷ []) []) passes)) adds
-
-  -- and of another one nothing
-  pub dropped_added : (p : Point → Bool) (v : Point) (ms : List Meeting) → p v ≢ true →
-      AddsPoints i e (filter p (v ∷ [])) ms ms
-  dropped_added p v ms fails = by (p v) refl
-    where
-      by : (t : Bool) → p v ≡ t → AddsPoints i e (cond t (v ∷ []) []) ms ms
-      by true is = absurd (fails is)
-      by false is = no_points_added ms
 
   -- what a test keeps of two points
   pub two_added : (p : Point → Bool) (v w : Point) {old mid new : List Meeting} →
@@ -101,19 +93,13 @@ module _ (i : ℕ) (e : CountedEdge) (j : ℕ) (f : CountedEdge) where
     other = subst (λ vs. AddsPoints j f vs ms ms) (sym back) (no_points_added j f ms);
   }
 
-  -- so it is where the edges lie at heights that are apart
-  pub none_where_apart : (ms : List Meeting) → IsBefore e.a e.b → IsBefore f.a f.b →
-      are_apart_in_y (ends_of e) (ends_of f) ≡ true → AddsBoth i e j f ms ms
-  none_where_apart ms e_forward f_forward apart =
-      none_added ms (nowhere_where_apart (ends_of e) (ends_of f) e_forward f_forward apart)
-      (nowhere_where_apart (ends_of f) (ends_of e) f_forward e_forward (apart_exchanged (ends_of e) (ends_of f) apart))
-
-  -- and where the one lies beside the other one's line
+  -- so it is where the one lies beside the other one's line
   pub none_where_beside : (ms : List Meeting) → IsBefore f.a f.b → IsBeside (ends_of e) (ends_of f) →
       AddsBoth i e j f ms ms
   none_where_beside ms f_forward beside =
       none_added ms (met_beside (ends_of e) (ends_of f) off (inl beside))
-      (met_beside (ends_of f) (ends_of e) (λ along. off (along_exchanged (ends_of f) (ends_of e) f_forward along)) (inr beside))
+      (met_beside (ends_of f) (ends_of e) (λ along. off (along_exchanged (ends_of f) (ends_of e) f_forward along))
+      (inr beside))
     where
       off : ¬ (IsAlong (ends_of e) (ends_of f))
       off = beside_is_not_along (ends_of e) (ends_of f) beside
@@ -123,7 +109,8 @@ module _ (i : ℕ) (e : CountedEdge) (j : ℕ) (f : CountedEdge) where
       IsAcross (ends_of e) (ends_of f) → IsPlaced place (ends_of f) (ends_of e) → place ≢ Across →
       AddsBoth i e j f ms ms
   none_where_one_across ms place f_forward forth placed other =
-      none_added ms (met_where_one_across (ends_of e) (ends_of f) place f_forward forth placed other) (by place placed other)
+      none_added ms (met_where_one_across (ends_of e) (ends_of f) place f_forward forth placed other)
+      (by place placed other)
     where
       by : (p : Place) → IsPlaced p (ends_of f) (ends_of e) → p ≢ Across → met_at (ends_of f) (ends_of e) ≡ []
       by Along back isnt = absurd (across_not_along (ends_of e) (ends_of f) f_forward forth back)
@@ -132,7 +119,8 @@ module _ (i : ℕ) (e : CountedEdge) (j : ℕ) (f : CountedEdge) where
 
   -- where they lie on one line there are their ends
   pub ends_added : {old mid new : List Meeting} → IsBefore e.a e.b → IsAlong (ends_of e) (ends_of f) →
-      AddsPoints i e (ends_between (ends_of e) (ends_of f)) old mid → AddsPoints j f (ends_between (ends_of f) (ends_of e)) mid new → AddsBoth i e j f old new
+      AddsPoints i e (ends_between (ends_of e) (ends_of f)) old mid →
+      AddsPoints j f (ends_between (ends_of f) (ends_of e)) mid new → AddsBoth i e j f old new
   ends_added {old} {mid} {new} e_forward along first second = record {
     between = mid;
     one = subst (λ vs. AddsPoints i e vs old mid) (sym (met_along (ends_of e) (ends_of f) along)) first;
@@ -149,5 +137,6 @@ module _ (i : ℕ) (e : CountedEdge) (j : ℕ) (f : CountedEdge) where
     one = subst (λ vs. AddsPoints i e vs old mid)
         (ap (λ u. u ∷ []) is ∙ sym (met_where_both_across (ends_of e) (ends_of f) forth back)) first;
     other = subst (λ vs. AddsPoints j f vs mid new)
-        (ap (λ u. u ∷ []) (is ∙ crossing_alike (ends_of e) (ends_of f) forth back) ∙ sym (met_where_both_across (ends_of f) (ends_of e) back forth)) second;
+        (ap (λ u. u ∷ []) (is ∙ crossing_alike (ends_of e) (ends_of f) forth back)
+        ∙ sym (met_where_both_across (ends_of f) (ends_of e) back forth)) second;
   }

@@ -17,28 +17,40 @@ split_at_once most old new merged settled = record {
 }
 
 -- and the answer that it was not cut is right
-pub uncut_where_settled : {old new : List CountedEdge} → IsMerged old new → IsSettled new → (false ≡ false) ↔ IsReachedBy [] old new
+pub uncut_where_settled : {old new : List CountedEdge} → IsMerged old new → IsSettled new →
+    (false ≡ false) ↔ IsReachedBy [] old new
 uncut_where_settled merged settled = (λ same. record { cut = tt; merged = merged; settled = settled }, λ reached. refl)
 
 -- where the merged list is not settled, no list is reached without a round
-pub cut_where_unsettled : {old left new : List CountedEdge} → IsMerged old left → ¬ (IsSettled left) → (true ≡ false) ↔ IsReachedBy [] old new
+pub cut_where_unsettled : {old left new : List CountedEdge} → IsMerged old left → ¬ (IsSettled left) →
+    (true ≡ false) ↔ IsReachedBy [] old new
 cut_where_unsettled {old} {left} {new} merged unsettled = (
   λ same. absurd (false≢true (sym same)),
   λ reached. absurd (unsettled (subst IsSettled (IsMerged-unique old new left reached.merged merged) reached.settled)),
 )
 
 -- one that is not settled stays so without a round
-pub unsettled_at_once : (most : ℕ) (old left : List CountedEdge) → most ≡ 0 → IsMerged old left → ¬ (IsSettled left) → StaysUnsettled most old
-unsettled_at_once most old left none merged unsettled = record { rounds = []; all_taken = sym none; cut = tt; left = left; merged = merged; unsettled = unsettled }
+pub unsettled_at_once : (most : ℕ) (old left : List CountedEdge) → most ≡ 0 → IsMerged old left → ¬ (IsSettled left) →
+    StaysUnsettled most old
+unsettled_at_once most old left none merged unsettled = record {
+  rounds = [];
+  all_taken = sym none;
+  cut = tt;
+  left = left;
+  merged = merged;
+  unsettled = unsettled;
+}
 
 -- a round cuts the first list and leaves the second
 abbrev pub Leaves : List CountedEdge → List CountedEdge → Type 0
 Leaves old left = (r : Round) × IsRound old r × (pieces_of r ≡ left)
 
 -- what a first round leaves was split, so the list was
-pub split_on : (fewer most : ℕ) (old left new : List CountedEdge) → fewer + 1 ≤ most → Leaves old left → IsSplit fewer left new → IsSplit most old new
+pub split_on : (fewer most : ℕ) (old left new : List CountedEdge) → fewer + 1 ≤ most → Leaves old left →
+    IsSplit fewer left new → IsSplit most old new
 split_on fewer most old left new le (r, is, left_is) h =
-    let reached : IsReachedBy h.rounds (pieces_of r) new = subst (λ (es : List CountedEdge). IsReachedBy h.rounds es new) (sym left_is) h.reached in
+    let reached : IsReachedBy h.rounds (pieces_of r) new = subst
+    (λ (es : List CountedEdge). IsReachedBy h.rounds es new) (sym left_is) h.reached in
     record {
       rounds = r ∷ h.rounds;
       few = omega (arith, h.few);
@@ -46,9 +58,11 @@ split_on fewer most old left new le (r, is, left_is) h =
     }
 
 -- it stays unsettled, so the list does
-pub unsettled_on : (fewer most : ℕ) (old left : List CountedEdge) → fewer + 1 ≡ most → Leaves old left → StaysUnsettled fewer left → StaysUnsettled most old
+pub unsettled_on : (fewer most : ℕ) (old left : List CountedEdge) → fewer + 1 ≡ most → Leaves old left →
+    StaysUnsettled fewer left → StaysUnsettled most old
 unsettled_on fewer most old left e (r, is, left_is) given =
-    let h : StaysUnsettled fewer (pieces_of r) = subst (λ (es : List CountedEdge). StaysUnsettled fewer es) (sym left_is) given in
+    let h : StaysUnsettled fewer (pieces_of r) = subst (λ (es : List CountedEdge). StaysUnsettled fewer es)
+    (sym left_is) given in
     record {
       rounds = r ∷ h.rounds;
       all_taken = omega (arith, h.all_taken);
@@ -59,13 +73,16 @@ unsettled_on fewer most old left e (r, is, left_is) given =
     }
 
 -- it weighs too much in a later round, so the list does
-pub heavy_on : (limit fewer most : ℕ) (old left : List CountedEdge) → fewer + 1 ≤ most → Leaves old left → WeighsTooMuch fewer limit left → WeighsTooMuch most limit old
+pub heavy_on : (limit fewer most : ℕ) (old left : List CountedEdge) → fewer + 1 ≤ most → Leaves old left →
+    WeighsTooMuch fewer limit left → WeighsTooMuch most limit old
 heavy_on limit fewer most old left le (r, is, left_is) given =
-    let h : WeighsTooMuch fewer limit (pieces_of r) = subst (λ (es : List CountedEdge). WeighsTooMuch fewer limit es) (sym left_is) given in
+    let h : WeighsTooMuch fewer limit (pieces_of r) = subst (λ (es : List CountedEdge). WeighsTooMuch fewer limit es)
+    (sym left_is) given in
     record { rounds = r ∷ h.rounds; some = omega arith; few = omega (arith, h.few); cut = (is, h.cut); heavy = h.heavy }
 
 -- it weighs too much at once, so the list does after one round
-pub heavy_at_once : (limit most : ℕ) (old left : List CountedEdge) → 1 ≤ most → Leaves old left → limit ≤ weight left → WeighsTooMuch most limit old
+pub heavy_at_once : (limit most : ℕ) (old left : List CountedEdge) → 1 ≤ most → Leaves old left → limit ≤ weight left →
+    WeighsTooMuch most limit old
 heavy_at_once limit most old left le (r, is, left_is) heavy = record {
   rounds = r ∷ [];
   some = omega arith;

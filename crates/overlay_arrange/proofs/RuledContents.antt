@@ -13,10 +13,11 @@ use Rattle.overlay_arrange.specs.Rules.{is_filled, rule_holds, rules_hold}
 use Rattle.overlay_arrange.specs.declared.fill_rule.FillRule.{FillRule}
 use Rattle.overlay_arrange.specs.declared.fill_rule.FillRule.TheVariants.{EvenOdd, NonZero, Positive, Negative}
 use Rattle.overlay_arrange.specs.declared.overlay_rule.OverlayRule.{OverlayRule}
-use Rattle.overlay_arrange.specs.declared.overlay_rule.OverlayRule.TheVariants.{Subject, Clip, Intersect, Union, Difference, InverseDifference, Xor}
+use Rattle.overlay_arrange.specs.declared.overlay_rule.OverlayRule.TheVariants.{Subject, Clip, Intersect, Union}
+use Rattle.overlay_arrange.specs.declared.overlay_rule.OverlayRule.TheVariants.{Difference, InverseDifference, Xor}
 
 -- a winding 0 is filled under no rule
-zero_is_empty : (fill : FillRule) → is_filled fill (pos 0) ≡ false
+pub zero_is_empty : (fill : FillRule) → is_filled fill (pos 0) ≡ false
 zero_is_empty EvenOdd = refl
 zero_is_empty NonZero = refl
 zero_is_empty Positive = refl
@@ -37,10 +38,12 @@ pub none_of_zero : (fill : FillRule) (rule : OverlayRule) → rules_hold fill ru
 none_of_zero fill rule = ap (λ t. rule_holds rule t t) (zero_is_empty fill) ∙ neither_is_taken rule
 
 -- the edges of a content that ascend, are settled and have balanced counts
-pub ruled_content : (limit : ℕ) (es : List CountedEdge) → IsContent limit es → IsAscending es → IsSettled es → HasBalancedCounts es →
+pub ruled_content : (limit : ℕ) (es : List CountedEdge) → IsContent limit es → IsAscending es → IsSettled es →
+    HasBalancedCounts es →
     (fill : FillRule) (rule : OverlayRule) → IsRuled (rules_hold fill rule) subj_of clip_of es
 ruled_content limit es content ascending settled balanced fill rule = record {
-  forward = all_of_entries (λ e. point_lt e.a e.b ≡ true) es (λ e c. (All-contains (IsHeld limit) es e content.held c).forward);
+  forward = all_of_entries (λ e. point_lt e.a e.b ≡ true) es
+      (λ e c. (All-contains (IsHeld limit) es e content.held c).forward);
   settled = settled;
   distinct = distinct_from_ascending es ascending;
   subj_balanced = balanced.subj;

@@ -1,6 +1,7 @@
--- The edges up to the end of an edge's run: ascending edges part where they start right of its end; and the edge meets all later
--- ones in ends alone where it meets those of its run so.
-use Rattle.std.proofs.Common.{◌≡◌, ⊎_elim, ℕ, ◌+◌, ◌-◌, ◌<◌, ◌≤◌, Bool, true, false, not, ℤ, ◌<ℤ◌, ◌≤ℤ◌, int_lt, List, All, length, drop, get_or, refl, sym, ap, ◌∙◌, subst, arith}
+-- The edges up to the end of an edge's run: ascending edges part where they start right of its end; and the edge meets
+-- all later ones in ends alone where it meets those of its run so.
+use Rattle.std.proofs.Common.{◌≡◌, ⊎_elim, ℕ, ◌+◌, ◌-◌, ◌<◌, ◌≤◌, Bool, true, false, not, ℤ, ◌<ℤ◌, ◌≤ℤ◌, int_lt, List}
+use Rattle.std.proofs.Common.{All, length, drop, get_or, refl, sym, ap, ◌∙◌, subst, arith}
 use Rattle.std.specs.List.Sorted.{IsPartitionedBy, IsPartitionPoint}
 use Rattle.std.proofs.lemmas.Bool.{both_ways, cases_lt, false≢true}
 use Rattle.std.specs.Bool.{Decides}
@@ -12,8 +13,9 @@ use Rattle.overlay_geom.proofs.PointOrder.{Decides-point_lt}
 use Rattle.overlay_geom.proofs.Signs.{linear}
 use Rattle.overlay_arrange.specs.Content.{IsAscending, IsHeld, plain_edge, plain_edges}
 use Rattle.overlay_arrange.specs.Counts.{Counts}
+use Rattle.overlay_arrange.specs.Heights.{span_of, IsApart}
 use Rattle.overlay_arrange.specs.Meetings.{AreSettledUpTo, IsAt, IsRunEnd}
-use Rattle.overlay_arrange.specs.Settle.{are_apart_in_y, AreSettled}
+use Rattle.overlay_arrange.specs.Settle.{AreSettled}
 use Rattle.overlay_arrange.specs.declared.edge.CountedEdge.{CountedEdge as HeldEdge}
 use Rattle.overlay_arrange.proofs.ApartInY.{meet_in_ends_where_apart}
 use Rattle.overlay_arrange.proofs.GatheredMeetings.{one_entry}
@@ -26,20 +28,25 @@ module _ {I C : Type 0} (whole : I → ℤ) (counts : C → Counts) where
   abbrev pub starts_up_to : ℤ → HeldEdge I C → Bool
   starts_up_to x f = not (int_lt x (whole f.a.x))
 
-  module _ (limit : ℕ) (es : List (HeldEdge I C)) (held : All (IsHeld limit) (plain_edges whole counts es)) (up : IsAscending (plain_edges whole counts es)) where
+  module _ (limit : ℕ) (es : List (HeldEdge I C)) (held : All (IsHeld limit) (plain_edges whole counts es))
+      (up : IsAscending (plain_edges whole counts es)) where
     -- a place of the list and that of its numbers
-    start_at : (k : ℕ) (d : HeldEdge I C) (f : CountedEdge) → k < length es → (get_or (plain_edges whole counts es) k f).a.x ≡ whole (get_or es k d).a.x
+    start_at : (k : ℕ) (d : HeldEdge I C) (f : CountedEdge) → k < length es →
+        (get_or (plain_edges whole counts es) k f).a.x ≡ whole (get_or es k d).a.x
     start_at k d f within = ap (λ (g : CountedEdge). g.a.x) (get_or-map (plain_edge whole counts) es k d f within)
 
     -- no later edge starts further left
-    no_further_left : (j k : ℕ) (d : HeldEdge I C) → j ≤ k → k < length es → whole (get_or es j d).a.x ≤ℤ whole (get_or es k d).a.x
+    no_further_left : (j k : ℕ) (d : HeldEdge I C) → j ≤ k → k < length es →
+        whole (get_or es j d).a.x ≤ℤ whole (get_or es k d).a.x
     no_further_left j k d le within =
-        ⊎_elim (λ (same : j ≡ k). subst (λ n. whole (get_or es j d).a.x ≤ℤ whole (get_or es n d).a.x) same (omega linear))
+        ⊎_elim (λ (same : j ≡ k). subst (λ n. whole (get_or es j d).a.x ≤ℤ whole (get_or es n d).a.x) same
+        (omega linear))
         (λ (less : j < k).
         let f = plain_edge whole counts d in
         let first = start_at j d f (omega arith) in
         let second = start_at k d f within in
-        let further = starts_no_further_left (ends_of (get_or (plain_edges whole counts es) j f)) (ends_of (get_or (plain_edges whole counts es) k f))
+        let further = starts_no_further_left (ends_of (get_or (plain_edges whole counts es) j f))
+        (ends_of (get_or (plain_edges whole counts es) k f))
         (up j k f less (let l = length-map es (plain_edge whole counts) in omega arith)) in
         omega (linear, first, second, further))
         (eq-or-lt_of_le le)
@@ -70,38 +77,56 @@ module _ {I C : Type 0} (whole : I → ℤ) (counts : C → Counts) where
     pub starts-parted : (x : ℤ) → IsPartitionedBy (starts_up_to x) es
     starts-parted x j k d le within passes =
         let further = no_further_left j k d le within in
-        true_of_up_to x (whole (get_or es j d).a.x) (λ less. up_to_of_true x (whole (get_or es k d).a.x) passes (omega linear))
+        true_of_up_to x (whole (get_or es j d).a.x) (λ less. up_to_of_true x (whole (get_or es k d).a.x) passes
+        (omega linear))
 
     -- and where it ends the run of an edge ends
     pub run_ends : (i end : ℕ) (e : HeldEdge I C) → i < length es → e ≡ get_or es i e → end ≤ length es →
         IsPartitionPoint (λ f. starts_up_to (whole e.b.x) f ≡ true) (λ f. starts_up_to (whole e.b.x) f ≡ false) es end →
         IsRunEnd (plain_edges whole counts es) i end
-    run_ends i end e within e_is bound parted = record { after = after; within = (let l = length-map es (plain_edge whole counts) in omega arith); right = right }
+    run_ends i end e within e_is bound parted =
+        record {
+          after = after;
+          within = (let l = length-map es (plain_edge whole counts) in omega arith);
+          right = right;
+        }
       where
         plain : CountedEdge
         plain = plain_edge whole counts e
 
         at_e : IsAt (plain_edges whole counts es) i plain
-        at_e = (let l = length-map es (plain_edge whole counts) in omega arith, get_or-map (plain_edge whole counts) es i e plain within ∙ ap (plain_edge whole counts) (sym e_is))
+        at_e = (
+          let l = length-map es (plain_edge whole counts) in
+              omega arith,
+          get_or-map (plain_edge whole counts) es i e plain within
+              ∙ ap (plain_edge whole counts) (sym e_is),
+        )
 
         not_right : ¬ (whole e.b.x <ℤ whole e.a.x)
         not_right less =
-            let forward = (Decides-point_lt plain.a plain.b).0 (subst (IsHeld limit) at_e.1 (held i plain at_e.0)).forward in
+            let forward = (Decides-point_lt plain.a plain.b).0
+            (subst (IsHeld limit) at_e.1 (held i plain at_e.0)).forward in
             let order = forward.x in
             omega linear
 
         after : i < end
         after = ⊎_elim (λ less. less) (λ (past : end ≤ i). let fails = parted.1 i e past within in
-            absurd (not_right (right_of_false (whole e.b.x) (whole e.a.x) (subst (λ (f : HeldEdge I C). starts_up_to (whole e.b.x) f ≡ false) (sym e_is) fails)))) (cases_lt i end)
+            absurd (not_right (right_of_false (whole e.b.x) (whole e.a.x)
+            (subst (λ (f : HeldEdge I C). starts_up_to (whole e.b.x) f ≡ false) (sym e_is) fails))))
+            (cases_lt i end)
 
-        right : (g f : CountedEdge) → IsAt (plain_edges whole counts es) i g → IsAt (plain_edges whole counts es) end f → g.b.x <ℤ f.a.x
+        right : (g f : CountedEdge) → IsAt (plain_edges whole counts es) i g →
+            IsAt (plain_edges whole counts es) end f → g.b.x <ℤ f.a.x
         right g f at_g at_f =
-            let inside : end < length es = (let l = length-map es (plain_edge whole counts) in let less = at_f.0 in omega arith) in
+            let inside : end < length es = (let l = length-map es (plain_edge whole counts) in let less = at_f.0 in
+            omega arith) in
             let fails = parted.1 end e (omega arith) inside in
             let less = right_of_false (whole e.b.x) (whole (get_or es end e).a.x) fails in
             let g_is : plain ≡ g = one_entry (plain_edges whole counts es) i plain g at_e at_g in
-            let f_is : plain_edge whole counts (get_or es end e) ≡ f = sym (get_or-map (plain_edge whole counts) es end e f inside) ∙ at_f.1 in
-            subst (λ (h : CountedEdge). g.b.x <ℤ h.a.x) f_is (subst (λ (h : CountedEdge). h.b.x <ℤ whole (get_or es end e).a.x) g_is less)
+            let f_is : plain_edge whole counts (get_or es end e) ≡ f =
+            sym (get_or-map (plain_edge whole counts) es end e f inside) ∙ at_f.1 in
+            subst (λ (h : CountedEdge). g.b.x <ℤ h.a.x) f_is
+            (subst (λ (h : CountedEdge). h.b.x <ℤ whole (get_or es end e).a.x) g_is less)
 
 -- ---- edges that meet in ends alone
 
@@ -113,23 +138,26 @@ module _ (es : List CountedEdge) (i : ℕ) where
   module _ (e : CountedEdge) (at_e : IsAt es i e) where
     -- those at heights apart may be passed over
     pub settled_over : (j to : ℕ) →
-        ((k : ℕ) (f : CountedEdge) → j ≤ k → k < to → IsAt es k f → are_apart_in_y (ends_of e) (ends_of f) ≡ true) →
+        ((k : ℕ) (f : CountedEdge) → j ≤ k → k < to → IsAt es k f → IsApart (span_of e) (span_of f)) →
         AreSettledUpTo es i j → AreSettledUpTo es i to
     settled_over j to apart so_far k g f past less at_g at_f = ⊎_elim (λ before. so_far k g f past before at_g at_f)
         (λ later. subst (λ (h : CountedEdge). AreSettled h f) (one_entry es i e g at_e at_g)
-        (meet_in_ends_where_apart (ends_of e) (ends_of f) (apart k f later less at_f))) (cases_lt k j)
+        (meet_in_ends_where_apart e f (apart k f later less at_f))) (cases_lt k j)
 
     -- one more may meet it so
-    pub settled_more : (j : ℕ) (f : CountedEdge) → IsAt es j f → AreSettled e f → AreSettledUpTo es i j → AreSettledUpTo es i (j + 1)
+    pub settled_more : (j : ℕ) (f : CountedEdge) → IsAt es j f → AreSettled e f → AreSettledUpTo es i j →
+        AreSettledUpTo es i (j + 1)
     settled_more j f at_f meets so_far k g h past less at_g at_h = ⊎_elim
         (λ (same : k ≡ j). subst (λ (u : CountedEdge). AreSettled u h) (one_entry es i e g at_e at_g)
         (subst (AreSettled e) (one_entry es j f h at_f (subst (λ n. IsAt es n h) same at_h)) meets))
         (λ before. so_far k g h past before at_g at_h) (eq-or-lt_of_le (let le : k ≤ j = omega (arith, less) in le))
 
     -- and those from the end of its run on do
-    pub settled_past : (limit end : ℕ) → All (IsHeld limit) es → IsAscending es → IsRunEnd es i end → AreSettledUpTo es i end →
+    pub settled_past : (limit end : ℕ) → All (IsHeld limit) es → IsAscending es → IsRunEnd es i end →
+        AreSettledUpTo es i end →
         AreSettledUpTo es i (length es)
-    settled_past limit end held up run so_far k g f past less at_g at_f = ⊎_elim (λ before. so_far k g f past before at_g at_f)
+    settled_past limit end held up run so_far k g f past less at_g at_f = ⊎_elim
+        (λ before. so_far k g f past before at_g at_f)
         (λ (later : end ≤ k).
         let first = get_or es end e in
         let inside : end < length es = omega (arith, later, less) in
@@ -137,7 +165,8 @@ module _ (es : List CountedEdge) (i : ℕ) where
         let further = right_from e es end k e up later less right in
         let f_is : get_or es k e ≡ f = get_or_default es k e f less ∙ at_f.1 in
         subst (λ (h : CountedEdge). AreSettled h f) (one_entry es i e g at_e at_g)
-        (starting_right limit e f (subst (IsHeld limit) at_e.1 (held i e at_e.0)) (subst (IsHeld limit) at_f.1 (held k f at_f.0))
+        (starting_right limit e f (subst (IsHeld limit) at_e.1 (held i e at_e.0))
+        (subst (IsHeld limit) at_f.1 (held k f at_f.0))
         (subst (λ (h : CountedEdge). e.b.x <ℤ h.a.x) f_is further))) (cases_lt k end)
 
     -- that is to meet all edges that are left so
@@ -146,7 +175,8 @@ module _ (es : List CountedEdge) (i : ℕ) where
         let l = length-drop (i + 1) es in
         let inside : i + 1 + k < length es = omega (arith, within, l) in
         subst (AreSettled e) (sym (get_or-drop (i + 1) es k d))
-        (all (i + 1 + k) e (get_or es (i + 1 + k) d) (omega arith) inside at_e (inside, get_or_default es (i + 1 + k) (get_or es (i + 1 + k) d) d inside))
+        (all (i + 1 + k) e (get_or es (i + 1 + k) d) (omega arith) inside at_e
+        (inside, get_or_default es (i + 1 + k) (get_or es (i + 1 + k) d) d inside))
 
     pub rest_settled : All (AreSettled e) (drop (i + 1) es) → AreSettledUpTo es i (length es)
     rest_settled all k g f past less at_g at_f =
@@ -154,4 +184,6 @@ module _ (es : List CountedEdge) (i : ℕ) where
         let n : ℕ = k - (i + 1) in
         let inside : n < length (drop (i + 1) es) = omega (arith, past, less, l) in
         subst (λ (h : CountedEdge). AreSettled h f) (one_entry es i e g at_e at_g)
-        (subst (AreSettled e) (get_or-drop (i + 1) es n f ∙ ap (λ m. get_or es m f) (let same : i + 1 + n ≡ k = omega (arith, past) in same) ∙ at_f.1) (all n f inside))
+        (subst (AreSettled e) (get_or-drop (i + 1) es n f
+        ∙ ap (λ m. get_or es m f) (let same : i + 1 + n ≡ k = omega (arith, past) in same) ∙ at_f.1)
+        (all n f inside))

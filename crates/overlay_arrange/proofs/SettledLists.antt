@@ -1,5 +1,5 @@
--- An ascending list of edges is settled exactly where each edge meets the later ones in ends alone. The later ones that start
--- right of its end do so, and from the first of those on all do.
+-- An ascending list of edges is settled exactly where each edge meets the later ones in ends alone. The later ones that
+-- start right of its end do so, and from the first of those on all do.
 use Rattle.std.proofs.Common.{◌≡◌, ◌⊎◌, inl, inr, ℕ, ◌+◌, ◌<◌, ◌≤◌, true, false, ◌≤ℤ◌, ◌<ℤ◌}
 use Rattle.std.proofs.Common.{List, [], ◌∷◌, All, length, drop, get_or, subst, ap, arith}
 use Rattle.std.proofs.Math.Nat.{eq-or-lt_of_le}
@@ -24,7 +24,8 @@ use Rattle.overlay_arrange.specs.Settle.{AreSettled}
 -- an edge that comes later starts no further left
 pub starts_no_further_left : (e f : Edge) → edge_lt e f ≡ true → e.a.x ≤ℤ f.a.x
 starts_no_further_left e f comes =
-    elim ((Decides-or _ _ (Decides-point_lt e.a f.a) (Decides-and _ _ (Decides-point_eq e.a f.a) (Decides-point_lt e.b f.b))).0 comes) [
+    elim ((Decides-or _ _ (Decides-point_lt e.a f.a)
+    (Decides-and _ _ (Decides-point_eq e.a f.a) (Decides-point_lt e.b f.b))).0 comes) [
       | inl before ↦ before.x
       | inr same ↦ let at : e.a.x ≡ f.a.x = ap (λ (p : Point). p.x) same.0 in omega linear
     ]
@@ -42,7 +43,8 @@ pub right_from : (e : CountedEdge) (fs : List CountedEdge) (i k : ℕ) (d : Coun
 right_from e fs i k d up le within right =
     elim (eq-or-lt_of_le le) [
       | inl same ↦ subst (λ (j : ℕ). e.b.x <ℤ (get_or fs j d).a.x) same right
-      | inr later ↦ let further = starts_no_further_left (ends_of (get_or fs i d)) (ends_of (get_or fs k d)) (up i k d later within) in omega linear
+      | inr later ↦ let further = starts_no_further_left (ends_of (get_or fs i d)) (ends_of (get_or fs k d))
+          (up i k d later within) in omega linear
     ]
 
 -- ---- settled lists
@@ -52,7 +54,8 @@ pub settled_none : IsSettled []
 settled_none e f has_e = absurd (omega (arith, has_e.1))
 
 -- a list that begins with an edge that meets the rest in ends alone is settled where the rest is
-pub settled_with_more : (e : CountedEdge) (es : List CountedEdge) → All (AreSettled e) es → IsSettled es → IsSettled (e ∷ es)
+pub settled_with_more : (e : CountedEdge) (es : List CountedEdge) → All (AreSettled e) es → IsSettled es →
+    IsSettled (e ∷ es)
 settled_with_more e es with_e rest f g has_f has_g =
     by (Contains-cases e es f has_f) (Contains-cases e es g has_g)
   where
@@ -60,9 +63,11 @@ settled_with_more e es with_e rest f g has_f has_g =
     by (inl is_f) (inl is_g) other =
         let same : edge_eq (ends_of f) (ends_of g) ≡ true = rw (← is_f, ← is_g) (edge_eq-itself (ends_of e)) in
         absurd (both_ways (edge_eq (ends_of f) (ends_of g)) other same)
-    by (inl is_f) (inr in_g) other = subst (λ (h : CountedEdge). AreSettled h g) is_f (All-contains (AreSettled e) es g with_e in_g)
+    by (inl is_f) (inr in_g) other = subst (λ (h : CountedEdge). AreSettled h g) is_f
+        (All-contains (AreSettled e) es g with_e in_g)
     by (inr in_f) (inl is_g) other =
-        subst (λ (h : CountedEdge). AreSettled f h) is_g (meet_in_ends_exchanged (ends_of f) (ends_of e) (All-contains (AreSettled e) es f with_e in_f))
+        subst (λ (h : CountedEdge). AreSettled f h) is_g
+        (meet_in_ends_exchanged (ends_of f) (ends_of e) (All-contains (AreSettled e) es f with_e in_f))
     by (inr in_f) (inr in_g) other = rest f g in_f in_g other
 
 -- each edge of an ascending settled list meets the later ones in ends alone

@@ -14,7 +14,13 @@ pub record ShowsSides (f : Fills) : Type 0 where
 
 -- so it is, side by side
 sides : (subj_above subj_below clip_above clip_below : Bool) →
-    ShowsSides (record { subj_above = subj_above; subj_below = subj_below; clip_above = clip_above; clip_below = clip_below })
+    ShowsSides (record {
+      subj_above = subj_above;
+      subj_below = subj_below;
+      clip_above = clip_above;
+      clip_below =
+          clip_below;
+    })
 sides true true true true = record { subj_above = refl; subj_below = refl; clip_above = refl; clip_below = refl }
 sides true true true false = record { subj_above = refl; subj_below = refl; clip_above = refl; clip_below = refl }
 sides true true false true = record { subj_above = refl; subj_below = refl; clip_above = refl; clip_below = refl }
@@ -37,8 +43,16 @@ pub bits_show_sides : (f : Fills) → ShowsSides f
 bits_show_sides f = sides f.subj_above f.subj_below f.clip_above f.clip_below
 
 -- the bits between the windings below an edge and those beyond it are its fill bits
-pub bits_between_windings : (rule : FillRule) (es : List CountedEdge) (e : CountedEdge) (n : ℕ) (subj clip subj_above clip_above : ℤ) →
-    subj ≡ winding_below subj_of es e → clip ≡ winding_below clip_of es e → subj_above ≡ subj +ℤ e.subj → clip_above ≡ clip +ℤ e.clip →
-    n ≡ bits_of (record { subj_above = is_filled rule subj_above; subj_below = is_filled rule subj; clip_above = is_filled rule clip_above; clip_below = is_filled rule clip }) →
+pub bits_between_windings : (rule : FillRule) (es : List CountedEdge) (e : CountedEdge) (n : ℕ)
+    (subj clip subj_above clip_above : ℤ) →
+    subj ≡ winding_below subj_of es e → clip ≡ winding_below clip_of es e → subj_above ≡ subj +ℤ e.subj →
+    clip_above ≡ clip +ℤ e.clip →
+    n ≡ bits_of (record {
+      subj_above = is_filled rule subj_above;
+      subj_below = is_filled rule subj;
+      clip_above =
+          is_filled rule clip_above;
+      clip_below = is_filled rule clip;
+    }) →
     n ≡ fill_bits rule es e
 bits_between_windings rule es e n subj clip subj_above clip_above s c sa ca bits = rw (← c, ← s, ← ca, ← sa) bits

@@ -1,5 +1,7 @@
--- The edges of an arrangement by their starts may be swept over, and have the windings and fill bits that they have in the arrangement's order.
-use Rattle.std.proofs.Common.{◌≡◌, ℕ, ◌^◌, ◌<◌, true, false, cond, ℤ, pos, ◌+ℤ◌, ◌-ℤ◌, ◌*ℤ◌, List, map, Contains, sym, ap₂, ◌∙◌, subst}
+-- The edges of an arrangement by their starts may be swept over, and have the windings and fill bits that they have in
+-- the arrangement's order.
+use Rattle.std.proofs.Common.{◌≡◌, ℕ, ◌^◌, ◌<◌, true, false, cond, ℤ, pos, ◌+ℤ◌, ◌-ℤ◌, ◌*ℤ◌, List, map, Contains, sym}
+use Rattle.std.proofs.Common.{ap₂, ◌∙◌, subst}
 use Rattle.std.specs.List.{AllPairs}
 use Rattle.std.specs.List.Sorted.{IsPermutation}
 use Rattle.std.proofs.lemmas.List.Elements.{All-contains}
@@ -26,14 +28,17 @@ use Rattle.overlay_arrange.specs.Starts.{AreByStart, IsSweepable}
 use Rattle.overlay_arrange.specs.declared.fill_rule.FillRule.{FillRule}
 
 -- by their starts, edges without their places are the edges in another order
-pub starts_permuted : (es : List CountedEdge) (ns : List (Numbered CountedEdge)) → AreByStart es ns → IsPermutation es (map (λ n. n.item) ns)
-starts_permuted es ns by = subst (λ xs. IsPermutation xs (map (λ (n : Numbered CountedEdge). n.item) ns)) (items_numbered 0 es)
+pub starts_permuted : (es : List CountedEdge) (ns : List (Numbered CountedEdge)) → AreByStart es ns →
+    IsPermutation es (map (λ n. n.item) ns)
+starts_permuted es ns by = subst (λ xs. IsPermutation xs (map (λ (n : Numbered CountedEdge). n.item) ns))
+    (items_numbered 0 es)
     (IsPermutation-map (λ (n : Numbered CountedEdge). n.item) (numbered 0 es) ns by.permutation)
 
 module _ (es fs : List CountedEdge) (moved : IsPermutation es fs) where
   -- the windings below an edge do not ask for the order
   winding_shuffled : (count : CountedEdge → ℤ) (e : CountedEdge) → winding_below count fs e ≡ winding_below count es e
-  winding_shuffled count e = total-IsPermutation (λ f. cond (is_strictly_below (ends_of f) (midpoint (ends_of e))) (count f) (pos 0)) es fs moved
+  winding_shuffled count e = total-IsPermutation (λ f. cond (is_strictly_below (ends_of f) (midpoint (ends_of e)))
+      (count f) (pos 0)) es fs moved
 
   -- nor do the fill bits
   pub bits_shuffled : (rule : FillRule) (e : CountedEdge) → fill_bits rule fs e ≡ fill_bits rule es e
@@ -53,16 +58,19 @@ module _ (es fs : List CountedEdge) (moved : IsPermutation es fs) where
   module _ (limit : ℕ) (content : IsContent limit es) (ascending : IsAscending es) (settled : IsSettled es) where
     balanced_arrangement : (count : CountedEdge → ℤ) → IsBalanced ends_of count es → IsBalancedArrangement count fs
     balanced_arrangement count balanced = record {
-      forward = all_of_entries (λ e. point_lt e.a e.b ≡ true) fs (λ e c. (All-contains (IsHeld limit) es e content.held (before e c)).forward);
+      forward = all_of_entries (λ e. point_lt e.a e.b ≡ true) fs
+          (λ e c. (All-contains (IsHeld limit) es e content.held (before e c)).forward);
       settled = λ e f c d. settled e f (before e c) (before f d);
-      distinct = pairs_shuffled (λ e f. edge_eq (ends_of e) (ends_of f)) (λ e f. edge_eq-exchanged (ends_of e) (ends_of f)) es fs moved (distinct_from_ascending es ascending);
+      distinct = pairs_shuffled (λ e f. edge_eq (ends_of e) (ends_of f))
+          (λ e f. edge_eq-exchanged (ends_of e) (ends_of f)) es fs moved (distinct_from_ascending es ascending);
       balanced = λ g. total-IsPermutation (λ e. count e *ℤ (g e.b -ℤ g e.a)) es fs moved ∙ balanced g;
     }
       where
         before : (e : CountedEdge) → Contains fs e → Contains es e
         before e c = Contains-permutation fs es e (IsPermutation-sym es fs moved) c
 
-    pub sweepable : HasBalancedCounts es → AllPairs (λ e f. is_anchored_before (ends_of f) (ends_of e) ≡ false) fs → IsSweepable limit fs
+    pub sweepable : HasBalancedCounts es → AllPairs (λ e f. is_anchored_before (ends_of f) (ends_of e) ≡ false) fs →
+        IsSweepable limit fs
     sweepable balanced order = record {
       content = record {
         held = All-permutation (IsHeld limit) es fs moved content.held;
@@ -74,9 +82,12 @@ module _ (es fs : List CountedEdge) (moved : IsPermutation es fs) where
     }
 
 -- the edges by their starts, without their places
-pub by_start_sweepable : (limit : ℕ) (es : List CountedEdge) → IsContent limit es → IsAscending es → IsSettled es → HasBalancedCounts es →
-    (ns : List (Numbered CountedEdge)) → AreByStart es ns → (fs : List CountedEdge) → map (λ n. n.item) ns ≡ fs → IsSweepable limit fs
+pub by_start_sweepable : (limit : ℕ) (es : List CountedEdge) → IsContent limit es → IsAscending es → IsSettled es →
+    HasBalancedCounts es →
+    (ns : List (Numbered CountedEdge)) → AreByStart es ns → (fs : List CountedEdge) → map (λ n. n.item) ns ≡ fs →
+    IsSweepable limit fs
 by_start_sweepable limit es content ascending settled balanced ns by fs items =
     sweepable es fs (subst (IsPermutation es) items (starts_permuted es ns by)) limit content ascending settled balanced
     (subst (AllPairs (λ (e f : CountedEdge). is_anchored_before (ends_of f) (ends_of e) ≡ false)) items
-    (AllPairs-map (λ (e f : CountedEdge). is_anchored_before (ends_of f) (ends_of e) ≡ false) (λ (n : Numbered CountedEdge). n.item) ns by.order))
+    (AllPairs-map (λ (e f : CountedEdge). is_anchored_before (ends_of f) (ends_of e) ≡ false)
+    (λ (n : Numbered CountedEdge). n.item) ns by.order))

@@ -31,20 +31,22 @@ pub record IsArranged (most : ℕ) (old new : List CountedEdge) : Type 0 where
   -- what was arranged before stays as it is
   pub stays : WasArranged old → new ≡ old
 
--- the second list is reached from the first one with so many cutting rounds at most, and what its edges carry is derived
--- along these rounds
-pub record IsSplitCarrying {C : Type 0} (merges : C → C → C → Type 0) (splits turns : C → C → Type 0) (most : ℕ)
+-- the second list is reached from the first one with so many cutting rounds at most, and what its edges carry is
+-- derived along these rounds
+pub record IsSplitCarrying {C : Type 0} (merges : C → C → C → Type 0) (splits reverses : C → C → Type 0) (most : ℕ)
     (old new : List (Carried C)) : Type 0 where
   pub split : IsSplit most (edges_in old) (edges_in new)
-  pub derived : AreDerived merges splits turns split.rounds old new
+  pub derived : AreDerived merges splits reverses split.rounds old new
 
--- the second list is an arrangement of the first one, and what its edges carry is derived along the rounds that led there
-pub record IsArrangedCarrying {C : Type 0} (merges : C → C → C → Type 0) (splits turns : C → C → Type 0) (most : ℕ)
+-- the second list is an arrangement of the first one, and what its edges carry is derived along the rounds that led
+-- there
+pub record IsArrangedCarrying {C : Type 0} (merges : C → C → C → Type 0) (splits reverses : C → C → Type 0) (most : ℕ)
     (old new : List (Carried C)) : Type 0 where
   pub arranged : IsArranged most (edges_in old) (edges_in new)
-  pub derived : AreDerived merges splits turns arranged.rounds old new
+  pub derived : AreDerived merges splits reverses arranged.rounds old new
 
--- so many rounds leave edges that are not settled; they did not meet in whole points alone, and were no arrangement already
+-- so many rounds leave edges that are not settled; they did not meet in whole points alone, and were no arrangement
+-- already
 pub record CannotBeSettled (most : ℕ) (es : List CountedEdge) : Type 0 where
   pub unsettled : StaysUnsettled most es
   pub not_whole : ¬ (MeetInWholePoints es)

@@ -60,7 +60,8 @@ count_for Clip count = record { subj = pos 0; clip = count }
 -- the counted edge of a step of the subject, or of the clip
 abbrev pub edge_for : ShapeType → Step → CountedEdge
 edge_for t s =
-    edge_with (edge_of s).a (edge_of s).b (boolean_counts (cond (is_forward s) (count_for t (pos 1)) (count_for t (negsuc 0))))
+    edge_with (edge_of s).a (edge_of s).b
+    (boolean_counts (cond (is_forward s) (count_for t (pos 1)) (count_for t (negsuc 0))))
 
 -- the number is the weight of the edges, which a builder may hold
 pub record IsWeighed (limit : ℕ) (es : List CountedEdge) (number : ℕ) : Type 0 where

@@ -1,5 +1,5 @@
--- What the functions that cut edges answer: whether an edge stays whole, whether it is led along its line, and the pieces that are
--- added.
+-- What the functions that cut edges answer: whether an edge stays whole, whether it is led along its line, and the
+-- pieces that are added.
 use Rattle.std.specs.Prelude.{◌≡◌, ◌⊎◌, ◌++◌, pos, List, All}
 use Rattle.overlay_geom.specs.Plane.{Point, cross_at}
 use Rattle.overlay_geom.specs.Edges.{CountedEdge}

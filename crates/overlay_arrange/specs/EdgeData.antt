@@ -1,11 +1,12 @@
 -- What merging, splitting and turning round make of edges that carry data beside their counts.
 use Rattle.std.specs.Prelude.{◌≡◌}
-use Rattle.overlay_arrange.specs.Counts.{boolean_counts, joined_counts, turned_counts}
+use Rattle.overlay_arrange.specs.Counts.{boolean_counts, joined_counts, reversed_counts}
 use Rattle.overlay_arrange.specs.declared.count.ShapeCountBoolean.{ShapeCountBoolean}
 use Rattle.overlay_arrange.specs.declared.data.CountWithData.{CountWithData}
 
 -- equal edges are merged: the counts are summed, and the data of both is merged beside the counts of both
-pub record AreMerged {D : Type 0} (merges : ShapeCountBoolean → D → ShapeCountBoolean → D → D → Type 0) (c k m : CountWithData D) : Type 0 where
+pub record AreMerged {D : Type 0} (merges : ShapeCountBoolean → D → ShapeCountBoolean → D → D → Type 0)
+    (c k m : CountWithData D) : Type 0 where
   pub counts : boolean_counts m.count ≡ joined_counts (boolean_counts c.count) (boolean_counts k.count)
   pub edge_data : merges c.count c.edge_data k.count k.edge_data m.edge_data
 
@@ -14,7 +15,7 @@ pub record IsPiece {D : Type 0} (splits : D → D → Type 0) (c p : CountWithDa
   pub counts : p.count ≡ c.count
   pub edge_data : splits c.edge_data p.edge_data
 
--- a piece is turned round: its counts change their sign, and its data is reversed
-pub record IsTurned {D : Type 0} (reverses : D → D → Type 0) (c t : CountWithData D) : Type 0 where
-  pub counts : boolean_counts t.count ≡ turned_counts (boolean_counts c.count)
+-- a piece is reversed: its counts change their sign, and its data is reversed
+pub record IsReversed {D : Type 0} (reverses : D → D → Type 0) (c t : CountWithData D) : Type 0 where
+  pub counts : boolean_counts t.count ≡ reversed_counts (boolean_counts c.count)
   pub edge_data : reverses c.edge_data t.edge_data

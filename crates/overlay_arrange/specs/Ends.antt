@@ -1,5 +1,6 @@
 -- The ends of edges with their counts, and what it is for them to cancel out at each point.
-use Rattle.std.specs.Prelude.{◌≡◌, ℕ, ◌+◌, ◌^◌, ◌<◌, false, ℤ, pos, neg_ℤ, nat_abs, ◌*ℤ◌, List, [], ◌∷◌, map, AllPairs, sum_by}
+use Rattle.std.specs.Prelude.{◌≡◌, ℕ, ◌+◌, ◌^◌, ◌<◌, false, ℤ, pos, neg_ℤ, nat_abs, ◌*ℤ◌, List, [], ◌∷◌, map, AllPairs}
+use Rattle.std.specs.Prelude.{sum_by}
 use Rattle.std.specs.List.{flat_map}
 use Rattle.overlay_geom.specs.Edges.{CountedEdge}
 use Rattle.overlay_geom.specs.Plane.{Point, point_lt, total}
@@ -20,7 +21,11 @@ plain_ends whole ns = map (plain_end whole) ns
 
 -- the two ends of an edge
 abbrev pub counted_ends : CountedEdge → List CountedEnd
-counted_ends e = record { point = e.a; subj = neg_ℤ e.subj; clip = neg_ℤ e.clip } ∷ record { point = e.b; subj = e.subj; clip = e.clip } ∷ []
+counted_ends e = record { point = e.a; subj = neg_ℤ e.subj; clip = neg_ℤ e.clip } ∷ record {
+  point = e.b;
+  subj = e.subj;
+  clip = e.clip;
+} ∷ []
 
 -- those of each edge of a list
 abbrev pub all_counted_ends : List CountedEdge → List CountedEnd

@@ -1,4 +1,5 @@
--- What contracts see of a graph: the edges of an arrangement with what they carry, and the rule by which their sides are filled.
+-- What contracts see of a graph: the edges of an arrangement with what they carry, and the rule by which their sides
+-- are filled.
 use Rattle.std.specs.Prelude.{◌≡◌, ℕ, ℤ, List, map}
 use Rattle.overlay_geom.specs.Points.{plain_point}
 use Rattle.overlay_geom.specs.Edges.{CountedEdge}
@@ -19,7 +20,8 @@ pub record Graph (C : Type 0) : Type 0 where
 abbrev pub graph_edges : {C : Type 0} → Graph C → List CountedEdge
 graph_edges g = edges_in g.edges
 
--- the edges are those of an arrangement: in the coordinate range and lighter than 2^31, in order, and they meet in ends alone
+-- the edges are those of an arrangement: in the coordinate range and lighter than 2^31, in order, and they meet in ends
+-- alone
 pub record IsArrangement (limit : ℕ) (es : List CountedEdge) : Type 0 where
   pub content : IsContent limit es
   pub ascending : IsAscending es
@@ -28,7 +30,11 @@ pub record IsArrangement (limit : ℕ) (es : List CountedEdge) : Type 0 where
 -- the counted edge at a vector's numbers, with what the vector carries; and those of a list
 abbrev pub carried_vector : {I C : Type 0} → (I → ℤ) → (C → Counts) → DataVectorEdge I C → Carried C
 carried_vector whole counts v =
-    record { edge = edge_with (plain_point whole v.a) (plain_point whole v.b) (counts v.edge_data); carries = v.edge_data }
+    record {
+      edge = edge_with (plain_point whole v.a) (plain_point whole v.b) (counts v.edge_data);
+      carries =
+          v.edge_data;
+    }
 
 abbrev pub carried_vectors : {I C : Type 0} → (I → ℤ) → (C → Counts) → List (DataVectorEdge I C) → List (Carried C)
 carried_vectors whole counts vs = map (carried_vector whole counts) vs

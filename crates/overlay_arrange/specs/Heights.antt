@@ -1,9 +1,9 @@
--- The heights between which edges lie, of each edge and of blocks of 16 edges, and what it is to pass over the edges that lie at
--- heights apart from those of another one.
-use Rattle.std.specs.Prelude.{◌≡◌, ℕ, ◌<◌, ◌≤◌, ◌/◌, true, Bool, ◌||◌, ℤ, ◌≤ℤ◌, int_lt, List, map, length, slice_index_or}
-use Rattle.overlay_geom.specs.Edges.{CountedEdge, ends_of}
+-- The heights between which edges lie, of each edge and of blocks of 16 edges, and what it is to pass over the edges
+-- that lie at heights apart from those of another one.
+use Rattle.std.specs.Prelude.{◌≡◌, ℕ, ◌<◌, ◌≤◌, ◌/◌, true, Bool, cond, ◌||◌, ℤ, ◌≤ℤ◌, int_lt}
+use Rattle.std.specs.Prelude.{List, map, length, slice_index_or}
+use Rattle.overlay_geom.specs.Edges.{CountedEdge}
 use Rattle.overlay_arrange.specs.Meetings.{IsAt}
-use Rattle.overlay_arrange.specs.Settle.{lowest, highest}
 use Rattle.overlay_arrange.specs.declared.heights.Heights.{Heights}
 
 -- the least and the greatest height of something
@@ -11,9 +11,12 @@ pub record Span : Type 0 where
   pub low : ℤ
   pub high : ℤ
 
--- those of an edge, and of each edge of a list
+-- those of an edge: the lesser and the greater one of the heights of its ends; and of each edge of a list
 abbrev pub span_of : CountedEdge → Span
-span_of e = record { low = lowest (ends_of e); high = highest (ends_of e) }
+span_of e = record {
+  low = cond (int_lt e.a.y e.b.y) e.a.y e.b.y;
+  high = cond (int_lt e.a.y e.b.y) e.b.y e.a.y;
+}
 
 abbrev pub spans_of : List CountedEdge → List Span
 spans_of es = map span_of es
@@ -26,11 +29,11 @@ abbrev pub plain_spans : {I : Type 0} → (I → ℤ) → List (Heights I) → L
 plain_spans whole hs = map (plain_span whole) hs
 
 -- the one lies wholly below the other one
-abbrev pub are_apart : Span → Span → Bool
-are_apart s t = int_lt s.high t.low || int_lt t.high s.low
+abbrev pub is_apart : Span → Span → Bool
+is_apart s t = int_lt s.high t.low || int_lt t.high s.low
 
 abbrev pub IsApart : Span → Span → Type 0
-IsApart s t = are_apart s t ≡ true
+IsApart s t = is_apart s t ≡ true
 
 -- the heights of the second span are among those of the first one
 pub record Covers (s t : Span) : Type 0 where
@@ -39,7 +42,8 @@ pub record Covers (s t : Span) : Type 0 where
 
 -- each of the spans is covered by that of its block of 16
 abbrev pub AreBlocks : List Span → List Span → Type 0
-AreBlocks spans blocks = (k : ℕ) (s d : Span) → IsAt spans k s → (k / 16 < length blocks) × Covers (slice_index_or blocks (k / 16) d) s
+AreBlocks spans blocks = (k : ℕ) (s d : Span) → IsAt spans k s →
+    (k / 16 < length blocks) × Covers (slice_index_or blocks (k / 16) d) s
 
 -- the spans are those of the edges, and covered by those of their blocks
 pub record AreHeightsOf (es : List CountedEdge) (spans blocks : List Span) : Type 0 where

@@ -3,8 +3,10 @@ use Rattle.std.specs.Prelude.{◌≡◌, ℕ, Bool}
 use Rattle.overlay_arrange.specs.declared.options.ContourDirection.TheVariants.{CounterClockwise}
 use Rattle.overlay_arrange.specs.declared.options.IntOverlayOptions.{IntOverlayOptions}
 
--- input points stay, output points stay and contours are for OGC as named; outlines run counterclockwise, and every area is kept
-pub record AreOptions {U : Type 0} (natural : U → ℕ) (input output is_ogc : Bool) (o : IntOverlayOptions U) : Type 0 where
+-- input points stay, output points stay and contours are for OGC as named; outlines run counterclockwise, and every
+-- area is kept
+pub record AreOptions {U : Type 0} (natural : U → ℕ) (input output is_ogc : Bool)
+    (o : IntOverlayOptions U) : Type 0 where
   pub input_kept : o.preserve_input_collinear ≡ input
   pub direction : o.output_direction ≡ CounterClockwise
   pub output_kept : o.preserve_output_collinear ≡ output

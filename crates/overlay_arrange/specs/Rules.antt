@@ -5,7 +5,8 @@ use Rattle.overlay_geom.specs.Edges.{CountedEdge, subj_of, clip_of, winding_belo
 use Rattle.overlay_arrange.specs.declared.fill_rule.FillRule.{FillRule}
 use Rattle.overlay_arrange.specs.declared.fill_rule.FillRule.TheVariants.{EvenOdd, NonZero, Positive, Negative}
 use Rattle.overlay_arrange.specs.declared.overlay_rule.OverlayRule.{OverlayRule}
-use Rattle.overlay_arrange.specs.declared.overlay_rule.OverlayRule.TheVariants.{Subject, Clip, Intersect, Union, Difference, InverseDifference, Xor}
+use Rattle.overlay_arrange.specs.declared.overlay_rule.OverlayRule.TheVariants.{Subject, Clip, Intersect, Union}
+use Rattle.overlay_arrange.specs.declared.overlay_rule.OverlayRule.TheVariants.{Difference, InverseDifference, Xor}
 
 -- a winding is filled under the rule
 abbrev pub is_filled : FillRule → ℤ → Bool

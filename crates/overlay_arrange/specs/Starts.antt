@@ -19,17 +19,21 @@ abbrev pub starting_ends : {I C W U : Type 0} {i w u : _} → (I → ℤ) → St
 starting_ends whole s = record { a = plain_point whole s.edge.a; b = plain_point whole s.edge.b }
 
 -- the counted edge at its numbers, and those of a list
-abbrev pub plain_start : {I C W U : Type 0} {i w u : _} → (I → ℤ) → (C → Counts) → StartingEdge I C W U i w u → CountedEdge
+abbrev pub plain_start : {I C W U : Type 0} {i w u : _} → (I → ℤ) → (C → Counts) → StartingEdge I C W U i w u →
+    CountedEdge
 plain_start whole counts s = plain_edge whole counts s.edge
 
-abbrev pub plain_starts : {I C W U : Type 0} {i w u : _} → (I → ℤ) → (C → Counts) → List (StartingEdge I C W U i w u) → List CountedEdge
+abbrev pub plain_starts : {I C W U : Type 0} {i w u : _} → (I → ℤ) → (C → Counts) → List (StartingEdge I C W U i w u) →
+    List CountedEdge
 plain_starts whole counts ss = map (plain_start whole counts) ss
 
 -- with its place in the list, and those of a list
-abbrev pub numbered_start : {I C W U : Type 0} {i w u : _} → (I → ℤ) → (C → Counts) → StartingEdge I C W U i w u → Numbered CountedEdge
+abbrev pub numbered_start : {I C W U : Type 0} {i w u : _} → (I → ℤ) → (C → Counts) → StartingEdge I C W U i w u →
+    Numbered CountedEdge
 numbered_start whole counts s = record { item = plain_start whole counts s; place = s.place }
 
-abbrev pub numbered_starts : {I C W U : Type 0} {i w u : _} → (I → ℤ) → (C → Counts) → List (StartingEdge I C W U i w u) → List (Numbered CountedEdge)
+abbrev pub numbered_starts : {I C W U : Type 0} {i w u : _} → (I → ℤ) →
+    (C → Counts) → List (StartingEdge I C W U i w u) → List (Numbered CountedEdge)
 numbered_starts whole counts ss = map (numbered_start whole counts) ss
 
 -- they are the edges of the list with their places, and none starts before one that stands before it

@@ -1,15 +1,15 @@
 //! What an edge carries: how often paths pass it, and perhaps data.
 
 ghost use Rattle.std.specs.Prelude.{◌≡◌, ◌+◌, ◌^◌, ◌<◌};
-ghost use Rattle.overlay_arrange.specs.Counts.{Counts, joined_counts, turned_counts, are_zero};
+ghost use Rattle.overlay_arrange.specs.Counts.{Counts, joined_counts, reversed_counts, are_zero};
 ghost use Rattle.overlay_arrange.specs.Counts.{weight_of_counts};
 
 /// What an edge carries through an arrangement: how often paths pass it from its smaller to its
 /// larger end, less how often back, and perhaps data.
 ///
 /// Where equal edges are merged their counts are summed; a piece that runs against its edge has
-/// the counts with the other sign. Data is merged, split and turned round with them, as a type says
-/// by `merges`, `splits` and `turns`; `Content::arrange` says by these what each edge carries.
+/// the counts with the other sign. Data is merged, split and reversed with them, as a type says
+/// by `merges`, `splits` and `reverses`; `Content::arrange` says by these what each edge carries.
 pub trait EdgeCount: Copy {
     /// What the data needs beside the edges; nothing for counts alone.
     type Store;
@@ -24,7 +24,7 @@ pub trait EdgeCount: Copy {
     ghost splits: { Self → Self → Type 0 };
 
     // What a piece that runs against its edge may carry.
-    ghost turns: { Self → Self → Type 0 };
+    ghost reverses: { Self → Self → Type 0 };
 
     /// Returns whether no path passes the edge.
     fn is_nothing(self) -> bool
@@ -58,8 +58,8 @@ pub trait EdgeCount: Copy {
     /// Returns what a piece carries that runs against its edge. The counts weigh less than 2^31.
     fn reversed(self, store: &mut Self::Store) -> Self
         requires { weight_of_counts (counts self) < 2 ^ 31 }
-        ensures counts { counts result ≡ turned_counts (counts self) }
-        ensures turns { turns self result };
+        ensures counts { counts result ≡ reversed_counts (counts self) }
+        ensures reverses { reverses self result };
 }
 
 /// How often the subject, and the clip, pass an edge from its smaller to its larger end, less how
@@ -84,7 +84,7 @@ impl EdgeCount for ShapeCountBoolean {
 
     ghost splits = { λ c p. p ≡ c };
 
-    ghost turns = { λ c t. (t.subj ≡ neg_ℤ c.subj) × (t.clip ≡ neg_ℤ c.clip) };
+    ghost reverses = { λ c t. (t.subj ≡ neg_ℤ c.subj) × (t.clip ≡ neg_ℤ c.clip) };
 
     fn is_nothing(self) -> bool {
         self.subj == 0 && self.clip == 0

@@ -15,7 +15,6 @@ use crate::count::EdgeCount;
 use crate::edge::{CountedEdge, compare_points};
 use crate::meetings::Meeting;
 use crate::settle::place_by;
-use crate::spans::are_apart_in_y;
 use overlay_geom::edge_pair::{Place, is_same};
 use overlay_geom::error::OverlayError;
 use overlay_geom::number::{IntNumber, WideIntNumber};
@@ -39,9 +38,6 @@ pub(crate) fn push_meetings<I: IntNumber, C: EdgeCount, A: Allocator>(
         (plain_meetings I.whole meetings.old.items) (plain_meetings I.whole meetings.new.items)) }
     ensures only { IsOkUnless result OverlayError.Memory }
 {
-    if are_apart_in_y(e, f) {
-        return Ok(());
-    }
     match place_by(e, f) {
         Place::Along => push_ends(meetings, i, e, j, f),
         Place::Beside => Ok(()),
@@ -59,7 +55,8 @@ fn push_ends<I: IntNumber, C: EdgeCount, A: Allocator>(
 ) -> Result<(), OverlayError>
     requires one { IsHeld I.limit (plain_edge I.whole C.counts e.now) }
     requires other { IsHeld I.limit (plain_edge I.whole C.counts f.now) }
-    requires along { IsAlong (ends_of (plain_edge I.whole C.counts e.now)) (ends_of (plain_edge I.whole C.counts f.now)) }
+    requires along { IsAlong (ends_of (plain_edge I.whole C.counts e.now))
+        (ends_of (plain_edge I.whole C.counts f.now)) }
     ensures ok { OnOk result (AddsBoth i (plain_edge I.whole C.counts e.now) j (plain_edge I.whole C.counts f.now)
         (plain_meetings I.whole meetings.old.items) (plain_meetings I.whole meetings.new.items)) }
     ensures only { IsOkUnless result OverlayError.Memory }
@@ -78,7 +75,8 @@ fn push_crossing<I: IntNumber, C: EdgeCount, A: Allocator>(
 ) -> Result<(), OverlayError>
     requires one { IsHeld I.limit (plain_edge I.whole C.counts e.now) }
     requires other { IsHeld I.limit (plain_edge I.whole C.counts f.now) }
-    requires across { IsAcross (ends_of (plain_edge I.whole C.counts e.now)) (ends_of (plain_edge I.whole C.counts f.now)) }
+    requires across { IsAcross (ends_of (plain_edge I.whole C.counts e.now))
+        (ends_of (plain_edge I.whole C.counts f.now)) }
     ensures ok { OnOk result (AddsBoth i (plain_edge I.whole C.counts e.now) j (plain_edge I.whole C.counts f.now)
         (plain_meetings I.whole meetings.old.items) (plain_meetings I.whole meetings.new.items)) }
     ensures only { IsOkUnless result OverlayError.Memory }
@@ -99,8 +97,10 @@ fn common_point<I: IntNumber, C: EdgeCount>(
 ) -> IntPoint<I>
     requires one { IsHeld I.limit (plain_edge I.whole C.counts e.now) }
     requires other { IsHeld I.limit (plain_edge I.whole C.counts f.now) }
-    requires forth { IsAcross (ends_of (plain_edge I.whole C.counts e.now)) (ends_of (plain_edge I.whole C.counts f.now)) }
-    requires back { IsAcross (ends_of (plain_edge I.whole C.counts f.now)) (ends_of (plain_edge I.whole C.counts e.now)) }
+    requires forth { IsAcross (ends_of (plain_edge I.whole C.counts e.now))
+        (ends_of (plain_edge I.whole C.counts f.now)) }
+    requires back { IsAcross (ends_of (plain_edge I.whole C.counts f.now))
+        (ends_of (plain_edge I.whole C.counts e.now)) }
     ensures { plain_point I.whole result
         ≡ crossing (ends_of (plain_edge I.whole C.counts e.now)) (ends_of (plain_edge I.whole C.counts f.now)) }
 {
@@ -127,7 +127,8 @@ pub(crate) fn is_on_line<I: IntNumber, C: EdgeCount>(e: &CountedEdge<I, C>, v: I
 fn crossing<I: IntNumber, C: EdgeCount>(e: &CountedEdge<I, C>, f: &CountedEdge<I, C>) -> IntPoint<I>
     requires one { IsHeld I.limit (plain_edge I.whole C.counts e.now) }
     requires other { IsHeld I.limit (plain_edge I.whole C.counts f.now) }
-    requires across { IsAcross (ends_of (plain_edge I.whole C.counts f.now)) (ends_of (plain_edge I.whole C.counts e.now)) }
+    requires across { IsAcross (ends_of (plain_edge I.whole C.counts f.now))
+        (ends_of (plain_edge I.whole C.counts e.now)) }
     ensures { plain_point I.whole result
         ≡ crossing (ends_of (plain_edge I.whole C.counts e.now)) (ends_of (plain_edge I.whole C.counts f.now)) }
 {

@@ -40,7 +40,7 @@ impl<I: IntNumber, C: EdgeCount, A: Allocator> Content<I, C, A> {
         A: Clone,
         requires { IsAscending (edges_in self.old) }
         ensures ok { OnOk result (edges_in self.new ≡ cut_edges (edges_in self.old)) }
-        ensures carried { OnOk result (AreCutAlong C.splits C.turns
+        ensures carried { OnOk result (AreCutAlong C.splits C.reverses
             (computed_chain (edges_in self.old)) self.old self.new) }
         ensures rounded { IfOk result (λ is_rounded.
             (is_rounded ≡ false) ↔ MeetInWholePoints (edges_in self.old)) }
@@ -63,7 +63,7 @@ fn cut_edges<I: IntNumber, C: EdgeCount, A: Allocator + Clone>(
     requires content { IsContent I.limit (plain_edges I.whole C.counts edges.now) }
     requires ascending { IsAscending (plain_edges I.whole C.counts edges.now) }
     ensures ok { IfOk result (λ cut. edges_in cut.0 ≡ cut_edges (plain_edges I.whole C.counts edges.now)) }
-    ensures carried { IfOk result (λ cut. AreCutAlong C.splits C.turns
+    ensures carried { IfOk result (λ cut. AreCutAlong C.splits C.reverses
         (computed_chain (plain_edges I.whole C.counts edges.now)) (carried_edges I.whole C.counts edges.now) cut.0) }
     ensures rounded { IfOk result (λ cut. (cut.1 ≡ false)
         ↔ MeetInWholePoints (plain_edges I.whole C.counts edges.now)) }
@@ -99,7 +99,7 @@ fn push_pieces<I: IntNumber, C: EdgeCount, A: Allocator>(
         OnOk result (edges_in pieces.new ≡ edges_in pieces.old
         ++ map (piece_along whole) (steps_through whole.a (plain_points I.whole points.now ++ whole.b ∷ []))) }
     ensures carried { let whole = plain_edge I.whole C.counts e.now in
-        OnOk result (AddsGiven (GivesPiece C.splits C.turns
+        OnOk result (AddsGiven (GivesPiece C.splits C.reverses
         (StaysWhole whole (plain_points I.whole points.now)) (carried_edge I.whole C.counts e.now))
         (steps_through whole.a (plain_points I.whole points.now ++ whole.b ∷ [])) pieces.old pieces.new) }
     ensures too_many { let whole = plain_edge I.whole C.counts e.now in
@@ -132,7 +132,7 @@ fn push_piece<I: IntNumber, C: EdgeCount, A: Allocator>(
         ≡ edges_in pieces.old ++ map (piece_along (plain_edge I.whole C.counts e.now))
         (steps_between (plain_point I.whole from) (plain_point I.whole to))) }
     ensures carried { OnOk result (AddsGiven
-        (GivesPiece C.splits C.turns (IsTrue is_whole) (carried_edge I.whole C.counts e.now))
+        (GivesPiece C.splits C.reverses (IsTrue is_whole) (carried_edge I.whole C.counts e.now))
         (steps_between (plain_point I.whole from) (plain_point I.whole to)) pieces.old pieces.new) }
     ensures too_many { IsErrOf result OverlayError.TooManyEdges → 2 ^ 31 ≤ weight (edges_in pieces.old
         ++ map (piece_along (plain_edge I.whole C.counts e.now))
@@ -146,7 +146,7 @@ fn push_piece<I: IntNumber, C: EdgeCount, A: Allocator>(
 }
 
 /// The piece of the edge from one point of its chain to the next, if they differ. It carries what
-/// the edge does, or, where that is cut, a split of it; turned round where it runs against the edge.
+/// the edge does, or, where that is cut, a split of it; reversed where it runs against the edge.
 fn piece<I: IntNumber, C: EdgeCount>(
     e: &CountedEdge<I, C>,
     from: IntPoint<I>,
@@ -158,7 +158,7 @@ fn piece<I: IntNumber, C: EdgeCount>(
     ensures counts { option_to_list (option_map (plain_edge I.whole C.counts) result)
         ≡ map (piece_along (plain_edge I.whole C.counts e.now))
         (steps_between (plain_point I.whole from) (plain_point I.whole to)) }
-    ensures carried { AreGiven (GivesPiece C.splits C.turns (IsTrue is_whole) (carried_edge I.whole C.counts e.now))
+    ensures carried { AreGiven (GivesPiece C.splits C.reverses (IsTrue is_whole) (carried_edge I.whole C.counts e.now))
         (steps_between (plain_point I.whole from) (plain_point I.whole to))
         (option_to_list (option_map (carried_edge I.whole C.counts) result)) }
 {
@@ -253,7 +253,8 @@ fn sort_along<I: IntNumber, C: EdgeCount, A: Allocator>(
     e: &CountedEdge<I, C>,
 ) -> Result<(), OverlayError>
     ensures ok { OnOk result (plain_points I.whole points.new.items
-        ≡ in_order (comes_first (ends_of (plain_edge I.whole C.counts e.now))) (plain_points I.whole points.old.items)) }
+        ≡ in_order (comes_first (ends_of (plain_edge I.whole C.counts e.now)))
+        (plain_points I.whole points.old.items)) }
     ensures err { IsOkUnless result OverlayError.Memory }
 {
     points.sort_by(|v, w| compare_along(e, *v, *w))?;
@@ -266,7 +267,8 @@ fn compare_along<I: IntNumber, C: EdgeCount>(
     v: IntPoint<I>,
     w: IntPoint<I>,
 ) -> Ordering
-    ensures { is_lt result ≡ comes_first (ends_of (plain_edge I.whole C.counts e.now)) (plain_point I.whole v) (plain_point I.whole w) }
+    ensures { is_lt result ≡ comes_first (ends_of (plain_edge I.whole C.counts e.now)) (plain_point I.whole v)
+        (plain_point I.whole w) }
 {
     match v.x.compare(w.x) {
         Ordering::Equal => compare_heights(e, v.y, w.y),

@@ -83,7 +83,7 @@ pub struct CountWithData<D> {
 }
 
 impl<D: OverlayEdgeData> EdgeCount for CountWithData<D> {
-    ghost use Rattle.overlay_arrange.specs.EdgeData.{AreMerged, IsPiece, IsTurned};
+    ghost use Rattle.overlay_arrange.specs.EdgeData.{AreMerged, IsPiece, IsReversed};
 
     type Store = D::Store;
 
@@ -93,7 +93,7 @@ impl<D: OverlayEdgeData> EdgeCount for CountWithData<D> {
 
     ghost splits = { IsPiece D.splits };
 
-    ghost turns = { IsTurned D.reverses };
+    ghost reverses = { IsReversed D.reverses };
 
     fn is_nothing(self) -> bool {
         self.count.is_nothing()

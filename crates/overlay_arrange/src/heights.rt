@@ -1,14 +1,13 @@
 //! The heights between which edges lie, edge by edge and in blocks, by which edges are passed over that lie at
 //! heights apart from those of another one.
 
-ghost use Rattle.std.specs.Prelude.{◌≡◌, ◌≤◌, ◌<◌, ◌/◌, All, map, take, length, IfOk, IsOkUnless};
+ghost use Rattle.std.specs.Prelude.{◌≡◌, ◌≤◌, ◌<◌, ◌/◌, int_lt, cond, All, take, length, IfOk, IsOkUnless};
 ghost use Rattle.overlay_arrange.specs.Content.{plain_edge, plain_edges};
 ghost use Rattle.overlay_arrange.specs.Heights.{Covers, span_of, spans_of, plain_span, plain_spans};
-ghost use Rattle.overlay_arrange.specs.Heights.{are_apart, AreBlocks, AreHeightsOf, IsApart, IsNextNear, IsInBlock};
+ghost use Rattle.overlay_arrange.specs.Heights.{is_apart, AreBlocks, AreHeightsOf, IsApart, IsNextNear, IsInBlock};
 
 use crate::count::EdgeCount;
 use crate::edge::CountedEdge;
-use crate::spans::{is_less, ordered};
 use overlay_geom::error::OverlayError;
 use overlay_geom::number::IntNumber;
 use std::alloc::Allocator;
@@ -59,7 +58,8 @@ pub(crate) fn next_near<I: IntNumber, A: Allocator>(
     from: usize,
     to: usize,
 ) -> usize
-    requires blocks { AreBlocks (plain_spans I.whole heights.now.edges.items) (plain_spans I.whole heights.now.blocks.items) }
+    requires blocks { AreBlocks (plain_spans I.whole heights.now.edges.items)
+        (plain_spans I.whole heights.now.blocks.items) }
     requires ordered { from ≤ to }
     requires within { to ≤ length heights.now.edges.items }
     ensures { IsNextNear (plain_spans I.whole heights.now.edges.items) (plain_span I.whole of) from to result }
@@ -82,13 +82,14 @@ fn next_in_block<I: IntNumber, A: Allocator>(
     from: usize,
     to: usize,
 ) -> usize
-    requires blocks { AreBlocks (plain_spans I.whole heights.now.edges.items) (plain_spans I.whole heights.now.blocks.items) }
+    requires blocks { AreBlocks (plain_spans I.whole heights.now.edges.items)
+        (plain_spans I.whole heights.now.blocks.items) }
     requires some { from < to }
     requires within { to ≤ length heights.now.edges.items }
     requires one { IsInBlock from to }
     ensures { IsNextNear (plain_spans I.whole heights.now.edges.items) (plain_span I.whole of) from to result }
 {
-    if are_apart(of, heights.blocks[from / BLOCK]) {
+    if is_apart(of, heights.blocks[from / BLOCK]) {
         to
     } else {
         from + count_apart(of, &heights.edges[from..to])
@@ -112,7 +113,7 @@ fn count_apart<I: IntNumber>(of: Heights<I>, heights: &[Heights<I>]) -> usize
     ensures apart { All (IsApart (plain_span I.whole of)) (take result (plain_spans I.whole heights.now)) }
 {
     for (i, h) in heights.iter().enumerate() {
-        if !are_apart(of, *h) {
+        if !is_apart(of, *h) {
             return i;
         }
     }
@@ -120,8 +121,8 @@ fn count_apart<I: IntNumber>(of: Heights<I>, heights: &[Heights<I>]) -> usize
 }
 
 /// Whether the one lies wholly below the other one.
-fn are_apart<I: IntNumber>(h: Heights<I>, k: Heights<I>) -> bool
-    ensures { result ≡ are_apart (plain_span I.whole h) (plain_span I.whole k) }
+fn is_apart<I: IntNumber>(h: Heights<I>, k: Heights<I>) -> bool
+    ensures { result ≡ is_apart (plain_span I.whole h) (plain_span I.whole k) }
 {
     is_less(h.high, k.low) || is_less(k.high, h.low)
 }
@@ -155,7 +156,8 @@ fn heights_of_blocks<I: IntNumber, A: Allocator>(
     alloc: A,
     heights: &[Heights<I>],
 ) -> Result<Vec<Heights<I>, A>, OverlayError>
-    ensures ok { IfOk result (λ blocks. AreBlocks (plain_spans I.whole heights.now) (plain_spans I.whole blocks.items)) }
+    ensures ok { IfOk result (λ blocks.
+        AreBlocks (plain_spans I.whole heights.now) (plain_spans I.whole blocks.items)) }
     ensures err { IsOkUnless result OverlayError.Memory }
 {
     let mut blocks = Vec::new(alloc);
@@ -179,4 +181,19 @@ fn joined<I: IntNumber>(h: Heights<I>, k: Heights<I>) -> Heights<I>
         low: ordered(h.low, k.low).0,
         high: ordered(h.high, k.high).1,
     }
+}
+
+/// The lesser and the greater one of two numbers.
+fn ordered<I: IntNumber>(y: I, z: I) -> (I, I)
+    ensures low { I.whole result.0 ≡ cond (int_lt (I.whole y) (I.whole z)) (I.whole y) (I.whole z) }
+    ensures high { I.whole result.1 ≡ cond (int_lt (I.whole y) (I.whole z)) (I.whole z) (I.whole y) }
+{
+    if is_less(y, z) { (y, z) } else { (z, y) }
+}
+
+/// Whether the first number is less than the second one.
+fn is_less<I: IntNumber>(y: I, z: I) -> bool
+    ensures { result ≡ int_lt (I.whole y) (I.whole z) }
+{
+    y.compare(z).is_lt()
 }

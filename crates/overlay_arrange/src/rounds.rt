@@ -19,9 +19,9 @@ impl<I: IntNumber, C: EdgeCount, A: Allocator + Clone> Content<I, C, A> {
     /// Brings the edges into an arrangement: equal edges are merged, and as long as two different
     /// ones meet in a point that is not an end of both, each edge is cut where others meet it, at
     /// most 64 times. Each meeting point is rounded to one whole point, at most 1/2 away in x and
-    /// in y. What the edges carry is merged, split and turned round with them: merged two by two
+    /// in y. What the edges carry is merged, split and reversed with them: merged two by two
     /// where equal edges become one, split once for each round that cuts an edge into two pieces or
-    /// more, and turned round where a piece runs against its edge. What was arranged before stays as
+    /// more, and reversed where a piece runs against its edge. What was arranged before stays as
     /// it is.
     ///
     /// Returns whether some round cut the edges; if none did they met in ends alone, but for equal
@@ -33,7 +33,7 @@ impl<I: IntNumber, C: EdgeCount, A: Allocator + Clone> Content<I, C, A> {
     /// where edges meet only in whole points or overlap.
     pub fn arrange(&mut self, store: &mut C::Store) -> Result<bool, OverlayError>
         ensures arranged { OnOk result (IsArranged 64 (edges_in self.old) (edges_in self.new)) }
-        ensures carried { OnOk result (IsArrangedCarrying C.merges C.splits C.turns 64 self.old self.new) }
+        ensures carried { OnOk result (IsArrangedCarrying C.merges C.splits C.reverses 64 self.old self.new) }
         ensures cut { IfOk result (λ is_cut. (is_cut ≡ false)
             ↔ IsReachedBy [] (edges_in self.old) (edges_in self.new)) }
         ensures err { IfErr result (MayRefuseSplitting 64 (edges_in self.old)) }
@@ -47,7 +47,7 @@ impl<I: IntNumber, C: EdgeCount, A: Allocator + Clone> Content<I, C, A> {
     /// whether it cut them. If it is refused the content is left open.
     pub fn split(&mut self, rounds: u32, store: &mut C::Store) -> Result<bool, OverlayError>
         ensures split { OnOk result (IsSplit rounds (edges_in self.old) (edges_in self.new)) }
-        ensures carried { OnOk result (IsSplitCarrying C.merges C.splits C.turns rounds self.old self.new) }
+        ensures carried { OnOk result (IsSplitCarrying C.merges C.splits C.reverses rounds self.old self.new) }
         ensures cut { IfOk result (λ is_cut. (is_cut ≡ false)
             ↔ IsReachedBy [] (edges_in self.old) (edges_in self.new)) }
         ensures not_settled { IsErrOf result OverlayError.NotSettled → StaysUnsettled rounds (edges_in self.old) }

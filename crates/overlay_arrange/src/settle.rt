@@ -11,7 +11,7 @@ ghost use Rattle.overlay_arrange.specs.Meetings.{AreSettledUpTo};
 use crate::count::EdgeCount;
 use crate::edge::CountedEdge;
 use crate::heights::{HeightLists, height_lists, heights_of, next_near};
-use crate::spans::{are_apart_in_y, run_end};
+use crate::spans::run_end;
 use overlay_geom::edge::IntEdge;
 use overlay_geom::edge_pair;
 use overlay_geom::edge_pair::Place;
@@ -68,16 +68,14 @@ fn is_settled_from<I: IntNumber, C: EdgeCount, A: Allocator>(
     true
 }
 
-/// Whether the two edges meet in ends alone. An edge does not meet itself so. Most edges that meet
-/// nowhere lie at heights that are apart, which is found without a product.
+/// Whether the two edges meet in ends alone. An edge does not meet itself so.
 fn meet_in_ends<I: IntNumber, C: EdgeCount>(e: &CountedEdge<I, C>, f: &CountedEdge<I, C>) -> bool
     requires one { IsHeld I.limit (plain_edge I.whole C.counts e.now) }
     requires other { IsHeld I.limit (plain_edge I.whole C.counts f.now) }
     ensures settles { IsTrue result
         ↔ MeetInEnds (ends_of (plain_edge I.whole C.counts e.now)) (ends_of (plain_edge I.whole C.counts f.now)) }
 {
-    are_apart_in_y(e, f)
-        || edge_pair::meet_in_ends(IntEdge { a: e.a, b: e.b }, IntEdge { a: f.a, b: f.b })
+    edge_pair::meet_in_ends(IntEdge { a: e.a, b: e.b }, IntEdge { a: f.a, b: f.b })
 }
 
 /// Where f lies by the line of e.
@@ -87,7 +85,8 @@ pub(crate) fn place_by<I: IntNumber, C: EdgeCount>(
 ) -> Place
     requires one { IsHeld I.limit (plain_edge I.whole C.counts e.now) }
     requires other { IsHeld I.limit (plain_edge I.whole C.counts f.now) }
-    ensures { IsPlaced result (ends_of (plain_edge I.whole C.counts e.now)) (ends_of (plain_edge I.whole C.counts f.now)) }
+    ensures { IsPlaced result (ends_of (plain_edge I.whole C.counts e.now))
+        (ends_of (plain_edge I.whole C.counts f.now)) }
 {
     edge_pair::place_by(IntEdge { a: e.a, b: e.b }, IntEdge { a: f.a, b: f.b })
 }

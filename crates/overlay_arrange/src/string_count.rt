@@ -2,7 +2,7 @@
 
 ghost use Rattle.std.specs.Prelude.{◌≡◌};
 ghost use Rattle.std.specs.Int.RustNames.{bit_or};
-ghost use Rattle.overlay_arrange.specs.Counts.{string_counts, turned_directions};
+ghost use Rattle.overlay_arrange.specs.Counts.{string_counts, reversed_directions};
 
 use crate::count::EdgeCount;
 
@@ -39,8 +39,8 @@ impl ShapeCountString {
 }
 
 /// The directions of a string seen from the other end of its edge.
-fn turned(directions: u8) -> u8
-    ensures { result ≡ turned_directions directions }
+fn reversed_directions(directions: u8) -> u8
+    ensures { result ≡ reversed_directions directions }
 {
     (directions & STRING_ALONG) << 1 | (directions & STRING_AGAINST) >> 1
 }
@@ -56,7 +56,7 @@ impl EdgeCount for ShapeCountString {
 
     ghost splits = { λ c p. p ≡ c };
 
-    ghost turns = { λ c t. (t.subj ≡ neg_ℤ c.subj) × (t.clip ≡ turned_directions c.clip) };
+    ghost reverses = { λ c t. (t.subj ≡ neg_ℤ c.subj) × (t.clip ≡ reversed_directions c.clip) };
 
     fn is_nothing(self) -> bool {
         self.subj == 0 && !self.is_along() && !self.is_against()
@@ -88,7 +88,7 @@ impl EdgeCount for ShapeCountString {
     fn reversed(self, _store: &mut ()) -> ShapeCountString {
         ShapeCountString {
             subj: -self.subj,
-            clip: turned(self.clip),
+            clip: reversed_directions(self.clip),
         }
     }
 }

@@ -41,27 +41,32 @@ PassesOnce counts t pass = (s : Step) → counts (count_of_step pass s)
     ≡ boolean_counts (cond (is_forward s) (count_for t (pos 1)) (count_for t (negsuc 0)))
 
 -- so it is of counts alone
-pub counts_pass_once : (t : ShapeType) (pass : StepCounts ShapeCountBoolean) → pass ≡ passing t → PassesOnce boolean_counts t pass
+pub counts_pass_once : (t : ShapeType) (pass : StepCounts ShapeCountBoolean) → pass ≡ passing t →
+    PassesOnce boolean_counts t pass
 counts_pass_once t pass is s = ap (λ p. boolean_counts (count_of_step p s)) is
 
 -- and of counts without data
-pub dataless_pass_once : (t : ShapeType) (pass : StepCounts (CountWithData (Unit {0}))) → pass ≡ passing_without_data t →
+pub dataless_pass_once : (t : ShapeType) (pass : StepCounts (CountWithData (Unit {0}))) →
+    pass ≡ passing_without_data t →
     PassesOnce (λ k. boolean_counts k.count) t pass
-dataless_pass_once t pass is s = ap (λ (p : StepCounts (CountWithData (Unit {0}))). boolean_counts (count_of_step p s).count) is ∙ ap boolean_counts (by (is_forward s))
+dataless_pass_once t pass is s = ap (λ (p : StepCounts (CountWithData (Unit {0}))). boolean_counts
+    (count_of_step p s).count) is ∙ ap boolean_counts (by (is_forward s))
   where
     by : (forward : Bool) → (cond forward (passing_without_data t).along (passing_without_data t).back).count
         ≡ cond forward (count_for t (pos 1)) (count_for t (negsuc 0))
     by true = refl
     by false = refl
 
-module _ (keep : Bool) (t : ShapeType) {C : Type 0} (counts : C → Counts) (kind : PathKind) (pass : StepCounts C) (kind_is : kind ≡ contour_kind keep)
+module _ (keep : Bool) (t : ShapeType) {C : Type 0} (counts : C → Counts) (kind : PathKind) (pass : StepCounts C)
+    (kind_is : kind ≡ contour_kind keep)
     (once : PassesOnce counts t pass) where
   -- the edges of its steps, without what they carry
   edges_alone : (λ (s : Step). (passed_edge counts pass s).edge) ≡ edge_for t
   edges_alone = λ i s. edge_with (edge_of s).a (edge_of s).b (once s i)
 
   -- a contour that was added
-  pub contour_added : (ps : List Point) (old new : List (Carried C)) → AddsPath kind (passed_edge counts pass) ps old new
+  pub contour_added : (ps : List Point) (old new : List (Carried C)) →
+      AddsPath kind (passed_edge counts pass) ps old new
       → AddsPath (contour_kind keep) (edge_for t) ps (edges_in old) (edges_in new)
   contour_added ps old new h =
       subst (λ f. AddsPath (contour_kind keep) f ps (edges_in old) (edges_in new)) edges_alone
@@ -78,7 +83,8 @@ module _ (keep : Bool) (t : ShapeType) {C : Type 0} (counts : C → Counts) (kin
       (subst (λ k. WouldWeighTooMuch carried_weight (path_as k (passed_edge counts pass) ps) old) kind_is h))
 
   -- the paths of a resource
-  same_paths : (paths : List (List Point)) → map (seen edge_alone) (paths_as (contour_kind keep) (passed_edge counts pass) paths)
+  same_paths : (paths : List (List Point)) →
+      map (seen edge_alone) (paths_as (contour_kind keep) (passed_edge counts pass) paths)
       ≡ added_paths keep (paths_for t paths)
   same_paths [] = refl
   same_paths (ps ∷ paths) = ap₂ (λ f l. path_as (contour_kind keep) f ps ∷ l) edges_alone (same_paths paths)

@@ -1,5 +1,6 @@
 -- Contours keep the counts of what a builder holds balanced, however many of them are added.
-use Rattle.std.proofs.Common.{◌≡◌, ◌⊎◌, inl, inr, Bool, true, false, cond, ℤ, pos, negsuc, List, [], ◌∷◌, ◌++◌, length, map, refl, sym, ap, ap₂, subst}
+use Rattle.std.proofs.Common.{◌≡◌, ◌⊎◌, inl, inr, Bool, true, false, cond, ℤ, pos, negsuc, List, [], ◌∷◌, ◌++◌, length}
+use Rattle.std.proofs.Common.{map, refl, sym, ap, ap₂, subst}
 use Rattle.std.specs.List.{All}
 use Rattle.std.specs.Prelude.{Result, Ok, Err}
 use Rattle.std.proofs.lemmas.List.Elements.{All-nil, All-cons, All-head, All-tail, All-take}
@@ -31,7 +32,8 @@ same_edges f h same (s ∷ ss) = ap₂ (λ e es. e ∷ es) (same s) (same_edges 
 -- the edge of a subject's step
 as_subject : (s : Step) → subject_edge s ≡ edge_for Subject s
 as_subject s =
-    elim (is_forward s) as (λ t. Same (cond t (pos 1) (negsuc 0)) (cond t (count_for Subject (pos 1)) (count_for Subject (negsuc 0))))
+    elim (is_forward s) as (λ t. Same (cond t (pos 1) (negsuc 0))
+    (cond t (count_for Subject (pos 1)) (count_for Subject (negsuc 0))))
     [ true ↦ refl | false ↦ refl ]
   where
     Same : ℤ → ShapeCountBoolean → Type 0
@@ -41,7 +43,8 @@ as_subject s =
 -- and of a clip's
 as_clip : (s : Step) → clip_edge s ≡ edge_for Clip s
 as_clip s =
-    elim (is_forward s) as (λ t. Same (cond t (pos 1) (negsuc 0)) (cond t (count_for Clip (pos 1)) (count_for Clip (negsuc 0))))
+    elim (is_forward s) as (λ t. Same (cond t (pos 1) (negsuc 0))
+    (cond t (count_for Clip (pos 1)) (count_for Clip (negsuc 0))))
     [ true ↦ refl | false ↦ refl ]
   where
     Same : ℤ → ShapeCountBoolean → Type 0
@@ -51,9 +54,11 @@ as_clip s =
 -- the edges of a closed contour's steps have balanced counts
 contour_is_balanced : (t : ShapeType) (ps : List Point) → HasBalancedCounts (map (edge_for t) (steps_of ps))
 contour_is_balanced Subject ps =
-    subst HasBalancedCounts (same_edges subject_edge (edge_for Subject) as_subject (steps_of ps)) (added_contours_are_balanced.subject ps)
+    subst HasBalancedCounts (same_edges subject_edge (edge_for Subject) as_subject (steps_of ps))
+    (added_contours_are_balanced.subject ps)
 contour_is_balanced Clip ps =
-    subst HasBalancedCounts (same_edges clip_edge (edge_for Clip) as_clip (steps_of ps)) (added_contours_are_balanced.clip ps)
+    subst HasBalancedCounts (same_edges clip_edge (edge_for Clip) as_clip (steps_of ps))
+    (added_contours_are_balanced.clip ps)
 
 -- so a content with them added has balanced counts
 pub contour_keeps_balance : (keep : Bool) (t : ShapeType) (ps : List Point) (old new : List CountedEdge)
@@ -77,11 +82,13 @@ contours_keep keep (p ∷ ps) =
     (record { keeps = contour_keeps_balance keep p.shape_type p.points }) (contours_keep keep ps)
 
 -- and several paths that do, one after another
-paths_keep : (all : List (AddedPath CountedEdge)) (from to : List CountedEdge) → All KeepsBalance all → AddsPaths all from to
+paths_keep : (all : List (AddedPath CountedEdge)) (from to : List CountedEdge) → All KeepsBalance all →
+    AddsPaths all from to
     → HasBalancedCounts from → HasBalancedCounts to
 paths_keep all from to keep no_path before = before
 paths_keep all from to keep (path_and_others {p} {ps} {mid} first h) before =
-    paths_keep ps mid to (All-tail KeepsBalance p ps keep) h ((All-head KeepsBalance p ps keep).keeps from mid first before)
+    paths_keep ps mid to (All-tail KeepsBalance p ps keep) h
+    ((All-head KeepsBalance p ps keep).keeps from mid first before)
 
 -- the first ones of paths that do, do
 first_keep : (first rest : List (AddedPath CountedEdge)) → All KeepsBalance (first ++ rest) → All KeepsBalance first
@@ -89,15 +96,19 @@ first_keep first rest keep =
     subst (All KeepsBalance) (take-append_seam first rest) (All-take KeepsBalance (length first) (first ++ rest) keep)
 
 -- a call that adds contours keeps the counts balanced, whatever it answers
-pub adding_keeps_balance : {V : Type 0} (keep : Bool) (given : List GivenPath) (old new : Held CountedEdge) (r : Result V OverlayError)
+pub adding_keeps_balance : {V : Type 0} (keep : Bool) (given : List GivenPath) (old new : Held CountedEdge)
+    (r : Result V OverlayError)
     → AddsAsAsked weight (added_paths keep given) old new r → HasBalancedCounts old.edges → HasBalancedCounts new.edges
 adding_keeps_balance keep given old new (Ok v) h before =
     paths_keep (added_paths keep given) old.edges new.edges (contours_keep keep given) h.ok before
 adding_keeps_balance {V = V} keep given old new (Err e) h before = by h.err
   where
-    by : ((e ≡ Failed) ⊎ StopsAtPath weight (added_paths keep given) old.edges new.edges e) → HasBalancedCounts new.edges
-    by (inl is) = subst (λ b. HasBalancedCounts b.edges) (sym (h.untouched (ap {B = Result V OverlayError} (λ x. Err x) is))) before
+    by : ((e ≡ Failed) ⊎ StopsAtPath weight (added_paths keep given) old.edges new.edges e) →
+        HasBalancedCounts new.edges
+    by (inl is) = subst (λ b. HasBalancedCounts b.edges)
+        (sym (h.untouched (ap {B = Result V OverlayError} (λ x. Err x) is))) before
     by (inr stops) =
         paths_keep stops.added.before old.edges new.edges
-        (first_keep stops.added.before (stops.path ∷ stops.added.after) (subst (All KeepsBalance) stops.added.parts (contours_keep keep given)))
+        (first_keep stops.added.before (stops.path ∷ stops.added.after)
+        (subst (All KeepsBalance) stops.added.parts (contours_keep keep given)))
         stops.added.added before

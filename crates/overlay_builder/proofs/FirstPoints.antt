@@ -1,5 +1,6 @@
 -- A path's steps, begun at its first point.
-use Rattle.std.proofs.Common.{◌≡◌, ◌++◌, Bool, true, false, cond, List, [], ◌∷◌, Option, Some, None, map, slice_get, refl, sym, ap, subst, ◌∙◌}
+use Rattle.std.proofs.Common.{◌≡◌, ◌++◌, Bool, true, false, cond, List, [], ◌∷◌, Option, Some, None, map, slice_get}
+use Rattle.std.proofs.Common.{refl, sym, ap, subst, ◌∙◌}
 use Rattle.std.proofs.lemmas.List.{append-nil}
 use Rattle.overlay_geom.specs.Plane.{Point, Step, point_eq, steps_between, steps_through}
 use Rattle.overlay_geom.proofs.Orders.{point_eq-of_same}
@@ -20,9 +21,11 @@ from_itself : (is_closed : Bool) (p : Point) (ps : List Point)
 from_itself true p ps = none_between p (steps_through p (ps ++ p ∷ []))
 from_itself false p ps = none_between p (steps_through p (ps ++ [])) ∙ ap (steps_through p) (append-nil ps)
 
-pub steps_from_the_first : {X : Type 0} (see : X → Point) (is_closed : Bool) (xs : List X) (x : X) → Some x ≡ slice_get xs 0
+pub steps_from_the_first : {X : Type 0} (see : X → Point) (is_closed : Bool) (xs : List X) (x : X) →
+    Some x ≡ slice_get xs 0
     → steps_through (see x) (map see xs ++ cond is_closed (see x ∷ []) []) ≡ path_steps_of is_closed (map see xs)
 steps_from_the_first see is_closed [] x first = absurd (cc)
 steps_from_the_first see is_closed (y ∷ ys) x first =
-    subst (λ z. steps_through (see z) ((see y ∷ map see ys) ++ cond is_closed (see z ∷ []) []) ≡ path_steps_of is_closed (see y ∷ map see ys))
+    subst (λ z. steps_through (see z) ((see y ∷ map see ys) ++ cond is_closed (see z ∷ []) []) ≡ path_steps_of is_closed
+    (see y ∷ map see ys))
     (sym (ap (value_or y) first)) (from_itself is_closed (see y) (map see ys))

@@ -1,6 +1,7 @@
 -- Whether thinning left out a point: the list is shorter, or it is the one given.
 use Rattle.std.specs.Prelude.{◌↔◌, false}
-use Rattle.std.proofs.Common.{nat_lt, ◌≡◌, ℕ, ◌+◌, ◌<◌, ◌≤◌, ◌⊎◌, inl, inr, List, length, remove, refl, sym, ap, subst, arith, ◌∙◌}
+use Rattle.std.proofs.Common.{nat_lt, ◌≡◌, ℕ, ◌+◌, ◌<◌, ◌≤◌, ◌⊎◌, inl, inr, List, length, remove, refl, sym, ap, subst}
+use Rattle.std.proofs.Common.{arith, ◌∙◌}
 use Rattle.std.proofs.lemmas.Bool.{ltb-false, le-ltb}
 use Rattle.std.proofs.lemmas.List.Edits.{length-remove}
 use Rattle.overlay_geom.specs.Plane.{Point}
@@ -22,7 +23,8 @@ thinned_is_shorter ps qs (drop_one k within straight rest) = inr (shorter (thinn
 -- where a list may be thinned to itself, no point of it is straight
 none_is_straight : (ps qs : List Point) → IsThinned ps qs → qs ≡ ps → (k : ℕ) → k < length ps → ¬ (IsStraightAt ps k)
 none_is_straight ps _ (thin none) same = none
-none_is_straight ps qs (drop_one k within straight rest) same = absurd (too_short (thinned_is_shorter (remove ps k) qs rest))
+none_is_straight ps qs (drop_one k within straight rest) same = absurd
+    (too_short (thinned_is_shorter (remove ps k) qs rest))
   where
     one_less : length (remove ps k) + 1 ≡ length ps
     one_less = length-remove ps k within
@@ -46,7 +48,8 @@ none_left_out ps qs thinned as_many = by (thinned_is_shorter ps qs thinned)
 
 -- and where it may, thinning leaves no fewer
 pub as_many_left : (ps qs : List Point) → IsThinned ps qs → IsThinned ps ps → length ps ≤ length qs
-as_many_left ps qs thinned itself = omega (arith, ap length (thinned_to_itself ps qs (none_is_straight ps ps itself refl) thinned))
+as_many_left ps qs thinned itself = omega
+    (arith, ap length (thinned_to_itself ps qs (none_is_straight ps ps itself refl) thinned))
 
 -- whether a point was left out, told by the lengths
 pub left_out : (few many : ℕ) (ps qs : List Point) → few ≡ length qs → many ≡ length ps → IsThinned ps qs

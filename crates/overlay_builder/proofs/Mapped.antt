@@ -8,7 +8,8 @@ use Rattle.overlay_geom.specs.declared.error.OverlayError.{OverlayError}
 use Rattle.overlay_geom.specs.declared.error.OverlayError.TheVariants.{Memory, NotSettled, TooManyEdges, Failed}
 use Rattle.overlay_builder.specs.Held.{Held}
 use Rattle.overlay_builder.specs.Paths.{AddsPath, path_steps_of, leads_back}
-use Rattle.overlay_builder.specs.PathLists.{AddedPath, AddsPaths, AddsAsAsked, MayRefusePath, StopsAtPath, WouldWeighTooMuch}
+use Rattle.overlay_builder.specs.PathLists.{AddedPath, AddsPaths, AddsAsAsked, MayRefusePath, StopsAtPath}
+use Rattle.overlay_builder.specs.PathLists.{WouldWeighTooMuch}
 use Rattle.overlay_builder.specs.PathLists.AddsPaths.{no_path, path_and_others}
 use Rattle.overlay_builder.specs.declared.path.PathKind.{PathKind}
 
@@ -18,7 +19,8 @@ module _ {E F : Type 0} (f : E → F) where
   seen p = record { kind = p.kind; edge_for = λ s. f (p.edge_for s); points = p.points }
 
   -- what a path adds
-  pub one_seen : (kind : PathKind) (edge_for : Step → E) (ps : List Point) (old new : List E) → AddsPath kind edge_for ps old new
+  pub one_seen : (kind : PathKind) (edge_for : Step → E) (ps : List Point) (old new : List E) →
+      AddsPath kind edge_for ps old new
       → AddsPath kind (λ s. f (edge_for s)) ps (map f old) (map f new)
   one_seen kind edge_for ps old new h = record {
     taken = h.taken;
@@ -32,7 +34,8 @@ module _ {E F : Type 0} (f : E → F) where
       map_twice (s ∷ ss) = ap (λ l. f (edge_for s) ∷ l) (map_twice ss)
 
   -- what several add
-  pub all_seen : (all : List (AddedPath E)) (from to : List E) → AddsPaths all from to → AddsPaths (map seen all) (map f from) (map f to)
+  pub all_seen : (all : List (AddedPath E)) (from to : List E) → AddsPaths all from to →
+      AddsPaths (map seen all) (map f from) (map f to)
   all_seen all from to no_path = no_path
   all_seen all from to (path_and_others {p} {ps} {mid} first h) =
       path_and_others (one_seen p.kind p.edge_for p.points from mid first) (all_seen ps mid to h)
@@ -42,7 +45,11 @@ module _ {E F : Type 0} (f : E → F) where
     pub heavy_seen : (p : AddedPath E) (old : List E) → WouldWeighTooMuch (λ es. weigh (map f es)) p old
         → WouldWeighTooMuch weigh (seen p) (map f old)
     heavy_seen p old h =
-        record { content = map f h.content; adds = one_seen p.kind p.edge_for p.points old h.content h.adds; heavy = h.heavy }
+        record {
+          content = map f h.content;
+          adds = one_seen p.kind p.edge_for p.points old h.content h.adds;
+          heavy = h.heavy;
+        }
 
     refusal_seen : (p : AddedPath E) (old : List E) (e : OverlayError) → MayRefusePath (λ es. weigh (map f es)) p old e
         → MayRefusePath weigh (seen p) (map f old) e
@@ -51,7 +58,8 @@ module _ {E F : Type 0} (f : E → F) where
     refusal_seen p old NotSettled may = may
     refusal_seen p old Failed may = may
 
-    stop_seen : (ps : List (AddedPath E)) (old new : List E) (e : OverlayError) → StopsAtPath (λ es. weigh (map f es)) ps old new e
+    stop_seen : (ps : List (AddedPath E)) (old new : List E) (e : OverlayError) →
+        StopsAtPath (λ es. weigh (map f es)) ps old new e
         → StopsAtPath weigh (map seen ps) (map f old) (map f new) e
     stop_seen ps old new e h = record {
       path = seen h.path;
@@ -70,7 +78,8 @@ module _ {E F : Type 0} (f : E → F) where
 
     -- a call that adds paths
     pub adding_seen : {V : Type 0} (ps : List (AddedPath E)) (old new : Held E) (r : Result V OverlayError)
-        → AddsAsAsked (λ es. weigh (map f es)) ps old new r → AddsAsAsked weigh (map seen ps) (held_seen old) (held_seen new) r
+        → AddsAsAsked (λ es. weigh (map f es)) ps old new r → AddsAsAsked weigh (map seen ps) (held_seen old)
+        (held_seen new) r
     adding_seen ps old new r h = record {
       ok = on_ok_weaker r (all_seen ps old.edges new.edges) h.ok;
       light = h.light;

@@ -32,7 +32,10 @@ module _ {C : Type 0} (limit : ℕ) (counts : C → Counts) (passing : StepCount
   may_add_step light p q hp hq apart true way =
       record { held = record { forward = way; a_in_range = hp; b_in_range = hq }; light = light.along }
   may_add_step light p q hp hq apart false way =
-      record { held = record { forward = point_lt-back p q apart way; a_in_range = hq; b_in_range = hp }; light = light.back }
+      record {
+        held = record { forward = point_lt-back p q apart way; a_in_range = hq; b_in_range = hp };
+        light = light.back;
+      }
 
   -- those of the steps between two points in range
   may_add_between : AreLight counts passing → (p q : Point) → InRange limit p → InRange limit q
@@ -40,7 +43,8 @@ module _ {C : Type 0} (limit : ℕ) (counts : C → Counts) (passing : StepCount
   may_add_between light p q hp hq = by (point_eq p q) refl
     where
       by : (s : Bool) → point_eq p q ≡ s
-          → All (MayBeAdded limit counts) (map (passed_edge counts passing) (cond s [] (record { from = p; to = q } ∷ [])))
+          → All (MayBeAdded limit counts)
+          (map (passed_edge counts passing) (cond s [] (record { from = p; to = q } ∷ [])))
       by true same = All-nil (MayBeAdded limit counts)
       by false apart =
           All-cons (MayBeAdded limit counts) (passed_by (point_lt p q) p q) []

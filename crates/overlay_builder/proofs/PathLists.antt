@@ -11,7 +11,8 @@ use Rattle.overlay_builder.specs.PathLists.AddsPaths.{no_path, path_and_others}
 
 module _ {E : Type 0} where
   -- one more path is added last
-  pub adds_last : (ps : List (AddedPath E)) (p : AddedPath E) (old mid new : List E) → AddsPaths ps old mid → AddsOne p mid new
+  pub adds_last : (ps : List (AddedPath E)) (p : AddedPath E) (old mid new : List E) → AddsPaths ps old mid →
+      AddsOne p mid new
       → AddsPaths (ps ++ p ∷ []) old new
   adds_last ps p old mid new no_path last = path_and_others last no_path
   adds_last ps p old mid new (path_and_others first h) last = path_and_others first (adds_last _ p _ mid new h last)
@@ -20,11 +21,13 @@ module _ {E : Type 0} where
   pub adds_both : (ps qs : List (AddedPath E)) (old mid new : List E) → AddsPaths ps old mid → AddsPaths qs mid new
       → AddsPaths (ps ++ qs) old new
   adds_both ps qs old mid new no_path others = others
-  adds_both ps qs old mid new (path_and_others first h) others = path_and_others first (adds_both _ qs _ mid new h others)
+  adds_both ps qs old mid new (path_and_others first h) others = path_and_others first
+      (adds_both _ qs _ mid new h others)
 
 module _ {E : Type 0} (weigh : List E → ℕ) (ps qs : List (AddedPath E)) (old : List E) where
   -- one of some paths is refused, with others after them
-  stops_in_first : (new : List E) (e : OverlayError) → StopsAtPath weigh ps old new e → StopsAtPath weigh (ps ++ qs) old new e
+  stops_in_first : (new : List E) (e : OverlayError) → StopsAtPath weigh ps old new e →
+      StopsAtPath weigh (ps ++ qs) old new e
   stops_in_first new e h = record {
     path = h.path;
     added = record {

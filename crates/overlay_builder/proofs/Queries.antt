@@ -13,7 +13,8 @@ use Rattle.overlay_builder.specs.Held.{Held, AnswersQuery}
 module _ {V : Type 0} (limit most : ℕ) (old : Held CountedEdge) where
   module _ (ready : old.failed ≡ false) (new : Held CountedEdge) where
     -- one that had not answers by the arrangement of its edges, or remembers that it was refused
-    pub answers_arranged : (r : Result V OverlayError) → OnOk r (IsArranged most old.edges new.edges) → IsContent limit new.edges
+    pub answers_arranged : (r : Result V OverlayError) → OnOk r (IsArranged most old.edges new.edges) →
+        IsContent limit new.edges
         → IfErr r (MayRefuseSplitting most old.edges) → new.failed ≡ is_err r → AnswersQuery limit most old new r
     answers_arranged (Ok v) arranged content refused flag = record {
       usable = ready;
@@ -43,8 +44,10 @@ module _ {V : Type 0} (limit most : ℕ) (old : Held CountedEdge) where
         not_failed same = subst (λ answer. IfErr {T = V} answer (MayRefuseSplitting most old.edges)) same refused
 
 -- more is asked of the arrangement, which may be refused for want of memory
-pub answers_after : {U V : Type 0} (limit most : ℕ) (old mid new : Held CountedEdge) (v : U) → AnswersQuery limit most old mid (Ok v)
-    → (r : Result V OverlayError) → new.edges ≡ mid.edges → new.failed ≡ is_err r → IfErr r (λ e. e ≡ Memory) → AnswersQuery limit most old new r
+pub answers_after : {U V : Type 0} (limit most : ℕ) (old mid new : Held CountedEdge) (v : U) →
+    AnswersQuery limit most old mid (Ok v)
+    → (r : Result V OverlayError) → new.edges ≡ mid.edges → new.failed ≡ is_err r → IfErr r (λ e. e ≡ Memory)
+    → AnswersQuery limit most old new r
 answers_after {V = V} limit most old mid new v first r edges flag refused =
     answers_arranged limit most old first.usable new r (by r) (subst (IsContent limit) (sym edges) first.content)
     (IfErr-weaker r _ _ (λ e is. subst (MayRefuseSplitting most old.edges) (sym is) tt) refused) flag

@@ -1,5 +1,6 @@
 -- The paths of a resource, added by their numbers.
-use Rattle.std.proofs.Common.{◌≡◌, inr, ℕ, ◌+◌, ◌^◌, ◌<◌, true, false, List, [], ◌∷◌, ◌++◌, take, drop, Some, take-append-drop, refl, sym, ap, subst, ◌∙◌}
+use Rattle.std.proofs.Common.{◌≡◌, inr, ℕ, ◌+◌, ◌^◌, ◌<◌, true, false, List, [], ◌∷◌, ◌++◌, take, drop, Some}
+use Rattle.std.proofs.Common.{take-append-drop, refl, sym, ap, subst, ◌∙◌}
 use Rattle.std.proofs.lemmas.Bool.{false≢true}
 use Rattle.std.proofs.lemmas.List.{map-append}
 use Rattle.std.specs.List.{slice_get}
@@ -9,7 +10,8 @@ use Rattle.overlay_geom.specs.declared.error.OverlayError.{OverlayError}
 use Rattle.overlay_geom.specs.declared.error.OverlayError.TheVariants.{Memory, NotSettled, TooManyEdges, Failed}
 use Rattle.overlay_geom.proofs.ReadInOrder.{take_read, drop_read}
 use Rattle.overlay_builder.specs.Held.{Held}
-use Rattle.overlay_builder.specs.PathLists.{AddedPath, AddsOne, AddsPaths, AddsAsAsked, MayRefusePath, WouldWeighTooMuch, path_as, paths_as}
+use Rattle.overlay_builder.specs.PathLists.{AddedPath, AddsOne, AddsPaths, AddsAsAsked, MayRefusePath}
+use Rattle.overlay_builder.specs.PathLists.{WouldWeighTooMuch, path_as, paths_as}
 use Rattle.overlay_builder.specs.PathLists.AddsPaths.{no_path}
 use Rattle.overlay_builder.specs.declared.path.PathKind.{PathKind}
 use Rattle.overlay_builder.proofs.PathLists.{adds_last}
@@ -31,17 +33,21 @@ module _ {E : Type 0} (weigh : List E → ℕ) (kind : PathKind) (edge_for : Ste
   pub none_added_first : (b : Held E) → b.failed ≡ false → weigh b.edges < 2 ^ 31 → HasAddedFirst 0 b b
   none_added_first b ready light = record { ready = ready; added = no_path; light = light; kept = refl }
 
-  module _ (i : ℕ) (x : List Point) (read : slice_get paths i ≡ Some x) (old now : Held E) (h : HasAddedFirst i old now) where
+  module _ (i : ℕ) (x : List Point) (read : slice_get paths i ≡ Some x) (old now : Held E)
+      (h : HasAddedFirst i old now) where
     abbrev path : AddedPath E
     path = path_as kind edge_for x
 
     -- the paths up to the next one
     up_to : paths_as kind edge_for (take (i + 1) paths) ≡ paths_as kind edge_for (take i paths) ++ path ∷ []
-    up_to = ap (paths_as kind edge_for) (take_read paths i x read) ∙ map-append (path_as kind edge_for) (take i paths) (x ∷ [])
+    up_to = ap (paths_as kind edge_for) (take_read paths i x read) ∙ map-append (path_as kind edge_for)
+        (take i paths) (x ∷ [])
 
     -- all paths, cut before the next one
-    cut_here : paths_as kind edge_for paths ≡ paths_as kind edge_for (take i paths) ++ path ∷ paths_as kind edge_for (drop (i + 1) paths)
-    cut_here = ap (paths_as kind edge_for) (sym (take-append-drop i paths) ∙ ap (λ l. take i paths ++ l) (drop_read paths i x read))
+    cut_here : paths_as kind edge_for paths ≡ paths_as kind edge_for (take i paths) ++ path ∷ paths_as kind edge_for
+        (drop (i + 1) paths)
+    cut_here = ap (paths_as kind edge_for) (sym (take-append-drop i paths)
+        ∙ ap (λ l. take i paths ++ l) (drop_read paths i x read))
         ∙ map-append (path_as kind edge_for) (take i paths) (x ∷ drop (i + 1) paths)
 
     -- the builder has not failed
@@ -49,7 +55,8 @@ module _ {E : Type 0} (weigh : List E → ℕ) (kind : PathKind) (edge_for : Ste
     still_ready = h.kept ∙ h.ready
 
     -- the next path is added
-    pub next_added : (new : Held E) → AddsOne path now.edges new.edges → weigh new.edges < 2 ^ 31 → new.failed ≡ now.failed
+    pub next_added : (new : Held E) → AddsOne path now.edges new.edges → weigh new.edges < 2 ^ 31 →
+        new.failed ≡ now.failed
         → HasAddedFirst (i + 1) old new
     next_added new adds light kept = record {
       ready = h.ready;
@@ -84,7 +91,8 @@ module _ {E : Type 0} (weigh : List E → ℕ) (kind : PathKind) (edge_for : Ste
         usable : ¬ (IsErrOf {T = V} (Err e) Failed)
         usable same = false≢true (sym still_ready ∙ failed (ap error_of same))
 
-        refused_so : (e : OverlayError) → (e ≡ Failed → now.failed ≡ true) → (e ≡ TooManyEdges → WouldWeighTooMuch weigh path now.edges)
+        refused_so : (e : OverlayError) → (e ≡ Failed → now.failed ≡ true) →
+            (e ≡ TooManyEdges → WouldWeighTooMuch weigh path now.edges)
             → ¬ (e ≡ NotSettled) → MayRefusePath weigh path now.edges e
         refused_so Memory failed heavy unsettled = tt
         refused_so TooManyEdges failed heavy unsettled = heavy refl

@@ -7,7 +7,8 @@ use Rattle.overlay_geom.specs.declared.error.OverlayError.TheVariants.{Memory, N
 use Rattle.overlay_plane.specs.Balance.{HasBalancedCounts}
 use Rattle.overlay_arrange.specs.Content.{edge_for}
 pub use Rattle.overlay_arrange.specs.Paths.{GivenPath}
-use Rattle.overlay_builder.specs.PathLists.{AddedPath, AddsPaths, StopsAtPath, path_as, WouldWeighTooMuch as PathWouldWeighTooMuch}
+use Rattle.overlay_builder.specs.PathLists.{AddedPath, AddsPaths, StopsAtPath, path_as}
+use Rattle.overlay_builder.specs.PathLists.{WouldWeighTooMuch as PathWouldWeighTooMuch}
 use Rattle.overlay_builder.specs.Paths.{contour_kind}
 use Rattle.overlay_arrange.specs.declared.options.ShapeType.{ShapeType}
 use Rattle.overlay_arrange.specs.declared.options.ShapeType.TheVariants.{Subject, Clip}
@@ -43,7 +44,8 @@ WouldWeighTooMuch keep_points shape_type given old =
 
 -- one of the paths would bring the weight to 2^31, added after those before it to no edges
 abbrev pub SomePathWeighsTooMuch : Bool → List GivenPath → Type 0
-SomePathWeighsTooMuch keep paths = (reached : List CountedEdge) × StopsAtPath weight (added_paths keep paths) [] reached TooManyEdges
+SomePathWeighsTooMuch keep paths =
+    (reached : List CountedEdge) × StopsAtPath weight (added_paths keep paths) [] reached TooManyEdges
 
 -- a builder with the paths may be refused so
 abbrev pub MayRefuseBuilder : Bool → List GivenPath → OverlayError → Type 0

@@ -21,7 +21,8 @@ abbrev pub plain_held : {C : Type 0} → Held (Carried C) → Held CountedEdge
 plain_held h = record { edges = edges_in h.edges; failed = h.failed }
 
 -- a query, of what a builder held before and holds afterwards, is answered so, with so many cutting rounds at most
-pub record AnswersQuery {V : Type 0} (limit most : ℕ) (old new : Held CountedEdge) (result : Result V OverlayError) : Type 0 where
+pub record AnswersQuery {V : Type 0} (limit most : ℕ) (old new : Held CountedEdge)
+    (result : Result V OverlayError) : Type 0 where
   -- an answer comes only of a builder that had not failed, and leaves it so; it holds the arrangement of what it held
   pub usable : OnOk result (old.failed ≡ false)
   pub stays_usable : OnOk result (new.failed ≡ false)

@@ -1,5 +1,6 @@
 -- Several paths, added one after another to what a builder holds, and when that is refused.
-use Rattle.std.specs.Prelude.{◌≡◌, ◌↔◌, ◌⊎◌, ◌^◌, ◌<◌, ◌≤◌, ◌++◌, ℕ, true, List, [], ◌∷◌, map, Result, IfErr, IsErrOf, OnOk}
+use Rattle.std.specs.Prelude.{◌≡◌, ◌↔◌, ◌⊎◌, ◌^◌, ◌<◌, ◌≤◌, ◌++◌, ℕ, true, List, [], ◌∷◌, map, Result, IfErr, IsErrOf}
+use Rattle.std.specs.Prelude.{OnOk}
 use Rattle.overlay_geom.specs.Plane.{Point, Step}
 use Rattle.overlay_geom.specs.Edges.{weight}
 use Rattle.overlay_geom.specs.declared.error.OverlayError.{OverlayError}
@@ -37,7 +38,8 @@ pub data AddsPaths {E : Type 0} : List (AddedPath E) → List E → List E → T
       AddsOne p old mid → AddsPaths ps mid new → AddsPaths (p ∷ ps) old new
 
 -- the second list is the first one, followed by what the paths before this one add
-pub record AddsPathsBefore {E : Type 0} (path : AddedPath E) (paths : List (AddedPath E)) (old new : List E) : Type 0 where
+pub record AddsPathsBefore {E : Type 0} (path : AddedPath E) (paths : List (AddedPath E))
+    (old new : List E) : Type 0 where
   pub before : List (AddedPath E)
   pub after : List (AddedPath E)
   pub parts : paths ≡ before ++ path ∷ after
@@ -49,16 +51,18 @@ pub record WouldWeighTooMuch {E : Type 0} (weigh : List E → ℕ) (path : Added
   pub adds : AddsOne path old content
   pub heavy : 2 ^ 31 ≤ weigh content
 
--- the path, added to this content, may be refused so: TooManyEdges only where it would bring the weight to 2^31, and never
--- NotSettled or Failed
+-- the path, added to this content, may be refused so: TooManyEdges only where it would bring the weight to 2^31, and
+-- never NotSettled or Failed
 abbrev pub MayRefusePath : {E : Type 0} → (List E → ℕ) → AddedPath E → List E → OverlayError → Type 0
 MayRefusePath weigh path es Memory = Unit {0}
 MayRefusePath weigh path es TooManyEdges = WouldWeighTooMuch weigh path es
 MayRefusePath weigh path es NotSettled = ⊥
 MayRefusePath weigh path es Failed = ⊥
 
--- one of the paths is refused so; exactly those before it are added, which lead from the first content to the second one
-pub record StopsAtPath {E : Type 0} (weigh : List E → ℕ) (paths : List (AddedPath E)) (old new : List E) (e : OverlayError) : Type 0 where
+-- one of the paths is refused so; exactly those before it are added, which lead from the first content to the second
+-- one
+pub record StopsAtPath {E : Type 0} (weigh : List E → ℕ) (paths : List (AddedPath E)) (old new : List E)
+    (e : OverlayError) : Type 0 where
   pub path : AddedPath E
   pub added : AddsPathsBefore path paths old new
   pub refused : MayRefusePath weigh path new e

@@ -46,7 +46,8 @@ leads_back Closed = true
 leads_back Thinned = true
 
 -- the second list is the first one, followed by the edges of the steps of a path, taken as its kind says
-pub record AddsPath {E : Type 0} (kind : PathKind) (edge_for : Step → E) (given : List Point) (old new : List E) : Type 0 where
+pub record AddsPath {E : Type 0} (kind : PathKind) (edge_for : Step → E) (given : List Point)
+    (old new : List E) : Type 0 where
   pub taken : List Point
   pub is_taken : IsTakenAs kind given taken
   pub content : new ≡ old ++ map edge_for (path_steps_of (leads_back kind) taken)

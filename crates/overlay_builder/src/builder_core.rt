@@ -150,7 +150,7 @@ impl<I: IntNumber, C: EdgeCount, A: Allocator + Clone> BuilderCore<I, C, A> {
     pub fn arrange(&mut self, store: &mut C::Store) -> Result<bool, OverlayError>
         ensures query { AnswersQuery I.limit 64 (plain_held self.old) (plain_held self.new) result }
         ensures carried { OnOk result
-            (IsArrangedCarrying C.merges C.splits C.turns 64 self.old.edges self.new.edges) }
+            (IsArrangedCarrying C.merges C.splits C.reverses 64 self.old.edges self.new.edges) }
         ensures untouched { IsErrOf result OverlayError.Failed → self.new ≡ self.old }
         ensures cut { IfOk result (λ is_cut. (is_cut ≡ false)
             ↔ IsReachedBy [] (edges_in self.old.edges) (edges_in self.new.edges)) }

@@ -5,7 +5,8 @@ use Rattle.std.proofs.Common.{◌≡◌, inl, inr, ℤ, pos, ◌-ℤ◌, ◌*ℤ
 use Rattle.std.proofs.lemmas.Int.{by_lt_z}
 use Rattle.overlay_geom.specs.Plane.{Point, PlanePoint, Edge, IsBetween, IsOn, side}
 use Rattle.overlay_geom.proofs.Identities.{solve, Expr, ◌⊗◌, ◌⊖◌, ◌≗◌}
-use Rattle.overlay_geom.proofs.Signs.{linear, mul-le, mul-lt, mul-nonneg, mul-nonpos, mul-zero, zero_of_mul-zero, nonneg_of_mul-nonneg, nonpos_of_mul-nonpos}
+use Rattle.overlay_geom.proofs.Signs.{linear, mul-le, mul-lt, mul-nonneg, mul-nonpos, mul-zero, zero_of_mul-zero}
+use Rattle.overlay_geom.proofs.Signs.{nonneg_of_mul-nonneg, nonpos_of_mul-nonpos}
 use Rattle.overlay_geom.proofs.PointOrder.{IsBefore, IsUpTo}
 
 -- a whole point, with its coordinates over the denominator d
@@ -21,12 +22,18 @@ abbrev pub sideE : (ax ay bx by x y d : Expr) → Expr
 sideE ax ay bx by x y d = (bx ⊖ ax) ⊗ (y ⊖ ay ⊗ d) ⊖ (by ⊖ ay) ⊗ (x ⊖ ax ⊗ d)
 
 -- the distance to b in y is that in x, by the slope, less the side
-back_from_b : (ax ay bx by x y d : ℤ) → (bx -ℤ ax) *ℤ (by *ℤ d -ℤ y) ≡ (by -ℤ ay) *ℤ (bx *ℤ d -ℤ x) -ℤ ((bx -ℤ ax) *ℤ (y -ℤ ay *ℤ d) -ℤ (by -ℤ ay) *ℤ (x -ℤ ax *ℤ d))
-back_from_b = solve 7 (λ ax ay bx by x y d. (bx ⊖ ax) ⊗ (by ⊗ d ⊖ y) ≗ (by ⊖ ay) ⊗ (bx ⊗ d ⊖ x) ⊖ sideE ax ay bx by x y d) tt
+back_from_b : (ax ay bx by x y d : ℤ) →
+    (bx -ℤ ax) *ℤ (by *ℤ d -ℤ y) ≡ (by -ℤ ay) *ℤ (bx *ℤ d -ℤ x) -ℤ
+    ((bx -ℤ ax) *ℤ (y -ℤ ay *ℤ d) -ℤ (by -ℤ ay) *ℤ (x -ℤ ax *ℤ d))
+back_from_b = solve 7 (λ ax ay bx by x y d. (bx ⊖ ax) ⊗ (by ⊗ d ⊖ y) ≗ (by ⊖ ay) ⊗ (bx ⊗ d ⊖ x) ⊖ sideE ax ay bx
+    by x y d) tt
 
 -- on the line of an edge that is not upright, a point in the edge's span in x is in its span in y
-between_in_y : (ax ay bx by x y d : ℤ) → ax <ℤ bx → (bx -ℤ ax) *ℤ (y -ℤ ay *ℤ d) -ℤ (by -ℤ ay) *ℤ (x -ℤ ax *ℤ d) ≡ pos 0 → (ax *ℤ d) ≤ℤ x → x ≤ℤ (bx *ℤ d) → IsBetween y (ay *ℤ d) (by *ℤ d)
-between_in_y ax ay bx by x y d wide on_line from to = by_lt_z by ay (λ falls. inr (falling falls)) (λ rises. inl (rising rises))
+between_in_y : (ax ay bx by x y d : ℤ) → ax <ℤ bx →
+    (bx -ℤ ax) *ℤ (y -ℤ ay *ℤ d) -ℤ (by -ℤ ay) *ℤ (x -ℤ ax *ℤ d) ≡ pos 0 → (ax *ℤ d) ≤ℤ x → x ≤ℤ (bx *ℤ d) →
+    IsBetween y (ay *ℤ d) (by *ℤ d)
+between_in_y ax ay bx by x y d wide on_line from to = by_lt_z by ay (λ falls. inr (falling falls))
+    (λ rises. inl (rising rises))
   where
     back : (bx -ℤ ax) *ℤ (by *ℤ d -ℤ y) ≡ (by -ℤ ay) *ℤ (bx *ℤ d -ℤ x)
     back = let identity = back_from_b ax ay bx by x y d in omega linear
@@ -69,17 +76,22 @@ over_lt u v d positive h =
 pub over_up_to : (u v : Point) (d : ℤ) → pos 0 <ℤ d → IsUpTo u v → IsUpTo (over u d) (over v d)
 over_up_to u v d positive h = record {
   x = over_le u.x v.x d positive h.x;
-  y = λ le. by_lt_z u.x v.x (λ lt. absurd (let less = over_lt u.x v.x d positive lt in omega linear)) (λ ge. over_le u.y v.y d positive (h.y ge));
+  y = λ le. by_lt_z u.x v.x (λ lt. absurd (let less = over_lt u.x v.x d positive lt in omega linear))
+      (λ ge. over_le u.y v.y d positive (h.y ge));
 }
 
 -- a point of the edge's line between the ends lies on the edge
-pub on_of_order : (e : Edge) (p : PlanePoint) → IsBefore e.a e.b → side e p ≡ pos 0 → IsUpTo (over e.a p.d) (place_of p) → IsUpTo (place_of p) (over e.b p.d) → IsOn e p
+pub on_of_order : (e : Edge) (p : PlanePoint) → IsBefore e.a e.b → side e p ≡ pos 0 →
+    IsUpTo (over e.a p.d) (place_of p) → IsUpTo (place_of p) (over e.b p.d) → IsOn e p
 on_of_order e p forward on_line from to = record {
   on_line = on_line;
   in_x = inl (from.x, to.x);
   in_y = by_lt_z e.a.x e.b.x
       (λ wide. between_in_y e.a.x e.a.y e.b.x e.b.y p.x p.y p.d wide on_line from.x to.x)
-      (λ upright. inl (from.y (let same = over_le e.b.x e.a.x p.d p.positive upright in let le = to.x in omega linear), to.y (let same = over_le e.b.x e.a.x p.d p.positive upright in let le = from.x in omega linear)));
+      (λ upright. inl (
+        from.y (let same = over_le e.b.x e.a.x p.d p.positive upright in let le = to.x in omega linear),
+        to.y (let same = over_le e.b.x e.a.x p.d p.positive upright in let le = from.x in omega linear),
+      ));
 }
 
 -- between two numbers in order
@@ -93,14 +105,16 @@ between_turned z u v (inl between) = inr between
 between_turned z u v (inr between) = inl between
 
 -- a point of the edge lies between its ends
-pub order_of_on : (e : Edge) (p : PlanePoint) → IsBefore e.a e.b → IsOn e p → IsUpTo (over e.a p.d) (place_of p) × IsUpTo (place_of p) (over e.b p.d)
+pub order_of_on : (e : Edge) (p : PlanePoint) → IsBefore e.a e.b → IsOn e p →
+    IsUpTo (over e.a p.d) (place_of p) × IsUpTo (place_of p) (over e.b p.d)
 order_of_on e p forward on = (record { x = in_x.0; y = from_y }, record { x = in_x.1; y = to_y })
   where
     in_x : ((e.a.x *ℤ p.d) ≤ℤ p.x) × (p.x ≤ℤ (e.b.x *ℤ p.d))
     in_x = in_order_between p.x (e.a.x *ℤ p.d) (e.b.x *ℤ p.d) (over_le e.a.x e.b.x p.d p.positive forward.x) on.in_x
 
     in_y : e.b.x ≤ℤ e.a.x → ((e.a.y *ℤ p.d) ≤ℤ p.y) × (p.y ≤ℤ (e.b.y *ℤ p.d))
-    in_y upright = in_order_between p.y (e.a.y *ℤ p.d) (e.b.y *ℤ p.d) (over_le e.a.y e.b.y p.d p.positive (let up = forward.y upright in omega linear)) on.in_y
+    in_y upright = in_order_between p.y (e.a.y *ℤ p.d) (e.b.y *ℤ p.d)
+        (over_le e.a.y e.b.y p.d p.positive (let up = forward.y upright in omega linear)) on.in_y
 
     at_a : e.a.x <ℤ e.b.x → p.x ≤ℤ (e.a.x *ℤ p.d) → p.y -ℤ e.a.y *ℤ p.d ≡ pos 0
     at_a wide le =

@@ -1,5 +1,6 @@
 -- A product divided with a remainder as its first factor is built up bit by bit, and the quotient rounded at the half.
-use Rattle.std.proofs.Common.{◌≡◌, ℕ, ◌+◌, ◌*◌, ◌/◌, ◌%◌, ◌<◌, ◌≤◌, ◌⊎◌, inl, inr, pos, neg_ℤ, ◌*ℤ◌, ap, sym, mul-le-mul, arith}
+use Rattle.std.proofs.Common.{◌≡◌, ℕ, ◌+◌, ◌*◌, ◌/◌, ◌%◌, ◌<◌, ◌≤◌, ◌⊎◌, inl, inr, pos, neg_ℤ, ◌*ℤ◌, ap, sym}
+use Rattle.std.proofs.Common.{mul-le-mul, arith}
 use Rattle.std.proofs.lemmas.Bool.{cases_lt}
 use Rattle.std.proofs.lemmas.Int.{ints}
 use Rattle.overlay_geom.specs.Rounding.{nearest}
@@ -36,12 +37,14 @@ quotient_within n t d q r positive part value = by (cases_lt n q)
 -- a remainder of at least half the divisor rounds up
 pub half_up-more : (q r d : ℕ) → r < d → d ≤ 2 * r → pos (q + 1) ≡ nearest (pos (q * d + r)) (pos d)
 half_up-more q r d rest half =
-    sym (nearest-unique (pos (q * d + r)) (pos d) (pos (q + 1)) (omega (arith, ints)) (omega (arith, ints)) (omega (arith, ints)))
+    sym (nearest-unique (pos (q * d + r)) (pos d) (pos (q + 1)) (omega (arith, ints)) (omega (arith, ints))
+    (omega (arith, ints)))
 
 -- a smaller one does not
 pub half_up-kept : (q r d : ℕ) → r < d → 2 * r < d → pos q ≡ nearest (pos (q * d + r)) (pos d)
 half_up-kept q r d rest less =
-    sym (nearest-unique (pos (q * d + r)) (pos d) (pos q) (omega (arith, ints)) (omega (arith, ints)) (omega (arith, ints)))
+    sym (nearest-unique (pos (q * d + r)) (pos d) (pos q) (omega (arith, ints)) (omega (arith, ints))
+    (omega (arith, ints)))
 
 -- twice a number times the divisor, below 0
 doubled_below : (q d : ℕ) → pos 2 *ℤ neg_ℤ (pos q) *ℤ pos d ≡ neg_ℤ (pos (2 * q * d))

@@ -1,9 +1,11 @@
--- The paths of a list of points that grows: the ranges that were inside keep their points, and a range of the new points
--- has these.
-use Rattle.std.proofs.Common.{◌≡◌, ℕ, ℤ, ◌+◌, ◌-◌, ◌≤◌, List, [], ◌∷◌, ◌++◌, length, get_or, take, drop, slice_range, cond, ◌&&◌, refl, sym, ◌∙◌, ap, ap₂, arith}
+-- The paths of a list of points that grows: the ranges that were inside keep their points, and a range of the new
+-- points has these.
+use Rattle.std.proofs.Common.{◌≡◌, ℕ, ℤ, ◌+◌, ◌-◌, ◌≤◌, List, [], ◌∷◌, ◌++◌, length, get_or, take, drop, slice_range}
+use Rattle.std.proofs.Common.{cond, ◌&&◌, refl, sym, ◌∙◌, ap, ap₂, arith}
 use Rattle.std.specs.declared.ops.Range.{Range}
 use Rattle.std.proofs.lemmas.Bool.{le-leb}
-use Rattle.std.proofs.lemmas.List.{map-append, length-append, length-drop, take_all, take-append-le, drop-append-le, drop_all}
+use Rattle.std.proofs.lemmas.List.{map-append, length-append, length-drop, take_all, take-append-le, drop-append-le}
+use Rattle.std.proofs.lemmas.List.{drop_all}
 use Rattle.std.proofs.lemmas.List.Elements.{All-head, All-tail, All-push}
 use Rattle.overlay_geom.specs.declared.point.IntPoint.{IntPoint}
 use Rattle.overlay_geom.specs.Points.{plain_points}
@@ -11,10 +13,12 @@ use Rattle.overlay_geom.specs.Flat.{no_range, range_within, part_in, range_behin
 
 -- a range inside is itself
 pub within_inside : (n : ℕ) (r : Range ℕ) → IsInside n r → range_within n r ≡ r
-within_inside n r inside = ap₂ (λ a b. cond (a && b) r no_range) (le-leb r.start r.end inside.rises) (le-leb r.end n inside.ends)
+within_inside n r inside = ap₂ (λ a b. cond (a && b) r no_range) (le-leb r.start r.end inside.rises)
+    (le-leb r.end n inside.ends)
 
 -- and its items are those from its start up to its end
-pub part_inside : {X : Type 0} (xs : List X) (r : Range ℕ) → IsInside (length xs) r → part_in xs r ≡ slice_range xs r.start r.end
+pub part_inside : {X : Type 0} (xs : List X) (r : Range ℕ) → IsInside (length xs) r →
+    part_in xs r ≡ slice_range xs r.start r.end
 part_inside xs r inside = ap (λ s. slice_range xs s.start s.end) (within_inside (length xs) r inside)
 
 module _ {X : Type 0} (xs ys : List X) where
@@ -47,12 +51,14 @@ module _ {X : Type 0} (xs ys : List X) where
   part_behind =
       let n = length xs + length ys - length xs in
       part_inside (xs ++ ys) (range_behind xs ys) inside_behind
-      ∙ ap (take n) (drop-append-le (length xs) xs ys (omega arith) ∙ ap (λ zs. zs ++ ys) (drop_all (length xs) xs (omega arith)))
+      ∙ ap (take n) (drop-append-le (length xs) xs ys (omega arith)
+      ∙ ap (λ zs. zs ++ ys) (drop_all (length xs) xs (omega arith)))
       ∙ take_all n ys (omega arith)
 
 module _ {I : Type 0} (whole : I → ℤ) (ps c : List (IntPoint I)) where
   -- more points leave the paths of ranges inside as they are
-  pub paths_longer : (rs : List (Range ℕ)) → AreInside (length ps) rs → paths_in whole (ps ++ c) rs ≡ paths_in whole ps rs
+  pub paths_longer : (rs : List (Range ℕ)) → AreInside (length ps) rs →
+      paths_in whole (ps ++ c) rs ≡ paths_in whole ps rs
   paths_longer [] all = refl
   paths_longer (r ∷ rs) all =
       ap₂ (λ p qs. plain_points whole p ∷ qs) (part_longer ps c r (All-head (IsInside (length ps)) r rs all))
@@ -66,5 +72,7 @@ module _ {I : Type 0} (whole : I → ℤ) (ps c : List (IntPoint I)) where
       ∙ ap₂ (λ qs p. qs ++ plain_points whole p ∷ []) (paths_longer rs all) (part_behind ps c)
 
   -- and all ranges are inside again
-  pub inside_added : (rs : List (Range ℕ)) → AreInside (length ps) rs → AreInside (length (ps ++ c)) (rs ++ range_behind ps c ∷ [])
-  inside_added rs all = All-push (IsInside (length (ps ++ c))) rs (range_behind ps c) (λ i d lt. inside_longer ps c (get_or rs i d) (all i d lt)) (inside_behind ps c)
+  pub inside_added : (rs : List (Range ℕ)) → AreInside (length ps) rs →
+      AreInside (length (ps ++ c)) (rs ++ range_behind ps c ∷ [])
+  inside_added rs all = All-push (IsInside (length (ps ++ c))) rs (range_behind ps c)
+      (λ i d lt. inside_longer ps c (get_or rs i d) (all i d lt)) (inside_behind ps c)

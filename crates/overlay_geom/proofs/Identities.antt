@@ -1,6 +1,7 @@
 -- Identities of polynomials over the whole numbers, proved by computing: both sides are multiplied out to a sum of
 -- coefficients times products of unknowns, and where that sum is the same on both sides, the two are equal everywhere.
-use Rattle.std.proofs.Common.{◌≡◌, ℕ, zero, suc, Bool, true, false, ◌&&◌, T, eqb, ltb, ℤ, pos, negsuc, ◌+ℤ◌, ◌-ℤ◌, ◌*ℤ◌, neg_ℤ, List, [], ◌∷◌, refl, sym, ap, ap₂, ◌∙◌, eqb→eq, subst, ltb-false, arith}
+use Rattle.std.proofs.Common.{◌≡◌, ℕ, zero, suc, Bool, true, false, ◌&&◌, T, eqb, ltb, ℤ, pos, negsuc, ◌+ℤ◌, ◌-ℤ◌, ◌*ℤ◌}
+use Rattle.std.proofs.Common.{neg_ℤ, List, [], ◌∷◌, refl, sym, ap, ap₂, ◌∙◌, eqb→eq, subst, ltb-false, arith}
 use Rattle.std.proofs.lemmas.Int.{ints}
 use lib.IntN.{*ℤ_comm, zero-*ℤ, +ℤ_idl, +ℤ_idr, +ℤ_assoc}
 use Rattle.overlay_geom.proofs.Products.{mul-add, add-mul, mul_assoc, neg_ℤ-mul, mul-neg_ℤ}
@@ -94,7 +95,12 @@ with_factor i (j ∷ js) = elim (ltb j i) [ true ↦ j ∷ with_factor i js | fa
 -- the term as one more summand
 abbrev pub with_term : ℤ → List ℕ → Poly → Poly
 with_term c is none = more c is none
-with_term c is (more d js p) = elim (place is js) [ before ↦ more c is (more d js p) | same ↦ more (c +ℤ d) js p | after ↦ more d js (with_term c is p) ]
+with_term c is (more d js p) = elim (place is js) [
+  | before ↦ more c is (more d js p)
+  | same ↦ more (c +ℤ d) js p
+  | after
+      ↦ more d js (with_term c is p)
+]
 
 -- what f makes of each term, one after another
 abbrev pub over_terms : (ℤ → List ℕ → Poly → Poly) → Poly → Poly → Poly
@@ -130,12 +136,17 @@ crossed : (a b c : ℤ) → a +ℤ (b +ℤ c) ≡ b +ℤ (a +ℤ c)
 crossed a b c = omega (arith, ints)
 
 -- one more factor multiplies the product
-product-with_factor : (xs : List ℤ) (i : ℕ) (is : List ℕ) → product xs (with_factor i is) ≡ value_at xs i *ℤ product xs is
+product-with_factor : (xs : List ℤ) (i : ℕ) (is : List ℕ) →
+    product xs (with_factor i is) ≡ value_at xs i *ℤ product xs is
 product-with_factor xs i [] = refl
 product-with_factor xs i (j ∷ js) = by (ltb j i) (product-with_factor xs i js)
   where
-    by : (t : Bool) → product xs (with_factor i js) ≡ value_at xs i *ℤ product xs js → product xs (elim t [ true ↦ j ∷ with_factor i js | false ↦ i ∷ j ∷ js ]) ≡ value_at xs i *ℤ (value_at xs j *ℤ product xs js)
-    by true e = ap (λ z. value_at xs j *ℤ z) e ∙ sym (mul_assoc (value_at xs j) (value_at xs i) (product xs js)) ∙ ap (λ z. z *ℤ product xs js) (*ℤ_comm (value_at xs j) (value_at xs i)) ∙ mul_assoc (value_at xs i) (value_at xs j) (product xs js)
+    by : (t : Bool) → product xs (with_factor i js) ≡ value_at xs i *ℤ product xs js →
+        product xs (elim t [ true ↦ j ∷ with_factor i js | false ↦ i ∷ j ∷ js ]) ≡ value_at xs i *ℤ
+        (value_at xs j *ℤ product xs js)
+    by true e = ap (λ z. value_at xs j *ℤ z) e ∙ sym (mul_assoc (value_at xs j) (value_at xs i) (product xs js))
+        ∙ ap (λ z. z *ℤ product xs js) (*ℤ_comm (value_at xs j) (value_at xs i))
+        ∙ mul_assoc (value_at xs i) (value_at xs j) (product xs js)
     by false e = refl
 
 -- products at one place are one list of unknowns
@@ -145,17 +156,24 @@ same_products [] (j ∷ js) e = absurd (grind (arith, e))
 same_products (i ∷ is) [] e = absurd (grind (arith, e))
 same_products (i ∷ is) (j ∷ js) e = by (ltb i j) (ltb j i) refl refl e (same_products is js)
   where
-    by : (s t : Bool) → ltb i j ≡ s → ltb j i ≡ t → place_by s t (place is js) ≡ same → (place is js ≡ same → is ≡ js) → i ∷ is ≡ j ∷ js
+    by : (s t : Bool) → ltb i j ≡ s → ltb j i ≡ t → place_by s t (place is js) ≡ same → (place is js ≡ same → is ≡ js) →
+        i ∷ is ≡ j ∷ js
     by true t p q r f = absurd (grind (arith, r))
     by false true p q r f = absurd (grind (arith, r))
     by false false p q r f = ap₂ (λ k ks. k ∷ ks) (omega (arith, ltb-false i j p, ltb-false j i q)) (f r)
 
 -- one more term adds its value
-value-with_term : (xs : List ℤ) (c : ℤ) (is : List ℕ) (p : Poly) → value xs (with_term c is p) ≡ c *ℤ product xs is +ℤ value xs p
+value-with_term : (xs : List ℤ) (c : ℤ) (is : List ℕ) (p : Poly) →
+    value xs (with_term c is p) ≡ c *ℤ product xs is +ℤ value xs p
 value-with_term xs c is none = refl
 value-with_term xs c is (more d js p) = by (place is js) refl (value-with_term xs c is p)
   where
-    by : (k : Place) → place is js ≡ k → value xs (with_term c is p) ≡ c *ℤ product xs is +ℤ value xs p → value xs (elim k [ before ↦ more c is (more d js p) | same ↦ more (c +ℤ d) js p | after ↦ more d js (with_term c is p) ]) ≡ c *ℤ product xs is +ℤ (d *ℤ product xs js +ℤ value xs p)
+    by : (k : Place) → place is js ≡ k → value xs (with_term c is p) ≡ c *ℤ product xs is +ℤ value xs p →
+        value xs (elim k [
+          | before ↦ more c is (more d js p)
+          | same ↦ more (c +ℤ d) js p
+          | after ↦ more d js (with_term c is p)
+        ]) ≡ c *ℤ product xs is +ℤ (d *ℤ product xs js +ℤ value xs p)
     by before e q = refl
     by same e q =
         let one = ap (λ ks. c *ℤ product xs ks) (same_products is js e) in
@@ -168,7 +186,8 @@ abbrev Multiplies : List ℤ → (ℤ → List ℕ → Poly → Poly) → ℤ �
 Multiplies xs f x = (c : ℤ) (is : List ℕ) (p : Poly) → value xs (f c is p) ≡ (c *ℤ product xs is) *ℤ x +ℤ value xs p
 
 -- where f multiplies by x, so does applying it to each term
-value-over_terms : (xs : List ℤ) (f : ℤ → List ℕ → Poly → Poly) (x : ℤ) → Multiplies xs f x → (q p : Poly) → value xs (over_terms f q p) ≡ value xs q *ℤ x +ℤ value xs p
+value-over_terms : (xs : List ℤ) (f : ℤ → List ℕ → Poly → Poly) (x : ℤ) → Multiplies xs f x →
+    (q p : Poly) → value xs (over_terms f q p) ≡ value xs q *ℤ x +ℤ value xs p
 value-over_terms xs f x m none p = sym (ap (λ z. z +ℤ value xs p) (zero-*ℤ x) ∙ +ℤ_idl (value xs p))
 value-over_terms xs f x m (more c is q) p =
     let first = m c is (over_terms f q p) in
@@ -176,16 +195,31 @@ value-over_terms xs f x m (more c is q) p =
     let both = add-mul (c *ℤ product xs is) (value xs q) x in
     linear_ends first rest both
   where
-    linear_ends : value xs (f c is (over_terms f q p)) ≡ (c *ℤ product xs is) *ℤ x +ℤ value xs (over_terms f q p) → value xs (over_terms f q p) ≡ value xs q *ℤ x +ℤ value xs p → (c *ℤ product xs is +ℤ value xs q) *ℤ x ≡ (c *ℤ product xs is) *ℤ x +ℤ value xs q *ℤ x → value xs (f c is (over_terms f q p)) ≡ (c *ℤ product xs is +ℤ value xs q) *ℤ x +ℤ value xs p
-    linear_ends u v w = u ∙ ap (λ z. (c *ℤ product xs is) *ℤ x +ℤ z) v ∙ sym (+ℤ_assoc ((c *ℤ product xs is) *ℤ x) (value xs q *ℤ x) (value xs p)) ∙ ap (λ z. z +ℤ value xs p) (sym w)
+    linear_ends : value xs (f c is (over_terms f q p)) ≡ (c *ℤ product xs is) *ℤ x +ℤ value xs (over_terms f q p) →
+        value xs (over_terms f q p) ≡ value xs q *ℤ x +ℤ value xs p →
+        (c *ℤ product xs is +ℤ value xs q) *ℤ x ≡ (c *ℤ product xs is) *ℤ x +ℤ value xs q *ℤ x →
+        value xs (f c is (over_terms f q p)) ≡ (c *ℤ product xs is +ℤ value xs q) *ℤ x +ℤ value xs p
+    linear_ends u v w = u ∙ ap (λ z. (c *ℤ product xs is) *ℤ x +ℤ z) v
+        ∙ sym (+ℤ_assoc ((c *ℤ product xs is) *ℤ x) (value xs q *ℤ x) (value xs p)) ∙ ap (λ z. z +ℤ value xs p) (sym w)
 
 -- p, and the term times the expression
 value-spread : (xs : List ℤ) (e : Expr) → Multiplies xs (spread e) (eval xs e)
-value-spread xs (unknown i) c is p = value-with_term xs c (with_factor i is) p ∙ ap (λ z. z +ℤ value xs p) (ap (λ z. c *ℤ z) (product-with_factor xs i is ∙ *ℤ_comm (value_at xs i) (product xs is)) ∙ sym (mul_assoc c (product xs is) (value_at xs i)))
-value-spread xs (number z) c is p = value-with_term xs (c *ℤ z) is p ∙ ap (λ y. y +ℤ value xs p) (mul_assoc c z (product xs is) ∙ ap (λ y. c *ℤ y) (*ℤ_comm z (product xs is)) ∙ sym (mul_assoc c (product xs is) z))
-value-spread xs (plus a b) c is p = value-spread xs a c is (spread b c is p) ∙ ap (λ z. (c *ℤ product xs is) *ℤ eval xs a +ℤ z) (value-spread xs b c is p) ∙ sym (+ℤ_assoc ((c *ℤ product xs is) *ℤ eval xs a) ((c *ℤ product xs is) *ℤ eval xs b) (value xs p)) ∙ ap (λ z. z +ℤ value xs p) (sym (mul-add (c *ℤ product xs is) (eval xs a) (eval xs b)))
-value-spread xs (times a b) c is p = value-over_terms xs (spread b) (eval xs b) (value-spread xs b) (spread a c is none) p ∙ ap (λ z. z +ℤ value xs p) (ap (λ z. z *ℤ eval xs b) (value-spread xs a c is none ∙ +ℤ_idr ((c *ℤ product xs is) *ℤ eval xs a)) ∙ mul_assoc (c *ℤ product xs is) (eval xs a) (eval xs b))
-value-spread xs (minus a) c is p = value-spread xs a (neg_ℤ c) is p ∙ ap (λ z. z +ℤ value xs p) (ap (λ z. z *ℤ eval xs a) (neg_ℤ-mul c (product xs is)) ∙ neg_ℤ-mul (c *ℤ product xs is) (eval xs a) ∙ sym (mul-neg_ℤ (c *ℤ product xs is) (eval xs a)))
+value-spread xs (unknown i) c is p = value-with_term xs c (with_factor i is) p
+    ∙ ap (λ z. z +ℤ value xs p) (ap (λ z. c *ℤ z) (product-with_factor xs i is
+    ∙ *ℤ_comm (value_at xs i) (product xs is)) ∙ sym (mul_assoc c (product xs is) (value_at xs i)))
+value-spread xs (number z) c is p = value-with_term xs (c *ℤ z) is p
+    ∙ ap (λ y. y +ℤ value xs p) (mul_assoc c z (product xs is) ∙ ap (λ y. c *ℤ y) (*ℤ_comm z (product xs is))
+    ∙ sym (mul_assoc c (product xs is) z))
+value-spread xs (plus a b) c is p = value-spread xs a c is (spread b c is p)
+    ∙ ap (λ z. (c *ℤ product xs is) *ℤ eval xs a +ℤ z) (value-spread xs b c is p)
+    ∙ sym (+ℤ_assoc ((c *ℤ product xs is) *ℤ eval xs a) ((c *ℤ product xs is) *ℤ eval xs b) (value xs p))
+    ∙ ap (λ z. z +ℤ value xs p) (sym (mul-add (c *ℤ product xs is) (eval xs a) (eval xs b)))
+value-spread xs (times a b) c is p = value-over_terms xs (spread b) (eval xs b) (value-spread xs b) (spread a c is none)
+    p ∙ ap (λ z. z +ℤ value xs p) (ap (λ z. z *ℤ eval xs b) (value-spread xs a c is none
+    ∙ +ℤ_idr ((c *ℤ product xs is) *ℤ eval xs a)) ∙ mul_assoc (c *ℤ product xs is) (eval xs a) (eval xs b))
+value-spread xs (minus a) c is p = value-spread xs a (neg_ℤ c) is p
+    ∙ ap (λ z. z +ℤ value xs p) (ap (λ z. z *ℤ eval xs a) (neg_ℤ-mul c (product xs is))
+    ∙ neg_ℤ-mul (c *ℤ product xs is) (eval xs a) ∙ sym (mul-neg_ℤ (c *ℤ product xs is) (eval xs a)))
 
 -- multiplying out changes no value
 value-norm : (xs : List ℤ) (e : Expr) → value xs (norm e) ≡ eval xs e
@@ -204,8 +238,10 @@ zero-value : (xs : List ℤ) (p : Poly) → T (vanishes p) → value xs p ≡ po
 zero-value xs none t = refl
 zero-value xs (more c is p) t = by (is_zero c) refl t (zero-value xs p)
   where
-    by : (k : Bool) → is_zero c ≡ k → T (k && vanishes p) → (T (vanishes p) → value xs p ≡ pos 0) → c *ℤ product xs is +ℤ value xs p ≡ pos 0
-    by true e u f = ap₂ (λ y z. y +ℤ z) (ap (λ y. y *ℤ product xs is) (is_zero-zero c (subst T (sym e) tt)) ∙ zero-*ℤ (product xs is)) (f u)
+    by : (k : Bool) → is_zero c ≡ k → T (k && vanishes p) → (T (vanishes p) → value xs p ≡ pos 0) →
+        c *ℤ product xs is +ℤ value xs p ≡ pos 0
+    by true e u f = ap₂ (λ y z. y +ℤ z) (ap (λ y. y *ℤ product xs is) (is_zero-zero c (subst T (sym e) tt))
+        ∙ zero-*ℤ (product xs is)) (f u)
     by false e u f = absurd u
 
 -- ---- the tactic
@@ -228,7 +264,8 @@ Same (suc n) xs s = (x : ℤ) → Same n (x ∷ xs) s
 -- two sides whose difference, multiplied out, vanishes are equal at all values
 same_everywhere : (n : ℕ) (xs : List ℤ) (s : Expr × Expr) → T (vanishes (norm (s.0 ⊖ s.1))) → Same n xs s
 same_everywhere zero xs s t =
-    let none_left : eval xs s.0 -ℤ eval xs s.1 ≡ pos 0 = sym (value-norm xs (s.0 ⊖ s.1)) ∙ zero-value xs (norm (s.0 ⊖ s.1)) t in
+    let none_left : eval xs s.0 -ℤ eval xs s.1 ≡ pos 0 = sym (value-norm xs (s.0 ⊖ s.1))
+    ∙ zero-value xs (norm (s.0 ⊖ s.1)) t in
     equal (eval xs s.0) (eval xs s.1) none_left
   where
     equal : (a b : ℤ) → a -ℤ b ≡ pos 0 → a ≡ b

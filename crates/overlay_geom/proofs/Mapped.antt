@@ -1,69 +1,86 @@
 -- A mapped list, as a loop over the list that is mapped finds it: its front, the element at a place, what is left, and
 -- what a test keeps of it.
-use Rattle.std.proofs.Common.{◌≡◌, Bool, true, false, cond, ℕ, ◌+◌, ◌-◌, ◌<◌, ◌≤◌, List, [], ◌∷◌, ◌++◌, map, All, length, take, drop, slice_range, get_or, refl, sym, ◌∙◌, ap, subst, arith}
+use Rattle.std.proofs.Common.{◌≡◌, Bool, true, false, cond, ℕ, ◌+◌, ◌-◌, ◌<◌, ◌≤◌, List, [], ◌∷◌, ◌++◌, map, All}
+use Rattle.std.proofs.Common.{length, take, drop, slice_range, get_or, refl, sym, ◌∙◌, ap, subst, arith}
 use Rattle.std.specs.List.{AllPairs, Contains, filter}
-use Rattle.std.proofs.lemmas.List.{map_more, get_or-map, length-map, length-drop, take_all, take-map, drop-map, drop_more}
+use Rattle.std.proofs.lemmas.List.{map_more, get_or-map, length-map, length-drop, take_all, take-map, drop-map}
+use Rattle.std.proofs.lemmas.List.{drop_more}
 use Rattle.std.proofs.lemmas.List.Elements.{All-push, All-take, All-drop}
 
 -- the mapped list, with one more element
-pub mapped_more : {X Y : Type 0} (f : X → Y) (xs : List X) (i : ℕ) (x : X) → i < length xs → x ≡ get_or xs i x → map f (take (i + 1) xs) ≡ map f (take i xs) ++ f x ∷ []
+pub mapped_more : {X Y : Type 0} (f : X → Y) (xs : List X) (i : ℕ) (x : X) → i < length xs → x ≡ get_or xs i x →
+    map f (take (i + 1) xs) ≡ map f (take i xs) ++ f x ∷ []
 mapped_more f xs i x lt is = map_more f xs i x lt ∙ ap (λ y. map f (take i xs) ++ f y ∷ []) (sym is)
 
 -- what holds of the first ones holds of one more
-pub All-mapped_more : {X Y : Type 0} (P : Y → Type 0) (f : X → Y) (xs : List X) (i : ℕ) (x : X) → i < length xs → x ≡ get_or xs i x → All P (map f (take i xs)) → P (f x) → All P (map f (take (i + 1) xs))
-All-mapped_more P f xs i x lt is before here = subst (All P) (sym (mapped_more f xs i x lt is)) (All-push P (map f (take i xs)) (f x) before here)
+pub All-mapped_more : {X Y : Type 0} (P : Y → Type 0) (f : X → Y) (xs : List X) (i : ℕ) (x : X) → i < length xs →
+    x ≡ get_or xs i x → All P (map f (take i xs)) → P (f x) → All P (map f (take (i + 1) xs))
+All-mapped_more P f xs i x lt is before here = subst (All P) (sym (mapped_more f xs i x lt is))
+    (All-push P (map f (take i xs)) (f x) before here)
 
 -- past its end the front of a list is all of it
 pub mapped_whole : {X Y : Type 0} (f : X → Y) (xs : List X) (i : ℕ) → length xs ≤ i → map f (take i xs) ≡ map f xs
 mapped_whole f xs i le = ap (map f) (take_all i xs le)
 
 -- what holds of all holds of the first ones
-pub All-mapped_first : {X Y : Type 0} (P : Y → Type 0) (f : X → Y) (xs : List X) (i : ℕ) → All P (map f xs) → All P (map f (take i xs))
+pub All-mapped_first : {X Y : Type 0} (P : Y → Type 0) (f : X → Y) (xs : List X) (i : ℕ) → All P (map f xs) →
+    All P (map f (take i xs))
 All-mapped_first P f xs i all = subst (All P) (take-map f i xs) (All-take P i (map f xs) all)
 
 -- the element of the mapped list at a place is the one that was read there, mapped
-pub read_mapped : {X Y : Type 0} (f : X → Y) (xs : List X) (i : ℕ) (x : X) (d : Y) → i < length xs → x ≡ get_or xs i x → get_or (map f xs) i d ≡ f x
+pub read_mapped : {X Y : Type 0} (f : X → Y) (xs : List X) (i : ℕ) (x : X) (d : Y) → i < length xs → x ≡ get_or xs i x →
+    get_or (map f xs) i d ≡ f x
 read_mapped f xs i x d lt is = get_or-map f xs i x d lt ∙ ap f (sym is)
 
 -- so it is one of the mapped list
-pub Contains-mapped : {X Y : Type 0} (f : X → Y) (xs : List X) (i : ℕ) (x : X) → i < length xs → x ≡ get_or xs i x → Contains (map f xs) (f x)
+pub Contains-mapped : {X Y : Type 0} (f : X → Y) (xs : List X) (i : ℕ) (x : X) → i < length xs → x ≡ get_or xs i x →
+    Contains (map f xs) (f x)
 Contains-mapped f xs i x lt is = (i, rw length-map lt, read_mapped f xs i x (f x) lt is)
 
 -- and what holds of all holds of it
-pub All-mapped_at : {X Y : Type 0} (P : Y → Type 0) (f : X → Y) (xs : List X) (i : ℕ) (x : X) → i < length xs → x ≡ get_or xs i x → All P (map f xs) → P (f x)
+pub All-mapped_at : {X Y : Type 0} (P : Y → Type 0) (f : X → Y) (xs : List X) (i : ℕ) (x : X) → i < length xs →
+    x ≡ get_or xs i x → All P (map f xs) → P (f x)
 All-mapped_at P f xs i x lt is all = subst P (read_mapped f xs i x (f x) lt is) (all i (f x) (rw length-map lt))
 
 -- what is left of the mapped list begins with it
-pub mapped_rest : {X Y : Type 0} (f : X → Y) (xs : List X) (i : ℕ) (x : X) → i < length xs → x ≡ get_or xs i x → map f (drop i xs) ≡ f x ∷ map f (drop (i + 1) xs)
+pub mapped_rest : {X Y : Type 0} (f : X → Y) (xs : List X) (i : ℕ) (x : X) → i < length xs → x ≡ get_or xs i x →
+    map f (drop i xs) ≡ f x ∷ map f (drop (i + 1) xs)
 mapped_rest f xs i x lt is = ap (map f) (drop_more xs i x lt) ∙ ap (λ y. f y ∷ map f (drop (i + 1) xs)) (sym is)
 
 -- a part of the mapped list
-pub mapped_range : {X Y : Type 0} (f : X → Y) (xs : List X) (i j : ℕ) → map f (slice_range xs i j) ≡ slice_range (map f xs) i j
+pub mapped_range : {X Y : Type 0} (f : X → Y) (xs : List X) (i j : ℕ) → map f (slice_range xs i j) ≡ slice_range
+    (map f xs) i j
 mapped_range f xs i j = sym (take-map f (j - i) (drop i xs)) ∙ ap (take (j - i)) (sym (drop-map f i xs))
 
 -- what holds of all holds of a part
-pub All-mapped_range : {X Y : Type 0} (P : Y → Type 0) (f : X → Y) (xs : List X) (i j : ℕ) → All P (map f xs) → All P (map f (slice_range xs i j))
-All-mapped_range P f xs i j all = subst (All P) (sym (mapped_range f xs i j)) (All-take P (j - i) (drop i (map f xs)) (All-drop P i (map f xs) all))
+pub All-mapped_range : {X Y : Type 0} (P : Y → Type 0) (f : X → Y) (xs : List X) (i j : ℕ) → All P (map f xs) →
+    All P (map f (slice_range xs i j))
+All-mapped_range P f xs i j all = subst (All P) (sym (mapped_range f xs i j))
+    (All-take P (j - i) (drop i (map f xs)) (All-drop P i (map f xs) all))
 
 -- what holds of any two items holds of any two of what they are mapped to
-pub AllPairs-map : {X Y : Type 0} (R : Y → Y → Type 0) (f : X → Y) (xs : List X) → AllPairs (λ x y. R (f x) (f y)) xs → AllPairs R (map f xs)
+pub AllPairs-map : {X Y : Type 0} (R : Y → Y → Type 0) (f : X → Y) (xs : List X) → AllPairs (λ x y. R (f x) (f y)) xs →
+    AllPairs R (map f xs)
 AllPairs-map R f [] h = λ i j d l m. absurd (omega arith)
 AllPairs-map R f (x ∷ xs) h = λ i j d l m.
     let short : j < length (x ∷ xs) = omega (arith, length-map (x ∷ xs) f) in
     rw (get_or-map f (x ∷ xs) i x d (omega arith), get_or-map f (x ∷ xs) j x d short) (h i j x l short)
 
 -- to leave out items before they are mapped or after is one
-pub map-filter : {X Y : Type 0} (f : X → Y) (p : Y → Bool) (xs : List X) → map f (filter (λ x. p (f x)) xs) ≡ filter p (map f xs)
+pub map-filter : {X Y : Type 0} (f : X → Y) (p : Y → Bool) (xs : List X) →
+    map f (filter (λ x. p (f x)) xs) ≡ filter p (map f xs)
 map-filter f p [] = refl
 map-filter f p (x ∷ xs) =
     let rest : map f (filter (λ x. p (f x)) xs) ≡ filter p (map f xs) = map-filter f p xs in
-    elim (p (f x)) as (λ b. map f (cond b (x ∷ filter (λ x. p (f x)) xs) (filter (λ x. p (f x)) xs)) ≡ cond b (f x ∷ filter p (map f xs)) (filter p (map f xs))) [
+    elim (p (f x)) as (λ b. map f (cond b (x ∷ filter (λ x. p (f x)) xs) (filter (λ x. p (f x)) xs)) ≡ cond b
+    (f x ∷ filter p (map f xs)) (filter p (map f xs))) [
       | true ↦ ap (λ ys. f x ∷ ys) rest
       | false ↦ rest
     ]
 
 -- the part of a list from a place to its end, mapped, is what is left from there
-pub mapped_from : {X Y : Type 0} (f : X → Y) (xs : List X) (i : ℕ) → map f (slice_range xs i (length xs)) ≡ map f (drop i xs)
+pub mapped_from : {X Y : Type 0} (f : X → Y) (xs : List X) (i : ℕ) →
+    map f (slice_range xs i (length xs)) ≡ map f (drop i xs)
 mapped_from f xs i =
     let short : length (drop i xs) ≤ length xs - i = omega (arith, length-drop i xs) in
     ap (map f) (take_all (length xs - i) (drop i xs) short)

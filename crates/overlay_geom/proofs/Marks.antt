@@ -1,5 +1,7 @@
--- The marks of strings on counted edges: what an edge without counts has, marks of edges between two ends, and what marks weigh.
-use Rattle.std.proofs.Common.{◌≡◌, ℕ, ◌+◌, ◌≤◌, Bool, true, false, cond, not, ◌&&◌, ◌||◌, pos, List, [], ◌∷◌, refl, ap, sym, ◌∙◌, arith}
+-- The marks of strings on counted edges: what an edge without counts has, marks of edges between two ends, and what
+-- marks weigh.
+use Rattle.std.proofs.Common.{◌≡◌, ℕ, ◌+◌, ◌≤◌, Bool, true, false, cond, not, ◌&&◌, ◌||◌, pos, List, [], ◌∷◌, refl, ap}
+use Rattle.std.proofs.Common.{sym, ◌∙◌, arith}
 use Rattle.std.specs.List.{filter, list_any}
 use Rattle.std.specs.List.Sorted.{IsPermutation}
 use Rattle.std.specs.Ordering.{int_eq}
@@ -40,11 +42,13 @@ abbrev pub marked_between : (CountedEdge → Bool) → List CountedEdge → Edge
 marked_between mark es e = list_any mark (edges_between es e)
 
 -- some item of a part of the list passes the test where some item of the list is in the part and passes it
-pub list_any-filter : {X : Type 0} (mark p : X → Bool) (xs : List X) → list_any mark (filter p xs) ≡ list_any (λ x. p x && mark x) xs
+pub list_any-filter : {X : Type 0} (mark p : X → Bool) (xs : List X) → list_any mark (filter p xs) ≡ list_any
+    (λ x. p x && mark x) xs
 list_any-filter mark p [] = refl
 list_any-filter mark p (x ∷ xs) =
     let e = list_any-filter mark p xs in
-    elim (p x) as (λ b. list_any mark (cond b (x ∷ filter p xs) (filter p xs)) ≡ ((b && mark x) || list_any (λ x. p x && mark x) xs)) [
+    elim (p x) as (λ b. list_any mark (cond b (x ∷ filter p xs) (filter p xs)) ≡
+    ((b && mark x) || list_any (λ x. p x && mark x) xs)) [
       | true ↦ ap (λ b. mark x || b) e
       | false ↦ e
     ]
@@ -53,7 +57,8 @@ list_any-filter mark p (x ∷ xs) =
 pub list_any-filter_shuffled : {X : Type 0} (mark p : X → Bool) (xs ys : List X) → IsPermutation xs ys →
     list_any mark (filter p ys) ≡ list_any mark (filter p xs)
 list_any-filter_shuffled mark p xs ys h =
-    list_any-filter mark p ys ∙ sym (list_any-IsPermutation (λ x. p x && mark x) xs ys h) ∙ sym (list_any-filter mark p xs)
+    list_any-filter mark p ys ∙ sym (list_any-IsPermutation (λ x. p x && mark x) xs ys h)
+    ∙ sym (list_any-filter mark p xs)
 
 -- ---- weights
 

@@ -30,13 +30,17 @@ mean_by_itself = solve 4 (λ a b z d. (b ⊖ a) ⊗ z ≗ (b ⊗ d ⊖ z) ⊗ a 
 
 -- the other coordinate is the mean by the same weights, but for the side
 mean_of_y : (ax ay bx by x y d : ℤ) →
-    (bx -ℤ ax) *ℤ y ≡ (bx *ℤ d -ℤ x) *ℤ ay +ℤ (x -ℤ ax *ℤ d) *ℤ by +ℤ ((bx -ℤ ax) *ℤ (y -ℤ ay *ℤ d) -ℤ (by -ℤ ay) *ℤ (x -ℤ ax *ℤ d))
-mean_of_y = solve 7 (λ ax ay bx by x y d. (bx ⊖ ax) ⊗ y ≗ (bx ⊗ d ⊖ x) ⊗ ay ⊕ (x ⊖ ax ⊗ d) ⊗ by ⊕ sideE ax ay bx by x y d) tt
+    (bx -ℤ ax) *ℤ y ≡ (bx *ℤ d -ℤ x) *ℤ ay +ℤ (x -ℤ ax *ℤ d) *ℤ by +ℤ
+    ((bx -ℤ ax) *ℤ (y -ℤ ay *ℤ d) -ℤ (by -ℤ ay) *ℤ (x -ℤ ax *ℤ d))
+mean_of_y = solve 7 (λ ax ay bx by x y d. (bx ⊖ ax) ⊗ y ≗ (bx ⊗ d ⊖ x) ⊗ ay ⊕ (x ⊖ ax ⊗ d) ⊗ by ⊕ sideE ax ay bx
+    by x y d) tt
 
 -- and so is x by those in y
 mean_of_x : (ax ay bx by x y d : ℤ) →
-    (by -ℤ ay) *ℤ x ≡ (by *ℤ d -ℤ y) *ℤ ax +ℤ (y -ℤ ay *ℤ d) *ℤ bx -ℤ ((bx -ℤ ax) *ℤ (y -ℤ ay *ℤ d) -ℤ (by -ℤ ay) *ℤ (x -ℤ ax *ℤ d))
-mean_of_x = solve 7 (λ ax ay bx by x y d. (by ⊖ ay) ⊗ x ≗ (by ⊗ d ⊖ y) ⊗ ax ⊕ (y ⊖ ay ⊗ d) ⊗ bx ⊖ sideE ax ay bx by x y d) tt
+    (by -ℤ ay) *ℤ x ≡ (by *ℤ d -ℤ y) *ℤ ax +ℤ (y -ℤ ay *ℤ d) *ℤ bx -ℤ
+    ((bx -ℤ ax) *ℤ (y -ℤ ay *ℤ d) -ℤ (by -ℤ ay) *ℤ (x -ℤ ax *ℤ d))
+mean_of_x = solve 7 (λ ax ay bx by x y d. (by ⊖ ay) ⊗ x ≗ (by ⊗ d ⊖ y) ⊗ ax ⊕ (y ⊖ ay ⊗ d) ⊗ bx ⊖ sideE ax ay bx
+    by x y d) tt
 
 -- a point of an edge that runs forward is a mean of its ends: by the distances in x, or in y where the edge is upright
 pub mean_of_ends : (f : Edge) (p : PlanePoint) → IsBefore f.a f.b → IsOn f p → MeanOfEnds f p
@@ -74,7 +78,8 @@ mean_of_ends f p forward on = by_lt_z f.a.x f.b.x in_x in_y
           b_nonneg = let le = from.y (omega linear) in omega linear;
           some = let up = forward.y upright in omega linear;
           sum = weights_sum f.a.y f.b.y p.y p.d;
-          mean_x = let identity = mean_of_x f.a.x f.a.y f.b.x f.b.y p.x p.y p.d in let zero = on.on_line in omega linear;
+          mean_x = let identity = mean_of_x f.a.x f.a.y f.b.x f.b.y p.x p.y p.d in let zero = on.on_line in
+              omega linear;
           mean_y = mean_by_itself f.a.y f.b.y p.y p.d;
         }
 
@@ -82,10 +87,12 @@ mean_of_ends f p forward on = by_lt_z f.a.x f.b.x in_x in_y
 pub side_of_mean : (e f : Edge) (p : PlanePoint) (m : MeanOfEnds f p) →
     m.both *ℤ side e p ≡ m.of_a *ℤ cross_at e.a e.b f.a +ℤ m.of_b *ℤ cross_at e.a e.b f.b
 side_of_mean e f p m =
-    solve 8 (λ n ax ay bx by x y d. n ⊗ sideE ax ay bx by x y d ≗ sideE ax ay bx by (n ⊗ x) (n ⊗ y) (n ⊗ d)) tt m.both e.a.x e.a.y e.b.x e.b.y p.x p.y p.d
+    solve 8 (λ n ax ay bx by x y d. n ⊗ sideE ax ay bx by x y d ≗ sideE ax ay bx by (n ⊗ x) (n ⊗ y) (n ⊗ d)) tt m.both
+    e.a.x e.a.y e.b.x e.b.y p.x p.y p.d
     ∙ (λ i. line_form e (m.mean_x i) (m.mean_y i) (size i))
     ∙ solve 10
-    (λ s t ax ay bx by cx cy dx dy. sideE ax ay bx by (s ⊗ cx ⊕ t ⊗ dx) (s ⊗ cy ⊕ t ⊗ dy) (s ⊕ t) ≗ s ⊗ crossE ax ay bx by cx cy ⊕ t ⊗ crossE ax ay bx by dx dy)
+    (λ s t ax ay bx by cx cy dx dy. sideE ax ay bx by (s ⊗ cx ⊕ t ⊗ dx) (s ⊗ cy ⊕ t ⊗ dy) (s ⊕ t) ≗ s ⊗ crossE ax ay bx
+    by cx cy ⊕ t ⊗ crossE ax ay bx by dx dy)
     tt m.of_a m.of_b e.a.x e.a.y e.b.x e.b.y f.a.x f.a.y f.b.x f.b.y
   where
     size : m.both *ℤ p.d ≡ m.of_a +ℤ m.of_b

@@ -8,11 +8,13 @@ use Rattle.overlay_geom.specs.Placed.{IsAlong, IsAcross, do_overlap, share_end}
 use Rattle.overlay_geom.proofs.Signs.{linear}
 use Rattle.overlay_geom.proofs.PointOrder.{IsBefore, Decides-point_lt, by_order}
 use Rattle.overlay_geom.proofs.Orders.{Decides-point_eq}
-use Rattle.overlay_geom.proofs.OneLine.{meet_in_ends_exchanged, apart_meet_in_ends, along_exchanged, overlapping_do_not_meet_in_ends}
+use Rattle.overlay_geom.proofs.OneLine.{meet_in_ends_exchanged, apart_meet_in_ends, along_exchanged}
+use Rattle.overlay_geom.proofs.OneLine.{overlapping_do_not_meet_in_ends}
 use Rattle.overlay_geom.proofs.Crossing.{IsEndpoint, sharing_meet_in_ends, crossing_do_not_meet_in_ends}
 
 -- two edges on one line meet in ends alone exactly where they do not overlap
-pub along_decides : (e f : Edge) → IsBefore e.a e.b → IsBefore f.a f.b → IsAlong e f → Decides (not (do_overlap e f)) (MeetInEnds e f)
+pub along_decides : (e f : Edge) → IsBefore e.a e.b → IsBefore f.a f.b → IsAlong e f →
+    Decides (not (do_overlap e f)) (MeetInEnds e f)
 along_decides e f e_forward f_forward along =
     Decides-like (not (do_overlap e f)) apart overlapping
     (Decides-not (do_overlap e f) (Decides-and _ _ (Decides-point_lt e.a f.b) (Decides-point_lt f.a e.b)))
@@ -26,13 +28,15 @@ along_decides e f e_forward f_forward along =
         (λ e_begins. absurd (none (e_begins, f_begins))))
 
     overlapping : MeetInEnds e f → ¬ (IsBefore e.a f.b × IsBefore f.a e.b)
-    overlapping h (e_begins, f_begins) = overlapping_do_not_meet_in_ends e f e_forward f_forward along e_begins f_begins h
+    overlapping h (e_begins, f_begins) = overlapping_do_not_meet_in_ends e f e_forward f_forward along e_begins f_begins
+        h
 
 -- an end of e is one of f exactly where a point is an end of both
 pub Decides-share_end : (e f : Edge) → Decides (share_end e f) ((v : Point) × (IsEndpoint e v × IsEndpoint f v))
 Decides-share_end e f =
     Decides-like (share_end e f) forth back
-    (Decides-or _ _ (Decides-or _ _ (Decides-or _ _ (Decides-point_eq e.a f.a) (Decides-point_eq e.a f.b)) (Decides-point_eq e.b f.a)) (Decides-point_eq e.b f.b))
+    (Decides-or _ _ (Decides-or _ _ (Decides-or _ _ (Decides-point_eq e.a f.a) (Decides-point_eq e.a f.b))
+    (Decides-point_eq e.b f.a)) (Decides-point_eq e.b f.b))
   where
     forth : (((e.a ≡ f.a) ⊎ (e.a ≡ f.b)) ⊎ (e.b ≡ f.a)) ⊎ (e.b ≡ f.b) → (v : Point) × (IsEndpoint e v × IsEndpoint f v)
     forth (inl (inl (inl same))) = (e.a, (inl refl, inl same))
@@ -62,7 +66,8 @@ across_decides e f across back =
       where
         by : (t : Bool) → share_end e f ≡ t → (v : Point) × (IsEndpoint e v × IsEndpoint f v)
         by true shared = (Decides-share_end e f).0 shared
-        by false none = absurd (crossing_do_not_meet_in_ends e f across back (λ v of_e of_f. not_from_Decides (share_end e f) (Decides-share_end e f) none (v, (of_e, of_f))) h)
+        by false none = absurd (crossing_do_not_meet_in_ends e f across back
+            (λ v of_e of_f. not_from_Decides (share_end e f) (Decides-share_end e f) none (v, (of_e, of_f))) h)
 
 -- an edge that goes across another one's line does not have it on its own line
 pub across_not_along : (e f : Edge) → IsBefore f.a f.b → IsAcross e f → ¬ (IsAlong f e)

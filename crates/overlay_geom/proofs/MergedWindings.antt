@@ -9,8 +9,10 @@ use Rattle.overlay_geom.proofs.Sums.{sum_where-agree}
 -- lists with the same joined edges make the same windings
 pub windings_from_alike : (old new : List CountedEdge) → JoinAlike old new → HaveSameWindings old new
 windings_from_alike old new alike = record {
-  subj = λ p. sum_where-agree subj_of (λ e. is_strictly_below e p) (length new + length old) new old (omega arith) (λ e. ap subj_of (alike.at e));
-  clip = λ p. sum_where-agree clip_of (λ e. is_strictly_below e p) (length new + length old) new old (omega arith) (λ e. ap clip_of (alike.at e));
+  subj = λ p. sum_where-agree subj_of (λ e. is_strictly_below e p) (length new + length old) new old (omega arith)
+      (λ e. ap subj_of (alike.at e));
+  clip = λ p. sum_where-agree clip_of (λ e. is_strictly_below e p) (length new + length old) new old (omega arith)
+      (λ e. ap clip_of (alike.at e));
 }
 
 -- a merged list makes the windings of the list that it was merged from

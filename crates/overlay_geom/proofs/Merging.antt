@@ -1,5 +1,7 @@
--- A list is another one merged where it ascends, has no edge without counts, and has the same joined edge between any two ends.
-use Rattle.std.proofs.Common.{◌≡◌, zero, suc, Bool, true, false, List, [], ◌∷◌, get_or, refl, ap, sym, subst, ◌∙◌, arith, ◌⊎◌, inl, inr}
+-- A list is another one merged where it ascends, has no edge without counts, and has the same joined edge between any
+-- two ends.
+use Rattle.std.proofs.Common.{◌≡◌, zero, suc, Bool, true, false, List, [], ◌∷◌, get_or, refl, ap, sym, subst, ◌∙◌}
+use Rattle.std.proofs.Common.{arith, ◌⊎◌, inl, inr}
 use Rattle.std.specs.List.{All, AllPairs, Contains, list_any}
 use Rattle.std.proofs.lemmas.Int.{ints}
 use Rattle.std.proofs.lemmas.List.Elements.{All-cons, All-nil, All-contains, All-weaker}
@@ -35,26 +37,41 @@ pub alone_between : (es : List CountedEdge) → Ascends es → All (λ f. edges_
 alone_between [] up = All-nil (λ f. edges_between [] (ends_of f) ≡ f ∷ [])
 alone_between (x ∷ es) up =
     let later : All (ComesBefore x) es = AllPairs-head ComesBefore x es up in
-    let apart : All (λ f. edge_eq (ends_of x) (ends_of f) ≡ false) es = All-weaker (ComesBefore x) (λ f. edge_eq (ends_of x) (ends_of f) ≡ false) (λ f. edge_eq-from_lt (ends_of x) (ends_of f)) es later in
-    let others : All (λ f. edge_eq (ends_of f) (ends_of x) ≡ false) es = All-weaker (λ f. edge_eq (ends_of x) (ends_of f) ≡ false) (λ f. edge_eq (ends_of f) (ends_of x) ≡ false) (λ f. edge_eq-flip (ends_of x) (ends_of f)) es apart in
-    let rest : All (λ f. edges_between es (ends_of f) ≡ f ∷ []) es = alone_between es (AllPairs-tail ComesBefore x es up) in
+    let apart : All (λ f. edge_eq (ends_of x) (ends_of f) ≡ false) es = All-weaker (ComesBefore x)
+    (λ f. edge_eq (ends_of x) (ends_of f) ≡ false) (λ f. edge_eq-from_lt (ends_of x) (ends_of f)) es later in
+    let others : All (λ f. edge_eq (ends_of f) (ends_of x) ≡ false) es = All-weaker
+    (λ f. edge_eq (ends_of x) (ends_of f) ≡ false) (λ f. edge_eq (ends_of f) (ends_of x) ≡ false)
+    (λ f. edge_eq-flip (ends_of x) (ends_of f)) es apart in
+    let rest : All (λ f. edges_between es (ends_of f) ≡ f ∷ []) es = alone_between es
+    (AllPairs-tail ComesBefore x es up) in
     All-cons (λ f. edges_between (x ∷ es) (ends_of f) ≡ f ∷ []) x es
-    (edges_between-here x es (ends_of x) (edge_eq-itself (ends_of x)) ∙ ap (λ fs. x ∷ fs) (edges_between-none es (ends_of x) others))
+    (edges_between-here x es (ends_of x) (edge_eq-itself (ends_of x))
+    ∙ ap (λ fs. x ∷ fs) (edges_between-none es (ends_of x) others))
     (λ k d l. edges_between-past x es (ends_of (get_or es k d)) (apart k d l) ∙ rest k d l)
 
 -- one edge is what it becomes alone
-pub joined_alone : (es : List CountedEdge) (f : CountedEdge) → edges_between es (ends_of f) ≡ f ∷ [] → joined_edge es (ends_of f) ≡ f
+pub joined_alone : (es : List CountedEdge) (f : CountedEdge) → edges_between es (ends_of f) ≡ f ∷ [] →
+    joined_edge es (ends_of f) ≡ f
 joined_alone es f h =
     let s : total subj_of (edges_between es (ends_of f)) ≡ f.subj = ap (total subj_of) h ∙ omega (arith, ints) in
     let c : total clip_of (edges_between es (ends_of f)) ≡ f.clip = ap (total clip_of) h ∙ omega (arith, ints) in
-    λ i. record { a = f.a; b = f.b; subj = s i; clip = c i; along = marked goes_along i; against = marked goes_against i }
+    λ i. record {
+      a = f.a;
+      b = f.b;
+      subj = s i;
+      clip = c i;
+      along = marked goes_along i;
+      against =
+          marked goes_against i;
+    }
   where
     marked : (mark : CountedEdge → Bool) → marked_between mark es (ends_of f) ≡ mark f
     marked mark = ap (list_any mark) h ∙ or_false (mark f)
 
 -- in an ascending list each edge is the one that stands between its ends
 pub joined_itself : (es : List CountedEdge) → Ascends es → All (λ f. joined_edge es (ends_of f) ≡ f) es
-joined_itself es up = All-weaker (λ f. edges_between es (ends_of f) ≡ f ∷ []) (λ f. joined_edge es (ends_of f) ≡ f) (joined_alone es) es (alone_between es up)
+joined_itself es up = All-weaker (λ f. edges_between es (ends_of f) ≡ f ∷ []) (λ f. joined_edge es (ends_of f) ≡ f)
+    (joined_alone es) es (alone_between es up)
 
 -- the one edge between these ends that all edges of a list become
 abbrev pub all_joined : Edge → List CountedEdge → CountedEdge
@@ -68,22 +85,26 @@ all_joined e fs = record {
 }
 
 -- where no edges are, the joined one counts nothing
-pub joined_none : (es : List CountedEdge) (e : Edge) → edges_between es e ≡ [] → counts_nothing (joined_edge es e) ≡ true
+pub joined_none : (es : List CountedEdge) (e : Edge) → edges_between es e ≡ [] →
+    counts_nothing (joined_edge es e) ≡ true
 joined_none es e h = ap (λ fs. counts_nothing (all_joined e fs)) h
 
 -- what the edge of an ascending list between two ends is, or that there is none
-pub joined_cases : (es : List CountedEdge) (e : Edge) → Ascends es → (edges_between es e ≡ []) ⊎ Contains es (joined_edge es e)
+pub joined_cases : (es : List CountedEdge) (e : Edge) → Ascends es →
+    (edges_between es e ≡ []) ⊎ Contains es (joined_edge es e)
 joined_cases es e up =
     elim (find_between es e) [
       | inl none ↦ inl none
       | inr found ↦
           let f : CountedEdge = found.0 in
-          let is : joined_edge es (ends_of f) ≡ f = All-contains (λ f. joined_edge es (ends_of f) ≡ f) es f (joined_itself es up) found.1 in
+          let is : joined_edge es (ends_of f) ≡ f = All-contains (λ f. joined_edge es (ends_of f) ≡ f) es f
+          (joined_itself es up) found.1 in
           inr (subst (λ (g : CountedEdge). Contains es g) (sym is ∙ ap (joined_edge es) found.2) found.1)
     ]
 
 -- an ascending list without empty counts that joins alike is the other one merged
-pub IsMerged-from_alike : (old new : List CountedEdge) → Ascends new → All (λ e. counts_nothing e ≡ false) new → JoinAlike old new → IsMerged old new
+pub IsMerged-from_alike : (old new : List CountedEdge) → Ascends new → All (λ e. counts_nothing e ≡ false) new →
+    JoinAlike old new → IsMerged old new
 IsMerged-from_alike old new up full alike = record {
   ascending = up;
   joined = λ k d l. (sym (joined_itself new up k d l) ∙ alike.at _, full k d l);
@@ -97,7 +118,8 @@ IsMerged-from_alike old new up full alike = record {
     ]
 
 -- an edge that counts nothing is settled by its ends
-pub same_from_nothing : (e f : CountedEdge) → ends_of e ≡ ends_of f → counts_nothing e ≡ true → counts_nothing f ≡ true → e ≡ f
+pub same_from_nothing : (e f : CountedEdge) → ends_of e ≡ ends_of f → counts_nothing e ≡ true →
+    counts_nothing f ≡ true → e ≡ f
 same_from_nothing e f ends g h =
     let none : IsUncounted e = uncounted e g in
     let others : IsUncounted f = uncounted f h in
@@ -112,15 +134,19 @@ pub IsMerged-alike : (old new : List CountedEdge) → IsMerged old new → JoinA
 IsMerged-alike old new m = record { at = at }
   where
     -- an edge of the old list whose joined edge the new one has no part of counts nothing when joined
-    missing : (e : Edge) → edges_between new e ≡ [] → (f : CountedEdge) → Contains old f → ends_of f ≡ e → counts_nothing (joined_edge old e) ≡ true
+    missing : (e : Edge) → edges_between new e ≡ [] → (f : CountedEdge) → Contains old f → ends_of f ≡ e →
+        counts_nothing (joined_edge old e) ≡ true
     missing e none f here ends =
         let kept : (counts_nothing (joined_edge old e) ≡ true) ⊎ Contains new (joined_edge old e) =
         subst (λ (g : Edge). (counts_nothing (joined_edge old g) ≡ true) ⊎ Contains new (joined_edge old g)) ends
-        (All-contains (λ g. (counts_nothing (joined_edge old (ends_of g)) ≡ true) ⊎ Contains new (joined_edge old (ends_of g))) old f m.complete here) in
+        (All-contains (λ g. (counts_nothing (joined_edge old (ends_of g)) ≡ true) ⊎ Contains new
+        (joined_edge old (ends_of g))) old f m.complete here) in
         elim kept [
           | inl nothing ↦ nothing
           | inr has ↦
-              let one : edges_between new e ≡ joined_edge old e ∷ [] = All-contains (λ g. edges_between new (ends_of g) ≡ g ∷ []) new (joined_edge old e) (alone_between new m.ascending) has in
+              let one : edges_between new e ≡ joined_edge old e ∷ [] = All-contains
+              (λ g. edges_between new (ends_of g) ≡ g ∷ []) new (joined_edge old e)
+              (alone_between new m.ascending) has in
               let empty : [] ≡ joined_edge old e ∷ [] = sym none ∙ one in
               cc
         ]
@@ -128,13 +154,16 @@ IsMerged-alike old new m = record { at = at }
     at : (e : Edge) → joined_edge new e ≡ joined_edge old e
     at e =
         elim (joined_cases new e m.ascending) [
-          | inr has ↦ (All-contains (λ g. (g ≡ joined_edge old (ends_of g)) × (counts_nothing g ≡ false)) new (joined_edge new e) m.joined has).0
-          | inl none ↦ same_from_nothing (joined_edge new e) (joined_edge old e) refl (joined_none new e none) (elim (find_between old e) [
-            | inl none_old ↦ joined_none old e none_old
-            | inr found ↦ missing e none found.0 found.1 found.2
-          ])
+          | inr has ↦ (All-contains (λ g. (g ≡ joined_edge old (ends_of g)) × (counts_nothing g ≡ false)) new
+              (joined_edge new e) m.joined has).0
+          | inl none ↦ same_from_nothing (joined_edge new e) (joined_edge old e) refl (joined_none new e none)
+              (elim (find_between old e) [
+                | inl none_old ↦ joined_none old e none_old
+                | inr found ↦ missing e none found.0 found.1 found.2
+              ])
         ]
 
 -- to merge a merged list changes nothing
 pub IsMerged-again : (old new : List CountedEdge) → IsMerged old new → IsMerged new new
-IsMerged-again old new m = IsMerged-from_alike new new m.ascending (λ k d l. (m.joined k d l).1) (record { at = λ e. refl })
+IsMerged-again old new m = IsMerged-from_alike new new m.ascending (λ k d l. (m.joined k d l).1)
+    (record { at = λ e. refl })

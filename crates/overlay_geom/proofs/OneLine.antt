@@ -8,7 +8,8 @@ use Rattle.overlay_geom.proofs.Identities.{solve, number, ◌⊕◌, ◌⊗◌, 
 use Rattle.overlay_geom.proofs.Products.{doubled}
 use Rattle.overlay_geom.proofs.Signs.{linear, mul-zero, zero_of_mul-zero}
 use Rattle.overlay_geom.proofs.Cross.{crossE, cross_at_same, cross_at_first}
-use Rattle.overlay_geom.proofs.PointOrder.{IsBefore, IsUpTo, by_order, before_up_to, up_to_itself, before_after_up_to, same_round, before_is_other}
+use Rattle.overlay_geom.proofs.PointOrder.{IsBefore, IsUpTo, by_order, before_up_to, up_to_itself, before_after_up_to}
+use Rattle.overlay_geom.proofs.PointOrder.{same_round, before_is_other}
 use Rattle.overlay_geom.proofs.AlongEdge.{over, place_of, sideE, over_up_to, on_of_order, order_of_on}
 
 -- it makes no difference which edge comes first
@@ -20,7 +21,8 @@ pub apart_meet_in_ends : (e f : Edge) → IsBefore e.a e.b → IsBefore f.a f.b 
 apart_meet_in_ends e f e_forward f_forward apart p (on_e, on_f) =
     let to = (order_of_on e p e_forward on_e).1 in
     let from = (order_of_on f p f_forward on_f).0 in
-    let same = same_round (place_of p) (over e.b p.d) (over f.a p.d) to (over_up_to e.b f.a p.d p.positive apart) from in
+    let same = same_round (place_of p) (over e.b p.d) (over f.a p.d) to (over_up_to e.b f.a p.d p.positive apart)
+    from in
     (inr (same.0, same.1), inl (same.2, same.3))
 
 -- ---- the other edge's ends
@@ -33,14 +35,16 @@ parallel a b u v forward at_u at_v = by_lt_z a.x b.x wide upright
     wide lt =
         let left = mul-zero (u.x -ℤ a.x) (cross_at a b v) at_v in
         let right = mul-zero (v.x -ℤ a.x) (cross_at a b u) at_u in
-        let identity = solve 8 (λ ax ay bx by ux uy vx vy. (bx ⊖ ax) ⊗ crossE ax ay ux uy vx vy ≗ (ux ⊖ ax) ⊗ crossE ax ay bx by vx vy ⊖ (vx ⊖ ax) ⊗ crossE ax ay bx by ux uy) tt a.x a.y b.x b.y u.x u.y v.x v.y in
+        let identity = solve 8 (λ ax ay bx by ux uy vx vy. (bx ⊖ ax) ⊗ crossE ax ay ux uy vx vy ≗ (ux ⊖ ax) ⊗ crossE ax
+        ay bx by vx vy ⊖ (vx ⊖ ax) ⊗ crossE ax ay bx by ux uy) tt a.x a.y b.x b.y u.x u.y v.x v.y in
         zero_of_mul-zero (b.x -ℤ a.x) (cross_at a u v) (omega linear) (omega linear)
 
     upright : b.x ≤ℤ a.x → cross_at a u v ≡ pos 0
     upright le =
         let left = mul-zero (u.y -ℤ a.y) (cross_at a b v) at_v in
         let right = mul-zero (v.y -ℤ a.y) (cross_at a b u) at_u in
-        let identity = solve 8 (λ ax ay bx by ux uy vx vy. (by ⊖ ay) ⊗ crossE ax ay ux uy vx vy ≗ (uy ⊖ ay) ⊗ crossE ax ay bx by vx vy ⊖ (vy ⊖ ay) ⊗ crossE ax ay bx by ux uy) tt a.x a.y b.x b.y u.x u.y v.x v.y in
+        let identity = solve 8 (λ ax ay bx by ux uy vx vy. (by ⊖ ay) ⊗ crossE ax ay ux uy vx vy ≗ (uy ⊖ ay) ⊗ crossE ax
+        ay bx by vx vy ⊖ (vy ⊖ ay) ⊗ crossE ax ay bx by ux uy) tt a.x a.y b.x b.y u.x u.y v.x v.y in
         let up = forward.y le in
         zero_of_mul-zero (b.y -ℤ a.y) (cross_at a u v) (omega linear) (omega linear)
 
@@ -48,8 +52,10 @@ parallel a b u v forward at_u at_v = by_lt_z a.x b.x wide upright
 pub along_exchanged : (e f : Edge) → IsBefore e.a e.b → IsAlong e f → IsAlong f e
 along_exchanged e f forward (at_a, at_b) =
     let flat = parallel e.a e.b f.a f.b forward at_a at_b in
-    let of_a = solve 6 (λ ax ay ux uy vx vy. crossE ux uy vx vy ax ay ≗ crossE ax ay ux uy vx vy) tt e.a.x e.a.y f.a.x f.a.y f.b.x f.b.y in
-    let of_b = solve 8 (λ ax ay bx by ux uy vx vy. crossE ux uy vx vy bx by ≗ crossE ax ay ux uy vx vy ⊖ crossE ax ay bx by vx vy ⊕ crossE ax ay bx by ux uy) tt e.a.x e.a.y e.b.x e.b.y f.a.x f.a.y f.b.x f.b.y in
+    let of_a = solve 6 (λ ax ay ux uy vx vy. crossE ux uy vx vy ax ay ≗ crossE ax ay ux uy vx vy) tt e.a.x e.a.y f.a.x
+    f.a.y f.b.x f.b.y in
+    let of_b = solve 8 (λ ax ay bx by ux uy vx vy. crossE ux uy vx vy bx by ≗ crossE ax ay ux uy vx vy ⊖ crossE ax ay bx
+    by vx vy ⊕ crossE ax ay bx by ux uy) tt e.a.x e.a.y e.b.x e.b.y f.a.x f.a.y f.b.x f.b.y in
     (omega linear, omega linear)
 
 -- ---- overlaps
@@ -70,7 +76,11 @@ holds_start e forward = record {
 
 -- and its larger one
 pub holds_end : (e : Edge) → IsBefore e.a e.b → IsHeldBy e e.b
-holds_end e forward = record { on_line = cross_at_same e.a e.b; from = before_up_to e.a e.b forward; to = up_to_itself e.b }
+holds_end e forward = record {
+  on_line = cross_at_same e.a e.b;
+  from = before_up_to e.a e.b forward;
+  to = up_to_itself e.b;
+}
 
 -- the midpoint between two points of an edge lies on the edge, and is no end of it
 abbrev middle : Point → Point → PlanePoint
@@ -78,7 +88,11 @@ middle u v = midpoint (record { a = u; b = v })
 
 -- the midpoint of two points is greater than what the smaller one is not below
 middle_after : (a u v : Point) → IsUpTo a u → IsBefore u v → IsBefore (over a (pos 2)) (place_of (middle u v))
-middle_after a u v h k = record { x = let twice = doubled a.x in let au = h.x in let uv = k.x in omega linear; y = in_y }
+middle_after a u v h k = record {
+  x = let twice = doubled a.x in let au = h.x in let uv = k.x in
+      omega linear;
+  y = in_y;
+}
   where
     in_y : (u.x +ℤ v.x) ≤ℤ (a.x *ℤ pos 2) → (a.y *ℤ pos 2) <ℤ (u.y +ℤ v.y)
     in_y le =
@@ -92,7 +106,11 @@ middle_after a u v h k = record { x = let twice = doubled a.x in let au = h.x in
 
 -- and smaller than what the larger one is not above
 middle_before : (u v b : Point) → IsBefore u v → IsUpTo v b → IsBefore (place_of (middle u v)) (over b (pos 2))
-middle_before u v b h k = record { x = let twice = doubled b.x in let uv = h.x in let vb = k.x in omega linear; y = in_y }
+middle_before u v b h k = record {
+  x = let twice = doubled b.x in let uv = h.x in let vb = k.x in
+      omega linear;
+  y = in_y;
+}
   where
     in_y : (b.x *ℤ pos 2) ≤ℤ (u.x +ℤ v.x) → (u.y +ℤ v.y) <ℤ (b.y *ℤ pos 2)
     in_y le =
@@ -105,7 +123,8 @@ middle_before u v b h k = record { x = let twice = doubled b.x in let uv = h.x i
         omega linear
 
 -- so it lies on an edge that holds both
-middle_on : (e : Edge) (u v : Point) → IsBefore e.a e.b → IsHeldBy e u → IsHeldBy e v → IsBefore u v → IsOn e (middle u v)
+middle_on : (e : Edge) (u v : Point) → IsBefore e.a e.b → IsHeldBy e u → IsHeldBy e v → IsBefore u v →
+    IsOn e (middle u v)
 middle_on e u v forward at_u at_v less =
     on_of_order e (middle u v) forward on_line
     (before_up_to _ _ (middle_after e.a u v at_u.from less))
@@ -115,21 +134,28 @@ middle_on e u v forward at_u at_v less =
     on_line =
         let zero_u = at_u.on_line in
         let zero_v = at_v.on_line in
-        let identity = solve 8 (λ ax ay bx by ux uy vx vy. sideE ax ay bx by (ux ⊕ vx) (uy ⊕ vy) (number (pos 2)) ≗ crossE ax ay bx by ux uy ⊕ crossE ax ay bx by vx vy) tt e.a.x e.a.y e.b.x e.b.y u.x u.y v.x v.y in
+        let identity = solve 8 (λ ax ay bx by ux uy vx vy. sideE ax ay bx by (ux ⊕ vx) (uy ⊕ vy)
+        (number (pos 2)) ≗ crossE ax ay bx by ux uy ⊕ crossE ax ay bx by vx vy) tt e.a.x e.a.y e.b.x e.b.y u.x
+        u.y v.x v.y in
         omega linear
 
 -- and is no end of it
 middle_is_no_end : (e : Edge) (u v : Point) → IsHeldBy e u → IsHeldBy e v → IsBefore u v → ¬ (IsEnd e (middle u v))
-middle_is_no_end e u v at_u at_v less (inl (same_x, same_y)) = before_is_other _ _ (middle_after e.a u v at_u.from less) same_x same_y
-middle_is_no_end e u v at_u at_v less (inr (same_x, same_y)) = before_is_other _ _ (middle_before u v e.b less at_v.to) (sym same_x) (sym same_y)
+middle_is_no_end e u v at_u at_v less (inl (same_x, same_y)) = before_is_other _ _ (middle_after e.a u v at_u.from less)
+    same_x same_y
+middle_is_no_end e u v at_u at_v less (inr (same_x, same_y)) = before_is_other _ _ (middle_before u v e.b less at_v.to)
+    (sym same_x) (sym same_y)
 
 -- two edges do not meet in ends alone where both hold two points
-held_in_common : (e f : Edge) (u v : Point) → IsBefore e.a e.b → IsBefore f.a f.b → IsHeldBy e u → IsHeldBy f u → IsHeldBy e v → IsHeldBy f v → IsBefore u v → ¬ (MeetInEnds e f)
+held_in_common : (e f : Edge) (u v : Point) → IsBefore e.a e.b → IsBefore f.a f.b → IsHeldBy e u → IsHeldBy f u →
+    IsHeldBy e v → IsHeldBy f v → IsBefore u v → ¬ (MeetInEnds e f)
 held_in_common e f u v e_forward f_forward e_u f_u e_v f_v less h =
-    middle_is_no_end e u v e_u e_v less (h (middle u v) (middle_on e u v e_forward e_u e_v less, middle_on f u v f_forward f_u f_v less)).0
+    middle_is_no_end e u v e_u e_v less
+    (h (middle u v) (middle_on e u v e_forward e_u e_v less, middle_on f u v f_forward f_u f_v less)).0
 
 -- two edges on one line overlap, and f begins no earlier
-overlap_from : (e f : Edge) → IsBefore e.a e.b → IsBefore f.a f.b → IsAlong e f → IsAlong f e → IsUpTo e.a f.a → IsBefore f.a e.b → ¬ (MeetInEnds e f)
+overlap_from : (e f : Edge) → IsBefore e.a e.b → IsBefore f.a f.b → IsAlong e f → IsAlong f e → IsUpTo e.a f.a →
+    IsBefore f.a e.b → ¬ (MeetInEnds e f)
 overlap_from e f e_forward f_forward f_along e_along later begins = by_order e.b f.b f_is_longer e_is_longer
   where
     e_holds_start : IsHeldBy e f.a
@@ -143,13 +169,19 @@ overlap_from e f e_forward f_forward f_along e_along later begins = by_order e.b
     e_is_longer : IsBefore f.b e.b → ¬ (MeetInEnds e f)
     e_is_longer to =
         held_in_common e f f.a f.b e_forward f_forward e_holds_start (holds_start f f_forward)
-        (record { on_line = f_along.1; from = before_up_to e.a f.b (before_after_up_to e.a f.a f.b later f_forward); to = before_up_to f.b e.b to })
+        (record {
+          on_line = f_along.1;
+          from = before_up_to e.a f.b (before_after_up_to e.a f.a f.b later f_forward);
+          to = before_up_to f.b e.b to;
+        })
         (holds_end f f_forward) f_forward
 
 -- two edges on one line, each of which begins before the other ends, do not meet in ends alone
-pub overlapping_do_not_meet_in_ends : (e f : Edge) → IsBefore e.a e.b → IsBefore f.a f.b → IsAlong e f → IsBefore e.a f.b → IsBefore f.a e.b → ¬ (MeetInEnds e f)
+pub overlapping_do_not_meet_in_ends : (e f : Edge) → IsBefore e.a e.b → IsBefore f.a f.b → IsAlong e f →
+    IsBefore e.a f.b → IsBefore f.a e.b → ¬ (MeetInEnds e f)
 overlapping_do_not_meet_in_ends e f e_forward f_forward along e_begins f_begins =
     let back = along_exchanged e f e_forward along in
     by_order e.a f.a
     (λ later. overlap_from e f e_forward f_forward along back later f_begins)
-    (λ sooner h. overlap_from f e f_forward e_forward back along (before_up_to f.a e.a sooner) e_begins (meet_in_ends_exchanged f e h))
+    (λ sooner h. overlap_from f e f_forward e_forward back along (before_up_to f.a e.a sooner) e_begins
+    (meet_in_ends_exchanged f e h))

@@ -30,13 +30,15 @@ pub edge_order-total : IsTotalOrder edge_order
 edge_order-total = then_total (on_total (λ e. e.a) point_order-total) (on_total (λ e. e.b) point_order-total)
 
 -- two orders in turn answer `Less` where the first does, or it ties and the second does
-pub less_in_turn : (o q : Ordering) (first tied second : Bool) → first ≡ is_lt o → tied ≡ is_eq o → second ≡ is_lt q → (first || (tied && second)) ≡ is_lt (ordering_then o q)
+pub less_in_turn : (o q : Ordering) (first tied second : Bool) → first ≡ is_lt o → tied ≡ is_eq o → second ≡ is_lt q →
+    (first || (tied && second)) ≡ is_lt (ordering_then o q)
 less_in_turn Less q first tied second f t s = ap (λ b. b || (tied && second)) f
 less_in_turn Equal q first tied second f t s = ap (λ b. b || (tied && second)) f ∙ ap (λ b. b && second) t ∙ s
 less_in_turn Greater q first tied second f t s = ap (λ b. b || (tied && second)) f ∙ ap (λ b. b && second) t
 
 -- they tie where both do
-pub tied_in_turn : (o q : Ordering) (first second : Bool) → first ≡ is_eq o → second ≡ is_eq q → (first && second) ≡ is_eq (ordering_then o q)
+pub tied_in_turn : (o q : Ordering) (first second : Bool) → first ≡ is_eq o → second ≡ is_eq q →
+    (first && second) ≡ is_eq (ordering_then o q)
 tied_in_turn Less q first second f s = ap (λ b. b && second) f
 tied_in_turn Equal q first second f s = ap (λ b. b && second) f ∙ s
 tied_in_turn Greater q first second f s = ap (λ b. b && second) f
@@ -44,7 +46,8 @@ tied_in_turn Greater q first second f s = ap (λ b. b && second) f
 -- the points' test is what their comparison answers
 pub point_lt-is_less : (p q : Point) → point_lt p q ≡ is_lt (point_order p q)
 point_lt-is_less p q =
-    less_in_turn (int_cmp p.x q.x) (int_cmp p.y q.y) (int_lt p.x q.x) (int_eq p.x q.x) (int_lt p.y q.y) (sym (is_lt-int_cmp p.x q.x)) refl (sym (is_lt-int_cmp p.y q.y))
+    less_in_turn (int_cmp p.x q.x) (int_cmp p.y q.y) (int_lt p.x q.x) (int_eq p.x q.x) (int_lt p.y q.y)
+    (sym (is_lt-int_cmp p.x q.x)) refl (sym (is_lt-int_cmp p.y q.y))
 
 -- points are found equal where they tie
 pub point_eq-is_tie : (p q : Point) → point_eq p q ≡ is_eq (point_order p q)
@@ -53,12 +56,14 @@ point_eq-is_tie p q = tied_in_turn (int_cmp p.x q.x) (int_cmp p.y q.y) (int_eq p
 -- the edges' test is what their comparison answers
 pub edge_lt-is_less : (e f : Edge) → edge_lt e f ≡ is_lt (edge_order e f)
 edge_lt-is_less e f =
-    less_in_turn (point_order e.a f.a) (point_order e.b f.b) (point_lt e.a f.a) (point_eq e.a f.a) (point_lt e.b f.b) (point_lt-is_less e.a f.a) (point_eq-is_tie e.a f.a) (point_lt-is_less e.b f.b)
+    less_in_turn (point_order e.a f.a) (point_order e.b f.b) (point_lt e.a f.a) (point_eq e.a f.a) (point_lt e.b f.b)
+    (point_lt-is_less e.a f.a) (point_eq-is_tie e.a f.a) (point_lt-is_less e.b f.b)
 
 -- edges are found equal where they tie
 pub edge_eq-is_tie : (e f : Edge) → edge_eq e f ≡ is_eq (edge_order e f)
 edge_eq-is_tie e f =
-    tied_in_turn (point_order e.a f.a) (point_order e.b f.b) (point_eq e.a f.a) (point_eq e.b f.b) (point_eq-is_tie e.a f.a) (point_eq-is_tie e.b f.b)
+    tied_in_turn (point_order e.a f.a) (point_order e.b f.b) (point_eq e.a f.a) (point_eq e.b f.b)
+    (point_eq-is_tie e.a f.a) (point_eq-is_tie e.b f.b)
 
 -- ---- what follows
 
@@ -69,7 +74,9 @@ same_point p q same_x same_y = λ i. record { x = same_x i; y = same_y i }
 -- the test of two points tells whether they are one
 pub Decides-point_eq : (p q : Point) → Decides (point_eq p q) (p ≡ q)
 Decides-point_eq p q =
-    Decides-like (point_eq p q) (λ h. same_point p q h.0 h.1) (λ h. (ap (λ (r : Point). r.x) h, ap (λ (r : Point). r.y) h)) (Decides-and _ _ (Decides-int_eq p.x q.x) (Decides-int_eq p.y q.y))
+    Decides-like (point_eq p q) (λ h. same_point p q h.0 h.1)
+    (λ h. (ap (λ (r : Point). r.x) h, ap (λ (r : Point). r.y) h))
+    (Decides-and _ _ (Decides-int_eq p.x q.x) (Decides-int_eq p.y q.y))
 
 -- points that are found equal are one
 pub point_eq-same : (p q : Point) → point_eq p q ≡ true → p ≡ q
@@ -86,7 +93,8 @@ point_lt-itself p = point_lt-is_less p p ∙ ap is_lt (tied_itself point_order-t
 -- of two different points the second is the smaller one, if the first is not
 pub point_lt-back : (p q : Point) → point_eq p q ≡ false → point_lt p q ≡ false → point_lt q p ≡ true
 point_lt-back p q differ back =
-    point_lt-is_less q p ∙ by_cases (point_order p q) (point_order q p) (point_order-total.antisymm q p) (sym (point_eq-is_tie p q) ∙ differ) (sym (point_lt-is_less p q) ∙ back)
+    point_lt-is_less q p ∙ by_cases (point_order p q) (point_order q p) (point_order-total.antisymm q p)
+    (sym (point_eq-is_tie p q) ∙ differ) (sym (point_lt-is_less p q) ∙ back)
   where
     by_cases : (o r : Ordering) → r ≡ ordering_reverse o → is_eq o ≡ false → is_lt o ≡ false → is_lt r ≡ true
     by_cases Less r h e l = cc
@@ -96,16 +104,20 @@ point_lt-back p q differ back =
 -- the points' test is an order in which any two points compare
 pub point_lt-order : IsStrictWeakOrder point_lt
 point_lt-order =
-    let r : IsStrictWeakOrder (λ (p q : Point). is_lt (point_order p q)) = ranks_by point_order-total (λ (p : Point). p) in
+    let r : IsStrictWeakOrder (λ (p q : Point). is_lt (point_order p q)) = ranks_by point_order-total
+    (λ (p : Point). p) in
     record {
       one_way = λ p q h. point_lt-is_less q p ∙ r.one_way p q (sym (point_lt-is_less p q) ∙ h);
-      chain = λ p q s h k. point_lt-is_less p s ∙ r.chain p q s (sym (point_lt-is_less p q) ∙ h) (sym (point_lt-is_less q s) ∙ k);
+      chain = λ p q s h k. point_lt-is_less p s ∙ r.chain p q s (sym (point_lt-is_less p q) ∙ h)
+          (sym (point_lt-is_less q s) ∙ k);
     }
 
 -- the test of two edges tells whether they are one
 pub Decides-edge_eq : (e f : Edge) → Decides (edge_eq e f) (e ≡ f)
 Decides-edge_eq e f =
-    Decides-like (edge_eq e f) (λ h. λ i. record { a = h.0 i; b = h.1 i }) (λ h. (ap (λ (g : Edge). g.a) h, ap (λ (g : Edge). g.b) h)) (Decides-and _ _ (Decides-point_eq e.a f.a) (Decides-point_eq e.b f.b))
+    Decides-like (edge_eq e f) (λ h. λ i. record { a = h.0 i; b = h.1 i })
+    (λ h. (ap (λ (g : Edge). g.a) h, ap (λ (g : Edge). g.b) h))
+    (Decides-and _ _ (Decides-point_eq e.a f.a) (Decides-point_eq e.b f.b))
 
 -- edges that are found equal are one
 pub edge_eq-same : (e f : Edge) → edge_eq e f ≡ true → e ≡ f
@@ -150,13 +162,15 @@ edge_lt-order =
     let r : IsStrictWeakOrder (λ (e f : Edge). is_lt (edge_order e f)) = ranks_by edge_order-total (λ (e : Edge). e) in
     record {
       one_way = λ e f h. edge_lt-is_less f e ∙ r.one_way e f (sym (edge_lt-is_less e f) ∙ h);
-      chain = λ e f g h k. edge_lt-is_less e g ∙ r.chain e f g (sym (edge_lt-is_less e f) ∙ h) (sym (edge_lt-is_less f g) ∙ k);
+      chain = λ e f g h k. edge_lt-is_less e g ∙ r.chain e f g (sym (edge_lt-is_less e f) ∙ h)
+          (sym (edge_lt-is_less f g) ∙ k);
     }
 
 -- an edge comes before those that come after a later one
 pub edge_lt-trans : (e f g : Edge) → edge_lt e f ≡ true → edge_lt f g ≡ true → edge_lt e g ≡ true
 edge_lt-trans e f g h k =
-    edge_lt-is_less e g ∙ ap is_lt (edge_order-total.trans e f g (less _ (sym (edge_lt-is_less e f) ∙ h)) (less _ (sym (edge_lt-is_less f g) ∙ k)))
+    edge_lt-is_less e g ∙ ap is_lt (edge_order-total.trans e f g (less _ (sym (edge_lt-is_less e f) ∙ h))
+    (less _ (sym (edge_lt-is_less f g) ∙ k)))
   where
     less : (o : Ordering) → is_lt o ≡ true → o ≡ Less
     less Less h = refl
@@ -165,9 +179,11 @@ edge_lt-trans e f g h k =
 
 -- where the second of two edges does not come before the first, the first comes before the second, or they are equal
 pub lt_or_eq : (e f : Edge) → edge_lt f e ≡ false → (edge_lt e f ≡ true) ⊎ (edge_eq e f ≡ true)
-lt_or_eq e f h = by_cases (edge_order e f) (edge_order f e) (edge_order-total.antisymm f e) (sym (edge_lt-is_less f e) ∙ h) refl
+lt_or_eq e f h = by_cases (edge_order e f) (edge_order f e) (edge_order-total.antisymm f e)
+    (sym (edge_lt-is_less f e) ∙ h) refl
   where
-    by_cases : (o back : Ordering) → back ≡ ordering_reverse o → is_lt back ≡ false → edge_order e f ≡ o → (edge_lt e f ≡ true) ⊎ (edge_eq e f ≡ true)
+    by_cases : (o back : Ordering) → back ≡ ordering_reverse o → is_lt back ≡ false → edge_order e f ≡ o →
+        (edge_lt e f ≡ true) ⊎ (edge_eq e f ≡ true)
     by_cases Less back r h at = inl (edge_lt-is_less e f ∙ ap is_lt at)
     by_cases Equal back r h at = inr (edge_eq-is_tie e f ∙ ap is_eq at)
     by_cases Greater back r h at = let t : is_lt back ≡ true = ap is_lt r in cc

@@ -22,10 +22,12 @@ abbrev are_same : Ordering → Ordering → Bool
 are_same a b = ordering_index a == ordering_index b
 
 -- an edge whose ends lie on different sides goes across
-pub across_from_sides : (e f : Edge) (a b : Ordering) → a ≡ int_cmp (cross_at e.a e.b f.a) (pos 0) → b ≡ int_cmp (cross_at e.a e.b f.b) (pos 0) → not (are_same a b) ≡ true → IsAcross e f
+pub across_from_sides : (e f : Edge) (a b : Ordering) → a ≡ int_cmp (cross_at e.a e.b f.a) (pos 0) →
+    b ≡ int_cmp (cross_at e.a e.b f.b) (pos 0) → not (are_same a b) ≡ true → IsAcross e f
 across_from_sides e f a b at_a at_b differ = by a b (int_ranked _ _ a at_a) (int_ranked _ _ b at_b) differ
   where
-    by : (a b : Ordering) → TellsSide a (cross_at e.a e.b f.a) → TellsSide b (cross_at e.a e.b f.b) → not (are_same a b) ≡ true → IsAcross e f
+    by : (a b : Ordering) → TellsSide a (cross_at e.a e.b f.a) → TellsSide b (cross_at e.a e.b f.b) →
+        not (are_same a b) ≡ true → IsAcross e f
     by Less Less s t differ = absurd (cc)
     by Less Equal s t differ = inl (omega linear, omega linear, omega linear)
     by Less Greater s t differ = inl (omega linear, omega linear, omega linear)
@@ -37,10 +39,12 @@ across_from_sides e f a b at_a at_b differ = by a b (int_ranked _ _ a at_a) (int
     by Greater Greater s t differ = absurd (cc)
 
 -- an edge both of whose ends lie on the line is along it
-pub along_from_sides : (e f : Edge) (a b : Ordering) → a ≡ int_cmp (cross_at e.a e.b f.a) (pos 0) → b ≡ int_cmp (cross_at e.a e.b f.b) (pos 0) → not (are_same a b) ≡ false → is_eq a ≡ true → IsAlong e f
+pub along_from_sides : (e f : Edge) (a b : Ordering) → a ≡ int_cmp (cross_at e.a e.b f.a) (pos 0) →
+    b ≡ int_cmp (cross_at e.a e.b f.b) (pos 0) → not (are_same a b) ≡ false → is_eq a ≡ true → IsAlong e f
 along_from_sides e f a b at_a at_b same straight = by a b (int_ranked _ _ a at_a) (int_ranked _ _ b at_b) same straight
   where
-    by : (a b : Ordering) → TellsSide a (cross_at e.a e.b f.a) → TellsSide b (cross_at e.a e.b f.b) → not (are_same a b) ≡ false → is_eq a ≡ true → IsAlong e f
+    by : (a b : Ordering) → TellsSide a (cross_at e.a e.b f.a) → TellsSide b (cross_at e.a e.b f.b) →
+        not (are_same a b) ≡ false → is_eq a ≡ true → IsAlong e f
     by Less b s t same straight = absurd (cc)
     by Equal Less s t same straight = absurd (cc)
     by Equal Equal s t same straight = (s, t)
@@ -48,10 +52,12 @@ along_from_sides e f a b at_a at_b same straight = by a b (int_ranked _ _ a at_a
     by Greater b s t same straight = absurd (cc)
 
 -- an edge whose ends lie on the same side, off the line, is beside it
-pub beside_from_sides : (e f : Edge) (a b : Ordering) → a ≡ int_cmp (cross_at e.a e.b f.a) (pos 0) → b ≡ int_cmp (cross_at e.a e.b f.b) (pos 0) → not (are_same a b) ≡ false → is_eq a ≡ false → IsBeside e f
+pub beside_from_sides : (e f : Edge) (a b : Ordering) → a ≡ int_cmp (cross_at e.a e.b f.a) (pos 0) →
+    b ≡ int_cmp (cross_at e.a e.b f.b) (pos 0) → not (are_same a b) ≡ false → is_eq a ≡ false → IsBeside e f
 beside_from_sides e f a b at_a at_b same aside = by a b (int_ranked _ _ a at_a) (int_ranked _ _ b at_b) same aside
   where
-    by : (a b : Ordering) → TellsSide a (cross_at e.a e.b f.a) → TellsSide b (cross_at e.a e.b f.b) → not (are_same a b) ≡ false → is_eq a ≡ false → IsBeside e f
+    by : (a b : Ordering) → TellsSide a (cross_at e.a e.b f.a) → TellsSide b (cross_at e.a e.b f.b) →
+        not (are_same a b) ≡ false → is_eq a ≡ false → IsBeside e f
     by Less Less s t same aside = inr (s, t)
     by Less Equal s t same aside = absurd (cc)
     by Less Greater s t same aside = absurd (cc)
@@ -61,7 +67,8 @@ beside_from_sides e f a b at_a at_b same aside = by a b (int_ranked _ _ a at_a) 
     by Greater Greater s t same aside = inl (s, t)
 
 -- where f goes across e's line, and e is not beside f's, e goes across that one too
-pub across_where_not_beside : (e f : Edge) (place : Place) → IsBefore f.a f.b → IsAcross e f → IsPlaced place f e → place ≢ Beside → IsAcross f e
+pub across_where_not_beside : (e f : Edge) (place : Place) → IsBefore f.a f.b → IsAcross e f → IsPlaced place f e →
+    place ≢ Beside → IsAcross f e
 across_where_not_beside e f Along forward across placed other = absurd (across_not_along e f forward across placed)
 across_where_not_beside e f Beside forward across placed other = absurd (other refl)
 across_where_not_beside e f Across forward across placed other = placed

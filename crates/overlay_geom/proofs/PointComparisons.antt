@@ -16,7 +16,8 @@ found_again Greater = refl
 -- points compare by their order
 pub point_cmp-is_order : (p q : Point) → point_cmp p q ≡ point_order p q
 point_cmp-is_order p q =
-    ap₂ (λ b c. cond b Less (cond c Greater Equal)) (point_lt-is_less p q) (point_lt-is_less q p ∙ ap is_lt (point_order-total.antisymm q p))
+    ap₂ (λ b c. cond b Less (cond c Greater Equal)) (point_lt-is_less p q) (point_lt-is_less q p
+    ∙ ap is_lt (point_order-total.antisymm q p))
     ∙ found_again (point_order p q)
 
 -- points that compare as equal are one

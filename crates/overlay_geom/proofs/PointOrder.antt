@@ -39,7 +39,8 @@ by_order {P = P} p q f g = by_lt_z q.x p.x (λ lt. g (record { x = omega linear;
     same_or_less : p.x ≤ℤ q.x → P
     same_or_less le =
         by_lt_z q.y p.y
-        (λ lt. by_lt_z p.x q.x (λ less. f (record { x = le; y = λ ge. omega linear })) (λ ge. g (record { x = ge; y = λ same. lt })))
+        (λ lt. by_lt_z p.x q.x (λ less. f (record { x = le; y = λ ge. omega linear }))
+        (λ ge. g (record { x = ge; y = λ same. lt })))
         (λ up. f (record { x = le; y = λ ge. up }))
 
 -- a smaller point is one up to the other
@@ -52,13 +53,18 @@ up_to_itself p = record { x = omega linear; y = λ le. omega linear }
 
 -- what is up to a point is smaller than all that it is smaller than
 pub before_after_up_to : (p q r : Point) → IsUpTo p q → IsBefore q r → IsBefore p r
-before_after_up_to p q r h k = record { x = let a = h.x in let b = k.x in omega linear; y = λ le. both le (let b = k.x in omega linear) (let a = h.x in omega linear) }
+before_after_up_to p q r h k = record {
+  x = let a = h.x in let b = k.x in
+      omega linear;
+  y = λ le. both le (let b = k.x in omega linear) (let a = h.x in omega linear);
+}
   where
     both : r.x ≤ℤ p.x → q.x ≤ℤ p.x → r.x ≤ℤ q.x → p.y <ℤ r.y
     both le here there = let a = h.y here in let b = k.y there in omega linear
 
 -- three points, each up to the next one round, are one point
-pub same_round : (p q r : Point) → IsUpTo p q → IsUpTo q r → IsUpTo r p → (p.x ≡ q.x) × (p.y ≡ q.y) × (p.x ≡ r.x) × (p.y ≡ r.y)
+pub same_round : (p q r : Point) → IsUpTo p q → IsUpTo q r → IsUpTo r p →
+    (p.x ≡ q.x) × (p.y ≡ q.y) × (p.x ≡ r.x) × (p.y ≡ r.y)
 same_round p q r pq qr rp =
     let in_x : (p.x ≡ q.x) × (p.x ≡ r.x) = (omega linear, omega linear) in
     let pq_y = pq.y (omega linear) in

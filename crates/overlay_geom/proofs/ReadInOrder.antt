@@ -9,11 +9,13 @@ use Rattle.overlay_geom.proofs.JoinedLists.{joined_push}
 module _ {X : Type 0} (xs : List X) (i : ℕ) (x : X) (read : slice_get xs i ≡ Some x) where
   -- the items up to it are those before it, and it
   pub take_read : take (i + 1) xs ≡ take i xs ++ x ∷ []
-  take_read = take_more xs i x (slice_get_within xs i x read) ∙ ap (λ y. take i xs ++ y ∷ []) (get_or_from_slice_get xs i x x read)
+  take_read = take_more xs i x (slice_get_within xs i x read)
+      ∙ ap (λ y. take i xs ++ y ∷ []) (get_or_from_slice_get xs i x x read)
 
   -- the items from it on are it, and those behind it
   pub drop_read : drop i xs ≡ x ∷ drop (i + 1) xs
-  drop_read = drop_more xs i x (slice_get_within xs i x read) ∙ ap (λ y. y ∷ drop (i + 1) xs) (get_or_from_slice_get xs i x x read)
+  drop_read = drop_more xs i x (slice_get_within xs i x read)
+      ∙ ap (λ y. y ∷ drop (i + 1) xs) (get_or_from_slice_get xs i x x read)
 
   -- what holds of all items holds of it
   pub All-read : (P : X → Type 0) → All P xs → P x

@@ -1,5 +1,6 @@
--- The whole number nearest a fraction: how far it is from it at most, that it is the only one so near, that it keeps the order,
--- and that points rounded in x and in y are rounded. What lies part of the way between two whole numbers is rounded between them.
+-- The whole number nearest a fraction: how far it is from it at most, that it is the only one so near, that it keeps
+-- the order, and that points rounded in x and in y are rounded. What lies part of the way between two whole numbers is
+-- rounded between them.
 use Rattle.std.proofs.Common.{◌≡◌, inl, inr, ℤ, pos, negsuc, ◌+ℤ◌, ◌-ℤ◌, ◌*ℤ◌, ◌<ℤ◌, ◌≤ℤ◌, ap₂, arith}
 use Rattle.std.specs.Int.{int_div_euclid}
 use Rattle.std.proofs.lemmas.Int.{ints, by_lt_z}
@@ -65,7 +66,8 @@ nearest-least z d v p le =
     let exchanged = twice v d in
     let both = two_of d in
     let high = quotient-above (pos 2 *ℤ z +ℤ d) (pos 2 *ℤ d) (twice-positive d p) in
-    let next = solve 2 (λ d q. number (pos 2) ⊗ d ⊗ (q ⊕ number (pos 1)) ≗ number (pos 2) ⊗ d ⊗ q ⊕ number (pos 2) ⊗ d) tt d (nearest z d) in
+    let next = solve 2 (λ d q. number (pos 2) ⊗ d ⊗ (q ⊕ number (pos 1)) ≗ number (pos 2) ⊗ d ⊗ q ⊕ number (pos 2) ⊗ d)
+    tt d (nearest z d) in
     let less = lt_of_mul-lt (pos 2 *ℤ d) v (nearest z d +ℤ pos 1) (twice-positive d p) (omega linear) in
     omega linear
 
@@ -75,12 +77,14 @@ nearest-greatest z d v p lt =
     let exchanged = twice v d in
     let low = quotient-at_most (pos 2 *ℤ z +ℤ d) (pos 2 *ℤ d) (twice-positive d p) in
     let both = two_of d in
-    let next = solve 2 (λ d v. number (pos 2) ⊗ d ⊗ (v ⊕ number (pos 1)) ≗ number (pos 2) ⊗ d ⊗ v ⊕ number (pos 2) ⊗ d) tt d v in
+    let next = solve 2 (λ d v. number (pos 2) ⊗ d ⊗ (v ⊕ number (pos 1)) ≗ number (pos 2) ⊗ d ⊗ v ⊕ number (pos 2) ⊗ d)
+    tt d v in
     let less = lt_of_mul-lt (pos 2 *ℤ d) (nearest z d) (v +ℤ pos 1) (twice-positive d p) (omega linear) in
     omega linear
 
 -- so there is no other number so near
-pub nearest-unique : (z d v : ℤ) → pos 0 <ℤ d → (pos 2 *ℤ z -ℤ d) <ℤ (pos 2 *ℤ v *ℤ d) → (pos 2 *ℤ v *ℤ d) ≤ℤ (pos 2 *ℤ z +ℤ d) → nearest z d ≡ v
+pub nearest-unique : (z d v : ℤ) → pos 0 <ℤ d → (pos 2 *ℤ z -ℤ d) <ℤ (pos 2 *ℤ v *ℤ d) →
+    (pos 2 *ℤ v *ℤ d) ≤ℤ (pos 2 *ℤ z +ℤ d) → nearest z d ≡ v
 nearest-unique z d v p lt le =
     let least = nearest-least z d v p le in
     let greatest = nearest-greatest z d v p lt in
@@ -128,8 +132,10 @@ nearest_le_whole v z d positive le =
 
 -- so what lies between two whole numbers is rounded between them
 pub nearest-between : (z u v d : ℤ) → pos 0 <ℤ d → IsBetween z (u *ℤ d) (v *ℤ d) → IsBetween (nearest z d) u v
-nearest-between z u v d positive (inl (low, high)) = inl (whole_le_nearest u z d positive low, nearest_le_whole v z d positive high)
-nearest-between z u v d positive (inr (low, high)) = inr (whole_le_nearest v z d positive low, nearest_le_whole u z d positive high)
+nearest-between z u v d positive (inl (low, high)) =
+    inl (whole_le_nearest u z d positive low, nearest_le_whole v z d positive high)
+nearest-between z u v d positive (inr (low, high)) =
+    inr (whole_le_nearest v z d positive low, nearest_le_whole u z d positive high)
 
 -- ---- points
 
@@ -166,5 +172,7 @@ part_between u v t d begun within = by_lt_z u v (λ up. inl (rising up)) (λ dow
         (omega linear, omega linear)
 
 -- so rounded it lies between them
-pub part_way-between : (u v t d : ℤ) → pos 0 ≤ℤ t → t ≤ℤ d → pos 0 <ℤ d → IsBetween (nearest (u *ℤ d +ℤ (v -ℤ u) *ℤ t) d) u v
-part_way-between u v t d begun within positive = nearest-between (u *ℤ d +ℤ (v -ℤ u) *ℤ t) u v d positive (part_between u v t d begun within)
+pub part_way-between : (u v t d : ℤ) → pos 0 ≤ℤ t → t ≤ℤ d → pos 0 <ℤ d →
+    IsBetween (nearest (u *ℤ d +ℤ (v -ℤ u) *ℤ t) d) u v
+part_way-between u v t d begun within positive = nearest-between (u *ℤ d +ℤ (v -ℤ u) *ℤ t) u v d positive
+    (part_between u v t d begun within)

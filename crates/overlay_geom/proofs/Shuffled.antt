@@ -12,8 +12,10 @@ use Rattle.overlay_geom.proofs.Totals.{total-filter, total-IsPermutation}
 use Rattle.overlay_geom.proofs.Weights.{edge_weight}
 
 -- what passes a test adds up to the same in another order
-pub total-filter_shuffled : {X : Type 0} (f : X → ℤ) (p : X → Bool) (xs ys : List X) → IsPermutation xs ys → total f (filter p ys) ≡ total f (filter p xs)
-total-filter_shuffled f p xs ys h = total-filter p f ys ∙ total-IsPermutation (λ x. cond (p x) (f x) (pos 0)) xs ys h ∙ sym (total-filter p f xs)
+pub total-filter_shuffled : {X : Type 0} (f : X → ℤ) (p : X → Bool) (xs ys : List X) → IsPermutation xs ys →
+    total f (filter p ys) ≡ total f (filter p xs)
+total-filter_shuffled f p xs ys h = total-filter p f ys ∙ total-IsPermutation (λ x. cond (p x) (f x) (pos 0)) xs ys h
+    ∙ sym (total-filter p f xs)
 
 -- the same edges in another order have the same joined edges
 pub alike_shuffled : (xs ys : List CountedEdge) → IsPermutation xs ys → JoinAlike xs ys
@@ -26,7 +28,14 @@ alike_shuffled xs ys h = record { at = at }
     marked mark e = list_any-filter_shuffled mark (λ f. edge_eq (ends_of f) e) xs ys h
 
     at : (e : Edge) → joined_edge ys e ≡ joined_edge xs e
-    at e i = record { a = e.a; b = e.b; subj = same subj_of e i; clip = same clip_of e i; along = marked goes_along e i; against = marked goes_against e i }
+    at e i = record {
+      a = e.a;
+      b = e.b;
+      subj = same subj_of e i;
+      clip = same clip_of e i;
+      along = marked goes_along e i;
+      against = marked goes_against e i;
+    }
 
 -- and weigh the same
 pub weight_shuffled : (xs ys : List CountedEdge) → IsPermutation xs ys → weight ys ≡ weight xs

@@ -1,5 +1,6 @@
 -- Sums of whole numbers over a list: of its front, of a part of it, and of the same elements in another order.
-use Rattle.std.proofs.Common.{◌≡◌, ℕ, ◌+◌, ◌<◌, Bool, true, false, cond, not, ℤ, pos, ◌+ℤ◌, List, [], ◌∷◌, ◌++◌, map, take, get_or, length, refl, sym, ap, ◌∙◌, arith}
+use Rattle.std.proofs.Common.{◌≡◌, ℕ, ◌+◌, ◌<◌, Bool, true, false, cond, not, ℤ, pos, ◌+ℤ◌, List, [], ◌∷◌, ◌++◌, map}
+use Rattle.std.proofs.Common.{take, get_or, length, refl, sym, ap, ◌∙◌, arith}
 use Rattle.std.specs.List.{filter, sum_by}
 use Rattle.std.specs.List.Sorted.{IsPermutation}
 use Rattle.std.proofs.lemmas.Int.{ints}
@@ -17,14 +18,16 @@ total-append f [] ys = sym (+ℤ_idl (total f ys))
 total-append f (x ∷ xs) ys = ap (λ z. f x +ℤ z) (total-append f xs ys) ∙ sym (+ℤ_assoc (f x) (total f xs) (total f ys))
 
 -- the sum over one more item
-pub total-more : {X Y : Type 0} (f : Y → ℤ) (h : X → Y) (xs : List X) (i : ℕ) (x : X) → i < length xs → x ≡ get_or xs i x → total f (map h (take (i + 1) xs)) ≡ total f (map h (take i xs)) +ℤ f (h x)
+pub total-more : {X Y : Type 0} (f : Y → ℤ) (h : X → Y) (xs : List X) (i : ℕ) (x : X) → i < length xs →
+    x ≡ get_or xs i x → total f (map h (take (i + 1) xs)) ≡ total f (map h (take i xs)) +ℤ f (h x)
 total-more f h xs i x lt is =
     ap (total f) (mapped_more h xs i x lt is)
     ∙ total-append f (map h (take i xs)) (h x ∷ [])
     ∙ ap (λ z. total f (map h (take i xs)) +ℤ z) (+ℤ_idr (f (h x)))
 
 -- where each term is within a bound, the sum is within the sum of the bounds
-pub total-within : {X : Type 0} (f : X → ℤ) (bound : X → ℕ) → ((x : X) → Within (bound x) (f x)) → (xs : List X) → Within (sum_by bound xs) (total f xs)
+pub total-within : {X : Type 0} (f : X → ℤ) (bound : X → ℕ) → ((x : X) → Within (bound x) (f x)) →
+    (xs : List X) → Within (sum_by bound xs) (total f xs)
 total-within f bound each [] = record { low = omega (arith, ints); high = omega (arith, ints) }
 total-within f bound each (x ∷ xs) =
     let first = each x in
@@ -33,27 +36,32 @@ total-within f bound each (x ∷ xs) =
     record { low = omega (arith, ints); high = omega (arith, ints) }
 
 -- what a part of the list adds up to is the sum over the list that takes nothing of the rest
-pub total-filter : {X : Type 0} (p : X → Bool) (f : X → ℤ) (xs : List X) → total f (filter p xs) ≡ total (λ x. cond (p x) (f x) (pos 0)) xs
+pub total-filter : {X : Type 0} (p : X → Bool) (f : X → ℤ) (xs : List X) →
+    total f (filter p xs) ≡ total (λ x. cond (p x) (f x) (pos 0)) xs
 total-filter p f [] = refl
 total-filter p f (x ∷ xs) =
     let e = total-filter p f xs in
-    elim (p x) as (λ b. total f (cond b (x ∷ filter p xs) (filter p xs)) ≡ cond b (f x) (pos 0) +ℤ total (λ x. cond (p x) (f x) (pos 0)) xs) [
+    elim (p x) as (λ b. total f (cond b (x ∷ filter p xs) (filter p xs)) ≡ cond b (f x) (pos 0) +ℤ total
+    (λ x. cond (p x) (f x) (pos 0)) xs) [
       | true ↦ ap (λ z. f x +ℤ z) e
       | false ↦ omega (arith, ints)
     ]
 
 -- a list adds up to its two parts
-pub total-parts : {X : Type 0} (f : X → ℤ) (p : X → Bool) (xs : List X) → total f xs ≡ total f (filter p xs) +ℤ total f (filter (λ x. not (p x)) xs)
+pub total-parts : {X : Type 0} (f : X → ℤ) (p : X → Bool) (xs : List X) → total f xs ≡ total f (filter p xs) +ℤ total f
+    (filter (λ x. not (p x)) xs)
 total-parts f p [] = refl
 total-parts f p (x ∷ xs) =
     let e = total-parts f p xs in
-    elim (p x) as (λ b. f x +ℤ total f xs ≡ total f (cond b (x ∷ filter p xs) (filter p xs)) +ℤ total f (cond (not b) (x ∷ filter (λ x. not (p x)) xs) (filter (λ x. not (p x)) xs))) [
+    elim (p x) as (λ b. f x +ℤ total f xs ≡ total f (cond b (x ∷ filter p xs) (filter p xs)) +ℤ total f
+    (cond (not b) (x ∷ filter (λ x. not (p x)) xs) (filter (λ x. not (p x)) xs))) [
       | true ↦ omega (arith, ints)
       | false ↦ omega (arith, ints)
     ]
 
 -- the sum is the one of what is above zero, less the one of what is below
-pub total-difference : {X : Type 0} (f : X → ℤ) (xs : List X) → up (total f xs) + sum_by (λ x. down (f x)) xs ≡ down (total f xs) + sum_by (λ x. up (f x)) xs
+pub total-difference : {X : Type 0} (f : X → ℤ) (xs : List X) → up (total f xs) + sum_by (λ x. down (f x)) xs ≡ down
+    (total f xs) + sum_by (λ x. up (f x)) xs
 total-difference f [] = refl
 total-difference f (x ∷ xs) =
     let e = total-difference f xs in

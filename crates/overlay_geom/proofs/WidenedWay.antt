@@ -1,4 +1,5 @@
--- The coordinate part of the way between two others that the program computes of widened numbers is the one between those that it widened.
+-- The coordinate part of the way between two others that the program computes of widened numbers is the one between
+-- those that it widened.
 use Rattle.std.proofs.Common.{◌≡◌, ℕ, ◌<◌, ◌^◌, ℤ, pos, ◌<ℤ◌, ◌≤ℤ◌, ◌∙◌, refl, arith, to_z, of_z, FitsSigned}
 use Rattle.std.proofs.lemmas.Int.{ints, to_z-of_z}
 use Rattle.overlay_geom.specs.Numbers.{Within}
@@ -22,12 +23,17 @@ pub record Way (n k : Width) (m b : ℕ) (u v t d : ℤ) : Type 0 where
 
 -- a part is within the limit of the whole
 part-within : (b : ℕ) (t d : ℤ) → pos 0 ≤ℤ t → t ≤ℤ d → Within b d → Within b t
-part-within b t d begun part limit = record { low = omega (arith, ints, limit.low, limit.high); high = omega (arith, ints, limit.high) }
+part-within b t d begun part limit = record {
+  low = omega (arith, ints, limit.low, limit.high);
+  high = omega (arith, ints, limit.high);
+}
 
 -- what is computed of the widened numbers is the place on the way, and lies within the coordinates' limit
-pub Exact-part_way : (n k : Width) (m b : ℕ) (u v t d from to part whole result : ℤ) → m < 2 ^ hbits w64 → b < 2 ^ hbits w128 → Way n k m b u v t d →
+pub Exact-part_way : (n k : Width) (m b : ℕ) (u v t d from to part whole result : ℤ) → m < 2 ^ hbits w64 →
+    b < 2 ^ hbits w128 → Way n k m b u v t d →
     from ≡ to_z n (of_z n u) → to ≡ to_z n (of_z n v) → part ≡ to_z k (of_z k t) → whole ≡ to_z k (of_z k d) →
-    result ≡ place (to_z w64 (of_z w64 from)) (to_z w64 (of_z w64 to)) (to_z w128 (of_z w128 part)) (to_z w128 (of_z w128 whole)) →
+    result ≡ place (to_z w64 (of_z w64 from)) (to_z w64 (of_z w64 to)) (to_z w128 (of_z w128 part))
+    (to_z w128 (of_z w128 whole)) →
     Exact m (place u v t d) (to_z w64 (of_z w64 result))
 Exact-part_way n k m b u v t d from to part whole result room wide_room way a e f g h =
     Exact-stored w64 m (place u v t d) result room
@@ -51,5 +57,6 @@ pub Exact-fits : (w : Width) (m : ℕ) (z computed : ℤ) → m < 2 ^ hbits w �
 Exact-fits w m z computed room e = rw e.same (Within-fits w m z room e.within)
 
 -- and comes back from its bits as it was
-pub Exact-narrowed : (w : Width) (m : ℕ) (z computed : ℤ) → m < 2 ^ hbits w → Exact m z computed → to_z w (of_z w computed) ≡ z
+pub Exact-narrowed : (w : Width) (m : ℕ) (z computed : ℤ) → m < 2 ^ hbits w → Exact m z computed →
+    to_z w (of_z w computed) ≡ z
 Exact-narrowed w m z computed room e = to_z-of_z w computed (Exact-fits w m z computed room e) ∙ e.same

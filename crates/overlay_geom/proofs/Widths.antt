@@ -42,13 +42,15 @@ pub record Exact (m : ℕ) (z computed : ℤ) : Type 0 where
   pub within : Within m z
 
 -- a number within a limit for which the width has room, read back from its bits
-pub Exact-stored : (w : Width) (m : ℕ) (z computed : ℤ) → m < 2 ^ hbits w → Within m z → computed ≡ z → Exact m z (to_z w (of_z w computed))
+pub Exact-stored : (w : Width) (m : ℕ) (z computed : ℤ) → m < 2 ^ hbits w → Within m z → computed ≡ z →
+    Exact m z (to_z w (of_z w computed))
 Exact-stored w m z computed room h e =
     let fits : FitsSigned w z = Within-fits w m z room h in
     record { same = rw (e, to_z-of_z w z fits) refl; within = h }
 
 -- a number widened from the width n to w
-pub Exact-widened : (n w : Width) (m : ℕ) (z widened : ℤ) → m < 2 ^ hbits w → FitsSigned n z → Within m z → widened ≡ to_z n (of_z n z) → Exact m z (to_z w (of_z w widened))
+pub Exact-widened : (n w : Width) (m : ℕ) (z widened : ℤ) → m < 2 ^ hbits w → FitsSigned n z → Within m z →
+    widened ≡ to_z n (of_z n z) → Exact m z (to_z w (of_z w widened))
 Exact-widened n w m z widened room fits h e =
     Exact-stored w m z widened room h (rw (e, to_z-of_z n z fits) refl)
 
@@ -61,7 +63,8 @@ abbrev pub cross_at : Width → ℤ → ℤ → ℤ → ℤ → ℤ
 cross_at w p q r s = product_at w p q -ℤ product_at w r s
 
 -- the product of two numbers
-pub Exact-times : (w : Width) (m : ℕ) (a b x y : ℤ) → m * m < 2 ^ hbits w → Exact m a x → Exact m b y → Exact (m * m) (a *ℤ b) (to_z w (of_z w (x *ℤ y)))
+pub Exact-times : (w : Width) (m : ℕ) (a b x y : ℤ) → m * m < 2 ^ hbits w → Exact m a x → Exact m b y →
+    Exact (m * m) (a *ℤ b) (to_z w (of_z w (x *ℤ y)))
 Exact-times w m a b x y room u v =
     Exact-stored w (m * m) (a *ℤ b) (x *ℤ y) room (Within-times m a b u.within v.within) (rw (u.same, v.same) refl)
 
@@ -71,7 +74,8 @@ pub record IsCross (w : Width) (m : ℕ) (ax ay bx by computed : ℤ) : Type 0 w
   pub exact : Exact (2 * (m * m)) (ax *ℤ by -ℤ ay *ℤ bx) (to_z w (of_z w computed))
 
 -- the difference of two products is exact where the width has room for it
-pub IsCross-minus : (w : Width) (m : ℕ) (ax ay bx by x y : ℤ) → 2 * (m * m) < 2 ^ hbits w → Exact (m * m) (ax *ℤ by) x → Exact (m * m) (ay *ℤ bx) y → IsCross w m ax ay bx by (x -ℤ y)
+pub IsCross-minus : (w : Width) (m : ℕ) (ax ay bx by x y : ℤ) → 2 * (m * m) < 2 ^ hbits w → Exact (m * m) (ax *ℤ by) x →
+    Exact (m * m) (ay *ℤ bx) y → IsCross w m ax ay bx by (x -ℤ y)
 IsCross-minus w m ax ay bx by x y room u v =
     let value : x -ℤ y ≡ ax *ℤ by -ℤ ay *ℤ bx = rw (u.same, v.same) refl in
     let within = Within-minus (m * m) (ax *ℤ by) (ay *ℤ bx) (ax *ℤ by -ℤ ay *ℤ bx) u.within v.within refl in

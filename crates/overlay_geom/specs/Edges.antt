@@ -46,14 +46,29 @@ counts_nothing e = int_eq e.subj (pos 0) && int_eq e.clip (pos 0) && not e.along
 
 -- the edge of a subject's step
 abbrev pub subject_edge : Step → CountedEdge
-subject_edge s = record { a = (edge_of s).a; b = (edge_of s).b; subj = sign_of s; clip = pos 0; along = false; against = false }
+subject_edge s = record {
+  a = (edge_of s).a;
+  b = (edge_of s).b;
+  subj = sign_of s;
+  clip = pos 0;
+  along = false;
+  against = false;
+}
 
 -- the edge of a clip's step
 abbrev pub clip_edge : Step → CountedEdge
-clip_edge s = record { a = (edge_of s).a; b = (edge_of s).b; subj = pos 0; clip = sign_of s; along = false; against = false }
+clip_edge s = record {
+  a = (edge_of s).a;
+  b = (edge_of s).b;
+  subj = pos 0;
+  clip = sign_of s;
+  along = false;
+  against = false;
+}
 
 -- the content is the one before, followed by the edges of the contour's steps, as given or thinned
-pub record AddsContour (keep_points : Bool) (edge_for : Step → CountedEdge) (given : List Point) (old new : List CountedEdge) : Type 0 where
+pub record AddsContour (keep_points : Bool) (edge_for : Step → CountedEdge) (given : List Point)
+    (old new : List CountedEdge) : Type 0 where
   pub taken : List Point
   pub thinned : IsKeptOrThinned keep_points given taken
   pub content : new ≡ old ++ map edge_for (steps_of taken)

@@ -1,14 +1,17 @@
--- Merging: equal edges become one, their counts are summed, their marks kept, and edges without counts and marks are dropped.
+-- Merging: equal edges become one, their counts are summed, their marks kept, and edges without counts and marks are
+-- dropped.
 use Rattle.std.specs.Prelude.{◌≡◌, ◌⊎◌, true, false, List, filter, All, AllPairs, Contains}
 use Rattle.std.specs.List.{list_any}
 use Rattle.overlay_geom.specs.Plane.{PlanePoint, Edge, edge_eq, edge_lt, total}
-use Rattle.overlay_geom.specs.Edges.{CountedEdge, ends_of, subj_of, clip_of, goes_along, goes_against, counts_nothing, winding_by}
+use Rattle.overlay_geom.specs.Edges.{CountedEdge, ends_of, subj_of, clip_of, goes_along, goes_against, counts_nothing}
+use Rattle.overlay_geom.specs.Edges.{winding_by}
 
 -- the edges of the list that have these ends
 abbrev pub edges_between : List CountedEdge → Edge → List CountedEdge
 edges_between es e = filter (λ f. edge_eq (ends_of f) e) es
 
--- the one edge that the edges with these ends become: their counts are summed, and it has the marks that any of them has
+-- the one edge that the edges with these ends become: their counts are summed, and it has the marks that any of them
+-- has
 abbrev pub joined_edge : List CountedEdge → Edge → CountedEdge
 joined_edge es e = record {
   a = e.a;
@@ -23,7 +26,8 @@ joined_edge es e = record {
 pub record IsMerged (old new : List CountedEdge) : Type 0 where
   pub ascending : AllPairs (λ e f. edge_lt (ends_of e) (ends_of f) ≡ true) new
   pub joined : All (λ e. (e ≡ joined_edge old (ends_of e)) × (counts_nothing e ≡ false)) new
-  pub complete : All (λ e. (counts_nothing (joined_edge old (ends_of e)) ≡ true) ⊎ Contains new (joined_edge old (ends_of e))) old
+  pub complete : All (λ e. (counts_nothing (joined_edge old (ends_of e)) ≡ true) ⊎ Contains new
+      (joined_edge old (ends_of e))) old
 
 -- the two lists make the same windings at every point of the plane
 pub record HaveSameWindings (old new : List CountedEdge) : Type 0 where

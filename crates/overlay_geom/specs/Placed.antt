@@ -16,7 +16,8 @@ IsBeside e f =
 abbrev pub IsAcross : Edge → Edge → Type 0
 IsAcross e f =
     ((cross_at e.a e.b f.a ≤ℤ pos 0) × (pos 0 ≤ℤ cross_at e.a e.b f.b) × (cross_at e.a e.b f.a <ℤ cross_at e.a e.b f.b))
-    ⊎ ((cross_at e.a e.b f.b ≤ℤ pos 0) × (pos 0 ≤ℤ cross_at e.a e.b f.a) × (cross_at e.a e.b f.b <ℤ cross_at e.a e.b f.a))
+    ⊎ ((cross_at e.a e.b f.b ≤ℤ pos 0) × (pos 0 ≤ℤ cross_at e.a e.b f.a)
+    × (cross_at e.a e.b f.b <ℤ cross_at e.a e.b f.a))
 
 -- of two edges on one line: each begins before the other one ends
 abbrev pub do_overlap : Edge → Edge → Bool

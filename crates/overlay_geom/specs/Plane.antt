@@ -1,5 +1,7 @@
--- Whole points, plane points with rational coordinates, steps between whole points and their edges, and windings as sums along a ray downwards.
-use Rattle.std.specs.Prelude.{◌≡◌, ◌⊎◌, Bool, cond, ◌&&◌, ◌||◌, ℤ, pos, negsuc, ◌+ℤ◌, ◌-ℤ◌, ◌*ℤ◌, ◌<ℤ◌, ◌≤ℤ◌, int_lt, int_le}
+-- Whole points, plane points with rational coordinates, steps between whole points and their edges, and windings as
+-- sums along a ray downwards.
+use Rattle.std.specs.Prelude.{◌≡◌, ◌⊎◌, Bool, cond, ◌&&◌, ◌||◌, ℤ, pos, negsuc, ◌+ℤ◌, ◌-ℤ◌, ◌*ℤ◌, ◌<ℤ◌, ◌≤ℤ◌, int_lt}
+use Rattle.std.specs.Prelude.{int_le}
 use Rattle.std.specs.Prelude.{List, [], ◌∷◌, ◌++◌, map, reverse, All}
 use Rattle.std.specs.Ordering.{int_eq}
 
@@ -65,7 +67,8 @@ sign_of s = cond (is_forward s) (pos 1) (negsuc 0)
 abbrev pub reversed_step : Step → Step
 reversed_step s = record { from = s.to; to = s.from }
 
--- the cross product of the ways from v to p and from v to q: positive where q lies to the left of the ray from v through p
+-- the cross product of the ways from v to p and from v to q: positive where q lies to the left of the ray from v
+-- through p
 abbrev pub cross_at : Point → Point → Point → ℤ
 cross_at v p q = (p.x -ℤ v.x) *ℤ (q.y -ℤ v.y) -ℤ (p.y -ℤ v.y) *ℤ (q.x -ℤ v.x)
 
@@ -77,7 +80,8 @@ line_form e x y d = (e.b.x -ℤ e.a.x) *ℤ (y -ℤ e.a.y *ℤ d) -ℤ (e.b.y -�
 abbrev pub side : Edge → PlanePoint → ℤ
 side e p = line_form e p.x p.y p.d
 
--- the edge is strictly below p: p.x is in the edge's span, of which the right end is no part, and p lies strictly to the left of the walk from a to b
+-- the edge is strictly below p: p.x is in the edge's span, of which the right end is no part, and p lies strictly to
+-- the left of the walk from a to b
 abbrev pub is_strictly_below : Edge → PlanePoint → Bool
 is_strictly_below e p = int_le (e.a.x *ℤ p.d) p.x && int_lt p.x (e.b.x *ℤ p.d) && int_lt (pos 0) (side e p)
 

@@ -13,7 +13,8 @@ MeetInEnds e f = (p : PlanePoint) → IsCommon e f p → IsEnd e p × IsEnd f p
 
 -- any two entries of the list with different edges meet in ends alone
 abbrev pub IsSettledBy : {X : Type 0} → (X → Edge) → List X → Type 0
-IsSettledBy {X} ends xs = (x y : X) → Contains xs x → Contains xs y → edge_eq (ends x) (ends y) ≡ false → MeetInEnds (ends x) (ends y)
+IsSettledBy {X} ends xs = (x y : X) → Contains xs x → Contains xs y → edge_eq (ends x) (ends y) ≡ false →
+    MeetInEnds (ends x) (ends y)
 
 -- any two different edges of the list meet in ends alone
 abbrev pub IsSettled : List CountedEdge → Type 0

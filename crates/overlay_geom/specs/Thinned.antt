@@ -18,10 +18,12 @@ IsOnOneLine u v w = cross_at u v w ≡ pos 0
 abbrev pub IsStraightAt : List Point → ℕ → Type 0
 IsStraightAt ps k = IsOnOneLine (point_round ps (k + length ps - 1)) (point_round ps k) (point_round ps (k + 1))
 
--- the first closed list is thinned to the second: points on one line with their two neighbours are dropped one by one, until none is left
+-- the first closed list is thinned to the second: points on one line with their two neighbours are dropped one by one,
+-- until none is left
 pub data IsThinned : List Point → List Point → Type 0 where
   thin : {ps : List Point} → ((k : ℕ) → k < length ps → ¬ (IsStraightAt ps k)) → IsThinned ps ps
-  drop_one : {ps qs : List Point} (k : ℕ) → k < length ps → IsStraightAt ps k → IsThinned (remove ps k) qs → IsThinned ps qs
+  drop_one : {ps qs : List Point} (k : ℕ) → k < length ps → IsStraightAt ps k → IsThinned (remove ps k) qs →
+      IsThinned ps qs
 
 -- the list is taken as given where points are kept, and thinned otherwise
 abbrev pub IsKeptOrThinned : Bool → List Point → List Point → Type 0

@@ -126,7 +126,9 @@ pub trait IntNumber: Copy {
         requires part { Self.Wide.whole t ≤ℤ Self.Wide.whole d }
         requires divides { pos 0 <ℤ Self.Wide.whole d }
         requires fits { Within Self.Wide.limit (Self.Wide.whole d) }
-        ensures { whole result ≡ nearest (whole self *ℤ Self.Wide.whole d +ℤ (whole to -ℤ whole self) *ℤ Self.Wide.whole t) (Self.Wide.whole d) };
+        ensures { whole result
+            ≡ nearest (whole self *ℤ Self.Wide.whole d +ℤ (whole to -ℤ whole self) *ℤ Self.Wide.whole t)
+            (Self.Wide.whole d) };
 
     // Two coordinates that stand for one number are one.
     ghost same: { (a b : Self) → whole a ≡ whole b → a ≡ b };

@@ -11,26 +11,32 @@ use Rattle.overlay_plane.specs.Arrangements.{IsReachedBy, ArrangementsKeepBalanc
 use Rattle.overlay_plane.proofs.KeepingBalance.{merging_keeps_balance, cutting_keeps_balance}
 
 -- what a round leaves has balanced counts
-balance_after_round : (old : List CountedEdge) (r : Round) → IsRound old r → HasBalancedCounts old → HasBalancedCounts (pieces_of r)
-balance_after_round old r round balanced = cutting_keeps_balance r.edges (whole_cuts r) (merging_keeps_balance old r.edges round.merged balanced)
+balance_after_round : (old : List CountedEdge) (r : Round) → IsRound old r → HasBalancedCounts old →
+    HasBalancedCounts (pieces_of r)
+balance_after_round old r round balanced = cutting_keeps_balance r.edges (whole_cuts r)
+    (merging_keeps_balance old r.edges round.merged balanced)
 
 -- and so has what all rounds leave
 balance_after_rounds : (old : List CountedEdge) (rounds : List Round) → AreRounds old rounds →
     HasBalancedCounts old → HasBalancedCounts (after_rounds old rounds)
 balance_after_rounds old [] cut balanced = balanced
-balance_after_rounds old (r ∷ rounds) cut balanced = balance_after_rounds (pieces_of r) rounds cut.1 (balance_after_round old r cut.0 balanced)
+balance_after_rounds old (r ∷ rounds) cut balanced = balance_after_rounds (pieces_of r) rounds cut.1
+    (balance_after_round old r cut.0 balanced)
 
 -- the law of balance
 pub arrangements_keep_balance : ArrangementsKeepBalance
 arrangements_keep_balance rounds old new reached balanced =
-    merging_keeps_balance (after_rounds old rounds) new reached.merged (balance_after_rounds old rounds reached.cut balanced)
+    merging_keeps_balance (after_rounds old rounds) new reached.merged
+    (balance_after_rounds old rounds reached.cut balanced)
 
 -- a list that is merged and settled takes no round
 pub no_round_on_settled : (old : List CountedEdge) (r : Round) → IsMerged old old → IsSettled old → ¬ (IsRound old r)
-no_round_on_settled old r merged settled round = round.unsettled (subst IsSettled (IsMerged-unique old old r.edges merged round.merged) settled)
+no_round_on_settled old r merged settled round = round.unsettled
+    (subst IsSettled (IsMerged-unique old old r.edges merged round.merged) settled)
 
 -- so none can be taken on a list that was arranged
-pub no_rounds_again : (earlier again : List Round) (before old : List CountedEdge) → IsReachedBy earlier before old → AreRounds old again → 1 ≤ length again → ⊥
+pub no_rounds_again : (earlier again : List Round) (before old : List CountedEdge) → IsReachedBy earlier before old →
+    AreRounds old again → 1 ≤ length again → ⊥
 no_rounds_again earlier [] before old reached cut some = omega arith
 no_rounds_again earlier (r ∷ again) before old reached cut some =
     no_round_on_settled old r (IsMerged-again (after_rounds before earlier) old reached.merged) reached.settled cut.0

@@ -1,10 +1,13 @@
--- A step on a given line is strictly below a plane point by where its ends lie: its sign there is a difference at its ends.
-use Rattle.std.proofs.Common.{◌≡◌, Bool, true, false, cond, not, ◌&&◌, ◌||◌, ℤ, pos, negsuc, ◌-ℤ◌, ◌*ℤ◌, ◌<ℤ◌, ◌≤ℤ◌, int_lt, [], ◌∷◌, refl, sym, ap, ◌∙◌, arith}
+-- A step on a given line is strictly below a plane point by where its ends lie: its sign there is a difference at its
+-- ends.
+use Rattle.std.proofs.Common.{◌≡◌, Bool, true, false, cond, not, ◌&&◌, ◌||◌, ℤ, pos, negsuc, ◌-ℤ◌, ◌*ℤ◌, ◌<ℤ◌, ◌≤ℤ◌}
+use Rattle.std.proofs.Common.{int_lt, [], ◌∷◌, refl, sym, ap, ◌∙◌, arith}
 use Rattle.std.specs.Ordering.{int_eq}
 use Rattle.std.proofs.lemmas.Bool.{false≢true}
 use Rattle.std.proofs.lemmas.Int.{ints, by_lt_z}
 use lib.IntN.{*ℤ_comm, +ℤ_idr}
-use Rattle.overlay_geom.specs.Plane.{Point, PlanePoint, Step, Edge, side, in_plane, point_eq, point_lt, edge_of, sign_of, is_strictly_below, steps_between, total}
+use Rattle.overlay_geom.specs.Plane.{Point, PlanePoint, Step, Edge, side, in_plane, point_eq, point_lt, edge_of}
+use Rattle.overlay_geom.specs.Plane.{sign_of, is_strictly_below, steps_between, total}
 use Rattle.overlay_geom.proofs.Identities.{solve, number, ◌⊕◌, ◌⊗◌, ◌⊖◌, ◌≗◌}
 use Rattle.overlay_geom.proofs.Signs.{linear, mul-pos, mul-le, mul-zero, pos_of_mul-pos, lt_of_mul-lt}
 use Rattle.overlay_geom.proofs.Orders.{point_eq-same}
@@ -35,8 +38,10 @@ IsOnLine e v = side e (in_plane v) ≡ pos 0
 -- two numbers whose products with numbers above 0 are equal pass the test for above 0 together
 same_sign : (w z v y : ℤ) → pos 0 <ℤ w → pos 0 <ℤ v → w *ℤ z ≡ v *ℤ y → int_lt (pos 0) z ≡ int_lt (pos 0) y
 same_sign w z v y pw pv e = same_tests (int_lt (pos 0) z) (int_lt (pos 0) y)
-    (λ t. test_from_lt (pos 0) y (pos_of_mul-pos v y pv (let more = mul-pos w z pw (lt_from_test (pos 0) z t) in omega linear)))
-    (λ t. test_from_lt (pos 0) z (pos_of_mul-pos w z pw (let more = mul-pos v y pv (lt_from_test (pos 0) y t) in omega linear)))
+    (λ t. test_from_lt (pos 0) y (pos_of_mul-pos v y pv (let more = mul-pos w z pw (lt_from_test (pos 0) z t) in
+    omega linear)))
+    (λ t. test_from_lt (pos 0) z (pos_of_mul-pos w z pw (let more = mul-pos v y pv (lt_from_test (pos 0) y t) in
+    omega linear)))
 
 -- what is left of a point is left of each further right
 left_further : (p : PlanePoint) (u v : Point) → u.x ≤ℤ v.x → is_left_of p u ≡ true → is_left_of p v ≡ true
@@ -58,7 +63,8 @@ grows_across p u v right left =
     lt_of_mul-lt p.d u.x v.x p.positive (omega linear)
 
 -- a and b are whether p is left of the two ends, s whether it is above the edge, h whether it is above the line
-crossed : (a b s h : Bool) → (a ≡ true → b ≡ true) → (a ≡ false → b ≡ true → s ≡ h) → one_if (not a && b && s) ≡ one_if (b && h) -ℤ one_if (a && h)
+crossed : (a b s h : Bool) → (a ≡ true → b ≡ true) → (a ≡ false → b ≡ true → s ≡ h) →
+    one_if (not a && b && s) ≡ one_if (b && h) -ℤ one_if (a && h)
 crossed true true s true f g = refl
 crossed true true s false f g = refl
 crossed true false s h f g = let no = f refl in cc
@@ -75,7 +81,9 @@ sides_in_proportion : (e : Edge) (q r : Point) (p : PlanePoint) → IsOnLine e q
     width e *ℤ side (record { a = q; b = r }) p ≡ (r.x -ℤ q.x) *ℤ side e p
 sides_in_proportion e q r p on_q on_r =
     let identity = solve 11
-    (λ ax ay bx by qx qy rx ry x y d. (bx ⊖ ax) ⊗ formE qx qy rx ry x y d ≗ (rx ⊖ qx) ⊗ formE ax ay bx by x y d ⊕ ((x ⊖ rx ⊗ d) ⊗ formE ax ay bx by qx qy (number (pos 1)) ⊕ (qx ⊗ d ⊖ x) ⊗ formE ax ay bx by rx ry (number (pos 1)))) tt
+    (λ ax ay bx by qx qy rx ry x y d. (bx ⊖ ax) ⊗ formE qx qy rx ry x y d ≗ (rx ⊖ qx) ⊗ formE ax ay bx by x y d ⊕
+    ((x ⊖ rx ⊗ d) ⊗ formE ax ay bx by qx qy (number (pos 1)) ⊕ (qx ⊗ d ⊖ x) ⊗ formE ax ay bx by rx ry
+    (number (pos 1)))) tt
     e.a.x e.a.y e.b.x e.b.y q.x q.y r.x r.y p.x p.y p.d in
     let none_q = mul-zero (p.x -ℤ r.x *ℤ p.d) (side e (in_plane q)) on_q in
     let none_r = mul-zero (q.x *ℤ p.d -ℤ p.x) (side e (in_plane r)) on_r in
@@ -101,10 +109,14 @@ module _ (e : Edge) (p : PlanePoint) (wide : pos 0 <ℤ width e) where
   pub below_on_line : (q r : Point) → IsOnLine e q → IsOnLine e r → q.x ≤ℤ r.x →
       one_if (is_strictly_below (record { a = q; b = r }) p) ≡ left_above e p r -ℤ left_above e p q
   below_on_line q r on_q on_r order =
-      ap (λ t. one_if (t && is_left_of p r && int_lt (pos 0) (side (record { a = q; b = r }) p))) (int_le-not (q.x *ℤ p.d) p.x)
-      ∙ crossed (is_left_of p q) (is_left_of p r) (int_lt (pos 0) (side (record { a = q; b = r }) p)) (int_lt (pos 0) (side e p))
+      ap (λ t. one_if (t && is_left_of p r && int_lt (pos 0) (side (record { a = q; b = r }) p)))
+      (int_le-not (q.x *ℤ p.d) p.x)
+      ∙ crossed (is_left_of p q) (is_left_of p r) (int_lt (pos 0) (side (record { a = q; b = r }) p))
+      (int_lt (pos 0) (side e p))
       (left_further p q r order)
-      (λ right left. let grows = grows_across p q r right left in same_sign (width e) (side (record { a = q; b = r }) p) (r.x -ℤ q.x) (side e p) wide (omega linear) (sides_in_proportion e q r p on_q on_r))
+      (λ right left. let grows = grows_across p q r right left in
+      same_sign (width e) (side (record { a = q; b = r }) p) (r.x -ℤ q.x) (side e p) wide (omega linear)
+      (sides_in_proportion e q r p on_q on_r))
 
   -- so is a step there, with its sign
   pub winding_part-on_line : (q r : Point) → IsOnLine e q → IsOnLine e r →
@@ -112,14 +124,17 @@ module _ (e : Edge) (p : PlanePoint) (wide : pos 0 <ℤ width e) where
   winding_part-on_line q r on_q on_r = by_equal (point_eq q r) refl
     where
       by_way : (t : Bool) → point_lt q r ≡ t →
-          cond (is_strictly_below (cond t (record { a = q; b = r }) (record { a = r; b = q })) p) (cond t (pos 1) (negsuc 0)) (pos 0) ≡ left_above e p r -ℤ left_above e p q
+          cond (is_strictly_below (cond t (record { a = q; b = r }) (record { a = r; b = q })) p)
+          (cond t (pos 1) (negsuc 0)) (pos 0) ≡ left_above e p r -ℤ left_above e p q
       by_way true forward = below_on_line q r on_q on_r (starts_first (record { a = q; b = r }) forward)
       by_way false back =
-          sign_back (is_strictly_below (record { a = r; b = q }) p) (left_above e p q) (left_above e p r) (below_on_line r q on_r on_q (not_smaller q r back))
+          sign_back (is_strictly_below (record { a = r; b = q }) p) (left_above e p q) (left_above e p r)
+          (below_on_line r q on_r on_q (not_smaller q r back))
 
       by_equal : (t : Bool) → point_eq q r ≡ t →
           total (winding_part p) (cond t [] (record { from = q; to = r } ∷ [])) ≡ left_above e p r -ℤ left_above e p q
-      by_equal true same = nothing_left (left_above e p r) ∙ ap (λ v. left_above e p r -ℤ left_above e p v) (sym (point_eq-same q r same))
+      by_equal true same = nothing_left (left_above e p r) ∙ ap (λ v. left_above e p r -ℤ left_above e p v)
+          (sym (point_eq-same q r same))
       by_equal false apart = +ℤ_idr (winding_part p (record { from = q; to = r })) ∙ by_way (point_lt q r) refl
 
 -- a vertical edge is strictly below nothing
@@ -134,10 +149,12 @@ vertical_below p q r level =
     not_both false s = refl
 
 -- so a vertical step adds to no winding
-pub winding_part-vertical : (p : PlanePoint) (q r : Point) → q.x ≡ r.x → total (winding_part p) (steps_between q r) ≡ pos 0
+pub winding_part-vertical : (p : PlanePoint) (q r : Point) → q.x ≡ r.x →
+    total (winding_part p) (steps_between q r) ≡ pos 0
 winding_part-vertical p q r level = by_equal (point_eq q r)
   where
-    by_way : (t : Bool) → cond (is_strictly_below (cond t (record { a = q; b = r }) (record { a = r; b = q })) p) (cond t (pos 1) (negsuc 0)) (pos 0) ≡ pos 0
+    by_way : (t : Bool) → cond (is_strictly_below (cond t (record { a = q; b = r }) (record { a = r; b = q })) p)
+        (cond t (pos 1) (negsuc 0)) (pos 0) ≡ pos 0
     by_way true = ap (λ t. cond t (pos 1) (pos 0)) (vertical_below p q r level)
     by_way false = ap (λ t. cond t (negsuc 0) (pos 0)) (vertical_below p r q (sym level))
 

@@ -5,7 +5,8 @@ use Rattle.std.specs.Bool.{Decides}
 use Rattle.std.proofs.lemmas.Bool.Decides.{Decides-at, not_from_Decides}
 use Rattle.overlay_geom.specs.Plane.{Point, Edge, point_lt}
 use Rattle.overlay_geom.proofs.Orders.{same_point}
-use Rattle.overlay_geom.proofs.PointOrder.{IsBefore, IsUpTo, Decides-point_lt, by_order, before_up_to, up_to_itself, up_to_through, up_to_both}
+use Rattle.overlay_geom.proofs.PointOrder.{IsBefore, IsUpTo, Decides-point_lt, by_order, before_up_to, up_to_itself}
+use Rattle.overlay_geom.proofs.PointOrder.{up_to_through, up_to_both}
 use Rattle.overlay_geom.proofs.Signs.{linear}
 use Rattle.overlay_plane.specs.CutPoints.{comes_first}
 use Rattle.overlay_plane.proofs.InOrderLists.{IsWeakOrder}
@@ -32,13 +33,15 @@ comes_first-along e v w = ap (λ t. int_lt v.x w.x || (int_eq v.x w.x && t)) (by
         (λ t. let lt = lt_from_test z y t in test_from_lt (neg_ℤ y) (neg_ℤ z) (omega linear))
         (λ t. let lt = lt_from_test (neg_ℤ y) (neg_ℤ z) t in test_from_lt z y (omega linear))
 
-    by : (t : Bool) → cond t (int_lt v.y w.y) (int_lt w.y v.y) ≡ int_lt (cond t v.y (neg_ℤ v.y)) (cond t w.y (neg_ℤ w.y))
+    by : (t : Bool) → cond t (int_lt v.y w.y) (int_lt w.y v.y) ≡ int_lt (cond t v.y (neg_ℤ v.y))
+        (cond t w.y (neg_ℤ w.y))
     by true = refl
     by false = turned v.y w.y
 
 -- so the test tells it
 Decides-comes_first : (e : Edge) (v w : Point) → Decides (comes_first e v w) (IsBefore (along e v) (along e w))
-Decides-comes_first e v w = Decides-at (comes_first e v w) _ (comes_first-along e v w) (Decides-point_lt (along e v) (along e w))
+Decides-comes_first e v w = Decides-at (comes_first e v w) _ (comes_first-along e v w)
+    (Decides-point_lt (along e v) (along e w))
 
 -- what comes first comes up to the other
 first_up_to : (e : Edge) (v w : Point) → comes_first e v w ≡ true → IsUpToAlong e v w
@@ -75,7 +78,8 @@ along-antisymmetric e v w first second =
         by false same = omega linear
 
 -- heights in order where e rises, and in reverse order where it falls, are in order along e
-pub height_along-le : (e : Edge) (y z : ℤ) → (e.a.y ≤ℤ e.b.y → y ≤ℤ z) → (e.b.y <ℤ e.a.y → z ≤ℤ y) → height_along e y ≤ℤ height_along e z
+pub height_along-le : (e : Edge) (y z : ℤ) → (e.a.y ≤ℤ e.b.y → y ≤ℤ z) → (e.b.y <ℤ e.a.y → z ≤ℤ y) →
+    height_along e y ≤ℤ height_along e z
 height_along-le e y z rising falling = by (int_le e.a.y e.b.y) refl
   where
     by : (t : Bool) → int_le e.a.y e.b.y ≡ t → cond t y (neg_ℤ y) ≤ℤ cond t z (neg_ℤ z)
@@ -84,4 +88,7 @@ height_along-le e y z rising falling = by (int_le e.a.y e.b.y) refl
 
 -- the start of a forward edge comes up to its end
 pub start_up_to_end : (e : Edge) → IsBefore e.a e.b → IsUpToAlong e e.a e.b
-start_up_to_end e before = record { x = before.x; y = λ le. height_along-le e e.a.y e.b.y (λ rises. rises) (λ falls. omega linear) }
+start_up_to_end e before = record {
+  x = before.x;
+  y = λ le. height_along-le e e.a.y e.b.y (λ rises. rises) (λ falls. omega linear);
+}

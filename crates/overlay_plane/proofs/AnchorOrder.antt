@@ -26,7 +26,8 @@ pub comes_before-itself : (e : Edge) → comes_before e e ≡ false
 comes_before-itself e = false_from_ne_true (comes_before e e) (λ before. ⊎_elim
     (λ less. both_ways (point_lt e.a e.a) (point_lt-itself e.a) less)
     (λ turns. both_ways (turns_left e e) (turns_left-itself e) (and_parts (point_eq e.a e.a) (turns_left e e) turns).1)
-    (or_cases (point_lt e.a e.a) (point_eq e.a e.a && turns_left e e) (and_parts (is_anchored_before e e) (leads_forward e && leads_forward e) before).0))
+    (or_cases (point_lt e.a e.a) (point_eq e.a e.a && turns_left e e)
+    (and_parts (is_anchored_before e e) (leads_forward e && leads_forward e) before).0))
 
 -- by its point an edge comes before another
 before_by_points : (e f : Edge) → point_lt e.a f.a ≡ true → is_anchored_before e f ≡ true
@@ -38,9 +39,11 @@ before_by_slopes e f same left = or_right (point_lt e.a f.a) (point_eq e.a f.a &
     (and_from (point_eq e.a f.a) (turns_left e f) (point_eq-of_same e.a f.a same) left)
 
 -- before an edge that is before another one is before that
-pub comes_before-transitive : (e f g : Edge) → comes_before e f ≡ true → comes_before f g ≡ true → comes_before e g ≡ true
+pub comes_before-transitive : (e f g : Edge) → comes_before e f ≡ true → comes_before f g ≡ true →
+    comes_before e g ≡ true
 comes_before-transitive e f g ef fg =
-    and_from (is_anchored_before e g) (leads_forward e && leads_forward g) anchored (and_from (leads_forward e) (leads_forward g) early.0 late.1)
+    and_from (is_anchored_before e g) (leads_forward e && leads_forward g) anchored
+    (and_from (leads_forward e) (leads_forward g) early.0 late.1)
   where
     first : (is_anchored_before e f ≡ true) × ((leads_forward e && leads_forward f) ≡ true)
     first = and_parts (is_anchored_before e f) (leads_forward e && leads_forward f) ef
@@ -62,7 +65,8 @@ comes_before-transitive e f g ef fg =
 
     slopes : turns_left e f ≡ true → turns_left f g ≡ true → turns_left e g ≡ true
     slopes h k = test_from_lt (pos 0) (edge_turn e g)
-        (left_after_left e f g early.0 early.1 late.1 (lt_from_test (pos 0) (edge_turn e f) h) (lt_from_test (pos 0) (edge_turn f g) k))
+        (left_after_left e f g early.0 early.1 late.1 (lt_from_test (pos 0) (edge_turn e f) h)
+        (lt_from_test (pos 0) (edge_turn f g) k))
 
     anchored : is_anchored_before e g ≡ true
     anchored = ⊎_elim
@@ -83,21 +87,27 @@ both_forward : (e f : Edge) → IsForward e → IsForward f → (leads_forward e
 both_forward e f h k = and_from (leads_forward e) (leads_forward f) h k
 
 -- what is before an edge is before all before which that is
-pub anchored_before-transitive : (e f g : Edge) → IsForward e → IsForward f → IsForward g → is_anchored_before e f ≡ true → is_anchored_before f g ≡ true →
+pub anchored_before-transitive : (e f g : Edge) → IsForward e → IsForward f → IsForward g →
+    is_anchored_before e f ≡ true → is_anchored_before f g ≡ true →
     is_anchored_before e g ≡ true
-anchored_before-transitive e f g he hf hg ef fg = (and_parts (is_anchored_before e g) (leads_forward e && leads_forward g)
-    (comes_before-transitive e f g (and_from (is_anchored_before e f) (leads_forward e && leads_forward f) ef (both_forward e f he hf))
+anchored_before-transitive e f g he hf hg ef fg =
+    (and_parts (is_anchored_before e g) (leads_forward e && leads_forward g)
+    (comes_before-transitive e f g (and_from (is_anchored_before e f) (leads_forward e && leads_forward f) ef
+    (both_forward e f he hf))
     (and_from (is_anchored_before f g) (leads_forward f && leads_forward g) fg (both_forward f g hf hg)))).0
 
 -- no edge is before itself
 pub anchored_before-itself : (e : Edge) → IsForward e → is_anchored_before e e ≡ false
-anchored_before-itself e he = false_from_ne_true (is_anchored_before e e) (λ before. both_ways (comes_before e e) (comes_before-itself e)
+anchored_before-itself e he = false_from_ne_true (is_anchored_before e e)
+    (λ before. both_ways (comes_before e e) (comes_before-itself e)
     (and_from (is_anchored_before e e) (leads_forward e && leads_forward e) before (both_forward e e he he)))
 
 -- of two edges one at most is before the other
-pub anchored_before-one_way : (e f : Edge) → IsForward e → IsForward f → is_anchored_before e f ≡ true → is_anchored_before f e ≡ false
+pub anchored_before-one_way : (e f : Edge) → IsForward e → IsForward f → is_anchored_before e f ≡ true →
+    is_anchored_before f e ≡ false
 anchored_before-one_way e f he hf ef = false_from_ne_true (is_anchored_before f e)
-    (λ fe. both_ways (is_anchored_before e e) (anchored_before-itself e he) (anchored_before-transitive e f e he hf he ef fe))
+    (λ fe. both_ways (is_anchored_before e e) (anchored_before-itself e he)
+    (anchored_before-transitive e f e he hf he ef fe))
 
 -- what is not before another edge does not start before it
 not_by_points : (e f : Edge) → is_anchored_before e f ≡ false → point_lt e.a f.a ≡ false
@@ -110,13 +120,15 @@ not_by_slopes e f not_before same = false_from_ne_true (turns_left e f)
     (λ left. both_ways (is_anchored_before e f) not_before (before_by_slopes e f same left))
 
 -- what is not before an edge is not before what that is not before
-pub anchored_before-chain : (e f g : Edge) → IsForward e → IsForward f → IsForward g → is_anchored_before e f ≡ false → is_anchored_before f g ≡ false →
+pub anchored_before-chain : (e f g : Edge) → IsForward e → IsForward f → IsForward g → is_anchored_before e f ≡ false →
+    is_anchored_before f g ≡ false →
     is_anchored_before e g ≡ false
 anchored_before-chain e f g he hf hg ef fg = false_from_ne_true (is_anchored_before e g)
     (λ eg. ⊎_elim by_points by_slopes (or_cases (point_lt e.a g.a) (point_eq e.a g.a && turns_left e g) eg))
   where
     by_points : point_lt e.a g.a ≡ true → ⊥
-    by_points less = both_ways (point_lt f.a g.a) (not_by_points f g fg) (point_lt-after_up_to f.a e.a g.a (not_by_points e f ef) less)
+    by_points less = both_ways (point_lt f.a g.a) (not_by_points f g fg)
+        (point_lt-after_up_to f.a e.a g.a (not_by_points e f ef) less)
 
     by_slopes : (point_eq e.a g.a && turns_left e g) ≡ true → ⊥
     by_slopes both = at (point_eq e.a f.a) refl
@@ -126,6 +138,7 @@ anchored_before-chain e f g he hf hg ef fg = false_from_ne_true (is_anchored_bef
 
         at : (t : Bool) → point_eq e.a f.a ≡ t → ⊥
         at true same = both_ways (turns_left f g) (not_by_slopes f g fg (sym (point_eq-same e.a f.a same) ∙ together))
-            (left_of_not_left f e g hf he hg (not_by_slopes e f ef (point_eq-same e.a f.a same)) (and_parts (point_eq e.a g.a) (turns_left e g) both).1)
+            (left_of_not_left f e g hf he hg (not_by_slopes e f ef (point_eq-same e.a f.a same))
+            (and_parts (point_eq e.a g.a) (turns_left e g) both).1)
         at false apart = both_ways (point_lt f.a g.a) (not_by_points f g fg)
             (subst (λ (p : Point). point_lt f.a p ≡ true) together (point_lt-back e.a f.a apart (not_by_points e f ef)))

@@ -11,7 +11,8 @@ use Rattle.overlay_plane.proofs.ContourSteps.{contour_long, some_step}
 
 -- a contour has an anchor
 pub anchors_exist : AnchorsExist
-anchors_exist walk contour = anchor_exists walk (contour_long walk contour) (step_round walk 0) (Contains-item_round walk no_step 0 (some_step walk contour))
+anchors_exist walk contour = anchor_exists walk (contour_long walk contour) (step_round walk 0)
+    (Contains-item_round walk no_step 0 (some_step walk contour))
 
 -- a step of the walk goes along its anchor
 pub anchor_step : (walk : List Step) (e : Edge) → IsAnchor walk e → (s : Step) × Contains walk s × (edge_of s ≡ e)

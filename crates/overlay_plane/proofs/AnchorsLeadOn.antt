@@ -1,5 +1,5 @@
--- The anchor of a contour that walks along each edge once is not vertical: two of its edges start in the anchor's point, and were the
--- lowest of them vertical, so would be the other one, and the two would be one edge.
+-- The anchor of a contour that walks along each edge once is not vertical: two of its edges start in the anchor's
+-- point, and were the lowest of them vertical, so would be the other one, and the two would be one edge.
 use Rattle.std.proofs.Common.{◌≡◌, ◌⊎◌, inl, inr, ⊎_elim, Bool, true, false, pos, ◌<ℤ◌, ◌≤ℤ◌}
 use Rattle.std.proofs.Common.{List, Contains, refl, sym, ap, ◌∙◌, subst}
 use Rattle.std.proofs.lemmas.Int.{by_lt_z}
@@ -25,21 +25,25 @@ use Rattle.overlay_plane.proofs.Anchors.{anchor_step}
 use Rattle.overlay_plane.proofs.WhereEdgesStart.{covers_start}
 
 -- a step with an end in v, and none before it, walks along an edge that starts in v
-starts_at : (v : Point) (t : Step) → ¬ (t.from ≡ t.to) → ¬ (StepHasEndBefore v t) → (t.from ≡ v) ⊎ (t.to ≡ v) → (edge_of t).a ≡ v
+starts_at : (v : Point) (t : Step) → ¬ (t.from ≡ t.to) → ¬ (StepHasEndBefore v t) → (t.from ≡ v) ⊎ (t.to ≡ v) →
+    (edge_of t).a ≡ v
 starts_at v t long none ends = by (is_forward t) refl ends
   where
     by : (b : Bool) → is_forward t ≡ b → (t.from ≡ v) ⊎ (t.to ≡ v) → (edge_by b t).a ≡ v
     by true forward (inl from) = from
     by true forward (inr to) = absurd (none (inl (subst (λ (p : Point). point_lt t.from p ≡ true) to forward)))
-    by false back (inl from) = absurd (none (inr (subst (λ (p : Point). point_lt t.to p ≡ true) from (larger_otherwise t.from t.to long back))))
+    by false back (inl from) = absurd
+        (none (inr (subst (λ (p : Point). point_lt t.to p ≡ true) from (larger_otherwise t.from t.to long back))))
     by false back (inr to) = to
 
-module _ (walk : List Step) (contour : IsContour walk) (s : Step) (c : Contains walk s) (anchor : IsAnchor walk (edge_of s)) where
+module _ (walk : List Step) (contour : IsContour walk) (s : Step) (c : Contains walk s)
+    (anchor : IsAnchor walk (edge_of s)) where
   -- another step walks along an edge that starts where the anchor does: the one before it, or the one after it
   other_step : (t : Step) × Contains walk t × ((edge_of t).a ≡ (edge_of s).a) × ¬ (s ≡ t)
   other_step = by (is_forward s) refl
     where
-      starts : (t : Step) → Contains walk t → (t.from ≡ (edge_of s).a) ⊎ (t.to ≡ (edge_of s).a) → (edge_of t).a ≡ (edge_of s).a
+      starts : (t : Step) → Contains walk t → (t.from ≡ (edge_of s).a) ⊎ (t.to ≡ (edge_of s).a) →
+          (edge_of t).a ≡ (edge_of s).a
       starts t d ends = starts_at (edge_of s).a t (contour_long walk contour t d) (anchor.leftmost t d) ends
 
       own : (b : Bool) → is_forward s ≡ b → (edge_of s).a ≡ (edge_by b s).a
@@ -47,17 +51,26 @@ module _ (walk : List Step) (contour : IsContour walk) (s : Step) (c : Contains 
 
       by : (b : Bool) → is_forward s ≡ b → (t : Step) × Contains walk t × ((edge_of t).a ≡ (edge_of s).a) × ¬ (s ≡ t)
       by true is =
-          let t = step_before walk contour s c in
-          (t.0, t.1, starts t.0 t.1 (inr (t.2 ∙ sym (own true is))), λ same. contour_long walk contour s c (sym t.2 ∙ sym (ap (λ (u : Step). u.to) same)))
+          let t = step_before walk contour s c in (
+            t.0,
+            t.1,
+            starts t.0 t.1 (inr (t.2 ∙ sym (own true is))),
+            λ same. contour_long walk contour s c (sym t.2 ∙ sym (ap (λ (u : Step). u.to) same)),
+          )
       by false is =
-          let t = step_after walk contour s c in
-          (t.0, t.1, starts t.0 t.1 (inl (t.2 ∙ sym (own false is))), λ same. contour_long walk contour s c (ap (λ (u : Step). u.from) same ∙ t.2))
+          let t = step_after walk contour s c in (
+            t.0,
+            t.1,
+            starts t.0 t.1 (inl (t.2 ∙ sym (own false is))),
+            λ same. contour_long walk contour s c (ap (λ (u : Step). u.from) same ∙ t.2),
+          )
 
   module _ (once : HasEachEdgeOnce walk) (settled : IsSettledBy edge_of walk) where
     -- its edge is another one
     other_edge : edge_eq (edge_of other_step.0) (edge_of s) ≡ false
     other_edge = ⊎_elim (λ before. edge_eq-flip (edge_of s) (edge_of other_step.0) before) (λ after. after)
-        (either_way (λ t u. edge_eq (edge_of t) (edge_of u) ≡ false) walk (Each-from_all_pairs (λ t u. edge_eq (edge_of t) (edge_of u) ≡ false) walk once)
+        (either_way (λ t u. edge_eq (edge_of t) (edge_of u) ≡ false) walk
+        (Each-from_all_pairs (λ t u. edge_eq (edge_of t) (edge_of u) ≡ false) walk once)
         s other_step.0 c other_step.1 other_step.3)
 
     -- so the anchor is not vertical
@@ -87,7 +100,8 @@ module _ (walk : List Step) (contour : IsContour walk) (s : Step) (c : Contains 
 
         against : width e ≤ℤ pos 0 → ⊥
         against narrow = both_ways (edge_eq f e) other_edge
-            (same_from_start f e forward_f forward_e (level narrow) (settled other_step.0 s other_step.1 c) other_step.2)
+            (same_from_start f e forward_f forward_e (level narrow) (settled other_step.0 s other_step.1 c)
+            other_step.2)
 
 -- the anchor covers the abscissa of its start
 pub anchors_lead_on : AnchorsLeadOn

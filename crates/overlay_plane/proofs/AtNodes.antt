@@ -25,11 +25,13 @@ same_steps s t h =
 
 -- and one step passes it
 pub equal_steps : (s t : Step) → s ≡ t → step_eq s t ≡ true
-equal_steps s t e = and_from (point_eq s.from t.from) (point_eq s.to t.to) (point_eq-of_same s.from t.from (λ i. (e i).from)) (point_eq-of_same s.to t.to (λ i. (e i).to))
+equal_steps s t e = and_from (point_eq s.from t.from) (point_eq s.to t.to)
+    (point_eq-of_same s.from t.from (λ i. (e i).from)) (point_eq-of_same s.to t.to (λ i. (e i).to))
 
 -- different steps differ whichever of them is named first
 pub step_eq-flip : (s t : Step) → step_eq s t ≡ false → step_eq t s ≡ false
-step_eq-flip s t differ = false_from_ne_true (step_eq t s) (λ same. both_ways (step_eq s t) differ (equal_steps s t (sym (same_steps t s same))))
+step_eq-flip s t differ = false_from_ne_true (step_eq t s)
+    (λ same. both_ways (step_eq s t) differ (equal_steps s t (sym (same_steps t s same))))
 
 -- two steps are one, or are not
 pub by_steps : (s t : Step) → (s ≡ t) ⊎ (¬ (s ≡ t))
@@ -58,7 +60,8 @@ pub ways_apart : (steps : List Step) → ((s : Step) → Contains steps s → ¬
 ways_apart steps long one_leaves v s t h k different = record {
   first = λ e. long s h.among (h.at ∙ sym e);
   second = λ e. long t k.among (k.at ∙ sym e);
-  other_ways = λ one. different (one_leaves s t h.among k.among (h.at ∙ sym k.at) (subst (λ w. AreOneWay w s.to t.to) (sym h.at) one));
+  other_ways = λ one. different (one_leaves s t h.among k.among (h.at ∙ sym k.at)
+      (subst (λ w. AreOneWay w s.to t.to) (sym h.at) one));
 }
 
 module _ (steps : List Step) (alternates : Alternates steps) where
@@ -71,28 +74,34 @@ module _ (steps : List Step) (alternates : Alternates steps) where
 
   -- no step leads back along another
   pub no_way_back : (s t : Step) → Contains steps s → Contains steps t → s.from ≡ t.to → ¬ (s.to ≡ t.from)
-  no_way_back s t c d ends node = alternates.none_both s t c d node (subst (λ w. AreOneWay s.to s.from w) ends (record { on_line = cross_at_same s.to s.from; ahead = dot_positive s.to s.from (alternates.long s c) }))
+  no_way_back s t c d ends node = alternates.none_both s t c d node
+      (subst (λ w. AreOneWay s.to s.from w) ends
+      (record { on_line = cross_at_same s.to s.from; ahead = dot_positive s.to s.from (alternates.long s c) }))
 
   -- two steps that leave, two that arrive, and one that arrives with one that leaves run along different rays
   pub leaving_apart : (v : Point) (s t : Step) → Leaves steps v s → Leaves steps v t → ¬ (s ≡ t) → Apart v s.to t.to
   leaving_apart = ways_apart steps alternates.long alternates.one_leaves
 
-  pub arriving_apart : (v : Point) (s t : Step) → Arrives steps v s → Arrives steps v t → ¬ (s ≡ t) → Apart v s.from t.from
+  pub arriving_apart : (v : Point) (s t : Step) → Arrives steps v s → Arrives steps v t → ¬ (s ≡ t) →
+      Apart v s.from t.from
   arriving_apart v s t h k different = record {
     first = arrives_long v s h;
     second = arrives_long v t k;
-    other_ways = λ one. different (alternates.one_arrives s t h.among k.among (h.at ∙ sym k.at) (subst (λ w. AreOneWay w s.from t.from) (sym h.at) one));
+    other_ways = λ one. different (alternates.one_arrives s t h.among k.among (h.at ∙ sym k.at)
+        (subst (λ w. AreOneWay w s.from t.from) (sym h.at) one));
   }
 
   pub passing_apart : (v : Point) (s t : Step) → Arrives steps v s → Leaves steps v t → Apart v s.from t.to
   passing_apart v s t h k = record {
     first = arrives_long v s h;
     second = leaves_long v t k;
-    other_ways = λ one. alternates.none_both s t h.among k.among (h.at ∙ sym k.at) (subst (λ w. AreOneWay w s.from t.to) (sym h.at) one);
+    other_ways = λ one. alternates.none_both s t h.among k.among (h.at ∙ sym k.at)
+        (subst (λ w. AreOneWay w s.from t.to) (sym h.at) one);
   }
 
   -- two that leave with one that arrives, in the order leaves, arrives, leaves
-  pub all_apart_leaving : (v : Point) (s a t : Step) → Leaves steps v s → Arrives steps v a → Leaves steps v t → ¬ (s ≡ t) → AllApart v s.to a.from t.to
+  pub all_apart_leaving : (v : Point) (s a t : Step) → Leaves steps v s → Arrives steps v a → Leaves steps v t →
+      ¬ (s ≡ t) → AllApart v s.to a.from t.to
   all_apart_leaving v s a t h at k different = record {
     one = apart_exchanged v a.from s.to (passing_apart v a s at h);
     two = passing_apart v a t at k;
@@ -100,7 +109,8 @@ module _ (steps : List Step) (alternates : Alternates steps) where
   }
 
   -- two that arrive with one that leaves, in the order arrives, leaves, arrives
-  pub all_apart_arriving : (v : Point) (s w t : Step) → Arrives steps v s → Leaves steps v w → Arrives steps v t → ¬ (s ≡ t) → AllApart v s.from w.to t.from
+  pub all_apart_arriving : (v : Point) (s w t : Step) → Arrives steps v s → Leaves steps v w → Arrives steps v t →
+      ¬ (s ≡ t) → AllApart v s.from w.to t.from
   all_apart_arriving v s w t h at k different = record {
     one = passing_apart v s w h at;
     two = apart_exchanged v t.from w.to (passing_apart v t w k at);
@@ -110,33 +120,58 @@ module _ (steps : List Step) (alternates : Alternates steps) where
   -- ---- by either hand
 
   -- turning counterclockwise from a step that leaves, a ray meets one that arrives before another that leaves
-  arrives_between_right : (v : Point) (s t : Step) → Leaves steps v s → Leaves steps v t → ¬ (s ≡ t) → (u : Step) × Arrives steps v u × IsMetBefore right v s.to u.from t.to
+  arrives_between_right : (v : Point) (s t : Step) → Leaves steps v s → Leaves steps v t → ¬ (s ≡ t) →
+      (u : Step) × Arrives steps v u × IsMetBefore right v s.to u.from t.to
   arrives_between_right v s t h k different =
-      let found = alternates.arrives_between s t h.among k.among (h.at ∙ sym k.at) different in
-      (found.0, record { among = found.1; at = found.2 ∙ h.at }, subst (λ w. IsMetBetween w s.to (found.0).from t.to) h.at found.3)
+      let found = alternates.arrives_between s t h.among k.among (h.at ∙ sym k.at) different in (
+        found.0,
+        record { among = found.1; at = found.2 ∙ h.at },
+        subst (λ w. IsMetBetween w s.to (found.0).from t.to)
+            h.at found.3,
+      )
 
   -- turning by either hand from a step that leaves, a ray meets one that arrives before another that leaves
-  pub arrives_between_by : (hand : Hand) (v : Point) (s t : Step) → Leaves steps v s → Leaves steps v t → ¬ (s ≡ t) → (u : Step) × Arrives steps v u × IsMetBefore hand v s.to u.from t.to
+  pub arrives_between_by : (hand : Hand) (v : Point) (s t : Step) → Leaves steps v s → Leaves steps v t → ¬ (s ≡ t) →
+      (u : Step) × Arrives steps v u × IsMetBefore hand v s.to u.from t.to
   arrives_between_by right v s t h k different = arrives_between_right v s t h k different
   arrives_between_by left v s t h k different =
       let back = arrives_between_right v t s k h (λ e. different (sym e)) in
-      let apart : AllApart v t.to (back.0).from s.to = all_apart_leaving v t back.0 s k back.1 h (λ e. different (sym e)) in
+      let apart : AllApart v t.to (back.0).from s.to = all_apart_leaving v t back.0 s k back.1 h
+      (λ e. different (sym e)) in
       let from_between = met_shifted right v t.to (back.0).from s.to apart back.2 in
-      let from_s = met_shifted right v (back.0).from s.to t.to (all_apart_shifted v t.to (back.0).from s.to apart) from_between in
-      (back.0, back.1, met_by_other right v s.to t.to (back.0).from (all_apart_shifted v (back.0).from s.to t.to (all_apart_shifted v t.to (back.0).from s.to apart)) from_s)
+      let from_s = met_shifted right v (back.0).from s.to t.to (all_apart_shifted v t.to (back.0).from s.to apart)
+      from_between in (
+        back.0,
+        back.1,
+        met_by_other right v s.to t.to (back.0).from
+            (all_apart_shifted v (back.0).from s.to t.to (all_apart_shifted v t.to (back.0).from s.to apart)) from_s,
+      )
 
   -- turning counterclockwise from a step that arrives, a ray meets one that leaves before another that arrives
-  leaves_between_right : (v : Point) (s t : Step) → Arrives steps v s → Arrives steps v t → ¬ (s ≡ t) → (u : Step) × Leaves steps v u × IsMetBefore right v s.from u.to t.from
+  leaves_between_right : (v : Point) (s t : Step) → Arrives steps v s → Arrives steps v t → ¬ (s ≡ t) →
+      (u : Step) × Leaves steps v u × IsMetBefore right v s.from u.to t.from
   leaves_between_right v s t h k different =
-      let found = alternates.leaves_between s t h.among k.among (h.at ∙ sym k.at) different in
-      (found.0, record { among = found.1; at = found.2 ∙ h.at }, subst (λ w. IsMetBetween w s.from (found.0).to t.from) h.at found.3)
+      let found = alternates.leaves_between s t h.among k.among (h.at ∙ sym k.at) different in (
+        found.0,
+        record { among = found.1; at = found.2 ∙ h.at },
+        subst (λ w. IsMetBetween w s.from (found.0).to t.from)
+            h.at found.3,
+      )
 
   -- turning by either hand from a step that arrives, a ray meets one that leaves before another that arrives
-  pub leaves_between_by : (hand : Hand) (v : Point) (s t : Step) → Arrives steps v s → Arrives steps v t → ¬ (s ≡ t) → (u : Step) × Leaves steps v u × IsMetBefore hand v s.from u.to t.from
+  pub leaves_between_by : (hand : Hand) (v : Point) (s t : Step) → Arrives steps v s → Arrives steps v t → ¬ (s ≡ t) →
+      (u : Step) × Leaves steps v u × IsMetBefore hand v s.from u.to t.from
   leaves_between_by right v s t h k different = leaves_between_right v s t h k different
   leaves_between_by left v s t h k different =
       let back = leaves_between_right v t s k h (λ e. different (sym e)) in
-      let apart : AllApart v t.from (back.0).to s.from = all_apart_arriving v t back.0 s k back.1 h (λ e. different (sym e)) in
+      let apart : AllApart v t.from (back.0).to s.from = all_apart_arriving v t back.0 s k back.1 h
+      (λ e. different (sym e)) in
       let from_between = met_shifted right v t.from (back.0).to s.from apart back.2 in
-      let from_s = met_shifted right v (back.0).to s.from t.from (all_apart_shifted v t.from (back.0).to s.from apart) from_between in
-      (back.0, back.1, met_by_other right v s.from t.from (back.0).to (all_apart_shifted v (back.0).to s.from t.from (all_apart_shifted v t.from (back.0).to s.from apart)) from_s)
+      let from_s = met_shifted right v (back.0).to s.from t.from (all_apart_shifted v t.from (back.0).to s.from apart)
+      from_between in (
+        back.0,
+        back.1,
+        met_by_other right v s.from t.from (back.0).to
+            (all_apart_shifted v (back.0).to s.from t.from (all_apart_shifted v t.from (back.0).to s.from apart))
+            from_s,
+      )

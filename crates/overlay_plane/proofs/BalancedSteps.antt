@@ -1,6 +1,7 @@
--- Steps are balanced on an arrangement where what a number given to each point rises by along them adds up to 0: along an orbit it
--- telescopes, and in a set that alternates each step ends where its next step begins.
-use Rattle.std.proofs.Common.{◌≡◌, ℕ, suc, ◌<◌, Bool, true, false, cond, not, ℤ, pos, ◌-ℤ◌, ◌*ℤ◌, List, [], ◌∷◌, length, get_or, Contains, filter, refl, sym, ap, ◌∙◌, subst, arith}
+-- Steps are balanced on an arrangement where what a number given to each point rises by along them adds up to 0: along
+-- an orbit it telescopes, and in a set that alternates each step ends where its next step begins.
+use Rattle.std.proofs.Common.{◌≡◌, ℕ, suc, ◌<◌, Bool, true, false, cond, not, ℤ, pos, ◌-ℤ◌, ◌*ℤ◌, List, [], ◌∷◌, length}
+use Rattle.std.proofs.Common.{get_or, Contains, filter, refl, sym, ap, ◌∙◌, subst, arith}
 use Rattle.std.proofs.lemmas.Bool.{both_ways, false_from_ne_true}
 use Rattle.std.proofs.lemmas.List.{get_or_default}
 use Rattle.std.proofs.lemmas.List.Kept.{AllPairs-filter}
@@ -13,7 +14,8 @@ use Rattle.overlay_plane.specs.Turn.{Hand, IsNextStep, step_round, IsOrbit, no_s
 use Rattle.overlay_plane.specs.Turn.Hand.{right}
 use Rattle.overlay_plane.specs.Alternates.{Alternates}
 use Rattle.overlay_plane.specs.Orbits.{is_step_of}
-use Rattle.overlay_plane.specs.BesideOrbits.{count_on, WalksAlong, IsBalancedPart, HasEachOnce, OrbitsHaveEachOnce, OrbitsAreBalanced, AlternatingStepsAreBalanced, ClosedPartsAreBalanced}
+use Rattle.overlay_plane.specs.BesideOrbits.{count_on, WalksAlong, IsBalancedPart, HasEachOnce, OrbitsHaveEachOnce}
+use Rattle.overlay_plane.specs.BesideOrbits.{OrbitsAreBalanced, AlternatingStepsAreBalanced, ClosedPartsAreBalanced}
 use Rattle.overlay_plane.proofs.Entries.{Contains-from_filter}
 use Rattle.overlay_plane.proofs.Tests.{same_tests}
 use Rattle.overlay_plane.proofs.Totals.{total-same, total-sub}
@@ -31,7 +33,8 @@ use Rattle.overlay_plane.proofs.StepTotals.{total-exchange, single_step_total}
 
 -- ---- counts on edges
 
-module _ (es : List CountedEdge) (steps : List Step) (walks : WalksAlong es steps) (taken : List Step) (inside : (s : Step) → Contains taken s → Contains steps s) (g : Point → ℤ) where
+module _ (es : List CountedEdge) (steps : List Step) (walks : WalksAlong es steps) (taken : List Step)
+    (inside : (s : Step) → Contains taken s → Contains steps s) (g : Point → ℤ) where
   -- how much g rises along an edge
   abbrev rise : CountedEdge → ℤ
   rise e = g e.b -ℤ g e.a
@@ -43,7 +46,9 @@ module _ (es : List CountedEdge) (steps : List Step) (walks : WalksAlong es step
   -- over all edges this is what g rises by along the step
   rise_of_step : (s : Step) → Contains taken s → total (λ e. rise_on e s) es ≡ signed_rise g s
   rise_of_step s c =
-      total-same (λ e. rise_on e s) (λ e. cond (edge_eq (ends_of e) (ends_of own)) (rise e *ℤ sign_of s) (pos 0)) es (λ e at. times_taken (edge_eq (edge_of s) (ends_of e)) (rise e) (sign_of s) ∙ ap (λ b. cond b (rise e *ℤ sign_of s) (pos 0)) (one_test e))
+      total-same (λ e. rise_on e s) (λ e. cond (edge_eq (ends_of e) (ends_of own)) (rise e *ℤ sign_of s) (pos 0)) es
+      (λ e at. times_taken (edge_eq (edge_of s) (ends_of e)) (rise e) (sign_of s)
+      ∙ ap (λ b. cond b (rise e *ℤ sign_of s) (pos 0)) (one_test e))
       ∙ single_total es walks.distinct (λ e. rise e *ℤ sign_of s) own (walks.along s (inside s c)).1
       ∙ ap (λ f. (g f.b -ℤ g f.a) *ℤ sign_of s) (sym along)
       ∙ *ℤ_comm (g (edge_of s).b -ℤ g (edge_of s).a) (sign_of s)
@@ -55,20 +60,25 @@ module _ (es : List CountedEdge) (steps : List Step) (walks : WalksAlong es step
       along = (walks.along s (inside s c)).2
 
       one_test : (e : CountedEdge) → edge_eq (edge_of s) (ends_of e) ≡ edge_eq (ends_of e) (ends_of own)
-      one_test e = ap (λ f. edge_eq f (ends_of e)) along ∙ same_tests (edge_eq (ends_of own) (ends_of e)) (edge_eq (ends_of e) (ends_of own)) (edge_eq-exchanged (ends_of own) (ends_of e)) (edge_eq-exchanged (ends_of e) (ends_of own))
+      one_test e = ap (λ f. edge_eq f (ends_of e)) along ∙ same_tests (edge_eq (ends_of own) (ends_of e))
+          (edge_eq (ends_of e) (ends_of own)) (edge_eq-exchanged (ends_of own) (ends_of e))
+          (edge_eq-exchanged (ends_of e) (ends_of own))
 
   -- the counted edges rise together as the steps
   counted_rise : total (λ e. count_on taken e *ℤ rise e) es ≡ total (signed_rise g) taken
   counted_rise =
       total-same (λ e. count_on taken e *ℤ rise e) (λ e. total (λ s. rise_on e s) taken) es
-      (λ e at. *ℤ_comm (count_on taken e) (rise e) ∙ sym (total-times (rise e) (λ s. cond (edge_eq (edge_of s) (ends_of e)) (sign_of s) (pos 0)) taken))
+      (λ e at. *ℤ_comm (count_on taken e) (rise e)
+      ∙ sym (total-times (rise e) (λ s. cond (edge_eq (edge_of s) (ends_of e)) (sign_of s) (pos 0)) taken))
       ∙ total-exchange rise_on es taken
       ∙ total-same (λ s. total (λ e. rise_on e s) es) (signed_rise g) taken rise_of_step
 
 -- steps along which every number rises by 0 in all have balanced counts
-balanced_from_rises : (es : List CountedEdge) (steps : List Step) → WalksAlong es steps → (taken : List Step) → ((s : Step) → Contains taken s → Contains steps s) →
+pub balanced_from_rises : (es : List CountedEdge) (steps : List Step) → WalksAlong es steps → (taken : List Step) →
+    ((s : Step) → Contains taken s → Contains steps s) →
     ((g : Point → ℤ) → total (signed_rise g) taken ≡ pos 0) → IsBalancedPart es steps taken
-balanced_from_rises es steps walks taken inside level = record { inside = inside; balanced = λ g. counted_rise es steps walks taken inside g ∙ level g }
+balanced_from_rises es steps walks taken inside level =
+    record { inside = inside; balanced = λ g. counted_rise es steps walks taken inside g ∙ level g }
 
 -- ---- orbits
 
@@ -77,7 +87,8 @@ abbrev IsLinked : List Step → Type 0
 IsLinked ss = (k : ℕ) → suc k < length ss → (get_or ss (suc k) no_step).from ≡ (get_or ss k no_step).to
 
 -- along such a list g rises from its start to its end
-rise_of_linked : (g : Point → ℤ) (s : Step) (ss : List Step) → IsLinked (s ∷ ss) → total (signed_rise g) (s ∷ ss) ≡ g (get_or (s ∷ ss) (length ss) no_step).to -ℤ g s.from
+rise_of_linked : (g : Point → ℤ) (s : Step) (ss : List Step) → IsLinked (s ∷ ss) →
+    total (signed_rise g) (s ∷ ss) ≡ g (get_or (s ∷ ss) (length ss) no_step).to -ℤ g s.from
 rise_of_linked g s [] linked = +ℤ_idr (signed_rise g s) ∙ signed_rise-is g s
 rise_of_linked g s (t ∷ ts) linked =
     let first = signed_rise-is g s in
@@ -86,7 +97,8 @@ rise_of_linked g s (t ∷ ts) linked =
     omega linear
 
 -- and round an orbit it is 0
-orbit_rises : (steps : List Step) (hand : Hand) (walk : List Step) → IsOrbit steps hand walk → (g : Point → ℤ) → total (signed_rise g) walk ≡ pos 0
+orbit_rises : (steps : List Step) (hand : Hand) (walk : List Step) → IsOrbit steps hand walk →
+    (g : Point → ℤ) → total (signed_rise g) walk ≡ pos 0
 orbit_rises steps hand [] orbit g = refl
 orbit_rises steps hand (s ∷ ss) orbit g =
     let along = rise_of_linked g s ss linked in
@@ -94,20 +106,27 @@ orbit_rises steps hand (s ∷ ss) orbit g =
     omega linear
   where
     linked : IsLinked (s ∷ ss)
-    linked k h = sym (ap (λ t. t.from) (item_round-here (s ∷ ss) no_step (suc k) h)) ∙ (goes_on_round steps hand (s ∷ ss) orbit k).leaves ∙ ap (λ t. t.to) (item_round-here (s ∷ ss) no_step k (omega arith))
+    linked k h = sym (ap (λ t. t.from) (item_round-here (s ∷ ss) no_step (suc k) h))
+        ∙ (goes_on_round steps hand (s ∷ ss) orbit k).leaves
+        ∙ ap (λ t. t.to) (item_round-here (s ∷ ss) no_step k (omega arith))
 
     back : s.from ≡ (get_or (s ∷ ss) (length ss) no_step).to
-    back = sym (ap (λ t. t.from) (item_round-here (s ∷ ss) no_step 0 orbit.some)) ∙ (last_to_first steps hand (s ∷ ss) orbit (length ss) refl).leaves ∙ ap (λ t. t.to) (item_round-here (s ∷ ss) no_step (length ss) (omega arith))
+    back = sym (ap (λ t. t.from) (item_round-here (s ∷ ss) no_step 0 orbit.some))
+        ∙ (last_to_first steps hand (s ∷ ss) orbit (length ss) refl).leaves
+        ∙ ap (λ t. t.to) (item_round-here (s ∷ ss) no_step (length ss) (omega arith))
 
 -- the law of orbits
 pub orbits_are_balanced : OrbitsAreBalanced
 orbits_are_balanced es steps walks hand walk orbit = balanced_from_rises es steps walks walk
-    (λ s c. let at = place_of walk no_step s c in subst (λ t. Contains steps t) at.2 (step_inside steps hand walk orbit at.0)) (orbit_rises steps hand walk orbit)
+    (λ s c. let at = place_of walk no_step s c in
+    subst (λ t. Contains steps t) at.2 (step_inside steps hand walk orbit at.0)) (orbit_rises steps hand walk orbit)
 
 -- no step stands twice in an orbit
 pub orbits_have_each_once : OrbitsHaveEachOnce
-orbits_have_each_once steps hand leads walk orbit i j d less within = false_from_ne_true (step_eq (get_or walk i d) (get_or walk j d))
-    (λ same. apart_before steps hand walk orbit leads i j less within (at i (omega arith) ∙ same_steps (get_or walk i d) (get_or walk j d) same ∙ sym (at j within)))
+orbits_have_each_once steps hand leads walk orbit i j d less within = false_from_ne_true
+    (step_eq (get_or walk i d) (get_or walk j d))
+    (λ same. apart_before steps hand walk orbit leads i j less within
+    (at i (omega arith) ∙ same_steps (get_or walk i d) (get_or walk j d) same ∙ sym (at j within)))
   where
     at : (k : ℕ) → k < length walk → step_round walk k ≡ get_or walk k d
     at k h = item_round-here walk no_step k h ∙ get_or_default walk k no_step d h
@@ -147,8 +166,10 @@ module _ (steps : List Step) (alternates : Alternates steps) where
   unfolding before_of before_by
   before_of-is t c = by (is_step_of steps t) refl
     where
-      by : (b : Bool) (e : is_step_of steps t ≡ b) → Contains steps (before_by t b e) × IsNextStep steps right (before_by t b e) t
-      by true e = let found = next_surjective steps alternates right t ((is_step_of_decides steps t).0 e) in (found.1, found.2)
+      by : (b : Bool) (e : is_step_of steps t ≡ b) → Contains steps (before_by t b e) × IsNextStep steps right
+          (before_by t b e) t
+      by true e = let found = next_surjective steps alternates right t ((is_step_of_decides steps t).0 e) in
+          (found.1, found.2)
       by false e = absurd (both_ways (is_step_of steps t) e ((is_step_of_decides steps t).1 c))
 
   -- t is the next step of s exactly where s is the one before t
@@ -156,22 +177,28 @@ module _ (steps : List Step) (alternates : Alternates steps) where
   one_after_other s t c d = same_tests (step_eq t (next_of s)) (step_eq s (before_of t)) forth back
     where
       forth : step_eq t (next_of s) ≡ true → step_eq s (before_of t) ≡ true
-      forth same = equal_steps s (before_of t) (next_injective steps alternates right s (before_of t) t c (before_of-is t d).0
-          (subst (λ u. IsNextStep steps right s u) (sym (same_steps t (next_of s) same)) (next_of-is s c)) (before_of-is t d).1)
+      forth same = equal_steps s (before_of t) (next_injective steps alternates right s (before_of t) t c
+          (before_of-is t d).0
+          (subst (λ u. IsNextStep steps right s u) (sym (same_steps t (next_of s) same)) (next_of-is s c))
+          (before_of-is t d).1)
 
       back : step_eq s (before_of t) ≡ true → step_eq t (next_of s) ≡ true
-      back same = equal_steps t (next_of s) (has_one_next steps right (leads_on steps alternates right) s t (next_of s) c
-          (subst (λ u. IsNextStep steps right u t) (sym (same_steps s (before_of t) same)) (before_of-is t d).1) (next_of-is s c))
+      back same = equal_steps t (next_of s) (has_one_next steps right (leads_on steps alternates right) s t
+          (next_of s) c
+          (subst (λ u. IsNextStep steps right u t) (sym (same_steps s (before_of t) same)) (before_of-is t d).1)
+          (next_of-is s c))
 
   module _ (once : HasEachOnce steps) (g : Point → ℤ) where
     -- the ends of all steps are their starts
     ends_are_starts : total (λ s. g s.to) steps ≡ total (λ t. g t.from) steps
     ends_are_starts =
         total-same (λ s. g s.to) (λ s. total (λ t. cond (step_eq t (next_of s)) (g t.from) (pos 0)) steps) steps
-        (λ s c. sym (single_step_total steps once (λ t. g t.from) (next_of s) (next_of-is s c).among ∙ ap g (next_of-is s c).leaves))
+        (λ s c. sym (single_step_total steps once (λ t. g t.from) (next_of s) (next_of-is s c).among
+        ∙ ap g (next_of-is s c).leaves))
         ∙ total-exchange (λ s t. cond (step_eq t (next_of s)) (g t.from) (pos 0)) steps steps
         ∙ total-same (λ t. total (λ s. cond (step_eq t (next_of s)) (g t.from) (pos 0)) steps) (λ t. g t.from) steps
-        (λ t d. total-same (λ s. cond (step_eq t (next_of s)) (g t.from) (pos 0)) (λ s. cond (step_eq s (before_of t)) (g t.from) (pos 0)) steps
+        (λ t d. total-same (λ s. cond (step_eq t (next_of s)) (g t.from) (pos 0))
+        (λ s. cond (step_eq s (before_of t)) (g t.from) (pos 0)) steps
         (λ s c. ap (λ b. cond b (g t.from) (pos 0)) (one_after_other s t c d))
         ∙ single_step_total steps once (λ s. g t.from) (before_of t) (before_of-is t d).0)
 
@@ -190,8 +217,10 @@ alternating_steps_are_balanced es steps walks alternates once = balanced_from_ri
     (alternating_rises steps alternates once)
 
 -- a part of the set that alternates is balanced
-balanced_part : (es : List CountedEdge) (steps : List Step) → WalksAlong es steps → HasEachOnce steps → (test : Step → Bool) → Alternates (filter test steps) → IsBalancedPart es steps (filter test steps)
-balanced_part es steps walks once test alternates = balanced_from_rises es steps walks (filter test steps) (λ s c. (Contains-from_filter test steps s c).0)
+balanced_part : (es : List CountedEdge) (steps : List Step) → WalksAlong es steps → HasEachOnce steps →
+    (test : Step → Bool) → Alternates (filter test steps) → IsBalancedPart es steps (filter test steps)
+balanced_part es steps walks once test alternates = balanced_from_rises es steps walks (filter test steps)
+    (λ s c. (Contains-from_filter test steps s c).0)
     (alternating_rises (filter test steps) alternates (AllPairs-filter (λ s t. step_eq s t ≡ false) test steps once))
 
 -- the law of closed parts

@@ -23,6 +23,8 @@ one_of_two false true false h = absurd (omega (arith, ints))
 -- below an anchor is under its edge
 pub below_an_anchor_is_under : BelowAnAnchorIsUnder
 below_an_anchor_is_under e f forward_e forward_f meets over =
-    one_of_two (covers f e.a.x (pos 1) && is_under f e e.a.x (pos 1)) (is_strictly_below f (in_plane e.a)) (point_eq f.a e.a && turns_left f e)
-    (under_from_start e f forward_f (λ apart. ⊎_elim (λ same. absurd (both_ways (edge_eq e f) apart same)) (λ meet. meet) meets)
+    one_of_two (covers f e.a.x (pos 1) && is_under f e e.a.x (pos 1)) (is_strictly_below f (in_plane e.a))
+    (point_eq f.a e.a && turns_left f e)
+    (under_from_start e f forward_f (λ apart. ⊎_elim (λ same. absurd (both_ways (edge_eq e f) apart same))
+    (λ meet. meet) meets)
     (covers_wide e e.a.x (pos 1) (record { lt = tt }) over))

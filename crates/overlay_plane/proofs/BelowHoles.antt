@@ -1,6 +1,7 @@
--- Below the anchor of a hole is a filled-above edge: the rule holds just below the anchor's edge, so the signs of the edges under
--- it add up to 1.
-use Rattle.std.proofs.Common.{◌≡◌, Bool, true, false, cond, not, ◌&&◌, ℤ, pos, ◌<ℤ◌, List, Contains, refl, sym, ap, ◌∙◌, subst}
+-- Below the anchor of a hole is a filled-above edge: the rule holds just below the anchor's edge, so the signs of the
+-- edges under it add up to 1.
+use Rattle.std.proofs.Common.{◌≡◌, Bool, true, false, cond, not, ◌&&◌, ℤ, pos, ◌<ℤ◌, List, Contains, refl, sym, ap, ◌∙◌}
+use Rattle.std.proofs.Common.{subst}
 use Rattle.overlay_geom.specs.Plane.{Step, Edge, edge_of}
 use Rattle.overlay_geom.specs.Edges.{CountedEdge, ends_of}
 use Rattle.overlay_geom.proofs.Signs.{linear}
@@ -22,12 +23,14 @@ use Rattle.overlay_plane.proofs.WalksOfCuts.{IsEdgeOf, edge_forward, IsWalkOfCut
 use Rattle.overlay_plane.proofs.HoleWindings.{HasEmptyAbove, empty_above_anchor}
 
 -- a number that is taken and above 0
-positive_taken : (t : Bool) (z : ℤ) → pos 0 <ℤ cond t z (pos 0) → (t ≡ true) × (pos 0 <ℤ z)
+pub positive_taken : (t : Bool) (z : ℤ) → pos 0 <ℤ cond t z (pos 0) → (t ≡ true) × (pos 0 <ℤ z)
 positive_taken true z h = (refl, h)
 positive_taken false z h = absurd (omega linear)
 
-module _ (holds : ℤ → ℤ → Bool) (subj clip : CountedEdge → ℤ) (es : List CountedEdge) (on_left : Bool) (walks : List (List Step))
-    (cut : AreCutFrom holds subj clip es on_left walks) (walk : List Step) (at : Contains walks walk) (anchor : Edge) (anchored : IsAnchor walk anchor) where
+module _ (holds : ℤ → ℤ → Bool) (subj clip : CountedEdge → ℤ) (es : List CountedEdge) (on_left : Bool)
+    (walks : List (List Step))
+    (cut : AreCutFrom holds subj clip es on_left walks) (walk : List Step) (at : Contains walks walk) (anchor : Edge)
+    (anchored : IsAnchor walk anchor) where
   -- the anchor is an edge of the list
   pub anchor_of_list : IsEdgeOf es anchor
   anchor_of_list =
@@ -42,12 +45,15 @@ module _ (holds : ℤ → ℤ → Bool) (subj clip : CountedEdge → ℤ) (es : 
       anchors_lead_on walk own.contour own.each_edge_once own.settled anchor anchored
 
   -- an edge of the list is below it exactly where it is under its edge
-  pub below_is : (g : Edge) → IsEdgeOf es g → is_below_anchor anchor g ≡ (covers g anchor.a.x (pos 1) && is_under g anchor anchor.a.x (pos 1))
+  pub below_is : (g : Edge) → IsEdgeOf es g →
+      is_below_anchor anchor g ≡ (covers g anchor.a.x (pos 1) && is_under g anchor anchor.a.x (pos 1))
   below_is g of_g = below_an_anchor_is_under anchor g (edge_forward holds subj clip es cut.ruled anchor anchor_of_list)
-      (edge_forward holds subj clip es cut.ruled g of_g) (one_or_meet holds subj clip es on_left walks cut anchor g anchor_of_list of_g) anchor_covers
+      (edge_forward holds subj clip es cut.ruled g of_g)
+      (one_or_meet holds subj clip es on_left walks cut anchor g anchor_of_list of_g) anchor_covers
 
   -- of a hole: some filled-above edge is below it
-  pub some_below : is_hole on_left walk ≡ true → (g : Edge) × Contains (all_filled_above on_left walks) g × (is_below_anchor anchor g ≡ true)
+  pub some_below : is_hole on_left walk ≡ true →
+      (g : Edge) × Contains (all_filled_above on_left walks) g × (is_below_anchor anchor g ≡ true)
   some_below hole = (edge_of under_step, kept, below)
     where
       own : IsWalkOfCut es (outline_or_hole_hand on_left) (selected_steps holds subj clip on_left es) walk
@@ -66,7 +72,8 @@ module _ (holds : ℤ → ℤ → Bool) (subj clip : CountedEdge → ℤ) (es : 
 
       -- the rule holds just below it
       holds_there : holds_below holds subj clip es e ≡ true
-      holds_there = selected.1.changes ∙ ap not (sym (filled_is holds subj clip es on_left walks cut e own_step.step selected.1) ∙ own_step.empty)
+      holds_there = selected.1.changes
+          ∙ ap not (sym (filled_is holds subj clip es on_left walks cut e own_step.step selected.1) ∙ own_step.empty)
 
       ends : edge_of own_step.step ≡ ends_of e
       ends = edge_is holds subj clip es on_left walks cut e own_step.step selected.1
@@ -78,14 +85,19 @@ module _ (holds : ℤ → ℤ → Bool) (subj clip : CountedEdge → ℤ) (es : 
       under : (f : CountedEdge) × Contains es f ×
           (pos 0 <ℤ cond (covers (ends_of f) anchor.a.x (pos 1) && is_under (ends_of f) (ends_of e) anchor.a.x (pos 1))
           (selected_sign holds subj clip es f) (pos 0))
-      under = some_positive (λ f. cond (covers (ends_of f) anchor.a.x (pos 1) && is_under (ends_of f) (ends_of e) anchor.a.x (pos 1))
+      under = some_positive (λ f. cond (covers (ends_of f) anchor.a.x (pos 1) && is_under (ends_of f)
+          (ends_of e) anchor.a.x (pos 1))
           (selected_sign holds subj clip es f) (pos 0)) es
-          (subst (λ z. pos 0 <ℤ z) (sym (region_below_an_edge holds subj clip es cut.ruled e selected.1.entry anchor.a.x (pos 1) (record { lt = tt })
-          (subst (λ (k : Edge). covers k anchor.a.x (pos 1) ≡ true) same anchor_covers) ∙ ap one_if holds_there)) (record { lt = tt }))
+          (subst (λ z. pos 0 <ℤ z) (sym (region_below_an_edge holds subj clip es cut.ruled e selected.1.entry anchor.a.x
+          (pos 1) (record { lt = tt })
+          (subst (λ (k : Edge). covers k anchor.a.x (pos 1) ≡ true) same anchor_covers) ∙ ap one_if holds_there))
+          (record { lt = tt }))
 
-      parts : ((covers (ends_of under.0) anchor.a.x (pos 1) && is_under (ends_of under.0) (ends_of e) anchor.a.x (pos 1)) ≡ true) ×
+      parts : ((covers (ends_of under.0) anchor.a.x (pos 1) && is_under (ends_of under.0) (ends_of e) anchor.a.x
+          (pos 1)) ≡ true) ×
           (pos 0 <ℤ selected_sign holds subj clip es under.0)
-      parts = positive_taken (covers (ends_of under.0) anchor.a.x (pos 1) && is_under (ends_of under.0) (ends_of e) anchor.a.x (pos 1))
+      parts = positive_taken (covers (ends_of under.0) anchor.a.x (pos 1) && is_under (ends_of under.0)
+          (ends_of e) anchor.a.x (pos 1))
           (selected_sign holds subj clip es under.0) under.2
 
       -- above it the rule holds, and not below it
@@ -110,7 +122,9 @@ module _ (holds : ℤ → ℤ → Bool) (subj clip : CountedEdge → ℤ) (es : 
       under_ends = edge_is holds subj clip es on_left walks cut under.0 under_step under_selected
 
       below : is_below_anchor anchor (edge_of under_step) ≡ true
-      below = below_is (edge_of under_step) (filled_of_list holds subj clip es on_left walks cut (edge_of under_step) kept)
+      below = below_is (edge_of under_step)
+          (filled_of_list holds subj clip es on_left walks cut (edge_of under_step) kept)
           ∙ ap (λ k. covers k anchor.a.x (pos 1) && is_under k anchor anchor.a.x (pos 1)) under_ends
-          ∙ ap (λ k. covers (ends_of under.0) anchor.a.x (pos 1) && is_under (ends_of under.0) k anchor.a.x (pos 1)) same
+          ∙ ap (λ k. covers (ends_of under.0) anchor.a.x (pos 1) && is_under (ends_of under.0) k anchor.a.x (pos 1))
+          same
           ∙ parts.0

@@ -1,16 +1,19 @@
--- Across a step the winding changes by how often the steps taken walk along its edge: once for each time that the step is taken, and
--- once back for each time that it is taken back.
-use Rattle.std.proofs.Common.{◌≡◌, ◌⊎◌, inl, inr, ⊎_elim, Bool, true, false, cond, not, ℤ, pos, negsuc, ◌+ℤ◌, ◌-ℤ◌, ◌*ℤ◌, List, Contains, refl, sym, ap, ap₂, ◌∙◌, subst, arith}
+-- Across a step the winding changes by how often the steps taken walk along its edge: once for each time that the step
+-- is taken, and once back for each time that it is taken back.
+use Rattle.std.proofs.Common.{◌≡◌, ◌⊎◌, inl, inr, ⊎_elim, Bool, true, false, cond, not, ℤ, pos, negsuc, ◌+ℤ◌, ◌-ℤ◌}
+use Rattle.std.proofs.Common.{◌*ℤ◌, List, Contains, refl, sym, ap, ap₂, ◌∙◌, subst, arith}
 use Rattle.std.proofs.lemmas.Bool.{both_ways, false_from_ne_true}
 use Rattle.std.proofs.lemmas.Int.{ints, by_lt_z}
-use Rattle.overlay_geom.specs.Plane.{Point, Step, point_lt, edge_eq, step_eq, is_forward, edge_of, sign_of, reversed_step}
+use Rattle.overlay_geom.specs.Plane.{Point, Step, point_lt, edge_eq, step_eq, is_forward, edge_of, sign_of}
+use Rattle.overlay_geom.specs.Plane.{reversed_step}
 use Rattle.overlay_geom.specs.Edges.{CountedEdge}
 use Rattle.overlay_geom.proofs.Orders.{edge_eq-same, edge_eq-itself}
 use Rattle.overlay_geom.proofs.PointOrder.{IsBefore, IsUpTo, Decides-point_lt, by_order}
 use Rattle.overlay_geom.proofs.Signs.{linear}
 use Rattle.overlay_plane.specs.Turn.Hand.{left, right}
 use Rattle.overlay_plane.specs.Regions.{one_if}
-use Rattle.overlay_plane.specs.BesideOrbits.{count_along, winding_under, winding_beside, times_held, HasEachOnce, WindingAcrossAStep, WindingAcrossAlternatingSteps}
+use Rattle.overlay_plane.specs.BesideOrbits.{count_along, winding_under, winding_beside, times_held, HasEachOnce}
+use Rattle.overlay_plane.specs.BesideOrbits.{WindingAcrossAStep, WindingAcrossAlternatingSteps}
 use Rattle.overlay_plane.proofs.Totals.{total-same, total-zero, total-sub}
 use Rattle.overlay_plane.proofs.JoinedLists.{total-times}
 use Rattle.overlay_plane.proofs.AtNodes.{same_steps, equal_steps, by_steps, no_way_back}
@@ -28,11 +31,17 @@ way_back p q apart = by (point_lt p q) refl
     at_one same_x same_y = apart (λ i. record { x = same_x i; y = same_y i })
 
     strictly : IsUpTo q p → IsBefore q p
-    strictly h = record { x = h.x; y = λ le. by_lt_z q.y p.y (λ less. less) (λ more. absurd (at_one (let low = h.x in omega linear) (let up = h.y le in omega linear))) }
+    strictly h = record {
+      x = h.x;
+      y = λ le. by_lt_z q.y p.y (λ less. less)
+          (λ more. absurd (at_one (let low = h.x in omega linear) (let up = h.y le in omega linear)));
+    }
 
     by : (t : Bool) → point_lt p q ≡ t → point_lt q p ≡ not t
-    by true less = false_from_ne_true (point_lt q p) (λ more. not_both ((Decides-point_lt p q).0 less) ((Decides-point_lt q p).0 more))
-    by false e = (Decides-point_lt q p).1 (by_order q p strictly (λ less. absurd (both_ways (point_lt p q) e ((Decides-point_lt p q).1 less))))
+    by true less = false_from_ne_true (point_lt q p)
+        (λ more. not_both ((Decides-point_lt p q).0 less) ((Decides-point_lt q p).0 more))
+    by false e = (Decides-point_lt q p).1
+        (by_order q p strictly (λ less. absurd (both_ways (point_lt p q) e ((Decides-point_lt p q).1 less))))
 
 -- a step that walks along the edge of another one is that one, or leads back along it
 pub one_of_two : (t s : Step) → edge_of t ≡ edge_of s → (t ≡ s) ⊎ (t ≡ reversed_step s)
@@ -68,9 +77,11 @@ module _ (s : Step) (long : ¬ (s.from ≡ s.to)) where
   -- the sign of s for s itself, the opposite for the step back, nothing for another step
   counted-is : (t : Step) → counted t ≡ sign_of s *ℤ (one_if (step_eq t s) -ℤ one_if (step_eq t (reversed_step s)))
   counted-is t = ⊎_elim
-      (λ same. subst (λ u. counted u ≡ sign_of s *ℤ (one_if (step_eq u s) -ℤ one_if (step_eq u (reversed_step s)))) (sym same) itself)
+      (λ same. subst (λ u. counted u ≡ sign_of s *ℤ (one_if (step_eq u s) -ℤ one_if (step_eq u (reversed_step s))))
+      (sym same) itself)
       (λ other. ⊎_elim
-      (λ back. subst (λ u. counted u ≡ sign_of s *ℤ (one_if (step_eq u s) -ℤ one_if (step_eq u (reversed_step s)))) (sym back) the_step_back)
+      (λ back. subst (λ u. counted u ≡ sign_of s *ℤ (one_if (step_eq u s) -ℤ one_if (step_eq u (reversed_step s))))
+      (sym back) the_step_back)
       (λ neither. another other neither) (by_steps t (reversed_step s)))
       (by_steps t s)
     where
@@ -79,27 +90,35 @@ module _ (s : Step) (long : ¬ (s.from ≡ s.to)) where
 
       itself : counted s ≡ sign_of s *ℤ (one_if (step_eq s s) -ℤ one_if (step_eq s (reversed_step s)))
       itself = ap (λ b. cond b (sign_of s) (pos 0)) (edge_eq-itself (edge_of s)) ∙ by (is_forward s)
-          ∙ ap₂ (λ a b. sign_of s *ℤ (one_if a -ℤ one_if b)) (sym (equal_steps s s refl)) (sym (apart s (reversed_step s) two_steps))
+          ∙ ap₂ (λ a b. sign_of s *ℤ (one_if a -ℤ one_if b)) (sym (equal_steps s s refl))
+          (sym (apart s (reversed_step s) two_steps))
         where
           by : (t : Bool) → cond t (pos 1) (negsuc 0) ≡ cond t (pos 1) (negsuc 0) *ℤ (pos 1 -ℤ pos 0)
           by true = refl
           by false = refl
 
-      the_step_back : counted (reversed_step s) ≡ sign_of s *ℤ (one_if (step_eq (reversed_step s) s) -ℤ one_if (step_eq (reversed_step s) (reversed_step s)))
+      the_step_back : counted (reversed_step s) ≡ sign_of s *ℤ (one_if (step_eq (reversed_step s) s) -ℤ one_if
+          (step_eq (reversed_step s) (reversed_step s)))
       the_step_back = ap (λ e. cond (edge_eq e (edge_of s)) (sign_of (reversed_step s)) (pos 0)) one_edge
           ∙ ap (λ b. cond b (sign_of (reversed_step s)) (pos 0)) (edge_eq-itself (edge_of s))
           ∙ ap (λ b. cond b (pos 1) (negsuc 0)) forward_back ∙ by (is_forward s)
-          ∙ ap₂ (λ a b. sign_of s *ℤ (one_if a -ℤ one_if b)) (sym (apart (reversed_step s) s (λ same. two_steps (sym same)))) (sym (equal_steps (reversed_step s) (reversed_step s) refl))
+          ∙ ap₂ (λ a b. sign_of s *ℤ (one_if a -ℤ one_if b))
+          (sym (apart (reversed_step s) s (λ same. two_steps (sym same))))
+          (sym (equal_steps (reversed_step s) (reversed_step s) refl))
         where
           by : (t : Bool) → cond (not t) (pos 1) (negsuc 0) ≡ cond t (pos 1) (negsuc 0) *ℤ (pos 0 -ℤ pos 1)
           by true = refl
           by false = refl
 
-      another : ¬ (t ≡ s) → ¬ (t ≡ reversed_step s) → counted t ≡ sign_of s *ℤ (one_if (step_eq t s) -ℤ one_if (step_eq t (reversed_step s)))
+      another : ¬ (t ≡ s) → ¬ (t ≡ reversed_step s) →
+          counted t ≡ sign_of s *ℤ (one_if (step_eq t s) -ℤ one_if (step_eq t (reversed_step s)))
       another other neither =
-          ap (λ b. cond b (sign_of t) (pos 0)) (false_from_ne_true (edge_eq (edge_of t) (edge_of s)) (λ same. ⊎_elim other neither (one_of_two t s (edge_eq-same (edge_of t) (edge_of s) same))))
+          ap (λ b. cond b (sign_of t) (pos 0))
+          (false_from_ne_true (edge_eq (edge_of t) (edge_of s))
+          (λ same. ⊎_elim other neither (one_of_two t s (edge_eq-same (edge_of t) (edge_of s) same))))
           ∙ by (is_forward s)
-          ∙ ap₂ (λ a b. sign_of s *ℤ (one_if a -ℤ one_if b)) (sym (apart t s other)) (sym (apart t (reversed_step s) neither))
+          ∙ ap₂ (λ a b. sign_of s *ℤ (one_if a -ℤ one_if b)) (sym (apart t s other))
+          (sym (apart t (reversed_step s) neither))
         where
           by : (t : Bool) → pos 0 ≡ cond t (pos 1) (negsuc 0) *ℤ (pos 0 -ℤ pos 0)
           by true = refl
@@ -107,16 +126,22 @@ module _ (s : Step) (long : ¬ (s.from ≡ s.to)) where
 
   module _ (taken : List Step) where
     -- so the count along the edge of s is how often s is taken less how often it is taken back, with the sign of s
-    count_along-is : count_along taken (edge_of s) ≡ sign_of s *ℤ (times_held taken s -ℤ times_held taken (reversed_step s))
-    count_along-is = total-same counted (λ t. sign_of s *ℤ (one_if (step_eq t s) -ℤ one_if (step_eq t (reversed_step s)))) taken (λ t c. counted-is t)
+    count_along-is : count_along taken (edge_of s) ≡ sign_of s *ℤ
+        (times_held taken s -ℤ times_held taken (reversed_step s))
+    count_along-is = total-same counted
+        (λ t. sign_of s *ℤ (one_if (step_eq t s) -ℤ one_if (step_eq t (reversed_step s)))) taken (λ t c. counted-is t)
         ∙ total-times (sign_of s) (λ t. one_if (step_eq t s) -ℤ one_if (step_eq t (reversed_step s))) taken
-        ∙ ap (λ z. sign_of s *ℤ z) (total-sub (λ t. one_if (step_eq t s)) (λ t. one_if (step_eq t (reversed_step s))) taken)
+        ∙ ap (λ z. sign_of s *ℤ z) (total-sub (λ t. one_if (step_eq t s)) (λ t. one_if (step_eq t (reversed_step s)))
+        taken)
 
     -- across a step
-    pub across : (es : List CountedEdge) → winding_beside left es taken s ≡ winding_beside right es taken s +ℤ (times_held taken s -ℤ times_held taken (reversed_step s))
-    across es = by (is_forward s) (winding_under es taken (edge_of s)) (count_along taken (edge_of s)) (times_held taken s -ℤ times_held taken (reversed_step s)) count_along-is
+    pub across : (es : List CountedEdge) → winding_beside left es taken s ≡ winding_beside right es taken s +ℤ
+        (times_held taken s -ℤ times_held taken (reversed_step s))
+    across es = by (is_forward s) (winding_under es taken (edge_of s)) (count_along taken (edge_of s))
+        (times_held taken s -ℤ times_held taken (reversed_step s)) count_along-is
       where
-        by : (t : Bool) (under c d : ℤ) → c ≡ cond t (pos 1) (negsuc 0) *ℤ d → cond t (under +ℤ c) under ≡ cond t under (under +ℤ c) +ℤ d
+        by : (t : Bool) (under c d : ℤ) → c ≡ cond t (pos 1) (negsuc 0) *ℤ d → cond t (under +ℤ c) under ≡ cond t under
+            (under +ℤ c) +ℤ d
         by true under c d is = omega (arith, ints)
         by false under c d is = omega (arith, ints)
 
@@ -129,7 +154,8 @@ winding_across_a_step es taken s long = across s long taken es
 -- a step that is not taken is held 0 times
 none_held : (taken : List Step) (s : Step) → ¬ (Contains taken s) → times_held taken s ≡ pos 0
 none_held taken s none = total-zero (λ t. one_if (step_eq t s)) taken
-    (λ t c. ap one_if (false_from_ne_true (step_eq t s) (λ same. none (subst (λ u. Contains taken u) (same_steps t s same) c))))
+    (λ t c. ap one_if (false_from_ne_true (step_eq t s)
+    (λ same. none (subst (λ u. Contains taken u) (same_steps t s same) c))))
 
 -- a step that is taken once is held once
 one_held : (taken : List Step) → HasEachOnce taken → (s : Step) → Contains taken s → times_held taken s ≡ pos 1
@@ -139,9 +165,11 @@ one_held taken once s c = single_step_total taken once (λ t. pos 1) s c
 pub winding_across_alternating_steps : WindingAcrossAlternatingSteps
 winding_across_alternating_steps es steps taken alternates inside = record {
   rises = λ once s c. across s (alternates.long s (inside s c)) taken es
-      ∙ ap₂ (λ a b. winding_beside right es taken s +ℤ (a -ℤ b)) (one_held taken once s c) (none_held taken (reversed_step s) (none_back s (inside s c)));
+      ∙ ap₂ (λ a b. winding_beside right es taken s +ℤ (a -ℤ b)) (one_held taken once s c)
+      (none_held taken (reversed_step s) (none_back s (inside s c)));
   stays = λ s c none. across s (alternates.long s c) taken es
-      ∙ ap₂ (λ a b. winding_beside right es taken s +ℤ (a -ℤ b)) (none_held taken s none) (none_held taken (reversed_step s) (none_back s c))
+      ∙ ap₂ (λ a b. winding_beside right es taken s +ℤ (a -ℤ b)) (none_held taken s none)
+      (none_held taken (reversed_step s) (none_back s c))
       ∙ as_it_was (winding_beside right es taken s);
 }
   where

@@ -1,4 +1,5 @@
--- The chains of the added edges make the marks of the arrangement: no round changes which marks their steps are given along an edge.
+-- The chains of the added edges make the marks of the arrangement: no round changes which marks their steps are given
+-- along an edge.
 use Rattle.std.proofs.Common.{◌≡◌, ◌↔◌, Bool, true, List, [], ◌∷◌, Contains, sym, ap, ◌∙◌, subst}
 use Rattle.std.specs.List.{All, Any}
 use Rattle.std.specs.Prelude.{flat_map}
@@ -7,7 +8,8 @@ use Rattle.std.proofs.lemmas.List.Elements.{All-contains, All-contains_itself, A
 use Rattle.overlay_geom.specs.Plane.{Step, point_lt, edge_of, is_forward}
 use Rattle.overlay_geom.specs.Edges.{CountedEdge, ends_of}
 use Rattle.overlay_geom.specs.Merged.{IsMerged}
-use Rattle.overlay_plane.specs.ChainLinks.{ChainLink, links_after, links_through, step_of, step_along, chain_through, IsMarkedBy}
+use Rattle.overlay_plane.specs.ChainLinks.{ChainLink, links_after, links_through, step_of, step_along, chain_through}
+use Rattle.overlay_plane.specs.ChainLinks.{IsMarkedBy}
 use Rattle.overlay_plane.specs.ChainLinks.ChainLink.{held, dropped}
 use Rattle.overlay_plane.specs.EdgeLists.{IsForwardBy}
 use Rattle.overlay_plane.specs.Rounds.{Round, AreRounds, pieces_of, after_rounds}
@@ -19,11 +21,13 @@ use Rattle.overlay_plane.proofs.Totals.{Contains-head}
 
 module _ (old : List CountedEdge) where
   -- the links of the chains make the marks after all rounds
-  make_in_rounds : (es : List CountedEdge) (rs : List Round) → AreRounds es rs → (links : CountedEdge → List ChainLink) → MakeMarks old links es →
+  make_in_rounds : (es : List CountedEdge) (rs : List Round) → AreRounds es rs →
+      (links : CountedEdge → List ChainLink) → MakeMarks old links es →
       MakeMarks old (λ e. links_through rs (links e)) (after_rounds es rs)
   make_in_rounds es [] rounds links make = make
   make_in_rounds es (r ∷ rs) rounds links make =
-      make_in_rounds (pieces_of r) rs rounds.1 (λ e. flat_map (links_after r) (links e)) (make_after old es r rounds.0.merged links make)
+      make_in_rounds (pieces_of r) rs rounds.1 (λ e. flat_map (links_after r) (links e))
+      (make_after old es r rounds.0.merged links make)
 
   -- at first each edge is its own chain
   abbrev own_chain : CountedEdge → List ChainLink
@@ -60,7 +64,8 @@ module _ (old : List CountedEdge) where
       runs : (e : CountedEdge) → Contains old e → point_lt e.a e.b ≡ true
       runs e c = All-contains (λ d. point_lt d.a d.b ≡ true) old e forward c
 
-  module _ (rs : List Round) (new : List CountedEdge) (rounds : AreRounds old rs) (merged : IsMerged (after_rounds old rs) new) (forward : IsForwardBy ends_of old) where
+  module _ (rs : List Round) (new : List CountedEdge) (rounds : AreRounds old rs)
+      (merged : IsMerged (after_rounds old rs) new) (forward : IsForwardBy ends_of old) where
     -- the links after all rounds
     abbrev links : CountedEdge → List ChainLink
     links e = links_through rs (own_chain e)
@@ -69,31 +74,46 @@ module _ (old : List CountedEdge) where
     make = make_in_rounds old rs rounds own_chain (make_at_first forward)
 
     -- a mark of the arrangement is given to a step of a chain
-    mark_given : (marked_as : CountedEdge → Step → Bool) (d : Bool) → ((e : CountedEdge) (s : Step) → marked_as e s ≡ marks d e s) →
+    mark_given : (marked_as : CountedEdge → Step → Bool) (d : Bool) →
+        ((e : CountedEdge) (s : Step) → marked_as e s ≡ marks d e s) →
         (f : CountedEdge) → Contains new f → mark d f ≡ true → IsMarkedBy marked_as rs old (ends_of f)
     mark_given marked_as d same f c h =
         let given = make.made d (ends_of f) (merged_marked (after_rounds old rs) new merged d f c h) in
-        any_of_entry (λ e. Any (λ t. (edge_of t ≡ ends_of f) × (marked_as e t ≡ true)) (chain_through rs e)) old given.edge given.inside
-        (any_of_entry (λ t. (edge_of t ≡ ends_of f) × (marked_as given.edge t ≡ true)) (chain_through rs given.edge) given.step
-        (Contains-map step_of (links given.edge) (held given.step) given.link) (given.along, same given.edge given.step ∙ given.given))
+        any_of_entry (λ e. Any (λ t. (edge_of t ≡ ends_of f) × (marked_as e t ≡ true)) (chain_through rs e)) old
+        given.edge given.inside
+        (any_of_entry (λ t. (edge_of t ≡ ends_of f) × (marked_as given.edge t ≡ true))
+        (chain_through rs given.edge) given.step
+        (Contains-map step_of (links given.edge) (held given.step) given.link) (
+          given.along,
+          same given.edge given.step
+              ∙ given.given,
+        ))
 
     -- a mark that is given to a step of a chain is one of the arrangement
-    given_mark : (marked_as : CountedEdge → Step → Bool) (d : Bool) → ((e : CountedEdge) (s : Step) → marked_as e s ≡ marks d e s) →
+    given_mark : (marked_as : CountedEdge → Step → Bool) (d : Bool) →
+        ((e : CountedEdge) (s : Step) → marked_as e s ≡ marks d e s) →
         (f : CountedEdge) → Contains new f → IsMarkedBy marked_as rs old (ends_of f) → mark d f ≡ true
     given_mark marked_as d same f c any =
-        let at = Contains-from_any (λ e. Any (λ t. (edge_of t ≡ ends_of f) × (marked_as e t ≡ true)) (chain_through rs e)) old any in
-        let step = Contains-from_any (λ t. (edge_of t ≡ ends_of f) × (marked_as at.0 t ≡ true)) (chain_through rs at.0) at.2 in
+        let at = Contains-from_any (λ e. Any (λ t. (edge_of t ≡ ends_of f) × (marked_as e t ≡ true))
+        (chain_through rs e)) old any in
+        let step = Contains-from_any (λ t. (edge_of t ≡ ends_of f) × (marked_as at.0 t ≡ true))
+        (chain_through rs at.0) at.2 in
         let link = Contains-from_map step_of (links at.0) step.0 step.1 in
         by at.0 at.1 step.0 step.2.0 (sym (same at.0 step.0) ∙ step.2.1) link.0 link.1 link.2
       where
-        by : (e : CountedEdge) → Contains old e → (t : Step) → edge_of t ≡ ends_of f → marks d e t ≡ true → (l : ChainLink) → Contains (links e) l → step_of l ≡ t → mark d f ≡ true
+        by : (e : CountedEdge) → Contains old e → (t : Step) → edge_of t ≡ ends_of f → marks d e t ≡ true →
+            (l : ChainLink) → Contains (links e) l → step_of l ≡ t → mark d f ≡ true
         by e in_old t along h (held s) link is = marked_merged (after_rounds old rs) new merged d f c
-            (subst (HasMarked d (after_rounds old rs)) (ap edge_of is ∙ along) (make.makes d e in_old s link (ap (marks d e) is ∙ h)))
+            (subst (HasMarked d (after_rounds old rs)) (ap edge_of is ∙ along)
+            (make.makes d e in_old s link (ap (marks d e) is ∙ h)))
         by e in_old t along h (dropped s) link is =
-            absurd (both_ways (mark (along_edge (is_forward t) d) e) (make.unmarked e in_old s link (along_edge (is_forward t) d)) h)
+            absurd (both_ways (mark (along_edge (is_forward t) d) e)
+            (make.unmarked e in_old s link (along_edge (is_forward t) d)) h)
 
     -- so the chains make the marks of the arrangement
-    pub chains_make_marks : (marked_as : CountedEdge → Step → Bool) (d : Bool) → ((e : CountedEdge) (s : Step) → marked_as e s ≡ marks d e s) →
+    pub chains_make_marks : (marked_as : CountedEdge → Step → Bool) (d : Bool) →
+        ((e : CountedEdge) (s : Step) → marked_as e s ≡ marks d e s) →
         All (λ f. (mark d f ≡ true) ↔ IsMarkedBy marked_as rs old (ends_of f)) new
-    chains_make_marks marked_as d same = All-weaker (Contains new) (λ f. (mark d f ≡ true) ↔ IsMarkedBy marked_as rs old (ends_of f))
+    chains_make_marks marked_as d same = All-weaker (Contains new)
+        (λ f. (mark d f ≡ true) ↔ IsMarkedBy marked_as rs old (ends_of f))
         (λ f c. (mark_given marked_as d same f c, given_mark marked_as d same f c)) new (All-contains_itself new)

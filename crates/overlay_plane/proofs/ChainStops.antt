@@ -1,10 +1,13 @@
--- The steps of a chain through points in order: each leads from one of the points to a larger one, with none of them between.
-use Rattle.std.proofs.Common.{◌≡◌, inl, inr, Bool, true, false, cond, List, [], ◌∷◌, refl, sym, ap, ◌∙◌, subst, arith, Contains}
+-- The steps of a chain through points in order: each leads from one of the points to a larger one, with none of them
+-- between.
+use Rattle.std.proofs.Common.{◌≡◌, inl, inr, Bool, true, false, cond, List, [], ◌∷◌, refl, sym, ap, ◌∙◌, subst, arith}
+use Rattle.std.proofs.Common.{Contains}
 use Rattle.std.proofs.lemmas.List.Elements.{Contains-append_cases}
 use Rattle.overlay_geom.specs.Plane.{Point, Step, Edge, point_eq, edge_of, steps_between, steps_through}
 use Rattle.overlay_geom.specs.Settled.{MeetInEnds}
 use Rattle.overlay_geom.proofs.Orders.{Decides-point_eq}
-use Rattle.overlay_geom.proofs.PointOrder.{IsBefore, IsUpTo, Decides-point_lt, by_order, up_to_both, before_unless_same, not_before_up_to, up_to_itself}
+use Rattle.overlay_geom.proofs.PointOrder.{IsBefore, IsUpTo, Decides-point_lt, by_order, up_to_both, before_unless_same}
+use Rattle.overlay_geom.proofs.PointOrder.{not_before_up_to, up_to_itself}
 use Rattle.overlay_geom.proofs.OneLine.{meet_in_ends_exchanged, apart_meet_in_ends}
 use Rattle.std.proofs.lemmas.Bool.Decides.{not_from_Decides}
 use Rattle.overlay_plane.proofs.LaterEntries.{Contains-cases, Each}
@@ -21,13 +24,16 @@ pub record IsLink (vs : List Point) (g : Edge) : Type 0 where
 
 -- the edge of a step to a larger point
 edge_of_forward : (a q : Point) → IsBefore a q → edge_of (record { from = a; to = q }) ≡ record { a = a; b = q }
-edge_of_forward a q before = ap (λ t. cond t (record { a = a; b = q }) (record { a = q; b = a })) ((Decides-point_lt a q).1 before)
+edge_of_forward a q before = ap (λ t. cond t (record { a = a; b = q }) (record { a = q; b = a }))
+    ((Decides-point_lt a q).1 before)
 
 -- the step between two points, where there is one, is between different ones
-pub step_between : (a q : Point) (s : Step) → Contains (steps_between a q) s → (record { from = a; to = q } ≡ s) × ¬ (a ≡ q)
+pub step_between : (a q : Point) (s : Step) → Contains (steps_between a q) s →
+    (record { from = a; to = q } ≡ s) × ¬ (a ≡ q)
 step_between a q s has = by (point_eq a q) refl has
   where
-    by : (t : Bool) → point_eq a q ≡ t → Contains (cond t [] (record { from = a; to = q } ∷ [])) s → (record { from = a; to = q } ≡ s) × ¬ (a ≡ q)
+    by : (t : Bool) → point_eq a q ≡ t → Contains (cond t [] (record { from = a; to = q } ∷ [])) s →
+        (record { from = a; to = q } ≡ s) × ¬ (a ≡ q)
     by true same has = absurd (omega (arith, has.1))
     by false other has =
         elim (Contains-cases (record { from = a; to = q }) [] s has) [
@@ -36,7 +42,8 @@ step_between a q s has = by (point_eq a q) refl has
         ]
 
 -- the first step of a chain through points in order is a link
-first_link : (a q : Point) (qs : List Point) → Each IsUpTo (a ∷ q ∷ qs) → IsBefore a q → IsLink (a ∷ q ∷ qs) (record { a = a; b = q })
+first_link : (a q : Point) (qs : List Point) → Each IsUpTo (a ∷ q ∷ qs) → IsBefore a q →
+    IsLink (a ∷ q ∷ qs) (record { a = a; b = q })
 first_link a q qs rises before = record {
   forward = before;
   from = Contains-head a (q ∷ qs);
@@ -76,22 +83,26 @@ later_link a vs g rises link = record {
     ]
 
 -- each step of a chain through points in order walks on a link
-pub links_of_chain : (a : Point) (vs : List Point) → Each IsUpTo (a ∷ vs) → (s : Step) → Contains (steps_through a vs) s → IsLink (a ∷ vs) (edge_of s)
+pub links_of_chain : (a : Point) (vs : List Point) → Each IsUpTo (a ∷ vs) →
+    (s : Step) → Contains (steps_through a vs) s → IsLink (a ∷ vs) (edge_of s)
 links_of_chain a [] rises s has = absurd (omega (arith, has.1))
 links_of_chain a (q ∷ qs) rises s has =
     elim (Contains-append_cases (steps_between a q) (steps_through q qs) s has) [
       | inl first ↦
           let is = step_between a q s first in
           let before = before_unless_same a q (rises.0 q (Contains-head q qs)) is.1 in
-          subst (IsLink (a ∷ q ∷ qs)) (sym (edge_of_forward a q before) ∙ ap edge_of is.0) (first_link a q qs rises before)
+          subst (IsLink (a ∷ q ∷ qs)) (sym (edge_of_forward a q before) ∙ ap edge_of is.0)
+          (first_link a q qs rises before)
       | inr later ↦ later_link a (q ∷ qs) (edge_of s) rises (links_of_chain q qs rises.1 s later)
     ]
 
 -- ---- two links
 
 -- two edges, of which neither has an end strictly between those of the other, are one edge or meet in ends alone
-pub clear_edges_meet_in_ends : (g h : Edge) → IsBefore g.a g.b → IsBefore h.a h.b → ¬ (IsBefore g.a h.a × IsBefore h.a g.b) →
-    ¬ (IsBefore g.a h.b × IsBefore h.b g.b) → ¬ (IsBefore h.a g.a × IsBefore g.a h.b) → ¬ (IsBefore h.a g.b × IsBefore g.b h.b) → ¬ (g ≡ h) → MeetInEnds g h
+pub clear_edges_meet_in_ends : (g h : Edge) → IsBefore g.a g.b → IsBefore h.a h.b →
+    ¬ (IsBefore g.a h.a × IsBefore h.a g.b) →
+    ¬ (IsBefore g.a h.b × IsBefore h.b g.b) → ¬ (IsBefore h.a g.a × IsBefore g.a h.b) →
+    ¬ (IsBefore h.a g.b × IsBefore g.b h.b) → ¬ (g ≡ h) → MeetInEnds g h
 clear_edges_meet_in_ends g h g_forward h_forward a_out b_out a_in b_in other =
     by_order g.b h.a
     (λ apart. apart_meet_in_ends g h g_forward h_forward apart)

@@ -2,10 +2,12 @@
 use Rattle.std.proofs.Common.{◌≡◌, Bool, true, false, cond, List, [], ◌∷◌, ◌++◌, map, refl, sym, ap, subst}
 use Rattle.std.specs.Prelude.{Option, Some, None, find, flat_map}
 use Rattle.std.proofs.lemmas.List.{map-append, reverse-append}
-use Rattle.overlay_geom.specs.Plane.{Point, Step, Edge, point_eq, edge_eq, is_forward, edge_of, reversed_step, backward, steps_between, steps_through}
+use Rattle.overlay_geom.specs.Plane.{Point, Step, Edge, point_eq, edge_eq, is_forward, edge_of, reversed_step, backward}
+use Rattle.overlay_geom.specs.Plane.{steps_between, steps_through}
 use Rattle.overlay_geom.specs.Edges.{CountedEdge, ends_of}
 use Rattle.overlay_geom.proofs.Orders.{point_eq-same, edge_eq-same}
-use Rattle.overlay_plane.specs.ChainLinks.{ChainLink, links_along, links_after, links_through, step_of, step_along, chain_through, Leads}
+use Rattle.overlay_plane.specs.ChainLinks.{ChainLink, links_along, links_after, links_through, step_of, step_along}
+use Rattle.overlay_plane.specs.ChainLinks.{chain_through, Leads}
 use Rattle.overlay_plane.specs.ChainLinks.ChainLink.{held, dropped}
 use Rattle.overlay_plane.specs.ChainLinks.Leads.{here, on_to}
 use Rattle.overlay_plane.specs.Rounds.{Round, chain_of, whole_cuts}
@@ -23,7 +25,8 @@ leads_from_goes p [] q e = subst (λ w. Leads p [] w) e here
 leads_from_goes p (s ∷ ss) q h = subst (λ u. Leads u (s ∷ ss) q) h.0 (on_to (leads_from_goes s.to ss q h.1))
 
 -- steps followed by others
-goes_on : (p : Point) (ss : List Step) (q : Point) (ts : List Step) (r : Point) → Goes p ss q → Goes q ts r → Goes p (ss ++ ts) r
+goes_on : (p : Point) (ss : List Step) (q : Point) (ts : List Step) (r : Point) → Goes p ss q → Goes q ts r →
+    Goes p (ss ++ ts) r
 goes_on p [] q ts r e h = subst (λ w. Goes w ts r) (sym e) h
 goes_on p (s ∷ ss) q ts r g h = (g.0, goes_on s.to ss q ts r g.1 h)
 
@@ -38,7 +41,8 @@ goes_between u v = by (point_eq u v) refl
 -- the steps through points to a last one
 pub goes_through : (u : Point) (vs : List Point) (w : Point) → Goes u (steps_through u (vs ++ w ∷ [])) w
 goes_through u [] w = goes_on u (steps_between u w) w [] w (goes_between u w) refl
-goes_through u (v ∷ vs) w = goes_on u (steps_between u v) v (steps_through v (vs ++ w ∷ [])) w (goes_between u v) (goes_through v vs w)
+goes_through u (v ∷ vs) w = goes_on u (steps_between u v) v (steps_through v (vs ++ w ∷ [])) w (goes_between u v)
+    (goes_through v vs w)
 
 -- the first step is the last one back
 pub backward-first : (s : Step) (ss : List Step) → backward (s ∷ ss) ≡ backward ss ++ reversed_step s ∷ []
@@ -65,25 +69,33 @@ goes_along r s e false is = subst (λ (f : Edge). Goes f.b (backward (chain_of r
 -- what a link becomes in a round goes from where its step starts to where it ends
 goes_after : (r : Round) (l : ChainLink) → Goes (step_of l).from (map step_of (links_after r l)) (step_of l).to
 goes_after r (dropped s) = (refl, refl)
-goes_after r (held s) = by (find (λ e. edge_eq (ends_of e) (edge_of s)) r.edges) (found_by (λ e. edge_eq (ends_of e) (edge_of s)) r.edges)
+goes_after r (held s) = by (find (λ e. edge_eq (ends_of e) (edge_of s)) r.edges)
+    (found_by (λ e. edge_eq (ends_of e) (edge_of s)) r.edges)
   where
-    by : (o : Option CountedEdge) → IsFound (λ e. edge_eq (ends_of e) (edge_of s)) r.edges o → Goes s.from (map step_of (links_along r s o)) s.to
+    by : (o : Option CountedEdge) → IsFound (λ e. edge_eq (ends_of e) (edge_of s)) r.edges o →
+        Goes s.from (map step_of (links_along r s o)) s.to
     by None h = (refl, refl)
-    by (Some e) h = subst (λ ss. Goes s.from ss s.to) (sym (held_steps (cond (is_forward s) (chain_of r e) (backward (chain_of r e)))))
+    by (Some e) h = subst (λ ss. Goes s.from ss s.to)
+        (sym (held_steps (cond (is_forward s) (chain_of r e) (backward (chain_of r e)))))
         (goes_along r s e (is_forward s) (edge_eq-same (ends_of e) (edge_of s) h.1))
 
 -- the links after a round go from where they went from to where they went
-goes_in_a_round : (r : Round) (p : Point) (ls : List ChainLink) (q : Point) → Goes p (map step_of ls) q → Goes p (map step_of (flat_map (links_after r) ls)) q
+goes_in_a_round : (r : Round) (p : Point) (ls : List ChainLink) (q : Point) → Goes p (map step_of ls) q →
+    Goes p (map step_of (flat_map (links_after r) ls)) q
 goes_in_a_round r p [] q e = e
-goes_in_a_round r p (l ∷ ls) q h = subst (λ ss. Goes p ss q) (sym (map-append step_of (links_after r l) (flat_map (links_after r) ls)))
+goes_in_a_round r p (l ∷ ls) q h = subst (λ ss. Goes p ss q)
+    (sym (map-append step_of (links_after r l) (flat_map (links_after r) ls)))
     (goes_on p (map step_of (links_after r l)) (step_of l).to (map step_of (flat_map (links_after r) ls)) q
-    (subst (λ u. Goes u (map step_of (links_after r l)) (step_of l).to) h.0 (goes_after r l)) (goes_in_a_round r (step_of l).to ls q h.1))
+    (subst (λ u. Goes u (map step_of (links_after r l)) (step_of l).to) h.0 (goes_after r l))
+    (goes_in_a_round r (step_of l).to ls q h.1))
 
 -- and so after all rounds
-goes_in_rounds : (rs : List Round) (p : Point) (ls : List ChainLink) (q : Point) → Goes p (map step_of ls) q → Goes p (map step_of (links_through rs ls)) q
+goes_in_rounds : (rs : List Round) (p : Point) (ls : List ChainLink) (q : Point) → Goes p (map step_of ls) q →
+    Goes p (map step_of (links_through rs ls)) q
 goes_in_rounds [] p ls q h = h
 goes_in_rounds (r ∷ rs) p ls q h = goes_in_rounds rs p (flat_map (links_after r) ls) q (goes_in_a_round r p ls q h)
 
 -- the chain that an edge has become leads from its one end to the other
 pub chain_keeps_ends : (rs : List Round) (e : CountedEdge) → Leads e.a (chain_through rs e) e.b
-chain_keeps_ends rs e = leads_from_goes e.a (chain_through rs e) e.b (goes_in_rounds rs e.a (held (step_along e) ∷ []) e.b (refl, refl))
+chain_keeps_ends rs e = leads_from_goes e.a (chain_through rs e) e.b
+    (goes_in_rounds rs e.a (held (step_along e) ∷ []) e.b (refl, refl))

@@ -1,5 +1,5 @@
--- The points that two edges have in common: one at most where they do not lie along one line; and each is a meeting point, or
--- an inner point of both where they overlap.
+-- The points that two edges have in common: one at most where they do not lie along one line; and each is a meeting
+-- point, or an inner point of both where they overlap.
 use Rattle.std.proofs.Common.{◌≡◌, ◌⊎◌, inl, inr, ℤ, pos, ◌-ℤ◌, ◌*ℤ◌, neg_ℤ, ◌<ℤ◌, ◌≤ℤ◌}
 use Rattle.std.specs.Bool.{Decides}
 use Rattle.std.proofs.lemmas.Int.{by_lt_z}
@@ -22,7 +22,8 @@ abbrev crossed : Edge → Edge → ℤ
 crossed e f = cross_at e.a e.b f.b -ℤ cross_at e.a e.b f.a
 
 -- an edge that does not go across e's line, and has a point on it, lies along it
-pub along_of_parallel : (e f : Edge) (p : PlanePoint) → IsBefore f.a f.b → crossed e f ≡ pos 0 → side e p ≡ pos 0 → side f p ≡ pos 0 → IsAlong e f
+pub along_of_parallel : (e f : Edge) (p : PlanePoint) → IsBefore f.a f.b → crossed e f ≡ pos 0 → side e p ≡ pos 0 →
+    side f p ≡ pos 0 → IsAlong e f
 along_of_parallel e f p forward none e_p f_p = let at_a = by_lt_z f.a.x f.b.x wide upright in (at_a, omega linear)
   where
     wide : f.a.x <ℤ f.b.x → cross_at e.a e.b f.a ≡ pos 0
@@ -32,9 +33,11 @@ along_of_parallel e f p forward none e_p f_p = let at_a = by_lt_z f.a.x f.b.x wi
         let of_both = mul-zero (p.x -ℤ f.a.x *ℤ p.d) (crossed e f) none in
         let identity = solve 11
         (λ ax ay bx by cx cy dx dy x y d. (dx ⊖ cx) ⊗ (d ⊗ crossE ax ay bx by cx cy) ≗
-        (dx ⊖ cx) ⊗ sideE ax ay bx by x y d ⊖ (x ⊖ cx ⊗ d) ⊗ (crossE ax ay bx by dx dy ⊖ crossE ax ay bx by cx cy) ⊖ (bx ⊖ ax) ⊗ sideE cx cy dx dy x y d)
+        (dx ⊖ cx) ⊗ sideE ax ay bx by x y d ⊖ (x ⊖ cx ⊗ d) ⊗ (crossE ax ay bx by dx dy ⊖ crossE ax ay bx by cx cy) ⊖
+        (bx ⊖ ax) ⊗ sideE cx cy dx dy x y d)
         tt e.a.x e.a.y e.b.x e.b.y f.a.x f.a.y f.b.x f.b.y p.x p.y p.d in
-        zero_of_mul-zero p.d (cross_at e.a e.b f.a) p.positive (zero_of_mul-zero (f.b.x -ℤ f.a.x) (p.d *ℤ cross_at e.a e.b f.a) (omega linear) (omega linear))
+        zero_of_mul-zero p.d (cross_at e.a e.b f.a) p.positive
+        (zero_of_mul-zero (f.b.x -ℤ f.a.x) (p.d *ℤ cross_at e.a e.b f.a) (omega linear) (omega linear))
 
     upright : f.b.x ≤ℤ f.a.x → cross_at e.a e.b f.a ≡ pos 0
     upright le =
@@ -44,9 +47,11 @@ along_of_parallel e f p forward none e_p f_p = let at_a = by_lt_z f.a.x f.b.x wi
         let of_both = mul-zero (p.y -ℤ f.a.y *ℤ p.d) (crossed e f) none in
         let identity = solve 11
         (λ ax ay bx by cx cy dx dy x y d. (dy ⊖ cy) ⊗ (d ⊗ crossE ax ay bx by cx cy) ≗
-        (dy ⊖ cy) ⊗ sideE ax ay bx by x y d ⊖ (y ⊖ cy ⊗ d) ⊗ (crossE ax ay bx by dx dy ⊖ crossE ax ay bx by cx cy) ⊖ (by ⊖ ay) ⊗ sideE cx cy dx dy x y d)
+        (dy ⊖ cy) ⊗ sideE ax ay bx by x y d ⊖ (y ⊖ cy ⊗ d) ⊗ (crossE ax ay bx by dx dy ⊖ crossE ax ay bx by cx cy) ⊖
+        (by ⊖ ay) ⊗ sideE cx cy dx dy x y d)
         tt e.a.x e.a.y e.b.x e.b.y f.a.x f.a.y f.b.x f.b.y p.x p.y p.d in
-        zero_of_mul-zero p.d (cross_at e.a e.b f.a) p.positive (zero_of_mul-zero (f.b.y -ℤ f.a.y) (p.d *ℤ cross_at e.a e.b f.a) (omega linear) (omega linear))
+        zero_of_mul-zero p.d (cross_at e.a e.b f.a) p.positive
+        (zero_of_mul-zero (f.b.y -ℤ f.a.y) (p.d *ℤ cross_at e.a e.b f.a) (omega linear) (omega linear))
 
 -- what times a number other than 0 is 0, is 0
 zero_of_factor : (k z : ℤ) → ¬ (k ≡ pos 0) → k *ℤ z ≡ pos 0 → z ≡ pos 0
@@ -68,7 +73,8 @@ one_on_both e f p q across e_p f_p e_q f_q = (omega (linear, in_x), omega (linea
         let third = mul-zero (q.d *ℤ (f.b.x -ℤ f.a.x)) (side e p) e_p in
         let fourth = mul-zero (q.d *ℤ (e.b.x -ℤ e.a.x)) (side f p) f_p in
         let identity = solve 14
-        (λ ax ay bx by cx cy dx dy x y d u v w. (crossE ax ay bx by dx dy ⊖ crossE ax ay bx by cx cy) ⊗ (u ⊗ d ⊖ x ⊗ w) ≗
+        (λ ax ay bx by cx cy dx dy x y d u v w. (crossE ax ay bx by dx dy ⊖ crossE ax ay bx by cx cy) ⊗
+        (u ⊗ d ⊖ x ⊗ w) ≗
         (d ⊗ (dx ⊖ cx)) ⊗ sideE ax ay bx by u v w ⊖ (d ⊗ (bx ⊖ ax)) ⊗ sideE cx cy dx dy u v w
         ⊖ (w ⊗ (dx ⊖ cx)) ⊗ sideE ax ay bx by x y d ⊕ (w ⊗ (bx ⊖ ax)) ⊗ sideE cx cy dx dy x y d)
         tt e.a.x e.a.y e.b.x e.b.y f.a.x f.a.y f.b.x f.b.y p.x p.y p.d q.x q.y q.d in
@@ -81,14 +87,16 @@ one_on_both e f p q across e_p f_p e_q f_q = (omega (linear, in_x), omega (linea
         let third = mul-zero (q.d *ℤ (f.b.y -ℤ f.a.y)) (side e p) e_p in
         let fourth = mul-zero (q.d *ℤ (e.b.y -ℤ e.a.y)) (side f p) f_p in
         let identity = solve 14
-        (λ ax ay bx by cx cy dx dy x y d u v w. (crossE ax ay bx by dx dy ⊖ crossE ax ay bx by cx cy) ⊗ (v ⊗ d ⊖ y ⊗ w) ≗
+        (λ ax ay bx by cx cy dx dy x y d u v w. (crossE ax ay bx by dx dy ⊖ crossE ax ay bx by cx cy) ⊗
+        (v ⊗ d ⊖ y ⊗ w) ≗
         (d ⊗ (dy ⊖ cy)) ⊗ sideE ax ay bx by u v w ⊖ (d ⊗ (by ⊖ ay)) ⊗ sideE cx cy dx dy u v w
         ⊖ (w ⊗ (dy ⊖ cy)) ⊗ sideE ax ay bx by x y d ⊕ (w ⊗ (by ⊖ ay)) ⊗ sideE cx cy dx dy x y d)
         tt e.a.x e.a.y e.b.x e.b.y f.a.x f.a.y f.b.x f.b.y p.x p.y p.d q.x q.y q.d in
         zero_of_factor (crossed e f) (q.y *ℤ p.d -ℤ p.y *ℤ q.d) across (omega linear)
 
 -- two edges that do not lie along one line have one point in common at most
-pub only_unless_along : (e f : Edge) (p q : PlanePoint) → IsBefore f.a f.b → ¬ (IsAlong e f) → IsCommon e f p → IsCommon e f q → SamePlace q p
+pub only_unless_along : (e f : Edge) (p q : PlanePoint) → IsBefore f.a f.b → ¬ (IsAlong e f) → IsCommon e f p →
+    IsCommon e f q → SamePlace q p
 only_unless_along e f p q forward apart (on_e, on_f) (also_on_e, also_on_f) =
     one_on_both e f p q (λ none. apart (along_of_parallel e f p forward none on_e.on_line on_f.on_line))
     on_e.on_line on_f.on_line also_on_e.on_line also_on_f.on_line
@@ -100,12 +108,15 @@ pub end_is_meeting : (e f : Edge) (p : PlanePoint) → IsCommon e f p → IsEnd 
 end_is_meeting e f p common end = record { common = common; only_or_end = inr end }
 
 -- where the edges do not lie along one line, each common point is one
-pub common_is_meeting : (e f : Edge) (p : PlanePoint) → IsBefore f.a f.b → ¬ (IsAlong e f) → IsCommon e f p → IsMeetingPoint e f p
-common_is_meeting e f p forward apart common = record { common = common; only_or_end = inl (λ q also. only_unless_along e f p q forward apart common also) }
+pub common_is_meeting : (e f : Edge) (p : PlanePoint) → IsBefore f.a f.b → ¬ (IsAlong e f) → IsCommon e f p →
+    IsMeetingPoint e f p
+common_is_meeting e f p forward apart common =
+    record { common = common; only_or_end = inl (λ q also. only_unless_along e f p q forward apart common also) }
 
 -- the test tells whether both ends of f lie on e's line
 pub Decides-are_along : (e f : Edge) → Decides (are_along e f) (IsAlong e f)
-Decides-are_along e f = Decides-and _ _ (Decides-int_eq (cross_at e.a e.b f.a) (pos 0)) (Decides-int_eq (cross_at e.a e.b f.b) (pos 0))
+Decides-are_along e f = Decides-and _ _ (Decides-int_eq (cross_at e.a e.b f.a) (pos 0))
+    (Decides-int_eq (cross_at e.a e.b f.b) (pos 0))
 
 -- a common point is a meeting point, or the edges lie along one line, and it is an end of neither
 pub common_cases : (e f : Edge) (p : PlanePoint) → IsBefore f.a f.b → IsCommon e f p →

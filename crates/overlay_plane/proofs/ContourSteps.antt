@@ -1,5 +1,6 @@
 -- The steps of a contour are between different points, and each has a step before it and one after it.
-use Rattle.std.proofs.Common.{◌≡◌, inl, inr, ◌+◌, ◌-◌, ◌<◌, List, [], ◌∷◌, ◌++◌, length, Contains, sym, ap, ◌∙◌, subst, arith}
+use Rattle.std.proofs.Common.{◌≡◌, inl, inr, ◌+◌, ◌-◌, ◌<◌, List, [], ◌∷◌, ◌++◌, length, Contains, sym, ap, ◌∙◌, subst}
+use Rattle.std.proofs.Common.{arith}
 use Rattle.std.proofs.lemmas.List.Elements.{Contains-append_cases}
 use Rattle.overlay_geom.specs.Plane.{Point, Step, steps_between, steps_through, steps_of, points_of}
 use Rattle.overlay_plane.specs.Turn.{step_round, no_step}
@@ -11,7 +12,8 @@ use Rattle.overlay_plane.proofs.ItemsRound.{item_round-round, Contains-item_roun
 through_long : (p : Point) (qs : List Point) (s : Step) → Contains (steps_through p qs) s → ¬ (s.from ≡ s.to)
 through_long p [] s c = absurd (elim c.1 [ ])
 through_long p (q ∷ qs) s c = elim (Contains-append_cases (steps_between p q) (steps_through q qs) s c) [
-  | inl first ↦ let found = step_between p q s first in λ same. found.1 (subst (λ (t : Step). t.from ≡ t.to) (sym found.0) same)
+  | inl first ↦ let found = step_between p q s first in
+      λ same. found.1 (subst (λ (t : Step). t.from ≡ t.to) (sym found.0) same)
   | inr later ↦ through_long q qs s later
 ]
 
@@ -32,8 +34,12 @@ module _ (walk : List Step) (contour : IsContour walk) where
   -- a step begins where each ends
   pub step_after : (s : Step) → Contains walk s → (t : Step) × Contains walk t × (t.from ≡ s.to)
   step_after s c =
-      let at = place_of walk no_step s c in
-      (step_round walk (at.0 + 1), Contains-item_round walk no_step (at.0 + 1) some_step, contour.leads_on at.0 ∙ ap (λ (t : Step). t.to) at.2)
+      let at = place_of walk no_step s c in (
+        step_round walk (at.0 + 1),
+        Contains-item_round walk no_step (at.0 + 1) some_step,
+        contour.leads_on at.0
+            ∙ ap (λ (t : Step). t.to) at.2,
+      )
 
   -- and one ends where each begins
   pub step_before : (s : Step) → Contains walk s → (t : Step) × Contains walk t × (t.to ≡ s.from)
@@ -43,5 +49,6 @@ module _ (walk : List Step) (contour : IsContour walk) where
       let next : k + 1 ≡ length walk + at.0 = let some = some_step in omega arith in (
         step_round walk k,
         Contains-item_round walk no_step k some_step,
-        sym (contour.leads_on k) ∙ ap (λ j. (step_round walk j).from) next ∙ ap (λ (t : Step). t.from) (item_round-round walk no_step at.0 ∙ at.2),
+        sym (contour.leads_on k) ∙ ap (λ j. (step_round walk j).from) next
+            ∙ ap (λ (t : Step). t.from) (item_round-round walk no_step at.0 ∙ at.2),
       )

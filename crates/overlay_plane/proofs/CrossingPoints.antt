@@ -1,6 +1,7 @@
--- The point in which two edges cross that lie across one another: it is on both, and how far it is along the one, by the sides on
--- which that one's ends lie.
-use Rattle.std.proofs.Common.{◌≡◌, inl, inr, ℤ, pos, negsuc, nat_abs, ◌+ℤ◌, ◌-ℤ◌, ◌*ℤ◌, neg_ℤ, ◌<ℤ◌, ◌≤ℤ◌, refl, sym, ap₂, ◌∙◌}
+-- The point in which two edges cross that lie across one another: it is on both, and how far it is along the one, by
+-- the sides on which that one's ends lie.
+use Rattle.std.proofs.Common.{◌≡◌, inl, inr, ℤ, pos, negsuc, nat_abs, ◌+ℤ◌, ◌-ℤ◌, ◌*ℤ◌, neg_ℤ, ◌<ℤ◌, ◌≤ℤ◌, refl, sym}
+use Rattle.std.proofs.Common.{ap₂, ◌∙◌}
 use Rattle.overlay_geom.specs.Plane.{PlanePoint, Edge, IsOn, cross_at}
 use Rattle.overlay_geom.specs.Settled.{IsCommon}
 use Rattle.overlay_geom.specs.Placed.{IsAcross}
@@ -17,12 +18,18 @@ use Rattle.overlay_plane.proofs.Placements.{AreCrossing, both_across}
 
 -- the point that lies t / d of the way from e's smaller end to its larger one
 abbrev pub point_along : (e : Edge) (t d : ℤ) → pos 0 <ℤ d → PlanePoint
-point_along e t d positive = record { x = e.a.x *ℤ d +ℤ (e.b.x -ℤ e.a.x) *ℤ t; y = e.a.y *ℤ d +ℤ (e.b.y -ℤ e.a.y) *ℤ t; d = d; positive = positive }
+point_along e t d positive = record {
+  x = e.a.x *ℤ d +ℤ (e.b.x -ℤ e.a.x) *ℤ t;
+  y = e.a.y *ℤ d +ℤ (e.b.y -ℤ e.a.y) *ℤ t;
+  d = d;
+  positive = positive;
+}
 
 -- a point part of the way lies on the edge
 pub part_on : (e : Edge) (t d : ℤ) (positive : pos 0 <ℤ d) → pos 0 ≤ℤ t → t ≤ℤ d → IsOn e (point_along e t d positive)
 part_on e t d positive begun within = record {
-  on_line = solve 6 (λ ax ay bx by t d. sideE ax ay bx by (ax ⊗ d ⊕ (bx ⊖ ax) ⊗ t) (ay ⊗ d ⊕ (by ⊖ ay) ⊗ t) d ≗ number (pos 0)) tt e.a.x e.a.y e.b.x e.b.y t d;
+  on_line = solve 6 (λ ax ay bx by t d. sideE ax ay bx by (ax ⊗ d ⊕ (bx ⊖ ax) ⊗ t) (ay ⊗ d ⊕ (by ⊖ ay) ⊗ t) d ≗ number
+      (pos 0)) tt e.a.x e.a.y e.b.x e.b.y t d;
   in_x = part_between e.a.x e.b.x t d begun within;
   in_y = part_between e.a.y e.b.y t d begun within;
 }
@@ -40,9 +47,11 @@ abs_down (pos n) h = omega linear
 abs_down (negsuc n) h = refl
 
 -- how far e goes across f's direction: the difference of its ends' sides
-turn_of_sides : (e f : Edge) → (f.b.x -ℤ f.a.x) *ℤ (e.b.y -ℤ e.a.y) -ℤ (f.b.y -ℤ f.a.y) *ℤ (e.b.x -ℤ e.a.x) ≡ cross_at f.a f.b e.b -ℤ cross_at f.a f.b e.a
+turn_of_sides : (e f : Edge) → (f.b.x -ℤ f.a.x) *ℤ (e.b.y -ℤ e.a.y) -ℤ (f.b.y -ℤ f.a.y) *ℤ (e.b.x -ℤ e.a.x) ≡ cross_at
+    f.a f.b e.b -ℤ cross_at f.a f.b e.a
 turn_of_sides e f = solve 8
-    (λ ax ay bx by cx cy dx dy. (dx ⊖ cx) ⊗ (by ⊖ ay) ⊖ (dy ⊖ cy) ⊗ (bx ⊖ ax) ≗ crossE cx cy dx dy bx by ⊖ crossE cx cy dx dy ax ay)
+    (λ ax ay bx by cx cy dx dy. (dx ⊖ cx) ⊗ (by ⊖ ay) ⊖ (dy ⊖ cy) ⊗ (bx ⊖ ax) ≗ crossE cx cy dx dy bx by ⊖ crossE cx cy
+    dx dy ax ay)
     tt e.a.x e.a.y e.b.x e.b.y f.a.x f.a.y f.b.x f.b.y
 
 -- e goes from f's right side to its left
@@ -114,8 +123,10 @@ crossing_point e f positive = point_along e (to_line e f) (across e f) positive
 
 -- where e crosses f's line, f crosses e's, in the same numbers
 pub record CrossAlike (e f : Edge) : Type 0 where
-  pub x : e.a.x *ℤ across e f +ℤ (e.b.x -ℤ e.a.x) *ℤ to_line e f ≡ f.a.x *ℤ across f e +ℤ (f.b.x -ℤ f.a.x) *ℤ to_line f e
-  pub y : e.a.y *ℤ across e f +ℤ (e.b.y -ℤ e.a.y) *ℤ to_line e f ≡ f.a.y *ℤ across f e +ℤ (f.b.y -ℤ f.a.y) *ℤ to_line f e
+  pub x : e.a.x *ℤ across e f +ℤ (e.b.x -ℤ e.a.x) *ℤ to_line e f ≡ f.a.x *ℤ across f e +ℤ (f.b.x -ℤ f.a.x) *ℤ to_line f
+      e
+  pub y : e.a.y *ℤ across e f +ℤ (e.b.y -ℤ e.a.y) *ℤ to_line e f ≡ f.a.y *ℤ across f e +ℤ (f.b.y -ℤ f.a.y) *ℤ to_line f
+      e
   pub d : across e f ≡ across f e
 
 -- e goes from f's left side to its right, and so f from e's right side to its left
@@ -124,14 +135,16 @@ alike_leftward e f right left = record {
   x =
       ap₂ (λ t d. e.a.x *ℤ d +ℤ (e.b.x -ℤ e.a.x) *ℤ t) right.from right.whole
       ∙ solve 8
-      (λ ax ay bx by cx cy dx dy. ax ⊗ (crossE cx cy dx dy ax ay ⊖ crossE cx cy dx dy bx by) ⊕ (bx ⊖ ax) ⊗ crossE cx cy dx dy ax ay ≗
+      (λ ax ay bx by cx cy dx dy. ax ⊗ (crossE cx cy dx dy ax ay ⊖ crossE cx cy dx dy bx by) ⊕ (bx ⊖ ax) ⊗ crossE cx cy
+      dx dy ax ay ≗
       cx ⊗ (crossE ax ay bx by dx dy ⊖ crossE ax ay bx by cx cy) ⊕ (dx ⊖ cx) ⊗ ⊝ crossE ax ay bx by cx cy)
       tt e.a.x e.a.y e.b.x e.b.y f.a.x f.a.y f.b.x f.b.y
       ∙ sym (ap₂ (λ t d. f.a.x *ℤ d +ℤ (f.b.x -ℤ f.a.x) *ℤ t) left.from left.whole);
   y =
       ap₂ (λ t d. e.a.y *ℤ d +ℤ (e.b.y -ℤ e.a.y) *ℤ t) right.from right.whole
       ∙ solve 8
-      (λ ax ay bx by cx cy dx dy. ay ⊗ (crossE cx cy dx dy ax ay ⊖ crossE cx cy dx dy bx by) ⊕ (by ⊖ ay) ⊗ crossE cx cy dx dy ax ay ≗
+      (λ ax ay bx by cx cy dx dy. ay ⊗ (crossE cx cy dx dy ax ay ⊖ crossE cx cy dx dy bx by) ⊕ (by ⊖ ay) ⊗ crossE cx cy
+      dx dy ax ay ≗
       cy ⊗ (crossE ax ay bx by dx dy ⊖ crossE ax ay bx by cx cy) ⊕ (dy ⊖ cy) ⊗ ⊝ crossE ax ay bx by cx cy)
       tt e.a.x e.a.y e.b.x e.b.y f.a.x f.a.y f.b.x f.b.y
       ∙ sym (ap₂ (λ t d. f.a.y *ℤ d +ℤ (f.b.y -ℤ f.a.y) *ℤ t) left.from left.whole);
@@ -140,15 +153,19 @@ alike_leftward e f right left = record {
 
 -- so it is whichever way they go
 pub cross_alike : (e f : Edge) → IsAcross e f → IsAcross f e → CrossAlike e f
-cross_alike e f (inl (f_low, f_high, f_less)) (inr (e_high, e_low, e_less)) = alike_leftward e f (goes_right e f e_low e_less) (goes_left f e f_low f_less)
+cross_alike e f (inl (f_low, f_high, f_less)) (inr (e_high, e_low, e_less)) = alike_leftward e f
+    (goes_right e f e_low e_less) (goes_left f e f_low f_less)
 cross_alike e f (inr (f_high, f_low, f_less)) (inl (e_low, e_high, e_less)) =
     let back = alike_leftward f e (goes_right f e f_low f_less) (goes_left e f e_low e_less) in
     record { x = sym back.x; y = sym back.y; d = sym back.d }
-cross_alike e f (inl (f_low, f_high, f_less)) (inl (e_low, e_high, e_less)) = absurd (let same = crossed_back e f in omega linear)
-cross_alike e f (inr (f_high, f_low, f_less)) (inr (e_high, e_low, e_less)) = absurd (let same = crossed_back e f in omega linear)
+cross_alike e f (inl (f_low, f_high, f_less)) (inl (e_low, e_high, e_less)) = absurd (let same = crossed_back e f in
+    omega linear)
+cross_alike e f (inr (f_high, f_low, f_less)) (inr (e_high, e_low, e_less)) = absurd (let same = crossed_back e f in
+    omega linear)
 
 -- of two edges across one another, the point in which e crosses f's line is on both
-pub crossing_is_common : (e f : Edge) (positive : pos 0 <ℤ across e f) → AreCrossing e f → IsCommon e f (crossing_point e f positive)
+pub crossing_is_common : (e f : Edge) (positive : pos 0 <ℤ across e f) → AreCrossing e f →
+    IsCommon e f (crossing_point e f positive)
 crossing_is_common e f positive c = (part_on e (to_line e f) (across e f) positive way.0 way.1, on_f)
   where
     both : IsAcross e f × IsAcross f e

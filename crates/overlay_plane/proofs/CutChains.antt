@@ -1,5 +1,6 @@
 -- The chain of an edge through its rounded cuts is the one through the whole points that are computed pair by pair.
-use Rattle.std.proofs.Common.{◌≡◌, ◌⊎◌, inl, inr, ⊎_elim, Bool, true, false, pos, List, [], ◌∷◌, ◌++◌, map, Contains, refl, sym, ◌∙◌, subst}
+use Rattle.std.proofs.Common.{◌≡◌, ◌⊎◌, inl, inr, ⊎_elim, Bool, true, false, pos, List, [], ◌∷◌, ◌++◌, map, Contains}
+use Rattle.std.proofs.Common.{refl, sym, ◌∙◌, subst}
 use Rattle.std.specs.List.{Any, flat_map}
 use Rattle.std.proofs.lemmas.List.Elements.{All-contains, Contains-append_left, Contains-push, Contains-push_cases}
 use Rattle.overlay_geom.specs.Plane.{Point, PlanePoint, Edge, edge_eq, steps_through}
@@ -14,10 +15,13 @@ use Rattle.overlay_geom.proofs.Rounded.{nearest_point-rounding}
 use Rattle.overlay_plane.specs.CutPoints.{met_at, comes_first, cut_points}
 use Rattle.overlay_plane.specs.EdgeLists.{IsForwardBy}
 use Rattle.overlay_plane.specs.Rounds.{IsSmaller}
-use Rattle.overlay_plane.proofs.Entries.{Contains-map, Contains-from_any, Contains-from_map, Contains-flat_map, Contains-from_flat_map}
+use Rattle.overlay_plane.proofs.Entries.{Contains-map, Contains-from_any, Contains-from_map, Contains-flat_map}
+use Rattle.overlay_plane.proofs.Entries.{Contains-from_flat_map}
 use Rattle.overlay_plane.proofs.LaterEntries.{Contains-cases, Each, Each-map, Each-between_ends}
-use Rattle.overlay_plane.proofs.AlongOrder.{IsUpToAlong, along-order, along-reflexive, along-antisymmetric, start_up_to_end}
-use Rattle.overlay_plane.proofs.CutLists.{pair_points, points_between, cuts_of, cuts_ascend, cut_at, cut_from, differs, leads_forward, two_forward, cut_on}
+use Rattle.overlay_plane.proofs.AlongOrder.{IsUpToAlong, along-order, along-reflexive, along-antisymmetric}
+use Rattle.overlay_plane.proofs.AlongOrder.{start_up_to_end}
+use Rattle.overlay_plane.proofs.CutLists.{pair_points, points_between, cuts_of, cuts_ascend, cut_at, cut_from, differs}
+use Rattle.overlay_plane.proofs.CutLists.{leads_forward, two_forward, cut_on}
 use Rattle.overlay_plane.proofs.InOrderLists.{Contains-in_order, Contains-put_in_order, Each-in_weak_order}
 use Rattle.overlay_plane.proofs.MeetingLists.{AreNearest}
 use Rattle.overlay_plane.proofs.MeetingsAlong.{end_held}
@@ -47,16 +51,19 @@ met_at_itself e v at_v = ⊎_elim (λ is. inl (sym is)) (λ is. inr (sym is))
 abbrev pub IsEndOrIn : Point → Point → List Point → Point → Type 0
 IsEndOrIn a b vs v = (v ≡ a) ⊎ ((v ≡ b) ⊎ Contains vs v)
 
--- where the entries of one list are ends or in the other, its entries with the ends are those of the other with the ends
+-- where the entries of one list are ends or in the other, its entries with the ends are those of the other with the
+-- ends
 entries_with_ends : (a b : Point) (us vs : List Point) → ((v : Point) → Contains us v → IsEndOrIn a b vs v) →
     (z : Point) → Contains (a ∷ us ++ b ∷ []) z → Contains (a ∷ vs ++ b ∷ []) z
 entries_with_ends a b us vs each z at_z = ⊎_elim (λ is. placed (inl (sym is)))
-    (λ later. ⊎_elim (λ old. placed (each z old)) (λ is. placed (inr (inl (sym is)))) (Contains-push_cases us b z later))
+    (λ later. ⊎_elim (λ old. placed (each z old)) (λ is. placed (inr (inl (sym is))))
+    (Contains-push_cases us b z later))
     (Contains-cases a (us ++ b ∷ []) z at_z)
   where
     placed : IsEndOrIn a b vs z → Contains (a ∷ vs ++ b ∷ []) z
     placed (inl is) = subst (λ u. Contains (a ∷ vs ++ b ∷ []) u) (sym is) (Contains-head a (vs ++ b ∷ []))
-    placed (inr (inl is)) = subst (λ u. Contains (a ∷ vs ++ b ∷ []) u) (sym is) (Contains-later a (vs ++ b ∷ []) b (Contains-push vs b))
+    placed (inr (inl is)) = subst (λ u. Contains (a ∷ vs ++ b ∷ []) u) (sym is)
+        (Contains-later a (vs ++ b ∷ []) b (Contains-push vs b))
     placed (inr (inr in_vs)) = Contains-later a (vs ++ b ∷ []) z (Contains-append_left vs (b ∷ []) z in_vs)
 
 -- ---- the two chains of an edge
@@ -77,8 +84,10 @@ module _ (es : List CountedEdge) (forward : IsForwardBy ends_of es) (e : Counted
   -- ---- the entries
 
   -- the points through which a different edge leads e are those nearest their meetings
-  are_nearest : (f : CountedEdge) → Contains es f → edge_eq (ends_of e) (ends_of f) ≡ false → AreNearest (ends_of e) (points_between e f) (led_by f)
-  are_nearest f at_f differ = (pair_points (ends_of e) (ends_of f)).nearest (two_forward es forward e at_e f at_f differ)
+  are_nearest : (f : CountedEdge) → Contains es f → edge_eq (ends_of e) (ends_of f) ≡ false →
+      AreNearest (ends_of e) (points_between e f) (led_by f)
+  are_nearest f at_f differ = (pair_points (ends_of e) (ends_of f)).nearest
+      (two_forward es forward e at_e f at_f differ)
 
   -- each of them is an end of e or a rounded cut
   led_is_rounded : (f : CountedEdge) → Contains es f → (v : Point) → Contains (led_by f) v → IsEndOrIn e.a e.b rounded v
@@ -93,9 +102,11 @@ module _ (es : List CountedEdge) (forward : IsForwardBy ends_of es) (e : Counted
 
       by : (t : Bool) → edge_eq (ends_of e) (ends_of f) ≡ t → IsEndOrIn e.a e.b rounded v
       by true same = ⊎_elim (λ is. inl is) (λ is. inr (inl is))
-          (met_at_itself (ends_of e) v (subst (λ g. Contains (met_at (ends_of e) g) v) (sym (edge_eq-same (ends_of e) (ends_of f) same)) at_v))
+          (met_at_itself (ends_of e) v (subst (λ g. Contains (met_at (ends_of e) g) v)
+          (sym (edge_eq-same (ends_of e) (ends_of f) same)) at_v))
       by false differ = ⊎_elim (λ is. inl is) (λ other. inr (⊎_elim (λ is. inl is) (λ some. inr (cut some)) other))
-          (All-contains (λ w. (w ≡ e.a) ⊎ ((w ≡ e.b) ⊎ Any (λ p. w ≡ nearest_point p) (points_between e f))) (led_by f) v (are_nearest f at_f differ).to at_v)
+          (All-contains (λ w. (w ≡ e.a) ⊎ ((w ≡ e.b) ⊎ Any (λ p. w ≡ nearest_point p) (points_between e f)))
+          (led_by f) v (are_nearest f at_f differ).to at_v)
 
   -- so each computed point is
   computed_is_rounded : (v : Point) → Contains (cut_points es e) v → IsEndOrIn e.a e.b rounded v
@@ -105,12 +116,15 @@ module _ (es : List CountedEdge) (forward : IsForwardBy ends_of es) (e : Counted
 
   -- a computed point of an edge is one in their order
   put_in_order : (f : CountedEdge) → Contains es f → (v : Point) → Contains (led_by f) v → Contains (cut_points es e) v
-  put_in_order f at_f v at_v = Contains-put_in_order (comes_first (ends_of e)) computed v (Contains-flat_map led_by es f v at_f at_v)
+  put_in_order f at_f v at_v = Contains-put_in_order (comes_first (ends_of e)) computed v
+      (Contains-flat_map led_by es f v at_f at_v)
 
   -- each cut rounded is an end of e or a computed point
   cut_is_computed : (p : PlanePoint) → Contains (cuts_of es e) p → IsEndOrIn e.a e.b (cut_points es e) (nearest_point p)
-  cut_is_computed p at_p = ⊎_elim (λ is. inl is) (λ other. inr (⊎_elim (λ is. inl is) (λ met. inr (put_in_order f at_f (nearest_point p) met)) other))
-      (All-contains (λ q. IsEndOrIn e.a e.b (led_by f) (nearest_point q)) (points_between e f) p (are_nearest f at_f differ).from from.2)
+  cut_is_computed p at_p = ⊎_elim (λ is. inl is)
+      (λ other. inr (⊎_elim (λ is. inl is) (λ met. inr (put_in_order f at_f (nearest_point p) met)) other))
+      (All-contains (λ q. IsEndOrIn e.a e.b (led_by f) (nearest_point q)) (points_between e f) p
+      (are_nearest f at_f differ).from from.2)
     where
       from : (f : CountedEdge) × Contains es f × Contains (points_between e f) p
       from = cut_from es e p at_p
@@ -153,20 +167,26 @@ module _ (es : List CountedEdge) (forward : IsForwardBy ends_of es) (e : Counted
   rounded_within v at_v =
       let cut = Contains-from_map nearest_point (cuts_of es e) v at_v in
       let on = cut_on es forward e at_e cut.0 cut.1 in
-      subst IsWithin cut.2 (start_up_to_rounded (ends_of e) before cut.0 on, rounded_up_to_end (ends_of e) before cut.0 on)
+      subst IsWithin cut.2 (
+        start_up_to_rounded (ends_of e) before cut.0 on,
+        rounded_up_to_end (ends_of e) before cut.0 on,
+      )
 
   -- and so do the computed points
   computed_within : (v : Point) → Contains (cut_points es e) v → IsWithin v
   computed_within v at_v = ⊎_elim (λ is. subst IsWithin (sym is) (along-reflexive (ends_of e) e.a, ends_in_order))
-      (λ other. ⊎_elim (λ is. subst IsWithin (sym is) (ends_in_order, along-reflexive (ends_of e) e.b)) (λ cut. rounded_within v cut) other)
+      (λ other. ⊎_elim (λ is. subst IsWithin (sym is) (ends_in_order, along-reflexive (ends_of e) e.b))
+      (λ cut. rounded_within v cut) other)
       (computed_is_rounded v at_v)
 
   -- the rounded cuts are in their order along e
   rounded_in_order : Each IsUpTo rounded
   rounded_in_order = Each-map IsSmaller IsUpTo nearest_point (cuts_of es e) kept (cuts_ascend es e)
     where
-      kept : (p q : PlanePoint) → Contains (cuts_of es e) p → Contains (cuts_of es e) q → IsSmaller p q → IsUpTo (nearest_point p) (nearest_point q)
-      kept p q at_p at_q smaller = rounded_up_to (ends_of e) before p q (cut_on es forward e at_e p at_p) (cut_on es forward e at_e q at_q) smaller
+      kept : (p q : PlanePoint) → Contains (cuts_of es e) p → Contains (cuts_of es e) q → IsSmaller p q →
+          IsUpTo (nearest_point p) (nearest_point q)
+      kept p q at_p at_q smaller = rounded_up_to (ends_of e) before p q (cut_on es forward e at_e p at_p)
+          (cut_on es forward e at_e q at_q) smaller
 
   -- and so are the computed points
   computed_in_order : Each IsUpTo (cut_points es e)
@@ -174,7 +194,8 @@ module _ (es : List CountedEdge) (forward : IsForwardBy ends_of es) (e : Counted
 
   -- the two chains have the same steps
   pub same_chain : steps_through e.a (rounded ++ e.b ∷ []) ≡ steps_through e.a (cut_points es e ++ e.b ∷ [])
-  same_chain = same_chain_steps IsUpTo (along-reflexive (ends_of e)) (along-antisymmetric (ends_of e)) e.a (rounded ++ e.b ∷ []) (cut_points es e ++ e.b ∷ [])
+  same_chain = same_chain_steps IsUpTo (along-reflexive (ends_of e)) (along-antisymmetric (ends_of e)) e.a
+      (rounded ++ e.b ∷ []) (cut_points es e ++ e.b ∷ [])
       (Each-between_ends IsUpTo e.a e.b rounded ends_in_order rounded_within rounded_in_order)
       (Each-between_ends IsUpTo e.a e.b (cut_points es e) ends_in_order computed_within computed_in_order)
       (record {
@@ -183,10 +204,12 @@ module _ (es : List CountedEdge) (forward : IsForwardBy ends_of es) (e : Counted
       })
 
   -- so has the chain through any other points in order along e that are, but for ends, the computed ones
-  pub same_chain_through : (us : List Point) → Each IsUpTo us → ((v : Point) → Contains us v → Contains (cut_points es e) v)
+  pub same_chain_through : (us : List Point) → Each IsUpTo us →
+      ((v : Point) → Contains us v → Contains (cut_points es e) v)
       → ((v : Point) → Contains (cut_points es e) v → IsEndOrIn e.a e.b us v)
       → steps_through e.a (us ++ e.b ∷ []) ≡ steps_through e.a (cut_points es e ++ e.b ∷ [])
-  same_chain_through us us_in_order computed_of all = same_chain_steps IsUpTo (along-reflexive (ends_of e)) (along-antisymmetric (ends_of e)) e.a (us ++ e.b ∷ []) (cut_points es e ++ e.b ∷ [])
+  same_chain_through us us_in_order computed_of all = same_chain_steps IsUpTo (along-reflexive (ends_of e))
+      (along-antisymmetric (ends_of e)) e.a (us ++ e.b ∷ []) (cut_points es e ++ e.b ∷ [])
       (Each-between_ends IsUpTo e.a e.b us ends_in_order (λ v at_v. computed_within v (computed_of v at_v)) us_in_order)
       (Each-between_ends IsUpTo e.a e.b (cut_points es e) ends_in_order computed_within computed_in_order)
       (record {

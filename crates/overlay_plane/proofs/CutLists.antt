@@ -9,12 +9,14 @@ use Rattle.overlay_plane.specs.CutPoints.{met_at}
 use Rattle.overlay_plane.specs.EdgeLists.{IsForwardBy}
 use Rattle.overlay_plane.specs.Meetings.{IsMeetingPoint, MeetsAnother}
 use Rattle.overlay_plane.specs.Rounds.{IsSmaller, IsCutAt}
-use Rattle.overlay_plane.proofs.Entries.{all_of_entries, any_of_entry, Contains-from_any, Contains-flat_map, Contains-from_flat_map}
+use Rattle.overlay_plane.proofs.Entries.{all_of_entries, any_of_entry, Contains-from_any, Contains-flat_map}
+use Rattle.overlay_plane.proofs.Entries.{Contains-from_flat_map}
 use Rattle.overlay_plane.proofs.LaterEntries.{Each, Each-weaker, AllPairs-from_each}
 use Rattle.overlay_plane.proofs.EachOnce.{each_once, once_entry, once_each, IsLower, once_ascends}
 use Rattle.overlay_plane.proofs.MeetingLists.{AreMeetings, AreNearest}
 use Rattle.overlay_plane.proofs.MeetingsOf.{meetings_of}
-use Rattle.overlay_plane.proofs.SmallerPoints.{is_smaller, Decides-is_smaller, smaller-irreflexive, smaller-transitive, same_place-from_tie, same_place-trans}
+use Rattle.overlay_plane.proofs.SmallerPoints.{is_smaller, Decides-is_smaller, smaller-irreflexive, smaller-transitive}
+use Rattle.overlay_plane.proofs.SmallerPoints.{same_place-from_tie, same_place-trans}
 use Rattle.overlay_plane.proofs.WholeOnEdges.{forward_from_test}
 
 -- ---- the points of two edges
@@ -34,7 +36,12 @@ pub record PairPoints (e f : Edge) : Type 0 where
 
 -- for other edges the list is empty
 no_points : (e f : Edge) → ¬ (AreTwoForward e f) → PairPoints e f
-no_points e f not_two = record { points = []; meetings = λ two. absurd (not_two two); nearest = λ two. absurd (not_two two); none_alone = λ same. refl }
+no_points e f not_two = record {
+  points = [];
+  meetings = λ two. absurd (not_two two);
+  nearest = λ two. absurd (not_two two);
+  none_alone = λ same. refl;
+}
 
 -- any two edges have such a list
 pub pair_points : (e f : Edge) → PairPoints e f
@@ -46,7 +53,12 @@ pair_points e f = by (point_lt e.a e.b) (point_lt f.a f.b) (edge_eq e f) refl re
     by true true true forward also same = no_points e f (λ two. both_ways (edge_eq e f) two.differ same)
     by true true false forward also differ =
         let found = meetings_of e f (forward_from_test e forward) (forward_from_test f also) in
-        record { points = found.0; meetings = λ two. found.1; nearest = λ two. found.2; none_alone = λ same. absurd (both_ways (edge_eq e f) differ same) }
+        record {
+          points = found.0;
+          meetings = λ two. found.1;
+          nearest = λ two. found.2;
+          none_alone = λ same. absurd (both_ways (edge_eq e f) differ same);
+        }
 
 -- two edges that have a point are different
 pub differs : (e f : Edge) (p : PlanePoint) → Contains (pair_points e f).points p → edge_eq e f ≡ false
@@ -72,14 +84,17 @@ cuts_of es e = each_once is_smaller (all_meetings es e)
 
 -- the cuts are ascending
 pub cuts_ascend : (es : List CountedEdge) (e : CountedEdge) → Each IsSmaller (cuts_of es e)
-cuts_ascend es e = Each-weaker (IsLower is_smaller) IsSmaller (cuts_of es e) (λ p q at_p at_q lower. (Decides-is_smaller p q).0 lower)
+cuts_ascend es e = Each-weaker (IsLower is_smaller) IsSmaller (cuts_of es e)
+    (λ p q at_p at_q lower. (Decides-is_smaller p q).0 lower)
     (once_ascends is_smaller smaller-transitive (all_meetings es e))
 
 -- each point in which e meets an edge of the list is at the place of a cut
-pub cut_at : (es : List CountedEdge) (e f : CountedEdge) (p : PlanePoint) → Contains es f → Contains (points_between e f) p →
+pub cut_at : (es : List CountedEdge) (e f : CountedEdge) (p : PlanePoint) → Contains es f →
+    Contains (points_between e f) p →
     (q : PlanePoint) × Contains (cuts_of es e) q × SamePlace p q
 cut_at es e f p at_f at_p =
-    let kept = once_each is_smaller smaller-irreflexive (all_meetings es e) p (Contains-flat_map (points_between e) es f p at_f at_p) in
+    let kept = once_each is_smaller smaller-irreflexive (all_meetings es e) p
+    (Contains-flat_map (points_between e) es f p at_f at_p) in
     (kept.0, kept.1, same_place-from_tie p kept.0 kept.2.0 kept.2.1)
 
 -- each cut is a point in which e meets an edge of the list
@@ -93,7 +108,8 @@ module _ (es : List CountedEdge) (forward : IsForwardBy ends_of es) (e : Counted
   leads_forward f at_f = All-contains (λ g. point_lt g.a g.b ≡ true) es f forward at_f
 
   -- e and each different edge of the list are two forward edges
-  pub two_forward : (f : CountedEdge) → Contains es f → edge_eq (ends_of e) (ends_of f) ≡ false → AreTwoForward (ends_of e) (ends_of f)
+  pub two_forward : (f : CountedEdge) → Contains es f → edge_eq (ends_of e) (ends_of f) ≡ false →
+      AreTwoForward (ends_of e) (ends_of f)
   two_forward f at_f differ = record { forward = leads_forward e at_e; also = leads_forward f at_f; differ = differ }
 
   -- in each cut another edge meets e
@@ -101,8 +117,13 @@ module _ (es : List CountedEdge) (forward : IsForwardBy ends_of es) (e : Counted
   cut_meets p at_p =
       let from = cut_from es e p at_p in
       let differ = differs (ends_of e) (ends_of from.0) p from.2 in
-      let meetings = (pair_points (ends_of e) (ends_of from.0)).meetings (two_forward from.0 from.1 differ) in
-      (from.0, from.1, differ, All-contains (IsMeetingPoint (ends_of e) (ends_of from.0)) (points_between e from.0) p meetings.only from.2)
+      let meetings = (pair_points (ends_of e) (ends_of from.0)).meetings (two_forward from.0 from.1 differ) in (
+        from.0,
+        from.1,
+        differ,
+        All-contains (IsMeetingPoint (ends_of e) (ends_of from.0)) (points_between e from.0) p
+            meetings.only from.2,
+      )
 
   -- so each cut is on e
   pub cut_on : (p : PlanePoint) → Contains (cuts_of es e) p → IsOn (ends_of e) p

@@ -1,12 +1,15 @@
--- Edges cut through points on their lines wind as before: along a line the signs of steps strictly below a point telescope.
-use Rattle.std.proofs.Common.{◌≡◌, ⊎_elim, Bool, true, false, cond, ◌&&◌, ℤ, pos, ◌-ℤ◌, ◌*ℤ◌, ◌<ℤ◌, int_lt, List, [], ◌∷◌, ◌++◌, refl, sym, ap, ◌∙◌}
+-- Edges cut through points on their lines wind as before: along a line the signs of steps strictly below a point
+-- telescope.
+use Rattle.std.proofs.Common.{◌≡◌, ⊎_elim, Bool, true, false, cond, ◌&&◌, ℤ, pos, ◌-ℤ◌, ◌*ℤ◌, ◌<ℤ◌, int_lt, List, []}
+use Rattle.std.proofs.Common.{◌∷◌, ◌++◌, refl, sym, ap, ◌∙◌}
 use Rattle.std.specs.List.{All, flat_map}
 use Rattle.std.specs.Ordering.{int_eq}
 use Rattle.std.proofs.lemmas.Bool.{and_parts, or_cases}
 use Rattle.std.proofs.lemmas.Int.{by_lt_z}
 use Rattle.std.proofs.lemmas.List.{append-nil}
 use Rattle.std.proofs.lemmas.List.Elements.{All-contains, All-append, All-cons, All-nil}
-use Rattle.overlay_geom.specs.Plane.{Point, PlanePoint, Step, Edge, point_lt, edge_of, sign_of, is_strictly_below, steps_between, steps_through, winding}
+use Rattle.overlay_geom.specs.Plane.{Point, PlanePoint, Step, Edge, point_lt, edge_of, sign_of, is_strictly_below}
+use Rattle.overlay_geom.specs.Plane.{steps_between, steps_through, winding}
 use Rattle.overlay_geom.specs.Edges.{CountedEdge, ends_of, subj_of, clip_of, winding_by}
 use lib.IntN.{*ℤ-zero}
 use Rattle.overlay_geom.proofs.Identities.{solve, number, ◌⊕◌, ◌⊗◌, ◌⊖◌, ◌≗◌}
@@ -14,8 +17,10 @@ use Rattle.overlay_geom.proofs.Signs.{linear, zero_of_mul-zero, mul-zero}
 use Rattle.overlay_plane.specs.Heights.{width}
 use Rattle.overlay_plane.specs.EdgeLists.{IsForwardBy}
 use Rattle.overlay_plane.specs.Regions.{one_if}
-use Rattle.overlay_plane.specs.Cutting.{piece_along, pieces_through, AreOnLine, CuttingOnALineKeepsWindings, CuttingOnLinesKeepsWindings}
-use Rattle.overlay_plane.proofs.AlongLines.{winding_part, IsOnLine, left_above, winding_part-on_line, winding_part-vertical, below_on_line, vertical_below}
+use Rattle.overlay_plane.specs.Cutting.{piece_along, pieces_through, AreOnLine, CuttingOnALineKeepsWindings}
+use Rattle.overlay_plane.specs.Cutting.{CuttingOnLinesKeepsWindings}
+use Rattle.overlay_plane.proofs.AlongLines.{winding_part, IsOnLine, left_above, winding_part-on_line}
+use Rattle.overlay_plane.proofs.AlongLines.{winding_part-vertical, below_on_line, vertical_below}
 use Rattle.overlay_plane.proofs.JoinedLists.{total-map, total-flat_map, total-times, taken_out}
 use Rattle.overlay_plane.proofs.LineForms.{formE, side-start, side-end}
 use Rattle.overlay_plane.proofs.Strip.{starts_first}
@@ -25,7 +30,8 @@ use Rattle.overlay_plane.proofs.Totals.{total-same}
 
 -- the points of the chain that ends an edge are all on its line
 chain_on_line : (e : Edge) (vs : List Point) → All (IsOnLine e) vs → All (IsOnLine e) (vs ++ e.b ∷ [])
-chain_on_line e vs on = All-append (IsOnLine e) vs (e.b ∷ []) on (All-cons (IsOnLine e) e.b [] (side-end e) (All-nil (IsOnLine e)))
+chain_on_line e vs on = All-append (IsOnLine e) vs (e.b ∷ []) on
+    (All-cons (IsOnLine e) e.b [] (side-end e) (All-nil (IsOnLine e)))
 
 -- a forward edge with both ends at one abscissa goes up
 vertical_goes_up : (e : Edge) → point_lt e.a e.b ≡ true → e.a.x ≡ e.b.x → e.a.y <ℤ e.b.y
@@ -36,28 +42,34 @@ vertical_goes_up e forward level = ⊎_elim (λ l. let less = lt_from_test e.a.x
 -- so the points on its line have that abscissa
 on_vertical_line : (e : Edge) (v : Point) → point_lt e.a e.b ≡ true → e.a.x ≡ e.b.x → IsOnLine e v → v.x ≡ e.a.x
 on_vertical_line e v forward level on =
-    let identity = solve 6 (λ ax ay bx by vx vy. formE ax ay bx by vx vy (number (pos 1)) ≗ (by ⊖ ay) ⊗ (ax ⊖ vx) ⊕ (vy ⊖ ay) ⊗ (bx ⊖ ax)) tt e.a.x e.a.y e.b.x e.b.y v.x v.y in
+    let identity = solve 6 (λ ax ay bx by vx vy. formE ax ay bx by vx vy (number (pos 1)) ≗ (by ⊖ ay) ⊗ (ax ⊖ vx) ⊕
+    (vy ⊖ ay) ⊗ (bx ⊖ ax)) tt e.a.x e.a.y e.b.x e.b.y v.x v.y in
     let none = mul-zero (v.y -ℤ e.a.y) (e.b.x -ℤ e.a.x) (omega linear) in
     let up = vertical_goes_up e forward level in
     let zero = zero_of_mul-zero (e.b.y -ℤ e.a.y) (e.a.x -ℤ v.x) (omega linear) (omega linear) in
     omega linear
 
--- a chain from the smaller end of a forward edge to its larger end, on its line, winds round the points that the edge is strictly below
-pub winding-chain_on_line : (e : Edge) → point_lt e.a e.b ≡ true → (vs : List Point) → All (IsOnLine e) vs → (p : PlanePoint) →
+-- a chain from the smaller end of a forward edge to its larger end, on its line, winds round the points that the edge
+-- is strictly below
+pub winding-chain_on_line : (e : Edge) → point_lt e.a e.b ≡ true → (vs : List Point) → All (IsOnLine e) vs →
+    (p : PlanePoint) →
     winding (steps_through e.a (vs ++ e.b ∷ [])) p ≡ one_if (is_strictly_below e p)
-winding-chain_on_line e forward vs on p = by_lt_z e.a.x e.b.x slanted (λ ge. vertical (let le = starts_first e forward in omega linear))
+winding-chain_on_line e forward vs on p = by_lt_z e.a.x e.b.x slanted
+    (λ ge. vertical (let le = starts_first e forward in omega linear))
   where
     slanted : e.a.x <ℤ e.b.x → winding (steps_through e.a (vs ++ e.b ∷ [])) p ≡ one_if (is_strictly_below e p)
     slanted lt =
         let wide : pos 0 <ℤ width e = omega linear in
-        rises_along (winding_part p) (left_above e p) (IsOnLine e) (winding_part-on_line e p wide) e.a (vs ++ e.b ∷ []) (side-start e) (chain_on_line e vs on)
+        rises_along (winding_part p) (left_above e p) (IsOnLine e) (winding_part-on_line e p wide) e.a (vs ++ e.b ∷ [])
+        (side-start e) (chain_on_line e vs on)
         ∙ ap (λ v. left_above e p v -ℤ left_above e p e.a) (last_from-append e.a vs e.b)
         ∙ sym (below_on_line e p wide e.a e.b (side-start e) (side-end e) (omega linear))
 
     vertical : e.a.x ≡ e.b.x → winding (steps_through e.a (vs ++ e.b ∷ [])) p ≡ one_if (is_strictly_below e p)
     vertical level =
         rises_along (winding_part p) (λ v. pos 0) (IsOnLine e)
-        (λ u v on_u on_v. winding_part-vertical p u v (on_vertical_line e u forward level on_u ∙ sym (on_vertical_line e v forward level on_v)))
+        (λ u v on_u on_v. winding_part-vertical p u v (on_vertical_line e u forward level on_u
+        ∙ sym (on_vertical_line e v forward level on_v)))
         e.a (vs ++ e.b ∷ []) (side-start e) (chain_on_line e vs on)
         ∙ sym (ap one_if (vertical_below p e.a e.b level))
 
@@ -68,13 +80,16 @@ cutting_on_a_line_keeps_windings e forward vs on p = winding-chain_on_line e for
     ∙ ap (λ ss. winding ss p) (append-nil (steps_between e.a e.b))
 
 -- the pieces of an edge make together the windings of the edge
-pieces_wind : (count : CountedEdge → ℤ) (points : CountedEdge → List Point) → ((e : CountedEdge) (s : Step) → count (piece_along e s) ≡ sign_of s *ℤ count e) →
+pieces_wind : (count : CountedEdge → ℤ) (points : CountedEdge → List Point) →
+    ((e : CountedEdge) (s : Step) → count (piece_along e s) ≡ sign_of s *ℤ count e) →
     (p : PlanePoint) (e : CountedEdge) → point_lt e.a e.b ≡ true → AreOnLine points e →
     winding_by count (pieces_through points e) p ≡ cond (is_strictly_below (ends_of e) p) (count e) (pos 0)
 pieces_wind count points each p e forward on =
     total-map (λ f. cond (is_strictly_below (ends_of f) p) (count f) (pos 0)) (piece_along e) chain
-    ∙ total-same (λ s. cond (is_strictly_below (edge_of s) p) (count (piece_along e s)) (pos 0)) (λ s. count e *ℤ winding_part p s) chain
-    (λ s at. ap (λ z. cond (is_strictly_below (edge_of s) p) z (pos 0)) (each e s) ∙ taken_out (is_strictly_below (edge_of s) p) (sign_of s) (count e))
+    ∙ total-same (λ s. cond (is_strictly_below (edge_of s) p) (count (piece_along e s)) (pos 0))
+    (λ s. count e *ℤ winding_part p s) chain
+    (λ s at. ap (λ z. cond (is_strictly_below (edge_of s) p) z (pos 0)) (each e s)
+    ∙ taken_out (is_strictly_below (edge_of s) p) (sign_of s) (count e))
     ∙ total-times (count e) (winding_part p) chain
     ∙ ap (λ z. count e *ℤ z) (winding-chain_on_line (ends_of e) forward (points e) on p)
     ∙ times_one (is_strictly_below (ends_of e) p) (count e)
@@ -88,12 +103,15 @@ pieces_wind count points each p e forward on =
 
 -- so a list whose edges are cut makes the windings of the list
 winding_by-cut : (count : CountedEdge → ℤ) (points : CountedEdge → List Point) (es : List CountedEdge) →
-    ((e : CountedEdge) (s : Step) → count (piece_along e s) ≡ sign_of s *ℤ count e) → IsForwardBy ends_of es → All (AreOnLine points) es →
+    ((e : CountedEdge) (s : Step) → count (piece_along e s) ≡ sign_of s *ℤ count e) → IsForwardBy ends_of es →
+    All (AreOnLine points) es →
     (p : PlanePoint) → winding_by count (flat_map (pieces_through points) es) p ≡ winding_by count es p
 winding_by-cut count points es each forward on p =
     total-flat_map (λ f. cond (is_strictly_below (ends_of f) p) (count f) (pos 0)) (pieces_through points) es
-    ∙ total-same (λ e. winding_by count (pieces_through points e) p) (λ e. cond (is_strictly_below (ends_of e) p) (count e) (pos 0)) es
-    (λ e at. pieces_wind count points each p e (All-contains (λ e. point_lt e.a e.b ≡ true) es e forward at) (All-contains (AreOnLine points) es e on at))
+    ∙ total-same (λ e. winding_by count (pieces_through points e) p)
+    (λ e. cond (is_strictly_below (ends_of e) p) (count e) (pos 0)) es
+    (λ e at. pieces_wind count points each p e (All-contains (λ e. point_lt e.a e.b ≡ true) es e forward at)
+    (All-contains (AreOnLine points) es e on at))
 
 -- the law of edges cut on their lines
 pub cutting_on_lines_keeps_windings : CuttingOnLinesKeepsWindings

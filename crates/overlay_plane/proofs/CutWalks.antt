@@ -1,17 +1,20 @@
--- A cut takes each step exactly once: an orbit has each of its steps once, and what it leaves can be cut, with the other steps.
+-- A cut takes each step exactly once: an orbit has each of its steps once, and what it leaves can be cut, with the
+-- other steps.
 use Rattle.std.proofs.Common.{◌≡◌, ◌⊎◌, inl, inr, ⊎_elim, zero, suc, Bool, true, false, cond, not, ◌||◌, List}
 use Rattle.std.proofs.Common.{[], ◌∷◌, ◌++◌, take, Contains, refl, sym, ap, ◌∙◌, subst, arith}
 use Rattle.std.specs.Prelude.{slice_index_or}
 use Rattle.std.proofs.lemmas.Bool.{both_ways, false_from_ne_true, or_parts}
 use Rattle.std.specs.List.Sorted.{IsPermutation}
-use Rattle.std.proofs.lemmas.List.Elements.{All-contains, Contains-append_left, Contains-append_right, Contains-append_cases}
+use Rattle.std.proofs.lemmas.List.Elements.{All-contains, Contains-append_left, Contains-append_right}
+use Rattle.std.proofs.lemmas.List.Elements.{Contains-append_cases}
 use Rattle.std.proofs.lemmas.List.Sorted.{IsPermutation-refl, IsPermutation-append_right, IsPermutation-trans}
 use Rattle.overlay_geom.specs.Plane.{Step, step_eq}
 use Rattle.overlay_plane.specs.Turn.{Hand, step_round, IsOrbit, no_step}
 use Rattle.overlay_plane.specs.Alternates.{Alternates}
 use Rattle.overlay_plane.specs.NextSteps.{LeadsOn}
 use Rattle.overlay_plane.specs.Orbits.{is_step_of}
-use Rattle.overlay_plane.specs.Contours.{IsStart, without, IsCutInto, done, next, CanBeCut, alternating, by_one_hand, CutsLeaveCuttable, all_steps, CutsTakeEachOnce, IsFirstWalk, CutsAreOrbits}
+use Rattle.overlay_plane.specs.Contours.{IsStart, without, IsCutInto, done, next, CanBeCut, alternating, by_one_hand}
+use Rattle.overlay_plane.specs.Contours.{CutsLeaveCuttable, all_steps, CutsTakeEachOnce, IsFirstWalk, CutsAreOrbits}
 use Rattle.overlay_plane.proofs.BalancedSteps.{orbits_have_each_once}
 use Rattle.overlay_plane.proofs.Entries.{Contains-from_filter, Contains-filter}
 use Rattle.overlay_plane.proofs.ItemsRound.{item_round-here}
@@ -33,19 +36,22 @@ by_taken taken s = by (is_step_of taken s) refl
     by false e = inr e
 
 -- what is left is one of the steps, and not taken
-pub left_parts : (steps taken : List Step) (s : Step) → Contains (without steps taken) s → Contains steps s × (is_step_of taken s ≡ false)
+pub left_parts : (steps taken : List Step) (s : Step) → Contains (without steps taken) s →
+    Contains steps s × (is_step_of taken s ≡ false)
 left_parts steps taken s c =
     let parts = Contains-from_filter (λ t. not (is_step_of taken t)) steps s c in
     (parts.0, false_from_ne_true (is_step_of taken s) (λ e. both_ways (not (is_step_of taken s)) (ap not e) parts.1))
 
 -- a step that is not taken is left
-pub left_from : (steps taken : List Step) (s : Step) → Contains steps s → is_step_of taken s ≡ false → Contains (without steps taken) s
+pub left_from : (steps taken : List Step) (s : Step) → Contains steps s → is_step_of taken s ≡ false →
+    Contains (without steps taken) s
 left_from steps taken s c e = Contains-filter (λ t. not (is_step_of taken t)) steps s c (ap not e)
 
 -- ---- one orbit
 
 -- lists of steps, each once, no step in both, are one such list
-Each-append : (xs ys : List Step) → Each Differ xs → Each Differ ys → ((s : Step) → Contains ys s → is_step_of xs s ≡ false) → Each Differ (xs ++ ys)
+Each-append : (xs ys : List Step) → Each Differ xs → Each Differ ys →
+    ((s : Step) → Contains ys s → is_step_of xs s ≡ false) → Each Differ (xs ++ ys)
 Each-append [] ys h k apart = k
 Each-append (x ∷ xs) ys h k apart = (first, Each-append xs ys h.1 k (λ s c. (apart_parts s c).1))
   where
@@ -56,13 +62,19 @@ Each-append (x ∷ xs) ys h k apart = (first, Each-append xs ys h.1 k (λ s c. (
     first s c = ⊎_elim (λ here. h.0 s here) (λ later. (apart_parts s later).0) (Contains-append_cases xs ys s c)
 
 -- what an orbit of steps that alternate leaves alternates
-pub left_alternates : (steps : List Step) → Alternates steps → (hand : Hand) (walk : List Step) → IsOrbit steps hand walk → Alternates (without steps walk)
-left_alternates steps alternates hand walk orbit = (orbits_leave_the_rest steps alternates hand walk orbit (is_step_of walk) (is_step_of_decides walk)).1.left_alternate
+pub left_alternates : (steps : List Step) → Alternates steps → (hand : Hand) (walk : List Step) →
+    IsOrbit steps hand walk → Alternates (without steps walk)
+left_alternates steps alternates hand walk orbit =
+    (orbits_leave_the_rest steps alternates hand walk orbit (is_step_of walk)
+    (is_step_of_decides walk)).1.left_alternate
 
 -- what an orbit of steps that lead on leaves leads on
-left_leads_on : (steps : List Step) (hand : Hand) → LeadsOn steps hand → (walk : List Step) → IsOrbit steps hand walk → LeadsOn (without steps walk) hand
+pub left_leads_on : (steps : List Step) (hand : Hand) → LeadsOn steps hand → (walk : List Step) →
+    IsOrbit steps hand walk →
+    LeadsOn (without steps walk) hand
 left_leads_on steps hand leads walk orbit =
-    (closed_parts_lead_on steps hand leads (is_step_of walk) (orbits_are_closed steps hand leads walk orbit (is_step_of walk) (is_step_of_decides walk))).rest_leads_on
+    (closed_parts_lead_on steps hand leads (is_step_of walk)
+    (orbits_are_closed steps hand leads walk orbit (is_step_of walk) (is_step_of_decides walk))).rest_leads_on
 
 -- so what an orbit by the rule's hand leaves can be cut
 pub cuts_leave_cuttable : CutsLeaveCuttable
@@ -76,7 +88,8 @@ cuts_leave_cuttable hand_of steps (by_one_hand hand tells leads) s c = record {
       (left_leads_on steps hand leads walk (subst (λ h. IsOrbit steps h walk) (tells s c) orbit));
 }
 
-module _ (steps : List Step) (hand : Hand) (leads : LeadsOn steps hand) (walk : List Step) (orbit : IsOrbit steps hand walk) where
+module _ (steps : List Step) (hand : Hand) (leads : LeadsOn steps hand) (walk : List Step)
+    (orbit : IsOrbit steps hand walk) where
   -- the steps are those of the orbit and those that it leaves
   pub walk_and_left : Each Differ steps → IsPermutation steps (walk ++ without steps walk)
   walk_and_left once = shuffled_from_same steps (walk ++ without steps walk) once
@@ -96,7 +109,8 @@ module _ (steps : List Step) (hand : Hand) (leads : LeadsOn steps hand) (walk : 
 -- ---- a cut
 
 -- the cut takes each step exactly once
-each_taken_once : (hand_of : Step → Hand) (steps : List Step) → CanBeCut hand_of steps → Each Differ steps → (walks : List (List Step)) →
+each_taken_once : (hand_of : Step → Hand) (steps : List Step) → CanBeCut hand_of steps → Each Differ steps →
+    (walks : List (List Step)) →
     IsCutInto hand_of steps walks →
     IsPermutation steps (all_steps walks)
 each_taken_once hand_of steps can once walks done = IsPermutation-refl []
@@ -110,7 +124,8 @@ each_taken_once hand_of steps can once walks (next {s} {ss} {rest} start orbit c
 
 -- the law
 pub cuts_take_each_once : CutsTakeEachOnce
-cuts_take_each_once hand_of steps can once walks cut = each_taken_once hand_of steps can (Each-from_all_pairs Differ steps once) walks cut
+cuts_take_each_once hand_of steps can once walks cut = each_taken_once hand_of steps can
+    (Each-from_all_pairs Differ steps once) walks cut
 
 -- where nothing is taken, all steps are left
 pub without-none : (steps : List Step) → without steps [] ≡ steps
@@ -135,12 +150,14 @@ without-without (s ∷ ss) xs ys =
     ∙ ap (λ t. cond (not t) (s ∷ without ss (xs ++ ys)) (without ss (xs ++ ys))) (sym (is_step_of-append xs ys s))
   where
     by : (t : Bool) → without (without ss xs) ys ≡ without ss (xs ++ ys) →
-        without (cond (not t) (s ∷ without ss xs) (without ss xs)) ys ≡ cond (not (t || is_step_of ys s)) (s ∷ without ss (xs ++ ys)) (without ss (xs ++ ys))
+        without (cond (not t) (s ∷ without ss xs) (without ss xs)) ys ≡ cond (not (t || is_step_of ys s))
+        (s ∷ without ss (xs ++ ys)) (without ss (xs ++ ys))
     by true e = e
     by false e = ap (λ ts. cond (not (is_step_of ys s)) (s ∷ ts) ts) e
 
 -- the orbit of the start of steps that alternate
-first_walk : (hand_of : Step → Hand) (steps : List Step) (s : Step) (ss : List Step) → Alternates steps → IsStart steps s →
+first_walk : (hand_of : Step → Hand) (steps : List Step) (s : Step) (ss : List Step) → Alternates steps →
+    IsStart steps s →
     IsOrbit steps (hand_of s) (s ∷ ss) →
     IsFirstWalk hand_of steps (s ∷ ss)
 first_walk hand_of steps s ss alternates start orbit = record {
@@ -156,7 +173,10 @@ first_walk hand_of steps s ss alternates start orbit = record {
 pub cuts_are_orbits : CutsAreOrbits
 cuts_are_orbits hand_of steps alternates walks done k h = absurd (elim h [ ])
 cuts_are_orbits hand_of steps alternates walks (next {s} {ss} {rest} start orbit cut) zero h =
-    subst (λ left. IsFirstWalk hand_of left (s ∷ ss)) (sym (without-none steps)) (first_walk hand_of steps s ss alternates start orbit)
+    subst (λ left. IsFirstWalk hand_of left (s ∷ ss)) (sym (without-none steps))
+    (first_walk hand_of steps s ss alternates start orbit)
 cuts_are_orbits hand_of steps alternates walks (next {s} {ss} {rest} start orbit cut) (suc k) h =
-    subst (λ left. IsFirstWalk hand_of left (slice_index_or rest k [])) (without-without steps (s ∷ ss) (all_steps (take k rest)))
-    (cuts_are_orbits hand_of (without steps (s ∷ ss)) (left_alternates steps alternates (hand_of s) (s ∷ ss) orbit) rest cut k (omega arith))
+    subst (λ left. IsFirstWalk hand_of left (slice_index_or rest k []))
+    (without-without steps (s ∷ ss) (all_steps (take k rest)))
+    (cuts_are_orbits hand_of (without steps (s ∷ ss)) (left_alternates steps alternates (hand_of s) (s ∷ ss) orbit) rest
+    cut k (omega arith))

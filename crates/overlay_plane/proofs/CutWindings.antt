@@ -19,7 +19,8 @@ use Rattle.overlay_plane.proofs.SelectedWindings.{selected_steps_wind, selected_
 
 -- a cut keeps the winding round each point
 pub cuts_keep_windings : CutsKeepWindings
-cuts_keep_windings hand_of steps alternates once walks cut p = total-IsPermutation (winding_part p) steps (all_steps walks)
+cuts_keep_windings hand_of steps alternates once walks cut p = total-IsPermutation (winding_part p) steps
+    (all_steps walks)
     (cuts_take_each_once hand_of steps (alternating alternates) once walks cut)
 
 -- lists of contours taken as given or thinned wind as those given
@@ -33,15 +34,18 @@ thinned_contours_wind_alike keep (g ∷ gs) (t ∷ ts) each p =
     ∙ sym (total-append (winding_part p) (steps_of g) (flat_map steps_of gs))
 
 -- the selected steps of a ruled list alternate
-pub selected_alternate : (holds : ℤ → ℤ → Bool) (subj clip : CountedEdge → ℤ) (es : List CountedEdge) → IsRuled holds subj clip es → (on_left : Bool) →
+pub selected_alternate : (holds : ℤ → ℤ → Bool) (subj clip : CountedEdge → ℤ) (es : List CountedEdge) →
+    IsRuled holds subj clip es → (on_left : Bool) →
     Alternates (selected_steps holds subj clip on_left es)
 selected_alternate holds subj clip es ruled on_left =
-    selected_steps_alternate holds subj clip es (arranged_by_subject holds subj clip es ruled) (arranged_by_clip holds subj clip es ruled) on_left
+    selected_steps_alternate holds subj clip es (arranged_by_subject holds subj clip es ruled)
+    (arranged_by_clip holds subj clip es ruled) on_left
     (selected_steps holds subj clip on_left es) (selected_steps_of_edges holds subj clip on_left es)
 
 -- their contours wind once round each point where the rule holds
 pub contours_wind : ContoursWind
 contours_wind holds subj clip es ruled on_left hand_of walks cut p =
-    cuts_keep_windings hand_of (selected_steps holds subj clip on_left es) (selected_alternate holds subj clip es ruled on_left)
+    cuts_keep_windings hand_of (selected_steps holds subj clip on_left es)
+    (selected_alternate holds subj clip es ruled on_left)
     (selected_steps_once holds subj clip es ruled on_left) walks cut p
     ∙ selected_steps_wind holds subj clip es ruled on_left p

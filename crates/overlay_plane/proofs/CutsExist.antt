@@ -1,5 +1,5 @@
--- There is a cut of steps that can be cut: while steps are left, one of them is the start, it has an orbit, and what the
--- orbit leaves is less and can be cut.
+-- There is a cut of steps that can be cut: while steps are left, one of them is the start, it has an orbit, and what
+-- the orbit leaves is less and can be cut.
 use Rattle.std.proofs.Common.{◌≡◌, ⊎_elim, ℕ, zero, suc, ◌<◌, ◌≤◌, Bool, true, false, cond, not, List, []}
 use Rattle.std.proofs.Common.{◌∷◌, length, Contains, filter, refl, sym, ap, ◌∙◌, subst, arith}
 use Rattle.std.proofs.lemmas.Bool.{both_ways}
@@ -21,37 +21,44 @@ kept_at_most : {X : Type 0} (test : X → Bool) (xs : List X) → length (filter
 kept_at_most test [] = omega arith
 kept_at_most {X} test (x ∷ xs) = by (test x) (kept_at_most test xs)
   where
-    by : (t : Bool) → length (filter test xs) ≤ length xs → length (cond t (x ∷ filter test xs) (filter test xs)) ≤ suc (length xs)
+    by : (t : Bool) → length (filter test xs) ≤ length xs → length (cond t (x ∷ filter test xs) (filter test xs)) ≤ suc
+        (length xs)
     by true h = omega arith
     by false h = omega arith
 
-kept_fewer : {X : Type 0} (test : X → Bool) (xs : List X) (x : X) → Contains xs x → test x ≡ false → length (filter test xs) < length xs
+kept_fewer : {X : Type 0} (test : X → Bool) (xs : List X) (x : X) → Contains xs x → test x ≡ false →
+    length (filter test xs) < length xs
 kept_fewer test [] x c fails = elim c.1 [ ]
 kept_fewer {X} test (y ∷ ys) x c fails = ⊎_elim
     (λ is. here (test y) (subst (λ z. test z ≡ false) (sym is) fails) (kept_at_most test ys))
     (λ later. there (test y) (kept_fewer test ys x later fails))
     (Contains-cases y ys x c)
   where
-    here : (t : Bool) → t ≡ false → length (filter test ys) ≤ length ys → length (cond t (y ∷ filter test ys) (filter test ys)) < suc (length ys)
+    here : (t : Bool) → t ≡ false → length (filter test ys) ≤ length ys →
+        length (cond t (y ∷ filter test ys) (filter test ys)) < suc (length ys)
     here true e h = absurd (both_ways true e refl)
     here false e h = omega arith
 
-    there : (t : Bool) → length (filter test ys) < length ys → length (cond t (y ∷ filter test ys) (filter test ys)) < suc (length ys)
+    there : (t : Bool) → length (filter test ys) < length ys →
+        length (cond t (y ∷ filter test ys) (filter test ys)) < suc (length ys)
     there true h = omega arith
     there false h = omega arith
 
 -- an orbit of a step that is written with this step first
-orbit_from : (steps : List Step) (hand : Hand) → LeadsOn steps hand → (s : Step) → Contains steps s → (ss : List Step) × IsOrbit steps hand (s ∷ ss)
+orbit_from : (steps : List Step) (hand : Hand) → LeadsOn steps hand → (s : Step) → Contains steps s →
+    (ss : List Step) × IsOrbit steps hand (s ∷ ss)
 orbit_from steps hand leads s c = let found = orbits_exist steps hand s c leads in by found.0 found.1 found.2
   where
-    by : (walk : List Step) → IsOrbit steps hand walk → step_round walk 0 ≡ s → (ss : List Step) × IsOrbit steps hand (s ∷ ss)
+    by : (walk : List Step) → IsOrbit steps hand walk → step_round walk 0 ≡ s →
+        (ss : List Step) × IsOrbit steps hand (s ∷ ss)
     by [] orbit first = absurd (elim orbit.some [ ])
     by (t ∷ ts) orbit first =
         let same : t ≡ s = sym (item_round-here (t ∷ ts) no_step 0 (omega arith)) ∙ first in
         (ts, subst (λ u. IsOrbit steps hand (u ∷ ts)) same orbit)
 
 -- the cut of no more steps than n
-cut_of : (hand_of : Step → Hand) (n : ℕ) (steps : List Step) → length steps ≤ n → CanBeCut hand_of steps → (walks : List (List Step)) × IsCutInto hand_of steps walks
+cut_of : (hand_of : Step → Hand) (n : ℕ) (steps : List Step) → length steps ≤ n → CanBeCut hand_of steps →
+    (walks : List (List Step)) × IsCutInto hand_of steps walks
 cut_of hand_of n [] few can = ([], done)
 cut_of hand_of zero (s ∷ ss) few can = absurd (elim few [ ])
 cut_of hand_of (suc n) (s ∷ ss) few can =
@@ -59,8 +66,10 @@ cut_of hand_of (suc n) (s ∷ ss) few can =
     let start = start_exists (s ∷ ss) long s (Contains-head s ss) in
     let cuttable = cuts_leave_cuttable hand_of (s ∷ ss) can start.0 (start.1).among in
     let orbit = orbit_from (s ∷ ss) (hand_of start.0) cuttable.leads_on start.0 (start.1).among in
-    let taken : is_step_of (start.0 ∷ orbit.0) start.0 ≡ true = (is_step_of_decides (start.0 ∷ orbit.0) start.0).1 (Contains-head start.0 orbit.0) in
-    let fewer = kept_fewer (λ t. not (is_step_of (start.0 ∷ orbit.0) t)) (s ∷ ss) start.0 (start.1).among (ap not taken) in
+    let taken : is_step_of (start.0 ∷ orbit.0) start.0 ≡ true = (is_step_of_decides (start.0 ∷ orbit.0) start.0).1
+    (Contains-head start.0 orbit.0) in
+    let fewer = kept_fewer (λ t. not (is_step_of (start.0 ∷ orbit.0) t)) (s ∷ ss) start.0 (start.1).among
+    (ap not taken) in
     let rest = cut_of hand_of n (without (s ∷ ss) (start.0 ∷ orbit.0)) (omega arith)
     (cuttable.leaves (start.0 ∷ orbit.0) orbit.1) in
     ((start.0 ∷ orbit.0) ∷ rest.0, next start.1 orbit.1 rest.1)

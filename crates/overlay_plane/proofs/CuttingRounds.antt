@@ -20,7 +20,8 @@ abbrev round_of : List CountedEdge → Round
 round_of es = record { edges = es; cuts = cuts_of es; whole_at = nearest_point }
 
 -- it is a round where the edges are merged and not settled
-round_of_merged : (old es : List CountedEdge) → IsForwardBy ends_of es → IsMerged old es → ¬ (IsSettled es) → IsRound old (round_of es)
+round_of_merged : (old es : List CountedEdge) → IsForwardBy ends_of es → IsMerged old es → ¬ (IsSettled es) →
+    IsRound old (round_of es)
 round_of_merged old es forward merged unsettled = record {
   merged = merged;
   unsettled = unsettled;
@@ -30,7 +31,8 @@ round_of_merged old es forward merged unsettled = record {
 
 -- it leaves the edges cut through the computed points
 round_of_pieces : (es : List CountedEdge) → IsForwardBy ends_of es → pieces_of (round_of es) ≡ cut_edges es
-round_of_pieces es forward = flat_map-same (pieces_through (whole_cuts (round_of es))) (pieces_through (cut_points es)) es
+round_of_pieces es forward = flat_map-same (pieces_through (whole_cuts (round_of es)))
+    (pieces_through (cut_points es)) es
     (λ e at_e. ap (λ ss. map (piece_along e) ss) (same_chain es forward e at_e))
 
 -- a round that cuts merged edges through the computed points
@@ -41,7 +43,8 @@ pub record CutsThrough (old es : List CountedEdge) (r : Round) : Type 0 where
   pub chains : (e : CountedEdge) → Contains es e → chain_of r e ≡ computed_chain es e
 
 -- there is one where the edges are merged and not settled
-pub cutting_through : (old es : List CountedEdge) → IsForwardBy ends_of es → IsMerged old es → ¬ (IsSettled es) → (r : Round) × CutsThrough old es r
+pub cutting_through : (old es : List CountedEdge) → IsForwardBy ends_of es → IsMerged old es → ¬ (IsSettled es) →
+    (r : Round) × CutsThrough old es r
 cutting_through old es forward merged unsettled = (
   round_of es,
   record {
@@ -54,4 +57,5 @@ cutting_through old es forward merged unsettled = (
 
 -- so they are what a round leaves
 pub cutting_is_a_round : CuttingIsARound
-cutting_is_a_round old es forward merged unsettled = (round_of es, round_of_merged old es forward merged unsettled, round_of_pieces es forward)
+cutting_is_a_round old es forward merged unsettled =
+    (round_of es, round_of_merged old es forward merged unsettled, round_of_pieces es forward)

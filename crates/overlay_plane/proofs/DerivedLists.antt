@@ -10,14 +10,16 @@ module _ {X Y : Type 0} (gives : X → List Y → Type 0) where
   given_one x part given = subst (AreGiven gives (x ∷ [])) (append-nil part) (next given none)
 
   -- what two lists give is given by both together
-  pub given_both : {xs ys : List X} {us vs : List Y} → AreGiven gives xs us → AreGiven gives ys vs → AreGiven gives (xs ++ ys) (us ++ vs)
+  pub given_both : {xs ys : List X} {us vs : List Y} → AreGiven gives xs us → AreGiven gives ys vs →
+      AreGiven gives (xs ++ ys) (us ++ vs)
   given_both none later = later
   given_both {ys} {vs} (next {x} {xs} {part} {rest} given more) later =
       subst (AreGiven gives (x ∷ xs ++ ys)) (sym (append_assoc part rest vs)) (next given (given_both more later))
 
 -- where each entry gives a part in another sense too, so does the list
 pub given_weaker : {X Y : Type 0} (gives grants : X → List Y → Type 0) {xs : List X} {ys : List Y} →
-    ((x : X) (part : List Y) → Contains xs x → gives x part → grants x part) → AreGiven gives xs ys → AreGiven grants xs ys
+    ((x : X) (part : List Y) → Contains xs x → gives x part → grants x part) → AreGiven gives xs ys →
+    AreGiven grants xs ys
 given_weaker gives grants each none = none
 given_weaker gives grants each (next {x} {xs} {part} {rest} given more) =
     next (each x part (Contains-head x xs) given)

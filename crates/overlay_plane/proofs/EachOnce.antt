@@ -30,7 +30,8 @@ module _ {X : Type 0} (lower : X → X → Bool) where
           (x ≡ z) ⊎ Contains (y ∷ ys) z
       by true t c h = Contains-cases x (y ∷ ys) z c
       by false true c h = ⊎_elim (λ e. inr (subst (λ u. Contains (y ∷ ys) u) e (Contains-head y ys)))
-          (λ later. ⊎_elim (λ e. inl e) (λ old. inr (Contains-later y ys z old)) (h later)) (Contains-cases y (inserted_once x ys) z c)
+          (λ later. ⊎_elim (λ e. inl e) (λ old. inr (Contains-later y ys z old)) (h later))
+          (Contains-cases y (inserted_once x ys) z c)
       by false false c h = inr c
 
   -- each entry stands in the list that was put in order
@@ -44,9 +45,11 @@ module _ {X : Type 0} (lower : X → X → Bool) where
   kept_entry x [] z c = elim c.1 [ ]
   kept_entry x (y ∷ ys) z c = by (lower x y) (lower y x) (kept_entry x ys z)
     where
-      by : (s t : Bool) → (Contains ys z → Contains (inserted_once x ys) z) → Contains (cond s (x ∷ y ∷ ys) (cond t (y ∷ inserted_once x ys) (y ∷ ys))) z
+      by : (s t : Bool) → (Contains ys z → Contains (inserted_once x ys) z) →
+          Contains (cond s (x ∷ y ∷ ys) (cond t (y ∷ inserted_once x ys) (y ∷ ys))) z
       by true t h = Contains-later x (y ∷ ys) z c
-      by false true h = ⊎_elim (λ e. subst (λ u. Contains (y ∷ inserted_once x ys) u) e (Contains-head y (inserted_once x ys)))
+      by false true h = ⊎_elim (λ e. subst (λ u. Contains (y ∷ inserted_once x ys) u) e
+          (Contains-head y (inserted_once x ys)))
           (λ later. Contains-later y (inserted_once x ys) z (h later)) (Contains-cases y ys z c)
       by false false h = c
 
@@ -67,7 +70,8 @@ module _ {X : Type 0} (lower : X → X → Bool) where
     once_each [] x c = elim c.1 [ ]
     once_each (y ∷ ys) x c = ⊎_elim
         (λ e. subst (λ u. (z : X) × Contains (each_once (y ∷ ys)) z × Tie u z) e (new_entry y (each_once ys)))
-        (λ later. let old = once_each ys x later in (old.0, kept_entry y (each_once ys) old.0 old.1, old.2)) (Contains-cases y ys x c)
+        (λ later. let old = once_each ys x later in (old.0, kept_entry y (each_once ys) old.0 old.1, old.2))
+        (Contains-cases y ys x c)
 
   -- ---- the order
 
@@ -83,9 +87,15 @@ module _ {X : Type 0} (lower : X → X → Bool) where
       where
         by : (s t : Bool) → lower x y ≡ s → lower y x ≡ t → Each IsLower (inserted_once x ys) →
             Each IsLower (cond s (x ∷ y ∷ ys) (cond t (y ∷ inserted_once x ys) (y ∷ ys)))
-        by true t e f rest =
-            ((λ z c. ⊎_elim (λ is. subst (λ u. lower x u ≡ true) is e) (λ later. transitive x y z e (h.0 z later)) (Contains-cases y ys z c)), h)
-        by false true e f rest = ((λ z c. ⊎_elim (λ is. subst (λ u. lower y u ≡ true) is f) (λ old. h.0 z old) (inserted_entry x ys z c)), rest)
+        by true t e f rest = (
+          (λ z c. ⊎_elim (λ is. subst (λ u. lower x u ≡ true) is e) (λ later. transitive x y z e (h.0 z later))
+              (Contains-cases y ys z c)),
+          h,
+        )
+        by false true e f rest = (
+          (λ z c. ⊎_elim (λ is. subst (λ u. lower y u ≡ true) is f) (λ old. h.0 z old) (inserted_entry x ys z c)),
+          rest,
+        )
         by false false e f rest = h
 
     -- each entry is lower than each later one

@@ -1,5 +1,5 @@
--- The turn from one forward edge to another: which signs of the turns between three edges go together, and that edges with
--- no turn between them lead one way.
+-- The turn from one forward edge to another: which signs of the turns between three edges go together, and that edges
+-- with no turn between them lead one way.
 use Rattle.std.proofs.Common.{◌≡◌, true, false, ℤ, pos, ◌+ℤ◌, ◌-ℤ◌, ◌*ℤ◌, neg_ℤ, ◌<ℤ◌, ◌≤ℤ◌}
 use Rattle.std.proofs.lemmas.Int.{by_lt_z}
 use lib.IntN.{*ℤ_comm}
@@ -27,7 +27,8 @@ IsForward e = point_lt e.a e.b ≡ true
 
 -- exchanging two edges changes the sign of their turn
 pub edge_turn_exchanged : (e f : Edge) → edge_turn e f ≡ neg_ℤ (edge_turn f e)
-edge_turn_exchanged e f = solve 4 (λ we re wf rf. we ⊗ rf ⊖ re ⊗ wf ≗ ⊝ (wf ⊗ re ⊖ rf ⊗ we)) tt (width e) (rise e) (width f) (rise f)
+edge_turn_exchanged e f = solve 4 (λ we re wf rf. we ⊗ rf ⊖ re ⊗ wf ≗ ⊝ (wf ⊗ re ⊖ rf ⊗ we)) tt (width e) (rise e)
+    (width f) (rise f)
 
 -- from an edge to itself there is no turn
 pub edge_turn_same : (e : Edge) → edge_turn e e ≡ pos 0
@@ -35,10 +36,12 @@ edge_turn_same e = solve 2 (λ we re. we ⊗ re ⊖ re ⊗ we ≗ number (pos 0)
 
 -- the turns of three edges, weighted by widths, and by rises
 turns_by_width : (e f g : Edge) → width f *ℤ edge_turn e g ≡ width g *ℤ edge_turn e f +ℤ width e *ℤ edge_turn f g
-turns_by_width e f g = solve 6 (λ we re wf rf wg rg. wf ⊗ (we ⊗ rg ⊖ re ⊗ wg) ≗ wg ⊗ (we ⊗ rf ⊖ re ⊗ wf) ⊕ we ⊗ (wf ⊗ rg ⊖ rf ⊗ wg)) tt (width e) (rise e) (width f) (rise f) (width g) (rise g)
+turns_by_width e f g = solve 6 (λ we re wf rf wg rg. wf ⊗ (we ⊗ rg ⊖ re ⊗ wg) ≗ wg ⊗ (we ⊗ rf ⊖ re ⊗ wf) ⊕ we ⊗
+    (wf ⊗ rg ⊖ rf ⊗ wg)) tt (width e) (rise e) (width f) (rise f) (width g) (rise g)
 
 turns_by_rise : (e f g : Edge) → rise f *ℤ edge_turn e g ≡ rise g *ℤ edge_turn e f +ℤ rise e *ℤ edge_turn f g
-turns_by_rise e f g = solve 6 (λ we re wf rf wg rg. rf ⊗ (we ⊗ rg ⊖ re ⊗ wg) ≗ rg ⊗ (we ⊗ rf ⊖ re ⊗ wf) ⊕ re ⊗ (wf ⊗ rg ⊖ rf ⊗ wg)) tt (width e) (rise e) (width f) (rise f) (width g) (rise g)
+turns_by_rise e f g = solve 6 (λ we re wf rf wg rg. rf ⊗ (we ⊗ rg ⊖ re ⊗ wg) ≗ rg ⊗ (we ⊗ rf ⊖ re ⊗ wf) ⊕ re ⊗
+    (wf ⊗ rg ⊖ rf ⊗ wg)) tt (width e) (rise e) (width f) (rise f) (width g) (rise g)
 
 -- a forward edge has no width below 0
 pub not_narrower : (e : Edge) → IsForward e → pos 0 ≤ℤ width e
@@ -59,7 +62,8 @@ wide_before_left e f forward_e forward_f left = by_lt_z (pos 0) (width e) (λ lt
         omega linear
 
 -- turns to the left add up
-pub left_after_left : (e f g : Edge) → IsForward e → IsForward f → IsForward g → pos 0 <ℤ edge_turn e f → pos 0 <ℤ edge_turn f g → pos 0 <ℤ edge_turn e g
+pub left_after_left : (e f g : Edge) → IsForward e → IsForward f → IsForward g → pos 0 <ℤ edge_turn e f →
+    pos 0 <ℤ edge_turn f g → pos 0 <ℤ edge_turn e g
 left_after_left e f g forward_e forward_f forward_g ef fg =
     let first = mul-nonneg (width g) (edge_turn e f) (not_narrower g forward_g) (omega linear) in
     let second = mul-pos (width e) (edge_turn f g) (wide_before_left e f forward_e forward_f ef) fg in
@@ -95,12 +99,15 @@ level_ahead e f forward_e forward_f level = by_lt_z (pos 0) (width e) wide uprig
         let none = mul-zero (rise e) (edge_turn e f) level in
         pos_of_mul-pos (width e) (edge_dot e f) w (omega linear)
       where
-        framed : width e *ℤ edge_dot e f ≡ width f *ℤ (width e *ℤ width e +ℤ rise e *ℤ rise e) +ℤ rise e *ℤ edge_turn e f
-        framed = solve 4 (λ we re wf rf. we ⊗ (we ⊗ wf ⊕ re ⊗ rf) ≗ wf ⊗ (we ⊗ we ⊕ re ⊗ re) ⊕ re ⊗ (we ⊗ rf ⊖ re ⊗ wf)) tt (width e) (rise e) (width f) (rise f)
+        framed : width e *ℤ edge_dot e f ≡ width f *ℤ (width e *ℤ width e +ℤ rise e *ℤ rise e) +ℤ rise e *ℤ edge_turn e
+            f
+        framed = solve 4 (λ we re wf rf. we ⊗ (we ⊗ wf ⊕ re ⊗ rf) ≗ wf ⊗ (we ⊗ we ⊕ re ⊗ re) ⊕ re ⊗ (we ⊗ rf ⊖ re ⊗ wf))
+            tt (width e) (rise e) (width f) (rise f)
 
     upright : width e ≤ℤ pos 0 → pos 0 <ℤ edge_dot e f
     upright narrow =
-        let narrow_f : width f ≤ℤ pos 0 = by_lt_z (pos 0) (width f) (λ w. let we = both_wide e f forward_e forward_f level w in absurd (omega linear)) (λ ge. ge) in
+        let narrow_f : width f ≤ℤ pos 0 = by_lt_z (pos 0) (width f)
+        (λ w. let we = both_wide e f forward_e forward_f level w in absurd (omega linear)) (λ ge. ge) in
         let n = not_narrower e forward_e in
         let m = not_narrower f forward_f in
         let none = mul-zero (width e) (width f) (omega linear) in
@@ -108,7 +115,8 @@ level_ahead e f forward_e forward_f level = by_lt_z (pos 0) (width e) wide uprig
         omega linear
 
 -- an edge leads to the left of one as of another, where there is no turn between these two
-pub left_of_level : (e f g : Edge) → IsForward e → IsForward f → IsForward g → edge_turn e f ≡ pos 0 → pos 0 <ℤ edge_turn f g → pos 0 <ℤ edge_turn e g
+pub left_of_level : (e f g : Edge) → IsForward e → IsForward f → IsForward g → edge_turn e f ≡ pos 0 →
+    pos 0 <ℤ edge_turn f g → pos 0 <ℤ edge_turn e g
 left_of_level e f g forward_e forward_f forward_g level fg =
     let wide = wide_before_left f g forward_f forward_g fg in
     let sum = turns_by_width e f g in
@@ -117,7 +125,8 @@ left_of_level e f g forward_e forward_f forward_g level fg =
     pos_of_mul-pos (width f) (edge_turn e g) wide (omega linear)
 
 -- one leads to the left of e as another one does, where there is no turn between these two
-pub left_to_level : (e f g : Edge) → IsForward e → IsForward f → IsForward g → pos 0 <ℤ edge_turn e f → edge_turn f g ≡ pos 0 → pos 0 <ℤ edge_turn e g
+pub left_to_level : (e f g : Edge) → IsForward e → IsForward f → IsForward g → pos 0 <ℤ edge_turn e f →
+    edge_turn f g ≡ pos 0 → pos 0 <ℤ edge_turn e g
 left_to_level e f g forward_e forward_f forward_g ef level = by_lt_z (pos 0) (width f) wide upright
   where
     wide : pos 0 <ℤ width f → pos 0 <ℤ edge_turn e g
@@ -130,24 +139,31 @@ left_to_level e f g forward_e forward_f forward_g ef level = by_lt_z (pos 0) (wi
 
     upright : width f ≤ℤ pos 0 → pos 0 <ℤ edge_turn e g
     upright narrow =
-        let narrow_g : width g ≤ℤ pos 0 = by_lt_z (pos 0) (width g) (λ w. let wf = both_wide f g forward_f forward_g level w in absurd (omega linear)) (λ ge. ge) in
+        let narrow_g : width g ≤ℤ pos 0 = by_lt_z (pos 0) (width g)
+        (λ w. let wf = both_wide f g forward_f forward_g level w in absurd (omega linear)) (λ ge. ge) in
         let sum = turns_by_rise e f g in
         let none = mul-zero (rise e) (edge_turn f g) level in
         let high = mul-pos (rise g) (edge_turn e f) (rises_upright g forward_g narrow_g) ef in
         pos_of_mul-pos (rise f) (edge_turn e g) (rises_upright f forward_f narrow) (omega linear)
 
 -- where there is no turn from e to f and none from f to g, there is none from e to g
-pub level_after_level : (e f g : Edge) → IsForward e → IsForward f → IsForward g → edge_turn e f ≡ pos 0 → edge_turn f g ≡ pos 0 → edge_turn e g ≡ pos 0
+pub level_after_level : (e f g : Edge) → IsForward e → IsForward f → IsForward g → edge_turn e f ≡ pos 0 →
+    edge_turn f g ≡ pos 0 → edge_turn e g ≡ pos 0
 level_after_level e f g forward_e forward_f forward_g ef fg = by_sign (edge_turn e g)
-    (λ low. absurd (let opposite = edge_turn_exchanged e g in let more = left_to_level g e f forward_g forward_e forward_f (omega linear) ef in let back = edge_turn_exchanged f g in omega linear))
+    (λ low. absurd (let opposite = edge_turn_exchanged e g in
+    let more = left_to_level g e f forward_g forward_e forward_f (omega linear) ef in
+    let back = edge_turn_exchanged f g in omega linear))
     (λ level. level)
-    (λ high. absurd (let more = left_of_level f e g forward_f forward_e forward_g (let opposite = edge_turn_exchanged e f in omega linear) high in omega linear))
+    (λ high. absurd (let more = left_of_level f e g forward_f forward_e forward_g
+    (let opposite = edge_turn_exchanged e f in omega linear) high in omega linear))
 
 -- what leads to the left of an edge leads to the left of all that do not
-pub left_of_not_left : (e f g : Edge) → IsForward e → IsForward f → IsForward g → turns_left f e ≡ false → turns_left f g ≡ true → turns_left e g ≡ true
+pub left_of_not_left : (e f g : Edge) → IsForward e → IsForward f → IsForward g → turns_left f e ≡ false →
+    turns_left f g ≡ true → turns_left e g ≡ true
 left_of_not_left e f g forward_e forward_f forward_g lowest left =
     let high = lt_from_test (pos 0) (edge_turn f g) left in
     let low = ge_from_test (pos 0) (edge_turn f e) lowest in
     let back = edge_turn_exchanged e f in
-    test_from_lt (pos 0) (edge_turn e g) (by_lt_z (pos 0) (edge_turn e f) (λ lt. left_after_left e f g forward_e forward_f forward_g lt high)
+    test_from_lt (pos 0) (edge_turn e g)
+    (by_lt_z (pos 0) (edge_turn e f) (λ lt. left_after_left e f g forward_e forward_f forward_g lt high)
     (λ ge. left_of_level e f g forward_e forward_f forward_g (omega linear) high))

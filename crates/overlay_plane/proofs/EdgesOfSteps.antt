@@ -1,5 +1,6 @@
 -- The edge of a step: the step walks along it or back along it, and its two sides are those of the step.
-use Rattle.std.proofs.Common.{◌≡◌, ◌⊎◌, inl, inr, Bool, true, false, cond, pos, ◌+ℤ◌, List, [], ◌∷◌, Contains, refl, sym, ap, ap₂, ◌∙◌}
+use Rattle.std.proofs.Common.{◌≡◌, ◌⊎◌, inl, inr, Bool, true, false, cond, pos, ◌+ℤ◌, List, [], ◌∷◌, Contains, refl}
+use Rattle.std.proofs.Common.{sym, ap, ap₂, ◌∙◌}
 use Rattle.std.proofs.lemmas.Bool.{false_from_ne_true}
 use Rattle.overlay_geom.specs.Plane.{Step, Edge, point_eq, edge_eq, is_forward, edge_of, sign_of}
 use Rattle.overlay_geom.specs.Edges.{CountedEdge, ends_of, winding_below, winding_above}
@@ -19,7 +20,8 @@ module _ (s : Step) (e : CountedEdge) (along : edge_of s ≡ ends_of e) where
   pub along_or_back : (s ≡ record { from = e.a; to = e.b }) ⊎ (s ≡ record { from = e.b; to = e.a })
   along_or_back = by (is_forward s) along
     where
-      by : (t : Bool) → edge_by t s ≡ ends_of e → (s ≡ record { from = e.a; to = e.b }) ⊎ (s ≡ record { from = e.b; to = e.a })
+      by : (t : Bool) → edge_by t s ≡ ends_of e →
+          (s ≡ record { from = e.a; to = e.b }) ⊎ (s ≡ record { from = e.b; to = e.a })
       by true is = inl (λ i. record { from = (is i).a; to = (is i).b })
       by false is = inr (λ i. record { from = (is i).b; to = (is i).a })
 
@@ -35,16 +37,21 @@ module _ (s : Step) (e : CountedEdge) (along : edge_of s ≡ ends_of e) where
   pub one_side : ¬ (s.from ≡ s.to) → (es : List CountedEdge) (taken : List Step) (hand : Hand) →
       winding_beside hand es taken s ≡ WindingsBeside.winding_on_side hand (count_on taken) es e s
   one_side long es taken left = ap (λ f. cond (is_forward s) (winding_over es taken f) (winding_under es taken f)) along
-      ∙ ap (λ t. cond t (winding_above (count_on taken) es e) (winding_below (count_on taken) es e)) (sym (starts_where_leaves long))
-  one_side long es taken right = ap (λ f. cond (is_forward s) (winding_under es taken f) (winding_over es taken f)) along
-      ∙ ap (λ t. cond t (winding_below (count_on taken) es e) (winding_above (count_on taken) es e)) (sym (starts_where_leaves long))
+      ∙ ap (λ t. cond t (winding_above (count_on taken) es e) (winding_below (count_on taken) es e))
+      (sym (starts_where_leaves long))
+  one_side long es taken right = ap (λ f. cond (is_forward s) (winding_under es taken f) (winding_over es taken f))
+      along
+      ∙ ap (λ t. cond t (winding_below (count_on taken) es e) (winding_above (count_on taken) es e))
+      (sym (starts_where_leaves long))
 
 -- an edge counts nothing, or one of the steps taken walks along it
-pub walked_or_nothing : (taken : List Step) (e : CountedEdge) → (count_on taken e ≡ pos 0) ⊎ ((s : Step) × Contains taken s × (edge_of s ≡ ends_of e))
+pub walked_or_nothing : (taken : List Step) (e : CountedEdge) →
+    (count_on taken e ≡ pos 0) ⊎ ((s : Step) × Contains taken s × (edge_of s ≡ ends_of e))
 walked_or_nothing [] e = inl refl
 walked_or_nothing (s ∷ ss) e = by (edge_eq (edge_of s) (ends_of e)) refl (walked_or_nothing ss e)
   where
-    by : (t : Bool) → edge_eq (edge_of s) (ends_of e) ≡ t → (count_on ss e ≡ pos 0) ⊎ ((u : Step) × Contains ss u × (edge_of u ≡ ends_of e)) →
+    by : (t : Bool) → edge_eq (edge_of s) (ends_of e) ≡ t →
+        (count_on ss e ≡ pos 0) ⊎ ((u : Step) × Contains ss u × (edge_of u ≡ ends_of e)) →
         (count_on (s ∷ ss) e ≡ pos 0) ⊎ ((u : Step) × Contains (s ∷ ss) u × (edge_of u ≡ ends_of e))
     by true same rest = inr (s, Contains-head s ss, edge_eq-same (edge_of s) (ends_of e) same)
     by false apart (inl none) = inl (ap₂ (λ a b. a +ℤ b) (ap (λ t. cond t (sign_of s) (pos 0)) apart) none)

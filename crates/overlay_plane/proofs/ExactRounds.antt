@@ -1,4 +1,5 @@
--- Where edges meet only in whole points or overlap, at most one round is taken, it moves no point, and no winding changes.
+-- Where edges meet only in whole points or overlap, at most one round is taken, it moves no point, and no winding
+-- changes.
 use Rattle.std.proofs.Common.{◌≡◌, ℕ, ◌≤◌, pos, List, [], ◌∷◌, length, get_or, Contains, refl, ◌∙◌, arith}
 use Rattle.std.specs.List.{All, Any}
 use Rattle.std.proofs.lemmas.List.Elements.{All-contains, Contains-get_or}
@@ -11,7 +12,8 @@ use Rattle.overlay_plane.specs.Arrangements.{IsReachedBy, IsExact, WholeMeetings
 use Rattle.overlay_plane.specs.Cutting.{AreOnLine}
 use Rattle.overlay_plane.specs.EdgeLists.{IsForwardBy}
 use Rattle.overlay_plane.specs.Meetings.{MeetInWholePoints}
-use Rattle.overlay_plane.specs.Rounds.{Round, IsRound, AreRounds, MovesNone, MovesSome, MovingRounds, whole_cuts, pieces_of}
+use Rattle.overlay_plane.specs.Rounds.{Round, IsRound, AreRounds, MovesNone, MovesSome, MovingRounds, whole_cuts}
+use Rattle.overlay_plane.specs.Rounds.{pieces_of}
 use Rattle.overlay_plane.specs.Rounds.MovingRounds.{none, exact, moving}
 use Rattle.overlay_plane.proofs.Entries.{Contains-from_any}
 use Rattle.overlay_plane.proofs.CutOnLines.{cutting_on_lines_keeps_windings}
@@ -20,15 +22,21 @@ use Rattle.overlay_plane.proofs.WholeCuts.{CutsWhole, cuts_whole, moves_none, cu
 use Rattle.overlay_plane.proofs.WholeOnEdges.{at_itself, side_at}
 
 -- windings that are the same once and once more are the same
-pub windings_through : (old middle new : List CountedEdge) → HaveSameWindings old middle → HaveSameWindings middle new → HaveSameWindings old new
-windings_through old middle new first second = record { subj = λ p. second.subj p ∙ first.subj p; clip = λ p. second.clip p ∙ first.clip p }
+pub windings_through : (old middle new : List CountedEdge) → HaveSameWindings old middle → HaveSameWindings middle new →
+    HaveSameWindings old new
+windings_through old middle new first second = record {
+  subj = λ p. second.subj p
+      ∙ first.subj p;
+  clip = λ p. second.clip p ∙ first.clip p;
+}
 
 -- a round that moves no point does not move some
 none_not_some : (r : Round) → MovesNone r → ¬ (MovesSome r)
 none_not_some r still some =
     let e = Contains-from_any (λ e. Any (λ p. ¬ (IsAt (r.whole_at p) p)) (r.cuts e)) r.edges some in
     let p = Contains-from_any (λ p. ¬ (IsAt (r.whole_at p) p)) (r.cuts e.0) e.2 in
-    p.2 (All-contains (λ p. IsAt (r.whole_at p) p) (r.cuts e.0) p.0 (All-contains (λ e. All (λ p. IsAt (r.whole_at p) p) (r.cuts e)) r.edges e.0 still e.1) p.1)
+    p.2 (All-contains (λ p. IsAt (r.whole_at p) p) (r.cuts e.0) p.0
+    (All-contains (λ e. All (λ p. IsAt (r.whole_at p) p) (r.cuts e)) r.edges e.0 still e.1) p.1)
 
 -- so none of it, taken alone, moves a point
 none_moving : (r : Round) (k : ℕ) → MovesNone r → MovingRounds (r ∷ []) k → k ≡ 0
@@ -43,27 +51,33 @@ cuts_on_line r h e has = λ k d l.
     side_at (ends_of e) v (in_plane v) (at_itself v) ∙ mul-zero (pos 1) (cross_at e.a e.b v) held.on_line
 
 -- such a round keeps the windings
-round_keeps_windings : (old : List CountedEdge) (r : Round) → IsRound old r → CutsWhole r → HaveSameWindings old (pieces_of r)
+round_keeps_windings : (old : List CountedEdge) (r : Round) → IsRound old r → CutsWhole r →
+    HaveSameWindings old (pieces_of r)
 round_keeps_windings old r round h =
     windings_through old r.edges (pieces_of r) (windings_from_merged old r.edges round.merged)
-    (cutting_on_lines_keeps_windings r.edges (whole_cuts r) h.forward (λ k d l. cuts_on_line r h (get_or r.edges k d) (Contains-get_or r.edges k d l)))
+    (cutting_on_lines_keeps_windings r.edges (whole_cuts r) h.forward
+    (λ k d l. cuts_on_line r h (get_or r.edges k d) (Contains-get_or r.edges k d l)))
 
 -- no round comes after it
-no_second_round : (old : List CountedEdge) (r next : Round) (rounds : List Round) → IsForwardBy ends_of old → MeetInWholePoints old →
+no_second_round : (old : List CountedEdge) (r next : Round) (rounds : List Round) → IsForwardBy ends_of old →
+    MeetInWholePoints old →
     ¬ (AreRounds old (r ∷ next ∷ rounds))
-no_second_round old r next rounds forward whole cut = second.unsettled (pieces_settled r (cuts_whole old r forward whole cut.0) next.edges second.merged)
+no_second_round old r next rounds forward whole cut = second.unsettled
+    (pieces_settled r (cuts_whole old r forward whole cut.0) next.edges second.merged)
   where
     second : IsRound (pieces_of r) next
     second = cut.1.0
 
 -- so there is one at most
-one_round : (rounds : List Round) (old : List CountedEdge) → IsForwardBy ends_of old → MeetInWholePoints old → AreRounds old rounds → length rounds ≤ 1
+one_round : (rounds : List Round) (old : List CountedEdge) → IsForwardBy ends_of old → MeetInWholePoints old →
+    AreRounds old rounds → length rounds ≤ 1
 one_round [] old forward whole cut = omega arith
 one_round (r ∷ []) old forward whole cut = omega arith
 one_round (r ∷ next ∷ rounds) old forward whole cut = absurd (no_second_round old r next rounds forward whole cut)
 
 -- and what is reached is exact
-exactly_reached : (rounds : List Round) (k : ℕ) (old new : List CountedEdge) → IsForwardBy ends_of old → MeetInWholePoints old →
+exactly_reached : (rounds : List Round) (k : ℕ) (old new : List CountedEdge) → IsForwardBy ends_of old →
+    MeetInWholePoints old →
     IsReachedBy rounds old new → MovingRounds rounds k → IsExact rounds k old new
 exactly_reached [] k old new forward whole reached none = record {
   one_round = omega arith;
@@ -73,12 +87,14 @@ exactly_reached [] k old new forward whole reached none = record {
 exactly_reached (r ∷ []) k old new forward whole reached moved = record {
   one_round = omega arith;
   none_moved = none_moving r k (moves_none r h) moved;
-  windings = windings_through old (pieces_of r) new (round_keeps_windings old r reached.cut.0 h) (windings_from_merged (pieces_of r) new reached.merged);
+  windings = windings_through old (pieces_of r) new (round_keeps_windings old r reached.cut.0 h)
+      (windings_from_merged (pieces_of r) new reached.merged);
 }
   where
     h : CutsWhole r
     h = cuts_whole old r forward whole reached.cut.0
-exactly_reached (r ∷ next ∷ rounds) k old new forward whole reached moved = absurd (no_second_round old r next rounds forward whole reached.cut)
+exactly_reached (r ∷ next ∷ rounds) k old new forward whole reached moved = absurd
+    (no_second_round old r next rounds forward whole reached.cut)
 
 -- the law of whole meeting points
 pub whole_meetings_are_exact : WholeMeetingsAreExact

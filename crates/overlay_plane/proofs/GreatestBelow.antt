@@ -1,4 +1,5 @@
--- What is strictly below a point is the greatest such edge and all under it: so the winding at the point is the one above that edge.
+-- What is strictly below a point is the greatest such edge and all under it: so the winding at the point is the one
+-- above that edge.
 use Rattle.std.proofs.Common.{cond, pos, ap}
 use Rattle.overlay_geom.specs.Plane.{is_strictly_below}
 use Rattle.overlay_geom.specs.Edges.{ends_of}
@@ -10,7 +11,9 @@ use Rattle.overlay_plane.proofs.Totals.{total-zero}
 -- and it is 0 where no edge is strictly below the point
 pub winding_above_the_greatest_below : WindingAboveTheGreatestBelow
 winding_above_the_greatest_below = record {
-  above = λ count es r p g h. above_the_greatest_taken count es r p.x p.d p.positive (λ f. is_strictly_below (ends_of f) p)
+  above = λ count es r p g h. above_the_greatest_taken count es r p.x p.d p.positive
+      (λ f. is_strictly_below (ends_of f) p)
       (takes_below ends_of es r.settled p) g (record { entry = h.entry; is = h.below; greatest = h.greatest });
-  none = λ count es p none. total-zero (λ f. cond (is_strictly_below (ends_of f) p) (count f) (pos 0)) es (λ f at. ap (λ t. cond t (count f) (pos 0)) (none f at));
+  none = λ count es p none. total-zero (λ f. cond (is_strictly_below (ends_of f) p) (count f) (pos 0)) es
+      (λ f at. ap (λ t. cond t (count f) (pos 0)) (none f at));
 }

@@ -1,5 +1,7 @@
--- Edges over an abscissa that are taken with all under them are the greatest of them and all under it: so their counts add up to the winding above that one.
-use Rattle.std.proofs.Common.{◌≡◌, ◌⊎◌, ⊎_elim, Bool, true, false, cond, ◌&&◌, ℤ, pos, ◌+ℤ◌, ◌<ℤ◌, List, Contains, refl, sym, ap, ap₂, ◌∙◌, subst}
+-- Edges over an abscissa that are taken with all under them are the greatest of them and all under it: so their counts
+-- add up to the winding above that one.
+use Rattle.std.proofs.Common.{◌≡◌, ◌⊎◌, ⊎_elim, Bool, true, false, cond, ◌&&◌, ℤ, pos, ◌+ℤ◌, ◌<ℤ◌, List, Contains, refl}
+use Rattle.std.proofs.Common.{sym, ap, ap₂, ◌∙◌, subst}
 use Rattle.std.proofs.lemmas.Bool.{both_ways, and_parts, and_from, false_from_ne_true}
 use lib.IntN.{+ℤ_idl, +ℤ_idr}
 use Rattle.overlay_geom.specs.Plane.{Edge, edge_eq}
@@ -15,13 +17,17 @@ use Rattle.overlay_plane.proofs.Sides.{one_winding_along_a_side}
 use Rattle.overlay_plane.proofs.SingleEntries.{one_entry, single_total}
 
 -- g is taken, and every other edge taken is under it
-pub record IsGreatestTaken (es : List CountedEdge) (x d : ℤ) (taken : CountedEdge → Bool) (g : CountedEdge) : Type 0 where
+pub record IsGreatestTaken (es : List CountedEdge) (x d : ℤ) (taken : CountedEdge → Bool)
+    (g : CountedEdge) : Type 0 where
   pub entry : Contains es g
   pub is : taken g ≡ true
-  pub greatest : (f : CountedEdge) → Contains es f → taken f ≡ true → (f ≡ g) ⊎ (is_under (ends_of f) (ends_of g) x d ≡ true)
+  pub greatest : (f : CountedEdge) → Contains es f → taken f ≡ true →
+      (f ≡ g) ⊎ (is_under (ends_of f) (ends_of g) x d ≡ true)
 
-module _ (count : CountedEdge → ℤ) (es : List CountedEdge) (r : IsBalancedArrangement count es) (x d : ℤ) (positive : pos 0 <ℤ d)
-    (taken : CountedEdge → Bool) (down : TakesDownward ends_of es x d taken) (g : CountedEdge) (h : IsGreatestTaken es x d taken g) where
+module _ (count : CountedEdge → ℤ) (es : List CountedEdge) (r : IsBalancedArrangement count es) (x d : ℤ)
+    (positive : pos 0 <ℤ d)
+    (taken : CountedEdge → Bool) (down : TakesDownward ends_of es x d taken) (g : CountedEdge)
+    (h : IsGreatestTaken es x d taken g) where
   -- the edge covers the abscissa, and is under g there
   abbrev under_greatest : CountedEdge → Bool
   under_greatest f = covers (ends_of f) x d && is_under (ends_of f) (ends_of g) x d
@@ -30,7 +36,8 @@ module _ (count : CountedEdge → ℤ) (es : List CountedEdge) (r : IsBalancedAr
   same_not_under : (f : CountedEdge) → edge_eq (ends_of f) (ends_of g) ≡ true → under_greatest f ≡ false
   same_not_under f same = false_from_ne_true (under_greatest f)
       (λ t. both_ways (is_under (ends_of f) (ends_of g) x d)
-      (subst (λ (e : Edge). is_under e (ends_of g) x d ≡ false) (sym (edge_eq-same (ends_of f) (ends_of g) same)) (under_irreflexive (ends_of g) x d))
+      (subst (λ (e : Edge). is_under e (ends_of g) x d ≡ false) (sym (edge_eq-same (ends_of f) (ends_of g) same))
+      (under_irreflexive (ends_of g) x d))
       (and_parts (covers (ends_of f) x d) (is_under (ends_of f) (ends_of g) x d) t).1)
 
   -- another edge is taken exactly where it is under g
@@ -38,9 +45,12 @@ module _ (count : CountedEdge → ℤ) (es : List CountedEdge) (r : IsBalancedAr
   other_taken f at apart = same_tests (taken f) (under_greatest f)
       (λ is. ⊎_elim
       (λ one. absurd (both_ways (edge_eq (ends_of f) (ends_of g)) apart
-      (edge_eq-from_ends (ends_of f) (ends_of g) (ap (λ (e : CountedEdge). e.a) one) (ap (λ (e : CountedEdge). e.b) one))))
-      (λ under. and_from (covers (ends_of f) x d) (is_under (ends_of f) (ends_of g) x d) (down.over f at is) under) (h.greatest f at is))
-      (λ t. let both = and_parts (covers (ends_of f) x d) (is_under (ends_of f) (ends_of g) x d) t in down.downward g f h.entry at h.is both.0 both.1)
+      (edge_eq-from_ends (ends_of f) (ends_of g) (ap (λ (e : CountedEdge). e.a) one)
+      (ap (λ (e : CountedEdge). e.b) one))))
+      (λ under. and_from (covers (ends_of f) x d) (is_under (ends_of f) (ends_of g) x d) (down.over f at is) under)
+      (h.greatest f at is))
+      (λ t. let both = and_parts (covers (ends_of f) x d) (is_under (ends_of f) (ends_of g) x d) t in
+      down.downward g f h.entry at h.is both.0 both.1)
 
   -- so what is taken is what is under g, and g
   counted_taken : (f : CountedEdge) → Contains es f → cond (taken f) (count f) (pos 0) ≡
@@ -54,11 +64,15 @@ module _ (count : CountedEdge → ℤ) (es : List CountedEdge) (r : IsBalancedAr
           cond (under_greatest f) (count f) (pos 0) +ℤ cond t (count f) (pos 0)
       by true same = ap (λ t. cond t (count f) (pos 0)) (one same)
           ∙ sym (+ℤ_idl (count f)) ∙ sym (ap (λ t. cond t (count f) (pos 0) +ℤ count f) (same_not_under f same))
-      by false apart = ap (λ t. cond t (count f) (pos 0)) (other_taken f at apart) ∙ sym (+ℤ_idr (cond (under_greatest f) (count f) (pos 0)))
+      by false apart = ap (λ t. cond t (count f) (pos 0)) (other_taken f at apart)
+          ∙ sym (+ℤ_idr (cond (under_greatest f) (count f) (pos 0)))
 
   pub above_the_greatest_taken : total_taken taken count es ≡ winding_above count es g
   above_the_greatest_taken = total-same (λ f. cond (taken f) (count f) (pos 0))
-      (λ f. cond (under_greatest f) (count f) (pos 0) +ℤ cond (edge_eq (ends_of f) (ends_of g)) (count f) (pos 0)) es counted_taken
-      ∙ total-add (λ f. cond (under_greatest f) (count f) (pos 0)) (λ f. cond (edge_eq (ends_of f) (ends_of g)) (count f) (pos 0)) es
-      ∙ ap₂ (λ v w. v +ℤ w) (one_winding_along_a_side es count r.forward r.settled r.balanced g h.entry x d positive (down.over g h.entry h.is))
+      (λ f. cond (under_greatest f) (count f) (pos 0) +ℤ cond (edge_eq (ends_of f) (ends_of g)) (count f) (pos 0)) es
+      counted_taken
+      ∙ total-add (λ f. cond (under_greatest f) (count f) (pos 0))
+      (λ f. cond (edge_eq (ends_of f) (ends_of g)) (count f) (pos 0)) es
+      ∙ ap₂ (λ v w. v +ℤ w) (one_winding_along_a_side es count r.forward r.settled r.balanced g h.entry x d positive
+      (down.over g h.entry h.is))
       (single_total es r.distinct count g h.entry)

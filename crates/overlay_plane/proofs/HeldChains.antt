@@ -1,4 +1,5 @@
--- The chains of the edges from which an arrangement was reached hold: they keep their ends, stay near, and make its counts and marks.
+-- The chains of the edges from which an arrangement was reached hold: they keep their ends, stay near, and make its
+-- counts and marks.
 use Rattle.std.proofs.Common.{◌≡◌, true, false}
 use Rattle.std.specs.List.{All}
 use Rattle.std.proofs.lemmas.List.Elements.{All-weaker}
@@ -15,8 +16,10 @@ use Rattle.overlay_plane.proofs.NearChains.{chain_stays_near}
 -- the law of the chains of an arrangement
 pub arrangements_hold_chains : ArrangementsHoldChains
 arrangements_hold_chains rounds k old new forward reached moved = record {
-  keep_ends = All-weaker (λ e. point_lt e.a e.b ≡ true) (λ e. Leads e.a (chain_through rounds e) e.b) (λ e runs. chain_keeps_ends rounds e) old forward;
-  stay_near = All-weaker (λ e. point_lt e.a e.b ≡ true) (λ e. All (λ t. IsNear k (ends_of e) t.from × IsNear k (ends_of e) t.to) (chain_through rounds e))
+  keep_ends = All-weaker (λ e. point_lt e.a e.b ≡ true) (λ e. Leads e.a (chain_through rounds e) e.b)
+      (λ e runs. chain_keeps_ends rounds e) old forward;
+  stay_near = All-weaker (λ e. point_lt e.a e.b ≡ true)
+      (λ e. All (λ t. IsNear k (ends_of e) t.from × IsNear k (ends_of e) t.to) (chain_through rounds e))
       (chain_stays_near old rounds k reached.cut moved) old forward;
   subj_counts = chains_make_counts subj_of subj_goes_over old rounds new reached.cut reached.merged forward;
   clip_counts = chains_make_counts clip_of clip_goes_over old rounds new reached.cut reached.merged forward;

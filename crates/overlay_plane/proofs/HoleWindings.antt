@@ -1,6 +1,7 @@
--- The edge at a hole's anchor has its empty side above: along the hole's empty side its winding is one number, which is not 0,
--- since the start has its filled side outside; and below the anchor the winding is 0.
-use Rattle.std.proofs.Common.{◌≡◌, Bool, true, false, cond, ℤ, pos, ◌+ℤ◌, List, [], ◌∷◌, Contains, refl, sym, ap, ◌∙◌, subst, arith}
+-- The edge at a hole's anchor has its empty side above: along the hole's empty side its winding is one number, which is
+-- not 0, since the start has its filled side outside; and below the anchor the winding is 0.
+use Rattle.std.proofs.Common.{◌≡◌, Bool, true, false, cond, ℤ, pos, ◌+ℤ◌, List, [], ◌∷◌, Contains, refl, sym, ap, ◌∙◌}
+use Rattle.std.proofs.Common.{subst, arith}
 use Rattle.std.proofs.lemmas.Bool.{false≢true, false_from_ne_true, not-true}
 use Rattle.overlay_geom.specs.Plane.{Step, Edge, is_forward, edge_of}
 use Rattle.overlay_geom.specs.Edges.{CountedEdge}
@@ -21,31 +22,44 @@ use Rattle.overlay_plane.proofs.ItemsRound.{item_round-here, Contains-item_round
 use Rattle.overlay_plane.proofs.WalksOfCuts.{IsWalkOfCut}
 
 -- the first step of a hole is filled above
-first_filled : (on_left : Bool) (walk : List Step) → is_hole on_left walk ≡ true → is_filled_above on_left (step_round walk 0) ≡ true
+pub first_filled : (on_left : Bool) (walk : List Step) → is_hole on_left walk ≡ true →
+    is_filled_above on_left (step_round walk 0) ≡ true
 first_filled on_left [] h = absurd (false≢true h)
-first_filled on_left (s ∷ ss) h = subst (λ (t : Step). is_filled_above on_left t ≡ true) (sym (item_round-here (s ∷ ss) no_step 0 (omega arith))) h
+first_filled on_left (s ∷ ss) h = subst (λ (t : Step). is_filled_above on_left t ≡ true)
+    (sym (item_round-here (s ∷ ss) no_step 0 (omega arith))) h
 
 -- where a step is filled above, its empty side is the lower one of its edge
-empty_below : (on_left : Bool) (es : List CountedEdge) (taken : List Step) (t : Step) → is_filled_above on_left t ≡ true →
+empty_below : (on_left : Bool) (es : List CountedEdge) (taken : List Step) (t : Step) →
+    is_filled_above on_left t ≡ true →
     winding_beside (empty_hand on_left) es taken t ≡ winding_under es taken (edge_of t)
-empty_below true es taken t h = ap (λ b. cond b (winding_under es taken (edge_of t)) (winding_over es taken (edge_of t))) h
-empty_below false es taken t h = ap (λ b. cond b (winding_over es taken (edge_of t)) (winding_under es taken (edge_of t))) (not-true (is_forward t) h)
+empty_below true es taken t h =
+    ap (λ b. cond b (winding_under es taken (edge_of t)) (winding_over es taken (edge_of t))) h
+empty_below false es taken t h =
+    ap (λ b. cond b (winding_over es taken (edge_of t)) (winding_under es taken (edge_of t)))
+    (not-true (is_forward t) h)
 
 -- and its filled side the upper one
-filled_over : (on_left : Bool) (es : List CountedEdge) (taken : List Step) (t : Step) → is_filled_above on_left t ≡ true →
+pub filled_over : (on_left : Bool) (es : List CountedEdge) (taken : List Step) (t : Step) →
+    is_filled_above on_left t ≡ true →
     winding_beside (filled_hand on_left) es taken t ≡ winding_over es taken (edge_of t)
-filled_over true es taken t h = ap (λ b. cond b (winding_over es taken (edge_of t)) (winding_under es taken (edge_of t))) h
-filled_over false es taken t h = ap (λ b. cond b (winding_under es taken (edge_of t)) (winding_over es taken (edge_of t))) (not-true (is_forward t) h)
+filled_over true es taken t h =
+    ap (λ b. cond b (winding_over es taken (edge_of t)) (winding_under es taken (edge_of t))) h
+filled_over false es taken t h =
+    ap (λ b. cond b (winding_under es taken (edge_of t)) (winding_over es taken (edge_of t)))
+    (not-true (is_forward t) h)
 
 -- the winding is not 0 on both sides of a step across which it rises by 1
-not_both_zero : (on_left : Bool) (es : List CountedEdge) (taken : List Step) (t : Step) →
-    winding_beside left es taken t ≡ winding_beside right es taken t +ℤ pos 1 → winding_beside (filled_hand on_left) es taken t ≡ pos 0 →
+pub not_both_zero : (on_left : Bool) (es : List CountedEdge) (taken : List Step) (t : Step) →
+    winding_beside left es taken t ≡ winding_beside right es taken t +ℤ pos 1 →
+    winding_beside (filled_hand on_left) es taken t ≡ pos 0 →
     ¬ (winding_beside (empty_hand on_left) es taken t ≡ pos 0)
-not_both_zero true es taken t rises filled empty = apart (winding_beside left es taken t) (winding_beside right es taken t) rises filled empty
+not_both_zero true es taken t rises filled empty = apart (winding_beside left es taken t)
+    (winding_beside right es taken t) rises filled empty
   where
     apart : (a b : ℤ) → a ≡ b +ℤ pos 1 → a ≡ pos 0 → ¬ (b ≡ pos 0)
     apart a b h i j = omega linear
-not_both_zero false es taken t rises filled empty = apart (winding_beside left es taken t) (winding_beside right es taken t) rises empty filled
+not_both_zero false es taken t rises filled empty = apart (winding_beside left es taken t)
+    (winding_beside right es taken t) rises empty filled
   where
     apart : (a b : ℤ) → a ≡ b +ℤ pos 1 → a ≡ pos 0 → ¬ (b ≡ pos 0)
     apart a b h i j = omega linear
@@ -57,7 +71,8 @@ pub record HasEmptyAbove (on_left : Bool) (walk : List Step) (e : Edge) : Type 0
   pub along : edge_of step ≡ e
   pub empty : is_filled_above on_left step ≡ false
 
-module _ (es : List CountedEdge) (on_left : Bool) (steps walk : List Step) (own : IsWalkOfCut es (outline_or_hole_hand on_left) steps walk)
+module _ (es : List CountedEdge) (on_left : Bool) (steps walk : List Step)
+    (own : IsWalkOfCut es (outline_or_hole_hand on_left) steps walk)
     (hole : is_hole on_left walk ≡ true) where
   -- the hole's start
   abbrev start : Step
@@ -78,18 +93,25 @@ module _ (es : List CountedEdge) (on_left : Bool) (steps walk : List Step) (own 
 
   -- above its start the winding of the hole is 0
   zero_over : winding_over es walk (edge_of start) ≡ pos 0
-  zero_over = (nothing_before_the_steps es own.remaining walk own.along part (edge_of start).a (λ t c. own.first.start.lowest t (own.within t c))).over_top_step
+  zero_over = (nothing_before_the_steps es own.remaining walk own.along part (edge_of start).a
+      (λ t c. own.first.start.lowest t (own.within t c))).over_top_step
       start own.first.start.among refl (λ t c. own.first.start.top t (own.within t c))
 
   -- so below its start it is not
   not_zero : ¬ (winding_beside (empty_hand on_left) es walk start ≡ pos 0)
   not_zero = not_both_zero on_left es walk start
-      ((winding_across_alternating_steps es own.remaining walk own.first.alternate own.within).rises own.contour.once start start_taken)
+      ((winding_across_alternating_steps es own.remaining walk own.first.alternate own.within).rises own.contour.once
+      start start_taken)
       (filled_over on_left es walk start (first_filled on_left walk hole) ∙ zero_over)
 
   -- and the edge at its anchor, below which it is 0, is not filled above
   pub empty_above_anchor : (e : Edge) → IsAnchor walk e → HasEmptyAbove on_left walk e
-  empty_above_anchor e anchored = record { step = step; among = among; along = along; empty = false_from_ne_true (is_filled_above on_left step) against }
+  empty_above_anchor e anchored = record {
+    step = step;
+    among = among;
+    along = along;
+    empty = false_from_ne_true (is_filled_above on_left step) against;
+  }
     where
       found : (t : Step) × Contains walk t × (edge_of t ≡ e)
       found = Contains-from_map edge_of walk e anchored.among
@@ -104,10 +126,12 @@ module _ (es : List CountedEdge) (on_left : Bool) (steps walk : List Step) (own 
       along = found.2
 
       zero_under : winding_under es walk (edge_of step) ≡ pos 0
-      zero_under = (nothing_before_the_steps es own.remaining walk own.along part e.a anchored.leftmost).under_lowest_step step (own.within step among)
+      zero_under = (nothing_before_the_steps es own.remaining walk own.along part e.a
+          anchored.leftmost).under_lowest_step step (own.within step among)
           (ap (λ f. f.a) along) (subst (λ (f : Edge). NoneTakenBelow walk e.a f) (sym along) anchored.lowest)
 
       against : ¬ (is_filled_above on_left step ≡ true)
       against filled = not_zero
-          (one_winding_along_orbits es own.remaining walk own.along own.first.alternate part (empty_hand on_left) walk orbit start step start_taken among
+          (one_winding_along_orbits es own.remaining walk own.along own.first.alternate part (empty_hand on_left) walk
+          orbit start step start_taken among
           ∙ empty_below on_left es walk step filled ∙ zero_under)

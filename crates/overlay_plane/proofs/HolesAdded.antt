@@ -1,5 +1,6 @@
 -- Shapes that begin with their outlines, to which the holes are added one by one.
-use Rattle.std.proofs.Common.{◌≡◌, ◌≢◌, ℕ, zero, suc, ◌+◌, ◌<◌, ◌≤◌, Bool, true, false, cond, not, ◌&&◌, ◌==◌, List, [], ◌∷◌, ◌++◌}
+use Rattle.std.proofs.Common.{◌≡◌, ◌≢◌, ℕ, zero, suc, ◌+◌, ◌<◌, ◌≤◌, Bool, true, false, cond, not, ◌&&◌, ◌==◌, List, []}
+use Rattle.std.proofs.Common.{◌∷◌, ◌++◌}
 use Rattle.std.proofs.Common.{map, length, set, get_or, refl, sym, ap, ap₂, ◌∙◌, subst, arith}
 use Rattle.std.specs.Prelude.{Some}
 use Rattle.std.specs.List.{AllZip, filter}
@@ -11,7 +12,8 @@ use Rattle.std.proofs.lemmas.Option.{slice_get_within}
 use Rattle.std.proofs.lemmas.Slice.Zip.{AllZip-long}
 use Rattle.overlay_geom.specs.Plane.{Point, Step, points_of}
 use Rattle.overlay_geom.specs.Thinned.{IsKeptOrThinned}
-use Rattle.overlay_plane.specs.Binding.{is_hole, outlines, BoundWalk, is_number, holes_of, shapes_begun, IsParentOf, direct, through}
+use Rattle.overlay_plane.specs.Binding.{is_hole, outlines, BoundWalk, is_number, holes_of, shapes_begun, IsParentOf}
+use Rattle.overlay_plane.specs.Binding.{direct, through}
 use Rattle.overlay_plane.specs.ShapeWindings.{points_of_shapes, AreKeptOrThinned}
 
 -- ---- outlines
@@ -35,31 +37,42 @@ pub hole_begins_none : (on_left : Bool) (ws : List (List Step)) (w : List Step) 
 hole_begins_none on_left ws w is = outlines_more on_left ws w true is ∙ append-nil (outlines on_left ws)
 
 -- an outline begins one
-pub outline_begins : (keep on_left : Bool) (ws : List (List Step)) (w : List Step) (shapes : List (List (List Point))) (c : List Point) →
+pub outline_begins : (keep on_left : Bool) (ws : List (List Step)) (w : List Step) (shapes : List (List (List Point)))
+    (c : List Point) →
     is_hole on_left w ≡ false → IsKeptOrThinned keep (points_of w) c →
     AreKeptOrThinned keep (points_of_shapes (shapes_begun on_left [] 0 (outlines on_left ws))) shapes →
-    AreKeptOrThinned keep (points_of_shapes (shapes_begun on_left [] 0 (outlines on_left (ws ++ w ∷ [])))) (shapes ++ (c ∷ []) ∷ [])
+    AreKeptOrThinned keep (points_of_shapes (shapes_begun on_left [] 0 (outlines on_left (ws ++ w ∷ []))))
+    (shapes ++ (c ∷ []) ∷ [])
 outline_begins keep on_left ws w shapes c is taken all =
-    subst (λ os. AreKeptOrThinned keep (points_of_shapes (shapes_begun on_left [] 0 os)) (shapes ++ (c ∷ []) ∷ [])) (sym (outlines_more on_left ws w false is))
-    (subst (λ ss. AreKeptOrThinned keep (points_of_shapes ss) (shapes ++ (c ∷ []) ∷ [])) (sym (begun_more on_left 0 (outlines on_left ws) w))
-    (subst (λ ps. AreKeptOrThinned keep ps (shapes ++ (c ∷ []) ∷ [])) (sym (map-append (map points_of) (shapes_begun on_left [] 0 (outlines on_left ws)) ((w ∷ []) ∷ [])))
-    (AllZip-push (AllZip (IsKeptOrThinned keep)) (points_of_shapes (shapes_begun on_left [] 0 (outlines on_left ws))) shapes (points_of w ∷ []) (c ∷ []) all (taken, tt))))
+    subst (λ os. AreKeptOrThinned keep (points_of_shapes (shapes_begun on_left [] 0 os)) (shapes ++ (c ∷ []) ∷ []))
+    (sym (outlines_more on_left ws w false is))
+    (subst (λ ss. AreKeptOrThinned keep (points_of_shapes ss) (shapes ++ (c ∷ []) ∷ []))
+    (sym (begun_more on_left 0 (outlines on_left ws) w))
+    (subst (λ ps. AreKeptOrThinned keep ps (shapes ++ (c ∷ []) ∷ []))
+    (sym (map-append (map points_of) (shapes_begun on_left [] 0 (outlines on_left ws)) ((w ∷ []) ∷ [])))
+    (AllZip-push (AllZip (IsKeptOrThinned keep)) (points_of_shapes (shapes_begun on_left [] 0 (outlines on_left ws)))
+    shapes (points_of w ∷ []) (c ∷ []) all (taken, tt))))
 
 -- ---- numbers
 
 -- the number of a hole's parent is that of an outline
-pub parent_is_counted : (on_left : Bool) (walks : List (List Step)) (hole : List Step) (n : ℕ) → IsParentOf on_left walks hole n →
+pub parent_is_counted : (on_left : Bool) (walks : List (List Step)) (hole : List Step) (n : ℕ) →
+    IsParentOf on_left walks hole n →
     n < length (outlines on_left walks)
-parent_is_counted on_left walks _ _ (direct {hole} {next} {n} below there) = slice_get_within (outlines on_left walks) n next there
-parent_is_counted on_left walks _ _ (through {hole} {next} {n} below is parent) = parent_is_counted on_left walks next n parent
+parent_is_counted on_left walks _ _ (direct {hole} {next} {n} below there) = slice_get_within (outlines on_left walks)
+    n next there
+parent_is_counted on_left walks _ _ (through {hole} {next} {n} below is parent) = parent_is_counted on_left walks
+    next n parent
 
 -- as many shapes are begun as there are outlines
-length-begun : (on_left : Bool) (bound : List BoundWalk) (n : ℕ) (os : List (List Step)) → length (shapes_begun on_left bound n os) ≡ length os
+length-begun : (on_left : Bool) (bound : List BoundWalk) (n : ℕ) (os : List (List Step)) →
+    length (shapes_begun on_left bound n os) ≡ length os
 length-begun on_left bound n [] = refl
 length-begun on_left bound n (o ∷ os) = ap suc (length-begun on_left bound (suc n) os)
 
 -- and so many are shown
-pub length-shown : (keep on_left : Bool) (bound : List BoundWalk) (os : List (List Step)) (shapes : List (List (List Point))) →
+pub length-shown : (keep on_left : Bool) (bound : List BoundWalk) (os : List (List Step))
+    (shapes : List (List (List Point))) →
     AreKeptOrThinned keep (points_of_shapes (shapes_begun on_left bound 0 os)) shapes → length shapes ≡ length os
 length-shown keep on_left bound os shapes all =
     AllZip-long (AllZip (IsKeptOrThinned keep)) (points_of_shapes (shapes_begun on_left bound 0 os)) shapes all
@@ -74,7 +87,8 @@ module _ (on_left : Bool) (bound : List BoundWalk) (b : BoundWalk) where
   stands_in n = is_hole on_left b.steps && is_number n b.shape
 
   -- the holes of the n-th shape with one walk more
-  holes_more : (n : ℕ) (t : Bool) → stands_in n ≡ t → holes_of on_left (bound ++ b ∷ []) n ≡ holes_of on_left bound n ++ cond t (b.steps ∷ []) []
+  holes_more : (n : ℕ) (t : Bool) → stands_in n ≡ t → holes_of on_left (bound ++ b ∷ []) n ≡ holes_of on_left bound n
+      ++ cond t (b.steps ∷ []) []
   holes_more n t is =
       ap (map (λ (c : BoundWalk). c.steps)) (filter-append stands bound (b ∷ []))
       ∙ map-append (λ (c : BoundWalk). c.steps) (filter stands bound) (filter stands (b ∷ []))
@@ -109,30 +123,38 @@ module _ (on_left : Bool) (bound : List BoundWalk) (b : BoundWalk) where
 
     -- and in no other one
     stands_elsewhere : (n : ℕ) → m ≢ n → stands_in n ≡ false
-    stands_elsewhere n apart = ap₂ (λ s t. s && t) hole (ap (is_number n) is ∙ false_from_ne_true (m == n) (λ e. apart ((Decides-eqb m n).0 e)))
+    stands_elsewhere n apart = ap₂ (λ s t. s && t) hole (ap (is_number n) is
+        ∙ false_from_ne_true (m == n) (λ e. apart ((Decides-eqb m n).0 e)))
 
     -- of the shapes from the n-th one on the hole is added to the m-th
-    added_from : (n k : ℕ) → m ≡ n + k → (os : List (List Step)) (shapes : List (List (List Point))) → k < length shapes →
+    added_from : (n k : ℕ) → m ≡ n + k → (os : List (List Step)) (shapes : List (List (List Point))) →
+        k < length shapes →
         AreKeptOrThinned keep (points_of_shapes (shapes_begun on_left bound n os)) shapes →
-        AreKeptOrThinned keep (points_of_shapes (shapes_begun on_left (bound ++ b ∷ []) n os)) (set shapes k (get_or shapes k [] ++ c ∷ []))
+        AreKeptOrThinned keep (points_of_shapes (shapes_begun on_left (bound ++ b ∷ []) n os))
+        (set shapes k (get_or shapes k [] ++ c ∷ []))
     added_from n k at [] [] inside all = absurd (elim inside [ ])
     added_from n k at [] (s ∷ ss) inside all = absurd all
     added_from n k at (o ∷ os) [] inside all = absurd all
     added_from n zero at (o ∷ os) (s ∷ ss) inside all = (
-      subst (λ hs. AllZip (IsKeptOrThinned keep) (map points_of (o ∷ hs)) (s ++ c ∷ [])) (sym (holes_more n true (stands_here n (omega arith))))
-          (subst (λ ps. AllZip (IsKeptOrThinned keep) ps (s ++ c ∷ [])) (sym (map-append points_of (o ∷ holes_of on_left bound n) (b.steps ∷ [])))
-          (AllZip-push (IsKeptOrThinned keep) (map points_of (o ∷ holes_of on_left bound n)) s (points_of b.steps) c all.0 taken)),
+      subst (λ hs. AllZip (IsKeptOrThinned keep) (map points_of (o ∷ hs)) (s ++ c ∷ []))
+          (sym (holes_more n true (stands_here n (omega arith))))
+          (subst (λ ps. AllZip (IsKeptOrThinned keep) ps (s ++ c ∷ []))
+          (sym (map-append points_of (o ∷ holes_of on_left bound n) (b.steps ∷ [])))
+          (AllZip-push (IsKeptOrThinned keep) (map points_of (o ∷ holes_of on_left bound n)) s (points_of b.steps) c
+          all.0 taken)),
       subst (λ rest. AreKeptOrThinned keep (points_of_shapes rest) ss)
           (sym (begun_left (suc n) os (λ k l. stands_elsewhere k (λ same. absurd (omega arith))))) all.1,
     )
     added_from n (suc k) at (o ∷ os) (s ∷ ss) inside all = (
       subst (λ hs. AllZip (IsKeptOrThinned keep) (map points_of (o ∷ hs)) s)
-          (sym (holes_more n false (stands_elsewhere n (λ same. absurd (omega arith))) ∙ append-nil (holes_of on_left bound n))) all.0,
+          (sym (holes_more n false (stands_elsewhere n (λ same. absurd (omega arith)))
+          ∙ append-nil (holes_of on_left bound n))) all.0,
       added_from (suc n) k (omega arith) os ss (omega arith) all.1,
     )
 
     -- the hole is added to the shape with its number
     pub hole_added : (os : List (List Step)) (shapes : List (List (List Point))) → m < length shapes →
         AreKeptOrThinned keep (points_of_shapes (shapes_begun on_left bound 0 os)) shapes →
-        AreKeptOrThinned keep (points_of_shapes (shapes_begun on_left (bound ++ b ∷ []) 0 os)) (set shapes m (get_or shapes m [] ++ c ∷ []))
+        AreKeptOrThinned keep (points_of_shapes (shapes_begun on_left (bound ++ b ∷ []) 0 os))
+        (set shapes m (get_or shapes m [] ++ c ∷ []))
     hole_added os shapes inside all = added_from 0 m (omega arith) os shapes inside all

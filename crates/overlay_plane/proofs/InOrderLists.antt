@@ -1,5 +1,6 @@
 -- A list put in order has the same entries and the same sums, and each entry stands in order to each later one.
-use Rattle.std.proofs.Common.{◌≡◌, ◌⊎◌, inl, inr, ⊎_elim, Bool, true, false, cond, ℤ, ◌+ℤ◌, List, [], ◌∷◌, Contains, refl, sym, ap, ◌∙◌, subst}
+use Rattle.std.proofs.Common.{◌≡◌, ◌⊎◌, inl, inr, ⊎_elim, Bool, true, false, cond, ℤ, ◌+ℤ◌, List, [], ◌∷◌, Contains}
+use Rattle.std.proofs.Common.{refl, sym, ap, ◌∙◌, subst}
 use Rattle.std.proofs.lemmas.Bool.{false≢true}
 use Rattle.overlay_geom.specs.Plane.{total}
 use Rattle.overlay_geom.proofs.Identities.{solve, ◌⊕◌, ◌≗◌}
@@ -28,11 +29,13 @@ module _ {X : Type 0} (lower : X → X → Bool) where
   Contains-insert x [] z c = Contains-cases x [] z c
   Contains-insert x (y ∷ ys) z c = by (lower x y) c (Contains-insert x ys z)
     where
-      by : (t : Bool) → Contains (cond t (x ∷ y ∷ ys) (y ∷ inserted lower x ys)) z → (Contains (inserted lower x ys) z → (x ≡ z) ⊎ Contains ys z) →
+      by : (t : Bool) → Contains (cond t (x ∷ y ∷ ys) (y ∷ inserted lower x ys)) z →
+          (Contains (inserted lower x ys) z → (x ≡ z) ⊎ Contains ys z) →
           (x ≡ z) ⊎ Contains (y ∷ ys) z
       by true c h = Contains-cases x (y ∷ ys) z c
       by false c h = ⊎_elim (λ e. inr (subst (λ u. Contains (y ∷ ys) u) e (Contains-head y ys)))
-          (λ later. ⊎_elim (λ e. inl e) (λ old. inr (Contains-later y ys z old)) (h later)) (Contains-cases y (inserted lower x ys) z c)
+          (λ later. ⊎_elim (λ e. inl e) (λ old. inr (Contains-later y ys z old)) (h later))
+          (Contains-cases y (inserted lower x ys) z c)
 
   -- put in order, a list has no further entries
   pub Contains-in_order : (xs : List X) (z : X) → Contains (in_order lower xs) z → Contains xs z
@@ -48,30 +51,40 @@ module _ {X : Type 0} (lower : X → X → Bool) where
   abbrev pub Ordered : X → X → Type 0
   Ordered x y = (lower x y ≡ true) ⊎ (lower y x ≡ true)
 
-  module _ (Good : X → Type 0) (transitive : (x y z : X) → Good x → Good y → Good z → lower x y ≡ true → lower y z ≡ true → lower x z ≡ true) where
+  module _ (Good : X → Type 0) (transitive : (x y z : X) → Good x → Good y → Good z → lower x y ≡ true →
+      lower y z ≡ true → lower x z ≡ true) where
     -- an insertion keeps the strict order
-    insert_keeps_order : (x : X) (ys : List X) → Good x → ((z : X) → Contains ys z → Good z) → ((z : X) → Contains ys z → Ordered x z) →
+    insert_keeps_order : (x : X) (ys : List X) → Good x → ((z : X) → Contains ys z → Good z) →
+        ((z : X) → Contains ys z → Ordered x z) →
         Each Before ys → Each Before (inserted lower x ys)
     insert_keeps_order x [] gx good ordered h = ((λ z c. elim c.1 [ ]), tt)
     insert_keeps_order x (y ∷ ys) gx good ordered h = by (lower x y) refl
-        (insert_keeps_order x ys gx (λ z c. good z (Contains-later y ys z c)) (λ z c. ordered z (Contains-later y ys z c)) h.1)
+        (insert_keeps_order x ys gx (λ z c. good z (Contains-later y ys z c))
+        (λ z c. ordered z (Contains-later y ys z c)) h.1)
       where
-        by : (t : Bool) → lower x y ≡ t → Each Before (inserted lower x ys) → Each Before (cond t (x ∷ y ∷ ys) (y ∷ inserted lower x ys))
+        by : (t : Bool) → lower x y ≡ t → Each Before (inserted lower x ys) →
+            Each Before (cond t (x ∷ y ∷ ys) (y ∷ inserted lower x ys))
         by true e rest = (
           (λ z c. ⊎_elim (λ is. subst (λ u. lower x u ≡ true) is e)
-              (λ later. transitive x y z gx (good y (Contains-head y ys)) (good z (Contains-later y ys z later)) e (h.0 z later)) (Contains-cases y ys z c)),
+              (λ later. transitive x y z gx (good y (Contains-head y ys)) (good z (Contains-later y ys z later)) e
+              (h.0 z later)) (Contains-cases y ys z c)),
           h,
         )
-        by false e rest = ((λ z c. ⊎_elim (λ is. subst (λ u. lower y u ≡ true) is first) (λ old. h.0 z old) (Contains-insert x ys z c)), rest)
+        by false e rest = (
+          (λ z c. ⊎_elim (λ is. subst (λ u. lower y u ≡ true) is first) (λ old. h.0 z old) (Contains-insert x ys z c)),
+          rest,
+        )
           where
             first : lower y x ≡ true
             first = ⊎_elim (λ t. absurd (false≢true (sym e ∙ t))) (λ t. t) (ordered y (Contains-head y ys))
 
     -- where the order is total on the list, the list put in order ascends
-    pub Each-in_order : (xs : List X) → ((z : X) → Contains xs z → Good z) → Each Ordered xs → Each Before (in_order lower xs)
+    pub Each-in_order : (xs : List X) → ((z : X) → Contains xs z → Good z) → Each Ordered xs →
+        Each Before (in_order lower xs)
     Each-in_order [] good ordered = tt
     Each-in_order (x ∷ xs) good ordered = insert_keeps_order x (in_order lower xs) (good x (Contains-head x xs))
-        (λ z c. good z (Contains-later x xs z (Contains-in_order xs z c))) (λ z c. ordered.0 z (Contains-in_order xs z c))
+        (λ z c. good z (Contains-later x xs z (Contains-in_order xs z c)))
+        (λ z c. ordered.0 z (Contains-in_order xs z c))
         (Each-in_order xs (λ z c. good z (Contains-later x xs z c)) ordered.1)
 
 -- ---- where several entries may tie
@@ -91,9 +104,11 @@ module _ {X : Type 0} (lower : X → X → Bool) where
   contains_past_inserted x [] z c = elim c.1 [ ]
   contains_past_inserted x (y ∷ ys) z c = by (lower x y) (contains_past_inserted x ys z)
     where
-      by : (t : Bool) → (Contains ys z → Contains (inserted lower x ys) z) → Contains (cond t (x ∷ y ∷ ys) (y ∷ inserted lower x ys)) z
+      by : (t : Bool) → (Contains ys z → Contains (inserted lower x ys) z) →
+          Contains (cond t (x ∷ y ∷ ys) (y ∷ inserted lower x ys)) z
       by true h = Contains-later x (y ∷ ys) z c
-      by false h = ⊎_elim (λ e. subst (λ u. Contains (y ∷ inserted lower x ys) u) e (Contains-head y (inserted lower x ys)))
+      by false h = ⊎_elim (λ e. subst (λ u. Contains (y ∷ inserted lower x ys) u) e
+          (Contains-head y (inserted lower x ys)))
           (λ later. Contains-later y (inserted lower x ys) z (h later)) (Contains-cases y ys z c)
 
   -- put in order, a list keeps its entries
@@ -101,7 +116,8 @@ module _ {X : Type 0} (lower : X → X → Bool) where
   Contains-put_in_order [] z c = c
   Contains-put_in_order (x ∷ xs) z c = ⊎_elim
       (λ e. subst (λ u. Contains (in_order lower (x ∷ xs)) u) e (contains_inserted x (in_order lower xs)))
-      (λ later. contains_past_inserted x (in_order lower xs) z (Contains-put_in_order xs z later)) (Contains-cases x xs z c)
+      (λ later. contains_past_inserted x (in_order lower xs) z (Contains-put_in_order xs z later))
+      (Contains-cases x xs z c)
 
   -- R is a weak order in which x and y stand where x is lower, and y and x where not
   pub record IsWeakOrder (R : X → X → Type 0) : Type 0 where
@@ -115,13 +131,18 @@ module _ {X : Type 0} (lower : X → X → Bool) where
     insert_keeps_weak_order x [] h = ((λ z c. elim c.1 [ ]), tt)
     insert_keeps_weak_order x (y ∷ ys) h = by (lower x y) refl (insert_keeps_weak_order x ys h.1)
       where
-        by : (t : Bool) → lower x y ≡ t → Each R (inserted lower x ys) → Each R (cond t (x ∷ y ∷ ys) (y ∷ inserted lower x ys))
+        by : (t : Bool) → lower x y ≡ t → Each R (inserted lower x ys) →
+            Each R (cond t (x ∷ y ∷ ys) (y ∷ inserted lower x ys))
         by true e rest = (
           (λ z c. ⊎_elim (λ is. subst (λ u. R x u) is (order.passed x y e))
               (λ later. order.transitive x y z (order.passed x y e) (h.0 z later)) (Contains-cases y ys z c)),
           h,
         )
-        by false e rest = ((λ z c. ⊎_elim (λ is. subst (λ u. R y u) is (order.failed x y e)) (λ old. h.0 z old) (Contains-insert lower x ys z c)), rest)
+        by false e rest = (
+          (λ z c. ⊎_elim (λ is. subst (λ u. R y u) is (order.failed x y e)) (λ old. h.0 z old)
+              (Contains-insert lower x ys z c)),
+          rest,
+        )
 
     -- put in order, each entry is in weak order with each later one
     pub Each-in_weak_order : (xs : List X) → Each R (in_order lower xs)

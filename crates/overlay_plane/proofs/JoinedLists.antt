@@ -1,4 +1,5 @@
--- Sums over lists that are joined, mapped, or made of one part for each entry, sums of multiples, and multiples that are taken or not.
+-- Sums over lists that are joined, mapped, or made of one part for each entry, sums of multiples, and multiples that
+-- are taken or not.
 use Rattle.std.proofs.Common.{◌≡◌, Bool, true, false, cond, ℤ, pos, ◌+ℤ◌, ◌*ℤ◌, List, [], ◌∷◌, map, refl, sym, ap, ◌∙◌}
 use Rattle.std.specs.List.{flat_map}
 use lib.IntN.{*ℤ_comm, *ℤ-zero}
@@ -12,9 +13,11 @@ total-map f h [] = refl
 total-map f h (x ∷ xs) = ap (λ z. f (h x) +ℤ z) (total-map f h xs)
 
 -- a list made of parts adds up the parts
-pub total-flat_map : {X Y : Type 0} (f : Y → ℤ) (h : X → List Y) (xs : List X) → total f (flat_map h xs) ≡ total (λ x. total f (h x)) xs
+pub total-flat_map : {X Y : Type 0} (f : Y → ℤ) (h : X → List Y) (xs : List X) →
+    total f (flat_map h xs) ≡ total (λ x. total f (h x)) xs
 total-flat_map f h [] = refl
-total-flat_map f h (x ∷ xs) = total-append f (h x) (flat_map h xs) ∙ ap (λ z. total f (h x) +ℤ z) (total-flat_map f h xs)
+total-flat_map f h (x ∷ xs) = total-append f (h x) (flat_map h xs)
+    ∙ ap (λ z. total f (h x) +ℤ z) (total-flat_map f h xs)
 
 -- multiples add up to the multiple
 pub total-times : {X : Type 0} (k : ℤ) (f : X → ℤ) (xs : List X) → total (λ x. k *ℤ f x) xs ≡ k *ℤ total f xs

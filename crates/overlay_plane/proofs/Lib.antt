@@ -7,6 +7,7 @@ pub mod Anchors
 pub mod AnchorsLeadOn
 pub mod Areas
 pub mod AtNodes
+pub mod BalancedSigns
 pub mod BalancedSteps
 pub mod BeforeTheSteps
 pub mod BelowAnchors
@@ -24,6 +25,7 @@ pub mod CommonPoints
 pub mod ContourSteps
 pub mod Crossing
 pub mod CrossingPoints
+pub mod CutByOneHand
 pub mod CutChains
 pub mod CutLists
 pub mod CutOnLines
@@ -39,6 +41,7 @@ pub mod EdgeMarks
 pub mod EdgeOrder
 pub mod EdgeTurns
 pub mod EdgesOfSteps
+pub mod EdgesTell
 pub mod Ends
 pub mod Entries
 pub mod ExactRounds
@@ -46,11 +49,18 @@ pub mod FilledEdges
 pub mod FoundEntries
 pub mod GreatestBelow
 pub mod GreatestTaken
+pub mod GroupSteps
+pub mod GroupedCuts
+pub mod GroupedWalks
 pub mod HeldChains
+pub mod HoleGroups
 pub mod HoleParents
 pub mod HoleWindings
 pub mod HolesAdded
 pub mod InOrderLists
+pub mod InnerPoints
+pub mod InsideGroups
+pub mod InsideOneGroup
 pub mod ItemsRound
 pub mod JoinedLists
 pub mod KeepingBalance
@@ -73,6 +83,7 @@ pub mod MeetingsOf
 pub mod MetInBox
 pub mod Mixtures
 pub mod MovedPoints
+pub mod NearAbove
 pub mod NearAbscissas
 pub mod NearBetween
 pub mod NearChains
@@ -98,6 +109,7 @@ pub mod PieceWeights
 pub mod Pigeonhole
 pub mod Placements
 pub mod PointsAlong
+pub mod ReachedEdges
 pub mod RegionBelow
 pub mod ResultWindings
 pub mod RisesOver
@@ -117,6 +129,7 @@ pub mod ShapeNumbers
 pub mod ShapeSteps
 pub mod ShapeWalks
 pub mod SharedCrossings
+pub mod SharedEnds
 pub mod ShuffledCuts
 pub mod ShuffledPairs
 pub mod ShuffledSteps
@@ -133,6 +146,7 @@ pub mod SpokeWindings
 pub mod StepTotals
 pub mod StepsAlong
 pub mod StraightOn
+pub mod Stretches
 pub mod Strip
 pub mod Telescopes
 pub mod Tests

@@ -1,4 +1,5 @@
--- Edges along one line: what lies on the line of the one lies on that of the other, and they have no one common point inside both.
+-- Edges along one line: what lies on the line of the one lies on that of the other, and they have no one common point
+-- inside both.
 use Rattle.std.proofs.Common.{◌≡◌, inl, pos, ◌-ℤ◌, ◌*ℤ◌, ◌<ℤ◌, ◌≤ℤ◌, sym, ◌∙◌}
 use Rattle.std.proofs.lemmas.Int.{by_lt_z}
 use Rattle.overlay_geom.specs.Plane.{Point, PlanePoint, Edge, IsOn, IsEnd, SamePlace, in_plane, side, cross_at}
@@ -40,9 +41,11 @@ on_line_of e f p forward (along_a, along_b) on_line = by_lt_z f.a.x f.b.x wide u
         zero_of_mul-zero (f.b.y -ℤ f.a.y) (side e p) (omega linear) (omega linear)
 
 -- and so is each whole point of it
-pub whole_on_line_of : (e f : Edge) (v : Point) → IsBefore f.a f.b → IsAlong e f → cross_at f.a f.b v ≡ pos 0 → cross_at e.a e.b v ≡ pos 0
+pub whole_on_line_of : (e f : Edge) (v : Point) → IsBefore f.a f.b → IsAlong e f → cross_at f.a f.b v ≡ pos 0 →
+    cross_at e.a e.b v ≡ pos 0
 whole_on_line_of e f v forward along on_line =
-    let f_line : side f (in_plane v) ≡ pos 0 = side_at f v (in_plane v) (at_itself v) ∙ mul-zero (pos 1) (cross_at f.a f.b v) on_line in
+    let f_line : side f (in_plane v) ≡ pos 0 = side_at f v (in_plane v) (at_itself v)
+    ∙ mul-zero (pos 1) (cross_at f.a f.b v) on_line in
     zero_of_mul-zero (pos 1) (cross_at e.a e.b v) (record { lt = tt })
     (sym (side_at e v (in_plane v) (at_itself v)) ∙ on_line_of e f (in_plane v) forward along f_line)
 
@@ -53,23 +56,30 @@ along_through e f k forward f_along k_along =
     (whole_on_line_of k e f.a forward back f_along.0, whole_on_line_of k e f.b forward back f_along.1)
 
 -- an edge that holds both ends of another one has its points on it
-pub on_holder : (e g : Edge) (p : PlanePoint) → IsBefore e.a e.b → IsBefore g.a g.b → IsHeldBy e g.a → IsHeldBy e g.b → IsOn g p → IsOn e p
+pub on_holder : (e g : Edge) (p : PlanePoint) → IsBefore e.a e.b → IsBefore g.a g.b → IsHeldBy e g.a → IsHeldBy e g.b →
+    IsOn g p → IsOn e p
 on_holder e g p e_forward g_forward start end on =
     on_of_order e p e_forward (on_line_of e g p g_forward (start.on_line, end.on_line) on.on_line)
-    (up_to_through (over e.a p.d) (over g.a p.d) (place_of p) (over_up_to e.a g.a p.d p.positive start.from) (order_of_on g p g_forward on).0)
-    (up_to_through (place_of p) (over g.b p.d) (over e.b p.d) (order_of_on g p g_forward on).1 (over_up_to g.b e.b p.d p.positive end.to))
+    (up_to_through (over e.a p.d) (over g.a p.d) (place_of p) (over_up_to e.a g.a p.d p.positive start.from)
+    (order_of_on g p g_forward on).0)
+    (up_to_through (place_of p) (over g.b p.d) (over e.b p.d) (order_of_on g p g_forward on).1
+    (over_up_to g.b e.b p.d p.positive end.to))
 
 -- whole points on both sides of a point of the plane are in order
-up_to_by_place : (u v : Point) (p : PlanePoint) → IsUpTo (over u p.d) (place_of p) → IsUpTo (place_of p) (over v p.d) → IsUpTo u v
-up_to_by_place u v p from to = up_to_of_over u v p.d p.positive (up_to_through (over u p.d) (place_of p) (over v p.d) from to)
+up_to_by_place : (u v : Point) (p : PlanePoint) → IsUpTo (over u p.d) (place_of p) → IsUpTo (place_of p) (over v p.d) →
+    IsUpTo u v
+up_to_by_place u v p from to = up_to_of_over u v p.d p.positive
+    (up_to_through (over u p.d) (place_of p) (over v p.d) from to)
 
 -- of two edges with a common point, each starts up to the end of the other one
-pub starts_up_to_end : (f k : Edge) (p : PlanePoint) → IsBefore f.a f.b → IsBefore k.a k.b → IsCommon f k p → IsUpTo f.a k.b
+pub starts_up_to_end : (f k : Edge) (p : PlanePoint) → IsBefore f.a f.b → IsBefore k.a k.b → IsCommon f k p →
+    IsUpTo f.a k.b
 starts_up_to_end f k p f_forward k_forward (on_f, on_k) =
     up_to_by_place f.a k.b p (order_of_on f p f_forward on_f).0 (order_of_on k p k_forward on_k).1
 
 -- a smaller end of one edge that is on another one, along it, is common
-later_start_common : (f k : Edge) (p : PlanePoint) → IsBefore f.a f.b → IsBefore k.a k.b → IsAlong f k → IsCommon f k p → IsUpTo f.a k.a →
+later_start_common : (f k : Edge) (p : PlanePoint) → IsBefore f.a f.b → IsBefore k.a k.b → IsAlong f k →
+    IsCommon f k p → IsUpTo f.a k.a →
     IsCommon f k (in_plane k.a)
 later_start_common f k p f_forward k_forward along common later = (
   on_of_held f k.a (in_plane k.a) f_forward (at_itself k.a) (record {
@@ -81,11 +91,13 @@ later_start_common f k p f_forward k_forward along common later = (
 )
 
 -- two edges along one line have one common point alone only where it is an end of one of them
-pub only_common_is_end : (f k : Edge) (p : PlanePoint) → IsBefore f.a f.b → IsBefore k.a k.b → IsAlong f k → IsCommon f k p →
+pub only_common_is_end : (f k : Edge) (p : PlanePoint) → IsBefore f.a f.b → IsBefore k.a k.b → IsAlong f k →
+    IsCommon f k p →
     ((q : PlanePoint) → IsCommon f k q → SamePlace q p) → ¬ (IsEnd f p) → ¬ (IsEnd k p) → ⊥
 only_common_is_end f k p f_forward k_forward along common only no_end_f no_end_k = by_order f.a k.a
     (λ up. let also = later_start_common f k p f_forward k_forward along common up in
     no_end_k (inl (at_moved k.a (in_plane k.a) p (only (in_plane k.a) also) (at_itself k.a))))
-    (λ before. let also = later_start_common k f p k_forward f_forward (along_exchanged f k f_forward along) (common.1, common.0)
+    (λ before. let also = later_start_common k f p k_forward f_forward (along_exchanged f k f_forward along)
+    (common.1, common.0)
     (before_up_to k.a f.a before) in
     no_end_f (inl (at_moved f.a (in_plane f.a) p (only (in_plane f.a) (also.1, also.0)) (at_itself f.a))))

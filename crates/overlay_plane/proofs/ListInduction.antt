@@ -1,11 +1,13 @@
 -- Induction along a strict order on the entries of a list: before an entry come fewer entries than before one after it.
-use Rattle.std.proofs.Common.{◌≡◌, ⊎_elim, ℕ, zero, suc, ◌<◌, ◌≤◌, Bool, true, false, cond, List, [], ◌∷◌, length, Contains, refl, sym, subst, arith}
+use Rattle.std.proofs.Common.{◌≡◌, ⊎_elim, ℕ, zero, suc, ◌<◌, ◌≤◌, Bool, true, false, cond, List, [], ◌∷◌, length}
+use Rattle.std.proofs.Common.{Contains, refl, sym, subst, arith}
 use Rattle.std.specs.List.{filter}
 use Rattle.std.proofs.lemmas.Bool.{false≢true}
 use Rattle.overlay_plane.proofs.LaterEntries.{Contains-cases}
 
 -- where each entry that passes one test passes another, no more pass the one
-no_more_pass : {X : Type 0} (p q : X → Bool) (xs : List X) → ((x : X) → p x ≡ true → q x ≡ true) → length (filter p xs) ≤ length (filter q xs)
+no_more_pass : {X : Type 0} (p q : X → Bool) (xs : List X) → ((x : X) → p x ≡ true → q x ≡ true) →
+    length (filter p xs) ≤ length (filter q xs)
 no_more_pass p q [] h = omega arith
 no_more_pass {X} p q (x ∷ xs) h = by (p x) (q x) (h x) (no_more_pass p q xs h)
   where
@@ -17,11 +19,13 @@ no_more_pass {X} p q (x ∷ xs) h = by (p x) (q x) (h x) (no_more_pass p q xs h)
     by false false also rest = rest
 
 -- and where an entry passes the other test alone, fewer pass the one
-fewer_pass : {X : Type 0} (p q : X → Bool) (xs : List X) → ((x : X) → p x ≡ true → q x ≡ true) → (x : X) → Contains xs x → p x ≡ false → q x ≡ true →
+fewer_pass : {X : Type 0} (p q : X → Bool) (xs : List X) → ((x : X) → p x ≡ true → q x ≡ true) →
+    (x : X) → Contains xs x → p x ≡ false → q x ≡ true →
     length (filter p xs) < length (filter q xs)
 fewer_pass p q [] h x c failed passed = elim c.1 [ ]
 fewer_pass {X} p q (y ∷ ys) h x c failed passed = ⊎_elim
-    (λ is. here (p y) (q y) (subst (λ z. p z ≡ false) (sym is) failed) (subst (λ z. q z ≡ true) (sym is) passed) (no_more_pass p q ys h))
+    (λ is. here (p y) (q y) (subst (λ z. p z ≡ false) (sym is) failed) (subst (λ z. q z ≡ true) (sym is) passed)
+    (no_more_pass p q ys h))
     (λ later. there (p y) (q y) (h y) (fewer_pass p q ys h x later failed passed))
     (Contains-cases y ys x c)
   where
@@ -45,7 +49,8 @@ module _ {X : Type 0} (lower : X → X → Bool) (irreflexive : (x : X) → lowe
   below_many : (n : ℕ) (y : X) → length (filter (λ z. lower z y) xs) < n → P y
   below_many zero y few = absurd (omega arith)
   below_many (suc n) y few = step y (λ x c less. below_many n x
-      (let fewer = fewer_pass (λ z. lower z x) (λ z. lower z y) xs (λ z lower_still. transitive z x y lower_still less) x c (irreflexive x) less in
+      (let fewer = fewer_pass (λ z. lower z x) (λ z. lower z y) xs (λ z lower_still. transitive z x y lower_still less)
+      x c (irreflexive x) less in
       omega arith))
 
   -- and so it holds of all

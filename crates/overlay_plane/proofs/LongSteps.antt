@@ -1,4 +1,5 @@
--- A step between two points walks along an edge that leads forward; so among such steps there is the start of a walk, and their anchor.
+-- A step between two points walks along an edge that leads forward; so among such steps there is the start of a walk,
+-- and their anchor.
 use Rattle.std.proofs.Common.{◌≡◌, Bool, true, false, List, Contains, refl, sym, ◌∙◌, subst}
 use Rattle.std.proofs.lemmas.Bool.{both_ways, false_from_ne_true}
 use Rattle.overlay_geom.specs.Plane.{Point, Step, Edge, point_lt, point_eq, is_forward, edge_of}
@@ -13,7 +14,8 @@ use Rattle.overlay_plane.proofs.LeastSteps.{leads_forward, start_before, leftmos
 
 -- of two different points, the one that is not smaller is larger
 pub larger_otherwise : (p q : Point) → ¬ (p ≡ q) → point_lt p q ≡ false → point_lt q p ≡ true
-larger_otherwise p q apart = point_lt-back p q (false_from_ne_true (point_eq p q) (λ same. apart (point_eq-same p q same)))
+larger_otherwise p q apart = point_lt-back p q
+    (false_from_ne_true (point_eq p q) (λ same. apart (point_eq-same p q same)))
 
 -- the edge of a step between two points leads forward
 pub long_leads_forward : (s : Step) → ¬ (s.from ≡ s.to) → leads_forward s ≡ true
@@ -24,9 +26,12 @@ long_leads_forward s long = by (is_forward s) refl
     by false e = larger_otherwise s.from s.to long e
 
 module _ (steps : List Step) (long : (s : Step) → Contains steps s → ¬ (s.from ≡ s.to)) where
-  -- a step of which tests tell that its edge starts in a least point, and is the top one of those that start there, is the start
-  pub start_from_tests : (s : Step) → Contains steps s → ((t : Step) → Contains steps t → point_lt (edge_of t).a (edge_of s).a ≡ false) →
-      ((t : Step) → Contains steps t → (edge_of t).a ≡ (edge_of s).a → turns_left (edge_of s) (edge_of t) ≡ false) → IsStart steps s
+  -- a step of which tests tell that its edge starts in a least point, and is the top one of those that start there, is
+  -- the start
+  pub start_from_tests : (s : Step) → Contains steps s →
+      ((t : Step) → Contains steps t → point_lt (edge_of t).a (edge_of s).a ≡ false) →
+      ((t : Step) → Contains steps t → (edge_of t).a ≡ (edge_of s).a → turns_left (edge_of s) (edge_of t) ≡ false) →
+      IsStart steps s
   start_from_tests s c lowest top = record {
     among = c;
     lowest = λ t at before. both_ways (point_lt (edge_of t).a (edge_of s).a) (lowest t at)

@@ -1,5 +1,7 @@
--- Of two edges over an abscissa, the one that is lower there, by height and then by slope, is under the other just right of it.
-use Rattle.std.proofs.Common.{◌≡◌, inl, inr, true, false, ◌&&◌, ◌||◌, ℤ, pos, ◌+ℤ◌, ◌<ℤ◌, int_lt, sym, ap, ap₂, ◌∙◌, subst, arith}
+-- Of two edges over an abscissa, the one that is lower there, by height and then by slope, is under the other just
+-- right of it.
+use Rattle.std.proofs.Common.{◌≡◌, inl, inr, true, false, ◌&&◌, ◌||◌, ℤ, pos, ◌+ℤ◌, ◌<ℤ◌, int_lt, sym, ap, ap₂, ◌∙◌}
+use Rattle.std.proofs.Common.{subst, arith}
 use Rattle.std.proofs.lemmas.Int.{ints, by_lt_z}
 use Rattle.std.proofs.lemmas.Bool.Decides.{Decides-int_eq}
 use Rattle.std.proofs.lemmas.Bool.{false_from_ne_true}
@@ -24,20 +26,24 @@ use Rattle.overlay_plane.proofs.WhereEdgesStart.{covers_spans}
 
 -- where the heights are one, the slopes decide
 lower_level : (f g : Edge) (x : ℤ) → gap f g x (pos 1) ≡ pos 0 → is_lower_at x f g ≡ turns_left f g
-lower_level f g x level = ap₂ (λ s t. s || (t && turns_left f g)) (test_from_ge (pos 0) (gap f g x (pos 1)) (omega linear))
+lower_level f g x level = ap₂ (λ s t. s || (t && turns_left f g))
+    (test_from_ge (pos 0) (gap f g x (pos 1)) (omega linear))
     ((Decides-int_eq (gap f g x (pos 1)) (pos 0)).1 level)
 
 -- where they are not, the heights do
-lower_apart : (f g : Edge) (x : ℤ) → ¬ (gap f g x (pos 1) ≡ pos 0) → is_lower_at x f g ≡ int_lt (pos 0) (gap f g x (pos 1))
+lower_apart : (f g : Edge) (x : ℤ) → ¬ (gap f g x (pos 1) ≡ pos 0) →
+    is_lower_at x f g ≡ int_lt (pos 0) (gap f g x (pos 1))
 lower_apart f g x off = ap (λ t. int_lt (pos 0) (gap f g x (pos 1)) || (t && turns_left f g))
-    (false_from_ne_true (int_eq (gap f g x (pos 1)) (pos 0)) (λ same. off ((Decides-int_eq (gap f g x (pos 1)) (pos 0)).0 same)))
+    (false_from_ne_true (int_eq (gap f g x (pos 1)) (pos 0))
+    (λ same. off ((Decides-int_eq (gap f g x (pos 1)) (pos 0)).0 same)))
     ∙ or_false (int_lt (pos 0) (gap f g x (pos 1)))
 
 -- no edge is lower than itself
 lower_irreflexive : (f : Edge) (x : ℤ) → is_lower_at x f f ≡ false
 lower_irreflexive f x = lower_level f f x (gap-same f x (pos 1)) ∙ ap (λ z. int_lt (pos 0) z) (edge_turn_same f)
 
-module _ (f g : Edge) (meet : MeetInEnds g f) (x : ℤ) (over_f : covers f x (pos 1) ≡ true) (over_g : covers g x (pos 1) ≡ true) where
+module _ (f g : Edge) (meet : MeetInEnds g f) (x : ℤ) (over_f : covers f x (pos 1) ≡ true)
+    (over_g : covers g x (pos 1) ≡ true) where
   -- neither edge is vertical
   wide_f : pos 0 <ℤ width f
   wide_f = covers_wide f x (pos 1) (record { lt = tt }) over_f
@@ -49,30 +55,37 @@ module _ (f g : Edge) (meet : MeetInEnds g f) (x : ℤ) (over_f : covers f x (po
   level_at_start : gap f g x (pos 1) ≡ pos 0 → g.a.x ≡ x
   level_at_start level = by_lt_z g.a.x x
       (λ lt. absurd (apart_inside f g x (pos 1) (record { lt = tt }) wide_f wide_g meet
-      (record { after = omega (arith, ints); before = covers_to g x (pos 1) over_g }) (covers_spans f x (pos 1) over_f) level))
+      (record { after = omega (arith, ints); before = covers_to g x (pos 1) over_g })
+      (covers_spans f x (pos 1) over_f) level))
       (λ ge. let l = covers_from g x (pos 1) over_g in omega (arith, ints))
 
   -- so the slopes decide beside it
   level_under : gap f g x (pos 1) ≡ pos 0 → is_lower_at x f g ≡ is_under f g x (pos 1)
   level_under level = lower_level f g x level
-      ∙ subst (λ (z : ℤ). turns_left f g ≡ is_under f g z (pos 1)) (level_at_start level) ((under_beside_a_node g f).start (sym starts))
+      ∙ subst (λ (z : ℤ). turns_left f g ≡ is_under f g z (pos 1)) (level_at_start level)
+      ((under_beside_a_node g f).start (sym starts))
     where
       starts : g.a ≡ f.a
-      starts = same_starts f g x (pos 1) (record { lt = tt }) wide_f wide_g meet (covers_spans g x (pos 1) over_g) (covers_spans f x (pos 1) over_f) level
+      starts = same_starts f g x (pos 1) (record { lt = tt }) wide_f wide_g meet (covers_spans g x (pos 1) over_g)
+          (covers_spans f x (pos 1) over_f) level
           (covers_to g x (pos 1) over_g) (covers_to f x (pos 1) over_f)
 
   -- and elsewhere the heights do
   apart_under : ¬ (gap f g x (pos 1) ≡ pos 0) → is_lower_at x f g ≡ is_under f g x (pos 1)
   apart_under off = lower_apart f g x off
-      ∙ sym (near_same f g x (pos 1) (x +ℤ x +ℤ pos 1) (pos 1 +ℤ pos 1) wide_f wide_g meet (record { lt = tt }) (covers_spans g x (pos 1) over_g) (covers_spans f x (pos 1) over_f)
-      (shared_just_right f g x (pos 1) (record { lt = tt }) over_f over_g) (shared_just_right g f x (pos 1) (record { lt = tt }) over_g over_f) off)
+      ∙ sym (near_same f g x (pos 1) (x +ℤ x +ℤ pos 1) (pos 1 +ℤ pos 1) wide_f wide_g meet (record { lt = tt })
+      (covers_spans g x (pos 1) over_g) (covers_spans f x (pos 1) over_f)
+      (shared_just_right f g x (pos 1) (record { lt = tt }) over_f over_g)
+      (shared_just_right g f x (pos 1) (record { lt = tt }) over_g over_f) off)
 
   -- either way, lower is under
   lower_under : is_lower_at x f g ≡ is_under f g x (pos 1)
-  lower_under = by_sign (gap f g x (pos 1)) (λ low. apart_under (λ level. omega linear)) level_under (λ high. apart_under (λ level. omega linear))
+  lower_under = by_sign (gap f g x (pos 1)) (λ low. apart_under (λ level. omega linear)) level_under
+      (λ high. apart_under (λ level. omega linear))
 
 -- for two edges that are one, or meet in ends alone
 pub lower_at_is_under : LowerAtIsUnder
-lower_at_is_under f g (inl same) x over_f over_g = subst (λ (h : Edge). is_lower_at x f h ≡ is_under f h x (pos 1)) (edge_eq-same f g same)
+lower_at_is_under f g (inl same) x over_f over_g = subst (λ (h : Edge). is_lower_at x f h ≡ is_under f h x (pos 1))
+    (edge_eq-same f g same)
     (lower_irreflexive f x ∙ sym (under_irreflexive f x (pos 1)))
 lower_at_is_under f g (inr meet) x over_f over_g = lower_under f g (meet_in_ends_exchanged g f meet) x over_f over_g

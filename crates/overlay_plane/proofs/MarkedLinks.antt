@@ -1,9 +1,11 @@
--- The marks that the links of chains are given, through cutting rounds: the held links of the edges' chains make the marks of what the
--- rounds leave, and a dropped link is of an edge without marks.
-use Rattle.std.proofs.Common.{◌≡◌, ⊎_elim, inl, inr, Bool, true, false, cond, not, List, [], ◌∷◌, ◌++◌, Contains, refl, sym, ap, ◌∙◌, subst}
+-- The marks that the links of chains are given, through cutting rounds: the held links of the edges' chains make the
+-- marks of what the rounds leave, and a dropped link is of an edge without marks.
+use Rattle.std.proofs.Common.{◌≡◌, ⊎_elim, inl, inr, Bool, true, false, cond, not, List, [], ◌∷◌, ◌++◌, Contains, refl}
+use Rattle.std.proofs.Common.{sym, ap, ◌∙◌, subst}
 use Rattle.std.specs.Prelude.{Option, Some, None, find, map, flat_map}
 use Rattle.std.proofs.lemmas.Bool.{both_ways, false≢true, false_from_ne_true}
-use Rattle.std.proofs.lemmas.List.Elements.{All-contains, Contains-append_left, Contains-append_right, Contains-append_cases}
+use Rattle.std.proofs.lemmas.List.Elements.{All-contains, Contains-append_left, Contains-append_right}
+use Rattle.std.proofs.lemmas.List.Elements.{Contains-append_cases}
 use Rattle.overlay_geom.specs.Plane.{Step, Edge, edge_eq, is_forward, edge_of, reversed_step, backward}
 use Rattle.overlay_geom.specs.Edges.{CountedEdge, ends_of}
 use Rattle.overlay_geom.specs.Merged.{IsMerged}
@@ -13,7 +15,8 @@ use Rattle.overlay_plane.specs.ChainLinks.ChainLink.{held, dropped}
 use Rattle.overlay_plane.specs.Cutting.{piece_along, pieces_through}
 use Rattle.overlay_plane.specs.Rounds.{Round, chain_of, whole_cuts, pieces_of}
 use Rattle.overlay_plane.proofs.ChainWalks.{backward-first}
-use Rattle.overlay_plane.proofs.EdgeMarks.{mark, marks, along_edge, mark-piece, HasMarked, merged_marked, marked_merged, marked_held, one_merged}
+use Rattle.overlay_plane.proofs.EdgeMarks.{mark, marks, along_edge, mark-piece, HasMarked, merged_marked, marked_merged}
+use Rattle.overlay_plane.proofs.EdgeMarks.{marked_held, one_merged}
 use Rattle.overlay_plane.proofs.EdgesOfSteps.{edge_by}
 use Rattle.overlay_plane.proofs.Entries.{Contains-map, Contains-from_map, Contains-flat_map, Contains-from_flat_map}
 use Rattle.overlay_plane.proofs.FoundEntries.{IsFound, found_by}
@@ -40,7 +43,8 @@ along_edge-twice false false true = refl
 along_edge-twice false false false = refl
 
 -- a long step, or its reverse, leads so
-pub forward-by : (t : Bool) (s : Step) → IsLong s → is_forward (step_by t s) ≡ cond t (is_forward s) (not (is_forward s))
+pub forward-by : (t : Bool) (s : Step) → IsLong s → is_forward (step_by t s) ≡ cond t (is_forward s)
+    (not (is_forward s))
 forward-by true s long = refl
 forward-by false s long = turns_round s long
 
@@ -70,10 +74,12 @@ in_backward (u ∷ ss) s c = subst (λ (ts : List Step). Contains ts (reversed_s
     (Contains-cases u ss s c))
 
 -- and no other step
-from_backward : (ss : List Step) (t : Step) → Contains (backward ss) t → (s : Step) × Contains ss s × (t ≡ reversed_step s)
+from_backward : (ss : List Step) (t : Step) → Contains (backward ss) t →
+    (s : Step) × Contains ss s × (t ≡ reversed_step s)
 from_backward [] t c = elim c.1 [ ]
 from_backward (u ∷ ss) t c =
-    elim (Contains-append_cases (backward ss) (reversed_step u ∷ []) t (subst (λ (ts : List Step). Contains ts t) (backward-first u ss) c)) [
+    elim (Contains-append_cases (backward ss) (reversed_step u ∷ []) t
+    (subst (λ (ts : List Step). Contains ts t) (backward-first u ss) c)) [
       | inl here ↦ let found = from_backward ss t here in (found.0, Contains-later u ss found.0 found.1, found.2)
       | inr last ↦ (u, Contains-head u ss, sym (only_entry (reversed_step u) t last))
     ]
@@ -83,7 +89,8 @@ pub in_way : (t : Bool) (ss : List Step) (s : Step) → Contains ss s → Contai
 in_way true ss s c = c
 in_way false ss s c = in_backward ss s c
 
-pub from_way : (t : Bool) (ss : List Step) (u : Step) → Contains (cond t ss (backward ss)) u → (s : Step) × Contains ss s × (u ≡ step_by t s)
+pub from_way : (t : Bool) (ss : List Step) (u : Step) → Contains (cond t ss (backward ss)) u →
+    (s : Step) × Contains ss s × (u ≡ step_by t s)
 from_way true ss u c = (u, c, refl)
 from_way false ss u c = from_backward ss u c
 
@@ -101,40 +108,56 @@ not_both s t is = absurd (false≢true (sym (ap is_held is)))
 module _ (es : List CountedEdge) (r : Round) (merged : IsMerged es r.edges) where
   -- a held step along an edge of the round becomes the steps of that edge's chain
   pub becomes_held : (s : Step) (g : CountedEdge) → Contains r.edges g → ends_of g ≡ edge_of s → (u : Step) →
-      Contains (cond (is_forward s) (chain_of r g) (backward (chain_of r g))) u → Contains (links_after r (held s)) (held u)
-  becomes_held s g c ends u at = by (find (λ e. edge_eq (ends_of e) (edge_of s)) r.edges) (found_by (λ e. edge_eq (ends_of e) (edge_of s)) r.edges)
+      Contains (cond (is_forward s) (chain_of r g) (backward (chain_of r g))) u →
+      Contains (links_after r (held s)) (held u)
+  becomes_held s g c ends u at = by (find (λ e. edge_eq (ends_of e) (edge_of s)) r.edges)
+      (found_by (λ e. edge_eq (ends_of e) (edge_of s)) r.edges)
     where
-      by : (o : Option CountedEdge) → IsFound (λ e. edge_eq (ends_of e) (edge_of s)) r.edges o → Contains (links_along r s o) (held u)
-      by None none = absurd (both_ways (edge_eq (ends_of g) (edge_of s)) (none g c) ((Decides-edge_eq (ends_of g) (edge_of s)).1 ends))
-      by (Some h) found = subst (λ (w : CountedEdge). Contains (map held (cond (is_forward s) (chain_of r w) (backward (chain_of r w)))) (held u))
+      by : (o : Option CountedEdge) → IsFound (λ e. edge_eq (ends_of e) (edge_of s)) r.edges o →
+          Contains (links_along r s o) (held u)
+      by None none = absurd (both_ways (edge_eq (ends_of g) (edge_of s)) (none g c)
+          ((Decides-edge_eq (ends_of g) (edge_of s)).1 ends))
+      by (Some h) found = subst (λ (w : CountedEdge). Contains
+          (map held (cond (is_forward s) (chain_of r w) (backward (chain_of r w)))) (held u))
           (one_merged es r.edges merged g h c found.0 (ends ∙ sym (edge_eq-same (ends_of h) (edge_of s) found.1)))
           (Contains-map held (cond (is_forward s) (chain_of r g) (backward (chain_of r g))) u at)
 
   -- what a held step becomes is the steps of such a chain
   pub held_from : (s t : Step) → Contains (links_after r (held s)) (held t) →
-      (g : CountedEdge) × Contains r.edges g × (ends_of g ≡ edge_of s) × Contains (cond (is_forward s) (chain_of r g) (backward (chain_of r g))) t
-  held_from s t = by (find (λ e. edge_eq (ends_of e) (edge_of s)) r.edges) (found_by (λ e. edge_eq (ends_of e) (edge_of s)) r.edges)
+      (g : CountedEdge) × Contains r.edges g × (ends_of g ≡ edge_of s) × Contains
+      (cond (is_forward s) (chain_of r g) (backward (chain_of r g))) t
+  held_from s t = by (find (λ e. edge_eq (ends_of e) (edge_of s)) r.edges)
+      (found_by (λ e. edge_eq (ends_of e) (edge_of s)) r.edges)
     where
-      by : (o : Option CountedEdge) → IsFound (λ e. edge_eq (ends_of e) (edge_of s)) r.edges o → Contains (links_along r s o) (held t) →
-          (g : CountedEdge) × Contains r.edges g × (ends_of g ≡ edge_of s) × Contains (cond (is_forward s) (chain_of r g) (backward (chain_of r g))) t
+      by : (o : Option CountedEdge) → IsFound (λ e. edge_eq (ends_of e) (edge_of s)) r.edges o →
+          Contains (links_along r s o) (held t) →
+          (g : CountedEdge) × Contains r.edges g × (ends_of g ≡ edge_of s) × Contains
+          (cond (is_forward s) (chain_of r g) (backward (chain_of r g))) t
       by None none at = not_both t s (sym (only_entry (dropped s) (held t) at))
       by (Some g) found at =
-          let from = Contains-from_map held (cond (is_forward s) (chain_of r g) (backward (chain_of r g))) (held t) at in (
+          let from = Contains-from_map held (cond (is_forward s) (chain_of r g) (backward (chain_of r g)))
+          (held t) at in (
             g,
             found.0,
             edge_eq-same (ends_of g) (edge_of s) found.1,
-            subst (λ (w : Step). Contains (cond (is_forward s) (chain_of r g) (backward (chain_of r g))) w) (ap step_of from.2) from.1,
+            subst (λ (w : Step). Contains (cond (is_forward s) (chain_of r g) (backward (chain_of r g))) w)
+                (ap step_of from.2) from.1,
           )
 
   -- and it is dropped where the round has no edge for it
-  pub dropped_from : (s t : Step) → Contains (links_after r (held s)) (dropped t) → (g : CountedEdge) → Contains r.edges g → ends_of g ≡ edge_of s → ⊥
-  dropped_from s t = by (find (λ e. edge_eq (ends_of e) (edge_of s)) r.edges) (found_by (λ e. edge_eq (ends_of e) (edge_of s)) r.edges)
+  pub dropped_from : (s t : Step) → Contains (links_after r (held s)) (dropped t) →
+      (g : CountedEdge) → Contains r.edges g → ends_of g ≡ edge_of s → ⊥
+  dropped_from s t = by (find (λ e. edge_eq (ends_of e) (edge_of s)) r.edges)
+      (found_by (λ e. edge_eq (ends_of e) (edge_of s)) r.edges)
     where
-      by : (o : Option CountedEdge) → IsFound (λ e. edge_eq (ends_of e) (edge_of s)) r.edges o → Contains (links_along r s o) (dropped t) →
+      by : (o : Option CountedEdge) → IsFound (λ e. edge_eq (ends_of e) (edge_of s)) r.edges o →
+          Contains (links_along r s o) (dropped t) →
           (g : CountedEdge) → Contains r.edges g → ends_of g ≡ edge_of s → ⊥
-      by None none at g c ends = both_ways (edge_eq (ends_of g) (edge_of s)) (none g c) ((Decides-edge_eq (ends_of g) (edge_of s)).1 ends)
+      by None none at g c ends = both_ways (edge_eq (ends_of g) (edge_of s)) (none g c)
+          ((Decides-edge_eq (ends_of g) (edge_of s)).1 ends)
       by (Some h) found at g c ends =
-          let from = Contains-from_map held (cond (is_forward s) (chain_of r h) (backward (chain_of r h))) (dropped t) at in
+          let from = Contains-from_map held (cond (is_forward s) (chain_of r h) (backward (chain_of r h)))
+          (dropped t) at in
           not_both from.0 t from.2
 
 -- ---- the marks that links make
@@ -149,12 +172,16 @@ pub record IsGiven (d : Bool) (old : List CountedEdge) (links : CountedEdge → 
   pub given : marks d edge step ≡ true
 
 -- the held links of the edges make the marks of the list, and a dropped link is of an edge without marks
-pub record MakeMarks (old : List CountedEdge) (links : CountedEdge → List ChainLink) (es : List CountedEdge) : Type 0 where
+pub record MakeMarks (old : List CountedEdge) (links : CountedEdge → List ChainLink)
+    (es : List CountedEdge) : Type 0 where
   pub made : (d : Bool) (f : Edge) → HasMarked d es f → IsGiven d old links f
-  pub makes : (d : Bool) (e : CountedEdge) → Contains old e → (s : Step) → Contains (links e) (held s) → marks d e s ≡ true → HasMarked d es (edge_of s)
-  pub unmarked : (e : CountedEdge) → Contains old e → (s : Step) → Contains (links e) (dropped s) → (d : Bool) → mark d e ≡ false
+  pub makes : (d : Bool) (e : CountedEdge) → Contains old e → (s : Step) → Contains (links e) (held s) →
+      marks d e s ≡ true → HasMarked d es (edge_of s)
+  pub unmarked : (e : CountedEdge) → Contains old e → (s : Step) → Contains (links e) (dropped s) →
+      (d : Bool) → mark d e ≡ false
 
-module _ (old es : List CountedEdge) (r : Round) (merged : IsMerged es r.edges) (links : CountedEdge → List ChainLink) (make : MakeMarks old links es) where
+module _ (old es : List CountedEdge) (r : Round) (merged : IsMerged es r.edges) (links : CountedEdge → List ChainLink)
+    (make : MakeMarks old links es) where
   -- the links after the round
   abbrev after : CountedEdge → List ChainLink
   after e = flat_map (links_after r) (links e)
@@ -175,23 +202,28 @@ module _ (old es : List CountedEdge) (r : Round) (merged : IsMerged es r.edges) 
       let of = Contains-from_flat_map (pieces_through (whole_cuts r)) r.edges has.found has.inside in
       let at = Contains-from_map (piece_along of.0) (chain_of r of.0) has.found of.2 in
       let given = make.made (along_edge (is_forward at.0) d) (ends_of of.0)
-      (merged_marked es r.edges merged (along_edge (is_forward at.0) d) of.0 of.1 (sym (mark-piece d of.0 at.0) ∙ ap (mark d) at.2 ∙ has.marked)) in
+      (merged_marked es r.edges merged (along_edge (is_forward at.0) d) of.0 of.1 (sym (mark-piece d of.0 at.0)
+      ∙ ap (mark d) at.2 ∙ has.marked)) in
       let long = long_in_chain of.0 at.0 at.1 in
       record {
         edge = given.edge;
         inside = given.inside;
         step = step_by (is_forward given.step) at.0;
-        link = Contains-flat_map (links_after r) (links given.edge) (held given.step) (held (step_by (is_forward given.step) at.0)) given.link
-            (becomes_held es r merged given.step of.0 of.1 (sym given.along) (step_by (is_forward given.step) at.0) (in_way (is_forward given.step) (chain_of r of.0) at.0 at.1));
+        link = Contains-flat_map (links_after r) (links given.edge) (held given.step)
+            (held (step_by (is_forward given.step) at.0)) given.link
+            (becomes_held es r merged given.step of.0 of.1 (sym given.along) (step_by (is_forward given.step) at.0)
+            (in_way (is_forward given.step) (chain_of r of.0) at.0 at.1));
         along = edge-by (is_forward given.step) at.0 long ∙ ap ends_of at.2 ∙ has.ends;
         given = seen d given.edge given.step at.0 long ∙ given.given;
       }
 
   -- a mark that is given to a link is one of a piece
-  makes_after : (d : Bool) (e : CountedEdge) → Contains old e → (t : Step) → Contains (after e) (held t) → marks d e t ≡ true → HasMarked d (pieces_of r) (edge_of t)
+  makes_after : (d : Bool) (e : CountedEdge) → Contains old e → (t : Step) → Contains (after e) (held t) →
+      marks d e t ≡ true → HasMarked d (pieces_of r) (edge_of t)
   makes_after d e c t at h = let of = Contains-from_flat_map (links_after r) (links e) (held t) at in by of.0 of.1 of.2
     where
-      by : (l : ChainLink) → Contains (links e) l → Contains (links_after r l) (held t) → HasMarked d (pieces_of r) (edge_of t)
+      by : (l : ChainLink) → Contains (links e) l → Contains (links_after r l) (held t) →
+          HasMarked d (pieces_of r) (edge_of t)
       by (dropped s) link became = not_both t s (sym (only_entry (dropped s) (held t) became))
       by (held s) link became =
           let from = held_from es r merged s t became in
@@ -204,18 +236,22 @@ module _ (old es : List CountedEdge) (r : Round) (merged : IsMerged es r.edges) 
             inside = Contains-flat_map (pieces_through (whole_cuts r)) r.edges from.0 (piece_along from.0 way.0) from.1
                 (Contains-map (piece_along from.0) (chain_of r from.0) way.0 way.1);
             ends = sym (edge-by (is_forward s) way.0 long) ∙ ap edge_of (sym way.2);
-            marked = mark-piece d from.0 way.0 ∙ marked_merged es r.edges merged (along_edge (is_forward way.0) d) from.0 from.1
+            marked = mark-piece d from.0 way.0 ∙ marked_merged es r.edges merged (along_edge (is_forward way.0) d)
+                from.0 from.1
                 (subst (HasMarked (along_edge (is_forward way.0) d) es) (sym from.2) before);
           }
 
   -- a dropped link is of an edge without marks
-  unmarked_after : (e : CountedEdge) → Contains old e → (t : Step) → Contains (after e) (dropped t) → (d : Bool) → mark d e ≡ false
-  unmarked_after e c t at d = let of = Contains-from_flat_map (links_after r) (links e) (dropped t) at in by of.0 of.1 of.2
+  unmarked_after : (e : CountedEdge) → Contains old e → (t : Step) → Contains (after e) (dropped t) →
+      (d : Bool) → mark d e ≡ false
+  unmarked_after e c t at d = let of = Contains-from_flat_map (links_after r) (links e) (dropped t) at in
+      by of.0 of.1 of.2
     where
       by : (l : ChainLink) → Contains (links e) l → Contains (links_after r l) (dropped t) → mark d e ≡ false
       by (dropped s) link became = make.unmarked e c s link d
       by (held s) link became = false_from_ne_true (mark d e) (λ marked.
-          let before = make.makes (along_edge (is_forward s) d) e c s link (ap (λ b. mark b e) (along_edge-back (is_forward s) d) ∙ marked) in
+          let before = make.makes (along_edge (is_forward s) d) e c s link
+          (ap (λ b. mark b e) (along_edge-back (is_forward s) d) ∙ marked) in
           let some = marked_held es r.edges merged (along_edge (is_forward s) d) (edge_of s) before in
           dropped_from es r merged s t became some.0 some.1 some.2)
 

@@ -1,6 +1,7 @@
--- Two edges along one line meet in the ends of each that lie on the other, and the whole points through which the one leads the
--- other are those ends.
-use Rattle.std.proofs.Common.{◌≡◌, ◌⊎◌, inl, inr, ⊎_elim, ℤ, pos, ◌*ℤ◌, List, [], ◌∷◌, ◌++◌, map, Contains, refl, sym, subst, ◌∙◌, arith}
+-- Two edges along one line meet in the ends of each that lie on the other, and the whole points through which the one
+-- leads the other are those ends.
+use Rattle.std.proofs.Common.{◌≡◌, ◌⊎◌, inl, inr, ⊎_elim, ℤ, pos, ◌*ℤ◌, List, [], ◌∷◌, ◌++◌, map, Contains, refl, sym}
+use Rattle.std.proofs.Common.{subst, ◌∙◌, arith}
 use Rattle.std.specs.List.{Any}
 use Rattle.std.proofs.lemmas.Int.{ints}
 use Rattle.std.proofs.lemmas.List.Elements.{All-map, Contains-append_left, Contains-append_right, Contains-append_cases}
@@ -13,7 +14,8 @@ use Rattle.overlay_geom.proofs.PointOrder.{IsBefore, by_order, before_up_to}
 use Rattle.overlay_geom.proofs.Rounded.{nearest_point-rounding}
 use Rattle.overlay_plane.specs.CutPoints.{is_between}
 use Rattle.overlay_plane.specs.Meetings.{IsMeetingPoint}
-use Rattle.overlay_plane.proofs.Entries.{all_of_entries, any_of_entry, Contains-map, Contains-from_filter, Contains-filter}
+use Rattle.overlay_plane.proofs.Entries.{all_of_entries, any_of_entry, Contains-map, Contains-from_filter}
+use Rattle.overlay_plane.proofs.Entries.{Contains-filter}
 use Rattle.overlay_plane.proofs.LaterEntries.{Contains-cases}
 use Rattle.overlay_plane.proofs.CommonPoints.{end_is_meeting}
 use Rattle.overlay_plane.proofs.MeetingLists.{AreMeetings, AreNearest}
@@ -25,7 +27,8 @@ use Rattle.overlay_plane.proofs.WholePlaces.{rounded_whole}
 
 -- an entry of two is the one or the other
 one_of_two : (u v w : Point) → Contains (u ∷ v ∷ []) w → (u ≡ w) ⊎ (v ≡ w)
-one_of_two u v w at = ⊎_elim (λ is. inl is) (λ later. ⊎_elim (λ is. inr is) (λ none. absurd (omega (arith, none.1))) (Contains-cases v [] w later))
+one_of_two u v w at = ⊎_elim (λ is. inl is) (λ later. ⊎_elim (λ is. inr is) (λ none. absurd (omega (arith, none.1)))
+    (Contains-cases v [] w later))
     (Contains-cases u (v ∷ []) w at)
 
 -- ---- ends on the other edge
@@ -54,11 +57,13 @@ end_held e f v along at =
 
 -- and each of those is among them
 held_end : (e f : Edge) (v : Point) → IsOneOfEnds f v → IsHeldBy e v → Contains (ends_between e f) v
-held_end e f v end held = Contains-filter (is_between e) (f.a ∷ f.b ∷ []) v (listed end) ((Decides-is_between e v).1 (held.from, held.to))
+held_end e f v end held = Contains-filter (is_between e) (f.a ∷ f.b ∷ []) v (listed end)
+    ((Decides-is_between e v).1 (held.from, held.to))
   where
     listed : IsOneOfEnds f v → Contains (f.a ∷ f.b ∷ []) v
     listed (inl is) = subst (λ w. Contains (f.a ∷ f.b ∷ []) w) is (Contains-head f.a (f.b ∷ []))
-    listed (inr is) = subst (λ w. Contains (f.a ∷ f.b ∷ []) w) is (Contains-later f.a (f.b ∷ []) f.b (Contains-head f.b []))
+    listed (inr is) = subst (λ w. Contains (f.a ∷ f.b ∷ []) w) is
+        (Contains-later f.a (f.b ∷ []) f.b (Contains-head f.b []))
 
 -- ---- the meeting points
 
@@ -79,9 +84,14 @@ only_is_end e f p e_forward f_forward along common only = by_end e p (λ end. in
     inner none =
         let order = overlap_at_inner e f p e_forward f_forward common none in
         by_order e.a f.a
-        (λ later. inr (inl (at_place f.a (record { on_line = along.0; from = later; to = before_up_to f.a e.b order.0 }) (holds_start f f_forward))))
+        (λ later. inr (inl (at_place f.a (record { on_line = along.0; from = later; to = before_up_to f.a e.b order.0 })
+        (holds_start f f_forward))))
         (λ sooner. inl (inl (at_place e.a (holds_start e e_forward)
-        (record { on_line = (along_exchanged e f e_forward along).0; from = before_up_to f.a e.a sooner; to = before_up_to e.a f.b order.1 }))))
+        (record {
+          on_line = (along_exchanged e f e_forward along).0;
+          from = before_up_to f.a e.a sooner;
+          to = before_up_to e.a f.b order.1;
+        }))))
 
 -- the ends of each edge on the other one
 abbrev pub ends_on_other : Edge → Edge → List Point
@@ -102,10 +112,12 @@ module _ (e f : Edge) (e_forward : IsBefore e.a e.b) (f_forward : IsBefore f.a f
   shared_end v at = ⊎_elim of_e of_f (Contains-append_cases (ends_between f e) (ends_between e f) v at)
     where
       of_e : Contains (ends_between f e) v → IsSharedEnd e f v
-      of_e there = let found = end_held f e v back there in record { end = inl found.0; of_e = holds_its_ends e v e_forward found.0; of_f = found.1 }
+      of_e there = let found = end_held f e v back there in
+          record { end = inl found.0; of_e = holds_its_ends e v e_forward found.0; of_f = found.1 }
 
       of_f : Contains (ends_between e f) v → IsSharedEnd e f v
-      of_f there = let found = end_held e f v along there in record { end = inr found.0; of_e = found.1; of_f = holds_its_ends f v f_forward found.0 }
+      of_f there = let found = end_held e f v along there in
+          record { end = inr found.0; of_e = found.1; of_f = holds_its_ends f v f_forward found.0 }
 
   -- an end in the plane
   end_in_plane : (g : Edge) (v : Point) → IsOneOfEnds g v → IsEnd g (in_plane v)
@@ -118,7 +130,8 @@ module _ (e f : Edge) (e_forward : IsBefore e.a e.b) (f_forward : IsBefore f.a f
       (⊎_elim (λ of_e. inl (end_in_plane e v of_e)) (λ of_f. inr (end_in_plane f v of_f)) shared.end)
 
   -- a common point at an end of e is one of them
-  start_found : (v : Point) (p : PlanePoint) → IsOneOfEnds e v → IsAt v p → IsCommon e f p → Any (SamePlace p) (map in_plane (ends_on_other e f))
+  start_found : (v : Point) (p : PlanePoint) → IsOneOfEnds e v → IsAt v p → IsCommon e f p →
+      Any (SamePlace p) (map in_plane (ends_on_other e f))
   start_found v p end at common =
       any_of_entry (SamePlace p) (map in_plane (ends_on_other e f)) (in_plane v)
       (Contains-map in_plane (ends_on_other e f) v (Contains-append_left (ends_between f e) (ends_between e f) v
@@ -126,7 +139,8 @@ module _ (e f : Edge) (e_forward : IsBefore e.a e.b) (f_forward : IsBefore f.a f
       (same_place_at v p (in_plane v) at (at_itself v))
 
   -- and so is one at an end of f
-  end_found : (v : Point) (p : PlanePoint) → IsOneOfEnds f v → IsAt v p → IsCommon e f p → Any (SamePlace p) (map in_plane (ends_on_other e f))
+  end_found : (v : Point) (p : PlanePoint) → IsOneOfEnds f v → IsAt v p → IsCommon e f p →
+      Any (SamePlace p) (map in_plane (ends_on_other e f))
   end_found v p end at common =
       any_of_entry (SamePlace p) (map in_plane (ends_on_other e f)) (in_plane v)
       (Contains-map in_plane (ends_on_other e f) v (Contains-append_right (ends_between f e) (ends_between e f) v
@@ -135,7 +149,8 @@ module _ (e f : Edge) (e_forward : IsBefore e.a e.b) (f_forward : IsBefore f.a f
 
   -- each meeting point is one of them
   each_found : (p : PlanePoint) → IsMeetingPoint e f p → Any (SamePlace p) (map in_plane (ends_on_other e f))
-  each_found p meeting = by (⊎_elim (λ only. only_is_end e f p e_forward f_forward along meeting.common only) (λ end. end) meeting.only_or_end)
+  each_found p meeting = by (⊎_elim (λ only. only_is_end e f p e_forward f_forward along meeting.common only)
+      (λ end. end) meeting.only_or_end)
     where
       by : IsEnd e p ⊎ IsEnd f p → Any (SamePlace p) (map in_plane (ends_on_other e f))
       by (inl (inl at)) = start_found e.a p (inl refl) at meeting.common
@@ -147,15 +162,18 @@ module _ (e f : Edge) (e_forward : IsBefore e.a e.b) (f_forward : IsBefore f.a f
   pub meetings_along : AreMeetings e f (map in_plane (ends_on_other e f))
   meetings_along = record {
     only = All-map (IsMeetingPoint e f) in_plane (ends_on_other e f)
-        (all_of_entries (λ v. IsMeetingPoint e f (in_plane v)) (ends_on_other e f) (λ v at. meets_in v (shared_end v at)));
+        (all_of_entries (λ v. IsMeetingPoint e f (in_plane v)) (ends_on_other e f)
+        (λ v at. meets_in v (shared_end v at)));
     every = each_found;
   }
 
   -- and but for e's own ends, the whole points nearest them are f's ends on e
   pub nearest_along : AreNearest e (map in_plane (ends_on_other e f)) (ends_between e f)
   nearest_along = record {
-    from = All-map IsFound in_plane (ends_on_other e f) (all_of_entries (λ v. IsFound (in_plane v)) (ends_on_other e f) found);
-    to = all_of_entries (λ v. (v ≡ e.a) ⊎ ((v ≡ e.b) ⊎ Any (λ p. v ≡ nearest_point p) (map in_plane (ends_on_other e f)))) (ends_between e f)
+    from = All-map IsFound in_plane (ends_on_other e f)
+        (all_of_entries (λ v. IsFound (in_plane v)) (ends_on_other e f) found);
+    to = all_of_entries (λ v. (v ≡ e.a)
+        ⊎ ((v ≡ e.b) ⊎ Any (λ p. v ≡ nearest_point p) (map in_plane (ends_on_other e f)))) (ends_between e f)
         (λ v at. inr (inr (taken v at)));
   }
     where
@@ -176,7 +194,9 @@ module _ (e f : Edge) (e_forward : IsBefore e.a e.b) (f_forward : IsBefore f.a f
           (λ here. inr (inr (subst (λ w. Contains (ends_between e f) w) (sym (whole v)) here)))
           (Contains-append_cases (ends_between f e) (ends_between e f) v at)
 
-      taken : (v : Point) → Contains (ends_between e f) v → Any (λ p. v ≡ nearest_point p) (map in_plane (ends_on_other e f))
+      taken : (v : Point) → Contains (ends_between e f) v →
+          Any (λ p. v ≡ nearest_point p) (map in_plane (ends_on_other e f))
       taken v at =
           any_of_entry (λ p. v ≡ nearest_point p) (map in_plane (ends_on_other e f)) (in_plane v)
-          (Contains-map in_plane (ends_on_other e f) v (Contains-append_right (ends_between f e) (ends_between e f) v at)) (sym (whole v))
+          (Contains-map in_plane (ends_on_other e f) v
+          (Contains-append_right (ends_between f e) (ends_between e f) v at)) (sym (whole v))

@@ -1,4 +1,5 @@
--- The meeting points of two different edges as a list, whose nearest whole points are those that are computed for the pair.
+-- The meeting points of two different edges as a list, whose nearest whole points are those that are computed for the
+-- pair.
 use Rattle.std.proofs.Common.{◌≡◌, ◌⊎◌, inl, inr, List, [], ◌∷◌, map, refl, sym, subst}
 use Rattle.std.specs.List.{Any, Contains}
 use Rattle.std.proofs.lemmas.List.Elements.{All-nil, All-cons}
@@ -13,7 +14,8 @@ use Rattle.overlay_plane.proofs.CrossingPoints.{IsPartWay, part_way_across, cros
 use Rattle.overlay_plane.proofs.Entries.{any_of_entry}
 use Rattle.overlay_plane.proofs.MeetingLists.{AreMeetings, AreNearest}
 use Rattle.overlay_plane.proofs.MeetingsAlong.{ends_on_other, meetings_along, nearest_along}
-use Rattle.overlay_plane.proofs.Placements.{AreCrossing, by_placement, both_across, beside_have_no_common, met_along, met_beside, met_across}
+use Rattle.overlay_plane.proofs.Placements.{AreCrossing, by_placement, both_across, beside_have_no_common, met_along}
+use Rattle.overlay_plane.proofs.Placements.{met_beside, met_across}
 use Rattle.overlay_plane.proofs.Totals.{Contains-head}
 
 -- the meeting points of two edges, and that what is computed for them is nearest
@@ -34,7 +36,8 @@ none_nearest : (e : Edge) → AreNearest e [] []
 none_nearest e = record { from = All-nil _; to = All-nil _ }
 
 -- edges beside one another have none
-meetings_beside : (e f : Edge) → IsBefore e.a e.b → IsBefore f.a f.b → ¬ (IsAlong e f) → IsBeside e f ⊎ IsBeside f e → HasMeetings e f
+meetings_beside : (e f : Edge) → IsBefore e.a e.b → IsBefore f.a f.b → ¬ (IsAlong e f) → IsBeside e f ⊎ IsBeside f e →
+    HasMeetings e f
 meetings_beside e f e_forward f_forward apart beside = (
   [],
   record { only = All-nil _; every = λ p meeting. absurd (none beside p meeting) },
@@ -47,7 +50,8 @@ meetings_beside e f e_forward f_forward apart beside = (
 
 -- edges across one another have one
 meetings_across : (e f : Edge) → IsBefore f.a f.b → AreCrossing e f → HasMeetings e f
-meetings_across e f f_forward c = (p ∷ [], meetings, subst (λ vs. AreNearest e (p ∷ []) vs) (sym (met_across e f c)) near)
+meetings_across e f f_forward c =
+    (p ∷ [], meetings, subst (λ vs. AreNearest e (p ∷ []) vs) (sym (met_across e f c)) near)
   where
     way : IsPartWay e f
     way = part_way_across e f (both_across e f c).1
@@ -57,21 +61,25 @@ meetings_across e f f_forward c = (p ∷ [], meetings, subst (λ vs. AreNearest 
 
     meetings : AreMeetings e f (p ∷ [])
     meetings = record {
-      only = All-cons (IsMeetingPoint e f) p [] (common_is_meeting e f p f_forward c.apart (crossing_is_common e f way.2 c)) (All-nil _);
+      only = All-cons (IsMeetingPoint e f) p []
+          (common_is_meeting e f p f_forward c.apart (crossing_is_common e f way.2 c)) (All-nil _);
       every = λ q meeting. any_of_entry (SamePlace q) (p ∷ []) p (Contains-head p [])
           (only_unless_along e f p q f_forward c.apart (crossing_is_common e f way.2 c) meeting.common);
     }
 
     near : AreNearest e (p ∷ []) (crossing e f ∷ [])
     near = record {
-      from = All-cons (λ q. (nearest_point q ≡ e.a) ⊎ ((nearest_point q ≡ e.b) ⊎ Contains (crossing e f ∷ []) (nearest_point q))) p []
+      from = All-cons (λ q. (nearest_point q ≡ e.a) ⊎ ((nearest_point q ≡ e.b) ⊎ Contains (crossing e f ∷ [])
+          (nearest_point q))) p []
           (inr (inr (Contains-head (crossing e f) []))) (All-nil _);
       to = All-cons (λ v. (v ≡ e.a) ⊎ ((v ≡ e.b) ⊎ Any (λ q. v ≡ nearest_point q) (p ∷ []))) (crossing e f) []
-          (inr (inr (any_of_entry (λ q. crossing e f ≡ nearest_point q) (p ∷ []) p (Contains-head p []) refl))) (All-nil _);
+          (inr (inr (any_of_entry (λ q. crossing e f ≡ nearest_point q) (p ∷ []) p (Contains-head p []) refl)))
+          (All-nil _);
     }
 
 -- two forward edges have a list of meeting points, of which the whole points computed for the pair are the nearest
-pub meetings_of : (e f : Edge) → IsBefore e.a e.b → IsBefore f.a f.b → (ps : List PlanePoint) × AreMeetings e f ps × AreNearest e ps (met_at e f)
+pub meetings_of : (e f : Edge) → IsBefore e.a e.b → IsBefore f.a f.b →
+    (ps : List PlanePoint) × AreMeetings e f ps × AreNearest e ps (met_at e f)
 meetings_of e f e_forward f_forward =
     by_placement e f
     (meetings_on_line e f e_forward f_forward)

@@ -13,8 +13,10 @@ at_or_not v p = by_test _ (Decides-is_at v p) (λ at. inl at) (λ off. inr off)
 
 -- a round moves none of its meeting points, or some
 pub none_or_some : (r : Round) → MovesNone r ⊎ MovesSome r
-none_or_some r = all_or_any (λ e. All (λ p. IsAt (r.whole_at p) p) (r.cuts e)) (λ e. Any (λ p. ¬ (IsAt (r.whole_at p) p)) (r.cuts e))
-    (λ e. all_or_any (λ p. IsAt (r.whole_at p) p) (λ p. ¬ (IsAt (r.whole_at p) p)) (λ p. at_or_not (r.whole_at p) p) (r.cuts e)) r.edges
+none_or_some r = all_or_any (λ e. All (λ p. IsAt (r.whole_at p) p) (r.cuts e))
+    (λ e. Any (λ p. ¬ (IsAt (r.whole_at p) p)) (r.cuts e))
+    (λ e. all_or_any (λ p. IsAt (r.whole_at p) p) (λ p. ¬ (IsAt (r.whole_at p) p)) (λ p. at_or_not (r.whole_at p) p)
+    (r.cuts e)) r.edges
 
 -- so of any rounds some number moves points
 pub moving_rounds : (rs : List Round) → (k : ℕ) × MovingRounds rs k

@@ -10,25 +10,30 @@ pub record IsNearest {X : Type 0} (passes : X → Bool) (lower : X → X → Boo
   pub passed : passes m ≡ true
   pub first : (z : X) → Contains xs z → passes z ≡ true → lower z m ≡ false
 
-module _ {X : Type 0} (passes : X → Bool) (lower : X → X → Bool) (irreflexive : (x : X) → lower x x ≡ false) (transitive : (x y z : X) → lower x y ≡ true → lower y z ≡ true → lower x z ≡ true) where
+module _ {X : Type 0} (passes : X → Bool) (lower : X → X → Bool) (irreflexive : (x : X) → lower x x ≡ false)
+    (transitive : (x y z : X) → lower x y ≡ true → lower y z ≡ true → lower x z ≡ true) where
   -- no entry passes, or there is a least one that does
   abbrev Found : List X → Type 0
   Found xs = ((z : X) → Contains xs z → passes z ≡ false) ⊎ ((m : X) × IsNearest passes lower xs m)
 
   -- the head passes, and comes before the least entry of the rest, if there is one
-  head_first : (x : X) (xs : List X) → passes x ≡ true → ((z : X) → Contains xs z → passes z ≡ true → lower z x ≡ false) → IsNearest passes lower (x ∷ xs) x
+  head_first : (x : X) (xs : List X) → passes x ≡ true →
+      ((z : X) → Contains xs z → passes z ≡ true → lower z x ≡ false) → IsNearest passes lower (x ∷ xs) x
   head_first x xs e first = record {
     among = Contains-head x xs;
     passed = e;
-    first = λ z c p. ⊎_elim (λ is. subst (λ w. lower w x ≡ false) is (irreflexive x)) (λ later. first z later p) (Contains-cases x xs z c);
+    first = λ z c p. ⊎_elim (λ is. subst (λ w. lower w x ≡ false) is (irreflexive x)) (λ later. first z later p)
+        (Contains-cases x xs z c);
   }
 
   -- the least entry of the rest does not come after the head
-  rest_first : (x : X) (xs : List X) (m : X) → IsNearest passes lower xs m → (passes x ≡ true → lower x m ≡ false) → IsNearest passes lower (x ∷ xs) m
+  rest_first : (x : X) (xs : List X) (m : X) → IsNearest passes lower xs m → (passes x ≡ true → lower x m ≡ false) →
+      IsNearest passes lower (x ∷ xs) m
   rest_first x xs m h kept = record {
     among = Contains-later x xs m h.among;
     passed = h.passed;
-    first = λ z c p. ⊎_elim (λ is. subst (λ w. lower w m ≡ false) is (kept (subst (λ w. passes w ≡ true) (sym is) p))) (λ later. h.first z later p) (Contains-cases x xs z c);
+    first = λ z c p. ⊎_elim (λ is. subst (λ w. lower w m ≡ false) is (kept (subst (λ w. passes w ≡ true) (sym is) p)))
+        (λ later. h.first z later p) (Contains-cases x xs z c);
   }
 
   -- by going through the list from its end
@@ -37,13 +42,19 @@ module _ {X : Type 0} (passes : X → Bool) (lower : X → X → Bool) (irreflex
   found (x ∷ xs) = by (passes x) refl (found xs)
     where
       by : (t : Bool) → passes x ≡ t → Found xs → Found (x ∷ xs)
-      by false e (inl none) = inl (λ z c. ⊎_elim (λ is. subst (λ w. passes w ≡ false) is e) (λ later. none z later) (Contains-cases x xs z c))
+      by false e (inl none) = inl (λ z c. ⊎_elim (λ is. subst (λ w. passes w ≡ false) is e) (λ later. none z later)
+          (Contains-cases x xs z c))
       by false e (inr (m, h)) = inr (m, rest_first x xs m h (λ p. absurd (both_ways (passes x) e p)))
       by true e (inl none) = inr (x, head_first x xs e (λ z c p. absurd (both_ways (passes z) (none z c) p)))
       by true e (inr (m, h)) = between (lower x m) refl
         where
           between : (t : Bool) → lower x m ≡ t → Found (x ∷ xs)
-          between true low = inr (x, head_first x xs e (λ z c p. false_from_ne_true (lower z x) (λ below. both_ways (lower z m) (h.first z c p) (transitive z x m below low))))
+          between true low = inr (
+            x,
+            head_first x xs e
+                (λ z c p. false_from_ne_true (lower z x)
+                (λ below. both_ways (lower z m) (h.first z c p) (transitive z x m below low))),
+          )
           between false not_low = inr (m, rest_first x xs m h (λ p. not_low))
 
   -- where an entry passes, there is a least one that does

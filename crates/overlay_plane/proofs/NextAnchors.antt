@@ -1,9 +1,11 @@
--- The walk that has the next edge below a hole is anchored before the hole: its anchor comes no later than that edge, which is
--- strictly below the hole's anchor, or starts with it and leads below it.
-use Rattle.std.proofs.Common.{◌≡◌, ⊎_elim, inl, inr, Bool, true, false, ◌&&◌, List, Contains, filter, refl, sym, ◌∙◌, subst}
+-- The walk that has the next edge below a hole is anchored before the hole: its anchor comes no later than that edge,
+-- which is strictly below the hole's anchor, or starts with it and leads below it.
+use Rattle.std.proofs.Common.{◌≡◌, ⊎_elim, inl, inr, Bool, true, false, ◌&&◌, List, Contains, filter, refl, sym, ◌∙◌}
+use Rattle.std.proofs.Common.{subst}
 use Rattle.std.proofs.lemmas.Bool.{both_ways, and_from, and_parts, or_cases, or_left, or_right, false_from_ne_true}
 use Rattle.std.proofs.lemmas.List.Elements.{All-contains}
-use Rattle.overlay_geom.specs.Plane.{Point, Step, Edge, point_lt, point_eq, is_forward, edge_of, is_strictly_below, in_plane}
+use Rattle.overlay_geom.specs.Plane.{Point, Step, Edge, point_lt, point_eq, is_forward, edge_of, is_strictly_below}
+use Rattle.overlay_geom.specs.Plane.{in_plane}
 use Rattle.overlay_geom.proofs.Orders.{point_eq-same, point_lt-back}
 use Rattle.overlay_geom.proofs.PointOrder.{point_lt-after_up_to}
 use Rattle.overlay_plane.specs.Nodes.{turns_left}
@@ -28,11 +30,14 @@ end_before s q before = by (is_forward s) before
     by false to = inr to
 
 -- the anchor of a contour comes before each anchor below which one of the contour's edges is
-pub anchored_before : (walk : List Step) → IsContour walk → (e : Edge) → IsAnchor walk e → (s : Step) → Contains walk s → (g : Edge) →
+pub anchored_before : (walk : List Step) → IsContour walk → (e : Edge) → IsAnchor walk e →
+    (s : Step) → Contains walk s → (g : Edge) →
     IsForward g → is_below_anchor g (edge_of s) ≡ true → is_anchored_before e g ≡ true
 anchored_before walk contour e anchor s c g forward_g below = ⊎_elim
-    (λ low. or_left (point_lt e.a g.a) (point_eq e.a g.a && turns_left e g) (point_lt-after_up_to e.a f.a g.a not_before (below_starts_before f g.a low)))
-    (λ with_it. let both = and_parts (point_eq f.a g.a) (turns_left f g) with_it in beside (point_eq-same f.a g.a both.0) both.1 (point_eq e.a g.a) refl)
+    (λ low. or_left (point_lt e.a g.a) (point_eq e.a g.a && turns_left e g)
+    (point_lt-after_up_to e.a f.a g.a not_before (below_starts_before f g.a low)))
+    (λ with_it. let both = and_parts (point_eq f.a g.a) (turns_left f g) with_it in
+    beside (point_eq-same f.a g.a both.0) both.1 (point_eq e.a g.a) refl)
     (or_cases (is_strictly_below f (in_plane g.a)) (point_eq f.a g.a && turns_left f g) below)
   where
     f : Edge
@@ -44,9 +49,11 @@ anchored_before walk contour e anchor s c g forward_g below = ⊎_elim
     beside : f.a ≡ g.a → turns_left f g ≡ true → (t : Bool) → point_eq e.a g.a ≡ t → is_anchored_before e g ≡ true
     beside starts left true same = or_right (point_lt e.a g.a) (point_eq e.a g.a && turns_left e g)
         (and_from (point_eq e.a g.a) (turns_left e g) same
-        (left_of_not_left e f g (anchor_forward walk contour e anchor) (long_leads_forward s (contour_long walk contour s c)) forward_g
+        (left_of_not_left e f g (anchor_forward walk contour e anchor)
+        (long_leads_forward s (contour_long walk contour s c)) forward_g
         (anchor.lowest s c (starts ∙ sym (point_eq-same e.a g.a same))) left))
-    beside starts left false apart = or_left (point_lt e.a g.a) (point_eq e.a g.a && turns_left e g) (by (point_lt e.a g.a) refl)
+    beside starts left false apart = or_left (point_lt e.a g.a) (point_eq e.a g.a && turns_left e g)
+        (by (point_lt e.a g.a) refl)
       where
         by : (t : Bool) → point_lt e.a g.a ≡ t → point_lt e.a g.a ≡ true
         by true less = less
@@ -58,6 +65,7 @@ pub next_is_anchored_before : NextIsAnchoredBefore
 next_is_anchored_before on_left walks contours hole next c n e anchor =
     let found = Contains-from_map edge_of (filter (is_filled_above on_left) next) n.edge n.has in
     let contour = All-contains IsContour walks next contours n.kept in
-    anchored_before next contour e anchor found.0 (Contains-from_filter (is_filled_above on_left) next found.0 found.1).0 n.anchor
+    anchored_before next contour e anchor found.0
+    (Contains-from_filter (is_filled_above on_left) next found.0 found.1).0 n.anchor
     (anchor_forward hole (All-contains IsContour walks hole contours c) n.anchor n.anchored)
     (subst (λ (f : Edge). is_below_anchor n.anchor f ≡ true) (sym found.2) n.next_below.below)

@@ -5,7 +5,8 @@ use Rattle.overlay_geom.specs.Plane.{Step, Edge}
 use Rattle.overlay_geom.specs.Edges.{CountedEdge}
 use Rattle.overlay_plane.specs.Heights.{covers, is_under}
 use Rattle.overlay_plane.specs.Anchors.{IsAnchor, is_below_anchor, is_lower_at, IsNextBelow}
-use Rattle.overlay_plane.specs.Binding.{is_hole, filled_above_edges, all_filled_above, AreCutFrom, IsNextWalk, HolesHaveNext}
+use Rattle.overlay_plane.specs.Binding.{is_hole, filled_above_edges, all_filled_above, AreCutFrom, IsNextWalk}
+use Rattle.overlay_plane.specs.Binding.{HolesHaveNext}
 use Rattle.overlay_plane.proofs.Anchors.{anchors_exist}
 use Rattle.overlay_plane.proofs.BelowHoles.{below_is, some_below}
 use Rattle.overlay_plane.proofs.Entries.{Contains-from_flat_map}
@@ -31,13 +32,17 @@ over_transitive x f g h fg gh =
     let second = and_parts (covers g x (pos 1) && covers h x (pos 1)) (is_under h g x (pos 1)) gh in
     let early = and_parts (covers f x (pos 1)) (covers g x (pos 1)) first.0 in
     let late = and_parts (covers g x (pos 1)) (covers h x (pos 1)) second.0 in
-    and_from (covers f x (pos 1) && covers h x (pos 1)) (is_under h f x (pos 1)) (and_from (covers f x (pos 1)) (covers h x (pos 1)) early.0 late.1)
+    and_from (covers f x (pos 1) && covers h x (pos 1)) (is_under h f x (pos 1))
+    (and_from (covers f x (pos 1)) (covers h x (pos 1)) early.0 late.1)
     (under_transitive h g f x (pos 1) (record { lt = tt }) late.1 late.0 early.0 second.1 first.1)
 
-module _ (holds : ℤ → ℤ → Bool) (subj clip : CountedEdge → ℤ) (es : List CountedEdge) (on_left : Bool) (walks : List (List Step))
-    (cut : AreCutFrom holds subj clip es on_left walks) (hole : List Step) (at : Contains walks hole) (anchor : Edge) (anchored : IsAnchor hole anchor) where
+module _ (holds : ℤ → ℤ → Bool) (subj clip : CountedEdge → ℤ) (es : List CountedEdge) (on_left : Bool)
+    (walks : List (List Step))
+    (cut : AreCutFrom holds subj clip es on_left walks) (hole : List Step) (at : Contains walks hole) (anchor : Edge)
+    (anchored : IsAnchor hole anchor) where
   -- what is below the anchor covers its abscissa
-  below_covers : (g : Edge) → Contains (all_filled_above on_left walks) g → is_below_anchor anchor g ≡ true → covers g anchor.a.x (pos 1) ≡ true
+  below_covers : (g : Edge) → Contains (all_filled_above on_left walks) g → is_below_anchor anchor g ≡ true →
+      covers g anchor.a.x (pos 1) ≡ true
   below_covers g c below = (and_parts (covers g anchor.a.x (pos 1)) (is_under g anchor anchor.a.x (pos 1))
       (sym (below_is holds subj clip es on_left walks cut hole at anchor anchored g
       (filled_of_list holds subj clip es on_left walks cut g c)) ∙ below)).0
@@ -54,21 +59,37 @@ module _ (holds : ℤ → ℤ → Bool) (subj clip : CountedEdge → ℤ) (es : 
       over_found : covers found.0 anchor.a.x (pos 1) ≡ true
       over_found = below_covers found.0 found.1.among found.1.passed
 
-      greatest : (h : Edge) → Contains (all_filled_above on_left walks) h → is_below_anchor anchor h ≡ true → is_lower_at anchor.a.x found.0 h ≡ false
+      greatest : (h : Edge) → Contains (all_filled_above on_left walks) h → is_below_anchor anchor h ≡ true →
+          is_lower_at anchor.a.x found.0 h ≡ false
       greatest h d low = lower_at_is_under found.0 h
-          (one_or_meet holds subj clip es on_left walks cut found.0 h (filled_of_list holds subj clip es on_left walks cut found.0 found.1.among)
+          (one_or_meet holds subj clip es on_left walks cut found.0 h
+          (filled_of_list holds subj clip es on_left walks cut found.0 found.1.among)
           (filled_of_list holds subj clip es on_left walks cut h d)) anchor.a.x over_found (below_covers h d low)
-          ∙ false_from_ne_true (is_under found.0 h anchor.a.x (pos 1)) (λ under. both_ways (is_over anchor.a.x h found.0) (found.1.first h d low)
-          (and_from (covers h anchor.a.x (pos 1) && covers found.0 anchor.a.x (pos 1)) (is_under found.0 h anchor.a.x (pos 1))
-          (and_from (covers h anchor.a.x (pos 1)) (covers found.0 anchor.a.x (pos 1)) (below_covers h d low) over_found) under))
+          ∙ false_from_ne_true (is_under found.0 h anchor.a.x (pos 1))
+          (λ under. both_ways (is_over anchor.a.x h found.0) (found.1.first h d low)
+          (and_from (covers h anchor.a.x (pos 1) && covers found.0 anchor.a.x (pos 1))
+          (is_under found.0 h anchor.a.x (pos 1))
+          (and_from (covers h anchor.a.x (pos 1)) (covers found.0 anchor.a.x (pos 1)) (below_covers h d low) over_found)
+          under))
 
   -- so a hole has a next walk, by each of its anchors
-  pub next_of_hole : is_hole on_left hole ≡ true → (next : List Step) × (n : IsNextWalk on_left walks hole next) × (n.anchor ≡ anchor)
+  pub next_of_hole : is_hole on_left hole ≡ true → (next : List Step) × (n : IsNextWalk on_left walks hole next)
+      × (n.anchor ≡ anchor)
   next_of_hole is =
       let some = some_below holds subj clip es on_left walks cut hole at anchor anchored is in
       let greatest = next_below some.0 some.1 some.2 in
-      let walk = Contains-from_flat_map (filled_above_edges on_left) walks greatest.0 greatest.1.among in
-      (walk.0, record { anchor = anchor; anchored = anchored; edge = greatest.0; next_below = greatest.1; kept = walk.1; has = walk.2 }, refl)
+      let walk = Contains-from_flat_map (filled_above_edges on_left) walks greatest.0 greatest.1.among in (
+        walk.0,
+        record {
+          anchor = anchor;
+          anchored = anchored;
+          edge = greatest.0;
+          next_below = greatest.1;
+          kept = walk.1;
+          has = walk.2;
+        },
+        refl,
+      )
 
 -- each hole has a next filled-above edge below it
 pub holes_have_next : HolesHaveNext

@@ -1,4 +1,5 @@
--- What is under an edge is the greatest such edge and all under it: so the winding below the edge is the one above that edge.
+-- What is under an edge is the greatest such edge and all under it: so the winding below the edge is the one above that
+-- edge.
 use Rattle.std.proofs.Common.{◌≡◌, ◌⊎◌, Bool, true, false, cond, ◌&&◌, ℤ, pos, ◌<ℤ◌, List, Contains, sym, ap, ◌∙◌}
 use Rattle.std.proofs.lemmas.Bool.{and_parts, and_from, false≢true, false_from_ne_true}
 use Rattle.overlay_geom.specs.Plane.{Edge}
@@ -18,27 +19,33 @@ pub record IsGreatestUnderIn (es : List CountedEdge) (e : Edge) (x d : ℤ) (g :
   pub greatest : (f : CountedEdge) → Contains es f → covers (ends_of f) x d ≡ true → is_under (ends_of f) e x d ≡ true →
       (f ≡ g) ⊎ (is_under (ends_of f) (ends_of g) x d ≡ true)
 
-module _ (count : CountedEdge → ℤ) (es : List CountedEdge) (r : IsBalancedArrangement count es) (e : CountedEdge) (at_e : Contains es e) (x d : ℤ)
+module _ (count : CountedEdge → ℤ) (es : List CountedEdge) (r : IsBalancedArrangement count es) (e : CountedEdge)
+    (at_e : Contains es e) (x d : ℤ)
     (positive : pos 0 <ℤ d) (over_e : covers (ends_of e) x d ≡ true) where
   -- the edge covers the abscissa, and is under e there
   abbrev is_under_it : CountedEdge → Bool
   is_under_it f = covers (ends_of f) x d && is_under (ends_of f) (ends_of e) x d
 
   -- the winding below the edge is the one above the greatest edge under it
-  pub above_the_greatest_under : (g : CountedEdge) → IsGreatestUnderIn es (ends_of e) x d g → winding_below count es e ≡ winding_above count es g
+  pub above_the_greatest_under : (g : CountedEdge) → IsGreatestUnderIn es (ends_of e) x d g →
+      winding_below count es e ≡ winding_above count es g
   above_the_greatest_under g h =
       sym (one_winding_along_a_side es count r.forward r.settled r.balanced e at_e x d positive over_e)
-      ∙ above_the_greatest_taken count es r x d positive is_under_it (takes_under ends_of es (ends_of e) x d positive over_e) g (record {
+      ∙ above_the_greatest_taken count es r x d positive is_under_it
+      (takes_under ends_of es (ends_of e) x d positive over_e) g (record {
         entry = h.entry;
         is = and_from (covers (ends_of g) x d) (is_under (ends_of g) (ends_of e) x d) h.over h.under;
-        greatest = λ f at t. let both = and_parts (covers (ends_of f) x d) (is_under (ends_of f) (ends_of e) x d) t in h.greatest f at both.0 both.1;
+        greatest = λ f at t. let both = and_parts (covers (ends_of f) x d) (is_under (ends_of f) (ends_of e) x d) t in
+            h.greatest f at both.0 both.1;
       })
 
   -- and it is 0 where no edge is under it
-  pub nothing_under : ((f : CountedEdge) → Contains es f → covers (ends_of f) x d ≡ true → is_under (ends_of f) (ends_of e) x d ≡ false) →
+  pub nothing_under : ((f : CountedEdge) → Contains es f → covers (ends_of f) x d ≡ true →
+      is_under (ends_of f) (ends_of e) x d ≡ false) →
       winding_below count es e ≡ pos 0
   nothing_under none =
       sym (one_winding_along_a_side es count r.forward r.settled r.balanced e at_e x d positive over_e)
       ∙ total-zero (λ f. cond (is_under_it f) (count f) (pos 0)) es (λ f at. ap (λ t. cond t (count f) (pos 0))
-      (false_from_ne_true (is_under_it f) (λ t. let both = and_parts (covers (ends_of f) x d) (is_under (ends_of f) (ends_of e) x d) t in
+      (false_from_ne_true (is_under_it f)
+      (λ t. let both = and_parts (covers (ends_of f) x d) (is_under (ends_of f) (ends_of e) x d) t in
       false≢true (sym (none f at both.0) ∙ both.1))))

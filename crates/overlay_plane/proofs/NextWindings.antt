@@ -1,5 +1,6 @@
 -- From a step to the next one by a hand, the winding on the side of that hand stays the same.
-use Rattle.std.proofs.Common.{◌≡◌, ◌⊎◌, inl, inr, ⊎_elim, Bool, true, false, cond, ℤ, pos, List, Contains, refl, sym, ap, ◌∙◌, subst}
+use Rattle.std.proofs.Common.{◌≡◌, ◌⊎◌, inl, inr, ⊎_elim, Bool, true, false, cond, ℤ, pos, List, Contains, refl, sym}
+use Rattle.std.proofs.Common.{ap, ◌∙◌, subst}
 use Rattle.std.proofs.lemmas.Bool.{false≢true}
 use Rattle.std.proofs.lemmas.List.Elements.{All-contains}
 use Rattle.overlay_geom.specs.Plane.{Point, Step, edge_eq}
@@ -65,7 +66,8 @@ module _ (count : CountedEdge → ℤ) (es : List CountedEdge) (arranged : IsBal
         back walk =
             let same = sym (ap (λ (q : Step). q.to) walk) ∙ ends in
             let first = point_eq-of_same e.a v same in
-            let other = not_start count es arranged s.from e along.entry (sym (ap (λ (q : Step). q.from) walk)) in record {
+            let other = not_start count es arranged s.from e along.entry (sym (ap (λ (q : Step). q.from) walk)) in
+            record {
               spoke = record { entry = along.entry; at = inl same };
               far = ap (λ t. cond t e.b e.a) first ∙ sym (ap (λ (q : Step). q.from) walk);
               on_left = opposite_too (winding_above count es e) (winding_below count es e) other first;
@@ -83,8 +85,10 @@ module _ (count : CountedEdge → ℤ) (es : List CountedEdge) (arranged : IsBal
             let first = point_eq-of_same e.a v same in record {
               spoke = record { entry = along.entry; at = inl same };
               far = ap (λ t. cond t e.b e.a) first ∙ sym (ap (λ (q : Step). q.to) walk);
-              on_left = choose (winding_above count es e) (winding_below count es e) true (point_eq-of_same e.a s.from at_from) first;
-              on_right = choose (winding_below count es e) (winding_above count es e) true (point_eq-of_same e.a s.from at_from) first;
+              on_left = choose (winding_above count es e) (winding_below count es e) true
+                  (point_eq-of_same e.a s.from at_from) first;
+              on_right = choose (winding_below count es e) (winding_above count es e) true
+                  (point_eq-of_same e.a s.from at_from) first;
             }
 
         back : s ≡ record { from = e.b; to = e.a } → Leaves v e s
@@ -94,41 +98,68 @@ module _ (count : CountedEdge → ℤ) (es : List CountedEdge) (arranged : IsBal
             let other = not_start count es arranged v e along.entry same in record {
               spoke = record { entry = along.entry; at = inr same };
               far = ap (λ t. cond t e.b e.a) other ∙ sym (ap (λ (q : Step). q.to) walk);
-              on_left = choose (winding_above count es e) (winding_below count es e) false (not_start count es arranged s.from e along.entry at_from) other;
-              on_right = choose (winding_below count es e) (winding_above count es e) false (not_start count es arranged s.from e along.entry at_from) other;
+              on_left = choose (winding_above count es e) (winding_below count es e) false
+                  (not_start count es arranged s.from e along.entry at_from) other;
+              on_right = choose (winding_below count es e) (winding_above count es e) false
+                  (not_start count es arranged s.from e along.entry at_from) other;
             }
 
-  module _ (v : Point) (e m f : CountedEdge) (spoke_e : IsSpoke es v e) (spoke_m : IsSpoke es v m) (spoke_f : IsSpoke es v f) where
+  module _ (v : Point) (e m f : CountedEdge) (spoke_e : IsSpoke es v e) (spoke_m : IsSpoke es v m)
+      (spoke_f : IsSpoke es v f) where
     -- what is between f and e counterclockwise is met from e before f by the left hand
-    from_other_side : IsMetBefore right v (far_end v f) (far_end v m) (far_end v e) → IsMetBefore left v (far_end v e) (far_end v m) (far_end v f)
-    from_other_side h = by (edge_eq (ends_of m) (ends_of f)) refl (edge_eq (ends_of m) (ends_of e)) refl (edge_eq (ends_of e) (ends_of f)) refl
+    from_other_side : IsMetBefore right v (far_end v f) (far_end v m) (far_end v e) →
+        IsMetBefore left v (far_end v e) (far_end v m) (far_end v f)
+    from_other_side h = by (edge_eq (ends_of m) (ends_of f)) refl (edge_eq (ends_of m) (ends_of e)) refl
+        (edge_eq (ends_of e) (ends_of f)) refl
       where
         one : (x y : CountedEdge) → IsSpoke es v x → IsSpoke es v y → edge_eq (ends_of x) (ends_of y) ≡ true → x ≡ y
         one x y sx sy same = one_entry es arranged.distinct x y sx.entry sy.entry same
 
-        by : (i : Bool) → edge_eq (ends_of m) (ends_of f) ≡ i → (j : Bool) → edge_eq (ends_of m) (ends_of e) ≡ j → (k : Bool) → edge_eq (ends_of e) (ends_of f) ≡ k →
+        by : (i : Bool) → edge_eq (ends_of m) (ends_of f) ≡ i → (j : Bool) → edge_eq (ends_of m) (ends_of e) ≡ j →
+            (k : Bool) → edge_eq (ends_of e) (ends_of f) ≡ k →
             IsMetBefore left v (far_end v e) (far_end v m) (far_end v f)
-        by true mf j me k ef = absurd (false≢true (sym (start_is_last right v (far_end v f) (far_end v e)) ∙ subst (λ (x : CountedEdge). IsMetBefore right v (far_end v f) (far_end v x) (far_end v e)) (one m f spoke_m spoke_f mf) h))
-        by false mf true me k ef = absurd (false≢true (sym (met_irreflexive right v (far_end v f) (far_end v e)) ∙ subst (λ (x : CountedEdge). IsMetBefore right v (far_end v f) (far_end v x) (far_end v e)) (one m e spoke_m spoke_e me) h))
-        by false mf false me true ef = subst (λ (x : CountedEdge). IsMetBefore left v (far_end v e) (far_end v m) (far_end v x)) (one e f spoke_e spoke_f ef)
-            (met_after left v (far_end v e) (far_end v e) (far_end v m) (far_apart count es arranged v e spoke_e) (apart_exchanged v (far_end v m) (far_end v e) (spokes_apart count es arranged v m e spoke_m spoke_e me)) (start_is_last left v (far_end v e) (far_end v m)))
+        by true mf j me k ef = absurd (false≢true (sym (start_is_last right v (far_end v f) (far_end v e))
+            ∙ subst (λ (x : CountedEdge). IsMetBefore right v (far_end v f) (far_end v x) (far_end v e))
+            (one m f spoke_m spoke_f mf) h))
+        by false mf true me k ef = absurd
+            (false≢true (sym (met_irreflexive right v (far_end v f) (far_end v e))
+            ∙ subst (λ (x : CountedEdge). IsMetBefore right v (far_end v f) (far_end v x) (far_end v e))
+            (one m e spoke_m spoke_e me) h))
+        by false mf false me true ef = subst (λ (x : CountedEdge). IsMetBefore left v (far_end v e) (far_end v m)
+            (far_end v x)) (one e f spoke_e spoke_f ef)
+            (met_after left v (far_end v e) (far_end v e) (far_end v m) (far_apart count es arranged v e spoke_e)
+            (apart_exchanged v (far_end v m) (far_end v e)
+            (spokes_apart count es arranged v m e spoke_m spoke_e me))
+            (start_is_last left v (far_end v e) (far_end v m)))
         by false mf false me false ef =
             let m_f = spokes_apart count es arranged v m f spoke_m spoke_f mf in
             let m_e = spokes_apart count es arranged v m e spoke_m spoke_e me in
             let e_f = spokes_apart count es arranged v e f spoke_e spoke_f ef in
-            met_shifted left v (far_end v f) (far_end v e) (far_end v m) (record { one = apart_exchanged v (far_end v e) (far_end v f) e_f; two = apart_exchanged v (far_end v m) (far_end v e) m_e; three = m_f })
-            (met_by_other right v (far_end v f) (far_end v m) (far_end v e) (record { one = apart_exchanged v (far_end v m) (far_end v f) m_f; two = m_e; three = e_f }) h)
+            met_shifted left v (far_end v f) (far_end v e) (far_end v m)
+            (record {
+              one = apart_exchanged v (far_end v e) (far_end v f) e_f;
+              two = apart_exchanged v (far_end v m) (far_end v e) m_e;
+              three = m_f;
+            })
+            (met_by_other right v (far_end v f) (far_end v m) (far_end v e)
+            (record { one = apart_exchanged v (far_end v m) (far_end v f) m_f; two = m_e; three = e_f }) h)
 
   module _ (v : Point) (e f : CountedEdge) (s t : Step) (arriving : Arrives v e s) (leaving : Leaves v f t) where
     -- where what a hand meets between them counts nothing, the winding on its side is the same
-    by_hand : (hand : Hand) → ((m : CountedEdge) → IsSpoke es v m → IsMetBefore hand v (far_end v e) (far_end v m) (far_end v f) → count m ≡ pos 0) →
+    by_hand : (hand : Hand) → ((m : CountedEdge) → IsSpoke es v m → IsMetBefore hand v (far_end v e) (far_end v m)
+        (far_end v f) → count m ≡ pos 0) →
         winding_on_side hand count es e s ≡ winding_on_side hand count es f t
-    by_hand left nothing = arriving.on_left ∙ sym (one_winding_between_spokes count es arranged v f e leaving.spoke arriving.spoke (λ m spoke h. nothing m spoke (from_other_side v e m f arriving.spoke spoke leaving.spoke h))) ∙ sym leaving.on_left
-    by_hand right nothing = arriving.on_right ∙ one_winding_between_spokes count es arranged v e f arriving.spoke leaving.spoke nothing ∙ sym leaving.on_right
+    by_hand left nothing = arriving.on_left
+        ∙ sym (one_winding_between_spokes count es arranged v f e leaving.spoke arriving.spoke
+        (λ m spoke h. nothing m spoke (from_other_side v e m f arriving.spoke spoke leaving.spoke h)))
+        ∙ sym leaving.on_left
+    by_hand right nothing = arriving.on_right ∙ one_winding_between_spokes count es arranged v e f arriving.spoke
+        leaving.spoke nothing ∙ sym leaving.on_right
 
 -- from a step to the next one the winding on the side of the hand is the same
 pub one_winding_to_the_next_step : OneWindingToTheNextStep
-one_winding_to_the_next_step count es arranged steps alternates counted hand s t at_s next e f along_e along_f = by_hand count es arranged s.to e f s t arriving leaving hand nothing
+one_winding_to_the_next_step count es arranged steps alternates counted hand s t at_s next e f along_e along_f =
+    by_hand count es arranged s.to e f s t arriving leaving hand nothing
   where
     arriving : Arrives count es arranged s.to e s
     arriving = arrives count es arranged s.to e s along_e refl
@@ -136,23 +167,34 @@ one_winding_to_the_next_step count es arranged steps alternates counted hand s t
     leaving : Leaves count es arranged s.to f t
     leaving = leaves count es arranged s.to f t along_f next.leaves
 
-    between : (p r q : Point) → p ≡ s.from → q ≡ t.to → IsMetBefore hand s.to p r q → IsMetBefore hand s.to s.from r t.to
-    between p r q far_p far_q h = subst (λ (x : Point). IsMetBefore hand s.to x r t.to) far_p (subst (λ (y : Point). IsMetBefore hand s.to p r y) far_q h)
+    between : (p r q : Point) → p ≡ s.from → q ≡ t.to → IsMetBefore hand s.to p r q →
+        IsMetBefore hand s.to s.from r t.to
+    between p r q far_p far_q h = subst (λ (x : Point). IsMetBefore hand s.to x r t.to) far_p
+        (subst (λ (y : Point). IsMetBefore hand s.to p r y) far_q h)
 
     -- no step of the set is between
-    none : (m : CountedEdge) → IsSpoke es s.to m → (u : Step) → Contains steps u → IsStepAlong es m u → IsMetBefore hand s.to s.from (far_end s.to m) t.to → ⊥
+    none : (m : CountedEdge) → IsSpoke es s.to m → (u : Step) → Contains steps u → IsStepAlong es m u →
+        IsMetBefore hand s.to s.from (far_end s.to m) t.to → ⊥
     none m spoke u at_u along h = ⊎_elim
         (λ ends. let own = arrives count es arranged s.to m u along ends in
-        false≢true (sym ((next_is_one_to_one steps alternates hand).neighbours s t u at_s next at_u ends) ∙ subst (λ (r : Point). IsMetBefore hand s.to s.from r t.to) own.far h))
+        false≢true (sym ((next_is_one_to_one steps alternates hand).neighbours s t u at_s next at_u ends)
+        ∙ subst (λ (r : Point). IsMetBefore hand s.to s.from r t.to) own.far h))
         (λ starts. let own = leaves count es arranged s.to m u along starts in
-        false≢true (sym (All-contains (λ (w : Step). w.from ≡ s.to → is_met_before hand s.to s.from w.to t.to ≡ false) steps u next.first at_u starts) ∙ subst (λ (r : Point). IsMetBefore hand s.to s.from r t.to) own.far h))
+        false≢true (sym (All-contains (λ (w : Step). w.from ≡ s.to → is_met_before hand s.to s.from w.to t.to ≡ false)
+        steps u next.first at_u starts) ∙ subst (λ (r : Point). IsMetBefore hand s.to s.from r t.to) own.far h))
         ends_or_starts
       where
         ends_or_starts : (u.to ≡ s.to) ⊎ (u.from ≡ s.to)
         ends_or_starts = ⊎_elim
-            (λ walk. ⊎_elim (λ at_a. inr (ap (λ (q : Step). q.from) walk ∙ at_a)) (λ at_b. inl (ap (λ (q : Step). q.to) walk ∙ at_b)) spoke.at)
-            (λ walk. ⊎_elim (λ at_a. inl (ap (λ (q : Step). q.to) walk ∙ at_a)) (λ at_b. inr (ap (λ (q : Step). q.from) walk ∙ at_b)) spoke.at)
+            (λ walk. ⊎_elim (λ at_a. inr (ap (λ (q : Step). q.from) walk ∙ at_a))
+            (λ at_b. inl (ap (λ (q : Step). q.to) walk ∙ at_b)) spoke.at)
+            (λ walk. ⊎_elim (λ at_a. inl (ap (λ (q : Step). q.to) walk ∙ at_a))
+            (λ at_b. inr (ap (λ (q : Step). q.from) walk ∙ at_b)) spoke.at)
             along.walks
 
-    nothing : (m : CountedEdge) → IsSpoke es s.to m → IsMetBefore hand s.to (far_end s.to e) (far_end s.to m) (far_end s.to f) → count m ≡ pos 0
-    nothing m spoke h = ⊎_elim (λ zero. zero) (λ step. absurd (none m spoke step.0 step.1 step.2 (between (far_end s.to e) (far_end s.to m) (far_end s.to f) arriving.far leaving.far h))) (counted m spoke.entry)
+    nothing : (m : CountedEdge) → IsSpoke es s.to m → IsMetBefore hand s.to (far_end s.to e) (far_end s.to m)
+        (far_end s.to f) → count m ≡ pos 0
+    nothing m spoke h = ⊎_elim (λ zero. zero)
+        (λ step. absurd (none m spoke step.0 step.1 step.2
+        (between (far_end s.to e) (far_end s.to m) (far_end s.to f) arriving.far leaving.far h)))
+        (counted m spoke.entry)

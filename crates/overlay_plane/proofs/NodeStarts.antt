@@ -1,6 +1,7 @@
 -- Just below an edge, at its start: what lies under it is what lies strictly below the start, and what starts there to
 -- its right.
-use Rattle.std.proofs.Common.{◌≡◌, ⊎_elim, Bool, true, false, ◌&&◌, pos, ◌+ℤ◌, ◌-ℤ◌, ◌*ℤ◌, ◌<ℤ◌, ◌≤ℤ◌, int_lt, int_le, refl, sym, ap, ◌∙◌, subst, arith}
+use Rattle.std.proofs.Common.{◌≡◌, ⊎_elim, Bool, true, false, ◌&&◌, pos, ◌+ℤ◌, ◌-ℤ◌, ◌*ℤ◌, ◌<ℤ◌, ◌≤ℤ◌, int_lt, int_le}
+use Rattle.std.proofs.Common.{refl, sym, ap, ◌∙◌, subst, arith}
 use Rattle.std.proofs.lemmas.Int.{ints, by_lt_z}
 use Rattle.std.proofs.lemmas.Bool.{false≢true, and_from, and_parts, and_right, or_cases}
 use Rattle.std.specs.Ordering.{int_eq}
@@ -17,13 +18,15 @@ use Rattle.overlay_plane.proofs.Ends.{start_on}
 use Rattle.overlay_plane.proofs.Strip.{starts_first}
 use Rattle.overlay_plane.proofs.Under.{covers_from, covers_to, covers_wide, shared_just_right}
 use Rattle.overlay_plane.proofs.Tests.{lt_from_test, test_from_lt, test_from_le, test_from_ge, same_tests}
-use Rattle.overlay_plane.proofs.NearAbscissas.{near_same, gap-own_start, gap-right_of_start, end_where_level, times_test}
+use Rattle.overlay_plane.proofs.NearAbscissas.{near_same, gap-own_start, gap-right_of_start, end_where_level}
+use Rattle.overlay_plane.proofs.NearAbscissas.{times_test}
 use Rattle.overlay_plane.proofs.WhereEdgesStart.{covers_spans, covers_start}
 
 -- what an entry counts for where it passes the one of two tests with c, and the other or p
 pub counted_besides : (c u s p t : Bool) → (p ≡ true → (s ≡ false) × ((c && u) ≡ t)) → (p ≡ false → c ≡ true → u ≡ s) →
     one_if (c && u) ≡ one_if (c && s) +ℤ one_if (p && t)
-counted_besides c u s true t h k = ap (λ z. one_if z) (h refl).1 ∙ sym (ap (λ z. one_if z +ℤ one_if t) (and_right c s (h refl).0) ∙ +ℤ_idl (one_if t))
+counted_besides c u s true t h k = ap (λ z. one_if z) (h refl).1
+    ∙ sym (ap (λ z. one_if z +ℤ one_if t) (and_right c s (h refl).0) ∙ +ℤ_idl (one_if t))
 counted_besides true u s false t h k = ap (λ z. one_if z) (k refl refl) ∙ sym (+ℤ_idr (one_if s))
 counted_besides false u s false t h k = refl
 
@@ -34,7 +37,8 @@ rises_upright f t narrow = ⊎_elim (λ l. absurd (let less = lt_from_test f.a.x
     (or_cases (int_lt f.a.x f.b.x) (int_eq f.a.x f.b.x && int_lt f.a.y f.b.y) t)
 
 -- an edge to the right of a wide one that starts in the same point is wide
-pub right_is_wide : (e f : Edge) → point_lt f.a f.b ≡ true → pos 0 <ℤ width e → pos 0 <ℤ edge_turn f e → pos 0 <ℤ width f
+pub right_is_wide : (e f : Edge) → point_lt f.a f.b ≡ true → pos 0 <ℤ width e → pos 0 <ℤ edge_turn f e →
+    pos 0 <ℤ width f
 right_is_wide e f forward wide turned = by_lt_z (pos 0) (width f) (λ lt. lt) (λ ge. absurd (against ge))
   where
     against : width f ≤ℤ pos 0 → ⊥
@@ -51,28 +55,36 @@ module _ (e f : Edge) (forward : point_lt f.a f.b ≡ true) (meets : edge_eq e f
   elsewhere_meets other = by (edge_eq e f) refl
     where
       by : (s : Bool) → edge_eq e f ≡ s → MeetInEnds e f
-      by true same = absurd (false≢true (sym other ∙ (and_parts (point_eq f.a e.a) (point_eq f.b e.b) (subst (λ (g : Edge). edge_eq g e ≡ true) (edge_eq-same e f same) (edge_eq-itself e))).0))
+      by true same = absurd (false≢true
+          (sym other ∙ (and_parts (point_eq f.a e.a) (point_eq f.b e.b)
+          (subst (λ (g : Edge). edge_eq g e ≡ true) (edge_eq-same e f same) (edge_eq-itself e))).0))
       by false apart = meets apart
 
   -- where f starts elsewhere and is over the start of e, that is not on its line
   pub start_off : point_eq f.a e.a ≡ false → covers f e.a.x (pos 1) ≡ true → ¬ (side f (in_plane e.a) ≡ pos 0)
   start_off other over level = ⊎_elim (λ at. false≢true (sym other ∙ at)) (λ at. before_end at)
-      (end_where_level e f e.a (covers_wide f e.a.x (pos 1) (record { lt = tt }) over) (elsewhere_meets other) (start_on e)
-      (record { from = covers_from f e.a.x (pos 1) over; to = let r = covers_to f e.a.x (pos 1) over in omega linear }) level)
+      (end_where_level e f e.a (covers_wide f e.a.x (pos 1) (record { lt = tt }) over) (elsewhere_meets other)
+      (start_on e)
+      (record { from = covers_from f e.a.x (pos 1) over; to = let r = covers_to f e.a.x (pos 1) over in omega linear })
+      level)
     where
       before_end : point_eq f.b e.a ≡ true → ⊥
-      before_end at = let same = ap (λ (p : Point). p.x) (point_eq-same f.b e.a at) in let r = covers_to f e.a.x (pos 1) over in omega (arith, ints)
+      before_end at = let same = ap (λ (p : Point). p.x) (point_eq-same f.b e.a at) in
+          let r = covers_to f e.a.x (pos 1) over in omega (arith, ints)
 
   -- an edge that starts with e has its start on its line
   pub level_start : point_eq f.a e.a ≡ true → side f (in_plane e.a) ≡ pos 0
   level_start at = subst (λ (p : Point). side f (in_plane p) ≡ pos 0) (point_eq-same f.a e.a at) (side-start f)
 
   -- under an edge that is not vertical
-  pub under_from_start : pos 0 <ℤ width e → one_if (covers f e.a.x (pos 1) && is_under f e e.a.x (pos 1)) ≡ one_if (is_strictly_below f (in_plane e.a)) +ℤ one_if (point_eq f.a e.a && turns_left f e)
-  under_from_start wide = counted_besides (covers f e.a.x (pos 1)) (is_under f e e.a.x (pos 1)) (int_lt (pos 0) (side f (in_plane e.a))) (point_eq f.a e.a) (turns_left f e)
+  pub under_from_start : pos 0 <ℤ width e → one_if (covers f e.a.x (pos 1) && is_under f e e.a.x (pos 1)) ≡ one_if
+      (is_strictly_below f (in_plane e.a)) +ℤ one_if (point_eq f.a e.a && turns_left f e)
+  under_from_start wide = counted_besides (covers f e.a.x (pos 1)) (is_under f e e.a.x (pos 1))
+      (int_lt (pos 0) (side f (in_plane e.a))) (point_eq f.a e.a) (turns_left f e)
       (λ at. (test_from_ge (pos 0) (side f (in_plane e.a)) (let l = level_start at in omega linear), with_it at)) beside
     where
-      form : gap f e (e.a.x +ℤ e.a.x +ℤ pos 1) (pos 1 +ℤ pos 1) ≡ pos 2 *ℤ (width e *ℤ side f (in_plane e.a)) +ℤ edge_turn f e
+      form : gap f e (e.a.x +ℤ e.a.x +ℤ pos 1) (pos 1 +ℤ pos 1) ≡ pos 2 *ℤ (width e *ℤ side f (in_plane e.a))
+          +ℤ edge_turn f e
       form = gap-right_of_start f e
 
       over_own : covers e e.a.x (pos 1) ≡ true
@@ -87,18 +99,28 @@ module _ (e f : Edge) (forward : point_lt f.a f.b ≡ true) (meets : edge_eq e f
 
       with_it : point_eq f.a e.a ≡ true → (covers f e.a.x (pos 1) && is_under f e e.a.x (pos 1)) ≡ turns_left f e
       with_it at = same_tests (covers f e.a.x (pos 1) && is_under f e e.a.x (pos 1)) (turns_left f e)
-          (λ t. ap (λ z. int_lt (pos 0) z) (sym (gap_is_turn at)) ∙ (and_parts (covers f e.a.x (pos 1)) (is_under f e e.a.x (pos 1)) t).1)
-          (λ t. and_from (covers f e.a.x (pos 1)) (is_under f e e.a.x (pos 1)) (over_it t) (ap (λ z. int_lt (pos 0) z) (gap_is_turn at) ∙ t))
+          (λ t. ap (λ z. int_lt (pos 0) z) (sym (gap_is_turn at))
+          ∙ (and_parts (covers f e.a.x (pos 1)) (is_under f e e.a.x (pos 1)) t).1)
+          (λ t. and_from (covers f e.a.x (pos 1)) (is_under f e e.a.x (pos 1)) (over_it t)
+          (ap (λ z. int_lt (pos 0) z) (gap_is_turn at) ∙ t))
         where
           same_x : f.a.x ≡ e.a.x
           same_x = ap (λ (p : Point). p.x) (point_eq-same f.a e.a at)
 
           over_it : turns_left f e ≡ true → covers f e.a.x (pos 1) ≡ true
-          over_it t = let s = same_x in let w = right_is_wide e f forward wide (lt_from_test (pos 0) (edge_turn f e) t) in and_from (int_le (f.a.x *ℤ pos 1) e.a.x) (int_lt e.a.x (f.b.x *ℤ pos 1)) (test_from_le (f.a.x *ℤ pos 1) e.a.x (omega (arith, ints))) (test_from_lt e.a.x (f.b.x *ℤ pos 1) (omega (arith, ints)))
+          over_it t = let s = same_x in let w = right_is_wide e f forward wide
+              (lt_from_test (pos 0) (edge_turn f e) t) in
+              and_from (int_le (f.a.x *ℤ pos 1) e.a.x) (int_lt e.a.x (f.b.x *ℤ pos 1))
+              (test_from_le (f.a.x *ℤ pos 1) e.a.x (omega (arith, ints)))
+              (test_from_lt e.a.x (f.b.x *ℤ pos 1) (omega (arith, ints)))
 
-      beside : point_eq f.a e.a ≡ false → covers f e.a.x (pos 1) ≡ true → is_under f e e.a.x (pos 1) ≡ int_lt (pos 0) (side f (in_plane e.a))
-      beside other over = near_same f e e.a.x (pos 1) (e.a.x +ℤ e.a.x +ℤ pos 1) (pos 1 +ℤ pos 1) (covers_wide f e.a.x (pos 1) (record { lt = tt }) over) wide (elsewhere_meets other) (record { lt = tt })
-          (covers_spans e e.a.x (pos 1) over_own) (covers_spans f e.a.x (pos 1) over) (shared_just_right f e e.a.x (pos 1) (record { lt = tt }) over over_own) (shared_just_right e f e.a.x (pos 1) (record { lt = tt }) over_own over)
+      beside : point_eq f.a e.a ≡ false → covers f e.a.x (pos 1) ≡ true → is_under f e e.a.x (pos 1) ≡ int_lt (pos 0)
+          (side f (in_plane e.a))
+      beside other over = near_same f e e.a.x (pos 1) (e.a.x +ℤ e.a.x +ℤ pos 1) (pos 1 +ℤ pos 1)
+          (covers_wide f e.a.x (pos 1) (record { lt = tt }) over) wide (elsewhere_meets other) (record { lt = tt })
+          (covers_spans e e.a.x (pos 1) over_own) (covers_spans f e.a.x (pos 1) over)
+          (shared_just_right f e e.a.x (pos 1) (record { lt = tt }) over over_own)
+          (shared_just_right e f e.a.x (pos 1) (record { lt = tt }) over_own over)
           (λ level. start_off other over (zero_side level))
           ∙ times_test (width e) (side f (in_plane e.a)) (gap f e e.a.x (pos 1)) wide (gap-own_start f e)
         where

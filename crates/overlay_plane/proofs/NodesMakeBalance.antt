@@ -1,6 +1,8 @@
--- A list is balanced where, at every point, as many counts start as end: whatever number g gives to each point is a sum of numbers given to
--- one point each, and for such a one what the edges rise by is what ends there, less what starts there.
-use Rattle.std.proofs.Common.{◌≡◌, ◌⊎◌, inl, inr, ⊎_elim, Bool, true, false, cond, ℤ, pos, ◌+ℤ◌, ◌-ℤ◌, ◌*ℤ◌, List, [], ◌∷◌, ◌++◌, map, Contains, refl, sym, ap, ap₂, ◌∙◌, arith}
+-- A list is balanced where, at every point, as many counts start as end: whatever number g gives to each point is a sum
+-- of numbers given to one point each, and for such a one what the edges rise by is what ends there, less what starts
+-- there.
+use Rattle.std.proofs.Common.{◌≡◌, ◌⊎◌, inl, inr, ⊎_elim, Bool, true, false, cond, ℤ, pos, ◌+ℤ◌, ◌-ℤ◌, ◌*ℤ◌, List, []}
+use Rattle.std.proofs.Common.{◌∷◌, ◌++◌, map, Contains, refl, sym, ap, ap₂, ◌∙◌, arith}
 use Rattle.std.proofs.lemmas.List.Elements.{Contains-append_left, Contains-append_right}
 use Rattle.std.proofs.lemmas.Bool.{false≢true}
 use Rattle.overlay_geom.specs.Plane.{Point, point_eq, total}
@@ -39,13 +41,15 @@ abbrev IsNothingOutside : List Point → (Point → ℤ) → Point → Type 0
 IsNothingOutside vs g u = (g u ≡ pos 0) ⊎ Contains vs u
 
 -- elsewhere than at the first point, it is nothing outside the others
-one_less : (v : Point) (vs : List Point) (g : Point → ℤ) (u : Point) → IsNothingOutside (v ∷ vs) g u → IsNothingOutside vs (elsewhere v g) u
+one_less : (v : Point) (vs : List Point) (g : Point → ℤ) (u : Point) → IsNothingOutside (v ∷ vs) g u →
+    IsNothingOutside vs (elsewhere v g) u
 one_less v vs g u outside = by (point_eq u v) refl outside
   where
     by : (t : Bool) → point_eq u v ≡ t → IsNothingOutside (v ∷ vs) g u → (cond t (pos 0) (g u) ≡ pos 0) ⊎ Contains vs u
     by true same known = inl refl
     by false other (inl nothing) = inl nothing
-    by false other (inr held) = ⊎_elim (λ is. absurd (false≢true (sym other ∙ point_eq-of_same u v (sym is)))) inr (Contains-cases v vs u held)
+    by false other (inr held) = ⊎_elim (λ is. absurd (false≢true (sym other ∙ point_eq-of_same u v (sym is)))) inr
+        (Contains-cases v vs u held)
 
 -- the two ends of an edge
 abbrev start_of : CountedEdge → Point
@@ -54,7 +58,8 @@ start_of e = e.a
 abbrev end_of : CountedEdge → Point
 end_of e = e.b
 
-module _ (count : CountedEdge → ℤ) (es : List CountedEdge) (node : (v : Point) → total_ending count es v ≡ total_starting count es v) where
+module _ (count : CountedEdge → ℤ) (es : List CountedEdge) (node : (v : Point) →
+    total_ending count es v ≡ total_starting count es v) where
   -- a number at one point alone rises by what ends there, less what starts there: so by nothing
   at_one_point : (v : Point) (g : Point → ℤ) → total (rise count (at_point v g)) es ≡ pos 0
   at_one_point v g =
@@ -62,36 +67,43 @@ module _ (count : CountedEdge → ℤ) (es : List CountedEdge) (node : (v : Poin
       (λ e. g v *ℤ (cond (point_eq e.b v) (count e) (pos 0) -ℤ cond (point_eq e.a v) (count e) (pos 0))) es
       (λ e c. one_edge (point_eq e.b v) (point_eq e.a v) (count e) (g v))
       ∙ total-times (g v) (λ e. cond (point_eq e.b v) (count e) (pos 0) -ℤ cond (point_eq e.a v) (count e) (pos 0)) es
-      ∙ ap (λ z. g v *ℤ z) (total-sub (λ e. cond (point_eq e.b v) (count e) (pos 0)) (λ e. cond (point_eq e.a v) (count e) (pos 0)) es)
+      ∙ ap (λ z. g v *ℤ z) (total-sub (λ e. cond (point_eq e.b v) (count e) (pos 0))
+      (λ e. cond (point_eq e.a v) (count e) (pos 0)) es)
       ∙ ap (λ z. g v *ℤ (z -ℤ total_starting count es v)) (node v)
       ∙ solve 2 (λ k t. k ⊗ (t ⊖ t) ≗ number (pos 0)) tt (g v) (total_starting count es v)
     where
-      one_edge : (s t : Bool) (c k : ℤ) → c *ℤ (cond s k (pos 0) -ℤ cond t k (pos 0)) ≡ k *ℤ (cond s c (pos 0) -ℤ cond t c (pos 0))
+      one_edge : (s t : Bool) (c k : ℤ) →
+          c *ℤ (cond s k (pos 0) -ℤ cond t k (pos 0)) ≡ k *ℤ (cond s c (pos 0) -ℤ cond t c (pos 0))
       one_edge true true c k = solve 2 (λ c k. c ⊗ (k ⊖ k) ≗ k ⊗ (c ⊖ c)) tt c k
       one_edge true false c k = solve 2 (λ c k. c ⊗ (k ⊖ number (pos 0)) ≗ k ⊗ (c ⊖ number (pos 0))) tt c k
       one_edge false true c k = solve 2 (λ c k. c ⊗ (number (pos 0) ⊖ k) ≗ k ⊗ (number (pos 0) ⊖ c)) tt c k
-      one_edge false false c k = solve 2 (λ c k. c ⊗ (number (pos 0) ⊖ number (pos 0)) ≗ k ⊗ (number (pos 0) ⊖ number (pos 0))) tt c k
+      one_edge false false c k = solve 2
+          (λ c k. c ⊗ (number (pos 0) ⊖ number (pos 0)) ≗ k ⊗ (number (pos 0) ⊖ number (pos 0))) tt c k
 
   -- what a number rises by is what its part at one point rises by, and its part elsewhere
   rises_in_two : (v : Point) (g : Point → ℤ) → total (rise count g) es ≡ total (rise count (elsewhere v g)) es
   rises_in_two v g =
       total-same (rise count g) (λ e. rise count (at_point v g) e +ℤ rise count (elsewhere v g) e) es
       (λ e c. ap₂ (λ y z. count e *ℤ (y -ℤ z)) (in_two v g e.b) (in_two v g e.a)
-      ∙ solve 5 (λ c p q r s. c ⊗ ((p ⊕ q) ⊖ (r ⊕ s)) ≗ c ⊗ (p ⊖ r) ⊕ c ⊗ (q ⊖ s)) tt (count e) (at_point v g e.b) (elsewhere v g e.b) (at_point v g e.a) (elsewhere v g e.a))
+      ∙ solve 5 (λ c p q r s. c ⊗ ((p ⊕ q) ⊖ (r ⊕ s)) ≗ c ⊗ (p ⊖ r) ⊕ c ⊗ (q ⊖ s)) tt (count e) (at_point v g e.b)
+      (elsewhere v g e.b) (at_point v g e.a) (elsewhere v g e.a))
       ∙ total-add (rise count (at_point v g)) (rise count (elsewhere v g)) es
       ∙ ap (λ z. z +ℤ total (rise count (elsewhere v g)) es) (at_one_point v g)
       ∙ solve 1 (λ z. number (pos 0) ⊕ z ≗ z) tt (total (rise count (elsewhere v g)) es)
 
   -- a number that is nothing at every end but at some points rises by nothing
-  with_points : (vs : List Point) (g : Point → ℤ) → ((e : CountedEdge) → Contains es e → IsNothingOutside vs g e.a × IsNothingOutside vs g e.b) →
+  with_points : (vs : List Point) (g : Point → ℤ) →
+      ((e : CountedEdge) → Contains es e → IsNothingOutside vs g e.a × IsNothingOutside vs g e.b) →
       total (rise count g) es ≡ pos 0
-  with_points [] g known = total-zero (rise count g) es (λ e c. ap₂ (λ y z. count e *ℤ (y -ℤ z)) (nothing_at e.b (known e c).1) (nothing_at e.a (known e c).0)
+  with_points [] g known = total-zero (rise count g) es
+      (λ e c. ap₂ (λ y z. count e *ℤ (y -ℤ z)) (nothing_at e.b (known e c).1) (nothing_at e.a (known e c).0)
       ∙ solve 1 (λ c. c ⊗ (number (pos 0) ⊖ number (pos 0)) ≗ number (pos 0)) tt (count e))
     where
       nothing_at : (u : Point) → IsNothingOutside [] g u → g u ≡ pos 0
       nothing_at u (inl nothing) = nothing
       nothing_at u (inr (k, h, e)) = absurd (omega arith)
-  with_points (v ∷ vs) g known = rises_in_two v g ∙ with_points vs (elsewhere v g) (λ e c. (one_less v vs g e.a (known e c).0, one_less v vs g e.b (known e c).1))
+  with_points (v ∷ vs) g known = rises_in_two v g
+      ∙ with_points vs (elsewhere v g) (λ e c. (one_less v vs g e.a (known e c).0, one_less v vs g e.b (known e c).1))
 
   -- every end of the edges is among their ends
   pub balanced : IsBalanced ends_of count es

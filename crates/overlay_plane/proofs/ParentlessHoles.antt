@@ -6,16 +6,19 @@ use Rattle.std.proofs.lemmas.Option.{MatchOption-at_none}
 use Rattle.overlay_geom.specs.Plane.{Step}
 use Rattle.overlay_geom.specs.Edges.{CountedEdge}
 use Rattle.overlay_plane.specs.Anchors.{is_below_anchor}
-use Rattle.overlay_plane.specs.Binding.{is_hole, AreCutFrom, IsParentOf, HasNoParent, BoundWalk, IsBound, HolesHaveParents, BoundWalksHaveShapes}
+use Rattle.overlay_plane.specs.Binding.{is_hole, AreCutFrom, IsParentOf, HasNoParent, BoundWalk, IsBound}
+use Rattle.overlay_plane.specs.Binding.{HolesHaveParents, BoundWalksHaveShapes}
 use Rattle.overlay_plane.specs.Binding.HasNoParent.{none, through}
 use Rattle.overlay_plane.proofs.BelowHoles.{some_below}
 use Rattle.overlay_plane.proofs.Entries.{Contains-map}
 use Rattle.overlay_plane.proofs.HoleParents.{parent_of_hole}
 
-module _ (holds : ℤ → ℤ → Bool) (subj clip : CountedEdge → ℤ) (es : List CountedEdge) (on_left : Bool) (walks : List (List Step))
+module _ (holds : ℤ → ℤ → Bool) (subj clip : CountedEdge → ℤ) (es : List CountedEdge) (on_left : Bool)
+    (walks : List (List Step))
     (cut : AreCutFrom holds subj clip es on_left walks) where
   -- no hole is without a parent
-  pub some_parent : (hole : List Step) → Contains walks hole → is_hole on_left hole ≡ true → ¬ (HasNoParent on_left walks hole)
+  pub some_parent : (hole : List Step) → Contains walks hole → is_hole on_left hole ≡ true →
+      ¬ (HasNoParent on_left walks hole)
   some_parent hole at is (none h) =
       let some = some_below holds subj clip es on_left walks cut hole at h.anchor h.anchored is in
       both_ways (is_below_anchor h.anchor some.0) (h.none some.0 some.1) some.2
@@ -34,4 +37,4 @@ bound_walks_have_shapes holds subj clip es on_left walks cut bound are_bound b a
     some_parent holds subj clip es on_left walks cut b.steps
     (subst (λ ws. Contains ws b.steps) are_bound.are (Contains-map (λ (w : BoundWalk). w.steps) bound b at)) is
     (MatchOption-at_none (HasNoParent on_left walks b.steps) (λ n. IsParentOf on_left walks b.steps n) alone
-    (All-contains (IsBound on_left walks) bound b are_bound.told at is))
+    (All-contains (IsBound on_left walks) bound b are_bound.numbers at is))

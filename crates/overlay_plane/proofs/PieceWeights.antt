@@ -1,4 +1,5 @@
--- A piece of an edge weighs what the edge weighs: a sign changes no count's distance from zero, and the two marks only change places.
+-- A piece of an edge weighs what the edge weighs: a sign changes no count's distance from zero, and the two marks only
+-- change places.
 use Rattle.std.proofs.Common.{◌≡◌, ◌+◌, Bool, true, false, cond, ℤ, pos, negsuc, ◌*ℤ◌, refl, arith}
 use Rattle.std.specs.Prelude.{nat_abs}
 use Rattle.std.proofs.lemmas.Int.{ints}
@@ -18,7 +19,8 @@ abs-signed true z = omega (arith, ints)
 abs-signed false z = omega (arith, ints)
 
 -- two marks weigh the same the other way round
-exchanged_marks : (t along against : Bool) → mark_weight (cond t along against) + mark_weight (cond t against along) ≡ mark_weight along + mark_weight against
+exchanged_marks : (t along against : Bool) → mark_weight (cond t along against) + mark_weight
+    (cond t against along) ≡ mark_weight along + mark_weight against
 exchanged_marks true along against = refl
 exchanged_marks false along against = omega arith
 

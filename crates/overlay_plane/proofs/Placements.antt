@@ -1,5 +1,5 @@
--- How two edges lie to one another: along one line, the one beside the other, or across one another; and what the meeting
--- points' computation gives in each case.
+-- How two edges lie to one another: along one line, the one beside the other, or across one another; and what the
+-- meeting points' computation gives in each case.
 use Rattle.std.proofs.Common.{◌≡◌, ◌⊎◌, inl, inr, cond, ◌||◌, pos, List, [], ◌∷◌, filter, ◌∙◌}
 use Rattle.std.specs.Bool.{Decides}
 use Rattle.std.proofs.lemmas.Int.{by_lt_z}
@@ -49,7 +49,8 @@ ends_between e f = filter (is_between e) (f.a ∷ f.b ∷ [])
 -- edges along one line: the ends of f on e
 pub met_along : (e f : Edge) → IsAlong e f → met_at e f ≡ ends_between e f
 met_along e f along =
-    cond-true (are_along e f) (ends_between e f) (cond (are_beside e f || are_beside f e) [] (crossing e f ∷ [])) ((Decides-are_along e f).1 along)
+    cond-true (are_along e f) (ends_between e f) (cond (are_beside e f || are_beside f e) [] (crossing e f ∷ []))
+    ((Decides-are_along e f).1 along)
 
 -- other edges: nothing where one lies beside the other, and else where they cross
 met_apart : (e f : Edge) → ¬ (IsAlong e f) → met_at e f ≡ cond (are_beside e f || are_beside f e) [] (crossing e f ∷ [])
@@ -64,7 +65,8 @@ Decides-either_beside e f = Decides-or _ _ (Decides-are_beside e f) (Decides-are
 -- an edge beside the other one: nothing
 pub met_beside : (e f : Edge) → ¬ (IsAlong e f) → IsBeside e f ⊎ IsBeside f e → met_at e f ≡ []
 met_beside e f apart beside =
-    met_apart e f apart ∙ cond-true (are_beside e f || are_beside f e) [] (crossing e f ∷ []) ((Decides-either_beside e f).1 beside)
+    met_apart e f apart ∙ cond-true (are_beside e f || are_beside f e) [] (crossing e f ∷ [])
+    ((Decides-either_beside e f).1 beside)
 
 -- edges across one another: the point nearest where they cross
 pub met_across : (e f : Edge) → AreCrossing e f → met_at e f ≡ crossing e f ∷ []
@@ -83,7 +85,8 @@ pub beside_have_no_common : (e f : Edge) (p : PlanePoint) → IsBefore f.a f.b �
 beside_have_no_common e f p forward beside common = by (beside_meet_in_ends e f forward beside p common).1
   where
     level : (v : Point) → IsAt v p → cross_at e.a e.b v ≡ pos 0
-    level v at = zero_of_mul-zero p.d (cross_at e.a e.b v) p.positive (let is = side_at e v p at in let zero = common.0.on_line in omega linear)
+    level v at = zero_of_mul-zero p.d (cross_at e.a e.b v) p.positive (let is = side_at e v p at in
+        let zero = common.0.on_line in omega linear)
 
     start_off : cross_at e.a e.b f.a ≡ pos 0 → IsBeside e f → ⊥
     start_off zero (inl (left, too)) = omega linear
@@ -103,10 +106,13 @@ beside_have_no_common e f p forward beside common = by (beside_meet_in_ends e f 
 pub across_of_rest : (e f : Edge) → ¬ (IsAlong e f) → ¬ (IsBeside e f) → IsAcross e f
 across_of_rest e f apart not_beside =
     by_sign (cross_at e.a e.b f.a)
-    (λ right. by_lt_z (cross_at e.a e.b f.b) (pos 0) (λ too. absurd (not_beside (inr (right, too)))) (λ ge. inl (omega linear, ge, omega linear)))
+    (λ right. by_lt_z (cross_at e.a e.b f.b) (pos 0) (λ too. absurd (not_beside (inr (right, too))))
+    (λ ge. inl (omega linear, ge, omega linear)))
     (λ level. by_sign (cross_at e.a e.b f.b)
-    (λ right. inr (omega linear, omega linear, omega linear)) (λ too. absurd (apart (level, too))) (λ left. inl (omega linear, omega linear, omega linear)))
-    (λ left. by_lt_z (pos 0) (cross_at e.a e.b f.b) (λ too. absurd (not_beside (inl (left, too)))) (λ le. inr (le, omega linear, omega linear)))
+    (λ right. inr (omega linear, omega linear, omega linear)) (λ too. absurd (apart (level, too)))
+    (λ left. inl (omega linear, omega linear, omega linear)))
+    (λ left. by_lt_z (pos 0) (cross_at e.a e.b f.b) (λ too. absurd (not_beside (inl (left, too))))
+    (λ le. inr (le, omega linear, omega linear)))
 
 -- where f goes across e's line, e does not lie along f's
 pub not_along_back : (e f : Edge) → IsAcross e f → ¬ (IsAlong f e)
@@ -118,4 +124,5 @@ not_along_back e f across (at_a, at_b) = by across
 
 -- so of two edges across one another each goes across the other one's line
 pub both_across : (e f : Edge) → AreCrossing e f → IsAcross e f × IsAcross f e
-both_across e f c = let across = across_of_rest e f c.apart c.not_beside in (across, across_of_rest f e (not_along_back e f across) c.not_back)
+both_across e f c = let across = across_of_rest e f c.apart c.not_beside in
+    (across, across_of_rest f e (not_along_back e f across) c.not_back)

@@ -1,4 +1,5 @@
--- How points compare along an edge: by x, then by y upwards or downwards, as the edge leads. Of any two different points one comes first.
+-- How points compare along an edge: by x, then by y upwards or downwards, as the edge leads. Of any two different
+-- points one comes first.
 use Rattle.std.proofs.Common.{◌≡◌, Bool, true, false, cond, ◌&&◌, ◌||◌, int_lt, int_le, refl, sym, ◌∙◌}
 use Rattle.std.specs.Cmp.{IsTotalOrder, IsStrictWeakOrder}
 use Rattle.std.specs.Ordering.{is_lt, is_eq, int_cmp, int_eq, ordering_reverse, then_cmp, on, flip_args}
@@ -20,7 +21,8 @@ order_along false = then_cmp (on (λ (p : Point). p.x) int_cmp) (on (λ (p : Poi
 -- any two points compare, and in one way
 order_along-total : (t : Bool) → IsTotalOrder (order_along t)
 order_along-total true = then_total (on_total (λ p. p.x) int_cmp_total) (on_total (λ p. p.y) int_cmp_total)
-order_along-total false = then_total (on_total (λ p. p.x) int_cmp_total) (on_total (λ p. p.y) (back_total int_cmp_total))
+order_along-total false = then_total (on_total (λ p. p.x) int_cmp_total)
+    (on_total (λ p. p.y) (back_total int_cmp_total))
 
 -- the test of an edge that rises, or falls
 abbrev first_along : Bool → Point → Point → Bool
@@ -29,17 +31,21 @@ first_along t v w = int_lt v.x w.x || (int_eq v.x w.x && cond t (int_lt v.y w.y)
 -- the test is what the comparison answers
 pub first_along-is_less : (t : Bool) (v w : Point) → first_along t v w ≡ is_lt (order_along t v w)
 first_along-is_less true v w =
-    less_in_turn (int_cmp v.x w.x) (int_cmp v.y w.y) (int_lt v.x w.x) (int_eq v.x w.x) (int_lt v.y w.y) (sym (is_lt-int_cmp v.x w.x)) refl (sym (is_lt-int_cmp v.y w.y))
+    less_in_turn (int_cmp v.x w.x) (int_cmp v.y w.y) (int_lt v.x w.x) (int_eq v.x w.x) (int_lt v.y w.y)
+    (sym (is_lt-int_cmp v.x w.x)) refl (sym (is_lt-int_cmp v.y w.y))
 first_along-is_less false v w =
-    less_in_turn (int_cmp v.x w.x) (int_cmp w.y v.y) (int_lt v.x w.x) (int_eq v.x w.x) (int_lt w.y v.y) (sym (is_lt-int_cmp v.x w.x)) refl (sym (is_lt-int_cmp w.y v.y))
+    less_in_turn (int_cmp v.x w.x) (int_cmp w.y v.y) (int_lt v.x w.x) (int_eq v.x w.x) (int_lt w.y v.y)
+    (sym (is_lt-int_cmp v.x w.x)) refl (sym (is_lt-int_cmp w.y v.y))
 
 -- points that tie are one
 tied_are_one : (t : Bool) (v w : Point) → is_eq (order_along t v w) ≡ true → v ≡ w
 tied_are_one true v w tie =
-    let same = (Decides-and _ _ (Decides-int_eq v.x w.x) (Decides-int_eq v.y w.y)).0 (tied_in_turn (int_cmp v.x w.x) (int_cmp v.y w.y) (int_eq v.x w.x) (int_eq v.y w.y) refl refl ∙ tie) in
+    let same = (Decides-and _ _ (Decides-int_eq v.x w.x) (Decides-int_eq v.y w.y)).0
+    (tied_in_turn (int_cmp v.x w.x) (int_cmp v.y w.y) (int_eq v.x w.x) (int_eq v.y w.y) refl refl ∙ tie) in
     same_point v w same.0 same.1
 tied_are_one false v w tie =
-    let same = (Decides-and _ _ (Decides-int_eq v.x w.x) (Decides-int_eq w.y v.y)).0 (tied_in_turn (int_cmp v.x w.x) (int_cmp w.y v.y) (int_eq v.x w.x) (int_eq w.y v.y) refl refl ∙ tie) in
+    let same = (Decides-and _ _ (Decides-int_eq v.x w.x) (Decides-int_eq w.y v.y)).0
+    (tied_in_turn (int_cmp v.x w.x) (int_cmp w.y v.y) (int_eq v.x w.x) (int_eq w.y v.y) refl refl ∙ tie) in
     same_point v w same.0 (sym same.1)
 
 -- a comparison that is not `Less` either way is a tie
@@ -65,4 +71,5 @@ comes_first-order e = record {
 pub comes_first-ties : (e : Edge) (v w : Point) → comes_first e v w ≡ false → comes_first e w v ≡ false → v ≡ w
 comes_first-ties e v w forth back =
     let t = int_le e.a.y e.b.y in
-    tied_are_one t v w (tie_of_neither (order_along t v w) (order_along t w v) ((order_along-total t).antisymm w v) (sym (first_along-is_less t v w) ∙ forth) (sym (first_along-is_less t w v) ∙ back))
+    tied_are_one t v w (tie_of_neither (order_along t v w) (order_along t w v) ((order_along-total t).antisymm w v)
+    (sym (first_along-is_less t v w) ∙ forth) (sym (first_along-is_less t w v) ∙ back))

@@ -7,7 +7,8 @@ use Rattle.overlay_geom.specs.Edges.{CountedEdge, ends_of, winding_below}
 use Rattle.overlay_geom.specs.Settled.{MeetInEnds, IsSettledBy}
 use Rattle.overlay_geom.proofs.Signs.{linear, by_sign, mul-pos, pos_of_mul-pos}
 use Rattle.overlay_plane.specs.Heights.{width, gap, covers, is_under, Spans}
-use Rattle.overlay_plane.specs.Regions.{one_if, TakesDownward, RegionOverEdgesTaken, RegionFromSelectedSigns, RegionBelowAnEdge}
+use Rattle.overlay_plane.specs.Regions.{one_if, TakesDownward, RegionOverEdgesTaken, RegionFromSelectedSigns}
+use Rattle.overlay_plane.specs.Regions.{RegionBelowAnEdge}
 use Rattle.overlay_plane.specs.EdgeLists.{IsBalanced}
 use Rattle.overlay_plane.specs.Windings.{total_under}
 use Rattle.overlay_plane.proofs.LineForms.{gap-line_form}
@@ -20,7 +21,8 @@ use Rattle.overlay_plane.proofs.RisesOver.{meets_under, rises_over}
 -- ---- below a point
 
 -- what covers the point's abscissa under an edge strictly below the point is strictly below it too
-pub below_under : (f e : Edge) (p : PlanePoint) → MeetInEnds e f → covers f p.x p.d ≡ true → covers e p.x p.d ≡ true → is_under f e p.x p.d ≡ true →
+pub below_under : (f e : Edge) (p : PlanePoint) → MeetInEnds e f → covers f p.x p.d ≡ true → covers e p.x p.d ≡ true →
+    is_under f e p.x p.d ≡ true →
     pos 0 <ℤ side e p → pos 0 <ℤ side f p
 below_under f e p meet over_f over_e under low =
     let wide_f = covers_wide f p.x p.d p.positive over_f in
@@ -29,7 +31,9 @@ below_under f e p meet over_f over_e under low =
     let level = gap-line_form f e p.x p.y p.d in
     let above = lt_from_test (pos 0) (gap f e (p.x +ℤ p.x +ℤ pos 1) (p.d +ℤ p.d)) under in
     let weakly : pos 0 ≤ℤ gap f e p.x p.d = by_sign (gap f e p.x p.d)
-    (λ below. absurd (no_crossing f e (p.x +ℤ p.x +ℤ pos 1) (p.d +ℤ p.d) p.x p.d wide_f wide meet (shared_just_right f e p.x p.d p.positive over_f over_e) p.positive (spans e over_e) (spans f over_f) above below))
+    (λ below. absurd (no_crossing f e (p.x +ℤ p.x +ℤ pos 1) (p.d +ℤ p.d) p.x p.d wide_f wide meet
+    (shared_just_right f e p.x p.d p.positive over_f over_e) p.positive (spans e over_e)
+    (spans f over_f) above below))
     (λ zero. omega linear) (λ more. omega linear) in
     pos_of_mul-pos (width e) (side f p) wide (omega linear)
   where
@@ -42,10 +46,13 @@ pub takes_below : {X : Type 0} (ends : X → Edge) (xs : List X) → IsSettledBy
 takes_below {X} ends xs settled p = record {
   over = λ e at t. (and_parts (covers (ends e) p.x p.d) (int_lt (pos 0) (side (ends e) p)) t).0;
   downward = λ e f at_e at_f t over under. and_from (covers (ends f) p.x p.d) (int_lt (pos 0) (side (ends f) p)) over
-      (test_from_lt (pos 0) (side (ends f) p) (below_under (ends f) (ends e) p (meets_under (ends e) (ends f) p.x p.d (settled e f at_e at_f) under) over (parts e t).0 under (lt_from_test (pos 0) (side (ends e) p) (parts e t).1)));
+      (test_from_lt (pos 0) (side (ends f) p)
+      (below_under (ends f) (ends e) p (meets_under (ends e) (ends f) p.x p.d (settled e f at_e at_f) under) over
+      (parts e t).0 under (lt_from_test (pos 0) (side (ends e) p) (parts e t).1)));
 }
   where
-    parts : (e : X) → is_strictly_below (ends e) p ≡ true → (covers (ends e) p.x p.d ≡ true) × (int_lt (pos 0) (side (ends e) p) ≡ true)
+    parts : (e : X) → is_strictly_below (ends e) p ≡ true →
+        (covers (ends e) p.x p.d ≡ true) × (int_lt (pos 0) (side (ends e) p) ≡ true)
     parts e t = and_parts (covers (ends e) p.x p.d) (int_lt (pos 0) (side (ends e) p)) t
 
 -- and so are those under an edge
@@ -57,27 +64,35 @@ takes_under {X} ends xs g x d positive over_g = record {
       (under_transitive (ends f) (ends e) g x d positive over (parts e t).0 over_g under (parts e t).1);
 }
   where
-    parts : (e : X) → (covers (ends e) x d && is_under (ends e) g x d) ≡ true → (covers (ends e) x d ≡ true) × (is_under (ends e) g x d ≡ true)
+    parts : (e : X) → (covers (ends e) x d && is_under (ends e) g x d) ≡ true →
+        (covers (ends e) x d ≡ true) × (is_under (ends e) g x d ≡ true)
     parts e t = and_parts (covers (ends e) x d) (is_under (ends e) g x d) t
 
 -- the signs of edges taken with all under them add up to the rule at the sums of their counts
 pub region_over_edges_taken : RegionOverEdgesTaken
-region_over_edges_taken holds subj clip es r x d positive taken takes = rises_over ends_of es r.forward r.settled x d positive taken takes subj clip
+region_over_edges_taken holds subj clip es r x d positive taken takes = rises_over ends_of es r.forward r.settled x d
+    positive taken takes subj clip
     (λ v w. one_if (holds v w)) r.distinct r.subj_balanced r.clip_balanced
     ∙ ap (λ t. here -ℤ one_if t) r.none ∙ +ℤ_idr here
   where
     here : ℤ
-    here = one_if (holds (total (λ e. cond (taken e) (subj e) (pos 0)) es) (total (λ e. cond (taken e) (clip e) (pos 0)) es))
+    here = one_if (holds (total (λ e. cond (taken e) (subj e) (pos 0)) es)
+        (total (λ e. cond (taken e) (clip e) (pos 0)) es))
 
 -- those of the edges strictly below a point to the rule at the point
 pub region_from_selected_signs : RegionFromSelectedSigns
-region_from_selected_signs holds subj clip es r p = region_over_edges_taken holds subj clip es r p.x p.d p.positive (λ e. is_strictly_below (ends_of e) p) (takes_below ends_of es r.settled p)
+region_from_selected_signs holds subj clip es r p = region_over_edges_taken holds subj clip es r p.x p.d p.positive
+    (λ e. is_strictly_below (ends_of e) p) (takes_below ends_of es r.settled p)
 
 -- those of the edges under an edge to the rule just below it
 pub region_below_an_edge : RegionBelowAnEdge
-region_below_an_edge holds subj clip es r e at x d positive over = region_over_edges_taken holds subj clip es r x d positive
-    (λ f. covers (ends_of f) x d && is_under (ends_of f) (ends_of e) x d) (takes_under ends_of es (ends_of e) x d positive over)
+region_below_an_edge holds subj clip es r e at x d positive over = region_over_edges_taken holds subj clip es r
+    x d positive
+    (λ f. covers (ends_of f) x d && is_under (ends_of f) (ends_of e) x d)
+    (takes_under ends_of es (ends_of e) x d positive over)
     ∙ ap₂ (λ v w. one_if (holds v w)) (winding subj r.subj_balanced) (winding clip r.clip_balanced)
   where
-    winding : (count : CountedEdge → ℤ) → IsBalanced ends_of count es → total_under ends_of count es (ends_of e) x d ≡ winding_below count es e
-    winding count balanced = one_winding_along ends_of count es (ends_of e) r.forward (λ f c. r.settled e f at c) balanced x d positive over
+    winding : (count : CountedEdge → ℤ) → IsBalanced ends_of count es →
+        total_under ends_of count es (ends_of e) x d ≡ winding_below count es e
+    winding count balanced = one_winding_along ends_of count es (ends_of e) r.forward (λ f c. r.settled e f at c)
+        balanced x d positive over

@@ -1,5 +1,6 @@
 -- What stands at a place of walks, and of the contours that they are without groups.
-use Rattle.std.proofs.Common.{◌≡◌, ℕ, zero, suc, ◌+◌, Bool, true, false, cond, not, List, [], ◌∷◌, Option, Some, None, refl, sym, ap, ◌∙◌, subst, arith}
+use Rattle.std.proofs.Common.{◌≡◌, ℕ, zero, suc, ◌+◌, Bool, true, false, cond, not, List, [], ◌∷◌, Option, Some, None}
+use Rattle.std.proofs.Common.{refl, sym, ap, ◌∙◌, subst, arith}
 use Rattle.std.specs.Prelude.{slice_index_or}
 use Rattle.std.specs.List.{slice_get}
 use Rattle.std.specs.Option.{MatchOption}
@@ -22,7 +23,8 @@ some-same x y same = ap (value_of x) same
 module _ (on_left : Bool) where
   -- the contours, by whether the first walk is a hole
   abbrev contours_by : Bool → ℕ → List Step → List (List Step) → List Contour
-  contours_by t n w ws = cond t (hole_to_bind w ∷ contours_from on_left n ws) (outline_of n w ∷ contours_from on_left (suc n) ws)
+  contours_by t n w ws = cond t (hole_to_bind w ∷ contours_from on_left n ws)
+      (outline_of n w ∷ contours_from on_left (suc n) ws)
 
   -- the walk is an outline with this number, where those of the list are numbered from n on, or a hole without one
   abbrev pub IsNumberedFrom : ℕ → List (List Step) → List Step → Option ℕ → Type 0
@@ -30,7 +32,8 @@ module _ (on_left : Bool) where
       MatchOption number (is_hole on_left w ≡ true) (λ m. (j : ℕ) × (m ≡ n + j) × (slice_get os j ≡ Some w))
 
   -- with another outline before them the numbers of the later ones grow by one
-  after_outline : (n : ℕ) (o : List Step) (os : List (List Step)) (w : List Step) (number : Option ℕ) → IsNumberedFrom (suc n) os w number →
+  after_outline : (n : ℕ) (o : List Step) (os : List (List Step)) (w : List Step) (number : Option ℕ) →
+      IsNumberedFrom (suc n) os w number →
       IsNumberedFrom n (o ∷ os) w number
   after_outline n o os w None is = is
   after_outline n o os w (Some m) (j, e, at) = (suc j, omega (arith, e), at)
@@ -44,20 +47,24 @@ module _ (on_left : Bool) where
       is_here : v ≡ w
       is_here = some-same v w at
 
-      by : (t : Bool) → is_hole on_left v ≡ t → IsNumberedFrom n (cond (not t) (v ∷ outlines on_left ws) (outlines on_left ws)) w
+      by : (t : Bool) → is_hole on_left v ≡ t →
+          IsNumberedFrom n (cond (not t) (v ∷ outlines on_left ws) (outlines on_left ws)) w
           (slice_index_or (known_in (contours_by t n v ws)) 0 None)
       by true is = subst (λ u. is_hole on_left u ≡ true) is_here is
       by false is = (0, omega arith, at)
   numbered_from n (v ∷ ws) (suc i) w at = by (is_hole on_left v) (λ k. numbered_from k ws i w at)
     where
-      by : (t : Bool) → ((k : ℕ) → IsNumberedFrom k (outlines on_left ws) w (slice_index_or (known_in (contours_from on_left k ws)) i None)) →
+      by : (t : Bool) → ((k : ℕ) → IsNumberedFrom k (outlines on_left ws) w
+          (slice_index_or (known_in (contours_from on_left k ws)) i None)) →
           IsNumberedFrom n (cond (not t) (v ∷ outlines on_left ws) (outlines on_left ws)) w
           (slice_index_or (known_in (contours_by t n v ws)) (suc i) None)
       by true rest = rest n
-      by false rest = after_outline n v (outlines on_left ws) w (slice_index_or (known_in (contours_from on_left (suc n) ws)) i None) (rest (suc n))
+      by false rest = after_outline n v (outlines on_left ws) w
+          (slice_index_or (known_in (contours_from on_left (suc n) ws)) i None) (rest (suc n))
 
   -- where a hole stands among the walks it stands among the contours
-  pub hole_at : (n : ℕ) (walks : List (List Step)) (i : ℕ) (w : List Step) → slice_get walks i ≡ Some w → is_hole on_left w ≡ true →
+  pub hole_at : (n : ℕ) (walks : List (List Step)) (i : ℕ) (w : List Step) → slice_get walks i ≡ Some w →
+      is_hole on_left w ≡ true →
       slice_get (contours_from on_left n walks) i ≡ Some (hole_to_bind w)
   hole_at n [] i w at is = absurd (none-some w at)
   hole_at n (v ∷ ws) zero w at is =
@@ -71,18 +78,23 @@ module _ (on_left : Bool) where
       by false rest = rest (suc n)
 
   -- and a contour whose shape is to be found is a hole among the walks
-  pub free_hole_at : (n : ℕ) (walks : List (List Step)) (i : ℕ) (c : Contour) → slice_get (contours_from on_left n walks) i ≡ Some c →
+  pub free_hole_at : (n : ℕ) (walks : List (List Step)) (i : ℕ) (c : Contour) →
+      slice_get (contours_from on_left n walks) i ≡ Some c →
       c.role ≡ free_hole → (slice_get walks i ≡ Some c.steps) × (is_hole on_left c.steps ≡ true)
   free_hole_at n [] i c at free = absurd (none-some c at)
   free_hole_at n (v ∷ ws) zero c at free = by (is_hole on_left v) refl at
     where
-      by : (t : Bool) → is_hole on_left v ≡ t → slice_get (contours_by t n v ws) 0 ≡ Some c → (Some v ≡ Some c.steps) × (is_hole on_left c.steps ≡ true)
+      by : (t : Bool) → is_hole on_left v ≡ t → slice_get (contours_by t n v ws) 0 ≡ Some c →
+          (Some v ≡ Some c.steps) × (is_hole on_left c.steps ≡ true)
       by true is here = let same = some-same (hole_to_bind v) c here in
           (ap (λ (d : Contour). Some d.steps) same, subst (λ (d : Contour). is_hole on_left d.steps ≡ true) same is)
-      by false is here = absurd (false≢true (ap (λ r. is_free_hole r) (ap (λ (d : Contour). d.role) (some-same (outline_of n v) c here) ∙ free)))
+      by false is here = absurd (false≢true
+          (ap (λ r. is_free_hole r) (ap (λ (d : Contour). d.role) (some-same (outline_of n v) c here) ∙ free)))
   free_hole_at n (v ∷ ws) (suc i) c at free = by (is_hole on_left v) (λ k here. free_hole_at k ws i c here free) at
     where
-      by : (t : Bool) → ((k : ℕ) → slice_get (contours_from on_left k ws) i ≡ Some c → (slice_get ws i ≡ Some c.steps) × (is_hole on_left c.steps ≡ true)) →
-          slice_get (contours_by t n v ws) (suc i) ≡ Some c → (slice_get ws i ≡ Some c.steps) × (is_hole on_left c.steps ≡ true)
+      by : (t : Bool) → ((k : ℕ) → slice_get (contours_from on_left k ws) i ≡ Some c →
+          (slice_get ws i ≡ Some c.steps) × (is_hole on_left c.steps ≡ true)) →
+          slice_get (contours_by t n v ws) (suc i) ≡ Some c →
+          (slice_get ws i ≡ Some c.steps) × (is_hole on_left c.steps ≡ true)
       by true rest here = rest n here
       by false rest here = rest (suc n) here

@@ -1,5 +1,7 @@
--- A list in order is the one list with its entries that is: so a permutation of a list that is in order is the list put in order.
-use Rattle.std.proofs.Common.{◌≡◌, inl, inr, Bool, true, false, cond, ℤ, pos, ◌+ℤ◌, ◌≤ℤ◌, List, [], ◌∷◌, Contains, refl, sym, ap, ap₂, subst, ◌∙◌}
+-- A list in order is the one list with its entries that is: so a permutation of a list that is in order is the list put
+-- in order.
+use Rattle.std.proofs.Common.{◌≡◌, inl, inr, Bool, true, false, cond, ℤ, pos, ◌+ℤ◌, ◌≤ℤ◌, List, [], ◌∷◌, Contains, refl}
+use Rattle.std.proofs.Common.{sym, ap, ap₂, subst, ◌∙◌}
 use Rattle.std.specs.Cmp.{IsStrictWeakOrder}
 use Rattle.std.specs.List.Sorted.{IsPermutation}
 use Rattle.overlay_geom.specs.Plane.{total}
@@ -53,10 +55,16 @@ module _ {X : Type 0} (lower : X → X → Bool) (order : IsStrictWeakOrder lowe
   none_lower y ys sorted = total-zero (lower_than y) (y ∷ ys) each
     where
       each : (z : X) → Contains (y ∷ ys) z → lower_than y z ≡ pos 0
-      each z at = ap (λ t. cond t (pos 1) (pos 0)) (elim (Contains-cases y ys z at) [ inl is ↦ subst (λ u. lower u y ≡ false) is (not_lower_itself y) | inr later ↦ sorted.0 z later ])
+      each z at = ap (λ t. cond t (pos 1) (pos 0))
+          (elim (Contains-cases y ys z at) [
+            | inl is ↦ subst (λ u. lower u y ≡ false) is (not_lower_itself y)
+            | inr later
+                ↦ sorted.0 z later
+          ])
 
   -- so of two lists in order with the same sums, no first entry is lower than the other one
-  not_lower_first : (x : X) (xs : List X) (y : X) (ys : List X) → Each IsNotAfter (y ∷ ys) → total (lower_than y) (x ∷ xs) ≡ total (lower_than y) (y ∷ ys) → lower x y ≡ false
+  not_lower_first : (x : X) (xs : List X) (y : X) (ys : List X) → Each IsNotAfter (y ∷ ys) →
+      total (lower_than y) (x ∷ xs) ≡ total (lower_than y) (y ∷ ys) → lower x y ≡ false
   not_lower_first x xs y ys sorted same = by (lower x y) refl
     where
       by : (t : Bool) → lower x y ≡ t → t ≡ false
@@ -69,17 +77,23 @@ module _ {X : Type 0} (lower : X → X → Bool) (order : IsStrictWeakOrder lowe
 
   module _ (ties : (x y : X) → lower x y ≡ false → lower y x ≡ false → x ≡ y) where
     -- two lists in order with the same sums are one
-    one_order : (xs ys : List X) → Each IsNotAfter xs → Each IsNotAfter ys → ((f : X → ℤ) → total f xs ≡ total f ys) → xs ≡ ys
+    one_order : (xs ys : List X) → Each IsNotAfter xs → Each IsNotAfter ys → ((f : X → ℤ) → total f xs ≡ total f ys) →
+        xs ≡ ys
     one_order [] [] up also same = refl
-    one_order [] (y ∷ ys) up also same = absurd (let one = same (λ z. pos 1) in let rest = total-nonneg (λ z. pos 1) ys (λ z. omega linear) in omega linear)
-    one_order (x ∷ xs) [] up also same = absurd (let one = same (λ z. pos 1) in let rest = total-nonneg (λ z. pos 1) xs (λ z. omega linear) in omega linear)
+    one_order [] (y ∷ ys) up also same = absurd (let one = same (λ z. pos 1) in
+        let rest = total-nonneg (λ z. pos 1) ys (λ z. omega linear) in omega linear)
+    one_order (x ∷ xs) [] up also same = absurd (let one = same (λ z. pos 1) in
+        let rest = total-nonneg (λ z. pos 1) xs (λ z. omega linear) in omega linear)
     one_order (x ∷ xs) (y ∷ ys) up also same =
         ap₂ (λ z zs. z ∷ zs) first
         (one_order xs ys up.1 also.1 (λ f. let all = same f in let head = ap f first in omega linear))
       where
         first : x ≡ y
-        first = ties x y (not_lower_first x xs y ys also (same (lower_than y))) (not_lower_first y ys x xs up (sym (same (lower_than x))))
+        first = ties x y (not_lower_first x xs y ys also (same (lower_than y)))
+            (not_lower_first y ys x xs up (sym (same (lower_than x))))
 
     -- a permutation that is in order is the list put in order
     pub is_in_order : (xs ys : List X) → IsPermutation xs ys → Each IsNotAfter ys → ys ≡ in_order lower xs
-    is_in_order xs ys moved sorted = one_order ys (in_order lower xs) sorted (Each-in_weak_order lower IsNotAfter weak_order xs) (λ f. total-IsPermutation f xs ys moved ∙ sym (total-in_order lower f xs))
+    is_in_order xs ys moved sorted = one_order ys (in_order lower xs) sorted
+        (Each-in_weak_order lower IsNotAfter weak_order xs) (λ f. total-IsPermutation f xs ys moved
+        ∙ sym (total-in_order lower f xs))

@@ -1,6 +1,7 @@
--- The selected steps are those of different edges, and wind once round each point where the rule holds: a selected step counts
--- as its edge's sign.
-use Rattle.std.proofs.Common.{◌≡◌, Bool, true, false, cond, not, ◌++◌, ℤ, pos, negsuc, ◌-ℤ◌, ◌*ℤ◌, List, [], ◌∷◌, Contains, refl, sym, ap, ap₂, ◌∙◌, subst}
+-- The selected steps are those of different edges, and wind once round each point where the rule holds: a selected step
+-- counts as its edge's sign.
+use Rattle.std.proofs.Common.{◌≡◌, Bool, true, false, cond, not, ◌++◌, ℤ, pos, negsuc, ◌-ℤ◌, ◌*ℤ◌, List, [], ◌∷◌}
+use Rattle.std.proofs.Common.{Contains, refl, sym, ap, ap₂, ◌∙◌, subst}
 use Rattle.std.specs.List.{flat_map}
 use Rattle.std.proofs.lemmas.Bool.{both_ways, false_from_ne_true}
 use Rattle.std.proofs.lemmas.List.Elements.{All-contains}
@@ -22,7 +23,8 @@ use Rattle.overlay_plane.proofs.Totals.{Contains-head, Contains-later, total-sam
 -- ---- the step along an edge
 
 module _ (e : Edge) (forward : point_lt e.a e.b ≡ true) where
-  -- the step with the upper side of a forward edge on its left leads forward, the one with the lower side there leads back
+  -- the step with the upper side of a forward edge on its left leads forward, the one with the lower side there leads
+  -- back
   pub forward_above : (above : Bool) → is_forward (step_with_left above e) ≡ above
   forward_above true = forward
   forward_above false = point_lt-order.one_way e.a e.b forward
@@ -36,7 +38,8 @@ module _ (e : Edge) (forward : point_lt e.a e.b ≡ true) where
   sign_above : (above : Bool) → sign_of (step_with_left above e) ≡ cond above (pos 1) (negsuc 0)
   sign_above above = ap (λ t. cond t (pos 1) (negsuc 0)) (forward_above above)
 
-module _ (holds : ℤ → ℤ → Bool) (subj clip : CountedEdge → ℤ) (es : List CountedEdge) (ruled : IsRuled holds subj clip es) (on_left : Bool) where
+module _ (holds : ℤ → ℤ → Bool) (subj clip : CountedEdge → ℤ) (es : List CountedEdge)
+    (ruled : IsRuled holds subj clip es) (on_left : Bool) where
   -- the rule holds above the edge, and below it
   abbrev above : CountedEdge → Bool
   above e = holds_above holds subj clip es e
@@ -55,25 +58,26 @@ module _ (holds : ℤ → ℤ → Bool) (subj clip : CountedEdge → ℤ) (es : 
   leads_forward : (e : CountedEdge) → Contains es e → point_lt e.a e.b ≡ true
   leads_forward e c = All-contains (λ f. point_lt f.a f.b ≡ true) es e ruled.forward c
 
-  -- ---- windings
+  -- ---- sums over the edges that pass a test
 
-  module _ (p : PlanePoint) where
-    -- what a step counts at the point
+  module _ (test : Edge → Bool) where
+    -- what a step counts where its edge passes
     abbrev part : Step → ℤ
-    part s = cond (is_strictly_below (edge_of s) p) (sign_of s) (pos 0)
+    part s = cond (test (edge_of s)) (sign_of s) (pos 0)
 
     -- what the edge's sign counts there
     abbrev signed : CountedEdge → ℤ
-    signed e = cond (is_strictly_below (ends_of e) p) (selected_sign holds subj clip es e) (pos 0)
+    signed e = cond (test (ends_of e)) (selected_sign holds subj clip es e) (pos 0)
 
     -- what the edge's step counts is its sign, once round
     chosen_counts : (e : CountedEdge) → Contains es e → total part (chosen e) ≡ once_round on_left *ℤ signed e
     chosen_counts e c = chosen_part (is_selected holds subj clip es e)
         ∙ ap (λ k. total (λ z. z) (cond (is_selected holds subj clip es e) (k ∷ []) [])) counts
-        ∙ table on_left (above e) (below e) (is_strictly_below (ends_of e) p)
+        ∙ table on_left (above e) (below e) (test (ends_of e))
       where
-        counts : part (step e) ≡ cond (is_strictly_below (ends_of e) p) (cond (cond on_left (above e) (below e)) (pos 1) (negsuc 0)) (pos 0)
-        counts = ap₂ (λ f k. cond (is_strictly_below f p) k (pos 0))
+        counts : part (step e) ≡ cond (test (ends_of e)) (cond (cond on_left (above e) (below e)) (pos 1) (negsuc 0))
+            (pos 0)
+        counts = ap₂ (λ f k. cond (test f) k (pos 0))
             (along_edge (ends_of e) (leads_forward e c) (cond on_left (above e) (below e)))
             (sign_above (ends_of e) (leads_forward e c) (cond on_left (above e) (below e)))
 
@@ -97,34 +101,41 @@ module _ (holds : ℤ → ℤ → Bool) (subj clip : CountedEdge → ℤ) (es : 
         table false false false true = refl
         table false false false false = refl
 
-        chosen_part : (t : Bool) → total part (cond t (step e ∷ []) []) ≡ total (λ k. k) (cond t (part (step e) ∷ []) [])
+        chosen_part : (t : Bool) → total part (cond t (step e ∷ []) []) ≡ total (λ k. k)
+            (cond t (part (step e) ∷ []) [])
         chosen_part true = refl
         chosen_part false = refl
 
-    -- the rule's truth at the point, once round
-    once_where : (t : Bool) → once_round on_left *ℤ one_if t ≡ cond t (once_round on_left) (pos 0)
-    once_where t = by on_left t
-      where
-        by : (u v : Bool) → once_round u *ℤ one_if v ≡ cond v (once_round u) (pos 0)
-        by true true = refl
-        by true false = refl
-        by false true = refl
-        by false false = refl
-
-    -- so the selected steps wind once where the rule holds
-    pub selected_wind : winding (selected_steps holds subj clip on_left es) p ≡
-        cond (holds (winding_by subj es p) (winding_by clip es p)) (once_round on_left) (pos 0)
-    selected_wind = total-flat_map part chosen es
+    -- so the selected steps count as the signs, once round
+    pub selected_total : total part (selected_steps holds subj clip on_left es) ≡ once_round on_left *ℤ total signed es
+    selected_total = total-flat_map part chosen es
         ∙ total-same (λ e. total part (chosen e)) (λ e. once_round on_left *ℤ signed e) es chosen_counts
         ∙ total-times (once_round on_left) signed es
-        ∙ ap (λ k. once_round on_left *ℤ k) (region_from_selected_signs holds subj clip es ruled p)
-        ∙ once_where (holds (winding_by subj es p) (winding_by clip es p))
+
+  -- the rule's truth at a point, once round
+  once_where : (t : Bool) → once_round on_left *ℤ one_if t ≡ cond t (once_round on_left) (pos 0)
+  once_where t = by on_left t
+    where
+      by : (u v : Bool) → once_round u *ℤ one_if v ≡ cond v (once_round u) (pos 0)
+      by true true = refl
+      by true false = refl
+      by false true = refl
+      by false false = refl
+
+  -- so they wind once where the rule holds
+  pub selected_wind : (p : PlanePoint) → winding (selected_steps holds subj clip on_left es) p ≡
+      cond (holds (winding_by subj es p) (winding_by clip es p)) (once_round on_left) (pos 0)
+  selected_wind p = selected_total (λ e. is_strictly_below e p)
+      ∙ ap (λ k. once_round on_left *ℤ k) (region_from_selected_signs holds subj clip es ruled p)
+      ∙ once_where (holds (winding_by subj es p) (winding_by clip es p))
 
   -- ---- each once
 
   -- steps along different edges are different
-  steps_apart : (e f : CountedEdge) → Contains es e → Contains es f → edge_eq (ends_of e) (ends_of f) ≡ false → step_eq (step e) (step f) ≡ false
-  steps_apart e f c d apart = false_from_ne_true (step_eq (step e) (step f)) (λ same. both_ways (edge_eq (ends_of e) (ends_of f)) apart (equal same))
+  steps_apart : (e f : CountedEdge) → Contains es e → Contains es f → edge_eq (ends_of e) (ends_of f) ≡ false →
+      step_eq (step e) (step f) ≡ false
+  steps_apart e f c d apart = false_from_ne_true (step_eq (step e) (step f))
+      (λ same. both_ways (edge_eq (ends_of e) (ends_of f)) apart (equal same))
     where
       one : step_eq (step e) (step f) ≡ true → ends_of e ≡ ends_of f
       one same = sym (along_edge (ends_of e) (leads_forward e c) (cond on_left (above e) (below e)))
@@ -135,10 +146,12 @@ module _ (holds : ℤ → ℤ → Bool) (subj clip : CountedEdge → ℤ) (es : 
       equal same = edge_eq-from_ends (ends_of e) (ends_of f) (λ i. (one same i).a) (λ i. (one same i).b)
 
   -- a list of edges of the whole one, each different from all later ones, gives such steps
-  each_apart : (fs : List CountedEdge) → ((f : CountedEdge) → Contains fs f → Contains es f) → Each (λ e f. edge_eq (ends_of e) (ends_of f) ≡ false) fs →
+  each_apart : (fs : List CountedEdge) → ((f : CountedEdge) → Contains fs f → Contains es f) →
+      Each (λ e f. edge_eq (ends_of e) (ends_of f) ≡ false) fs →
       Each (λ s t. step_eq s t ≡ false) (flat_map chosen fs)
   each_apart [] inside h = tt
-  each_apart (e ∷ fs) inside h = by (is_selected holds subj clip es e) (each_apart fs (λ f c. inside f (Contains-later e fs f c)) h.1)
+  each_apart (e ∷ fs) inside h = by (is_selected holds subj clip es e)
+      (each_apart fs (λ f c. inside f (Contains-later e fs f c)) h.1)
     where
       by : (t : Bool) → Each (λ s u. step_eq s u ≡ false) (flat_map chosen fs) →
           Each (λ s u. step_eq s u ≡ false) (cond t (step e ∷ []) [] ++ flat_map chosen fs)
@@ -146,14 +159,16 @@ module _ (holds : ℤ → ℤ → Bool) (subj clip : CountedEdge → ℤ) (es : 
       by true rest = (
         (λ s c. let from = taken_from (is_selected holds subj clip es) step fs s c in
             subst (λ u. step_eq (step e) u ≡ false) (sym from.3)
-            (steps_apart e from.0 (inside e (Contains-head e fs)) (inside from.0 (Contains-later e fs from.0 from.1)) (h.0 from.0 from.1))),
+            (steps_apart e from.0 (inside e (Contains-head e fs)) (inside from.0 (Contains-later e fs from.0 from.1))
+            (h.0 from.0 from.1))),
         rest,
       )
 
   -- no step is selected twice
   pub selected_once : HasEachOnce (selected_steps holds subj clip on_left es)
   selected_once = AllPairs-from_each (λ s t. step_eq s t ≡ false) (flat_map chosen es)
-      (each_apart es (λ f c. c) (Each-from_all_pairs (λ e f. edge_eq (ends_of e) (ends_of f) ≡ false) es ruled.distinct))
+      (each_apart es (λ f c. c) (Each-from_all_pairs (λ e f. edge_eq (ends_of e) (ends_of f) ≡ false) es
+      ruled.distinct))
 
 -- the laws
 pub selected_steps_wind : SelectedStepsWind

@@ -19,7 +19,8 @@ from_start m = ap not none_below
     none_below = grind (arith, nat_tests)
 
 -- a number from n on is n, or one from the next number on
-pub number_split : (n : ℕ) (hole : Bool) (shape : Option ℕ) → IsSplit (hole && is_from n shape) (hole && is_number n shape) (hole && is_from (suc n) shape)
+pub number_split : (n : ℕ) (hole : Bool) (shape : Option ℕ) →
+    IsSplit (hole && is_from n shape) (hole && is_number n shape) (hole && is_from (suc n) shape)
 number_split n false shape = inr (refl, refl)
 number_split n true None = inr (refl, refl)
 number_split n true (Some m) = by (eqb m n) refl

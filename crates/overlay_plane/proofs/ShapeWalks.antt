@@ -1,5 +1,5 @@
--- The shapes that outlines begin have each outline, and each hole that is bound to one of them: the lists made of the walks' parts
--- are one in two orders.
+-- The shapes that outlines begin have each outline, and each hole that is bound to one of them: the lists made of the
+-- walks' parts are one in two orders.
 use Rattle.std.proofs.Common.{◌≡◌, inl, inr, ℕ, suc, ◌+◌, ◌<◌, Bool, true, false, not, ◌&&◌, List, [], ◌∷◌, ◌++◌}
 use Rattle.std.proofs.Common.{length, Contains, Option, Some, None, refl, sym, ap, ◌∙◌, subst, arith, append_assoc}
 use Rattle.std.specs.List.{filter, flat_map}
@@ -12,11 +12,13 @@ use Rattle.std.proofs.lemmas.List.Sorted.{IsPermutation-refl, IsPermutation-tran
 use Rattle.std.proofs.lemmas.Option.{MatchOption-at_some}
 use Rattle.overlay_geom.specs.Plane.{Step}
 use Rattle.overlay_geom.proofs.Mapped.{map-filter}
-use Rattle.overlay_plane.specs.Binding.{is_hole, outlines, IsParentOf, HasNoParent, BoundWalk, IsBound, AreBound, is_number, holes_of, shapes_begun, shapes_of}
+use Rattle.overlay_plane.specs.Binding.{is_hole, outlines, IsParentOf, HasNoParent, BoundWalk, IsBound, AreBound}
+use Rattle.overlay_plane.specs.Binding.{is_number, holes_of, shapes_begun, shapes_of}
 use Rattle.overlay_plane.specs.Binding.{walks_of, HaveShapes}
 use Rattle.overlay_plane.proofs.HolesAdded.{parent_is_counted}
 use Rattle.overlay_plane.proofs.ShapeNumbers.{is_from, from_start, number_split, not_below}
-use Rattle.overlay_plane.proofs.SplitLists.{IsPermutation-past, IsSplit, flat_map-split, filter-same, filter-all, filter-none}
+use Rattle.overlay_plane.proofs.SplitLists.{IsPermutation-past, IsSplit, flat_map-split, filter-same, filter-all}
+use Rattle.overlay_plane.proofs.SplitLists.{filter-none}
 
 module _ {Y : Type 0} (f : List Step → List Y) (on_left : Bool) (bound : List BoundWalk) where
   -- a bound walk's part
@@ -29,13 +31,15 @@ module _ {Y : Type 0} (f : List Step → List Y) (on_left : Bool) (bound : List 
 
   -- the holes from n on have numbers below n + m
   abbrev AreBelow : ℕ → ℕ → Type 0
-  AreBelow n m = (b : BoundWalk) → Contains bound b → is_hole on_left b.steps ≡ true → (k : ℕ) → b.shape ≡ Some k → k < n + m
+  AreBelow n m = (b : BoundWalk) → Contains bound b → is_hole on_left b.steps ≡ true →
+      (k : ℕ) → b.shape ≡ Some k → k < n + m
 
   -- with no number left there is no hole
   none_from : (n : ℕ) → AreBelow n 0 → filter (from_number n) bound ≡ []
   none_from n below = filter-same (from_number n) (λ b. false) bound
       (λ b c. false_from_ne_true (from_number n b) (λ is.
-      let both = and_parts (is_hole on_left b.steps) (is_from n b.shape) is in against b.shape both.1 (below b c both.0)))
+      let both = and_parts (is_hole on_left b.steps) (is_from n b.shape) is in
+      against b.shape both.1 (below b c both.0)))
       ∙ filter-none bound
     where
       against : (shape : Option ℕ) → is_from n shape ≡ true → ¬ ((k : ℕ) → shape ≡ Some k → k < n + 0)
@@ -45,16 +49,22 @@ module _ {Y : Type 0} (f : List Step → List Y) (on_left : Bool) (bound : List 
   -- the holes of the n-th shape, and those from n + 1 on
   split_here : (n : ℕ) → IsPermutation (flat_map part (filter (from_number n) bound))
       (flat_map f (holes_of on_left bound n) ++ flat_map part (filter (from_number (suc n)) bound))
-  split_here n = subst (λ ys. IsPermutation (flat_map part (filter (from_number n) bound)) (ys ++ flat_map part (filter (from_number (suc n)) bound)))
-      (sym (flat_map-map f (λ (b : BoundWalk). b.steps) (filter (λ b. is_hole on_left b.steps && is_number n b.shape) bound)))
-      (flat_map-split part (from_number n) (λ b. is_hole on_left b.steps && is_number n b.shape) (from_number (suc n)) bound
+  split_here n = subst (λ ys. IsPermutation (flat_map part (filter (from_number n) bound))
+      (ys ++ flat_map part (filter (from_number (suc n)) bound)))
+      (sym (flat_map-map f (λ (b : BoundWalk). b.steps)
+      (filter (λ b. is_hole on_left b.steps && is_number n b.shape) bound)))
+      (flat_map-split part (from_number n) (λ b. is_hole on_left b.steps && is_number n b.shape)
+      (from_number (suc n)) bound
       (λ b c. number_split n (is_hole on_left b.steps) b.shape))
 
   -- where the holes from n on have numbers below n + m, the shapes that m outlines begin have them
   begun_alike : (n : ℕ) (os : List (List Step)) → AreBelow n (length os) →
-      IsPermutation (flat_map f os ++ flat_map part (filter (from_number n) bound)) (flat_map f (walks_of (shapes_begun on_left bound n os)))
-  begun_alike n [] below = subst (λ bs. IsPermutation (flat_map part bs) []) (sym (none_from n below)) (IsPermutation-refl [])
-  begun_alike n (o ∷ os) below = subst (λ ys. IsPermutation ys (flat_map f (walks_of (shapes_begun on_left bound n (o ∷ os)))))
+      IsPermutation (flat_map f os ++ flat_map part (filter (from_number n) bound))
+      (flat_map f (walks_of (shapes_begun on_left bound n os)))
+  begun_alike n [] below = subst (λ bs. IsPermutation (flat_map part bs) []) (sym (none_from n below))
+      (IsPermutation-refl [])
+  begun_alike n (o ∷ os) below = subst
+      (λ ys. IsPermutation ys (flat_map f (walks_of (shapes_begun on_left bound n (o ∷ os)))))
       (sym (append_assoc (f o) (flat_map f os) (flat_map part (filter (from_number n) bound))))
       (subst (λ ys. IsPermutation (f o ++ (flat_map f os ++ flat_map part (filter (from_number n) bound))) (f o ++ ys))
       (sym (flat_map-append f (holes_of on_left bound n) (walks_of (shapes_begun on_left bound (suc n) os))))
@@ -72,34 +82,45 @@ module _ {Y : Type 0} (f : List Step → List Y) (on_left : Bool) (bound : List 
       begun : List Y
       begun = flat_map f (walks_of (shapes_begun on_left bound (suc n) os))
 
-      moved : IsPermutation (flat_map f os ++ later) begun → IsPermutation (flat_map f os ++ flat_map part (filter (from_number n) bound)) (here ++ begun)
-      moved rest = IsPermutation-trans (flat_map f os ++ flat_map part (filter (from_number n) bound)) (flat_map f os ++ (here ++ later)) (here ++ begun)
-          (IsPermutation-append_right (flat_map f os) (flat_map part (filter (from_number n) bound)) (here ++ later) (split_here n))
+      moved : IsPermutation (flat_map f os ++ later) begun →
+          IsPermutation (flat_map f os ++ flat_map part (filter (from_number n) bound)) (here ++ begun)
+      moved rest = IsPermutation-trans (flat_map f os ++ flat_map part (filter (from_number n) bound))
+          (flat_map f os ++ (here ++ later)) (here ++ begun)
+          (IsPermutation-append_right (flat_map f os) (flat_map part (filter (from_number n) bound)) (here ++ later)
+          (split_here n))
           (IsPermutation-trans (flat_map f os ++ (here ++ later)) (here ++ (flat_map f os ++ later)) (here ++ begun)
           (IsPermutation-past (flat_map f os) here later)
           (IsPermutation-append_right here (flat_map f os ++ later) begun rest))
 
   -- the walks are the outlines, and the holes
   outlines_and_holes : (walks : List (List Step)) →
-      IsPermutation (flat_map f walks) (flat_map f (outlines on_left walks) ++ flat_map f (filter (is_hole on_left) walks))
-  outlines_and_holes walks = subst (λ ws. IsPermutation (flat_map f ws) (flat_map f (outlines on_left walks) ++ flat_map f (filter (is_hole on_left) walks)))
+      IsPermutation (flat_map f walks)
+      (flat_map f (outlines on_left walks) ++ flat_map f (filter (is_hole on_left) walks))
+  outlines_and_holes walks = subst
+      (λ ws. IsPermutation (flat_map f ws)
+      (flat_map f (outlines on_left walks) ++ flat_map f (filter (is_hole on_left) walks)))
       (filter-all walks)
-      (flat_map-split f (λ w. true) (λ w. not (is_hole on_left w)) (is_hole on_left) walks (λ w c. each (is_hole on_left w)))
+      (flat_map-split f (λ w. true) (λ w. not (is_hole on_left w)) (is_hole on_left) walks
+      (λ w c. each (is_hole on_left w)))
     where
       each : (t : Bool) → IsSplit true (not t) t
       each true = inr (refl, refl)
       each false = inl (refl, refl, refl)
 
-module _ (on_left : Bool) (walks : List (List Step)) (bound : List BoundWalk) (are_bound : AreBound on_left walks bound) (have : HaveShapes on_left bound) where
+module _ (on_left : Bool) (walks : List (List Step)) (bound : List BoundWalk) (are_bound : AreBound on_left walks bound)
+    (have : HaveShapes on_left bound) where
   -- each hole's number is that of an outline
-  hole_below : (b : BoundWalk) → Contains bound b → is_hole on_left b.steps ≡ true → (k : ℕ) → b.shape ≡ Some k → k < 0 + length (outlines on_left walks)
+  hole_below : (b : BoundWalk) → Contains bound b → is_hole on_left b.steps ≡ true → (k : ℕ) → b.shape ≡ Some k →
+      k < 0 + length (outlines on_left walks)
   hole_below b c is k shape =
-      let told = MatchOption-at_some (HasNoParent on_left walks b.steps) (λ n. IsParentOf on_left walks b.steps n) k shape
-      (All-contains (IsBound on_left walks) bound b are_bound.told c is) in
-      let low = parent_is_counted on_left walks b.steps k told in omega arith
+      let number = MatchOption-at_some (HasNoParent on_left walks b.steps) (λ n. IsParentOf on_left walks b.steps n) k
+      shape
+      (All-contains (IsBound on_left walks) bound b are_bound.numbers c is) in
+      let low = parent_is_counted on_left walks b.steps k number in omega arith
 
   -- each hole has a number
-  all_from_start : filter (λ b. is_hole on_left b.steps) bound ≡ filter (λ b. is_hole on_left b.steps && is_from 0 b.shape) bound
+  all_from_start : filter (λ b. is_hole on_left b.steps) bound ≡ filter
+      (λ b. is_hole on_left b.steps && is_from 0 b.shape) bound
   all_from_start = filter-same (λ b. is_hole on_left b.steps) (λ b. is_hole on_left b.steps && is_from 0 b.shape) bound
       (λ b c. by (is_hole on_left b.steps) b.shape (have b c))
     where
@@ -109,17 +130,21 @@ module _ (on_left : Bool) (walks : List (List Step)) (bound : List BoundWalk) (a
       by true (Some m) h = sym (from_start m)
 
   -- so the parts of the walks are those of the shapes' walks
-  pub shapes_alike : {Y : Type 0} (f : List Step → List Y) → IsPermutation (flat_map f walks) (flat_map f (walks_of (shapes_of on_left bound)))
-  shapes_alike {Y} f = IsPermutation-trans (flat_map f walks) (flat_map f (outlines on_left walks) ++ flat_map f (filter (is_hole on_left) walks))
+  pub shapes_alike : {Y : Type 0} (f : List Step → List Y) →
+      IsPermutation (flat_map f walks) (flat_map f (walks_of (shapes_of on_left bound)))
+  shapes_alike {Y} f = IsPermutation-trans (flat_map f walks)
+      (flat_map f (outlines on_left walks) ++ flat_map f (filter (is_hole on_left) walks))
       (flat_map f (walks_of (shapes_of on_left bound)))
       (outlines_and_holes f on_left bound walks)
-      (subst (λ ys. IsPermutation (flat_map f (outlines on_left walks) ++ ys) (flat_map f (walks_of (shapes_of on_left bound)))) (sym holes)
+      (subst (λ ys. IsPermutation (flat_map f (outlines on_left walks) ++ ys)
+      (flat_map f (walks_of (shapes_of on_left bound)))) (sym holes)
       (subst (λ ws. IsPermutation (flat_map f (outlines on_left walks) ++ from_none)
       (flat_map f (walks_of (shapes_begun on_left bound 0 (outlines on_left ws)))))
       (sym are_bound.are) (begun_alike f on_left bound 0 (outlines on_left walks) hole_below)))
     where
       from_none : List Y
-      from_none = flat_map (λ (b : BoundWalk). f b.steps) (filter (λ b. is_hole on_left b.steps && is_from 0 b.shape) bound)
+      from_none = flat_map (λ (b : BoundWalk). f b.steps)
+          (filter (λ b. is_hole on_left b.steps && is_from 0 b.shape) bound)
 
       holes : flat_map f (filter (is_hole on_left) walks) ≡ from_none
       holes = ap (λ ws. flat_map f (filter (is_hole on_left) ws)) (sym are_bound.are)

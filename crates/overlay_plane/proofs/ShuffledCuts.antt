@@ -39,8 +39,10 @@ alternate_alike xs ys same a = record {
   one_leaves = λ s t c d. a.one_leaves s t (same.1 s c) (same.1 t d);
   one_arrives = λ s t c d. a.one_arrives s t (same.1 s c) (same.1 t d);
   none_both = λ s t c d. a.none_both s t (same.1 s c) (same.1 t d);
-  arrives_between = λ s t c d at apart. let u = a.arrives_between s t (same.1 s c) (same.1 t d) at apart in (u.0, same.0 u.0 u.1, u.2, u.3);
-  leaves_between = λ s t c d at apart. let u = a.leaves_between s t (same.1 s c) (same.1 t d) at apart in (u.0, same.0 u.0 u.1, u.2, u.3);
+  arrives_between = λ s t c d at apart. let u = a.arrives_between s t (same.1 s c) (same.1 t d) at apart in
+      (u.0, same.0 u.0 u.1, u.2, u.3);
+  leaves_between = λ s t c d at apart. let u = a.leaves_between s t (same.1 s c) (same.1 t d) at apart in
+      (u.0, same.0 u.0 u.1, u.2, u.3);
   goes_on = λ s c. let t = a.goes_on s (same.1 s c) in (t.0, same.0 t.0 t.1, t.2);
   comes_in = λ t c. let s = a.comes_in t (same.1 t c) in (s.0, same.0 s.0 s.1, s.2);
 }
@@ -54,7 +56,8 @@ start_alike xs ys same s start = record {
 }
 
 -- and have the same orbits
-orbit_alike : (xs ys : List Step) → HaveSame xs ys → (hand : Hand) (walk : List Step) → IsOrbit xs hand walk → IsOrbit ys hand walk
+orbit_alike : (xs ys : List Step) → HaveSame xs ys → (hand : Hand) (walk : List Step) → IsOrbit xs hand walk →
+    IsOrbit ys hand walk
 orbit_alike xs ys same hand walk orbit = record {
   some = orbit.some;
   goes_on = λ k l. next_alike (step_round walk k) (step_round walk (k + 1)) (orbit.goes_on k l);
@@ -66,11 +69,13 @@ orbit_alike xs ys same hand walk orbit = record {
       among = same.0 t n.among;
       leaves = n.leaves;
       first = all_of_entries (λ u. u.from ≡ s.to → is_met_before hand s.to s.from u.to t.to ≡ false) ys
-          (λ u c. All-contains (λ u. u.from ≡ s.to → is_met_before hand s.to s.from u.to t.to ≡ false) xs u n.first (same.1 u c));
+          (λ u c. All-contains (λ u. u.from ≡ s.to → is_met_before hand s.to s.from u.to t.to ≡ false) xs u n.first
+          (same.1 u c));
     }
 
 -- what is left when some are taken is the same
-without_alike : (xs ys : List Step) → HaveSame xs ys → (taken : List Step) → HaveSame (without xs taken) (without ys taken)
+without_alike : (xs ys : List Step) → HaveSame xs ys → (taken : List Step) →
+    HaveSame (without xs taken) (without ys taken)
 without_alike xs ys same taken = (
   (λ s c. let own = Contains-from_filter left xs s c in Contains-filter left ys s (same.0 s own.0) own.1),
   (λ s c. let own = Contains-from_filter left ys s c in Contains-filter left xs s (same.1 s own.0) own.1),
@@ -85,7 +90,8 @@ none_alike [] same = refl
 none_alike (y ∷ ys) same = elim (same.1 y (Contains-head y ys)).1 [ ]
 
 -- they are cut into the same walks
-pub cut_alike : (hand_of : Step → Hand) (xs ys : List Step) → HaveSame xs ys → (walks : List (List Step)) → IsCutInto hand_of xs walks →
+pub cut_alike : (hand_of : Step → Hand) (xs ys : List Step) → HaveSame xs ys → (walks : List (List Step)) →
+    IsCutInto hand_of xs walks →
     IsCutInto hand_of ys walks
 cut_alike hand_of xs ys same walks done = subst (λ zs. IsCutInto hand_of zs []) (sym (none_alike ys same)) done
 cut_alike hand_of xs ys same walks (next {s} {ss} {rest} start orbit cut) =
@@ -94,7 +100,8 @@ cut_alike hand_of xs ys same walks (next {s} {ss} {rest} start orbit cut) =
 
 -- ---- selected steps in another order
 
-module _ (holds : ℤ → ℤ → Bool) (subj clip : CountedEdge → ℤ) (es : List CountedEdge) (on_left : Bool) (ruled : IsRuled holds subj clip es)
+module _ (holds : ℤ → ℤ → Bool) (subj clip : CountedEdge → ℤ) (es : List CountedEdge) (on_left : Bool)
+    (ruled : IsRuled holds subj clip es)
     (steps : List Step) (moved : IsPermutation (selected_steps holds subj clip on_left es) steps) where
   -- they have the same steps
   same : HaveSame (selected_steps holds subj clip on_left es) steps
@@ -102,15 +109,19 @@ module _ (holds : ℤ → ℤ → Bool) (subj clip : CountedEdge → ℤ) (es : 
 
   -- they alternate
   pub shuffled_alternate : Alternates steps
-  shuffled_alternate = alternate_alike (selected_steps holds subj clip on_left es) steps same (selected_alternate holds subj clip es ruled on_left)
+  shuffled_alternate = alternate_alike (selected_steps holds subj clip on_left es) steps same
+      (selected_alternate holds subj clip es ruled on_left)
 
   -- none stands twice
   pub shuffled_once : HasEachOnce steps
-  shuffled_once = once_shuffled (selected_steps holds subj clip on_left es) steps moved (selected_steps_once holds subj clip es ruled on_left)
+  shuffled_once = once_shuffled (selected_steps holds subj clip on_left es) steps moved
+      (selected_steps_once holds subj clip es ruled on_left)
 
   -- and what they are cut into the selected steps are cut into
-  pub shuffled_cut : (walks : List (List Step)) → IsCutInto (outline_or_hole_hand on_left) steps walks → AreCutFrom holds subj clip es on_left walks
+  pub shuffled_cut : (walks : List (List Step)) → IsCutInto (outline_or_hole_hand on_left) steps walks →
+      AreCutFrom holds subj clip es on_left walks
   shuffled_cut walks cut = record {
     ruled = ruled;
-    cut = cut_alike (outline_or_hole_hand on_left) steps (selected_steps holds subj clip on_left es) (same.1, same.0) walks cut;
+    cut = cut_alike (outline_or_hole_hand on_left) steps (selected_steps holds subj clip on_left es)
+        (same.1, same.0) walks cut;
   }

@@ -1,4 +1,5 @@
--- Entries no two of which pass a test that takes the two in either order: in whichever order they stand, no two pass it.
+-- Entries no two of which pass a test that takes the two in either order: in whichever order they stand, no two pass
+-- it.
 use Rattle.std.proofs.Common.{◌≡◌, ⊎_elim, Bool, true, false, List, [], ◌∷◌, Contains, AllPairs, sym, subst}
 use Rattle.std.specs.List.{AllByRecursion, IsDistinct}
 use Rattle.std.specs.List.Sorted.{IsPermutation}
@@ -19,7 +20,8 @@ by_recursion P (x ∷ xs) h = (h x (Contains-head x xs), by_recursion P xs (λ y
 
 by_entries : {X : Type 0} (P : X → Type 0) (xs : List X) → AllByRecursion P xs → (x : X) → Contains xs x → P x
 by_entries P [] h x c = elim c.1 [ ]
-by_entries P (y ∷ ys) h x c = ⊎_elim (λ is. subst P is h.0) (λ later. by_entries P ys h.1 x later) (Contains-cases y ys x c)
+by_entries P (y ∷ ys) h x c = ⊎_elim (λ is. subst P is h.0) (λ later. by_entries P ys h.1 x later)
+    (Contains-cases y ys x c)
 
 module _ {X : Type 0} (test : X → X → Bool) where
   -- no two pass
@@ -37,7 +39,8 @@ module _ {X : Type 0} (test : X → X → Bool) where
   each_from_distinct (x ∷ xs) h = (by_entries (Apart x) xs h.0, each_from_distinct xs h.1)
 
   -- no two of them pass in another order
-  pub pairs_shuffled : ((x y : X) → test x y ≡ true → test y x ≡ true) → (xs ys : List X) → IsPermutation xs ys → AllPairs Apart xs → AllPairs Apart ys
+  pub pairs_shuffled : ((x y : X) → test x y ≡ true → test y x ≡ true) → (xs ys : List X) → IsPermutation xs ys →
+      AllPairs Apart xs → AllPairs Apart ys
   pairs_shuffled flips xs ys moved apart =
       AllPairs-from_each Apart ys (each_from_distinct ys
       (IsDistinct-IsPermutation test (λ x y. same_tests (test x y) (test y x) (flips x y) (flips y x)) xs ys moved
@@ -45,9 +48,11 @@ module _ {X : Type 0} (test : X → X → Bool) where
 
 -- no step stands twice in another order
 pub once_shuffled : (xs ys : List Step) → IsPermutation xs ys → HasEachOnce xs → HasEachOnce ys
-once_shuffled xs ys moved once = pairs_shuffled step_eq (λ s t same. equal_steps t s (sym (same_steps s t same))) xs ys moved once
+once_shuffled xs ys moved once = pairs_shuffled step_eq (λ s t same. equal_steps t s (sym (same_steps s t same))) xs
+    ys moved once
 
 -- and no edge
 pub edges_once_shuffled : (xs ys : List Step) → IsPermutation xs ys → HasEachEdgeOnce xs → HasEachEdgeOnce ys
 edges_once_shuffled xs ys moved once =
-    pairs_shuffled (λ s t. edge_eq (edge_of s) (edge_of t)) (λ s t same. edge_eq-exchanged (edge_of s) (edge_of t) same) xs ys moved once
+    pairs_shuffled (λ s t. edge_eq (edge_of s) (edge_of t)) (λ s t same. edge_eq-exchanged (edge_of s) (edge_of t) same)
+    xs ys moved once

@@ -1,4 +1,5 @@
--- Points of the plane by x, then by y: a strict order that a test decides, in which those points tie that are at one place.
+-- Points of the plane by x, then by y: a strict order that a test decides, in which those points tie that are at one
+-- place.
 use Rattle.std.proofs.Common.{◌≡◌, inl, inr, Bool, true, false, ◌&&◌, ◌||◌, ℤ, pos, ◌*ℤ◌, ◌<ℤ◌, ◌≤ℤ◌, int_lt, sym}
 use Rattle.std.specs.Bool.{Decides}
 use Rattle.std.specs.Ordering.{int_eq}
@@ -18,7 +19,8 @@ third_first : (x c b : ℤ) → b *ℤ (x *ℤ c) ≡ c *ℤ (x *ℤ b)
 third_first = solve 3 (λ x c b. b ⊗ (x ⊗ c) ≗ c ⊗ (x ⊗ b)) tt
 
 -- at most the one is at most the other
-fraction_le : (x d y c z b : ℤ) → pos 0 <ℤ d → pos 0 <ℤ c → pos 0 <ℤ b → (x *ℤ c) ≤ℤ (y *ℤ d) → (y *ℤ b) ≤ℤ (z *ℤ c) → (x *ℤ b) ≤ℤ (z *ℤ d)
+fraction_le : (x d y c z b : ℤ) → pos 0 <ℤ d → pos 0 <ℤ c → pos 0 <ℤ b → (x *ℤ c) ≤ℤ (y *ℤ d) → (y *ℤ b) ≤ℤ (z *ℤ c) →
+    (x *ℤ b) ≤ℤ (z *ℤ d)
 fraction_le x d y c z b d_pos c_pos b_pos first second =
     let low = mul-le b (x *ℤ c) (y *ℤ d) (omega linear) first in
     let high = mul-le d (y *ℤ b) (z *ℤ c) (omega linear) second in
@@ -28,7 +30,8 @@ fraction_le x d y c z b d_pos c_pos b_pos first second =
     le_of_mul-le c (x *ℤ b) (z *ℤ d) c_pos (omega linear)
 
 -- below what is at most another
-fraction_lt_le : (x d y c z b : ℤ) → pos 0 <ℤ d → pos 0 <ℤ c → pos 0 <ℤ b → (x *ℤ c) <ℤ (y *ℤ d) → (y *ℤ b) ≤ℤ (z *ℤ c) → (x *ℤ b) <ℤ (z *ℤ d)
+fraction_lt_le : (x d y c z b : ℤ) → pos 0 <ℤ d → pos 0 <ℤ c → pos 0 <ℤ b → (x *ℤ c) <ℤ (y *ℤ d) →
+    (y *ℤ b) ≤ℤ (z *ℤ c) → (x *ℤ b) <ℤ (z *ℤ d)
 fraction_lt_le x d y c z b d_pos c_pos b_pos first second =
     let low = mul-lt b (x *ℤ c) (y *ℤ d) b_pos first in
     let high = mul-le d (y *ℤ b) (z *ℤ c) (omega linear) second in
@@ -38,7 +41,8 @@ fraction_lt_le x d y c z b d_pos c_pos b_pos first second =
     lt_of_mul-lt c (x *ℤ b) (z *ℤ d) c_pos (omega linear)
 
 -- at most what is below another
-fraction_le_lt : (x d y c z b : ℤ) → pos 0 <ℤ d → pos 0 <ℤ c → pos 0 <ℤ b → (x *ℤ c) ≤ℤ (y *ℤ d) → (y *ℤ b) <ℤ (z *ℤ c) → (x *ℤ b) <ℤ (z *ℤ d)
+fraction_le_lt : (x d y c z b : ℤ) → pos 0 <ℤ d → pos 0 <ℤ c → pos 0 <ℤ b → (x *ℤ c) ≤ℤ (y *ℤ d) →
+    (y *ℤ b) <ℤ (z *ℤ c) → (x *ℤ b) <ℤ (z *ℤ d)
 fraction_le_lt x d y c z b d_pos c_pos b_pos first second =
     let low = mul-le b (x *ℤ c) (y *ℤ d) (omega linear) first in
     let high = mul-lt d (y *ℤ b) (z *ℤ c) d_pos second in
@@ -48,7 +52,8 @@ fraction_le_lt x d y c z b d_pos c_pos b_pos first second =
     lt_of_mul-lt c (x *ℤ b) (z *ℤ d) c_pos (omega linear)
 
 -- equal to what is equal to another
-fraction_eq : (x d y c z b : ℤ) → pos 0 <ℤ d → pos 0 <ℤ c → pos 0 <ℤ b → x *ℤ c ≡ y *ℤ d → y *ℤ b ≡ z *ℤ c → x *ℤ b ≡ z *ℤ d
+fraction_eq : (x d y c z b : ℤ) → pos 0 <ℤ d → pos 0 <ℤ c → pos 0 <ℤ b → x *ℤ c ≡ y *ℤ d → y *ℤ b ≡ z *ℤ c →
+    x *ℤ b ≡ z *ℤ d
 fraction_eq x d y c z b d_pos c_pos b_pos first second =
     let low = fraction_le x d y c z b d_pos c_pos b_pos (omega linear) (omega linear) in
     let high = fraction_le z b y c x d b_pos c_pos d_pos (omega linear) (omega linear) in
@@ -67,7 +72,8 @@ same_place-trans p q r first second = (
 
 -- p is smaller than q
 abbrev pub is_smaller : PlanePoint → PlanePoint → Bool
-is_smaller p q = int_lt (p.x *ℤ q.d) (q.x *ℤ p.d) || (int_eq (p.x *ℤ q.d) (q.x *ℤ p.d) && int_lt (p.y *ℤ q.d) (q.y *ℤ p.d))
+is_smaller p q = int_lt (p.x *ℤ q.d) (q.x *ℤ p.d) || (int_eq (p.x *ℤ q.d) (q.x *ℤ p.d) && int_lt (p.y *ℤ q.d)
+    (q.y *ℤ p.d))
 
 -- the test tells whether p is smaller than q
 pub Decides-is_smaller : (p q : PlanePoint) → Decides (is_smaller p q) (IsSmaller p q)
@@ -84,12 +90,16 @@ smaller-irreflexive p = false_from_ne_true (is_smaller p p) (λ t. against ((Dec
 
 -- what is smaller than a smaller point is smaller
 pub smaller-transitive : (p q r : PlanePoint) → is_smaller p q ≡ true → is_smaller q r ≡ true → is_smaller p r ≡ true
-smaller-transitive p q r first second = (Decides-is_smaller p r).1 (by ((Decides-is_smaller p q).0 first) ((Decides-is_smaller q r).0 second))
+smaller-transitive p q r first second = (Decides-is_smaller p r).1
+    (by ((Decides-is_smaller p q).0 first) ((Decides-is_smaller q r).0 second))
   where
     by : IsSmaller p q → IsSmaller q r → IsSmaller p r
-    by (inl lt) (inl next) = inl (fraction_lt_le p.x p.d q.x q.d r.x r.d p.positive q.positive r.positive lt (omega linear))
-    by (inl lt) (inr (same, next)) = inl (fraction_lt_le p.x p.d q.x q.d r.x r.d p.positive q.positive r.positive lt (omega linear))
-    by (inr (same, lt)) (inl next) = inl (fraction_le_lt p.x p.d q.x q.d r.x r.d p.positive q.positive r.positive (omega linear) next)
+    by (inl lt) (inl next) = inl (fraction_lt_le p.x p.d q.x q.d r.x r.d p.positive q.positive r.positive lt
+        (omega linear))
+    by (inl lt) (inr (same, next)) = inl (fraction_lt_le p.x p.d q.x q.d r.x r.d p.positive q.positive r.positive lt
+        (omega linear))
+    by (inr (same, lt)) (inl next) = inl (fraction_le_lt p.x p.d q.x q.d r.x r.d p.positive q.positive r.positive
+        (omega linear) next)
     by (inr (same, lt)) (inr (level, next)) = inr (
       fraction_eq p.x p.d q.x q.d r.x r.d p.positive q.positive r.positive same level,
       fraction_lt_le p.y p.d q.y q.d r.y r.d p.positive q.positive r.positive lt (omega linear),

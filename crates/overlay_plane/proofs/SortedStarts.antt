@@ -22,5 +22,6 @@ module _ {X : Type 0} (edge : X → Edge) (forward : (x : X) → IsForward (edge
   }
 
   -- sorted items are in the order of their starts
-  pub by_start-from_sorted : (xs : List X) → IsSortedBy starts_before xs → AllPairs (λ x y. is_anchored_before (edge y) (edge x) ≡ false) xs
+  pub by_start-from_sorted : (xs : List X) → IsSortedBy starts_before xs →
+      AllPairs (λ x y. is_anchored_before (edge y) (edge x) ≡ false) xs
   by_start-from_sorted xs up j k d l m = sorted_far starts_before starts_before-order xs up j k d (omega (arith, l)) m

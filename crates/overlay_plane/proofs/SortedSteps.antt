@@ -1,5 +1,6 @@
 -- Two lists of points in one weak order that have the same entries give the same steps from their common start.
-use Rattle.std.proofs.Common.{◌≡◌, ⊎_elim, Bool, true, false, cond, List, [], ◌∷◌, ◌++◌, Contains, refl, sym, ap, ◌∙◌, subst}
+use Rattle.std.proofs.Common.{◌≡◌, ⊎_elim, Bool, true, false, cond, List, [], ◌∷◌, ◌++◌, Contains, refl, sym, ap, ◌∙◌}
+use Rattle.std.proofs.Common.{subst}
 use Rattle.std.proofs.lemmas.Bool.Decides.{not_from_Decides}
 use Rattle.overlay_geom.specs.Plane.{Point, point_eq, steps_between, steps_through}
 use Rattle.overlay_geom.proofs.Orders.{Decides-point_eq}
@@ -19,7 +20,8 @@ exchanged same = record { forth = same.back; back = same.forth }
 front_once : (p : Point) (us vs : List Point) → HaveSameEntries (p ∷ p ∷ us) vs → HaveSameEntries (p ∷ us) vs
 front_once p us vs same = record {
   forth = λ z c. same.forth z (Contains-later p (p ∷ us) z c);
-  back = λ z c. ⊎_elim (λ e. subst (λ u. Contains (p ∷ us) u) e (Contains-head p us)) (λ later. later) (Contains-cases p (p ∷ us) z (same.back z c));
+  back = λ z c. ⊎_elim (λ e. subst (λ u. Contains (p ∷ us) u) e (Contains-head p us)) (λ later. later)
+      (Contains-cases p (p ∷ us) z (same.back z c));
 }
 
 -- no step is taken between equal points
@@ -30,42 +32,54 @@ no_step p v vs e = subst (λ (u : Point). steps_through p (u ∷ vs) ≡ steps_t
 -- no step is taken through points that all are the start
 standing_still : (p : Point) (vs : List Point) → ((z : Point) → Contains vs z → p ≡ z) → steps_through p vs ≡ []
 standing_still p [] h = refl
-standing_still p (v ∷ vs) h = no_step p v vs (h v (Contains-head v vs)) ∙ standing_still p vs (λ z c. h z (Contains-later v vs z c))
+standing_still p (v ∷ vs) h = no_step p v vs (h v (Contains-head v vs))
+    ∙ standing_still p vs (λ z c. h z (Contains-later v vs z c))
 
-module _ (R : Point → Point → Type 0) (reflexive : (u : Point) → R u u) (antisymmetric : (u v : Point) → R u v → R v u → u ≡ v) where
+module _ (R : Point → Point → Type 0) (reflexive : (u : Point) → R u u) (antisymmetric : (u v : Point) → R u v → R v u →
+    u ≡ v) where
   -- the first entry is in order with each entry
   first_before : (v : Point) (vs : List Point) → Each R (v ∷ vs) → (z : Point) → Contains (v ∷ vs) z → R v z
-  first_before v vs sorted z c = ⊎_elim (λ e. subst (λ u. R v u) e (reflexive v)) (λ later. sorted.0 z later) (Contains-cases v vs z c)
+  first_before v vs sorted z c = ⊎_elim (λ e. subst (λ u. R v u) e (reflexive v)) (λ later. sorted.0 z later)
+      (Contains-cases v vs z c)
 
   -- of an entry and the one after it that differs the first does not come back
-  not_again : (p u : Point) (us : List Point) → ¬ (p ≡ u) → Each R (p ∷ u ∷ us) → (z : Point) → Contains (u ∷ us) z → ¬ (p ≡ z)
+  not_again : (p u : Point) (us : List Point) → ¬ (p ≡ u) → Each R (p ∷ u ∷ us) →
+      (z : Point) → Contains (u ∷ us) z → ¬ (p ≡ z)
   not_again p u us differ sorted z c same =
-      differ (antisymmetric p u (sorted.0 u (Contains-head u us)) (subst (λ w. R u w) (sym same) (first_before u us sorted.1 z c)))
+      differ (antisymmetric p u (sorted.0 u (Contains-head u us))
+      (subst (λ w. R u w) (sym same) (first_before u us sorted.1 z c)))
 
   -- the entries past the first one, if it does not come back
-  entries_past : (p u v : Point) (us vs : List Point) → ¬ (p ≡ u) → Each R (p ∷ u ∷ us) → ((z : Point) → Contains (p ∷ u ∷ us) z → Contains (p ∷ v ∷ vs) z) →
+  entries_past : (p u v : Point) (us vs : List Point) → ¬ (p ≡ u) → Each R (p ∷ u ∷ us) →
+      ((z : Point) → Contains (p ∷ u ∷ us) z → Contains (p ∷ v ∷ vs) z) →
       (z : Point) → Contains (u ∷ us) z → Contains (v ∷ vs) z
-  entries_past p u v us vs differ sorted forth z c = ⊎_elim (λ e. absurd (not_again p u us differ sorted z c e)) (λ later. later)
+  entries_past p u v us vs differ sorted forth z c = ⊎_elim (λ e. absurd (not_again p u us differ sorted z c e))
+      (λ later. later)
       (Contains-cases p (v ∷ vs) z (forth z (Contains-later p (u ∷ us) z c)))
 
   -- each list in order that has the same entries as us, both from u on, gives the same steps
   abbrev GiveSameSteps : Point → List Point → Type 0
-  GiveSameSteps u us = (ws : List Point) → Each R (u ∷ ws) → HaveSameEntries (u ∷ us) (u ∷ ws) → steps_through u us ≡ steps_through u ws
+  GiveSameSteps u us = (ws : List Point) → Each R (u ∷ ws) → HaveSameEntries (u ∷ us) (u ∷ ws) →
+      steps_through u us ≡ steps_through u ws
 
   -- so they do from p before it, where u is another point
-  steps_past : (p u : Point) (us vs : List Point) → ¬ (p ≡ u) → Each R (p ∷ u ∷ us) → Each R (p ∷ vs) → HaveSameEntries (p ∷ u ∷ us) (p ∷ vs) →
+  steps_past : (p u : Point) (us vs : List Point) → ¬ (p ≡ u) → Each R (p ∷ u ∷ us) → Each R (p ∷ vs) →
+      HaveSameEntries (p ∷ u ∷ us) (p ∷ vs) →
       GiveSameSteps u us → steps_through p (u ∷ us) ≡ steps_through p vs
   steps_past p u us [] differ sorted others same rest = absurd (⊎_elim (λ e. differ e) (λ none. elim none.1 [ ])
       (Contains-cases p [] u (same.forth u (Contains-later p (u ∷ us) u (Contains-head u us)))))
-  steps_past p u us (v ∷ vs) differ sorted others same rest = by (point_eq p v) refl (steps_past p u us vs differ sorted)
+  steps_past p u us (v ∷ vs) differ sorted others same rest = by (point_eq p v) refl
+      (steps_past p u us vs differ sorted)
     where
       by : (t : Bool) → point_eq p v ≡ t →
-          (Each R (p ∷ vs) → HaveSameEntries (p ∷ u ∷ us) (p ∷ vs) → GiveSameSteps u us → steps_through p (u ∷ us) ≡ steps_through p vs) →
+          (Each R (p ∷ vs) → HaveSameEntries (p ∷ u ∷ us) (p ∷ vs) → GiveSameSteps u us →
+          steps_through p (u ∷ us) ≡ steps_through p vs) →
           steps_through p (u ∷ us) ≡ steps_through p (v ∷ vs)
       by true e again =
           let is : p ≡ v = (Decides-point_eq p v).0 e in
           again (subst (λ w. Each R (w ∷ vs)) (sym is) others.1)
-          (exchanged (front_once p vs (p ∷ u ∷ us) (exchanged (subst (λ w. HaveSameEntries (p ∷ u ∷ us) (p ∷ w ∷ vs)) (sym is) same)))) rest
+          (exchanged (front_once p vs (p ∷ u ∷ us)
+          (exchanged (subst (λ w. HaveSameEntries (p ∷ u ∷ us) (p ∷ w ∷ vs)) (sym is) same)))) rest
           ∙ sym (no_step p v vs is)
       by false e again =
           let apart : ¬ (p ≡ v) = not_from_Decides (point_eq p v) (Decides-point_eq p v) e in
@@ -79,12 +93,14 @@ module _ (R : Point → Point → Type 0) (reflexive : (u : Point) → R u u) (a
           ∙ ap (λ w. steps_between p w ++ steps_through w vs) is
 
   -- the steps through the rests of two lists with one start
-  pub same_chain_steps : (p : Point) (us vs : List Point) → Each R (p ∷ us) → Each R (p ∷ vs) → HaveSameEntries (p ∷ us) (p ∷ vs) →
+  pub same_chain_steps : (p : Point) (us vs : List Point) → Each R (p ∷ us) → Each R (p ∷ vs) →
+      HaveSameEntries (p ∷ us) (p ∷ vs) →
       steps_through p us ≡ steps_through p vs
   same_chain_steps p [] vs sorted others same = sym (standing_still p vs at_start)
     where
       at_start : (z : Point) → Contains vs z → p ≡ z
-      at_start z c = ⊎_elim (λ e. e) (λ none. elim none.1 [ ]) (Contains-cases p [] z (same.back z (Contains-later p vs z c)))
+      at_start z c = ⊎_elim (λ e. e) (λ none. elim none.1 [ ])
+          (Contains-cases p [] z (same.back z (Contains-later p vs z c)))
   same_chain_steps p (u ∷ us) vs sorted others same = by (point_eq p u) refl (λ q ws. same_chain_steps q us ws)
     where
       by : (t : Bool) → point_eq p u ≡ t →
@@ -95,4 +111,5 @@ module _ (R : Point → Point → Type 0) (reflexive : (u : Point) → R u u) (a
           let is : p ≡ u = (Decides-point_eq p u).0 e in
           no_step p u us is ∙ rest p vs (subst (λ w. Each R (w ∷ us)) (sym is) sorted.1) others
           (front_once p us (p ∷ vs) (subst (λ w. HaveSameEntries (p ∷ w ∷ us) (p ∷ vs)) (sym is) same))
-      by false e rest = steps_past p u us vs (not_from_Decides (point_eq p u) (Decides-point_eq p u) e) sorted others same (λ ws. rest u ws sorted.1)
+      by false e rest = steps_past p u us vs (not_from_Decides (point_eq p u) (Decides-point_eq p u) e) sorted others
+          same (λ ws. rest u ws sorted.1)

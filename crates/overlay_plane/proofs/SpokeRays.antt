@@ -32,8 +32,10 @@ module _ (count : CountedEdge → ℤ) (es : List CountedEdge) (arranged : IsBal
     -- spokes on one ray have the same ends
     pub same_ray : AreOneWay v (far_end v e) (far_end v f) → edge_eq (ends_of e) (ends_of f) ≡ true
     same_ray one = by (point_eq e.a v) (point_eq f.a v) refl refl
-        (sym (cross_is v (far_end v e) (far_end v f) (ends_of e) (ends_of f) (point_eq e.a v) (point_eq f.a v) (along v e spoke_e.at) (along v f spoke_f.at)) ∙ one.on_line)
-        (subst (λ z. pos 0 <ℤ z) (dot_is v (far_end v e) (far_end v f) (ends_of e) (ends_of f) (point_eq e.a v) (point_eq f.a v) (along v e spoke_e.at) (along v f spoke_f.at)) one.ahead)
+        (sym (cross_is v (far_end v e) (far_end v f) (ends_of e) (ends_of f) (point_eq e.a v) (point_eq f.a v)
+        (along v e spoke_e.at) (along v f spoke_f.at)) ∙ one.on_line)
+        (subst (λ z. pos 0 <ℤ z) (dot_is v (far_end v e) (far_end v f) (ends_of e) (ends_of f) (point_eq e.a v)
+        (point_eq f.a v) (along v e spoke_e.at) (along v f spoke_f.at)) one.ahead)
       where
         forward_e : IsForward (ends_of e)
         forward_e = forward_entry count es arranged e spoke_e.entry
@@ -41,15 +43,21 @@ module _ (count : CountedEdge → ℤ) (es : List CountedEdge) (arranged : IsBal
         forward_f : IsForward (ends_of f)
         forward_f = forward_entry count es arranged f spoke_f.entry
 
-        against : neg_ℤ (edge_turn (ends_of e) (ends_of f)) ≡ pos 0 → pos 0 <ℤ neg_ℤ (edge_dot (ends_of e) (ends_of f)) → ⊥
-        against level ahead = let more = level_ahead (ends_of e) (ends_of f) forward_e forward_f (omega linear) in omega linear
+        against : neg_ℤ (edge_turn (ends_of e) (ends_of f)) ≡ pos 0 →
+            pos 0 <ℤ neg_ℤ (edge_dot (ends_of e) (ends_of f)) → ⊥
+        against level ahead = let more = level_ahead (ends_of e) (ends_of f) forward_e forward_f (omega linear) in
+            omega linear
 
-        by : (h k : Bool) → point_eq e.a v ≡ h → point_eq f.a v ≡ k → signed (alike h k) (edge_turn (ends_of e) (ends_of f)) ≡ pos 0 →
+        by : (h k : Bool) → point_eq e.a v ≡ h → point_eq f.a v ≡ k →
+            signed (alike h k) (edge_turn (ends_of e) (ends_of f)) ≡ pos 0 →
             pos 0 <ℤ signed (alike h k) (edge_dot (ends_of e) (ends_of f)) → edge_eq (ends_of e) (ends_of f) ≡ true
-        by true true he hf level ahead = same_from_start (ends_of e) (ends_of f) forward_e forward_f level (arranged.settled e f spoke_e.entry spoke_f.entry) (point_eq-same e.a v he ∙ sym (point_eq-same f.a v hf))
+        by true true he hf level ahead = same_from_start (ends_of e) (ends_of f) forward_e forward_f level
+            (arranged.settled e f spoke_e.entry spoke_f.entry) (point_eq-same e.a v he ∙ sym (point_eq-same f.a v hf))
         by true false he hf level ahead = absurd (against level ahead)
         by false true he hf level ahead = absurd (against level ahead)
-        by false false he hf level ahead = same_from_end (ends_of e) (ends_of f) forward_e forward_f level (arranged.settled e f spoke_e.entry spoke_f.entry) (ends_there es v e spoke_e he ∙ sym (ends_there es v f spoke_f hf))
+        by false false he hf level ahead = same_from_end (ends_of e) (ends_of f) forward_e forward_f level
+            (arranged.settled e f spoke_e.entry spoke_f.entry) (ends_there es v e spoke_e he
+            ∙ sym (ends_there es v f spoke_f hf))
 
     -- so they are one
     pub one_ray_one_spoke : AreOneWay v (far_end v e) (far_end v f) → e ≡ f
@@ -57,4 +65,9 @@ module _ (count : CountedEdge → ℤ) (es : List CountedEdge) (arranged : IsBal
 
     -- and others lie apart
     pub spokes_apart : edge_eq (ends_of e) (ends_of f) ≡ false → Apart v (far_end v e) (far_end v f)
-    spokes_apart differ = record { first = far_apart e spoke_e; second = far_apart f spoke_f; other_ways = λ one. false≢true (sym differ ∙ same_ray one) }
+    spokes_apart differ = record {
+      first = far_apart e spoke_e;
+      second = far_apart f spoke_f;
+      other_ways =
+          λ one. false≢true (sym differ ∙ same_ray one);
+    }

@@ -1,6 +1,7 @@
--- Which of three spokes is met between the two others, by the signs of the turns between their edges and by whether each
--- starts or ends in the node: a table, checked entry by entry.
-use Rattle.std.proofs.Common.{◌≡◌, ℕ, Bool, true, false, not, cond, ◌&&◌, ◌||◌, ◌==◌, nat_lt, ℤ, pos, ◌+ℤ◌, ◌-ℤ◌, neg_ℤ, ◌<ℤ◌, int_lt, refl, sym, ap, ap₂, ◌∙◌}
+-- Which of three spokes is met between the two others, by the signs of the turns between their edges and by whether
+-- each starts or ends in the node: a table, checked entry by entry.
+use Rattle.std.proofs.Common.{◌≡◌, ℕ, Bool, true, false, not, cond, ◌&&◌, ◌||◌, ◌==◌, nat_lt, ℤ, pos, ◌+ℤ◌, ◌-ℤ◌, neg_ℤ}
+use Rattle.std.proofs.Common.{◌<ℤ◌, int_lt, refl, sym, ap, ap₂, ◌∙◌}
 use Rattle.std.proofs.lemmas.Bool.{and_parts, false≢true}
 use Rattle.std.proofs.lemmas.Bool.Decides.{Decides-int_eq}
 use Rattle.std.specs.Ordering.{int_eq}
@@ -66,11 +67,13 @@ sign_plus z h = ap (λ t. cond t plus (cond (int_lt z (pos 0)) minus level)) (te
 
 -- one below 0 has the sign minus
 pub sign_minus : (z : ℤ) → z <ℤ pos 0 → sign_at z ≡ minus
-sign_minus z h = ap₂ (λ t u. cond t plus (cond u minus level)) (test_from_ge (pos 0) z (omega linear)) (test_from_lt z (pos 0) h)
+sign_minus z h = ap₂ (λ t u. cond t plus (cond u minus level)) (test_from_ge (pos 0) z (omega linear))
+    (test_from_lt z (pos 0) h)
 
 -- and 0 is level
 pub sign_level : (z : ℤ) → z ≡ pos 0 → sign_at z ≡ level
-sign_level z h = ap₂ (λ t u. cond t plus (cond u minus level)) (test_from_ge (pos 0) z (omega linear)) (test_from_ge z (pos 0) (omega linear))
+sign_level z h = ap₂ (λ t u. cond t plus (cond u minus level)) (test_from_ge (pos 0) z (omega linear))
+    (test_from_ge z (pos 0) (omega linear))
 
 -- the opposite number has the opposite sign
 pub sign_opposite : (z : ℤ) → sign_at (neg_ℤ z) ≡ opposite_sign (sign_at z)
@@ -92,15 +95,20 @@ test_is_plus z = by_sign z
     (λ high. test_from_lt (pos 0) z high ∙ sym (ap is_plus (sign_plus z high)))
 
 -- the part of a turn in which a spoke is met
-pub part_seen : (s : Bool) (t d : ℤ) → (t ≡ pos 0 → pos 0 <ℤ d) → part_at (signed s t) (signed s d) ≡ part_by_sign s (seen s (sign_at t))
+pub part_seen : (s : Bool) (t d : ℤ) → (t ≡ pos 0 → pos 0 <ℤ d) → part_at (signed s t) (signed s d) ≡ part_by_sign s
+    (seen s (sign_at t))
 part_seen true t d ahead = by_sign t
     (λ low. part_late t d low ∙ sym (ap (part_by_sign true) (sign_minus t low)))
-    (λ none. part_again t d none (let a = ahead none in omega linear) ∙ sym (ap (part_by_sign true) (sign_level t none)))
+    (λ none. part_again t d none (let a = ahead none in omega linear)
+    ∙ sym (ap (part_by_sign true) (sign_level t none)))
     (λ high. part_early t d high ∙ sym (ap (part_by_sign true) (sign_plus t high)))
 part_seen false t d ahead = by_sign t
-    (λ low. part_early (neg_ℤ t) (neg_ℤ d) (omega linear) ∙ sym (ap (λ s. part_by_sign false (opposite_sign s)) (sign_minus t low)))
-    (λ none. part_opposite (neg_ℤ t) (neg_ℤ d) (omega linear) (let a = ahead none in omega linear) ∙ sym (ap (λ s. part_by_sign false (opposite_sign s)) (sign_level t none)))
-    (λ high. part_late (neg_ℤ t) (neg_ℤ d) (omega linear) ∙ sym (ap (λ s. part_by_sign false (opposite_sign s)) (sign_plus t high)))
+    (λ low. part_early (neg_ℤ t) (neg_ℤ d) (omega linear)
+    ∙ sym (ap (λ s. part_by_sign false (opposite_sign s)) (sign_minus t low)))
+    (λ none. part_opposite (neg_ℤ t) (neg_ℤ d) (omega linear) (let a = ahead none in omega linear)
+    ∙ sym (ap (λ s. part_by_sign false (opposite_sign s)) (sign_level t none)))
+    (λ high. part_late (neg_ℤ t) (neg_ℤ d) (omega linear)
+    ∙ sym (ap (λ s. part_by_sign false (opposite_sign s)) (sign_plus t high)))
 
 -- ---- the table
 
@@ -116,22 +124,29 @@ go_together plus minus c = true
 go_together plus level c = is_plus c
 go_together plus plus c = is_plus c
 
--- from spoke e the spoke g is met before f: a, b and c are the signs of the turns from e to g, from g to f and from e to f
+-- from spoke e the spoke g is met before f: a, b and c are the signs of the turns from e to g, from g to f and from e
+-- to f
 abbrev pub met_by_signs : (he hg hf : Bool) → (a b c : Sign) → Bool
-met_by_signs he hg hf a b c = nat_lt (part_by_sign (alike he hg) (seen (alike he hg) a)) (part_by_sign (alike he hf) (seen (alike he hf) c))
-    || (part_by_sign (alike he hg) (seen (alike he hg) a) == part_by_sign (alike he hf) (seen (alike he hf) c) && is_plus (seen (alike hg hf) b))
+met_by_signs he hg hf a b c = nat_lt (part_by_sign (alike he hg) (seen (alike he hg) a))
+    (part_by_sign (alike he hf) (seen (alike he hf) c))
+    || (part_by_sign (alike he hg) (seen (alike he hg) a) == part_by_sign (alike he hf)
+    (seen (alike he hf) c) && is_plus (seen (alike hg hf) b))
 
 -- from straight down the spoke g is met before f, where t is whether f leads to the left of g
 abbrev pub first_from_down : (hg hf t : Bool) → Bool
 first_from_down hg hf t = cond hf (hg && t) (hg || t)
 
--- what is between e and f is what comes before f, less what comes before e, less e, and everything where e does not come before f
+-- what is between e and f is what comes before f, less what comes before e, less e, and everything where e does not
+-- come before f
 abbrev pub Counted : (he hg hf : Bool) → (a b c : Sign) → ℤ
-Counted he hg hf a b c = ((one_if (first_from_down hg hf (is_plus b)) -ℤ one_if (first_from_down hg he (is_plus (opposite_sign a)))) -ℤ one_if (alike hg he && is_level a)) +ℤ one_if (not (first_from_down he hf (is_plus c)))
+Counted he hg hf a b c = ((one_if (first_from_down hg hf (is_plus b)) -ℤ one_if
+    (first_from_down hg he (is_plus (opposite_sign a)))) -ℤ one_if (alike hg he && is_level a)) +ℤ one_if
+    (not (first_from_down he hf (is_plus c)))
 
 -- an entry of the table is right
 abbrev agrees : (he hg hf : Bool) → (a b c : Sign) → Bool
-agrees he hg hf a b c = not (go_together a b c) || int_eq (one_if (met_by_signs he hg hf a b c)) (Counted he hg hf a b c)
+agrees he hg hf a b c = not (go_together a b c) || int_eq (one_if (met_by_signs he hg hf a b c))
+    (Counted he hg hf a b c)
 
 -- a test passes for both truth values
 abbrev for_both : (Bool → Bool) → Bool
@@ -153,30 +168,52 @@ at_sign p h level = (and_parts (p level) (p plus) (and_parts (p minus) (p level 
 at_sign p h plus = (and_parts (p level) (p plus) (and_parts (p minus) (p level && p plus) h).1).1
 
 -- the whole table is right
-table : for_both (λ he. for_both (λ hg. for_both (λ hf. for_each (λ a. for_each (λ b. for_each (λ c. agrees he hg hf a b c)))))) ≡ true
+table : for_both (λ he. for_both
+    (λ hg. for_both (λ hf. for_each (λ a. for_each (λ b. for_each (λ c. agrees he hg hf a b c)))))) ≡ true
 table = refl
 
 -- so each of its entries is
-pub between_counted : (he hg hf : Bool) (a b c : Sign) → go_together a b c ≡ true → one_if (met_by_signs he hg hf a b c) ≡ Counted he hg hf a b c
-between_counted he hg hf a b c together = (Decides-int_eq (one_if (met_by_signs he hg hf a b c)) (Counted he hg hf a b c)).0
-    (by (go_together a b c) together (at_sign (λ c. agrees he hg hf a b c) (at_sign (λ b. for_each (λ c. agrees he hg hf a b c)) (at_sign (λ a. for_each (λ b. for_each (λ c. agrees he hg hf a b c)))
-    (at_bool (λ hf. for_each (λ a. for_each (λ b. for_each (λ c. agrees he hg hf a b c)))) (at_bool (λ hg. for_both (λ hf. for_each (λ a. for_each (λ b. for_each (λ c. agrees he hg hf a b c)))))
-    (at_bool (λ he. for_both (λ hg. for_both (λ hf. for_each (λ a. for_each (λ b. for_each (λ c. agrees he hg hf a b c)))))) table he) hg) hf) a) b) c))
+pub between_counted : (he hg hf : Bool) (a b c : Sign) → go_together a b c ≡ true →
+    one_if (met_by_signs he hg hf a b c) ≡ Counted he hg hf a b c
+between_counted he hg hf a b c together =
+    (Decides-int_eq (one_if (met_by_signs he hg hf a b c)) (Counted he hg hf a b c)).0
+    (by (go_together a b c) together
+    (at_sign (λ c. agrees he hg hf a b c)
+    (at_sign (λ b. for_each (λ c. agrees he hg hf a b c))
+    (at_sign (λ a. for_each (λ b. for_each (λ c. agrees he hg hf a b c)))
+    (at_bool (λ hf. for_each (λ a. for_each (λ b. for_each (λ c. agrees he hg hf a b c))))
+    (at_bool (λ hg. for_both (λ hf. for_each (λ a. for_each (λ b. for_each (λ c. agrees he hg hf a b c)))))
+    (at_bool (λ he. for_both (λ hg. for_both
+    (λ hf. for_each (λ a. for_each (λ b. for_each (λ c. agrees he hg hf a b c)))))) table he) hg) hf) a) b) c))
   where
-    by : (t : Bool) → t ≡ true → (not t || int_eq (one_if (met_by_signs he hg hf a b c)) (Counted he hg hf a b c)) ≡ true → int_eq (one_if (met_by_signs he hg hf a b c)) (Counted he hg hf a b c) ≡ true
+    by : (t : Bool) → t ≡ true → (not t || int_eq (one_if (met_by_signs he hg hf a b c)) (Counted he hg hf a b c))
+        ≡ true → int_eq (one_if (met_by_signs he hg hf a b c)) (Counted he hg hf a b c) ≡ true
     by true e h = h
     by false e h = absurd (false≢true e)
 
 -- ---- which signs go together
 
 -- the signs of three numbers go together where they do case by case
-pub together : (x y z : ℤ) → (pos 0 <ℤ x → pos 0 <ℤ y → pos 0 <ℤ z) → (x <ℤ pos 0 → y <ℤ pos 0 → z <ℤ pos 0) → (x ≡ pos 0 → y ≡ pos 0 → z ≡ pos 0) →
-    (x ≡ pos 0 → pos 0 <ℤ y → pos 0 <ℤ z) → (x ≡ pos 0 → y <ℤ pos 0 → z <ℤ pos 0) → (pos 0 <ℤ x → y ≡ pos 0 → pos 0 <ℤ z) → (x <ℤ pos 0 → y ≡ pos 0 → z <ℤ pos 0) →
+pub together : (x y z : ℤ) → (pos 0 <ℤ x → pos 0 <ℤ y → pos 0 <ℤ z) → (x <ℤ pos 0 → y <ℤ pos 0 → z <ℤ pos 0) →
+    (x ≡ pos 0 → y ≡ pos 0 → z ≡ pos 0) →
+    (x ≡ pos 0 → pos 0 <ℤ y → pos 0 <ℤ z) → (x ≡ pos 0 → y <ℤ pos 0 → z <ℤ pos 0) →
+    (pos 0 <ℤ x → y ≡ pos 0 → pos 0 <ℤ z) → (x <ℤ pos 0 → y ≡ pos 0 → z <ℤ pos 0) →
     go_together (sign_at x) (sign_at y) (sign_at z) ≡ true
 together x y z pp mm ll lp lm pl ml = by_sign x
-    (λ xm. by_sign y (λ ym. low (sign_minus x xm) (sign_minus y ym) (mm xm ym)) (λ yl. ap₂ (λ a b. go_together a b (sign_at z)) (sign_minus x xm) (sign_level y yl) ∙ ap (λ c. is_plus (opposite_sign c)) (sign_minus z (ml xm yl))) (λ yp. ap₂ (λ a b. go_together a b (sign_at z)) (sign_minus x xm) (sign_plus y yp)))
-    (λ xl. by_sign y (λ ym. ap₂ (λ a b. go_together a b (sign_at z)) (sign_level x xl) (sign_minus y ym) ∙ ap (λ c. is_plus (opposite_sign c)) (sign_minus z (lm xl ym))) (λ yl. ap₂ (λ a b. go_together a b (sign_at z)) (sign_level x xl) (sign_level y yl) ∙ ap is_level (sign_level z (ll xl yl))) (λ yp. ap₂ (λ a b. go_together a b (sign_at z)) (sign_level x xl) (sign_plus y yp) ∙ ap is_plus (sign_plus z (lp xl yp))))
-    (λ xp. by_sign y (λ ym. ap₂ (λ a b. go_together a b (sign_at z)) (sign_plus x xp) (sign_minus y ym)) (λ yl. ap₂ (λ a b. go_together a b (sign_at z)) (sign_plus x xp) (sign_level y yl) ∙ ap is_plus (sign_plus z (pl xp yl))) (λ yp. ap₂ (λ a b. go_together a b (sign_at z)) (sign_plus x xp) (sign_plus y yp) ∙ ap is_plus (sign_plus z (pp xp yp))))
+    (λ xm. by_sign y (λ ym. low (sign_minus x xm) (sign_minus y ym) (mm xm ym))
+    (λ yl. ap₂ (λ a b. go_together a b (sign_at z)) (sign_minus x xm) (sign_level y yl)
+    ∙ ap (λ c. is_plus (opposite_sign c)) (sign_minus z (ml xm yl)))
+    (λ yp. ap₂ (λ a b. go_together a b (sign_at z)) (sign_minus x xm) (sign_plus y yp)))
+    (λ xl. by_sign y (λ ym. ap₂ (λ a b. go_together a b (sign_at z)) (sign_level x xl) (sign_minus y ym)
+    ∙ ap (λ c. is_plus (opposite_sign c)) (sign_minus z (lm xl ym)))
+    (λ yl. ap₂ (λ a b. go_together a b (sign_at z)) (sign_level x xl) (sign_level y yl)
+    ∙ ap is_level (sign_level z (ll xl yl))) (λ yp. ap₂ (λ a b. go_together a b (sign_at z)) (sign_level x xl)
+    (sign_plus y yp) ∙ ap is_plus (sign_plus z (lp xl yp))))
+    (λ xp. by_sign y (λ ym. ap₂ (λ a b. go_together a b (sign_at z)) (sign_plus x xp) (sign_minus y ym))
+    (λ yl. ap₂ (λ a b. go_together a b (sign_at z)) (sign_plus x xp) (sign_level y yl)
+    ∙ ap is_plus (sign_plus z (pl xp yl))) (λ yp. ap₂ (λ a b. go_together a b (sign_at z)) (sign_plus x xp)
+    (sign_plus y yp) ∙ ap is_plus (sign_plus z (pp xp yp))))
   where
     low : sign_at x ≡ minus → sign_at y ≡ minus → z <ℤ pos 0 → go_together (sign_at x) (sign_at y) (sign_at z) ≡ true
-    low ex ey zm = ap₂ (λ a b. go_together a b (sign_at z)) ex ey ∙ ap (λ c. is_plus (opposite_sign c)) (sign_minus z zm)
+    low ex ey zm = ap₂ (λ a b. go_together a b (sign_at z)) ex ey ∙ ap (λ c. is_plus (opposite_sign c))
+        (sign_minus z zm)

@@ -1,11 +1,14 @@
--- What rises between two points by a number given to each point rises along a walk from its start to its end, and round a closed walk not at all.
-use Rattle.std.proofs.Common.{◌≡◌, Bool, true, false, cond, ℤ, pos, negsuc, ◌-ℤ◌, ◌*ℤ◌, List, [], ◌∷◌, ◌++◌, refl, sym, ap, ◌∙◌, arith}
+-- What rises between two points by a number given to each point rises along a walk from its start to its end, and round
+-- a closed walk not at all.
+use Rattle.std.proofs.Common.{◌≡◌, Bool, true, false, cond, ℤ, pos, negsuc, ◌-ℤ◌, ◌*ℤ◌, List, [], ◌∷◌, ◌++◌, refl, sym}
+use Rattle.std.proofs.Common.{ap, ◌∙◌, arith}
 use Rattle.std.specs.List.{All}
 use Rattle.std.specs.Bool.{⊤}
 use Rattle.std.proofs.lemmas.Int.{ints}
 use Rattle.std.proofs.lemmas.List.Elements.{All-head, All-tail}
 use lib.IntN.{+ℤ_idr}
-use Rattle.overlay_geom.specs.Plane.{Point, Step, Edge, point_eq, point_lt, edge_of, sign_of, steps_between, steps_through, steps_of, total}
+use Rattle.overlay_geom.specs.Plane.{Point, Step, Edge, point_eq, point_lt, edge_of, sign_of, steps_between}
+use Rattle.overlay_geom.specs.Plane.{steps_through, steps_of, total}
 use Rattle.overlay_geom.proofs.Signs.{linear}
 use Rattle.overlay_geom.proofs.Orders.{point_eq-same}
 use Rattle.overlay_plane.proofs.AlongLines.{nothing_left}
@@ -19,7 +22,8 @@ last_from-append u (v ∷ vs) w = last_from-append v vs w
 
 -- along a walk through points of one kind, if between any two of them
 pub rises_along : (count : Step → ℤ) (g : Point → ℤ) (Good : Point → Type 0) →
-    ((u v : Point) → Good u → Good v → total count (steps_between u v) ≡ g v -ℤ g u) → (u : Point) (vs : List Point) → Good u → All Good vs →
+    ((u v : Point) → Good u → Good v → total count (steps_between u v) ≡ g v -ℤ g u) → (u : Point) (vs : List Point) →
+    Good u → All Good vs →
     total count (steps_through u vs) ≡ g (last_from u vs) -ℤ g u
 rises_along count g Good between u [] at_u at_vs = nothing_left (g u)
 rises_along count g Good between u (v ∷ vs) at_u at_vs =
@@ -50,17 +54,21 @@ signed_rise-is g s = by (point_lt s.from s.to)
 signed_rise-between : (g : Point → ℤ) (u v : Point) → total (signed_rise g) (steps_between u v) ≡ g v -ℤ g u
 signed_rise-between g u v = by (point_eq u v) refl
   where
-    by : (t : Bool) → point_eq u v ≡ t → total (signed_rise g) (cond t [] (record { from = u; to = v } ∷ [])) ≡ g v -ℤ g u
+    by : (t : Bool) → point_eq u v ≡ t → total (signed_rise g) (cond t [] (record { from = u; to = v } ∷ [])) ≡ g v -ℤ g
+        u
     by true same = nothing_left (g v) ∙ ap (λ w. g v -ℤ g w) (sym (point_eq-same u v same))
-    by false apart = +ℤ_idr (signed_rise g (record { from = u; to = v })) ∙ signed_rise-is g (record { from = u; to = v })
+    by false apart = +ℤ_idr (signed_rise g (record { from = u; to = v }))
+        ∙ signed_rise-is g (record { from = u; to = v })
 
 -- what is true holds of all
 everywhere : (vs : List Point) → All (λ (v : Point). ⊤) vs
 everywhere vs = λ k d within. tt
 
 -- so along the steps of a chain to a last point
-pub signed_rise-chain : (g : Point → ℤ) (u : Point) (vs : List Point) (w : Point) → total (signed_rise g) (steps_through u (vs ++ w ∷ [])) ≡ g w -ℤ g u
-signed_rise-chain g u vs w = rises_along (signed_rise g) g (λ v. ⊤) (λ x y here there. signed_rise-between g x y) u (vs ++ w ∷ []) tt (everywhere (vs ++ w ∷ []))
+pub signed_rise-chain : (g : Point → ℤ) (u : Point) (vs : List Point) (w : Point) →
+    total (signed_rise g) (steps_through u (vs ++ w ∷ [])) ≡ g w -ℤ g u
+signed_rise-chain g u vs w = rises_along (signed_rise g) g (λ v. ⊤) (λ x y here there. signed_rise-between g x y) u
+    (vs ++ w ∷ []) tt (everywhere (vs ++ w ∷ []))
     ∙ ap (λ z. g z -ℤ g u) (last_from-append u vs w)
 
 -- and round a closed list it is 0

@@ -1,6 +1,7 @@
--- The cyclic order of rays round a point: of three rays of different directions, one is met between the two others as two
--- of the three turns from each to the next are positive.
-use Rattle.std.proofs.Common.{◌≡◌, ◌⊎◌, inl, inr, ⊎_elim, ℕ, Bool, true, false, ℤ, pos, ◌-ℤ◌, ◌*ℤ◌, neg_ℤ, ◌<ℤ◌, ◌≤ℤ◌, int_lt, refl, sym, ap₂, ◌∙◌}
+-- The cyclic order of rays round a point: of three rays of different directions, one is met between the two others as
+-- two of the three turns from each to the next are positive.
+use Rattle.std.proofs.Common.{◌≡◌, ◌⊎◌, inl, inr, ⊎_elim, ℕ, Bool, true, false, ℤ, pos, ◌-ℤ◌, ◌*ℤ◌, neg_ℤ, ◌<ℤ◌, ◌≤ℤ◌}
+use Rattle.std.proofs.Common.{int_lt, refl, sym, ap₂, ◌∙◌}
 use Rattle.std.specs.Bool.{Decides}
 use Rattle.std.proofs.lemmas.Bool.{false≢true}
 use Rattle.std.proofs.lemmas.Bool.Decides.{Decides-at}
@@ -25,15 +26,18 @@ two_positive_shifted x y z h = ⊎_elim (λ xy. inr (inr xy)) (λ rest. ⊎_elim
 
 -- nor in which order one goes
 two_positive_reversed : (x y z : ℤ) → TwoPositive x y z → TwoPositive z y x
-two_positive_reversed x y z h = ⊎_elim (λ xy. inr (inl (xy.1, xy.0))) (λ rest. ⊎_elim (λ yz. inl (yz.1, yz.0)) (λ zx. inr (inr (zx.1, zx.0))) rest) h
+two_positive_reversed x y z h = ⊎_elim (λ xy. inr (inl (xy.1, xy.0)))
+    (λ rest. ⊎_elim (λ yz. inl (yz.1, yz.0)) (λ zx. inr (inr (zx.1, zx.0))) rest) h
 
 -- with two that are not positive it is not so
 not_two_positive : (x y z : ℤ) → x ≤ℤ pos 0 → y ≤ℤ pos 0 → ¬ (TwoPositive x y z)
-not_two_positive x y z low_x low_y h = ⊎_elim (λ xy. let a = xy.0 in omega linear) (λ rest. ⊎_elim (λ yz. let a = yz.0 in omega linear) (λ zx. let a = zx.1 in omega linear) rest) h
+not_two_positive x y z low_x low_y h = ⊎_elim (λ xy. let a = xy.0 in omega linear)
+    (λ rest. ⊎_elim (λ yz. let a = yz.0 in omega linear) (λ zx. let a = zx.1 in omega linear) rest) h
 
 -- with one that is not positive the next is
 two_positive_from : (x y z : ℤ) → x ≤ℤ pos 0 → TwoPositive x y z → pos 0 <ℤ y
-two_positive_from x y z low h = ⊎_elim (λ xy. xy.1) (λ rest. ⊎_elim (λ yz. yz.0) (λ zx. let a = zx.1 in absurd (omega linear)) rest) h
+two_positive_from x y z low h = ⊎_elim (λ xy. xy.1) (λ rest. ⊎_elim (λ yz. yz.0) (λ zx. let a = zx.1 in
+    absurd (omega linear)) rest) h
 
 -- ---- between, by the three turns
 
@@ -43,13 +47,18 @@ module _ (hand : Hand) (v p m q : Point) (pm : Apart v p m) (mq : Apart v m q) (
   Claim = Decides (is_met_before hand v p m q) (TwoPositive (turn hand v p m) (turn hand v m q) (turn hand v q p))
 
   -- by the parts in which the two points lie
-  at_parts : (i j : ℕ) (t : Bool) → part_of_turn hand v p m ≡ i → part_of_turn hand v p q ≡ j → comes_first i j (turn hand v m q) ≡ t → Decides t (TwoPositive (turn hand v p m) (turn hand v m q) (turn hand v q p)) → Claim
-  at_parts i j t at_m at_q computed d = Decides-at (is_met_before hand v p m q) t (ap₂ (λ k l. comes_first k l (turn hand v m q)) at_m at_q ∙ computed) d
+  at_parts : (i j : ℕ) (t : Bool) → part_of_turn hand v p m ≡ i → part_of_turn hand v p q ≡ j →
+      comes_first i j (turn hand v m q) ≡ t →
+      Decides t (TwoPositive (turn hand v p m) (turn hand v m q) (turn hand v q p)) → Claim
+  at_parts i j t at_m at_q computed d = Decides-at (is_met_before hand v p m q) t
+      (ap₂ (λ k l. comes_first k l (turn hand v m q)) at_m at_q ∙ computed) d
 
-  passes : TwoPositive (turn hand v p m) (turn hand v m q) (turn hand v q p) → Decides true (TwoPositive (turn hand v p m) (turn hand v m q) (turn hand v q p))
+  passes : TwoPositive (turn hand v p m) (turn hand v m q) (turn hand v q p) →
+      Decides true (TwoPositive (turn hand v p m) (turn hand v m q) (turn hand v q p))
   passes two = ((λ e. two), λ h. refl)
 
-  fails : ¬ (TwoPositive (turn hand v p m) (turn hand v m q) (turn hand v q p)) → Decides false (TwoPositive (turn hand v p m) (turn hand v m q) (turn hand v q p))
+  fails : ¬ (TwoPositive (turn hand v p m) (turn hand v m q) (turn hand v q p)) →
+      Decides false (TwoPositive (turn hand v p m) (turn hand v m q) (turn hand v q p))
   fails none = ((λ e. absurd (false≢true e)), λ h. absurd (none h))
 
   back : turn hand v q p ≡ neg_ℤ (turn hand v p q)
@@ -64,7 +73,12 @@ module _ (hand : Hand) (v p m q : Point) (pm : Apart v p m) (mq : Apart v m q) (
   -- m within the first half turn
   early : pos 0 <ℤ (turn hand v p m) → part_of_turn hand v p m ≡ 0 → Claim
   early x at_m = by_part (turn hand v p q) (dot_at v p q)
-      (λ w at_q. at_parts 0 0 (int_lt (pos 0) (turn hand v m q)) at_m at_q refl ((λ e. inl (x, lt_from_test (pos 0) (turn hand v m q) e)), λ two. test_from_lt (pos 0) (turn hand v m q) (two_positive_from (turn hand v q p) (turn hand v m q) (turn hand v p m) (let b = back in omega linear) (two_positive_reversed (turn hand v p m) (turn hand v m q) (turn hand v q p) two))))
+      (λ w at_q. at_parts 0 0 (int_lt (pos 0) (turn hand v m q)) at_m at_q refl (
+        (λ e. inl (x, lt_from_test (pos 0) (turn hand v m q) e)),
+        λ two. test_from_lt (pos 0) (turn hand v m q)
+            (two_positive_from (turn hand v q p) (turn hand v m q) (turn hand v p m) (let b = back in omega linear)
+            (two_positive_reversed (turn hand v p m) (turn hand v m q) (turn hand v q p) two)),
+      ))
       (λ w behind at_q. at_parts 0 1 true at_m at_q refl (passes (inl (x, beyond w behind))))
       (λ w at_q. at_parts 0 2 true at_m at_q refl (passes (inr (inr ((let b = back in omega linear), x)))))
       (λ w not_behind at_q. absurd (let behind = opposite hand v p q (apart_exchanged v q p qp) w in omega linear))
@@ -80,8 +94,12 @@ module _ (hand : Hand) (v p m q : Point) (pm : Apart v p m) (mq : Apart v m q) (
   -- m straight ahead
   straight : turn hand v p m ≡ pos 0 → dot_at v p m <ℤ pos 0 → part_of_turn hand v p m ≡ 1 → Claim
   straight x behind_m at_m = by_part (turn hand v p q) (dot_at v p q)
-      (λ w at_q. at_parts 1 0 false at_m at_q refl (fails (λ two. not_two_positive (turn hand v q p) (turn hand v p m) (turn hand v m q) (let b = back in omega linear) (omega linear) (two_positive_shifted (turn hand v m q) (turn hand v q p) (turn hand v p m) (two_positive_shifted (turn hand v p m) (turn hand v m q) (turn hand v q p) two)))))
-      (λ w behind at_q. absurd (apart_turns hand v p m q pm.first mq (at_m ∙ sym at_q) (no_turn hand v p m q pm.first x w)))
+      (λ w at_q. at_parts 1 0 false at_m at_q refl
+      (fails (λ two. not_two_positive (turn hand v q p) (turn hand v p m) (turn hand v m q) (let b = back in
+      omega linear) (omega linear) (two_positive_shifted (turn hand v m q) (turn hand v q p) (turn hand v p m)
+      (two_positive_shifted (turn hand v p m) (turn hand v m q) (turn hand v q p) two)))))
+      (λ w behind at_q. absurd (apart_turns hand v p m q pm.first mq (at_m ∙ sym at_q)
+      (no_turn hand v p m q pm.first x w)))
       (λ w at_q. at_parts 1 2 true at_m at_q refl (passes (inr (inl (beyond w, (let b = back in omega linear))))))
       (λ w not_behind at_q. absurd (let behind = opposite hand v p q (apart_exchanged v q p qp) w in omega linear))
     where
@@ -95,11 +113,23 @@ module _ (hand : Hand) (v p m q : Point) (pm : Apart v p m) (mq : Apart v m q) (
   -- m within the second half turn
   late : turn hand v p m <ℤ pos 0 → part_of_turn hand v p m ≡ 2 → Claim
   late x at_m = by_part (turn hand v p q) (dot_at v p q)
-      (λ w at_q. at_parts 2 0 false at_m at_q refl (fails (λ two. not_two_positive (turn hand v q p) (turn hand v p m) (turn hand v m q) (let b = back in omega linear) (omega linear) (two_positive_shifted (turn hand v m q) (turn hand v q p) (turn hand v p m) (two_positive_shifted (turn hand v p m) (turn hand v m q) (turn hand v q p) two)))))
-      (λ w behind at_q. at_parts 2 1 false at_m at_q refl (fails (λ two. not_two_positive (turn hand v q p) (turn hand v p m) (turn hand v m q) (let b = back in omega linear) (omega linear) (two_positive_shifted (turn hand v m q) (turn hand v q p) (turn hand v p m) (two_positive_shifted (turn hand v p m) (turn hand v m q) (turn hand v q p) two)))))
-      (λ w at_q. at_parts 2 2 (int_lt (pos 0) (turn hand v m q)) at_m at_q refl ((λ e. inr (inl (lt_from_test (pos 0) (turn hand v m q) e, (let b = back in omega linear)))), λ two. test_from_lt (pos 0) (turn hand v m q) (two_positive_from (turn hand v p m) (turn hand v m q) (turn hand v q p) (omega linear) two)))
+      (λ w at_q. at_parts 2 0 false at_m at_q refl
+      (fails (λ two. not_two_positive (turn hand v q p) (turn hand v p m) (turn hand v m q) (let b = back in
+      omega linear) (omega linear) (two_positive_shifted (turn hand v m q) (turn hand v q p) (turn hand v p m)
+      (two_positive_shifted (turn hand v p m) (turn hand v m q) (turn hand v q p) two)))))
+      (λ w behind at_q. at_parts 2 1 false at_m at_q refl
+      (fails (λ two. not_two_positive (turn hand v q p) (turn hand v p m) (turn hand v m q) (let b = back in
+      omega linear) (omega linear) (two_positive_shifted (turn hand v m q) (turn hand v q p) (turn hand v p m)
+      (two_positive_shifted (turn hand v p m) (turn hand v m q) (turn hand v q p) two)))))
+      (λ w at_q. at_parts 2 2 (int_lt (pos 0) (turn hand v m q)) at_m at_q refl (
+        (λ e. inr (inl (lt_from_test (pos 0) (turn hand v m q) e, (let b = back in omega linear)))),
+        λ two. test_from_lt (pos 0) (turn hand v m q)
+            (two_positive_from (turn hand v p m) (turn hand v m q) (turn hand v q p) (omega linear) two),
+      ))
       (λ w not_behind at_q. absurd (let behind = opposite hand v p q (apart_exchanged v q p qp) w in omega linear))
 
   -- m is met between p and q where two of the turns from p to m, from m to q and from q to p are positive
-  pub between_decides : Decides (is_met_before hand v p m q) (TwoPositive (turn hand v p m) (turn hand v m q) (turn hand v q p))
-  between_decides = by_part (turn hand v p m) (dot_at v p m) early straight late (λ level not_behind at_m. absurd (let behind = opposite hand v p m pm level in omega linear))
+  pub between_decides : Decides (is_met_before hand v p m q)
+      (TwoPositive (turn hand v p m) (turn hand v m q) (turn hand v q p))
+  between_decides = by_part (turn hand v p m) (dot_at v p m) early straight late
+      (λ level not_behind at_m. absurd (let behind = opposite hand v p m pm level in omega linear))

@@ -14,7 +14,8 @@ use Rattle.overlay_plane.proofs.EdgeTurns.{edge_turn_exchanged}
 use Rattle.overlay_plane.proofs.Tests.{lt_from_test, test_from_lt, same_tests}
 
 -- from one point the cross product tells which edge is before the other
-pub tied_before : (e f : Edge) (z : ℤ) → point_cmp e.a f.a ≡ Equal → z ≡ cross_at e.a f.b e.b → is_lt (int_cmp z (pos 0)) ≡ is_anchored_before e f
+pub tied_before : (e f : Edge) (z : ℤ) → point_cmp e.a f.a ≡ Equal → z ≡ cross_at e.a f.b e.b →
+    is_lt (int_cmp z (pos 0)) ≡ is_anchored_before e f
 tied_before e f z tied crossed =
     is_lt-int_cmp z (pos 0) ∙ ap (λ v. int_lt v (pos 0)) (crossed ∙ turned) ∙ flipped
     ∙ sym (ap₂ (λ b c. b || (c && turns_left e f)) not_less equal)

@@ -1,4 +1,5 @@
--- The order of edges over one abscissa: strict, total among edges that meet in ends alone, and the same wherever both cover.
+-- The order of edges over one abscissa: strict, total among edges that meet in ends alone, and the same wherever both
+-- cover.
 use Rattle.std.proofs.Common.{◌≡◌, ◌⊎◌, inl, inr, true, false, ℤ, pos, ◌+ℤ◌, ◌-ℤ◌, ◌*ℤ◌, ◌<ℤ◌, ◌≤ℤ◌, int_lt, int_le}
 use Rattle.std.proofs.lemmas.Bool.{and_parts, and_from}
 use lib.IntN.{*ℤ_comm}
@@ -39,7 +40,8 @@ inner_just_right e x d c = record {
 }
 
 -- just right of an abscissa that both cover is inside both
-pub shared_just_right : (f e : Edge) (x d : ℤ) → pos 0 <ℤ d → covers f x d ≡ true → covers e x d ≡ true → IsShared f e (x +ℤ x +ℤ pos 1) (d +ℤ d)
+pub shared_just_right : (f e : Edge) (x d : ℤ) → pos 0 <ℤ d → covers f x d ≡ true → covers e x d ≡ true →
+    IsShared f e (x +ℤ x +ℤ pos 1) (d +ℤ d)
 shared_just_right f e x d positive over_f over_e = record {
   positive = omega linear;
   inner = inner_just_right e x d over_e;
@@ -47,8 +49,10 @@ shared_just_right f e x d positive over_f over_e = record {
 }
 
 -- just left of the abscissa, at (2x - 1) / 2d, every edge covers that goes on to the left of it
-pub covers_just_left : (e : Edge) (x d : ℤ) → (e.a.x *ℤ d) <ℤ x → x ≤ℤ (e.b.x *ℤ d) → covers e (x +ℤ x -ℤ pos 1) (d +ℤ d) ≡ true
-covers_just_left e x d from to = and_from (int_le (e.a.x *ℤ (d +ℤ d)) (x +ℤ x -ℤ pos 1)) (int_lt (x +ℤ x -ℤ pos 1) (e.b.x *ℤ (d +ℤ d)))
+pub covers_just_left : (e : Edge) (x d : ℤ) → (e.a.x *ℤ d) <ℤ x → x ≤ℤ (e.b.x *ℤ d) →
+    covers e (x +ℤ x -ℤ pos 1) (d +ℤ d) ≡ true
+covers_just_left e x d from to = and_from (int_le (e.a.x *ℤ (d +ℤ d)) (x +ℤ x -ℤ pos 1))
+    (int_lt (x +ℤ x -ℤ pos 1) (e.b.x *ℤ (d +ℤ d)))
     (test_from_le (e.a.x *ℤ (d +ℤ d)) (x +ℤ x -ℤ pos 1) (let sum = mul-add e.a.x d d in omega linear))
     (test_from_lt (x +ℤ x -ℤ pos 1) (e.b.x *ℤ (d +ℤ d)) (let sum = mul-add e.b.x d d in omega linear))
 
@@ -56,7 +60,8 @@ covers_just_left e x d from to = and_from (int_le (e.a.x *ℤ (d +ℤ d)) (x +�
 
 -- no edge is under itself
 pub under_irreflexive : (e : Edge) (x d : ℤ) → is_under e e x d ≡ false
-under_irreflexive e x d = test_from_ge (pos 0) (gap e e (x +ℤ x +ℤ pos 1) (d +ℤ d)) (let level = gap-same e (x +ℤ x +ℤ pos 1) (d +ℤ d) in omega linear)
+under_irreflexive e x d = test_from_ge (pos 0) (gap e e (x +ℤ x +ℤ pos 1) (d +ℤ d))
+    (let level = gap-same e (x +ℤ x +ℤ pos 1) (d +ℤ d) in omega linear)
 
 -- of two edges at most one is under the other
 pub under_asymmetric : (f e : Edge) (x d : ℤ) → is_under f e x d ≡ true → is_under e f x d ≡ false
@@ -66,30 +71,41 @@ under_asymmetric f e x d t =
     test_from_ge (pos 0) (gap e f (x +ℤ x +ℤ pos 1) (d +ℤ d)) (omega linear)
 
 -- what is under an edge that is under a third one is under that one
-pub under_transitive : (f g h : Edge) (x d : ℤ) → pos 0 <ℤ d → covers f x d ≡ true → covers g x d ≡ true → covers h x d ≡ true →
+pub under_transitive : (f g h : Edge) (x d : ℤ) → pos 0 <ℤ d → covers f x d ≡ true → covers g x d ≡ true →
+    covers h x d ≡ true →
     is_under f g x d ≡ true → is_under g h x d ≡ true → is_under f h x d ≡ true
 under_transitive f g h x d positive over_f over_g over_h fg gh =
-    let low = mul-pos (width h) (gap f g (x +ℤ x +ℤ pos 1) (d +ℤ d)) (covers_wide h x d positive over_h) (lt_from_test (pos 0) (gap f g (x +ℤ x +ℤ pos 1) (d +ℤ d)) fg) in
-    let high = mul-pos (width f) (gap g h (x +ℤ x +ℤ pos 1) (d +ℤ d)) (covers_wide f x d positive over_f) (lt_from_test (pos 0) (gap g h (x +ℤ x +ℤ pos 1) (d +ℤ d)) gh) in
+    let low = mul-pos (width h) (gap f g (x +ℤ x +ℤ pos 1) (d +ℤ d)) (covers_wide h x d positive over_h)
+    (lt_from_test (pos 0) (gap f g (x +ℤ x +ℤ pos 1) (d +ℤ d)) fg) in
+    let high = mul-pos (width f) (gap g h (x +ℤ x +ℤ pos 1) (d +ℤ d)) (covers_wide f x d positive over_f)
+    (lt_from_test (pos 0) (gap g h (x +ℤ x +ℤ pos 1) (d +ℤ d)) gh) in
     let sum = gap_through f g h (x +ℤ x +ℤ pos 1) (d +ℤ d) in
-    test_from_lt (pos 0) (gap f h (x +ℤ x +ℤ pos 1) (d +ℤ d)) (pos_of_mul-pos (width g) (gap f h (x +ℤ x +ℤ pos 1) (d +ℤ d)) (covers_wide g x d positive over_g) (omega linear))
+    test_from_lt (pos 0) (gap f h (x +ℤ x +ℤ pos 1) (d +ℤ d))
+    (pos_of_mul-pos (width g) (gap f h (x +ℤ x +ℤ pos 1) (d +ℤ d)) (covers_wide g x d positive over_g)
+    (omega linear))
 
 -- of two edges that meet in ends alone, one is under the other
 pub under_total : (f e : Edge) (x d : ℤ) → pos 0 <ℤ d → MeetInEnds e f → covers f x d ≡ true → covers e x d ≡ true →
     (is_under f e x d ≡ true) ⊎ (is_under e f x d ≡ true)
-under_total f e x d positive meet over_f over_e = by_sign (gap f e (x +ℤ x +ℤ pos 1) (d +ℤ d)) above (λ level. absurd (apart level))
+under_total f e x d positive meet over_f over_e = by_sign (gap f e (x +ℤ x +ℤ pos 1) (d +ℤ d)) above
+    (λ level. absurd (apart level))
     (λ low. inl (test_from_lt (pos 0) (gap f e (x +ℤ x +ℤ pos 1) (d +ℤ d)) low))
   where
     above : gap f e (x +ℤ x +ℤ pos 1) (d +ℤ d) <ℤ pos 0 → (is_under f e x d ≡ true) ⊎ (is_under e f x d ≡ true)
-    above high = inr (test_from_lt (pos 0) (gap e f (x +ℤ x +ℤ pos 1) (d +ℤ d)) (let opposite = gap_exchanged f e (x +ℤ x +ℤ pos 1) (d +ℤ d) in omega linear))
+    above high = inr (test_from_lt (pos 0) (gap e f (x +ℤ x +ℤ pos 1) (d +ℤ d))
+        (let opposite = gap_exchanged f e (x +ℤ x +ℤ pos 1) (d +ℤ d) in omega linear))
 
     apart : ¬ (gap f e (x +ℤ x +ℤ pos 1) (d +ℤ d) ≡ pos 0)
-    apart = let at = shared_just_right f e x d positive over_f over_e in apart_inside f e (x +ℤ x +ℤ pos 1) (d +ℤ d) at.positive
+    apart = let at = shared_just_right f e x d positive over_f over_e in
+        apart_inside f e (x +ℤ x +ℤ pos 1) (d +ℤ d) at.positive
         (covers_wide f x d positive over_f) (covers_wide e x d positive over_e) meet at.inner at.spans
 
 -- the order is one wherever both cover
-pub same_under : (f e : Edge) (x d x' d' : ℤ) → pos 0 <ℤ d → pos 0 <ℤ d' → MeetInEnds e f → covers f x d ≡ true → covers e x d ≡ true →
+pub same_under : (f e : Edge) (x d x' d' : ℤ) → pos 0 <ℤ d → pos 0 <ℤ d' → MeetInEnds e f → covers f x d ≡ true →
+    covers e x d ≡ true →
     covers f x' d' ≡ true → covers e x' d' ≡ true → is_under f e x d ≡ is_under f e x' d'
-same_under f e x d x' d' positive positive' meet over_f over_e over_f' over_e' = same_low f e (x +ℤ x +ℤ pos 1) (d +ℤ d) (x' +ℤ x' +ℤ pos 1)
-    (d' +ℤ d') (covers_wide f x d positive over_f) (covers_wide e x d positive over_e) meet (shared_just_right f e x d positive over_f over_e)
+same_under f e x d x' d' positive positive' meet over_f over_e over_f' over_e' = same_low f e (x +ℤ x +ℤ pos 1) (d +ℤ d)
+    (x' +ℤ x' +ℤ pos 1)
+    (d' +ℤ d') (covers_wide f x d positive over_f) (covers_wide e x d positive over_e) meet
+    (shared_just_right f e x d positive over_f over_e)
     (shared_just_right f e x' d' positive' over_f' over_e')

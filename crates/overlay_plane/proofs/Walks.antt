@@ -1,4 +1,5 @@
--- Numbers given to each two points that follow each other in a walk, summed: along an open walk, and round a closed one.
+-- Numbers given to each two points that follow each other in a walk, summed: along an open walk, and round a closed
+-- one.
 use Rattle.std.proofs.Common.{◌≡◌, ℤ, pos, ◌+ℤ◌, List, [], ◌∷◌, ◌++◌, append_assoc, refl, sym, ap, ap₂, ◌∙◌}
 use Rattle.std.proofs.lemmas.List.{append-nil}
 use lib.IntN.{+ℤ_idr, +ℤ_comm, +ℤ_assoc}
@@ -26,7 +27,8 @@ module _ (f : Point → Point → ℤ) where
   pub along-parts : (u : Point) (xs : List Point) (v : Point) (ys : List Point) →
       along u (xs ++ v ∷ ys) ≡ along u (xs ++ v ∷ []) +ℤ along v ys
   along-parts u [] v ys = ap (λ z. z +ℤ along v ys) (sym (+ℤ_idr (f u v)))
-  along-parts u (x ∷ xs) v ys = ap (λ z. f u x +ℤ z) (along-parts x xs v ys) ∙ sym (+ℤ_assoc (f u x) (along x (xs ++ v ∷ [])) (along v ys))
+  along-parts u (x ∷ xs) v ys = ap (λ z. f u x +ℤ z) (along-parts x xs v ys)
+      ∙ sym (+ℤ_assoc (f u x) (along x (xs ++ v ∷ [])) (along v ys))
 
   -- a closed walk may begin at any of its points
   pub around-rotated : (xs ys : List Point) → around (ys ++ xs) ≡ around (xs ++ ys)
@@ -41,9 +43,11 @@ module _ (f : Point → Point → ℤ) where
       parts p ps q qs = ap (along p) (append_assoc ps (q ∷ qs) (p ∷ [])) ∙ along-parts p ps q (qs ++ p ∷ [])
 
   -- a walk to a further point adds the last two
-  pub along-last : (u : Point) (xs : List Point) (v : Point) → along u (xs ++ v ∷ []) ≡ along u xs +ℤ f (last_from u xs) v
+  pub along-last : (u : Point) (xs : List Point) (v : Point) → along u (xs ++ v ∷ []) ≡ along u xs +ℤ f
+      (last_from u xs) v
   along-last u [] v = +ℤ_comm (f u v) (pos 0)
-  along-last u (x ∷ xs) v = ap (λ z. f u x +ℤ z) (along-last x xs v) ∙ sym (+ℤ_assoc (f u x) (along x xs) (f (last_from x xs) v))
+  along-last u (x ∷ xs) v = ap (λ z. f u x +ℤ z) (along-last x xs v)
+      ∙ sym (+ℤ_assoc (f u x) (along x xs) (f (last_from x xs) v))
 
   -- a closed walk may leave out its first point where the way straight past it counts as much
   pub around-past : (v z : Point) (zs : List Point) → f (last_from z zs) v +ℤ f v z ≡ f (last_from z zs) z →
@@ -54,11 +58,13 @@ module _ (f : Point → Point → ℤ) where
       omega linear
 
 -- what adds up to given numbers between any two points adds up along a walk
-module _ (count : Step → ℤ) (f : Point → Point → ℤ) (between : (u v : Point) → total count (steps_between u v) ≡ f u v) where
+module _ (count : Step → ℤ) (f : Point → Point → ℤ) (between : (u v : Point) →
+    total count (steps_between u v) ≡ f u v) where
   -- from u through the points
   pub total-through : (u : Point) (vs : List Point) → total count (steps_through u vs) ≡ along f u vs
   total-through u [] = refl
-  total-through u (v ∷ vs) = total-append count (steps_between u v) (steps_through v vs) ∙ ap₂ (λ a b. a +ℤ b) (between u v) (total-through v vs)
+  total-through u (v ∷ vs) = total-append count (steps_between u v) (steps_through v vs)
+      ∙ ap₂ (λ a b. a +ℤ b) (between u v) (total-through v vs)
 
   -- and round a closed list
   pub total-around : (ps : List Point) → total count (steps_of ps) ≡ around f ps

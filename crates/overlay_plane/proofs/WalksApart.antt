@@ -1,5 +1,6 @@
 -- The walks that selected steps are cut into are contours along different edges, which meet in ends alone.
-use Rattle.std.proofs.Common.{◌≡◌, false, Bool, ℤ, List, [], ◌∷◌, ◌++◌, map, All, Contains, AllPairs, refl, sym, ap, ◌∙◌, subst}
+use Rattle.std.proofs.Common.{◌≡◌, false, Bool, ℤ, List, [], ◌∷◌, ◌++◌, map, All, Contains, AllPairs, refl, sym, ap}
+use Rattle.std.proofs.Common.{◌∙◌, subst}
 use Rattle.std.specs.List.{filter}
 use Rattle.std.specs.List.Sorted.{IsPermutation}
 use Rattle.std.proofs.lemmas.List.{map-append}
@@ -22,7 +23,8 @@ use Rattle.overlay_plane.proofs.ShuffledPairs.{edges_once_shuffled}
 use Rattle.overlay_plane.proofs.WalksOfCuts.{walk_of_a_cut, selected_along, edge_of_step, edges_meet, different_edges}
 
 -- the filled-above edges of walks are those of all their steps
-filled_above_of_all : (on_left : Bool) (walks : List (List Step)) → all_filled_above on_left walks ≡ filled_above_edges on_left (all_steps walks)
+filled_above_of_all : (on_left : Bool) (walks : List (List Step)) →
+    all_filled_above on_left walks ≡ filled_above_edges on_left (all_steps walks)
 filled_above_of_all on_left [] = refl
 filled_above_of_all on_left (w ∷ ws) =
     ap (λ es. filled_above_edges on_left w ++ es) (filled_above_of_all on_left ws)
@@ -32,11 +34,13 @@ filled_above_of_all on_left (w ∷ ws) =
 -- no two of them are equal where no edge stands twice among the steps
 pub distinct_above : (on_left : Bool) (walks : List (List Step)) → HasEachEdgeOnce (all_steps walks) →
     AllPairs (λ e f. edge_eq e f ≡ false) (all_filled_above on_left walks)
-distinct_above on_left walks once = subst (λ fs. AllPairs (λ e f. edge_eq e f ≡ false) fs) (sym (filled_above_of_all on_left walks))
+distinct_above on_left walks once = subst (λ fs. AllPairs (λ e f. edge_eq e f ≡ false) fs)
+    (sym (filled_above_of_all on_left walks))
     (AllPairs-map (λ e f. edge_eq e f ≡ false) edge_of (filter (is_filled_above on_left) (all_steps walks))
     (AllPairs-filter (λ s t. edge_eq (edge_of s) (edge_of t) ≡ false) (is_filled_above on_left) (all_steps walks) once))
 
-module _ (holds : ℤ → ℤ → Bool) (subj clip : CountedEdge → ℤ) (es : List CountedEdge) (on_left : Bool) (walks : List (List Step))
+module _ (holds : ℤ → ℤ → Bool) (subj clip : CountedEdge → ℤ) (es : List CountedEdge) (on_left : Bool)
+    (walks : List (List Step))
     (cut : AreCutFrom holds subj clip es on_left walks) where
   -- the selected steps
   abbrev pub selected : List Step
@@ -44,20 +48,24 @@ module _ (holds : ℤ → ℤ → Bool) (subj clip : CountedEdge → ℤ) (es : 
 
   -- the walks have them in another order
   pub walks_have_each_step : IsPermutation selected (all_steps walks)
-  walks_have_each_step = cuts_take_each_once (outline_or_hole_hand on_left) selected (alternating (selected_alternate holds subj clip es cut.ruled on_left))
+  walks_have_each_step = cuts_take_each_once (outline_or_hole_hand on_left) selected
+      (alternating (selected_alternate holds subj clip es cut.ruled on_left))
       (selected_steps_once holds subj clip es cut.ruled on_left) walks cut.cut
 
   -- a walk's step is selected
   pub from_selected : (s : Step) → Contains (all_steps walks) s → Contains selected s
-  from_selected s c = Contains-permutation (all_steps walks) selected s (IsPermutation-sym selected (all_steps walks) walks_have_each_step) c
+  from_selected s c = Contains-permutation (all_steps walks) selected s
+      (IsPermutation-sym selected (all_steps walks) walks_have_each_step) c
 
   -- each walk is a contour
   pub walks_are_contours : All IsContour walks
-  walks_are_contours = all_of_entries IsContour walks (λ w c. (walk_of_a_cut holds subj clip es on_left cut.ruled walks cut.cut w c).contour)
+  walks_are_contours = all_of_entries IsContour walks
+      (λ w c. (walk_of_a_cut holds subj clip es on_left cut.ruled walks cut.cut w c).contour)
 
   -- along each of its edges once
   pub walks_have_each_edge_once : All HasEachEdgeOnce walks
-  walks_have_each_edge_once = all_of_entries HasEachEdgeOnce walks (λ w c. (walk_of_a_cut holds subj clip es on_left cut.ruled walks cut.cut w c).each_edge_once)
+  walks_have_each_edge_once = all_of_entries HasEachEdgeOnce walks
+      (λ w c. (walk_of_a_cut holds subj clip es on_left cut.ruled walks cut.cut w c).each_edge_once)
 
   -- no edge stands twice among all walks
   pub all_edges_once : HasEachEdgeOnce (all_steps walks)

@@ -1,5 +1,5 @@
--- A walk that selected steps are cut into: the orbit of its start in the steps that earlier walks left, along edges of the list,
--- along each once.
+-- A walk that selected steps are cut into: the orbit of its start in the steps that earlier walks left, along edges of
+-- the list, along each once.
 use Rattle.std.proofs.Common.{◌≡◌, ⊎_elim, Bool, true, false, cond, ℤ, List, [], take, Contains, sym, ap, ◌∙◌, subst}
 use Rattle.std.proofs.lemmas.Bool.{both_ways, false_from_ne_true}
 use Rattle.std.proofs.lemmas.List.{get_or_default}
@@ -36,21 +36,25 @@ pub record IsEdgeOf (es : List CountedEdge) (g : Edge) : Type 0 where
   pub ends : g ≡ ends_of entry
 
 -- in a list whose edges lead forward it leads forward
-pub edge_forward : (holds : ℤ → ℤ → Bool) (subj clip : CountedEdge → ℤ) (es : List CountedEdge) → IsRuled holds subj clip es → (g : Edge) → IsEdgeOf es g →
+pub edge_forward : (holds : ℤ → ℤ → Bool) (subj clip : CountedEdge → ℤ) (es : List CountedEdge) →
+    IsRuled holds subj clip es → (g : Edge) → IsEdgeOf es g →
     point_lt g.a g.b ≡ true
 edge_forward holds subj clip es ruled g h =
     ap (λ f. point_lt f.a f.b) h.ends ∙ All-contains (λ e. point_lt e.a e.b ≡ true) es h.entry ruled.forward h.among
 
 -- and in a settled one two different such edges meet in ends alone
-pub edges_meet : (es : List CountedEdge) → IsSettledBy ends_of es → (g h : Edge) → IsEdgeOf es g → IsEdgeOf es h → edge_eq g h ≡ false → MeetInEnds g h
+pub edges_meet : (es : List CountedEdge) → IsSettledBy ends_of es → (g h : Edge) → IsEdgeOf es g → IsEdgeOf es h →
+    edge_eq g h ≡ false → MeetInEnds g h
 edges_meet es settled g h of_g of_h apart =
-    subst (λ (k : Edge). MeetInEnds k h) (sym of_g.ends) (subst (λ (k : Edge). MeetInEnds (ends_of of_g.entry) k) (sym of_h.ends)
+    subst (λ (k : Edge). MeetInEnds k h) (sym of_g.ends) (subst (λ (k : Edge). MeetInEnds (ends_of of_g.entry) k)
+    (sym of_h.ends)
     (settled of_g.entry of_h.entry of_g.among of_h.among
     (ap (λ k. edge_eq k (ends_of of_h.entry)) (sym of_g.ends) ∙ ap (λ k. edge_eq g k) (sym of_h.ends) ∙ apart)))
 
 -- ---- walks
 
--- the walk is the first one of steps that walk along edges of the list; it is a contour along different edges that meet in ends alone
+-- the walk is the first one of steps that walk along edges of the list; it is a contour along different edges that meet
+-- in ends alone
 pub record IsWalkOfCut (es : List CountedEdge) (hand_of : Step → Hand) (steps walk : List Step) : Type 0 where
   pub remaining : List Step
   pub inside : (s : Step) → Contains remaining s → Contains steps s
@@ -62,23 +66,28 @@ pub record IsWalkOfCut (es : List CountedEdge) (hand_of : Step → Hand) (steps 
   pub settled : IsSettledBy edge_of walk
 
 -- steps of a set that alternates, each once, have different edges
-pub different_edges : (steps : List Step) → Alternates steps → (walk : List Step) → ((s : Step) → Contains walk s → Contains steps s) → HasEachOnce walk →
+pub different_edges : (steps : List Step) → Alternates steps → (walk : List Step) →
+    ((s : Step) → Contains walk s → Contains steps s) → HasEachOnce walk →
     HasEachEdgeOnce walk
 different_edges steps alternates walk inside once =
     AllPairs-from_each (λ s t. edge_eq (edge_of s) (edge_of t) ≡ false) walk
-    (Each-weaker Differ (λ s t. edge_eq (edge_of s) (edge_of t) ≡ false) walk apart (Each-from_all_pairs Differ walk once))
+    (Each-weaker Differ (λ s t. edge_eq (edge_of s) (edge_of t) ≡ false) walk apart
+    (Each-from_all_pairs Differ walk once))
   where
     apart : (s t : Step) → Contains walk s → Contains walk t → Differ s t → edge_eq (edge_of s) (edge_of t) ≡ false
     apart s t at_s at_t differ = false_from_ne_true (edge_eq (edge_of s) (edge_of t)) (λ same. ⊎_elim
         (λ one. both_ways (step_eq s t) differ (equal_steps s t one))
-        (λ back. no_way_back steps alternates s t (inside s at_s) (inside t at_t) (ap (λ u. u.from) back) (ap (λ u. u.to) back))
+        (λ back. no_way_back steps alternates s t (inside s at_s) (inside t at_t) (ap (λ u. u.from) back)
+        (ap (λ u. u.to) back))
         (one_of_two s t (edge_eq-same (edge_of s) (edge_of t) same)))
 
 -- a step along an edge of the list has such an edge
-pub edge_of_step : (es : List CountedEdge) (steps : List Step) → WalksAlong es steps → (s : Step) → Contains steps s → IsEdgeOf es (edge_of s)
+pub edge_of_step : (es : List CountedEdge) (steps : List Step) → WalksAlong es steps → (s : Step) → Contains steps s →
+    IsEdgeOf es (edge_of s)
 edge_of_step es steps along s c = let own = along.along s c in record { entry = own.0; among = own.1; ends = own.2 }
 
-module _ (holds : ℤ → ℤ → Bool) (subj clip : CountedEdge → ℤ) (es : List CountedEdge) (on_left : Bool) (ruled : IsRuled holds subj clip es) where
+module _ (holds : ℤ → ℤ → Bool) (subj clip : CountedEdge → ℤ) (es : List CountedEdge) (on_left : Bool)
+    (ruled : IsRuled holds subj clip es) where
   -- selected steps walk along edges of the list
   pub selected_along : WalksAlong es (selected_steps holds subj clip on_left es)
   selected_along = record {
@@ -94,7 +103,8 @@ module _ (holds : ℤ → ℤ → Bool) (subj clip : CountedEdge → ℤ) (es : 
     );
   }
 
-  module _ (walks : List (List Step)) (cut : IsCutInto (outline_or_hole_hand on_left) (selected_steps holds subj clip on_left es) walks) where
+  module _ (walks : List (List Step))
+      (cut : IsCutInto (outline_or_hole_hand on_left) (selected_steps holds subj clip on_left es) walks) where
     -- each walk is such a walk
     pub walk_of_a_cut : (walk : List Step) → Contains walks walk →
         IsWalkOfCut es (outline_or_hole_hand on_left) (selected_steps holds subj clip on_left es) walk
@@ -120,16 +130,25 @@ module _ (holds : ℤ → ℤ → Bool) (subj clip : CountedEdge → ℤ) (es : 
         inside s c = (left_parts steps (all_steps (take at.0 walks)) s c).0
 
         first : IsFirstWalk (outline_or_hole_hand on_left) remaining walk
-        first = subst (λ w. IsFirstWalk (outline_or_hole_hand on_left) remaining w) (get_or_default walks at.0 [] walk at.1 ∙ at.2)
-            (cuts_are_orbits (outline_or_hole_hand on_left) steps (selected_alternate holds subj clip es ruled on_left) walks cut at.0 at.1)
+        first = subst (λ w. IsFirstWalk (outline_or_hole_hand on_left) remaining w)
+            (get_or_default walks at.0 [] walk at.1 ∙ at.2)
+            (cuts_are_orbits (outline_or_hole_hand on_left) steps (selected_alternate holds subj clip es ruled on_left)
+            walks cut at.0 at.1)
 
         along : WalksAlong es remaining
-        along = record { forward = ruled.forward; settled = ruled.settled; distinct = ruled.distinct; along = λ s c. selected_along.along s (inside s c) }
+        along = record {
+          forward = ruled.forward;
+          settled = ruled.settled;
+          distinct = ruled.distinct;
+          along = λ s c. selected_along.along s (inside s c);
+        }
 
         within : (s : Step) → Contains walk s → Contains remaining s
         within s c = All-contains (Contains remaining) walk s
             (orbits_are_cycles remaining (outline_or_hole_hand on_left (step_round walk 0))
-            (alternating_steps_lead_on remaining first.alternate (outline_or_hole_hand on_left (step_round walk 0))) walk first.orbit).inside c
+            (alternating_steps_lead_on remaining first.alternate (outline_or_hole_hand on_left (step_round walk 0)))
+            walk first.orbit).inside c
 
         contour : IsContour walk
-        contour = orbits_are_contours remaining first.alternate (outline_or_hole_hand on_left (step_round walk 0)) walk first.orbit
+        contour = orbits_are_contours remaining first.alternate (outline_or_hole_hand on_left (step_round walk 0))
+            walk first.orbit

@@ -1,4 +1,5 @@
--- Which of two edges is the lower one just right of an abscissa, from the gap at the abscissa, and from the start of one of them.
+-- Which of two edges is the lower one just right of an abscissa, from the gap at the abscissa, and from the start of
+-- one of them.
 use Rattle.std.proofs.Common.{◌≡◌, true, false, ℤ, pos, ◌+ℤ◌, ◌*ℤ◌, neg_ℤ, ◌<ℤ◌, int_lt, int_le, ap, ◌∙◌, arith}
 use Rattle.std.proofs.lemmas.Int.{ints}
 use Rattle.std.proofs.lemmas.Bool.{and_from}
@@ -18,10 +19,13 @@ pub covers_spans : (e : Edge) (x d : ℤ) → covers e x d ≡ true → Spans e 
 covers_spans e x d c = record { from = covers_from e x d c; to = let less = covers_to e x d c in omega linear }
 
 -- the edge that is lower at an abscissa which both cover is under the other
-pub under_from_gap : (f e : Edge) (x d : ℤ) → pos 0 <ℤ d → MeetInEnds e f → covers f x d ≡ true → covers e x d ≡ true → pos 0 <ℤ gap f e x d →
+pub under_from_gap : (f e : Edge) (x d : ℤ) → pos 0 <ℤ d → MeetInEnds e f → covers f x d ≡ true → covers e x d ≡ true →
+    pos 0 <ℤ gap f e x d →
     is_under f e x d ≡ true
-under_from_gap f e x d positive meet over_f over_e low = by_sign (gap f e (x +ℤ x +ℤ pos 1) (d +ℤ d)) (λ high. absurd (crossed high))
-    (λ level. absurd (apart_inside f e (x +ℤ x +ℤ pos 1) (d +ℤ d) shared.positive wide_f wide_e meet shared.inner shared.spans level))
+under_from_gap f e x d positive meet over_f over_e low = by_sign (gap f e (x +ℤ x +ℤ pos 1) (d +ℤ d))
+    (λ high. absurd (crossed high))
+    (λ level. absurd (apart_inside f e (x +ℤ x +ℤ pos 1) (d +ℤ d) shared.positive wide_f wide_e meet shared.inner
+    shared.spans level))
     (λ above. test_from_lt (pos 0) (gap f e (x +ℤ x +ℤ pos 1) (d +ℤ d)) above)
   where
     wide_f : pos 0 <ℤ width f
@@ -35,11 +39,14 @@ under_from_gap f e x d positive meet over_f over_e low = by_sign (gap f e (x +�
 
     crossed : gap f e (x +ℤ x +ℤ pos 1) (d +ℤ d) <ℤ pos 0 → ⊥
     crossed high = no_crossing e f (x +ℤ x +ℤ pos 1) (d +ℤ d) x d wide_e wide_f (meet_in_ends_exchanged f e meet)
-        (shared_just_right e f x d positive over_e over_f) positive (covers_spans f x d over_f) (covers_spans e x d over_e)
-        (let there = gap_exchanged e f (x +ℤ x +ℤ pos 1) (d +ℤ d) in omega linear) (let here = gap_exchanged e f x d in omega linear)
+        (shared_just_right e f x d positive over_e over_f) positive (covers_spans f x d over_f)
+        (covers_spans e x d over_e)
+        (let there = gap_exchanged e f (x +ℤ x +ℤ pos 1) (d +ℤ d) in omega linear) (let here = gap_exchanged e f x d in
+        omega linear)
 
 -- what is strictly below the start of an edge is under the edge
-pub at_start_low : (f e : Edge) → MeetInEnds e f → pos 0 <ℤ width e → covers f e.a.x (pos 1) ≡ true → covers e e.a.x (pos 1) ≡ true →
+pub at_start_low : (f e : Edge) → MeetInEnds e f → pos 0 <ℤ width e → covers f e.a.x (pos 1) ≡ true →
+    covers e e.a.x (pos 1) ≡ true →
     pos 0 <ℤ side f (in_plane e.a) → is_under f e e.a.x (pos 1) ≡ true
 at_start_low f e meet wide over_f over_e left = under_from_gap f e e.a.x (pos 1) (omega linear) meet over_f over_e
     (let product = mul-pos (width e) (side f (in_plane e.a)) wide left in
@@ -48,7 +55,8 @@ at_start_low f e meet wide over_f over_e left = under_from_gap f e e.a.x (pos 1)
     omega linear)
 
 -- what is strictly above the start is not
-pub at_start_high : (f e : Edge) → MeetInEnds e f → pos 0 <ℤ width e → covers f e.a.x (pos 1) ≡ true → covers e e.a.x (pos 1) ≡ true →
+pub at_start_high : (f e : Edge) → MeetInEnds e f → pos 0 <ℤ width e → covers f e.a.x (pos 1) ≡ true →
+    covers e e.a.x (pos 1) ≡ true →
     side f (in_plane e.a) <ℤ pos 0 → is_under f e e.a.x (pos 1) ≡ false
 at_start_high f e meet wide over_f over_e right = under_asymmetric e f e.a.x (pos 1)
     (under_from_gap e f e.a.x (pos 1) (omega linear) (meet_in_ends_exchanged f e meet) over_e over_f
@@ -57,11 +65,14 @@ at_start_high f e meet wide over_f over_e right = under_asymmetric e f e.a.x (po
     omega linear))
 
 -- and what goes through the start starts there too
-pub at_start_level : (f e : Edge) → MeetInEnds e f → pos 0 <ℤ width e → covers f e.a.x (pos 1) ≡ true → covers e e.a.x (pos 1) ≡ true →
+pub at_start_level : (f e : Edge) → MeetInEnds e f → pos 0 <ℤ width e → covers f e.a.x (pos 1) ≡ true →
+    covers e e.a.x (pos 1) ≡ true →
     side f (in_plane e.a) ≡ pos 0 → e.a ≡ f.a
-at_start_level f e meet wide over_f over_e level = same_starts f e e.a.x (pos 1) (omega linear) (covers_wide f e.a.x (pos 1) (omega linear) over_f) wide meet
+at_start_level f e meet wide over_f over_e level = same_starts f e e.a.x (pos 1) (omega linear)
+    (covers_wide f e.a.x (pos 1) (omega linear) over_f) wide meet
     (covers_spans e e.a.x (pos 1) over_e) (covers_spans f e.a.x (pos 1) over_f)
-    (gap_exchanged f e e.a.x (pos 1) ∙ ap neg_ℤ (gap-at_start e f ∙ ap (λ z. neg_ℤ (width e *ℤ z)) level) ∙ none (width e))
+    (gap_exchanged f e e.a.x (pos 1) ∙ ap neg_ℤ (gap-at_start e f ∙ ap (λ z. neg_ℤ (width e *ℤ z)) level)
+    ∙ none (width e))
     (covers_to e e.a.x (pos 1) over_e) (covers_to f e.a.x (pos 1) over_f)
   where
     none : (w : ℤ) → neg_ℤ (neg_ℤ (w *ℤ pos 0)) ≡ pos 0
@@ -69,5 +80,6 @@ at_start_level f e meet wide over_f over_e level = same_starts f e e.a.x (pos 1)
 
 -- an edge that is not vertical covers its start
 pub covers_start : (e : Edge) → e.a.x <ℤ e.b.x → covers e e.a.x (pos 1) ≡ true
-covers_start e wide = and_from (int_le (e.a.x *ℤ pos 1) e.a.x) (int_lt e.a.x (e.b.x *ℤ pos 1)) (test_from_le (e.a.x *ℤ pos 1) e.a.x (omega (arith, ints)))
+covers_start e wide = and_from (int_le (e.a.x *ℤ pos 1) e.a.x) (int_lt e.a.x (e.b.x *ℤ pos 1))
+    (test_from_le (e.a.x *ℤ pos 1) e.a.x (omega (arith, ints)))
     (test_from_lt e.a.x (e.b.x *ℤ pos 1) (omega (arith, ints)))

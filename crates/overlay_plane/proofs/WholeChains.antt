@@ -1,5 +1,7 @@
--- An edge stays whole where each point that it is led through is an end of it: then its chain has one step, and else more.
-use Rattle.std.proofs.Common.{◌≡◌, ◌⊎◌, inl, inr, ⊎_elim, Bool, true, false, cond, List, [], ◌∷◌, ◌++◌, length, refl, sym, ap, ◌∙◌, subst, arith}
+-- An edge stays whole where each point that it is led through is an end of it: then its chain has one step, and else
+-- more.
+use Rattle.std.proofs.Common.{◌≡◌, ◌⊎◌, inl, inr, ⊎_elim, Bool, true, false, cond, List, [], ◌∷◌, ◌++◌, length, refl}
+use Rattle.std.proofs.Common.{sym, ap, ◌∙◌, subst, arith}
 use Rattle.std.specs.List.{All}
 use Rattle.std.proofs.lemmas.Bool.{both_ways}
 use Rattle.std.proofs.lemmas.List.Elements.{All-cons, All-head, All-nil, All-tail, All-weaker, All-contains}
@@ -24,16 +26,20 @@ a_step p q apart = ap (λ t. cond t [] (record { from = p; to = q } ∷ [])) apa
 -- ---- from the steps to the points
 
 -- where no step leads from p through the points to b, all of them are p
-none_left : (p b : Point) (vs : List Point) → length (steps_through p (vs ++ b ∷ [])) ≡ 0 → All (λ v. v ≡ p) vs × (b ≡ p)
+none_left : (p b : Point) (vs : List Point) → length (steps_through p (vs ++ b ∷ [])) ≡ 0 →
+    All (λ v. v ≡ p) vs × (b ≡ p)
 none_left p b [] none = (All-nil (λ v. v ≡ p), by (point_eq p b) refl none)
   where
-    by : (t : Bool) → point_eq p b ≡ t → length {A = Step} (cond t [] (record { from = p; to = b } ∷ []) ++ []) ≡ 0 → b ≡ p
+    by : (t : Bool) → point_eq p b ≡ t → length {A = Step} (cond t [] (record { from = p; to = b } ∷ []) ++ []) ≡ 0 →
+        b ≡ p
     by true same h = sym ((Decides-point_eq p b).0 same)
     by false apart h = absurd (omega (arith, h))
 none_left p b (v ∷ vs) none = by (point_eq p v) refl none (λ h. none_left v b vs h)
   where
-    by : (t : Bool) → point_eq p v ≡ t → length {A = Step} (cond t [] (record { from = p; to = v } ∷ []) ++ steps_through v (vs ++ b ∷ [])) ≡ 0 →
-        (length (steps_through v (vs ++ b ∷ [])) ≡ 0 → All (λ w. w ≡ v) vs × (b ≡ v)) → All (λ w. w ≡ p) (v ∷ vs) × (b ≡ p)
+    by : (t : Bool) → point_eq p v ≡ t →
+        length {A = Step} (cond t [] (record { from = p; to = v } ∷ []) ++ steps_through v (vs ++ b ∷ [])) ≡ 0 →
+        (length (steps_through v (vs ++ b ∷ [])) ≡ 0 → All (λ w. w ≡ v) vs × (b ≡ v)) →
+        All (λ w. w ≡ p) (v ∷ vs) × (b ≡ p)
     by true same h later =
         let is : v ≡ p = sym ((Decides-point_eq p v).0 same) in
         let rest = later h in
@@ -41,11 +47,13 @@ none_left p b (v ∷ vs) none = by (point_eq p v) refl none (λ h. none_left v b
     by false apart h later = absurd (omega (arith, h))
 
 -- where one step leads from a through the points to b, each of them is one of the two
-pub ends_where_one_step : (a b : Point) (vs : List Point) → length (steps_through a (vs ++ b ∷ [])) ≡ 1 → All (IsEither a b) vs
+pub ends_where_one_step : (a b : Point) (vs : List Point) → length (steps_through a (vs ++ b ∷ [])) ≡ 1 →
+    All (IsEither a b) vs
 ends_where_one_step a b [] one = All-nil (IsEither a b)
 ends_where_one_step a b (v ∷ vs) one = by (point_eq a v) refl one (λ h. ends_where_one_step v b vs h)
   where
-    by : (t : Bool) → point_eq a v ≡ t → length {A = Step} (cond t [] (record { from = a; to = v } ∷ []) ++ steps_through v (vs ++ b ∷ [])) ≡ 1 →
+    by : (t : Bool) → point_eq a v ≡ t →
+        length {A = Step} (cond t [] (record { from = a; to = v } ∷ []) ++ steps_through v (vs ++ b ∷ [])) ≡ 1 →
         (length (steps_through v (vs ++ b ∷ [])) ≡ 1 → All (IsEither v b) vs) → All (IsEither a b) (v ∷ vs)
     by true same h later =
         let is : v ≡ a = sym ((Decides-point_eq a v).0 same) in
@@ -84,18 +92,22 @@ module _ (e : Edge) (forward : point_lt e.a e.b ≡ true) where
   -- after the larger end, in the order along the edge, no smaller one comes
   later_is_larger : (v : Point) → IsEither e.a e.b v → IsUpToAlong e e.b v → v ≡ e.b
   later_is_larger v (inl is) up =
-      absurd (apart (along-antisymmetric e e.a e.b (start_up_to_end e ((Decides-point_lt e.a e.b).0 forward)) (subst (IsUpToAlong e e.b) is up)))
+      absurd (apart (along-antisymmetric e e.a e.b (start_up_to_end e ((Decides-point_lt e.a e.b).0 forward))
+      (subst (IsUpToAlong e e.b) is up)))
   later_is_larger v (inr is) up = is
 
   -- points in order along the edge, each of them an end of it, are passed with one step
-  pub one_step_through : (vs : List Point) → All (IsEither e.a e.b) vs → Each (IsUpToAlong e) vs → length (steps_through e.a (vs ++ e.b ∷ [])) ≡ 1
+  pub one_step_through : (vs : List Point) → All (IsEither e.a e.b) vs → Each (IsUpToAlong e) vs →
+      length (steps_through e.a (vs ++ e.b ∷ [])) ≡ 1
   one_step_through [] all order = ap (λ ss. length (ss ++ [])) (a_step e.a e.b test_apart)
-  one_step_through (v ∷ vs) all order = by (one_step_through vs (All-tail (IsEither e.a e.b) v vs all) order.1) (All-head (IsEither e.a e.b) v vs all)
+  one_step_through (v ∷ vs) all order = by (one_step_through vs (All-tail (IsEither e.a e.b) v vs all) order.1)
+      (All-head (IsEither e.a e.b) v vs all)
     where
       later : All (IsEither e.a e.b) vs
       later = All-tail (IsEither e.a e.b) v vs all
 
-      by : length (steps_through e.a (vs ++ e.b ∷ [])) ≡ 1 → IsEither e.a e.b v → length (steps_between e.a v ++ steps_through v (vs ++ e.b ∷ [])) ≡ 1
+      by : length (steps_through e.a (vs ++ e.b ∷ [])) ≡ 1 → IsEither e.a e.b v →
+          length (steps_between e.a v ++ steps_through v (vs ++ e.b ∷ [])) ≡ 1
       by rest (inl is) =
           ap (λ ss. length (ss ++ steps_through v (vs ++ e.b ∷ []))) (no_step e.a v (sym is))
           ∙ ap (λ u. length (steps_through u (vs ++ e.b ∷ []))) is
@@ -103,7 +115,8 @@ module _ (e : Edge) (forward : point_lt e.a e.b ≡ true) where
       by rest (inr is) =
           let all_larger : All (λ w. w ≡ e.b) vs =
           all_of_entries (λ w. w ≡ e.b) vs
-          (λ w at. later_is_larger w (All-contains (IsEither e.a e.b) vs w later at) (subst (λ u. IsUpToAlong e u w) is (order.0 w at))) in
+          (λ w at. later_is_larger w (All-contains (IsEither e.a e.b) vs w later at)
+          (subst (λ u. IsUpToAlong e u w) is (order.0 w at))) in
           ap (λ u. length (steps_between e.a u ++ steps_through u (vs ++ e.b ∷ []))) is
           ∙ ap (λ ss. length (steps_between e.a e.b ++ ss)) (none_where_all e.b vs all_larger)
           ∙ ap (λ ss. length (ss ++ [])) (a_step e.a e.b test_apart)

@@ -1,16 +1,21 @@
--- Whole points on edges: a point of the plane at a whole point lies on an edge exactly where the whole point is on the line, between the ends.
+-- Whole points on edges: a point of the plane at a whole point lies on an edge exactly where the whole point is on the
+-- line, between the ends.
 use lib.IntN.{*ℤ_comm}
-use Rattle.std.proofs.Common.{◌≡◌, Bool, true, false, not, ◌&&◌, ℤ, pos, ◌-ℤ◌, ◌*ℤ◌, ◌<ℤ◌, ◌≤ℤ◌, refl, sym, ap, ap₂, subst, ◌∙◌, arith}
+use Rattle.std.proofs.Common.{◌≡◌, Bool, true, false, not, ◌&&◌, ℤ, pos, ◌-ℤ◌, ◌*ℤ◌, ◌<ℤ◌, ◌≤ℤ◌, refl, sym, ap, ap₂}
+use Rattle.std.proofs.Common.{subst, ◌∙◌, arith}
 use Rattle.std.specs.Bool.{Decides}
 use Rattle.std.specs.Ordering.{int_eq}
 use Rattle.std.proofs.lemmas.Int.{ints}
-use Rattle.std.proofs.lemmas.Bool.Decides.{Decides-int_eq, Decides-and, Decides-or, Decides-not, Decides-like, not_from_Decides}
-use Rattle.overlay_geom.specs.Plane.{Point, PlanePoint, Edge, IsOn, IsAt, IsEnd, SamePlace, side, cross_at, in_plane, point_lt}
+use Rattle.std.proofs.lemmas.Bool.Decides.{Decides-int_eq, Decides-and, Decides-or, Decides-not, Decides-like}
+use Rattle.std.proofs.lemmas.Bool.Decides.{not_from_Decides}
+use Rattle.overlay_geom.specs.Plane.{Point, PlanePoint, Edge, IsOn, IsAt, IsEnd, SamePlace, side, cross_at, in_plane}
+use Rattle.overlay_geom.specs.Plane.{point_lt}
 use Rattle.overlay_geom.proofs.Identities.{solve, ◌⊗◌, ◌≗◌}
 use Rattle.overlay_geom.proofs.Signs.{linear, mul-zero, zero_of_mul-zero, le_of_mul-le}
 use Rattle.overlay_geom.proofs.Cross.{crossE}
 use Rattle.overlay_geom.proofs.Orders.{same_point}
-use Rattle.overlay_geom.proofs.PointOrder.{IsBefore, IsUpTo, Decides-point_lt, by_order, before_after_up_to, before_is_other}
+use Rattle.overlay_geom.proofs.PointOrder.{IsBefore, IsUpTo, Decides-point_lt, by_order, before_after_up_to}
+use Rattle.overlay_geom.proofs.PointOrder.{before_is_other}
 use Rattle.overlay_geom.proofs.AlongEdge.{over, place_of, sideE, over_le, over_up_to, on_of_order, order_of_on}
 use Rattle.overlay_geom.proofs.OneLine.{IsHeldBy}
 use Rattle.overlay_plane.specs.CutPoints.{is_between}
@@ -32,13 +37,15 @@ pub same_place_at : (v : Point) (p q : PlanePoint) → IsAt v p → IsAt v q →
 same_place_at v p q at_p at_q = (crossed v.x p.x q.x at_p.0 at_q.0, crossed v.y p.y q.y at_p.1 at_q.1)
   where
     crossed : (a x y : ℤ) → x ≡ a *ℤ p.d → y ≡ a *ℤ q.d → x *ℤ q.d ≡ y *ℤ p.d
-    crossed a x y is_x is_y = ap (λ u. u *ℤ q.d) is_x ∙ solve 3 (λ a p q. (a ⊗ p) ⊗ q ≗ (a ⊗ q) ⊗ p) tt a p.d q.d ∙ sym (ap (λ u. u *ℤ p.d) is_y)
+    crossed a x y is_x is_y = ap (λ u. u *ℤ q.d) is_x ∙ solve 3 (λ a p q. (a ⊗ p) ⊗ q ≗ (a ⊗ q) ⊗ p) tt a p.d q.d
+        ∙ sym (ap (λ u. u *ℤ p.d) is_y)
 
 -- the side of a whole point in the plane is its cross product
 pub side_at : (e : Edge) (v : Point) (p : PlanePoint) → IsAt v p → side e p ≡ p.d *ℤ cross_at e.a e.b v
 side_at e v p at =
     ap₂ (λ x y. (e.b.x -ℤ e.a.x) *ℤ (y -ℤ e.a.y *ℤ p.d) -ℤ (e.b.y -ℤ e.a.y) *ℤ (x -ℤ e.a.x *ℤ p.d)) at.0 at.1
-    ∙ solve 7 (λ ax ay bx by vx vy d. sideE ax ay bx by (vx ⊗ d) (vy ⊗ d) d ≗ d ⊗ crossE ax ay bx by vx vy) tt e.a.x e.a.y e.b.x e.b.y v.x v.y p.d
+    ∙ solve 7 (λ ax ay bx by vx vy d. sideE ax ay bx by (vx ⊗ d) (vy ⊗ d) d ≗ d ⊗ crossE ax ay bx by vx vy) tt e.a.x
+    e.a.y e.b.x e.b.y v.x v.y p.d
 
 -- a whole point's coordinates over the denominator are the place of the point of the plane
 at_place : (v : Point) (p : PlanePoint) → IsAt v p → over v p.d ≡ place_of p
@@ -46,7 +53,8 @@ at_place v p at = same_point (over v p.d) (place_of p) (sym at.0) (sym at.1)
 
 -- order is kept without the denominator
 pub up_to_of_over : (u v : Point) (d : ℤ) → pos 0 <ℤ d → IsUpTo (over u d) (over v d) → IsUpTo u v
-up_to_of_over u v d positive h = record { x = cancel u.x v.x h.x; y = λ le. cancel u.y v.y (h.y (over_le v.x u.x d positive le)) }
+up_to_of_over u v d positive h =
+    record { x = cancel u.x v.x h.x; y = λ le. cancel u.y v.y (h.y (over_le v.x u.x d positive le)) }
   where
     cancel : (a b : ℤ) → (a *ℤ d) ≤ℤ (b *ℤ d) → a ≤ℤ b
     cancel a b le = let left = *ℤ_comm a d in let right = *ℤ_comm b d in le_of_mul-le d a b positive (omega linear)
@@ -84,7 +92,8 @@ pub Decides-is_between : (e : Edge) (v : Point) → Decides (is_between e v) (Is
 Decides-is_between e v = Decides-and _ _ (Decides-not_lt v e.a) (Decides-not_lt e.b v)
 
 -- the test tells whether a point of the plane is at the whole point
-pub Decides-is_at : (v : Point) (p : PlanePoint) → Decides (int_eq p.x (v.x *ℤ p.d) && int_eq p.y (v.y *ℤ p.d)) (IsAt v p)
+pub Decides-is_at : (v : Point) (p : PlanePoint) → Decides (int_eq p.x (v.x *ℤ p.d) && int_eq p.y (v.y *ℤ p.d))
+    (IsAt v p)
 Decides-is_at v p = Decides-and _ _ (Decides-int_eq p.x (v.x *ℤ p.d)) (Decides-int_eq p.y (v.y *ℤ p.d))
 
 -- by what a test tells

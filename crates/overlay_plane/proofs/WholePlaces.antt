@@ -69,7 +69,8 @@ near_whole w v z d positive at (low, high) =
     omega linear
 
 -- a rounding takes a whole point to itself
-pub rounded_whole : (whole_at : PlanePoint → Point) (v : Point) (p : PlanePoint) → IsRounding whole_at → IsAt v p → whole_at p ≡ v
+pub rounded_whole : (whole_at : PlanePoint → Point) (v : Point) (p : PlanePoint) → IsRounding whole_at → IsAt v p →
+    whole_at p ≡ v
 rounded_whole whole_at v p rounding (at_x, at_y) =
     same_point (whole_at p) v (near_whole (whole_at p).x v.x p.x p.d p.positive at_x (rounding.near_x p))
     (near_whole (whole_at p).y v.y p.y p.d p.positive at_y (rounding.near_y p))

@@ -16,8 +16,10 @@ pub record AreOneWay (v p q : Point) : Type 0 where
 -- the set of steps alternates round every node; no two of its steps there run along one ray, and none has no length
 pub record Alternates (steps : List Step) : Type 0 where
   pub long : (s : Step) → Contains steps s → ¬ (s.from ≡ s.to)
-  pub one_leaves : (s t : Step) → Contains steps s → Contains steps t → s.from ≡ t.from → AreOneWay s.from s.to t.to → s ≡ t
-  pub one_arrives : (s t : Step) → Contains steps s → Contains steps t → s.to ≡ t.to → AreOneWay s.to s.from t.from → s ≡ t
+  pub one_leaves : (s t : Step) → Contains steps s → Contains steps t → s.from ≡ t.from → AreOneWay s.from s.to t.to →
+      s ≡ t
+  pub one_arrives : (s t : Step) → Contains steps s → Contains steps t → s.to ≡ t.to → AreOneWay s.to s.from t.from →
+      s ≡ t
   pub none_both : (s t : Step) → Contains steps s → Contains steps t → s.to ≡ t.from → ¬ (AreOneWay s.to s.from t.to)
   pub arrives_between : (s t : Step) → Contains steps s → Contains steps t → s.from ≡ t.from → ¬ (s ≡ t) →
       (u : Step) × Contains steps u × (u.to ≡ s.from) × IsMetBetween s.from s.to u.from t.to

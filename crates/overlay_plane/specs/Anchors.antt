@@ -44,15 +44,19 @@ HasEachEdgeOnce steps = AllPairs (λ s t. edge_eq (edge_of s) (edge_of t) ≡ fa
 
 -- a contour's anchor is not vertical, where the contour walks along each edge once and its edges meet in ends alone
 abbrev pub AnchorsLeadOn : Type 0
-AnchorsLeadOn = (walk : List Step) → IsContour walk → HasEachEdgeOnce walk → IsSettledBy edge_of walk → (e : Edge) → IsAnchor walk e →
+AnchorsLeadOn = (walk : List Step) → IsContour walk → HasEachEdgeOnce walk → IsSettledBy edge_of walk →
+    (e : Edge) → IsAnchor walk e →
     covers e e.a.x (pos 1) ≡ true
 
--- for edges that lead forward and meet in ends alone, the first of which starts at the abscissa and covers it: below that anchor is under it just right of it
+-- for edges that lead forward and meet in ends alone, the first of which starts at the abscissa and covers it: below
+-- that anchor is under it just right of it
 abbrev pub BelowAnAnchorIsUnder : Type 0
-BelowAnAnchorIsUnder = (e f : Edge) → point_lt e.a e.b ≡ true → point_lt f.a f.b ≡ true → (edge_eq e f ≡ true) ⊎ MeetInEnds e f →
+BelowAnAnchorIsUnder = (e f : Edge) → point_lt e.a e.b ≡ true → point_lt f.a f.b ≡ true →
+    (edge_eq e f ≡ true) ⊎ MeetInEnds e f →
     covers e e.a.x (pos 1) ≡ true → is_below_anchor e f ≡ covers f e.a.x (pos 1) && is_under f e e.a.x (pos 1)
 
 -- for two edges over an abscissa that meet in ends alone, lower at the abscissa is lower just right of it
 abbrev pub LowerAtIsUnder : Type 0
-LowerAtIsUnder = (f g : Edge) → (edge_eq f g ≡ true) ⊎ MeetInEnds f g → (x : ℤ) → covers f x (pos 1) ≡ true → covers g x (pos 1) ≡ true →
+LowerAtIsUnder = (f g : Edge) → (edge_eq f g ≡ true) ⊎ MeetInEnds f g → (x : ℤ) → covers f x (pos 1) ≡ true →
+    covers g x (pos 1) ≡ true →
     is_lower_at x f g ≡ is_under f g x (pos 1)

@@ -49,24 +49,30 @@ pub record IsExact (rounds : List Round) (k : ℕ) (old new : List CountedEdge) 
 
 -- the chains of the edges from which an arrangement was reached hold
 abbrev pub ArrangementsHoldChains : Type 0
-ArrangementsHoldChains = (rounds : List Round) (k : ℕ) (old new : List CountedEdge) → IsForwardBy ends_of old → IsReachedBy rounds old new →
+ArrangementsHoldChains = (rounds : List Round) (k : ℕ) (old new : List CountedEdge) → IsForwardBy ends_of old →
+    IsReachedBy rounds old new →
     MovingRounds rounds k → ChainsHold rounds k old new
 
 -- where edges meet only in whole points or overlap, the arrangement is exact, and more than one round cannot be taken
 pub record WholeMeetingsAreExact : Type 0 where
-  pub exact : (rounds : List Round) (k : ℕ) (old new : List CountedEdge) → IsForwardBy ends_of old → MeetInWholePoints old →
+  pub exact : (rounds : List Round) (k : ℕ) (old new : List CountedEdge) → IsForwardBy ends_of old →
+      MeetInWholePoints old →
       IsReachedBy rounds old new → MovingRounds rounds k → IsExact rounds k old new
-  pub few : (rounds : List Round) (old : List CountedEdge) → IsForwardBy ends_of old → MeetInWholePoints old → AreRounds old rounds → length rounds ≤ 1
+  pub few : (rounds : List Round) (old : List CountedEdge) → IsForwardBy ends_of old → MeetInWholePoints old →
+      AreRounds old rounds → length rounds ≤ 1
 
 -- an arrangement keeps balanced counts
 abbrev pub ArrangementsKeepBalance : Type 0
-ArrangementsKeepBalance = (rounds : List Round) (old new : List CountedEdge) → IsReachedBy rounds old new → HasBalancedCounts old → HasBalancedCounts new
+ArrangementsKeepBalance = (rounds : List Round) (old new : List CountedEdge) → IsReachedBy rounds old new →
+    HasBalancedCounts old → HasBalancedCounts new
 
 -- an arrangement of an arrangement is the same list
 abbrev pub ArrangedStaysArranged : Type 0
-ArrangedStaysArranged = (rounds again : List Round) (old new newer : List CountedEdge) → IsReachedBy rounds old new → IsReachedBy again new newer → newer ≡ new
+ArrangedStaysArranged = (rounds again : List Round) (old new newer : List CountedEdge) → IsReachedBy rounds old new →
+    IsReachedBy again new newer → newer ≡ new
 
--- a merged list of forward edges that is not settled, cut through the points computed pair by pair, is what a cutting round leaves
+-- a merged list of forward edges that is not settled, cut through the points computed pair by pair, is what a cutting
+-- round leaves
 abbrev pub CuttingIsARound : Type 0
 CuttingIsARound = (old es : List CountedEdge) → IsForwardBy ends_of es → IsMerged old es → ¬ (IsSettled es) →
     (r : Round) × IsRound old r × (pieces_of r ≡ cut_edges es)

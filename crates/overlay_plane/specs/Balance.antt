@@ -1,4 +1,5 @@
--- Contents whose counts are balanced, for the subject and for the clip, and what keeps them so: contours added, lists joined, edges merged.
+-- Contents whose counts are balanced, for the subject and for the clip, and what keeps them so: contours added, lists
+-- joined, edges merged.
 use Rattle.std.specs.Prelude.{◌≡◌, Bool, ℤ, ◌-ℤ◌, ◌*ℤ◌, List, [], ◌∷◌, ◌++◌, map}
 use Rattle.overlay_geom.specs.Plane.{Point, edge_of, sign_of, steps_through, steps_of, total}
 use Rattle.overlay_geom.specs.Edges.{CountedEdge, ends_of, subj_of, clip_of, subject_edge, clip_edge, AddsContour}
@@ -10,7 +11,8 @@ pub record HasBalancedCounts (es : List CountedEdge) : Type 0 where
   pub subj : IsBalanced ends_of subj_of es
   pub clip : IsBalanced ends_of clip_of es
 
--- along a chain of steps from u to w through any points, what a number given to each point rises by, summed, is what it rises by from u to w
+-- along a chain of steps from u to w through any points, what a number given to each point rises by, summed, is what it
+-- rises by from u to w
 abbrev pub ChainsTelescope : Type 0
 ChainsTelescope = (g : Point → ℤ) (u : Point) (vs : List Point) (w : Point) →
     total (λ s. sign_of s *ℤ (g (edge_of s).b -ℤ g (edge_of s).a)) (steps_through u (vs ++ w ∷ [])) ≡ g w -ℤ g u
@@ -31,9 +33,11 @@ pub record JoiningKeepsBalance : Type 0 where
 
 -- a content to which a contour is added keeps balanced counts, whether the contour is a subject's or a clip's
 pub record AddingKeepsBalance : Type 0 where
-  pub subject : (keep : Bool) (given : List Point) (old new : List CountedEdge) → AddsContour keep subject_edge given old new →
+  pub subject : (keep : Bool) (given : List Point) (old new : List CountedEdge) →
+      AddsContour keep subject_edge given old new →
       HasBalancedCounts old → HasBalancedCounts new
-  pub clip : (keep : Bool) (given : List Point) (old new : List CountedEdge) → AddsContour keep clip_edge given old new →
+  pub clip : (keep : Bool) (given : List Point) (old new : List CountedEdge) →
+      AddsContour keep clip_edge given old new →
       HasBalancedCounts old → HasBalancedCounts new
 
 -- a merged list keeps balanced counts

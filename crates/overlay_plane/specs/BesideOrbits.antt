@@ -1,7 +1,8 @@
--- Steps counted on the edges of an arrangement: the winding of some of the steps of a set that alternates, on either side of each
--- step of the set, and which of them have balanced counts.
+-- Steps counted on the edges of an arrangement: the winding of some of the steps of a set that alternates, on either
+-- side of each step of the set, and which of them have balanced counts.
 use Rattle.std.specs.Prelude.{◌≡◌, Bool, false, cond, not, ℤ, pos, ◌+ℤ◌, ◌-ℤ◌, List, Contains, AllPairs, filter}
-use Rattle.overlay_geom.specs.Plane.{Step, Edge, edge_eq, step_eq, is_forward, edge_of, sign_of, reversed_step, midpoint, total}
+use Rattle.overlay_geom.specs.Plane.{Step, Edge, edge_eq, step_eq, is_forward, edge_of, sign_of, reversed_step}
+use Rattle.overlay_geom.specs.Plane.{midpoint, total}
 use Rattle.overlay_geom.specs.Edges.{CountedEdge, ends_of, winding_by}
 use Rattle.overlay_geom.specs.Settled.{IsSettled}
 use Rattle.overlay_plane.specs.Turn.{Hand, IsNextStep, IsOrbit}
@@ -28,8 +29,10 @@ winding_over es taken e = winding_under es taken e +ℤ count_along taken e
 
 -- the winding of the steps taken on the hand's side of a step
 abbrev pub winding_beside : Hand → List CountedEdge → List Step → Step → ℤ
-winding_beside left es taken s = cond (is_forward s) (winding_over es taken (edge_of s)) (winding_under es taken (edge_of s))
-winding_beside right es taken s = cond (is_forward s) (winding_under es taken (edge_of s)) (winding_over es taken (edge_of s))
+winding_beside left es taken s = cond (is_forward s) (winding_over es taken (edge_of s))
+    (winding_under es taken (edge_of s))
+winding_beside right es taken s = cond (is_forward s) (winding_under es taken (edge_of s))
+    (winding_over es taken (edge_of s))
 
 -- how often the list holds the step
 abbrev pub times_held : List Step → Step → ℤ
@@ -55,46 +58,55 @@ pub record IsBalancedPart (es : List CountedEdge) (steps taken : List Step) : Ty
 
 -- on the hand's side the winding beside a step is that beside its next step by the hand
 abbrev pub OneWindingToTheNext : Type 0
-OneWindingToTheNext = (es : List CountedEdge) (steps taken : List Step) → WalksAlong es steps → Alternates steps → IsBalancedPart es steps taken →
-    (hand : Hand) (s t : Step) → Contains steps s → IsNextStep steps hand s t → winding_beside hand es taken s ≡ winding_beside hand es taken t
+OneWindingToTheNext = (es : List CountedEdge) (steps taken : List Step) → WalksAlong es steps → Alternates steps →
+    IsBalancedPart es steps taken → (hand : Hand) (s t : Step) → Contains steps s →
+    IsNextStep steps hand s t → winding_beside hand es taken s ≡ winding_beside hand es taken t
 
 -- along an orbit by a hand the winding on the hand's side is one number
 abbrev pub OneWindingAlongOrbits : Type 0
-OneWindingAlongOrbits = (es : List CountedEdge) (steps taken : List Step) → WalksAlong es steps → Alternates steps → IsBalancedPart es steps taken →
+OneWindingAlongOrbits = (es : List CountedEdge) (steps taken : List Step) → WalksAlong es steps → Alternates steps →
+    IsBalancedPart es steps taken →
     (hand : Hand) (walk : List Step) → IsOrbit steps hand walk → (s t : Step) → Contains walk s → Contains walk t →
     winding_beside hand es taken s ≡ winding_beside hand es taken t
 
 -- ---- across steps
 
--- across a step the winding on its left is that on its right, and how often the step is taken, less how often it is taken back
+-- across a step the winding on its left is that on its right, and how often the step is taken, less how often it is
+-- taken back
 abbrev pub WindingAcrossAStep : Type 0
 WindingAcrossAStep = (es : List CountedEdge) (taken : List Step) (s : Step) → ¬ (s.from ≡ s.to) →
-    winding_beside left es taken s ≡ winding_beside right es taken s +ℤ (times_held taken s -ℤ times_held taken (reversed_step s))
+    winding_beside left es taken s ≡
+    winding_beside right es taken s +ℤ (times_held taken s -ℤ times_held taken (reversed_step s))
 
--- where the steps of a set that alternates are taken at most once: 1 more on the left of a step taken, and no more on that of another step
+-- where the steps of a set that alternates are taken at most once: 1 more on the left of a step taken, and no more on
+-- that of another step
 pub record WindingAcrossSteps (es : List CountedEdge) (steps taken : List Step) : Type 0 where
-  pub rises : HasEachOnce taken → (s : Step) → Contains taken s → winding_beside left es taken s ≡ winding_beside right es taken s +ℤ pos 1
-  pub stays : (s : Step) → Contains steps s → ¬ (Contains taken s) → winding_beside left es taken s ≡ winding_beside right es taken s
+  pub rises : HasEachOnce taken → (s : Step) → Contains taken s →
+      winding_beside left es taken s ≡ winding_beside right es taken s +ℤ pos 1
+  pub stays : (s : Step) → Contains steps s → ¬ (Contains taken s) →
+      winding_beside left es taken s ≡ winding_beside right es taken s
 
 abbrev pub WindingAcrossAlternatingSteps : Type 0
-WindingAcrossAlternatingSteps = (es : List CountedEdge) (steps taken : List Step) → Alternates steps → ((s : Step) → Contains taken s → Contains steps s) →
+WindingAcrossAlternatingSteps = (es : List CountedEdge) (steps taken : List Step) → Alternates steps →
+    ((s : Step) → Contains taken s → Contains steps s) →
     WindingAcrossSteps es steps taken
 
 -- ---- balanced counts
 
 -- no step stands twice in an orbit
 abbrev pub OrbitsHaveEachOnce : Type 0
-OrbitsHaveEachOnce = (steps : List Step) (hand : Hand) → LeadsOn steps hand → (walk : List Step) → IsOrbit steps hand walk → HasEachOnce walk
+OrbitsHaveEachOnce = (steps : List Step) (hand : Hand) → LeadsOn steps hand → (walk : List Step) →
+    IsOrbit steps hand walk → HasEachOnce walk
 
 -- an orbit's steps have balanced counts
 abbrev pub OrbitsAreBalanced : Type 0
-OrbitsAreBalanced = (es : List CountedEdge) (steps : List Step) → WalksAlong es steps → (hand : Hand) (walk : List Step) → IsOrbit steps hand walk →
-    IsBalancedPart es steps walk
+OrbitsAreBalanced = (es : List CountedEdge) (steps : List Step) →
+    WalksAlong es steps → (hand : Hand) (walk : List Step) → IsOrbit steps hand walk → IsBalancedPart es steps walk
 
 -- steps that alternate, each once, have balanced counts
 abbrev pub AlternatingStepsAreBalanced : Type 0
-AlternatingStepsAreBalanced = (es : List CountedEdge) (steps : List Step) → WalksAlong es steps → Alternates steps → HasEachOnce steps →
-    IsBalancedPart es steps steps
+AlternatingStepsAreBalanced = (es : List CountedEdge) (steps : List Step) → WalksAlong es steps → Alternates steps →
+    HasEachOnce steps → IsBalancedPart es steps steps
 
 -- what a closed test takes has balanced counts, and what it leaves
 pub record HasBalancedParts (es : List CountedEdge) (steps : List Step) (taken : Step → Bool) : Type 0 where
@@ -102,5 +114,6 @@ pub record HasBalancedParts (es : List CountedEdge) (steps : List Step) (taken :
   pub of_left : IsBalancedPart es steps (filter (λ s. not (taken s)) steps)
 
 abbrev pub ClosedPartsAreBalanced : Type 0
-ClosedPartsAreBalanced = (es : List CountedEdge) (steps : List Step) → WalksAlong es steps → Alternates steps → HasEachOnce steps →
+ClosedPartsAreBalanced = (es : List CountedEdge) (steps : List Step) → WalksAlong es steps → Alternates steps →
+    HasEachOnce steps →
     (hand : Hand) (taken : Step → Bool) → IsClosedUnderNext steps hand taken → HasBalancedParts es steps taken

@@ -1,4 +1,5 @@
--- Which shape a hole belongs to: the one that has the next filled-above edge below its anchor, or the one of the hole that has it.
+-- Which shape a hole belongs to: the one that has the next filled-above edge below its anchor, or the one of the hole
+-- that has it.
 use Rattle.std.specs.Prelude.{◌≡◌, ℕ, suc, ◌==◌, Bool, true, false, not, ◌&&◌, ℤ}
 use Rattle.std.specs.Prelude.{List, [], ◌∷◌, map, filter, All, Contains, slice_get, Option, Some, None, MatchOption}
 use Rattle.std.specs.List.{flat_map}
@@ -43,17 +44,21 @@ pub record HasNoneBelow (on_left : Bool) (walks : List (List Step)) (hole : List
   pub anchored : IsAnchor hole anchor
   pub none : (f : Edge) → Contains (all_filled_above on_left walks) f → is_below_anchor anchor f ≡ false
 
--- the n-th shape, counted from 0, is the hole's parent: its outline is the next walk, or the next walk is a hole of which it is the parent
+-- the n-th shape, counted from 0, is the hole's parent: its outline is the next walk, or the next walk is a hole of
+-- which it is the parent
 pub data IsParentOf (on_left : Bool) (walks : List (List Step)) : List Step → ℕ → Type 0 where
-  direct : {hole next : List Step} {n : ℕ} → IsNextWalk on_left walks hole next → slice_get (outlines on_left walks) n ≡ Some next →
+  direct : {hole next : List Step} {n : ℕ} → IsNextWalk on_left walks hole next →
+      slice_get (outlines on_left walks) n ≡ Some next →
       IsParentOf on_left walks hole n
-  through : {hole next : List Step} {n : ℕ} → IsNextWalk on_left walks hole next → is_hole on_left next ≡ true → IsParentOf on_left walks next n →
+  through : {hole next : List Step} {n : ℕ} → IsNextWalk on_left walks hole next → is_hole on_left next ≡ true →
+      IsParentOf on_left walks next n →
       IsParentOf on_left walks hole n
 
 -- the hole has no parent: there is no edge below it, or the next walk is a hole without a parent
 pub data HasNoParent (on_left : Bool) (walks : List (List Step)) : List Step → Type 0 where
   none : {hole : List Step} → HasNoneBelow on_left walks hole → HasNoParent on_left walks hole
-  through : {hole next : List Step} → IsNextWalk on_left walks hole next → is_hole on_left next ≡ true → HasNoParent on_left walks next →
+  through : {hole next : List Step} → IsNextWalk on_left walks hole next → is_hole on_left next ≡ true →
+      HasNoParent on_left walks next →
       HasNoParent on_left walks hole
 
 -- ---- shapes
@@ -63,14 +68,15 @@ pub record BoundWalk : Type 0 where
   pub steps : List Step
   pub shape : Option ℕ
 
--- what is told of a walk: of a hole its parent, or that it has none
+-- the number of the shape of a walk: of a hole its parent, or none where it has none
 abbrev pub IsBound : Bool → List (List Step) → BoundWalk → Type 0
-IsBound on_left walks b = is_hole on_left b.steps ≡ true → MatchOption b.shape (HasNoParent on_left walks b.steps) (λ n. IsParentOf on_left walks b.steps n)
+IsBound on_left walks b = is_hole on_left b.steps ≡ true → MatchOption b.shape (HasNoParent on_left walks b.steps)
+    (λ n. IsParentOf on_left walks b.steps n)
 
--- the walks, each with what is told of it
+-- the walks, each with the number of its shape
 pub record AreBound (on_left : Bool) (walks : List (List Step)) (bound : List BoundWalk) : Type 0 where
   pub are : map (λ b. b.steps) bound ≡ walks
-  pub told : All (IsBound on_left walks) bound
+  pub numbers : All (IsBound on_left walks) bound
 
 -- the number is the one found
 abbrev pub is_number : ℕ → Option ℕ → Bool
@@ -97,25 +103,31 @@ walks_of shapes = flat_map (λ shape. shape) shapes
 -- ---- laws
 
 -- the walks are those that the selected steps of a ruled list are cut into
-pub record AreCutFrom (holds : ℤ → ℤ → Bool) (subj clip : CountedEdge → ℤ) (es : List CountedEdge) (on_left : Bool) (walks : List (List Step)) : Type 0 where
+pub record AreCutFrom (holds : ℤ → ℤ → Bool) (subj clip : CountedEdge → ℤ) (es : List CountedEdge) (on_left : Bool)
+    (walks : List (List Step)) : Type 0 where
   pub ruled : IsRuled holds subj clip es
   pub cut : IsCutInto (outline_or_hole_hand on_left) (selected_steps holds subj clip on_left es) walks
 
 -- each hole has a next filled-above edge below it
 abbrev pub HolesHaveNext : Type 0
-HolesHaveNext = (holds : ℤ → ℤ → Bool) (subj clip : CountedEdge → ℤ) (es : List CountedEdge) (on_left : Bool) (walks : List (List Step)) →
-    AreCutFrom holds subj clip es on_left walks → (hole : List Step) → Contains walks hole → is_hole on_left hole ≡ true →
+HolesHaveNext = (holds : ℤ → ℤ → Bool) (subj clip : CountedEdge → ℤ) (es : List CountedEdge) (on_left : Bool)
+    (walks : List (List Step)) →
+    AreCutFrom holds subj clip es on_left walks → (hole : List Step) → Contains walks hole →
+    is_hole on_left hole ≡ true →
     (next : List Step) × IsNextWalk on_left walks hole next
 
 -- so each hole has a parent, and is none that has no parent
 abbrev pub HolesHaveParents : Type 0
-HolesHaveParents = (holds : ℤ → ℤ → Bool) (subj clip : CountedEdge → ℤ) (es : List CountedEdge) (on_left : Bool) (walks : List (List Step)) →
-    AreCutFrom holds subj clip es on_left walks → (hole : List Step) → Contains walks hole → is_hole on_left hole ≡ true →
+HolesHaveParents = (holds : ℤ → ℤ → Bool) (subj clip : CountedEdge → ℤ) (es : List CountedEdge) (on_left : Bool)
+    (walks : List (List Step)) →
+    AreCutFrom holds subj clip es on_left walks → (hole : List Step) → Contains walks hole →
+    is_hole on_left hole ≡ true →
     ((n : ℕ) × IsParentOf on_left walks hole n) × ¬ (HasNoParent on_left walks hole)
 
 -- where the walks are contours, the next walk of a hole is anchored before it
 abbrev pub NextIsAnchoredBefore : Type 0
-NextIsAnchoredBefore = (on_left : Bool) (walks : List (List Step)) → All IsContour walks → (hole next : List Step) → Contains walks hole →
+NextIsAnchoredBefore = (on_left : Bool) (walks : List (List Step)) → All IsContour walks → (hole next : List Step) →
+    Contains walks hole →
     (n : IsNextWalk on_left walks hole next) → (e : Edge) → IsAnchor next e → is_anchored_before e n.anchor ≡ true
 
 -- no hole is without a shape
@@ -124,10 +136,13 @@ HaveShapes on_left bound = (b : BoundWalk) → Contains bound b → is_hole on_l
 
 -- where no hole is without a shape, the shapes have each walk exactly once
 abbrev pub ShapesHaveEachWalk : Type 0
-ShapesHaveEachWalk = (on_left : Bool) (walks : List (List Step)) (bound : List BoundWalk) → AreBound on_left walks bound → HaveShapes on_left bound →
+ShapesHaveEachWalk = (on_left : Bool) (walks : List (List Step)) (bound : List BoundWalk) →
+    AreBound on_left walks bound → HaveShapes on_left bound →
     IsPermutation walks (walks_of (shapes_of on_left bound))
 
 -- and so it is where the walks are cut from the selected steps
 abbrev pub BoundWalksHaveShapes : Type 0
-BoundWalksHaveShapes = (holds : ℤ → ℤ → Bool) (subj clip : CountedEdge → ℤ) (es : List CountedEdge) (on_left : Bool) (walks : List (List Step)) →
-    AreCutFrom holds subj clip es on_left walks → (bound : List BoundWalk) → AreBound on_left walks bound → HaveShapes on_left bound
+BoundWalksHaveShapes = (holds : ℤ → ℤ → Bool) (subj clip : CountedEdge → ℤ) (es : List CountedEdge) (on_left : Bool)
+    (walks : List (List Step)) →
+    AreCutFrom holds subj clip es on_left walks → (bound : List BoundWalk) → AreBound on_left walks bound →
+    HaveShapes on_left bound

@@ -1,10 +1,12 @@
 -- Contours bound to shapes: each hole that stands in none from the start to the one that is found for it.
-use Rattle.std.specs.Prelude.{◌≡◌, ℕ, ◌==◌, Bool, ◌&&◌, List, [], ◌∷◌, ◌++◌, map, length, filter, slice_get, slice_index_or, Option, Some, None, MatchBool}
+use Rattle.std.specs.Prelude.{◌≡◌, ℕ, ◌==◌, Bool, ◌&&◌, List, [], ◌∷◌, ◌++◌, map, length, filter, slice_get}
+use Rattle.std.specs.Prelude.{slice_index_or, Option, Some, None, MatchBool}
 use Rattle.std.specs.List.{flat_map}
 use Rattle.overlay_geom.specs.Plane.{Step}
 use Rattle.overlay_plane.specs.Binding.{is_number}
-use Rattle.overlay_plane.specs.Roles.{IsTold}
-use Rattle.overlay_plane.specs.RoledContours.{Role, outline, own_hole, free_hole, Contour, stands_in, is_outline, is_own_hole_of, is_free_hole}
+use Rattle.overlay_plane.specs.Roles.{IsShapeNumber}
+use Rattle.overlay_plane.specs.RoledContours.{Role, outline, own_hole, free_hole, Contour, stands_in, is_outline}
+use Rattle.overlay_plane.specs.RoledContours.{is_own_hole_of, is_free_hole}
 
 -- the walks of contours, and the shapes in which they stand from the start
 abbrev pub walks_in : List Contour → List (List Step)
@@ -17,11 +19,12 @@ known_in contours = map (λ c. stands_in c.role) contours
 abbrev pub has_one_shape : List Contour → Bool
 has_one_shape contours = length (filter (λ c. is_outline c.role) contours) == 1
 
--- what is told of the contour at place i, a hole whose shape is to be found: where there is one shape alone, that one; else its parent,
--- or that it has none
+-- the number of the shape of the contour at place i, a hole whose shape is to be found: where there is one shape alone,
+-- that one; else its parent, or that it has none
 abbrev pub IsShapeFound : Bool → List Contour → ℕ → Option ℕ → Type 0
 IsShapeFound on_left contours i shape =
-    MatchBool (has_one_shape contours) (shape ≡ Some 0) (IsTold on_left (walks_in contours) (known_in contours) i shape)
+    MatchBool (has_one_shape contours) (shape ≡ Some 0)
+    (IsShapeNumber on_left (walks_in contours) (known_in contours) i shape)
 
 -- the contours' shapes, as far as they are to be found; what stands at the others is left open
 pub record AreShapesFound (on_left : Bool) (contours : List Contour) (shapes : List (Option ℕ)) : Type 0 where
@@ -47,9 +50,11 @@ abbrev pub own_holes : List BoundContour → ℕ → List (List Step)
 own_holes bound n = map (λ b. b.contour.steps) (filter (λ b. is_own_hole_of n b.contour.role) bound)
 
 abbrev pub found_holes : List BoundContour → ℕ → List (List Step)
-found_holes bound n = map (λ b. b.contour.steps) (filter (λ b. is_free_hole b.contour.role && is_number n b.shape) bound)
+found_holes bound n = map (λ b. b.contour.steps)
+    (filter (λ b. is_free_hole b.contour.role && is_number n b.shape) bound)
 
--- the shape that a contour begins, if it is an outline: the outline, the holes of its own group, and the holes that are found for it
+-- the shape that a contour begins, if it is an outline: the outline, the holes of its own group, and the holes that are
+-- found for it
 abbrev pub shape_begun_by : List BoundContour → Role → List Step → List (List (List Step))
 shape_begun_by bound (outline n) steps = (steps ∷ own_holes bound n ++ found_holes bound n) ∷ []
 shape_begun_by bound (own_hole n) steps = []
@@ -61,4 +66,5 @@ shapes_bound bound = flat_map (λ b. shape_begun_by bound b.contour.role b.conto
 
 -- no hole is left out
 abbrev pub NoHoleIsLost : List Contour → List (Option ℕ) → Type 0
-NoHoleIsLost contours shapes = (i : ℕ) (c : Contour) → slice_get contours i ≡ Some c → c.role ≡ free_hole → ¬ (slice_index_or shapes i None ≡ None)
+NoHoleIsLost contours shapes = (i : ℕ) (c : Contour) → slice_get contours i ≡ Some c → c.role ≡ free_hole →
+    ¬ (slice_index_or shapes i None ≡ None)

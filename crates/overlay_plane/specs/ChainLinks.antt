@@ -1,6 +1,9 @@
--- The chain of steps that an added edge becomes in cutting rounds: where its vertices lie, and the counts that the chains make.
-use Rattle.std.specs.Prelude.{◌≡◌, ◌↔◌, ℕ, Bool, true, cond, ℤ, pos, ◌+ℤ◌, ◌-ℤ◌, ◌*ℤ◌, ◌≤ℤ◌, List, [], ◌∷◌, map, flat_map, find, Option, Some, None, All, Any}
-use Rattle.overlay_geom.specs.Plane.{Point, PlanePoint, Step, Edge, edge_eq, edge_of, sign_of, is_forward, backward, IsOn, total}
+-- The chain of steps that an added edge becomes in cutting rounds: where its vertices lie, and the counts that the
+-- chains make.
+use Rattle.std.specs.Prelude.{◌≡◌, ◌↔◌, ℕ, Bool, true, cond, ℤ, pos, ◌+ℤ◌, ◌-ℤ◌, ◌*ℤ◌, ◌≤ℤ◌, List, [], ◌∷◌, map}
+use Rattle.std.specs.Prelude.{flat_map, find, Option, Some, None, All, Any}
+use Rattle.overlay_geom.specs.Plane.{Point, PlanePoint, Step, Edge, edge_eq, edge_of, sign_of, is_forward, backward}
+use Rattle.overlay_geom.specs.Plane.{IsOn, total}
 use Rattle.overlay_geom.specs.Edges.{CountedEdge, ends_of, subj_of, clip_of}
 use Rattle.overlay_plane.specs.Rounds.{Round, chain_of}
 
@@ -39,7 +42,8 @@ chain_through rs e = map step_of (links_through rs (held (step_along e) ∷ []))
 
 -- v is at most k/2 away from z / d
 abbrev pub IsWithinHalves : ℕ → ℤ → ℤ → ℤ → Type 0
-IsWithinHalves k v z d = ((pos 2 *ℤ z -ℤ pos k *ℤ d) ≤ℤ (pos 2 *ℤ v *ℤ d)) × ((pos 2 *ℤ v *ℤ d) ≤ℤ (pos 2 *ℤ z +ℤ pos k *ℤ d))
+IsWithinHalves k v z d = ((pos 2 *ℤ z -ℤ pos k *ℤ d) ≤ℤ (pos 2 *ℤ v *ℤ d))
+    × ((pos 2 *ℤ v *ℤ d) ≤ℤ (pos 2 *ℤ z +ℤ pos k *ℤ d))
 
 -- v is at most k/2 away, in x and in y, from some point of the edge
 pub record IsNear (k : ℕ) (e : Edge) (v : Point) : Type 0 where
@@ -53,11 +57,14 @@ pub data Leads : Point → List Step → Point → Type 0 where
   here : {p : Point} → Leads p [] p
   on_to : {p q r : Point} {ss : List Step} → Leads q ss r → Leads p (record { from = p; to = q } ∷ ss) r
 
--- the count that the chains of the added edges have along an edge: the signs of the steps along it, times the edges' counts
+-- the count that the chains of the added edges have along an edge: the signs of the steps along it, times the edges'
+-- counts
 abbrev pub count_of_chains : (CountedEdge → ℤ) → List Round → List CountedEdge → Edge → ℤ
-count_of_chains count rounds old f = total (λ e. total (λ t. cond (edge_eq (edge_of t) f) (sign_of t *ℤ count e) (pos 0)) (chain_through rounds e)) old
+count_of_chains count rounds old f = total
+    (λ e. total (λ t. cond (edge_eq (edge_of t) f) (sign_of t *ℤ count e) (pos 0)) (chain_through rounds e)) old
 
--- the mark that an edge gives to a step of its chain: its own where the step runs forward, and the other one where it runs back
+-- the mark that an edge gives to a step of its chain: its own where the step runs forward, and the other one where it
+-- runs back
 abbrev pub marks_along : CountedEdge → Step → Bool
 marks_along e t = cond (is_forward t) e.along e.against
 
@@ -68,10 +75,12 @@ marks_against e t = cond (is_forward t) e.against e.along
 abbrev pub IsMarkedBy : (CountedEdge → Step → Bool) → List Round → List CountedEdge → Edge → Type 0
 IsMarkedBy marks rounds old f = Any (λ e. Any (λ t. (edge_of t ≡ f) × (marks e t ≡ true)) (chain_through rounds e)) old
 
--- the chains of the added edges keep their ends and stay near, and they make the counts of the arrangement, and its marks
+-- the chains of the added edges keep their ends and stay near, and they make the counts of the arrangement, and its
+-- marks
 pub record ChainsHold (rounds : List Round) (k : ℕ) (old new : List CountedEdge) : Type 0 where
   pub keep_ends : All (λ e. Leads e.a (chain_through rounds e) e.b) old
-  pub stay_near : All (λ e. All (λ t. IsNear k (ends_of e) t.from × IsNear k (ends_of e) t.to) (chain_through rounds e)) old
+  pub stay_near : All (λ e. All (λ t. IsNear k (ends_of e) t.from × IsNear k (ends_of e) t.to) (chain_through rounds e))
+      old
   pub subj_counts : All (λ f. f.subj ≡ count_of_chains subj_of rounds old (ends_of f)) new
   pub clip_counts : All (λ f. f.clip ≡ count_of_chains clip_of rounds old (ends_of f)) new
   pub along_marks : All (λ f. (f.along ≡ true) ↔ IsMarkedBy marks_along rounds old (ends_of f)) new

@@ -1,5 +1,5 @@
--- The contours that selected steps are cut into wind once round each point where the rule holds, and zero times round each
--- other point; and so they do when thinned.
+-- The contours that selected steps are cut into wind once round each point where the rule holds, and zero times round
+-- each other point; and so they do when thinned.
 use Rattle.std.specs.Prelude.{◌≡◌, Bool, cond, ℤ, pos, negsuc, List, map}
 use Rattle.std.specs.List.{AllZip, flat_map}
 use Rattle.overlay_geom.specs.Plane.{Point, PlanePoint, Step, steps_of, points_of, winding}
@@ -18,25 +18,29 @@ once_round on_left = cond on_left (pos 1) (negsuc 0)
 
 -- once where the rule holds of the windings at the point, and zero times elsewhere
 abbrev pub wanted_winding : (ℤ → ℤ → Bool) → (subj clip : CountedEdge → ℤ) → Bool → List CountedEdge → PlanePoint → ℤ
-wanted_winding holds subj clip on_left es p = cond (holds (winding_by subj es p) (winding_by clip es p)) (once_round on_left) (pos 0)
+wanted_winding holds subj clip on_left es p = cond (holds (winding_by subj es p) (winding_by clip es p))
+    (once_round on_left) (pos 0)
 
 -- ---- selected steps
 
 -- the selected steps wind so
 abbrev pub SelectedStepsWind : Type 0
-SelectedStepsWind = (holds : ℤ → ℤ → Bool) (subj clip : CountedEdge → ℤ) (es : List CountedEdge) → IsRuled holds subj clip es →
-    (on_left : Bool) (p : PlanePoint) → winding (selected_steps holds subj clip on_left es) p ≡ wanted_winding holds subj clip on_left es p
+SelectedStepsWind = (holds : ℤ → ℤ → Bool) (subj clip : CountedEdge → ℤ) (es : List CountedEdge) →
+    IsRuled holds subj clip es →
+    (on_left : Bool) (p : PlanePoint) → winding (selected_steps holds subj clip on_left es) p ≡
+    wanted_winding holds subj clip on_left es p
 
 -- no step is selected twice
 abbrev pub SelectedStepsOnce : Type 0
-SelectedStepsOnce = (holds : ℤ → ℤ → Bool) (subj clip : CountedEdge → ℤ) (es : List CountedEdge) → IsRuled holds subj clip es → (on_left : Bool) →
-    HasEachOnce (selected_steps holds subj clip on_left es)
+SelectedStepsOnce = (holds : ℤ → ℤ → Bool) (subj clip : CountedEdge → ℤ) (es : List CountedEdge) →
+    IsRuled holds subj clip es → (on_left : Bool) → HasEachOnce (selected_steps holds subj clip on_left es)
 
 -- ---- their contours
 
 -- a cut keeps the winding round each point
 abbrev pub CutsKeepWindings : Type 0
-CutsKeepWindings = (hand_of : Step → Hand) (steps : List Step) → Alternates steps → HasEachOnce steps → (walks : List (List Step)) →
+CutsKeepWindings = (hand_of : Step → Hand) (steps : List Step) → Alternates steps → HasEachOnce steps →
+    (walks : List (List Step)) →
     IsCutInto hand_of steps walks → (p : PlanePoint) → winding (all_steps walks) p ≡ winding steps p
 
 -- closed lists of points, each taken as given or thinned, wind as the lists given
@@ -46,13 +50,17 @@ ThinnedContoursWindAlike = (keep : Bool) (given taken : List (List Point)) → A
 
 -- the steps of the contours that the selected steps are cut into wind so
 abbrev pub ContoursWind : Type 0
-ContoursWind = (holds : ℤ → ℤ → Bool) (subj clip : CountedEdge → ℤ) (es : List CountedEdge) → IsRuled holds subj clip es → (on_left : Bool) →
-    (hand_of : Step → Hand) (walks : List (List Step)) → IsCutInto hand_of (selected_steps holds subj clip on_left es) walks →
+ContoursWind = (holds : ℤ → ℤ → Bool) (subj clip : CountedEdge → ℤ) (es : List CountedEdge) →
+    IsRuled holds subj clip es → (on_left : Bool) →
+    (hand_of : Step → Hand) (walks : List (List Step)) →
+    IsCutInto hand_of (selected_steps holds subj clip on_left es) walks →
     (p : PlanePoint) → winding (all_steps walks) p ≡ wanted_winding holds subj clip on_left es p
 
 -- and so do the contours' points, as given or thinned
 abbrev pub ResultsWind : Type 0
-ResultsWind = (holds : ℤ → ℤ → Bool) (subj clip : CountedEdge → ℤ) (es : List CountedEdge) → IsRuled holds subj clip es → (on_left : Bool) →
-    (hand_of : Step → Hand) (walks : List (List Step)) → IsCutInto hand_of (selected_steps holds subj clip on_left es) walks →
+ResultsWind = (holds : ℤ → ℤ → Bool) (subj clip : CountedEdge → ℤ) (es : List CountedEdge) →
+    IsRuled holds subj clip es → (on_left : Bool) →
+    (hand_of : Step → Hand) (walks : List (List Step)) →
+    IsCutInto hand_of (selected_steps holds subj clip on_left es) walks →
     (keep : Bool) (result : List (List Point)) → AllZip (IsKeptOrThinned keep) (map points_of walks) result →
     (p : PlanePoint) → winding (flat_map steps_of result) p ≡ wanted_winding holds subj clip on_left es p

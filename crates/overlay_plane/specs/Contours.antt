@@ -1,6 +1,7 @@
--- Steps cut into contours: while steps are left, the orbit of the step along the top edge at their leftmost lowest point, by a
--- hand that this step tells.
-use Rattle.std.specs.Prelude.{◌≡◌, ℕ, ◌+◌, ◌<◌, ◌≤◌, Bool, cond, not, List, [], ◌∷◌, length, take, slice_index_or, All, Contains, filter}
+-- Steps cut into contours: while steps are left, the orbit of the step along the top edge at their leftmost lowest
+-- point, by a hand that this step tells.
+use Rattle.std.specs.Prelude.{◌≡◌, ℕ, ◌+◌, ◌<◌, ◌≤◌, Bool, cond, not, List, [], ◌∷◌, length, take, slice_index_or, All}
+use Rattle.std.specs.Prelude.{Contains, filter}
 use Rattle.std.specs.List.{flat_map}
 use Rattle.std.specs.List.Sorted.{IsPermutation}
 use Rattle.overlay_geom.specs.Plane.{Step, is_forward, edge_of, steps_of, points_of}
@@ -25,7 +26,8 @@ filled_hand on_left = cond on_left left right
 abbrev pub empty_hand : Bool → Hand
 empty_hand on_left = cond on_left right left
 
--- a contour that begins with an edge that is filled above is a hole, and turns by the empty hand; an outline turns by the filled one
+-- a contour that begins with an edge that is filled above is a hole, and turns by the empty hand; an outline turns by
+-- the filled one
 abbrev pub outline_or_hole_hand : Bool → Step → Hand
 outline_or_hole_hand on_left s = cond (is_filled_above on_left s) (empty_hand on_left) (filled_hand on_left)
 
@@ -41,16 +43,19 @@ pub record IsStart (steps : List Step) (s : Step) : Type 0 where
 abbrev pub without : List Step → List Step → List Step
 without steps taken = filter (λ s. not (is_step_of taken s)) steps
 
--- the steps are cut into walks: while steps are left, the orbit of their start, in the steps left, by the hand that the start tells
+-- the steps are cut into walks: while steps are left, the orbit of their start, in the steps left, by the hand that the
+-- start tells
 pub data IsCutInto (hand_of : Step → Hand) : List Step → List (List Step) → Type 0 where
   done : IsCutInto hand_of [] []
-  next : {steps : List Step} {s : Step} {ss : List Step} {rest : List (List Step)} → IsStart steps s → IsOrbit steps (hand_of s) (s ∷ ss) →
+  next : {steps : List Step} {s : Step} {ss : List Step} {rest : List (List Step)} → IsStart steps s →
+      IsOrbit steps (hand_of s) (s ∷ ss) →
       IsCutInto hand_of (without steps (s ∷ ss)) rest → IsCutInto hand_of steps ((s ∷ ss) ∷ rest)
 
 -- the steps can be cut by the rule: they alternate, or the rule tells one hand for all of them, by which they lead on
 pub data CanBeCut (hand_of : Step → Hand) (steps : List Step) : Type 0 where
   alternating : Alternates steps → CanBeCut hand_of steps
-  by_one_hand : (hand : Hand) → ((s : Step) → Contains steps s → hand_of s ≡ hand) → LeadsOn steps hand → CanBeCut hand_of steps
+  by_one_hand : (hand : Hand) → ((s : Step) → Contains steps s → hand_of s ≡ hand) → LeadsOn steps hand →
+      CanBeCut hand_of steps
 
 -- so they lead on by the hand that any of them tells, and what an orbit by that hand leaves can be cut
 pub record LeavesCuttable (hand_of : Step → Hand) (steps : List Step) (s : Step) : Type 0 where
@@ -58,7 +63,8 @@ pub record LeavesCuttable (hand_of : Step → Hand) (steps : List Step) (s : Ste
   pub leaves : (walk : List Step) → IsOrbit steps (hand_of s) walk → CanBeCut hand_of (without steps walk)
 
 abbrev pub CutsLeaveCuttable : Type 0
-CutsLeaveCuttable = (hand_of : Step → Hand) (steps : List Step) → CanBeCut hand_of steps → (s : Step) → Contains steps s →
+CutsLeaveCuttable = (hand_of : Step → Hand) (steps : List Step) → CanBeCut hand_of steps →
+    (s : Step) → Contains steps s →
     LeavesCuttable hand_of steps s
 
 -- all steps of the walks
@@ -67,7 +73,8 @@ all_steps walks = flat_map (λ walk. walk) walks
 
 -- the cut takes each step exactly once
 abbrev pub CutsTakeEachOnce : Type 0
-CutsTakeEachOnce = (hand_of : Step → Hand) (steps : List Step) → CanBeCut hand_of steps → HasEachOnce steps → (walks : List (List Step)) →
+CutsTakeEachOnce = (hand_of : Step → Hand) (steps : List Step) → CanBeCut hand_of steps → HasEachOnce steps →
+    (walks : List (List Step)) →
     IsCutInto hand_of steps walks → IsPermutation steps (all_steps walks)
 
 -- the walk is the orbit of the start of steps that alternate
@@ -78,14 +85,18 @@ pub record IsFirstWalk (hand_of : Step → Hand) (steps walk : List Step) : Type
 
 -- what the first walks leave alternates, and the next walk is the orbit of its start
 abbrev pub CutsAreOrbits : Type 0
-CutsAreOrbits = (hand_of : Step → Hand) (steps : List Step) → Alternates steps → (walks : List (List Step)) → IsCutInto hand_of steps walks →
-    (k : ℕ) → k < length walks → IsFirstWalk hand_of (without steps (all_steps (take k walks))) (slice_index_or walks k [])
+CutsAreOrbits = (hand_of : Step → Hand) (steps : List Step) → Alternates steps → (walks : List (List Step)) →
+    IsCutInto hand_of steps walks →
+    (k : ℕ) → k < length walks → IsFirstWalk hand_of (without steps (all_steps (take k walks)))
+    (slice_index_or walks k [])
 
 -- there is a cut of steps that can be cut
 abbrev pub CutsExist : Type 0
-CutsExist = (hand_of : Step → Hand) (steps : List Step) → CanBeCut hand_of steps → (walks : List (List Step)) × IsCutInto hand_of steps walks
+CutsExist = (hand_of : Step → Hand) (steps : List Step) → CanBeCut hand_of steps →
+    (walks : List (List Step)) × IsCutInto hand_of steps walks
 
--- the walk is a closed contour: three steps or more, all different; each leads to the next, and the last to the first; they are the steps of its points
+-- the walk is a closed contour: three steps or more, all different; each leads to the next, and the last to the first;
+-- they are the steps of its points
 pub record IsContour (walk : List Step) : Type 0 where
   pub three : 3 ≤ length walk
   pub leads_on : (k : ℕ) → (step_round walk (k + 1)).from ≡ (step_round walk k).to
@@ -94,7 +105,8 @@ pub record IsContour (walk : List Step) : Type 0 where
 
 -- orbits are contours
 abbrev pub OrbitsAreContours : Type 0
-OrbitsAreContours = (steps : List Step) → Alternates steps → (hand : Hand) (walk : List Step) → IsOrbit steps hand walk → IsContour walk
+OrbitsAreContours = (steps : List Step) → Alternates steps → (hand : Hand) (walk : List Step) →
+    IsOrbit steps hand walk → IsContour walk
 
 -- and so are the walks that a cut gives
 abbrev pub CutsAreContours : Type 0

@@ -1,5 +1,7 @@
--- The whole points through which a cutting round leads an edge, computed pair by pair: where others cross it, and their ends on it.
-use Rattle.std.specs.Prelude.{Bool, cond, not, ◌&&◌, ◌||◌, ℤ, pos, nat_abs, ◌+ℤ◌, ◌-ℤ◌, ◌*ℤ◌, int_lt, int_le, List, [], ◌∷◌, filter, flat_map}
+-- The whole points through which a cutting round leads an edge, computed pair by pair: where others cross it, and their
+-- ends on it.
+use Rattle.std.specs.Prelude.{Bool, cond, not, ◌&&◌, ◌||◌, ℤ, pos, nat_abs, ◌+ℤ◌, ◌-ℤ◌, ◌*ℤ◌, int_lt, int_le, List, []}
+use Rattle.std.specs.Prelude.{◌∷◌, filter, flat_map}
 use Rattle.std.specs.Ordering.{int_eq}
 use Rattle.overlay_geom.specs.Plane.{Point, Edge, point_lt, cross_at}
 use Rattle.overlay_geom.specs.Edges.{CountedEdge, ends_of}
@@ -22,7 +24,10 @@ across e f = pos (nat_abs (edge_turn f e))
 
 -- the whole point nearest the one in which e crosses f's line
 abbrev pub crossing : Edge → Edge → Point
-crossing e f = record { x = part_way e.a.x e.b.x (to_line e f) (across e f); y = part_way e.a.y e.b.y (to_line e f) (across e f) }
+crossing e f = record {
+  x = part_way e.a.x e.b.x (to_line e f) (across e f);
+  y = part_way e.a.y e.b.y (to_line e f) (across e f);
+}
 
 -- both ends of f lie on e's line
 abbrev pub are_along : Edge → Edge → Bool
@@ -38,9 +43,11 @@ are_beside e f =
 abbrev pub is_between : Edge → Point → Bool
 is_between e v = not (point_lt v e.a) && not (point_lt e.b v)
 
--- the whole points through which f leads e: f's ends on e where the two lie on one line, and where they cross the point nearest the crossing
+-- the whole points through which f leads e: f's ends on e where the two lie on one line, and where they cross the point
+-- nearest the crossing
 abbrev pub met_at : Edge → Edge → List Point
-met_at e f = cond (are_along e f) (filter (is_between e) (f.a ∷ f.b ∷ [])) (cond (are_beside e f || are_beside f e) [] (crossing e f ∷ []))
+met_at e f = cond (are_along e f) (filter (is_between e) (f.a ∷ f.b ∷ []))
+    (cond (are_beside e f || are_beside f e) [] (crossing e f ∷ []))
 
 -- v comes before w along e
 abbrev pub comes_first : Edge → Point → Point → Bool

@@ -1,15 +1,19 @@
--- Edges cut into the pieces of a chain through whole points, which keeps balance, and windings where the points lie on the edges' lines.
+-- Edges cut into the pieces of a chain through whole points, which keeps balance, and windings where the points lie on
+-- the edges' lines.
 use Rattle.std.specs.Prelude.{◌≡◌, true, cond, pos, ◌*ℤ◌, List, [], ◌∷◌, ◌++◌, map, flat_map, All}
-use Rattle.overlay_geom.specs.Plane.{Point, PlanePoint, Step, Edge, point_lt, side, in_plane, edge_of, is_forward, sign_of}
+use Rattle.overlay_geom.specs.Plane.{Point, PlanePoint, Step, Edge, point_lt, side, in_plane, edge_of, is_forward}
+use Rattle.overlay_geom.specs.Plane.{sign_of}
 use Rattle.overlay_geom.specs.Plane.{steps_between, steps_through, winding}
 use Rattle.overlay_geom.specs.Edges.{CountedEdge, ends_of}
 use Rattle.overlay_geom.specs.Merged.{HaveSameWindings}
 use Rattle.overlay_plane.specs.EdgeLists.{IsForwardBy}
 use Rattle.overlay_plane.specs.Balance.{HasBalancedCounts}
 
--- the steps from an edge's smaller end to its larger one through points on its line wind as the step straight from the one to the other
+-- the steps from an edge's smaller end to its larger one through points on its line wind as the step straight from the
+-- one to the other
 abbrev pub CuttingOnALineKeepsWindings : Type 0
-CuttingOnALineKeepsWindings = (e : Edge) → point_lt e.a e.b ≡ true → (vs : List Point) → All (λ v. side e (in_plane v) ≡ pos 0) vs →
+CuttingOnALineKeepsWindings = (e : Edge) → point_lt e.a e.b ≡ true →
+    (vs : List Point) → All (λ v. side e (in_plane v) ≡ pos 0) vs →
     (p : PlanePoint) → winding (steps_through e.a (vs ++ e.b ∷ [])) p ≡ winding (steps_between e.a e.b) p
 
 -- the part of an edge along a step of its chain: the counts follow the sign of the step, and so do the two marks
@@ -38,5 +42,6 @@ AreOnLine points e = All (λ v. side (ends_of e) (in_plane v) ≡ pos 0) (points
 
 -- a list whose edges are cut through points on their lines makes the same windings
 abbrev pub CuttingOnLinesKeepsWindings : Type 0
-CuttingOnLinesKeepsWindings = (es : List CountedEdge) (points : CountedEdge → List Point) → IsForwardBy ends_of es → All (AreOnLine points) es →
+CuttingOnLinesKeepsWindings = (es : List CountedEdge) (points : CountedEdge → List Point) → IsForwardBy ends_of es →
+    All (AreOnLine points) es →
     HaveSameWindings es (flat_map (pieces_through points) es)

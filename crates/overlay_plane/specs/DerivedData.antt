@@ -1,5 +1,5 @@
--- Derived data: what edges carry through cutting rounds. It is merged where equal edges are, split where an edge is cut,
--- and turned round where a piece runs against its edge.
+-- Derived data: what edges carry through cutting rounds. It is merged where equal edges are, split where an edge is
+-- cut, and reversed where a piece runs against its edge.
 use Rattle.std.specs.Prelude.{◌≡◌, MatchBool, List, [], ◌∷◌, ◌++◌, map, length, filter, All}
 use Rattle.std.specs.List.Sorted.{IsPermutation}
 use Rattle.overlay_geom.specs.Plane.{Step, Edge, edge_eq, is_forward, steps_through}
@@ -18,7 +18,8 @@ carried_between xs e = map (λ x. x.carries) (filter (λ x. edge_eq (ends_of x.e
 -- merging the values two by two, in some order, may give this one
 pub data IsMergeOf {C : Type 0} (merges : C → C → C → Type 0) : List C → C → Type 0 where
   one : {c : C} → IsMergeOf merges (c ∷ []) c
-  two : {cs ks all : List C} {c k m : C} → IsPermutation (cs ++ ks) all → IsMergeOf merges cs c → IsMergeOf merges ks k →
+  two : {cs ks all : List C} {c k m : C} → IsPermutation (cs ++ ks) all → IsMergeOf merges cs c →
+      IsMergeOf merges ks k →
       merges c k m → IsMergeOf merges all m
 
 -- each edge of the second list carries what merging may make of what the edges of the first one with its ends carry
@@ -33,30 +34,32 @@ pub data AreGiven {X Y : Type 0} (gives : X → List Y → Type 0) : List X → 
   next : {x : X} {xs : List X} {part rest : List Y} → gives x part → AreGiven gives xs rest →
       AreGiven gives (x ∷ xs) (part ++ rest)
 
--- y is the piece of the edge x along a step of its chain: it carries what x does where the chain is the edge itself, else a
--- split of that, and this turned round where the step leads back
-pub record IsPieceOf {C : Type 0} (splits turns : C → C → Type 0) (IsWhole : Type 0) (x : Carried C) (s : Step)
+-- y is the piece of the edge x along a step of its chain: it carries what x does where the chain is the edge itself,
+-- else a split of that, and this reversed where the step leads back
+pub record IsPieceOf {C : Type 0} (splits reverses : C → C → Type 0) (IsWhole : Type 0) (x : Carried C) (s : Step)
     (y : Carried C) : Type 0 where
   pub edge : y.edge ≡ piece_along x.edge s
   pub part : C
   pub kept : IsWhole → part ≡ x.carries
   pub split : ¬ IsWhole → splits x.carries part
-  pub turned : MatchBool (is_forward s) (y.carries ≡ part) (turns part y.carries)
+  pub reversed : MatchBool (is_forward s) (y.carries ≡ part) (reverses part y.carries)
 
 -- the step gives that one piece
 abbrev pub GivesPiece : {C : Type 0} → (C → C → Type 0) → (C → C → Type 0) → Type 0 → Carried C → Step →
     List (Carried C) → Type 0
-GivesPiece {C} splits turns IsWhole x s ys = (y : Carried C) × (ys ≡ y ∷ []) × IsPieceOf splits turns IsWhole x s y
+GivesPiece {C} splits reverses IsWhole x s ys = (y : Carried C) × (ys ≡ y ∷ [])
+    × IsPieceOf splits reverses IsWhole x s y
 
 -- the pieces of an edge along its chain, which is the edge itself where it has one step
 abbrev pub ArePieces : {C : Type 0} → (C → C → Type 0) → (C → C → Type 0) → (CountedEdge → List Step) → Carried C →
     List (Carried C) → Type 0
-ArePieces splits turns chain x ys = AreGiven (GivesPiece splits turns (length (chain x.edge) ≡ 1) x) (chain x.edge) ys
+ArePieces splits reverses chain x ys = AreGiven (GivesPiece splits reverses (length (chain x.edge) ≡ 1) x)
+    (chain x.edge) ys
 
 -- the second list is the first one with each edge replaced by its pieces
 abbrev pub AreCutAlong : {C : Type 0} → (C → C → Type 0) → (C → C → Type 0) → (CountedEdge → List Step) →
     List (Carried C) → List (Carried C) → Type 0
-AreCutAlong splits turns chain xs ys = AreGiven (ArePieces splits turns chain) xs ys
+AreCutAlong splits reverses chain xs ys = AreGiven (ArePieces splits reverses chain) xs ys
 
 -- the chain of an edge through the points that are computed pair by pair
 abbrev pub computed_chain : List CountedEdge → CountedEdge → List Step
@@ -64,11 +67,11 @@ computed_chain es e = steps_through e.a (cut_points es e ++ e.b ∷ [])
 
 -- ---- rounds
 
--- what the edges of the second list carry is derived, along these rounds, from what those of the first one carry: each round
--- merges, and then cuts the edges that it keeps along its chains; at the end what is left is merged
-pub data AreDerived {C : Type 0} (merges : C → C → C → Type 0) (splits turns : C → C → Type 0) :
+-- what the edges of the second list carry is derived, along these rounds, from what those of the first one carry: each
+-- round merges, and then cuts the edges that it keeps along its chains; at the end what is left is merged
+pub data AreDerived {C : Type 0} (merges : C → C → C → Type 0) (splits reverses : C → C → Type 0) :
     List Round → List (Carried C) → List (Carried C) → Type 0 where
-  done : {old new : List (Carried C)} → CarriesMerged merges old new → AreDerived merges splits turns [] old new
+  done : {old new : List (Carried C)} → CarriesMerged merges old new → AreDerived merges splits reverses [] old new
   round : {r : Round} {rs : List Round} {old kept left new : List (Carried C)} → edges_in kept ≡ r.edges →
-      CarriesMerged merges old kept → AreCutAlong splits turns (chain_of r) kept left →
-      AreDerived merges splits turns rs left new → AreDerived merges splits turns (r ∷ rs) old new
+      CarriesMerged merges old kept → AreCutAlong splits reverses (chain_of r) kept left →
+      AreDerived merges splits reverses rs left new → AreDerived merges splits reverses (r ∷ rs) old new

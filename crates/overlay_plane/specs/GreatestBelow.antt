@@ -14,7 +14,8 @@ pub record IsGreatestBelow (es : List CountedEdge) (p : PlanePoint) (g : Counted
 
 -- the winding at a point is the one above the greatest edge strictly below it, and 0 where no edge is strictly below it
 pub record WindingAboveTheGreatestBelow : Type 0 where
-  pub above : (count : CountedEdge → ℤ) (es : List CountedEdge) → IsBalancedArrangement count es → (p : PlanePoint) (g : CountedEdge) →
+  pub above : (count : CountedEdge → ℤ) (es : List CountedEdge) → IsBalancedArrangement count es →
+      (p : PlanePoint) (g : CountedEdge) →
       IsGreatestBelow es p g → winding_by count es p ≡ winding_above count es g
   pub none : (count : CountedEdge → ℤ) (es : List CountedEdge) (p : PlanePoint) →
       ((f : CountedEdge) → Contains es f → is_strictly_below (ends_of f) p ≡ false) → winding_by count es p ≡ pos 0

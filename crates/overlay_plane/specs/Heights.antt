@@ -6,7 +6,8 @@ use Rattle.overlay_geom.specs.Plane.{Edge, line_form}
 abbrev pub width : Edge → ℤ
 width e = e.b.x -ℤ e.a.x
 
--- positive where the line of e runs above the line of f at the abscissa, negative where it runs below, 0 where they meet
+-- positive where the line of e runs above the line of f at the abscissa, negative where it runs below, 0 where they
+-- meet
 abbrev pub gap : Edge → Edge → ℤ → ℤ → ℤ
 gap f e x d = width e *ℤ line_form f x (pos 0) d -ℤ width f *ℤ line_form e x (pos 0) d
 

@@ -14,19 +14,25 @@ HasEndBefore q e = (point_lt e.a q ≡ true) ⊎ (point_lt e.b q ≡ true)
 
 -- what starts in q above the edge counts nothing, and what starts there below it
 abbrev pub CountsNothingAbove : (CountedEdge → ℤ) → List CountedEdge → Point → CountedEdge → Type 0
-CountsNothingAbove count es q e = (f : CountedEdge) → Contains es f → f.a ≡ q → turns_left (ends_of e) (ends_of f) ≡ true → count f ≡ pos 0
+CountsNothingAbove count es q e = (f : CountedEdge) → Contains es f → f.a ≡ q →
+    turns_left (ends_of e) (ends_of f) ≡ true → count f ≡ pos 0
 
 abbrev pub CountsNothingBelow : (CountedEdge → ℤ) → List CountedEdge → Point → CountedEdge → Type 0
-CountsNothingBelow count es q e = (f : CountedEdge) → Contains es f → f.a ≡ q → turns_left (ends_of f) (ends_of e) ≡ true → count f ≡ pos 0
+CountsNothingBelow count es q e = (f : CountedEdge) → Contains es f → f.a ≡ q →
+    turns_left (ends_of f) (ends_of e) ≡ true → count f ≡ pos 0
 
--- the windings up to q, on both sides of edges that have an end before it, above the top edge that counts there and below the lowest one, are 0
+-- the windings up to q, on both sides of edges that have an end before it, above the top edge that counts there and
+-- below the lowest one, are 0
 pub record IsOutsideUpTo (count : CountedEdge → ℤ) (es : List CountedEdge) (q : Point) : Type 0 where
   pub at_points : (v : Point) → point_lt q v ≡ false → winding_by count es (in_plane v) ≡ pos 0
   pub below_earlier : (e : CountedEdge) → Contains es e → HasEndBefore q e → winding_below count es e ≡ pos 0
   pub above_earlier : (e : CountedEdge) → Contains es e → HasEndBefore q e → winding_above count es e ≡ pos 0
-  pub above_top : (e : CountedEdge) → Contains es e → e.a ≡ q → CountsNothingAbove count es q e → winding_above count es e ≡ pos 0
-  pub below_lowest : (e : CountedEdge) → Contains es e → e.a ≡ q → CountsNothingBelow count es q e → winding_below count es e ≡ pos 0
+  pub above_top : (e : CountedEdge) → Contains es e → e.a ≡ q → CountsNothingAbove count es q e →
+      winding_above count es e ≡ pos 0
+  pub below_lowest : (e : CountedEdge) → Contains es e → e.a ≡ q → CountsNothingBelow count es q e →
+      winding_below count es e ≡ pos 0
 
 abbrev pub NothingBeforeTheLeftmost : Type 0
-NothingBeforeTheLeftmost = (count : CountedEdge → ℤ) (es : List CountedEdge) → IsBalancedArrangement count es → (q : Point) →
+NothingBeforeTheLeftmost = (count : CountedEdge → ℤ) (es : List CountedEdge) → IsBalancedArrangement count es →
+    (q : Point) →
     CountsNothingBefore count es q → IsOutsideUpTo count es q

@@ -1,4 +1,5 @@
--- The leftmost lowest point of the steps taken: left of it, above their top edge there and below their lowest one, their winding is 0.
+-- The leftmost lowest point of the steps taken: left of it, above their top edge there and below their lowest one,
+-- their winding is 0.
 use Rattle.std.specs.Prelude.{◌≡◌, ◌⊎◌, true, false, pos, List, Contains}
 use Rattle.overlay_geom.specs.Plane.{Point, Step, Edge, point_lt, edge_of}
 use Rattle.overlay_geom.specs.Edges.{CountedEdge, ends_of}
@@ -22,19 +23,25 @@ NoneTakenAbove taken q e = (s : Step) → Contains taken s → (edge_of s).a ≡
 abbrev pub NoneTakenBelow : List Step → Point → Edge → Type 0
 NoneTakenBelow taken q e = (s : Step) → Contains taken s → (edge_of s).a ≡ q → turns_left (edge_of s) e ≡ false
 
--- the winding of the steps taken is 0 on both sides of edges and steps that have an end before q, above the edges at q from
--- their top one upwards, and below those from their lowest one downwards
+-- the winding of the steps taken is 0 on both sides of edges and steps that have an end before q, above the edges at q
+-- from their top one upwards, and below those from their lowest one downwards
 pub record IsOutsideOfSteps (es : List CountedEdge) (steps taken : List Step) (q : Point) : Type 0 where
   pub under_earlier : (e : CountedEdge) → Contains es e → HasEndBefore q e → winding_under es taken (ends_of e) ≡ pos 0
   pub over_earlier : (e : CountedEdge) → Contains es e → HasEndBefore q e → winding_over es taken (ends_of e) ≡ pos 0
-  pub over_top : (e : CountedEdge) → Contains es e → e.a ≡ q → NoneTakenAbove taken q (ends_of e) → winding_over es taken (ends_of e) ≡ pos 0
-  pub under_lowest : (e : CountedEdge) → Contains es e → e.a ≡ q → NoneTakenBelow taken q (ends_of e) → winding_under es taken (ends_of e) ≡ pos 0
-  pub beside_earlier : (hand : Hand) (s : Step) → Contains steps s → StepHasEndBefore q s → winding_beside hand es taken s ≡ pos 0
-  pub over_top_step : (s : Step) → Contains steps s → (edge_of s).a ≡ q → NoneTakenAbove taken q (edge_of s) → winding_over es taken (edge_of s) ≡ pos 0
-  pub under_lowest_step : (s : Step) → Contains steps s → (edge_of s).a ≡ q → NoneTakenBelow taken q (edge_of s) → winding_under es taken (edge_of s) ≡ pos 0
+  pub over_top : (e : CountedEdge) → Contains es e → e.a ≡ q → NoneTakenAbove taken q (ends_of e) →
+      winding_over es taken (ends_of e) ≡ pos 0
+  pub under_lowest : (e : CountedEdge) → Contains es e → e.a ≡ q → NoneTakenBelow taken q (ends_of e) →
+      winding_under es taken (ends_of e) ≡ pos 0
+  pub beside_earlier : (hand : Hand) (s : Step) → Contains steps s → StepHasEndBefore q s →
+      winding_beside hand es taken s ≡ pos 0
+  pub over_top_step : (s : Step) → Contains steps s → (edge_of s).a ≡ q → NoneTakenAbove taken q (edge_of s) →
+      winding_over es taken (edge_of s) ≡ pos 0
+  pub under_lowest_step : (s : Step) → Contains steps s → (edge_of s).a ≡ q → NoneTakenBelow taken q (edge_of s) →
+      winding_under es taken (edge_of s) ≡ pos 0
 
 abbrev pub NothingBeforeTheSteps : Type 0
-NothingBeforeTheSteps = (es : List CountedEdge) (steps taken : List Step) → WalksAlong es steps → IsBalancedPart es steps taken →
+NothingBeforeTheSteps = (es : List CountedEdge) (steps taken : List Step) → WalksAlong es steps →
+    IsBalancedPart es steps taken →
     (q : Point) → NoneHasEndBefore taken q → IsOutsideOfSteps es steps taken q
 
 -- the leftmost lowest end of the steps taken, and the steps taken along their top edge there and along their lowest one
@@ -52,5 +59,6 @@ pub record HasLeftmost (taken : List Step) : Type 0 where
 
 -- where a step is taken, the steps taken have such an end
 abbrev pub LeftmostStepsExist : Type 0
-LeftmostStepsExist = (es : List CountedEdge) (steps taken : List Step) → WalksAlong es steps → ((s : Step) → Contains taken s → Contains steps s) →
+LeftmostStepsExist = (es : List CountedEdge) (steps taken : List Step) → WalksAlong es steps →
+    ((s : Step) → Contains taken s → Contains steps s) →
     (s : Step) → Contains taken s → HasLeftmost taken

@@ -14,7 +14,9 @@ pub mod CutPoints
 pub mod Cutting
 pub mod DerivedData
 pub mod EdgeLists
+pub mod EdgePredicates
 pub mod GreatestBelow
+pub mod Groups
 pub mod Heights
 pub mod InOrder
 pub mod Leftmost
@@ -26,6 +28,7 @@ pub mod Nodes
 pub mod Orbits
 pub mod OrbitsSoFar
 pub mod Order
+pub mod Predicates
 pub mod Rays
 pub mod Regions
 pub mod RoledContours

@@ -12,15 +12,18 @@ pub record IsMeetingPoint (e f : Edge) (p : PlanePoint) : Type 0 where
 
 -- another edge of the list meets e in p
 abbrev pub MeetsAnother : List CountedEdge → CountedEdge → PlanePoint → Type 0
-MeetsAnother es e p = (f : CountedEdge) × Contains es f × (edge_eq (ends_of e) (ends_of f) ≡ false) × IsMeetingPoint (ends_of e) (ends_of f) p
+MeetsAnother es e p = (f : CountedEdge) × Contains es f × (edge_eq (ends_of e) (ends_of f) ≡ false) × IsMeetingPoint
+    (ends_of e) (ends_of f) p
 
 -- every two edges meet only in whole points, or overlap
 abbrev pub MeetInWholePoints : List CountedEdge → Type 0
-MeetInWholePoints es = (e f : CountedEdge) (p : PlanePoint) → Contains es e → Contains es f → IsMeetingPoint (ends_of e) (ends_of f) p → (v : Point) × IsAt v p
+MeetInWholePoints es = (e f : CountedEdge) (p : PlanePoint) → Contains es e → Contains es f →
+    IsMeetingPoint (ends_of e) (ends_of f) p → (v : Point) × IsAt v p
 
 -- any two different edges of the list meet only in points that are ends of both
 abbrev pub MeetOnlyInEnds : List CountedEdge → Type 0
-MeetOnlyInEnds es = (e f : CountedEdge) (p : PlanePoint) → Contains es e → Contains es f → edge_eq (ends_of e) (ends_of f) ≡ false →
+MeetOnlyInEnds es = (e f : CountedEdge) (p : PlanePoint) → Contains es e → Contains es f →
+    edge_eq (ends_of e) (ends_of f) ≡ false →
     IsMeetingPoint (ends_of e) (ends_of f) p → IsEnd (ends_of e) p × IsEnd (ends_of f) p
 
 -- a list of forward edges is settled exactly where each meeting point of two different ones is an end of both

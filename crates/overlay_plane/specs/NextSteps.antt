@@ -1,5 +1,5 @@
--- Sets of steps in which the next step by a hand is one to one; sets that alternate are so by either hand; and parts that
--- hold with each step the next one are so again.
+-- Sets of steps in which the next step by a hand is one to one; sets that alternate are so by either hand; and parts
+-- that hold with each step the next one are so again.
 use Rattle.std.specs.Prelude.{◌≡◌, ◌↔◌, Bool, false, not, List, Contains, filter}
 use Rattle.overlay_geom.specs.Plane.{Step}
 use Rattle.overlay_plane.specs.Turn.{Hand, is_met_before, IsNextStep}
@@ -7,13 +7,15 @@ use Rattle.overlay_plane.specs.Alternates.{AreOneWay, Alternates}
 
 -- ---- one next step
 
--- by the hand each step of the set leads on to another one, and no two to the same: at the end of each some step leaves, no
--- two have the same next step, none has both its ends in one point, and no two leave a point along one ray
+-- by the hand each step of the set leads on to another one, and no two to the same: at the end of each some step
+-- leaves, no two have the same next step, none has both its ends in one point, and no two leave a point along one ray
 pub record LeadsOn (steps : List Step) (hand : Hand) : Type 0 where
   pub long : (s : Step) → Contains steps s → ¬ (s.from ≡ s.to)
-  pub one_leaves : (s t : Step) → Contains steps s → Contains steps t → s.from ≡ t.from → AreOneWay s.from s.to t.to → s ≡ t
+  pub one_leaves : (s t : Step) → Contains steps s → Contains steps t → s.from ≡ t.from → AreOneWay s.from s.to t.to →
+      s ≡ t
   pub goes_on : (s : Step) → Contains steps s → (t : Step) × Contains steps t × (t.from ≡ s.to)
-  pub apart : (s t u : Step) → Contains steps s → Contains steps t → IsNextStep steps hand s u → IsNextStep steps hand t u → s ≡ t
+  pub apart : (s t u : Step) → Contains steps s → Contains steps t → IsNextStep steps hand s u →
+      IsNextStep steps hand t u → s ≡ t
 
 -- so each has one next step, and one only
 pub record HasOneNext (steps : List Step) (hand : Hand) (s : Step) : Type 0 where
@@ -22,7 +24,8 @@ pub record HasOneNext (steps : List Step) (hand : Hand) (s : Step) : Type 0 wher
   pub only : (t : Step) → IsNextStep steps hand s t → t ≡ next
 
 abbrev pub StepsThatLeadOnHaveOneNext : Type 0
-StepsThatLeadOnHaveOneNext = (steps : List Step) (hand : Hand) → LeadsOn steps hand → (s : Step) → Contains steps s → HasOneNext steps hand s
+StepsThatLeadOnHaveOneNext = (steps : List Step) (hand : Hand) → LeadsOn steps hand → (s : Step) → Contains steps s →
+    HasOneNext steps hand s
 
 -- steps that alternate lead on by either hand
 abbrev pub AlternatingStepsLeadOn : Type 0
@@ -30,12 +33,13 @@ AlternatingStepsLeadOn = (steps : List Step) → Alternates steps → (hand : Ha
 
 -- ---- in steps that alternate
 
--- each step of the set has one next step by the hand and is that of one step; the next step is the neighbour among all steps at
--- the node: no step that arrives lies between
+-- each step of the set has one next step by the hand and is that of one step; the next step is the neighbour among all
+-- steps at the node: no step that arrives lies between
 pub record IsOneToOne (steps : List Step) (hand : Hand) : Type 0 where
   pub exists : (s : Step) → Contains steps s → (t : Step) × IsNextStep steps hand s t
   pub unique : (s t u : Step) → Contains steps s → IsNextStep steps hand s t → IsNextStep steps hand s u → t ≡ u
-  pub injective : (s t u : Step) → Contains steps s → Contains steps t → IsNextStep steps hand s u → IsNextStep steps hand t u → s ≡ t
+  pub injective : (s t u : Step) → Contains steps s → Contains steps t → IsNextStep steps hand s u →
+      IsNextStep steps hand t u → s ≡ t
   pub surjective : (t : Step) → Contains steps t → (s : Step) × Contains steps s × IsNextStep steps hand s t
   pub neighbours : (s t u : Step) → Contains steps s → IsNextStep steps hand s t → Contains steps u → u.to ≡ s.to →
       is_met_before hand s.to s.from u.from t.to ≡ false
@@ -59,17 +63,20 @@ pub record IsApartFromRest (steps : List Step) (hand : Hand) (taken : Step → B
       IsNextStep (filter (λ s. not (taken s)) steps) hand s t ↔ IsNextStep steps hand s t
 
 abbrev pub ClosedPartsAlternate : Type 0
-ClosedPartsAlternate = (steps : List Step) → Alternates steps → (hand : Hand) (taken : Step → Bool) → IsClosedUnderNext steps hand taken →
+ClosedPartsAlternate = (steps : List Step) → Alternates steps → (hand : Hand) (taken : Step → Bool) →
+    IsClosedUnderNext steps hand taken →
     IsApartFromRest steps hand taken
 
 -- what a closed test takes leads on, and what it leaves, with the same next steps
 pub record LeadsOnApart (steps : List Step) (hand : Hand) (part : Step → Bool) : Type 0 where
   pub part_leads_on : LeadsOn (filter part steps) hand
   pub rest_leads_on : LeadsOn (filter (λ s. not (part s)) steps) hand
-  pub part_next : (s t : Step) → Contains (filter part steps) s → IsNextStep (filter part steps) hand s t ↔ IsNextStep steps hand s t
+  pub part_next : (s t : Step) → Contains (filter part steps) s →
+      IsNextStep (filter part steps) hand s t ↔ IsNextStep steps hand s t
   pub rest_next : (s t : Step) → Contains (filter (λ s. not (part s)) steps) s →
       IsNextStep (filter (λ s. not (part s)) steps) hand s t ↔ IsNextStep steps hand s t
 
 abbrev pub ClosedPartsLeadOn : Type 0
-ClosedPartsLeadOn = (steps : List Step) (hand : Hand) → LeadsOn steps hand → (part : Step → Bool) → IsClosedUnderNext steps hand part →
+ClosedPartsLeadOn = (steps : List Step) (hand : Hand) → LeadsOn steps hand → (part : Step → Bool) →
+    IsClosedUnderNext steps hand part →
     LeadsOnApart steps hand part

@@ -31,20 +31,24 @@ total_ending count es v = total (λ f. cond (point_eq f.b v) (count f) (pos 0)) 
 
 -- the sum of the counts of the edges that start where e does, to the right of it
 abbrev pub total_starting_under : (CountedEdge → ℤ) → List CountedEdge → CountedEdge → ℤ
-total_starting_under count es e = total (λ f. cond (point_eq f.a e.a && turns_left (ends_of f) (ends_of e)) (count f) (pos 0)) es
+total_starting_under count es e = total (λ f. cond (point_eq f.a e.a && turns_left (ends_of f) (ends_of e))
+    (count f) (pos 0)) es
 
 -- the sum of the counts of the edges that end where e does, to the right of it: those under it, and the vertical one
 abbrev pub total_ending_under : (CountedEdge → ℤ) → List CountedEdge → CountedEdge → ℤ
-total_ending_under count es e = total (λ f. cond (point_eq f.b e.b && turns_left (ends_of e) (ends_of f)) (count f) (pos 0)) es
+total_ending_under count es e = total (λ f. cond (point_eq f.b e.b && turns_left (ends_of e) (ends_of f))
+    (count f) (pos 0)) es
 
 -- below an edge the winding is that at its start, and the counts of the edges that start there to the right of it
 abbrev pub WindingFromAStart : Type 0
-WindingFromAStart = (count : CountedEdge → ℤ) (es : List CountedEdge) → IsBalancedArrangement count es → (e : CountedEdge) →
+WindingFromAStart = (count : CountedEdge → ℤ) (es : List CountedEdge) → IsBalancedArrangement count es →
+    (e : CountedEdge) →
     Contains es e → winding_below count es e ≡ winding_by count es (in_plane e.a) +ℤ total_starting_under count es e
 
 -- below an edge the winding is that at its end, and the counts of the edges that end there to the right of it
 abbrev pub WindingFromAnEnd : Type 0
-WindingFromAnEnd = (count : CountedEdge → ℤ) (es : List CountedEdge) → IsBalancedArrangement count es → (e : CountedEdge) →
+WindingFromAnEnd = (count : CountedEdge → ℤ) (es : List CountedEdge) → IsBalancedArrangement count es →
+    (e : CountedEdge) →
     Contains es e → winding_below count es e ≡ winding_by count es (in_plane e.b) +ℤ total_ending_under count es e
 
 -- as many counts start in a node as end there
@@ -57,7 +61,8 @@ abbrev pub NodesMakeBalance : Type 0
 NodesMakeBalance = (count : CountedEdge → ℤ) (es : List CountedEdge) →
     ((v : Point) → total_ending count es v ≡ total_starting count es v) → IsBalanced ends_of count es
 
--- of two edges that start in one point the one to the right is under the other just right of it, and of two that end in one point just left of it
+-- of two edges that start in one point the one to the right is under the other just right of it, and of two that end in
+-- one point just left of it
 pub record TurnsAsUnder (e f : Edge) : Type 0 where
   pub start : f.a ≡ e.a → turns_left f e ≡ is_under f e e.a.x (pos 1)
   pub end : f.b ≡ e.b → turns_left e f ≡ is_under f e (e.b.x +ℤ e.b.x -ℤ pos 1) (pos 2)
@@ -65,13 +70,15 @@ pub record TurnsAsUnder (e f : Edge) : Type 0 where
 abbrev pub UnderBesideANode : Type 0
 UnderBesideANode = (e f : Edge) → TurnsAsUnder e f
 
--- below a vertical edge the winding is that at its lower end, and the counts of all edges that start there and are not vertical;
--- it is also that at its upper end
+-- below a vertical edge the winding is that at its lower end, and the counts of all edges that start there and are not
+-- vertical; it is also that at its upper end
 pub record WindsBesideUpright (count : CountedEdge → ℤ) (es : List CountedEdge) (e : CountedEdge) : Type 0 where
   pub from_start : winding_below count es e ≡
-      winding_by count es (in_plane e.a) +ℤ total (λ f. cond (point_eq f.a e.a && int_lt f.a.x f.b.x) (count f) (pos 0)) es
+      winding_by count es (in_plane e.a) +ℤ total (λ f. cond (point_eq f.a e.a && int_lt f.a.x f.b.x) (count f) (pos 0))
+      es
   pub from_end : winding_below count es e ≡ winding_by count es (in_plane e.b)
 
 abbrev pub WindingBesideUprights : Type 0
-WindingBesideUprights = (count : CountedEdge → ℤ) (es : List CountedEdge) → IsBalancedArrangement count es → (e : CountedEdge) →
+WindingBesideUprights = (count : CountedEdge → ℤ) (es : List CountedEdge) → IsBalancedArrangement count es →
+    (e : CountedEdge) →
     Contains es e → e.a.x ≡ e.b.x → WindsBesideUpright count es e

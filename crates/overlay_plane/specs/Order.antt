@@ -1,4 +1,5 @@
--- The order of the edges of a settled list over an abscissa, along spans that they have in common, and beside their ends.
+-- The order of the edges of a settled list over an abscissa, along spans that they have in common, and beside their
+-- ends.
 use Rattle.std.specs.Prelude.{◌≡◌, ◌⊎◌, true, false, ℤ, pos, ◌<ℤ◌, int_lt, List, Contains}
 use Rattle.overlay_geom.specs.Plane.{Point, Edge, edge_eq, side, in_plane}
 use Rattle.overlay_geom.specs.Edges.{CountedEdge, ends_of}
@@ -10,7 +11,8 @@ pub record CoversIn (es : List CountedEdge) (x d : ℤ) (e : CountedEdge) : Type
   pub entry : Contains es e
   pub over : covers (ends_of e) x d ≡ true
 
--- under is a strict order on the edges of the list that cover the abscissa, and of two different ones, one is under the other
+-- under is a strict order on the edges of the list that cover the abscissa, and of two different ones, one is under the
+-- other
 pub record UnderIsOrder (es : List CountedEdge) (x d : ℤ) : Type 0 where
   pub irreflexive : (e : CountedEdge) → is_under (ends_of e) (ends_of e) x d ≡ false
   pub asymmetric : (e f : CountedEdge) → is_under (ends_of e) (ends_of f) x d ≡ true →
@@ -27,13 +29,15 @@ OrderOverAnAbscissa = (es : List CountedEdge) → IsSettled es → (x d : ℤ) �
 
 -- two edges of a settled list are in one order at all abscissas that both cover
 abbrev pub OrderAlongCommonSpans : Type 0
-OrderAlongCommonSpans = (es : List CountedEdge) → IsSettled es → (e f : CountedEdge) (x d x' d' : ℤ) → pos 0 <ℤ d → pos 0 <ℤ d' →
+OrderAlongCommonSpans = (es : List CountedEdge) → IsSettled es → (e f : CountedEdge) (x d x' d' : ℤ) → pos 0 <ℤ d →
+    pos 0 <ℤ d' →
     CoversIn es x d e → CoversIn es x d f → CoversIn es x' d' e → CoversIn es x' d' f →
     is_under (ends_of e) (ends_of f) x d ≡ is_under (ends_of e) (ends_of f) x' d'
 
 -- both points are strictly below the line of e, or both strictly above it
 abbrev pub AreOnOneSide : Edge → Point → Point → Type 0
-AreOnOneSide e p q = ((side e (in_plane p) <ℤ pos 0) × (side e (in_plane q) <ℤ pos 0)) ⊎ ((pos 0 <ℤ side e (in_plane p)) × (pos 0 <ℤ side e (in_plane q)))
+AreOnOneSide e p q = ((side e (in_plane p) <ℤ pos 0) × (side e (in_plane q) <ℤ pos 0))
+    ⊎ ((pos 0 <ℤ side e (in_plane p)) × (pos 0 <ℤ side e (in_plane q)))
 
 -- an edge of a settled list over the inside of another one, vertical or not, has both ends on one side of it
 abbrev pub EndsOnOneSide : Type 0
@@ -47,5 +51,6 @@ pub record EndsAsUnder (e f : Edge) (x d : ℤ) : Type 0 where
 
 -- that holds of any two edges of a settled list, at each abscissa that both cover
 abbrev pub EndsBelowWhereUnder : Type 0
-EndsBelowWhereUnder = (es : List CountedEdge) → IsSettled es → (e f : CountedEdge) (x d : ℤ) → pos 0 <ℤ d → CoversIn es x d e →
+EndsBelowWhereUnder = (es : List CountedEdge) → IsSettled es → (e f : CountedEdge) (x d : ℤ) → pos 0 <ℤ d →
+    CoversIn es x d e →
     CoversIn es x d f → EndsAsUnder (ends_of e) (ends_of f) x d

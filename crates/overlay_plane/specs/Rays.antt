@@ -1,5 +1,5 @@
--- Rays round a point: different directions, the other hand, and the laws of the cyclic order in which a turning ray meets
--- them.
+-- Rays round a point: different directions, the other hand, and the laws of the cyclic order in which a turning ray
+-- meets them.
 use Rattle.std.specs.Prelude.{◌≡◌, ◌⊎◌, false}
 use Rattle.overlay_geom.specs.Plane.{Point}
 use Rattle.overlay_plane.specs.Turn.{Hand, is_met_before, IsMetBefore}
@@ -16,15 +16,18 @@ pub record Apart (v p q : Point) : Type 0 where
   pub second : ¬ (q ≡ v)
   pub other_ways : ¬ (AreOneWay v p q)
 
--- by the hand, rays round a point are met in a strict order, total on different directions, that the other hand reverses and that
--- is the same from wherever the turn starts
+-- by the hand, rays round a point are met in a strict order, total on different directions, that the other hand
+-- reverses and that is the same from wherever the turn starts
 pub record IsCyclicOrder (hand : Hand) : Type 0 where
   pub irreflexive : (v u p : Point) → is_met_before hand v u p p ≡ false
   pub asymmetric : (v u p q : Point) → ¬ (u ≡ v) → IsMetBefore hand v u p q → is_met_before hand v u q p ≡ false
-  pub transitive : (v u p q r : Point) → ¬ (u ≡ v) → IsMetBefore hand v u p q → IsMetBefore hand v u q r → IsMetBefore hand v u p r
+  pub transitive : (v u p q r : Point) → ¬ (u ≡ v) → IsMetBefore hand v u p q → IsMetBefore hand v u q r →
+      IsMetBefore hand v u p r
   pub total : (v u p q : Point) → ¬ (u ≡ v) → Apart v p q → IsMetBefore hand v u p q ⊎ IsMetBefore hand v u q p
-  pub reversed : (v u p q : Point) → Apart v u p → Apart v u q → is_met_before (other_hand hand) v u q p ≡ is_met_before hand v u p q
-  pub shifted : (v p m q : Point) → Apart v p m → Apart v m q → Apart v q p → IsMetBefore hand v p m q → IsMetBefore hand v m q p
+  pub reversed : (v u p q : Point) → Apart v u p → Apart v u q →
+      is_met_before (other_hand hand) v u q p ≡ is_met_before hand v u p q
+  pub shifted : (v p m q : Point) → Apart v p m → Apart v m q → Apart v q p → IsMetBefore hand v p m q →
+      IsMetBefore hand v m q p
 
 abbrev pub RaysInCyclicOrder : Type 0
 RaysInCyclicOrder = (hand : Hand) → IsCyclicOrder hand

@@ -20,7 +20,8 @@ holds_below holds subj clip es e = holds (winding_below subj es e) (winding_belo
 
 -- 1 for an edge above which alone the rule holds, -1 for one below which alone it does, else 0
 abbrev pub selected_sign : (ℤ → ℤ → Bool) → (subj clip : CountedEdge → ℤ) → List CountedEdge → CountedEdge → ℤ
-selected_sign holds subj clip es e = one_if (holds_above holds subj clip es e) -ℤ one_if (holds_below holds subj clip es e)
+selected_sign holds subj clip es e =
+    one_if (holds_above holds subj clip es e) -ℤ one_if (holds_below holds subj clip es e)
 
 -- no two entries of the list have the same ends
 abbrev pub HasDistinctEnds : List CountedEdge → Type 0
@@ -45,20 +46,27 @@ pub record IsRuled (holds : ℤ → ℤ → Bool) (subj clip : CountedEdge → �
 abbrev pub total_taken : {X : Type 0} → (X → Bool) → (X → ℤ) → List X → ℤ
 total_taken taken f xs = total (λ x. cond (taken x) (f x) (pos 0)) xs
 
--- where a test takes edges over an abscissa with all under them, their signs add up to 1 if the rule holds of the sums of their counts, else to 0
+-- where a test takes edges over an abscissa with all under them, their signs add up to 1 if the rule holds of the sums
+-- of their counts, else to 0
 abbrev pub RegionOverEdgesTaken : Type 0
-RegionOverEdgesTaken = (holds : ℤ → ℤ → Bool) (subj clip : CountedEdge → ℤ) (es : List CountedEdge) → IsRuled holds subj clip es →
+RegionOverEdgesTaken = (holds : ℤ → ℤ → Bool) (subj clip : CountedEdge → ℤ) (es : List CountedEdge) →
+    IsRuled holds subj clip es →
     (x d : ℤ) → pos 0 <ℤ d → (taken : CountedEdge → Bool) → TakesDownward ends_of es x d taken →
-    total_taken taken (selected_sign holds subj clip es) es ≡ one_if (holds (total_taken taken subj es) (total_taken taken clip es))
+    total_taken taken (selected_sign holds subj clip es) es ≡ one_if
+    (holds (total_taken taken subj es) (total_taken taken clip es))
 
--- the signs of the edges strictly below a point add up to 1 where the rule holds of the windings at the point, else to 0
+-- the signs of the edges strictly below a point add up to 1 where the rule holds of the windings at the point, else to
+-- 0
 abbrev pub RegionFromSelectedSigns : Type 0
 RegionFromSelectedSigns = (holds : ℤ → ℤ → Bool) (subj clip : CountedEdge → ℤ) (es : List CountedEdge) →
     IsRuled holds subj clip es → (p : PlanePoint) →
     winding_by (selected_sign holds subj clip es) es p ≡ one_if (holds (winding_by subj es p) (winding_by clip es p))
 
--- the signs of the edges under an edge, at an abscissa that it covers, add up to 1 where the rule holds below the edge, else to 0
+-- the signs of the edges under an edge, at an abscissa that it covers, add up to 1 where the rule holds below the edge,
+-- else to 0
 abbrev pub RegionBelowAnEdge : Type 0
-RegionBelowAnEdge = (holds : ℤ → ℤ → Bool) (subj clip : CountedEdge → ℤ) (es : List CountedEdge) → IsRuled holds subj clip es →
+RegionBelowAnEdge = (holds : ℤ → ℤ → Bool) (subj clip : CountedEdge → ℤ) (es : List CountedEdge) →
+    IsRuled holds subj clip es →
     (e : CountedEdge) → Contains es e → (x d : ℤ) → pos 0 <ℤ d → covers (ends_of e) x d ≡ true →
-    total_under ends_of (selected_sign holds subj clip es) es (ends_of e) x d ≡ one_if (holds_below holds subj clip es e)
+    total_under ends_of (selected_sign holds subj clip es) es (ends_of e) x d ≡
+    one_if (holds_below holds subj clip es e)

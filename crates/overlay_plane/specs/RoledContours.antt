@@ -1,14 +1,15 @@
--- The contours that selected steps are cut into, each with its role: an outline, a hole of an outline's own group, or a hole whose
--- shape is found by what lies below it. Without groups the walks are outlines and such holes; with groups each outline's group is
--- walked once more by the empty hand, so that no contour visits a point twice.
-use Rattle.std.specs.Prelude.{◌≡◌, ℕ, suc, ◌==◌, Bool, true, false, cond, not, List, [], ◌∷◌, ◌++◌, map, filter, Option, Some, None}
+-- The contours that selected steps are cut into, each with its role: an outline, a hole of an outline's own group, or a
+-- hole whose shape is found by what lies below it. Without groups the walks are outlines and such holes; with groups
+-- each outline's group is walked once more by the empty hand, so that no contour visits a point twice.
+use Rattle.std.specs.Prelude.{◌≡◌, ℕ, suc, ◌==◌, Bool, true, false, cond, not, List, [], ◌∷◌, ◌++◌, map, filter, Option}
+use Rattle.std.specs.Prelude.{Some, None}
 use Rattle.std.specs.List.{AllZip, flat_map}
 use Rattle.overlay_geom.specs.Plane.{Step}
 use Rattle.overlay_plane.specs.Binding.{is_hole}
 use Rattle.overlay_plane.specs.Contours.{IsCutInto, all_steps, empty_hand, filled_hand, outline_or_hole_hand}
 
--- what a contour is: the outline of the n-th shape, counted from 0; a hole that stands in the n-th shape from the start, as one of its
--- outline's group; or a hole whose shape is still to be found
+-- what a contour is: the outline of the n-th shape, counted from 0; a hole that stands in the n-th shape from the
+-- start, as one of its outline's group; or a hole whose shape is still to be found
 pub data Role : Type 0 where
   outline : ℕ → Role
   own_hole : ℕ → Role
@@ -55,19 +56,22 @@ hole_to_bind walk = record { role = free_hole; steps = walk }
 abbrev pub contours_from : Bool → ℕ → List (List Step) → List Contour
 contours_from on_left n [] = []
 contours_from on_left n (w ∷ ws) =
-    cond (is_hole on_left w) (hole_to_bind w ∷ contours_from on_left n ws) (outline_of n w ∷ contours_from on_left (suc n) ws)
+    cond (is_hole on_left w) (hole_to_bind w ∷ contours_from on_left n ws)
+    (outline_of n w ∷ contours_from on_left (suc n) ws)
 
 -- the selected steps are cut into these contours, of which those are kept that pass the test
-pub record IsCut (on_left : Bool) (keeps : List Step → Bool) (selected : List Step) (contours : List Contour) : Type 0 where
+pub record IsCut (on_left : Bool) (keeps : List Step → Bool) (selected : List Step)
+    (contours : List Contour) : Type 0 where
   pub walks : List (List Step)
-  -- while steps are left, the next walk is the orbit of the one of them that is along the top edge at their leftmost lowest point
+  -- while steps are left, the next walk is the orbit of the one of them that is along the top edge at their leftmost
+  -- lowest point
   pub cut : IsCutInto (outline_or_hole_hand on_left) selected walks
   pub are : contours ≡ contours_from on_left 0 (filter keeps walks)
 
 -- ---- with groups
 
--- the walks of an outline's group, its outline first: the outline with those of its holes that pass the test, or nothing where the
--- outline does not pass it
+-- the walks of an outline's group, its outline first: the outline with those of its holes that pass the test, or
+-- nothing where the outline does not pass it
 abbrev pub kept_group : (List Step → Bool) → List (List Step) → List (List (List Step))
 kept_group keeps [] = []
 kept_group keeps (o ∷ hs) = cond (keeps o) ((o ∷ filter keeps hs) ∷ []) []
@@ -82,17 +86,20 @@ group_contours_from n [] = []
 group_contours_from n ([] ∷ gs) = group_contours_from n gs
 group_contours_from n ((o ∷ hs) ∷ gs) = outline_of n o ∷ map (hole_of_group n) hs ++ group_contours_from (suc n) gs
 
--- the selected steps are grouped by the filled hand; the group of each outline is cut by the empty hand, its outline first; and so are
--- the steps of all other groups together; of these contours those are kept that pass the test, a hole of an outline's group only with
--- its outline
-pub record IsCutInGroups (on_left : Bool) (keeps : List Step → Bool) (selected : List Step) (contours : List Contour) : Type 0 where
+-- the selected steps are grouped by the filled hand; the group of each outline is cut by the empty hand, its outline
+-- first; and so are the steps of all other groups together; of these contours those are kept that pass the test, a hole
+-- of an outline's group only with its outline
+pub record IsCutInGroups (on_left : Bool) (keeps : List Step → Bool) (selected : List Step)
+    (contours : List Contour) : Type 0 where
   pub groups : List (List Step)
   pub grouped : IsCutInto (λ s. filled_hand on_left) selected groups
   pub inside : List (List (List Step))
-  pub cut_inside : AllZip (λ group walks. IsCutInto (λ s. empty_hand on_left) group walks) (filter (λ g. not (is_hole on_left g)) groups) inside
+  pub cut_inside : AllZip (λ group walks. IsCutInto (λ s. empty_hand on_left) group walks)
+      (filter (λ g. not (is_hole on_left g)) groups) inside
   pub others : List (List Step)
   pub cut_others : IsCutInto (λ s. empty_hand on_left) (all_steps (filter (is_hole on_left) groups)) others
-  pub are : contours ≡ group_contours_from 0 (flat_map (kept_group keeps) inside) ++ map hole_to_bind (filter keeps others)
+  pub are : contours ≡ group_contours_from 0 (flat_map (kept_group keeps) inside) ++ map hole_to_bind
+      (filter keeps others)
 
 -- ---- by the option
 

@@ -1,5 +1,7 @@
--- Cutting rounds: merged edges that are not settled are each replaced by the chain of steps through the points in which others meet them.
-use Rattle.std.specs.Prelude.{◌≡◌, ◌⊎◌, ℕ, zero, suc, ◌*ℤ◌, ◌<ℤ◌, List, [], ◌∷◌, ◌++◌, map, flat_map, All, AllPairs, Any, ⊤}
+-- Cutting rounds: merged edges that are not settled are each replaced by the chain of steps through the points in which
+-- others meet them.
+use Rattle.std.specs.Prelude.{◌≡◌, ◌⊎◌, ℕ, zero, suc, ◌*ℤ◌, ◌<ℤ◌, List, [], ◌∷◌, ◌++◌, map, flat_map, All, AllPairs}
+use Rattle.std.specs.Prelude.{Any, ⊤}
 use Rattle.overlay_geom.specs.Plane.{Point, PlanePoint, Step, SamePlace, IsAt, steps_through}
 use Rattle.overlay_geom.specs.Edges.{CountedEdge}
 use Rattle.overlay_geom.specs.Merged.{IsMerged}
@@ -18,7 +20,8 @@ pub record IsCutAt (es : List CountedEdge) (e : CountedEdge) (ps : List PlanePoi
   pub only : All (MeetsAnother es e) ps
   pub every : (p : PlanePoint) → MeetsAnother es e p → Any (SamePlace p) ps
 
--- a cutting round: the merged edges that it cuts, where it cuts each, and the whole point that it takes for a point of the plane
+-- a cutting round: the merged edges that it cuts, where it cuts each, and the whole point that it takes for a point of
+-- the plane
 pub record Round : Type 0 where
   pub edges : List CountedEdge
   pub cuts : CountedEdge → List PlanePoint

@@ -1,5 +1,5 @@
--- Selected steps: those of the edges on exactly one side of which a rule holds of the windings there, each with that side on
--- the left, or each with that side on the right.
+-- Selected steps: those of the edges on exactly one side of which a rule holds of the windings there, each with that
+-- side on the left, or each with that side on the right.
 use Rattle.std.specs.Prelude.{◌≡◌, Bool, not, cond, ℤ, List, [], ◌∷◌, Contains}
 use Rattle.std.specs.List.{flat_map}
 use Rattle.overlay_geom.specs.Plane.{Step, Edge}
@@ -12,20 +12,23 @@ use Rattle.overlay_plane.specs.Regions.{holds_above, holds_below}
 abbrev pub step_with_left : Bool → Edge → Step
 step_with_left above e = cond above (record { from = e.a; to = e.b }) (record { from = e.b; to = e.a })
 
--- the step along an edge with the side where the rule holds on its left, or on its right: the upper side, if it holds there
+-- the step along an edge with the side where the rule holds on its left, or on its right: the upper side, if it holds
+-- there
 abbrev pub selected_step : (ℤ → ℤ → Bool) → (subj clip : CountedEdge → ℤ) → Bool → List CountedEdge → CountedEdge → Step
 selected_step holds subj clip on_left es e =
     step_with_left (cond on_left (holds_above holds subj clip es e) (holds_below holds subj clip es e)) (ends_of e)
 
 -- the rule holds on exactly one side of the edge, and s is its step with that side on the left, or on the right
-pub record IsSelectedStep (holds : ℤ → ℤ → Bool) (subj clip : CountedEdge → ℤ) (es : List CountedEdge) (on_left : Bool) (e : CountedEdge)
+pub record IsSelectedStep (holds : ℤ → ℤ → Bool) (subj clip : CountedEdge → ℤ) (es : List CountedEdge) (on_left : Bool)
+    (e : CountedEdge)
     (s : Step) : Type 0 where
   pub entry : Contains es e
   pub changes : holds_below holds subj clip es e ≡ not (holds_above holds subj clip es e)
   pub walks : s ≡ selected_step holds subj clip on_left es e
 
 -- the steps are the selected steps of the edges
-pub record AreSelected (holds : ℤ → ℤ → Bool) (subj clip : CountedEdge → ℤ) (es : List CountedEdge) (on_left : Bool) (steps : List Step) : Type 0 where
+pub record AreSelected (holds : ℤ → ℤ → Bool) (subj clip : CountedEdge → ℤ) (es : List CountedEdge) (on_left : Bool)
+    (steps : List Step) : Type 0 where
   pub selected : (s : Step) → Contains steps s → (e : CountedEdge) × IsSelectedStep holds subj clip es on_left e s
   pub all : (e : CountedEdge) (s : Step) → IsSelectedStep holds subj clip es on_left e s → Contains steps s
 
@@ -37,7 +40,8 @@ SelectedStepsAlternate = (holds : ℤ → ℤ → Bool) (subj clip : CountedEdge
 
 -- the rule holds on exactly one side of the edge
 abbrev pub is_selected : (ℤ → ℤ → Bool) → (subj clip : CountedEdge → ℤ) → List CountedEdge → CountedEdge → Bool
-is_selected holds subj clip es e = cond (holds_above holds subj clip es e) (not (holds_below holds subj clip es e)) (holds_below holds subj clip es e)
+is_selected holds subj clip es e = cond (holds_above holds subj clip es e) (not (holds_below holds subj clip es e))
+    (holds_below holds subj clip es e)
 
 -- the selected steps, in the order of the edges
 abbrev pub selected_steps : (ℤ → ℤ → Bool) → (subj clip : CountedEdge → ℤ) → Bool → List CountedEdge → List Step

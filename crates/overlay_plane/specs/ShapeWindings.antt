@@ -1,5 +1,5 @@
--- The shapes that selected steps are cut into and bound to have each selected step once, and wind once round each point where the
--- rule holds, and zero times round each other point; and so they do when thinned.
+-- The shapes that selected steps are cut into and bound to have each selected step once, and wind once round each point
+-- where the rule holds, and zero times round each other point; and so they do when thinned.
 use Rattle.std.specs.Prelude.{◌≡◌, Bool, ℤ, List, map}
 use Rattle.std.specs.List.{AllZip, flat_map}
 use Rattle.std.specs.List.Sorted.{IsPermutation}
@@ -24,13 +24,17 @@ AreKeptOrThinned keep given taken = AllZip (AllZip (IsKeptOrThinned keep)) given
 
 -- the shapes have each selected step exactly once
 abbrev pub ShapesHaveEachStep : Type 0
-ShapesHaveEachStep = (holds : ℤ → ℤ → Bool) (subj clip : CountedEdge → ℤ) (es : List CountedEdge) (on_left : Bool) (walks : List (List Step)) →
+ShapesHaveEachStep = (holds : ℤ → ℤ → Bool) (subj clip : CountedEdge → ℤ) (es : List CountedEdge) (on_left : Bool)
+    (walks : List (List Step)) →
     AreCutFrom holds subj clip es on_left walks → (bound : List BoundWalk) → AreBound on_left walks bound →
-    IsPermutation (selected_steps holds subj clip on_left es) (steps_of_shapes (points_of_shapes (shapes_of on_left bound)))
+    IsPermutation (selected_steps holds subj clip on_left es)
+    (steps_of_shapes (points_of_shapes (shapes_of on_left bound)))
 
 -- the shapes, each contour as it is or thinned, wind once where the rule holds, and zero times elsewhere
 abbrev pub ShapesWind : Type 0
-ShapesWind = (holds : ℤ → ℤ → Bool) (subj clip : CountedEdge → ℤ) (es : List CountedEdge) (on_left : Bool) (walks : List (List Step)) →
+ShapesWind = (holds : ℤ → ℤ → Bool) (subj clip : CountedEdge → ℤ) (es : List CountedEdge) (on_left : Bool)
+    (walks : List (List Step)) →
     AreCutFrom holds subj clip es on_left walks → (bound : List BoundWalk) → AreBound on_left walks bound →
-    (keep : Bool) (result : List (List (List Point))) → AreKeptOrThinned keep (points_of_shapes (shapes_of on_left bound)) result →
+    (keep : Bool) (result : List (List (List Point))) →
+    AreKeptOrThinned keep (points_of_shapes (shapes_of on_left bound)) result →
     (p : PlanePoint) → winding (steps_of_shapes result) p ≡ wanted_winding holds subj clip on_left es p

@@ -1,4 +1,5 @@
--- The spokes of a node: the edges that start or end there, and the windings beside them, going round it counterclockwise.
+-- The spokes of a node: the edges that start or end there, and the windings beside them, going round it
+-- counterclockwise.
 use Rattle.std.specs.Prelude.{◌≡◌, ◌⊎◌, cond, ℤ, pos, ◌+ℤ◌, neg_ℤ, List, Contains}
 use Rattle.overlay_geom.specs.Plane.{Point, point_eq, total}
 use Rattle.overlay_geom.specs.Edges.{CountedEdge, winding_below, winding_above}
@@ -24,13 +25,15 @@ winding_before count es v e = cond (point_eq e.a v) (winding_below count es e) (
 abbrev pub winding_after : (CountedEdge → ℤ) → List CountedEdge → Point → CountedEdge → ℤ
 winding_after count es v e = cond (point_eq e.a v) (winding_above count es e) (winding_below count es e)
 
--- how much the winding rises across a spoke: its count where it starts in v, less its count where it ends there; 0 for other edges
+-- how much the winding rises across a spoke: its count where it starts in v, less its count where it ends there; 0 for
+-- other edges
 abbrev pub spoke_count : (CountedEdge → ℤ) → Point → CountedEdge → ℤ
 spoke_count count v e = cond (point_eq e.a v) (count e) (cond (point_eq e.b v) (neg_ℤ (count e)) (pos 0))
 
 -- what a function gives of the spokes strictly between two, going round counterclockwise, summed
 abbrev pub total_between : (CountedEdge → ℤ) → List CountedEdge → Point → CountedEdge → CountedEdge → ℤ
-total_between f es v e g = total (λ m. cond (is_met_before right v (far_end v e) (far_end v m) (far_end v g)) (f m) (pos 0)) es
+total_between f es v e g = total (λ m. cond (is_met_before right v (far_end v e) (far_end v m) (far_end v g))
+    (f m) (pos 0)) es
 
 -- from one spoke to another, or once round to the same, the winding rises by the counts of the spokes between
 abbrev pub WindingRoundANode : Type 0
@@ -40,23 +43,27 @@ WindingRoundANode = (count : CountedEdge → ℤ) (es : List CountedEdge) → Is
 
 -- across spokes that count nothing the winding round a node is the same
 abbrev pub OneWindingBetweenSpokes : Type 0
-OneWindingBetweenSpokes = (count : CountedEdge → ℤ) (es : List CountedEdge) → IsBalancedArrangement count es → (v : Point) →
+OneWindingBetweenSpokes = (count : CountedEdge → ℤ) (es : List CountedEdge) → IsBalancedArrangement count es →
+    (v : Point) →
     (e g : CountedEdge) → IsSpoke es v e → IsSpoke es v g →
     ((m : CountedEdge) → IsSpoke es v m → IsMetBetween v (far_end v e) (far_end v m) (far_end v g) → count m ≡ pos 0) →
     winding_after count es v e ≡ winding_before count es v g
 
 -- the side met after one spoke is the side met before the next one
 abbrev pub OneWindingBesideNeighbours : Type 0
-OneWindingBesideNeighbours = (count : CountedEdge → ℤ) (es : List CountedEdge) → IsBalancedArrangement count es → (v : Point) →
+OneWindingBesideNeighbours = (count : CountedEdge → ℤ) (es : List CountedEdge) → IsBalancedArrangement count es →
+    (v : Point) →
     (e g : CountedEdge) → IsSpoke es v e → IsSpoke es v g →
     ((m : CountedEdge) → IsSpoke es v m → ¬ (IsMetBetween v (far_end v e) (far_end v m) (far_end v g))) →
     winding_after count es v e ≡ winding_before count es v g
 
 -- a spoke without others at its node has one winding on both sides, and counts nothing
-pub record ChangesNoWinding (count : CountedEdge → ℤ) (es : List CountedEdge) (v : Point) (e : CountedEdge) : Type 0 where
+pub record ChangesNoWinding (count : CountedEdge → ℤ) (es : List CountedEdge) (v : Point)
+    (e : CountedEdge) : Type 0 where
   pub one_winding : winding_after count es v e ≡ winding_before count es v e
   pub none : count e ≡ pos 0
 
 abbrev pub LoneSpokesCountNothing : Type 0
-LoneSpokesCountNothing = (count : CountedEdge → ℤ) (es : List CountedEdge) → IsBalancedArrangement count es → (v : Point) →
+LoneSpokesCountNothing = (count : CountedEdge → ℤ) (es : List CountedEdge) → IsBalancedArrangement count es →
+    (v : Point) →
     (e : CountedEdge) → IsSpoke es v e → ((m : CountedEdge) → IsSpoke es v m → m ≡ e) → ChangesNoWinding count es v e

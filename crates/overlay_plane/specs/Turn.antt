@@ -19,9 +19,11 @@ turn right v p q = cross_at v p q
 abbrev pub dot_at : Point → Point → Point → ℤ
 dot_at v p q = (p.x -ℤ v.x) *ℤ (q.x -ℤ v.x) +ℤ (p.y -ℤ v.y) *ℤ (q.y -ℤ v.y)
 
--- where a ray at v that turns by the hand from u meets p: 0 within the first half turn, 1 straight ahead, 2 within the second half turn, 3 at u again
+-- where a ray at v that turns by the hand from u meets p: 0 within the first half turn, 1 straight ahead, 2 within the
+-- second half turn, 3 at u again
 abbrev pub part_of_turn : Hand → Point → Point → Point → ℕ
-part_of_turn hand v u p = cond (int_lt (pos 0) (turn hand v u p)) 0 (cond (int_lt (turn hand v u p) (pos 0)) 2 (cond (int_lt (dot_at v u p) (pos 0)) 1 3))
+part_of_turn hand v u p = cond (int_lt (pos 0) (turn hand v u p)) 0
+    (cond (int_lt (turn hand v u p) (pos 0)) 2 (cond (int_lt (dot_at v u p) (pos 0)) 1 3))
 
 -- a ray at v that turns by the hand from u meets p before q; u itself comes last
 abbrev pub is_met_before : Hand → Point → Point → Point → Point → Bool
@@ -33,7 +35,8 @@ is_met_before hand v u p q =
 abbrev pub IsMetBefore : Hand → Point → Point → Point → Point → Type 0
 IsMetBefore hand v u p q = is_met_before hand v u p q ≡ true
 
--- t is the step that leaves the end of s and that a ray there, turning by the hand from the way back along s, meets first
+-- t is the step that leaves the end of s and that a ray there, turning by the hand from the way back along s, meets
+-- first
 pub record IsNextStep (steps : List Step) (hand : Hand) (s t : Step) : Type 0 where
   pub among : Contains steps t
   pub leaves : t.from ≡ s.to

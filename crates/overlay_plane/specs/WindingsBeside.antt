@@ -19,10 +19,14 @@ winding_on_side right count es e s = cond (point_eq e.a s.from) (winding_below c
 
 -- each edge that counts has a step of the set along it
 abbrev pub CountsSteps : (CountedEdge → ℤ) → List CountedEdge → List Step → Type 0
-CountsSteps count es steps = (e : CountedEdge) → Contains es e → (count e ≡ pos 0) ⊎ ((s : Step) × Contains steps s × IsStepAlong es e s)
+CountsSteps count es steps = (e : CountedEdge) → Contains es e →
+    (count e ≡ pos 0) ⊎ ((s : Step) × Contains steps s × IsStepAlong es e s)
 
--- beside a step and the next one by a hand, the winding on the side of that hand is the same, for any balanced count of edges of the set
+-- beside a step and the next one by a hand, the winding on the side of that hand is the same, for any balanced count of
+-- edges of the set
 abbrev pub OneWindingToTheNextStep : Type 0
-OneWindingToTheNextStep = (count : CountedEdge → ℤ) (es : List CountedEdge) → IsBalancedArrangement count es → (steps : List Step) → Alternates steps →
-    CountsSteps count es steps → (hand : Hand) (s t : Step) → Contains steps s → IsNextStep steps hand s t → (e f : CountedEdge) → IsStepAlong es e s →
+OneWindingToTheNextStep = (count : CountedEdge → ℤ) (es : List CountedEdge) → IsBalancedArrangement count es →
+    (steps : List Step) → Alternates steps →
+    CountsSteps count es steps → (hand : Hand) (s t : Step) → Contains steps s → IsNextStep steps hand s t →
+    (e f : CountedEdge) → IsStepAlong es e s →
     IsStepAlong es f t → winding_on_side hand count es e s ≡ winding_on_side hand count es f t

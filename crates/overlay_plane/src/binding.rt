@@ -22,8 +22,8 @@ pub fn below_an_anchor_is_under()
     ensures { BelowAnAnchorIsUnder }
 {}
 
-/// Of two edges over an abscissa that meet in ends alone the one that is lower there, by height and then by slope, is under
-/// the other just right of it.
+/// Of two edges over an abscissa that meet in ends alone the one that is lower there, by height and then by slope, is
+/// under the other just right of it.
 pub fn lower_at_is_under()
     ensures { LowerAtIsUnder }
 {}
@@ -58,8 +58,8 @@ pub fn shapes_have_each_step()
     ensures { ShapesHaveEachStep }
 {}
 
-/// The shapes of the contours that selected steps are cut into, as they are or thinned, wind once round each point where the rule holds, and zero
-/// times round each other one.
+/// The shapes of the contours that selected steps are cut into, as they are or thinned, wind once round each point
+/// where the rule holds, and zero times round each other one.
 pub fn shapes_wind()
     ensures { ShapesWind }
 {}

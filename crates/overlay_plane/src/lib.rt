@@ -1,5 +1,6 @@
-//! The mathematics of the plane that the overlay crates rest on: edges over a vertical line, balance, windings, regions, nodes and orbits.
-//! Each function here does nothing when it runs: its contract is a law, and the check proves it.
+//! The mathematics of the plane that the overlay crates rest on: edges over a vertical line, balance, windings,
+//! regions, nodes and orbits. Each function here does nothing when it runs: its contract is a law, and the check proves
+//! it.
 #![tactic(auto)]
 
 pub mod adding;
@@ -11,6 +12,7 @@ pub mod contour_winding;
 pub mod contours;
 pub mod cutting;
 pub mod greatest;
+pub mod groups;
 pub mod leftmost;
 pub mod meeting;
 pub mod next_step;
@@ -18,6 +20,7 @@ pub mod next_winding;
 pub mod node;
 pub mod orbit;
 pub mod order;
+pub mod predicates;
 pub mod rays;
 pub mod region;
 pub mod selected;

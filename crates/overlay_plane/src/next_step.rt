@@ -13,13 +13,14 @@ pub fn steps_that_lead_on_have_one_next()
     ensures { StepsThatLeadOnHaveOneNext }
 {}
 
-/// A part of a set that leads on, that holds a step exactly where it holds its next step, leads on, and so does the rest,
-/// with the same next steps.
+/// A part of a set that leads on, that holds a step exactly where it holds its next step, leads on, and so does the
+/// rest, with the same next steps.
 pub fn closed_parts_lead_on()
     ensures { ClosedPartsLeadOn }
 {}
 
-/// In a set of steps that alternates each step has one next step by a hand, its neighbour at the node, and is the next step of one step.
+/// In a set of steps that alternates each step has one next step by a hand, its neighbour at the node, and is the next
+/// step of one step.
 pub fn next_is_one_to_one()
     ensures { NextIsOneToOne }
 {}

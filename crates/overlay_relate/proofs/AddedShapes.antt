@@ -1,5 +1,6 @@
 -- Shapes, added to a builder for predicates one after another.
-use Rattle.std.proofs.Common.{◌≡◌, inl, ℕ, ◌+◌, ◌<◌, ◌^◌, true, false, List, [], ◌++◌, length, take, drop, get_or, flat_map, take-append-drop, refl, sym, ap, subst, is_ok, true≢false, ◌∙◌}
+use Rattle.std.proofs.Common.{◌≡◌, inl, ℕ, ◌+◌, ◌<◌, ◌^◌, true, false, List, [], ◌++◌, length, take, drop, get_or}
+use Rattle.std.proofs.Common.{flat_map, take-append-drop, refl, sym, ap, subst, is_ok, true≢false, ◌∙◌}
 use Rattle.std.proofs.lemmas.Bool.{false≢true}
 use Rattle.std.proofs.lemmas.Grind.{flat_map-append}
 use Rattle.std.proofs.lemmas.List.{map-append}
@@ -31,7 +32,8 @@ module _ (b : PredicateBuilder) where
   }
 
   -- one that has failed refuses them
-  pub failed_refuses : (ps : List GivenPath) → b.failed ≡ true → weight b.edges < 2 ^ 31 → AddsAsAsked {V = Unit {0}} ps b b (Err Failed)
+  pub failed_refuses : (ps : List GivenPath) → b.failed ≡ true → weight b.edges < 2 ^ 31 →
+      AddsAsAsked {V = Unit {0}} ps b b (Err Failed)
   failed_refuses ps had light = record {
     added = record {
       ok = tt;
@@ -44,7 +46,8 @@ module _ (b : PredicateBuilder) where
     kept = refl;
   }
 
-module _ {X : Type 0} (paths_of : X → List (List Point)) (t : ShapeType) (xs : List X) (i : ℕ) (x : X) (within : i < length xs)
+module _ {X : Type 0} (paths_of : X → List (List Point)) (t : ShapeType) (xs : List X) (i : ℕ) (x : X)
+    (within : i < length xs)
     (is : x ≡ get_or xs i x) (old now new : PredicateBuilder) where
   -- the paths of the shapes before this one, of this one, and of those behind it
   abbrev so_far : List GivenPath
@@ -57,7 +60,8 @@ module _ {X : Type 0} (paths_of : X → List (List Point)) (t : ShapeType) (xs :
   behind = paths_for t (flat_map paths_of (drop (i + 1) xs))
 
   up_to : paths_for t (flat_map paths_of (take (i + 1) xs)) ≡ so_far ++ here
-  up_to = ap (paths_for t) (joined_more paths_of xs i x within is) ∙ map-append _ (flat_map paths_of (take i xs)) (paths_of x)
+  up_to = ap (paths_for t) (joined_more paths_of xs i x within is) ∙ map-append _ (flat_map paths_of (take i xs))
+      (paths_of x)
 
   all_paths : paths_for t (flat_map paths_of xs) ≡ (so_far ++ here) ++ behind
   all_paths =
@@ -71,11 +75,13 @@ module _ {X : Type 0} (paths_of : X → List (List Point)) (t : ShapeType) (xs :
     pub next_shape_added : AddsAsAsked {V = Unit {0}} here now new (Ok tt)
         → AddsAsAsked {V = Unit {0}} (paths_for t (flat_map paths_of (take (i + 1) xs))) old new (Ok tt)
     next_shape_added h =
-        subst (λ l. AddsAsAsked {V = Unit {0}} l old new (Ok tt)) (sym up_to) (both_sources so_far here old now new tt before (Ok tt) h)
+        subst (λ l. AddsAsAsked {V = Unit {0}} l old new (Ok tt)) (sym up_to)
+        (both_sources so_far here old now new tt before (Ok tt) h)
 
     -- or refused
     pub next_shape_refused : (e : OverlayError) → AddsAsAsked {V = Unit {0}} here now new (Err e)
         → AddsAsAsked {V = Unit {0}} (paths_for t (flat_map paths_of xs)) old new (Err e)
     next_shape_refused e h =
         subst (λ l. AddsAsAsked {V = Unit {0}} l old new (Err e)) (sym all_paths)
-        (first_source_refused (so_far ++ here) behind old new e (both_sources so_far here old now new tt before (Err e) h))
+        (first_source_refused (so_far ++ here) behind old new e
+        (both_sources so_far here old now new tt before (Err e) h))

@@ -1,5 +1,7 @@
--- Points with their places, in the order of the sweep: told of each in that order, it is told of the points in their own.
-use Rattle.std.proofs.Common.{◌≡◌, ℕ, ◌+◌, ◌<◌, ◌≤◌, ℤ, ◌≤ℤ◌, int_lt, Bool, List, length, take, drop, get_or, sym, ◌∙◌, subst, arith}
+-- Points with their places, in the order of the sweep: told of each in that order, it is told of the points in their
+-- own.
+use Rattle.std.proofs.Common.{◌≡◌, ℕ, ◌+◌, ◌<◌, ◌≤◌, ℤ, ◌≤ℤ◌, int_lt, Bool, List, length, take, drop, get_or, sym, ◌∙◌}
+use Rattle.std.proofs.Common.{subst, arith}
 use Rattle.std.specs.Cmp.{IsStrictWeakOrder}
 use Rattle.std.specs.List.{All, AllPairs}
 use Rattle.std.specs.List.Sorted.{IsPermutation, IsSortedBy}
@@ -16,7 +18,8 @@ use Rattle.overlay_relate.specs.Queries.{plain_query, plain_queries, AreQueries}
 use Rattle.overlay_relate.specs.declared.queries.Query.{Query}
 
 -- sorted, they are the queries
-pub queries_sorted : (points : List Point) (qs rs : List (Numbered Point)) → qs ≡ numbered 0 points → IsPermutation qs rs
+pub queries_sorted : (points : List Point) (qs rs : List (Numbered Point)) → qs ≡ numbered 0 points →
+    IsPermutation qs rs
     → AllPairs (λ q r. q.item.x ≤ℤ r.item.x) rs → AreQueries points rs
 queries_sorted points qs rs is moved order = record {
   numbered = numbered_shuffled points rs (subst (λ ns. IsPermutation ns rs) is moved);
@@ -30,26 +33,34 @@ module _ {I : Type 0} (whole : I → ℤ) where
 
   pub is_left-order : IsStrictWeakOrder is_left
   is_left-order = record {
-    one_way = λ q r t. let less = lt_from_test (whole q.point.x) (whole r.point.x) t in test_from_ge (whole r.point.x) (whole q.point.x) (omega (arith, ints));
-    chain = λ q r s t u. let a = ge_from_test (whole q.point.x) (whole r.point.x) t in let b = ge_from_test (whole r.point.x) (whole s.point.x) u in
+    one_way = λ q r t. let less = lt_from_test (whole q.point.x) (whole r.point.x) t in
+        test_from_ge (whole r.point.x) (whole q.point.x) (omega (arith, ints));
+    chain = λ q r s t u. let a = ge_from_test (whole q.point.x) (whole r.point.x) t in
+        let b = ge_from_test (whole r.point.x) (whole s.point.x) u in
         test_from_ge (whole q.point.x) (whole s.point.x) (omega (arith, ints));
   }
 
-  pub by_x-from_sorted : (qs : List (Query I)) → IsSortedBy is_left qs → AllPairs (λ q r. q.item.x ≤ℤ r.item.x) (plain_queries whole qs)
+  pub by_x-from_sorted : (qs : List (Query I)) → IsSortedBy is_left qs → AllPairs (λ q r. q.item.x ≤ℤ r.item.x)
+      (plain_queries whole qs)
   by_x-from_sorted qs up = AllPairs-map (λ (q r : Numbered Point). q.item.x ≤ℤ r.item.x) (plain_query whole) qs
-      (λ j k d l m. ge_from_test (whole (get_or qs k d).point.x) (whole (get_or qs j d).point.x) (sorted_far is_left is_left-order qs up j k d (omega (arith, l)) m))
+      (λ j k d l m. ge_from_test (whole (get_or qs k d).point.x) (whole (get_or qs j d).point.x)
+      (sorted_far is_left is_left-order qs up j k d (omega (arith, l)) m))
 
 -- the queries after one lie no further left
-pub later_queries : (qs : List (Numbered Point)) → AllPairs (λ q r. q.item.x ≤ℤ r.item.x) qs → (i : ℕ) (q : Numbered Point) → i < length qs → get_or qs i q ≡ q →
+pub later_queries : (qs : List (Numbered Point)) → AllPairs (λ q r. q.item.x ≤ℤ r.item.x) qs →
+    (i : ℕ) (q : Numbered Point) → i < length qs → get_or qs i q ≡ q →
     All (λ r. q.item.x ≤ℤ r.item.x) (drop (i + 1) qs)
 later_queries qs order i q lt is k d h =
     let count = length-drop (i + 1) qs in
     subst (λ (r : Numbered Point). q.item.x ≤ℤ r.item.x) (sym (get_or-drop (i + 1) qs k d))
-    (subst (λ (t : Numbered Point). t.item.x ≤ℤ (get_or qs (i + 1 + k) d).item.x) (get_or_default qs i d q lt ∙ is) (order i (i + 1 + k) d (omega arith) (omega arith)))
+    (subst (λ (t : Numbered Point). t.item.x ≤ℤ (get_or qs (i + 1 + k) d).item.x) (get_or_default qs i d q lt ∙ is)
+    (order i (i + 1 + k) d (omega arith) (omega arith)))
 
 -- where all queries are answered, so are the points in their order
-pub all_answered : {Y : Type 0} (P : Point → Y → Type 0) (d : Y) (points : List Point) (qs : List (Numbered Point)) → AreNumbered points qs →
-    (answers : List Y) → length answers ≡ length points → (i : ℕ) → length qs ≤ i → All (λ r. P r.item (get_or answers r.place d)) (take i qs) →
+pub all_answered : {Y : Type 0} (P : Point → Y → Type 0) (d : Y) (points : List Point) (qs : List (Numbered Point)) →
+    AreNumbered points qs →
+    (answers : List Y) → length answers ≡ length points → (i : ℕ) → length qs ≤ i →
+    All (λ r. P r.item (get_or answers r.place d)) (take i qs) →
     AnswersEach P points answers
 all_answered P d points qs asked answers counted i past told = record {
   counted = counted;

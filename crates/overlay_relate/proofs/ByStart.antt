@@ -21,21 +21,26 @@ use Rattle.overlay_relate.specs.declared.wide_edge.WideEdge.{WideEdge}
 use Rattle.overlay_relate.proofs.Insides.{distinct, settled}
 
 -- sorted, the edges that are not vertical are those by start
-pub by_start_sorted : (es : List Edge) → AreOfContour es → (gs fs : List Edge) → gs ≡ filter is_wide es → IsPermutation gs fs →
+pub by_start_sorted : (es : List Edge) → AreOfContour es → (gs fs : List Edge) → gs ≡ filter is_wide es →
+    IsPermutation gs fs →
     AllPairs (λ e f. is_anchored_before f e ≡ false) fs → AreByStart es fs
 by_start_sorted es of gs fs is moved order = record {
   from = λ e c. (kept e c).0;
-  all = λ e c wide. Contains-permutation gs fs e moved (subst (λ hs. Contains hs e) (sym is) (Contains-filter is_wide es e c (test_from_lt e.a.x e.b.x wide)));
+  all = λ e c wide. Contains-permutation gs fs e moved
+      (subst (λ hs. Contains hs e) (sym is) (Contains-filter is_wide es e c (test_from_lt e.a.x e.b.x wide)));
   sweepable = record {
     wide = all_of_entries (λ e. e.a.x <ℤ e.b.x) fs (λ e c. lt_from_test e.a.x e.b.x (kept e c).1);
     settled = λ e f c d. settled es of e f (kept e c).0 (kept f d).0;
-    distinct = pairs_shuffled edge_eq edge_eq-exchanged gs fs moved (subst (AllPairs (λ e f. edge_eq e f ≡ false)) (sym is) (AllPairs-filter (λ e f. edge_eq e f ≡ false) is_wide es (distinct es of)));
+    distinct = pairs_shuffled edge_eq edge_eq-exchanged gs fs moved
+        (subst (AllPairs (λ e f. edge_eq e f ≡ false)) (sym is) (AllPairs-filter (λ e f. edge_eq e f ≡ false) is_wide es
+        (distinct es of)));
     order = order;
   };
 }
   where
     kept : (e : Edge) → Contains fs e → Contains es e × (is_wide e ≡ true)
-    kept e c = Contains-from_filter is_wide es e (subst (λ hs. Contains hs e) is (Contains-permutation fs gs e (IsPermutation-sym gs fs moved) c))
+    kept e c = Contains-from_filter is_wide es e
+        (subst (λ hs. Contains hs e) is (Contains-permutation fs gs e (IsPermutation-sym gs fs moved) c))
 
 module _ {I W U : Type 0} (i : IntGhosts I W U) (w : WideGhosts W) (u : UIntGhosts U) where
   -- each leads forward

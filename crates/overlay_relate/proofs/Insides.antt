@@ -1,13 +1,17 @@
--- Whether it is inside above an edge of a resolved contour, from the greatest edge under it, and at a point, from the greatest edge below it.
-use Rattle.std.proofs.Common.{◌≡◌, ◌⊎◌, ⊎_elim, inl, inr, ◌<◌, Bool, true, false, not, cond, ℤ, pos, negsuc, ◌+ℤ◌, ◌<ℤ◌, List, [], ◌∷◌, map, get_or, Contains, refl, sym, ap, ap₂, ◌∙◌, subst, arith}
+-- Whether it is inside above an edge of a resolved contour, from the greatest edge under it, and at a point, from the
+-- greatest edge below it.
+use Rattle.std.proofs.Common.{◌≡◌, ◌⊎◌, ⊎_elim, inl, inr, ◌<◌, Bool, true, false, not, cond, ℤ, pos, negsuc, ◌+ℤ◌, ◌<ℤ◌}
+use Rattle.std.proofs.Common.{List, [], ◌∷◌, map, get_or, Contains, refl, sym, ap, ap₂, ◌∙◌, subst, arith}
 use Rattle.std.specs.List.{AllPairs}
 use Rattle.std.proofs.lemmas.Bool.{cases_lt, both_ways, false_from_ne_true}
 use Rattle.std.proofs.lemmas.Int.{ints}
 use Rattle.std.proofs.lemmas.List.{length-map, get_or-map, get_or_default}
 use Rattle.std.proofs.lemmas.List.Elements.{All-contains}
 use Rattle.std.proofs.Math.Nat.{eq-or-lt_of_le}
-use Rattle.overlay_geom.specs.Plane.{PlanePoint, Step, Edge, edge_eq, edge_of, steps_of, is_strictly_below, is_forward, midpoint, point_lt}
-use Rattle.overlay_geom.specs.Edges.{CountedEdge, ends_of, subj_of, subject_edge, winding_by, winding_below, winding_above}
+use Rattle.overlay_geom.specs.Plane.{PlanePoint, Step, Edge, edge_eq, edge_of, steps_of, is_strictly_below, is_forward}
+use Rattle.overlay_geom.specs.Plane.{midpoint, point_lt}
+use Rattle.overlay_geom.specs.Edges.{CountedEdge, ends_of, subj_of, subject_edge, winding_by, winding_below}
+use Rattle.overlay_geom.specs.Edges.{winding_above}
 use Rattle.overlay_geom.specs.Settled.{MeetInEnds, IsSettledBy}
 use Rattle.overlay_geom.proofs.OneLine.{meet_in_ends_exchanged, overlapping_do_not_meet_in_ends, holds_start, holds_end}
 use Rattle.overlay_geom.proofs.Orders.{edge_eq-same, edge_eq-itself}
@@ -32,7 +36,8 @@ ends_are [] = refl
 ends_are (s ∷ ss) = ap (λ es. edge_of s ∷ es) (ends_are ss)
 
 -- what holds of any two of what items are mapped to holds so of the items
-AllPairs-unmap : {X Y : Type 0} (R : Y → Y → Type 0) (f : X → Y) (xs : List X) → AllPairs R (map f xs) → AllPairs (λ x y. R (f x) (f y)) xs
+AllPairs-unmap : {X Y : Type 0} (R : Y → Y → Type 0) (f : X → Y) (xs : List X) → AllPairs R (map f xs) →
+    AllPairs (λ x y. R (f x) (f y)) xs
 AllPairs-unmap R f xs h i j d l m =
     subst (λ y. R y (f (get_or xs j d))) (get_or-map f xs i d (f d) (omega (arith, l, m)))
     (subst (λ y. R (get_or (map f xs) i (f d)) y) (get_or-map f xs j d (f d) m) (h i j (f d) l (rw length-map m)))
@@ -46,7 +51,8 @@ odd_turned false w = grind (arith, ints)
 not_with_itself : (e : Edge) → point_lt e.a e.b ≡ true → ¬ (MeetInEnds e e)
 not_with_itself e forward =
     let before = (Decides-point_lt e.a e.b).0 forward in
-    overlapping_do_not_meet_in_ends e e before before ((holds_start e before).on_line, (holds_end e before).on_line) before before
+    overlapping_do_not_meet_in_ends e e before before ((holds_start e before).on_line, (holds_end e before).on_line)
+    before before
 
 module _ (es : List Edge) (of : AreOfContour es) where
   -- any two edges meet in ends alone
@@ -56,14 +62,17 @@ module _ (es : List Edge) (of : AreOfContour es) where
   -- no edge stands twice
   pub distinct : AllPairs (λ e f. edge_eq e f ≡ false) es
   distinct i j d l m = false_from_ne_true (edge_eq (get_or es i d) (get_or es j d)) (λ same.
-      not_with_itself (get_or es j d) (of.forward j d m) (subst (λ (e : Edge). MeetInEnds e (get_or es j d)) (edge_eq-same (get_or es i d) (get_or es j d) same) (apart i j d l m)))
+      not_with_itself (get_or es j d) (of.forward j d m)
+      (subst (λ (e : Edge). MeetInEnds e (get_or es j d)) (edge_eq-same (get_or es i d) (get_or es j d) same)
+      (apart i j d l m)))
 
   -- two different edges meet in ends alone
   pub settled : IsSettledBy (λ e. e) es
   settled e f c d differ = ⊎_elim
       (λ before. ordered e f c d before)
       (λ after. ⊎_elim
-      (λ same. absurd (let here : e ≡ f = sym c.2 ∙ get_or_default es c.0 e f c.1 ∙ ap (λ n. get_or es n f) (sym same) ∙ d.2 in
+      (λ same. absurd (let here : e ≡ f = sym c.2 ∙ get_or_default es c.0 e f c.1 ∙ ap (λ n. get_or es n f) (sym same)
+      ∙ d.2 in
       both_ways (edge_eq e f) differ (subst (λ (g : Edge). edge_eq e g ≡ true) here (edge_eq-itself e))))
       (λ before. meet_in_ends_exchanged e f (ordered f e d c before)) (eq-or-lt_of_le after))
       (cases_lt c.0 d.0)
@@ -86,12 +95,14 @@ module _ (es : List Edge) (of : AreOfContour es) where
   counted_of e c = Contains-from_map ends_of counted e (subst (λ fs. Contains fs e) (sym ends) c)
 
   counted_distinct : HasDistinctEnds counted
-  counted_distinct = AllPairs-unmap (λ e f. edge_eq e f ≡ false) ends_of counted (subst (AllPairs (λ e f. edge_eq e f ≡ false)) (sym ends) distinct)
+  counted_distinct = AllPairs-unmap (λ e f. edge_eq e f ≡ false) ends_of counted
+      (subst (AllPairs (λ e f. edge_eq e f ≡ false)) (sym ends) distinct)
 
   -- they are balanced
   arrangement : IsBalancedArrangement subj_of counted
   arrangement = record {
-    forward = all_of_entries (λ k. point_lt k.a k.b ≡ true) counted (λ k c. All-contains (λ e. point_lt e.a e.b ≡ true) es (ends_of k) of.forward (of_counted k c));
+    forward = all_of_entries (λ k. point_lt k.a k.b ≡ true) counted
+        (λ k c. All-contains (λ e. point_lt e.a e.b ≡ true) es (ends_of k) of.forward (of_counted k c));
     settled = λ k l c d differ. settled (ends_of k) (ends_of l) (of_counted k c) (of_counted l d) differ;
     distinct = counted_distinct;
     balanced = (added_contours_are_balanced.subject of.contour).subj;
@@ -100,36 +111,44 @@ module _ (es : List Edge) (of : AreOfContour es) where
   -- the winding tells how many edges are below
   odd_is : (p : PlanePoint) → odd_below es p ≡ is_odd (winding_by subj_of counted p)
   odd_is p = ap (λ fs. odd_below fs p) of.is ∙ sym (odd_winding (steps_of of.contour) p)
-      ∙ ap is_odd (sym (total-map (λ k. cond (is_strictly_below (ends_of k) p) (subj_of k) (pos 0)) subject_edge (steps_of of.contour)))
+      ∙ ap is_odd (sym (total-map (λ k. cond (is_strictly_below (ends_of k) p) (subj_of k) (pos 0)) subject_edge
+      (steps_of of.contour)))
 
   -- above an edge it is inside where it is not below
-  turned : (k : CountedEdge) → Contains counted k → is_odd (winding_above subj_of counted k) ≡ not (is_odd (winding_below subj_of counted k))
+  turned : (k : CountedEdge) → Contains counted k → is_odd (winding_above subj_of counted k) ≡ not
+      (is_odd (winding_below subj_of counted k))
   turned k c =
       let found = Contains-from_map subject_edge (steps_of of.contour) k c in
       ap (λ (l : CountedEdge). is_odd (winding_below subj_of counted k +ℤ subj_of l)) (sym found.2)
       ∙ odd_turned (is_forward found.0) (winding_below subj_of counted k)
 
-  above_is : (k : CountedEdge) → Contains counted k → is_odd (winding_above subj_of counted k) ≡ inside_above es (ends_of k)
+  above_is : (k : CountedEdge) → Contains counted k → is_odd (winding_above subj_of counted k) ≡ inside_above es
+      (ends_of k)
   above_is k c = turned k c ∙ ap not (sym (odd_is (midpoint (ends_of k))))
 
   -- an entry with the same ends is the one
   one : (k l : CountedEdge) → Contains counted k → Contains counted l → ends_of k ≡ ends_of l → k ≡ l
-  one k l c d same = one_entry counted counted_distinct k l c d (subst (λ (e : Edge). edge_eq (ends_of k) e ≡ true) same (edge_eq-itself (ends_of k)))
+  one k l c d same = one_entry counted counted_distinct k l c d (subst (λ (e : Edge). edge_eq (ends_of k) e ≡ true) same
+      (edge_eq-itself (ends_of k)))
 
   -- ---- above an edge
 
   module _ (e : Edge) (c : Contains es e) (x d : ℤ) (positive : pos 0 <ℤ d) (over : covers e x d ≡ true) where
     -- where no edge is under it
-    pub inside_above_none : ((f : Edge) → Contains es f → covers f x d ≡ true → is_under f e x d ≡ false) → inside_above es e ≡ true
+    pub inside_above_none : ((f : Edge) → Contains es f → covers f x d ≡ true → is_under f e x d ≡ false) →
+        inside_above es e ≡ true
     inside_above_none none =
         let k = counted_of e c in
-        let below = nothing_under subj_of counted arrangement k.0 k.1 x d positive (subst (λ (f : Edge). covers f x d ≡ true) (sym k.2) over)
-        (λ f at over_f. subst (λ (g : Edge). is_under (ends_of f) g x d ≡ false) (sym k.2) (none (ends_of f) (of_counted f at) over_f)) in
+        let below = nothing_under subj_of counted arrangement k.0 k.1 x d positive
+        (subst (λ (f : Edge). covers f x d ≡ true) (sym k.2) over)
+        (λ f at over_f. subst (λ (g : Edge). is_under (ends_of f) g x d ≡ false) (sym k.2)
+        (none (ends_of f) (of_counted f at) over_f)) in
         subst (λ (f : Edge). inside_above es f ≡ true) k.2 (ap not (odd_is (midpoint (ends_of k.0)) ∙ ap is_odd below))
 
     -- from the greatest edge under it
     pub inside_above_next : (g : Edge) → Contains es g → covers g x d ≡ true → is_under g e x d ≡ true →
-        ((f : Edge) → Contains es f → covers f x d ≡ true → is_under f e x d ≡ true → (f ≡ g) ⊎ (is_under f g x d ≡ true)) →
+        ((f : Edge) → Contains es f → covers f x d ≡ true → is_under f e x d ≡ true →
+        (f ≡ g) ⊎ (is_under f g x d ≡ true)) →
         inside_above es e ≡ not (inside_above es g)
     inside_above_next g at_g over_g under greatest =
         let k = counted_of e c in
@@ -141,9 +160,11 @@ module _ (es : List Edge) (of : AreOfContour es) where
           greatest = λ f at over_f below. ⊎_elim
               (λ same. inl (one f l.0 at l.1 (same ∙ sym l.2)))
               (λ lower. inr (subst (λ (h : Edge). is_under (ends_of f) h x d ≡ true) (sym l.2) lower))
-              (greatest (ends_of f) (of_counted f at) over_f (subst (λ (h : Edge). is_under (ends_of f) h x d ≡ true) k.2 below));
+              (greatest (ends_of f) (of_counted f at) over_f
+              (subst (λ (h : Edge). is_under (ends_of f) h x d ≡ true) k.2 below));
         } in
-        let below = above_the_greatest_under subj_of counted arrangement k.0 k.1 x d positive (subst (λ (f : Edge). covers f x d ≡ true) (sym k.2) over) l.0 next in
+        let below = above_the_greatest_under subj_of counted arrangement k.0 k.1 x d positive
+        (subst (λ (f : Edge). covers f x d ≡ true) (sym k.2) over) l.0 next in
         ap (inside_above es) (sym k.2)
         ∙ ap not (odd_is (midpoint (ends_of k.0)) ∙ ap is_odd below ∙ above_is l.0 l.1)
         ∙ ap (λ (f : Edge). not (inside_above es f)) l.2
@@ -151,12 +172,15 @@ module _ (es : List Edge) (of : AreOfContour es) where
   -- ---- at a point
 
   -- where no edge is below it
-  pub even_where_none : (p : PlanePoint) → ((f : Edge) → Contains es f → is_strictly_below f p ≡ false) → odd_below es p ≡ false
-  even_where_none p none = odd_is p ∙ ap is_odd (winding_above_the_greatest_below.none subj_of counted p (λ f c. none (ends_of f) (of_counted f c)))
+  pub even_where_none : (p : PlanePoint) → ((f : Edge) → Contains es f → is_strictly_below f p ≡ false) →
+      odd_below es p ≡ false
+  even_where_none p none = odd_is p
+      ∙ ap is_odd (winding_above_the_greatest_below.none subj_of counted p (λ f c. none (ends_of f) (of_counted f c)))
 
   -- from the greatest edge below it
   pub odd_where_next : (p : PlanePoint) (g : Edge) → Contains es g → is_strictly_below g p ≡ true →
-      ((f : Edge) → Contains es f → is_strictly_below f p ≡ true → (f ≡ g) ⊎ (is_under f g p.x p.d ≡ true)) → odd_below es p ≡ inside_above es g
+      ((f : Edge) → Contains es f → is_strictly_below f p ≡ true → (f ≡ g) ⊎ (is_under f g p.x p.d ≡ true)) →
+      odd_below es p ≡ inside_above es g
   odd_where_next p g c below greatest =
       let l = counted_of g c in
       let next : IsGreatestBelow counted p l.0 = record {
@@ -167,4 +191,5 @@ module _ (es : List Edge) (of : AreOfContour es) where
             (λ lower. inr (subst (λ (h : Edge). is_under (ends_of f) h p.x p.d ≡ true) (sym l.2) lower))
             (greatest (ends_of f) (of_counted f at) low);
       } in
-      odd_is p ∙ ap is_odd (winding_above_the_greatest_below.above subj_of counted arrangement p l.0 next) ∙ above_is l.0 l.1 ∙ ap (inside_above es) l.2
+      odd_is p ∙ ap is_odd (winding_above_the_greatest_below.above subj_of counted arrangement p l.0 next)
+      ∙ above_is l.0 l.1 ∙ ap (inside_above es) l.2

@@ -13,22 +13,28 @@ use Rattle.overlay_relate.specs.PredicateBuilder.{PredicateBuilder, held_by, Add
 pub only_edges_new : (v old : PredicateBuilder) (es : List CountedEdge) (failed : Bool) → v ≡ old → failed ≡ v.failed
     → record v { edges = es; failed = failed } ≡ record old { edges = es }
 only_edges_new v old es failed is same =
-    ap {B = PredicateBuilder} (λ f. record v { edges = es; failed = f }) same ∙ ap {A = PredicateBuilder} (λ b. record b { edges = es }) is
+    ap {B = PredicateBuilder} (λ f. record v { edges = es; failed = f }) same
+    ∙ ap {A = PredicateBuilder} (λ b. record b { edges = es }) is
 
 module _ {V : Type 0} (ps qs : List GivenPath) (old mid : PredicateBuilder) where
   -- where one of the first paths is refused, the others are not added
-  pub first_source_refused : (e : OverlayError) → AddsAsAsked {V = V} ps old mid (Err e) → AddsAsAsked {V = V} (ps ++ qs) old mid (Err e)
+  pub first_source_refused : (e : OverlayError) → AddsAsAsked {V = V} ps old mid (Err e) →
+      AddsAsAsked {V = V} (ps ++ qs) old mid (Err e)
   first_source_refused e h = record {
-    added = subst (λ l. HeldAddsAsAsked {V = V} weight l (held_by old) (held_by mid) (Err e)) (sym (map-append (added_path false) ps qs))
+    added = subst (λ l. HeldAddsAsAsked {V = V} weight l (held_by old) (held_by mid) (Err e))
+        (sym (map-append (added_path false) ps qs))
         (first_refused weight (added_paths false ps) (added_paths false qs) (held_by old) (held_by mid) e h.added);
     kept = h.kept;
   }
 
   -- where the first ones are added, the others are added, or refused, after them
-  pub both_sources : (new : PredicateBuilder) (v : V) → AddsAsAsked ps old mid (Ok v) → (r : Result V OverlayError) → AddsAsAsked qs mid new r
+  pub both_sources : (new : PredicateBuilder) (v : V) → AddsAsAsked ps old mid (Ok v) → (r : Result V OverlayError) →
+      AddsAsAsked qs mid new r
       → AddsAsAsked (ps ++ qs) old new r
   both_sources new v first r h = record {
-    added = subst (λ l. HeldAddsAsAsked weight l (held_by old) (held_by new) r) (sym (map-append (added_path false) ps qs))
-        (both_added weight (added_paths false ps) (added_paths false qs) (held_by old) (held_by mid) (held_by new) v first.added r h.added);
+    added = subst (λ l. HeldAddsAsAsked weight l (held_by old) (held_by new) r)
+        (sym (map-append (added_path false) ps qs))
+        (both_added weight (added_paths false ps) (added_paths false qs) (held_by old) (held_by mid)
+        (held_by new) v first.added r h.added);
     kept = h.kept ∙ ap {A = PredicateBuilder} (λ b. record b { edges = new.edges }) first.kept;
   }

@@ -22,6 +22,7 @@ module _ {I : Type 0} (whole : I → ℤ) where
   }
 
   -- sorted edges are in order
-  pub in_order-from_sorted : (es : List (IntEdge I)) → IsSortedBy held_lt es → AllPairs (λ e f. edge_lt f e ≡ false) (plain_edges whole es)
+  pub in_order-from_sorted : (es : List (IntEdge I)) → IsSortedBy held_lt es → AllPairs (λ e f. edge_lt f e ≡ false)
+      (plain_edges whole es)
   in_order-from_sorted es up = AllPairs-map (λ (e f : Edge). edge_lt f e ≡ false) (plain_edge whole) es
       (λ j k d l m. sorted_far held_lt held_lt-order es up j k d (omega (arith, l)) m)

@@ -1,5 +1,7 @@
 -- A sweep over the first edges: what the next edge asks of it, and what it holds then.
-use Rattle.std.proofs.Common.{◌≡◌, ◌⊎◌, ⊎_elim, inl, inr, ℕ, zero, suc, ◌+◌, ◌<◌, true, false, ◌&&◌, ◌||◌, ℤ, pos, ◌≤ℤ◌, ◌<ℤ◌, int_lt, List, ◌∷◌, ◌++◌, length, drop, get_or, Contains, Some, refl, sym, ap, ap₂, ◌∙◌, subst, arith}
+use Rattle.std.proofs.Common.{◌≡◌, ◌⊎◌, ⊎_elim, inl, inr, ℕ, zero, suc, ◌+◌, ◌<◌, true, false, ◌&&◌, ◌||◌, ℤ, pos, ◌≤ℤ◌}
+use Rattle.std.proofs.Common.{◌<ℤ◌, int_lt, List, ◌∷◌, ◌++◌, length, drop, get_or, Contains, Some, refl, sym, ap, ap₂}
+use Rattle.std.proofs.Common.{◌∙◌, subst, arith}
 use Rattle.std.specs.Ordering.{int_eq}
 use Rattle.std.specs.List.{All}
 use Rattle.std.specs.Option.{IfSome}
@@ -21,13 +23,15 @@ use Rattle.overlay_plane.proofs.ShuffledSteps.{beside_one, one_or_beside}
 use Rattle.overlay_plane.proofs.Tests.{lt_from_test, test_from_lt}
 use Rattle.overlay_plane.proofs.Under.{covers_to, under_irreflexive}
 use Rattle.overlay_plane.proofs.WhereEdgesStart.{covers_start}
-use Rattle.overlay_scan.specs.Scan.{Entry, Sweep, empty_sweep, live_at, moved_to, MayMoveTo, IsAsked, IsOver, AreLive, IsSweep, MeetsOthers, IsNewAmong, IsPutIn}
+use Rattle.overlay_scan.specs.Scan.{Entry, Sweep, empty_sweep, live_at, moved_to, MayMoveTo, IsAsked, IsOver, AreLive}
+use Rattle.overlay_scan.specs.Scan.{IsSweep, MeetsOthers, IsNewAmong, IsPutIn}
 use Rattle.overlay_scan.proofs.EntriesByStart.{start_order, below_is_before}
 use Rattle.overlay_scan.proofs.Moving.{live_after_move}
 use Rattle.overlay_relate.specs.Sweeps.{AreSweepable, IsSwept}
 
 -- what is live after a move is live and in order
-pub live_are : (limit : ℕ) (x : ℤ) (s : Sweep ℕ) → IsSweep limit s → MayMoveTo x s → AreLive limit x (live_at x s.entries)
+pub live_are : (limit : ℕ) (x : ℤ) (s : Sweep ℕ) → IsSweep limit s → MayMoveTo x s →
+    AreLive limit x (live_at x s.entries)
 live_are limit x s state moves = live_after_move limit x s.entries s.reached state moves
 
 -- before the sweep nothing is put in
@@ -39,7 +43,8 @@ nothing_swept limit fs s is = subst (IsSwept limit fs 0) (sym is) (record {
   all = λ i e lt at x may ends. absurd (omega (arith, lt));
 })
 
-module _ (fs : List Edge) (sweepable : AreSweepable fs) (n : ℕ) (e : Edge) (lt : n < length fs) (is : get_or fs n e ≡ e) where
+module _ (fs : List Edge) (sweepable : AreSweepable fs) (n : ℕ) (e : Edge) (lt : n < length fs)
+    (is : get_or fs n e ≡ e) where
   -- from the next edge on all start no further left
   pub later_starts : All (λ f. e.a.x ≤ℤ f.a.x) (drop n fs)
   later_starts k d h = subst (λ (f : Edge). e.a.x ≤ℤ f.a.x) (sym (get_or-drop n fs k d)) (by k h)
@@ -47,11 +52,13 @@ module _ (fs : List Edge) (sweepable : AreSweepable fs) (n : ℕ) (e : Edge) (lt
       by : (k : ℕ) → k < length (drop n fs) → e.a.x ≤ℤ (get_or fs (n + k) d).a.x
       by zero h =
           let here : n ≡ n + 0 = omega arith in
-          subst (λ (f : Edge). e.a.x ≤ℤ f.a.x) (sym is ∙ get_or_default fs n e d lt ∙ ap (λ m. get_or fs m d) here) (omega (arith, ints))
+          subst (λ (f : Edge). e.a.x ≤ℤ f.a.x) (sym is ∙ get_or_default fs n e d lt ∙ ap (λ m. get_or fs m d) here)
+          (omega (arith, ints))
       by (suc k) h =
           let l = length-drop n fs in
           start_order e (get_or fs (n + suc k) d)
-          (subst (λ (f : Edge). is_anchored_before (get_or fs (n + suc k) d) f ≡ false) (get_or_default fs n d e lt ∙ is)
+          (subst (λ (f : Edge). is_anchored_before (get_or fs (n + suc k) d) f ≡ false)
+          (get_or_default fs n d e lt ∙ is)
           (sweepable.order n (n + suc k) d (omega arith) (omega arith)))
 
   -- where it starts right of x, so do those after it
@@ -82,7 +89,12 @@ module _ (fs : List Edge) (sweepable : AreSweepable fs) (n : ℕ) (e : Edge) (lt
 
   -- the scan may be asked for it
   pub is_asked : (limit : ℕ) → InRange limit e.a → InRange limit e.b → IsAsked limit e.a.x e
-  is_asked limit a_in_range b_in_range = record { a_in_range = a_in_range; b_in_range = b_in_range; forward = forward; starts = refl }
+  is_asked limit a_in_range b_in_range = record {
+    a_in_range = a_in_range;
+    b_in_range = b_in_range;
+    forward = forward;
+    starts = refl;
+  }
 
   pub is_over : (limit : ℕ) → InRange limit e.a → InRange limit e.b → IsOver limit e.a.x e
   is_over limit a_in_range b_in_range = record { a_in_range = a_in_range; b_in_range = b_in_range; over = over }
@@ -90,10 +102,12 @@ module _ (fs : List Edge) (sweepable : AreSweepable fs) (n : ℕ) (e : Edge) (lt
   module _ (limit : ℕ) (s : Sweep ℕ) (swept : IsSwept limit fs n s) where
     -- the sweep may move to where it starts
     pub may_move : MayMoveTo e.a.x s
-    may_move = All-head (λ f. MayMoveTo f.a.x s) e (drop (n + 1) fs) (subst (All (λ f. MayMoveTo f.a.x s)) rest swept.moves)
+    may_move = All-head (λ f. MayMoveTo f.a.x s) e (drop (n + 1) fs)
+        (subst (All (λ f. MayMoveTo f.a.x s)) rest swept.moves)
 
     -- a live entry stands before it
-    pub live_from : (f : Entry ℕ) → Contains (live_at e.a.x s.entries) f → (f.value < n) × (get_or fs f.value f.edge ≡ f.edge)
+    pub live_from : (f : Entry ℕ) → Contains (live_at e.a.x s.entries) f →
+        (f.value < n) × (get_or fs f.value f.edge ≡ f.edge)
     live_from f c = swept.from f (Contains-from_filter (λ g. int_lt e.a.x g.edge.b.x) s.entries f c).0
 
     -- and has another edge
@@ -101,7 +115,8 @@ module _ (fs : List Edge) (sweepable : AreSweepable fs) (n : ℕ) (e : Edge) (lt
     new_among f c =
         let at = live_from f c in
         edge_eq-flip f.edge e (subst (λ (g : Edge). edge_eq f.edge g ≡ false) is
-        (subst (λ (g : Edge). edge_eq g (get_or fs n e) ≡ false) (get_or_default fs f.value e f.edge (let less = at.0 in omega arith) ∙ at.1)
+        (subst (λ (g : Edge). edge_eq g (get_or fs n e) ≡ false) (get_or_default fs f.value e f.edge (let less = at.0 in
+        omega arith) ∙ at.1)
         (sweepable.distinct f.value n e at.0 lt)))
 
     pub fresh : IsNewAmong e (live_at e.a.x s.entries)
@@ -110,10 +125,12 @@ module _ (fs : List Edge) (sweepable : AreSweepable fs) (n : ℕ) (e : Edge) (lt
     -- that it meets in ends alone
     pub meets : MeetsOthers e (live_at e.a.x s.entries)
     meets = all_of_entries (λ f. edge_eq e f.edge ≡ false → MeetInEnds e f.edge) (live_at e.a.x s.entries)
-        (λ f c differ. let at = live_from f c in sweepable.settled e f.edge own (f.value, (let less = at.0 in omega arith), at.1) differ)
+        (λ f c differ. let at = live_from f c in
+        sweepable.settled e f.edge own (f.value, (let less = at.0 in omega arith), at.1) differ)
 
     -- an edge over the start and under the next edge is live
-    pub under_live : (h : Edge) → Contains fs h → point_lt e.a e.b ≡ true → point_lt h.a h.b ≡ true → covers h e.a.x (pos 1) ≡ true → is_under h e e.a.x (pos 1) ≡ true →
+    pub under_live : (h : Edge) → Contains fs h → point_lt e.a e.b ≡ true → point_lt h.a h.b ≡ true →
+        covers h e.a.x (pos 1) ≡ true → is_under h e e.a.x (pos 1) ≡ true →
         (f : Entry ℕ) × Contains (live_at e.a.x s.entries) f × (f.edge ≡ h)
     under_live h c forward_e forward_h over_h under = (
       record { edge = h; value = c.0 },
@@ -127,7 +144,8 @@ module _ (fs : List Edge) (sweepable : AreSweepable fs) (n : ℕ) (e : Edge) (lt
 
         differ : edge_eq e h ≡ false
         differ = false_from_ne_true (edge_eq e h) (λ same. both_ways (is_under h e e.a.x (pos 1))
-            (subst (λ (g : Edge). is_under g e e.a.x (pos 1) ≡ false) (edge_eq-same e h same) (under_irreflexive e e.a.x (pos 1))) under)
+            (subst (λ (g : Edge). is_under g e e.a.x (pos 1) ≡ false) (edge_eq-same e h same)
+            (under_irreflexive e e.a.x (pos 1))) under)
 
         below : is_below_anchor e h ≡ true
         below = below_an_anchor_is_under e h forward_e forward_h (inr (sweepable.settled e h own c differ)) over
@@ -144,18 +162,23 @@ module _ (fs : List Edge) (sweepable : AreSweepable fs) (n : ℕ) (e : Edge) (lt
                 (sym is ∙ get_or_default fs n e h lt ∙ ap (λ m. get_or fs m h) here ∙ c.2) (edge_eq-itself e))
             later (inr after) = both_ways (is_anchored_before h e)
                 (subst (λ (g : Edge). is_anchored_before g e ≡ false) c.2
-                (subst (λ (g : Edge). is_anchored_before (get_or fs c.0 h) g ≡ false) (get_or_default fs n h e lt ∙ is) (sweepable.order n c.0 h after c.1))) before
+                (subst (λ (g : Edge). is_anchored_before (get_or fs c.0 h) g ≡ false) (get_or_default fs n h e lt ∙ is)
+                (sweepable.order n c.0 h after c.1))) before
 
     -- put in, it is one of the edges of the sweep
-    pub put_in : (t : Sweep ℕ) → IsPutIn e.a.x (record { edge = e; value = n }) (live_at e.a.x s.entries) t.entries → t.reached ≡ Some e.a.x → IsSweep limit t →
+    pub put_in : (t : Sweep ℕ) → IsPutIn e.a.x (record { edge = e; value = n }) (live_at e.a.x s.entries) t.entries →
+        t.reached ≡ Some e.a.x → IsSweep limit t →
         IsSwept limit fs (n + 1) t
     put_in t put reached state = record {
       state = state;
       moves = subst (λ o. All (λ f. IfSome o (λ r. r ≤ℤ f.a.x)) (drop (n + 1) fs)) (sym reached) later_after;
       from = λ f c. ⊎_elim
-          (λ new. subst (λ (g : Entry ℕ). (g.value < n + 1) × (get_or fs g.value g.edge ≡ g.edge)) new (omega arith, is))
-          (λ old. let at = live_from f (subst (λ gs. Contains gs f) (sym put.live_is) old) in ((let less = at.0 in omega arith), at.1))
-          (one_or_beside put.before (record { edge = e; value = n }) put.after f (subst (λ gs. Contains gs f) put.new_is c));
+          (λ new. subst (λ (g : Entry ℕ). (g.value < n + 1) × (get_or fs g.value g.edge ≡ g.edge)) new
+          (omega arith, is))
+          (λ old. let at = live_from f (subst (λ gs. Contains gs f) (sym put.live_is) old) in
+          ((let less = at.0 in omega arith), at.1))
+          (one_or_beside put.before (record { edge = e; value = n }) put.after f
+          (subst (λ gs. Contains gs f) put.new_is c));
       all = λ i h less at x may ends. subst (λ gs. Contains gs (record { edge = h; value = i })) (sym put.new_is)
           (held i h less at x (subst (λ o. IfSome o (λ r. r ≤ℤ x)) reached may) ends);
     }
@@ -164,12 +187,15 @@ module _ (fs : List Edge) (sweepable : AreSweepable fs) (n : ℕ) (e : Edge) (lt
             Contains (put.before ++ record { edge = e; value = n } ∷ put.after) (record { edge = h; value = i })
         held i h less at x later ends = ⊎_elim
             (λ early. let far : e.a.x <ℤ h.b.x = omega (arith, ints) in
-            beside_one put.before (record { edge = e; value = n }) put.after (record { edge = h; value = i }) (subst (λ gs. Contains gs (record { edge = h; value = i })) put.live_is
-            (Contains-filter (λ g. int_lt e.a.x g.edge.b.x) s.entries (record { edge = h; value = i }) (swept.all i h early at e.a.x may_move far)
+            beside_one put.before (record { edge = e; value = n }) put.after (record { edge = h; value = i })
+            (subst (λ gs. Contains gs (record { edge = h; value = i })) put.live_is
+            (Contains-filter (λ g. int_lt e.a.x g.edge.b.x) s.entries (record { edge = h; value = i })
+            (swept.all i h early at e.a.x may_move far)
             (test_from_lt e.a.x h.b.x far))))
             (λ more. let here : n ≡ i = omega (arith, less, more) in
             subst (λ (g : Entry ℕ). Contains (put.before ++ record { edge = e; value = n } ∷ put.after) g) (same here)
-            (Contains-append_right put.before (record { edge = e; value = n } ∷ put.after) (record { edge = e; value = n })
+            (Contains-append_right put.before (record { edge = e; value = n } ∷ put.after)
+            (record { edge = e; value = n })
             (Contains-head (record { edge = e; value = n }) put.after)))
             (cases_lt i n)
           where
@@ -181,12 +207,14 @@ module _ (fs : List Edge) (sweepable : AreSweepable fs) (n : ℕ) (e : Edge) (lt
                 (sym is ∙ get_or_default fs n e h lt ∙ ap (λ m. get_or fs m h) here ∙ at) here
 
 -- the sweep moves on, no further than to where the edges left start
-pub moved_on : (limit : ℕ) (fs : List Edge) (n : ℕ) (s : Sweep ℕ) → IsSwept limit fs n s → (x : ℤ) → MayMoveTo x s → All (λ f. x ≤ℤ f.a.x) (drop n fs) →
+pub moved_on : (limit : ℕ) (fs : List Edge) (n : ℕ) (s : Sweep ℕ) → IsSwept limit fs n s → (x : ℤ) → MayMoveTo x s →
+    All (λ f. x ≤ℤ f.a.x) (drop n fs) →
     (t : Sweep ℕ) → t ≡ moved_to x s → IsSweep limit t → IsSwept limit fs n t
 moved_on limit fs n s swept x moves later t is state = subst (IsSwept limit fs n) (sym is) (record {
   state = subst (IsSweep limit) is state;
   moves = later;
   from = λ f c. swept.from f (Contains-from_filter (λ g. int_lt x g.edge.b.x) s.entries f c).0;
   all = λ i e less at y may ends. let far : x <ℤ e.b.x = omega (arith, ints) in
-      Contains-filter (λ g. int_lt x g.edge.b.x) s.entries (record { edge = e; value = i }) (swept.all i e less at x moves far) (test_from_lt x e.b.x far);
+      Contains-filter (λ g. int_lt x g.edge.b.x) s.entries (record { edge = e; value = i })
+      (swept.all i e less at x moves far) (test_from_lt x e.b.x far);
 })

@@ -1,5 +1,7 @@
 -- It is inside above the next edge where it is not inside above the highest live edge under it.
-use Rattle.std.proofs.Common.{◌≡◌, ◌⊎◌, ⊎_elim, inl, inr, ℕ, ◌<◌, Bool, true, false, not, ◌&&◌, ℤ, pos, ◌<ℤ◌, List, [], ◌∷◌, ◌++◌, length, take, get_or, Contains, Option, None, Some, refl, sym, ap, ◌∙◌, subst, arith}
+use Rattle.std.proofs.Common.{◌≡◌, ◌⊎◌, ⊎_elim, inl, inr, ℕ, ◌<◌, Bool, true, false, not, ◌&&◌, ℤ, pos, ◌<ℤ◌, List, []}
+use Rattle.std.proofs.Common.{◌∷◌, ◌++◌, length, take, get_or, Contains, Option, None, Some, refl, sym, ap, ◌∙◌, subst}
+use Rattle.std.proofs.Common.{arith}
 use Rattle.std.specs.List.{filter}
 use Rattle.std.proofs.lemmas.Bool.{false_from_ne_true}
 use Rattle.std.proofs.lemmas.Int.{ints}
@@ -23,15 +25,19 @@ use Rattle.overlay_relate.proofs.Swept.{own, over, may_move, live_are, live_from
 
 -- an edge that covers an abscissa is not vertical
 pub covering_wide : (e : Edge) (x : ℤ) → covers e x (pos 1) ≡ true → e.a.x <ℤ e.b.x
-covering_wide e x over = let from = covers_from e x (pos 1) over in let to = covers_to e x (pos 1) over in omega (arith, ints)
+covering_wide e x over = let from = covers_from e x (pos 1) over in let to = covers_to e x (pos 1) over in
+    omega (arith, ints)
 
 -- what is told at a place
-pub told_at : (es fs : List Edge) (inside : List Bool) → AreTold es fs inside → (i : ℕ) (g : Edge) (t : Bool) → i < length inside → get_or fs i g ≡ g →
+pub told_at : (es fs : List Edge) (inside : List Bool) → AreTold es fs inside → (i : ℕ) (g : Edge) (t : Bool) →
+    i < length inside → get_or fs i g ≡ g →
     get_or inside i t ≡ inside_above es g
 told_at es fs inside told i g t lt at =
-    told.each i g t (let c = told.counted in omega arith) ∙ ap (inside_above es) (get_or-take (length inside) fs i g lt ∙ at)
+    told.each i g t (let c = told.counted in omega arith)
+    ∙ ap (inside_above es) (get_or-take (length inside) fs i g lt ∙ at)
 
-module _ (es fs : List Edge) (of : AreOfContour es) (by : AreByStart es fs) (n : ℕ) (e : Edge) (lt : n < length fs) (is : get_or fs n e ≡ e) (limit : ℕ) (s : Sweep ℕ)
+module _ (es fs : List Edge) (of : AreOfContour es) (by : AreByStart es fs) (n : ℕ) (e : Edge) (lt : n < length fs)
+    (is : get_or fs n e ≡ e) (limit : ℕ) (s : Sweep ℕ)
     (swept : IsSwept limit fs n s) where
   abbrev live : List (Entry ℕ)
   live = live_at e.a.x s.entries
@@ -47,14 +53,17 @@ module _ (es fs : List Edge) (of : AreOfContour es) (by : AreByStart es fs) (n :
 
   -- an entry that is live is of one of the edges
   in_list : (f : Entry ℕ) → Contains live f → Contains fs f.edge
-  in_list f c = let at = live_from fs by.sweepable n e lt is limit s swept f c in let less = at.0 in (f.value, omega arith, at.1)
+  in_list f c = let at = live_from fs by.sweepable n e lt is limit s swept f c in let less = at.0 in
+      (f.value, omega arith, at.1)
 
   -- such an entry is below the start of the next edge where it is under that edge
   below_is : (f : Entry ℕ) → Contains live f → is_below_anchor e f.edge ≡ is_under f.edge e e.a.x (pos 1)
   below_is f c =
-      below_an_anchor_is_under e f.edge (leads e own_edge) (leads f.edge (by.from f.edge (in_list f c))) (met (edge_eq e f.edge) refl)
+      below_an_anchor_is_under e f.edge (leads e own_edge) (leads f.edge (by.from f.edge (in_list f c)))
+      (met (edge_eq e f.edge) refl)
       (over fs by.sweepable n e lt is)
-      ∙ ap (λ t. t && is_under f.edge e e.a.x (pos 1)) (All-contains (λ h. IsOver limit e.a.x h.edge) live f are_live.over c).over
+      ∙ ap (λ t. t && is_under f.edge e e.a.x (pos 1))
+      (All-contains (λ h. IsOver limit e.a.x h.edge) live f are_live.over c).over
     where
       met : (t : Bool) → edge_eq e f.edge ≡ t → (edge_eq e f.edge ≡ true) ⊎ MeetInEnds e f.edge
       met true same = inl same
@@ -63,10 +72,12 @@ module _ (es fs : List Edge) (of : AreOfContour es) (by : AreByStart es fs) (n :
   -- an edge under the next one is live
   entry_under : (f : Edge) → Contains es f → covers f e.a.x (pos 1) ≡ true → is_under f e e.a.x (pos 1) ≡ true →
       (k : Entry ℕ) × Contains live k × (k.edge ≡ f)
-  entry_under f c over_f under = under_live fs by.sweepable n e lt is limit s swept f (by.all f c (covering_wide f e.a.x over_f)) (leads e own_edge) (leads f c) over_f under
+  entry_under f c over_f under = under_live fs by.sweepable n e lt is limit s swept f
+      (by.all f c (covering_wide f e.a.x over_f)) (leads e own_edge) (leads f c) over_f under
 
   module _ (inside : List Bool) (counted : length inside ≡ n) (told : AreTold es fs inside) where
-    next_by : (o : Option (Entry ℕ)) → entry_below e live ≡ o → not (get_or inside (value_or n o) false) ≡ inside_above es e
+    next_by : (o : Option (Entry ℕ)) → entry_below e live ≡ o →
+        not (get_or inside (value_or n o) false) ≡ inside_above es e
     next_by None nothing =
         ap not (get_or_past inside n false (omega (arith, counted)))
         ∙ sym (inside_above_none es of e own_edge e.a.x (pos 1) (omega (arith, ints)) (over fs by.sweepable n e lt is)
@@ -80,8 +91,10 @@ module _ (es fs : List Edge) (of : AreOfContour es) (by : AreByStart es fs) (n :
         let at = live_from fs by.sweepable n e lt is limit s swept f great.entry in
         let less = at.0 in
         ap not (told_at es fs inside told f.value f.edge false (omega (arith, counted)) at.1)
-        ∙ sym (inside_above_next es of e own_edge e.a.x (pos 1) (omega (arith, ints)) (over fs by.sweepable n e lt is) f.edge
-        (by.from f.edge (f.value, omega arith, at.1)) (All-contains (λ h. IsOver limit e.a.x h.edge) live f are_live.over great.entry).over
+        ∙ sym (inside_above_next es of e own_edge e.a.x (pos 1) (omega (arith, ints))
+        (over fs by.sweepable n e lt is) f.edge
+        (by.from f.edge (f.value, omega arith, at.1))
+        (All-contains (λ h. IsOver limit e.a.x h.edge) live f are_live.over great.entry).over
         (sym (below_is f great.entry) ∙ great.below)
         (λ h c over_h under. let k = entry_under h c over_h under in ⊎_elim
         (λ same. inl (sym k.2 ∙ ap (λ (g : Entry ℕ). g.edge) same))
@@ -98,5 +111,6 @@ module _ (es fs : List Edge) (of : AreOfContour es) (by : AreByStart es fs) (n :
         (answers_more (λ g u. u ≡ inside_above es g) (take (length inside) fs) e inside t told right)
       where
         more : take (length inside) fs ++ e ∷ [] ≡ take (length (inside ++ t ∷ [])) fs
-        more = ap (λ g. take (length inside) fs ++ g ∷ []) (sym is ∙ ap (λ m. get_or fs m e) (sym counted)) ∙ sym (take_more fs (length inside) e (omega (arith, counted)))
+        more = ap (λ g. take (length inside) fs ++ g ∷ []) (sym is ∙ ap (λ m. get_or fs m e) (sym counted))
+            ∙ sym (take_more fs (length inside) e (omega (arith, counted)))
             ∙ ap (λ m. take m fs) (sym (length_push inside t))

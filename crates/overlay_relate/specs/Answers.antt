@@ -14,4 +14,5 @@ AnswersWhere IsAt queries answers = AnswersEach (λ q l. IsAt (in_plane q) l) qu
 
 -- the answers tell of each query that is on none of the edges whether it is inside
 abbrev pub AnswersWhether : List Edge → (PlanePoint → Bool) → List Point → List Bool → Type 0
-AnswersWhether es is_inside queries answers = AnswersEach (λ q t. IsOff es (in_plane q) → t ≡ is_inside (in_plane q)) queries answers
+AnswersWhether es is_inside queries answers = AnswersEach (λ q t. IsOff es (in_plane q) → t ≡ is_inside (in_plane q))
+    queries answers

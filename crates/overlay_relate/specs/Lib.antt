@@ -1,8 +1,11 @@
 pub mod Answers
+pub mod EdgeTests
 pub mod Joined
 pub mod Laws
 pub mod Locations
 pub mod PredicateBuilder
+pub mod PredicateLaws
+pub mod PredicateQueries
 pub mod Queries
 pub mod Sweeps
 pub mod Walls

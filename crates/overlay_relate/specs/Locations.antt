@@ -53,7 +53,8 @@ IsLocatedIn shape p l = IsLocated (shape_edges shape) (is_in_shape shape p) p l
 -- where p lies in shapes: inside one of them, else on the boundary of one, else outside
 abbrev pub IsLocatedAmong : List (List (List Point)) → PlanePoint → PointLocation → Type 0
 IsLocatedAmong shapes p Inside = Any (λ s. IsLocatedIn s p Inside) shapes
-IsLocatedAmong shapes p Boundary = Any (λ s. IsLocatedIn s p Boundary) shapes × All (λ s. ¬ (IsLocatedIn s p Inside)) shapes
+IsLocatedAmong shapes p Boundary = Any (λ s. IsLocatedIn s p Boundary) shapes × All
+    (λ s. ¬ (IsLocatedIn s p Inside)) shapes
 IsLocatedAmong shapes p Outside = All (λ s. IsLocatedIn s p Outside) shapes
 
 -- ---- as they are computed

@@ -8,7 +8,8 @@ use Rattle.overlay_builder.specs.Held.{Held}
 use Rattle.overlay_builder.specs.PathLists.{AddsAsAsked as BuilderAddsAsAsked}
 use Rattle.overlay_builder.specs.declared.solver.Solver.{Solver}
 
--- a builder for predicates: its settings, the counted edges that it holds, and whether a query was refused since it was last cleared
+-- a builder for predicates: its settings, the counted edges that it holds, and whether a query was refused since it was
+-- last cleared
 pub record PredicateBuilder : Type 0 where
   pub solver : Solver
   pub fill_rule : FillRule
@@ -27,8 +28,10 @@ cleared b = record b { edges = []; failed = false }
 abbrev pub held_by : PredicateBuilder → Held CountedEdge
 held_by b = record { edges = b.edges; failed = b.failed }
 
--- a call that adds the paths, without their points on one line, answers so, of the builder before and of the one afterwards
-pub record AddsAsAsked {V : Type 0} (paths : List GivenPath) (old new : PredicateBuilder) (result : Result V OverlayError) : Type 0 where
+-- a call that adds the paths, without their points on one line, answers so, of the builder before and of the one
+-- afterwards
+pub record AddsAsAsked {V : Type 0} (paths : List GivenPath) (old new : PredicateBuilder)
+    (result : Result V OverlayError) : Type 0 where
   pub added : BuilderAddsAsAsked weight (added_paths false paths) (held_by old) (held_by new) result
   -- nothing but the edges changes, whatever is answered
   pub kept : new ≡ record old { edges = new.edges }

@@ -1,5 +1,6 @@
 -- The sweep over the edges of a contour that tells where points lie.
-use Rattle.std.specs.Prelude.{◌≡◌, ◌⊎◌, ℕ, ◌<◌, ◌≤◌, Bool, true, false, not, ℤ, pos, ◌<ℤ◌, ◌≤ℤ◌, int_lt, List, map, length, take, drop, slice_index_or, All, AllPairs, Contains}
+use Rattle.std.specs.Prelude.{◌≡◌, ◌⊎◌, ℕ, ◌<◌, ◌≤◌, Bool, true, false, not, ℤ, pos, ◌<ℤ◌, ◌≤ℤ◌, int_lt, List, map}
+use Rattle.std.specs.Prelude.{length, take, drop, slice_index_or, All, AllPairs, Contains}
 use Rattle.std.specs.Ordering.{int_cmp}
 use Rattle.std.specs.declared.cmp.Ordering.{Ordering}
 use Rattle.overlay_geom.specs.Plane.{Point, Edge, point_lt, edge_eq, midpoint, side, cross_at, in_plane}
@@ -31,7 +32,8 @@ pub record AreOfContour (es : List Edge) : Type 0 where
   pub resolved : IsResolved contour
   pub forward : All (λ e. point_lt e.a e.b ≡ true) es
 
--- the edges may be put in one after the other: they are not vertical, meet in ends alone, stand once each, by their starts
+-- the edges may be put in one after the other: they are not vertical, meet in ends alone, stand once each, by their
+-- starts
 pub record AreSweepable (fs : List Edge) : Type 0 where
   pub wide : All (λ e. e.a.x <ℤ e.b.x) fs
   pub settled : IsSettledBy (λ e. e) fs

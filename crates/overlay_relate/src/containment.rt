@@ -38,7 +38,8 @@ pub trait IntPointContainment<I: OverlayInt> {
         requires self_in_range { All (All (AllInRange I.limit)) (shapes self.now) }
         requires resolved { All (All IsResolved) (shapes self.now) }
         requires points_in_range { AllInRange I.limit (plain_points I.whole points.now) }
-        ensures inside { IfOk result (λ v. AnswersWhether (shapes_edges (shapes self.now)) (is_in_shapes (shapes self.now))
+        ensures inside { IfOk result (λ v. AnswersWhether (shapes_edges (shapes self.now))
+            (is_in_shapes (shapes self.now))
             (plain_points I.whole points.now) v.items) }
         ensures err { IsOkUnless result OverlayError.Memory };
 

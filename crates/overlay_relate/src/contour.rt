@@ -63,7 +63,8 @@ fn push_round<I: IntNumber, A: Allocator>(
     requires contour { AllInRange I.limit (plain_points I.whole contour.now) }
     requires long { All (IsLongEdge I.limit) (plain_edges I.whole edges.old.items) }
     ensures ok { OnOk result (plain_edges I.whole edges.new.items ≡ plain_edges I.whole edges.old.items
-        ++ edges_through (plain_point I.whole first) (plain_points I.whole contour.now ++ plain_point I.whole first ∷ [])) }
+        ++ edges_through (plain_point I.whole first)
+        (plain_points I.whole contour.now ++ plain_point I.whole first ∷ [])) }
     ensures long { All (IsLongEdge I.limit) (plain_edges I.whole edges.new.items) }
     ensures err { IsOkUnless result OverlayError.Memory }
 {

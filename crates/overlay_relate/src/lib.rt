@@ -1,14 +1,20 @@
-//! Where points lie: inside contours and shapes, on their edges, or outside; and a builder that holds two shapes.
+//! Where points lie: inside contours and shapes, on their edges, or outside; and how two shapes lie to each other.
 #![tactic(auto)]
 
+mod border_end;
 pub mod containment;
 mod contour;
+mod edge_answers;
+mod edge_test;
 mod joined;
 pub mod laws;
 pub mod location;
+mod predicate;
+pub mod predicate_laws;
 pub mod predicate_overlay;
 mod queries;
 mod shapes;
+mod shared_end;
 mod starts;
 mod sweep;
 mod walls;

@@ -1,4 +1,4 @@
-//! The builder for predicates: it holds the subject and the clip that predicates are to be asked of.
+//! The builder for predicates: it holds the subject and the clip that predicates are asked of.
 
 use overlay_arrange::count::ShapeCountBoolean;
 use overlay_arrange::fill_rule::FillRule;
@@ -11,14 +11,15 @@ use std::marker::Model;
 mod adders;
 mod constructors;
 mod lists;
+mod predicates;
 
 pub use overlay_arrange::options::ShapeType;
 
-/// A builder that holds counted edges of a subject and of a clip, of which predicates are to be asked:
-/// how the two shapes lie to each other. There are no such queries yet. Points on one line with their
-/// two neighbours are always dropped from what is added.
+/// A builder that holds counted edges of a subject and of a clip, of which predicates are asked: how the
+/// two shapes lie to each other. Points on one line with their two neighbours are always dropped from
+/// what is added.
 ///
-/// A query that is refused will leave the builder failed: every call that returns a result then answers
+/// A query that is refused leaves the builder failed: every call that returns a result then answers
 /// `Failed`, until `clear` or `reinit_with_subj_and_clip`.
 #[derive(Drop)]
 pub struct PredicateOverlay<I: OverlayInt, A: Allocator> {

@@ -73,10 +73,13 @@ fn put_up_to<I: IntNumber, A: Allocator, S: Scan<I, usize>>(
     requires swept { IsSwept I.limit (wide_edges I.whole edges.now) (length inside.old.items) (S.content scan.old) }
     ensures within { OnOk result (length inside.new.items ≤ length edges.now) }
     ensures moves { OnOk result (MayMoveTo (I.whole x) (S.content scan.new)) }
-    ensures swept { OnOk result (IsSwept I.limit (wide_edges I.whole edges.now) (length inside.new.items) (S.content scan.new)) }
-    ensures rest { OnOk result (All (λ e. I.whole x <ℤ e.a.x) (drop (length inside.new.items) (wide_edges I.whole edges.now))) }
+    ensures swept { OnOk result (IsSwept I.limit (wide_edges I.whole edges.now) (length inside.new.items)
+        (S.content scan.new)) }
+    ensures rest { OnOk result (All (λ e. I.whole x <ℤ e.a.x)
+        (drop (length inside.new.items) (wide_edges I.whole edges.now))) }
     ensures told { OnOk result ((es : _) → AreOfContour es → AreByStart es (wide_edges I.whole edges.now)
-        → AreTold es (wide_edges I.whole edges.now) inside.old.items → AreTold es (wide_edges I.whole edges.now) inside.new.items) }
+        → AreTold es (wide_edges I.whole edges.now) inside.old.items
+        → AreTold es (wide_edges I.whole edges.now) inside.new.items) }
     ensures err { IsOkUnless result OverlayError.Memory }
 {
     for i in inside.len()..edges.len() {
@@ -99,11 +102,14 @@ fn put_next<I: IntNumber, A: Allocator, S: Scan<I, usize>>(
     requires within { length inside.old.items < length edges.now }
     requires swept { IsSwept I.limit (wide_edges I.whole edges.now) (length inside.old.items) (S.content scan.old) }
     ensures counted { OnOk result (length inside.new.items ≡ length inside.old.items + 1) }
-    ensures swept { OnOk result (IsSwept I.limit (wide_edges I.whole edges.now) (length inside.new.items) (S.content scan.new)) }
-    ensures reached { OnOk result ((e : _) → slice_index_or (wide_edges I.whole edges.now) (length inside.old.items) e ≡ e
+    ensures swept { OnOk result (IsSwept I.limit (wide_edges I.whole edges.now) (length inside.new.items)
+        (S.content scan.new)) }
+    ensures reached { OnOk result ((e : _) → slice_index_or (wide_edges I.whole edges.now)
+        (length inside.old.items) e ≡ e
         → (S.content scan.new).reached ≡ Some e.a.x) }
     ensures told { OnOk result ((es : _) → AreOfContour es → AreByStart es (wide_edges I.whole edges.now)
-        → AreTold es (wide_edges I.whole edges.now) inside.old.items → AreTold es (wide_edges I.whole edges.now) inside.new.items) }
+        → AreTold es (wide_edges I.whole edges.now) inside.old.items
+        → AreTold es (wide_edges I.whole edges.now) inside.new.items) }
     ensures err { IsOkUnless result OverlayError.Memory }
 {
     let place = inside.len();
@@ -131,8 +137,10 @@ fn highest_up_to<I: IntNumber, S: Scan<I, usize>>(
     requires point { InRange I.limit (plain_point I.whole p) }
     requires state { IsSweep I.limit (S.content scan.old) }
     requires moves { MayMoveTo (I.whole p.x) (S.content scan.old) }
-    ensures value { AnswersRise (side_answer (plain_point I.whole p)) (live_at (I.whole p.x) (S.content scan.old).entries)
-        → result ≡ value_up_to none (side_answer (plain_point I.whole p)) (live_at (I.whole p.x) (S.content scan.old).entries) }
+    ensures value { AnswersRise (side_answer (plain_point I.whole p))
+        (live_at (I.whole p.x) (S.content scan.old).entries)
+        → result ≡ value_up_to none (side_answer (plain_point I.whole p))
+        (live_at (I.whole p.x) (S.content scan.old).entries) }
     ensures content { S.content scan.new ≡ moved_to (I.whole p.x) (S.content scan.old) }
     ensures state { IsSweep I.limit (S.content scan.new) }
 {

@@ -14,5 +14,7 @@ not_greater Less p most passes = refl
 not_greater Equal p most passes = refl
 not_greater Greater p most passes = absurd (false≢true (sym (ap (λ q. not (is_gt q)) (most.greater refl)) ∙ passes))
 
-pub pass_before : {V : Type 0} (answer : Edge → Ordering) (fs : List (Entry V)) → AnswersRise answer fs → PassBefore (λ f. not (is_gt (answer f.edge))) fs
-pass_before answer fs rise i j d lt end passes = not_greater (answer (get_or fs i d).edge) (answer (get_or fs j d).edge) (rise i j d lt end) passes
+pub pass_before : {V : Type 0} (answer : Edge → Ordering) (fs : List (Entry V)) → AnswersRise answer fs →
+    PassBefore (λ f. not (is_gt (answer f.edge))) fs
+pass_before answer fs rise i j d lt end passes = not_greater (answer (get_or fs i d).edge) (answer (get_or fs j d).edge)
+    (rise i j d lt end) passes

@@ -1,5 +1,6 @@
 -- Which of two edges is the lower one, from where the one starts that starts later.
-use Rattle.std.proofs.Common.{◌≡◌, ⊎_elim, Bool, true, false, cond, not, ◌&&◌, ◌||◌, ℤ, pos, ◌*ℤ◌, ◌<ℤ◌, ◌≤ℤ◌, int_lt, int_le, refl, sym, ap, ◌∙◌, subst, arith}
+use Rattle.std.proofs.Common.{◌≡◌, ⊎_elim, Bool, true, false, cond, not, ◌&&◌, ◌||◌, ℤ, pos, ◌*ℤ◌, ◌<ℤ◌, ◌≤ℤ◌, int_lt}
+use Rattle.std.proofs.Common.{int_le, refl, sym, ap, ◌∙◌, subst, arith}
 use Rattle.std.proofs.lemmas.Int.{ints}
 use Rattle.std.proofs.lemmas.Bool.{and_from}
 use Rattle.std.proofs.lemmas.Bool.Decides.{Decides-int_eq}
@@ -14,7 +15,8 @@ use Rattle.overlay_plane.specs.Nodes.{turns_left}
 use Rattle.overlay_plane.proofs.LineForms.{side-start}
 use Rattle.overlay_plane.proofs.NodeForms.{under_beside_a_node}
 use Rattle.overlay_plane.proofs.Tests.{lt_from_test, ge_from_test, test_from_lt, test_from_le, test_from_ge}
-use Rattle.overlay_plane.proofs.Under.{covers_from, covers_to, same_under, under_irreflexive, under_asymmetric, under_total}
+use Rattle.overlay_plane.proofs.Under.{covers_from, covers_to, same_under, under_irreflexive, under_asymmetric}
+use Rattle.overlay_plane.proofs.Under.{under_total}
 use Rattle.overlay_plane.proofs.WhereEdgesStart.{covers_start, at_start_low, at_start_high, at_start_level}
 use Rattle.overlay_scan.specs.Lists.{is_lower_at_start, is_lower}
 
@@ -22,7 +24,8 @@ use Rattle.overlay_scan.specs.Lists.{is_lower_at_start, is_lower}
 pub tested : (s : ℤ) (c u : Bool) → (pos 0 <ℤ s → u ≡ true) → (s <ℤ pos 0 → u ≡ false) → (s ≡ pos 0 → u ≡ c) →
     (int_lt (pos 0) s || (int_eq s (pos 0) && c)) ≡ u
 tested s c u low high level = by_sign s
-    (λ less. ap (λ b. b || (int_eq s (pos 0) && c)) (test_from_ge (pos 0) s (omega linear)) ∙ ap (λ b. b && c) (not_zero less (int_eq s (pos 0)) refl) ∙ sym (high less))
+    (λ less. ap (λ b. b || (int_eq s (pos 0) && c)) (test_from_ge (pos 0) s (omega linear))
+    ∙ ap (λ b. b && c) (not_zero less (int_eq s (pos 0)) refl) ∙ sym (high less))
     (λ zero. ap (λ z. int_lt (pos 0) z || (int_eq z (pos 0) && c)) zero ∙ sym (level zero))
     (λ more. ap (λ b. b || (int_eq s (pos 0) && c)) (test_from_lt (pos 0) s more) ∙ sym (low more))
   where
@@ -33,7 +36,8 @@ tested s c u low high level = by_sign s
 -- the cross product at the start of an edge is the side of a point
 pub cross-side : (f : Edge) (p : Point) → cross_at f.a f.b p ≡ side f (in_plane p)
 cross-side f p = solve 6
-    (λ ax ay bx by x y. (bx ⊖ ax) ⊗ (y ⊖ ay) ⊖ (by ⊖ ay) ⊗ (x ⊖ ax) ≗ (bx ⊖ ax) ⊗ (y ⊖ ay ⊗ number (pos 1)) ⊖ (by ⊖ ay) ⊗ (x ⊖ ax ⊗ number (pos 1))) tt f.a.x f.a.y f.b.x f.b.y p.x p.y
+    (λ ax ay bx by x y. (bx ⊖ ax) ⊗ (y ⊖ ay) ⊖ (by ⊖ ay) ⊗ (x ⊖ ax) ≗ (bx ⊖ ax) ⊗ (y ⊖ ay ⊗ number (pos 1)) ⊖
+    (by ⊖ ay) ⊗ (x ⊖ ax ⊗ number (pos 1))) tt f.a.x f.a.y f.b.x f.b.y p.x p.y
 
 -- of two edges that start in one point the one is under the other where that leads to the left of it
 under_where_left : (f e : Edge) → e.a ≡ f.a → is_under f e e.a.x (pos 1) ≡ int_lt (pos 0) (cross_at e.a f.b e.b)
@@ -41,7 +45,8 @@ under_where_left f e one = sym ((under_beside_a_node e f).start (sym one))
     ∙ subst (λ (p : Point). turns_left (record { a = p; b = f.b }) e ≡ int_lt (pos 0) (cross_at e.a f.b e.b)) one refl
 
 -- the test at the start of e, for an edge that is over the start
-pub lower_at_start : (f e : Edge) → (edge_eq e f ≡ false → MeetInEnds e f) → e.a.x <ℤ e.b.x → covers f e.a.x (pos 1) ≡ true →
+pub lower_at_start : (f e : Edge) → (edge_eq e f ≡ false → MeetInEnds e f) → e.a.x <ℤ e.b.x →
+    covers f e.a.x (pos 1) ≡ true →
     is_lower_at_start f e ≡ is_under f e e.a.x (pos 1)
 lower_at_start f e meets wide over =
     ap (λ z. int_lt (pos 0) z || (int_eq z (pos 0) && int_lt (pos 0) (cross_at e.a f.b e.b))) (cross-side f e.a)
@@ -61,7 +66,8 @@ lower_at_start f e meets wide over =
       where
         by : (b : Bool) → edge_eq e f ≡ b → MeetInEnds e f
         by false apart = meets apart
-        by true same = absurd (off (subst (λ (g : Edge). side g (in_plane e.a) ≡ pos 0) (edge_eq-same e f same) (side-start e)))
+        by true same = absurd (off (subst (λ (g : Edge). side g (in_plane e.a) ≡ pos 0) (edge_eq-same e f same)
+            (side-start e)))
 
     start : side f (in_plane e.a) ≡ pos 0 → e.a ≡ f.a
     start level = by (edge_eq e f) refl
@@ -71,7 +77,8 @@ lower_at_start f e meets wide over =
         by true same = ap (λ (g : Edge). g.a) (edge_eq-same e f same)
 
 -- the order of two edges is one wherever both cover, also of an edge and itself
-same_where_both : (f e : Edge) (x y : ℤ) → (edge_eq e f ≡ false → MeetInEnds e f) → covers f x (pos 1) ≡ true → covers e x (pos 1) ≡ true →
+same_where_both : (f e : Edge) (x y : ℤ) → (edge_eq e f ≡ false → MeetInEnds e f) → covers f x (pos 1) ≡ true →
+    covers e x (pos 1) ≡ true →
     covers f y (pos 1) ≡ true → covers e y (pos 1) ≡ true → is_under f e x (pos 1) ≡ is_under f e y (pos 1)
 same_where_both f e x y meets fx ex fy ey = by (edge_eq e f) refl
   where
@@ -102,7 +109,8 @@ under_or_over f e x meet over_f over_e = ⊎_elim
     (under_total f e x (pos 1) (omega linear) meet over_f over_e)
 
 -- the test says which of two edges over x is under the other
-pub lower_is_under : (f e : Edge) (x : ℤ) → (edge_eq e f ≡ false → MeetInEnds e f) → (edge_eq f e ≡ false → MeetInEnds f e) →
+pub lower_is_under : (f e : Edge) (x : ℤ) → (edge_eq e f ≡ false → MeetInEnds e f) →
+    (edge_eq f e ≡ false → MeetInEnds f e) →
     covers f x (pos 1) ≡ true → covers e x (pos 1) ≡ true → is_lower f e ≡ is_under f e x (pos 1)
 lower_is_under f e x meets back over_f over_e = by (int_lt e.a.x f.a.x) refl
   where

@@ -1,5 +1,6 @@
 -- The last entry of a list, and of those that pass a test.
-use Rattle.std.proofs.Common.{◌≡◌, ◌⊎◌, inl, inr, Bool, true, ℕ, ◌+◌, ◌-◌, ◌≤◌, List, [], ◌∷◌, ◌++◌, length, map, take, get_or, Option, None, Some, refl, sym, ap, ◌∙◌, subst, arith, pos}
+use Rattle.std.proofs.Common.{◌≡◌, ◌⊎◌, inl, inr, Bool, true, ℕ, ◌+◌, ◌-◌, ◌≤◌, List, [], ◌∷◌, ◌++◌, length, map, take}
+use Rattle.std.proofs.Common.{get_or, Option, None, Some, refl, sym, ap, ◌∙◌, subst, arith, pos}
 use Rattle.std.specs.List.{AllPairs, Contains, filter, last_or}
 use Rattle.std.specs.Option.{IfSome, MatchOption}
 use Rattle.std.proofs.lemmas.List.{take-map}
@@ -22,9 +23,12 @@ before_one : (n : ℕ) → ¬ (n ≡ 0) → n - 1 + 1 ≡ n
 before_one n some = omega arith
 
 -- the last of the first n items, n not 0, is the one at n - 1
-pub last_of_first : {X Y : Type 0} (h : X → Y) (xs : List X) (n : ℕ) (x : X) → ¬ (n ≡ 0) → n ≤ length xs → x ≡ get_or xs (n - 1) x →
+pub last_of_first : {X Y : Type 0} (h : X → Y) (xs : List X) (n : ℕ) (x : X) → ¬ (n ≡ 0) → n ≤ length xs →
+    x ≡ get_or xs (n - 1) x →
     last_or None (take n (map h xs)) ≡ Some (h x)
-last_of_first h xs n x some le is = ap (last_or None) (take-map h n xs ∙ ap (λ m. map h (take m xs)) (sym (before_one n some)) ∙ mapped_more h xs (n - 1) x (omega arith) is)
+last_of_first h xs n x some le is = ap (last_or None)
+    (take-map h n xs ∙ ap (λ m. map h (take m xs)) (sym (before_one n some))
+    ∙ mapped_more h xs (n - 1) x (omega arith) is)
     ∙ last_pushed None (map h (take (n - 1) xs)) (h x)
 
 -- what is in an option, or else d
@@ -37,13 +41,17 @@ pub last_is : {X : Type 0} (R : X → X → Type 0) (xs : List X) → AllPairs R
     Contains xs f × ((g : X) → Contains xs g → (g ≡ f) ⊎ R g f)
 last_is R [] pairs f e = absurd (subst (λ o. IfSome o (λ _. ⊥)) e tt)
 last_is R (x ∷ []) pairs f e =
-    let one : x ≡ f = ap (value_of x) e in
-    (subst (Contains (x ∷ [])) one (Contains-head x []), λ g at. elim (Contains-cases x [] g at) [ inl same ↦ inl (sym same ∙ one) | inr later ↦ absurd (omega (arith, later)) ])
+    let one : x ≡ f = ap (value_of x) e in (
+      subst (Contains (x ∷ [])) one (Contains-head x []),
+      λ g at. elim (Contains-cases x [] g at)
+          [ inl same ↦ inl (sym same ∙ one) | inr later ↦ absurd (omega (arith, later)) ],
+    )
 last_is R (x ∷ y ∷ ys) pairs f e =
     let rest = last_is R (y ∷ ys) (AllPairs-tail R x (y ∷ ys) pairs) f e in (
       Contains-later x (y ∷ ys) f rest.0,
       λ g at. elim (Contains-cases x (y ∷ ys) g at) [
-        | inl same ↦ inr (subst (λ z. R z f) same (All-contains (R x) (y ∷ ys) f (AllPairs-head R x (y ∷ ys) pairs) rest.0))
+        | inl same ↦ inr (subst (λ z. R z f) same
+            (All-contains (R x) (y ∷ ys) f (AllPairs-head R x (y ∷ ys) pairs) rest.0))
         | inr later ↦ rest.1 g later
       ],
     )

@@ -1,5 +1,6 @@
 -- How many entries pass a test from the first one on, and which ones pass where none does after one that fails.
-use Rattle.std.proofs.Common.{◌≡◌, Bool, true, false, cond, ℕ, suc, ◌+◌, ◌≤◌, List, [], ◌∷◌, length, map, take, drop, refl, sym, ap, ◌∙◌, arith}
+use Rattle.std.proofs.Common.{◌≡◌, Bool, true, false, cond, ℕ, suc, ◌+◌, ◌≤◌, List, [], ◌∷◌, length, map, take, drop}
+use Rattle.std.proofs.Common.{refl, sym, ap, ◌∙◌, arith}
 use Rattle.std.specs.List.{All, filter, prefix_len}
 use Rattle.std.proofs.lemmas.Bool.{false≢true}
 use Rattle.std.proofs.lemmas.List.{length-map}
@@ -13,13 +14,15 @@ pub prefix_fits : {X Y : Type 0} (test : Y → Bool) (h : X → Y) (xs : List X)
 prefix_fits test h xs = let le = prefix_len-le-length test (map h xs) in let same = length-map xs h in omega arith
 
 -- so a count is at most the length
-pub fits_in : {X Y : Type 0} (test : Y → Bool) (h : X → Y) (xs : List X) (place n : ℕ) → place ≡ prefix_len test (map h xs) → length xs ≡ n → place ≤ n
+pub fits_in : {X Y : Type 0} (test : Y → Bool) (h : X → Y) (xs : List X) (place n : ℕ) →
+    place ≡ prefix_len test (map h xs) → length xs ≡ n → place ≤ n
 fits_in test h xs place n count len = let le = prefix_fits test h xs in omega arith
 
 -- ---- tests that agree
 
 -- tests that agree on the items count the same
-pub prefix-same : {X : Type 0} (s t : X → Bool) (xs : List X) → All (λ x. s x ≡ t x) xs → prefix_len s xs ≡ prefix_len t xs
+pub prefix-same : {X : Type 0} (s t : X → Bool) (xs : List X) → All (λ x. s x ≡ t x) xs →
+    prefix_len s xs ≡ prefix_len t xs
 prefix-same s t [] h = refl
 prefix-same s t (x ∷ xs) h = ap (λ b. cond b (1 + prefix_len s xs) 0) (All-head (λ x. s x ≡ t x) x xs h)
     ∙ ap (λ n. cond (t x) (1 + n) 0) (prefix-same s t xs (All-tail (λ x. s x ≡ t x) x xs h))
@@ -30,13 +33,16 @@ fails_with s true e h = absurd (false≢true (sym e ∙ h refl))
 fails_with s false e h = refl
 
 -- after an item that fails all fail
-fail_after : {X : Type 0} (test : X → Bool) (x : X) (xs : List X) → PassBefore test (x ∷ xs) → test x ≡ false → All (λ y. test y ≡ false) xs
-fail_after test x xs h e = All-weaker (λ y. test y ≡ true → test x ≡ true) (λ y. test y ≡ false) (λ y k. fails_with (test x) (test y) e k) xs
+fail_after : {X : Type 0} (test : X → Bool) (x : X) (xs : List X) → PassBefore test (x ∷ xs) → test x ≡ false →
+    All (λ y. test y ≡ false) xs
+fail_after test x xs h e = All-weaker (λ y. test y ≡ true → test x ≡ true) (λ y. test y ≡ false)
+    (λ y k. fails_with (test x) (test y) e k) xs
     (AllPairs-head (λ x y. test y ≡ true → test x ≡ true) x xs h)
 
 filter_none : {X : Type 0} (test : X → Bool) (xs : List X) → All (λ x. test x ≡ false) xs → filter test xs ≡ []
 filter_none test [] h = refl
-filter_none test (x ∷ xs) h = ap (λ b. cond b (x ∷ filter test xs) (filter test xs)) (All-head (λ x. test x ≡ false) x xs h)
+filter_none test (x ∷ xs) h = ap (λ b. cond b (x ∷ filter test xs) (filter test xs))
+    (All-head (λ x. test x ≡ false) x xs h)
     ∙ filter_none test xs (All-tail (λ x. test x ≡ false) x xs h)
 
 one_more : (n : ℕ) → 1 + n ≡ suc n
@@ -52,7 +58,8 @@ module _ {X : Type 0} (test : X → Bool) where
   -- what passes is what the count passes
   pub filter_is_prefix : (xs : List X) → PassBefore test xs → filter test xs ≡ take (prefix_len test xs) xs
   filter_is_prefix [] h = refl
-  filter_is_prefix (x ∷ xs) h = by (test x) refl (filter_is_prefix xs (AllPairs-tail (λ x y. test y ≡ true → test x ≡ true) x xs h))
+  filter_is_prefix (x ∷ xs) h = by (test x) refl
+      (filter_is_prefix xs (AllPairs-tail (λ x y. test y ≡ true → test x ≡ true) x xs h))
     where
       by : (b : Bool) → test x ≡ b → filter test xs ≡ take (prefix_len test xs) xs →
           cond (test x) (x ∷ filter test xs) (filter test xs) ≡ take (cond (test x) (1 + prefix_len test xs) 0) (x ∷ xs)
@@ -66,13 +73,15 @@ module _ {X : Type 0} (test : X → Bool) where
     where
       by : (b : Bool) → test x ≡ b → All (λ x. test x ≡ true) (take (prefix_len test xs) xs) →
           All (λ x. test x ≡ true) (take (cond (test x) (1 + prefix_len test xs) 0) (x ∷ xs))
-      by true e rest = rw e (rw (take_next (prefix_len test xs) x xs) (All-cons (λ x. test x ≡ true) x (take (prefix_len test xs) xs) e rest))
+      by true e rest = rw e (rw (take_next (prefix_len test xs) x xs)
+          (All-cons (λ x. test x ≡ true) x (take (prefix_len test xs) xs) e rest))
       by false e rest = rw e (All-nil (λ x. test x ≡ true))
 
   -- and each of the others fails
   pub others_fail : (xs : List X) → PassBefore test xs → All (λ x. test x ≡ false) (drop (prefix_len test xs) xs)
   others_fail [] h = All-nil (λ x. test x ≡ false)
-  others_fail (x ∷ xs) h = by (test x) refl (others_fail xs (AllPairs-tail (λ x y. test y ≡ true → test x ≡ true) x xs h))
+  others_fail (x ∷ xs) h = by (test x) refl
+      (others_fail xs (AllPairs-tail (λ x y. test y ≡ true → test x ≡ true) x xs h))
     where
       by : (b : Bool) → test x ≡ b → All (λ x. test x ≡ false) (drop (prefix_len test xs) xs) →
           All (λ x. test x ≡ false) (drop (cond (test x) (1 + prefix_len test xs) 0) (x ∷ xs))

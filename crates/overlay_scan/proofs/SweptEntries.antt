@@ -1,9 +1,11 @@
 -- A sweep that holds the live entries of a list, where the list has one more entry, and where the sweep moves on.
-use Rattle.std.proofs.Common.{◌≡◌, ⊎_elim, ℕ, Bool, true, false, ℤ, ◌≤ℤ◌, int_lt, List, [], ◌∷◌, ◌++◌, Contains, Option, None, Some, refl, sym, subst, arith}
+use Rattle.std.proofs.Common.{◌≡◌, ⊎_elim, ℕ, Bool, true, false, ℤ, ◌≤ℤ◌, int_lt, List, [], ◌∷◌, ◌++◌, Contains, Option}
+use Rattle.std.proofs.Common.{None, Some, refl, sym, subst, arith}
 use Rattle.std.specs.Option.{IfSome}
 use Rattle.std.proofs.lemmas.Bool.{both_ways}
 use Rattle.std.proofs.lemmas.Int.{ints}
-use Rattle.std.proofs.lemmas.List.Elements.{Contains-append_left, Contains-append_right, Contains-push, Contains-push_cases}
+use Rattle.std.proofs.lemmas.List.Elements.{Contains-append_left, Contains-append_right, Contains-push}
+use Rattle.std.proofs.lemmas.List.Elements.{Contains-push_cases}
 use Rattle.overlay_geom.proofs.Entries.{Contains-head}
 use Rattle.overlay_plane.proofs.Entries.{Contains-filter, Contains-from_filter}
 use Rattle.overlay_plane.proofs.ShuffledSteps.{beside_one, one_or_beside}
@@ -17,7 +19,8 @@ is_live x f = int_lt x f.edge.b.x
 
 -- before the sweep there are no entries
 pub nothing_swept : {V : Type 0} (limit : ℕ) (x : ℤ) (s : Sweep V) → s ≡ empty_sweep → IsSwept limit x [] s
-nothing_swept limit x s is = subst (IsSwept limit x []) (sym is) (record { state = refl; moves = tt; from = λ f c. c; all = λ f c. c })
+nothing_swept limit x s is = subst (IsSwept limit x []) (sym is)
+    (record { state = refl; moves = tt; from = λ f c. c; all = λ f c. c })
 
 module _ {V : Type 0} (limit : ℕ) (x : ℤ) (fs : List (Entry V)) (s : Sweep V) (swept : IsSwept limit x fs s) where
   -- an entry that has ended counts no more
@@ -33,7 +36,8 @@ module _ {V : Type 0} (limit : ℕ) (x : ℤ) (fs : List (Entry V)) (s : Sweep V
   }
 
   -- an entry that is live is put in
-  pub put_in : (e : Entry V) → is_live x e ≡ true → (t : Sweep V) → IsPutIn x e (live_at x s.entries) t.entries → t.reached ≡ Some x → IsSweep limit t →
+  pub put_in : (e : Entry V) → is_live x e ≡ true → (t : Sweep V) → IsPutIn x e (live_at x s.entries) t.entries →
+      t.reached ≡ Some x → IsSweep limit t →
       IsSwept limit x (fs ++ e ∷ []) t
   put_in e over t put reached state = record {
     state = state;
@@ -46,8 +50,10 @@ module _ {V : Type 0} (limit : ℕ) (x : ℤ) (fs : List (Entry V)) (s : Sweep V
     all = λ f c.
         let live = Contains-from_filter (is_live x) (fs ++ e ∷ []) f c in
         Contains-filter (is_live x) t.entries f (subst (λ gs. Contains gs f) (sym put.new_is) (⊎_elim
-        (λ before. beside_one put.before e put.after f (subst (λ gs. Contains gs f) put.live_is (swept.all f (Contains-filter (is_live x) fs f before live.1))))
-        (λ is. subst (Contains (put.before ++ e ∷ put.after)) is (Contains-append_right put.before (e ∷ put.after) e (Contains-head e put.after)))
+        (λ before. beside_one put.before e put.after f
+        (subst (λ gs. Contains gs f) put.live_is (swept.all f (Contains-filter (is_live x) fs f before live.1))))
+        (λ is. subst (Contains (put.before ++ e ∷ put.after)) is
+        (Contains-append_right put.before (e ∷ put.after) e (Contains-head e put.after)))
         (Contains-push_cases fs e f live.0))) live.1;
   }
 
@@ -60,7 +66,8 @@ module _ {V : Type 0} (limit : ℕ) (x : ℤ) (fs : List (Entry V)) (s : Sweep V
         swept.from f (Contains-filter (is_live x) s.entries f live.0 (still f live.1));
     all = λ f c. let live = Contains-from_filter (is_live y) fs f c in
         Contains-filter (is_live y) s.entries f
-        (Contains-from_filter (is_live x) s.entries f (swept.all f (Contains-filter (is_live x) fs f live.0 (still f live.1)))).0 live.1;
+        (Contains-from_filter (is_live x) s.entries f
+        (swept.all f (Contains-filter (is_live x) fs f live.0 (still f live.1)))).0 live.1;
   }
     where
       still : (f : Entry V) → is_live y f ≡ true → is_live x f ≡ true
@@ -76,10 +83,12 @@ module _ {V : Type 0} (limit : ℕ) (x : ℤ) (fs : List (Entry V)) (s : Sweep V
     state = subst (IsSweep limit) is state;
     moves = omega (arith, ints);
     from = λ f c. swept.from f (Contains-from_filter (is_live x) (live_at x s.entries) f c).0;
-    all = λ f c. Contains-filter (is_live x) (live_at x s.entries) f (swept.all f c) (Contains-from_filter (is_live x) fs f c).1;
+    all = λ f c. Contains-filter (is_live x) (live_at x s.entries) f (swept.all f c)
+        (Contains-from_filter (is_live x) fs f c).1;
   })
 
 -- the sweep has moved to x, and will be asked at y
-pub moved_on : {V : Type 0} (limit : ℕ) (x : ℤ) (fs : List (Entry V)) (s : Sweep V) → IsSwept limit x fs s → (t : Sweep V) → t ≡ moved_to x s →
+pub moved_on : {V : Type 0} (limit : ℕ) (x : ℤ) (fs : List (Entry V)) (s : Sweep V) → IsSwept limit x fs s →
+    (t : Sweep V) → t ≡ moved_to x s →
     IsSweep limit t → (y : ℤ) → x ≤ℤ y → IsSwept limit y fs t
 moved_on limit x fs s swept t is state y le = asked_at limit x fs t (moved limit x fs s swept t is state) y le

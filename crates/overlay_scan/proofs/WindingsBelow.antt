@@ -1,5 +1,6 @@
 -- The winding below an edge counts the edges below its start: so it is the one above the greatest of them.
-use Rattle.std.proofs.Common.{◌≡◌, ◌⊎◌, ⊎_elim, Bool, true, false, cond, ◌&&◌, ◌||◌, ℤ, pos, ◌+ℤ◌, int_lt, List, Contains, refl, sym, ap, ap₂, ◌∙◌, subst, arith}
+use Rattle.std.proofs.Common.{◌≡◌, ◌⊎◌, ⊎_elim, Bool, true, false, cond, ◌&&◌, ◌||◌, ℤ, pos, ◌+ℤ◌, int_lt, List}
+use Rattle.std.proofs.Common.{Contains, refl, sym, ap, ap₂, ◌∙◌, subst, arith}
 use Rattle.std.proofs.lemmas.Bool.{both_ways, and_parts, or_cases, false_from_ne_true}
 use lib.IntN.{+ℤ_idl, +ℤ_idr}
 use Rattle.overlay_geom.specs.Plane.{Point, Edge, edge_eq, side, in_plane, point_lt, point_eq, is_strictly_below}
@@ -24,7 +25,8 @@ use Rattle.overlay_plane.proofs.WhereEdgesStart.{covers_start}
 use Rattle.overlay_scan.proofs.BelowStarts.{IsBeside, below_through}
 
 -- an edge below the start of another one is over that start
-pub below_is_over : (e f : Edge) → point_lt e.a e.b ≡ true → point_lt f.a f.b ≡ true → is_below_anchor e f ≡ true → covers f e.a.x (pos 1) ≡ true
+pub below_is_over : (e f : Edge) → point_lt e.a e.b ≡ true → point_lt f.a f.b ≡ true → is_below_anchor e f ≡ true →
+    covers f e.a.x (pos 1) ≡ true
 below_is_over e f forward_e forward_f below = ⊎_elim
     (λ strict. (and_parts (covers f e.a.x (pos 1)) (int_lt (pos 0) (side f (in_plane e.a))) strict).0)
     (λ starts. let both = and_parts (point_eq f.a e.a) (turns_left f e) starts in
@@ -32,7 +34,8 @@ below_is_over e f forward_e forward_f below = ⊎_elim
     subst (λ (p : Point). covers f p.x (pos 1) ≡ true) (point_eq-same f.a e.a both.0) (covers_start f (omega linear)))
     (or_cases (is_strictly_below f (in_plane e.a)) (point_eq f.a e.a && turns_left f e) below)
 
-module _ (count : CountedEdge → ℤ) (es : List CountedEdge) (r : IsBalancedArrangement count es) (e : CountedEdge) (at_e : Contains es e) where
+module _ (count : CountedEdge → ℤ) (es : List CountedEdge) (r : IsBalancedArrangement count es) (e : CountedEdge)
+    (at_e : Contains es e) where
   -- the edge is below the start of e
   abbrev below : CountedEdge → Bool
   below f = is_below_anchor (ends_of e) (ends_of f)
@@ -43,19 +46,23 @@ module _ (count : CountedEdge → ℤ) (es : List CountedEdge) (r : IsBalancedAr
   -- an edge strictly below a point does not start there
   starts_elsewhere : (f : CountedEdge) → is_strictly_below (ends_of f) (in_plane e.a) ≡ true → point_eq f.a e.a ≡ false
   starts_elsewhere f strict = false_from_ne_true (point_eq f.a e.a) (λ same.
-      absurd (let level = subst (λ (p : Point). side (ends_of f) (in_plane p) ≡ pos 0) (point_eq-same f.a e.a same) (side-start (ends_of f)) in
+      absurd (let level = subst (λ (p : Point). side (ends_of f) (in_plane p) ≡ pos 0) (point_eq-same f.a e.a same)
+      (side-start (ends_of f)) in
       let left = lt_from_test (pos 0) (side (ends_of f) (in_plane e.a))
-      (and_parts (covers (ends_of f) e.a.x (pos 1)) (int_lt (pos 0) (side (ends_of f) (in_plane e.a))) strict).1 in omega linear))
+      (and_parts (covers (ends_of f) e.a.x (pos 1)) (int_lt (pos 0) (side (ends_of f) (in_plane e.a))) strict).1 in
+      omega linear))
 
   -- the edges strictly below the start, and those that start there to the right, are the ones below it
   counted_once : (f : CountedEdge) → cond (is_strictly_below (ends_of f) (in_plane e.a)) (count f) (pos 0)
-      +ℤ cond (point_eq f.a e.a && turns_left (ends_of f) (ends_of e)) (count f) (pos 0) ≡ cond (below f) (count f) (pos 0)
+      +ℤ cond (point_eq f.a e.a && turns_left (ends_of f) (ends_of e)) (count f) (pos 0) ≡ cond (below f)
+      (count f) (pos 0)
   counted_once f = by (is_strictly_below (ends_of f) (in_plane e.a)) refl
     where
       by : (t : Bool) → is_strictly_below (ends_of f) (in_plane e.a) ≡ t →
           cond t (count f) (pos 0) +ℤ cond (point_eq f.a e.a && turns_left (ends_of f) (ends_of e)) (count f) (pos 0) ≡
           cond (t || (point_eq f.a e.a && turns_left (ends_of f) (ends_of e))) (count f) (pos 0)
-      by true strict = ap (λ s. count f +ℤ cond (s && turns_left (ends_of f) (ends_of e)) (count f) (pos 0)) (starts_elsewhere f strict) ∙ +ℤ_idr (count f)
+      by true strict = ap (λ s. count f +ℤ cond (s && turns_left (ends_of f) (ends_of e)) (count f) (pos 0))
+          (starts_elsewhere f strict) ∙ +ℤ_idr (count f)
       by false other = +ℤ_idl (cond (point_eq f.a e.a && turns_left (ends_of f) (ends_of e)) (count f) (pos 0))
 
   -- so the winding below the edge is the sum of the counts of the edges below its start
@@ -73,18 +80,21 @@ module _ (count : CountedEdge → ℤ) (es : List CountedEdge) (r : IsBalancedAr
       ∙ total-zero (λ f. cond (below f) (count f) (pos 0)) es (λ f at. ap (λ t. cond t (count f) (pos 0)) (none f at))
 
   -- with an edge below the start all under it are below
-  beside : (f : CountedEdge) → Contains es f → covers (ends_of f) e.a.x (pos 1) ≡ true → IsBeside (ends_of e) (forward e at_e) (ends_of f)
+  beside : (f : CountedEdge) → Contains es f → covers (ends_of f) e.a.x (pos 1) ≡ true →
+      IsBeside (ends_of e) (forward e at_e) (ends_of f)
   beside f at over = record { over = over; meets = r.settled e f at_e at }
 
   takes_below_start : TakesDownward ends_of es e.a.x (pos 1) below
   takes_below_start = record {
     over = λ f at is. below_is_over (ends_of e) (ends_of f) (forward e at_e) (forward f at) is;
-    downward = λ g f at_g at_f is over under. below_through (ends_of e) (forward e at_e) (ends_of f) (ends_of g) (beside f at_f over)
+    downward = λ g f at_g at_f is over under. below_through (ends_of e) (forward e at_e) (ends_of f) (ends_of g)
+        (beside f at_f over)
         (beside g at_g (below_is_over (ends_of e) (ends_of g) (forward e at_e) (forward g at_g) is))
         (meets_under (ends_of g) (ends_of f) e.a.x (pos 1) (r.settled g f at_g at_f) under) under is;
   }
 
   -- and it is the winding above the greatest edge below
-  pub winding_above_the_greatest : (g : CountedEdge) → IsGreatestTaken es e.a.x (pos 1) below g → winding_below count es e ≡ winding_above count es g
+  pub winding_above_the_greatest : (g : CountedEdge) → IsGreatestTaken es e.a.x (pos 1) below g →
+      winding_below count es e ≡ winding_above count es g
   winding_above_the_greatest g h = winding_counts_below
       ∙ above_the_greatest_taken count es r e.a.x (pos 1) (omega linear) below takes_below_start g h

@@ -1,5 +1,6 @@
 -- What a list of entries with points of the program stands for, and the test which of two edges is the lower one.
-use Rattle.std.specs.Prelude.{◌≡◌, true, AllPairs, Bool, cond, not, ◌&&◌, ◌||◌, ℕ, ℤ, pos, int_lt, List, map, option_map}
+use Rattle.std.specs.Prelude.{◌≡◌, true, AllPairs, Bool, cond, not, ◌&&◌, ◌||◌, ℕ, ℤ, pos, int_lt, List, map}
+use Rattle.std.specs.Prelude.{option_map}
 use Rattle.std.specs.Ordering.{int_eq}
 use Rattle.overlay_geom.specs.Plane.{Edge, cross_at}
 use Rattle.overlay_geom.specs.Points.{plain_point, InRange}
@@ -26,7 +27,8 @@ plain_sweep whole s = record { entries = plain_entries whole s.live; reached = o
 
 -- f is lower than e just right of the start of e: it passes below the start, or starts there to the right of e
 abbrev pub is_lower_at_start : Edge → Edge → Bool
-is_lower_at_start f e = int_lt (pos 0) (cross_at f.a f.b e.a) || (int_eq (cross_at f.a f.b e.a) (pos 0) && int_lt (pos 0) (cross_at e.a f.b e.b))
+is_lower_at_start f e = int_lt (pos 0) (cross_at f.a f.b e.a) || (int_eq (cross_at f.a f.b e.a) (pos 0) && int_lt
+    (pos 0) (cross_at e.a f.b e.b))
 
 -- f is lower than e just right of the start of the one that starts later
 abbrev pub is_lower : Edge → Edge → Bool

@@ -1,5 +1,6 @@
 -- A sweep's list of live edges, from bottom to top, each with a value.
-use Rattle.std.specs.Prelude.{◌≡◌, Bool, true, false, not, ℕ, ℤ, pos, ◌≤ℤ◌, int_lt, List, [], ◌∷◌, ◌++◌, filter, All, AllPairs, Option, Some, None, IfSome}
+use Rattle.std.specs.Prelude.{◌≡◌, Bool, true, false, not, ℕ, ℤ, pos, ◌≤ℤ◌, int_lt, List, [], ◌∷◌, ◌++◌, filter, All}
+use Rattle.std.specs.Prelude.{AllPairs, Option, Some, None, IfSome}
 use Rattle.std.specs.Option.{MatchOption}
 use Rattle.std.specs.List.{last_or}
 use Rattle.std.specs.Ordering.{is_gt}
@@ -97,8 +98,8 @@ abbrev pub value_or : {V : Type 0} → V → Option (Entry V) → V
 value_or default None = default
 value_or default (Some f) = f.value
 
--- the last of the entries that are strictly below the start of e, or start there with a smaller slope; a vertical edge has
--- the greatest slope
+-- the last of the entries that are strictly below the start of e, or start there with a smaller slope; a vertical edge
+-- has the greatest slope
 abbrev pub entry_below : {V : Type 0} → Edge → List (Entry V) → Option (Entry V)
 entry_below e fs = last_entry (λ f. is_below_anchor e f.edge) fs
 
@@ -128,5 +129,7 @@ abbrev pub IsCallableOn : {I V : Type 0} → (I → ℤ) → (List (IntPoint I) 
 IsCallableOn whole pre fs = All (λ f. HoldsOfLine whole f.edge pre) fs
 
 -- and one with these post answers of each entry's line what its edge's answer is
-abbrev pub IsAnsweredBy : {I V : Type 0} → (I → ℤ) → (List (IntPoint I) → Ordering → Type 0) → (Edge → Ordering) → List (Entry V) → Type 0
-IsAnsweredBy whole post answer fs = All (λ f. HoldsOfLine whole f.edge (λ line. (o : Ordering) → post line o → o ≡ answer f.edge)) fs
+abbrev pub IsAnsweredBy : {I V : Type 0} → (I → ℤ) → (List (IntPoint I) → Ordering → Type 0) →
+    (Edge → Ordering) → List (Entry V) → Type 0
+IsAnsweredBy whole post answer fs =
+    All (λ f. HoldsOfLine whole f.edge (λ line. (o : Ordering) → post line o → o ≡ answer f.edge)) fs

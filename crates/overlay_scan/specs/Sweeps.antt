@@ -8,7 +8,8 @@ use Rattle.overlay_scan.specs.Scan.{Entry, Sweep, live_at, MayMoveTo, IsSweep}
 abbrev pub entry_of : {V : Type 0} → (CountedEdge → V) → CountedEdge → Entry V
 entry_of value e = record { edge = ends_of e; value = value e }
 
--- no entry starts before one that stands before it: by the points in which they start, and from one point by their slopes
+-- no entry starts before one that stands before it: by the points in which they start, and from one point by their
+-- slopes
 abbrev pub IsByStart : {V : Type 0} → List (Entry V) → Type 0
 IsByStart es = AllPairs (λ e f. is_anchored_before f.edge e.edge ≡ false) es
 

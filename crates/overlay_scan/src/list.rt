@@ -71,11 +71,14 @@ impl<I: IntNumber, V: Copy, A: Allocator> Scan<I, V> for ScanList<I, V, A> {
         requires state { IsSweep I.limit (plain_sweep I.whole self.old) }
         requires moves { MayMoveTo (I.whole x) (plain_sweep I.whole self.old) }
         requires over { IsOver I.limit (I.whole x) (plain_line I.whole edge) }
-        requires meets { MeetsOthers (plain_line I.whole edge) (live_at (I.whole x) (plain_sweep I.whole self.old).entries) }
-        requires fresh { IsNewAmong (plain_line I.whole edge) (live_at (I.whole x) (plain_sweep I.whole self.old).entries) }
+        requires meets { MeetsOthers (plain_line I.whole edge)
+            (live_at (I.whole x) (plain_sweep I.whole self.old).entries) }
+        requires fresh { IsNewAmong (plain_line I.whole edge)
+            (live_at (I.whole x) (plain_sweep I.whole self.old).entries) }
         ensures ok { OnOk result (IsPutIn (I.whole x) (record { edge = plain_line I.whole edge; value = value })
             (live_at (I.whole x) (plain_sweep I.whole self.old).entries) (plain_sweep I.whole self.new).entries) }
-        ensures err { OnErr result (plain_sweep I.whole self.new ≡ moved_to (I.whole x) (plain_sweep I.whole self.old)) }
+        ensures err { OnErr result
+            (plain_sweep I.whole self.new ≡ moved_to (I.whole x) (plain_sweep I.whole self.old)) }
         ensures reached { (plain_sweep I.whole self.new).reached ≡ Some (I.whole x) }
         ensures state { IsSweep I.limit (plain_sweep I.whole self.new) }
         ensures only { IsOkUnless result OverlayError.Memory }
@@ -91,7 +94,8 @@ impl<I: IntNumber, V: Copy, A: Allocator> Scan<I, V> for ScanList<I, V, A> {
         requires state { IsSweep I.limit (plain_sweep I.whole self.old) }
         requires moves { MayMoveTo (I.whole x) (plain_sweep I.whole self.old) }
         requires asked { IsAsked I.limit (I.whole x) (plain_line I.whole edge) }
-        requires meets { MeetsOthers (plain_line I.whole edge) (live_at (I.whole x) (plain_sweep I.whole self.old).entries) }
+        requires meets { MeetsOthers (plain_line I.whole edge)
+            (live_at (I.whole x) (plain_sweep I.whole self.old).entries) }
         ensures value { result ≡ value_below default (plain_line I.whole edge)
             (live_at (I.whole x) (plain_sweep I.whole self.old).entries) }
         ensures content { plain_sweep I.whole self.new ≡ moved_to (I.whole x) (plain_sweep I.whole self.old) }
@@ -132,8 +136,10 @@ fn live_edge<I: IntNumber, V: Copy>(line: IntLine<I>, value: V) -> LiveEdge<I, V
 fn count_under<I: IntNumber, V: Copy>(entries: &[LiveEdge<I, V>], e: LiveEdge<I, V>) -> usize
     requires entries { All (λ f. IsInRange I.limit f.edge) (plain_entries I.whole entries.now) }
     requires edge { IsInRange I.limit (plain_entry I.whole e).edge }
-    requires front { PassBefore (λ f. is_lower f.edge (plain_entry I.whole e).edge) (plain_entries I.whole entries.now) }
-    ensures { result ≡ prefix_len (λ f. is_lower f.edge (plain_entry I.whole e).edge) (plain_entries I.whole entries.now) }
+    requires front { PassBefore (λ f. is_lower f.edge (plain_entry I.whole e).edge)
+        (plain_entries I.whole entries.now) }
+    ensures { result ≡ prefix_len (λ f. is_lower f.edge (plain_entry I.whole e).edge)
+        (plain_entries I.whole entries.now) }
 {
     let mut low = 0;
     let mut high = entries.len();

@@ -65,7 +65,8 @@ pub trait Scan<I: IntNumber, V: Copy> {
         requires state { IsSweep I.limit (content self.old) }
         requires moves { MayMoveTo (I.whole x) (content self.old) }
         requires callable { IsCallableOn I.whole (F.pre order) (live_at (I.whole x) (content self.old).entries) }
-        ensures value { (answer : _) → IsAnsweredBy I.whole (F.post order) answer (live_at (I.whole x) (content self.old).entries)
+        ensures value { (answer : _) → IsAnsweredBy I.whole (F.post order) answer
+            (live_at (I.whole x) (content self.old).entries)
             → AnswersRise answer (live_at (I.whole x) (content self.old).entries)
             → result ≡ value_up_to default answer (live_at (I.whole x) (content self.old).entries) }
         ensures content { content self.new ≡ moved_to (I.whole x) (content self.old) }

@@ -62,7 +62,6 @@ fn check<I: OverlayInt + PartialEq + From<i16>>(
     wanted: Shapes<'_>,
 ) -> Result<(), OverlayError>
     requires no_ogc { overlay.old.options.ogc ≡ false }
-    requires all_areas { I.WideUInt.natural overlay.old.options.min_output_area ≡ 0 }
     ensures { overlay.new.options ≡ overlay.old.options }
 {
     let wanted = shapes_of(alloc, wanted)?;

@@ -29,6 +29,8 @@ mod paths;
 mod reexports;
 pub mod refusing;
 #[cfg(test)]
+mod relations;
+#[cfg(test)]
 mod rows;
 #[cfg(test)]
 mod selected;
@@ -40,3 +42,5 @@ mod shapes;
 mod sources;
 #[cfg(test)]
 mod squares;
+#[cfg(test)]
+mod views;

@@ -108,7 +108,7 @@ pub(crate) fn check_kept<I: OverlayInt + PartialEq + From<i16>>(
 }
 
 /// Checks the row with this minimum area.
-pub fn check_minimum<I: OverlayInt + PartialEq + From<i16>>(
+pub(crate) fn check_minimum<I: OverlayInt + PartialEq + From<i16>>(
     rt: &impl Abort,
     alloc: Global,
     row: &Row<'_>,

@@ -18,7 +18,8 @@ abbrev pub NotBefore : Edge → Step → Type 0
 NotBefore e s = is_anchored_before (edge_of s) e ≡ false
 
 -- an edge of the walk before which none of its edges is, is its anchor
-pub anchor_found : (steps : List Step) → ((s : Step) → Contains steps s → ¬ (s.from ≡ s.to)) → (e : Edge) → Contains (map edge_of steps) e →
+pub anchor_found : (steps : List Step) → ((s : Step) → Contains steps s → ¬ (s.from ≡ s.to)) →
+    (e : Edge) → Contains (map edge_of steps) e →
     All (NotBefore e) steps → IsAnchor steps e
 anchor_found steps long e among first = record {
   among = among;
@@ -28,11 +29,14 @@ anchor_found steps long e among first = record {
   lowest = λ s at same. false_from_ne_true (turns_left (edge_of s) e)
       (λ left. both_ways (is_anchored_before (edge_of s) e) (All-contains (NotBefore e) steps s first at)
       (or_right (point_lt (edge_of s).a e.a) (point_eq (edge_of s).a e.a && turns_left (edge_of s) e)
-      (and_from (point_eq (edge_of s).a e.a) (turns_left (edge_of s) e) (point_eq-of_same (edge_of s).a e.a same) left)));
+      (and_from (point_eq (edge_of s).a e.a) (turns_left (edge_of s) e) (point_eq-of_same (edge_of s).a e.a same)
+      left)));
 }
 
 -- an edge that is before the first one so far is not preceded either
-pub still_first : (limit : _) (steps : List Step) → All (IsLong limit) steps → (e f : Edge) → IsForward e → IsForward f → is_anchored_before f e ≡ true →
+pub still_first : (limit : _) (steps : List Step) → All (IsLong limit) steps → (e f : Edge) → IsForward e →
+    IsForward f → is_anchored_before f e ≡ true →
     All (NotBefore e) steps → All (NotBefore f) steps
 still_first limit steps long e f he hf before first = λ i d h. false_from_ne_true _
-    (λ earlier. both_ways _ (first i d h) (anchored_before-transitive _ f e (long_leads_forward _ (long i d h).apart) hf he earlier before))
+    (λ earlier. both_ways _ (first i d h) (anchored_before-transitive _ f e (long_leads_forward _ (long i d h).apart) hf
+    he earlier before))

@@ -19,24 +19,32 @@ pub record IsCutSoFar (hand_of : Step → Hand) (all left : List Step) (walks : 
   pub completes : (rest : List (List Step)) → IsCutInto hand_of left rest → IsCutInto hand_of all (walks ++ rest)
 
 -- before the first walk
-pub cut_begins : (hand_of : Step → Hand) (all : List Step) → CanBeCut hand_of all → HasEachOnce all → IsCutSoFar hand_of all all []
+pub cut_begins : (hand_of : Step → Hand) (all : List Step) → CanBeCut hand_of all → HasEachOnce all →
+    IsCutSoFar hand_of all all []
 cut_begins hand_of all cuttable once = record { cuttable = cuttable; once = once; completes = λ rest cut. cut }
 
 -- after the last
-pub cut_ends : (hand_of : Step → Hand) (all left : List Step) (walks : List (List Step)) → IsCutSoFar hand_of all left walks → left ≡ [] → IsCutInto hand_of all walks
-cut_ends hand_of all left walks far none = subst (λ ws. IsCutInto hand_of all ws) (append-nil walks) (far.completes [] (subst (λ ss. IsCutInto hand_of ss []) (sym none) done))
+pub cut_ends : (hand_of : Step → Hand) (all left : List Step) (walks : List (List Step)) →
+    IsCutSoFar hand_of all left walks → left ≡ [] → IsCutInto hand_of all walks
+cut_ends hand_of all left walks far none = subst (λ ws. IsCutInto hand_of all ws) (append-nil walks)
+    (far.completes [] (subst (λ ss. IsCutInto hand_of ss []) (sym none) done))
 
-module _ (hand_of : Step → Hand) (all left : List Step) (walks : List (List Step)) (far : IsCutSoFar hand_of all left walks) (s : Step) (start : IsStart left s)
-    (walk : List Step) (orbit : IsOrbit left (hand_of s) walk) (begins : step_round walk 0 ≡ s) (after : List Step) (rest : after ≡ without left walk) where
+module _ (hand_of : Step → Hand) (all left : List Step) (walks : List (List Step))
+    (far : IsCutSoFar hand_of all left walks) (s : Step) (start : IsStart left s)
+    (walk : List Step) (orbit : IsOrbit left (hand_of s) walk) (begins : step_round walk 0 ≡ s) (after : List Step)
+    (rest : after ≡ without left walk) where
   -- a cut of what a walk leaves is one of what was left, with the walk in front
-  completes_on : (later : List (List Step)) → IsCutInto hand_of (without left walk) later → IsCutInto hand_of left (walk ∷ later)
+  completes_on : (later : List (List Step)) → IsCutInto hand_of (without left walk) later →
+      IsCutInto hand_of left (walk ∷ later)
   completes_on later cut = by walk orbit begins cut
     where
-      by : (ts : List Step) → IsOrbit left (hand_of s) ts → step_round ts 0 ≡ s → IsCutInto hand_of (without left ts) later → IsCutInto hand_of left (ts ∷ later)
+      by : (ts : List Step) → IsOrbit left (hand_of s) ts → step_round ts 0 ≡ s →
+          IsCutInto hand_of (without left ts) later → IsCutInto hand_of left (ts ∷ later)
       by [] round first cut = absurd (elim round.some [ ])
       by (t ∷ ts) round first cut =
           let same : t ≡ s = sym (item_round-here (t ∷ ts) no_step 0 (omega arith)) ∙ first in
-          next (subst (λ u. IsStart left u) (sym same) start) (subst (λ u. IsOrbit left (hand_of u) (t ∷ ts)) (sym same) round) cut
+          next (subst (λ u. IsStart left u) (sym same) start)
+          (subst (λ u. IsOrbit left (hand_of u) (t ∷ ts)) (sym same) round) cut
 
   -- the start's hand leads on, and its orbit leaves what can be cut
   leaves : LeavesCuttable hand_of left s
@@ -46,7 +54,9 @@ module _ (hand_of : Step → Hand) (all left : List Step) (walks : List (List St
   pub cut_goes_on : IsCutSoFar hand_of all after (walks ++ walk ∷ [])
   cut_goes_on = record {
     cuttable = subst (CanBeCut hand_of) (sym rest) (leaves.leaves walk orbit);
-    once = subst HasEachOnce (sym rest) (AllPairs-from_each Differ (without left walk) (Each-filter Differ (λ t. not (is_step_of walk t)) left (Each-from_all_pairs Differ left far.once)));
+    once = subst HasEachOnce (sym rest)
+        (AllPairs-from_each Differ (without left walk)
+        (Each-filter Differ (λ t. not (is_step_of walk t)) left (Each-from_all_pairs Differ left far.once)));
     completes = λ later cut. subst (λ ws. IsCutInto hand_of all ws) (sym (append_assoc walks (walk ∷ []) later))
         (far.completes (walk ∷ later) (completes_on later (subst (λ ss. IsCutInto hand_of ss later) rest cut)));
   }
@@ -54,7 +64,8 @@ module _ (hand_of : Step → Hand) (all left : List Step) (walks : List (List St
   -- leaves fewer steps
   pub fewer_left : length after < length left
   fewer_left =
-      let shuffled = length_permutation left (walk ++ without left walk) (walk_and_left left (hand_of s) leaves.leads_on walk orbit (Each-from_all_pairs Differ left far.once)) in
+      let shuffled = length_permutation left (walk ++ without left walk)
+      (walk_and_left left (hand_of s) leaves.leads_on walk orbit (Each-from_all_pairs Differ left far.once)) in
       let joined = length-append walk (without left walk) in
       let kept = ap length rest in
       let some = orbit.some in

@@ -1,5 +1,6 @@
 -- The filled-above edges of the first walks.
-use Rattle.std.proofs.Common.{◌≡◌, ℕ, ◌+◌, ◌<◌, Bool, true, false, List, [], ◌∷◌, ◌++◌, cond, length, map, take, get_or, Contains, refl, sym, ap, ap₂, ◌∙◌, subst, append-nil, arith}
+use Rattle.std.proofs.Common.{◌≡◌, ℕ, ◌+◌, ◌<◌, Bool, true, false, List, [], ◌∷◌, ◌++◌, cond, length, map, take, get_or}
+use Rattle.std.proofs.Common.{Contains, refl, sym, ap, ap₂, ◌∙◌, subst, append-nil, arith}
 use Rattle.std.specs.List.{All, AllPairs, filter, slice_get}
 use Rattle.std.specs.Prelude.{Some}
 use Rattle.std.specs.List.Sorted.{IsPermutation}
@@ -22,8 +23,10 @@ pub filled_more : (on_left : Bool) (n : ℕ) (ss : List Step) (s : Step) → is_
     filled_entries on_left n (ss ++ s ∷ []) ≡ filled_entries on_left n ss ++ record { edge = edge_of s; value = n } ∷ []
 filled_more on_left n ss s is =
     let at : Edge → Entry ℕ = λ e. record { edge = e; value = n } in
-    let kept = filter-append (is_filled_above on_left) ss (s ∷ []) ∙ ap (λ t. filter (is_filled_above on_left) ss ++ cond t (s ∷ []) []) is in
-    ap (λ us. map at (map edge_of us)) kept ∙ ap (map at) (map-append edge_of (filter (is_filled_above on_left) ss) (s ∷ []))
+    let kept = filter-append (is_filled_above on_left) ss (s ∷ [])
+    ∙ ap (λ t. filter (is_filled_above on_left) ss ++ cond t (s ∷ []) []) is in
+    ap (λ us. map at (map edge_of us)) kept
+    ∙ ap (map at) (map-append edge_of (filter (is_filled_above on_left) ss) (s ∷ []))
     ∙ map-append at (filled_above_edges on_left ss) (edge_of s ∷ [])
 
 -- or which is not
@@ -32,15 +35,18 @@ pub filled_same : (on_left : Bool) (n : ℕ) (ss : List Step) (s : Step) → is_
 filled_same on_left n ss s is =
     let at : Edge → Entry ℕ = λ e. record { edge = e; value = n } in
     ap (λ us. map at (map edge_of us)) (filter-append (is_filled_above on_left) ss (s ∷ [])
-    ∙ ap (λ t. filter (is_filled_above on_left) ss ++ cond t (s ∷ []) []) is ∙ append-nil (filter (is_filled_above on_left) ss))
+    ∙ ap (λ t. filter (is_filled_above on_left) ss ++ cond t (s ∷ []) []) is
+    ∙ append-nil (filter (is_filled_above on_left) ss))
 
 -- the edges of a walk's entries
-edges_of_entries : (n : ℕ) (es : List Edge) → map (λ (f : Entry ℕ). f.edge) (map (λ e. record { edge = e; value = n }) es) ≡ es
+edges_of_entries : (n : ℕ) (es : List Edge) →
+    map (λ (f : Entry ℕ). f.edge) (map (λ e. record { edge = e; value = n }) es) ≡ es
 edges_of_entries n [] = refl
 edges_of_entries n (e ∷ es) = ap (λ fs. e ∷ fs) (edges_of_entries n es)
 
 -- what holds of any two of what items are mapped to holds so of the items
-AllPairs-unmap : {X Y : Type 0} (R : Y → Y → Type 0) (f : X → Y) (xs : List X) → AllPairs R (map f xs) → AllPairs (λ x y. R (f x) (f y)) xs
+AllPairs-unmap : {X Y : Type 0} (R : Y → Y → Type 0) (f : X → Y) (xs : List X) → AllPairs R (map f xs) →
+    AllPairs (λ x y. R (f x) (f y)) xs
 AllPairs-unmap R f xs h i j d l m =
     subst (λ y. R y (f (get_or xs j d))) (get_or-map f xs i d (f d) (omega (arith, l, m)))
     (subst (λ y. R (get_or (map f xs) i (f d)) y) (get_or-map f xs j d (f d) m) (h i j (f d) l (rw length-map m)))
@@ -52,25 +58,31 @@ module _ (on_left : Bool) (walks : List (List Step)) where
     pub from : All (IsFilledEntry on_left walks) fs
 
   -- and those of the next one
-  pub filled_added : (i : ℕ) (fs : List (Entry ℕ)) (w : List Step) → HaveFilled i fs → i < length walks → get_or walks i w ≡ w → slice_get walks i ≡ Some w →
+  pub filled_added : (i : ℕ) (fs : List (Entry ℕ)) (w : List Step) → HaveFilled i fs → i < length walks →
+      get_or walks i w ≡ w → slice_get walks i ≡ Some w →
       HaveFilled (i + 1) (fs ++ filled_entries on_left i w)
   filled_added i fs w have lt is at = record {
     edges = map-append (λ f. f.edge) fs (filled_entries on_left i w)
-        ∙ ap₂ (λ us vs. us ++ vs) have.edges (edges_of_entries i (filled_above_edges on_left w) ∙ sym (append-nil (filled_above_edges on_left w)))
+        ∙ ap₂ (λ us vs. us ++ vs) have.edges (edges_of_entries i (filled_above_edges on_left w)
+        ∙ sym (append-nil (filled_above_edges on_left w)))
         ∙ sym (flat_map-append (filled_above_edges on_left) (take i walks) (w ∷ []))
         ∙ ap (all_filled_above on_left) (ap (λ v. take i walks ++ v ∷ []) (sym is) ∙ sym (take_more walks i w lt));
     from = All-append (IsFilledEntry on_left walks) fs (filled_entries on_left i w) have.from
         (all_of_entries (IsFilledEntry on_left walks) (filled_entries on_left i w) (λ f c.
-        let found = Contains-from_map (λ (e : Edge). record { edge = e; value = i }) (filled_above_edges on_left w) f c in
+        let found = Contains-from_map (λ (e : Edge). record { edge = e; value = i })
+        (filled_above_edges on_left w) f c in
         subst (IsFilledEntry on_left walks) found.2 (record { walk = w; at = at; has = found.1 })));
   }
 
   -- all of them, sorted
-  pub filled_sorted : (fs gs : List (Entry ℕ)) → map (λ f. f.edge) fs ≡ all_filled_above on_left walks → All (IsFilledEntry on_left walks) fs →
-      AllPairs (λ e f. edge_eq e f ≡ false) (all_filled_above on_left walks) → IsPermutation fs gs → IsByStart gs → AreFilledEntries on_left walks gs
+  pub filled_sorted : (fs gs : List (Entry ℕ)) → map (λ f. f.edge) fs ≡ all_filled_above on_left walks →
+      All (IsFilledEntry on_left walks) fs →
+      AllPairs (λ e f. edge_eq e f ≡ false) (all_filled_above on_left walks) → IsPermutation fs gs → IsByStart gs →
+      AreFilledEntries on_left walks gs
   filled_sorted fs gs edges from distinct moved order = record {
     from = All-permutation (IsFilledEntry on_left walks) fs gs moved from;
-    all = λ e c. Contains-permutation (map (λ f. f.edge) fs) (map (λ f. f.edge) gs) e mapped (subst (λ es. Contains es e) (sym edges) c);
+    all = λ e c. Contains-permutation (map (λ f. f.edge) fs) (map (λ f. f.edge) gs) e mapped
+        (subst (λ es. Contains es e) (sym edges) c);
     distinct = AllPairs-unmap (λ e f. edge_eq e f ≡ false) (λ f. f.edge) gs differ;
     order = order;
   }
@@ -79,4 +91,5 @@ module _ (on_left : Bool) (walks : List (List Step)) where
       mapped = IsPermutation-map (λ f. f.edge) fs gs moved
 
       differ : AllPairs (λ e f. edge_eq e f ≡ false) (map (λ (f : Entry ℕ). f.edge) gs)
-      differ = pairs_shuffled edge_eq edge_eq-exchanged (map (λ f. f.edge) fs) (map (λ f. f.edge) gs) mapped (subst (AllPairs (λ e f. edge_eq e f ≡ false)) (sym edges) distinct)
+      differ = pairs_shuffled edge_eq edge_eq-exchanged (map (λ f. f.edge) fs) (map (λ f. f.edge) gs) mapped
+          (subst (AllPairs (λ e f. edge_eq e f ≡ false)) (sym edges) distinct)

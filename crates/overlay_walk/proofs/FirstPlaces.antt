@@ -25,25 +25,30 @@ abbrev pub first_so_far : (ℕ → Bool) → (ℕ → ℕ → Bool) → Option �
 first_so_far is_open comes_before found i = cond (is_open i && comes_first comes_before found i) (Some i) found
 
 -- the place found lies below the end
-pub found_below : (is_open : ℕ → Bool) (before : ℕ → ℕ → Bool) (low high bound : ℕ) (found : Option ℕ) → high ≤ bound → IsFirstOf is_open before low high found →
+pub found_below : (is_open : ℕ → Bool) (before : ℕ → ℕ → Bool) (low high bound : ℕ) (found : Option ℕ) → high ≤ bound →
+    IsFirstOf is_open before low high found →
     IfSome found (λ k. k < bound)
 found_below is_open before low high bound None h first = tt
 found_below is_open before low high bound (Some m) h first = let b = first.below in omega arith
 
 module _ (is_open : ℕ → Bool) (before : ℕ → ℕ → Bool) (bound : ℕ) (irreflexive : (k : ℕ) → before k k ≡ false)
-    (transitive : (i j k : ℕ) → i < bound → j < bound → k < bound → before i j ≡ true → before j k ≡ true → before i k ≡ true) (low : ℕ) where
+    (transitive : (i j k : ℕ) → i < bound → j < bound → k < bound → before i j ≡ true → before j k ≡ true →
+    before i k ≡ true) (low : ℕ) where
   -- a place up to the next one is one up to here, or this one
   up_to_next : {P : Type 0} (i k : ℕ) → k < i + 1 → (k < i → P) → (k ≡ i → P) → P
   up_to_next i k h earlier here = ⊎_elim earlier (λ at. here (omega arith)) (cases_lt k i)
 
   -- an open place that comes first is found
-  found_here : (i : ℕ) (found : Option ℕ) → low ≤ i → i < bound → IsFirstOf is_open before low i found → is_open i ≡ true → comes_first before found i ≡ true →
+  found_here : (i : ℕ) (found : Option ℕ) → low ≤ i → i < bound → IsFirstOf is_open before low i found →
+      is_open i ≡ true → comes_first before found i ≡ true →
       IsFirstOf is_open before low (i + 1) (Some i)
   found_here i None above within none at first = record {
     above = above;
     below = omega arith;
     untaken = at;
-    first = λ k h below opened. up_to_next i k below (λ earlier. absurd (both_ways (is_open k) (none k h earlier) opened)) (λ here. subst (λ j. before j i ≡ false) (sym here) (irreflexive i));
+    first = λ k h below opened. up_to_next i k below
+        (λ earlier. absurd (both_ways (is_open k) (none k h earlier) opened))
+        (λ here. subst (λ j. before j i ≡ false) (sym here) (irreflexive i));
   }
   found_here i (Some m) above within found at first = record {
     above = above;
@@ -56,8 +61,10 @@ module _ (is_open : ℕ → Bool) (before : ℕ → ℕ → Bool) (bound : ℕ) 
   }
 
   -- past a place that is not open what was found stays
-  stays_past_taken : (i : ℕ) (found : Option ℕ) → IsFirstOf is_open before low i found → is_open i ≡ false → IsFirstOf is_open before low (i + 1) found
-  stays_past_taken i None none at = λ k h below. up_to_next i k below (none k h) (λ here. subst (λ j. is_open j ≡ false) (sym here) at)
+  stays_past_taken : (i : ℕ) (found : Option ℕ) → IsFirstOf is_open before low i found → is_open i ≡ false →
+      IsFirstOf is_open before low (i + 1) found
+  stays_past_taken i None none at = λ k h below. up_to_next i k below (none k h)
+      (λ here. subst (λ j. is_open j ≡ false) (sym here) at)
   stays_past_taken i (Some m) found at = record {
     above = found.above;
     below = let b = found.below in omega arith;
@@ -67,20 +74,24 @@ module _ (is_open : ℕ → Bool) (before : ℕ → ℕ → Bool) (bound : ℕ) 
   }
 
   -- and past one that does not come first
-  stays_past_later : (i : ℕ) (found : Option ℕ) → IsFirstOf is_open before low i found → comes_first before found i ≡ false → IsFirstOf is_open before low (i + 1) found
+  stays_past_later : (i : ℕ) (found : Option ℕ) → IsFirstOf is_open before low i found →
+      comes_first before found i ≡ false → IsFirstOf is_open before low (i + 1) found
   stays_past_later i None none later = absurd (both_ways true later refl)
   stays_past_later i (Some m) found later = record {
     above = found.above;
     below = let b = found.below in omega arith;
     untaken = found.untaken;
-    first = λ k h below opened. up_to_next i k below (λ earlier. found.first k h earlier opened) (λ here. subst (λ j. before j m ≡ false) (sym here) later);
+    first = λ k h below opened. up_to_next i k below (λ earlier. found.first k h earlier opened)
+        (λ here. subst (λ j. before j m ≡ false) (sym here) later);
   }
 
   -- so one more place is looked at
-  pub looked_at : (i : ℕ) (found : Option ℕ) → low ≤ i → i < bound → IsFirstOf is_open before low i found → IsFirstOf is_open before low (i + 1) (first_so_far is_open before found i)
+  pub looked_at : (i : ℕ) (found : Option ℕ) → low ≤ i → i < bound → IsFirstOf is_open before low i found →
+      IsFirstOf is_open before low (i + 1) (first_so_far is_open before found i)
   looked_at i found above within first = by (is_open i) refl (comes_first before found i) refl
     where
-      by : (s : Bool) → is_open i ≡ s → (t : Bool) → comes_first before found i ≡ t → IsFirstOf is_open before low (i + 1) (cond (s && t) (Some i) found)
+      by : (s : Bool) → is_open i ≡ s → (t : Bool) → comes_first before found i ≡ t →
+          IsFirstOf is_open before low (i + 1) (cond (s && t) (Some i) found)
       by true at true comes = found_here i found above within first at comes
       by true at false later = stays_past_later i found first later
       by false shut t comes = stays_past_taken i found first shut

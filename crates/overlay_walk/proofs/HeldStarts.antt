@@ -22,8 +22,10 @@ module _ {I W U : Type 0} (i : IntGhosts I W U) (w : WideGhosts W) (u : UIntGhos
   -- any two compare
   pub held_start_before-order : IsStrictWeakOrder held_start_before
   held_start_before-order = record {
-    one_way = λ e f. starts_before-one_way (numbered_entry i.whole e).edge (numbered_entry i.whole f).edge e.forward f.forward;
-    chain = λ e f h. starts_before-chain (numbered_entry i.whole e).edge (numbered_entry i.whole f).edge (numbered_entry i.whole h).edge
+    one_way = λ e f. starts_before-one_way (numbered_entry i.whole e).edge (numbered_entry i.whole f).edge
+        e.forward f.forward;
+    chain = λ e f h. starts_before-chain (numbered_entry i.whole e).edge (numbered_entry i.whole f).edge
+        (numbered_entry i.whole h).edge
         e.forward f.forward h.forward;
   }
 

@@ -1,12 +1,13 @@
 pub mod AnchorsFound
-pub mod BoundTo
+pub mod ShapeNumbers
 pub mod BoundWalks
 pub mod CutsOn
 pub mod FilledEntries
 pub mod FirstPlaces
+pub mod GroupContours
 pub mod HeldStarts
 pub mod HoleEntries
-pub mod HolesTold
+pub mod HoleNumbers
 pub mod InnerProducts
 pub mod NearestPoints
 pub mod NextBelow
@@ -21,6 +22,7 @@ pub mod Runs
 pub mod SelectedByBits
 pub mod SelectedLong
 pub mod ShapesFound
+pub mod SplitGroups
 pub mod StartOrder
 pub mod StartPlaces
 pub mod Starts

@@ -1,10 +1,12 @@
 -- The point of a list that a turning ray meets first, once one more point stands at the end of the list.
-use Rattle.std.proofs.Common.{◌≡◌, ⊎_elim, ◌≤◌, Bool, true, false, cond, Option, None, Some, option_map, unwrap_or, List, [], ◌∷◌, ◌++◌, pos, ◌≤ℤ◌, refl, sym, ap, ◌∙◌, subst, arith}
+use Rattle.std.proofs.Common.{◌≡◌, ⊎_elim, ◌≤◌, Bool, true, false, cond, Option, None, Some, option_map, unwrap_or}
+use Rattle.std.proofs.Common.{List, [], ◌∷◌, ◌++◌, pos, ◌≤ℤ◌, refl, sym, ap, ◌∙◌, subst, arith}
 use Rattle.std.specs.Prelude.{All, Contains, ◌↔◌}
 use Rattle.std.proofs.lemmas.Bool.{both_ways, cases_lt}
 use Rattle.std.proofs.lemmas.Int.{by_lt_z}
 use Rattle.std.proofs.lemmas.List.{append_assoc}
-use Rattle.std.proofs.lemmas.List.Elements.{All-nil, All-cons, All-append, All-push, All-weaker, All-contains, Contains-append_right}
+use Rattle.std.proofs.lemmas.List.Elements.{All-nil, All-cons, All-append, All-push, All-weaker, All-contains}
+use Rattle.std.proofs.lemmas.List.Elements.{Contains-append_right}
 use Rattle.overlay_geom.specs.Plane.{Point}
 use Rattle.overlay_geom.proofs.Entries.{Contains-head}
 use Rattle.overlay_geom.proofs.Signs.{linear}
@@ -15,11 +17,14 @@ use Rattle.overlay_walk.specs.Nearest.{Nearest, HasSeen, IsMetFirst, IsNearestOf
 
 module _ (hand : Hand) (v u : Point) (long : ¬ (u ≡ v)) where
   -- what is met before a point is met before each that is not met before that point
-  pub met_before_later : (p q r : Point) → IsMetBefore hand v u p q → is_met_before hand v u r q ≡ false → IsMetBefore hand v u p r
+  pub met_before_later : (p q r : Point) → IsMetBefore hand v u p q → is_met_before hand v u r q ≡ false →
+      IsMetBefore hand v u p r
   met_before_later p q r pq later = ⊎_elim
-      (λ less. first_by_part (part_of_turn hand v u p) (part_of_turn hand v u r) (turn hand v p r) (let up = part_up in omega arith))
+      (λ less. first_by_part (part_of_turn hand v u p) (part_of_turn hand v u r) (turn hand v p r) (let up = part_up in
+      omega arith))
       (λ turned. ⊎_elim
-      (λ less. first_by_part (part_of_turn hand v u p) (part_of_turn hand v u r) (turn hand v p r) (let same = turned.0 in omega arith))
+      (λ less. first_by_part (part_of_turn hand v u p) (part_of_turn hand v u r) (turn hand v p r)
+      (let same = turned.0 in omega arith))
       (λ back. let same : part_of_turn hand v u q ≡ part_of_turn hand v u r = let up = part_up in omega arith in
       first_by_turn (part_of_turn hand v u p) (part_of_turn hand v u r) (turn hand v p r) (turned.0 ∙ same)
       (turns_on hand v u p q r long turned.0 same turned.1 (not_back same)))
@@ -39,25 +44,37 @@ module _ (hand : Hand) (v u : Point) (long : ¬ (u ≡ v)) where
           (λ none. let exchanged = turn_exchanged hand v q r in omega linear)
 
   -- what is met before the first of a list is met before each of it
-  before_each : (ps : List Point) (p t : Point) → IsMetFirst hand v u ps t → IsMetBefore hand v u p t → All (IsMetBefore hand v u p) ps
+  before_each : (ps : List Point) (p t : Point) → IsMetFirst hand v u ps t → IsMetBefore hand v u p t →
+      All (IsMetBefore hand v u p) ps
   before_each ps p t first nearer = subst (λ qs. All (IsMetBefore hand v u p) qs) (sym first.stands)
       (All-append (IsMetBefore hand v u p) first.front (t ∷ first.back)
-      (All-weaker (IsMetBefore hand v u t) (IsMetBefore hand v u p) (λ q later. met_transitive hand v u p t q long nearer later) first.front first.before)
+      (All-weaker (IsMetBefore hand v u t) (IsMetBefore hand v u p)
+      (λ q later. met_transitive hand v u p t q long nearer later) first.front first.before)
       (All-cons (IsMetBefore hand v u p) t first.back nearer
-      (All-weaker (λ q. is_met_before hand v u q t ≡ false) (IsMetBefore hand v u p) (λ q later. met_before_later p t q nearer later)
+      (All-weaker (λ q. is_met_before hand v u q t ≡ false) (IsMetBefore hand v u p)
+      (λ q later. met_before_later p t q nearer later)
       first.back first.not_after)))
 
   -- what is met before each of a list is met before its first one
-  before_first : (ps : List Point) (p t : Point) → IsMetFirst hand v u ps t → All (IsMetBefore hand v u p) ps → IsMetBefore hand v u p t
+  before_first : (ps : List Point) (p t : Point) → IsMetFirst hand v u ps t → All (IsMetBefore hand v u p) ps →
+      IsMetBefore hand v u p t
   before_first ps p t first all = All-contains (IsMetBefore hand v u p) ps t all
-      (subst (λ qs. Contains qs t) (sym first.stands) (Contains-append_right first.front (t ∷ first.back) t (Contains-head t first.back)))
+      (subst (λ qs. Contains qs t) (sym first.stands)
+      (Contains-append_right first.front (t ∷ first.back) t (Contains-head t first.back)))
 
   -- one that is met before all stands first
   nearer_first : (ps : List Point) (p : Point) → All (IsMetBefore hand v u p) ps → IsMetFirst hand v u (ps ++ p ∷ []) p
-  nearer_first ps p all = record { front = ps; back = []; stands = refl; before = all; not_after = All-nil (λ q. is_met_before hand v u q p ≡ false) }
+  nearer_first ps p all = record {
+    front = ps;
+    back = [];
+    stands = refl;
+    before = all;
+    not_after = All-nil (λ q. is_met_before hand v u q p ≡ false);
+  }
 
   -- one that is not met before the first leaves that where it is
-  still_first : (ps : List Point) (p t : Point) → IsMetFirst hand v u ps t → is_met_before hand v u p t ≡ false → IsMetFirst hand v u (ps ++ p ∷ []) t
+  still_first : (ps : List Point) (p t : Point) → IsMetFirst hand v u ps t → is_met_before hand v u p t ≡ false →
+      IsMetFirst hand v u (ps ++ p ∷ []) t
   still_first ps p t first later = record {
     front = first.front;
     back = first.back ++ p ∷ [];
@@ -75,14 +92,16 @@ abbrev pub and_added : Nearest → Bool → Point → Nearest
 and_added n nearer p = record n { nearest = cond nearer (Some p) n.nearest }
 
 -- it is the answer by all points seen
-pub nearer_of_all : (n : Nearest) (p : Point) (nearer : Bool) → nearer ≡ is_nearer n p → (seen : List Point) → HasSeen n seen →
+pub nearer_of_all : (n : Nearest) (p : Point) (nearer : Bool) → nearer ≡ is_nearer n p → (seen : List Point) →
+    HasSeen n seen →
     (nearer ≡ true) ↔ IsNearer n seen p
 nearer_of_all n p nearer is seen h = by n.nearest h.nearest is
   where
     IsBefore : Point → Type 0
     IsBefore = IsMetBefore n.hand n.node n.start p
 
-    by : (m : Option Point) → IsNearestOf n.hand n.node n.start seen m → nearer ≡ is_nearer (record n { nearest = m }) p → (nearer ≡ true) ↔ All IsBefore seen
+    by : (m : Option Point) → IsNearestOf n.hand n.node n.start seen m →
+        nearer ≡ is_nearer (record n { nearest = m }) p → (nearer ≡ true) ↔ All IsBefore seen
     by None none same = (λ _. subst (λ qs. All IsBefore qs) (sym none) (All-nil IsBefore), λ _. same)
     by (Some t) first same = (
       λ met. before_each n.hand n.node n.start h.apart seen p t first (sym same ∙ met),
@@ -90,14 +109,18 @@ nearer_of_all n p nearer is seen h = by n.nearest h.nearest is
     )
 
 -- and with p the ray has seen them and p
-pub seen_too : (n : Nearest) (p : Point) (nearer : Bool) → nearer ≡ is_nearer n p → (seen : List Point) → HasSeen n seen →
+pub seen_too : (n : Nearest) (p : Point) (nearer : Bool) → nearer ≡ is_nearer n p → (seen : List Point) →
+    HasSeen n seen →
     HasSeen (and_added n nearer p) (seen ++ p ∷ [])
 seen_too n p nearer is seen h = record { apart = h.apart; nearest = by n.nearest nearer h.nearest is }
   where
-    by : (m : Option Point) (b : Bool) → IsNearestOf n.hand n.node n.start seen m → b ≡ is_nearer (record n { nearest = m }) p →
+    by : (m : Option Point) (b : Bool) → IsNearestOf n.hand n.node n.start seen m →
+        b ≡ is_nearer (record n { nearest = m }) p →
         IsNearestOf n.hand n.node n.start (seen ++ p ∷ []) (cond b (Some p) m)
     by None true none same = nearer_first n.hand n.node n.start h.apart seen p
-        (subst (λ qs. All (IsMetBefore n.hand n.node n.start p) qs) (sym none) (All-nil (IsMetBefore n.hand n.node n.start p)))
+        (subst (λ qs. All (IsMetBefore n.hand n.node n.start p) qs) (sym none)
+        (All-nil (IsMetBefore n.hand n.node n.start p)))
     by None false none same = absurd (both_ways true (sym same) refl)
-    by (Some t) true first met = nearer_first n.hand n.node n.start h.apart seen p (before_each n.hand n.node n.start h.apart seen p t first (sym met))
+    by (Some t) true first met = nearer_first n.hand n.node n.start h.apart seen p
+        (before_each n.hand n.node n.start h.apart seen p t first (sym met))
     by (Some t) false first later = still_first n.hand n.node n.start h.apart seen p t first (sym later)

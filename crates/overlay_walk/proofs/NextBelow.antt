@@ -1,6 +1,7 @@
 -- What a look-up below an anchor finds: the walk with the next filled-above edge, or that no edge is below.
 use Rattle.std.proofs.Common.{◌≡◌, ◌⊎◌, inl, inr, ⊎_elim, ℕ, Bool, true, false, ◌&&◌, pos, ◌*ℤ◌, ◌<ℤ◌, int_lt, int_le}
-use Rattle.std.proofs.Common.{List, [], ◌∷◌, length, take, drop, Contains, Option, None, Some, refl, sym, ap, ap₂, ◌∙◌, subst, arith}
+use Rattle.std.proofs.Common.{List, [], ◌∷◌, length, take, drop, Contains, Option, None, Some, refl, sym, ap, ap₂, ◌∙◌}
+use Rattle.std.proofs.Common.{subst, arith}
 use Rattle.std.specs.List.{All, filter, last_or, slice_get}
 use Rattle.std.specs.Option.{MatchOption}
 use Rattle.std.proofs.lemmas.Bool.{and_parts, false_from_ne_true}
@@ -21,14 +22,16 @@ use Rattle.overlay_plane.proofs.LongSteps.{long_leads_forward}
 use Rattle.overlay_plane.proofs.LowerEdges.{lower_at_is_under}
 use Rattle.overlay_plane.proofs.Tests.{lt_from_test, test_from_lt, le_from_test}
 use Rattle.overlay_plane.proofs.Under.{under_irreflexive, under_asymmetric}
-use Rattle.overlay_scan.specs.Scan.{Entry, Sweep, live_at, IsOver, AreLive, MeetsOthers, entry_below, value_or, value_below}
+use Rattle.overlay_scan.specs.Scan.{Entry, Sweep, live_at, IsOver, AreLive, MeetsOthers, entry_below, value_or}
+use Rattle.overlay_scan.specs.Scan.{value_below}
 use Rattle.overlay_scan.specs.Laws.{IsGreatestBelow}
 use Rattle.overlay_scan.proofs.LastEntries.{no_last, look_up_gives_the_greatest}
 use Rattle.overlay_walk.specs.Parents.{IsSwept}
 use Rattle.overlay_walk.specs.WalkEdges.{IsFilledEntry, AreFilledEntries}
 use Rattle.overlay_walk.proofs.HoleEntries.{Contains-at}
 
-module _ (on_left : Bool) (walks : List (List Step)) (contours : All IsContour walks) (settled : IsSettledBy edge_of (all_steps walks)) where
+module _ (on_left : Bool) (walks : List (List Step)) (contours : All IsContour walks)
+    (settled : IsSettledBy edge_of (all_steps walks)) where
   -- an edge of a walk: that of a step, which leads forward
   pub record IsWalked (e : Edge) : Type 0 where
     pub step : Step
@@ -42,7 +45,8 @@ module _ (on_left : Bool) (walks : List (List Step)) (contours : All IsContour w
     step = s;
     among = Contains-flat_map (λ v. v) walks w s at c;
     is = is;
-    forward = subst (λ (f : Edge). point_lt f.a f.b ≡ true) is (long_leads_forward s (contour_long w (All-contains IsContour walks w contours at) s c));
+    forward = subst (λ (f : Edge). point_lt f.a f.b ≡ true) is
+        (long_leads_forward s (contour_long w (All-contains IsContour walks w contours at) s c));
   }
 
   -- a filled-above edge of a walk is one
@@ -68,8 +72,10 @@ module _ (on_left : Bool) (walks : List (List Step)) (contours : All IsContour w
       by true same = inl same
       by false differ = inr (walked_meet e f of_e of_f differ)
 
-  module _ (fs : List (Entry ℕ)) (filled : AreFilledEntries on_left walks fs) (limit : ℕ) (hole : List Step) (kept : Contains walks hole) (e : Edge)
-      (anchor : IsAnchor hole e) (upright : covers e e.a.x (pos 1) ≡ true) (n : ℕ) (s : Sweep ℕ) (swept : IsSwept limit e.a.x (take n fs) s)
+  module _ (fs : List (Entry ℕ)) (filled : AreFilledEntries on_left walks fs) (limit : ℕ) (hole : List Step)
+      (kept : Contains walks hole) (e : Edge)
+      (anchor : IsAnchor hole e) (upright : covers e e.a.x (pos 1) ≡ true) (n : ℕ) (s : Sweep ℕ)
+      (swept : IsSwept limit e.a.x (take n fs) s)
       (rest : All (λ f. e.a.x <ℤ f.edge.a.x) (drop n fs)) where
     -- the live entries
     abbrev live : List (Entry ℕ)
@@ -77,7 +83,8 @@ module _ (on_left : Bool) (walks : List (List Step)) (contours : All IsContour w
 
     -- are among all
     listed : (f : Entry ℕ) → Contains live f → Contains fs f
-    listed f c = subst (λ gs. Contains gs f) (take-append-drop n fs) (Contains-append_left (take n fs) (drop n fs) f (swept.from f c))
+    listed f c = subst (λ gs. Contains gs f) (take-append-drop n fs)
+        (Contains-append_left (take n fs) (drop n fs) f (swept.from f c))
 
     own : (f : Entry ℕ) → Contains live f → IsFilledEntry on_left walks f
     own f c = All-contains (IsFilledEntry on_left walks) fs f filled.from (listed f c)
@@ -85,7 +92,8 @@ module _ (on_left : Bool) (walks : List (List Step)) (contours : All IsContour w
     -- a live edge of a walk meets the anchor in ends alone
     pub meets_anchor : MeetsOthers e live
     meets_anchor = λ i d h differ. walked_meet e _ (anchor_walked hole kept e anchor)
-        (filled_walked _ (All-contains (IsFilledEntry on_left walks) fs _ filled.from (listed _ (Contains-get_or live i d h)))) differ
+        (filled_walked _ (All-contains (IsFilledEntry on_left walks) fs _ filled.from
+        (listed _ (Contains-get_or live i d h)))) differ
 
     -- all entries over the abscissa are live
     covering : (f : Entry ℕ) → Contains fs f → covers f.edge e.a.x (pos 1) ≡ true → Contains live f
@@ -99,7 +107,8 @@ module _ (on_left : Bool) (walks : List (List Step)) (contours : All IsContour w
         parts = and_parts (int_le (f.edge.a.x *ℤ pos 1) e.a.x) (int_lt e.a.x (f.edge.b.x *ℤ pos 1)) over
 
         lasts : int_lt e.a.x f.edge.b.x ≡ true
-        lasts = let end = lt_from_test e.a.x (f.edge.b.x *ℤ pos 1) parts.1 in test_from_lt e.a.x f.edge.b.x (omega (arith, ints))
+        lasts = let end = lt_from_test e.a.x (f.edge.b.x *ℤ pos 1) parts.1 in
+            test_from_lt e.a.x f.edge.b.x (omega (arith, ints))
 
     -- below the anchor is over its abscissa, and under it
     below_is : (f : Edge) → IsWalked f → is_below_anchor e f ≡ covers f e.a.x (pos 1) && is_under f e e.a.x (pos 1)
@@ -114,7 +123,8 @@ module _ (on_left : Bool) (walks : List (List Step)) (contours : All IsContour w
         let found = Contains-from_map (λ (g : Entry ℕ). g.edge) fs f (filled.all f c) in
         let of_g = filled_walked found.0 (All-contains (IsFilledEntry on_left walks) fs found.0 filled.from found.1) in
         let there = ap (is_below_anchor e) found.2 ∙ below in
-        let parts = and_parts (covers (found.0).edge e.a.x (pos 1)) (is_under (found.0).edge e e.a.x (pos 1)) (sym (below_is (found.0).edge of_g) ∙ there) in
+        let parts = and_parts (covers (found.0).edge e.a.x (pos 1)) (is_under (found.0).edge e e.a.x (pos 1))
+        (sym (below_is (found.0).edge of_g) ∙ there) in
         (found.0, covering found.0 found.1 parts.0, found.2, there)
 
     -- the next walk, of which this is the index, and the anchor
@@ -143,7 +153,8 @@ module _ (on_left : Bool) (walks : List (List Step)) (contours : All IsContour w
           anchored = anchor;
           edge = f.edge;
           next_below = record {
-            among = Contains-flat_map (filled_above_edges on_left) walks (own f great.entry).walk f.edge there (own f great.entry).has;
+            among = Contains-flat_map (filled_above_edges on_left) walks (own f great.entry).walk f.edge there
+                (own f great.entry).has;
             below = great.below;
             greatest = no_greater;
           };
@@ -156,23 +167,28 @@ module _ (on_left : Bool) (walks : List (List Step)) (contours : All IsContour w
           there : Contains walks (own f great.entry).walk
           there = Contains-at walks f.value (own f great.entry).walk (own f great.entry).at
 
-          not_under : (g : Entry ℕ) → (g ≡ f) ⊎ (is_under g.edge f.edge e.a.x (pos 1) ≡ true) → is_under f.edge g.edge e.a.x (pos 1) ≡ false
-          not_under g (inl same) = subst (λ (h : Entry ℕ). is_under f.edge h.edge e.a.x (pos 1) ≡ false) (sym same) (under_irreflexive f.edge e.a.x (pos 1))
+          not_under : (g : Entry ℕ) → (g ≡ f) ⊎ (is_under g.edge f.edge e.a.x (pos 1) ≡ true) →
+              is_under f.edge g.edge e.a.x (pos 1) ≡ false
+          not_under g (inl same) = subst (λ (h : Entry ℕ). is_under f.edge h.edge e.a.x (pos 1) ≡ false) (sym same)
+              (under_irreflexive f.edge e.a.x (pos 1))
           not_under g (inr under) = under_asymmetric g.edge f.edge e.a.x (pos 1) under
 
-          no_greater : (g : Edge) → Contains (all_filled_above on_left walks) g → is_below_anchor e g ≡ true → is_lower_at e.a.x f.edge g ≡ false
+          no_greater : (g : Edge) → Contains (all_filled_above on_left walks) g → is_below_anchor e g ≡ true →
+              is_lower_at e.a.x f.edge g ≡ false
           no_greater g c below =
               let found = live_below g c below in
               let k = found.0 in
               subst (λ h. is_lower_at e.a.x f.edge h ≡ false) found.2
-              (lower_at_is_under f.edge k.edge (one_or_meet f.edge k.edge (filled_walked f (own f great.entry)) (filled_walked k (own k found.1))) e.a.x
+              (lower_at_is_under f.edge k.edge (one_or_meet f.edge k.edge (filled_walked f (own f great.entry))
+              (filled_walked k (own k found.1))) e.a.x
               (over_it f great.entry) (over_it k found.1) ∙ not_under k (great.greatest k found.1 found.3))
 
       -- so the look-up finds nothing, or the next walk
       pub look_up : (none : ℕ) → none ≡ length walks → Finds (value_below none e live)
       look_up none past = by (entry_below e live) refl
         where
-          nothing : entry_below e live ≡ None → (f : Edge) → Contains (all_filled_above on_left walks) f → is_below_anchor e f ≡ false
+          nothing : entry_below e live ≡ None → (f : Edge) → Contains (all_filled_above on_left walks) f →
+              is_below_anchor e f ≡ false
           nothing is f c = false_from_ne_true (is_below_anchor e f) (λ below.
               let found = live_below f c below in
               no_last (filter (λ h. is_below_anchor e h.edge) live) found.0

@@ -16,16 +16,20 @@ use Rattle.overlay_walk.proofs.NextPlaces.{next_step, some_next}
 use Rattle.overlay_walk.proofs.OpenPlaces.{unmarked-map, unmarked_at}
 use Rattle.overlay_walk.proofs.TakenSteps.{unmarked-set}
 
-module _ {I : Type 0} (whole : I → ℤ) (steps : List (StepTaken I)) (marks : List Bool) (same : length marks ≡ length steps) (hand : Hand) (s : Step) where
+module _ {I : Type 0} (whole : I → ℤ) (steps : List (StepTaken I)) (marks : List Bool)
+    (same : length marks ≡ length steps) (hand : Hand) (s : Step) where
   -- the steps' numbers are as many
   same_plain : length marks ≡ length (plain_steps whole steps)
   same_plain = same ∙ sym (length-map steps (plain_step whole))
 
   -- where the steps left go on, a next one is found
-  pub some_is_found : Any (λ t. t.from ≡ s.to) (plain_steps whole (unmarked steps marks)) → ¬ (IsNextPlace (plain_steps whole steps) marks hand s None)
-  some_is_found on = some_next (plain_steps whole steps) marks hand s same_plain (subst (Any (λ t. t.from ≡ s.to)) (unmarked-map (plain_step whole) steps marks) on)
+  pub some_is_found : Any (λ t. t.from ≡ s.to) (plain_steps whole (unmarked steps marks)) →
+      ¬ (IsNextPlace (plain_steps whole steps) marks hand s None)
+  some_is_found on = some_next (plain_steps whole steps) marks hand s same_plain
+      (subst (Any (λ t. t.from ≡ s.to)) (unmarked-map (plain_step whole) steps marks) on)
 
-  module _ (m : ℕ) (t : StepTaken I) (is : t ≡ get_or steps m t) (next : IsNextAt (plain_steps whole steps) marks hand s m) where
+  module _ (m : ℕ) (t : StepTaken I) (is : t ≡ get_or steps m t)
+      (next : IsNextAt (plain_steps whole steps) marks hand s m) where
     within : m < length steps
     within = subst (λ n. m < n) (length-map steps (plain_step whole)) next.below
 
@@ -34,19 +38,25 @@ module _ {I : Type 0} (whole : I → ℤ) (steps : List (StepTaken I)) (marks : 
 
     -- it is one of the steps left
     pub found_left : Contains (unmarked steps marks) t
-    found_left = subst (λ u. Contains (unmarked steps marks) u) (sym is) (unmarked_at steps marks t m same within next.untaken)
+    found_left = subst (λ u. Contains (unmarked steps marks) u) (sym is)
+        (unmarked_at steps marks t m same within next.untaken)
 
     -- and the next one of them
     pub found_next : IsNextStep (plain_steps whole (unmarked steps marks)) hand s (plain_step whole t)
-    found_next = subst (λ ss. IsNextStep ss hand s (plain_step whole t)) (sym (unmarked-map (plain_step whole) steps marks))
-        (subst (λ u. IsNextStep (unmarked (plain_steps whole steps) marks) hand s u) plain_is (next_step (plain_steps whole steps) marks hand s same_plain m next))
+    found_next = subst (λ ss. IsNextStep ss hand s (plain_step whole t))
+        (sym (unmarked-map (plain_step whole) steps marks))
+        (subst (λ u. IsNextStep (unmarked (plain_steps whole steps) marks) hand s u) plain_is
+        (next_step (plain_steps whole steps) marks hand s same_plain m next))
 
     -- once it is marked, the others are left
     pub others_left : HasEachOnce (plain_steps whole (unmarked steps marks)) →
-        plain_steps whole (unmarked steps (set marks m true)) ≡ without (plain_steps whole (unmarked steps marks)) (plain_step whole t ∷ [])
+        plain_steps whole (unmarked steps (set marks m true)) ≡ without (plain_steps whole (unmarked steps marks))
+        (plain_step whole t ∷ [])
     others_left once =
         unmarked-map (plain_step whole) steps (set marks m true)
         ∙ unmarked-set (plain_steps whole steps) marks m same_plain next.below next.untaken
-        (Each-from_all_pairs Differ (unmarked (plain_steps whole steps) marks) (subst HasEachOnce (unmarked-map (plain_step whole) steps marks) once))
-        ∙ ap (λ ss. without ss (step_at (plain_steps whole steps) m ∷ [])) (sym (unmarked-map (plain_step whole) steps marks))
+        (Each-from_all_pairs Differ (unmarked (plain_steps whole steps) marks)
+        (subst HasEachOnce (unmarked-map (plain_step whole) steps marks) once))
+        ∙ ap (λ ss. without ss (step_at (plain_steps whole steps) m ∷ []))
+        (sym (unmarked-map (plain_step whole) steps marks))
         ∙ ap (λ u. without (plain_steps whole (unmarked steps marks)) (u ∷ [])) plain_is

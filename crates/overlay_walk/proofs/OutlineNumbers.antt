@@ -1,5 +1,6 @@
 -- One more walk is numbered, or counted, among those that are left.
-use Rattle.std.proofs.Common.{◌≡◌, ℕ, suc, ◌+◌, Bool, true, false, cond, not, List, [], ◌∷◌, ◌++◌, length, drop, Option, None, Some, sym, ap, ◌∙◌, arith, append_assoc}
+use Rattle.std.proofs.Common.{◌≡◌, ℕ, suc, ◌+◌, Bool, true, false, cond, not, List, [], ◌∷◌, ◌++◌, length, drop, Option}
+use Rattle.std.proofs.Common.{None, Some, sym, ap, ◌∙◌, arith, append_assoc}
 use Rattle.std.specs.List.{slice_get}
 use Rattle.overlay_geom.specs.Plane.{Step}
 use Rattle.overlay_geom.proofs.ReadInOrder.{drop_read}
@@ -14,9 +15,11 @@ module _ (on_left : Bool) (walks : List (List Step)) (i : ℕ) (w : List Step) (
 
   -- the numbers of the walks from it on, by whether it is a hole
   abbrev numbers_by : ℕ → Bool → List (Option ℕ)
-  numbers_by k t = known_in (cond t (hole_to_bind w ∷ contours_from on_left k later) (outline_of k w ∷ contours_from on_left (suc k) later))
+  numbers_by k t = known_in (cond t (hole_to_bind w ∷ contours_from on_left k later)
+      (outline_of k w ∷ contours_from on_left (suc k) later))
 
-  from_here : (k : ℕ) (t : Bool) → is_hole on_left w ≡ t → known_in (contours_from on_left k (drop i walks)) ≡ numbers_by k t
+  from_here : (k : ℕ) (t : Bool) → is_hole on_left w ≡ t →
+      known_in (contours_from on_left k (drop i walks)) ≡ numbers_by k t
   from_here k t is = ap (λ ws. known_in (contours_from on_left k ws)) (drop_read walks i w at) ∙ ap (numbers_by k) is
 
   -- the walk is a hole
@@ -39,14 +42,17 @@ module _ (on_left : Bool) (walks : List (List Step)) (i : ℕ) (w : List Step) (
 
   -- how many outlines there are from it on
   outlines_from_here : (t : Bool) → is_hole on_left w ≡ t →
-      length (outlines on_left (drop i walks)) ≡ length (cond (not t) (w ∷ outlines on_left later) (outlines on_left later))
+      length (outlines on_left (drop i walks)) ≡ length
+      (cond (not t) (w ∷ outlines on_left later) (outlines on_left later))
   outlines_from_here t is = ap (λ ws. length (outlines on_left ws)) (drop_read walks i w at)
       ∙ ap (λ u. length (cond (not u) (w ∷ outlines on_left later) (outlines on_left later))) is
 
-  pub hole_passed : (count all : ℕ) → is_hole on_left w ≡ true → count + length (outlines on_left (drop i walks)) ≡ all →
+  pub hole_passed : (count all : ℕ) → is_hole on_left w ≡ true →
+      count + length (outlines on_left (drop i walks)) ≡ all →
       count + length (outlines on_left later) ≡ all
   hole_passed count all is so_far = ap (λ n. count + n) (sym (outlines_from_here true is)) ∙ so_far
 
-  pub outline_counted : (count all : ℕ) → is_hole on_left w ≡ false → count + length (outlines on_left (drop i walks)) ≡ all →
+  pub outline_counted : (count all : ℕ) → is_hole on_left w ≡ false →
+      count + length (outlines on_left (drop i walks)) ≡ all →
       count + 1 + length (outlines on_left later) ≡ all
   outline_counted count all is so_far = let here = outlines_from_here false is in omega (arith, here, so_far)

@@ -10,17 +10,18 @@ use Rattle.overlay_plane.specs.Binding.IsParentOf.{direct as direct_parent, thro
 use Rattle.overlay_plane.specs.Binding.HasNoParent.{none as none_below, through as through_hole}
 use Rattle.overlay_plane.specs.BoundContours.{known_in}
 use Rattle.overlay_plane.specs.RoledContours.{contours_from}
-use Rattle.overlay_plane.specs.Roles.{HasNextAt, IsFoundAt, IsNotFoundAt, IsTold}
+use Rattle.overlay_plane.specs.Roles.{HasNextAt, IsFoundAt, IsNotFoundAt, IsShapeNumber}
 use Rattle.overlay_plane.specs.Roles.IsFoundAt.{direct, through}
 use Rattle.overlay_plane.specs.Roles.IsNotFoundAt.{none, through as through_not_found}
 use Rattle.overlay_plane.proofs.Entries.{Contains-from_filter}
 use Rattle.overlay_plane.proofs.RoledWalks.{IsNumberedFrom, numbered_from}
-use Rattle.overlay_walk.specs.Parents.{IsToldAt}
+use Rattle.overlay_walk.specs.Parents.{HasShapeNumber}
 use Rattle.overlay_walk.proofs.HoleEntries.{same_at, Contains-at}
 
 -- the number of an outline among the outlines; a hole has none
 abbrev IsOutlineNumber : Bool → List (List Step) → List Step → Option ℕ → Type 0
-IsOutlineNumber on_left walks w number = MatchOption number (is_hole on_left w ≡ true) (λ n. slice_get (outlines on_left walks) n ≡ Some w)
+IsOutlineNumber on_left walks w number = MatchOption number (is_hole on_left w ≡ true)
+    (λ n. slice_get (outlines on_left walks) n ≡ Some w)
 
 module _ (on_left : Bool) (walks : List (List Step)) where
   -- the shapes in which the walks stand from the start, as contours
@@ -28,33 +29,46 @@ module _ (on_left : Bool) (walks : List (List Step)) where
   numbers = known_in (contours_from on_left 0 walks)
 
   -- they are the outlines' numbers
-  numbered : (n : ℕ) (w : List Step) → slice_get walks n ≡ Some w → IsOutlineNumber on_left walks w (slice_index_or numbers n None)
+  numbered : (n : ℕ) (w : List Step) → slice_get walks n ≡ Some w →
+      IsOutlineNumber on_left walks w (slice_index_or numbers n None)
   numbered n w at = by (slice_index_or numbers n None) (numbered_from on_left 0 walks n w at)
     where
-      by : (number : Option ℕ) → IsNumberedFrom on_left 0 (outlines on_left walks) w number → IsOutlineNumber on_left walks w number
+      by : (number : Option ℕ) → IsNumberedFrom on_left 0 (outlines on_left walks) w number →
+          IsOutlineNumber on_left walks w number
       by None is = is
-      by (Some m) (j, e, there) = let same : j ≡ m = omega (arith, e) in subst (λ k. slice_get (outlines on_left walks) k ≡ Some w) same there
+      by (Some m) (j, e, there) = let same : j ≡ m = omega (arith, e) in
+          subst (λ k. slice_get (outlines on_left walks) k ≡ Some w) same there
 
   -- the number of the next walk
-  next_number : (i j : ℕ) (next : HasNextAt on_left walks i j) (o : Option ℕ) → slice_index_or numbers j None ≡ o → IsOutlineNumber on_left walks next.next o
+  next_number : (i j : ℕ) (next : HasNextAt on_left walks i j) (o : Option ℕ) → slice_index_or numbers j None ≡ o →
+      IsOutlineNumber on_left walks next.next o
   next_number i j next o is = subst (IsOutlineNumber on_left walks next.next) is (numbered j next.next next.next_at)
 
   -- and the next walk of the walk that stands there
-  next_of : (i j : ℕ) (next : HasNextAt on_left walks i j) (w : List Step) → slice_get walks i ≡ Some w → IsNextWalk on_left walks w next.next
-  next_of i j next w at = subst (λ v. IsNextWalk on_left walks v next.next) (same_at walks i next.walk w next.at at) next.is_next
+  next_of : (i j : ℕ) (next : HasNextAt on_left walks i j) (w : List Step) → slice_get walks i ≡ Some w →
+      IsNextWalk on_left walks w next.next
+  next_of i j next w at = subst (λ v. IsNextWalk on_left walks v next.next) (same_at walks i next.walk w next.at at)
+      next.is_next
 
-  found_is_parent : (i n : ℕ) → IsFoundAt on_left walks numbers i n → (w : List Step) → slice_get walks i ≡ Some w → IsParentOf on_left walks w n
-  found_is_parent i n (direct {j = j} next is) w at = direct_parent (next_of i j next w at) (next_number i j next (Some n) is)
-  found_is_parent i n (through {j = j} next is rest) w at = through_parent (next_of i j next w at) (next_number i j next None is)
+  found_is_parent : (i n : ℕ) → IsFoundAt on_left walks numbers i n → (w : List Step) → slice_get walks i ≡ Some w →
+      IsParentOf on_left walks w n
+  found_is_parent i n (direct {j = j} next is) w at = direct_parent (next_of i j next w at)
+      (next_number i j next (Some n) is)
+  found_is_parent i n (through {j = j} next is rest) w at = through_parent (next_of i j next w at)
+      (next_number i j next None is)
       (found_is_parent j n rest next.next next.next_at)
 
-  not_found_has_none : (i : ℕ) → IsNotFoundAt on_left walks numbers i → (w : List Step) → slice_get walks i ≡ Some w → HasNoParent on_left walks w
-  not_found_has_none i (none walk at_walk nothing) w at = none_below (subst (HasNoneBelow on_left walks) (same_at walks i walk w at_walk at) nothing)
-  not_found_has_none i (through_not_found {j = j} next is rest) w at = through_hole (next_of i j next w at) (next_number i j next None is)
+  not_found_has_none : (i : ℕ) → IsNotFoundAt on_left walks numbers i → (w : List Step) → slice_get walks i ≡ Some w →
+      HasNoParent on_left walks w
+  not_found_has_none i (none walk at_walk nothing) w at = none_below
+      (subst (HasNoneBelow on_left walks) (same_at walks i walk w at_walk at) nothing)
+  not_found_has_none i (through_not_found {j = j} next is rest) w at = through_hole (next_of i j next w at)
+      (next_number i j next None is)
       (not_found_has_none j rest next.next next.next_at)
 
   -- a hole has no number
-  pub no_number : (n : ℕ) (w : List Step) → slice_get walks n ≡ Some w → is_hole on_left w ≡ true → slice_index_or numbers n None ≡ None
+  pub no_number : (n : ℕ) (w : List Step) → slice_get walks n ≡ Some w → is_hole on_left w ≡ true →
+      slice_index_or numbers n None ≡ None
   no_number n w at hole = by (slice_index_or numbers n None) (numbered n w at)
     where
       by : (o : Option ℕ) → IsOutlineNumber on_left walks w o → o ≡ None
@@ -62,11 +76,15 @@ module _ (on_left : Bool) (walks : List (List Step)) where
       by (Some m) is = absurd (both_ways (not (is_hole on_left w)) (ap not hole)
           (Contains-from_filter (λ v. not (is_hole on_left v)) walks w (Contains-at (outlines on_left walks) m w is)).1)
 
-  -- what is told of it
-  pub hole_told : (shapes : List (Option ℕ)) (n : ℕ) → IsToldAt on_left walks numbers shapes n → (w : List Step) → slice_get walks n ≡ Some w →
-      is_hole on_left w ≡ true → MatchOption (slice_index_or shapes n None) (HasNoParent on_left walks w) (λ m. IsParentOf on_left walks w m)
-  hole_told shapes n told w at hole = by (slice_index_or shapes n None) (told w at (no_number n w at hole))
+  -- and its number
+  pub hole_numbered : (shapes : List (Option ℕ)) (n : ℕ) → HasShapeNumber on_left walks numbers shapes n →
+      (w : List Step) → slice_get walks n ≡ Some w →
+      is_hole on_left w ≡ true → MatchOption (slice_index_or shapes n None) (HasNoParent on_left walks w)
+      (λ m. IsParentOf on_left walks w m)
+  hole_numbered shapes n numbers_are w at hole = by (slice_index_or shapes n None)
+      (numbers_are w at (no_number n w at hole))
     where
-      by : (o : Option ℕ) → IsTold on_left walks numbers n o → MatchOption o (HasNoParent on_left walks w) (λ m. IsParentOf on_left walks w m)
+      by : (o : Option ℕ) → IsShapeNumber on_left walks numbers n o → MatchOption o (HasNoParent on_left walks w)
+          (λ m. IsParentOf on_left walks w m)
       by None without = not_found_has_none n without w at
       by (Some m) found = found_is_parent n m found w at

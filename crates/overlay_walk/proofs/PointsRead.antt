@@ -27,5 +27,7 @@ module _ {I : Type 0} (whole : I → ℤ) (ws : List (StepTaken I)) where
         (sym (read_mapped (plain_step whole) ws k read (plain_step whole read) inside read_is))
 
     -- which is in range
-    pub point_in_range : (limit : ℕ) → All (IsLong limit) (plain_steps whole ws) → InRange limit (plain_point whole read.from)
-    point_in_range limit long = (All-mapped_at (IsLong limit) (plain_step whole) ws k read inside read_is long).from_in_range
+    pub point_in_range : (limit : ℕ) → All (IsLong limit) (plain_steps whole ws) →
+        InRange limit (plain_point whole read.from)
+    point_in_range limit long = (All-mapped_at (IsLong limit) (plain_step whole) ws k read inside read_is
+        long).from_in_range

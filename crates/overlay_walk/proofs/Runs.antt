@@ -1,5 +1,7 @@
--- Steps sorted by the points that they leave: the comparison is an order, and the steps that leave a point stand side by side.
-use Rattle.std.proofs.Common.{◌≡◌, ⊎_elim, ℕ, ◌<◌, ◌≤◌, Bool, true, false, not, ℤ, List, length, get_or, refl, ap, sym, ◌∙◌, subst, arith}
+-- Steps sorted by the points that they leave: the comparison is an order, and the steps that leave a point stand side
+-- by side.
+use Rattle.std.proofs.Common.{◌≡◌, ⊎_elim, ℕ, ◌<◌, ◌≤◌, Bool, true, false, not, ℤ, List, length, get_or, refl, ap, sym}
+use Rattle.std.proofs.Common.{◌∙◌, subst, arith}
 use Rattle.std.specs.Cmp.{IsStrictWeakOrder}
 use Rattle.std.specs.List.Sorted.{IsSortedBy, IsPartitionedBy, IsPartitionPoint}
 use Rattle.std.specs.Ordering.{is_lt, is_gt, ordering_reverse}
@@ -11,7 +13,8 @@ use Rattle.std.proofs.lemmas.List.Sorted.{sorted_far}
 use Rattle.overlay_geom.specs.Plane.{Point, Step, point_lt, point_eq}
 use Rattle.overlay_geom.proofs.Entries.{some_entry}
 use Rattle.overlay_geom.proofs.Mapped.{AllPairs-map}
-use Rattle.overlay_geom.proofs.Orders.{point_order, point_order-total, point_lt-is_less, point_lt-back, point_eq-same, point_lt-itself, point_lt-order}
+use Rattle.overlay_geom.proofs.Orders.{point_order, point_order-total, point_lt-is_less, point_lt-back, point_eq-same}
+use Rattle.overlay_geom.proofs.Orders.{point_lt-itself, point_lt-order}
 pub use Rattle.overlay_geom.proofs.PointComparisons.{point_cmp-is_less}
 use Rattle.overlay_geom.proofs.PointOrder.{point_lt-after_up_to, point_lt-before_up_to}
 use Rattle.overlay_arrange.specs.Content.{point_cmp}
@@ -70,35 +73,42 @@ module _ {I : Type 0} (whole : I → ℤ) where
 
   module _ (ss : List (StepTaken I)) (by_start : IsByFrom (plain_steps whole ss)) (p : Point) where
     -- the numbers of the step at a place
-    plain_at : (k : ℕ) (d : StepTaken I) (e : Step) → k < length ss → get_or (plain_steps whole ss) k e ≡ plain_step whole (get_or ss k d)
+    plain_at : (k : ℕ) (d : StepTaken I) (e : Step) → k < length ss →
+        get_or (plain_steps whole ss) k e ≡ plain_step whole (get_or ss k d)
     plain_at k d e h = get_or-map (plain_step whole) ss k d e h
 
     -- of two places the later one holds no step that leaves a smaller point
     later_leaves : (i j : ℕ) (d : StepTaken I) → i ≤ j → j < length ss →
         point_lt (plain_step whole (get_or ss j d)).from (plain_step whole (get_or ss i d)).from ≡ false
     later_leaves i j d up h = ⊎_elim
-        (λ less. subst (λ s. point_lt s.from (plain_step whole (get_or ss i d)).from ≡ false) (plain_at j d (plain_step whole d) h)
-        (subst (λ s. point_lt (get_or (plain_steps whole ss) j (plain_step whole d)).from s.from ≡ false) (plain_at i d (plain_step whole d) (omega arith))
+        (λ less. subst (λ s. point_lt s.from (plain_step whole (get_or ss i d)).from ≡ false)
+        (plain_at j d (plain_step whole d) h)
+        (subst (λ s. point_lt (get_or (plain_steps whole ss) j (plain_step whole d)).from s.from ≡ false)
+        (plain_at i d (plain_step whole d) (omega arith))
         (by_start i j (plain_step whole d) less (let l = length-map ss (plain_step whole) in omega arith))))
         (λ back. let same : j ≡ i = omega arith in
-        subst (λ k. point_lt (plain_step whole (get_or ss k d)).from (plain_step whole (get_or ss i d)).from ≡ false) (sym same)
+        subst (λ k. point_lt (plain_step whole (get_or ss k d)).from (plain_step whole (get_or ss i d)).from ≡ false)
+        (sym same)
         (point_lt-itself (plain_step whole (get_or ss i d)).from))
         (cases_lt i j)
 
     -- so each test passes in the front of the list alone
     pub below-parted : IsPartitionedBy (leaves_below p) ss
     below-parted i j d up h less =
-        point_lt-after_up_to (plain_step whole (get_or ss i d)).from (plain_step whole (get_or ss j d)).from p (later_leaves i j d up h) less
+        point_lt-after_up_to (plain_step whole (get_or ss i d)).from (plain_step whole (get_or ss j d)).from p
+        (later_leaves i j d up h) less
 
     pub up_to-parted : IsPartitionedBy (leaves_up_to p) ss
     up_to-parted i j d up h at = ap not (false_from_ne_true (point_lt p (plain_step whole (get_or ss i d)).from)
         (λ less. both_ways (not (point_lt p (plain_step whole (get_or ss j d)).from))
-        (ap not (point_lt-before_up_to p (plain_step whole (get_or ss i d)).from (plain_step whole (get_or ss j d)).from less (later_leaves i j d up h))) at))
+        (ap not (point_lt-before_up_to p (plain_step whole (get_or ss i d)).from (plain_step whole (get_or ss j d)).from
+        less (later_leaves i j d up h))) at))
 
     -- between the two fronts stand the steps that leave p
     pub run_between : (low high : ℕ) → low ≤ length ss → high ≤ length ss →
         IsPartitionPoint (λ s. leaves_below p s ≡ true) (λ s. leaves_below p s ≡ false) ss low →
-        IsPartitionPoint (λ s. leaves_up_to p s ≡ true) (λ s. leaves_up_to p s ≡ false) ss high → IsRun (plain_steps whole ss) p low high
+        IsPartitionPoint (λ s. leaves_up_to p s ≡ true) (λ s. leaves_up_to p s ≡ false) ss high →
+        IsRun (plain_steps whole ss) p low high
     run_between low high low_in high_in smaller up_to = record {
       ordered = ordered;
       within = let l = length-map ss (plain_step whole) in omega arith;
@@ -127,10 +137,14 @@ module _ {I : Type 0} (whole : I → ℤ) where
         stands : (k : ℕ) → k < length ss → (step_at (plain_steps whole ss) k).from ≡ p → (low ≤ k) × (k < high)
         stands k h at =
             let d = some_entry ss k h in
-            let here : (plain_step whole (get_or ss k d)).from ≡ p = ap (λ (s : Step). s.from) (sym (plain_at k d _ h)) ∙ at in
+            let here : (plain_step whole (get_or ss k d)).from ≡ p = ap (λ (s : Step). s.from) (sym (plain_at k d _ h))
+            ∙ at in
             let none = point_lt-itself p in
             let not_smaller : leaves_below p (get_or ss k d) ≡ false = ap (λ q. point_lt q p) here ∙ none in
-            let not_larger : leaves_up_to p (get_or ss k d) ≡ true = ap (λ q. not (point_lt p q)) here ∙ ap not none in (
-              ⊎_elim (λ less. absurd (both_ways (leaves_below p (get_or ss k d)) not_smaller (smaller.0 k d (omega arith) less))) (λ up. up) (cases_lt k low),
-              ⊎_elim (λ less. less) (λ up. absurd (both_ways (leaves_up_to p (get_or ss k d)) (up_to.1 k d up h) not_larger)) (cases_lt k high),
+            let not_larger : leaves_up_to p (get_or ss k d) ≡ true =
+            ap (λ q. not (point_lt p q)) here ∙ ap not none in (
+              ⊎_elim (λ less. absurd (both_ways (leaves_below p (get_or ss k d)) not_smaller
+                  (smaller.0 k d (omega arith) less))) (λ up. up) (cases_lt k low),
+              ⊎_elim (λ less. less) (λ up. absurd
+                  (both_ways (leaves_up_to p (get_or ss k d)) (up_to.1 k d up h) not_larger)) (cases_lt k high),
             )

@@ -14,7 +14,8 @@ use Rattle.overlay_arrange.specs.Content.{IsHeld, IsContent}
 use Rattle.overlay_walk.specs.Steps.{IsLong}
 
 -- the two steps along an edge that is held
-step_is_long : (limit : ℕ) (e : CountedEdge) → IsHeld limit e → (above : Bool) → IsLong limit (step_with_left above (ends_of e))
+step_is_long : (limit : ℕ) (e : CountedEdge) → IsHeld limit e →
+    (above : Bool) → IsLong limit (step_with_left above (ends_of e))
 step_is_long limit e held true = record {
   from_in_range = held.a_in_range;
   to_in_range = held.b_in_range;
@@ -27,16 +28,20 @@ step_is_long limit e held false = record {
 }
 
 -- the selected steps
-pub selected_are_long : (limit : ℕ) (es : List CountedEdge) → IsContent limit es → (holds : ℤ → ℤ → Bool) (subj clip : CountedEdge → ℤ)
+pub selected_are_long : (limit : ℕ) (es : List CountedEdge) → IsContent limit es →
+    (holds : ℤ → ℤ → Bool) (subj clip : CountedEdge → ℤ)
     (on_left : Bool) → All (IsLong limit) (selected_steps holds subj clip on_left es)
 selected_are_long limit es content holds subj clip on_left =
     all_of_entries (IsLong limit) (selected_steps holds subj clip on_left es) (λ s c.
     let own = (selected_steps_of_edges holds subj clip on_left es).selected s c in
-    subst (λ t. IsLong limit t) (sym own.1.walks) (step_is_long limit own.0 (All-contains (IsHeld limit) es own.0 content.held own.1.entry) _))
+    subst (λ t. IsLong limit t) (sym own.1.walks)
+    (step_is_long limit own.0 (All-contains (IsHeld limit) es own.0 content.held own.1.entry) _))
 
 -- and those of their walks
-pub walks_are_long : (limit : ℕ) (es : List CountedEdge) → IsContent limit es → (holds : ℤ → ℤ → Bool) (subj clip : CountedEdge → ℤ)
-    (on_left : Bool) (walks : List (List Step)) → AreCutFrom holds subj clip es on_left walks → All (All (IsLong limit)) walks
+pub walks_are_long : (limit : ℕ) (es : List CountedEdge) → IsContent limit es →
+    (holds : ℤ → ℤ → Bool) (subj clip : CountedEdge → ℤ)
+    (on_left : Bool) (walks : List (List Step)) → AreCutFrom holds subj clip es on_left walks →
+    All (All (IsLong limit)) walks
 walks_are_long limit es content holds subj clip on_left walks cut = all_of_entries (All (IsLong limit)) walks (λ w c.
     let own = walk_of_a_cut holds subj clip es on_left cut.ruled walks cut.cut w c in
     all_of_entries (IsLong limit) w (λ s d. All-contains (IsLong limit) (selected_steps holds subj clip on_left es) s

@@ -1,5 +1,6 @@
 -- Edges start one before another in a strict order, in which any two of edges that lead forward compare.
-use Rattle.std.proofs.Common.{◌≡◌, ◌⊎◌, ⊎_elim, Bool, true, false, ◌&&◌, ◌||◌, ℤ, pos, int_lt, sym, ap, ◌∙◌, subst, refl}
+use Rattle.std.proofs.Common.{◌≡◌, ◌⊎◌, ⊎_elim, Bool, true, false, ◌&&◌, ◌||◌, ℤ, pos, int_lt, sym, ap, ◌∙◌, subst}
+use Rattle.std.proofs.Common.{refl}
 use Rattle.std.specs.Ordering.{is_lt, is_eq, int_cmp}
 use Rattle.std.specs.declared.cmp.Ordering.TheVariants.{Equal}
 use Rattle.std.proofs.lemmas.Bool.{both_ways, false_from_ne_true, or_cases, or_left, or_right, and_parts, and_from}
@@ -28,16 +29,19 @@ starts_by_slopes e f same left = or_right (point_lt e.a f.a) (is_left_at_start e
 
 -- so what does not start before another has no smaller point, and from the same point no higher slope
 pub not_by_points : (e f : Edge) → starts_before e f ≡ false → point_lt e.a f.a ≡ false
-not_by_points e f later = false_from_ne_true (point_lt e.a f.a) (λ less. both_ways (starts_before e f) later (starts_by_points e f less))
+not_by_points e f later = false_from_ne_true (point_lt e.a f.a)
+    (λ less. both_ways (starts_before e f) later (starts_by_points e f less))
 
 pub not_by_slopes : (e f : Edge) → starts_before e f ≡ false → e.a ≡ f.a → turns_left f e ≡ false
-not_by_slopes e f later same = false_from_ne_true (turns_left f e) (λ left. both_ways (starts_before e f) later (starts_by_slopes e f same left))
+not_by_slopes e f later same = false_from_ne_true (turns_left f e)
+    (λ left. both_ways (starts_before e f) later (starts_by_slopes e f same left))
 
 -- no edge starts before itself
 pub starts_before-itself : (e : Edge) → starts_before e e ≡ false
 starts_before-itself e = false_from_ne_true (starts_before e e) (λ before. ⊎_elim
     (λ less. both_ways (point_lt e.a e.a) (point_lt-itself e.a) less)
-    (λ left. both_ways (turns_left e e) (ap (int_lt (pos 0)) (edge_turn_same e)) (and_parts (point_eq e.a e.a) (turns_left e e) left).1)
+    (λ left. both_ways (turns_left e e) (ap (int_lt (pos 0)) (edge_turn_same e))
+    (and_parts (point_eq e.a e.a) (turns_left e e) left).1)
     (or_cases (point_lt e.a e.a) (is_left_at_start e e) before))
 
 -- the point and the slope of edges that start in one point
@@ -51,7 +55,8 @@ module _ (e f g : Edge) (he : IsForward e) (hf : IsForward f) (hg : IsForward g)
   -- left of what is left
   left_of_left : turns_left f e ≡ true → turns_left g f ≡ true → turns_left g e ≡ true
   left_of_left ef fg = test_from_lt (pos 0) (edge_turn g e)
-      (left_after_left g f e hg hf he (lt_from_test (pos 0) (edge_turn g f) fg) (lt_from_test (pos 0) (edge_turn f e) ef))
+      (left_after_left g f e hg hf he (lt_from_test (pos 0) (edge_turn g f) fg)
+      (lt_from_test (pos 0) (edge_turn f e) ef))
 
   -- what starts before an edge starts before all before which that starts
   starts_before-transitive : starts_before e f ≡ true → starts_before f g ≡ true → starts_before e g ≡ true
@@ -61,7 +66,8 @@ module _ (e f g : Edge) (he : IsForward e) (hf : IsForward f) (hg : IsForward g)
       (λ tie. subst (λ (p : Point). point_lt e.a p ≡ true) (same_start f g tie) less) second))
       (λ tie. ⊎_elim
       (λ more. starts_by_points e g (subst (λ (p : Point). point_lt p g.a ≡ true) (sym (same_start e f tie)) more))
-      (λ level. starts_by_slopes e g (same_start e f tie ∙ same_start f g level) (left_of_left (turned e f tie) (turned f g level))) second)
+      (λ level. starts_by_slopes e g (same_start e f tie ∙ same_start f g level)
+      (left_of_left (turned e f tie) (turned f g level))) second)
       (or_cases (point_lt e.a f.a) (is_left_at_start e f) ef)
     where
       second : (point_lt f.a g.a ≡ true) ⊎ (is_left_at_start f g ≡ true)
@@ -73,24 +79,29 @@ module _ (e f g : Edge) (he : IsForward e) (hf : IsForward f) (hg : IsForward g)
       (λ eg. ⊎_elim by_points by_slopes (or_cases (point_lt e.a g.a) (is_left_at_start e g) eg))
     where
       by_points : point_lt e.a g.a ≡ true → ⊥
-      by_points less = both_ways (point_lt f.a g.a) (not_by_points f g fg) (point_lt-after_up_to f.a e.a g.a (not_by_points e f ef) less)
+      by_points less = both_ways (point_lt f.a g.a) (not_by_points f g fg)
+          (point_lt-after_up_to f.a e.a g.a (not_by_points e f ef) less)
 
       by_slopes : is_left_at_start e g ≡ true → ⊥
       by_slopes both = at (point_eq e.a f.a) refl
         where
           at : (t : Bool) → point_eq e.a f.a ≡ t → ⊥
           at true is = let same = point_eq-same e.a f.a is in both_ways (turns_left f e) (not_by_slopes e f ef same)
-              (left_of_not_left f g e hf hg he (not_by_slopes f g fg (sym same ∙ same_start e g both)) (turned e g both))
+              (left_of_not_left f g e hf hg he (not_by_slopes f g fg (sym same ∙ same_start e g both))
+              (turned e g both))
           at false apart = both_ways (point_lt f.a g.a) (not_by_points f g fg)
-              (subst (λ (p : Point). point_lt f.a p ≡ true) (same_start e g both) (point_lt-back e.a f.a apart (not_by_points e f ef)))
+              (subst (λ (p : Point). point_lt f.a p ≡ true) (same_start e g both)
+              (point_lt-back e.a f.a apart (not_by_points e f ef)))
 
 -- of two edges one at most starts before the other
-pub starts_before-one_way : (e f : Edge) → IsForward e → IsForward f → starts_before e f ≡ true → starts_before f e ≡ false
+pub starts_before-one_way : (e f : Edge) → IsForward e → IsForward f → starts_before e f ≡ true →
+    starts_before f e ≡ false
 starts_before-one_way e f he hf ef = false_from_ne_true (starts_before f e)
     (λ fe. both_ways (starts_before e e) (starts_before-itself e) (starts_before-transitive e f e he hf he ef fe))
 
 -- from one point the cross product tells which edge starts before the other
-pub tied_start : (e f : Edge) (z : ℤ) → point_cmp e.a f.a ≡ Equal → z ≡ cross_at e.a e.b f.b → is_lt (int_cmp z (pos 0)) ≡ starts_before e f
+pub tied_start : (e f : Edge) (z : ℤ) → point_cmp e.a f.a ≡ Equal → z ≡ cross_at e.a e.b f.b →
+    is_lt (int_cmp z (pos 0)) ≡ starts_before e f
 tied_start e f z tied crossed =
     tied_before f e z ((λ i. point_cmp (sym same i) (same i)) ∙ tied) (crossed ∙ (λ i. cross_at (same i) e.b f.b))
     ∙ (λ i. point_lt (sym same i) (same i) || (point_eq (sym same i) (same i) && turns_left f e))

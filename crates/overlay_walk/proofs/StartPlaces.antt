@@ -1,6 +1,7 @@
 -- The places of steps by where their edges start, and those of them that are passed.
 use Rattle.std.proofs.Common.{◌≡◌, ⊎_elim, ℕ}
-use Rattle.std.proofs.Common.{◌+◌, ◌<◌, ◌≤◌, Bool, true, false, List, [], ◌∷◌, ◌++◌, length, map, get_or, Contains, sym, ap, ◌∙◌, subst, below_more, arith}
+use Rattle.std.proofs.Common.{◌+◌, ◌<◌, ◌≤◌, Bool, true, false, List, [], ◌∷◌, ◌++◌, length, map, get_or, Contains, sym}
+use Rattle.std.proofs.Common.{ap, ◌∙◌, subst, below_more, arith}
 use Rattle.std.specs.List.{All}
 use Rattle.std.specs.List.Sorted.{IsPermutation}
 use Rattle.std.specs.Prelude.{set}
@@ -12,7 +13,8 @@ use Rattle.std.proofs.lemmas.List.Sorted.{All-permutation, Contains-permutation,
 use Rattle.overlay_geom.specs.Plane.{Step, edge_of}
 use Rattle.overlay_geom.proofs.Mapped.{AllPairs-map}
 use Rattle.overlay_scan.specs.Scan.{Entry}
-use Rattle.overlay_walk.specs.Places.{is_open, step_at, starts_before, is_place_started_before, ArePlacesByStart, ArePassed}
+use Rattle.overlay_walk.specs.Places.{is_open, step_at, starts_before, is_place_started_before, ArePlacesByStart}
+use Rattle.overlay_walk.specs.Places.{ArePassed}
 use Rattle.overlay_walk.specs.Starts.{IsEdgeAt, HaveEdges, AreInStartOrder}
 use Rattle.overlay_walk.proofs.FirstPlaces.{IsFirstPlace}
 use Rattle.overlay_walk.proofs.OpenPlaces.{marked_is_open}
@@ -26,22 +28,28 @@ module _ (ss : List Step) where
       n < length ss → f ≡ record { edge = edge_of (step_at ss n); value = n } →
       HaveEdges ss (n + 1) (fs ++ f ∷ [])
   edge_pushed n fs f have within is = record {
-    from = All-push (IsEdgeAt ss) fs f have.from (subst (IsEdgeAt ss) (sym is) (record { below = within; along = λ i. edge_of (step_at ss n) }));
+    from = All-push (IsEdgeAt ss) fs f have.from
+        (subst (IsEdgeAt ss) (sym is) (record { below = within; along = λ i. edge_of (step_at ss n) }));
     all = below_more (λ k. Contains (map (λ (h : Entry ℕ). h.value) (fs ++ f ∷ [])) k) n
-        (λ k lt. subst (λ ns. Contains ns k) (sym mapped) (Contains-append_left (map (λ h. h.value) fs) (f.value ∷ []) k (have.all k lt)))
+        (λ k lt. subst (λ ns. Contains ns k) (sym mapped) (Contains-append_left (map (λ h. h.value) fs) (f.value ∷ []) k
+        (have.all k lt)))
         (subst (λ ns. Contains ns n) (sym mapped)
-        (subst (Contains (map (λ h. h.value) fs ++ f.value ∷ [])) (ap (λ (h : Entry ℕ). h.value) is) (Contains-push (map (λ h. h.value) fs) f.value)));
+        (subst (Contains (map (λ h. h.value) fs ++ f.value ∷ [])) (ap (λ (h : Entry ℕ). h.value) is)
+        (Contains-push (map (λ h. h.value) fs) f.value)));
   }
     where
       mapped : map (λ (h : Entry ℕ). h.value) (fs ++ f ∷ []) ≡ map (λ h. h.value) fs ++ f.value ∷ []
       mapped = map-append (λ (h : Entry ℕ). h.value) fs (f ∷ [])
 
   -- all of them, sorted, tell the places
-  pub places_sorted : (fs gs : List (Entry ℕ)) → HaveEdges ss (length ss) fs → IsPermutation fs gs → AreInStartOrder gs →
+  pub places_sorted : (fs gs : List (Entry ℕ)) → HaveEdges ss (length ss) fs → IsPermutation fs gs →
+      AreInStartOrder gs →
       ArePlacesByStart ss (map (λ f. f.value) gs)
   places_sorted fs gs have moved order = record {
-    within = All-map (λ k. k < length ss) (λ (f : Entry ℕ). f.value) gs (All-weaker (IsEdgeAt ss) (λ f. f.value < length ss) (λ f at. at.below) gs from);
-    all = λ k h. Contains-permutation (map (λ f. f.value) fs) (map (λ f. f.value) gs) k (IsPermutation-map (λ f. f.value) fs gs moved) (have.all k h);
+    within = All-map (λ k. k < length ss) (λ (f : Entry ℕ). f.value) gs
+        (All-weaker (IsEdgeAt ss) (λ f. f.value < length ss) (λ f at. at.below) gs from);
+    all = λ k h. Contains-permutation (map (λ f. f.value) fs) (map (λ f. f.value) gs) k
+        (IsPermutation-map (λ f. f.value) fs gs moved) (have.all k h);
     order = AllPairs-map (λ j k. is_place_started_before ss k j ≡ false) (λ (f : Entry ℕ). f.value) gs (λ i j d l m.
         subst (λ e. starts_before (edge_of (step_at ss (get_or gs j d).value)) e ≡ false) (from i d (omega arith)).along
         (subst (λ e. starts_before e (get_or gs i d).edge ≡ false) (from j d m).along (order i j d l m)));
@@ -70,7 +78,8 @@ module _ (marks : List Bool) (places : List ℕ) where
   passed_still n k passed = record {
     within = passed.within;
     shut = λ i h. false_from_ne_true (is_open (set marks k true) (get_or places i 0))
-        (λ opened. both_ways (is_open marks (get_or places i 0)) (passed.shut i h) (marked_is_open marks k (get_or places i 0) opened));
+        (λ opened. both_ways (is_open marks (get_or places i 0)) (passed.shut i h)
+        (marked_is_open marks k (get_or places i 0) opened));
   }
 
   module _ (ss : List Step) (by_start : ArePlacesByStart ss places) (n : ℕ) (passed : ArePassed marks places n) where
@@ -79,7 +88,8 @@ module _ (marks : List Bool) (places : List ℕ) where
     none_open whole k low h =
         let at = by_start.all k h in
         let within = at.1 in
-        subst (λ j. is_open marks j ≡ false) (sym (get_or_default_zero places at.0 k at.1) ∙ at.2) (passed.shut at.0 (omega arith))
+        subst (λ j. is_open marks j ≡ false) (sym (get_or_default_zero places at.0 k at.1) ∙ at.2)
+        (passed.shut at.0 (omega arith))
 
     -- the one after them, where it is open, is the first place by where the edges start
     first_place : n < length places → is_open marks (get_or places n 0) ≡ true →
@@ -90,8 +100,10 @@ module _ (marks : List Bool) (places : List ℕ) where
       untaken = opened;
       first = λ k low h at.
           let stands = by_start.all k h in
-          subst (λ j. is_place_started_before ss j (get_or places n 0) ≡ false) (sym (get_or_default_zero places stands.0 k stands.1) ∙ stands.2)
-          (later stands.0 stands.1 (subst (λ j. is_open marks j ≡ true) (sym stands.2 ∙ get_or_default_zero places stands.0 k stands.1) at));
+          subst (λ j. is_place_started_before ss j (get_or places n 0) ≡ false)
+          (sym (get_or_default_zero places stands.0 k stands.1) ∙ stands.2)
+          (later stands.0 stands.1 (subst (λ j. is_open marks j ≡ true)
+          (sym stands.2 ∙ get_or_default_zero places stands.0 k stands.1) at));
     }
       where
         later : (i : ℕ) → i < length places → is_open marks (get_or places i 0) ≡ true →
@@ -111,5 +123,6 @@ module _ (marks : List Bool) (places : List ℕ) where
         IsFirstPlace (is_open marks) (is_place_started_before ss) 0 count m
     place_read count m counted within is opened =
         subst (λ k. IsFirstPlace (is_open marks) (is_place_started_before ss) 0 k m) counted
-        (subst (λ k. IsFirstPlace (is_open marks) (is_place_started_before ss) 0 (length ss) k) (sym (is ∙ get_or_default_zero places n m within))
+        (subst (λ k. IsFirstPlace (is_open marks) (is_place_started_before ss) 0 (length ss) k)
+        (sym (is ∙ get_or_default_zero places n m within))
         (first_place within (opened within)))

@@ -16,7 +16,8 @@ use Rattle.overlay_walk.specs.Walks.{plain_walks}
 abbrev at_numbers : {I A : Type 0} → (I → ℤ) → Vec (StepTaken I) A → List Step
 at_numbers whole v = plain_steps whole v.items
 
-module _ {I A : Type 0} (whole : I → ℤ) (ws : List (Vec (StepTaken I) A)) (k : ℕ) (w : Vec (StepTaken I) A) (inside : k < length ws)
+module _ {I A : Type 0} (whole : I → ℤ) (ws : List (Vec (StepTaken I) A)) (k : ℕ) (w : Vec (StepTaken I) A)
+    (inside : k < length ws)
     (is : w ≡ get_or ws k w) where
   -- the walks read, with one more
   pub walks_more : plain_walks whole (take (k + 1) ws) ≡ plain_walks whole (take k ws) ++ plain_steps whole w.items ∷ []
@@ -32,21 +33,28 @@ module _ {I A : Type 0} (whole : I → ℤ) (ws : List (Vec (StepTaken I) A)) (k
 
 module _ {I A : Type 0} (whole : I → ℤ) where
   -- the steps read stand at the walk's place
-  pub walk_at : (ws : List (Vec (StepTaken I) A)) (k : ℕ) (w : Vec (StepTaken I) A) (ss : List (StepTaken I)) → k < length ws → w ≡ get_or ws k w →
+  pub walk_at : (ws : List (Vec (StepTaken I) A)) (k : ℕ) (w : Vec (StepTaken I) A) (ss : List (StepTaken I)) →
+      k < length ws → w ≡ get_or ws k w →
       ss ≡ w.items → slice_get (plain_walks whole ws) k ≡ Some (plain_steps whole ss)
   walk_at ws k w ss inside is same =
-      slice_get_read (plain_walks whole ws) (length ws) k (plain_steps whole ss) (sym (length-map ws (at_numbers whole))) inside
+      slice_get_read (plain_walks whole ws) (length ws) k (plain_steps whole ss)
+      (sym (length-map ws (at_numbers whole))) inside
       (ap (plain_steps whole) same ∙ sym (walk_read whole ws k w inside is (plain_steps whole ss)))
 
   -- and are long, where those of all walks are
-  pub long_walk : (limit : ℕ) (ws : List (Vec (StepTaken I) A)) (k : ℕ) (w : Vec (StepTaken I) A) (ss : List (StepTaken I)) → k < length ws →
-      w ≡ get_or ws k w → ss ≡ w.items → All (All (IsLong limit)) (plain_walks whole ws) → All (IsLong limit) (plain_steps whole ss)
+  pub long_walk : (limit : ℕ) (ws : List (Vec (StepTaken I) A)) (k : ℕ) (w : Vec (StepTaken I) A)
+      (ss : List (StepTaken I)) → k < length ws →
+      w ≡ get_or ws k w → ss ≡ w.items → All (All (IsLong limit)) (plain_walks whole ws) →
+      All (IsLong limit) (plain_steps whole ss)
   long_walk limit ws k w ss inside is same long =
-      subst (λ us. All (IsLong limit) (plain_steps whole us)) (sym same) (walk_has whole ws k w inside is (All (IsLong limit)) long)
+      subst (λ us. All (IsLong limit) (plain_steps whole us)) (sym same)
+      (walk_has whole ws k w inside is (All (IsLong limit)) long)
 
 -- what holds of all walks holds of one that stands among them
-pub walk_among : {I A : Type 0} (whole : I → ℤ) (ws before : List (Vec (StepTaken I) A)) (w : Vec (StepTaken I) A) (rest : List (Vec (StepTaken I) A)) →
+pub walk_among : {I A : Type 0} (whole : I → ℤ) (ws before : List (Vec (StepTaken I) A)) (w : Vec (StepTaken I) A)
+    (rest : List (Vec (StepTaken I) A)) →
     ws ≡ before ++ w ∷ rest → (P : List Step → Type 0) → All P (plain_walks whole ws) → P (plain_steps whole w.items)
 walk_among whole ws before w rest is P all =
-    All-head P (plain_steps whole w.items) (plain_walks whole rest) (All-rest P (plain_walks whole before) (plain_steps whole w.items ∷ plain_walks whole rest)
+    All-head P (plain_steps whole w.items) (plain_walks whole rest)
+    (All-rest P (plain_walks whole before) (plain_steps whole w.items ∷ plain_walks whole rest)
     (subst (All P) (ap (plain_walks whole) is ∙ map-append (at_numbers whole) before (w ∷ rest)) all))

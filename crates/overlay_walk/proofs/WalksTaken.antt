@@ -18,11 +18,14 @@ use Rattle.overlay_walk.proofs.WalksOn.{IsUnderWay, sets_out, walked_few, way_go
 
 -- what two lists leave has each step once, where the steps do
 pub without_once : (steps taken : List Step) → HasEachOnce steps → HasEachOnce (without steps taken)
-without_once steps taken once = AllPairs-from_each Differ (without steps taken) (Each-filter Differ (λ t. not (is_step_of taken t)) steps (Each-from_all_pairs Differ steps once))
+without_once steps taken once = AllPairs-from_each Differ (without steps taken)
+    (Each-filter Differ (λ t. not (is_step_of taken t)) steps (Each-from_all_pairs Differ steps once))
 
 -- a walk under way, of steps in range; walked, pending and left are steps that there were
-pub record IsTaking {I : Type 0} (whole : I → ℤ) (limit : ℕ) (all : List (StepTaken I)) (hand : Hand) (start : StepTaken I) (walk : List (StepTaken I)) (s : StepTaken I) (left : List (StepTaken I)) : Type 0 where
-  pub way : IsUnderWay (plain_steps whole all) hand (plain_step whole start) (plain_steps whole walk) (plain_step whole s) (plain_steps whole left)
+pub record IsTaking {I : Type 0} (whole : I → ℤ) (limit : ℕ) (all : List (StepTaken I)) (hand : Hand)
+    (start : StepTaken I) (walk : List (StepTaken I)) (s : StepTaken I) (left : List (StepTaken I)) : Type 0 where
+  pub way : IsUnderWay (plain_steps whole all) hand (plain_step whole start) (plain_steps whole walk)
+      (plain_step whole s) (plain_steps whole left)
   pub long : All (IsLong limit) (plain_steps whole all)
   pub walked : All (Contains all) walk
   pub pending : Contains all s
@@ -30,7 +33,8 @@ pub record IsTaking {I : Type 0} (whole : I → ℤ) (limit : ℕ) (all : List (
 
 module _ {I : Type 0} (whole : I → ℤ) (limit : ℕ) (all : List (StepTaken I)) (hand : Hand) (start : StepTaken I) where
   -- how it begins
-  pub begins_taking : All (IsLong limit) (plain_steps whole all) → Contains all start → IsTaking whole limit all hand start [] start all
+  pub begins_taking : All (IsLong limit) (plain_steps whole all) → Contains all start →
+      IsTaking whole limit all hand start [] start all
   begins_taking long c = record {
     way = sets_out (plain_steps whole all) hand (plain_step whole start) (Contains-map (plain_step whole) all start c);
     long = long;
@@ -39,13 +43,16 @@ module _ {I : Type 0} (whole : I → ℤ) (limit : ℕ) (all : List (StepTaken I
     fewer = All-contains_itself all;
   }
 
-  module _ (leads : LeadsOn (plain_steps whole all) hand) (walk : List (StepTaken I)) (s : StepTaken I) (left : List (StepTaken I)) (taking : IsTaking whole limit all hand start walk s left) where
+  module _ (leads : LeadsOn (plain_steps whole all) hand) (walk : List (StepTaken I)) (s : StepTaken I)
+      (left : List (StepTaken I)) (taking : IsTaking whole limit all hand start walk s left) where
     -- the pending step is long, and goes on
     pub pending_long : IsLong limit (plain_step whole s)
-    pending_long = All-contains (IsLong limit) (plain_steps whole all) (plain_step whole s) taking.long (Contains-map (plain_step whole) all s taking.pending)
+    pending_long = All-contains (IsLong limit) (plain_steps whole all) (plain_step whole s) taking.long
+        (Contains-map (plain_step whole) all s taking.pending)
 
     pub pending_goes_on : Any (λ t. t.from ≡ (plain_step whole s).to) (plain_steps whole left)
-    pending_goes_on = way_goes_on (plain_steps whole all) hand leads (plain_step whole start) (plain_steps whole walk) (plain_step whole s) (plain_steps whole left) taking.way
+    pending_goes_on = way_goes_on (plain_steps whole all) hand leads (plain_step whole start) (plain_steps whole walk)
+        (plain_step whole s) (plain_steps whole left) taking.way
 
     -- the steps left stand once each
     pub left_once : HasEachOnce (plain_steps whole all) → HasEachOnce (plain_steps whole left)
@@ -54,7 +61,8 @@ module _ {I : Type 0} (whole : I → ℤ) (limit : ℕ) (all : List (StepTaken I
     -- there are more steps than were walked
     pub more_than_walked : length walk + 1 ≤ length all
     more_than_walked =
-        let few = walked_few (plain_steps whole all) hand leads (plain_step whole start) (plain_steps whole walk) (plain_step whole s) (plain_steps whole left) taking.way in
+        let few = walked_few (plain_steps whole all) hand leads (plain_step whole start) (plain_steps whole walk)
+        (plain_step whole s) (plain_steps whole left) taking.way in
         let a = length-map walk (plain_step whole) in
         let b = length-map all (plain_step whole) in
         omega arith
@@ -66,27 +74,39 @@ module _ {I : Type 0} (whole : I → ℤ) (limit : ℕ) (all : List (StepTaken I
     pub walked_on : All (Contains all) (walk ++ s ∷ [])
     walked_on = All-push (Contains all) walk s taking.walked taking.pending
 
-    module _ (t : StepTaken I) (after : List (StepTaken I)) (next : IsNextStep (plain_steps whole left) hand (plain_step whole s) (plain_step whole t))
+    module _ (t : StepTaken I) (after : List (StepTaken I))
+        (next : IsNextStep (plain_steps whole left) hand (plain_step whole s) (plain_step whole t))
         (taken : plain_steps whole after ≡ without (plain_steps whole left) (plain_step whole t ∷ [])) where
       -- where the start comes again the walk is the orbit, and what it took is gone
-      pub taken_round : plain_step whole t ≡ plain_step whole start → IsOrbit (plain_steps whole all) hand (plain_steps whole (walk ++ s ∷ []))
+      pub taken_round : plain_step whole t ≡ plain_step whole start → IsOrbit (plain_steps whole all) hand
+          (plain_steps whole (walk ++ s ∷ []))
       taken_round same = subst (λ ts. IsOrbit (plain_steps whole all) hand ts) (sym pushed)
-          (comes_round (plain_steps whole all) hand leads (plain_step whole start) (plain_steps whole walk) (plain_step whole s) (plain_steps whole left) taking.way (plain_step whole t) (plain_steps whole after) next taken same)
+          (comes_round (plain_steps whole all) hand leads (plain_step whole start) (plain_steps whole walk)
+          (plain_step whole s) (plain_steps whole left) taking.way (plain_step whole t) (plain_steps whole after)
+          next taken same)
 
-      pub all_taken : plain_step whole t ≡ plain_step whole start → plain_steps whole after ≡ without (plain_steps whole all) (plain_steps whole (walk ++ s ∷ []))
+      pub all_taken : plain_step whole t ≡ plain_step whole start →
+          plain_steps whole after ≡ without (plain_steps whole all) (plain_steps whole (walk ++ s ∷ []))
       all_taken same = subst (λ ts. plain_steps whole after ≡ without (plain_steps whole all) ts) (sym pushed)
-          (takes_all (plain_steps whole all) hand leads (plain_step whole start) (plain_steps whole walk) (plain_step whole s) (plain_steps whole left) taking.way (plain_step whole t) (plain_steps whole after) next taken same)
+          (takes_all (plain_steps whole all) hand leads (plain_step whole start) (plain_steps whole walk)
+          (plain_step whole s) (plain_steps whole left) taking.way (plain_step whole t) (plain_steps whole after)
+          next taken same)
 
       module _ (among : Contains left t) (fewer : All (Contains left) after) where
         -- what is left was there
         pub fewer_taken : All (Contains all) after
-        fewer_taken = All-weaker (Contains left) (Contains all) (λ u c. All-contains (Contains all) left u taking.fewer c) after fewer
+        fewer_taken = All-weaker (Contains left) (Contains all)
+            (λ u c. All-contains (Contains all) left u taking.fewer c) after fewer
 
         -- elsewhere it goes on
-        pub goes_on_taking : ¬ (plain_step whole t ≡ plain_step whole start) → IsTaking whole limit all hand start (walk ++ s ∷ []) t after
+        pub goes_on_taking : ¬ (plain_step whole t ≡ plain_step whole start) →
+            IsTaking whole limit all hand start (walk ++ s ∷ []) t after
         goes_on_taking other = record {
-          way = subst (λ ts. IsUnderWay (plain_steps whole all) hand (plain_step whole start) ts (plain_step whole t) (plain_steps whole after)) (sym pushed)
-              (walks_on (plain_steps whole all) hand leads (plain_step whole start) (plain_steps whole walk) (plain_step whole s) (plain_steps whole left) taking.way (plain_step whole t) (plain_steps whole after) next taken other);
+          way = subst (λ ts. IsUnderWay (plain_steps whole all) hand (plain_step whole start) ts (plain_step whole t)
+              (plain_steps whole after)) (sym pushed)
+              (walks_on (plain_steps whole all) hand leads (plain_step whole start) (plain_steps whole walk)
+              (plain_step whole s) (plain_steps whole left) taking.way (plain_step whole t)
+              (plain_steps whole after) next taken other);
           long = taking.long;
           walked = walked_on;
           pending = All-contains (Contains all) left t taking.fewer among;

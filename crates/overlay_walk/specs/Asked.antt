@@ -35,7 +35,8 @@ asked area_width natural fill rule options = record {
   area_width = area_width;
 }
 
--- the two rules hold of a winding of the subject and one of the clip: the region asked for is where they hold of the windings
+-- the two rules hold of a winding of the subject and one of the clip: the region asked for is where they hold of the
+-- windings
 abbrev pub region_asked : Asked → ℤ → ℤ → Bool
 region_asked q = rules_hold q.fill q.rule
 
@@ -43,7 +44,8 @@ region_asked q = rules_hold q.fill q.rule
 abbrev pub filled_on_left : Asked → Bool
 filled_on_left q = is_on_left q.output_direction
 
--- the selected steps of the edges: those of the edges on exactly one side of which the region is, each with that side on its left or right, as contours have it
+-- the selected steps of the edges: those of the edges on exactly one side of which the region is, each with that side
+-- on its left or right, as contours have it
 abbrev pub selected_of : Asked → List CountedEdge → List Step
 selected_of q es = selected_steps (region_asked q) subj_of clip_of (filled_on_left q) es
 

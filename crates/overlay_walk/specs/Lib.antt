@@ -1,4 +1,5 @@
 pub mod Asked
+pub mod GroupedContours
 pub mod Kept
 pub mod Nearest
 pub mod Parents

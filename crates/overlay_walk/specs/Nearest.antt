@@ -12,8 +12,8 @@ part_number Ahead = 1
 part_number SecondHalf = 2
 part_number Again = 3
 
--- of a list of points a ray at v that turns by the hand from u meets p first: it meets p before each point that stands before p in the
--- list, and before p none of those that stand after it
+-- of a list of points a ray at v that turns by the hand from u meets p first: it meets p before each point that stands
+-- before p in the list, and before p none of those that stand after it
 pub record IsMetFirst (hand : Hand) (v u : Point) (ps : List Point) (p : Point) : Type 0 where
   pub front : List Point
   pub back : List Point

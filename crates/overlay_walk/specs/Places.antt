@@ -1,5 +1,6 @@
 -- Places of a list of steps: which of them are open, what stands at them, and their order by where edges start.
-use Rattle.std.specs.Prelude.{◌≡◌, ℕ, ◌<◌, ◌≤◌, Bool, true, false, not, ◌&&◌, ◌||◌, List, length, slice_index_or, Option, Some, None, All, AllPairs, Contains}
+use Rattle.std.specs.Prelude.{◌≡◌, ℕ, ◌<◌, ◌≤◌, Bool, true, false, not, ◌&&◌, ◌||◌, List, length, slice_index_or}
+use Rattle.std.specs.Prelude.{Option, Some, None, All, AllPairs, Contains}
 use Rattle.overlay_geom.specs.Plane.{Point, Step, Edge, point_lt, point_eq, edge_of}
 use Rattle.overlay_plane.specs.Nodes.{turns_left}
 use Rattle.overlay_plane.specs.Turn.{Hand, is_met_before, no_step}
@@ -38,7 +39,8 @@ pub record IsRun (ss : List Step) (p : Point) (low high : ℕ) : Type 0 where
   pub leave : (k : ℕ) → low ≤ k → k < high → (step_at ss k).from ≡ p
   pub all : (k : ℕ) → k < length ss → (step_at ss k).from ≡ p → (low ≤ k) × (k < high)
 
--- the place of the step that is met first, by a ray that turns by the hand at the end of s, among the open ones that leave that end
+-- the place of the step that is met first, by a ray that turns by the hand at the end of s, among the open ones that
+-- leave that end
 pub record IsNextAt (ss : List Step) (marks : List Bool) (hand : Hand) (s : Step) (m : ℕ) : Type 0 where
   pub below : m < length ss
   pub untaken : is_open marks m ≡ true

@@ -1,4 +1,4 @@
--- The selected step of an edge, told by its fill bits.
+-- The selected step of an edge, by its fill bits.
 use Rattle.std.specs.Prelude.{ℕ, Bool, not, cond, List, [], ◌∷◌}
 use Rattle.overlay_geom.specs.Plane.{Step, Edge}
 use Rattle.overlay_plane.specs.SelectedSteps.{step_with_left}

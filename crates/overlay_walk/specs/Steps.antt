@@ -26,10 +26,10 @@ abbrev pub is_on_left : ContourDirection → Bool
 is_on_left CounterClockwise = true
 is_on_left Clockwise = false
 
--- the hand by which a walk turns that begins with a step, as the rule tells it
-abbrev pub hand_told_by : HandRule → Step → Hand
-hand_told_by (OutlineOrHole direction) s = outline_or_hole_hand (is_on_left direction) s
-hand_told_by (Always hand) s = plain_hand hand
+-- the hand by which a walk turns that begins with a step, as the rule says
+abbrev pub hand_by : HandRule → Step → Hand
+hand_by (OutlineOrHole direction) s = outline_or_hole_hand (is_on_left direction) s
+hand_by (Always hand) s = plain_hand hand
 
 -- the step at a step's numbers, and those of a list, and of walks
 abbrev pub plain_step : {I : Type 0} → (I → ℤ) → StepTaken I → Step

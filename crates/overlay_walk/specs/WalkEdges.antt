@@ -1,5 +1,7 @@
--- Numbered edges as whole numbers, each an entry of a sweep whose value is the number: those of walks have the index of the walk.
-use Rattle.std.specs.Prelude.{◌≡◌, ℕ, Bool, false, ℤ, List, map, All, AllPairs, Contains, slice_get, slice_index_or, Option, None, Some}
+-- Numbered edges as whole numbers, each an entry of a sweep whose value is the number: those of walks have the index of
+-- the walk.
+use Rattle.std.specs.Prelude.{◌≡◌, ℕ, Bool, false, ℤ, List, map, All, AllPairs, Contains, slice_get, slice_index_or}
+use Rattle.std.specs.Prelude.{Option, None, Some}
 use Rattle.overlay_geom.specs.Plane.{Step, Edge, edge_eq}
 use Rattle.overlay_geom.specs.Points.{plain_point}
 use Rattle.overlay_plane.specs.Anchors.{IsAnchor}
@@ -10,7 +12,10 @@ use Rattle.overlay_walk.specs.declared.numbered_edge.NumberedEdge.{NumberedEdge}
 
 -- the entry at an edge's numbers, and those of a list
 abbrev pub numbered_entry : {I W U : Type 0} {i w u : _} → (I → ℤ) → NumberedEdge I W U i w u → Entry ℕ
-numbered_entry whole e = record { edge = record { a = plain_point whole e.a; b = plain_point whole e.b }; value = e.number }
+numbered_entry whole e = record {
+  edge = record { a = plain_point whole e.a; b = plain_point whole e.b };
+  value = e.number;
+}
 
 abbrev pub numbered_entries : {I W U : Type 0} {i w u : _} → (I → ℤ) → List (NumberedEdge I W U i w u) → List (Entry ℕ)
 numbered_entries whole es = map (numbered_entry whole) es
@@ -48,5 +53,6 @@ IsHoleEntry walks known h = IsOfWalk walks h.value (λ w. IsAnchored known h.val
 -- the entries are the anchors of the walks that stand in no shape from the start, in their order
 pub record AreHoleEntries (walks : List (List Step)) (known : List (Option ℕ)) (hs : List (Entry ℕ)) : Type 0 where
   pub from : All (IsHoleEntry walks known) hs
-  pub all : (n : ℕ) (w : List Step) → slice_get walks n ≡ Some w → slice_index_or known n None ≡ None → Contains (map (λ h. h.value) hs) n
+  pub all : (n : ℕ) (w : List Step) → slice_get walks n ≡ Some w → slice_index_or known n None ≡ None →
+      Contains (map (λ h. h.value) hs) n
   pub order : IsByStart hs

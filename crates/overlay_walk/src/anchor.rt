@@ -25,7 +25,8 @@ pub fn hole_anchors<I: IntNumber, A: Allocator>(
     requires long { All (All (IsLong I.limit)) (plain_walks I.whole walks.now) }
     requires contours { All IsContour (plain_walks I.whole walks.now) }
     requires known { length known.now ≡ length walks.now }
-    ensures ok { IfOk result (λ v. AreHoleEntries (plain_walks I.whole walks.now) known.now (numbered_entries I.whole v.items)) }
+    ensures ok { IfOk result (λ v. AreHoleEntries (plain_walks I.whole walks.now) known.now
+        (numbered_entries I.whole v.items)) }
     ensures err { IsOkUnless result OverlayError.Memory }
 {
     let mut anchors = Vec::new(alloc);

@@ -12,6 +12,7 @@ use crate::step::Step;
 use overlay_geom::error::OverlayError;
 use overlay_geom::number::{IntNumber, UIntNumber, WideIntNumber};
 use overlay_geom::point::IntPoint;
+use overlay_geom::vector::IntVector;
 use std::alloc::Allocator;
 
 /// Those of the walks, in their order, that have three points or more and reach the minimum area, in
@@ -37,8 +38,8 @@ pub fn large_walks<I: IntNumber, A: Allocator>(
     Ok(large)
 }
 
-// Whether the walk has three points or more and reaches the minimum area.
-fn reaches<I: IntNumber>(walk: &[Step<I>], min_output_area: I::WideUInt) -> bool
+/// Whether the walk has three points or more and reaches the minimum area.
+pub(crate) fn reaches<I: IntNumber>(walk: &[Step<I>], min_output_area: I::WideUInt) -> bool
     requires { All (IsLong I.limit) (plain_steps I.whole walk.now) }
     ensures { result ≡ reaches I.Wide.width (I.WideUInt.natural min_output_area) (plain_steps I.whole walk.now) }
 {
@@ -73,5 +74,5 @@ fn cross<I: IntNumber>(p: IntPoint<I>, q: IntPoint<I>) -> I::Wide
     requires q { InRange I.limit (plain_point I.whole q) }
     ensures { I.Wide.whole result ≡ cross_of (plain_point I.whole p) (plain_point I.whole q) }
 {
-    I::cross(p.x, p.y, q.x, q.y)
+    IntVector::new(p.x, p.y).cross_product(IntVector::new(q.x, q.y))
 }

@@ -10,7 +10,7 @@ ghost use Rattle.overlay_plane.specs.Contours.{IsContour, all_steps};
 ghost use Rattle.overlay_plane.specs.RoledContours.{contours_from};
 ghost use Rattle.overlay_plane.specs.Roles.{side_on_left};
 ghost use Rattle.overlay_scan.specs.Scan.{empty_sweep};
-ghost use Rattle.overlay_walk.specs.Parents.{IsToldAt};
+ghost use Rattle.overlay_walk.specs.Parents.{HasShapeNumber};
 ghost use Rattle.overlay_walk.specs.Steps.{is_on_left, plain_side, IsLong};
 ghost use Rattle.overlay_walk.specs.Walks.{plain_walks};
 
@@ -41,7 +41,8 @@ pub fn bind<I: IntNumber, A: Allocator + Clone, S: Scan<I, usize>>(
     requires long { All (All (IsLong I.limit)) (plain_walks I.whole walks.now) }
     requires contours { All IsContour (plain_walks I.whole walks.now) }
     requires single { All HasEachEdgeOnce (plain_walks I.whole walks.now) }
-    requires distinct { AllPairs (λ e f. edge_eq e f ≡ false) (all_filled_above (is_on_left direction) (plain_walks I.whole walks.now)) }
+    requires distinct { AllPairs (λ e f. edge_eq e f ≡ false)
+        (all_filled_above (is_on_left direction) (plain_walks I.whole walks.now)) }
     requires settled { IsSettledBy edge_of (all_steps (plain_walks I.whole walks.now)) }
     requires empty { S.content scan.old ≡ empty_sweep }
     ensures found { IfOk result (λ v. AreShapesFound (is_on_left direction)
@@ -94,7 +95,7 @@ pub fn find_shapes<I: IntNumber, A: Allocator + Clone, S: Scan<I, usize>>(
     requires known { length known.now ≡ length walks.now }
     requires empty { S.content scan.old ≡ empty_sweep }
     ensures counted { IfOk result (λ v. length v.items ≡ length walks.now) }
-    ensures told { IfOk result (λ v. (n : _) → IsToldAt (side_on_left (plain_side side) (is_on_left direction))
+    ensures numbers { IfOk result (λ v. (n : _) → HasShapeNumber (side_on_left (plain_side side) (is_on_left direction))
         (plain_walks I.whole walks.now) known.now v.items n) }
     ensures err { IsOkUnless result OverlayError.Memory }
 {

@@ -31,7 +31,8 @@ pub fn sort_by_anchor<I: IntNumber, A: Allocator>(
 /// `Less` exactly where the first edge is anchored before the second: by their smaller ends, and from one
 /// point by their slopes.
 pub fn compare_anchors<I: IntNumber>(e: &NumberedEdge<I>, f: &NumberedEdge<I>) -> Ordering
-    ensures { is_lt result ≡ is_anchored_before (numbered_entry I.whole e.now).edge (numbered_entry I.whole f.now).edge }
+    ensures { is_lt result ≡ is_anchored_before (numbered_entry I.whole e.now).edge
+        (numbered_entry I.whole f.now).edge }
 {
     match compare_points(e.a, f.a) {
         Ordering::Equal => cross_at(e.a, f.b, e.b).sign(),

@@ -2,8 +2,9 @@
 
 ghost use Rattle.std.specs.Prelude.{◌≡◌, [], All, Contains, IfOk, OnOk, IsOkUnless};
 ghost use Rattle.overlay_plane.specs.BesideOrbits.{HasEachOnce};
-ghost use Rattle.overlay_plane.specs.Contours.{outline_or_hole_hand, CanBeCut, IsCutInto};
-ghost use Rattle.overlay_walk.specs.Steps.{plain_hand, plain_step, plain_steps, is_on_left, hand_told_by};
+ghost use Rattle.overlay_plane.specs.Contours.{outline_or_hole_hand, filled_hand, empty_hand};
+ghost use Rattle.overlay_plane.specs.Contours.{CanBeCut, IsCutInto};
+ghost use Rattle.overlay_walk.specs.Steps.{plain_hand, plain_step, plain_steps, is_on_left, hand_by};
 ghost use Rattle.overlay_walk.specs.Walks.{plain_walks};
 
 use crate::filled::is_filled_above;
@@ -24,9 +25,9 @@ pub fn cut_into_contours<I: IntNumber, A: Allocator + Clone>(
     steps: &mut OpenSteps<I, A>,
     rule: HandRule,
 ) -> Result<Vec<Vec<Step<I>, A>, A>, OverlayError>
-    requires cuttable { CanBeCut (hand_told_by rule) (plain_steps I.whole steps.old) }
+    requires cuttable { CanBeCut (hand_by rule) (plain_steps I.whole steps.old) }
     requires once { HasEachOnce (plain_steps I.whole steps.old) }
-    ensures cut { IfOk result (λ ws. IsCutInto (hand_told_by rule) (plain_steps I.whole steps.old)
+    ensures cut { IfOk result (λ ws. IsCutInto (hand_by rule) (plain_steps I.whole steps.old)
         (plain_walks I.whole ws.items)) }
     ensures among { IfOk result (λ ws. All (λ w. All (Contains steps.old) w.items) ws.items) }
     ensures none_left { OnOk result (steps.new ≡ []) }
@@ -42,7 +43,7 @@ pub fn cut_into_contours<I: IntNumber, A: Allocator + Clone>(
 
 /// The hand that the rule tells of a step.
 fn hand_by<I: IntNumber>(rule: HandRule, start: Step<I>) -> Hand
-    ensures { plain_hand result ≡ hand_told_by rule (plain_step I.whole start) }
+    ensures { plain_hand result ≡ hand_by rule (plain_step I.whole start) }
 {
     match rule {
         HandRule::OutlineOrHole(direction) => hand_of(start, direction),
@@ -54,13 +55,29 @@ fn hand_by<I: IntNumber>(rule: HandRule, start: Step<I>) -> Hand
 fn hand_of<I: IntNumber>(start: Step<I>, direction: ContourDirection) -> Hand
     ensures { plain_hand result ≡ outline_or_hole_hand (is_on_left direction) (plain_step I.whole start) }
 {
-    let (filled, empty) = match direction {
-        ContourDirection::CounterClockwise => (Hand::Left, Hand::Right),
-        ContourDirection::Clockwise => (Hand::Right, Hand::Left),
-    };
     if is_filled_above(&start, direction) {
-        empty
+        empty_hand(direction)
     } else {
-        filled
+        filled_hand(direction)
+    }
+}
+
+/// The hand of the filled side of each step, where contours run in a direction.
+pub(crate) fn filled_hand(direction: ContourDirection) -> Hand
+    ensures { plain_hand result ≡ filled_hand (is_on_left direction) }
+{
+    match direction {
+        ContourDirection::CounterClockwise => Hand::Left,
+        ContourDirection::Clockwise => Hand::Right,
+    }
+}
+
+/// The hand of its empty side.
+pub(crate) fn empty_hand(direction: ContourDirection) -> Hand
+    ensures { plain_hand result ≡ empty_hand (is_on_left direction) }
+{
+    match direction {
+        ContourDirection::CounterClockwise => Hand::Right,
+        ContourDirection::Clockwise => Hand::Left,
     }
 }

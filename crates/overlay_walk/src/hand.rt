@@ -12,7 +12,7 @@ pub enum Hand {
     Right,
 }
 
-/// By which hand a walk turns, told by the step that it starts with.
+/// By which hand a walk turns, as the step that it starts with says.
 #[derive(Debug, Clone, Copy)]
 pub enum HandRule {
     /// Where the direction is counterclockwise each step has its filled side on the left, else on the

@@ -47,7 +47,8 @@ impl<I: IntNumber> Ray<I> {
         requires start { InRange I.limit (plain_point I.whole self.start) }
         requires p { InRange I.limit (plain_point I.whole p) }
         requires q { InRange I.limit (plain_point I.whole q) }
-        ensures { result ≡ is_met_before (plain_hand self.hand) (plain_point I.whole self.node) (plain_point I.whole self.start)
+        ensures { result ≡ is_met_before (plain_hand self.hand) (plain_point I.whole self.node)
+            (plain_point I.whole self.start)
             (plain_point I.whole p) (plain_point I.whole q) }
     {
         let part = self.part_of(p);
@@ -64,7 +65,8 @@ impl<I: IntNumber> Ray<I> {
         requires start { InRange I.limit (plain_point I.whole self.start) }
         requires p { InRange I.limit (plain_point I.whole p) }
         ensures { part_number result
-            ≡ part_of_turn (plain_hand self.hand) (plain_point I.whole self.node) (plain_point I.whole self.start) (plain_point I.whole p) }
+            ≡ part_of_turn (plain_hand self.hand) (plain_point I.whole self.node) (plain_point I.whole self.start)
+            (plain_point I.whole p) }
     {
         match self.turn(self.start, p) {
             Ordering::Greater => TurnPart::FirstHalf,
@@ -78,7 +80,8 @@ impl<I: IntNumber> Ray<I> {
         requires node { InRange I.limit (plain_point I.whole self.node) }
         requires start { InRange I.limit (plain_point I.whole self.start) }
         requires p { InRange I.limit (plain_point I.whole p) }
-        ensures { let dot = dot_at (plain_point I.whole self.node) (plain_point I.whole self.start) (plain_point I.whole p) in
+        ensures { let dot = dot_at (plain_point I.whole self.node) (plain_point I.whole self.start)
+            (plain_point I.whole p) in
             part_number result ≡ cond (int_lt dot (pos 0)) 1 3 }
     {
         if self.inner_product(self.start, p).sign().is_lt() {
@@ -94,7 +97,8 @@ impl<I: IntNumber> Ray<I> {
         requires node { InRange I.limit (plain_point I.whole self.node) }
         requires p { InRange I.limit (plain_point I.whole p) }
         requires q { InRange I.limit (plain_point I.whole q) }
-        ensures { let turn = turn (plain_hand self.hand) (plain_point I.whole self.node) (plain_point I.whole p) (plain_point I.whole q) in
+        ensures { let turn = turn (plain_hand self.hand) (plain_point I.whole self.node) (plain_point I.whole p)
+            (plain_point I.whole q) in
             result ≡ int_cmp turn (pos 0) }
     {
         match self.hand {
@@ -108,7 +112,8 @@ impl<I: IntNumber> Ray<I> {
         requires node { InRange I.limit (plain_point I.whole self.node) }
         requires p { InRange I.limit (plain_point I.whole p) }
         requires q { InRange I.limit (plain_point I.whole q) }
-        ensures { I.Wide.whole result ≡ dot_at (plain_point I.whole self.node) (plain_point I.whole p) (plain_point I.whole q) }
+        ensures { I.Wide.whole result ≡ dot_at (plain_point I.whole self.node) (plain_point I.whole p)
+            (plain_point I.whole q) }
     {
         let to_p = p - self.node;
         let to_q = q - self.node;
@@ -151,7 +156,8 @@ impl<I: IntNumber> NearestVector<I> {
     pub fn new(ray: Ray<I>) -> Self
         requires node { InRange I.limit (plain_point I.whole ray.node) }
         requires start { InRange I.limit (plain_point I.whole ray.start) }
-        ensures { result ≡ none_held (plain_hand ray.hand) (plain_point I.whole ray.node) (plain_point I.whole ray.start) }
+        ensures { result ≡ none_held (plain_hand ray.hand) (plain_point I.whole ray.node)
+            (plain_point I.whole ray.start) }
     {
         NearestVector { ray, nearest: None }
     }
@@ -163,8 +169,12 @@ impl<I: IntNumber> NearestVector<I> {
         requires { InRange I.limit (plain_point I.whole point) }
         ensures nearer { (seen : List Point) → HasSeen self.old seen
             → ((result ≡ true) ↔ IsNearer self.old seen (plain_point I.whole point)) }
-        ensures seen { (seen : List Point) → HasSeen self.old seen → HasSeen self.new (seen ++ plain_point I.whole point ∷ []) }
-        ensures held { self.new ≡ record self.old { nearest = cond result (Some (plain_point I.whole point)) self.old.nearest } }
+        ensures seen { (seen : List Point) → HasSeen self.old seen →
+            HasSeen self.new (seen ++ plain_point I.whole point ∷ []) }
+        ensures held { self.new ≡ record self.old {
+          nearest = cond result (Some (plain_point I.whole point))
+              self.old.nearest;
+        } }
     {
         let is_nearer = match self.nearest {
             None => true,

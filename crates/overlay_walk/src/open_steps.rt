@@ -78,7 +78,8 @@ impl<I: IntNumber, A: Allocator> OpenSteps<I, A> {
         requires long { IsLong I.limit (plain_step I.whole step) }
         requires goes_on { Any (λ t. t.from ≡ (plain_step I.whole step).to) (plain_steps I.whole self.old) }
         ensures among { Contains self.old result }
-        ensures next { IsNextStep (plain_steps I.whole self.old) (plain_hand hand) (plain_step I.whole step) (plain_step I.whole result) }
+        ensures next { IsNextStep (plain_steps I.whole self.old) (plain_hand hand) (plain_step I.whole step)
+            (plain_step I.whole result) }
         ensures left { plain_steps I.whole self.new
             ≡ without (plain_steps I.whole self.old) (plain_step I.whole result ∷ []) }
         ensures fewer { All (Contains self.old) self.new }
@@ -120,7 +121,8 @@ impl<I: IntNumber, A: Allocator + Clone> OpenSteps<I, A> {
         requires leads_on { LeadsOn (plain_steps I.whole self.old) (plain_hand hand) }
         requires once { HasEachOnce (plain_steps I.whole self.old) }
         requires left { Contains self.old start }
-        ensures orbit { IfOk result (λ w. IsOrbit (plain_steps I.whole self.old) (plain_hand hand) (plain_steps I.whole w.items)) }
+        ensures orbit { IfOk result (λ w. IsOrbit (plain_steps I.whole self.old) (plain_hand hand)
+            (plain_steps I.whole w.items)) }
         ensures begins { IfOk result (λ w. step_round (plain_steps I.whole w.items) 0 ≡ plain_step I.whole start) }
         ensures among { IfOk result (λ w. All (Contains self.old) w.items) }
         ensures left { IfOk result (λ w.

@@ -11,13 +11,13 @@ ghost use Rattle.overlay_plane.specs.Contours.{IsContour, all_steps};
 ghost use Rattle.overlay_scan.specs.Scan.{empty_sweep, live_at, moved_to, value_below};
 ghost use Rattle.overlay_scan.specs.Scan.{IsAsked, IsSweep, MayMoveTo, MeetsOthers};
 ghost use Rattle.overlay_scan.specs.Sweeps.{IsByStart};
-ghost use Rattle.overlay_walk.specs.Parents.{IsSwept, IsToldAt};
+ghost use Rattle.overlay_walk.specs.Parents.{IsSwept, HasShapeNumber};
 ghost use Rattle.overlay_walk.specs.Steps.{is_on_left, IsLong};
 ghost use Rattle.overlay_walk.specs.WalkEdges.{numbered_entry, numbered_entries};
 ghost use Rattle.overlay_walk.specs.Walks.{plain_walks};
 
 use crate::anchor::hole_anchors;
-use crate::filled_edges::filled_edges;
+use crate::filled_above_edges::filled_above_edges;
 use crate::numbered_edge::NumberedEdge;
 use crate::step::Step;
 use overlay_arrange::options::ContourDirection;
@@ -39,15 +39,17 @@ pub fn parents_by_sweep<I: IntNumber, A: Allocator + Clone, S: Scan<I, usize>>(
     requires long { All (All (IsLong I.limit)) (plain_walks I.whole walks.now) }
     requires contours { All IsContour (plain_walks I.whole walks.now) }
     requires single { All HasEachEdgeOnce (plain_walks I.whole walks.now) }
-    requires distinct { AllPairs (λ e f. edge_eq e f ≡ false) (all_filled_above (is_on_left direction) (plain_walks I.whole walks.now)) }
+    requires distinct { AllPairs (λ e f. edge_eq e f ≡ false)
+        (all_filled_above (is_on_left direction) (plain_walks I.whole walks.now)) }
     requires settled { IsSettledBy edge_of (all_steps (plain_walks I.whole walks.now)) }
     requires known { length known.now ≡ length walks.now }
     requires empty { S.content scan.old ≡ empty_sweep }
     ensures counted { IfOk result (λ v. length v.items ≡ length walks.now) }
-    ensures told { IfOk result (λ v. (n : _) → IsToldAt (is_on_left direction) (plain_walks I.whole walks.now) known.now v.items n) }
+    ensures numbers { IfOk result (λ v. (n : _) → HasShapeNumber (is_on_left direction) (plain_walks I.whole walks.now)
+        known.now v.items n) }
     ensures err { IsOkUnless result OverlayError.Memory }
 {
-    let edges = filled_edges(alloc.clone()?, walks, direction)?;
+    let edges = filled_above_edges(alloc.clone()?, walks, direction)?;
     let anchors = hole_anchors(alloc.clone()?, walks, known)?;
     let mut parents = Vec::new(alloc);
     parents.resize(walks.len(), None)?;
@@ -74,7 +76,8 @@ fn insert_up_to<I: IntNumber, S: Scan<I, usize>>(
     requires settled { IsSettledBy (λ f. f.edge) (numbered_entries I.whole edges.now) }
     requires swept { IsSwept I.limit (I.whole x) (take from (numbered_entries I.whole edges.now)) (S.content scan.old) }
     ensures within { IfOk result (λ n. n ≤ length edges.now) }
-    ensures swept { IfOk result (λ n. IsSwept I.limit (I.whole x) (take n (numbered_entries I.whole edges.now)) (S.content scan.new)) }
+    ensures swept { IfOk result (λ n. IsSwept I.limit (I.whole x) (take n (numbered_entries I.whole edges.now))
+        (S.content scan.new)) }
     ensures rest { IfOk result (λ n. All (λ f. I.whole x <ℤ f.edge.a.x) (drop n (numbered_entries I.whole edges.now))) }
     ensures err { IsOkUnless result OverlayError.Memory }
 {
@@ -100,7 +103,8 @@ fn walk_below<I: IntNumber, S: Scan<I, usize>>(
     requires state { IsSweep I.limit (S.content scan.old) }
     requires moves { MayMoveTo (I.whole anchor.now.a.x) (S.content scan.old) }
     requires asked { IsAsked I.limit (I.whole anchor.now.a.x) (numbered_entry I.whole anchor.now).edge }
-    requires meets { MeetsOthers (numbered_entry I.whole anchor.now).edge (live_at (I.whole anchor.now.a.x) (S.content scan.old).entries) }
+    requires meets { MeetsOthers (numbered_entry I.whole anchor.now).edge
+        (live_at (I.whole anchor.now.a.x) (S.content scan.old).entries) }
     ensures value { result ≡ value_below none (numbered_entry I.whole anchor.now).edge
         (live_at (I.whole anchor.now.a.x) (S.content scan.old).entries) }
     ensures content { S.content scan.new ≡ moved_to (I.whole anchor.now.a.x) (S.content scan.old) }
@@ -114,7 +118,8 @@ fn walk_below<I: IntNumber, S: Scan<I, usize>>(
 fn shape_at(numbers: &[Option<usize>], parents: &[Option<usize>], walk: usize) -> Option<usize>
     requires { length parents.now ≡ length numbers.now }
     ensures { result ≡ cond (nat_lt walk (length numbers.now))
-        (cond (is_some (slice_index_or numbers.now walk None)) (slice_index_or numbers.now walk None) (slice_index_or parents.now walk None)) None }
+        (cond (is_some (slice_index_or numbers.now walk None)) (slice_index_or numbers.now walk None)
+        (slice_index_or parents.now walk None)) None }
 {
     if walk < numbers.len() {
         match numbers[walk] {

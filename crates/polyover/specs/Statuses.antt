@@ -5,7 +5,8 @@ use Rattle.overlay_geom.specs.declared.error.OverlayError.{OverlayError}
 use Rattle.overlay_geom.specs.declared.error.OverlayError.TheVariants.{Memory, NotSettled, TooManyEdges, Failed}
 use Rattle.polyover_engine.specs.declared.exit.Exit.{Exit}
 use Rattle.polyover.specs.declared.report.Words.{Words}
-use Rattle.polyover.specs.declared.report.Words.TheVariants.{Nothing, Refused as RefusedWords, BadLine, Failed as FailedWords}
+use Rattle.polyover.specs.declared.report.Words.TheVariants.{Nothing, Refused as RefusedWords, BadLine}
+use Rattle.polyover.specs.declared.report.Words.TheVariants.{Failed as FailedWords}
 use Rattle.polyover_engine.specs.declared.exit.Exit.TheVariants.{Answered, Refused, BadInput, Io}
 
 -- the program's status

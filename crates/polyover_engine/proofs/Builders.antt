@@ -7,7 +7,8 @@ use Rattle.overlay_geom.specs.Edges.{AddsContour, weight}
 use Rattle.overlay_geom.specs.declared.error.OverlayError.{OverlayError}
 use Rattle.overlay_geom.specs.declared.error.OverlayError.TheVariants.{Memory, NotSettled, TooManyEdges, Failed}
 use Rattle.overlay_arrange.specs.Content.{edge_for}
-use Rattle.overlay_builder.specs.GivenPaths.{MayRefuseBuilder, WouldWeighTooMuch, GivenPath, HoldsPaths, added_path, added_paths}
+use Rattle.overlay_builder.specs.GivenPaths.{MayRefuseBuilder, WouldWeighTooMuch, GivenPath, HoldsPaths, added_path}
+use Rattle.overlay_builder.specs.GivenPaths.{added_paths}
 use Rattle.i_overlay.specs.Builder.{Builder, IsNewBuilder}
 use Rattle.overlay_builder.proofs.AddedContours.{of_contour}
 use Rattle.overlay_builder.specs.PathLists.{AddsPaths}
@@ -19,48 +20,64 @@ use Rattle.polyover_text.specs.Statements.{path_at, contour_at, contours_at}
 use Rattle.polyover_engine.specs.Builders.{HasAdded}
 
 pub nothing_added : (b : Builder ℕ) → b.edges ≡ [] → IsNewBuilder (λ n. n) b → HasAdded [] b
-nothing_added b empty made = record { holds = subst (HoldsPaths false []) (sym empty) (record { added = no_path; light = lit< tt }); made = made }
+nothing_added b empty made = record {
+  holds = subst (HoldsPaths false []) (sym empty)
+      (record { added = no_path; light = lit< tt });
+  made = made;
+}
 
 -- the contour at a place of the list that is held
-pub given_here : {A : Type 0} (cs items : List (NumberedContour A)) (k : ℕ) (c : NumberedContour A) → items ≡ cs → k < length items → c ≡ get_or items k c
+pub given_here : {A : Type 0} (cs items : List (NumberedContour A)) (k : ℕ) (c : NumberedContour A) → items ≡ cs →
+    k < length items → c ≡ get_or items k c
     → (k < length (contours_at cs)) × (contour_at c ≡ get_or (contours_at cs) k (contour_at c))
 given_here cs items k c same within here = (
   omega (arith, length-map cs contour_at, ap length same),
-  ap contour_at (here ∙ ap (λ l. get_or l k c) same) ∙ sym (get_or-map contour_at cs k c (contour_at c) (omega (arith, ap length same))),
+  ap contour_at (here ∙ ap (λ l. get_or l k c) same)
+      ∙ sym (get_or-map contour_at cs k c (contour_at c) (omega (arith, ap length same))),
 )
 
-pub contour_here : {A : Type 0} (cs items : List (NumberedContour A)) (k : ℕ) (c : NumberedContour A) → items ≡ cs → k < length items → c ≡ get_or items k c
-    → (k < length (contour_paths (contours_at cs))) × (path_at c.contour ≡ get_or (contour_paths (contours_at cs)) k (path_at c.contour))
+pub contour_here : {A : Type 0} (cs items : List (NumberedContour A)) (k : ℕ) (c : NumberedContour A) → items ≡ cs →
+    k < length items → c ≡ get_or items k c
+    → (k < length (contour_paths (contours_at cs))) × (path_at c.contour ≡ get_or (contour_paths (contours_at cs)) k
+    (path_at c.contour))
 contour_here cs items k c same within here =
     let given = given_here cs items k c same within here in (
       omega (arith, length-map (contours_at cs) (λ d. d.path), given.0),
-      ap (λ d. d.path) given.1 ∙ sym (get_or-map (λ d. d.path) (contours_at cs) k (contour_at c) (path_at c.contour) given.0),
+      ap (λ d. d.path) given.1 ∙ sym (get_or-map (λ d. d.path) (contours_at cs) k (contour_at c)
+          (path_at c.contour) given.0),
     )
 
-module _ (cs : List GivenPath) (k : ℕ) (c : GivenPath) (old : Builder ℕ) (h : HasAdded (take k cs) old) (within : k < length cs)
+module _ (cs : List GivenPath) (k : ℕ) (c : GivenPath) (old : Builder ℕ) (h : HasAdded (take k cs) old)
+    (within : k < length cs)
     (here : c ≡ get_or cs k c) where
   -- the next contour of the list is added
-  pub one_more_added : (new : Builder ℕ) → AddsContour old.options.preserve_input_collinear (edge_for c.shape_type) c.points old.edges new.edges
+  pub one_more_added : (new : Builder ℕ) → AddsContour old.options.preserve_input_collinear (edge_for c.shape_type)
+      c.points old.edges new.edges
       → weight new.edges < 2 ^ 31 → new ≡ record old { edges = new.edges } → HasAdded (take (k + 1) cs) new
   one_more_added new adds light kept = record {
     holds = record {
-      added = subst (λ l. AddsPaths (added_paths false l) [] new.edges) (ap (λ x. take k cs ++ x ∷ []) here ∙ sym (take_more cs k c within))
+      added = subst (λ l. AddsPaths (added_paths false l) [] new.edges) (ap (λ x. take k cs ++ x ∷ []) here
+          ∙ sym (take_more cs k c within))
           (subst (λ l. AddsPaths l [] new.edges) (sym (map-append (added_path false) (take k cs) (c ∷ [])))
           (adds_last (added_paths false (take k cs)) (added_path false c) [] old.edges new.edges h.holds.added
           (of_contour false (edge_for c.shape_type) c.points old.edges new.edges
-          (subst (λ keep. AddsContour keep (edge_for c.shape_type) c.points old.edges new.edges) h.made.options.input_kept adds))));
+          (subst (λ keep. AddsContour keep (edge_for c.shape_type) c.points old.edges new.edges)
+          h.made.options.input_kept adds))));
       light = light;
     };
-    made = subst (IsNewBuilder (λ n. n)) (sym kept) (record { ready = h.made.ready; options = h.made.options; buffer = h.made.buffer });
+    made = subst (IsNewBuilder (λ n. n)) (sym kept)
+        (record { ready = h.made.ready; options = h.made.options; buffer = h.made.buffer });
   }
 
   -- the contours before it, it, and those after it
   parted : cs ≡ take k cs ++ c ∷ drop (k + 1) cs
-  parted = sym (take-append-drop k cs) ∙ ap (λ l. take k cs ++ l) (drop_more cs k c within ∙ ap (λ x. x ∷ drop (k + 1) cs) (sym here))
+  parted = sym (take-append-drop k cs)
+      ∙ ap (λ l. take k cs ++ l) (drop_more cs k c within ∙ ap (λ x. x ∷ drop (k + 1) cs) (sym here))
 
   -- a refusal of the next contour
   pub contour_refused : (e : OverlayError) → (e ≡ Failed → old.failed ≡ true)
-      → (e ≡ TooManyEdges → WouldWeighTooMuch old.options.preserve_input_collinear c.shape_type c.points old.edges) → (e ≡ NotSettled → ⊥)
+      → (e ≡ TooManyEdges → WouldWeighTooMuch old.options.preserve_input_collinear c.shape_type c.points old.edges)
+      → (e ≡ NotSettled → ⊥)
       → MayRefuseBuilder false cs e
   contour_refused Memory failed heavy unsettled = tt
   contour_refused NotSettled failed heavy unsettled = absurd (unsettled refl)
@@ -74,7 +91,8 @@ module _ (cs : List GivenPath) (k : ℕ) (c : GivenPath) (old : Builder ℕ) (h 
         parts = ap (added_paths false) parted ∙ map-append (added_path false) (take k cs) (c ∷ drop (k + 1) cs);
         added = h.holds.added;
       };
-      refused = subst (λ keep. WouldWeighTooMuch keep c.shape_type c.points old.edges) h.made.options.input_kept (heavy refl);
+      refused = subst (λ keep. WouldWeighTooMuch keep c.shape_type c.points old.edges) h.made.options.input_kept
+          (heavy refl);
     },
   )
   contour_refused Failed failed heavy unsettled = false≢true (sym h.made.ready ∙ failed refl)

@@ -13,19 +13,23 @@ use Rattle.polyover_engine.specs.Subjects.{subject_of, IsFirstUnresolved, IsSubj
 use Rattle.polyover_engine.specs.declared.exit.Exit.{Exit}
 use Rattle.polyover_engine.specs.declared.exit.Exit.TheVariants.{Answered, Refused, BadInput, Io}
 
-module _ (fs : GivenFigures) (contours : List GivenContour) (points : List Point) (shape : List (List Point)) (same : contours ≡ fs.contours)
+module _ (fs : GivenFigures) (contours : List GivenContour) (points : List Point) (shape : List (List Point))
+    (same : contours ≡ fs.contours)
     (asked : points ≡ fs.points) (h : IsSubject contours shape) where
   shown : shape ≡ subject_of fs.contours
   shown = subst (λ cs. shape ≡ subject_of cs) same h.shown
 
-  pub tells_inside : (answers : List Bool) → AnswersWhether (shapes_edges (shape ∷ [])) (is_in_shapes (shape ∷ [])) points answers → TellInside fs answers
+  pub tells_inside : (answers : List Bool) → AnswersWhether (shapes_edges (shape ∷ [])) (is_in_shapes (shape ∷ []))
+      points answers → TellInside fs answers
   tells_inside answers told = record {
     resolved = subst (All IsResolved) shown h.resolved;
-    inside = subst (λ ps. AnswersWhether (shapes_edges (subject_of fs.contours ∷ [])) (is_in_shapes (subject_of fs.contours ∷ [])) ps answers) asked
+    inside = subst (λ ps. AnswersWhether (shapes_edges (subject_of fs.contours ∷ []))
+        (is_in_shapes (subject_of fs.contours ∷ [])) ps answers) asked
         (subst (λ s. AnswersWhether (shapes_edges (s ∷ [])) (is_in_shapes (s ∷ [])) points answers) shown told);
   }
 
-  pub tells_where : (answers : List PointLocation) → AnswersWhere (IsLocatedAmong (shape ∷ [])) points answers → TellWhere fs answers
+  pub tells_where : (answers : List PointLocation) → AnswersWhere (IsLocatedAmong (shape ∷ [])) points answers →
+      TellWhere fs answers
   tells_where answers told = record {
     resolved = subst (All IsResolved) shown h.resolved;
     located = subst (λ ps. AnswersWhere (IsLocatedAmong (subject_of fs.contours ∷ [])) ps answers) asked

@@ -31,8 +31,10 @@ asked_with query options = asked w128 (λ n. n) query.fill_rule query.overlay_ru
 
 module _ (cs : List GivenPath) (b : Builder ℕ) (h : HasAdded cs b) where
   -- what a query for the edges answers
-  pub edges_answered : {V : Type 0} (limit : ℕ) (vectors : V → List Vector) (fill : FillRule) (new : Held CountedEdge) (answer : Result V OverlayError)
-      → AnswersQuery limit 64 (held_by b) new answer → IfOk answer (λ v. vectors v ≡ map (vector_of fill new.edges) new.edges)
+  pub edges_answered : {V : Type 0} (limit : ℕ) (vectors : V → List Vector) (fill : FillRule) (new : Held CountedEdge)
+      (answer : Result V OverlayError)
+      → AnswersQuery limit 64 (held_by b) new answer
+      → IfOk answer (λ v. vectors v ≡ map (vector_of fill new.edges) new.edges)
       → MatchResult answer (λ v. AreEdges cs fill (vectors v)) (λ e. MayRefusePaths cs e)
   edges_answered limit vectors fill new (Ok v) query listed =
       record { content = b.edges; edges = new.edges; holds = h.holds; arranged = query.arranged; listed = listed }
@@ -45,7 +47,8 @@ module _ (cs : List GivenPath) (b : Builder ℕ) (h : HasAdded cs b) where
 
   -- what an overlay answers, whatever the settings are that it sets
   pub shapes_answered : {V : Type 0} (limit : ℕ) (shapes : V → List (List (List Point))) (query : OverlayQuery)
-      (old new : Held CountedEdge) (answer : Result V OverlayError) → AnswersQuery limit 64 old new answer → old.edges ≡ b.edges → old.failed ≡ b.failed
+      (old new : Held CountedEdge) (answer : Result V OverlayError) → AnswersQuery limit 64 old new answer →
+      old.edges ≡ b.edges → old.failed ≡ b.failed
       → IfOk answer (λ v. IsResult (asked_with query b.options) new.edges (shapes v))
       → MatchResult answer (λ v. IsResultOfPaths (asked_by query) cs (shapes v)) (λ e. MayRefusePaths cs e)
   shapes_answered limit shapes query old new (Ok v) answers content failed result =
@@ -53,7 +56,8 @@ module _ (cs : List GivenPath) (b : Builder ℕ) (h : HasAdded cs b) where
       (subst (HoldsPaths false cs) (sym content) h.holds) answers.arranged
       (subst (λ q. IsResult q new.edges (shapes v)) (asked_of_query query) result)
   shapes_answered limit shapes query old new (Err e) answers content failed result =
-      query_refused limit cs old new (Err e) (subst (HoldsPaths false cs) (sym content) h.holds) (failed ∙ h.made.ready) answers
+      query_refused limit cs old new (Err e) (subst (HoldsPaths false cs) (sym content) h.holds)
+      (failed ∙ h.made.ready) answers
 
 -- where the contours can't be added, there is no answer
 pub adding_refused : (cs : List GivenPath) (e : OverlayError) → MayRefuseBuilder false cs e → MayRefusePaths cs e
@@ -64,7 +68,8 @@ adding_refused cs Failed may = may
 
 -- the text answers what was read, where the reader tells it
 pub answers_read : (given : Option (List ℕ)) (bytes text written : List ℕ) (fs : GivenFigures) (query : Query)
-    → IfSome given (λ b. bytes ≡ b) → text ≡ bytes → Asks (input_lines text) fs query → Answers fs query written → IfSome given (λ b. IsAnswer b written)
+    → IfSome given (λ b. bytes ≡ b) → text ≡ bytes → Asks (input_lines text) fs query → Answers fs query written
+    → IfSome given (λ b. IsAnswer b written)
 answers_read None bytes text written fs query read same asks answers = tt
 answers_read (Some b) bytes text written fs query read same asks answers = record {
   figures = fs;

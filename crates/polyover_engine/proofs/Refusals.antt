@@ -15,23 +15,37 @@ never_failed fs (Overlay query) h = h
 never_failed fs Contains h = cc
 never_failed fs Locate h = cc
 
-refused_for : (bytes : List ℕ) (fs : GivenFigures) (query : Query) (e : OverlayError) → Asks (input_lines bytes) fs query → MayRefuseQuery fs query e
+refused_for : (bytes : List ℕ) (fs : GivenFigures) (query : Query) (e : OverlayError) →
+    Asks (input_lines bytes) fs query → MayRefuseQuery fs query e
     → MayBeRefused bytes e
 refused_for bytes fs query Memory asks refused = tt
-refused_for bytes fs query NotSettled asks refused = record { figures = fs; query = query; asks = asks; refused = refused }
-refused_for bytes fs query TooManyEdges asks refused = record { figures = fs; query = query; asks = asks; refused = refused }
+refused_for bytes fs query NotSettled asks refused = record {
+  figures = fs;
+  query = query;
+  asks = asks;
+  refused = refused;
+}
+refused_for bytes fs query TooManyEdges asks refused = record {
+  figures = fs;
+  query = query;
+  asks = asks;
+  refused = refused;
+}
 refused_for bytes fs query Failed asks refused = absurd (never_failed fs query refused)
 
 -- the same where the reader tells what was read
-pub refused_for_read : (given : Option (List ℕ)) (bytes text : List ℕ) (fs : GivenFigures) (query : Query) (e : OverlayError)
-    → IfSome given (λ b. bytes ≡ b) → text ≡ bytes → Asks (input_lines text) fs query → MayRefuseQuery fs query e → IfSome given (λ b. MayBeRefused b e)
+pub refused_for_read : (given : Option (List ℕ)) (bytes text : List ℕ) (fs : GivenFigures) (query : Query)
+    (e : OverlayError)
+    → IfSome given (λ b. bytes ≡ b) → text ≡ bytes → Asks (input_lines text) fs query → MayRefuseQuery fs query e
+    → IfSome given (λ b. MayBeRefused b e)
 refused_for_read None bytes text fs query e read same asks refused = tt
 refused_for_read (Some b) bytes text fs query e read same asks refused =
     refused_for b fs query e (subst (λ l. Asks (input_lines l) fs query) (same ∙ read) asks) refused
 
 -- a contour that has to be resolved, and is not
 pub unresolved_read : (given : Option (List ℕ)) (bytes text : List ℕ) (fs : GivenFigures) (query : Query) (n : ℕ)
-    → IfSome given (λ b. bytes ≡ b) → text ≡ bytes → Asks (input_lines text) fs query → AsksAboutPoints query × IsFirstUnresolved fs.contours n
+    → IfSome given (λ b. bytes ≡ b) → text ≡ bytes → Asks (input_lines text) fs query
+    → AsksAboutPoints query × IsFirstUnresolved fs.contours n
     → IfSome given (λ b. IsBadInput b n)
 unresolved_read None bytes text fs query n read same asks h = tt
 unresolved_read (Some b) bytes text fs query n read same asks h = inr (record {

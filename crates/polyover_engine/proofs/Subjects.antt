@@ -1,5 +1,6 @@
 -- The contours of the subject, taken one by one.
-use Rattle.std.proofs.Common.{◌≡◌, ℕ, ◌+◌, ◌<◌, ℤ, map, List, [], ◌∷◌, ◌++◌, length, get_or, take, drop, All, take-append-drop, sym, ap, subst, ◌∙◌}
+use Rattle.std.proofs.Common.{◌≡◌, ℕ, ◌+◌, ◌<◌, ℤ, map, List, [], ◌∷◌, ◌++◌, length, get_or, take, drop, All}
+use Rattle.std.proofs.Common.{take-append-drop, sym, ap, subst, ◌∙◌}
 use Rattle.std.proofs.lemmas.List.{take_more, drop_more, flat_map_more, map_push}
 use Rattle.std.proofs.lemmas.List.Elements.{All-append, All-nil, All-cons}
 use Rattle.overlay_geom.specs.Plane.{Point}
@@ -13,7 +14,8 @@ use Rattle.polyover_engine.specs.declared.exit.Exit.{Exit}
 use Rattle.polyover_engine.specs.declared.exit.Exit.TheVariants.{Answered, Refused, BadInput, Io}
 use Rattle.polyover_engine.specs.Subjects.{subject_part, subject_of, IsSubject, HasNoSubject, AddsContour, IsNotAdded}
 
-module _ (cs : List GivenContour) (k : ℕ) (c : GivenContour) (old : List (List Point)) (h : IsSubject (take k cs) old) (within : k < length cs)
+module _ (cs : List GivenContour) (k : ℕ) (c : GivenContour) (old : List (List Point)) (h : IsSubject (take k cs) old)
+    (within : k < length cs)
     (here : c ≡ get_or cs k c) where
   -- the next contour of the list is taken
   pub one_more_taken : (new : List (List Point)) → AddsContour c old new → IsSubject (take (k + 1) cs) new
@@ -24,7 +26,8 @@ module _ (cs : List GivenContour) (k : ℕ) (c : GivenContour) (old : List (List
     resolved = subst (All IsResolved) (sym adds.added)
         (All-append IsResolved old (subject_part c.path.shape_type c.path.points) h.resolved adds.resolved);
     in_range = subst (All (AllInRange 4611686018427387903)) (sym adds.added)
-        (All-append (AllInRange 4611686018427387903) old (subject_part c.path.shape_type c.path.points) h.in_range adds.in_range);
+        (All-append (AllInRange 4611686018427387903) old (subject_part c.path.shape_type c.path.points) h.in_range
+        adds.in_range);
   }
 
   -- or it ends the search
@@ -35,7 +38,8 @@ module _ (cs : List GivenContour) (k : ℕ) (c : GivenContour) (old : List (List
     before = take k cs;
     contour = c;
     after = drop (k + 1) cs;
-    parts = sym (take-append-drop k cs) ∙ ap (λ l. take k cs ++ l) (drop_more cs k c within ∙ ap (λ x. x ∷ drop (k + 1) cs) (sym here));
+    parts = sym (take-append-drop k cs)
+        ∙ ap (λ l. take k cs ++ l) (drop_more cs k c within ∙ ap (λ x. x ∷ drop (k + 1) cs) (sym here));
     resolved = subst (All IsResolved) h.shown h.resolved;
     of_subject = bad.of_subject;
     unresolved = bad.unresolved;
@@ -47,18 +51,21 @@ module _ (cs : List GivenContour) (k : ℕ) (c : GivenContour) (old : List (List
 
 module _ (c : GivenContour) (of_subject : c.path.shape_type ≡ Subject) where
   -- its points come last
-  pub adds_pushed : (old new : List (List Point)) → new ≡ old ++ c.path.points ∷ [] → IsResolved c.path.points → AllInRange 4611686018427387903 c.path.points
+  pub adds_pushed : (old new : List (List Point)) → new ≡ old ++ c.path.points ∷ [] → IsResolved c.path.points →
+      AllInRange 4611686018427387903 c.path.points
       → AddsContour c old new
   adds_pushed old new pushed resolved in_range = record {
     added = pushed ∙ ap (λ t. old ++ subject_part t c.path.points) (sym of_subject);
     resolved = subst (λ t. All IsResolved (subject_part t c.path.points)) (sym of_subject)
         (All-cons IsResolved c.path.points [] resolved (All-nil IsResolved));
     in_range = subst (λ t. All (AllInRange 4611686018427387903) (subject_part t c.path.points)) (sym of_subject)
-        (All-cons (AllInRange 4611686018427387903) c.path.points [] in_range (All-nil (AllInRange 4611686018427387903)));
+        (All-cons (AllInRange 4611686018427387903) c.path.points [] in_range
+        (All-nil (AllInRange 4611686018427387903)));
   }
 
 -- the points of a list of lists, when one more list is pushed that holds a copy
-pub points_pushed : {V : Type 0} (items : V → List (IntPoint ℤ)) (old new : List V) (v : V) (ps : List (IntPoint ℤ)) → new ≡ old ++ v ∷ [] → items v ≡ ps
+pub points_pushed : {V : Type 0} (items : V → List (IntPoint ℤ)) (old new : List V) (v : V) (ps : List (IntPoint ℤ)) →
+    new ≡ old ++ v ∷ [] → items v ≡ ps
     → map (λ d. points_at (items d)) new ≡ map (λ d. points_at (items d)) old ++ points_at ps ∷ []
 points_pushed items old new v ps pushed copied =
     ap (map (λ d. points_at (items d))) pushed ∙ map_push (λ d. points_at (items d)) old v

@@ -12,11 +12,13 @@ pub record HasWritten (old new : Option (List ℕ)) (text rest : List ℕ) : Typ
   pub appended : Appends old new written
 
 -- a write takes a beginning of the rest
-pub more_written : (a b c : Option (List ℕ)) (text rest : List ℕ) (n : ℕ) → HasWritten a b text rest → Appends b c (take n rest)
+pub more_written : (a b c : Option (List ℕ)) (text rest : List ℕ) (n : ℕ) → HasWritten a b text rest →
+    Appends b c (take n rest)
     → HasWritten a c text (take (length rest - n) (drop n rest))
 more_written a b c text rest n h more = record {
   written = h.written ++ take n rest;
-  parts = h.parts ∙ ap (λ l. h.written ++ l) (sym (take-append-drop n rest)) ∙ sym (append_assoc h.written (take n rest) (drop n rest))
+  parts = h.parts ∙ ap (λ l. h.written ++ l) (sym (take-append-drop n rest))
+      ∙ sym (append_assoc h.written (take n rest) (drop n rest))
       ∙ ap (λ l. (h.written ++ take n rest) ++ l) (sym (take_rest rest n));
   appended = Appends-trans a b c h.written (take n rest) h.appended more;
 }

@@ -1,4 +1,5 @@
--- What the program answers: the edges of the arrangement, the shapes of an overlay, or where points lie; and the text of it.
+-- What the program answers: the edges of the arrangement, the shapes of an overlay, or where points lie; and the text
+-- of it.
 use Rattle.std.specs.Prelude.{◌≡◌, ℕ, Bool, false, List, [], ◌∷◌, map, All, unwrap_or}
 use Rattle.std.specs.Int.{w128}
 use Rattle.std.specs.List.{flat_map}
@@ -51,10 +52,12 @@ asked_by q = record {
 
 -- ---- points
 
--- the contours of the subject are resolved, and the answers tell of each point on none of their edges whether it is inside them, as one shape
+-- the contours of the subject are resolved, and the answers tell of each point on none of their edges whether it is
+-- inside them, as one shape
 pub record TellInside (fs : GivenFigures) (answers : List Bool) : Type 0 where
   pub resolved : All IsResolved (subject_of fs.contours)
-  pub inside : AnswersWhether (shapes_edges (subject_of fs.contours ∷ [])) (is_in_shapes (subject_of fs.contours ∷ [])) fs.points answers
+  pub inside : AnswersWhether (shapes_edges (subject_of fs.contours ∷ [])) (is_in_shapes (subject_of fs.contours ∷ []))
+      fs.points answers
 
 -- the contours of the subject are resolved, and the answers tell where each point lies in them, as one shape
 pub record TellWhere (fs : GivenFigures) (answers : List PointLocation) : Type 0 where
@@ -66,7 +69,8 @@ pub record TellWhere (fs : GivenFigures) (answers : List PointLocation) : Type 0
 -- the text answers the query on the figures
 abbrev pub Answers : GivenFigures → Query → List ℕ → Type 0
 Answers fs (Edges fill) text = (vs : List Vector) × AreEdges (paths_of fs) fill vs × (text ≡ edge_lines vs)
-Answers fs (Overlay query) text = (shapes : List (List (List Point))) × IsResultOfPaths (asked_by query) (paths_of fs) shapes × (text ≡ lines_of_shapes shapes)
+Answers fs (Overlay query) text = (shapes : List (List (List Point))) × IsResultOfPaths (asked_by query)
+    (paths_of fs) shapes × (text ≡ lines_of_shapes shapes)
 Answers fs Contains text = (answers : List Bool) × TellInside fs answers × (text ≡ flat_map truth_line answers)
 Answers fs Locate text = (answers : List PointLocation) × TellWhere fs answers × (text ≡ flat_map location_line answers)
 

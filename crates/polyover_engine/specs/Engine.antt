@@ -27,7 +27,8 @@ MayBeRefused bytes NotSettled = IsRefused bytes NotSettled
 MayBeRefused bytes TooManyEdges = IsRefused bytes TooManyEdges
 MayBeRefused bytes Failed = ⊥
 
--- the input is good, and asks about points, and the line with this number gives the first contour of the subject that is not resolved
+-- the input is good, and asks about points, and the line with this number gives the first contour of the subject that
+-- is not resolved
 pub record IsUnresolvedInput (bytes : List ℕ) (n : ℕ) : Type 0 where
   pub figures : GivenFigures
   pub query : Query
@@ -78,7 +79,8 @@ pub record StaysUnwritten {R W : Type 0} (reader : NotingReader R) (old new : No
   pub unwritten : new.writer.now ≡ old.writer.now
 
 -- an answer was written whole and flushed after its last byte, and no fault is noted
-pub record EndsWritten {R W : Type 0} (contents : W → Option (List ℕ)) (given : Option (List ℕ)) (reader : NotingReader R) (old new : NotingWriter W) : Type 0 where
+pub record EndsWritten {R W : Type 0} (contents : W → Option (List ℕ)) (given : Option (List ℕ))
+    (reader : NotingReader R) (old new : NotingWriter W) : Type 0 where
   pub read : reader.is_failed ≡ false
   pub no_fault : new.is_failed ≡ false
   pub flushed : new.is_flushed ≡ true
@@ -90,24 +92,31 @@ pub record FailsReading {R W : Type 0} (reader : NotingReader R) (old new : Noti
   pub unwritten : new.writer.now ≡ old.writer.now
 
 -- a fault of the writer is noted and none of the reader, and a beginning of an answer was written
-pub record FailsWriting {R W : Type 0} (contents : W → Option (List ℕ)) (given : Option (List ℕ)) (reader : NotingReader R) (old new : NotingWriter W) : Type 0 where
+pub record FailsWriting {R W : Type 0} (contents : W → Option (List ℕ)) (given : Option (List ℕ))
+    (reader : NotingReader R) (old new : NotingWriter W) : Type 0 where
   pub read : reader.is_failed ≡ false
   pub fault : new.is_failed ≡ true
   pub written : WritesBeginning given (contents old.writer.now) (contents new.writer.now)
 
--- how a run ends of a reader and a writer that note faults: with `Io` exactly where a fault is noted. A fault of the reader comes before all others;
--- then a bad line, with the whole input read; then a refusal, with all lines good, but for want of memory; then, with an answer, a fault of the writer
-abbrev pub EndsNoted : {R W : Type 0} → (R → Option (List ℕ)) → (W → Option (List ℕ)) → NotingReader R → NotingReader R → NotingWriter W → NotingWriter W
+-- how a run ends of a reader and a writer that note faults: with `Io` exactly where a fault is noted. A fault of the
+-- reader comes before all others; then a bad line, with the whole input read; then a refusal, with all lines good, but
+-- for want of memory; then, with an answer, a fault of the writer
+abbrev pub EndsNoted : {R W : Type 0} → (R → Option (List ℕ)) → (W → Option (List ℕ)) → NotingReader R →
+    NotingReader R → NotingWriter W → NotingWriter W
     → Exit → Type 0
 EndsNoted remaining contents r0 r1 w0 w1 Answered = EndsWritten contents (remaining r0.reader.now) r1 w0 w1
-EndsNoted remaining contents r0 r1 w0 w1 (Refused e) = StaysUnwritten r1 w0 w1 × IfSome (remaining r0.reader.now) (λ bytes. MayBeRefused bytes e)
-EndsNoted remaining contents r0 r1 w0 w1 (BadInput n) = StaysUnwritten r1 w0 w1 × IfSome (remaining r0.reader.now) (λ bytes. IsBadInput bytes n)
-EndsNoted remaining contents r0 r1 w0 w1 Io = FailsReading r1 w0 w1 ⊎ FailsWriting contents (remaining r0.reader.now) r1 w0 w1
+EndsNoted remaining contents r0 r1 w0 w1 (Refused e) = StaysUnwritten r1 w0 w1 × IfSome (remaining r0.reader.now)
+    (λ bytes. MayBeRefused bytes e)
+EndsNoted remaining contents r0 r1 w0 w1 (BadInput n) = StaysUnwritten r1 w0 w1 × IfSome (remaining r0.reader.now)
+    (λ bytes. IsBadInput bytes n)
+EndsNoted remaining contents r0 r1 w0 w1 Io = FailsReading r1 w0 w1 ⊎ FailsWriting contents
+    (remaining r0.reader.now) r1 w0 w1
 
 -- ---- of any reader and writer
 
--- given is what the reader had, and old and new are what the writer held before and after, each if it is told: an answer is
--- written whole; after a refusal, or for bad input, nothing is written; after a fault nothing is, or a beginning of an answer
+-- given is what the reader had, and old and new are what the writer held before and after, each if it is told: an
+-- answer is written whole; after a refusal, or for bad input, nothing is written; after a fault nothing is, or a
+-- beginning of an answer
 abbrev pub EndsAs : Option (List ℕ) → Option (List ℕ) → Option (List ℕ) → Exit → Type 0
 EndsAs given old new Answered = WritesAnswer given old new
 EndsAs given old new (Refused e) = Keeps old new × IfSome given (λ bytes. MayBeRefused bytes e)

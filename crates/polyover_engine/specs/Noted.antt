@@ -23,7 +23,8 @@ module _ {R : Type 0} (remaining : R → Option (List ℕ)) (old new : NotingRea
   -- one turn: bytes are read, or the read was interrupted, or it is a fault, which is noted
   abbrev pub TakesReadTurn : List ℕ → Turn → Type 0
   TakesReadTurn buf (Done n) = (n ≤ length buf) × Gives (length buf) (take n buf)
-  TakesReadTurn buf Interrupted = Keeps (remaining old.reader.now) (remaining new.reader.now) × (new.is_failed ≡ old.is_failed) × (old.turns ≡ new.turns + 1)
+  TakesReadTurn buf Interrupted = Keeps (remaining old.reader.now) (remaining new.reader.now)
+      × (new.is_failed ≡ old.is_failed) × (old.turns ≡ new.turns + 1)
   TakesReadTurn buf Failed = new.is_failed ≡ true
 
   -- all that the reader had was read, and no fault is noted
@@ -52,7 +53,8 @@ module _ {W : Type 0} (contents : W → Option (List ℕ)) (old new : NotingWrit
     pub taken : Appends (contents old.writer.now) (contents new.writer.now) []
     pub fault : new.is_failed ≡ true
 
-  -- one turn: a beginning of the text with a byte is written, or the write was interrupted, or it is a fault, which is noted
+  -- one turn: a beginning of the text with a byte is written, or the write was interrupted, or it is a fault, which is
+  -- noted
   abbrev pub TakesWriteTurn : List ℕ → Turn → Type 0
   TakesWriteTurn text (Done n) = ((0 < n) × (n ≤ length text)) × Takes (take n text)
   TakesWriteTurn text Interrupted = Takes []
@@ -66,14 +68,17 @@ module _ {W : Type 0} (contents : W → Option (List ℕ)) (old new : NotingWrit
 
   -- what was written is flushed, and no fault is noted; or one is
   abbrev pub EndsFlushing : Exit → Type 0
-  EndsFlushing Answered = Appends (contents old.writer.now) (contents new.writer.now) [] × (new.is_failed ≡ old.is_failed) × (new.is_flushed ≡ true)
+  EndsFlushing Answered = Appends (contents old.writer.now) (contents new.writer.now) []
+      × (new.is_failed ≡ old.is_failed) × (new.is_flushed ≡ true)
   EndsFlushing (Refused e) = ⊥
   EndsFlushing (BadInput n) = ⊥
   EndsFlushing Io = NotesFault
 
   -- the text is out and flushed, and no fault is noted; or one is, and a beginning of the text is out
   abbrev pub EndsWriting : List ℕ → Exit → Type 0
-  EndsWriting text Answered = Appends (contents old.writer.now) (contents new.writer.now) text × (new.is_failed ≡ old.is_failed) × (new.is_flushed ≡ true)
+  EndsWriting text Answered = Appends (contents old.writer.now) (contents new.writer.now) text
+      × (new.is_failed ≡ old.is_failed) × (new.is_flushed ≡ true)
   EndsWriting text (Refused e) = ⊥
   EndsWriting text (BadInput n) = ⊥
-  EndsWriting text Io = AppendsBeginning (contents old.writer.now) (contents new.writer.now) text × (new.is_failed ≡ true)
+  EndsWriting text Io = AppendsBeginning (contents old.writer.now) (contents new.writer.now) text
+      × (new.is_failed ≡ true)

@@ -70,7 +70,8 @@ fn overlay_shapes<A: Allocator + Clone>(
 ) -> Result<IntShapes<i64, A>, OverlayError>
     requires { All (λ c. AllInRange 4611686018427387903 c.points) (contour_paths (contours_at contours.now)) }
     ensures { MatchResult result
-        (λ v. IsResultOfPaths (asked_by query) (contour_paths (contours_at contours.now)) (plain_shapes (λ z. z) v.items))
+        (λ v. IsResultOfPaths (asked_by query) (contour_paths (contours_at contours.now))
+        (plain_shapes (λ z. z) v.items))
         (λ e. MayRefusePaths (contour_paths (contours_at contours.now)) e) }
 {
     let mut builder = with_contours(alloc, contours)?;

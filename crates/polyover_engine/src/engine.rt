@@ -15,8 +15,8 @@ use std::io::{Read, Write};
 
 /// Reads everything from the reader, and writes the answer to the writer.
 ///
-/// Faults are found in this order: the whole input is read, all its lines are parsed, the command runs, the whole answer is
-/// written. Want of memory may come in any of these steps but the last, in the place of what would follow.
+/// Faults are found in this order: the whole input is read, all its lines are parsed, the command runs, the whole
+/// answer is written. Want of memory may come in any of these steps but the last, in the place of what would follow.
 pub fn run<A: Allocator + Clone, Rd: Read, Wr: Write>(
     alloc: A,
     reader: &mut Rd,

@@ -21,7 +21,8 @@ impl<'a, W: Write> NotingWriter<'a, W> {
     /// The writer, with 2^64 - 1 turns, no fault noted, and not flushed.
     pub(crate) fn new(writer: &'a mut W) -> Self
         ensures same_writer { result.writer.ghost_name ≡ writer.entry.ghost_name }
-        ensures value { (result.writer.now ≡ writer.old) × (result.turns ≡ 2 ^ 64 - 1) × (result.is_failed ≡ false) × (result.is_flushed ≡ false) }
+        ensures value { (result.writer.now ≡ writer.old) × (result.turns ≡ 2 ^ 64 - 1) × (result.is_failed ≡ false)
+            × (result.is_flushed ≡ false) }
     {
         NotingWriter {
             writer,

@@ -5,7 +5,8 @@ use Rattle.overlay_arrange.specs.declared.options.ShapeType.TheVariants.{Subject
 use Rattle.overlay_arrange.specs.Paths.{GivenPath}
 use Rattle.overlay_geom.specs.Plane.{Point}
 use Rattle.polyover_text.specs.declared.query.Query.{Query}
-use Rattle.polyover_text.specs.Grammar.{Word, Line, shape_name, GivesContour, contour, GivesPoint, point, IsCommand, edges, overlay, contains, locate}
+use Rattle.polyover_text.specs.Grammar.{Word, Line, shape_name, GivesContour, contour, GivesPoint, point, IsCommand}
+use Rattle.polyover_text.specs.Grammar.{edges, overlay, contains, locate}
 use Rattle.polyover_text.specs.Statements.{SaysNothing}
 
 first_of_contour : (f : Word) (ws : Line) (c : GivenPath) → GivesContour (f ∷ ws) c → f ≡ shape_name c.shape_type
@@ -25,7 +26,8 @@ no_shape f subject clip Subject = subject
 no_shape f subject clip Clip = clip
 
 -- a line that begins with another word says nothing
-pub nothing_by_first_word : (l : Line) (f : Word) (ws : Line) → l ≡ f ∷ ws → f ≢ codes "subject" → f ≢ codes "clip" → f ≢ codes "point" → f ≢ codes "run"
+pub nothing_by_first_word : (l : Line) (f : Word) (ws : Line) → l ≡ f ∷ ws → f ≢ codes "subject" → f ≢ codes "clip" →
+    f ≢ codes "point" → f ≢ codes "run"
     → SaysNothing l
 nothing_by_first_word l f ws e subject clip points run = subst SaysNothing (sym e) (record {
   some_word = λ none. cc;

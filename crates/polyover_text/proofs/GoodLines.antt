@@ -1,11 +1,14 @@
--- Which line may follow good lines: a blank one always, a figure or the command while there is no command, and no other.
-use Rattle.std.proofs.Common.{◌≡◌, ℕ, suc, ◌+◌, List, [], ◌∷◌, ◌++◌, Option, Some, None, All, codes, length, length-append}
+-- Which line may follow good lines: a blank one always, a figure or the command while there is no command, and no
+-- other.
+use Rattle.std.proofs.Common.{◌≡◌, ℕ, suc, ◌+◌, List, [], ◌∷◌, ◌++◌, Option, Some, None, All, codes, length}
+use Rattle.std.proofs.Common.{length-append}
 use Rattle.std.proofs.Common.{get_or, refl, sym, ap, subst, ◌∙◌, ◌⊎◌, inl, inr, append_assoc, arith}
 use Rattle.std.proofs.lemmas.List.Elements.{All-push}
 use Rattle.std.proofs.lemmas.List.{get_or_push, get_or-append-add, same_from_push}
 use Rattle.overlay_arrange.specs.Paths.{GivenPath}
 use Rattle.polyover_text.specs.declared.query.Query.{Query}
-use Rattle.polyover_text.specs.Grammar.{Word, Line, shape_name, GivesContour, contour, GivesPoint, point, IsCommand, edges, overlay, contains, locate, Asks, IsGoodSoFar}
+use Rattle.polyover_text.specs.Grammar.{Word, Line, shape_name, GivesContour, contour, GivesPoint, point, IsCommand}
+use Rattle.polyover_text.specs.Grammar.{edges, overlay, contains, locate, Asks, IsGoodSoFar}
 use Rattle.polyover_text.specs.Grammar.{GivenFigures, no_figures, before_contours, AreFigures, none, blank}
 use Rattle.overlay_geom.specs.Plane.{Point}
 use Rattle.overlay_arrange.specs.declared.options.ShapeType.{ShapeType}
@@ -25,19 +28,23 @@ one_more_blank n ls fs (blank h) = blank (one_more_blank _ _ _ h)
 one_more_blank n ls fs (contour first h) = contour first (one_more_blank _ _ _ h)
 one_more_blank n ls fs (point first h) = point first (one_more_blank _ _ _ h)
 
-one_more_contour : (n : ℕ) (ls : List Line) (fs : GivenFigures) (l : Line) (c : GivenPath) (m : ℕ) → AreFigures n ls fs → GivesContour l c
+one_more_contour : (n : ℕ) (ls : List Line) (fs : GivenFigures) (l : Line) (c : GivenPath) (m : ℕ) →
+    AreFigures n ls fs → GivesContour l c
     → n + length ls ≡ m → AreFigures n (ls ++ l ∷ []) (after_contours fs m c)
 one_more_contour n ls fs l c m none last e =
     subst (λ k. AreFigures n (l ∷ []) (before_contours k c no_figures)) (omega (arith, e)) (contour last none)
 one_more_contour n ls fs l c m (blank h) last e = blank (one_more_contour (n + 1) _ _ l c m h last (omega (arith, e)))
-one_more_contour n ls fs l c m (contour first h) last e = contour first (one_more_contour (n + 1) _ _ l c m h last (omega (arith, e)))
-one_more_contour n ls fs l c m (point first h) last e = point first (one_more_contour (n + 1) _ _ l c m h last (omega (arith, e)))
+one_more_contour n ls fs l c m (contour first h) last e = contour first
+    (one_more_contour (n + 1) _ _ l c m h last (omega (arith, e)))
+one_more_contour n ls fs l c m (point first h) last e = point first
+    (one_more_contour (n + 1) _ _ l c m h last (omega (arith, e)))
 
 -- a point after the others
 abbrev pub after_points : GivenFigures → Point → GivenFigures
 after_points fs p = record fs { points = fs.points ++ p ∷ [] }
 
-pub one_more_point : (n : ℕ) (ls : List Line) (fs : GivenFigures) (l : Line) (p : Point) → AreFigures n ls fs → GivesPoint l p
+pub one_more_point : (n : ℕ) (ls : List Line) (fs : GivenFigures) (l : Line) (p : Point) → AreFigures n ls fs →
+    GivesPoint l p
     → AreFigures n (ls ++ l ∷ []) (after_points fs p)
 one_more_point n ls fs l p none last = point last none
 one_more_point n ls fs l p (blank h) last = blank (one_more_point _ _ _ l p h last)
@@ -48,7 +55,8 @@ one_more_point n ls fs l p (point first h) last = point first (one_more_point _ 
 all_blank : (ls : List Line) → All (λ l. l ≡ []) ls → All (λ l. l ≡ []) (ls ++ [] ∷ [])
 all_blank ls h = All-push (λ l. l ≡ []) ls [] h refl
 
-pub takes_blank : (ls : List Line) (fs : GivenFigures) (query : Option Query) (l : Line) → Give ls fs query → l ≡ [] → Give (ls ++ l ∷ []) fs query
+pub takes_blank : (ls : List Line) (fs : GivenFigures) (query : Option Query) (l : Line) → Give ls fs query → l ≡ [] →
+    Give (ls ++ l ∷ []) fs query
 takes_blank ls fs None l h e = subst (λ x. AreFigures 1 (ls ++ x ∷ []) fs) (sym e) (one_more_blank 1 ls fs h)
 takes_blank ls fs (Some query) l h e = record {
   before = h.before;
@@ -60,7 +68,8 @@ takes_blank ls fs (Some query) l h e = record {
   blank = subst (λ x. All (λ y. y ≡ []) (h.after ++ x ∷ [])) (sym e) (all_blank h.after h.blank);
 }
 
-pub takes_contour : (ls : List Line) (fs : GivenFigures) (l : Line) (c : GivenPath) (n : ℕ) → AreFigures 1 ls fs → GivesContour l c → n ≡ length ls + 1
+pub takes_contour : (ls : List Line) (fs : GivenFigures) (l : Line) (c : GivenPath) (n : ℕ) → AreFigures 1 ls fs →
+    GivesContour l c → n ≡ length ls + 1
     → AreFigures 1 (ls ++ l ∷ []) (after_contours fs n c)
 takes_contour ls fs l c n h last e = one_more_contour 1 ls fs l c n h last (omega (arith, e))
 
@@ -71,7 +80,8 @@ abbrev IsPlain : Line → Type 0
 IsPlain l = (l ≡ []) ⊎ (((c : GivenPath) × GivesContour l c) ⊎ ((p : Point) × GivesPoint l p))
 
 -- so is each line among figures
-among_figures : (n : ℕ) (before : List Line) (l : Line) (after : List Line) (fs : GivenFigures) → AreFigures n (before ++ l ∷ after) fs → IsPlain l
+among_figures : (n : ℕ) (before : List Line) (l : Line) (after : List Line) (fs : GivenFigures) →
+    AreFigures n (before ++ l ∷ after) fs → IsPlain l
 among_figures n [] l after fs (blank h) = inl refl
 among_figures n [] l after fs (contour first h) = inr (inl (_, first))
 among_figures n [] l after fs (point first h) = inr (inr (_, first))
@@ -108,30 +118,41 @@ command_begins l query contains = (_, refl)
 command_begins l query locate = (_, refl)
 
 command_is_not_plain : (l : Line) (query : Query) → IsCommand l query → ¬ (IsPlain l)
-command_is_not_plain l query h plain = let begins = command_begins l query h in run_is_not_plain begins.0 (subst IsPlain begins.1 plain)
+command_is_not_plain l query h plain = let begins = command_begins l query h in
+    run_is_not_plain begins.0 (subst IsPlain begins.1 plain)
 
 -- the last line of an input is blank, or its command, which figures alone precede
-last_from_parts : (ls before after : List Line) (l line : Line) (fs : GivenFigures) (query : Query) → ls ++ l ∷ [] ≡ before ++ line ∷ after
-    → AreFigures 1 before fs → IsCommand line query → All (λ x. x ≡ []) after → (l ≡ []) ⊎ (IsCommand l query × AreFigures 1 ls fs)
+last_from_parts : (ls before after : List Line) (l line : Line) (fs : GivenFigures) (query : Query) →
+    ls ++ l ∷ [] ≡ before ++ line ∷ after
+    → AreFigures 1 before fs → IsCommand line query → All (λ x. x ≡ []) after
+    → (l ≡ []) ⊎ (IsCommand l query × AreFigures 1 ls fs)
 last_from_parts ls before [] l line fs query parts figures command quiet =
     let same = same_from_push ls before l line parts in
     inr (subst (λ x. IsCommand x query) (sym same.1) command, subst (λ x. AreFigures 1 x fs) (sym same.0) figures)
 last_from_parts ls before (a ∷ after) l line fs query parts figures command quiet =
     let k = length after in
-    let lengths : length ls ≡ length before + suc k = omega (arith, ap length parts, length-append ls (l ∷ []), length-append before (line ∷ a ∷ after)) in
+    let lengths : length ls ≡ length before + suc k = omega (
+      arith,
+      ap length parts,
+      length-append ls (l ∷ []),
+      length-append before (line ∷ a ∷ after),
+    ) in
     let here : get_or (ls ++ l ∷ []) (length ls) l ≡ l = get_or_push ls l l (length ls) refl in
     let there : get_or (before ++ line ∷ a ∷ after) (length before + suc k) l ≡ get_or (a ∷ after) k l =
     get_or-append-add before (line ∷ a ∷ after) (suc k) l in
-    inl (sym here ∙ ap (λ xs. get_or xs (length ls) l) parts ∙ ap (λ n. get_or (before ++ line ∷ a ∷ after) n l) lengths ∙ there ∙ quiet k l (omega arith))
+    inl (sym here ∙ ap (λ xs. get_or xs (length ls) l) parts ∙ ap (λ n. get_or (before ++ line ∷ a ∷ after) n l) lengths
+    ∙ there ∙ quiet k l (omega arith))
 
 last_of_input : (ls : List Line) (l : Line) (fs : GivenFigures) (query : Query) → Asks (ls ++ l ∷ []) fs query
     → (l ≡ []) ⊎ (IsCommand l query × AreFigures 1 ls fs)
-last_of_input ls l fs query h = last_from_parts ls h.before h.after l h.line fs query h.parts h.figures h.command h.blank
+last_of_input ls l fs query h = last_from_parts ls h.before h.after l h.line fs query h.parts h.figures
+    h.command h.blank
 
 -- figures hold no command
 no_command_among : (ls : List Line) (fs gs : GivenFigures) (query : Query) → Asks ls fs query → AreFigures 1 ls gs → ⊥
 no_command_among ls fs gs query h figures =
-    command_is_not_plain h.line query h.command (among_figures 1 h.before h.line h.after gs (subst (λ x. AreFigures 1 x gs) h.parts figures))
+    command_is_not_plain h.line query h.command
+    (among_figures 1 h.before h.line h.after gs (subst (λ x. AreFigures 1 x gs) h.parts figures))
 
 not_plain : (l : Line) → SaysNothing l → ¬ (IsPlain l)
 not_plain l bad (inl e) = bad.some_word e
@@ -140,15 +161,20 @@ not_plain l bad (inr (inr h)) = bad.no_point h.0 h.1
 
 pub refuses_nothing : (ls : List Line) (l : Line) → SaysNothing l → ¬ (IsGoodSoFar (ls ++ l ∷ []))
 refuses_nothing ls l bad (inl h) = not_plain l bad (among_figures 1 ls l [] h.0 h.1)
-refuses_nothing ls l bad (inr h) = elim (last_of_input ls l h.0 h.1.0 h.1.1) [ inl e ↦ bad.some_word e | inr c ↦ bad.no_command h.1.0 c.0 ]
+refuses_nothing ls l bad (inr h) = elim (last_of_input ls l h.0 h.1.0 h.1.1)
+    [ inl e ↦ bad.some_word e | inr c ↦ bad.no_command h.1.0 c.0 ]
 
 -- the lines without the last are figures too
-before_last : (n : ℕ) (ls : List Line) (l : Line) (fs : GivenFigures) → AreFigures n (ls ++ l ∷ []) fs → (gs : GivenFigures) × AreFigures n ls gs
+before_last : (n : ℕ) (ls : List Line) (l : Line) (fs : GivenFigures) → AreFigures n (ls ++ l ∷ []) fs →
+    (gs : GivenFigures) × AreFigures n ls gs
 before_last n [] l fs h = (no_figures, none)
 before_last n (x ∷ ls) l fs (blank h) = let rest = before_last (n + 1) ls l _ h in (rest.0, blank rest.1)
 before_last n (x ∷ ls) l fs (contour first h) = let rest = before_last (n + 1) ls l _ h in (_, contour first rest.1)
 before_last n (x ∷ ls) l fs (point first h) = let rest = before_last (n + 1) ls l _ h in (_, point first rest.1)
 
-pub refuses_word : (ls : List Line) (fs : GivenFigures) (query : Query) (l : Line) → Asks ls fs query → ¬ (l ≡ []) → ¬ (IsGoodSoFar (ls ++ l ∷ []))
-refuses_word ls fs query l h some (inl g) = let rest = before_last 1 ls l g.0 g.1 in no_command_among ls fs rest.0 query h rest.1
-refuses_word ls fs query l h some (inr g) = elim (last_of_input ls l g.0 g.1.0 g.1.1) [ inl e ↦ some e | inr c ↦ no_command_among ls fs g.0 query h c.1 ]
+pub refuses_word : (ls : List Line) (fs : GivenFigures) (query : Query) (l : Line) → Asks ls fs query → ¬ (l ≡ []) →
+    ¬ (IsGoodSoFar (ls ++ l ∷ []))
+refuses_word ls fs query l h some (inl g) = let rest = before_last 1 ls l g.0 g.1 in
+    no_command_among ls fs rest.0 query h rest.1
+refuses_word ls fs query l h some (inr g) = elim (last_of_input ls l g.0 g.1.0 g.1.1)
+    [ inl e ↦ some e | inr c ↦ no_command_among ls fs g.0 query h c.1 ]

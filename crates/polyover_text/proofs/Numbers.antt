@@ -23,7 +23,8 @@ first_of_numeral digits h = digit_at digits 0 h.1 h.0
 -- a number is a text
 pub number_is_text : (word : Word) (c : ℤ) → IsNumber word c → IsUtf8 word
 number_is_text digits c (plain h) = IsUtf8-from_ascii digits (IsAscii-from_digits digits h.1)
-number_is_text (b ∷ digits) c (negative h) = IsUtf8-from_ascii (b ∷ digits) (IsAscii-cons b digits (lit< tt) (IsAscii-from_digits digits h.1))
+number_is_text (b ∷ digits) c (negative h) = IsUtf8-from_ascii (b ∷ digits)
+    (IsAscii-cons b digits (lit< tt) (IsAscii-from_digits digits h.1))
 
 -- what a number says of its word
 pub record IsSignedNumeral (word : Word) (c : ℤ) : Type 0 where
@@ -38,7 +39,8 @@ no_sign_dropped word no_minus no_plus =
     let plus : (get_or word 0 0 == 43) ≡ false = grind (arith, nat_tests) in
     rw (minus, plus) refl
 
-plain_value : (word : Word) → get_or word 0 0 ≢ 45 → get_or word 0 0 ≢ 43 → signed_digits_value 10 word ≡ pos (digits_value 10 word)
+plain_value : (word : Word) → get_or word 0 0 ≢ 45 → get_or word 0 0 ≢ 43 →
+    signed_digits_value 10 word ≡ pos (digits_value 10 word)
 plain_value word no_minus no_plus =
     let minus : (get_or word 0 0 == 45) ≡ false = grind (arith, nat_tests) in
     let plus : (get_or word 0 0 == 43) ≡ false = grind (arith, nat_tests) in
@@ -67,7 +69,8 @@ plain_numeral word c h no_minus =
 pub numeral_is_number : (word : Word) (c : ℤ) → IsSignedNumeral word c → IsNumber word c
 numeral_is_number [] c h = absurd (omega (arith, h.numeral.0))
 numeral_is_number (b ∷ digits) c h = elim (cases_eq b 45) [
-  | inl minus ↦ subst (λ x. IsNumber (x ∷ digits) c) (sym minus) (negative_numeral digits c (subst (λ x. IsSignedNumeral (x ∷ digits) c) minus h))
+  | inl minus ↦ subst (λ x. IsNumber (x ∷ digits) c) (sym minus)
+      (negative_numeral digits c (subst (λ x. IsSignedNumeral (x ∷ digits) c) minus h))
   | inr no_minus ↦ plain_numeral (b ∷ digits) c h no_minus
 ]
 
@@ -86,7 +89,8 @@ plus_begins_no_number word text same test c h =
 pub parsed_is_number : (word text : List ℕ) (c : ℤ) → text ≡ word → get_or text 0 0 ≢ 43
     → IsNumeral 10 (without_leading_sign text) → c ≡ signed_digits_value 10 text → IsNumber word c
 parsed_is_number word text c same no_plus digits value =
-    subst (λ w. IsNumber w c) same (numeral_is_number text c (record { no_plus = no_plus; numeral = digits; value = value }))
+    subst (λ w. IsNumber w c) same
+    (numeral_is_number text c (record { no_plus = no_plus; numeral = digits; value = value }))
 
 -- ---- coordinates
 

@@ -21,7 +21,8 @@ one_more_set ws old new left mid rest w h next sets = record {
 }
 
 -- where no word is left, the options so far are those that the words set
-pub all_set : (ws : Line) (options : OutputOptions) (left : Line) → HaveSet ws options left → left ≡ [] → SetOptions default_output ws options
+pub all_set : (ws : Line) (options : OutputOptions) (left : Line) → HaveSet ws options left → left ≡ [] →
+    SetOptions default_output ws options
 all_set ws options left h ended = (h.same options).1 (subst (λ l. SetOptions options l options) (sym ended) none)
 
 -- words that set no options are of no options
@@ -41,7 +42,8 @@ after_keep : (old o : OutputOptions) (ws : Line) → SetOptions old (codes "keep
 after_keep old o ws (keep e h) = (e, h)
 
 pub turned_clockwise : (old : OutputOptions) (w : Word) (ws : Line) (o : Option OutputOptions) → w ≡ codes "clockwise"
-    → MatchOption o (old.output_direction ≡ Clockwise) (λ new. (old.output_direction ≡ CounterClockwise) × (new ≡ record old { output_direction = Clockwise }))
+    → MatchOption o (old.output_direction ≡ Clockwise)
+    (λ new. (old.output_direction ≡ CounterClockwise) × (new ≡ record old { output_direction = Clockwise }))
     → MatchOption o (SetsNothing old (w ∷ ws)) (λ new. SetsOption old (w ∷ ws) new ws)
 turned_clockwise old w ws None named set =
     subst (λ v. SetsNothing old (v ∷ ws)) (sym named) (λ o h. let e = (after_clockwise old o ws h).0 in cc)

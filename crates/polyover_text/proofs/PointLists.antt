@@ -16,7 +16,8 @@ pub no_points : (ws : Line) → HasPoints ws [] ws
 no_points ws = record { sound = λ ps h. h; complete = λ ps h. (ps, h) }
 
 -- what words after two coordinates are
-tail_points : (v w : Word) (ws : Line) (ps : List Point) → ArePoints (v ∷ w ∷ ws) ps → (qs : List Point) × ArePoints ws qs
+tail_points : (v w : Word) (ws : Line) (ps : List Point) → ArePoints (v ∷ w ∷ ws) ps →
+    (qs : List Point) × ArePoints ws qs
 tail_points v w ws ps (more x y h) = (_, h)
 
 -- a point pushed, and then others
@@ -30,20 +31,24 @@ pub one_more_point : (ws : Line) (so_far : List (IntPoint ℤ)) (rest : Line) (p
     → HasPoints ws (points_at so_far) rest → IsFirstPoint rest p left → HasPoints ws (points_at (so_far ++ p ∷ [])) left
 one_more_point ws so_far rest p left h first = record {
   sound = λ ps others. subst (ArePoints ws) (pushed_points so_far p ps)
-      (h.sound (record { x = p.x; y = p.y } ∷ ps) (subst (λ l. ArePoints l (record { x = p.x; y = p.y } ∷ ps)) (sym first.parts)
+      (h.sound (record { x = p.x; y = p.y } ∷ ps) (subst (λ l. ArePoints l (record { x = p.x; y = p.y } ∷ ps))
+      (sym first.parts)
       (more first.x first.y others)));
   complete = λ ps all. let remaining = h.complete ps all in
       tail_points first.v first.w left remaining.0 (subst (λ l. ArePoints l remaining.0) first.parts remaining.1);
 }
 
 -- where no word is left, the points so far are those of the words
-pub all_points : (ws : Line) (so_far : List Point) (rest : Line) → HasPoints ws so_far rest → rest ≡ [] → ArePoints ws so_far
-all_points ws so_far rest h e = subst (ArePoints ws) (append-nil so_far) (h.sound [] (subst (λ l. ArePoints l []) (sym e) none))
+pub all_points : (ws : Line) (so_far : List Point) (rest : Line) → HasPoints ws so_far rest → rest ≡ [] →
+    ArePoints ws so_far
+all_points ws so_far rest h e = subst (ArePoints ws) (append-nil so_far)
+    (h.sound [] (subst (λ l. ArePoints l []) (sym e) none))
 
 -- ---- one point
 
 -- two coordinates and no more are a point
-pub point_given : (ws rest : Line) (p : IntPoint ℤ) → IsFirstPoint ws p rest → rest ≡ [] → GivesPoint (codes "point" ∷ ws) (plain_point (λ z. z) p)
+pub point_given : (ws rest : Line) (p : IntPoint ℤ) → IsFirstPoint ws p rest → rest ≡ [] →
+    GivesPoint (codes "point" ∷ ws) (plain_point (λ z. z) p)
 point_given ws rest p first ended =
     let parts : ws ≡ first.v ∷ first.w ∷ [] = first.parts ∙ ap (λ l. first.v ∷ first.w ∷ l) ended in
     subst (λ l. GivesPoint (codes "point" ∷ l) (plain_point (λ z. z) p)) (sym parts) (point first.x first.y)
@@ -55,10 +60,12 @@ one_point ws p (point x y) = more x y none
 two_words : (ws : Line) (p : Point) → GivesPoint (codes "point" ∷ ws) p → (v : Word) × ((w : Word) × (ws ≡ v ∷ w ∷ []))
 two_words ws p (point x y) = (_, (_, refl))
 
-pub no_point : (ws : Line) → ((ps : List Point) → ¬ (ArePoints ws ps)) → (p : Point) → ¬ (GivesPoint (codes "point" ∷ ws) p)
+pub no_point : (ws : Line) → ((ps : List Point) → ¬ (ArePoints ws ps)) →
+    (p : Point) → ¬ (GivesPoint (codes "point" ∷ ws) p)
 no_point ws bad p h = bad (p ∷ []) (one_point ws p h)
 
-pub words_left_over : (ws rest others : Line) (next : Word) (p : IntPoint ℤ) → IsFirstPoint ws p rest → rest ≡ next ∷ others → (q : Point)
+pub words_left_over : (ws rest others : Line) (next : Word) (p : IntPoint ℤ) → IsFirstPoint ws p rest →
+    rest ≡ next ∷ others → (q : Point)
     → ¬ (GivesPoint (codes "point" ∷ ws) q)
 words_left_over ws rest others next p first left q h =
     let two = two_words ws q h in

@@ -1,5 +1,6 @@
 -- What the program holds of the lines so far, when it takes one more line or refuses it.
-use Rattle.std.proofs.Common.{◌≡◌, ℕ, ◌+◌, ℤ, List, [], ◌∷◌, ◌++◌, Option, Some, None, map, length, refl, sym, ap, subst, ◌∙◌}
+use Rattle.std.proofs.Common.{◌≡◌, ℕ, ◌+◌, ℤ, List, [], ◌∷◌, ◌++◌, Option, Some, None, map, length, refl, sym, ap}
+use Rattle.std.proofs.Common.{subst, ◌∙◌}
 use Rattle.std.proofs.lemmas.List.{map_push}
 use Rattle.polyover_text.specs.declared.query.Query.{Query}
 use Rattle.polyover_text.specs.declared.figures.Figures.{Figures}
@@ -7,7 +8,8 @@ use Rattle.polyover_text.specs.declared.figures.NumberedContour.{NumberedContour
 use Rattle.polyover_text.specs.declared.input.Reading.{Reading}
 use Rattle.polyover_text.specs.declared.statement.Statement.{Statement}
 use Rattle.polyover_text.specs.declared.statement.Statement.TheVariants.{Blank, Contour, Point, Run}
-use Rattle.polyover_text.specs.Grammar.{Line, GivesContour, contour, GivesPoint, point, IsCommand, edges, overlay, contains, locate, AreFigures}
+use Rattle.polyover_text.specs.Grammar.{Line, GivesContour, contour, GivesPoint, point, IsCommand, edges, overlay}
+use Rattle.polyover_text.specs.Grammar.{contains, locate, AreFigures}
 use Rattle.overlay_geom.specs.Points.{plain_point}
 use Rattle.overlay_geom.specs.declared.point.IntPoint.{IntPoint}
 use Rattle.polyover_text.specs.Inputs.{Give, RefusesLine}
@@ -34,27 +36,34 @@ has_word l (Point p) says other e = point_has_word l (plain_point (λ z. z) p) s
 has_word l (Run query) says other e = command_has_word l query says e
 
 -- after the command no word may come
-pub refuses_after_command : {A : Type 0} (l : Line) (r : Reading A) (s : Statement A) (query : Query) → Says l s → (s ≡ Blank → ⊥)
+pub refuses_after_command : {A : Type 0} (l : Line) (r : Reading A) (s : Statement A) (query : Query) → Says l s →
+    (s ≡ Blank → ⊥)
     → r.query ≡ Some query → RefusesLine l r
 refuses_after_command l r s query says other held = record {
-  refuses = λ ls h. refuses_word ls (figures_at r.figures) query l (subst (Give ls (figures_at r.figures)) held h) (has_word l s says other);
+  refuses = λ ls h. refuses_word ls (figures_at r.figures) query l (subst (Give ls (figures_at r.figures)) held h)
+      (has_word l s says other);
 }
 
 -- a contour is held last
-pub takes_pushed : {A : Type 0} (ls : List Line) (l : Line) (old new : Figures A) (c : NumberedContour A) (n : ℕ) (query : Option Query) → query ≡ None
-    → new ≡ record old { contours = new.contours } → new.contours.items ≡ old.contours.items ++ c ∷ [] → c.line ≡ n → n ≡ length ls + 1
+pub takes_pushed : {A : Type 0} (ls : List Line) (l : Line) (old new : Figures A) (c : NumberedContour A) (n : ℕ)
+    (query : Option Query) → query ≡ None
+    → new ≡ record old { contours = new.contours } → new.contours.items ≡ old.contours.items ++ c ∷ [] → c.line ≡ n
+    → n ≡ length ls + 1
     → GivesContour l (path_at c.contour) → Give ls (figures_at old) query → Give (ls ++ l ∷ []) (figures_at new) query
 takes_pushed ls l old new c n query none kept pushed numbered next says h =
     let held = sym (ap contours_at pushed ∙ map_push contour_at old.contours.items c) in
     subst (λ q. Give (ls ++ l ∷ []) (figures_at new) q) (sym none)
     (subst (λ fs. AreFigures 1 (ls ++ l ∷ []) (figures_at fs)) (sym kept)
     (subst (λ cs. AreFigures 1 (ls ++ l ∷ []) (record (figures_at old) { contours = cs })) held
-    (takes_contour ls (figures_at old) l (path_at c.contour) c.line (subst (Give ls (figures_at old)) none h) says (numbered ∙ next))))
+    (takes_contour ls (figures_at old) l (path_at c.contour) c.line (subst (Give ls (figures_at old)) none h) says
+    (numbered ∙ next))))
 
 -- a point is held last
-pub takes_point : {A : Type 0} (ls : List Line) (l : Line) (old new : Figures A) (p : IntPoint ℤ) (query : Option Query) → query ≡ None
+pub takes_point : {A : Type 0} (ls : List Line) (l : Line) (old new : Figures A) (p : IntPoint ℤ)
+    (query : Option Query) → query ≡ None
     → new ≡ record old { points = new.points } → new.points.items ≡ old.points.items ++ p ∷ []
-    → GivesPoint l (plain_point (λ z. z) p) → Give ls (figures_at old) query → Give (ls ++ l ∷ []) (figures_at new) query
+    → GivesPoint l (plain_point (λ z. z) p) → Give ls (figures_at old) query
+    → Give (ls ++ l ∷ []) (figures_at new) query
 takes_point ls l old new p query none kept pushed says h =
     let held = sym (ap (map (plain_point (λ z. z))) pushed ∙ map_push (plain_point (λ z. z)) old.points.items p) in
     subst (λ q. Give (ls ++ l ∷ []) (figures_at new) q) (sym none)

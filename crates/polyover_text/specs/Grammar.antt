@@ -9,7 +9,8 @@ use Rattle.overlay_geom.specs.Plane.{Point}
 use Rattle.overlay_arrange.specs.declared.fill_rule.FillRule.{FillRule}
 use Rattle.overlay_arrange.specs.declared.fill_rule.FillRule.TheVariants.{EvenOdd, NonZero, Positive, Negative}
 use Rattle.overlay_arrange.specs.declared.overlay_rule.OverlayRule.{OverlayRule}
-use Rattle.overlay_arrange.specs.declared.overlay_rule.OverlayRule.TheVariants.{Subject as OfSubject, Clip as OfClip, Intersect, Union}
+use Rattle.overlay_arrange.specs.declared.overlay_rule.OverlayRule.TheVariants.{Subject as OfSubject, Clip as OfClip}
+use Rattle.overlay_arrange.specs.declared.overlay_rule.OverlayRule.TheVariants.{Intersect, Union}
 use Rattle.overlay_arrange.specs.declared.overlay_rule.OverlayRule.TheVariants.{Difference, InverseDifference, Xor}
 use Rattle.overlay_arrange.specs.declared.options.ContourDirection.TheVariants.{CounterClockwise, Clockwise}
 use Rattle.overlay_arrange.specs.declared.options.ShapeType.{ShapeType}
@@ -62,7 +63,8 @@ pub record IsArea (word : Word) (n : ℕ) : Type 0 where
 -- the words are the points' coordinates, x before y
 pub data ArePoints : List Word → List Point → Type 0 where
   none : ArePoints [] []
-  more : {v w : Word} {x y : ℤ} {ws : List Word} {ps : List Point} → IsCoordinate v x → IsCoordinate w y → ArePoints ws ps
+  more : {v w : Word} {x y : ℤ} {ws : List Word} {ps : List Point} → IsCoordinate v x → IsCoordinate w y →
+      ArePoints ws ps
       → ArePoints (v ∷ w ∷ ws) (record { x = x; y = y } ∷ ps)
 
 -- ---- contours
@@ -81,7 +83,8 @@ pub data GivesContour : Line → GivenPath → Type 0 where
 
 -- the line gives a point: `point x y`
 pub data GivesPoint : Line → Point → Type 0 where
-  point : {v w : Word} {x y : ℤ} → IsCoordinate v x → IsCoordinate w y → GivesPoint (codes "point" ∷ v ∷ w ∷ []) (record { x = x; y = y })
+  point : {v w : Word} {x y : ℤ} → IsCoordinate v x → IsCoordinate w y → GivesPoint (codes "point" ∷ v ∷ w ∷ [])
+      (record { x = x; y = y })
 
 -- ---- the command
 
@@ -108,8 +111,9 @@ default_output = record {
   min_output_area = None;
 }
 
--- the words, read from left to right, set options that were not set, one after another, until these options are set: `clockwise` turns
--- outlines clockwise, `keep` keeps output points on one line, and `min` with a number sets the minimum area
+-- the words, read from left to right, set options that were not set, one after another, until these options are set:
+-- `clockwise` turns outlines clockwise, `keep` keeps output points on one line, and `min` with a number sets the
+-- minimum area
 pub data SetOptions : OutputOptions → List Word → OutputOptions → Type 0 where
   none : {o : OutputOptions} → SetOptions o [] o
   clockwise : {old o : OutputOptions} {ws : List Word} → old.output_direction ≡ CounterClockwise
@@ -119,12 +123,14 @@ pub data SetOptions : OutputOptions → List Word → OutputOptions → Type 0 w
   min : {old o : OutputOptions} {w : Word} {n : ℕ} {ws : List Word} → old.min_output_area ≡ None → IsArea w n
       → SetOptions (record old { min_output_area = Some n }) ws o → SetOptions old (codes "min" ∷ w ∷ ws) o
 
--- the line asks for this: `run edges FILL` for the edges under a fill rule, `run overlay RULE FILL OPT..` for the shapes of an overlay,
--- `run contains` for whether each point is inside the subject, `run locate` for where each point lies in it
+-- the line asks for this: `run edges FILL` for the edges under a fill rule, `run overlay RULE FILL OPT..` for the
+-- shapes of an overlay, `run contains` for whether each point is inside the subject, `run locate` for where each point
+-- lies in it
 pub data IsCommand : Line → Query → Type 0 where
   edges : {fill : FillRule} → IsCommand (codes "run" ∷ codes "edges" ∷ fill_name fill ∷ []) (Edges fill)
   overlay : {query : OverlayQuery} {ws : List Word} → SetOptions default_output ws query.output
-      → IsCommand (codes "run" ∷ codes "overlay" ∷ rule_name query.overlay_rule ∷ fill_name query.fill_rule ∷ ws) (Overlay query)
+      → IsCommand (codes "run" ∷ codes "overlay" ∷ rule_name query.overlay_rule ∷ fill_name query.fill_rule ∷ ws)
+      (Overlay query)
   contains : IsCommand (codes "run" ∷ codes "contains" ∷ []) Contains
   locate : IsCommand (codes "run" ∷ codes "locate" ∷ []) Locate
 
@@ -163,9 +169,11 @@ before_points p fs = record fs { points = p ∷ fs.points }
 pub data AreFigures : ℕ → List Line → GivenFigures → Type 0 where
   none : {n : ℕ} → AreFigures n [] no_figures
   blank : {n : ℕ} {ls : List Line} {fs : GivenFigures} → AreFigures (n + 1) ls fs → AreFigures n ([] ∷ ls) fs
-  contour : {n : ℕ} {l : Line} {c : GivenPath} {ls : List Line} {fs : GivenFigures} → GivesContour l c → AreFigures (n + 1) ls fs
+  contour : {n : ℕ} {l : Line} {c : GivenPath} {ls : List Line} {fs : GivenFigures} → GivesContour l c →
+      AreFigures (n + 1) ls fs
       → AreFigures n (l ∷ ls) (before_contours n c fs)
-  point : {n : ℕ} {l : Line} {p : Point} {ls : List Line} {fs : GivenFigures} → GivesPoint l p → AreFigures (n + 1) ls fs
+  point : {n : ℕ} {l : Line} {p : Point} {ls : List Line} {fs : GivenFigures} → GivesPoint l p →
+      AreFigures (n + 1) ls fs
       → AreFigures n (l ∷ ls) (before_points p fs)
 
 -- the lines, counted from 1, give figures, then one command, and then no word
@@ -182,9 +190,11 @@ pub record Asks (ls : List Line) (fs : GivenFigures) (query : Query) : Type 0 wh
 
 -- the lines may begin an input: figures, or figures, the command and blank lines
 abbrev pub IsGoodSoFar : List Line → Type 0
-IsGoodSoFar ls = ((fs : GivenFigures) × AreFigures 1 ls fs) ⊎ ((fs : GivenFigures) × ((query : Query) × Asks ls fs query))
+IsGoodSoFar ls = ((fs : GivenFigures) × AreFigures 1 ls fs)
+    ⊎ ((fs : GivenFigures) × ((query : Query) × Asks ls fs query))
 
 -- the first bad line has this number, counted from 1; where a command is missing, it is the one after the last
 pub data IsFirstBad : List Line → ℕ → Type 0 where
-  bad : {ls : List Line} {i : ℕ} → i < length ls → IsGoodSoFar (take i ls) → ¬ IsGoodSoFar (take (i + 1) ls) → IsFirstBad ls (i + 1)
+  bad : {ls : List Line} {i : ℕ} → i < length ls → IsGoodSoFar (take i ls) → ¬ IsGoodSoFar (take (i + 1) ls) →
+      IsFirstBad ls (i + 1)
   missing : {ls : List Line} {fs : GivenFigures} → AreFigures 1 ls fs → IsFirstBad ls (length ls + 1)

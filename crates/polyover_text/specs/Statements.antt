@@ -10,7 +10,8 @@ use Rattle.polyover_text.specs.declared.figures.Figures.{Figures}
 use Rattle.polyover_text.specs.declared.figures.NumberedContour.{NumberedContour}
 use Rattle.polyover_text.specs.declared.statement.Statement.{Statement}
 use Rattle.polyover_text.specs.declared.statement.Statement.TheVariants.{Blank, Contour, Point, Run}
-use Rattle.polyover_text.specs.Grammar.{Line, GivesContour, GivesPoint, IsCommand, shape_name, GivenContour, GivenFigures}
+use Rattle.polyover_text.specs.Grammar.{Line, GivesContour, GivesPoint, IsCommand, shape_name, GivenContour}
+use Rattle.polyover_text.specs.Grammar.{GivenFigures}
 use Rattle.polyover_text.specs.Points.{points_at}
 use Rattle.polyover_text.specs.declared.line_error.LineError.{LineError}
 use Rattle.polyover_text.specs.declared.line_error.LineError.TheVariants.{Memory, Bad}
@@ -28,7 +29,12 @@ contours_at cs = map contour_at cs
 
 -- the figures that the program holds
 abbrev pub figures_at : {A : Type 0} → Figures A → GivenFigures
-figures_at fs = record { contours = contours_at fs.contours.items; lines = map (λ ps. points_at ps.items) fs.lines.items; points = points_at fs.points.items }
+figures_at fs = record {
+  contours = contours_at fs.contours.items;
+  lines = map (λ ps. points_at ps.items)
+      fs.lines.items;
+  points = points_at fs.points.items;
+}
 
 -- the line says this
 abbrev pub Says : {A : Type 0} → Line → Statement A → Type 0

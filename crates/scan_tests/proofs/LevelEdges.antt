@@ -1,5 +1,7 @@
 -- Level edges at different heights have no point in common.
-use Rattle.std.proofs.Common.{◌≡◌, ⊎_elim, ℕ, ◌+◌, ◌≤◌, false, ◌&&◌, nat_eq, List, [], ◌∷◌, ◌++◌, get_or, Contains, Option, None, Some, ℤ, pos, ◌+ℤ◌, ◌*ℤ◌, ◌<ℤ◌, ◌≤ℤ◌, int_lt, refl, sym, ap, ◌∙◌, subst, arith}
+use Rattle.std.proofs.Common.{◌≡◌, ⊎_elim, ℕ, ◌+◌, ◌≤◌, false, ◌&&◌, nat_eq, List, [], ◌∷◌, ◌++◌, get_or, Contains}
+use Rattle.std.proofs.Common.{Option, None, Some, ℤ, pos, ◌+ℤ◌, ◌*ℤ◌, ◌<ℤ◌, ◌≤ℤ◌, int_lt, refl, sym, ap, ◌∙◌, subst}
+use Rattle.std.proofs.Common.{arith}
 use Rattle.std.proofs.lemmas.Int.{ints}
 use Rattle.std.specs.Ordering.{int_eq}
 use Rattle.std.proofs.lemmas.Bool.{or_left, both_ways, false_from_ne_true, eq-eqb}
@@ -15,7 +17,8 @@ use Rattle.overlay_geom.proofs.Signs.{linear, eq_of_mul-eq, mul-lt, le_of_mul-le
 use Rattle.overlay_plane.proofs.Tests.{test_from_lt}
 use Rattle.overlay_plane.proofs.Under.{covers_to}
 use Rattle.scan_tests.specs.LevelEdges.{level_edge, upright_edge, IsLevelAt, IsLevelSweep}
-use Rattle.overlay_scan.specs.Scan.{Sweep, live_at, moved_to, IsOver, IsSweep, IsPutIn, MayMoveTo, IsAsked, MeetsOthers, IsNewAmong}
+use Rattle.overlay_scan.specs.Scan.{Sweep, live_at, moved_to, IsOver, IsSweep, IsPutIn, MayMoveTo, IsAsked, MeetsOthers}
+use Rattle.overlay_scan.specs.Scan.{IsNewAmong}
 use Rattle.overlay_scan.proofs.PutIn.{All-with}
 
 -- a number between one and itself
@@ -27,7 +30,8 @@ between_same z u between = ⊎_elim
 -- the ordinate of a point on a level edge
 level_point : (e : Edge) (h : ℤ) (p : PlanePoint) → e.a.y ≡ h → e.b.y ≡ h → IsOn e p → h *ℤ p.d ≡ p.y
 level_point e h p a b on = between_same p.y (h *ℤ p.d)
-    (subst (λ z. IsBetween p.y (h *ℤ p.d) (z *ℤ p.d)) b (subst (λ z. IsBetween p.y (z *ℤ p.d) (e.b.y *ℤ p.d)) a on.in_y))
+    (subst (λ z. IsBetween p.y (h *ℤ p.d) (z *ℤ p.d)) b
+    (subst (λ z. IsBetween p.y (z *ℤ p.d) (e.b.y *ℤ p.d)) a on.in_y))
 
 -- so two at different heights have none in common
 apart_meet : (e f : Edge) (g h : ℤ) → e.a.y ≡ g → e.b.y ≡ g → f.a.y ≡ h → f.b.y ≡ h → ¬ (g ≡ h) → MeetInEnds e f
@@ -48,17 +52,20 @@ still_before None x y later before = tt
 still_before (Some z) x y later before = omega (arith, ints)
 
 reached_itself : (o : Option ℤ) (y : ℕ) → o ≡ Some (pos y) → IfSome o (λ z. z ≤ℤ pos y)
-reached_itself o y is = subst (λ o. IfSome o (λ z. z ≤ℤ pos y)) (sym is) (let same : pos y ≤ℤ pos y = omega (arith, ints) in same)
+reached_itself o y is = subst (λ o. IfSome o (λ z. z ≤ℤ pos y)) (sym is)
+    (let same : pos y ≤ℤ pos y = omega (arith, ints) in same)
 
 -- no whole number lies between one and the next
-none_between : (h k d : ℤ) → pos 0 <ℤ d → ¬ (h ≡ k) → ¬ (h +ℤ pos 1 ≡ k) → (h *ℤ d) ≤ℤ (k *ℤ d) → (k *ℤ d) ≤ℤ ((h +ℤ pos 1) *ℤ d) → ⊥
+none_between : (h k d : ℤ) → pos 0 <ℤ d → ¬ (h ≡ k) → ¬ (h +ℤ pos 1 ≡ k) → (h *ℤ d) ≤ℤ (k *ℤ d) →
+    (k *ℤ d) ≤ℤ ((h +ℤ pos 1) *ℤ d) → ⊥
 none_between h k d positive below above from to =
     let low = le_of_mul-le d h k positive (rw (*ℤ_comm d h, *ℤ_comm d k) from) in
     let high = le_of_mul-le d k (h +ℤ pos 1) positive (rw (*ℤ_comm d k, *ℤ_comm d (h +ℤ pos 1)) to) in
     absurd (omega (arith, ints))
 
 -- a vertical edge from a height to the next one meets no level edge at another height
-upright_meets : (x h : ℕ) (f : Edge) (k : ℤ) → f.a.y ≡ k → f.b.y ≡ k → ¬ (pos h ≡ k) → ¬ (pos (h + 1) ≡ k) → MeetInEnds (upright_edge x h) f
+upright_meets : (x h : ℕ) (f : Edge) (k : ℤ) → f.a.y ≡ k → f.b.y ≡ k → ¬ (pos h ≡ k) → ¬ (pos (h + 1) ≡ k) →
+    MeetInEnds (upright_edge x h) f
 upright_meets x h f k fa fb below above p common =
     let level = level_point f k p fa fb common.1 in
     absurd (⊎_elim
@@ -73,7 +80,8 @@ upright_meets x h f k fa fb below above p common =
     next : (n : ℕ) → pos (n + 1) ≡ pos n +ℤ pos 1
     next n = omega (arith, ints)
 
-module _ {V : Type 0} (limit x y end : ℕ) (hs : List ℕ) (s : Sweep V) (levels : IsLevelSweep limit x hs s) (later : x ≤ y) where
+module _ {V : Type 0} (limit x y end : ℕ) (hs : List ℕ) (s : Sweep V) (levels : IsLevelSweep limit x hs s)
+    (later : x ≤ y) where
   live : All (λ f. IsLevelAt hs f.edge) (live_at (pos y) s.entries)
   live = All-filter (λ f. int_lt (pos y) f.edge.b.x) (λ f. IsLevelAt hs f.edge) s.entries levels.entries
 
@@ -90,7 +98,8 @@ module _ {V : Type 0} (limit x y end : ℕ) (hs : List ℕ) (s : Sweep V) (level
   }
 
   -- the same of an abscissa that is given by an equation
-  pub moved_on : (new : Sweep V) (z : ℤ) → z ≡ pos y → new ≡ moved_to z s → IsSweep limit new → IsLevelSweep limit y hs new
+  pub moved_on : (new : Sweep V) (z : ℤ) → z ≡ pos y → new ≡ moved_to z s → IsSweep limit new →
+      IsLevelSweep limit y hs new
   moved_on new z z_is is held = level_moved new (subst (λ z. new ≡ moved_to z s) z_is is) held
 
   module _ (h : ℕ) (free : list_any (λ i. nat_eq i h) hs ≡ false) where
@@ -106,8 +115,10 @@ module _ {V : Type 0} (limit x y end : ℕ) (hs : List ℕ) (s : Sweep V) (level
 
     -- and meets none of them
     pub meets : MeetsOthers (level_edge y end h) (live_at (pos y) s.entries)
-    meets = All-weaker (λ f. IsLevelAt hs f.edge) (λ f. edge_eq (level_edge y end h) f.edge ≡ false → MeetInEnds (level_edge y end h) f.edge)
-        (λ f at other. apart_meet (level_edge y end h) f.edge (pos h) (pos at.height) refl refl at.a at.b (differ at.height at.held))
+    meets = All-weaker (λ f. IsLevelAt hs f.edge) (λ f. edge_eq (level_edge y end h) f.edge ≡ false →
+        MeetInEnds (level_edge y end h) f.edge)
+        (λ f at other. apart_meet (level_edge y end h) f.edge (pos h) (pos at.height) refl refl at.a at.b
+        (differ at.height at.held))
         (live_at (pos y) s.entries) live
 
     -- so the edge may be asked for
@@ -120,7 +131,8 @@ module _ {V : Type 0} (limit x y end : ℕ) (hs : List ℕ) (s : Sweep V) (level
           a_in_range = over.a_in_range;
           b_in_range = over.b_in_range;
           forward = or_left (int_lt (pos y) (pos end)) (int_eq (pos y) (pos end) && int_lt (pos h) (pos h))
-              (test_from_lt (pos y) (pos end) (let last = covers_to (level_edge y end h) (pos y) (pos 1) over.over in omega (arith, ints)));
+              (test_from_lt (pos y) (pos end) (let last = covers_to (level_edge y end h) (pos y) (pos 1) over.over in
+              omega (arith, ints)));
           starts = refl;
         },
         meets,
@@ -128,20 +140,25 @@ module _ {V : Type 0} (limit x y end : ℕ) (hs : List ℕ) (s : Sweep V) (level
     )
 
     -- a vertical edge from there to the next height, at which no edge is, may be asked for
-    pub asked_upright : list_any (λ i. nat_eq i (h + 1)) hs ≡ false → (z : ℤ) (e : Edge) → z ≡ pos y → e ≡ upright_edge y h →
-        IsAsked limit (pos y) (upright_edge y h) → MayMoveTo z s × (IsAsked limit z e × MeetsOthers e (live_at z s.entries))
+    pub asked_upright : list_any (λ i. nat_eq i (h + 1)) hs ≡ false → (z : ℤ) (e : Edge) → z ≡ pos y →
+        e ≡ upright_edge y h →
+        IsAsked limit (pos y) (upright_edge y h) →
+        MayMoveTo z s × (IsAsked limit z e × MeetsOthers e (live_at z s.entries))
     asked_upright next_free z e z_is e_is ask = rw (z_is, e_is) (
       may_move,
       (
         ask,
-        All-weaker (λ f. IsLevelAt hs f.edge) (λ f. edge_eq (upright_edge y h) f.edge ≡ false → MeetInEnds (upright_edge y h) f.edge)
+        All-weaker (λ f. IsLevelAt hs f.edge) (λ f. edge_eq (upright_edge y h) f.edge ≡ false →
+            MeetInEnds (upright_edge y h) f.edge)
             (λ f at other. upright_meets y h f.edge (pos at.height) at.a at.b (differ at.height at.held)
-            (λ same. not_held hs (h + 1) at.height next_free at.held (omega (arith, ints, same)))) (live_at (pos y) s.entries) live,
+            (λ same. not_held hs (h + 1) at.height next_free at.held (omega (arith, ints, same))))
+            (live_at (pos y) s.entries) live,
       ),
     )
 
     -- and put in
-    pub insertable : (z : ℤ) (e : Edge) → z ≡ pos y → e ≡ level_edge y end h → IsOver limit (pos y) (level_edge y end h) →
+    pub insertable : (z : ℤ) (e : Edge) → z ≡ pos y → e ≡ level_edge y end h →
+        IsOver limit (pos y) (level_edge y end h) →
         MayMoveTo z s × (IsOver limit z e × (MeetsOthers e (live_at z s.entries) × IsNewAmong e (live_at z s.entries)))
     insertable z e z_is e_is over = rw (z_is, e_is) (may_move, (over, (meets, new_among)))
 
@@ -153,20 +170,30 @@ module _ {V : Type 0} (limit x y end : ℕ) (hs : List ℕ) (s : Sweep V) (level
       sweep = held;
       reached = reached_itself new.reached y reached;
       entries = subst (All (λ f. IsLevelAt (hs ++ h ∷ []) f.edge)) (sym put.new_is)
-          (All-with (λ f. IsLevelAt (hs ++ h ∷ []) f.edge) put.before put.after (record { edge = level_edge y end h; value = value })
+          (All-with (λ f. IsLevelAt (hs ++ h ∷ []) f.edge) put.before put.after
+          (record { edge = level_edge y end h; value = value })
           (subst (All (λ f. IsLevelAt (hs ++ h ∷ []) f.edge)) put.live_is
-          (All-weaker (λ f. IsLevelAt hs f.edge) (λ f. IsLevelAt (hs ++ h ∷ []) f.edge) (λ f at. more f.edge at) (live_at (pos y) s.entries) live))
+          (All-weaker (λ f. IsLevelAt hs f.edge) (λ f. IsLevelAt (hs ++ h ∷ []) f.edge) (λ f at. more f.edge at)
+          (live_at (pos y) s.entries) live))
           (record { height = h; held = Contains-push hs h; a = refl; b = refl }));
     }
       where
         more : (e : Edge) → IsLevelAt hs e → IsLevelAt (hs ++ h ∷ []) e
-        more e at = record { height = at.height; held = Contains-append_left hs (h ∷ []) at.height at.held; a = at.a; b = at.b }
+        more e at = record {
+          height = at.height;
+          held = Contains-append_left hs (h ∷ []) at.height at.held;
+          a = at.a;
+          b = at.b;
+        }
 
     -- the same of an edge and of heights that are given by equations
-    pub put_in : (value : V) (new : Sweep V) (z : ℤ) (e : Edge) (ks : List ℕ) → z ≡ pos y → e ≡ level_edge y end h → ks ≡ hs ++ h ∷ [] →
-        IsPutIn z (record { edge = e; value = value }) (live_at z s.entries) new.entries → new.reached ≡ Some z → IsSweep limit new →
+    pub put_in : (value : V) (new : Sweep V) (z : ℤ) (e : Edge) (ks : List ℕ) → z ≡ pos y → e ≡ level_edge y end h →
+        ks ≡ hs ++ h ∷ [] →
+        IsPutIn z (record { edge = e; value = value }) (live_at z s.entries) new.entries → new.reached ≡ Some z →
+        IsSweep limit new →
         IsLevelSweep limit y ks new
-    put_in value new z e ks z_is e_is ks_is put reached held = subst (λ ks. IsLevelSweep limit y ks new) (sym ks_is) (level_put value new
+    put_in value new z e ks z_is e_is ks_is put reached held = subst (λ ks. IsLevelSweep limit y ks new) (sym ks_is)
+        (level_put value new
         (subst (λ e. IsPutIn (pos y) (record { edge = e; value = value }) (live_at (pos y) s.entries) new.entries) e_is
         (subst (λ z. IsPutIn z (record { edge = e; value = value }) (live_at z s.entries) new.entries) z_is put))
         (subst (λ z. new.reached ≡ Some z) z_is reached) held)

@@ -5,11 +5,17 @@ use Rattle.overlay_scan.specs.Scan.{Sweep, IsSweep, MayMoveTo}
 
 -- the edge from x to end at a height
 abbrev pub level_edge : ℕ → ℕ → ℕ → Edge
-level_edge x end height = record { a = record { x = pos x; y = pos height }; b = record { x = pos end; y = pos height } }
+level_edge x end height = record {
+  a = record { x = pos x; y = pos height };
+  b = record { x = pos end; y = pos height };
+}
 
 -- the vertical edge over x from a height to the next one
 abbrev pub upright_edge : ℕ → ℕ → Edge
-upright_edge x height = record { a = record { x = pos x; y = pos height }; b = record { x = pos x; y = pos (height + 1) } }
+upright_edge x height = record {
+  a = record { x = pos x; y = pos height };
+  b = record { x = pos x; y = pos (height + 1) };
+}
 
 -- the edge is level, at one of the heights
 pub record IsLevelAt (heights : List ℕ) (e : Edge) : Type 0 where

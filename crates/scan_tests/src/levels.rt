@@ -189,7 +189,8 @@ fn check_two_edges<I: SmallNumber, S: Scan<I, u8>>(
     levels: &mut Levels<S>,
 ) -> Result<(), OverlayError>
     requires { IsLevelSweep I.limit levels.old.reached levels.old.heights.items (S.content levels.old.scan) }
-    ensures { OnOk result (IsLevelSweep I.limit levels.new.reached levels.new.heights.items (S.content levels.new.scan)) }
+    ensures { OnOk result
+        (IsLevelSweep I.limit levels.new.reached levels.new.heights.items (S.content levels.new.scan)) }
 {
     levels.insert(rt, 0, 10, 6)?;
     levels.insert(rt, 0, 10, 2)?;
@@ -215,7 +216,8 @@ fn check_third_edge<I: SmallNumber, S: Scan<I, u8>>(
     levels: &mut Levels<S>,
 ) -> Result<(), OverlayError>
     requires { IsLevelSweep I.limit levels.old.reached levels.old.heights.items (S.content levels.old.scan) }
-    ensures { OnOk result (IsLevelSweep I.limit levels.new.reached levels.new.heights.items (S.content levels.new.scan)) }
+    ensures { OnOk result
+        (IsLevelSweep I.limit levels.new.reached levels.new.heights.items (S.content levels.new.scan)) }
 {
     levels.insert(rt, 1, 3, 4)?;
     assert_eq!(rt; levels.below(rt, 2, 8, 5), 4);

@@ -1,6 +1,8 @@
--- Tests that can be computed on given walks, and what they tell: that a walk is a contour, and that different edges meet in ends alone.
+-- Tests that can be computed on given walks, and what they tell: that a walk is a contour, and that different edges
+-- meet in ends alone.
 use Rattle.std.specs.Prelude.{ℕ, ◌+◌, ◌%◌, nat_lt, pos, int_le, int_lt}
-use Rattle.std.proofs.Common.{◌≡◌, ◌⊎◌, inl, inr, ℤ, zero, suc, Bool, true, false, not, ◌&&◌, ◌||◌, ◌<◌, ◌≤ℤ◌, ◌<ℤ◌, refl, ap, sym, ◌∙◌, arith}
+use Rattle.std.proofs.Common.{◌≡◌, ◌⊎◌, inl, inr, ℤ, zero, suc, Bool, true, false, not, ◌&&◌, ◌||◌, ◌<◌, ◌≤ℤ◌, ◌<ℤ◌}
+use Rattle.std.proofs.Common.{refl, ap, sym, ◌∙◌, arith}
 use Rattle.std.proofs.Common.{List, [], ◌∷◌, length, All, AllPairs}
 use Rattle.std.specs.Bool.{Decides}
 use Rattle.std.specs.List.{list_all}
@@ -11,7 +13,8 @@ use Rattle.std.proofs.lemmas.List.Elements.{All-contains}
 use Rattle.std.proofs.lemmas.List.Kept.{AllPairs-cons}
 use Rattle.std.proofs.lemmas.List.Sums.{AllPass-from_list_all}
 use Rattle.std.proofs.lemmas.Nat.{mod_below}
-use Rattle.overlay_geom.specs.Plane.{Step, Edge, point_eq, point_lt, step_eq, edge_eq, edge_of, cross_at, steps_of, points_of}
+use Rattle.overlay_geom.specs.Plane.{Step, Edge, point_eq, point_lt, step_eq, edge_eq, edge_of, cross_at, steps_of}
+use Rattle.overlay_geom.specs.Plane.{points_of}
 use Rattle.overlay_geom.specs.Placed.{IsBeside, IsAcross, share_end}
 use Rattle.overlay_geom.specs.Settled.{MeetInEnds, IsSettledBy}
 use Rattle.overlay_geom.proofs.Beside.{beside_meet_in_ends}
@@ -38,7 +41,8 @@ all_pairs r [] = true
 all_pairs r (x ∷ xs) = list_all (r x) xs && all_pairs r xs
 
 -- what a test of two items tells holds of any two where each two pass
-told_of_pairs : {X : Type 0} (r : X → X → Bool) (R : X → X → Type 0) → ((x y : X) → r x y ≡ true → R x y) → (xs : List X)
+told_of_pairs : {X : Type 0} (r : X → X → Bool) (R : X → X → Type 0) → ((x y : X) → r x y ≡ true → R x y) →
+    (xs : List X)
     → all_pairs r xs ≡ true → AllPairs R xs
 told_of_pairs r R tells [] passed = λ i j d before within. absurd (omega arith)
 told_of_pairs r R tells (x ∷ xs) passed =
@@ -54,8 +58,10 @@ failed false passed = refl
 abbrev is_distinct : {X : Type 0} → (X → X → Bool) → List X → Bool
 is_distinct eq xs = all_pairs (λ x y. not (eq x y)) xs
 
-told_distinct : {X : Type 0} (eq : X → X → Bool) (xs : List X) → is_distinct eq xs ≡ true → AllPairs (λ x y. eq x y ≡ false) xs
-told_distinct eq xs passed = told_of_pairs (λ x y. not (eq x y)) (λ x y. eq x y ≡ false) (λ x y apart. failed (eq x y) apart) xs passed
+told_distinct : {X : Type 0} (eq : X → X → Bool) (xs : List X) → is_distinct eq xs ≡ true →
+    AllPairs (λ x y. eq x y ≡ false) xs
+told_distinct eq xs passed = told_of_pairs (λ x y. not (eq x y)) (λ x y. eq x y ≡ false)
+    (λ x y apart. failed (eq x y) apart) xs passed
 
 -- ---- contours
 
@@ -74,10 +80,17 @@ is_closed walk = nat_lt 2 (length walk) && (all_below (does_lead_on walk) (lengt
 
 -- such a walk is a contour where it is the walk of its points
 pub told_contour : (walk : List Step) → is_closed walk ≡ true → steps_of (points_of walk) ≡ walk → IsContour walk
-told_contour walk passed whole = record { three = omega (arith, three); leads_on = leads_on; once = told_distinct step_eq walk others.1; whole = whole }
+told_contour walk passed whole = record {
+  three = omega (arith, three);
+  leads_on = leads_on;
+  once = told_distinct step_eq walk others.1;
+  whole = whole;
+}
   where
-    parts : (nat_lt 2 (length walk) ≡ true) × ((all_below (does_lead_on walk) (length walk) && is_distinct step_eq walk) ≡ true)
-    parts = and_parts (nat_lt 2 (length walk)) (all_below (does_lead_on walk) (length walk) && is_distinct step_eq walk) passed
+    parts : (nat_lt 2 (length walk) ≡ true)
+        × ((all_below (does_lead_on walk) (length walk) && is_distinct step_eq walk) ≡ true)
+    parts = and_parts (nat_lt 2 (length walk)) (all_below (does_lead_on walk) (length walk) && is_distinct step_eq walk)
+        passed
 
     others : (all_below (does_lead_on walk) (length walk) ≡ true) × (is_distinct step_eq walk ≡ true)
     others = and_parts (all_below (does_lead_on walk) (length walk)) (is_distinct step_eq walk) parts.1
@@ -86,8 +99,10 @@ told_contour walk passed whole = record { three = omega (arith, three); leads_on
     three = (Decides-ltb 2 (length walk)).0 parts.0
 
     within : (k : ℕ) → k < length walk → (step_round walk (k + 1)).from ≡ (step_round walk k).to
-    within = (Decides-below_and (does_lead_on walk) (λ k. (step_round walk (k + 1)).from ≡ (step_round walk k).to) (all_below (does_lead_on walk))
-        (λ k. Decides-point_eq (step_round walk (k + 1)).from (step_round walk k).to) refl (λ n. refl) (length walk)).0 others.0
+    within = (Decides-below_and (does_lead_on walk) (λ k. (step_round walk (k + 1)).from ≡ (step_round walk k).to)
+        (all_below (does_lead_on walk))
+        (λ k. Decides-point_eq (step_round walk (k + 1)).from (step_round walk k).to) refl (λ n. refl) (length walk)).0
+        others.0
 
     leads_on : (k : ℕ) → (step_round walk (k + 1)).from ≡ (step_round walk k).to
     leads_on k =
@@ -122,8 +137,10 @@ Decides-is_beside e f =
 -- f goes from one side of e's line to the other, or to or from the line itself
 abbrev is_across : Edge → Edge → Bool
 is_across e f =
-    (int_le (cross_at e.a e.b f.a) (pos 0) && int_le (pos 0) (cross_at e.a e.b f.b) && int_lt (cross_at e.a e.b f.a) (cross_at e.a e.b f.b))
-    || (int_le (cross_at e.a e.b f.b) (pos 0) && int_le (pos 0) (cross_at e.a e.b f.a) && int_lt (cross_at e.a e.b f.b) (cross_at e.a e.b f.a))
+    (int_le (cross_at e.a e.b f.a) (pos 0) && int_le (pos 0) (cross_at e.a e.b f.b) && int_lt (cross_at e.a e.b f.a)
+    (cross_at e.a e.b f.b))
+    || (int_le (cross_at e.a e.b f.b) (pos 0) && int_le (pos 0) (cross_at e.a e.b f.a) && int_lt (cross_at e.a e.b f.b)
+    (cross_at e.a e.b f.a))
 
 told_across : (e f : Edge) → is_across e f ≡ true → IsAcross e f
 told_across e f passed = elim (or_cases _ _ passed) [
@@ -140,10 +157,12 @@ told_across e f passed = elim (or_cases _ _ passed) [
     in_order : (low high : ℤ) → (int_le low (pos 0) && int_le (pos 0) high && int_lt low high) ≡ true
         → (low ≤ℤ pos 0) × (pos 0 ≤ℤ high) × (low <ℤ high)
     in_order low high all =
-        let parts = (Decides-and _ _ (Decides-and _ _ (Decides-int_le low (pos 0)) (Decides-int_le (pos 0) high)) (Decides-int_lt low high)).0 all in
+        let parts = (Decides-and _ _ (Decides-and _ _ (Decides-int_le low (pos 0)) (Decides-int_le (pos 0) high))
+        (Decides-int_lt low high)).0 all in
         (parts.0.0, parts.0.1, parts.1)
 
--- the two lead forward, and one ends before the other, or lies beside it, or they share an end and are on different lines
+-- the two lead forward, and one ends before the other, or lies beside it, or they share an end and are on different
+-- lines
 abbrev do_meet_in_ends : Edge → Edge → Bool
 do_meet_in_ends e f =
     (point_lt e.a e.b && point_lt f.a f.b)
@@ -153,13 +172,15 @@ told_apart : (e f : Edge) → IsBefore e.a e.b → IsBefore f.a f.b → is_apart
 told_apart e f e_forward f_forward passed =
     by_order e.b f.a
     (λ before. apart_meet_in_ends e f e_forward f_forward before)
-    (λ begins. absurd (not_from_Decides (point_lt f.a e.b) (Decides-point_lt f.a e.b) (failed (point_lt f.a e.b) passed) begins))
+    (λ begins. absurd (not_from_Decides (point_lt f.a e.b) (Decides-point_lt f.a e.b)
+    (failed (point_lt f.a e.b) passed) begins))
 
 told_meet : (e f : Edge) → do_meet_in_ends e f ≡ true → MeetInEnds e f
 told_meet e f passed = by_way (or_cases _ _ parts.1)
   where
     parts : ((point_lt e.a e.b && point_lt f.a f.b) ≡ true)
-        × ((is_apart e f || (is_apart f e || (is_beside e f || (is_beside f e || (is_across e f && share_end e f))))) ≡ true)
+        × ((is_apart e f || (is_apart f e || (is_beside e f || (is_beside f e || (is_across e f && share_end e f)))))
+        ≡ true)
     parts = and_parts _ _ passed
 
     forward : IsBefore e.a e.b × IsBefore f.a f.b
@@ -178,13 +199,15 @@ told_meet e f passed = by_way (or_cases _ _ parts.1)
       | inr both ↦ by_end both
     ]
 
-    by_way : (is_apart e f ≡ true) ⊎ ((is_apart f e || (is_beside e f || (is_beside f e || (is_across e f && share_end e f)))) ≡ true)
+    by_way : (is_apart e f ≡ true)
+        ⊎ ((is_apart f e || (is_beside e f || (is_beside f e || (is_across e f && share_end e f)))) ≡ true)
         → MeetInEnds e f
     by_way (inl before) = told_apart e f forward.0 forward.1 before
-    by_way (inr other) = elim (or_cases (is_apart f e) (is_beside e f || (is_beside f e || (is_across e f && share_end e f))) other) [
-      | inl after ↦ meet_in_ends_exchanged e f (told_apart f e forward.1 forward.0 after)
-      | inr side ↦ by_side (or_cases (is_beside e f) (is_beside f e || (is_across e f && share_end e f)) side)
-    ]
+    by_way (inr other) = elim (or_cases (is_apart f e)
+        (is_beside e f || (is_beside f e || (is_across e f && share_end e f))) other) [
+          | inl after ↦ meet_in_ends_exchanged e f (told_apart f e forward.1 forward.0 after)
+          | inr side ↦ by_side (or_cases (is_beside e f) (is_beside f e || (is_across e f && share_end e f)) side)
+        ]
 
 -- the edges of two steps are equal, or meet in ends alone
 abbrev are_settled : Step → Step → Bool
@@ -197,8 +220,10 @@ is_settled ss = list_all (λ s. list_all (are_settled s) ss) ss
 -- such a list is settled
 pub told_settled : (ss : List Step) → is_settled ss ≡ true → IsSettledBy edge_of ss
 told_settled ss passed s t has_s has_t other =
-    let with_s : All (λ u. list_all (are_settled u) ss ≡ true) ss = AllPass-from_list_all (λ u. list_all (are_settled u) ss) ss passed in
-    let of_s : list_all (are_settled s) ss ≡ true = All-contains (λ u. list_all (are_settled u) ss ≡ true) ss s with_s has_s in
+    let with_s : All (λ u. list_all (are_settled u) ss ≡ true) ss = AllPass-from_list_all
+    (λ u. list_all (are_settled u) ss) ss passed in
+    let of_s : list_all (are_settled s) ss ≡ true = All-contains (λ u. list_all (are_settled u) ss ≡ true) ss s
+    with_s has_s in
     let with_t : All (λ u. are_settled s u ≡ true) ss = AllPass-from_list_all (are_settled s) ss of_s in
     let of_both : are_settled s t ≡ true = All-contains (λ u. are_settled s u ≡ true) ss t with_t has_t in
     elim (or_cases (edge_eq (edge_of s) (edge_of t)) (do_meet_in_ends (edge_of s) (edge_of t)) of_both) [

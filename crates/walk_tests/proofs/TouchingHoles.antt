@@ -1,4 +1,5 @@
--- The walks of three outlines, the second of which touches two holes in one point: what binding asks of walks, by computation.
+-- The walks of three outlines, the second of which touches two holes in one point: what binding asks of walks, by
+-- computation.
 use Rattle.std.proofs.Common.{ℤ, pos, negsuc, List, [], ◌∷◌, All, refl}
 use Rattle.std.proofs.lemmas.List.Elements.{All-nil, All-cons}
 use Rattle.overlay_geom.specs.Plane.{Step, edge_of}
@@ -37,10 +38,12 @@ below =
 
 -- the holes
 abbrev upper : List Step
-upper = step (pos 2) (pos 3) (pos 4) (pos 4) ∷ step (pos 4) (pos 4) (pos 4) (pos 3) ∷ step (pos 4) (pos 3) (pos 2) (pos 3) ∷ []
+upper = step (pos 2) (pos 3) (pos 4) (pos 4) ∷ step (pos 4) (pos 4) (pos 4) (pos 3) ∷ step (pos 4) (pos 3) (pos 2)
+    (pos 3) ∷ []
 
 abbrev lower : List Step
-lower = step (pos 2) (pos 3) (pos 4) (pos 2) ∷ step (pos 4) (pos 2) (pos 3) (pos 1) ∷ step (pos 3) (pos 1) (pos 2) (pos 3) ∷ []
+lower = step (pos 2) (pos 3) (pos 4) (pos 2) ∷ step (pos 4) (pos 2) (pos 3) (pos 1) ∷ step (pos 3) (pos 1) (pos 2)
+    (pos 3) ∷ []
 
 abbrev pub touching_holes : List (List Step)
 touching_holes = beside ∷ round ∷ below ∷ upper ∷ lower ∷ []

@@ -1,5 +1,6 @@
 -- The steps round a triangle alternate.
-use Rattle.std.proofs.Common.{◌≡◌, cond, ℕ, ◌≤◌, ℤ, pos, ◌+ℤ◌, int_lt, List, [], ◌∷◌, Contains, lit<, refl, sym, ap, ◌∙◌, subst, arith}
+use Rattle.std.proofs.Common.{◌≡◌, cond, ℕ, ◌≤◌, ℤ, pos, ◌+ℤ◌, int_lt, List, [], ◌∷◌, Contains, lit<, refl, sym, ap}
+use Rattle.std.proofs.Common.{◌∙◌, subst, arith}
 use Rattle.std.proofs.lemmas.Int.{ints}
 use Rattle.std.specs.List.{All}
 use Rattle.std.specs.List.Sorted.{IsPermutation}
@@ -51,7 +52,8 @@ step_to p = cond (int_lt (pos 0) p.x) first (cond (int_lt (pos 0) p.y) second th
 abbrev pub number_of : Point → ℤ
 number_of p = p.x +ℤ p.y +ℤ p.y
 
--- a step of the triangle is the one from its start and to its end, one goes on there, to a side, and one comes in at its start
+-- a step of the triangle is the one from its start and to its end, one goes on there, to a side, and one comes in at
+-- its start
 record IsSide (s : Step) : Type 0 where
   pub long : ¬ (number_of s.from ≡ number_of s.to)
   pub from : step_from s.from ≡ s
@@ -113,7 +115,8 @@ triangle_alternates = record {
   long = λ s c e. (side s c).long (ap number_of e);
   one_leaves = λ s t c d e way. one_from s t c d e;
   one_arrives = λ s t c d e way. one_to s t c d e;
-  none_both = λ s t c d e way. (side s c).turns (subst (λ u. cross_at s.to s.from u.to ≡ pos 0) (sym (ap step_from e ∙ (side t d).from)) way.on_line);
+  none_both = λ s t c d e way. (side s c).turns
+      (subst (λ u. cross_at s.to s.from u.to ≡ pos 0) (sym (ap step_from e ∙ (side t d).from)) way.on_line);
   arrives_between = λ s t c d e apart. absurd (apart (one_from s t c d e));
   leaves_between = λ s t c d e apart. absurd (apart (one_to s t c d e));
   goes_on = λ s c. let at = side s c in (step_from s.to, at.on, at.on_from);
@@ -133,7 +136,8 @@ triangle_once =
 -- ---- in the program's steps
 
 -- steps that are the triangle's, in whichever order, alternate
-pub shuffled_alternates : {I : Type 0} (whole : I → ℤ) (ss os : List (StepTaken I)) → plain_steps whole ss ≡ triangle → IsPermutation ss os →
+pub shuffled_alternates : {I : Type 0} (whole : I → ℤ) (ss os : List (StepTaken I)) → plain_steps whole ss ≡ triangle →
+    IsPermutation ss os →
     Alternates (plain_steps whole os)
 shuffled_alternates whole ss os is moved = alternate_alike triangle (plain_steps whole os)
     (same_shuffled triangle (plain_steps whole os)
@@ -141,17 +145,23 @@ shuffled_alternates whole ss os is moved = alternate_alike triangle (plain_steps
     triangle_alternates
 
 -- and each stands once
-pub shuffled_once : {I : Type 0} (whole : I → ℤ) (ss os : List (StepTaken I)) → plain_steps whole ss ≡ triangle → IsPermutation ss os →
+pub shuffled_once : {I : Type 0} (whole : I → ℤ) (ss os : List (StepTaken I)) → plain_steps whole ss ≡ triangle →
+    IsPermutation ss os →
     HasEachOnce (plain_steps whole os)
 shuffled_once whole ss os is moved = once_shuffled triangle (plain_steps whole os)
-    (subst (λ ts. IsPermutation ts (plain_steps whole os)) is (IsPermutation-map (plain_step whole) ss os moved)) triangle_once
+    (subst (λ ts. IsPermutation ts (plain_steps whole os)) is (IsPermutation-map (plain_step whole) ss os moved))
+    triangle_once
 
 -- its corners are in range
 pub triangle_long : (limit : ℕ) → 4 ≤ limit → All (IsLong limit) triangle
 triangle_long limit fits =
-    All-cons (IsLong limit) first (second ∷ third ∷ []) (record { from_in_range = corner; to_in_range = right; apart = long first (0, lit< tt, refl) })
-    (All-cons (IsLong limit) second (third ∷ []) (record { from_in_range = right; to_in_range = top; apart = long second (1, lit< tt, refl) })
-    (All-cons (IsLong limit) third [] (record { from_in_range = top; to_in_range = corner; apart = long third (2, lit< tt, refl) }) (All-nil (IsLong limit))))
+    All-cons (IsLong limit) first (second ∷ third ∷ [])
+    (record { from_in_range = corner; to_in_range = right; apart = long first (0, lit< tt, refl) })
+    (All-cons (IsLong limit) second (third ∷ [])
+    (record { from_in_range = right; to_in_range = top; apart = long second (1, lit< tt, refl) })
+    (All-cons (IsLong limit) third []
+    (record { from_in_range = top; to_in_range = corner; apart = long third (2, lit< tt, refl) })
+    (All-nil (IsLong limit))))
   where
     none : Within limit (pos 0)
     none = record { low = omega (arith, ints); high = omega (arith, ints) }

@@ -39,7 +39,8 @@ fn three_outlines_and_two_holes(
     ensures long { IfOk result (λ v. All (All (IsLong 1073741823)) (plain_walks (λ z. z) v.items)) }
     ensures contours { IfOk result (λ v. All IsContour (plain_walks (λ z. z) v.items)) }
     ensures single { IfOk result (λ v. All HasEachEdgeOnce (plain_walks (λ z. z) v.items)) }
-    ensures distinct { IfOk result (λ v. AllPairs (λ e f. edge_eq e f ≡ false) (all_filled_above true (plain_walks (λ z. z) v.items))) }
+    ensures distinct { IfOk result
+        (λ v. AllPairs (λ e f. edge_eq e f ≡ false) (all_filled_above true (plain_walks (λ z. z) v.items))) }
     ensures settled { IfOk result (λ v. IsSettledBy edge_of (all_steps (plain_walks (λ z. z) v.items))) }
 {
     let beside = [

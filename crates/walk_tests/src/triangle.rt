@@ -27,7 +27,8 @@ fn steps_round<I: IntNumber>(
     requires zero { I.whole zero ≡ pos 0 }
     requires four { I.whole four ≡ pos 4 }
     ensures { IfOk result (λ v. plain_steps I.whole v.items
-        ≡ steps_of (record { x = pos 0; y = pos 0 } ∷ record { x = pos 4; y = pos 0 } ∷ record { x = pos 0; y = pos 4 } ∷ [])) }
+        ≡ steps_of (record { x = pos 0; y = pos 0 } ∷ record { x = pos 4; y = pos 0 } ∷ record { x = pos 0; y = pos 4 }
+        ∷ [])) }
 {
     let corner = IntPoint::new(zero, zero);
     let right = IntPoint::new(four, zero);

@@ -105,6 +105,7 @@ impl<I: OverlayInt, A: Allocator + Clone> Overlay<I, A> {
         ensures { self.new ≡ cleared self.old }
     {
         self.core.clear();
+        self.viewed = None;
     }
 
     /// Drops the edges and mends a failed builder, and then adds the paths of `subj` as the subject

@@ -42,6 +42,7 @@ impl<I: OverlayInt, A: Allocator + Clone> Overlay<I, A> {
             options,
             boolean_buffer: Some(BooleanExtractionBuffer::default(alloc.clone()?)),
             core: BuilderCore::with_capacity(alloc, capacity)?,
+            viewed: None,
         })
     }
 
@@ -56,7 +57,8 @@ impl<I: OverlayInt, A: Allocator + Clone> Overlay<I, A> {
     ) -> Result<Self, OverlayError>
         requires subj_in_range { All (AllInRange I.limit) (R0.paths subj.now) }
         requires clip_in_range { All (AllInRange I.limit) (R1.paths clip.now) }
-        ensures ok { IfOk result (λ o. HoldsPaths false (subject_and_clip (R0.paths subj.now) (R1.paths clip.now)) o.edges) }
+        ensures ok { IfOk result (λ o. HoldsPaths false (subject_and_clip (R0.paths subj.now) (R1.paths clip.now))
+            o.edges) }
         ensures made { IfOk result (λ o. IsNewBuilder I.WideUInt.natural o) }
         ensures err { IfErr result (MayRefuseBuilder false
             (subject_and_clip (R0.paths subj.now) (R1.paths clip.now))) }

@@ -53,7 +53,7 @@ impl<I: OverlayInt, A: Allocator + Clone> PredicateOverlay<I, A> {
         requires { All (All (AllInRange I.limit)) (plain_shapes I.whole shapes.now) }
         ensures { AddsAsAsked (paths_for shape_type (paths_of_shapes I.whole shapes.now)) self.old self.new result }
     {
-        let _ = self.core.content();
+        self.core.content().note_limits();
         self.core.check_usable()?;
         for shape in shapes {
             self.add_shape(shape, shape_type)?;

@@ -23,7 +23,8 @@ fn edges_with_their_fills(rt: HostRuntime) {
     check(
         &rt,
         b"subject 0 0 2 0 2 2 0 2\nclip 2 0 4 0 4 2 2 2\nrun edges NonZero\n",
-        "edge 0 0 0 2 2\nedge 0 0 2 0 1\nedge 0 2 2 2 2\nedge 2 0 2 2 9\nedge 2 0 4 0 4\nedge 2 2 4 2 8\nedge 4 0 4 2 4\n",
+        "edge 0 0 0 2 2\nedge 0 0 2 0 1\nedge 0 2 2 2 2\nedge 2 0 2 2 9\nedge 2 0 4 0 4\n\
+         edge 2 2 4 2 8\nedge 4 0 4 2 4\n",
         Exit::Answered,
     );
     check(&rt, b"run edges NonZero\n", "", Exit::Answered);
@@ -66,7 +67,8 @@ fn edges_that_overlap_are_cut(rt: HostRuntime) {
     check(
         &rt,
         b"subject 0 0 4 0 4 2 0 2\nsubject 2 0 6 0 6 -2 2 -2\nrun edges NonZero\n",
-        "edge 0 0 0 2 2\nedge 0 0 2 0 1\nedge 0 2 4 2 2\nedge 2 -2 2 0 2\nedge 2 -2 6 -2 1\nedge 2 0 4 0 3\nedge 4 0 4 2 1\nedge 4 0 6 0 2\nedge 6 -2 6 0 1\n",
+        "edge 0 0 0 2 2\nedge 0 0 2 0 1\nedge 0 2 4 2 2\nedge 2 -2 2 0 2\nedge 2 -2 6 -2 1\n\
+         edge 2 0 4 0 3\nedge 4 0 4 2 1\nedge 4 0 6 0 2\nedge 6 -2 6 0 1\n",
         Exit::Answered,
     );
 }

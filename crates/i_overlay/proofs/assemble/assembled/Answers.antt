@@ -7,8 +7,8 @@ use Rattle.overlay_plane.specs.Binding.{is_hole, outlines, shapes_begun}
 use Rattle.overlay_plane.specs.ShapeWindings.{points_of_shapes, AreKeptOrThinned}
 use Rattle.overlay_plane.proofs.HolesAdded.{length-shown}
 use Rattle.overlay_walk.specs.Steps.{is_on_left, plain_steps, IsLong}
-use Rattle.overlay_walk.specs.Walks.{plain_walks, bound_to}
-use Rattle.overlay_walk.proofs.BoundTo.{numbers_enough, bound_more, bound_is_counted}
+use Rattle.overlay_walk.specs.Walks.{plain_walks, with_shape_numbers}
+use Rattle.overlay_walk.proofs.ShapeNumbers.{numbers_enough, bound_more, bound_is_counted}
 use Rattle.overlay_walk.proofs.WalksRead.{walk_read, walk_has}
 use Rattle.i_overlay.specs.Assembly.{AddsBound}
 use Rattle.i_overlay.proofs.assemble.assembled.Goals as goal
@@ -25,7 +25,8 @@ pub push_bound-requires-clause-long : goal.push_bound-requires-clause-long
 push_bound-requires-clause-long g c =
     let whole = g.I.IntNumber.whole in
     subst (λ ss. All (IsLong g.I.IntNumber.limit) (plain_steps whole ss)) (sym c.deref.ensures.value)
-    (walk_has whole c.args.walks.now c.loop-k.k c.index-walks-k.result c.loop-k-test.true c.index-walks-k.is (All (IsLong g.I.IntNumber.limit)) c.requires.long)
+    (walk_has whole c.args.walks.now c.loop-k.k c.index-walks-k.result c.loop-k-test.true c.index-walks-k.is
+    (All (IsLong g.I.IntNumber.limit)) c.requires.long)
 
 pub push_bound-requires-clause-counted : goal.push_bound-requires-clause-counted
 push_bound-requires-clause-counted g c =
@@ -42,9 +43,12 @@ push_bound-requires-clause-counted g c =
     let inside : k < length ws = subst (λ m. k < m) (sym long) read in
     let in_numbers : k < length numbers = omega arith in
     let is_walk = walk_read whole c.args.walks.now k c.index-walks-k.result read c.index-walks-k.is w in
-    let shown = length-shown c.args.keeps_points on_left (take k (bound_to ws numbers)) (outlines on_left ws) (plain_shapes whole c.loop-k.shapes.items) c.loop-k.invariant in
-    λ hole. subst (λ l. IfSome n (λ m. m < l)) (sym shown ∙ length-map c.loop-k.shapes.items (λ (s : _). paths_of_shape whole s.items))
-    (bound_is_counted on_left ws numbers c.requires.numbered k w n inside is_walk (get_or_default numbers k None n in_numbers)
+    let shown = length-shown c.args.keeps_points on_left (take k (with_shape_numbers ws numbers)) (outlines on_left ws)
+    (plain_shapes whole c.loop-k.shapes.items) c.loop-k.invariant in
+    λ hole. subst (λ l. IfSome n (λ m. m < l))
+    (sym shown ∙ length-map c.loop-k.shapes.items (λ (s : _). paths_of_shape whole s.items))
+    (bound_is_counted on_left ws numbers c.requires.numbered k w n inside is_walk
+    (get_or_default numbers k None n in_numbers)
     (subst (λ ss. is_hole on_left (plain_steps whole ss) ≡ true) c.deref.ensures.value hole))
 
 pub loop-k-preserved : goal.loop-k-preserved
@@ -66,7 +70,8 @@ loop-k-preserved g c =
     let old = plain_shapes whole c.loop-k.shapes.items in
     let new = plain_shapes whole c.push_bound.new.shapes.items in
     let added : AddsBound keep on_left (record { steps = w; shape = n }) old new =
-    subst (λ ss. AddsBound keep on_left (record { steps = plain_steps whole ss; shape = n }) old new) c.deref.ensures.value c.in_ok-push_bound.ensures.ok in
+    subst (λ ss. AddsBound keep on_left (record { steps = plain_steps whole ss; shape = n }) old new)
+    c.deref.ensures.value c.in_ok-push_bound.ensures.ok in
     subst (λ bs. AreKeptOrThinned keep (points_of_shapes (shapes_begun on_left bs 0 (outlines on_left ws))) new)
     (sym (bound_more ws numbers k w n inside in_numbers is_walk (get_or_default numbers k None n in_numbers)))
-    (added (take k (bound_to ws numbers)) (outlines on_left ws) c.loop-k.invariant)
+    (added (take k (with_shape_numbers ws numbers)) (outlines on_left ws) c.loop-k.invariant)

@@ -4,12 +4,14 @@ use Rattle.overlay_geom.specs.Paths.{plain_shapes}
 use Rattle.overlay_plane.specs.Binding.{outlines, shapes_begun}
 use Rattle.overlay_plane.specs.ShapeWindings.{points_of_shapes, AreKeptOrThinned}
 use Rattle.overlay_walk.specs.Steps.{is_on_left}
-use Rattle.overlay_walk.specs.Walks.{plain_walks, bound_to}
+use Rattle.overlay_walk.specs.Walks.{plain_walks, with_shape_numbers}
 use Rattle.i_overlay.proofs.assemble.assembled.Given as goal
 
 abbrev pub invariant-loop-k : goal.invariant-loop-k
 invariant-loop-k g l =
     let on_left = is_on_left l.direction in
     let walks = plain_walks g.I.IntNumber.whole l.walks in
-    AreKeptOrThinned l.keeps_points (points_of_shapes (shapes_begun on_left (take l.k (bound_to walks l.numbers)) 0 (outlines on_left walks)))
+    AreKeptOrThinned l.keeps_points
+    (points_of_shapes (shapes_begun on_left (take l.k (with_shape_numbers walks l.numbers)) 0
+    (outlines on_left walks)))
     (plain_shapes g.I.IntNumber.whole l.shapes.items)

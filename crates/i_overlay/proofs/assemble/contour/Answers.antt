@@ -12,12 +12,14 @@ pub thinned-requires : goal.thinned-requires
 thinned-requires g c =
     let whole = g.I.IntNumber.whole in
     let same = ap (plain_points whole) c.deref.ensures.value ∙ c.in_ok-points.ensures.ok in
-    subst (AllInRange g.I.IntNumber.limit) (sym same) (points_in_range g.I.IntNumber.limit (plain_steps whole c.args.walk.now) c.requires)
+    subst (AllInRange g.I.IntNumber.limit) (sym same)
+    (points_in_range g.I.IntNumber.limit (plain_steps whole c.args.walk.now) c.requires)
 
 pub returns-then-keeps_points-clause-ok : goal.returns-then-keeps_points-clause-ok
 returns-then-keeps_points-clause-ok g c =
     let whole = g.I.IntNumber.whole in
-    subst (λ k. IsKeptOrThinned k (points_of (plain_steps whole c.args.walk.now)) (plain_points whole c.in_ok-points.points.items))
+    subst (λ k. IsKeptOrThinned k (points_of (plain_steps whole c.args.walk.now))
+    (plain_points whole c.in_ok-points.points.items))
     (sym c.if-keeps_points.true) c.in_ok-points.ensures.ok
 
 pub returns-clause-ok : goal.returns-clause-ok

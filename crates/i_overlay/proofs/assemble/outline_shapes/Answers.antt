@@ -11,13 +11,15 @@ use Rattle.overlay_walk.specs.Steps.{is_on_left, plain_steps, IsLong}
 use Rattle.overlay_walk.specs.Walks.{plain_walks}
 use Rattle.overlay_walk.proofs.WalksRead.{walks_more, walk_has}
 use Rattle.i_overlay.proofs.assemble.outline_shapes.Goals as goal
-use Rattle.i_overlay.proofs.assemble.outline_shapes.Goals.{then-not-is_hole+in_ok-clone-2+in_ok-outline+in_ok-clone-3+in_ok-push_outline, else-not-is_hole}
+use Rattle.i_overlay.proofs.assemble.outline_shapes.Goals.{then-not-is_hole+in_ok-clone-2+in_ok-outline+in_ok-clone-3+in_ok-push_outline}
+use Rattle.i_overlay.proofs.assemble.outline_shapes.Goals.{else-not-is_hole}
 
 pub contour-requires : goal.contour-requires
 contour-requires g c =
     let whole = g.I.IntNumber.whole in
     subst (λ ss. All (IsLong g.I.IntNumber.limit) (plain_steps whole ss)) (sym c.deref-then-not-is_hole.ensures.value)
-    (walk_has whole c.args.walks.now c.loop-walk.walk-index c.walk-item.result c.loop-walk-test.true c.walk-item.is (All (IsLong g.I.IntNumber.limit)) c.requires.long)
+    (walk_has whole c.args.walks.now c.loop-walk.walk-index c.walk-item.result c.loop-walk-test.true c.walk-item.is
+    (All (IsLong g.I.IntNumber.limit)) c.requires.long)
 
 pub loop-walk-preserved : goal.loop-walk-preserved
 loop-walk-preserved g c =
@@ -27,19 +29,28 @@ loop-walk-preserved g c =
     let w = plain_steps whole c.walk-item.result.items in
     let before = plain_walks whole (take c.loop-walk.walk-index c.args.walks.now) in
     let old = plain_shapes whole c.loop-walk.shapes.items in
-    let more = walks_more whole c.args.walks.now c.loop-walk.walk-index c.walk-item.result c.loop-walk-test.true c.walk-item.is in
+    let more = walks_more whole c.args.walks.now c.loop-walk.walk-index c.walk-item.result c.loop-walk-test.true
+    c.walk-item.is in
     elim c.if-not-is_hole.branch [
       | then-not-is_hole+in_ok-clone-2+in_ok-outline+in_ok-clone-3+in_ok-push_outline v ↦
           let outline : is_hole on_left w ≡ false = cc in
           let contour = plain_points whole v.in_ok-outline.outline.items in
-          let kept : IsKeptOrThinned keep (points_of w) contour = subst (λ ss. IsKeptOrThinned keep (points_of (plain_steps whole ss)) contour) v.deref-then-not-is_hole.ensures.value v.in_ok-outline.ensures.ok in
-          subst (λ ss. AreKeptOrThinned keep (points_of_shapes (shapes_begun on_left [] 0 (outlines on_left (plain_walks whole (take (c.loop-walk.walk-index + 1) c.args.walks.now))))) ss)
+          let kept : IsKeptOrThinned keep (points_of w) contour = subst
+          (λ ss. IsKeptOrThinned keep (points_of (plain_steps whole ss)) contour)
+          v.deref-then-not-is_hole.ensures.value v.in_ok-outline.ensures.ok in
+          subst (λ ss. AreKeptOrThinned keep
+          (points_of_shapes (shapes_begun on_left [] 0
+          (outlines on_left (plain_walks whole (take (c.loop-walk.walk-index + 1) c.args.walks.now))))) ss)
           (sym (ap (λ (ss : _). plain_shapes whole ss.items) v.shapes-is ∙ v.in_ok-push_outline.ensures.ok))
-          (subst (λ ws. AreKeptOrThinned keep (points_of_shapes (shapes_begun on_left [] 0 (outlines on_left ws))) (old ++ (contour ∷ []) ∷ [])) (sym more)
+          (subst (λ ws. AreKeptOrThinned keep (points_of_shapes (shapes_begun on_left [] 0 (outlines on_left ws)))
+          (old ++ (contour ∷ []) ∷ [])) (sym more)
           (outline_begins keep on_left before w old contour outline kept c.loop-walk.invariant))
       | else-not-is_hole v ↦
           let hole : is_hole on_left w ≡ true = cc in
-          subst (λ ss. AreKeptOrThinned keep (points_of_shapes (shapes_begun on_left [] 0 (outlines on_left (plain_walks whole (take (c.loop-walk.walk-index + 1) c.args.walks.now))))) ss)
+          subst (λ ss. AreKeptOrThinned keep
+          (points_of_shapes (shapes_begun on_left [] 0
+          (outlines on_left (plain_walks whole (take (c.loop-walk.walk-index + 1) c.args.walks.now))))) ss)
           (sym (ap (λ (ss : _). plain_shapes whole ss.items) v.shapes-is))
-          (subst (λ os. AreKeptOrThinned keep (points_of_shapes (shapes_begun on_left [] 0 os)) old) (sym (ap (outlines on_left) more ∙ hole_begins_none on_left before w hole)) c.loop-walk.invariant)
+          (subst (λ os. AreKeptOrThinned keep (points_of_shapes (shapes_begun on_left [] 0 os)) old)
+          (sym (ap (outlines on_left) more ∙ hole_begins_none on_left before w hole)) c.loop-walk.invariant)
     ]

@@ -10,5 +10,7 @@ use Rattle.i_overlay.proofs.assemble.outline_shapes.Given as goal
 abbrev pub invariant-loop-walk : goal.invariant-loop-walk
 invariant-loop-walk g l =
     let on_left = is_on_left l.direction in
-    AreKeptOrThinned l.keeps_points (points_of_shapes (shapes_begun on_left [] 0 (outlines on_left (plain_walks g.I.IntNumber.whole (take l.walk-index l.walks)))))
+    AreKeptOrThinned l.keeps_points
+    (points_of_shapes (shapes_begun on_left [] 0
+    (outlines on_left (plain_walks g.I.IntNumber.whole (take l.walk-index l.walks)))))
     (plain_shapes g.I.IntNumber.whole l.shapes.items)

@@ -6,4 +6,5 @@ use Rattle.overlay_walk.specs.Steps.{plain_steps}
 use Rattle.i_overlay.proofs.assemble.points_of.Given as goal
 
 abbrev pub invariant-loop-step : goal.invariant-loop-step
-invariant-loop-step g l = plain_points g.I.IntNumber.whole l.points.items ≡ points_of (plain_steps g.I.IntNumber.whole (take l.step-index l.walk))
+invariant-loop-step g l = plain_points g.I.IntNumber.whole l.points.items ≡ points_of
+    (plain_steps g.I.IntNumber.whole (take l.step-index l.walk))

@@ -15,7 +15,8 @@ returns-in_ok-push_contour-in-Some-clause-ok g c =
     let on_left = is_on_left c.args.direction in
     let old = c.args.shapes.now.items in
     let hole : is_hole on_left (plain_steps whole c.args.walk.now) ≡ true = cc in
-    let counted : c.in-Some.number < length old = subst (λ number. IfSome number (λ n. n < length old)) c.in-Some.is (c.requires.counted hole) in
+    let counted : c.in-Some.number < length old = subst (λ number. IfSome number (λ n. n < length old)) c.in-Some.is
+    (c.requires.counted hole) in
     hole_adds c.args.keeps_points on_left (record { steps = plain_steps whole c.args.walk.now; shape = c.args.number })
     (plain_shapes whole old) (plain_shapes whole c.push_contour.new.shapes.items) hole c.in-Some.number c.in-Some.is
     (plain_points whole c.in_ok-hole-in-Some.hole.items) c.in_ok-hole-in-Some.ensures.ok

@@ -16,4 +16,5 @@ returns-clause-ok g c =
     (ap (paths_of_shape whole) c.in_ok-push.ensures.items
     ∙ map-append (λ (k : _). plain_points whole k.items) shape.items (c.args.contour ∷ [])
     ∙ ap (λ ps. ps ++ plain_points whole c.args.contour.items ∷ [])
-    (sym (read_mapped (λ (s : _). paths_of_shape whole s.items) old c.args.number shape [] c.requires c.index_mut.ensures.value)))
+    (sym (read_mapped (λ (s : _). paths_of_shape whole s.items) old c.args.number shape [] c.requires
+    c.index_mut.ensures.value)))

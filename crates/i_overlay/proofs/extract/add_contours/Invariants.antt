@@ -6,4 +6,5 @@ use Rattle.i_overlay.proofs.extract.add_contours.Given as goal
 
 abbrev pub invariant-loop-walk : goal.invariant-loop-walk
 invariant-loop-walk g l =
-    Show g.I.IntNumber.whole l.keeps_points (plain_walks g.I.IntNumber.whole (take l.walk-index l.walks)) l.output.points.items l.output.ranges.items
+    Show g.I.IntNumber.whole l.keeps_points (plain_walks g.I.IntNumber.whole (take l.walk-index l.walks))
+    l.output.points.items l.output.ranges.items

@@ -15,7 +15,7 @@ use Rattle.overlay_plane.specs.ShapeWindings.{points_of_shapes, AreKeptOrThinned
 use Rattle.overlay_plane.proofs.KeptWalks.{kept_are_contours, kept_have_each_edge_once, kept_distinct, kept_settled}
 use Rattle.overlay_arrange.specs.Graphs.{graph_edges}
 use Rattle.overlay_walk.specs.Steps.{is_on_left, IsLong}
-use Rattle.overlay_walk.specs.Walks.{plain_walks, bound_to, AreNumbered}
+use Rattle.overlay_walk.specs.Walks.{plain_walks, with_shape_numbers, AreNumbered}
 use Rattle.overlay_walk.proofs.BoundWalks.{are_numbered}
 use Rattle.i_overlay.specs.Overlay.{asked, region_asked, filled_on_left, is_kept}
 use Rattle.i_overlay.proofs.Results.{result_shown}
@@ -25,37 +25,46 @@ pub bind-requires-clause-contours : goal.bind-requires-clause-contours
 bind-requires-clause-contours g c =
     let whole = g.I.IntNumber.whole in
     let k = c.in_ok-walks.ensures.kept in
-    let q = asked g.I.Wide.WideIntNumber.width g.I.WideUInt.UIntNumber.natural c.args.graph.now.fill_rule c.args.overlay_rule c.args.options in
+    let q = asked g.I.Wide.WideIntNumber.width g.I.WideUInt.UIntNumber.natural c.args.graph.now.fill_rule
+    c.args.overlay_rule c.args.options in
     subst (λ ws. All IsContour (plain_walks whole ws)) (sym c.deref.ensures.value)
     (subst (All IsContour) (sym k.are)
-    (kept_are_contours (region_asked q) subj_of clip_of (graph_edges c.args.graph.now) (filled_on_left q) k.walks k.cut (is_kept q)))
+    (kept_are_contours (region_asked q) subj_of clip_of (graph_edges c.args.graph.now) (filled_on_left q) k.walks k.cut
+    (is_kept q)))
 
 pub bind-requires-clause-single : goal.bind-requires-clause-single
 bind-requires-clause-single g c =
     let whole = g.I.IntNumber.whole in
     let k = c.in_ok-walks.ensures.kept in
-    let q = asked g.I.Wide.WideIntNumber.width g.I.WideUInt.UIntNumber.natural c.args.graph.now.fill_rule c.args.overlay_rule c.args.options in
+    let q = asked g.I.Wide.WideIntNumber.width g.I.WideUInt.UIntNumber.natural c.args.graph.now.fill_rule
+    c.args.overlay_rule c.args.options in
     subst (λ ws. All HasEachEdgeOnce (plain_walks whole ws)) (sym c.deref.ensures.value)
     (subst (All HasEachEdgeOnce) (sym k.are)
-    (kept_have_each_edge_once (region_asked q) subj_of clip_of (graph_edges c.args.graph.now) (filled_on_left q) k.walks k.cut (is_kept q)))
+    (kept_have_each_edge_once (region_asked q) subj_of clip_of (graph_edges c.args.graph.now) (filled_on_left q) k.walks
+    k.cut (is_kept q)))
 
 pub bind-requires-clause-distinct : goal.bind-requires-clause-distinct
 bind-requires-clause-distinct g c =
     let whole = g.I.IntNumber.whole in
     let k = c.in_ok-walks.ensures.kept in
-    let q = asked g.I.Wide.WideIntNumber.width g.I.WideUInt.UIntNumber.natural c.args.graph.now.fill_rule c.args.overlay_rule c.args.options in
-    subst (λ ws. AllPairs (λ e f. edge_eq e f ≡ false) (all_filled_above (filled_on_left q) (plain_walks whole ws))) (sym c.deref.ensures.value)
+    let q = asked g.I.Wide.WideIntNumber.width g.I.WideUInt.UIntNumber.natural c.args.graph.now.fill_rule
+    c.args.overlay_rule c.args.options in
+    subst (λ ws. AllPairs (λ e f. edge_eq e f ≡ false) (all_filled_above (filled_on_left q) (plain_walks whole ws)))
+    (sym c.deref.ensures.value)
     (subst (λ ws. AllPairs (λ e f. edge_eq e f ≡ false) (all_filled_above (filled_on_left q) ws)) (sym k.are)
-    (kept_distinct (region_asked q) subj_of clip_of (graph_edges c.args.graph.now) (filled_on_left q) k.walks k.cut (is_kept q)))
+    (kept_distinct (region_asked q) subj_of clip_of (graph_edges c.args.graph.now) (filled_on_left q) k.walks k.cut
+    (is_kept q)))
 
 pub bind-requires-clause-settled : goal.bind-requires-clause-settled
 bind-requires-clause-settled g c =
     let whole = g.I.IntNumber.whole in
     let k = c.in_ok-walks.ensures.kept in
-    let q = asked g.I.Wide.WideIntNumber.width g.I.WideUInt.UIntNumber.natural c.args.graph.now.fill_rule c.args.overlay_rule c.args.options in
+    let q = asked g.I.Wide.WideIntNumber.width g.I.WideUInt.UIntNumber.natural c.args.graph.now.fill_rule
+    c.args.overlay_rule c.args.options in
     subst (λ ws. IsSettledBy edge_of (all_steps (plain_walks whole ws))) (sym c.deref.ensures.value)
     (subst (λ ws. IsSettledBy edge_of (all_steps ws)) (sym k.are)
-    (kept_settled (region_asked q) subj_of clip_of (graph_edges c.args.graph.now) (filled_on_left q) k.walks k.cut (is_kept q)))
+    (kept_settled (region_asked q) subj_of clip_of (graph_edges c.args.graph.now) (filled_on_left q) k.walks k.cut
+    (is_kept q)))
 
 pub returns-clause-result : goal.returns-clause-result
 returns-clause-result g c =
@@ -65,12 +74,20 @@ returns-clause-result g c =
     let walks = plain_walks whole c.in_ok-walks.walks.items in
     let shapes = c.in_ok-shapes.shapes.items in
     let found : AreShapesFound on_left (contours_from on_left 0 walks) shapes =
-    subst (λ ws. AreShapesFound on_left (contours_from on_left 0 (plain_walks whole ws)) shapes) c.deref.ensures.value c.in_ok-shapes.ensures.found in
+    subst (λ ws. AreShapesFound on_left (contours_from on_left 0 (plain_walks whole ws)) shapes) c.deref.ensures.value
+    c.in_ok-shapes.ensures.found in
     IfOk-weaker c.assembled.result _ _
-    (λ v shown. result_shown (asked g.I.Wide.WideIntNumber.width g.I.WideUInt.UIntNumber.natural c.args.graph.now.fill_rule c.args.overlay_rule c.args.options)
-    (graph_edges c.args.graph.now) walks c.in_ok-walks.ensures.kept shapes found c.requires.no_ogc (plain_shapes whole v.items) shown)
-    (subst (λ ns. IfOk c.assembled.result (λ v. AreKeptOrThinned keep (points_of_shapes (shapes_of on_left (bound_to walks ns))) (plain_shapes whole v.items))) c.deref-3.ensures.value
-    (subst (λ ws. IfOk c.assembled.result (λ v. AreKeptOrThinned keep (points_of_shapes (shapes_of on_left (bound_to (plain_walks whole ws) c.deref-3.result.now))) (plain_shapes whole v.items))) c.deref-2.ensures.value
+    (λ v shown. result_shown (asked g.I.Wide.WideIntNumber.width g.I.WideUInt.UIntNumber.natural
+    c.args.graph.now.fill_rule c.args.overlay_rule c.args.options)
+    (graph_edges c.args.graph.now) walks c.in_ok-walks.ensures.kept shapes found c.requires.no_ogc
+    (plain_shapes whole v.items) shown)
+    (subst (λ ns. IfOk c.assembled.result
+    (λ v. AreKeptOrThinned keep (points_of_shapes (shapes_of on_left (with_shape_numbers walks ns)))
+    (plain_shapes whole v.items))) c.deref-3.ensures.value
+    (subst (λ ws. IfOk c.assembled.result
+    (λ v. AreKeptOrThinned keep (points_of_shapes
+    (shapes_of on_left (with_shape_numbers (plain_walks whole ws) c.deref-3.result.now)))
+    (plain_shapes whole v.items))) c.deref-2.ensures.value
     c.assembled.ensures.shapes))
 
 pub assembled-requires-clause-numbered : goal.assembled-requires-clause-numbered
@@ -80,11 +97,15 @@ assembled-requires-clause-numbered g c =
     let walks = plain_walks whole c.in_ok-walks.walks.items in
     let shapes = c.in_ok-shapes.shapes.items in
     let found : AreShapesFound on_left (contours_from on_left 0 walks) shapes =
-    subst (λ ws. AreShapesFound on_left (contours_from on_left 0 (plain_walks whole ws)) shapes) c.deref.ensures.value c.in_ok-shapes.ensures.found in
-    subst (λ ns. AreNumbered on_left (plain_walks whole c.deref-2.result.now) (bound_to (plain_walks whole c.deref-2.result.now) ns)) (sym c.deref-3.ensures.value)
-    (subst (λ ws. AreNumbered on_left (plain_walks whole ws) (bound_to (plain_walks whole ws) shapes)) (sym c.deref-2.ensures.value)
+    subst (λ ws. AreShapesFound on_left (contours_from on_left 0 (plain_walks whole ws)) shapes) c.deref.ensures.value
+    c.in_ok-shapes.ensures.found in
+    subst (λ ns. AreNumbered on_left (plain_walks whole c.deref-2.result.now)
+    (with_shape_numbers (plain_walks whole c.deref-2.result.now) ns)) (sym c.deref-3.ensures.value)
+    (subst (λ ws. AreNumbered on_left (plain_walks whole ws) (with_shape_numbers (plain_walks whole ws) shapes))
+    (sym c.deref-2.ensures.value)
     (are_numbered on_left walks shapes found))
 
 pub assembled-requires-clause-long : goal.assembled-requires-clause-long
 assembled-requires-clause-long g c =
-    subst (λ ws. All (All (IsLong g.I.IntNumber.limit)) (plain_walks g.I.IntNumber.whole ws)) (sym c.deref-2.ensures.value) c.in_ok-walks.ensures.long
+    subst (λ ws. All (All (IsLong g.I.IntNumber.limit)) (plain_walks g.I.IntNumber.whole ws))
+    (sym c.deref-2.ensures.value) c.in_ok-walks.ensures.long

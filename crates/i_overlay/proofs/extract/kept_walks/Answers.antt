@@ -15,7 +15,8 @@ use Rattle.i_overlay.proofs.extract.kept_walks.Goals as goal
 pub returns-clause-kept : goal.returns-clause-kept
 returns-clause-kept g c =
     let whole = g.I.IntNumber.whole in
-    let keeps : List Step → Bool = reaches g.I.Wide.WideIntNumber.width (g.I.WideUInt.UIntNumber.natural c.args.options.min_output_area) in
+    let keeps : List Step → Bool = reaches g.I.Wide.WideIntNumber.width
+    (g.I.WideUInt.UIntNumber.natural c.args.options.min_output_area) in
     let walks = c.in_ok-walks.walks.items in
     IfOk-weaker c.large_walks.result (λ ws. ws.items ≡ filter (λ w. keeps (plain_steps whole w.items)) walks) _
     (λ ws same. record {
@@ -28,9 +29,11 @@ returns-clause-kept g c =
 pub returns-clause-long : goal.returns-clause-long
 returns-clause-long g c =
     let whole = g.I.IntNumber.whole in
-    let keeps : List Step → Bool = reaches g.I.Wide.WideIntNumber.width (g.I.WideUInt.UIntNumber.natural c.args.options.min_output_area) in
+    let keeps : List Step → Bool = reaches g.I.Wide.WideIntNumber.width
+    (g.I.WideUInt.UIntNumber.natural c.args.options.min_output_area) in
     let walks = c.in_ok-walks.walks.items in
     IfOk-weaker c.large_walks.result (λ ws. ws.items ≡ filter (λ w. keeps (plain_steps whole w.items)) walks) _
-    (λ ws same. subst (All (All (IsLong g.I.IntNumber.limit))) (sym (ap (plain_walks whole) same ∙ map-filter (λ (w : _). plain_steps whole w.items) keeps walks))
+    (λ ws same. subst (All (All (IsLong g.I.IntNumber.limit)))
+    (sym (ap (plain_walks whole) same ∙ map-filter (λ (w : _). plain_steps whole w.items) keeps walks))
     (All-filter keeps (All (IsLong g.I.IntNumber.limit)) (plain_walks whole walks) c.in_ok-walks.ensures.long))
     c.large_walks.ensures.ok

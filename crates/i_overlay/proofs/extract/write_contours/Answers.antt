@@ -16,7 +16,9 @@ returns-clause-result g c =
     let whole = g.I.IntNumber.whole in
     let paths = paths_in whole c.add_contours.new.output.points.items c.add_contours.new.output.ranges.items in
     on_ok_weaker c.add_contours.result
-    (λ shown. contours_shown (asked g.I.Wide.WideIntNumber.width g.I.WideUInt.UIntNumber.natural c.args.graph.now.fill_rule c.args.overlay_rule c.args.options)
+    (λ shown. contours_shown (asked g.I.Wide.WideIntNumber.width g.I.WideUInt.UIntNumber.natural
+    c.args.graph.now.fill_rule c.args.overlay_rule c.args.options)
     (graph_edges c.args.graph.now) (plain_walks whole c.in_ok-walks.walks.items) c.in_ok-walks.ensures.kept paths
-    (subst (λ ws. AllZip (IsKeptOrThinned c.args.options.preserve_output_collinear) (map points_of (plain_walks whole ws)) paths) c.deref.ensures.value shown))
+    (subst (λ ws. AllZip (IsKeptOrThinned c.args.options.preserve_output_collinear)
+    (map points_of (plain_walks whole ws)) paths) c.deref.ensures.value shown))
     c.add_contours.ensures.shown

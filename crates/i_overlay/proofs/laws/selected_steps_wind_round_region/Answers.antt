@@ -9,5 +9,6 @@ use Rattle.i_overlay.proofs.laws.selected_steps_wind_round_region.Goals as goal
 pub returns : goal.returns
 returns c = λ q limit most old new balanced arranged content p.
     selected_steps_wind (rules_hold q.fill q.rule) subj_of clip_of new
-    (ruled_content limit new content arranged.reached.merged.ascending arranged.reached.settled (arranged.balanced balanced) q.fill q.rule)
+    (ruled_content limit new content arranged.reached.merged.ascending arranged.reached.settled
+    (arranged.balanced balanced) q.fill q.rule)
     (is_on_left q.output_direction) p

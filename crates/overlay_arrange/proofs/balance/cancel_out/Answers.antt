@@ -8,7 +8,9 @@ use Rattle.overlay_geom.specs.Points.{plain_point}
 use Rattle.overlay_geom.proofs.Mapped.{read_mapped}
 use Rattle.overlay_geom.proofs.PointComparisons.{point_cmp-is_less}
 use Rattle.overlay_arrange.specs.Ends.{plain_end, plain_ends}
-use Rattle.overlay_arrange.proofs.EndSums.{SumsUpAt, neither_before, first_here, nothing_summed, none_before, none_before_after, same_point, next_point, sum_within, none_so_far, all_cancel, sum_cancels, subj_near, clip_near}
+use Rattle.overlay_arrange.proofs.EndSums.{SumsUpAt, neither_before, first_here, nothing_summed, none_before}
+use Rattle.overlay_arrange.proofs.EndSums.{none_before_after, same_point, next_point, sum_within, none_so_far}
+use Rattle.overlay_arrange.proofs.EndSums.{all_cancel, sum_cancels, subj_near, clip_near}
 use Rattle.overlay_arrange.proofs.balance.cancel_out.Goals as goal
 use Rattle.overlay_arrange.proofs.balance.cancel_out.Goals.{then-is_lt+else-not-is_zero, else-is_lt}
 
@@ -19,7 +21,8 @@ loop-end-init g c =
     let n = plain_end whole c.index-ends-0.result in
     let some : 0 < length c.args.ends.now = search rules in
     let lt : 0 < length ns = rw length-map some in
-    let is : get_or ns 0 n ≡ n = read_mapped (plain_end whole) c.args.ends.now 0 c.index-ends-0.result n some c.index-ends-0.is in (
+    let is : get_or ns 0 n ≡ n = read_mapped (plain_end whole) c.args.ends.now 0 c.index-ends-0.result n some
+    c.index-ends-0.is in (
       nothing_summed (λ n. n.subj) ns n.point,
       nothing_summed (λ n. n.clip) ns n.point,
       none_before ns c.requires.order 0 n lt is,
@@ -32,14 +35,18 @@ returns-then-not-is_zero g c =
     let i = c.loop-end.end-index in
     let n = plain_end whole c.end-item.result in
     let lt : i < length ns = rw length-map c.loop-end-test.true in
-    let is : get_or ns i n ≡ n = read_mapped (plain_end whole) c.args.ends.now i c.end-item.result n c.loop-end-test.true c.end-item.is in
+    let is : get_or ns i n ≡ n = read_mapped (plain_end whole) c.args.ends.now i c.end-item.result n
+    c.loop-end-test.true c.end-item.is in
     let p = plain_point whole c.loop-end.point in
-    let test : c.is_lt.result ≡ point_lt p n.point = rw (c.is_lt.ensures, c.compare_points.ensures) (point_cmp-is_less p n.point) in
+    let test : c.is_lt.result ≡ point_lt p n.point = rw (c.is_lt.ensures, c.compare_points.ensures)
+    (point_cmp-is_less p n.point) in
     let before = sym test ∙ c.if-is_lt.true in (
       λ t. absurd (false≢true t),
       λ cancel. c.if-not-is_zero.ensures.1 (
-        none_so_far (λ n. n.subj) ns i p c.loop-end.sum.subj c.loop-end.invariant.0 n lt is c.requires.order before cancel.subj,
-        none_so_far (λ n. n.clip) ns i p c.loop-end.sum.clip c.loop-end.invariant.1 n lt is c.requires.order before cancel.clip,
+        none_so_far (λ n. n.subj) ns i p c.loop-end.sum.subj c.loop-end.invariant.0 n lt is c.requires.order before
+            cancel.subj,
+        none_so_far (λ n. n.clip) ns i p c.loop-end.sum.clip c.loop-end.invariant.1 n lt is c.requires.order before
+            cancel.clip,
       ),
     )
 
@@ -50,7 +57,8 @@ with_end-sum-requires-clause-subj g c =
     let i = c.loop-end.end-index in
     let n = plain_end whole c.end-item.result in
     let lt : i < length ns = rw length-map c.loop-end-test.true in
-    let is : get_or ns i n ≡ n = read_mapped (plain_end whole) c.args.ends.now i c.end-item.result n c.loop-end-test.true c.end-item.is in
+    let is : get_or ns i n ≡ n = read_mapped (plain_end whole) c.args.ends.now i c.end-item.result n
+    c.loop-end-test.true c.end-item.is in
     let p = plain_point whole c.loop-end.point in
     sum_within (λ n. n.subj) ns i p c.loop-end.sum.subj c.loop-end.invariant.0 n lt is subj_near c.requires.light
 
@@ -61,7 +69,8 @@ with_end-sum-requires-clause-clip g c =
     let i = c.loop-end.end-index in
     let n = plain_end whole c.end-item.result in
     let lt : i < length ns = rw length-map c.loop-end-test.true in
-    let is : get_or ns i n ≡ n = read_mapped (plain_end whole) c.args.ends.now i c.end-item.result n c.loop-end-test.true c.end-item.is in
+    let is : get_or ns i n ≡ n = read_mapped (plain_end whole) c.args.ends.now i c.end-item.result n
+    c.loop-end-test.true c.end-item.is in
     let p = plain_point whole c.loop-end.point in
     sum_within (λ n. n.clip) ns i p c.loop-end.sum.clip c.loop-end.invariant.1 n lt is clip_near c.requires.light
 
@@ -72,9 +81,11 @@ loop-end-preserved g c =
     let i = c.loop-end.end-index in
     let n = plain_end whole c.end-item.result in
     let lt : i < length ns = rw length-map c.loop-end-test.true in
-    let is : get_or ns i n ≡ n = read_mapped (plain_end whole) c.args.ends.now i c.end-item.result n c.loop-end-test.true c.end-item.is in
+    let is : get_or ns i n ≡ n = read_mapped (plain_end whole) c.args.ends.now i c.end-item.result n
+    c.loop-end-test.true c.end-item.is in
     let p = plain_point whole c.loop-end.point in
-    let test : c.is_lt.result ≡ point_lt p n.point = rw (c.is_lt.ensures, c.compare_points.ensures) (point_cmp-is_less p n.point) in
+    let test : c.is_lt.result ≡ point_lt p n.point = rw (c.is_lt.ensures, c.compare_points.ensures)
+    (point_cmp-is_less p n.point) in
     let q = plain_point whole c.if-is_lt.point in
     let after = none_before_after ns c.requires.order i n lt is in
     let least : point_lt n.point p ≡ false = first_here ns i n lt is p c.loop-end.invariant.2 in
@@ -83,12 +94,16 @@ loop-end-preserved g c =
       | else-is_lt w ↦ ap (plain_point whole) w.point-is ∙ neither_before p n.point (sym test ∙ w.if-is_lt.false) least
     ] in
     let subj : SumsUpAt (λ n. n.subj) ns (i + 1) n.point (c.loop-end.sum.subj +ℤ n.subj) = elim c.if-is_lt.branch [
-      | then-is_lt+else-not-is_zero w ↦ next_point (λ n. n.subj) ns i p c.loop-end.sum.subj c.loop-end.invariant.0 n lt is (w.if-not-is_zero.ensures.0 refl).0
-      | else-is_lt w ↦ same_point (λ n. n.subj) ns i p c.loop-end.sum.subj c.loop-end.invariant.0 n lt is (neither_before p n.point (sym test ∙ w.if-is_lt.false) least)
+      | then-is_lt+else-not-is_zero w ↦ next_point (λ n. n.subj) ns i p c.loop-end.sum.subj c.loop-end.invariant.0 n lt
+          is (w.if-not-is_zero.ensures.0 refl).0
+      | else-is_lt w ↦ same_point (λ n. n.subj) ns i p c.loop-end.sum.subj c.loop-end.invariant.0 n lt is
+          (neither_before p n.point (sym test ∙ w.if-is_lt.false) least)
     ] in
     let clip : SumsUpAt (λ n. n.clip) ns (i + 1) n.point (c.loop-end.sum.clip +ℤ n.clip) = elim c.if-is_lt.branch [
-      | then-is_lt+else-not-is_zero w ↦ next_point (λ n. n.clip) ns i p c.loop-end.sum.clip c.loop-end.invariant.1 n lt is (w.if-not-is_zero.ensures.0 refl).1
-      | else-is_lt w ↦ same_point (λ n. n.clip) ns i p c.loop-end.sum.clip c.loop-end.invariant.1 n lt is (neither_before p n.point (sym test ∙ w.if-is_lt.false) least)
+      | then-is_lt+else-not-is_zero w ↦ next_point (λ n. n.clip) ns i p c.loop-end.sum.clip c.loop-end.invariant.1 n lt
+          is (w.if-not-is_zero.ensures.0 refl).1
+      | else-is_lt w ↦ same_point (λ n. n.clip) ns i p c.loop-end.sum.clip c.loop-end.invariant.1 n lt is
+          (neither_before p n.point (sym test ∙ w.if-is_lt.false) least)
     ] in (
       subst (λ s. SumsUpAt (λ n. n.subj) ns (i + 1) q s) (sym c.with_end-sum.ensures.subj)
           (subst (λ r. SumsUpAt (λ n. n.subj) ns (i + 1) r (c.loop-end.sum.subj +ℤ n.subj)) (sym here) subj),

@@ -4,14 +4,14 @@ use Rattle.overlay_geom.specs.Points.{plain_point}
 use Rattle.overlay_arrange.specs.Content.{plain_edge}
 use Rattle.overlay_arrange.specs.Ends.{CountedEnd, plain_end, counted_ends}
 use Rattle.overlay_arrange.proofs.Appended.{next_two_joined}
-use Rattle.overlay_arrange.proofs.TurnedCounts.{widened, turned_fits, turned_is}
+use Rattle.overlay_arrange.proofs.ReversedCounts.{widened, reversed_fits, reversed_is}
 use Rattle.overlay_arrange.proofs.balance.counted_ends.Goals as goal
 
 pub overflow_sub-subj : goal.overflow_sub-subj
-overflow_sub-subj g c = turned_fits c.subj.result c.from-subj.result c.subj.type_inv c.from-subj.ensures
+overflow_sub-subj g c = reversed_fits c.subj.result c.from-subj.result c.subj.type_inv c.from-subj.ensures
 
 pub overflow_sub-clip : goal.overflow_sub-clip
-overflow_sub-clip g c = turned_fits c.clip.result c.from-clip.result c.clip.type_inv c.from-clip.ensures
+overflow_sub-clip g c = reversed_fits c.clip.result c.from-clip.result c.clip.type_inv c.from-clip.ensures
 
 pub loop-edge-preserved : goal.loop-edge-preserved
 loop-edge-preserved g c =
@@ -21,10 +21,14 @@ loop-edge-preserved g c =
     let end : ℤ → ℤ → CountedEnd = λ s t. record { point = plain_point whole edge.b; subj = s; clip = t } in
     let both : ℤ → ℤ → List CountedEnd = λ s t. start (neg_ℤ s) (neg_ℤ t) ∷ end s t ∷ [] in
     let join : CountedEnd → CountedEnd → List CountedEnd = λ m n. m ∷ n ∷ [] in
-    next_two_joined (plain_end whole) counted_ends (plain_edge whole g.C.EdgeCount.counts) c.loop-edge.ends.items c.push.new.self.items c.push-in-loop-edge.new.self.items
-    _ _ c.args.edges.now c.loop-edge.edge-index edge c.loop-edge-test.true c.edge-item.is c.in_ok-push.ensures.items c.in_ok-push-2.ensures.items
+    next_two_joined (plain_end whole) counted_ends (plain_edge whole g.C.EdgeCount.counts) c.loop-edge.ends.items
+    c.push.new.self.items c.push-in-loop-edge.new.self.items
+    _ _ c.args.edges.now c.loop-edge.edge-index edge c.loop-edge-test.true c.edge-item.is c.in_ok-push.ensures.items
+    c.in_ok-push-2.ensures.items
     (ap₂ join
-    (ap₂ start (turned_is c.subj.result c.from-subj.result c.subj.type_inv c.from-subj.ensures) (turned_is c.clip.result c.from-clip.result c.clip.type_inv c.from-clip.ensures))
-    (ap₂ end (widened c.subj.result c.from-subj.result c.subj.type_inv c.from-subj.ensures) (widened c.clip.result c.from-clip.result c.clip.type_inv c.from-clip.ensures))
+    (ap₂ start (reversed_is c.subj.result c.from-subj.result c.subj.type_inv c.from-subj.ensures)
+    (reversed_is c.clip.result c.from-clip.result c.clip.type_inv c.from-clip.ensures))
+    (ap₂ end (widened c.subj.result c.from-subj.result c.subj.type_inv c.from-subj.ensures)
+    (widened c.clip.result c.from-clip.result c.clip.type_inv c.from-clip.ensures))
     ∙ ap₂ both c.subj.ensures c.clip.ensures)
     c.loop-edge.invariant

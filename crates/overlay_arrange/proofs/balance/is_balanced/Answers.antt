@@ -8,7 +8,8 @@ use Rattle.overlay_geom.specs.Resolved.{point_cmp}
 use Rattle.overlay_geom.proofs.PointComparisons.{point_cmp-is_less}
 use Rattle.overlay_arrange.specs.Content.{plain_edges}
 use Rattle.overlay_arrange.specs.Ends.{plain_end, plain_ends, AreSummable, CancelOut}
-use Rattle.overlay_arrange.proofs.CountedEnds.{balanced_where_cancelled, cancelled_where_balanced, summable, held_before, held_before-order, by_point-from_sorted}
+use Rattle.overlay_arrange.proofs.CountedEnds.{balanced_where_cancelled, cancelled_where_balanced, summable}
+use Rattle.overlay_arrange.proofs.CountedEnds.{held_before, held_before-order, by_point-from_sorted}
 use Rattle.overlay_arrange.proofs.balance.is_balanced.Goals as goal
 
 pub cancel_out-requires : goal.cancel_out-requires
@@ -31,7 +32,8 @@ returns-clause-balanced g c =
     let sorted = c.sort_by.new.self.items in
     let moved = subst (λ ns. IsPermutation ns (plain_ends whole sorted)) c.in_ok-ends.ensures.ok
     (IsPermutation-map (plain_end whole) c.in_ok-ends.ends.items sorted c.in_ok-sort_by.ensures.permutation) in (
-      λ t. balanced_where_cancelled es (plain_ends whole sorted) moved (subst (λ ns. CancelOut (plain_ends whole ns)) c.deref.ensures.value (c.cancel_out.ensures.0 t)),
+      λ t. balanced_where_cancelled es (plain_ends whole sorted) moved
+          (subst (λ ns. CancelOut (plain_ends whole ns)) c.deref.ensures.value (c.cancel_out.ensures.0 t)),
       λ balanced. c.cancel_out.ensures.1 (subst (λ ns. CancelOut (plain_ends whole ns)) (sym c.deref.ensures.value)
           (cancelled_where_balanced es (plain_ends whole sorted) moved balanced)),
     )

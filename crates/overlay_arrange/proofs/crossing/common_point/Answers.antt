@@ -15,4 +15,5 @@ pub returns-then-is_on_line-2 : goal.returns-then-is_on_line-2
 returns-then-is_on_line-2 g c =
     let e = ends_of (plain_edge g.I.IntNumber.whole g.C.EdgeCount.counts c.args.e.now) in
     let f = ends_of (plain_edge g.I.IntNumber.whole g.C.EdgeCount.counts c.args.f.now) in
-    sym (crossing_at_other_end e f c.requires.forth c.requires.back (c.is_on_line-else-is_on_line.ensures.0 c.if-is_on_line-2.true))
+    sym (crossing_at_other_end e f c.requires.forth c.requires.back
+    (c.is_on_line-else-is_on_line.ensures.0 c.if-is_on_line-2.true))

@@ -40,7 +40,8 @@ part_way-requires-2-clause-divides g c =
     rw d (part_way_across e f c.requires.across).2
 
 -- the point that lies so far along e in both coordinates is the crossing
-read_crossing : (e f : Edge) (x y t d : ℤ) → t ≡ to_line e f → d ≡ across e f → x ≡ part_way e.a.x e.b.x t d → y ≡ part_way e.a.y e.b.y t d →
+read_crossing : (e f : Edge) (x y t d : ℤ) → t ≡ to_line e f → d ≡ across e f → x ≡ part_way e.a.x e.b.x t d →
+    y ≡ part_way e.a.y e.b.y t d →
     (let p : Point = record { x = x; y = y } in p ≡ crossing e f)
 read_crossing e f x y t d t_is d_is x_is y_is = rw (x_is, y_is, t_is, d_is)
 
@@ -67,4 +68,5 @@ returns-then-is_eq-2 g c =
     let t : g.I.Wide.WideIntNumber.whole c.magnitude-t.result ≡ to_line e f = search rules in
     let d : g.I.Wide.WideIntNumber.whole c.magnitude-d.result ≡ across e f = search rules in
     sym (crossing_at_end e f c.requires.across
-    (sym t ∙ same_from_compared _ _ c.compare.result c.is_eq-2.result c.compare.ensures c.is_eq-2.ensures c.if-is_eq-2.true ∙ d))
+    (sym t ∙ same_from_compared _ _ c.compare.result c.is_eq-2.result c.compare.ensures c.is_eq-2.ensures
+    c.if-is_eq-2.true ∙ d))

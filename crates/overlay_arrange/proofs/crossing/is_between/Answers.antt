@@ -19,4 +19,5 @@ returns-else-is_ge g c =
     let v = plain_point g.I.IntNumber.whole c.args.v in
     let a = plain_point g.I.IntNumber.whole c.args.e.now.a in
     let b = plain_point g.I.IntNumber.whole c.args.e.now.b in
-    c.if-is_ge.false ∙ sym (ap (λ s. s && not (point_lt b v)) (not_before v a _ _ c.compare_points.ensures c.is_ge.ensures _ c.if-is_ge.false))
+    c.if-is_ge.false ∙ sym (ap (λ s. s && not (point_lt b v))
+    (not_before v a _ _ c.compare_points.ensures c.is_ge.ensures _ c.if-is_ge.false))

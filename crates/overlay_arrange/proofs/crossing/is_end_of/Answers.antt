@@ -12,5 +12,7 @@ returns-else-is_same g c =
     let a = plain c.args.e.now.a in
     let b = plain c.args.e.now.b in
     let at_a = Decides-at _ _ c.is_same.ensures (Decides-point_eq v a) in
-    let at_b = Decides-at _ _ c.is_same-else-is_same.ensures (Decides-point_eq v b) in
-    (λ yes. inr (at_b.0 yes), λ end. ⊎_elim (λ is. absurd (not_from_Decides _ at_a c.if-is_same.false is)) (λ is. at_b.1 is) end)
+    let at_b = Decides-at _ _ c.is_same-else-is_same.ensures (Decides-point_eq v b) in (
+      λ yes. inr (at_b.0 yes),
+      λ end. ⊎_elim (λ is. absurd (not_from_Decides _ at_a c.if-is_same.false is)) (λ is. at_b.1 is) end,
+    )

@@ -13,7 +13,8 @@ returns-in_ok-push_inside-2-clause-ok g c =
     let e = plain_edge whole g.C.EdgeCount.counts c.args.e.now in
     let f = plain_edge whole g.C.EdgeCount.counts c.args.f.now in
     elim c.match-matches.branch [
-      | in-Across w ↦ crossing_added c.args.i e c.args.j f (plain_point whole c.common_point-point.result) c.requires.across w.in-Across.ensures c.common_point-point.ensures
+      | in-Across w ↦ crossing_added c.args.i e c.args.j f (plain_point whole c.common_point-point.result)
+          c.requires.across w.in-Across.ensures c.common_point-point.ensures
           c.in_ok-push_inside.ensures.ok c.in_ok-push_inside-2.ensures.ok
       | in_default w ↦ absurd (cc (w.matches-is, c.if-matches.true))
     ]
@@ -25,6 +26,8 @@ returns-else-matches-clause-ok g c =
     let f = plain_edge whole g.C.EdgeCount.counts c.args.f.now in
     elim c.match-matches.branch [
       | in-Across w ↦ absurd (cc (w.matches-is, c.if-matches.false))
-      | in_default w ↦ none_where_one_across c.args.i e c.args.j f (plain_meetings whole c.args.meetings.now.items) c.place_by.result
-          ((Decides-point_lt f.a f.b).0 c.requires.other.forward) c.requires.across c.place_by.ensures w.in_default.not-Across
+      | in_default w ↦ none_where_one_across c.args.i e c.args.j f (plain_meetings whole c.args.meetings.now.items)
+          c.place_by.result
+          ((Decides-point_lt f.a f.b).0 c.requires.other.forward) c.requires.across c.place_by.ensures
+          w.in_default.not-Across
     ]

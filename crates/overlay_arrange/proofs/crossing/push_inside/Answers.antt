@@ -12,10 +12,12 @@ returns-in_ok-push-clause-ok g c =
     let whole = g.I.IntNumber.whole in
     point_pushed c.args.i (plain_edge whole g.C.EdgeCount.counts c.args.e.now) (plain_point whole c.args.v)
     (plain_meetings whole c.args.meetings.now.items) (plain_meetings whole c.push.new.self.items)
-    (mapped_pushed (plain_meeting whole) c.args.meetings.now.items c.push.new.self.items _ _ c.in_ok-push.ensures.items refl)
+    (mapped_pushed (plain_meeting whole) c.args.meetings.now.items c.push.new.self.items _ _ c.in_ok-push.ensures.items
+    refl)
 
 pub returns-else-not-is_end_of-clause-ok : goal.returns-else-not-is_end_of-clause-ok
 returns-else-not-is_end_of-clause-ok g c =
     let whole = g.I.IntNumber.whole in
-    end_left_out c.args.i (plain_edge whole g.C.EdgeCount.counts c.args.e.now) (plain_point whole c.args.v) (plain_meetings whole c.args.meetings.now.items)
+    end_left_out c.args.i (plain_edge whole g.C.EdgeCount.counts c.args.e.now) (plain_point whole c.args.v)
+    (plain_meetings whole c.args.meetings.now.items)
     (c.if-not-is_end_of.ensures.0 refl)

@@ -1,19 +1,9 @@
--- Edges at heights that are apart, and edges of which the one lies beside the other one's line, meet nowhere.
-use Rattle.std.proofs.Common.{sym, ◌∙◌}
+-- Edges of which the one lies beside the other one's line meet nowhere.
 use Rattle.overlay_geom.proofs.PointOrder.{Decides-point_lt}
 use Rattle.overlay_arrange.specs.Content.{plain_edge}
 use Rattle.overlay_arrange.specs.Meetings.{plain_meetings}
-use Rattle.overlay_arrange.proofs.PairMeetings.{none_where_apart, none_where_beside}
+use Rattle.overlay_arrange.proofs.PairMeetings.{none_where_beside}
 use Rattle.overlay_arrange.proofs.crossing.push_meetings.Goals as goal
-
-pub returns-then-are_apart_in_y-clause-ok : goal.returns-then-are_apart_in_y-clause-ok
-returns-then-are_apart_in_y-clause-ok g c =
-    let whole = g.I.IntNumber.whole in
-    let e = plain_edge whole g.C.EdgeCount.counts c.args.e.now in
-    let f = plain_edge whole g.C.EdgeCount.counts c.args.f.now in
-    none_where_apart c.args.i e c.args.j f (plain_meetings whole c.args.meetings.now.items)
-    ((Decides-point_lt e.a e.b).0 c.requires.one.forward) ((Decides-point_lt f.a f.b).0 c.requires.other.forward)
-    (sym c.are_apart_in_y.ensures ∙ c.if-are_apart_in_y.true)
 
 pub returns-in-Beside-clause-ok : goal.returns-in-Beside-clause-ok
 returns-in-Beside-clause-ok g c =

@@ -1,5 +1,6 @@
 -- Each edge is held and light, and is led through points in range; a heavy beginning makes a heavy whole.
-use Rattle.std.proofs.Common.{◌≡◌, ℕ, ◌≤◌, ◌<◌, ◌+◌, ◌++◌, ℤ, List, All, length, map, get_or, drop, refl, sym, subst, ap, ◌∙◌, append-nil, arith, rules}
+use Rattle.std.proofs.Common.{◌≡◌, ℕ, ◌≤◌, ◌<◌, ◌+◌, ◌++◌, ℤ, List, All, length, map, get_or, drop, refl, sym, subst}
+use Rattle.std.proofs.Common.{ap, ◌∙◌, append-nil, arith, rules}
 use Rattle.std.proofs.lemmas.Bool.{false≢true}
 use Rattle.std.proofs.lemmas.List.{at_drop_all}
 use Rattle.overlay_arrange.specs.declared.edge.CountedEdge.{CountedEdge}
@@ -30,30 +31,41 @@ use Rattle.overlay_arrange.proofs.cut.cut_edges.Goals.{then-not-are_on_line, els
 
 pub push_pieces-requires-clause-held : goal.push_pieces-requires-clause-held
 push_pieces-requires-clause-held g c =
-    All-mapped_at (IsHeld g.I.IntNumber.limit) (plain_edge g.I.IntNumber.whole g.C.EdgeCount.counts) c.args.edges.now c.loop-i.i c.index-edges-i.result
+    All-mapped_at (IsHeld g.I.IntNumber.limit) (plain_edge g.I.IntNumber.whole g.C.EdgeCount.counts) c.args.edges.now
+    c.loop-i.i c.index-edges-i.result
     c.loop-i-test.true c.index-edges-i.is c.requires.content.held
 
 pub push_pieces-requires-clause-light : goal.push_pieces-requires-clause-light
 push_pieces-requires-clause-light g c =
     let plain = plain_edge g.I.IntNumber.whole g.C.EdgeCount.counts in
-    let bound = weight_of_entry (plain_edges g.I.IntNumber.whole g.C.EdgeCount.counts c.args.edges.now) (plain c.index-edges-i.result)
+    let bound = weight_of_entry (plain_edges g.I.IntNumber.whole g.C.EdgeCount.counts c.args.edges.now)
+    (plain c.index-edges-i.result)
     (Contains-mapped plain c.args.edges.now c.loop-i.i c.index-edges-i.result c.loop-i-test.true c.index-edges-i.is) in
     omega (arith, bound, c.requires.content.light)
 
 -- so it is led through the points of its meetings
-led_at : {I C : Type 0} (limit : ℕ) (whole : I → ℤ) (counts : C → Counts) (edges : List (CountedEdge I C)) (i : ℕ) (e : CountedEdge I C) (ms ns : List (Meeting I)) (ps qs : List (IntPoint I)) →
-    All (IsHeld limit) (plain_edges whole counts edges) → i < length edges → e ≡ get_or edges i e → AreMeetings (plain_edges whole counts edges) (plain_meetings whole ms) →
-    ns ≡ ms → ArePointsAt (plain_meetings whole ns) i (ends_of (plain_edge whole counts e)) (plain_points whole ps) → qs ≡ ps →
+led_at : {I C : Type 0} (limit : ℕ) (whole : I → ℤ) (counts : C → Counts) (edges : List (CountedEdge I C)) (i : ℕ)
+    (e : CountedEdge I C) (ms ns : List (Meeting I)) (ps qs : List (IntPoint I)) →
+    All (IsHeld limit) (plain_edges whole counts edges) → i < length edges → e ≡ get_or edges i e →
+    AreMeetings (plain_edges whole counts edges) (plain_meetings whole ms) →
+    ns ≡ ms → ArePointsAt (plain_meetings whole ns) i (ends_of (plain_edge whole counts e)) (plain_points whole ps) →
+    qs ≡ ps →
     IsLedThrough limit (plain_edges whole counts edges) (plain_edge whole counts e) (plain_points whole qs)
 led_at limit whole counts edges i e ms ns ps qs held within is meetings read points taken =
-    led_through limit (plain_edges whole counts edges) held i (plain_edge whole counts e) (placed_in_mapped (plain_edge whole counts) edges i e within is) (plain_meetings whole ns) (plain_points whole qs)
+    led_through limit (plain_edges whole counts edges) held i (plain_edge whole counts e)
+    (placed_in_mapped (plain_edge whole counts) edges i e within is) (plain_meetings whole ns)
+    (plain_points whole qs)
     (subst (λ rs. AreMeetings (plain_edges whole counts edges) (plain_meetings whole rs)) (sym read) meetings)
-    (subst (λ rs. ArePointsAt (plain_meetings whole ns) i (ends_of (plain_edge whole counts e)) (plain_points whole rs)) (sym taken) points)
+    (subst (λ rs. ArePointsAt (plain_meetings whole ns) i (ends_of (plain_edge whole counts e)) (plain_points whole rs))
+    (sym taken) points)
 
 pub push_pieces-requires-clause-points : goal.push_pieces-requires-clause-points
 push_pieces-requires-clause-points g c =
-    (led_at g.I.IntNumber.limit g.I.IntNumber.whole g.C.EdgeCount.counts c.args.edges.now c.loop-i.i c.index-edges-i.result c.in_ok-meetings.meetings.items c.deref.result.now c.in_ok-points.points.items c.deref-in-loop-i.result.now
-    c.requires.content.held c.loop-i-test.true c.index-edges-i.is c.in_ok-meetings.ensures.ok c.deref.ensures.value c.in_ok-points.ensures.ok c.deref-in-loop-i.ensures.value).in_range
+    (led_at g.I.IntNumber.limit g.I.IntNumber.whole g.C.EdgeCount.counts c.args.edges.now c.loop-i.i
+    c.index-edges-i.result c.in_ok-meetings.meetings.items c.deref.result.now c.in_ok-points.points.items
+    c.deref-in-loop-i.result.now
+    c.requires.content.held c.loop-i-test.true c.index-edges-i.is c.in_ok-meetings.ensures.ok c.deref.ensures.value
+    c.in_ok-points.ensures.ok c.deref-in-loop-i.ensures.value).in_range
 
 pub returns-in_err-push_pieces-clause-too_many : goal.returns-in_err-push_pieces-clause-too_many
 returns-in_err-push_pieces-clause-too_many g c =
@@ -63,11 +75,17 @@ returns-in_err-push_pieces-clause-too_many g c =
     let pieces = pieces_through (cut_points es) in
     let e = plain c.index-edges-i.result in
     let rest = plain_edges g.I.IntNumber.whole g.C.EdgeCount.counts (drop (i + 1) c.args.edges.now) in
-    let all = next_appended pieces (edges_in c.loop-i.pieces) (edges_in c.loop-i.pieces ++ pieces e) e rest _ _ (mapped_rest plain c.args.edges.now i c.index-edges-i.result c.loop-i-test.true c.index-edges-i.is) c.loop-i.invariant.0 refl in
-    let led = led_at g.I.IntNumber.limit g.I.IntNumber.whole g.C.EdgeCount.counts c.args.edges.now i c.index-edges-i.result c.in_ok-meetings.meetings.items c.deref.result.now c.in_ok-points.points.items c.deref-in-loop-i.result.now
-    c.requires.content.held c.loop-i-test.true c.index-edges-i.is c.in_ok-meetings.ensures.ok c.deref.ensures.value c.in_ok-points.ensures.ok c.deref-in-loop-i.ensures.value in
+    let all = next_appended pieces (edges_in c.loop-i.pieces) (edges_in c.loop-i.pieces ++ pieces e) e rest _ _
+    (mapped_rest plain c.args.edges.now i c.index-edges-i.result c.loop-i-test.true c.index-edges-i.is)
+    c.loop-i.invariant.0 refl in
+    let led = led_at g.I.IntNumber.limit g.I.IntNumber.whole g.C.EdgeCount.counts c.args.edges.now i
+    c.index-edges-i.result c.in_ok-meetings.meetings.items c.deref.result.now c.in_ok-points.points.items
+    c.deref-in-loop-i.result.now
+    c.requires.content.held c.loop-i-test.true c.index-edges-i.is c.in_ok-meetings.ensures.ok c.deref.ensures.value
+    c.in_ok-points.ensures.ok c.deref-in-loop-i.ensures.value in
     λ refused. heavy_beginning 2147483648 (edges_in c.loop-i.pieces ++ pieces e) (flat_map pieces rest) _ all
-    (subst (λ ss. 2147483648 ≤ weight (edges_in c.loop-i.pieces ++ map (piece_along e) ss)) led.chain (c.push_pieces.ensures.too_many (search rules)))
+    (subst (λ ss. 2147483648 ≤ weight (edges_in c.loop-i.pieces ++ map (piece_along e) ss)) led.chain
+    (c.push_pieces.ensures.too_many (search rules)))
 
 pub loop-i-preserved : goal.loop-i-preserved
 loop-i-preserved g c =
@@ -76,25 +94,38 @@ loop-i-preserved g c =
     let i = c.loop-i.i in
     let e = plain c.index-edges-i.result in
     let rest = plain_edges g.I.IntNumber.whole g.C.EdgeCount.counts (drop (i + 1) c.args.edges.now) in
-    let led = led_at g.I.IntNumber.limit g.I.IntNumber.whole g.C.EdgeCount.counts c.args.edges.now i c.index-edges-i.result c.in_ok-meetings.meetings.items c.deref.result.now c.in_ok-points.points.items c.deref-in-loop-i.result.now
-    c.requires.content.held c.loop-i-test.true c.index-edges-i.is c.in_ok-meetings.ensures.ok c.deref.ensures.value c.in_ok-points.ensures.ok c.deref-in-loop-i.ensures.value in
+    let led = led_at g.I.IntNumber.limit g.I.IntNumber.whole g.C.EdgeCount.counts c.args.edges.now i
+    c.index-edges-i.result c.in_ok-meetings.meetings.items c.deref.result.now c.in_ok-points.points.items
+    c.deref-in-loop-i.result.now
+    c.requires.content.held c.loop-i-test.true c.index-edges-i.is c.in_ok-meetings.ensures.ok c.deref.ensures.value
+    c.in_ok-points.ensures.ok c.deref-in-loop-i.ensures.value in
     let along = AreLedAlongLines es in
-    let tested = led_at g.I.IntNumber.limit g.I.IntNumber.whole g.C.EdgeCount.counts c.args.edges.now i c.index-edges-i.result c.in_ok-meetings.meetings.items c.deref.result.now c.in_ok-points.points.items c.deref-in-loop-i-2.result.now
-    c.requires.content.held c.loop-i-test.true c.index-edges-i.is c.in_ok-meetings.ensures.ok c.deref.ensures.value c.in_ok-points.ensures.ok c.deref-in-loop-i-2.ensures.value in
+    let tested = led_at g.I.IntNumber.limit g.I.IntNumber.whole g.C.EdgeCount.counts c.args.edges.now i
+    c.index-edges-i.result c.in_ok-meetings.meetings.items c.deref.result.now c.in_ok-points.points.items
+    c.deref-in-loop-i-2.result.now
+    c.requires.content.held c.loop-i-test.true c.index-edges-i.is c.in_ok-meetings.ensures.ok c.deref.ensures.value
+    c.in_ok-points.ensures.ok c.deref-in-loop-i-2.ensures.value in
     let carry = carried_edge g.I.IntNumber.whole g.C.EdgeCount.counts in
     let splits = g.C.EdgeCount.splits in
-    let turns = g.C.EdgeCount.turns in
+    let reverses = g.C.EdgeCount.reverses in
     let next = mapped_rest carry c.args.edges.now i c.index-edges-i.result c.loop-i-test.true c.index-edges-i.is in (
-      next_appended (pieces_through (cut_points es)) (edges_in c.loop-i.pieces) _ e rest _ _ (mapped_rest plain c.args.edges.now i c.index-edges-i.result c.loop-i-test.true c.index-edges-i.is)
-          c.loop-i.invariant.0 (c.in_ok-push_pieces.ensures.ok ∙ ap (λ ss. edges_in c.loop-i.pieces ++ map (piece_along e) ss) led.chain),
+      next_appended (pieces_through (cut_points es)) (edges_in c.loop-i.pieces) _ e rest _ _
+          (mapped_rest plain c.args.edges.now i c.index-edges-i.result c.loop-i-test.true c.index-edges-i.is)
+          c.loop-i.invariant.0 (c.in_ok-push_pieces.ensures.ok
+          ∙ ap (λ ss. edges_in c.loop-i.pieces ++ map (piece_along e) ss) led.chain),
       λ new adds. (rw next at c.loop-i.invariant.1) new
-          (adds_both (ArePieces splits turns (computed_chain es))
-          (pieces_added splits turns es (carry c.index-edges-i.result) _ led.chain led.whole c.in_ok-push_pieces.ensures.carried) adds),
+          (adds_both (ArePieces splits reverses (computed_chain es))
+          (pieces_added splits reverses es (carry c.index-edges-i.result) _ led.chain led.whole
+          c.in_ok-push_pieces.ensures.carried) adds),
       elim c.if-not-are_on_line.branch [
-        | then-not-are_on_line w ↦ one_more_off along plain c.args.edges.now i c.index-edges-i.result c.loop-i-test.true c.index-edges-i.is
-            c.if-not-are_on_line.is_rounded (λ led_along. false≢true (w.if-not-are_on_line.ensures.1 (tested.on_line.1 led_along))) w.is_rounded-is
-        | else-not-are_on_line w ↦ one_more_along along plain c.args.edges.now i c.index-edges-i.result c.loop-i-test.true c.index-edges-i.is
-            c.loop-i.is_rounded c.if-not-are_on_line.is_rounded c.loop-i.invariant.2 (tested.on_line.0 (w.if-not-are_on_line.ensures.0 refl)) w.is_rounded-is
+        | then-not-are_on_line w ↦ one_more_off along plain c.args.edges.now i c.index-edges-i.result c.loop-i-test.true
+            c.index-edges-i.is
+            c.if-not-are_on_line.is_rounded
+            (λ led_along. false≢true (w.if-not-are_on_line.ensures.1 (tested.on_line.1 led_along))) w.is_rounded-is
+        | else-not-are_on_line w ↦ one_more_along along plain c.args.edges.now i c.index-edges-i.result
+            c.loop-i-test.true c.index-edges-i.is
+            c.loop-i.is_rounded c.if-not-are_on_line.is_rounded c.loop-i.invariant.2
+            (tested.on_line.0 (w.if-not-are_on_line.ensures.0 refl)) w.is_rounded-is
       ],
     )
 
@@ -102,34 +133,41 @@ pub returns-clause-ok : goal.returns-clause-ok
 returns-clause-ok g c =
     let es = plain_edges g.I.IntNumber.whole g.C.EdgeCount.counts c.args.edges.now in
     let past : length c.args.edges.now ≤ c.loop-i.i = search rules in
-    let none = at_drop_all (λ (fs : List (CountedEdge _ _)). edges_in c.loop-i.pieces ++ flat_map (pieces_through (cut_points es)) (plain_edges g.I.IntNumber.whole g.C.EdgeCount.counts fs))
+    let none = at_drop_all (λ (fs : List (CountedEdge _ _)). edges_in c.loop-i.pieces ++ flat_map
+    (pieces_through (cut_points es)) (plain_edges g.I.IntNumber.whole g.C.EdgeCount.counts fs))
     c.args.edges.now c.loop-i.i past in
     sym (append-nil (edges_in c.loop-i.pieces)) ∙ sym none ∙ c.loop-i.invariant.0
 
 pub loop-i-init : goal.loop-i-init
 loop-i-init g c =
     let es = plain_edges g.I.IntNumber.whole g.C.EdgeCount.counts c.args.edges.now in
-    let gives = ArePieces g.C.EdgeCount.splits g.C.EdgeCount.turns (computed_chain es) in
+    let gives = ArePieces g.C.EdgeCount.splits g.C.EdgeCount.reverses (computed_chain es) in
     rw (c.in_ok-pieces.ensures.empty) (refl, λ new adds. adds_all gives adds, none_rounded (AreLedAlongLines es))
 
 pub returns-clause-carried : goal.returns-clause-carried
 returns-clause-carried g c =
     let es = plain_edges g.I.IntNumber.whole g.C.EdgeCount.counts c.args.edges.now in
-    let gives = ArePieces g.C.EdgeCount.splits g.C.EdgeCount.turns (computed_chain es) in
+    let gives = ArePieces g.C.EdgeCount.splits g.C.EdgeCount.reverses (computed_chain es) in
     let past : length c.args.edges.now ≤ c.loop-i.i = search rules in
-    let none = at_drop_all (λ (fs : List (CountedEdge _ _)). carried_edges g.I.IntNumber.whole g.C.EdgeCount.counts fs) c.args.edges.now c.loop-i.i past in
+    let none = at_drop_all (λ (fs : List (CountedEdge _ _)). carried_edges g.I.IntNumber.whole g.C.EdgeCount.counts fs)
+    c.args.edges.now c.loop-i.i past in
     c.loop-i.invariant.1 c.loop-i.pieces
-    (subst (λ (xs : List (Carried g.row.C.Denot)). AddsGiven gives xs c.loop-i.pieces c.loop-i.pieces) (sym none) (adds_none gives c.loop-i.pieces))
+    (subst (λ (xs : List (Carried g.row.C.Denot)). AddsGiven gives xs c.loop-i.pieces c.loop-i.pieces) (sym none)
+    (adds_none gives c.loop-i.pieces))
 
 pub are_on_line-requires-clause-held : goal.are_on_line-requires-clause-held
 are_on_line-requires-clause-held g c =
-    All-mapped_at (IsHeld g.I.IntNumber.limit) (plain_edge g.I.IntNumber.whole g.C.EdgeCount.counts) c.args.edges.now c.loop-i.i c.index-edges-i.result
+    All-mapped_at (IsHeld g.I.IntNumber.limit) (plain_edge g.I.IntNumber.whole g.C.EdgeCount.counts) c.args.edges.now
+    c.loop-i.i c.index-edges-i.result
     c.loop-i-test.true c.index-edges-i.is c.requires.content.held
 
 pub are_on_line-requires-clause-points : goal.are_on_line-requires-clause-points
 are_on_line-requires-clause-points g c =
-    (led_at g.I.IntNumber.limit g.I.IntNumber.whole g.C.EdgeCount.counts c.args.edges.now c.loop-i.i c.index-edges-i.result c.in_ok-meetings.meetings.items c.deref.result.now c.in_ok-points.points.items c.deref-in-loop-i-2.result.now
-    c.requires.content.held c.loop-i-test.true c.index-edges-i.is c.in_ok-meetings.ensures.ok c.deref.ensures.value c.in_ok-points.ensures.ok c.deref-in-loop-i-2.ensures.value).in_range
+    (led_at g.I.IntNumber.limit g.I.IntNumber.whole g.C.EdgeCount.counts c.args.edges.now c.loop-i.i
+    c.index-edges-i.result c.in_ok-meetings.meetings.items c.deref.result.now c.in_ok-points.points.items
+    c.deref-in-loop-i-2.result.now
+    c.requires.content.held c.loop-i-test.true c.index-edges-i.is c.in_ok-meetings.ensures.ok c.deref.ensures.value
+    c.in_ok-points.ensures.ok c.deref-in-loop-i-2.ensures.value).in_range
 
 pub returns-clause-rounded : goal.returns-clause-rounded
 returns-clause-rounded g c =

@@ -1,5 +1,5 @@
--- The pieces so far and those of the edges to come make the whole: what adds the latter to the former cuts all edges. No point was
--- rounded where the edges so far are led along their lines.
+-- The pieces so far and those of the edges to come make the whole: what adds the latter to the former cuts all edges.
+-- No point was rounded where the edges so far are led along their lines.
 use Rattle.std.proofs.Common.{◌≡◌, ◌↔◌, ◌++◌, false, List, All, take, drop}
 use Rattle.std.specs.List.{flat_map}
 use Rattle.overlay_plane.specs.Carried.{Carried, edges_in}
@@ -15,9 +15,10 @@ invariant-loop-i g l =
     let plain = plain_edges g.I.IntNumber.whole g.C.EdgeCount.counts in
     let carried = carried_edges g.I.IntNumber.whole g.C.EdgeCount.counts in
     let splits = g.C.EdgeCount.splits in
-    let turns = g.C.EdgeCount.turns in
-    (edges_in l.pieces ++ flat_map (pieces_through (cut_points (plain l.edges))) (plain (drop l.i l.edges)) ≡ cut_edges (plain l.edges))
+    let reverses = g.C.EdgeCount.reverses in
+    (edges_in l.pieces ++ flat_map (pieces_through (cut_points (plain l.edges))) (plain (drop l.i l.edges)) ≡ cut_edges
+    (plain l.edges))
     × ((new : List (Carried g.row.C.Denot)) →
-    AddsGiven (ArePieces splits turns (computed_chain (plain l.edges))) (carried (drop l.i l.edges)) l.pieces new →
-    AreCutAlong splits turns (computed_chain (plain l.edges)) (carried l.edges) new)
+    AddsGiven (ArePieces splits reverses (computed_chain (plain l.edges))) (carried (drop l.i l.edges)) l.pieces new →
+    AreCutAlong splits reverses (computed_chain (plain l.edges)) (carried l.edges) new)
     × ((l.is_rounded ≡ false) ↔ All (AreLedAlongLines (plain l.edges)) (plain (take l.i l.edges)))

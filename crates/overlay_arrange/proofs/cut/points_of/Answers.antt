@@ -8,9 +8,11 @@ use Rattle.overlay_arrange.proofs.cut.points_of.Goals as goal
 
 pub loop-m-preserved : goal.loop-m-preserved
 loop-m-preserved g c =
-    next_mapped (plain_point g.I.IntNumber.whole) (λ (m : Meeting). m.point) (plain_meeting g.I.IntNumber.whole) c.loop-m.points.items _ _ c.args.meetings.now c.loop-m.m-index c.m-item.result
+    next_mapped (plain_point g.I.IntNumber.whole) (λ (m : Meeting). m.point) (plain_meeting g.I.IntNumber.whole)
+    c.loop-m.points.items _ _ c.args.meetings.now c.loop-m.m-index c.m-item.result
     c.loop-m-test.true c.m-item.is c.in_ok-push.ensures.items refl c.loop-m.invariant
 
 pub returns-clause-ok : goal.returns-clause-ok
 returns-clause-ok g c =
-    c.loop-m.invariant ∙ ap (map (λ (m : Meeting). m.point)) (mapped_whole (plain_meeting g.I.IntNumber.whole) c.args.meetings.now c.loop-m.m-index c.loop-m-test.false)
+    c.loop-m.invariant ∙ ap (map (λ (m : Meeting). m.point))
+    (mapped_whole (plain_meeting g.I.IntNumber.whole) c.args.meetings.now c.loop-m.m-index c.loop-m-test.false)

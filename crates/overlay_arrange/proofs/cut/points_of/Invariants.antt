@@ -6,4 +6,5 @@ use Rattle.overlay_arrange.proofs.cut.points_of.Given as goal
 
 abbrev pub invariant-loop-m : goal.invariant-loop-m
 invariant-loop-m g l =
-    plain_points g.I.IntNumber.whole l.points.items ≡ map (λ (m : Meeting). m.point) (plain_meetings g.I.IntNumber.whole (take l.m-index l.meetings))
+    plain_points g.I.IntNumber.whole l.points.items ≡ map (λ (m : Meeting). m.point)
+    (plain_meetings g.I.IntNumber.whole (take l.m-index l.meetings))

@@ -1,4 +1,5 @@
--- The pieces so far and those of the steps to come make the whole, and the chain has come to a point in range. Whatever adds the latter adds all.
+-- The pieces so far and those of the steps to come make the whole, and the chain has come to a point in range. Whatever
+-- adds the latter adds all.
 use Rattle.std.proofs.Common.{◌≡◌, ◌++◌, List, [], ◌∷◌, map, drop}
 use Rattle.std.specs.Prelude.{IsTrue}
 use Rattle.overlay_geom.specs.Plane.{steps_through}
@@ -14,11 +15,15 @@ abbrev pub invariant-loop-to : goal.invariant-loop-to
 invariant-loop-to g l =
     let at = plain_point g.I.IntNumber.whole in
     let e = plain_edge g.I.IntNumber.whole g.C.EdgeCount.counts l.e in
-    (edges_in l.pieces ++ map (piece_along e) (steps_through (at l.from) (plain_points g.I.IntNumber.whole (drop l.to-index l.points) ++ e.b ∷ []))
-    ≡ edges_in l.initial.pieces ++ map (piece_along e) (steps_through e.a (plain_points g.I.IntNumber.whole l.points ++ e.b ∷ [])))
+    (edges_in l.pieces ++ map (piece_along e)
+    (steps_through (at l.from) (plain_points g.I.IntNumber.whole (drop l.to-index l.points) ++ e.b ∷ []))
+    ≡ edges_in l.initial.pieces ++ map (piece_along e)
+    (steps_through e.a (plain_points g.I.IntNumber.whole l.points ++ e.b ∷ [])))
     × InRange g.I.IntNumber.limit (at l.from)
     × ((new : List (Carried g.row.C.Denot)) →
-    AddsGiven (GivesPiece g.C.EdgeCount.splits g.C.EdgeCount.turns (IsTrue l.is_whole) (carried_edge g.I.IntNumber.whole g.C.EdgeCount.counts l.e))
+    AddsGiven (GivesPiece g.C.EdgeCount.splits g.C.EdgeCount.reverses (IsTrue l.is_whole)
+    (carried_edge g.I.IntNumber.whole g.C.EdgeCount.counts l.e))
     (steps_through (at l.from) (plain_points g.I.IntNumber.whole (drop l.to-index l.points) ++ e.b ∷ [])) l.pieces new →
-    AddsGiven (GivesPiece g.C.EdgeCount.splits g.C.EdgeCount.turns (IsTrue l.is_whole) (carried_edge g.I.IntNumber.whole g.C.EdgeCount.counts l.e))
+    AddsGiven (GivesPiece g.C.EdgeCount.splits g.C.EdgeCount.reverses (IsTrue l.is_whole)
+    (carried_edge g.I.IntNumber.whole g.C.EdgeCount.counts l.e))
     (steps_through e.a (plain_points g.I.IntNumber.whole l.points ++ e.b ∷ [])) l.initial.pieces new)

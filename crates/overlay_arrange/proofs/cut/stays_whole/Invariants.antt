@@ -6,4 +6,5 @@ use Rattle.overlay_arrange.specs.Cut.{StaysWhole}
 use Rattle.overlay_arrange.proofs.cut.stays_whole.Given as goal
 
 abbrev pub invariant-loop-v : goal.invariant-loop-v
-invariant-loop-v g l = StaysWhole (plain_edge g.I.IntNumber.whole g.C.EdgeCount.counts l.e) (plain_points g.I.IntNumber.whole (take l.v-index l.points))
+invariant-loop-v g l = StaysWhole (plain_edge g.I.IntNumber.whole g.C.EdgeCount.counts l.e)
+    (plain_points g.I.IntNumber.whole (take l.v-index l.points))

@@ -7,15 +7,23 @@ use Rattle.overlay_arrange.proofs.SideBits.{bits_between_windings}
 use Rattle.overlay_arrange.proofs.fill_rays.fill_of.Goals as goal
 
 pub beyond-above-requires-clause-subj : goal.beyond-above-requires-clause-subj
-beyond-above-requires-clause-subj g c = winding_by-light subj_of subj_weighed (plain_edges g.I.IntNumber.whole g.C.EdgeCount.counts c.args.edges.now) (midpoint (ends_of (plain_edge g.I.IntNumber.whole g.C.EdgeCount.counts c.args.edge.now))) 2147483648 c.windings_below-below.result.subj c.requires.content.light c.windings_below-below.ensures.subj
+beyond-above-requires-clause-subj g c = winding_by-light subj_of subj_weighed
+    (plain_edges g.I.IntNumber.whole g.C.EdgeCount.counts c.args.edges.now)
+    (midpoint (ends_of (plain_edge g.I.IntNumber.whole g.C.EdgeCount.counts c.args.edge.now))) 2147483648
+    c.windings_below-below.result.subj c.requires.content.light c.windings_below-below.ensures.subj
 
 pub beyond-above-requires-clause-clip : goal.beyond-above-requires-clause-clip
-beyond-above-requires-clause-clip g c = winding_by-light clip_of clip_weighed (plain_edges g.I.IntNumber.whole g.C.EdgeCount.counts c.args.edges.now) (midpoint (ends_of (plain_edge g.I.IntNumber.whole g.C.EdgeCount.counts c.args.edge.now))) 2147483648 c.windings_below-below.result.clip c.requires.content.light c.windings_below-below.ensures.clip
+beyond-above-requires-clause-clip g c = winding_by-light clip_of clip_weighed
+    (plain_edges g.I.IntNumber.whole g.C.EdgeCount.counts c.args.edges.now)
+    (midpoint (ends_of (plain_edge g.I.IntNumber.whole g.C.EdgeCount.counts c.args.edge.now))) 2147483648
+    c.windings_below-below.result.clip c.requires.content.light c.windings_below-below.ensures.clip
 
 pub returns : goal.returns
 returns g c =
     bits_between_windings c.args.rule (plain_edges g.I.IntNumber.whole g.C.EdgeCount.counts c.args.edges.now)
     (plain_edge g.I.IntNumber.whole g.C.EdgeCount.counts c.args.edge.now) c.bits_between.result
-    c.windings_below-below.result.subj c.windings_below-below.result.clip c.beyond-above.result.subj c.beyond-above.result.clip
-    c.windings_below-below.ensures.subj c.windings_below-below.ensures.clip c.beyond-above.ensures.subj c.beyond-above.ensures.clip
+    c.windings_below-below.result.subj c.windings_below-below.result.clip c.beyond-above.result.subj
+    c.beyond-above.result.clip
+    c.windings_below-below.ensures.subj c.windings_below-below.ensures.clip c.beyond-above.ensures.subj
+    c.beyond-above.ensures.clip
     c.bits_between.ensures

@@ -8,5 +8,6 @@ pub returns : goal.returns
 returns g c =
     let e = ends_of (plain_edge g.I.IntNumber.whole g.C.EdgeCount.counts c.args.e.now) in
     let f = ends_of (plain_edge g.I.IntNumber.whole g.C.EdgeCount.counts c.args.f.now) in
-    let left = is_left-midpoint e f _ _ _ c.cross_at-first.ensures.value c.cross_at-second.ensures.value c.negate.ensures in
+    let left = is_left-midpoint e f _ _ _ c.cross_at-first.ensures.value c.cross_at-second.ensures.value
+    c.negate.ensures in
     cc

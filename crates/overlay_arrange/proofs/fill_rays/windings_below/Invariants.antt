@@ -6,6 +6,10 @@ use Rattle.overlay_arrange.proofs.fill_rays.windings_below.Given as goal
 
 abbrev pub invariant-loop-e : goal.invariant-loop-e
 invariant-loop-e g l = record {
-  subj : l.windings.subj ≡ winding_below subj_of (plain_edges g.I.IntNumber.whole g.C.EdgeCount.counts (take l.e-index l.edges)) (plain_edge g.I.IntNumber.whole g.C.EdgeCount.counts l.edge);
-  clip : l.windings.clip ≡ winding_below clip_of (plain_edges g.I.IntNumber.whole g.C.EdgeCount.counts (take l.e-index l.edges)) (plain_edge g.I.IntNumber.whole g.C.EdgeCount.counts l.edge);
+  subj : l.windings.subj ≡ winding_below subj_of
+      (plain_edges g.I.IntNumber.whole g.C.EdgeCount.counts (take l.e-index l.edges))
+      (plain_edge g.I.IntNumber.whole g.C.EdgeCount.counts l.edge);
+  clip : l.windings.clip ≡ winding_below clip_of
+      (plain_edges g.I.IntNumber.whole g.C.EdgeCount.counts (take l.e-index l.edges))
+      (plain_edge g.I.IntNumber.whole g.C.EdgeCount.counts l.edge);
 }

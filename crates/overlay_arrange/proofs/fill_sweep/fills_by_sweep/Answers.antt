@@ -11,7 +11,8 @@ use Rattle.overlay_geom.proofs.Numbered.{numbered_shuffled, told_more, all_told,
 use Rattle.overlay_scan.specs.Sweeps.{IsSwept}
 use Rattle.overlay_arrange.specs.Content.{plain_edge, plain_edges}
 use Rattle.overlay_arrange.specs.Rules.{fill_bits}
-use Rattle.overlay_arrange.specs.Starts.{plain_start, plain_starts, numbered_start, numbered_starts, wound_entries, IsSweepable}
+use Rattle.overlay_arrange.specs.Starts.{plain_start, plain_starts, numbered_start, numbered_starts, wound_entries}
+use Rattle.overlay_arrange.specs.Starts.{IsSweepable}
 use Rattle.overlay_arrange.proofs.Sweepable.{starts_permuted, bits_shuffled, by_start_sweepable}
 use Rattle.overlay_arrange.proofs.SweptFills.{swept_on, swept_for_next}
 use Rattle.overlay_arrange.proofs.fill_sweep.fills_by_sweep.Goals as goal
@@ -25,9 +26,11 @@ next_fill-requires-clause-edges g c =
     let ns = numbered_starts whole counts ss in
     let es = plain_edges whole counts c.args.edges.now in
     let by = c.in_ok-starting.ensures.ok in
-    let items : map (λ (n : Numbered CountedEdge). n.item) ns ≡ fs = map-map (λ (n : Numbered CountedEdge). n.item) (numbered_start whole counts) ss in
+    let items : map (λ (n : Numbered CountedEdge). n.item) ns ≡ fs = map-map (λ (n : Numbered CountedEdge). n.item)
+    (numbered_start whole counts) ss in
     let limit = g.I.IntNumber.limit in
-    let sweepable = by_start_sweepable limit es c.requires.content c.requires.ascending c.requires.settled c.requires.balanced ns by fs items in
+    let sweepable = by_start_sweepable limit es c.requires.content c.requires.ascending c.requires.settled
+    c.requires.balanced ns by fs items in
     subst (λ xs. IsSweepable limit (plain_starts whole counts xs)) (sym c.deref.ensures.value) sweepable
 
 pub next_fill-requires-clause-swept : goal.next_fill-requires-clause-swept
@@ -44,7 +47,8 @@ next_fill-requires-clause-swept g c =
     let within : i < length ss = omega arith in
     let lt : i < length fs = rw length-map within in
     subst (λ xs. (e : CountedEdge) → get_or (plain_starts whole counts xs) i e ≡ e →
-    IsSwept limit e.a.x (take i (wound_entries (plain_starts whole counts xs))) (g.S.Scan.content c.loop-i.scan)) (sym c.deref.ensures.value)
+    IsSwept limit e.a.x (take i (wound_entries (plain_starts whole counts xs))) (g.S.Scan.content c.loop-i.scan))
+    (sym c.deref.ensures.value)
     (λ e is. swept_for_next limit fs i e lt is (g.S.Scan.content c.loop-i.scan) c.loop-i.invariant.1)
 
 pub index_mut-requires : goal.index_mut-requires
@@ -60,9 +64,12 @@ index_mut-requires g c =
     let test = c.loop-i-test.true in
     let within : i < length ss = omega arith in
     let n = numbered_start whole counts c.index.result.now in
-    let here : get_or ns i n ≡ n = read_mapped (numbered_start whole counts) ss i c.index.result.now n within c.index.ensures in
-    let placed = All-contains (λ (m : Numbered CountedEdge). (m.place < length es) × (get_or es m.place m.item ≡ m.item)) ns n
-    (numbered_shuffled es ns c.in_ok-starting.ensures.ok.permutation).from (i, (let l = length-map ss (numbered_start whole counts) in omega arith), here) in
+    let here : get_or ns i n ≡ n = read_mapped (numbered_start whole counts) ss i c.index.result.now n within
+    c.index.ensures in
+    let placed = All-contains (λ (m : Numbered CountedEdge). (m.place < length es)
+    × (get_or es m.place m.item ≡ m.item)) ns n
+    (numbered_shuffled es ns c.in_ok-starting.ensures.ok.permutation).from
+    (i, (let l = length-map ss (numbered_start whole counts) in omega arith), here) in
     let less = placed.0 in
     let mapped = length-map c.args.edges.now (plain_edge whole counts) in
     let sides = c.loop-i.invariant.0 in
@@ -78,9 +85,11 @@ loop-i-preserved g c =
     let ns = numbered_starts whole counts ss in
     let es = plain_edges whole counts c.args.edges.now in
     let by = c.in_ok-starting.ensures.ok in
-    let items : map (λ (n : Numbered CountedEdge). n.item) ns ≡ fs = map-map (λ (n : Numbered CountedEdge). n.item) (numbered_start whole counts) ss in
+    let items : map (λ (n : Numbered CountedEdge). n.item) ns ≡ fs = map-map (λ (n : Numbered CountedEdge). n.item)
+    (numbered_start whole counts) ss in
     let limit = g.I.IntNumber.limit in
-    let sweepable = by_start_sweepable limit es c.requires.content c.requires.ascending c.requires.settled c.requires.balanced ns by fs items in
+    let sweepable = by_start_sweepable limit es c.requires.content c.requires.ascending c.requires.settled
+    c.requires.balanced ns by fs items in
     let i = c.loop-i.i in
     let size = c.in_ok-starting.starting.ok.0 in
     let counted = c.len-i-end.ensures in
@@ -88,19 +97,27 @@ loop-i-preserved g c =
     let within : i < length ss = omega arith in
     let lt : i < length fs = rw length-map within in
     let e = plain_start whole counts c.index.result.now in
-    let is : get_or fs i e ≡ e = read_mapped (plain_start whole counts) ss i c.index.result.now e within c.index.ensures in
+    let is : get_or fs i e ≡ e = read_mapped (plain_start whole counts) ss i c.index.result.now e within
+    c.index.ensures in
     let n = numbered_start whole counts c.index.result.now in
-    let here : get_or ns i n ≡ n = read_mapped (numbered_start whole counts) ss i c.index.result.now n within c.index.ensures in
+    let here : get_or ns i n ≡ n = read_mapped (numbered_start whole counts) ss i c.index.result.now n within
+    c.index.ensures in
     let t = g.S.Scan.content c.next_fill.new.scan in
-    let swept : IsSwept limit e.a.x (take (i + 1) (wound_entries fs)) t = subst (λ xs. (f : CountedEdge) → get_or (plain_starts whole counts xs) i f ≡ f →
-    IsSwept limit f.a.x (take (i + 1) (wound_entries (plain_starts whole counts xs))) t) c.deref.ensures.value c.in_ok-fill.ensures.swept e is in
-    let told : c.in_ok-fill.fill ≡ fill_bits c.args.rule fs e = subst (λ xs. (f : CountedEdge) → get_or (plain_starts whole counts xs) i f ≡ f →
-    c.in_ok-fill.fill ≡ fill_bits c.args.rule (plain_starts whole counts xs) f) c.deref.ensures.value c.in_ok-fill.ensures.fill e is in (
+    let swept : IsSwept limit e.a.x (take (i + 1) (wound_entries fs)) t = subst (λ xs. (f : CountedEdge) →
+    get_or (plain_starts whole counts xs) i f ≡ f →
+    IsSwept limit f.a.x (take (i + 1) (wound_entries (plain_starts whole counts xs))) t) c.deref.ensures.value
+    c.in_ok-fill.ensures.swept e is in
+    let told : c.in_ok-fill.fill ≡ fill_bits c.args.rule fs e = subst (λ xs. (f : CountedEdge) →
+    get_or (plain_starts whole counts xs) i f ≡ f →
+    c.in_ok-fill.fill ≡ fill_bits c.args.rule (plain_starts whole counts xs) f) c.deref.ensures.value
+    c.in_ok-fill.ensures.fill e is in (
       length-set c.loop-i.fills.items c.index.result.now.place c.in_ok-fill.fill ∙ c.loop-i.invariant.0,
       swept_on limit fs sweepable i e lt is t swept,
-      told_more (λ f m. m ≡ fill_bits c.args.rule fs f) 0 es ns (numbered_shuffled es ns by.permutation) c.loop-i.fills.items
+      told_more (λ f m. m ≡ fill_bits c.args.rule fs f) 0 es ns (numbered_shuffled es ns by.permutation)
+          c.loop-i.fills.items
           (c.loop-i.invariant.0 ∙ sym (length-map c.args.edges.now (plain_edge whole counts))) i n
-          (let l = length-map ss (numbered_start whole counts) in omega arith) here c.in_ok-fill.fill told c.loop-i.invariant.2,
+          (let l = length-map ss (numbered_start whole counts) in omega arith) here c.in_ok-fill.fill told
+          c.loop-i.invariant.2,
     )
 
 pub returns-clause-ok : goal.returns-clause-ok
@@ -112,7 +129,8 @@ returns-clause-ok g c =
     let ns = numbered_starts whole counts ss in
     let es = plain_edges whole counts c.args.edges.now in
     let by = c.in_ok-starting.ensures.ok in
-    let items : map (λ (n : Numbered CountedEdge). n.item) ns ≡ fs = map-map (λ (n : Numbered CountedEdge). n.item) (numbered_start whole counts) ss in
+    let items : map (λ (n : Numbered CountedEdge). n.item) ns ≡ fs = map-map (λ (n : Numbered CountedEdge). n.item)
+    (numbered_start whole counts) ss in
     let i = c.loop-i.i in
     let fills = c.loop-i.fills.items in
     let size = c.in_ok-starting.starting.ok.0 in
@@ -121,5 +139,6 @@ returns-clause-ok g c =
     let sides = c.loop-i.invariant.0 ∙ sym (length-map c.args.edges.now (plain_edge whole counts)) in
     let past : length ns ≤ i = let l = length-map ss (numbered_start whole counts) in omega arith in
     told_by_function (fill_bits c.args.rule es) es fills sides
-    (λ k x y lt. all_told (λ f m. m ≡ fill_bits c.args.rule fs f) 0 es ns (numbered_shuffled es ns by.permutation) fills sides i past c.loop-i.invariant.2 k x y lt
+    (λ k x y lt. all_told (λ f m. m ≡ fill_bits c.args.rule fs f) 0 es ns (numbered_shuffled es ns by.permutation) fills
+    sides i past c.loop-i.invariant.2 k x y lt
     ∙ bits_shuffled es fs (subst (IsPermutation es) items (starts_permuted es ns by)) c.args.rule (get_or es k x))

@@ -13,5 +13,6 @@ invariant-loop-i g l =
     let fs = plain_starts whole counts l.starting.items in
     let ns = numbered_starts whole counts l.starting.items in
     (length l.fills.items ≡ length l.edges)
-    × All (λ f. IsSwept g.I.IntNumber.limit f.edge.a.x (take l.i (wound_entries fs)) (g.S.Scan.content l.scan)) (drop l.i (wound_entries fs))
+    × All (λ f. IsSwept g.I.IntNumber.limit f.edge.a.x (take l.i (wound_entries fs)) (g.S.Scan.content l.scan))
+    (drop l.i (wound_entries fs))
     × All (λ n. get_or l.fills.items n.place 0 ≡ fill_bits l.rule fs n.item) (take l.i ns)

@@ -13,7 +13,8 @@ use Rattle.overlay_arrange.specs.Rules.{fill_bits}
 use Rattle.overlay_arrange.specs.Starts.{plain_start, plain_starts, wound_entries}
 use Rattle.overlay_arrange.specs.declared.windings.Windings.{Windings}
 use Rattle.overlay_arrange.proofs.SideBits.{bits_between_windings}
-use Rattle.overlay_arrange.proofs.SweptFills.{is_asked, is_over, meets, fresh, subj_looked_up, clip_looked_up, swept_with, swept_past}
+use Rattle.overlay_arrange.proofs.SweptFills.{is_asked, is_over, meets, fresh, subj_looked_up, clip_looked_up}
+use Rattle.overlay_arrange.proofs.SweptFills.{swept_with, swept_past}
 use Rattle.overlay_arrange.proofs.fill_sweep.next_fill.Goals as goal
 use Rattle.overlay_arrange.proofs.fill_sweep.next_fill.Goals.{then-is_lt+in_ok-insert, else-is_lt}
 
@@ -25,7 +26,8 @@ first_less-below-requires g c =
     let i = c.args.i in
     let e = plain_start whole g.C.EdgeCount.counts c.index-starting-i.result in
     let lt : i < length fs = rw length-map c.requires.within in
-    let is : get_or fs i e ≡ e = read_mapped (plain_start whole g.C.EdgeCount.counts) c.args.starting.now i c.index-starting-i.result e c.requires.within c.index-starting-i.is in
+    let is : get_or fs i e ≡ e = read_mapped (plain_start whole g.C.EdgeCount.counts) c.args.starting.now i
+    c.index-starting-i.result e c.requires.within c.index-starting-i.is in
     let s = g.S.Scan.content c.args.scan.now in
     let swept = c.requires.swept e is in (
       line_fits _ _ g.met.I.IntNumber.small.align_bound g.met.I.IntNumber.small.size_bound,
@@ -49,12 +51,15 @@ beyond-above-requires-clause-subj g c =
     let i = c.args.i in
     let e = plain_start whole g.C.EdgeCount.counts c.index-starting-i.result in
     let lt : i < length fs = rw length-map c.requires.within in
-    let is : get_or fs i e ≡ e = read_mapped (plain_start whole g.C.EdgeCount.counts) c.args.starting.now i c.index-starting-i.result e c.requires.within c.index-starting-i.is in
+    let is : get_or fs i e ≡ e = read_mapped (plain_start whole g.C.EdgeCount.counts) c.args.starting.now i
+    c.index-starting-i.result e c.requires.within c.index-starting-i.is in
     let s = g.S.Scan.content c.args.scan.now in
     let swept = c.requires.swept e is in
     let outside : Windings = record { subj = pos 0; clip = pos 0 } in
-    winding_by-light subj_of subj_weighed fs (midpoint (ends_of e)) 2147483648 c.first_less-below.result.subj c.requires.edges.content.light
-    (ap (λ (v : Windings). v.subj) c.first_less-below.ensures.value ∙ subj_looked_up limit fs c.requires.edges i e lt is s swept outside refl)
+    winding_by-light subj_of subj_weighed fs (midpoint (ends_of e)) 2147483648 c.first_less-below.result.subj
+    c.requires.edges.content.light
+    (ap (λ (v : Windings). v.subj) c.first_less-below.ensures.value
+    ∙ subj_looked_up limit fs c.requires.edges i e lt is s swept outside refl)
 
 pub beyond-above-requires-clause-clip : goal.beyond-above-requires-clause-clip
 beyond-above-requires-clause-clip g c =
@@ -64,12 +69,15 @@ beyond-above-requires-clause-clip g c =
     let i = c.args.i in
     let e = plain_start whole g.C.EdgeCount.counts c.index-starting-i.result in
     let lt : i < length fs = rw length-map c.requires.within in
-    let is : get_or fs i e ≡ e = read_mapped (plain_start whole g.C.EdgeCount.counts) c.args.starting.now i c.index-starting-i.result e c.requires.within c.index-starting-i.is in
+    let is : get_or fs i e ≡ e = read_mapped (plain_start whole g.C.EdgeCount.counts) c.args.starting.now i
+    c.index-starting-i.result e c.requires.within c.index-starting-i.is in
     let s = g.S.Scan.content c.args.scan.now in
     let swept = c.requires.swept e is in
     let outside : Windings = record { subj = pos 0; clip = pos 0 } in
-    winding_by-light clip_of clip_weighed fs (midpoint (ends_of e)) 2147483648 c.first_less-below.result.clip c.requires.edges.content.light
-    (ap (λ (v : Windings). v.clip) c.first_less-below.ensures.value ∙ clip_looked_up limit fs c.requires.edges i e lt is s swept outside refl)
+    winding_by-light clip_of clip_weighed fs (midpoint (ends_of e)) 2147483648 c.first_less-below.result.clip
+    c.requires.edges.content.light
+    (ap (λ (v : Windings). v.clip) c.first_less-below.ensures.value
+    ∙ clip_looked_up limit fs c.requires.edges i e lt is s swept outside refl)
 
 pub insert-requires : goal.insert-requires
 insert-requires g c =
@@ -79,12 +87,15 @@ insert-requires g c =
     let i = c.args.i in
     let e = plain_start whole g.C.EdgeCount.counts c.index-starting-i.result in
     let lt : i < length fs = rw length-map c.requires.within in
-    let is : get_or fs i e ≡ e = read_mapped (plain_start whole g.C.EdgeCount.counts) c.args.starting.now i c.index-starting-i.result e c.requires.within c.index-starting-i.is in
+    let is : get_or fs i e ≡ e = read_mapped (plain_start whole g.C.EdgeCount.counts) c.args.starting.now i
+    c.index-starting-i.result e c.requires.within c.index-starting-i.is in
     let s = g.S.Scan.content c.args.scan.now in
     let swept = c.requires.swept e is in
     let t = g.S.Scan.content c.first_less-below.new.self in
-    let later = moved limit e.a.x (take i (wound_entries fs)) s swept t c.first_less-below.ensures.content c.first_less-below.ensures.state in
-    let test : c.is_lt.result ≡ int_lt e.a.x e.b.x = rw (c.is_lt.ensures, c.compare.ensures) (is_lt-int_cmp e.a.x e.b.x) in (
+    let later = moved limit e.a.x (take i (wound_entries fs)) s swept t c.first_less-below.ensures.content
+    c.first_less-below.ensures.state in
+    let test : c.is_lt.result ≡ int_lt e.a.x e.b.x = rw (c.is_lt.ensures, c.compare.ensures)
+    (is_lt-int_cmp e.a.x e.b.x) in (
       line_fits _ _ g.met.I.IntNumber.small.align_bound g.met.I.IntNumber.small.size_bound,
       (
         later.state,
@@ -106,24 +117,33 @@ returns-clause-swept g c = λ f here.
     let i = c.args.i in
     let e = plain_start whole g.C.EdgeCount.counts c.index-starting-i.result in
     let lt : i < length fs = rw length-map c.requires.within in
-    let is : get_or fs i e ≡ e = read_mapped (plain_start whole g.C.EdgeCount.counts) c.args.starting.now i c.index-starting-i.result e c.requires.within c.index-starting-i.is in
+    let is : get_or fs i e ≡ e = read_mapped (plain_start whole g.C.EdgeCount.counts) c.args.starting.now i
+    c.index-starting-i.result e c.requires.within c.index-starting-i.is in
     let s = g.S.Scan.content c.args.scan.now in
     let swept = c.requires.swept e is in
     let t = g.S.Scan.content c.first_less-below.new.self in
-    let later = moved limit e.a.x (take i (wound_entries fs)) s swept t c.first_less-below.ensures.content c.first_less-below.ensures.state in
+    let later = moved limit e.a.x (take i (wound_entries fs)) s swept t c.first_less-below.ensures.content
+    c.first_less-below.ensures.state in
     let outside : Windings = record { subj = pos 0; clip = pos 0 } in
-    let subj = ap (λ (v : Windings). v.subj) c.first_less-below.ensures.value ∙ subj_looked_up limit fs c.requires.edges i e lt is s swept outside refl in
-    let clip = ap (λ (v : Windings). v.clip) c.first_less-below.ensures.value ∙ clip_looked_up limit fs c.requires.edges i e lt is s swept outside refl in
-    let test : c.is_lt.result ≡ int_lt e.a.x e.b.x = rw (c.is_lt.ensures, c.compare.ensures) (is_lt-int_cmp e.a.x e.b.x) in
+    let subj = ap (λ (v : Windings). v.subj) c.first_less-below.ensures.value
+    ∙ subj_looked_up limit fs c.requires.edges i e lt is s swept outside refl in
+    let clip = ap (λ (v : Windings). v.clip) c.first_less-below.ensures.value
+    ∙ clip_looked_up limit fs c.requires.edges i e lt is s swept outside refl in
+    let test : c.is_lt.result ≡ int_lt e.a.x e.b.x = rw (c.is_lt.ensures, c.compare.ensures)
+    (is_lt-int_cmp e.a.x e.b.x) in
     let above = c.beyond-above.result in
     let subj_above = c.beyond-above.ensures.subj ∙ ap (λ w. w +ℤ e.subj) subj in
     let clip_above = c.beyond-above.ensures.clip ∙ ap (λ w. w +ℤ e.clip) clip in
-    subst (λ (h : CountedEdge). IsSwept limit h.a.x (take (i + 1) (wound_entries fs)) (g.S.Scan.content c.if-is_lt.scan)) (sym is ∙ get_or_default fs i e f lt ∙ here)
+    subst (λ (h : CountedEdge). IsSwept limit h.a.x (take (i + 1) (wound_entries fs))
+    (g.S.Scan.content c.if-is_lt.scan)) (sym is ∙ get_or_default fs i e f lt ∙ here)
     (elim c.if-is_lt.branch [
-      | then-is_lt+in_ok-insert w ↦ subst (λ k. IsSwept limit e.a.x (take (i + 1) (wound_entries fs)) (g.S.Scan.content k)) (sym w.scan-is)
-          (swept_with limit fs c.requires.edges i e lt is t later (sym test ∙ w.if-is_lt.true) above subj_above clip_above (g.S.Scan.content w.insert.new.self)
+      | then-is_lt+in_ok-insert w ↦ subst (λ k. IsSwept limit e.a.x (take (i + 1) (wound_entries fs))
+          (g.S.Scan.content k)) (sym w.scan-is)
+          (swept_with limit fs c.requires.edges i e lt is t later (sym test ∙ w.if-is_lt.true) above subj_above
+          clip_above (g.S.Scan.content w.insert.new.self)
           w.in_ok-insert.ensures.ok w.in_ok-insert.ensures.reached w.in_ok-insert.ensures.state)
-      | else-is_lt w ↦ subst (λ k. IsSwept limit e.a.x (take (i + 1) (wound_entries fs)) (g.S.Scan.content k)) (sym w.scan-is)
+      | else-is_lt w ↦ subst (λ k. IsSwept limit e.a.x (take (i + 1) (wound_entries fs)) (g.S.Scan.content k))
+          (sym w.scan-is)
           (swept_past limit fs c.requires.edges i e lt is t later (sym test ∙ w.if-is_lt.false))
     ])
 
@@ -135,12 +155,17 @@ returns-clause-fill g c = λ f here.
     let i = c.args.i in
     let e = plain_start whole g.C.EdgeCount.counts c.index-starting-i.result in
     let lt : i < length fs = rw length-map c.requires.within in
-    let is : get_or fs i e ≡ e = read_mapped (plain_start whole g.C.EdgeCount.counts) c.args.starting.now i c.index-starting-i.result e c.requires.within c.index-starting-i.is in
+    let is : get_or fs i e ≡ e = read_mapped (plain_start whole g.C.EdgeCount.counts) c.args.starting.now i
+    c.index-starting-i.result e c.requires.within c.index-starting-i.is in
     let s = g.S.Scan.content c.args.scan.now in
     let swept = c.requires.swept e is in
     let outside : Windings = record { subj = pos 0; clip = pos 0 } in
-    let subj = ap (λ (v : Windings). v.subj) c.first_less-below.ensures.value ∙ subj_looked_up limit fs c.requires.edges i e lt is s swept outside refl in
-    let clip = ap (λ (v : Windings). v.clip) c.first_less-below.ensures.value ∙ clip_looked_up limit fs c.requires.edges i e lt is s swept outside refl in
-    subst (λ (h : CountedEdge). c.bits_between.result ≡ fill_bits c.args.rule fs h) (sym is ∙ get_or_default fs i e f lt ∙ here)
-    (bits_between_windings c.args.rule fs e c.bits_between.result c.first_less-below.result.subj c.first_less-below.result.clip c.beyond-above.result.subj
+    let subj = ap (λ (v : Windings). v.subj) c.first_less-below.ensures.value
+    ∙ subj_looked_up limit fs c.requires.edges i e lt is s swept outside refl in
+    let clip = ap (λ (v : Windings). v.clip) c.first_less-below.ensures.value
+    ∙ clip_looked_up limit fs c.requires.edges i e lt is s swept outside refl in
+    subst (λ (h : CountedEdge). c.bits_between.result ≡ fill_bits c.args.rule fs h) (sym is ∙ get_or_default fs i e f lt
+    ∙ here)
+    (bits_between_windings c.args.rule fs e c.bits_between.result c.first_less-below.result.subj
+    c.first_less-below.result.clip c.beyond-above.result.subj
     c.beyond-above.result.clip subj clip c.beyond-above.ensures.subj c.beyond-above.ensures.clip c.bits_between.ensures)

@@ -6,5 +6,6 @@ use Rattle.overlay_arrange.proofs.graph.with_fills.Given as goal
 
 abbrev pub invariant-loop-i : goal.invariant-loop-i
 invariant-loop-i g l =
-    (carried_vectors g.I.IntNumber.whole g.C.EdgeCount.counts l.filled.items ≡ carried_edges g.I.IntNumber.whole g.C.EdgeCount.counts (take l.i l.edges))
+    (carried_vectors g.I.IntNumber.whole g.C.EdgeCount.counts l.filled.items ≡ carried_edges g.I.IntNumber.whole
+    g.C.EdgeCount.counts (take l.i l.edges))
     × (map (λ e. e.fill) l.filled.items ≡ take l.i l.fills)

@@ -8,5 +8,6 @@ returns-clause-ok g c =
     let whole = g.I.IntNumber.whole in
     record {
       are = c.in_ok-heights.ensures.ok;
-      covered = subst (λ hs. AreBlocks (plain_spans whole hs) (plain_spans whole c.in_ok-blocks.blocks.items)) c.deref.ensures.value c.in_ok-blocks.ensures.ok;
+      covered = subst (λ hs. AreBlocks (plain_spans whole hs) (plain_spans whole c.in_ok-blocks.blocks.items))
+          c.deref.ensures.value c.in_ok-blocks.ensures.ok;
     }

@@ -5,7 +5,8 @@ use Rattle.overlay_arrange.proofs.heights.next_near.Given as goal
 
 abbrev pub invariant-loop-at : goal.invariant-loop-at
 invariant-loop-at g l =
-    IsNextNear (plain_spans g.I.IntNumber.whole l.heights.edges.items) (plain_span g.I.IntNumber.whole l.of) l.from l.to l.at
+    IsNextNear (plain_spans g.I.IntNumber.whole l.heights.edges.items) (plain_span g.I.IntNumber.whole l.of)
+    l.from l.to l.at
 
 abbrev pub decreases-loop-at : goal.decreases-loop-at
 decreases-loop-at g l = l.to - l.at

@@ -11,7 +11,8 @@ use Rattle.overlay_arrange.proofs.meetings.gather.Goals as goal
 pub loop-i-init : goal.loop-i-init
 loop-i-init g c =
     let es = plain_edges g.I.IntNumber.whole g.C.EdgeCount.counts c.args.edges.now in
-    subst (λ (ms : List (Meeting _)). AreGathered es (HasBefore 0) (plain_meetings g.I.IntNumber.whole ms)) (sym c.new-meetings.ensures.items) (none_gathered es)
+    subst (λ (ms : List (Meeting _)). AreGathered es (HasBefore 0) (plain_meetings g.I.IntNumber.whole ms))
+    (sym c.new-meetings.ensures.items) (none_gathered es)
 
 pub gather_from-requires-clause-gathered : goal.gather_from-requires-clause-gathered
 gather_from-requires-clause-gathered g c = c.loop-i.invariant
@@ -25,6 +26,8 @@ returns-clause-ok g c =
     let count = length-map c.args.edges.now (plain_edge g.I.IntNumber.whole g.C.EdgeCount.counts) in
     let old = plain_meetings g.I.IntNumber.whole c.loop-i.meetings.items in
     let new = plain_meetings g.I.IntNumber.whole c.sort_by_place.new.meetings.items in
-    let moved = IsPermutation-map (plain_meeting g.I.IntNumber.whole) c.loop-i.meetings.items c.sort_by_place.new.meetings.items c.sort_by_place.ensures.permutation in
-    gathered_moved es (λ m at. Contains-permutation old new m moved at) (λ m at. Contains-permutation new old m (IsPermutation-sym old new moved) at)
+    let moved = IsPermutation-map (plain_meeting g.I.IntNumber.whole) c.loop-i.meetings.items
+    c.sort_by_place.new.meetings.items c.sort_by_place.ensures.permutation in
+    gathered_moved es (λ m at. Contains-permutation old new m moved at)
+    (λ m at. Contains-permutation new old m (IsPermutation-sym old new moved) at)
     (all_gathered es c.loop-i.i (omega (arith, count, c.loop-i-test.false)) c.loop-i.invariant)

@@ -5,4 +5,5 @@ use Rattle.overlay_arrange.proofs.meetings.gather.Given as goal
 
 abbrev pub invariant-loop-i : goal.invariant-loop-i
 invariant-loop-i g l =
-    AreGathered (plain_edges g.I.IntNumber.whole g.C.EdgeCount.counts l.edges) (HasBefore l.i) (plain_meetings g.I.IntNumber.whole l.meetings.items)
+    AreGathered (plain_edges g.I.IntNumber.whole g.C.EdgeCount.counts l.edges) (HasBefore l.i)
+    (plain_meetings g.I.IntNumber.whole l.meetings.items)

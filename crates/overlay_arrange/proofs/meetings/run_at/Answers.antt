@@ -9,10 +9,13 @@ returns g c =
     let whole = g.I.IntNumber.whole in
     let ms = c.args.meetings.now in
     let i = c.args.i in
-    let low = IsPartitionPoint-from_clause (is_before whole i) _ _ c.partition_point-low.ensures.partitioned (before-parted whole ms c.requires i) (λ a r q k.
+    let low = IsPartitionPoint-from_clause (is_before whole i) _ _ c.partition_point-low.ensures.partitioned
+    (before-parted whole ms c.requires i) (λ a r q k.
     let answer : r ≡ nat_lt a.0.now.place i = search rules in
     (answer, search rules)) in
-    let high = IsPartitionPoint-from_clause (is_up_to whole i) _ _ c.partition_point-high.ensures.partitioned (up_to-parted whole ms c.requires i) (λ a r q k.
+    let high = IsPartitionPoint-from_clause (is_up_to whole i) _ _ c.partition_point-high.ensures.partitioned
+    (up_to-parted whole ms c.requires i) (λ a r q k.
     let answer : r ≡ nat_le a.0.now.place i = search rules in
     (answer, search rules)) in
-    run_between whole ms c.requires i _ _ c.partition_point-low.ensures.bound c.partition_point-high.ensures.bound low high
+    run_between whole ms c.requires i _ _ c.partition_point-low.ensures.bound c.partition_point-high.ensures.bound low
+    high

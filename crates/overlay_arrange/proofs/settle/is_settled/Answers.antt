@@ -32,7 +32,8 @@ returns-then-not-is_settled_from-clause-ok g c =
     let at_e = at_entry plain c.args.edges.now i c.loop-i-test.true in (
       λ h. absurd (cc),
       λ settled. c.if-not-is_settled_from.ensures.1 (subst (AreSettledUpTo es i) (length-map c.args.edges.now plain)
-          (rest_settled es i e at_e (settled_with_later es i e settled c.requires.ascending (λ d. get_or_default es i d e at_e.0 ∙ at_e.1)))),
+          (rest_settled es i e at_e (settled_with_later es i e settled c.requires.ascending
+          (λ d. get_or_default es i d e at_e.0 ∙ at_e.1)))),
     )
 
 pub loop-i-preserved : goal.loop-i-preserved
@@ -43,9 +44,11 @@ loop-i-preserved g c =
     let held = entry plain c.args.edges.now i c.loop-i-test.true in
     let at_e = at_entry plain c.args.edges.now i c.loop-i-test.true in
     let with_later = subst (All (AreSettled (plain held))) (drop-map plain (i + 1) c.args.edges.now)
-    (settled_with_rest es i (plain held) at_e (subst (AreSettledUpTo es i) (sym (length-map c.args.edges.now plain)) (c.if-not-is_settled_from.ensures.0 refl))) in
+    (settled_with_rest es i (plain held) at_e (subst (AreSettledUpTo es i) (sym (length-map c.args.edges.now plain))
+    (c.if-not-is_settled_from.ensures.0 refl))) in
     λ rest. c.loop-i.invariant
-    (subst IsSettled (sym (mapped_rest plain c.args.edges.now i held c.loop-i-test.true (entry_is plain c.args.edges.now i c.loop-i-test.true)))
+    (subst IsSettled (sym (mapped_rest plain c.args.edges.now i held c.loop-i-test.true
+    (entry_is plain c.args.edges.now i c.loop-i-test.true)))
     (settled_with_more (plain held) _ with_later rest))
 
 pub returns-clause-ok : goal.returns-clause-ok

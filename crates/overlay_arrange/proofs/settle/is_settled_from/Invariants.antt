@@ -1,4 +1,5 @@
--- The edge meets those looked at or passed over in ends alone, and the place looked at comes nearer to the end of its run.
+-- The edge meets those looked at or passed over in ends alone, and the place looked at comes nearer to the end of its
+-- run.
 use Rattle.std.proofs.Common.{◌-◌, ◌<◌, ◌≤◌}
 use Rattle.overlay_arrange.specs.Content.{plain_edges}
 use Rattle.overlay_arrange.specs.Meetings.{AreSettledUpTo}

@@ -18,7 +18,9 @@ returns g c =
     (starts-parted whole counts g.I.IntNumber.limit es c.requires.held c.requires.ascending x) (λ a r q k.
     let answer : r ≡ not (is_lt (int_cmp x (whole a.0.now.a.x))) = search rules in
     (answer ∙ ap not (is_lt-int_cmp x (whole a.0.now.a.x)), search rules)) in
-    run_ends whole counts g.I.IntNumber.limit es c.requires.held c.requires.ascending c.args.i _ c.index-edges-i.result c.requires.within c.index-edges-i.is
+    run_ends whole counts g.I.IntNumber.limit es c.requires.held c.requires.ascending c.args.i _ c.index-edges-i.result
+    c.requires.within c.index-edges-i.is
     c.partition_point.ensures.bound
-    (subst (λ (f : CountedEdge _ _). IsPartitionPoint (λ h. starts_up_to whole counts (whole f.b.x) h ≡ true) (λ h. starts_up_to whole counts (whole f.b.x) h ≡ false) es c.partition_point.result)
+    (subst (λ (f : CountedEdge _ _). IsPartitionPoint (λ h. starts_up_to whole counts (whole f.b.x) h ≡ true)
+    (λ h. starts_up_to whole counts (whole f.b.x) h ≡ false) es c.partition_point.result)
     (sym c.index-edges-i.is) parted)

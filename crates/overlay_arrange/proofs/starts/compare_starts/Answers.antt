@@ -9,4 +9,5 @@ pub returns-in-Equal : goal.returns-in-Equal
 returns-in-Equal g c =
     let whole = g.I.IntNumber.whole in
     ap is_lt c.sign.ensures
-    ∙ tied_before (starting_ends whole c.args.e.now) (starting_ends whole c.args.f.now) _ (sym c.in-Equal.ensures) c.cross_at.ensures.value
+    ∙ tied_before (starting_ends whole c.args.e.now) (starting_ends whole c.args.f.now) _ (sym c.in-Equal.ensures)
+    c.cross_at.ensures.value

@@ -10,7 +10,8 @@ use Rattle.overlay_arrange.proofs.starts.edges_with_places.Goals as goal
 
 pub invariant_of-push : goal.invariant_of-push
 invariant_of-push g c =
-    let held = All-mapped_at (IsHeld g.I.IntNumber.limit) (plain_edge g.I.IntNumber.whole g.C.EdgeCount.counts) c.args.edges.now c.loop-place.place
+    let held = All-mapped_at (IsHeld g.I.IntNumber.limit) (plain_edge g.I.IntNumber.whole g.C.EdgeCount.counts)
+    c.args.edges.now c.loop-place.place
     c.index-edges-place.result c.loop-place-test.true c.index-edges-place.is c.requires.held in
     record { a_in_range = held.a_in_range; b_in_range = held.b_in_range; forward = held.forward }
 
@@ -23,11 +24,15 @@ loop-place-preserved g c =
     let es = plain_edges whole counts (take i c.args.edges.now) in
     let counted : 0 + length es ≡ i = let a = length-map (take i c.args.edges.now) (plain_edge whole counts) in
     let b = length-take-le i c.args.edges.now (let t = c.loop-place-test.true in omega arith) in omega arith in
-    ap (numbered_starts whole counts) c.in_ok-push.ensures.items ∙ map-append (numbered_start whole counts) c.loop-place.starting.items (_ ∷ [])
+    ap (numbered_starts whole counts) c.in_ok-push.ensures.items
+    ∙ map-append (numbered_start whole counts) c.loop-place.starting.items (_ ∷ [])
     ∙ ap₂ (λ ns (k : ℕ). ns ++ record { item = e; place = k } ∷ []) c.loop-place.invariant (sym counted)
-    ∙ sym (ap (numbered 0) (mapped_more (plain_edge whole counts) c.args.edges.now i c.index-edges-place.result c.loop-place-test.true c.index-edges-place.is)
+    ∙ sym (ap (numbered 0) (mapped_more (plain_edge whole counts) c.args.edges.now i c.index-edges-place.result
+    c.loop-place-test.true c.index-edges-place.is)
     ∙ numbered_more 0 es e)
 
 pub returns-clause-ok : goal.returns-clause-ok
 returns-clause-ok g c =
-    c.loop-place.invariant ∙ ap (numbered 0) (mapped_whole (plain_edge g.I.IntNumber.whole g.C.EdgeCount.counts) c.args.edges.now c.loop-place.place c.loop-place-test.false)
+    c.loop-place.invariant ∙ ap (numbered 0)
+    (mapped_whole (plain_edge g.I.IntNumber.whole g.C.EdgeCount.counts) c.args.edges.now c.loop-place.place
+    c.loop-place-test.false)

@@ -18,7 +18,8 @@ returns-in-Open-clause-ok g c =
 pub returns-in-Open-clause-too_many : goal.returns-in-Open-clause-too_many
 returns-in-Open-clause-too_many g c = λ same.
     given_too_heavy c.args.kind Open c.in-Open.is (passed_edge g.C.EdgeCount.counts c.args.passing)
-    (plain_points g.I.IntNumber.whole c.args.points.now) c.args.content.now carried_weight refl (c.add_given.ensures.too_many same)
+    (plain_points g.I.IntNumber.whole c.args.points.now) c.args.content.now carried_weight refl
+    (c.add_given.ensures.too_many same)
 
 pub returns-in-Closed-clause-ok : goal.returns-in-Closed-clause-ok
 returns-in-Closed-clause-ok g c =
@@ -30,4 +31,5 @@ returns-in-Closed-clause-ok g c =
 pub returns-in-Closed-clause-too_many : goal.returns-in-Closed-clause-too_many
 returns-in-Closed-clause-too_many g c = λ same.
     given_too_heavy c.args.kind Closed c.in-Closed.is (passed_edge g.C.EdgeCount.counts c.args.passing)
-    (plain_points g.I.IntNumber.whole c.args.points.now) c.args.content.now carried_weight refl (c.add_given-in-Closed.ensures.too_many same)
+    (plain_points g.I.IntNumber.whole c.args.points.now) c.args.content.now carried_weight refl
+    (c.add_given-in-Closed.ensures.too_many same)

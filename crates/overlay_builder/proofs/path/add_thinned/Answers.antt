@@ -11,4 +11,5 @@ returns-clause-left_out g c =
     let few : c.len.result ≡ length (plain_points g.I.IntNumber.whole c.in_ok-bent.bent.items) =
     omega (arith, c.len.ensures, c.in_ok-bent.bent.ok.0, length-map c.in_ok-bent.bent.items at) in
     left_out c.len.result (length c.args.points.now) (plain_points g.I.IntNumber.whole c.args.points.now)
-    (plain_points g.I.IntNumber.whole c.in_ok-bent.bent.items) few (sym (length-map c.args.points.now at)) c.in_ok-bent.ensures.ok
+    (plain_points g.I.IntNumber.whole c.in_ok-bent.bent.items) few (sym (length-map c.args.points.now at))
+    c.in_ok-bent.ensures.ok

@@ -12,17 +12,21 @@ use Rattle.overlay_builder.proofs.path.push_path.Goals as goal
 
 pub push_through-pushed-requires-clause-first : goal.push_through-pushed-requires-clause-first
 push_through-pushed-requires-clause-first g c =
-    All-contains (InRange g.I.IntNumber.limit) (plain_points g.I.IntNumber.whole c.args.points.now) (plain_point g.I.IntNumber.whole c.in-Some.first.now)
-    c.requires.points (first_mapped (plain_point g.I.IntNumber.whole) c.args.points.now c.in-Some.first.now (c.in-Some.ensures).value)
+    All-contains (InRange g.I.IntNumber.limit) (plain_points g.I.IntNumber.whole c.args.points.now)
+    (plain_point g.I.IntNumber.whole c.in-Some.first.now)
+    c.requires.points (first_mapped (plain_point g.I.IntNumber.whole) c.args.points.now c.in-Some.first.now
+    (c.in-Some.ensures).value)
 
 pub returns-then-is_err-clause-err : goal.returns-then-is_err-clause-err
 returns-then-is_err-clause-err g c =
     on_refusal c.push_through-pushed.result
-    (c.truncate.ensures ∙ ap (λ n. take n c.push_through-pushed.new.content) c.len-held.ensures ∙ c.push_through-pushed.ensures.front)
+    (c.truncate.ensures ∙ ap (λ n. take n c.push_through-pushed.new.content) c.len-held.ensures
+    ∙ c.push_through-pushed.ensures.front)
 
 pub returns-then-is_err-clause-too_many : goal.returns-then-is_err-clause-too_many
 returns-then-is_err-clause-too_many g c = λ refused.
     let passed = passed_edge g.C.EdgeCount.counts c.args.passing in
     subst (λ ss. 2 ^ 31 ≤ weight (edges_in (c.args.content.now ++ map passed ss)))
-    (steps_from_the_first (plain_point g.I.IntNumber.whole) c.args.is_closed c.args.points.now c.in-Some.first.now (c.in-Some.ensures).value)
+    (steps_from_the_first (plain_point g.I.IntNumber.whole) c.args.is_closed c.args.points.now c.in-Some.first.now
+    (c.in-Some.ensures).value)
     (c.push_through-pushed.ensures.too_many refused)

@@ -10,7 +10,8 @@ use Rattle.overlay_builder.proofs.path.push_through.Goals as goal
 
 pub push_step-requires-clause-to : goal.push_step-requires-clause-to
 push_step-requires-clause-to g c =
-    All-mapped_at (InRange g.I.IntNumber.limit) (plain_point g.I.IntNumber.whole) c.args.points.now c.loop-to.to-index c.to-item.result
+    All-mapped_at (InRange g.I.IntNumber.limit) (plain_point g.I.IntNumber.whole) c.args.points.now c.loop-to.to-index
+    c.to-item.result
     c.loop-to-test.true c.to-item.is c.requires.points
 
 pub loop-to-preserved : goal.loop-to-preserved
@@ -23,8 +24,10 @@ loop-to-preserved g c =
     let added = c.in_ok-push_step.ensures.ok in (
       push-next edge (at c.loop-to.from) (at c.to-item.result) rest c.loop-to.content
           c.push_step.new.content _ (rw next at c.loop-to.invariant.0) added,
-      All-mapped_at (InRange g.I.IntNumber.limit) at c.args.points.now c.loop-to.to-index c.to-item.result c.loop-to-test.true c.to-item.is
+      All-mapped_at (InRange g.I.IntNumber.limit) at c.args.points.now c.loop-to.to-index c.to-item.result
+          c.loop-to-test.true c.to-item.is
           c.requires.points,
       front-trans c.args.content.now c.loop-to.content c.push_step.new.content c.loop-to.invariant.2
-          (begins_with c.loop-to.content (map edge (steps_between (at c.loop-to.from) (at c.to-item.result))) c.push_step.new.content added),
+          (begins_with c.loop-to.content (map edge (steps_between (at c.loop-to.from) (at c.to-item.result)))
+          c.push_step.new.content added),
     )

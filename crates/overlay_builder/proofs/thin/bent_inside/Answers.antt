@@ -9,7 +9,8 @@ use Rattle.overlay_geom.proofs.Mapped.{mapped_rest, All-mapped_at}
 use Rattle.overlay_builder.proofs.thin.bent_inside.Goals as goal
 
 pub pop_straight-requires-clause-next : goal.pop_straight-requires-clause-next
-pop_straight-requires-clause-next g c = All-mapped_at (InRange g.I.IntNumber.limit) (plain_point g.I.IntNumber.whole) _ _ _ (omega arith) c.point-item.is c.requires
+pop_straight-requires-clause-next g c = All-mapped_at (InRange g.I.IntNumber.limit) (plain_point g.I.IntNumber.whole) _
+    _ _ (omega arith) c.point-item.is c.requires
 
 pub loop-point-preserved : goal.loop-point-preserved
 loop-point-preserved g c =
@@ -22,13 +23,21 @@ loop-point-preserved g c =
     let before = plain_points whole c.loop-point.bent.items in
     let popped = plain_points whole c.pop_straight.new.bent.items in
     let pushed = plain_points whole c.push.new.self.items in
-    let left : plain_points whole (drop i xs) ≡ next ∷ rest = mapped_rest (plain_point whole) xs i x (omega arith) c.point-item.is in
-    let top : pushed ≡ popped ++ next ∷ [] = ap (plain_points whole) c.in_ok-push.ensures.items ∙ map_push (plain_point whole) c.pop_straight.new.bent.items x in
-    let split : popped ++ next ∷ rest ≡ pushed ++ rest = sym (append_assoc popped (next ∷ []) rest) ∙ ap (λ ps. ps ++ rest) (sym top) in
-    let given : IsNarrowed (plain_points whole xs) (before ++ next ∷ rest) = subst (λ ps. IsNarrowed (plain_points whole xs) (before ++ ps)) left c.loop-point.invariant.narrowed in
+    let left : plain_points whole (drop i xs) ≡ next ∷ rest = mapped_rest (plain_point whole) xs i x
+    (omega arith) c.point-item.is in
+    let top : pushed ≡ popped ++ next ∷ [] = ap (plain_points whole) c.in_ok-push.ensures.items
+    ∙ map_push (plain_point whole) c.pop_straight.new.bent.items x in
+    let split : popped ++ next ∷ rest ≡ pushed ++ rest = sym (append_assoc popped (next ∷ []) rest)
+    ∙ ap (λ ps. ps ++ rest) (sym top) in
+    let given : IsNarrowed (plain_points whole xs) (before ++ next ∷ rest) = subst
+    (λ ps. IsNarrowed (plain_points whole xs) (before ++ ps)) left c.loop-point.invariant.narrowed in
     record {
       narrowed = subst (IsNarrowed (plain_points whole xs)) split
-          (IsNarrowed-trans (plain_points whole xs) (before ++ next ∷ rest) (popped ++ next ∷ rest) given (c.pop_straight.ensures.narrowed rest));
+          (IsNarrowed-trans (plain_points whole xs) (before ++ next ∷ rest) (popped ++ next ∷ rest) given
+          (c.pop_straight.ensures.narrowed rest));
       bent = subst IsBentInside (sym top) c.pop_straight.ensures.bent;
-      in_range = subst (AllInRange g.I.IntNumber.limit) (sym top) (All-push (InRange g.I.IntNumber.limit) popped next c.pop_straight.ensures.in_range (All-mapped_at (InRange g.I.IntNumber.limit) (plain_point whole) xs i x (omega arith) c.point-item.is c.requires));
+      in_range = subst (AllInRange g.I.IntNumber.limit) (sym top)
+          (All-push (InRange g.I.IntNumber.limit) popped next c.pop_straight.ensures.in_range
+          (All-mapped_at (InRange g.I.IntNumber.limit) (plain_point whole) xs i x (omega arith) c.point-item.is
+          c.requires));
     }

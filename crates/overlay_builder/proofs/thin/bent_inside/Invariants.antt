@@ -6,7 +6,8 @@ use Rattle.overlay_builder.proofs.thin.bent_inside.Given as goal
 
 abbrev pub invariant-loop-point : goal.invariant-loop-point
 invariant-loop-point g l = record {
-  narrowed : IsNarrowed (plain_points g.I.IntNumber.whole l.points) (plain_points g.I.IntNumber.whole l.bent.items ++ plain_points g.I.IntNumber.whole (drop l.point-index l.points));
+  narrowed : IsNarrowed (plain_points g.I.IntNumber.whole l.points)
+      (plain_points g.I.IntNumber.whole l.bent.items ++ plain_points g.I.IntNumber.whole (drop l.point-index l.points));
   bent : IsBentInside (plain_points g.I.IntNumber.whole l.bent.items);
   in_range : AllInRange g.I.IntNumber.limit (plain_points g.I.IntNumber.whole l.bent.items);
 }

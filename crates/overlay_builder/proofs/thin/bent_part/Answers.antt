@@ -1,5 +1,6 @@
 -- The points from one place to another are left: the ends are dropped where they are straight, and none is inside.
-use Rattle.std.proofs.Common.{List, [], length, ◌≡◌, ℕ, ◌+◌, ◌-◌, ◌≤◌, take, drop, slice_range, refl, sym, ◌∙◌, ap, subst, arith}
+use Rattle.std.proofs.Common.{List, [], length, ◌≡◌, ℕ, ◌+◌, ◌-◌, ◌≤◌, take, drop, slice_range, refl, sym, ◌∙◌, ap}
+use Rattle.std.proofs.Common.{subst, arith}
 use Rattle.std.specs.Prelude.{ℤ}
 use Rattle.std.proofs.lemmas.Bool.{false≢true}
 use Rattle.std.proofs.lemmas.List.{length-map}
@@ -16,30 +17,41 @@ use Rattle.overlay_geom.proofs.Mapped.{All-mapped_at, mapped_range}
 use Rattle.overlay_builder.proofs.thin.bent_part.Goals as goal
 
 pub is_straight-requires-clause-first : goal.is_straight-requires-clause-first
-is_straight-requires-clause-first g c = All-mapped_at (InRange g.I.IntNumber.limit) (plain_point g.I.IntNumber.whole) _ _ _ (omega arith) c.index-points-to.is c.requires.in_range
+is_straight-requires-clause-first g c = All-mapped_at (InRange g.I.IntNumber.limit) (plain_point g.I.IntNumber.whole) _
+    _ _ (omega arith) c.index-points-to.is c.requires.in_range
 
 pub is_straight-requires-clause-second : goal.is_straight-requires-clause-second
-is_straight-requires-clause-second g c = All-mapped_at (InRange g.I.IntNumber.limit) (plain_point g.I.IntNumber.whole) _ _ _ (omega arith) c.index-points-to-in-loop-to.is c.requires.in_range
+is_straight-requires-clause-second g c = All-mapped_at (InRange g.I.IntNumber.limit) (plain_point g.I.IntNumber.whole) _
+    _ _ (omega arith) c.index-points-to-in-loop-to.is c.requires.in_range
 
 pub is_straight-requires-clause-third : goal.is_straight-requires-clause-third
-is_straight-requires-clause-third g c = All-mapped_at (InRange g.I.IntNumber.limit) (plain_point g.I.IntNumber.whole) _ _ _ (omega arith) c.index-points-from.is c.requires.in_range
+is_straight-requires-clause-third g c = All-mapped_at (InRange g.I.IntNumber.limit) (plain_point g.I.IntNumber.whole) _
+    _ _ (omega arith) c.index-points-from.is c.requires.in_range
 
 pub is_straight-requires-else-is_straight-clause-first : goal.is_straight-requires-else-is_straight-clause-first
 is_straight-requires-else-is_straight-clause-first g c =
-    All-mapped_at (InRange g.I.IntNumber.limit) (plain_point g.I.IntNumber.whole) _ _ _ (omega arith) c.index-points-to-else-is_straight.is c.requires.in_range
+    All-mapped_at (InRange g.I.IntNumber.limit) (plain_point g.I.IntNumber.whole) _ _ _
+    (omega arith) c.index-points-to-else-is_straight.is c.requires.in_range
 
 pub is_straight-requires-else-is_straight-clause-second : goal.is_straight-requires-else-is_straight-clause-second
 is_straight-requires-else-is_straight-clause-second g c =
-    All-mapped_at (InRange g.I.IntNumber.limit) (plain_point g.I.IntNumber.whole) _ _ _ (omega arith) c.index-points-from-else-is_straight.is c.requires.in_range
+    All-mapped_at (InRange g.I.IntNumber.limit) (plain_point g.I.IntNumber.whole) _ _ _
+    (omega arith) c.index-points-from-else-is_straight.is c.requires.in_range
 
 pub is_straight-requires-else-is_straight-clause-third : goal.is_straight-requires-else-is_straight-clause-third
 is_straight-requires-else-is_straight-clause-third g c =
-    All-mapped_at (InRange g.I.IntNumber.limit) (plain_point g.I.IntNumber.whole) _ _ _ (omega arith) c.index-points-from-else-is_straight-2.is c.requires.in_range
+    All-mapped_at (InRange g.I.IntNumber.limit) (plain_point g.I.IntNumber.whole) _ _ _
+    (omega arith) c.index-points-from-else-is_straight-2.is c.requires.in_range
 
 -- a list narrowed to a part of it, and that part to another one
-IsNarrowed-range : {I : Type 0} (whole : I → ℤ) (xs : List (IntPoint I)) (i j m n : ℕ) → IsNarrowed (plain_points whole xs) (plain_points whole (slice_range xs i j)) → IsNarrowed (slice_range (plain_points whole xs) i j) (slice_range (plain_points whole xs) m n) → IsNarrowed (plain_points whole xs) (plain_points whole (slice_range xs m n))
+IsNarrowed-range : {I : Type 0} (whole : I → ℤ) (xs : List (IntPoint I)) (i j m n : ℕ) →
+    IsNarrowed (plain_points whole xs) (plain_points whole (slice_range xs i j)) →
+    IsNarrowed (slice_range (plain_points whole xs) i j) (slice_range (plain_points whole xs) m n) →
+    IsNarrowed (plain_points whole xs) (plain_points whole (slice_range xs m n))
 IsNarrowed-range whole xs i j m n before after =
-    rw (mapped_range (plain_point whole) xs m n) (IsNarrowed-trans (plain_points whole xs) (slice_range (plain_points whole xs) i j) (slice_range (plain_points whole xs) m n) (rw (mapped_range (plain_point whole) xs i j) at before) after)
+    rw (mapped_range (plain_point whole) xs m n)
+    (IsNarrowed-trans (plain_points whole xs) (slice_range (plain_points whole xs) i j)
+    (slice_range (plain_points whole xs) m n) (rw (mapped_range (plain_point whole) xs i j) at before) after)
 
 pub loop-to-preserved-then-is_straight : goal.loop-to-preserved-then-is_straight
 loop-to-preserved-then-is_straight g c =
@@ -48,7 +60,9 @@ loop-to-preserved-then-is_straight g c =
     let j = c.loop-to.to in
     let size = length-map c.args.points.now (plain_point whole) in
     let three : i + 3 ≤ j = omega arith in
-    let turn = cross-read whole c.args.points.now (j - 2) (j - 1) i c.index-points-to.result c.index-points-to-in-loop-to.result c.index-points-from.result (omega arith) (omega arith) (omega arith) c.index-points-to.is c.index-points-to-in-loop-to.is c.index-points-from.is in
+    let turn = cross-read whole c.args.points.now (j - 2) (j - 1) i c.index-points-to.result
+    c.index-points-to-in-loop-to.result c.index-points-from.result (omega arith) (omega arith)
+    (omega arith) c.index-points-to.is c.index-points-to-in-loop-to.is c.index-points-from.is in
     let straight = turn ∙ c.if-is_straight.ensures.0 refl in
     record {
       narrowed = IsNarrowed-range whole c.args.points.now i j i (j - 1) c.loop-to.invariant.narrowed
@@ -64,7 +78,10 @@ loop-to-preserved g c =
     let j = c.loop-to.to in
     let size = length-map c.args.points.now (plain_point whole) in
     let three : i + 3 ≤ j = omega arith in
-    let turn = cross-read whole c.args.points.now (j - 1) i (i + 1) c.index-points-to-else-is_straight.result c.index-points-from-else-is_straight.result c.index-points-from-else-is_straight-2.result (omega arith) (omega arith) (omega arith) c.index-points-to-else-is_straight.is c.index-points-from-else-is_straight.is c.index-points-from-else-is_straight-2.is in
+    let turn = cross-read whole c.args.points.now (j - 1) i (i + 1) c.index-points-to-else-is_straight.result
+    c.index-points-from-else-is_straight.result c.index-points-from-else-is_straight-2.result (omega arith)
+    (omega arith) (omega arith) c.index-points-to-else-is_straight.is c.index-points-from-else-is_straight.is
+    c.index-points-from-else-is_straight-2.is in
     let straight = turn ∙ c.if-is_straight-2.ensures.0 refl in
     record {
       narrowed = IsNarrowed-range whole c.args.points.now i j (i + 1) j c.loop-to.invariant.narrowed
@@ -81,12 +98,16 @@ returns-else-is_straight-2-clause-thinned g c =
     let j = c.loop-to.to in
     let size = length-map xs (plain_point whole) in
     let three : i + 3 ≤ j = omega arith in
-    let last = cross-read whole xs (j - 2) (j - 1) i _ _ _ (omega arith) (omega arith) (omega arith) c.index-points-to.is c.index-points-to-in-loop-to.is c.index-points-from.is in
-    let first = cross-read whole xs (j - 1) i (i + 1) _ _ _ (omega arith) (omega arith) (omega arith) c.index-points-to-else-is_straight.is c.index-points-from-else-is_straight.is c.index-points-from-else-is_straight-2.is in
+    let last = cross-read whole xs (j - 2) (j - 1) i _ _ _ (omega arith) (omega arith)
+    (omega arith) c.index-points-to.is c.index-points-to-in-loop-to.is c.index-points-from.is in
+    let first = cross-read whole xs (j - 1) i (i + 1) _ _ _ (omega arith) (omega arith)
+    (omega arith) c.index-points-to-else-is_straight.is c.index-points-from-else-is_straight.is
+    c.index-points-from-else-is_straight-2.is in
     let thin = IsThinned-part (plain_points whole xs) i j three (omega arith) c.requires.bent
     (λ straight. false≢true (c.if-is_straight.ensures.1 (sym last ∙ straight)))
     (λ straight. false≢true (c.if-is_straight-2.ensures.1 (sym first ∙ straight))) in
-    c.loop-to.invariant.narrowed.thins _ (subst (λ ps. IsThinned ps ps) (sym (mapped_range (plain_point whole) xs i j)) thin)
+    c.loop-to.invariant.narrowed.thins _
+    (subst (λ ps. IsThinned ps ps) (sym (mapped_range (plain_point whole) xs i j)) thin)
 
 pub returns-clause-thinned : goal.returns-clause-thinned
 returns-clause-thinned g c =
@@ -95,6 +116,8 @@ returns-clause-thinned g c =
     let i = c.loop-to.from in
     let j = c.loop-to.to in
     let part = slice_range xs i j in
-    let few : length (plain_points whole part) ≤ 2 = rw (length-map, length-between xs i j c.loop-to.invariant.within) (omega arith) in
+    let few : length (plain_points whole part) ≤ 2 = rw (length-map, length-between xs i j c.loop-to.invariant.within)
+    (omega arith) in
     let none : slice_range xs i i ≡ [] = ap (λ n. take n (drop i xs)) (sub_self i) in
-    c.loop-to.invariant.narrowed.thins _ (subst (λ ys. IsThinned (plain_points whole part) (plain_points whole ys)) (sym none) (IsThinned-few (plain_points whole part) few))
+    c.loop-to.invariant.narrowed.thins _ (subst (λ ys. IsThinned (plain_points whole part) (plain_points whole ys))
+    (sym none) (IsThinned-few (plain_points whole part) few))

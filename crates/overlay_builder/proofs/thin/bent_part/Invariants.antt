@@ -6,7 +6,8 @@ use Rattle.overlay_builder.proofs.thin.bent_part.Given as goal
 
 abbrev pub invariant-loop-to : goal.invariant-loop-to
 invariant-loop-to g l = record {
-  narrowed : IsNarrowed (plain_points g.I.IntNumber.whole l.points) (plain_points g.I.IntNumber.whole (slice_range l.points l.from l.to));
+  narrowed : IsNarrowed (plain_points g.I.IntNumber.whole l.points)
+      (plain_points g.I.IntNumber.whole (slice_range l.points l.from l.to));
   ordered : l.from ≤ l.to;
   within : l.to ≤ length l.points;
 }

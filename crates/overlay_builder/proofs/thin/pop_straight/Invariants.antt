@@ -6,7 +6,8 @@ use Rattle.overlay_builder.proofs.thin.pop_straight.Given as goal
 
 abbrev pub invariant-loop-bent : goal.invariant-loop-bent
 invariant-loop-bent g l = record {
-  narrowed : IsNarrowedBefore (plain_point g.I.IntNumber.whole l.next) (plain_points g.I.IntNumber.whole l.initial.bent.items) (plain_points g.I.IntNumber.whole l.bent.items);
+  narrowed : IsNarrowedBefore (plain_point g.I.IntNumber.whole l.next)
+      (plain_points g.I.IntNumber.whole l.initial.bent.items) (plain_points g.I.IntNumber.whole l.bent.items);
   bent : IsBentInside (plain_points g.I.IntNumber.whole l.bent.items);
   in_range : AllInRange g.I.IntNumber.limit (plain_points g.I.IntNumber.whole l.bent.items);
 }

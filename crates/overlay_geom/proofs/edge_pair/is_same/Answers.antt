@@ -6,4 +6,5 @@ use Rattle.overlay_geom.proofs.PointComparisons.{point_cmp-is_tie}
 use Rattle.overlay_geom.proofs.edge_pair.is_same.Goals as goal
 
 pub returns : goal.returns
-returns g c = c.is_eq.ensures ∙ ap is_eq c.compare_points.ensures ∙ point_cmp-is_tie (plain_point g.I.IntNumber.whole c.args.p) (plain_point g.I.IntNumber.whole c.args.q)
+returns g c = c.is_eq.ensures ∙ ap is_eq c.compare_points.ensures
+    ∙ point_cmp-is_tie (plain_point g.I.IntNumber.whole c.args.p) (plain_point g.I.IntNumber.whole c.args.q)

@@ -9,16 +9,20 @@ pub returns-then-not-is_in_range : goal.returns-then-not-is_in_range
 returns-then-not-is_in_range g c = (
   λ no. absurd (false≢true no),
   λ all. absurd (iff_false c.is_in_range.ensures c.if-not-is_in_range.true
-      (All-mapped_at (InRange g.I.IntNumber.limit) (plain_point g.I.IntNumber.whole) c.args.points.now _ _ c.loop-p-test.true c.p-item.is all)),
+      (All-mapped_at (InRange g.I.IntNumber.limit) (plain_point g.I.IntNumber.whole) c.args.points.now _ _
+      c.loop-p-test.true c.p-item.is all)),
 )
 
 pub loop-p-preserved : goal.loop-p-preserved
 loop-p-preserved g c =
-    All-mapped_more (InRange g.I.IntNumber.limit) (plain_point g.I.IntNumber.whole) c.args.points.now c.loop-p.p-index c.p-item.result
+    All-mapped_more (InRange g.I.IntNumber.limit) (plain_point g.I.IntNumber.whole) c.args.points.now c.loop-p.p-index
+    c.p-item.result
     c.loop-p-test.true c.p-item.is c.loop-p.invariant (c.is_in_range.ensures.0 c.if-not-is_in_range.false)
 
 pub returns : goal.returns
 returns g c = (
-  λ _. subst (AllInRange g.I.IntNumber.limit) (mapped_whole (plain_point g.I.IntNumber.whole) c.args.points.now c.loop-p.p-index c.loop-p-test.false) c.loop-p.invariant,
+  λ _. subst (AllInRange g.I.IntNumber.limit)
+      (mapped_whole (plain_point g.I.IntNumber.whole) c.args.points.now c.loop-p.p-index c.loop-p-test.false)
+      c.loop-p.invariant,
   λ _. refl,
 )

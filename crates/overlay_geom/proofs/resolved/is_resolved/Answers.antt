@@ -8,10 +8,13 @@ use Rattle.overlay_geom.proofs.resolved.is_resolved.Goals as goal
 
 pub is_round_resolved-requires-clause-first : goal.is_round_resolved-requires-clause-first
 is_round_resolved-requires-clause-first g c =
-    All-contains (InRange g.I.IntNumber.limit) (plain_points g.I.IntNumber.whole c.args.points.now) (plain_point g.I.IntNumber.whole c.in-Some.first.now)
-    c.requires (first_mapped (plain_point g.I.IntNumber.whole) c.args.points.now c.in-Some.first.now (c.in-Some.ensures).value)
+    All-contains (InRange g.I.IntNumber.limit) (plain_points g.I.IntNumber.whole c.args.points.now)
+    (plain_point g.I.IntNumber.whole c.in-Some.first.now)
+    c.requires (first_mapped (plain_point g.I.IntNumber.whole) c.args.points.now c.in-Some.first.now
+    (c.in-Some.ensures).value)
 
 pub returns-in-Some : goal.returns-in-Some
 returns-in-Some g c =
     subst (λ es. IsTrue c.is_round_resolved.result ↔ AreApart es)
-    (edges_round (plain_point g.I.IntNumber.whole) c.args.points.now c.in-Some.first.now (c.in-Some.ensures).value) c.is_round_resolved.ensures
+    (edges_round (plain_point g.I.IntNumber.whole) c.args.points.now c.in-Some.first.now (c.in-Some.ensures).value)
+    c.is_round_resolved.ensures

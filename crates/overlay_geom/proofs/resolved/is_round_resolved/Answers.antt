@@ -14,7 +14,8 @@ step_meets_later-requires-clause-from g c = c.loop-i.invariant.0
 
 pub step_meets_later-requires-clause-to : goal.step_meets_later-requires-clause-to
 step_meets_later-requires-clause-to g c =
-    All-mapped_at (InRange g.I.IntNumber.limit) (plain_point g.I.IntNumber.whole) c.args.contour.now c.loop-i.i c.index-contour-i.result
+    All-mapped_at (InRange g.I.IntNumber.limit) (plain_point g.I.IntNumber.whole) c.args.contour.now c.loop-i.i
+    c.index-contour-i.result
     c.loop-i-test.true c.index-contour-i.is c.requires.contour
 
 pub step_meets_later-requires-clause-later : goal.step_meets_later-requires-clause-later
@@ -29,11 +30,14 @@ returns-then-not-step_meets_later g c =
     let from = plain_point whole c.loop-i.from in
     let to = plain_point whole c.index-contour-i.result in
     let rest = plain_points whole (drop (c.loop-i.i + 1) c.args.contour.now) ++ first ∷ [] in
-    let next = mapped_rest (plain_point whole) c.args.contour.now c.loop-i.i c.index-contour-i.result c.loop-i-test.true c.index-contour-i.is in
-    let apart : AreApart (edges_through from (to ∷ rest)) ↔ AreApart (edges_through first (plain_points whole c.args.contour.now ++ first ∷ []))
+    let next = mapped_rest (plain_point whole) c.args.contour.now c.loop-i.i c.index-contour-i.result c.loop-i-test.true
+    c.index-contour-i.is in
+    let apart : AreApart (edges_through from (to ∷ rest)) ↔ AreApart
+    (edges_through first (plain_points whole c.args.contour.now ++ first ∷ []))
     = rw next at c.loop-i.invariant.1 in
     let same = mapped_from (plain_point whole) c.args.contour.now (c.loop-i.i + 1) in
-    let later : IsTrue c.step_meets_later.result ↔ All (λ e. All (MeetInEnds e) (edges_through to rest)) (edges_between from to)
+    let later : IsTrue c.step_meets_later.result ↔ All (λ e. All (MeetInEnds e) (edges_through to rest))
+    (edges_between from to)
     = rw same at c.step_meets_later.ensures in (
       λ no. absurd (false≢true no),
       λ all. absurd (step_is_not_apart from to rest apart (iff_false later c.if-not-step_meets_later.true) all),
@@ -46,13 +50,17 @@ loop-i-preserved g c =
     let from = plain_point whole c.loop-i.from in
     let to = plain_point whole c.index-contour-i.result in
     let rest = plain_points whole (drop (c.loop-i.i + 1) c.args.contour.now) ++ first ∷ [] in
-    let next = mapped_rest (plain_point whole) c.args.contour.now c.loop-i.i c.index-contour-i.result c.loop-i-test.true c.index-contour-i.is in
-    let apart : AreApart (edges_through from (to ∷ rest)) ↔ AreApart (edges_through first (plain_points whole c.args.contour.now ++ first ∷ []))
+    let next = mapped_rest (plain_point whole) c.args.contour.now c.loop-i.i c.index-contour-i.result c.loop-i-test.true
+    c.index-contour-i.is in
+    let apart : AreApart (edges_through from (to ∷ rest)) ↔ AreApart
+    (edges_through first (plain_points whole c.args.contour.now ++ first ∷ []))
     = rw next at c.loop-i.invariant.1 in
     let same = mapped_from (plain_point whole) c.args.contour.now (c.loop-i.i + 1) in
-    let later : IsTrue c.step_meets_later.result ↔ All (λ e. All (MeetInEnds e) (edges_through to rest)) (edges_between from to)
+    let later : IsTrue c.step_meets_later.result ↔ All (λ e. All (MeetInEnds e) (edges_through to rest))
+    (edges_between from to)
     = rw same at c.step_meets_later.ensures in (
-      All-mapped_at (InRange g.I.IntNumber.limit) (plain_point whole) c.args.contour.now c.loop-i.i c.index-contour-i.result
+      All-mapped_at (InRange g.I.IntNumber.limit) (plain_point whole) c.args.contour.now c.loop-i.i
+          c.index-contour-i.result
           c.loop-i-test.true c.index-contour-i.is c.requires.contour,
       step_is_apart from to rest apart (later.0 c.if-not-step_meets_later.false),
     )

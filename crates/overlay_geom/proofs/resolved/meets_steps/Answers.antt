@@ -14,7 +14,8 @@ meets_step-requires-clause-from g c = c.loop-to.invariant.0
 
 pub meets_step-requires-clause-to : goal.meets_step-requires-clause-to
 meets_step-requires-clause-to g c =
-    All-mapped_at (InRange g.I.IntNumber.limit) (plain_point g.I.IntNumber.whole) c.args.points.now c.loop-to.to-index c.to-item.result
+    All-mapped_at (InRange g.I.IntNumber.limit) (plain_point g.I.IntNumber.whole) c.args.points.now c.loop-to.to-index
+    c.to-item.result
     c.loop-to-test.true c.to-item.is c.requires.points
 
 pub returns-then-not-meets_step : goal.returns-then-not-meets_step
@@ -23,9 +24,13 @@ returns-then-not-meets_step g c =
     let P = MeetInEnds (plain_edge whole c.args.e) in
     let from = plain_point whole c.loop-to.from in
     let to = plain_point whole c.to-item.result in
-    let rest = plain_points whole (drop (c.loop-to.to-index + 1) c.args.points.now) ++ plain_point whole c.args.last ∷ [] in
-    let next = mapped_rest (plain_point whole) c.args.points.now c.loop-to.to-index c.to-item.result c.loop-to-test.true c.to-item.is in
-    let all : All P (edges_through from (to ∷ rest)) ↔ All P (edges_through (plain_point whole c.args.start) (plain_points whole c.args.points.now ++ plain_point whole c.args.last ∷ []))
+    let rest = plain_points whole (drop (c.loop-to.to-index + 1) c.args.points.now) ++ plain_point whole
+    c.args.last ∷ [] in
+    let next = mapped_rest (plain_point whole) c.args.points.now c.loop-to.to-index c.to-item.result c.loop-to-test.true
+    c.to-item.is in
+    let all : All P (edges_through from (to ∷ rest)) ↔ All P
+    (edges_through (plain_point whole c.args.start)
+    (plain_points whole c.args.points.now ++ plain_point whole c.args.last ∷ []))
     = rw next at c.loop-to.invariant.1 in (
       λ no. absurd (false≢true no),
       λ all_of. absurd (step_fails P from to rest all
@@ -38,11 +43,16 @@ loop-to-preserved g c =
     let P = MeetInEnds (plain_edge whole c.args.e) in
     let from = plain_point whole c.loop-to.from in
     let to = plain_point whole c.to-item.result in
-    let rest = plain_points whole (drop (c.loop-to.to-index + 1) c.args.points.now) ++ plain_point whole c.args.last ∷ [] in
-    let next = mapped_rest (plain_point whole) c.args.points.now c.loop-to.to-index c.to-item.result c.loop-to-test.true c.to-item.is in
-    let all : All P (edges_through from (to ∷ rest)) ↔ All P (edges_through (plain_point whole c.args.start) (plain_points whole c.args.points.now ++ plain_point whole c.args.last ∷ []))
+    let rest = plain_points whole (drop (c.loop-to.to-index + 1) c.args.points.now) ++ plain_point whole
+    c.args.last ∷ [] in
+    let next = mapped_rest (plain_point whole) c.args.points.now c.loop-to.to-index c.to-item.result c.loop-to-test.true
+    c.to-item.is in
+    let all : All P (edges_through from (to ∷ rest)) ↔ All P
+    (edges_through (plain_point whole c.args.start)
+    (plain_points whole c.args.points.now ++ plain_point whole c.args.last ∷ []))
     = rw next at c.loop-to.invariant.1 in (
-      All-mapped_at (InRange g.I.IntNumber.limit) (plain_point g.I.IntNumber.whole) c.args.points.now c.loop-to.to-index c.to-item.result
+      All-mapped_at (InRange g.I.IntNumber.limit) (plain_point g.I.IntNumber.whole) c.args.points.now c.loop-to.to-index
+          c.to-item.result
           c.loop-to-test.true c.to-item.is c.requires.points,
       step_passes P from to rest all
           (c.meets_step.ensures.0 c.if-not-meets_step.false),

@@ -11,7 +11,8 @@ use Rattle.overlay_geom.proofs.resolved.step_meets_later.Goals as goal
 pub returns-in-Some : goal.returns-in-Some
 returns-in-Some g c =
     let whole = g.I.IntNumber.whole in
-    let es = edges_through (plain_point whole c.args.to) (plain_points whole c.args.later.now ++ plain_point whole c.args.last ∷ []) in
+    let es = edges_through (plain_point whole c.args.to)
+    (plain_points whole c.args.later.now ++ plain_point whole c.args.last ∷ []) in
     let P = λ (e : Edge). All (MeetInEnds e) es in
     let one = All-one P (plain_edge whole c.in-Some.e) in
     subst (λ fs. IsTrue c.meets_steps.result ↔ All P fs) (c.in-Some.ensures).edge
@@ -20,6 +21,7 @@ returns-in-Some g c =
 pub returns-in-None : goal.returns-in-None
 returns-in-None g c =
     let whole = g.I.IntNumber.whole in
-    let es = edges_through (plain_point whole c.args.to) (plain_points whole c.args.later.now ++ plain_point whole c.args.last ∷ []) in
+    let es = edges_through (plain_point whole c.args.to)
+    (plain_points whole c.args.later.now ++ plain_point whole c.args.last ∷ []) in
     let P = λ (e : Edge). All (MeetInEnds e) es in
     (λ t. subst (All P) (c.in-None.ensures).edge (All-nil P), λ all. refl)

@@ -13,7 +13,9 @@ returns-then-left-len g c =
     let shape = c.shape-item.result in
     let left = c.loop-shape.left in
     let inside : left < length shape.items = omega (arith, c.if-left-len.true, c.len.ensures, shape.ok.0) in
-    let found = read_mapped (λ p. plain_points whole p.items) shape.items left c.index.result.now (plain_points whole c.index.result.now.items) inside c.index.ensures in
-    let there = slice_get-joined (λ s. paths_of_shape whole s.items) c.args.shapes.now c.loop-shape.shape-index shape c.loop-shape-test.true c.shape-item.is left
+    let found = read_mapped (λ p. plain_points whole p.items) shape.items left c.index.result.now
+    (plain_points whole c.index.result.now.items) inside c.index.ensures in
+    let there = slice_get-joined (λ s. paths_of_shape whole s.items) c.args.shapes.now c.loop-shape.shape-index shape
+    c.loop-shape-test.true c.shape-item.is left
     (plain_points whole c.index.result.now.items) (rw length-map inside) (sym found) in
     rw (c.loop-shape.invariant, c.deref.ensures.value) there

@@ -10,6 +10,8 @@ pub loop-shape-preserved : goal.loop-shape-preserved
 loop-shape-preserved g c =
     let whole = g.I.IntNumber.whole in
     let shape = c.shape-item.result in
-    length-cut_more (λ s. paths_of_shape whole s.items) c.args.shapes.now c.loop-shape.shape-index shape c.loop-shape-test.true c.shape-item.is
+    length-cut_more (λ s. paths_of_shape whole s.items) c.args.shapes.now c.loop-shape.shape-index shape
+    c.loop-shape-test.true c.shape-item.is
     (2 ^ 64 - 1) c.loop-shape.count c.len.result c.saturating_add-count.result
-    c.loop-shape.invariant (c.len.ensures ∙ shape.ok.0 ∙ sym (length-map shape.items (λ p. plain_points whole p.items))) c.saturating_add-count.ensures
+    c.loop-shape.invariant (c.len.ensures ∙ shape.ok.0 ∙ sym (length-map shape.items (λ p. plain_points whole p.items)))
+    c.saturating_add-count.ensures

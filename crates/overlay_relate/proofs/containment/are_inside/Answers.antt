@@ -12,4 +12,5 @@ loop-l-preserved g c =
     ∙ sym (map_more is_inside c.args.locations.now c.loop-l.l-index Inside c.loop-l-test.true)
 
 pub returns-clause-inside : goal.returns-clause-inside
-returns-clause-inside g c = c.loop-l.invariant ∙ mapped_whole is_inside c.args.locations.now c.loop-l.l-index c.loop-l-test.false
+returns-clause-inside g c = c.loop-l.invariant ∙ mapped_whole is_inside c.args.locations.now c.loop-l.l-index
+    c.loop-l-test.false

@@ -8,8 +8,10 @@ use Rattle.overlay_relate.proofs.contour.contour_edges.Goals as goal
 
 pub push_round-requires-clause-first : goal.push_round-requires-clause-first
 push_round-requires-clause-first g c =
-    All-contains (InRange g.I.IntNumber.limit) (plain_points g.I.IntNumber.whole c.args.contour.now) (plain_point g.I.IntNumber.whole c.in-Some.first.now)
-    c.requires (first_mapped (plain_point g.I.IntNumber.whole) c.args.contour.now c.in-Some.first.now (c.in-Some.ensures).value)
+    All-contains (InRange g.I.IntNumber.limit) (plain_points g.I.IntNumber.whole c.args.contour.now)
+    (plain_point g.I.IntNumber.whole c.in-Some.first.now)
+    c.requires (first_mapped (plain_point g.I.IntNumber.whole) c.args.contour.now c.in-Some.first.now
+    (c.in-Some.ensures).value)
 
 pub returns-clause-edges : goal.returns-clause-edges
 returns-clause-edges g c =

@@ -13,7 +13,8 @@ push_step-requires-clause-from g c = c.loop-to.invariant.0
 
 pub push_step-requires-clause-to : goal.push_step-requires-clause-to
 push_step-requires-clause-to g c =
-    All-mapped_at (InRange g.I.IntNumber.limit) (plain_point g.I.IntNumber.whole) c.args.contour.now c.loop-to.to-index c.to-item.result
+    All-mapped_at (InRange g.I.IntNumber.limit) (plain_point g.I.IntNumber.whole) c.args.contour.now c.loop-to.to-index
+    c.to-item.result
     c.loop-to-test.true c.to-item.is c.requires.contour
 
 pub push_step-requires-clause-long : goal.push_step-requires-clause-long
@@ -27,10 +28,13 @@ loop-to-preserved g c =
     let to = plain_point whole c.to-item.result in
     let rest = plain_points whole (drop (c.loop-to.to-index + 1) c.args.contour.now) ++ first ∷ [] in
     let old = plain_edges whole c.loop-to.edges.items in
-    let all = plain_edges whole c.args.edges.now.items ++ edges_through first (plain_points whole c.args.contour.now ++ first ∷ []) in
-    let next = mapped_rest (plain_point whole) c.args.contour.now c.loop-to.to-index c.to-item.result c.loop-to-test.true c.to-item.is in
+    let all = plain_edges whole c.args.edges.now.items ++ edges_through first
+    (plain_points whole c.args.contour.now ++ first ∷ []) in
+    let next = mapped_rest (plain_point whole) c.args.contour.now c.loop-to.to-index c.to-item.result
+    c.loop-to-test.true c.to-item.is in
     let left : old ++ edges_through from (to ∷ rest) ≡ all = rw next at c.loop-to.invariant.2 in (
-      All-mapped_at (InRange g.I.IntNumber.limit) (plain_point whole) c.args.contour.now c.loop-to.to-index c.to-item.result
+      All-mapped_at (InRange g.I.IntNumber.limit) (plain_point whole) c.args.contour.now c.loop-to.to-index
+          c.to-item.result
           c.loop-to-test.true c.to-item.is c.requires.contour,
       c.push_step.ensures.long,
       edges_next from to rest old _ all left c.in_ok-push_step.ensures.ok,

@@ -16,12 +16,15 @@ loop-place-preserved g c =
     let ps = plain_points whole (take i c.args.points.now) in
     let counted : 0 + length ps ≡ i = let a = length-map (take i c.args.points.now) (plain_point whole) in
     let b = length-take-le i c.args.points.now (let t = c.loop-place-test.true in omega arith) in omega arith in
-    ap (plain_queries whole) c.in_ok-push.ensures.items ∙ map-append (plain_query whole) c.loop-place.queries.items (_ ∷ [])
+    ap (plain_queries whole) c.in_ok-push.ensures.items ∙ map-append (plain_query whole) c.loop-place.queries.items
+    (_ ∷ [])
     ∙ ap₂ (λ qs (k : ℕ). qs ++ record { item = p; place = k } ∷ []) c.loop-place.invariant (sym counted)
-    ∙ sym (ap (numbered 0) (mapped_more (plain_point whole) c.args.points.now i c.index-points-place.result c.loop-place-test.true c.index-points-place.is)
+    ∙ sym (ap (numbered 0) (mapped_more (plain_point whole) c.args.points.now i c.index-points-place.result
+    c.loop-place-test.true c.index-points-place.is)
     ∙ numbered_more 0 ps p)
 
 pub returns-clause-ok : goal.returns-clause-ok
 returns-clause-ok g c =
     let whole = g.I.IntNumber.whole in
-    c.loop-place.invariant ∙ ap (numbered 0) (mapped_whole (plain_point whole) c.args.points.now c.loop-place.place c.loop-place-test.false)
+    c.loop-place.invariant ∙ ap (numbered 0)
+    (mapped_whole (plain_point whole) c.args.points.now c.loop-place.place c.loop-place-test.false)

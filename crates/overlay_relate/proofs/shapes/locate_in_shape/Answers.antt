@@ -17,7 +17,8 @@ use Rattle.overlay_relate.proofs.shapes.locate_in_shape.Goals as goal
 
 pub loop-contour-init : goal.loop-contour-init
 loop-contour-init g c =
-    answers_weaker (λ (q : Point) (l : PointLocation). l ≡ Outside) (λ (q : Point) (l : PointLocation). IsLocatedIn [] (in_plane q) l)
+    answers_weaker (λ (q : Point) (l : PointLocation). l ≡ Outside)
+    (λ (q : Point) (l : PointLocation). IsLocatedIn [] (in_plane q) l)
     (λ q l is. subst (IsLocatedIn [] (in_plane q)) (sym is) (outside_none (in_plane q)))
     (plain_points g.I.IntNumber.whole c.args.points.now) c.in_ok-answers.answers.items (c.in_ok-answers.ensures).value
 
@@ -25,14 +26,16 @@ pub locate_in_contour-requires-clause-contour : goal.locate_in_contour-requires-
 locate_in_contour-requires-clause-contour g c =
     let whole = g.I.IntNumber.whole in
     subst (λ xs. AllInRange g.I.IntNumber.limit (plain_points whole xs)) (sym c.deref.ensures.value)
-    (All-mapped_at (AllInRange g.I.IntNumber.limit) (λ x. plain_points g.I.IntNumber.whole x.items) c.args.contours.now c.loop-contour.contour-index c.contour-item.result
+    (All-mapped_at (AllInRange g.I.IntNumber.limit) (λ x. plain_points g.I.IntNumber.whole x.items) c.args.contours.now
+    c.loop-contour.contour-index c.contour-item.result
     c.loop-contour-test.true c.contour-item.is c.requires.contours)
 
 pub locate_in_contour-requires-clause-resolved : goal.locate_in_contour-requires-clause-resolved
 locate_in_contour-requires-clause-resolved g c =
     let whole = g.I.IntNumber.whole in
     subst (λ xs. IsResolved (plain_points whole xs)) (sym c.deref.ensures.value)
-    (All-mapped_at IsResolved (λ x. plain_points g.I.IntNumber.whole x.items) c.args.contours.now c.loop-contour.contour-index c.contour-item.result
+    (All-mapped_at IsResolved (λ x. plain_points g.I.IntNumber.whole x.items) c.args.contours.now
+    c.loop-contour.contour-index c.contour-item.result
     c.loop-contour-test.true c.contour-item.is c.requires.resolved)
 
 pub join_all-requires : goal.join_all-requires
@@ -52,16 +55,20 @@ loop-contour-preserved g c =
     let first : AnswersEach R qs c.deref-in-loop-contour.result.now
     = subst (AnswersEach R qs) (sym c.deref-in-loop-contour.ensures.value) c.loop-contour.invariant in
     let told : AnswersEach S qs c.in_ok-here.here.items
-    = subst (λ xs. AnswersWhere (λ p l. IsLocatedIn ((plain_points whole xs) ∷ []) p l) qs c.in_ok-here.here.items) c.deref.ensures.value (c.in_ok-here.ensures).located in
+    = subst (λ xs. AnswersWhere (λ p l. IsLocatedIn ((plain_points whole xs) ∷ []) p l) qs c.in_ok-here.here.items)
+    c.deref.ensures.value (c.in_ok-here.ensures).located in
     let second : AnswersEach S qs c.deref-in-loop-contour-2.result.now
     = subst (AnswersEach S qs) (sym c.deref-in-loop-contour-2.ensures.value) told in
     subst (λ ss. AnswersWhere (IsLocatedIn ss) qs c.in_ok-answers-2.answers.items)
-    (sym (mapped_more (λ x. plain_points g.I.IntNumber.whole x.items) c.args.contours.now c.loop-contour.contour-index c.contour-item.result c.loop-contour-test.true c.contour-item.is))
+    (sym (mapped_more (λ x. plain_points g.I.IntNumber.whole x.items) c.args.contours.now c.loop-contour.contour-index
+    c.contour-item.result c.loop-contour-test.true c.contour-item.is))
     (subst (AnswersEach T qs) (sym (c.in_ok-answers-2.ensures).joined)
-    (answers_joined R S T (joined_by Contours) (λ q l m. one_contour_more seen here (in_plane q) l m) qs c.deref-in-loop-contour.result.now c.deref-in-loop-contour-2.result.now first second))
+    (answers_joined R S T (joined_by Contours) (λ q l m. one_contour_more seen here (in_plane q) l m) qs
+    c.deref-in-loop-contour.result.now c.deref-in-loop-contour-2.result.now first second))
 
 pub returns-clause-located : goal.returns-clause-located
 returns-clause-located g c =
     let whole = g.I.IntNumber.whole in
     subst (λ ss. AnswersWhere (IsLocatedIn ss) (plain_points whole c.args.points.now) c.loop-contour.answers.items)
-    (mapped_whole (λ x. plain_points g.I.IntNumber.whole x.items) c.args.contours.now c.loop-contour.contour-index c.loop-contour-test.false) c.loop-contour.invariant
+    (mapped_whole (λ x. plain_points g.I.IntNumber.whole x.items) c.args.contours.now c.loop-contour.contour-index
+    c.loop-contour-test.false) c.loop-contour.invariant

@@ -9,4 +9,5 @@ use Rattle.overlay_relate.proofs.shapes.locate_in_shape.Given as goal
 abbrev pub invariant-loop-contour : goal.invariant-loop-contour
 invariant-loop-contour g l =
     let whole = g.I.IntNumber.whole in
-    AnswersWhere (IsLocatedIn (paths_of_shape whole (take l.contour-index l.contours))) (plain_points whole l.points) l.answers.items
+    AnswersWhere (IsLocatedIn (paths_of_shape whole (take l.contour-index l.contours))) (plain_points whole l.points)
+    l.answers.items

@@ -17,7 +17,8 @@ use Rattle.overlay_relate.proofs.shapes.locate_in_shapes.Goals as goal
 
 pub loop-shape-init : goal.loop-shape-init
 loop-shape-init g c =
-    answers_weaker (λ (q : Point) (l : PointLocation). l ≡ Outside) (λ (q : Point) (l : PointLocation). IsLocatedAmong [] (in_plane q) l)
+    answers_weaker (λ (q : Point) (l : PointLocation). l ≡ Outside)
+    (λ (q : Point) (l : PointLocation). IsLocatedAmong [] (in_plane q) l)
     (λ q l is. subst (IsLocatedAmong [] (in_plane q)) (sym is) (outside_no_shapes (in_plane q)))
     (plain_points g.I.IntNumber.whole c.args.points.now) c.in_ok-answers.answers.items (c.in_ok-answers.ensures).value
 
@@ -25,14 +26,16 @@ pub locate_in_shape-requires-clause-contours : goal.locate_in_shape-requires-cla
 locate_in_shape-requires-clause-contours g c =
     let whole = g.I.IntNumber.whole in
     subst (λ xs. All (AllInRange g.I.IntNumber.limit) (paths_of_shape whole xs)) (sym c.deref.ensures.value)
-    (All-mapped_at (All (AllInRange g.I.IntNumber.limit)) (λ x. paths_of_shape whole x.items) c.args.shapes.now c.loop-shape.shape-index c.shape-item.result
+    (All-mapped_at (All (AllInRange g.I.IntNumber.limit)) (λ x. paths_of_shape whole x.items) c.args.shapes.now
+    c.loop-shape.shape-index c.shape-item.result
     c.loop-shape-test.true c.shape-item.is c.requires.shapes)
 
 pub locate_in_shape-requires-clause-resolved : goal.locate_in_shape-requires-clause-resolved
 locate_in_shape-requires-clause-resolved g c =
     let whole = g.I.IntNumber.whole in
     subst (λ xs. All IsResolved (paths_of_shape whole xs)) (sym c.deref.ensures.value)
-    (All-mapped_at (All IsResolved) (λ x. paths_of_shape whole x.items) c.args.shapes.now c.loop-shape.shape-index c.shape-item.result
+    (All-mapped_at (All IsResolved) (λ x. paths_of_shape whole x.items) c.args.shapes.now c.loop-shape.shape-index
+    c.shape-item.result
     c.loop-shape-test.true c.shape-item.is c.requires.resolved)
 
 pub join_all-requires : goal.join_all-requires
@@ -52,16 +55,20 @@ loop-shape-preserved g c =
     let first : AnswersEach R qs c.deref-in-loop-shape.result.now
     = subst (AnswersEach R qs) (sym c.deref-in-loop-shape.ensures.value) c.loop-shape.invariant in
     let told : AnswersEach S qs c.in_ok-here.here.items
-    = subst (λ xs. AnswersWhere (λ p l. IsLocatedIn (paths_of_shape whole xs) p l) qs c.in_ok-here.here.items) c.deref.ensures.value (c.in_ok-here.ensures).located in
+    = subst (λ xs. AnswersWhere (λ p l. IsLocatedIn (paths_of_shape whole xs) p l) qs c.in_ok-here.here.items)
+    c.deref.ensures.value (c.in_ok-here.ensures).located in
     let second : AnswersEach S qs c.deref-in-loop-shape-2.result.now
     = subst (AnswersEach S qs) (sym c.deref-in-loop-shape-2.ensures.value) told in
     subst (λ ss. AnswersWhere (IsLocatedAmong ss) qs c.in_ok-answers-2.answers.items)
-    (sym (mapped_more (λ x. paths_of_shape whole x.items) c.args.shapes.now c.loop-shape.shape-index c.shape-item.result c.loop-shape-test.true c.shape-item.is))
+    (sym (mapped_more (λ x. paths_of_shape whole x.items) c.args.shapes.now c.loop-shape.shape-index c.shape-item.result
+    c.loop-shape-test.true c.shape-item.is))
     (subst (AnswersEach T qs) (sym (c.in_ok-answers-2.ensures).joined)
-    (answers_joined R S T (joined_by Shapes) (λ q l m. one_shape_more seen here (in_plane q) l m) qs c.deref-in-loop-shape.result.now c.deref-in-loop-shape-2.result.now first second))
+    (answers_joined R S T (joined_by Shapes) (λ q l m. one_shape_more seen here (in_plane q) l m) qs
+    c.deref-in-loop-shape.result.now c.deref-in-loop-shape-2.result.now first second))
 
 pub returns-clause-located : goal.returns-clause-located
 returns-clause-located g c =
     let whole = g.I.IntNumber.whole in
     subst (λ ss. AnswersWhere (IsLocatedAmong ss) (plain_points whole c.args.points.now) c.loop-shape.answers.items)
-    (mapped_whole (λ x. paths_of_shape whole x.items) c.args.shapes.now c.loop-shape.shape-index c.loop-shape-test.false) c.loop-shape.invariant
+    (mapped_whole (λ x. paths_of_shape whole x.items) c.args.shapes.now c.loop-shape.shape-index
+    c.loop-shape-test.false) c.loop-shape.invariant

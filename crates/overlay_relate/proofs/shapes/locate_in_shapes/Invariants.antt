@@ -9,4 +9,5 @@ use Rattle.overlay_relate.proofs.shapes.locate_in_shapes.Given as goal
 abbrev pub invariant-loop-shape : goal.invariant-loop-shape
 invariant-loop-shape g l =
     let whole = g.I.IntNumber.whole in
-    AnswersWhere (IsLocatedAmong (plain_shapes whole (take l.shape-index l.shapes))) (plain_points whole l.points) l.answers.items
+    AnswersWhere (IsLocatedAmong (plain_shapes whole (take l.shape-index l.shapes))) (plain_points whole l.points)
+    l.answers.items

@@ -16,9 +16,15 @@ invariant_of-push g c =
     let whole = g.I.IntNumber.whole in
     let e = plain_edge whole c.e-item.result in
     let test : c.is_lt.result ≡ is_wide e = rw (c.is_lt.ensures, c.compare.ensures) (is_lt-int_cmp e.a.x e.b.x) in
-    let long = All-mapped_at (IsLongEdge g.I.IntNumber.limit) (plain_edge whole) c.args.edges.now c.loop-e.e-index c.e-item.result
+    let long = All-mapped_at (IsLongEdge g.I.IntNumber.limit) (plain_edge whole) c.args.edges.now c.loop-e.e-index
+    c.e-item.result
     c.loop-e-test.true c.e-item.is c.requires in
-    record { a_in_range = long.a_in_range; b_in_range = long.b_in_range; wide = lt_from_test e.a.x e.b.x (sym test ∙ c.if-is_lt.true) }
+    record {
+      a_in_range = long.a_in_range;
+      b_in_range = long.b_in_range;
+      wide = lt_from_test e.a.x e.b.x
+          (sym test ∙ c.if-is_lt.true);
+    }
 
 pub loop-e-preserved : goal.loop-e-preserved
 loop-e-preserved g c =
@@ -26,8 +32,10 @@ loop-e-preserved g c =
     let plain = plain_edge whole in
     let before = map plain (take c.loop-e.e-index c.args.edges.now) in
     let e = plain c.e-item.result in
-    let more : filter is_wide (map plain (take (c.loop-e.e-index + 1) c.args.edges.now)) ≡ filter is_wide before ++ cond (is_wide e) (e ∷ []) [] =
-    ap (filter is_wide) (mapped_more plain c.args.edges.now c.loop-e.e-index c.e-item.result c.loop-e-test.true c.e-item.is) ∙ filter-append is_wide before (e ∷ []) in
+    let more : filter is_wide (map plain (take (c.loop-e.e-index + 1) c.args.edges.now)) ≡ filter is_wide before ++ cond
+    (is_wide e) (e ∷ []) [] =
+    ap (filter is_wide) (mapped_more plain c.args.edges.now c.loop-e.e-index c.e-item.result c.loop-e-test.true
+    c.e-item.is) ∙ filter-append is_wide before (e ∷ []) in
     let test : c.is_lt.result ≡ is_wide e = rw (c.is_lt.ensures, c.compare.ensures) (is_lt-int_cmp e.a.x e.b.x) in
     elim c.if-is_lt.branch [
       | then-is_lt+in_ok-push w ↦
@@ -35,6 +43,7 @@ loop-e-preserved g c =
           ∙ map-append (wide_edge whole) c.loop-e.wide.items (_ ∷ []) ∙ ap (λ es. es ++ e ∷ []) c.loop-e.invariant
           ∙ sym (more ∙ ap (λ t. filter is_wide before ++ cond t (e ∷ []) []) (sym test ∙ w.if-is_lt.true))
       | else-is_lt w ↦
-          ap (λ (v : _). wide_edges whole v.items) w.wide-is ∙ c.loop-e.invariant ∙ sym (append-nil (filter is_wide before))
+          ap (λ (v : _). wide_edges whole v.items) w.wide-is ∙ c.loop-e.invariant
+          ∙ sym (append-nil (filter is_wide before))
           ∙ sym (more ∙ ap (λ t. filter is_wide before ++ cond t (e ∷ []) []) (sym test ∙ w.if-is_lt.false))
     ]

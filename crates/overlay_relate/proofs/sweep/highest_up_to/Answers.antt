@@ -9,7 +9,8 @@ use Rattle.overlay_relate.proofs.sweep.highest_up_to.Goals as goal
 pub first_less_or_equal_by-requires-clause-callable : goal.first_less_or_equal_by-requires-clause-callable
 first_less_or_equal_by-requires-clause-callable g c = λ k d lt a b is_a is_b.
     let limit = g.I.IntNumber.limit in
-    let live = (live_are limit (g.I.IntNumber.whole c.args.p.x) (g.S.Scan.content c.args.scan.now) c.requires.state c.requires.moves).over k d lt in (
+    let live = (live_are limit (g.I.IntNumber.whole c.args.p.x) (g.S.Scan.content c.args.scan.now) c.requires.state
+    c.requires.moves).over k d lt in (
       line_fits _ _ g.met.I.IntNumber.small.align_bound g.met.I.IntNumber.small.size_bound,
       (
         subst (InRange limit) (sym is_a) live.a_in_range,

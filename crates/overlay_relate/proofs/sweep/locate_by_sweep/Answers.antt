@@ -1,5 +1,6 @@
 -- One query more: what the calls ask, and what is told then.
-use Rattle.std.proofs.Common.{◌≡◌, ◌+◌, ◌<◌, ◌≤◌, ◌≤ℤ◌, ◌<ℤ◌, ◌∷◌, List, length, drop, get_or, sym, ap, ◌∙◌, subst, arith, rules}
+use Rattle.std.proofs.Common.{◌≡◌, ◌+◌, ◌<◌, ◌≤◌, ◌≤ℤ◌, ◌<ℤ◌, ◌∷◌, List, length, drop, get_or, sym, ap, ◌∙◌, subst}
+use Rattle.std.proofs.Common.{arith, rules}
 use Rattle.std.specs.List.{All}
 use Rattle.std.proofs.lemmas.Int.{ints}
 use Rattle.std.proofs.lemmas.List.{length-map, length-set, drop_more}
@@ -13,7 +14,8 @@ use Rattle.overlay_geom.proofs.Numbered.{told_more}
 use Rattle.overlay_scan.specs.Scan.{MayMoveTo}
 use Rattle.overlay_relate.specs.Locations.{IsLocatedBy}
 use Rattle.overlay_relate.specs.Queries.{plain_query, plain_queries, AreQueries}
-use Rattle.overlay_relate.specs.Sweeps.{wide_edges, inside_above, AreOfContour, AreByStart, AreTold, IsSwept, AreSweepable, IsFound}
+use Rattle.overlay_relate.specs.Sweeps.{wide_edges, inside_above, AreOfContour, AreByStart, AreTold, IsSwept}
+use Rattle.overlay_relate.specs.Sweeps.{AreSweepable, IsFound}
 use Rattle.overlay_relate.specs.Walls.{AreWalls, AreContourWalls}
 use Rattle.overlay_relate.specs.declared.location.PointLocation.TheVariants.{Outside}
 use Rattle.overlay_relate.proofs.Answered.{answers_none}
@@ -32,18 +34,21 @@ loop-query-init g c =
       subst (λ (xs : List _). length xs ≤ length c.in_ok-starting.starting.items) (sym none) (omega arith),
       subst (λ (xs : List _). IsSwept g.I.IntNumber.limit fs (length xs) (g.S.Scan.content c.args.scan.now)) (sym none)
           (nothing_swept g.I.IntNumber.limit fs (g.S.Scan.content c.args.scan.now) c.requires.empty),
-      λ k d lt. subst (λ t. MayMoveTo (get_or (plain_queries whole c.deref-query-items.result.now) k d).item.x t) (sym c.requires.empty) tt,
+      λ k d lt. subst (λ t. MayMoveTo (get_or (plain_queries whole c.deref-query-items.result.now) k d).item.x t)
+          (sym c.requires.empty) tt,
       subst (AreTold es fs) (sym none) (answers_none (λ e t. t ≡ inside_above es e)),
       λ k d lt. absurd (omega (arith, lt)),
     )
 
 pub put_up_to-requires-clause-edges : goal.put_up_to-requires-clause-edges
 put_up_to-requires-clause-edges g c =
-    subst (λ es. AreSweepable (wide_edges g.I.IntNumber.whole es)) (sym c.deref.ensures.value) c.in_ok-starting.ensures.order.sweepable
+    subst (λ es. AreSweepable (wide_edges g.I.IntNumber.whole es)) (sym c.deref.ensures.value)
+    c.in_ok-starting.ensures.order.sweepable
 
 pub put_up_to-requires-clause-within : goal.put_up_to-requires-clause-within
 put_up_to-requires-clause-within g c =
-    subst (λ (es : List _). length c.loop-query.inside.items ≤ length es) (sym c.deref.ensures.value) c.loop-query.invariant.1
+    subst (λ (es : List _). length c.loop-query.inside.items ≤ length es) (sym c.deref.ensures.value)
+    c.loop-query.invariant.1
 
 pub put_up_to-requires-clause-moves : goal.put_up_to-requires-clause-moves
 put_up_to-requires-clause-moves g c =
@@ -55,15 +60,20 @@ put_up_to-requires-clause-moves g c =
     let q = plain_query whole c.query-item.result in
     let i = c.loop-query.query-index in
     let lt : i < length qs = rw length-map c.loop-query-test.true in
-    let is : get_or qs i q ≡ q = read_mapped (plain_query whole) c.deref-query-items.result.now i c.query-item.result q c.loop-query-test.true c.query-item.is in
-    let asked : AreQueries points qs = subst (λ rs. AreQueries points (plain_queries whole rs)) (sym c.deref-query-items.ensures.value) c.in_ok-queries.ensures.queries in
-    let at = All-contains (λ t. (t.place < length points) × (get_or points t.place t.item ≡ t.item)) qs q asked.numbered.from (i, lt, is) in
+    let is : get_or qs i q ≡ q = read_mapped (plain_query whole) c.deref-query-items.result.now i c.query-item.result q
+    c.loop-query-test.true c.query-item.is in
+    let asked : AreQueries points qs = subst (λ rs. AreQueries points (plain_queries whole rs))
+    (sym c.deref-query-items.ensures.value) c.in_ok-queries.ensures.queries in
+    let at = All-contains (λ t. (t.place < length points) × (get_or points t.place t.item ≡ t.item)) qs q
+    asked.numbered.from (i, lt, is) in
     All-head (λ r. MayMoveTo r.item.x (g.S.Scan.content c.loop-query.scan)) q (drop (i + 1) qs)
-    (subst (All (λ (r : Numbered Point). MayMoveTo r.item.x (g.S.Scan.content c.loop-query.scan))) (drop_more qs i q lt ∙ ap (λ r. r ∷ drop (i + 1) qs) is) c.loop-query.invariant.3)
+    (subst (All (λ (r : Numbered Point). MayMoveTo r.item.x (g.S.Scan.content c.loop-query.scan))) (drop_more qs i q lt
+    ∙ ap (λ r. r ∷ drop (i + 1) qs) is) c.loop-query.invariant.3)
 
 pub put_up_to-requires-clause-swept : goal.put_up_to-requires-clause-swept
 put_up_to-requires-clause-swept g c =
-    subst (λ es. IsSwept g.I.IntNumber.limit (wide_edges g.I.IntNumber.whole es) (length c.loop-query.inside.items) (g.S.Scan.content c.loop-query.scan)) (sym c.deref.ensures.value)
+    subst (λ es. IsSwept g.I.IntNumber.limit (wide_edges g.I.IntNumber.whole es) (length c.loop-query.inside.items)
+    (g.S.Scan.content c.loop-query.scan)) (sym c.deref.ensures.value)
     c.loop-query.invariant.2
 
 pub highest_up_to-highest-requires-clause-point : goal.highest_up_to-highest-requires-clause-point
@@ -76,9 +86,12 @@ highest_up_to-highest-requires-clause-point g c =
     let q = plain_query whole c.query-item.result in
     let i = c.loop-query.query-index in
     let lt : i < length qs = rw length-map c.loop-query-test.true in
-    let is : get_or qs i q ≡ q = read_mapped (plain_query whole) c.deref-query-items.result.now i c.query-item.result q c.loop-query-test.true c.query-item.is in
-    let asked : AreQueries points qs = subst (λ rs. AreQueries points (plain_queries whole rs)) (sym c.deref-query-items.ensures.value) c.in_ok-queries.ensures.queries in
-    let at = All-contains (λ t. (t.place < length points) × (get_or points t.place t.item ≡ t.item)) qs q asked.numbered.from (i, lt, is) in
+    let is : get_or qs i q ≡ q = read_mapped (plain_query whole) c.deref-query-items.result.now i c.query-item.result q
+    c.loop-query-test.true c.query-item.is in
+    let asked : AreQueries points qs = subst (λ rs. AreQueries points (plain_queries whole rs))
+    (sym c.deref-query-items.ensures.value) c.in_ok-queries.ensures.queries in
+    let at = All-contains (λ t. (t.place < length points) × (get_or points t.place t.item ≡ t.item)) qs q
+    asked.numbered.from (i, lt, is) in
     All-contains (InRange limit) points q.item c.requires.points (q.place, at.0, at.1)
 
 pub highest_up_to-highest-requires-clause-state : goal.highest_up_to-highest-requires-clause-state
@@ -97,9 +110,12 @@ location-requires-clause-point g c =
     let q = plain_query whole c.query-item.result in
     let i = c.loop-query.query-index in
     let lt : i < length qs = rw length-map c.loop-query-test.true in
-    let is : get_or qs i q ≡ q = read_mapped (plain_query whole) c.deref-query-items.result.now i c.query-item.result q c.loop-query-test.true c.query-item.is in
-    let asked : AreQueries points qs = subst (λ rs. AreQueries points (plain_queries whole rs)) (sym c.deref-query-items.ensures.value) c.in_ok-queries.ensures.queries in
-    let at = All-contains (λ t. (t.place < length points) × (get_or points t.place t.item ≡ t.item)) qs q asked.numbered.from (i, lt, is) in
+    let is : get_or qs i q ≡ q = read_mapped (plain_query whole) c.deref-query-items.result.now i c.query-item.result q
+    c.loop-query-test.true c.query-item.is in
+    let asked : AreQueries points qs = subst (λ rs. AreQueries points (plain_queries whole rs))
+    (sym c.deref-query-items.ensures.value) c.in_ok-queries.ensures.queries in
+    let at = All-contains (λ t. (t.place < length points) × (get_or points t.place t.item ≡ t.item)) qs q
+    asked.numbered.from (i, lt, is) in
     All-contains (InRange limit) points q.item c.requires.points (q.place, at.0, at.1)
 
 pub location-requires-clause-within : goal.location-requires-clause-within
@@ -112,24 +128,35 @@ location-requires-clause-within g c =
     let q = plain_query whole c.query-item.result in
     let i = c.loop-query.query-index in
     let lt : i < length qs = rw length-map c.loop-query-test.true in
-    let is : get_or qs i q ≡ q = read_mapped (plain_query whole) c.deref-query-items.result.now i c.query-item.result q c.loop-query-test.true c.query-item.is in
-    let asked : AreQueries points qs = subst (λ rs. AreQueries points (plain_queries whole rs)) (sym c.deref-query-items.ensures.value) c.in_ok-queries.ensures.queries in
-    let at = All-contains (λ t. (t.place < length points) × (get_or points t.place t.item ≡ t.item)) qs q asked.numbered.from (i, lt, is) in
+    let is : get_or qs i q ≡ q = read_mapped (plain_query whole) c.deref-query-items.result.now i c.query-item.result q
+    c.loop-query-test.true c.query-item.is in
+    let asked : AreQueries points qs = subst (λ rs. AreQueries points (plain_queries whole rs))
+    (sym c.deref-query-items.ensures.value) c.in_ok-queries.ensures.queries in
+    let at = All-contains (λ t. (t.place < length points) × (get_or points t.place t.item ≡ t.item)) qs q
+    asked.numbered.from (i, lt, is) in
     let s = g.S.Scan.content c.put_up_to.new.scan in
     let n = length c.put_up_to.new.inside.items in
-    let swept : IsSwept limit fs n s = subst (λ es. IsSwept limit (wide_edges whole es) n s) c.deref.ensures.value c.in_ok-put_up_to.ensures.swept in
-    let rest : All (λ (e : Edge). q.item.x <ℤ e.a.x) (drop n fs) = subst (λ es. All (λ (e : Edge). q.item.x <ℤ e.a.x) (drop n (wide_edges whole es))) c.deref.ensures.value
+    let swept : IsSwept limit fs n s = subst (λ es. IsSwept limit (wide_edges whole es) n s) c.deref.ensures.value
+    c.in_ok-put_up_to.ensures.swept in
+    let rest : All (λ (e : Edge). q.item.x <ℤ e.a.x) (drop n fs) = subst
+    (λ es. All (λ (e : Edge). q.item.x <ℤ e.a.x) (drop n (wide_edges whole es))) c.deref.ensures.value
     c.in_ok-put_up_to.ensures.rest in
-    let within : n ≤ length c.in_ok-starting.starting.items = subst (λ (es : List _). n ≤ length es) c.deref.ensures.value c.in_ok-put_up_to.ensures.within in
+    let within : n ≤ length c.in_ok-starting.starting.items = subst (λ (es : List _). n ≤ length es)
+    c.deref.ensures.value c.in_ok-put_up_to.ensures.within in
     let may = c.in_ok-put_up_to.ensures.moves in
-    subst (λ (xs : List _). length xs ≤ length c.deref-in-loop-query.result.now) (sym c.deref-in-loop-query-2.ensures.value)
+    subst (λ (xs : List _). length xs ≤ length c.deref-in-loop-query.result.now)
+    (sym c.deref-in-loop-query-2.ensures.value)
     (subst (λ (es : List _). n ≤ length es) (sym c.deref-in-loop-query.ensures.value) within)
 
 pub location-requires-clause-walls : goal.location-requires-clause-walls
 location-requires-clause-walls g c =
     let whole = g.I.IntNumber.whole in
     subst (λ ws. AreContourWalls (plain_edges whole ws)) (sym c.deref-in-loop-query-3.ensures.value)
-    (record { edges = plain_edges whole c.args.edges.now; contour = c.requires.contour; walls = c.in_ok-walls.ensures.walls })
+    (record {
+      edges = plain_edges whole c.args.edges.now;
+      contour = c.requires.contour;
+      walls = c.in_ok-walls.ensures.walls;
+    })
 
 pub location-requires-clause-found : goal.location-requires-clause-found
 location-requires-clause-found g c =
@@ -141,22 +168,30 @@ location-requires-clause-found g c =
     let q = plain_query whole c.query-item.result in
     let i = c.loop-query.query-index in
     let lt : i < length qs = rw length-map c.loop-query-test.true in
-    let is : get_or qs i q ≡ q = read_mapped (plain_query whole) c.deref-query-items.result.now i c.query-item.result q c.loop-query-test.true c.query-item.is in
-    let asked : AreQueries points qs = subst (λ rs. AreQueries points (plain_queries whole rs)) (sym c.deref-query-items.ensures.value) c.in_ok-queries.ensures.queries in
-    let at = All-contains (λ t. (t.place < length points) × (get_or points t.place t.item ≡ t.item)) qs q asked.numbered.from (i, lt, is) in
+    let is : get_or qs i q ≡ q = read_mapped (plain_query whole) c.deref-query-items.result.now i c.query-item.result q
+    c.loop-query-test.true c.query-item.is in
+    let asked : AreQueries points qs = subst (λ rs. AreQueries points (plain_queries whole rs))
+    (sym c.deref-query-items.ensures.value) c.in_ok-queries.ensures.queries in
+    let at = All-contains (λ t. (t.place < length points) × (get_or points t.place t.item ≡ t.item)) qs q
+    asked.numbered.from (i, lt, is) in
     let s = g.S.Scan.content c.put_up_to.new.scan in
     let n = length c.put_up_to.new.inside.items in
-    let swept : IsSwept limit fs n s = subst (λ es. IsSwept limit (wide_edges whole es) n s) c.deref.ensures.value c.in_ok-put_up_to.ensures.swept in
-    let rest : All (λ (e : Edge). q.item.x <ℤ e.a.x) (drop n fs) = subst (λ es. All (λ (e : Edge). q.item.x <ℤ e.a.x) (drop n (wide_edges whole es))) c.deref.ensures.value
+    let swept : IsSwept limit fs n s = subst (λ es. IsSwept limit (wide_edges whole es) n s) c.deref.ensures.value
+    c.in_ok-put_up_to.ensures.swept in
+    let rest : All (λ (e : Edge). q.item.x <ℤ e.a.x) (drop n fs) = subst
+    (λ es. All (λ (e : Edge). q.item.x <ℤ e.a.x) (drop n (wide_edges whole es))) c.deref.ensures.value
     c.in_ok-put_up_to.ensures.rest in
-    let within : n ≤ length c.in_ok-starting.starting.items = subst (λ (es : List _). n ≤ length es) c.deref.ensures.value c.in_ok-put_up_to.ensures.within in
+    let within : n ≤ length c.in_ok-starting.starting.items = subst (λ (es : List _). n ≤ length es)
+    c.deref.ensures.value c.in_ok-put_up_to.ensures.within in
     let may = c.in_ok-put_up_to.ensures.moves in
     let m : n ≤ length fs = rw length-map within in
     let past : n ≤ c.len.result = let l = c.len.ensures in let h = c.in_ok-starting.starting.ok.0 in omega arith in
     let there = found limit fs n s swept q.item may rest c.len.result past m c.highest_up_to-highest.result
     (c.highest_up_to-highest.ensures.value (answers_rise limit fs n s swept q.item may)) in
-    subst (λ es. IsFound (wide_edges whole es) q.item (length c.deref-in-loop-query-2.result.now) c.highest_up_to-highest.result) (sym c.deref-in-loop-query.ensures.value)
-    (subst (λ (xs : List _). IsFound fs q.item (length xs) c.highest_up_to-highest.result) (sym c.deref-in-loop-query-2.ensures.value) there)
+    subst (λ es. IsFound (wide_edges whole es) q.item (length c.deref-in-loop-query-2.result.now)
+    c.highest_up_to-highest.result) (sym c.deref-in-loop-query.ensures.value)
+    (subst (λ (xs : List _). IsFound fs q.item (length xs) c.highest_up_to-highest.result)
+    (sym c.deref-in-loop-query-2.ensures.value) there)
 
 pub index_mut-requires : goal.index_mut-requires
 index_mut-requires g c =
@@ -168,9 +203,12 @@ index_mut-requires g c =
     let q = plain_query whole c.query-item.result in
     let i = c.loop-query.query-index in
     let lt : i < length qs = rw length-map c.loop-query-test.true in
-    let is : get_or qs i q ≡ q = read_mapped (plain_query whole) c.deref-query-items.result.now i c.query-item.result q c.loop-query-test.true c.query-item.is in
-    let asked : AreQueries points qs = subst (λ rs. AreQueries points (plain_queries whole rs)) (sym c.deref-query-items.ensures.value) c.in_ok-queries.ensures.queries in
-    let at = All-contains (λ t. (t.place < length points) × (get_or points t.place t.item ≡ t.item)) qs q asked.numbered.from (i, lt, is) in
+    let is : get_or qs i q ≡ q = read_mapped (plain_query whole) c.deref-query-items.result.now i c.query-item.result q
+    c.loop-query-test.true c.query-item.is in
+    let asked : AreQueries points qs = subst (λ rs. AreQueries points (plain_queries whole rs))
+    (sym c.deref-query-items.ensures.value) c.in_ok-queries.ensures.queries in
+    let at = All-contains (λ t. (t.place < length points) × (get_or points t.place t.item ≡ t.item)) qs q
+    asked.numbered.from (i, lt, is) in
     let counted = c.loop-query.invariant.0 in
     let held = c.loop-query.answers.ok.0 in
     let less = at.0 in
@@ -187,34 +225,51 @@ loop-query-preserved g c =
     let q = plain_query whole c.query-item.result in
     let i = c.loop-query.query-index in
     let lt : i < length qs = rw length-map c.loop-query-test.true in
-    let is : get_or qs i q ≡ q = read_mapped (plain_query whole) c.deref-query-items.result.now i c.query-item.result q c.loop-query-test.true c.query-item.is in
-    let asked : AreQueries points qs = subst (λ rs. AreQueries points (plain_queries whole rs)) (sym c.deref-query-items.ensures.value) c.in_ok-queries.ensures.queries in
-    let at = All-contains (λ t. (t.place < length points) × (get_or points t.place t.item ≡ t.item)) qs q asked.numbered.from (i, lt, is) in
+    let is : get_or qs i q ≡ q = read_mapped (plain_query whole) c.deref-query-items.result.now i c.query-item.result q
+    c.loop-query-test.true c.query-item.is in
+    let asked : AreQueries points qs = subst (λ rs. AreQueries points (plain_queries whole rs))
+    (sym c.deref-query-items.ensures.value) c.in_ok-queries.ensures.queries in
+    let at = All-contains (λ t. (t.place < length points) × (get_or points t.place t.item ≡ t.item)) qs q
+    asked.numbered.from (i, lt, is) in
     let s = g.S.Scan.content c.put_up_to.new.scan in
     let n = length c.put_up_to.new.inside.items in
-    let swept : IsSwept limit fs n s = subst (λ es. IsSwept limit (wide_edges whole es) n s) c.deref.ensures.value c.in_ok-put_up_to.ensures.swept in
-    let rest : All (λ (e : Edge). q.item.x <ℤ e.a.x) (drop n fs) = subst (λ es. All (λ (e : Edge). q.item.x <ℤ e.a.x) (drop n (wide_edges whole es))) c.deref.ensures.value
+    let swept : IsSwept limit fs n s = subst (λ es. IsSwept limit (wide_edges whole es) n s) c.deref.ensures.value
+    c.in_ok-put_up_to.ensures.swept in
+    let rest : All (λ (e : Edge). q.item.x <ℤ e.a.x) (drop n fs) = subst
+    (λ es. All (λ (e : Edge). q.item.x <ℤ e.a.x) (drop n (wide_edges whole es))) c.deref.ensures.value
     c.in_ok-put_up_to.ensures.rest in
-    let within : n ≤ length c.in_ok-starting.starting.items = subst (λ (es : List _). n ≤ length es) c.deref.ensures.value c.in_ok-put_up_to.ensures.within in
+    let within : n ≤ length c.in_ok-starting.starting.items = subst (λ (es : List _). n ≤ length es)
+    c.deref.ensures.value c.in_ok-put_up_to.ensures.within in
     let may = c.in_ok-put_up_to.ensures.moves in
     let es = plain_edges whole c.args.edges.now in
     let told : AreTold es fs c.put_up_to.new.inside.items =
-    subst (λ ds. AreOfContour es → AreByStart es (wide_edges whole ds) → AreTold es (wide_edges whole ds) c.loop-query.inside.items → AreTold es (wide_edges whole ds) c.put_up_to.new.inside.items)
-    c.deref.ensures.value (c.in_ok-put_up_to.ensures.told es) c.requires.contour c.in_ok-starting.ensures.order c.loop-query.invariant.4 in
-    let counted : length c.loop-query.answers.items ≡ length points = c.loop-query.invariant.0 ∙ sym (length-map c.args.points.now (plain_point whole)) in
+    subst (λ ds. AreOfContour es → AreByStart es (wide_edges whole ds) →
+    AreTold es (wide_edges whole ds) c.loop-query.inside.items →
+    AreTold es (wide_edges whole ds) c.put_up_to.new.inside.items)
+    c.deref.ensures.value (c.in_ok-put_up_to.ensures.told es) c.requires.contour c.in_ok-starting.ensures.order
+    c.loop-query.invariant.4 in
+    let counted : length c.loop-query.answers.items ≡ length points = c.loop-query.invariant.0
+    ∙ sym (length-map c.args.points.now (plain_point whole)) in
     let right : IsLocatedBy es (in_plane q.item) c.location.result =
-    subst (λ (ds : _). AreByStart es (wide_edges whole ds) → AreTold es (wide_edges whole ds) c.deref-in-loop-query-2.result.now →
-    AreWalls es (plain_edges whole c.deref-in-loop-query-3.result.now) → IsLocatedBy es (in_plane q.item) c.location.result) c.deref-in-loop-query.ensures.value
+    subst (λ (ds : _). AreByStart es (wide_edges whole ds) →
+    AreTold es (wide_edges whole ds) c.deref-in-loop-query-2.result.now →
+    AreWalls es (plain_edges whole c.deref-in-loop-query-3.result.now) →
+    IsLocatedBy es (in_plane q.item) c.location.result) c.deref-in-loop-query.ensures.value
     (c.location.ensures es c.requires.edges c.requires.contour) c.in_ok-starting.ensures.order
     (subst (AreTold es fs) (sym c.deref-in-loop-query-2.ensures.value) told)
-    (subst (λ ws. AreWalls es (plain_edges whole ws)) (sym c.deref-in-loop-query-3.ensures.value) c.in_ok-walls.ensures.walls) in (
+    (subst (λ ws. AreWalls es (plain_edges whole ws)) (sym c.deref-in-loop-query-3.ensures.value)
+    c.in_ok-walls.ensures.walls) in (
       length-set c.loop-query.answers.items q.place c.location.result ∙ c.loop-query.invariant.0,
       within,
-      moved_on limit fs n s swept q.item.x may (All-weaker (λ (e : Edge). q.item.x <ℤ e.a.x) (λ e. q.item.x ≤ℤ e.a.x) (λ e l. omega (arith, ints)) (drop n fs) rest)
-          (g.S.Scan.content c.highest_up_to-highest.new.scan) c.highest_up_to-highest.ensures.content c.highest_up_to-highest.ensures.state,
-      subst (λ t. All (λ (r : Numbered Point). MayMoveTo r.item.x t) (drop (i + 1) qs)) (sym c.highest_up_to-highest.ensures.content) (later_queries qs asked.order i q lt is),
+      moved_on limit fs n s swept q.item.x may (All-weaker (λ (e : Edge). q.item.x <ℤ e.a.x) (λ e. q.item.x ≤ℤ e.a.x)
+          (λ e l. omega (arith, ints)) (drop n fs) rest)
+          (g.S.Scan.content c.highest_up_to-highest.new.scan) c.highest_up_to-highest.ensures.content
+          c.highest_up_to-highest.ensures.state,
+      subst (λ t. All (λ (r : Numbered Point). MayMoveTo r.item.x t) (drop (i + 1) qs))
+          (sym c.highest_up_to-highest.ensures.content) (later_queries qs asked.order i q lt is),
       told,
-      told_more (λ p l. IsLocatedBy es (in_plane p) l) Outside points qs asked.numbered c.loop-query.answers.items counted i q lt is c.location.result right c.loop-query.invariant.5,
+      told_more (λ p l. IsLocatedBy es (in_plane p) l) Outside points qs asked.numbered c.loop-query.answers.items
+          counted i q lt is c.location.result right c.loop-query.invariant.5,
     )
 
 pub returns-clause-located : goal.returns-clause-located
@@ -222,7 +277,10 @@ returns-clause-located g c =
     let whole = g.I.IntNumber.whole in
     let points = plain_points whole c.args.points.now in
     let qs = plain_queries whole c.deref-query-items.result.now in
-    let asked : AreQueries points qs = subst (λ rs. AreQueries points (plain_queries whole rs)) (sym c.deref-query-items.ensures.value) c.in_ok-queries.ensures.queries in
+    let asked : AreQueries points qs = subst (λ rs. AreQueries points (plain_queries whole rs))
+    (sym c.deref-query-items.ensures.value) c.in_ok-queries.ensures.queries in
     let past : length qs ≤ c.loop-query.query-index = rw length-map c.loop-query-test.false in
-    all_answered (λ p l. IsLocatedBy (plain_edges whole c.args.edges.now) (in_plane p) l) Outside points qs asked.numbered c.loop-query.answers.items
-    (c.loop-query.invariant.0 ∙ sym (length-map c.args.points.now (plain_point whole))) c.loop-query.query-index past c.loop-query.invariant.5
+    all_answered (λ p l. IsLocatedBy (plain_edges whole c.args.edges.now) (in_plane p) l) Outside points qs
+    asked.numbered c.loop-query.answers.items
+    (c.loop-query.invariant.0 ∙ sym (length-map c.args.points.now (plain_point whole))) c.loop-query.query-index past
+    c.loop-query.invariant.5

@@ -1,5 +1,5 @@
 -- The next edge is looked for, and put in above what is under it.
-use Rattle.std.proofs.Common.{◌≡◌, ◌+◌, ◌<◌, false, not, Some, get_or, length, refl, sym, ap, ◌∙◌, subst, arith}
+use Rattle.std.proofs.Common.{◌≡◌, ◌+◌, ◌<◌, false, not, Some, get_or, length, sym, ap, ◌∙◌, subst, arith}
 use Rattle.std.proofs.lemmas.List.{length-map, length_push, get_or_default}
 use Rattle.overlay_geom.specs.Plane.{Edge}
 use Rattle.overlay_geom.proofs.Mapped.{read_mapped}
@@ -22,7 +22,8 @@ first_less-below-requires g c =
     let at : n ≡ length c.args.inside.now.items = omega arith in
     let within : n < length c.args.edges.now = let w = c.requires.within in omega arith in
     let lt : n < length fs = rw length-map within in
-    let is : get_or fs n e ≡ e = read_mapped (wide_edge whole) c.args.edges.now n c.index-edges-place.result e within c.index-edges-place.is in
+    let is : get_or fs n e ≡ e = read_mapped (wide_edge whole) c.args.edges.now n c.index-edges-place.result e within
+    c.index-edges-place.is in
     let swept : IsSwept limit fs n s = subst (λ m. IsSwept limit fs m s) (sym at) c.requires.swept in (
       line_fits _ _ g.met.I.IntNumber.small.align_bound g.met.I.IntNumber.small.size_bound,
       (
@@ -30,7 +31,8 @@ first_less-below-requires g c =
         (
           may_move fs c.requires.edges n e lt is limit s swept,
           (
-            is_asked fs c.requires.edges n e lt is limit (c.index-edges-place.result).a_in_range (c.index-edges-place.result).b_in_range,
+            is_asked fs c.requires.edges n e lt is limit (c.index-edges-place.result).a_in_range
+                (c.index-edges-place.result).b_in_range,
             meets fs c.requires.edges n e lt is limit s swept,
           ),
         ),
@@ -50,18 +52,22 @@ insert-requires g c =
     let at : n ≡ length c.args.inside.now.items = omega arith in
     let within : n < length c.args.edges.now = let w = c.requires.within in omega arith in
     let lt : n < length fs = rw length-map within in
-    let is : get_or fs n e ≡ e = read_mapped (wide_edge whole) c.args.edges.now n c.index-edges-place.result e within c.index-edges-place.is in
+    let is : get_or fs n e ≡ e = read_mapped (wide_edge whole) c.args.edges.now n c.index-edges-place.result e within
+    c.index-edges-place.is in
     let swept : IsSwept limit fs n s = subst (λ m. IsSwept limit fs m s) (sym at) c.requires.swept in
     let t = g.S.Scan.content c.first_less-below.new.self in
-    let moved : IsSwept limit fs n t = moved_on limit fs n s swept e.a.x (may_move fs c.requires.edges n e lt is limit s swept)
-    (later_starts fs c.requires.edges n e lt is) t c.first_less-below.ensures.content c.first_less-below.ensures.state in (
+    let moved : IsSwept limit fs n t = moved_on limit fs n s swept e.a.x
+    (may_move fs c.requires.edges n e lt is limit s swept)
+    (later_starts fs c.requires.edges n e lt is) t c.first_less-below.ensures.content
+    c.first_less-below.ensures.state in (
       line_fits _ _ g.met.I.IntNumber.small.align_bound g.met.I.IntNumber.small.size_bound,
       (
         moved.state,
         (
           may_move fs c.requires.edges n e lt is limit t moved,
           (
-            is_over fs c.requires.edges n e lt is limit (c.index-edges-place.result).a_in_range (c.index-edges-place.result).b_in_range,
+            is_over fs c.requires.edges n e lt is limit (c.index-edges-place.result).a_in_range
+                (c.index-edges-place.result).b_in_range,
             (meets fs c.requires.edges n e lt is limit t moved, fresh fs c.requires.edges n e lt is limit t moved),
           ),
         ),
@@ -84,14 +90,19 @@ returns-clause-swept g c =
     let at : n ≡ length c.args.inside.now.items = omega arith in
     let within : n < length c.args.edges.now = let w = c.requires.within in omega arith in
     let lt : n < length fs = rw length-map within in
-    let is : get_or fs n e ≡ e = read_mapped (wide_edge whole) c.args.edges.now n c.index-edges-place.result e within c.index-edges-place.is in
+    let is : get_or fs n e ≡ e = read_mapped (wide_edge whole) c.args.edges.now n c.index-edges-place.result e within
+    c.index-edges-place.is in
     let swept : IsSwept limit fs n s = subst (λ m. IsSwept limit fs m s) (sym at) c.requires.swept in
     let t = g.S.Scan.content c.first_less-below.new.self in
-    let moved : IsSwept limit fs n t = moved_on limit fs n s swept e.a.x (may_move fs c.requires.edges n e lt is limit s swept)
-    (later_starts fs c.requires.edges n e lt is) t c.first_less-below.ensures.content c.first_less-below.ensures.state in
-    let pushed : n + 1 ≡ length c.push.new.self.items = ap (λ m. m + 1) at ∙ sym (ap length c.in_ok-push.ensures.items ∙ length_push c.args.inside.now.items _) in
+    let moved : IsSwept limit fs n t = moved_on limit fs n s swept e.a.x
+    (may_move fs c.requires.edges n e lt is limit s swept)
+    (later_starts fs c.requires.edges n e lt is) t c.first_less-below.ensures.content
+    c.first_less-below.ensures.state in
+    let pushed : n + 1 ≡ length c.push.new.self.items = ap (λ m. m + 1) at
+    ∙ sym (ap length c.in_ok-push.ensures.items ∙ length_push c.args.inside.now.items _) in
     subst (λ m. IsSwept limit fs m (g.S.Scan.content c.insert.new.self)) pushed
-    (put_in fs c.requires.edges n e lt is limit t moved (g.S.Scan.content c.insert.new.self) c.in_ok-insert.ensures.ok c.in_ok-insert.ensures.reached
+    (put_in fs c.requires.edges n e lt is limit t moved (g.S.Scan.content c.insert.new.self) c.in_ok-insert.ensures.ok
+    c.in_ok-insert.ensures.reached
     c.in_ok-insert.ensures.state)
 
 pub returns-clause-reached : goal.returns-clause-reached
@@ -107,7 +118,8 @@ returns-clause-reached g c = λ f here.
     let at : n ≡ length c.args.inside.now.items = omega arith in
     let within : n < length c.args.edges.now = let w = c.requires.within in omega arith in
     let lt : n < length fs = rw length-map within in
-    let is : get_or fs n e ≡ e = read_mapped (wide_edge whole) c.args.edges.now n c.index-edges-place.result e within c.index-edges-place.is in
+    let is : get_or fs n e ≡ e = read_mapped (wide_edge whole) c.args.edges.now n c.index-edges-place.result e within
+    c.index-edges-place.is in
     let swept : IsSwept limit fs n s = subst (λ m. IsSwept limit fs m s) (sym at) c.requires.swept in
     c.in_ok-insert.ensures.reached
     ∙ ap (λ (k : Edge). Some k.a.x) (sym is ∙ get_or_default fs n e f lt ∙ ap (λ m. get_or fs m f) at ∙ here)
@@ -125,7 +137,8 @@ returns-clause-told g c = λ es of by told.
     let at : n ≡ length c.args.inside.now.items = omega arith in
     let within : n < length c.args.edges.now = let w = c.requires.within in omega arith in
     let lt : n < length fs = rw length-map within in
-    let is : get_or fs n e ≡ e = read_mapped (wide_edge whole) c.args.edges.now n c.index-edges-place.result e within c.index-edges-place.is in
+    let is : get_or fs n e ≡ e = read_mapped (wide_edge whole) c.args.edges.now n c.index-edges-place.result e within
+    c.index-edges-place.is in
     let swept : IsSwept limit fs n s = subst (λ m. IsSwept limit fs m s) (sym at) c.requires.swept in
     let inside = c.args.inside.now.items in
     let below = c.first_less-below.result in

@@ -25,16 +25,19 @@ loop-i-preserved g c =
     let fs = wide_edges whole c.args.edges.now in
     let e = wide_edge whole c.index-edges-i.result in
     let n = length c.loop-i.inside.items in
-    let within : n < length c.args.edges.now = let a = c.loop-i.invariant.0 in let t = c.loop-i-test.true in omega arith in
+    let within : n < length c.args.edges.now = let a = c.loop-i.invariant.0 in let t = c.loop-i-test.true in
+    omega arith in
     let lt : n < length fs = rw length-map within in
     let is : get_or fs n e ≡ e = ap (λ m. get_or fs m e) c.loop-i.invariant.0
-    ∙ read_mapped (wide_edge whole) c.args.edges.now c.loop-i.i c.index-edges-i.result e c.loop-i-test.true c.index-edges-i.is in
+    ∙ read_mapped (wide_edge whole) c.args.edges.now c.loop-i.i c.index-edges-i.result e c.loop-i-test.true
+    c.index-edges-i.is in
     let test : c.is_lt.result ≡ int_lt x e.a.x = rw (c.is_lt.ensures, c.compare.ensures) (is_lt-int_cmp x e.a.x) in
     let counted = c.in_ok-put_next.ensures.counted in
     let same = c.loop-i.invariant.0 in (
       omega (arith, counted, same),
       omega (arith, counted, within),
-      subst (λ o. IfSome o (λ r. r ≤ℤ x)) (sym (c.in_ok-put_next.ensures.reached e is)) (ge_from_test x e.a.x (sym test ∙ c.if-is_lt.false)),
+      subst (λ o. IfSome o (λ r. r ≤ℤ x)) (sym (c.in_ok-put_next.ensures.reached e is))
+          (ge_from_test x e.a.x (sym test ∙ c.if-is_lt.false)),
       c.in_ok-put_next.ensures.swept,
       λ es of by told. c.in_ok-put_next.ensures.told es of by (c.loop-i.invariant.4 es of by told),
     )
@@ -46,10 +49,12 @@ returns-then-is_lt-clause-rest g c =
     let fs = wide_edges whole c.args.edges.now in
     let e = wide_edge whole c.index-edges-i.result in
     let n = length c.loop-i.inside.items in
-    let within : n < length c.args.edges.now = let a = c.loop-i.invariant.0 in let t = c.loop-i-test.true in omega arith in
+    let within : n < length c.args.edges.now = let a = c.loop-i.invariant.0 in let t = c.loop-i-test.true in
+    omega arith in
     let lt : n < length fs = rw length-map within in
     let is : get_or fs n e ≡ e = ap (λ m. get_or fs m e) c.loop-i.invariant.0
-    ∙ read_mapped (wide_edge whole) c.args.edges.now c.loop-i.i c.index-edges-i.result e c.loop-i-test.true c.index-edges-i.is in
+    ∙ read_mapped (wide_edge whole) c.args.edges.now c.loop-i.i c.index-edges-i.result e c.loop-i-test.true
+    c.index-edges-i.is in
     let test : c.is_lt.result ≡ int_lt x e.a.x = rw (c.is_lt.ensures, c.compare.ensures) (is_lt-int_cmp x e.a.x) in
     right_of fs c.requires.edges n e lt is x (sym test ∙ c.if-is_lt.true)
 
@@ -58,6 +63,8 @@ returns-clause-rest g c =
     let whole = g.I.IntNumber.whole in
     let x = whole c.args.x in
     let fs = wide_edges whole c.args.edges.now in
-    let past : length c.args.edges.now ≤ length c.loop-i.inside.items = let a = c.loop-i.invariant.0 in let t = c.loop-i-test.false in omega arith in
+    let past : length c.args.edges.now ≤ length c.loop-i.inside.items = let a = c.loop-i.invariant.0 in
+    let t = c.loop-i-test.false in omega arith in
     let all : length fs ≤ length c.loop-i.inside.items = rw length-map past in
-    subst (All (λ (e : Edge). x <ℤ e.a.x)) (sym (drop_all (length c.loop-i.inside.items) fs all)) (All-nil (λ e. x <ℤ e.a.x))
+    subst (All (λ (e : Edge). x <ℤ e.a.x)) (sym (drop_all (length c.loop-i.inside.items) fs all))
+    (All-nil (λ e. x <ℤ e.a.x))

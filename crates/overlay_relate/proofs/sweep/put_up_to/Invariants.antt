@@ -12,4 +12,5 @@ invariant-loop-i g l =
     × (length l.inside.items ≤ length l.edges)
     × MayMoveTo (whole l.x) (g.S.Scan.content l.scan)
     × IsSwept g.I.IntNumber.limit fs (length l.inside.items) (g.S.Scan.content l.scan)
-    × ((es : _) → AreOfContour es → AreByStart es fs → AreTold es fs l.initial.inside.items → AreTold es fs l.inside.items)
+    × ((es : _) → AreOfContour es → AreByStart es fs → AreTold es fs l.initial.inside.items →
+    AreTold es fs l.inside.items)

@@ -15,9 +15,13 @@ pub returns-then-n-eq0 : goal.returns-then-n-eq0
 returns-then-n-eq0 g c =
     let plain = plain_edge g.I.IntNumber.whole in
     let p = plain_point g.I.IntNumber.whole c.args.p in
-    let point = c.partition_point-n.ensures.partitioned (λ w. starts_up_to p (plain w)) (always_returns_same _ _ _ (λ a r f k. search (rules, of_calls)))
-    (walls_partitioned plain c.args.walls.now c.requires p) in
-    (λ t. absurd (false≢true t), λ on. absurd (on_no_wall plain c.args.walls.now c.requires p c.partition_point-n.result point c.if-n-eq0.true on))
+    let point = c.partition_point-n.ensures.partitioned (λ w. starts_up_to p (plain w))
+    (always_returns_same _ _ _ (λ a r f k. search (rules, of_calls)))
+    (walls_partitioned plain c.args.walls.now c.requires p) in (
+      λ t. absurd (false≢true t),
+      λ on. absurd
+          (on_no_wall plain c.args.walls.now c.requires p c.partition_point-n.result point c.if-n-eq0.true on),
+    )
 
 pub returns : goal.returns
 returns g c =
@@ -25,9 +29,12 @@ returns g c =
     let p = plain_point g.I.IntNumber.whole c.args.p in
     let n = c.partition_point-n.result in
     let w = c.index-walls-n.result in
-    let point = c.partition_point-n.ensures.partitioned (λ w. starts_up_to p (plain w)) (always_returns_same _ _ _ (λ a r f k. search (rules, of_calls)))
+    let point = c.partition_point-n.ensures.partitioned (λ w. starts_up_to p (plain w))
+    (always_returns_same _ _ _ (λ a r f k. search (rules, of_calls)))
     (walls_partitioned plain c.args.walls.now c.requires p) in
     let some : 0 < n = let not_none = c.if-n-eq0.false in omega arith in
-    let both = on_last_wall plain c.args.walls.now c.requires p n point w some c.partition_point-n.ensures.bound c.index-walls-n.is in
-    let told : c.is_lt.result ≡ point_lt (plain w).b p = c.is_lt.ensures ∙ ap is_lt c.compare_points.ensures ∙ is_lt-point_cmp (plain w).b p in
+    let both = on_last_wall plain c.args.walls.now c.requires p n point w some c.partition_point-n.ensures.bound
+    c.index-walls-n.is in
+    let told : c.is_lt.result ≡ point_lt (plain w).b p = c.is_lt.ensures ∙ ap is_lt c.compare_points.ensures
+    ∙ is_lt-point_cmp (plain w).b p in
     (λ t. both.0 (sym told ∙ false_where_not c.is_lt.result t), λ on. ap not (told ∙ both.1 on))

@@ -17,7 +17,8 @@ loop-e-preserved g c =
     let plain = plain_edge whole in
     ap (plain_edges whole) c.in_ok-push.ensures.items ∙ map-append plain c.loop-e.walls.items (c.wall_of.result ∷ [])
     ∙ ap₂ (λ ws w. ws ++ w ∷ []) c.loop-e.invariant c.wall_of.ensures
-    ∙ sym (ap (map wall_of) (mapped_more plain c.args.edges.now c.loop-e.e-index c.e-item.result c.loop-e-test.true c.e-item.is)
+    ∙ sym (ap (map wall_of) (mapped_more plain c.args.edges.now c.loop-e.e-index c.e-item.result c.loop-e-test.true
+    c.e-item.is)
     ∙ map-append wall_of (map plain (take c.loop-e.e-index c.args.edges.now)) (plain c.e-item.result ∷ []))
 
 pub returns-clause-walls : goal.returns-clause-walls
@@ -25,7 +26,8 @@ returns-clause-walls g c =
     let whole = g.I.IntNumber.whole in
     let plain = plain_edge whole in record {
       same = subst (λ es. IsPermutation es (plain_edges whole c.sort_by.new.self.items))
-          (c.loop-e.invariant ∙ ap (map wall_of) (mapped_whole plain c.args.edges.now c.loop-e.e-index c.loop-e-test.false))
+          (c.loop-e.invariant ∙ ap (map wall_of)
+          (mapped_whole plain c.args.edges.now c.loop-e.e-index c.loop-e-test.false))
           (IsPermutation-map plain c.loop-e.walls.items c.sort_by.new.self.items c.in_ok-sort_by.ensures.permutation);
       order = in_order-from_sorted whole c.sort_by.new.self.items
           (c.in_ok-sort_by.ensures.sorted (held_lt whole) (held_lt-order whole) (answers_always _ _ _ (λ f a r h k.

@@ -7,7 +7,8 @@ use Rattle.overlay_scan.proofs.list.count_under.Given as goal
 abbrev pub invariant-loop-low : goal.invariant-loop-low
 invariant-loop-low g l =
     (l.low ≤ l.high) × (l.high ≤ length l.entries)
-    × IsBetween (λ f. is_lower f.edge (plain_entry g.I.IntNumber.whole l.e).edge) (plain_entries g.I.IntNumber.whole l.entries) l.low l.high
+    × IsBetween (λ f. is_lower f.edge (plain_entry g.I.IntNumber.whole l.e).edge)
+    (plain_entries g.I.IntNumber.whole l.entries) l.low l.high
 
 abbrev pub decreases-loop-low : goal.decreases-loop-low
 decreases-loop-low g l = l.high - l.low

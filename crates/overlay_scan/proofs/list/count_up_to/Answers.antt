@@ -17,11 +17,13 @@ loop-low-init g c = (
 
 pub offset_bounds-entries-middle : goal.offset_bounds-entries-middle
 offset_bounds-entries-middle g c =
-    let below = middle_below c.loop-low.low c.loop-low.high c.loop-low-test.true in let end = c.loop-low.invariant.1 in omega arith
+    let below = middle_below c.loop-low.low c.loop-low.high c.loop-low-test.true in let end = c.loop-low.invariant.1 in
+    omega arith
 
 pub bounds-entries-middle : goal.bounds-entries-middle
 bounds-entries-middle g c =
-    let below = middle_below c.loop-low.low c.loop-low.high c.loop-low-test.true in let end = c.loop-low.invariant.1 in omega arith
+    let below = middle_below c.loop-low.low c.loop-low.high c.loop-low-test.true in let end = c.loop-low.invariant.1 in
+    omega arith
 
 pub ask-requires : goal.ask-requires
 ask-requires g c =
@@ -30,7 +32,8 @@ ask-requires g c =
     let below = middle_below l.low l.high c.loop-low-test.true in
     let end = l.invariant.1 in
     let f = c.index-entries-middle.result in
-    All-mapped_at (λ e. HoldsOfLine whole e.edge (goal.F-pre g c.args.order)) (plain_entry whole) c.args.entries.now (middle l.low l.high) f
+    All-mapped_at (λ e. HoldsOfLine whole e.edge (goal.F-pre g c.args.order)) (plain_entry whole) c.args.entries.now
+    (middle l.low l.high) f
     (omega arith) c.index-entries-middle.is c.requires f.a f.b refl refl
 
 pub loop-low-preserved-then-is_gt : goal.loop-low-preserved-then-is_gt
@@ -44,11 +47,15 @@ loop-low-preserved-then-is_gt g c =
       omega arith,
       omega arith,
       λ answer asked rise.
-          let says = All-mapped_at (λ e. HoldsOfLine whole e.edge (λ line. (o : _) → goal.F-post g c.args.order line o → o ≡ answer e.edge)) (plain_entry whole)
-          c.args.entries.now (middle l.low l.high) f within c.index-entries-middle.is asked f.a f.b refl refl c.ask.result c.ask.ensures in
+          let says = All-mapped_at (λ e. HoldsOfLine whole e.edge (λ line. (o : _) → goal.F-post g c.args.order line o →
+          o ≡ answer e.edge)) (plain_entry whole)
+          c.args.entries.now (middle l.low l.high) f within c.index-entries-middle.is asked f.a f.b refl refl
+          c.ask.result c.ask.ensures in
           read_fails (λ e. not (is_gt (answer e.edge))) (plain_entry whole) c.args.entries.now
-          (pass_before answer (plain_entries whole c.args.entries.now) rise) l.low l.high (middle l.low l.high) f within c.index-entries-middle.is
-          (l.invariant.2 answer asked rise) (ap (λ o. not (is_gt o)) (sym says) ∙ ap not (sym c.is_gt.ensures ∙ c.if-is_gt.true)),
+          (pass_before answer (plain_entries whole c.args.entries.now) rise) l.low l.high (middle l.low l.high) f within
+          c.index-entries-middle.is
+          (l.invariant.2 answer asked rise) (ap (λ o. not (is_gt o)) (sym says)
+          ∙ ap not (sym c.is_gt.ensures ∙ c.if-is_gt.true)),
     )
 
 pub loop-low-preserved : goal.loop-low-preserved
@@ -62,11 +69,15 @@ loop-low-preserved g c =
       omega arith,
       end,
       λ answer asked rise.
-          let says = All-mapped_at (λ e. HoldsOfLine whole e.edge (λ line. (o : _) → goal.F-post g c.args.order line o → o ≡ answer e.edge)) (plain_entry whole)
-          c.args.entries.now (middle l.low l.high) f within c.index-entries-middle.is asked f.a f.b refl refl c.ask.result c.ask.ensures in
+          let says = All-mapped_at (λ e. HoldsOfLine whole e.edge (λ line. (o : _) → goal.F-post g c.args.order line o →
+          o ≡ answer e.edge)) (plain_entry whole)
+          c.args.entries.now (middle l.low l.high) f within c.index-entries-middle.is asked f.a f.b refl refl
+          c.ask.result c.ask.ensures in
           read_passes (λ e. not (is_gt (answer e.edge))) (plain_entry whole) c.args.entries.now
-          (pass_before answer (plain_entries whole c.args.entries.now) rise) l.low l.high (middle l.low l.high) f within c.index-entries-middle.is
-          (l.invariant.2 answer asked rise) (ap (λ o. not (is_gt o)) (sym says) ∙ ap not (sym c.is_gt.ensures ∙ c.if-is_gt.false)),
+          (pass_before answer (plain_entries whole c.args.entries.now) rise) l.low l.high (middle l.low l.high) f within
+          c.index-entries-middle.is
+          (l.invariant.2 answer asked rise) (ap (λ o. not (is_gt o)) (sym says)
+          ∙ ap not (sym c.is_gt.ensures ∙ c.if-is_gt.false)),
     )
 
 pub returns-clause-fits : goal.returns-clause-fits
@@ -75,5 +86,6 @@ returns-clause-fits g c = let up = c.loop-low.invariant.0 in let end = c.loop-lo
 pub returns-clause-count : goal.returns-clause-count
 returns-clause-count g c = λ answer asked rise.
     let l = c.loop-low in
-    sym (counted_by_halves (λ e. not (is_gt (answer e.edge))) (plain_entry g.I.IntNumber.whole) c.args.entries.now l.low l.high
+    sym (counted_by_halves (λ e. not (is_gt (answer e.edge))) (plain_entry g.I.IntNumber.whole) c.args.entries.now
+    l.low l.high
     l.invariant.0 c.loop-low-test.false l.invariant.1 (l.invariant.2 answer asked rise))

@@ -9,7 +9,8 @@ use Rattle.overlay_scan.proofs.list.count_up_to.Given as goal
 abbrev pub invariant-loop-low : goal.invariant-loop-low
 invariant-loop-low g l =
     (l.low ≤ l.high) × (l.high ≤ length l.entries)
-    × ((answer : _) → IsAnsweredBy g.I.IntNumber.whole (goal.F-post g l.order) answer (plain_entries g.I.IntNumber.whole l.entries) →
+    × ((answer : _) → IsAnsweredBy g.I.IntNumber.whole (goal.F-post g l.order) answer
+    (plain_entries g.I.IntNumber.whole l.entries) →
     AnswersRise answer (plain_entries g.I.IntNumber.whole l.entries) →
     IsBetween (λ f. not (is_gt (answer f.edge))) (plain_entries g.I.IntNumber.whole l.entries) l.low l.high)
 

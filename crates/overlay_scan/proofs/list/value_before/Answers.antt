@@ -9,4 +9,6 @@ pub returns-else-n-eq0 : goal.returns-else-n-eq0
 returns-else-n-eq0 g c =
     let h = plain_entry g.I.IntNumber.whole in
     ap (λ f. f.value) (sym c.index-entries-n.is)
-    ∙ ap (value_or c.args.default) (sym (last_of_first h c.args.entries.now c.args.n c.index-entries-n.result c.if-n-eq0.false c.requires c.index-entries-n.is))
+    ∙ ap (value_or c.args.default)
+    (sym (last_of_first h c.args.entries.now c.args.n c.index-entries-n.result c.if-n-eq0.false c.requires
+    c.index-entries-n.is))

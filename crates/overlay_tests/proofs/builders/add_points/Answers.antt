@@ -8,7 +8,10 @@ use Rattle.overlay_tests.proofs.builders.add_points.Goals as goal
 
 pub add_path_iter-requires-clause-in_range : goal.add_path_iter-requires-clause-in_range
 add_path_iter-requires-clause-in_range g c =
-    let points_in_range : AllInRange g.I.IntNumber.limit (plain_points g.I.IntNumber.whole c.args.points.now) = search rules in
+    let points_in_range : AllInRange g.I.IntNumber.limit (plain_points g.I.IntNumber.whole c.args.points.now) =
+    search rules in
     λ ps h.
-    let given = items_from_drains ps (h.1.0, h.1.1, λ _. (h.0, h.1.2)) (YieldsList-from_copied (YieldsList-from_slice c.args.points.now cc)) in
-    subst (λ l. AllInRange g.I.IntNumber.limit (plain_points g.I.IntNumber.whole l)) (sym (sym (map-id ps) ∙ given)) points_in_range
+    let given = items_from_drains ps (h.1.0, h.1.1, λ _. (h.0, h.1.2))
+    (YieldsList-from_copied (YieldsList-from_slice c.args.points.now cc)) in
+    subst (λ l. AllInRange g.I.IntNumber.limit (plain_points g.I.IntNumber.whole l)) (sym (sym (map-id ps) ∙ given))
+    points_in_range

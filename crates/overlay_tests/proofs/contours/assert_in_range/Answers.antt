@@ -16,4 +16,5 @@ loop-index-preserved g c =
 pub returns : goal.returns
 returns g c =
     let paths = g.R0.IntShapeResource.paths c.args.resource.now in
-    subst (All (AllInRange g.I.IntNumber.limit)) (take_all c.loop-index.index paths (omega (arith, c.path_count-index-end.ensures))) c.loop-index.invariant
+    subst (All (AllInRange g.I.IntNumber.limit))
+    (take_all c.loop-index.index paths (omega (arith, c.path_count-index-end.ensures))) c.loop-index.invariant

@@ -8,7 +8,8 @@ use Rattle.overlay_geom.specs.Points.{plain_points, AllInRange}
 use Rattle.overlay_tests.proofs.failed.add_no_points.Goals as goal
 
 none_in_range : {S I : Type 0} (whole : I → ℤ) (limit : ℕ) (s : S) (ps : List (IntPoint I)) →
-    Drains (λ (_ : S) (point : Option (IntPoint I)) (_ : S). point ≡ None) s ps → AllInRange limit (plain_points whole ps)
+    Drains (λ (_ : S) (point : Option (IntPoint I)) (_ : S). point ≡ None) s ps →
+    AllInRange limit (plain_points whole ps)
 none_in_range whole limit s [] d = λ k p lt. absurd (omega arith)
 none_in_range whole limit s (p ∷ ps) d = absurd (none-some p (sym d.1.1.1))
 

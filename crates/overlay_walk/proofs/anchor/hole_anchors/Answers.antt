@@ -6,7 +6,8 @@ use Rattle.overlay_plane.specs.Contours.{IsContour}
 use Rattle.overlay_walk.specs.Steps.{plain_step, plain_steps}
 use Rattle.overlay_walk.specs.WalkEdges.{numbered_entry, numbered_entries}
 use Rattle.overlay_walk.specs.Walks.{plain_walks}
-use Rattle.overlay_walk.proofs.HoleEntries.{none_from_test, some_from_test, HaveHoles, hole_pushed, known_passed, holes_sorted}
+use Rattle.overlay_walk.proofs.HoleEntries.{none_from_test, some_from_test, HaveHoles, hole_pushed, known_passed}
+use Rattle.overlay_walk.proofs.HoleEntries.{holes_sorted}
 use Rattle.overlay_walk.proofs.WalksRead.{walk_at, walk_has, long_walk}
 use Rattle.overlay_walk.proofs.anchor.hole_anchors.Goals as goal
 use Rattle.overlay_walk.proofs.anchor.hole_anchors.Goals.{then-is_none+in_ok-push, else-is_none}
@@ -14,13 +15,15 @@ use Rattle.overlay_walk.proofs.anchor.hole_anchors.Goals.{then-is_none+in_ok-pus
 pub anchor_of-requires-clause-some : goal.anchor_of-requires-clause-some
 anchor_of-requires-clause-some g c =
     let whole = g.I.IntNumber.whole in
-    let contour = walk_has whole c.args.walks.now c.loop-i.i c.index-walks-i.result c.loop-i-test.true c.index-walks-i.is IsContour c.requires.contours in
+    let contour = walk_has whole c.args.walks.now c.loop-i.i c.index-walks-i.result c.loop-i-test.true
+    c.index-walks-i.is IsContour c.requires.contours in
     subst (λ (ss : List _). 0 < length ss) (sym c.deref.ensures.value)
     (let three = contour.three in omega (arith, length-map c.index-walks-i.result.items (plain_step whole)))
 
 pub anchor_of-requires-clause-long : goal.anchor_of-requires-clause-long
 anchor_of-requires-clause-long g c =
-    long_walk g.I.IntNumber.whole g.I.IntNumber.limit c.args.walks.now c.loop-i.i c.index-walks-i.result _ c.loop-i-test.true
+    long_walk g.I.IntNumber.whole g.I.IntNumber.limit c.args.walks.now c.loop-i.i c.index-walks-i.result _
+    c.loop-i-test.true
     c.index-walks-i.is c.deref.ensures.value c.requires.long
 
 pub loop-i-preserved : goal.loop-i-preserved
@@ -33,24 +36,30 @@ loop-i-preserved g c =
     elim c.if-is_none.branch [
       | then-is_none+in_ok-push w ↦
           let h = numbered_entry whole w.anchor_of.result in
-          let items = ap (λ (v : _). numbered_entries whole v.items) w.anchors-is ∙ ap (numbered_entries whole) w.in_ok-push.ensures.items
+          let items = ap (λ (v : _). numbered_entries whole v.items) w.anchors-is
+          ∙ ap (numbered_entries whole) w.in_ok-push.ensures.items
           ∙ map-append (numbered_entry whole) c.loop-i.anchors.items (w.anchor_of.result ∷ []) in
           subst (HaveHoles walks known (i + 1)) (sym items)
           (hole_pushed walks known i hs _ h c.loop-i.invariant
-          (walk_at whole c.args.walks.now i w.index-walks-i.result _ c.loop-i-test.true w.index-walks-i.is w.deref.ensures.value)
+          (walk_at whole c.args.walks.now i w.index-walks-i.result _ c.loop-i-test.true w.index-walks-i.is
+          w.deref.ensures.value)
           (none_from_test (get_or known i None) (c.is_none.ensures ∙ ap not w.if-is_none.true))
           w.anchor_of.ensures.index w.anchor_of.ensures.anchor)
       | else-is_none w ↦
           subst (HaveHoles walks known (i + 1)) (sym (ap (λ (v : _). numbered_entries whole v.items) w.anchors-is))
-          (known_passed walks known i hs c.loop-i.invariant (some_from_test (get_or known i None) (c.is_none.ensures ∙ ap not w.if-is_none.false)))
+          (known_passed walks known i hs c.loop-i.invariant
+          (some_from_test (get_or known i None) (c.is_none.ensures ∙ ap not w.if-is_none.false)))
     ]
 
 pub returns-clause-ok : goal.returns-clause-ok
 returns-clause-ok g c =
     let whole = g.I.IntNumber.whole in
-    holes_sorted (plain_walks whole c.args.walks.now) c.args.known.now c.loop-i.i (numbered_entries whole c.loop-i.anchors.items)
+    holes_sorted (plain_walks whole c.args.walks.now) c.args.known.now c.loop-i.i
+    (numbered_entries whole c.loop-i.anchors.items)
     (numbered_entries whole c.sort_by_anchor.new.edges.items)
-    (let past = c.loop-i-test.false in let end = c.loop-i.auto.i-end in omega (arith, length-map c.args.walks.now (λ w. plain_steps whole w.items)))
+    (let past = c.loop-i-test.false in let end = c.loop-i.auto.i-end in
+    omega (arith, length-map c.args.walks.now (λ w. plain_steps whole w.items)))
     c.loop-i.invariant
-    (IsPermutation-map (numbered_entry whole) c.loop-i.anchors.items c.sort_by_anchor.new.edges.items c.in_ok-sort_by_anchor.ensures.permutation)
+    (IsPermutation-map (numbered_entry whole) c.loop-i.anchors.items c.sort_by_anchor.new.edges.items
+    c.in_ok-sort_by_anchor.ensures.permutation)
     c.in_ok-sort_by_anchor.ensures.order

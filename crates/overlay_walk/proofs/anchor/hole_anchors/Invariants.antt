@@ -6,4 +6,5 @@ use Rattle.overlay_walk.proofs.anchor.hole_anchors.Given as goal
 
 abbrev pub invariant-loop-i : goal.invariant-loop-i
 invariant-loop-i g l =
-    HaveHoles (plain_walks g.I.IntNumber.whole l.walks) l.known l.i (numbered_entries g.I.IntNumber.whole l.anchors.items)
+    HaveHoles (plain_walks g.I.IntNumber.whole l.walks) l.known l.i
+    (numbered_entries g.I.IntNumber.whole l.anchors.items)

@@ -31,7 +31,8 @@ cross-requires-clause-p g c =
     let i = c.loop-i.i in
     let most = c.loop-i.invariant.0 in
     let more = c.loop-i-test.true in
-    point_in_range g.I.IntNumber.whole c.args.walk.now (i - 1) c.index-walk-i.result (omega (arith, most, more)) g.I.IntNumber.limit c.requires
+    point_in_range g.I.IntNumber.whole c.args.walk.now (i - 1) c.index-walk-i.result (omega (arith, most, more))
+    g.I.IntNumber.limit c.requires
 
 pub loop-i-preserved : goal.loop-i-preserved
 loop-i-preserved g c =
@@ -54,7 +55,9 @@ loop-i-preserved g c =
       point_in_range whole ws k c.index-walk-i.result inside g.I.IntNumber.limit c.requires,
       next_in_more first ps k v in_points is,
       c.wrapping_add-sum.ensures
-          ∙ ap₂ (λ a b. int_wrap w (a +ℤ b)) (c.cross.ensures ∙ ap (cross_of v) (sym c.loop-i.invariant.2)) c.loop-i.invariant.3
-          ∙ ap (λ n. int_wrap w (cross_of v (next_in first (drop n ps)) +ℤ int_wrap w (rest_sum first (drop n ps)))) after
+          ∙ ap₂ (λ a b. int_wrap w (a +ℤ b)) (c.cross.ensures ∙ ap (cross_of v) (sym c.loop-i.invariant.2))
+          c.loop-i.invariant.3
+          ∙ ap (λ n. int_wrap w (cross_of v (next_in first (drop n ps)) +ℤ int_wrap w (rest_sum first (drop n ps))))
+          after
           ∙ wrapped_rest_more w first ps k v in_points is,
     )

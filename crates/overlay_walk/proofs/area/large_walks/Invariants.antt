@@ -10,5 +10,6 @@ invariant-loop-walk g l =
     (goal.iterator-loop-walk g).can_next l.walk-iterator ×
     (goal.iterator-loop-walk g).is_finite l.walk-iterator ×
     (l.fn.walks.items ≡ l.yielded ++ into_iter_items l.walk-iterator) ×
-    (l.large.items ≡ filter (λ w. reaches g.I.Wide.WideIntNumber.width (g.I.WideUInt.UIntNumber.natural l.min_output_area)
+    (l.large.items ≡ filter (λ w. reaches g.I.Wide.WideIntNumber.width
+    (g.I.WideUInt.UIntNumber.natural l.min_output_area)
     (plain_steps g.I.IntNumber.whole w.items)) l.yielded)

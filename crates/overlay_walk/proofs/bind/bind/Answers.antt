@@ -4,7 +4,7 @@ use Rattle.std.proofs.lemmas.List.{length-map}
 use Rattle.std.proofs.lemmas.Result.{IfOk-weaker}
 use Rattle.overlay_plane.specs.BoundContours.{AreShapesFound}
 use Rattle.overlay_plane.specs.RoledContours.{Contour, contours_from, stands_in}
-use Rattle.overlay_walk.specs.Parents.{IsToldAt}
+use Rattle.overlay_walk.specs.Parents.{HasShapeNumber}
 use Rattle.overlay_walk.specs.Steps.{plain_steps, is_on_left}
 use Rattle.overlay_walk.specs.Walks.{plain_walks}
 use Rattle.overlay_walk.proofs.ShapesFound.{all_in_one, each_by_sweep, as_many}
@@ -16,7 +16,8 @@ returns-then-count_outlines-eq1-clause-found g c =
     let on_left = is_on_left c.args.direction in
     let walks = plain_walks g.I.IntNumber.whole c.args.walks.now in
     IfOk-weaker c.all_in_first.result _ (λ v. AreShapesFound on_left (contours_from on_left 0 walks) v.items)
-    (λ v all. all_in_one on_left walks v.items (all.0 ∙ sym (length-map c.args.walks.now (λ w. plain_steps g.I.IntNumber.whole w.items)))
+    (λ v all. all_in_one on_left walks v.items
+    (all.0 ∙ sym (length-map c.args.walks.now (λ w. plain_steps g.I.IntNumber.whole w.items)))
     (sym c.count_outlines.ensures ∙ c.if-count_outlines-eq1.true) all.1)
     c.all_in_first.ensures.ok
 
@@ -36,4 +37,5 @@ returns-clause-found g c =
     each_by_sweep on_left walks c.in_ok-parents.parents.items
     (c.in_ok-parents.ensures.counted ∙ sym (length-map c.args.walks.now (λ w. plain_steps g.I.IntNumber.whole w.items)))
     (λ one. c.if-count_outlines-eq1.false (c.count_outlines.ensures ∙ one))
-    (λ n. subst (λ known. IsToldAt on_left walks known c.in_ok-parents.parents.items n) (c.deref.ensures.value ∙ c.in_ok-numbers.ensures.ok) (c.in_ok-parents.ensures.told n))
+    (λ n. subst (λ known. HasShapeNumber on_left walks known c.in_ok-parents.parents.items n) (c.deref.ensures.value
+    ∙ c.in_ok-numbers.ensures.ok) (c.in_ok-parents.ensures.numbers n))

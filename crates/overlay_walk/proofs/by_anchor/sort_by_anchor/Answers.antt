@@ -15,6 +15,8 @@ returns-clause-order g c =
     let sorted = c.sort_by.new.self.items in
     AllPairs-map (λ (e f : Entry ℕ). is_anchored_before f.edge e.edge ≡ false) (numbered_entry whole) sorted
     (by_start-from_sorted (λ s. (numbered_entry whole s).edge) (λ s. s.forward) sorted
-    (c.in_ok-sort_by.ensures.sorted (starts_before (λ s. (numbered_entry whole s).edge) (λ s. s.forward)) (starts_before-order (λ s. (numbered_entry whole s).edge) (λ s. s.forward))
+    (c.in_ok-sort_by.ensures.sorted (starts_before (λ s. (numbered_entry whole s).edge) (λ s. s.forward))
+    (starts_before-order (λ s. (numbered_entry whole s).edge) (λ s. s.forward))
     (answers_always _ _ _ (λ f a r h k.
-    let answer : is_lt r ≡ is_anchored_before (numbered_entry whole a.0.now).edge (numbered_entry whole a.1.0.now).edge = search rules in answer))))
+    let answer : is_lt r ≡ is_anchored_before (numbered_entry whole a.0.now).edge
+    (numbered_entry whole a.1.0.now).edge = search rules in answer))))

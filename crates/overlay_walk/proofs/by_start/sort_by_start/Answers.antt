@@ -8,5 +8,6 @@ use Rattle.overlay_walk.proofs.by_start.sort_by_start.Goals as goal
 pub returns-clause-order : goal.returns-clause-order
 returns-clause-order g c =
     AreInStartOrder-from_sorted _ _ _ c.sort_by.new.self.items
-    (c.in_ok-sort_by.ensures.sorted (held_start_before _ _ _) (held_start_before-order _ _ _) (answers_always _ _ _ (λ f a r h k.
+    (c.in_ok-sort_by.ensures.sorted (held_start_before _ _ _) (held_start_before-order _ _ _)
+    (answers_always _ _ _ (λ f a r h k.
     let answer : is_lt r ≡ held_start_before _ _ _ a.0.now a.1.0.now = search rules in answer)))

@@ -7,7 +7,8 @@ use Rattle.overlay_walk.proofs.filled.is_filled_above.Goals as goal
 pub returns-in-CounterClockwise : goal.returns-in-CounterClockwise
 returns-in-CounterClockwise g c =
     c.is_forward.ensures
-    ∙ ap (λ d. is_filled_above (is_on_left d) (plain_step g.I.IntNumber.whole c.args.step.now)) (sym c.in-CounterClockwise.is)
+    ∙ ap (λ d. is_filled_above (is_on_left d) (plain_step g.I.IntNumber.whole c.args.step.now))
+    (sym c.in-CounterClockwise.is)
 
 pub returns-in-Clockwise : goal.returns-in-Clockwise
 returns-in-Clockwise g c =

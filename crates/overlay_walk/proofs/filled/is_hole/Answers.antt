@@ -14,4 +14,5 @@ first_tells whole on_left (t ∷ ss) s some at = ap (λ u. is_filled_above on_le
 pub returns-in-len1-up : goal.returns-in-len1-up
 returns-in-len1-up g c =
     c.is_filled_above.ensures
-    ∙ sym (first_tells g.I.IntNumber.whole (is_on_left c.args.direction) c.args.walk.now c.first-item.result c.in-len1-up.len_at_least c.first-item.is)
+    ∙ sym (first_tells g.I.IntNumber.whole (is_on_left c.args.direction) c.args.walk.now c.first-item.result
+    c.in-len1-up.len_at_least c.first-item.is)

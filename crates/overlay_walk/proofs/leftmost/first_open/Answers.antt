@@ -15,7 +15,8 @@ returns-then-is_open-clause-open c = λ within. sym c.is_open.ensures ∙ c.if-i
 
 pub loop-i-preserved : goal.loop-i-preserved
 loop-i-preserved c =
-    passed_more c.args.taken.now c.args.places.now c.loop-i.i c.loop-i.invariant c.loop-i-test.true (sym c.is_open.ensures ∙ c.if-is_open.false)
+    passed_more c.args.taken.now c.args.places.now c.loop-i.i c.loop-i.invariant c.loop-i-test.true
+    (sym c.is_open.ensures ∙ c.if-is_open.false)
 
 pub returns-clause-passed : goal.returns-clause-passed
 returns-clause-passed c =

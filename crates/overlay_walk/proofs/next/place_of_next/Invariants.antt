@@ -14,4 +14,5 @@ invariant-loop-i g l =
     let hand = plain_hand l.fn.hand in
     let v = plain_point whole l.fn.step.to in
     let u = plain_point whole l.fn.step.from in
-    (l.nearest ≡ held_at ss hand v u l.found) × IsFirstOf (is_open l.taken) (is_place_met_before ss hand v u) l.low l.i l.found
+    (l.nearest ≡ held_at ss hand v u l.found) × IsFirstOf (is_open l.taken) (is_place_met_before ss hand v u)
+    l.low l.i l.found

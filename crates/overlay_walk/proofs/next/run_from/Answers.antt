@@ -5,7 +5,8 @@ use Rattle.std.proofs.lemmas.List.Sorted.{IsPartitionPoint-from_clause}
 use Rattle.overlay_geom.specs.Points.{plain_point}
 use Rattle.overlay_arrange.specs.Content.{point_cmp}
 use Rattle.overlay_walk.specs.Steps.{plain_step}
-use Rattle.overlay_walk.proofs.Runs.{point_cmp-is_less, point_cmp-is_greater, leaves_below, leaves_up_to, below-parted, up_to-parted, run_between}
+use Rattle.overlay_walk.proofs.Runs.{point_cmp-is_less, point_cmp-is_greater, leaves_below, leaves_up_to, below-parted}
+use Rattle.overlay_walk.proofs.Runs.{up_to-parted, run_between}
 use Rattle.overlay_walk.proofs.next.run_from.Goals as goal
 
 pub returns : goal.returns
@@ -13,10 +14,13 @@ returns g c =
     let whole = g.I.IntNumber.whole in
     let ss = c.args.steps.now in
     let p = plain_point whole c.args.p in
-    let low = IsPartitionPoint-from_clause (leaves_below whole p) _ _ c.partition_point-low.ensures.partitioned (below-parted whole ss c.requires p) (λ a r q k.
+    let low = IsPartitionPoint-from_clause (leaves_below whole p) _ _ c.partition_point-low.ensures.partitioned
+    (below-parted whole ss c.requires p) (λ a r q k.
     let answer : r ≡ is_lt (point_cmp (plain_step whole a.0.now).from p) = search rules in
     (answer ∙ point_cmp-is_less (plain_step whole a.0.now).from p, search rules)) in
-    let high = IsPartitionPoint-from_clause (leaves_up_to whole p) _ _ c.partition_point-high.ensures.partitioned (up_to-parted whole ss c.requires p) (λ a r q k.
+    let high = IsPartitionPoint-from_clause (leaves_up_to whole p) _ _ c.partition_point-high.ensures.partitioned
+    (up_to-parted whole ss c.requires p) (λ a r q k.
     let answer : r ≡ not (is_gt (point_cmp (plain_step whole a.0.now).from p)) = search rules in
     (answer ∙ ap not (point_cmp-is_greater (plain_step whole a.0.now).from p), search rules)) in
-    run_between whole ss c.requires p _ _ c.partition_point-low.ensures.bound c.partition_point-high.ensures.bound low high
+    run_between whole ss c.requires p _ _ c.partition_point-low.ensures.bound c.partition_point-high.ensures.bound low
+    high

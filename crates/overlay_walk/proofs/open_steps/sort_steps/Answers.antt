@@ -11,6 +11,7 @@ pub returns-clause-order : goal.returns-clause-order
 returns-clause-order g c =
     let whole = g.I.IntNumber.whole in
     IsByFrom-from_sorted whole c.sort_by.new.self.items
-    (c.in_ok-sort_by.ensures.sorted (leaves_smaller whole) (leaves_smaller-order whole) (answers_always _ _ _ (λ f a r h k.
+    (c.in_ok-sort_by.ensures.sorted (leaves_smaller whole) (leaves_smaller-order whole)
+    (answers_always _ _ _ (λ f a r h k.
     let answer : r ≡ point_cmp (plain_step whole a.0.now).from (plain_step whole a.1.0.now).from = search rules in
     ap is_lt answer ∙ point_cmp-is_less (plain_step whole a.0.now).from (plain_step whole a.1.0.now).from)))

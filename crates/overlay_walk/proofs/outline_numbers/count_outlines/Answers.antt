@@ -17,12 +17,19 @@ loop-i-preserved g c =
     let i = c.loop-i.i in
     let w = plain_steps whole c.deref.result.now in
     let few = c.loop-i.invariant.1 in
-    let at = walk_at whole c.args.walks.now i c.index-walks-i.result c.deref.result.now c.loop-i-test.true c.index-walks-i.is c.deref.ensures.value in
+    let at = walk_at whole c.args.walks.now i c.index-walks-i.result c.deref.result.now c.loop-i-test.true
+    c.index-walks-i.is c.deref.ensures.value in
     elim c.if-not-is_hole.branch [
       | then-not-is_hole v ↦
-          subst (λ n. (n + length (outlines on_left (drop (i + 1) walks)) ≡ all) × (n ≤ i + 1)) (sym v.count-is)
-          (outline_counted on_left walks i w at c.loop-i.count all (sym c.is_hole.ensures ∙ v.if-not-is_hole.true) c.loop-i.invariant.0, omega (arith, few))
+          subst (λ n. (n + length (outlines on_left (drop (i + 1) walks)) ≡ all) × (n ≤ i + 1)) (sym v.count-is) (
+            outline_counted on_left walks i w at c.loop-i.count all (sym c.is_hole.ensures ∙ v.if-not-is_hole.true)
+                c.loop-i.invariant.0,
+            omega (arith, few),
+          )
       | else-not-is_hole v ↦
-          subst (λ n. (n + length (outlines on_left (drop (i + 1) walks)) ≡ all) × (n ≤ i + 1)) (sym v.count-is)
-          (hole_passed on_left walks i w at c.loop-i.count all (sym c.is_hole.ensures ∙ v.if-not-is_hole.false) c.loop-i.invariant.0, omega (arith, few))
+          subst (λ n. (n + length (outlines on_left (drop (i + 1) walks)) ≡ all) × (n ≤ i + 1)) (sym v.count-is) (
+            hole_passed on_left walks i w at c.loop-i.count all (sym c.is_hole.ensures ∙ v.if-not-is_hole.false)
+                c.loop-i.invariant.0,
+            omega (arith, few),
+          )
     ]

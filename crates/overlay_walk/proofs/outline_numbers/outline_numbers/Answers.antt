@@ -7,7 +7,8 @@ use Rattle.overlay_walk.specs.Walks.{plain_walks}
 use Rattle.overlay_walk.proofs.OutlineNumbers.{hole_numbered, outline_numbered}
 use Rattle.overlay_walk.proofs.WalksRead.{walk_at}
 use Rattle.overlay_walk.proofs.outline_numbers.outline_numbers.Goals as goal
-use Rattle.overlay_walk.proofs.outline_numbers.outline_numbers.Goals.{then-is_hole+in_ok-push, else-is_hole+in_ok-push-2}
+use Rattle.overlay_walk.proofs.outline_numbers.outline_numbers.Goals.{then-is_hole+in_ok-push}
+use Rattle.overlay_walk.proofs.outline_numbers.outline_numbers.Goals.{else-is_hole+in_ok-push-2}
 
 pub loop-i-preserved : goal.loop-i-preserved
 loop-i-preserved g c =
@@ -18,20 +19,25 @@ loop-i-preserved g c =
     let i = c.loop-i.i in
     let w = plain_steps whole c.deref.result.now in
     let few = c.loop-i.invariant.1 in
-    let at = walk_at whole c.args.walks.now i c.index-walks-i.result c.deref.result.now c.loop-i-test.true c.index-walks-i.is c.deref.ensures.value in
+    let at = walk_at whole c.args.walks.now i c.index-walks-i.result c.deref.result.now c.loop-i-test.true
+    c.index-walks-i.is c.deref.ensures.value in
     elim c.if-is_hole.branch [
       | then-is_hole+in_ok-push v ↦
-          subst (λ n. (c.if-is_hole.numbers.items ++ known_in (contours_from on_left n (drop (i + 1) walks)) ≡ all) × (n ≤ i + 1)) (sym v.outlines-is) (
+          subst (λ n. (c.if-is_hole.numbers.items ++ known_in (contours_from on_left n (drop (i + 1) walks)) ≡ all)
+          × (n ≤ i + 1)) (sym v.outlines-is) (
             subst (λ ns. ns ++ known_in (contours_from on_left c.loop-i.outlines (drop (i + 1) walks)) ≡ all)
                 (sym (ap (λ (ns : _). ns.items) v.numbers-is ∙ v.in_ok-push.ensures.items))
-                (hole_numbered on_left walks i w at c.loop-i.outlines c.loop-i.numbers.items all (sym c.is_hole.ensures ∙ v.if-is_hole.true) c.loop-i.invariant.0),
+                (hole_numbered on_left walks i w at c.loop-i.outlines c.loop-i.numbers.items all (sym c.is_hole.ensures
+                ∙ v.if-is_hole.true) c.loop-i.invariant.0),
             omega (arith, few),
           )
       | else-is_hole+in_ok-push-2 v ↦
-          subst (λ n. (c.if-is_hole.numbers.items ++ known_in (contours_from on_left n (drop (i + 1) walks)) ≡ all) × (n ≤ i + 1)) (sym v.outlines-is) (
+          subst (λ n. (c.if-is_hole.numbers.items ++ known_in (contours_from on_left n (drop (i + 1) walks)) ≡ all)
+          × (n ≤ i + 1)) (sym v.outlines-is) (
             subst (λ ns. ns ++ known_in (contours_from on_left (c.loop-i.outlines + 1) (drop (i + 1) walks)) ≡ all)
                 (sym (ap (λ (ns : _). ns.items) v.numbers-is ∙ v.in_ok-push-2.ensures.items))
-                (outline_numbered on_left walks i w at c.loop-i.outlines c.loop-i.numbers.items all (sym c.is_hole.ensures ∙ v.if-is_hole.false) c.loop-i.invariant.0),
+                (outline_numbered on_left walks i w at c.loop-i.outlines c.loop-i.numbers.items all
+                (sym c.is_hole.ensures ∙ v.if-is_hole.false) c.loop-i.invariant.0),
             omega (arith, few),
           )
     ]

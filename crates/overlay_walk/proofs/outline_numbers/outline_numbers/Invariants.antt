@@ -10,4 +10,5 @@ abbrev pub invariant-loop-i : goal.invariant-loop-i
 invariant-loop-i g l =
     let walks = plain_walks g.I.IntNumber.whole l.walks in
     let on_left = is_on_left l.direction in
-    (l.numbers.items ++ known_in (contours_from on_left l.outlines (drop l.i walks)) ≡ known_in (contours_from on_left 0 walks)) × (l.outlines ≤ l.i)
+    (l.numbers.items ++ known_in (contours_from on_left l.outlines (drop l.i walks)) ≡ known_in
+    (contours_from on_left 0 walks)) × (l.outlines ≤ l.i)

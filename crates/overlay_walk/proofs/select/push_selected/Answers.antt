@@ -17,10 +17,13 @@ loop-number-preserved g c =
     let edge = c.index-edges-number.result in
     let stands : slice_get (map (λ v. ends (vector v)) edges) c.loop-number.number ≡ Some (ends (vector edge)) =
     slice_get-map (λ v. ends (vector v)) edges c.loop-number.number
-    ∙ ap (option_map (λ v. ends (vector v))) (slice_get_read edges _ c.loop-number.number edge refl c.loop-number-test.true c.index-edges-number.is) in (
-      next_appended (steps_by_bits c.args.rule (is_on_left c.args.direction)) (plain_steps g.I.IntNumber.whole c.loop-number.steps.items) _
+    ∙ ap (option_map (λ v. ends (vector v)))
+    (slice_get_read edges _ c.loop-number.number edge refl c.loop-number-test.true c.index-edges-number.is) in (
+      next_appended (steps_by_bits c.args.rule (is_on_left c.args.direction))
+          (plain_steps g.I.IntNumber.whole c.loop-number.steps.items) _
           (vector edge) (map vector (drop (c.loop-number.number + 1) edges)) _ _
           (mapped_rest vector edges c.loop-number.number edge c.loop-number-test.true c.index-edges-number.is)
           c.loop-number.invariant.0 c.in_ok-push_step.ensures.ok,
-      λ stood. c.in_ok-push_step.ensures.along (map (λ v. ends (vector v)) edges) stands (c.loop-number.invariant.1 stood),
+      λ stood. c.in_ok-push_step.ensures.along (map (λ v. ends (vector v)) edges) stands
+          (c.loop-number.invariant.1 stood),
     )

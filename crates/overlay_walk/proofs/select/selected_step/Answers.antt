@@ -1,4 +1,5 @@
--- An edge with the region on both sides, or on neither, has no step; another one has the step with that side on its left, or on its right.
+-- An edge with the region on both sides, or on neither, has no step; another one has the step with that side on its
+-- left, or on its right.
 use Rattle.std.proofs.Common.{◌≡◌, cond, sym, ap, ◌∙◌}
 use Rattle.overlay_plane.specs.SelectedSteps.{step_with_left}
 use Rattle.overlay_arrange.specs.Vectors.{plain_vector}
@@ -10,19 +11,29 @@ use Rattle.overlay_walk.proofs.select.selected_step.Goals.{in-CounterClockwise, 
 
 pub returns-then-above-below-clause-step : goal.returns-then-above-below-clause-step
 returns-then-above-below-clause-step g c =
-    no_step (is_on_left c.args.direction) (λ t. step_with_left t (ends (plain_vector g.I.IntNumber.whole c.args.edge))) _ _ _ _
+    no_step (is_on_left c.args.direction) (λ t. step_with_left t (ends (plain_vector g.I.IntNumber.whole c.args.edge)))
+    _ _ _ _
     c.holds_above-above.ensures c.holds_below-below.ensures c.if-above-below.true
 
 pub returns-clause-step : goal.returns-clause-step
 returns-clause-step g c =
     let above = c.holds_above-above.result in
     let below = c.holds_below-below.result in
-    let along : c.match-direction.goes_along ≡ cond (is_on_left c.args.direction) above below = elim c.match-direction.branch [
-      | in-CounterClockwise w ↦ w.goes_along-is ∙ ap (λ d. cond (is_on_left d) above below) (sym w.in-CounterClockwise.is)
+    let along : c.match-direction.goes_along ≡ cond (is_on_left c.args.direction) above below =
+    elim c.match-direction.branch [
+      | in-CounterClockwise w ↦ w.goes_along-is ∙ ap (λ d. cond (is_on_left d) above below)
+          (sym w.in-CounterClockwise.is)
       | in-Clockwise w ↦ w.goes_along-is ∙ ap (λ d. cond (is_on_left d) above below) (sym w.in-Clockwise.is)
     ] in
-    one_step (is_on_left c.args.direction) (λ t. step_with_left t (ends (plain_vector g.I.IntNumber.whole c.args.edge))) above below _ _
-    c.holds_above-above.ensures c.holds_below-below.ensures c.match-direction.goes_along _ c.if-above-below.false along c.step_along.ensures.step
+    one_step (is_on_left c.args.direction) (λ t. step_with_left t (ends (plain_vector g.I.IntNumber.whole c.args.edge)))
+    above below _ _
+    c.holds_above-above.ensures c.holds_below-below.ensures c.match-direction.goes_along _ c.if-above-below.false along
+    c.step_along.ensures.step
 
 pub returns-clause-along : goal.returns-clause-along
-returns-clause-along g c = record { above = c.match-direction.goes_along; along = c.step_along.ensures.step; numbered = c.step_along.ensures.number }
+returns-clause-along g c = record {
+  above = c.match-direction.goes_along;
+  along = c.step_along.ensures.step;
+  numbered =
+      c.step_along.ensures.number;
+}

@@ -1,4 +1,5 @@
--- The steps in the list are the selected ones, which lead between different points in range, along the edges with their numbers.
+-- The steps in the list are the selected ones, which lead between different points in range, along the edges with their
+-- numbers.
 use Rattle.std.proofs.Common.{◌≡◌, List, map, All, sym, ap, ◌∙◌, subst}
 use Rattle.std.specs.List.Sorted.{IsPermutation}
 use Rattle.std.proofs.lemmas.List.Elements.{All-nil}
@@ -21,18 +22,22 @@ new-requires g c =
     let whole = g.I.IntNumber.whole in
     let on_left = is_on_left c.args.direction in
     let vectors = c.edges-edges.ensures.filled in
-    let are = selected_in_room c.args.graph.now.fill_rule c.args.overlay_rule (graph_edges c.args.graph.now) on_left _ _ _ (ap (plain_steps whole) c.requires) vectors c.in_ok-push_selected.ensures.ok in
+    let are = selected_in_room c.args.graph.now.fill_rule c.args.overlay_rule (graph_edges c.args.graph.now) on_left _ _
+    _ (ap (plain_steps whole) c.requires) vectors c.in_ok-push_selected.ensures.ok in
     subst (All (IsLong g.I.IntNumber.limit)) (sym are)
-    (selected_are_long g.I.IntNumber.limit (graph_edges c.args.graph.now) c.edges-edges.ensures.arranged.content (rules_hold c.args.graph.now.fill_rule c.args.overlay_rule) subj_of clip_of on_left)
+    (selected_are_long g.I.IntNumber.limit (graph_edges c.args.graph.now) c.edges-edges.ensures.arranged.content
+    (rules_hold c.args.graph.now.fill_rule c.args.overlay_rule) subj_of clip_of on_left)
 
 pub returns-clause-selected : goal.returns-clause-selected
 returns-clause-selected g c =
     let whole = g.I.IntNumber.whole in
     let on_left = is_on_left c.args.direction in
     let vectors = c.edges-edges.ensures.filled in
-    let are = selected_in_room c.args.graph.now.fill_rule c.args.overlay_rule (graph_edges c.args.graph.now) on_left _ _ _ (ap (plain_steps whole) c.requires) vectors c.in_ok-push_selected.ensures.ok in
+    let are = selected_in_room c.args.graph.now.fill_rule c.args.overlay_rule (graph_edges c.args.graph.now) on_left _ _
+    _ (ap (plain_steps whole) c.requires) vectors c.in_ok-push_selected.ensures.ok in
     IfOk-weaker c.new.result (λ o. IsPermutation c.push_selected.new.steps.items o) _
-    (λ o moved. subst (λ ss. IsPermutation ss (plain_steps whole o)) are (IsPermutation-map (plain_step whole) c.push_selected.new.steps.items o moved))
+    (λ o moved. subst (λ ss. IsPermutation ss (plain_steps whole o)) are
+    (IsPermutation-map (plain_step whole) c.push_selected.new.steps.items o moved))
     c.new.ensures.all
 
 pub returns-clause-along : goal.returns-clause-along
@@ -41,9 +46,13 @@ returns-clause-along g c =
     let es = graph_edges c.args.graph.now in
     let vectors = c.edges-edges.ensures.filled in
     let edges : map (λ v. ends (plain_vector whole v)) c.edges-edges.result.now ≡ all_ends es =
-    sym (map-map ends (plain_vector whole) c.edges-edges.result.now) ∙ ap (map ends) vectors ∙ map-map ends (vector_of c.args.graph.now.fill_rule es) es in
-    let none = subst (All (RunsAlong whole (map (λ v. ends (plain_vector whole v)) c.edges-edges.result.now))) (sym c.requires) (All-nil _) in
-    let pushed = subst (λ (fs : List Edge). All (RunsAlong whole fs) c.push_selected.new.steps.items) edges (c.in_ok-push_selected.ensures.along none) in
-    IfOk-weaker c.new.result (λ o. IsPermutation c.push_selected.new.steps.items o) (All (RunsAlong whole (all_ends es)))
+    sym (map-map ends (plain_vector whole) c.edges-edges.result.now) ∙ ap (map ends) vectors
+    ∙ map-map ends (vector_of c.args.graph.now.fill_rule es) es in
+    let none = subst (All (RunsAlong whole (map (λ v. ends (plain_vector whole v)) c.edges-edges.result.now)))
+    (sym c.requires) (All-nil _) in
+    let pushed = subst (λ (fs : List Edge). All (RunsAlong whole fs) c.push_selected.new.steps.items) edges
+    (c.in_ok-push_selected.ensures.along none) in
+    IfOk-weaker c.new.result (λ o. IsPermutation c.push_selected.new.steps.items o)
+    (All (RunsAlong whole (all_ends es)))
     (λ o moved. All-permutation (RunsAlong whole (all_ends es)) c.push_selected.new.steps.items o moved pushed)
     c.new.ensures.all

@@ -16,33 +16,46 @@ use Rattle.overlay_walk.proofs.selected.selected_walks.Goals as goal
 pub cut_into_contours-requires-clause-cuttable : goal.cut_into_contours-requires-clause-cuttable
 cut_into_contours-requires-clause-cuttable g c =
     let es = graph_edges c.args.graph.now in
-    let ruled = ruled_content g.I.IntNumber.limit es c.note_arrangement.ensures.content c.note_arrangement.ensures.ascending c.note_arrangement.ensures.settled c.requires c.args.graph.now.fill_rule c.args.overlay_rule in
-    alternating (shuffled_alternate (rules_hold c.args.graph.now.fill_rule c.args.overlay_rule) subj_of clip_of es (is_on_left c.args.direction) ruled
+    let ruled = ruled_content g.I.IntNumber.limit es c.note_arrangement.ensures.content
+    c.note_arrangement.ensures.ascending c.note_arrangement.ensures.settled c.requires c.args.graph.now.fill_rule
+    c.args.overlay_rule in
+    alternating (shuffled_alternate (rules_hold c.args.graph.now.fill_rule c.args.overlay_rule) subj_of clip_of es
+    (is_on_left c.args.direction) ruled
     (plain_steps g.I.IntNumber.whole c.in_ok-open.open) c.in_ok-open.ensures.selected)
 
 pub cut_into_contours-requires-clause-once : goal.cut_into_contours-requires-clause-once
 cut_into_contours-requires-clause-once g c =
     let es = graph_edges c.args.graph.now in
-    let ruled = ruled_content g.I.IntNumber.limit es c.note_arrangement.ensures.content c.note_arrangement.ensures.ascending c.note_arrangement.ensures.settled c.requires c.args.graph.now.fill_rule c.args.overlay_rule in
-    shuffled_once (rules_hold c.args.graph.now.fill_rule c.args.overlay_rule) subj_of clip_of es (is_on_left c.args.direction) ruled
+    let ruled = ruled_content g.I.IntNumber.limit es c.note_arrangement.ensures.content
+    c.note_arrangement.ensures.ascending c.note_arrangement.ensures.settled c.requires c.args.graph.now.fill_rule
+    c.args.overlay_rule in
+    shuffled_once (rules_hold c.args.graph.now.fill_rule c.args.overlay_rule) subj_of clip_of es
+    (is_on_left c.args.direction) ruled
     (plain_steps g.I.IntNumber.whole c.in_ok-open.open) c.in_ok-open.ensures.selected
 
 pub returns-clause-cut : goal.returns-clause-cut
 returns-clause-cut g c =
     let es = graph_edges c.args.graph.now in
-    let ruled = ruled_content g.I.IntNumber.limit es c.note_arrangement.ensures.content c.note_arrangement.ensures.ascending c.note_arrangement.ensures.settled c.requires c.args.graph.now.fill_rule c.args.overlay_rule in
-    shuffled_cut (rules_hold c.args.graph.now.fill_rule c.args.overlay_rule) subj_of clip_of es (is_on_left c.args.direction) ruled
-    (plain_steps g.I.IntNumber.whole c.in_ok-open.open) c.in_ok-open.ensures.selected (plain_walks g.I.IntNumber.whole c.in_ok-walks.walks.items) c.in_ok-walks.ensures.cut
+    let ruled = ruled_content g.I.IntNumber.limit es c.note_arrangement.ensures.content
+    c.note_arrangement.ensures.ascending c.note_arrangement.ensures.settled c.requires c.args.graph.now.fill_rule
+    c.args.overlay_rule in
+    shuffled_cut (rules_hold c.args.graph.now.fill_rule c.args.overlay_rule) subj_of clip_of es
+    (is_on_left c.args.direction) ruled
+    (plain_steps g.I.IntNumber.whole c.in_ok-open.open) c.in_ok-open.ensures.selected
+    (plain_walks g.I.IntNumber.whole c.in_ok-walks.walks.items) c.in_ok-walks.ensures.cut
 
 pub returns-clause-long : goal.returns-clause-long
 returns-clause-long g c =
     let es = graph_edges c.args.graph.now in
     let holds = rules_hold c.args.graph.now.fill_rule c.args.overlay_rule in
     let on_left = is_on_left c.args.direction in
-    let ruled = ruled_content g.I.IntNumber.limit es c.note_arrangement.ensures.content c.note_arrangement.ensures.ascending c.note_arrangement.ensures.settled c.requires c.args.graph.now.fill_rule c.args.overlay_rule in
+    let ruled = ruled_content g.I.IntNumber.limit es c.note_arrangement.ensures.content
+    c.note_arrangement.ensures.ascending c.note_arrangement.ensures.settled c.requires c.args.graph.now.fill_rule
+    c.args.overlay_rule in
     let walks = plain_walks g.I.IntNumber.whole c.in_ok-walks.walks.items in
     walks_are_long g.I.IntNumber.limit es c.note_arrangement.ensures.content holds subj_of clip_of on_left walks
-    (shuffled_cut holds subj_of clip_of es on_left ruled (plain_steps g.I.IntNumber.whole c.in_ok-open.open) c.in_ok-open.ensures.selected walks c.in_ok-walks.ensures.cut)
+    (shuffled_cut holds subj_of clip_of es on_left ruled (plain_steps g.I.IntNumber.whole c.in_ok-open.open)
+    c.in_ok-open.ensures.selected walks c.in_ok-walks.ensures.cut)
 
 pub returns-clause-along : goal.returns-clause-along
 returns-clause-along g c =

@@ -6,4 +6,5 @@ use Rattle.overlay_walk.proofs.sweep.insert_up_to.Given as goal
 
 abbrev pub invariant-loop-i : goal.invariant-loop-i
 invariant-loop-i g l =
-    IsSwept g.I.IntNumber.limit (g.I.IntNumber.whole l.x) (take l.i (numbered_entries g.I.IntNumber.whole l.edges)) (g.S.Scan.content l.scan)
+    IsSwept g.I.IntNumber.limit (g.I.IntNumber.whole l.x) (take l.i (numbered_entries g.I.IntNumber.whole l.edges))
+    (g.S.Scan.content l.scan)

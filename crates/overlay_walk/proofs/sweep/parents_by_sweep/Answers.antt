@@ -1,5 +1,6 @@
--- One anchor more: what the calls ask, and what is told then.
-use Rattle.std.proofs.Common.{◌≡◌, ◌+◌, ◌<◌, ◌≤◌, ◌<ℤ◌, ℕ, false, List, slice_set, length, take, drop, refl, sym, ap, ◌∙◌, subst, arith, rules}
+-- One anchor more: what the calls ask, and the number that is found then.
+use Rattle.std.proofs.Common.{◌≡◌, ◌+◌, ◌<◌, ◌≤◌, ◌<ℤ◌, ℕ, false, List, slice_set, length, take, drop, refl, sym, ap}
+use Rattle.std.proofs.Common.{◌∙◌, subst, arith, rules}
 use Rattle.std.specs.List.{All, AllPairs}
 use Rattle.std.proofs.lemmas.List.{length-map, length-set}
 use Rattle.std.proofs.lemmas.List.Elements.{All-contains}
@@ -9,12 +10,13 @@ use Rattle.overlay_geom.specs.Settled.{IsSettledBy}
 use Rattle.overlay_geom.proofs.Mapped.{read_mapped}
 use Rattle.overlay_scan.specs.Scan.{Entry}
 use Rattle.overlay_scan.specs.Sweeps.{IsByStart}
-use Rattle.overlay_walk.specs.Parents.{IsSwept, IsToldAt}
+use Rattle.overlay_walk.specs.Parents.{IsSwept, HasShapeNumber}
 use Rattle.overlay_walk.specs.Steps.{plain_steps, is_on_left}
 use Rattle.overlay_walk.specs.WalkEdges.{numbered_entry, numbered_entries, IsHoleEntry, AreHoleEntries}
 use Rattle.overlay_walk.specs.Walks.{plain_walks}
-use Rattle.overlay_walk.proofs.HolesTold.{shape_of}
-use Rattle.overlay_walk.proofs.Sweeping.{nothing_swept, at_front, entries_settled, anchor_meets, swept_on, told_on, all_walks_told}
+use Rattle.overlay_walk.proofs.HoleNumbers.{shape_of}
+use Rattle.overlay_walk.proofs.Sweeping.{nothing_swept, at_front, entries_settled, anchor_meets, swept_on, numbers_on}
+use Rattle.overlay_walk.proofs.Sweeping.{all_walks_numbered}
 use Rattle.overlay_walk.proofs.sweep.parents_by_sweep.Goals as goal
 
 pub loop-hole-init : goal.loop-hole-init
@@ -27,18 +29,21 @@ loop-hole-init g c = (
 
 pub insert_up_to-requires-clause-order : goal.insert_up_to-requires-clause-order
 insert_up_to-requires-clause-order g c =
-    subst (λ es. IsByStart (numbered_entries g.I.IntNumber.whole es)) (sym c.deref.ensures.value) c.in_ok-edges.ensures.ok.order
+    subst (λ es. IsByStart (numbered_entries g.I.IntNumber.whole es)) (sym c.deref.ensures.value)
+    c.in_ok-edges.ensures.ok.order
 
 pub insert_up_to-requires-clause-distinct : goal.insert_up_to-requires-clause-distinct
 insert_up_to-requires-clause-distinct g c =
-    subst (λ es. AllPairs (λ e f. edge_eq e.edge f.edge ≡ false) (numbered_entries g.I.IntNumber.whole es)) (sym c.deref.ensures.value)
+    subst (λ es. AllPairs (λ e f. edge_eq e.edge f.edge ≡ false) (numbered_entries g.I.IntNumber.whole es))
+    (sym c.deref.ensures.value)
     c.in_ok-edges.ensures.ok.distinct
 
 pub insert_up_to-requires-clause-settled : goal.insert_up_to-requires-clause-settled
 insert_up_to-requires-clause-settled g c =
     let whole = g.I.IntNumber.whole in
     subst (λ es. IsSettledBy (λ f. f.edge) (numbered_entries whole es)) (sym c.deref.ensures.value)
-    (entries_settled (is_on_left c.args.direction) (plain_walks whole c.args.walks.now) c.requires.contours c.requires.settled
+    (entries_settled (is_on_left c.args.direction) (plain_walks whole c.args.walks.now) c.requires.contours
+    c.requires.settled
     (numbered_entries whole c.in_ok-edges.edges.items) c.in_ok-edges.ensures.ok)
 
 pub insert_up_to-requires-clause-swept : goal.insert_up_to-requires-clause-swept
@@ -49,9 +54,12 @@ insert_up_to-requires-clause-swept g c =
     let h = numbered_entry whole c.hole-item.result in
     let i = c.loop-hole.hole-index in
     let inside : i < length hs = rw length-map c.loop-hole-test.true in
-    let here = sym (read_mapped (numbered_entry whole) c.deref-hole-items.result.now i c.hole-item.result h c.loop-hole-test.true c.hole-item.is) in
-    subst (λ es. IsSwept limit h.edge.a.x (take c.loop-hole.from (numbered_entries whole es)) (g.S.Scan.content c.loop-hole.scan)) (sym c.deref.ensures.value)
-    (at_front (λ (k : Entry ℕ). IsSwept limit k.edge.a.x (take c.loop-hole.from (numbered_entries whole c.in_ok-edges.edges.items)) (g.S.Scan.content c.loop-hole.scan))
+    let here = sym (read_mapped (numbered_entry whole) c.deref-hole-items.result.now i c.hole-item.result h
+    c.loop-hole-test.true c.hole-item.is) in
+    subst (λ es. IsSwept limit h.edge.a.x (take c.loop-hole.from (numbered_entries whole es))
+    (g.S.Scan.content c.loop-hole.scan)) (sym c.deref.ensures.value)
+    (at_front (λ (k : Entry ℕ). IsSwept limit k.edge.a.x
+    (take c.loop-hole.from (numbered_entries whole c.in_ok-edges.edges.items)) (g.S.Scan.content c.loop-hole.scan))
     hs i h inside here c.loop-hole.invariant.2)
 
 pub walk_below-below-requires-clause-state : goal.walk_below-below-requires-clause-state
@@ -76,15 +84,20 @@ walk_below-below-requires-clause-meets g c =
     let h = numbered_entry whole c.hole-item.result in
     let i = c.loop-hole.hole-index in
     let inside : i < length hs = rw length-map c.loop-hole-test.true in
-    let here = sym (read_mapped (numbered_entry whole) c.deref-hole-items.result.now i c.hole-item.result h c.loop-hole-test.true c.hole-item.is) in
+    let here = sym (read_mapped (numbered_entry whole) c.deref-hole-items.result.now i c.hole-item.result h
+    c.loop-hole-test.true c.hole-item.is) in
     let holes : AreHoleEntries walks c.args.known.now hs =
-    subst (λ es. AreHoleEntries walks c.args.known.now (numbered_entries whole es)) (sym c.deref-hole-items.ensures.value) c.in_ok-anchors.ensures.ok in
+    subst (λ es. AreHoleEntries walks c.args.known.now (numbered_entries whole es))
+    (sym c.deref-hole-items.ensures.value) c.in_ok-anchors.ensures.ok in
     let own = All-contains (IsHoleEntry walks c.args.known.now) hs h holes.from (i, inside, sym here) in
     let s = g.S.Scan.content c.insert_up_to.new.scan in
     let n = c.in_ok-from.from in
-    let swept = subst (λ es. IsSwept limit h.edge.a.x (take n (numbered_entries whole es)) s) c.deref.ensures.value c.in_ok-from.ensures.swept in
-    let rest = subst (λ es. All (λ (f : Entry ℕ). h.edge.a.x <ℤ f.edge.a.x) (drop n (numbered_entries whole es))) c.deref.ensures.value c.in_ok-from.ensures.rest in
-    anchor_meets on_left walks c.requires.contours c.requires.settled c.requires.single c.args.known.now h own fs c.in_ok-edges.ensures.ok limit n s swept rest
+    let swept = subst (λ es. IsSwept limit h.edge.a.x (take n (numbered_entries whole es)) s) c.deref.ensures.value
+    c.in_ok-from.ensures.swept in
+    let rest = subst (λ es. All (λ (f : Entry ℕ). h.edge.a.x <ℤ f.edge.a.x) (drop n (numbered_entries whole es)))
+    c.deref.ensures.value c.in_ok-from.ensures.rest in
+    anchor_meets on_left walks c.requires.contours c.requires.settled c.requires.single c.args.known.now h own fs
+    c.in_ok-edges.ensures.ok limit n s swept rest
 
 pub shape_at-requires : goal.shape_at-requires
 shape_at-requires g c = ap length c.deref-in-loop-hole.ensures.value ∙ c.loop-hole.invariant.0 ∙ sym c.requires.known
@@ -100,9 +113,11 @@ index_mut-requires g c =
     let h = numbered_entry whole c.hole-item.result in
     let i = c.loop-hole.hole-index in
     let inside : i < length hs = rw length-map c.loop-hole-test.true in
-    let here = sym (read_mapped (numbered_entry whole) c.deref-hole-items.result.now i c.hole-item.result h c.loop-hole-test.true c.hole-item.is) in
+    let here = sym (read_mapped (numbered_entry whole) c.deref-hole-items.result.now i c.hole-item.result h
+    c.loop-hole-test.true c.hole-item.is) in
     let holes : AreHoleEntries walks c.args.known.now hs =
-    subst (λ es. AreHoleEntries walks c.args.known.now (numbered_entries whole es)) (sym c.deref-hole-items.ensures.value) c.in_ok-anchors.ensures.ok in
+    subst (λ es. AreHoleEntries walks c.args.known.now (numbered_entries whole es))
+    (sym c.deref-hole-items.ensures.value) c.in_ok-anchors.ensures.ok in
     let own = All-contains (IsHoleEntry walks c.args.known.now) hs h holes.from (i, inside, sym here) in
     let within = slice_get_within walks h.value own.walk own.at in
     let counted = c.loop-hole.invariant.0 in
@@ -121,14 +136,18 @@ loop-hole-preserved g c =
     let h = numbered_entry whole c.hole-item.result in
     let i = c.loop-hole.hole-index in
     let inside : i < length hs = rw length-map c.loop-hole-test.true in
-    let here = sym (read_mapped (numbered_entry whole) c.deref-hole-items.result.now i c.hole-item.result h c.loop-hole-test.true c.hole-item.is) in
+    let here = sym (read_mapped (numbered_entry whole) c.deref-hole-items.result.now i c.hole-item.result h
+    c.loop-hole-test.true c.hole-item.is) in
     let holes : AreHoleEntries walks c.args.known.now hs =
-    subst (λ es. AreHoleEntries walks c.args.known.now (numbered_entries whole es)) (sym c.deref-hole-items.ensures.value) c.in_ok-anchors.ensures.ok in
+    subst (λ es. AreHoleEntries walks c.args.known.now (numbered_entries whole es))
+    (sym c.deref-hole-items.ensures.value) c.in_ok-anchors.ensures.ok in
     let own = All-contains (IsHoleEntry walks c.args.known.now) hs h holes.from (i, inside, sym here) in
     let s = g.S.Scan.content c.insert_up_to.new.scan in
     let n = c.in_ok-from.from in
-    let swept = subst (λ es. IsSwept limit h.edge.a.x (take n (numbered_entries whole es)) s) c.deref.ensures.value c.in_ok-from.ensures.swept in
-    let rest = subst (λ es. All (λ (f : Entry ℕ). h.edge.a.x <ℤ f.edge.a.x) (drop n (numbered_entries whole es))) c.deref.ensures.value c.in_ok-from.ensures.rest in
+    let swept = subst (λ es. IsSwept limit h.edge.a.x (take n (numbered_entries whole es)) s) c.deref.ensures.value
+    c.in_ok-from.ensures.swept in
+    let rest = subst (λ es. All (λ (f : Entry ℕ). h.edge.a.x <ℤ f.edge.a.x) (drop n (numbered_entries whole es)))
+    c.deref.ensures.value c.in_ok-from.ensures.rest in
     let t = g.S.Scan.content c.walk_below-below.new.scan in
     let known = c.args.known.now in
     let parents = c.loop-hole.parents.items in
@@ -139,21 +158,27 @@ loop-hole-preserved g c =
     ∙ ap (λ ps. shape_of known ps c.walk_below-below.result) c.deref-in-loop-hole.ensures.value in (
       length-set parents c.hole-item.result.number c.shape_at.result ∙ c.loop-hole.invariant.0,
       subst (λ (es : List _). n ≤ length es) c.deref.ensures.value c.in_ok-from.ensures.within,
-      swept_on on_left walks c.requires.contours c.requires.settled c.requires.single c.args.known.now h own fs c.in_ok-edges.ensures.ok limit n s swept rest known_counted hs holes parents counted i inside here t
+      swept_on on_left walks c.requires.contours c.requires.settled c.requires.single c.args.known.now h own fs
+          c.in_ok-edges.ensures.ok limit n s swept rest known_counted hs holes parents counted i inside here t
           c.walk_below-below.ensures.content c.walk_below-below.ensures.state,
-      subst (λ o. All (λ (k : Entry ℕ). IsToldAt on_left walks known (slice_set parents h.value o) k.value) (take (i + 1) hs)) (sym shape)
-          (told_on on_left walks c.requires.contours c.requires.settled c.requires.single c.args.known.now h own fs c.in_ok-edges.ensures.ok limit n s swept rest known_counted hs holes parents counted i inside here t
-          c.walk_below-below.ensures.content c.walk_below-below.ensures.state (length c.args.walks.now) (sym mapped) c.walk_below-below.result
+      subst (λ o. All (λ (k : Entry ℕ). HasShapeNumber on_left walks known (slice_set parents h.value o) k.value)
+          (take (i + 1) hs)) (sym shape)
+          (numbers_on on_left walks c.requires.contours c.requires.settled c.requires.single c.args.known.now h own fs
+          c.in_ok-edges.ensures.ok limit n s swept rest known_counted hs holes parents counted i inside here t
+          c.walk_below-below.ensures.content c.walk_below-below.ensures.state (length c.args.walks.now)
+          (sym mapped) c.walk_below-below.result
           c.walk_below-below.ensures.value c.loop-hole.invariant.3),
     )
 
-pub returns-clause-told : goal.returns-clause-told
-returns-clause-told g c =
+pub returns-clause-numbers : goal.returns-clause-numbers
+returns-clause-numbers g c =
     let whole = g.I.IntNumber.whole in
     let on_left = is_on_left c.args.direction in
     let walks = plain_walks whole c.args.walks.now in
     let hs = numbered_entries whole c.deref-hole-items.result.now in
     let holes : AreHoleEntries walks c.args.known.now hs =
-    subst (λ es. AreHoleEntries walks c.args.known.now (numbered_entries whole es)) (sym c.deref-hole-items.ensures.value) c.in_ok-anchors.ensures.ok in
+    subst (λ es. AreHoleEntries walks c.args.known.now (numbered_entries whole es))
+    (sym c.deref-hole-items.ensures.value) c.in_ok-anchors.ensures.ok in
     let past : length hs ≤ c.loop-hole.hole-index = rw length-map c.loop-hole-test.false in
-    all_walks_told on_left walks c.args.known.now hs holes c.loop-hole.parents.items c.loop-hole.hole-index past c.loop-hole.invariant.3
+    all_walks_numbered on_left walks c.args.known.now hs holes c.loop-hole.parents.items c.loop-hole.hole-index past
+    c.loop-hole.invariant.3

@@ -1,7 +1,7 @@
--- It is told of the holes whose anchors the sweep has passed, and the sweep may go on to those left.
+-- The holes whose anchors the sweep has passed have their numbers, and the sweep may go on to those left.
 use Rattle.std.proofs.Common.{◌≡◌, ◌≤◌, length, take, drop}
 use Rattle.std.specs.List.{All}
-use Rattle.overlay_walk.specs.Parents.{IsSwept, IsToldAt}
+use Rattle.overlay_walk.specs.Parents.{IsSwept, HasShapeNumber}
 use Rattle.overlay_walk.specs.Steps.{is_on_left}
 use Rattle.overlay_walk.specs.WalkEdges.{numbered_entries}
 use Rattle.overlay_walk.specs.Walks.{plain_walks}
@@ -14,5 +14,7 @@ invariant-loop-hole g l =
     let hs = numbered_entries whole l.hole-items in
     (length l.parents.items ≡ length l.walks)
     × (l.from ≤ length l.edges.items)
-    × All (λ h. IsSwept g.I.IntNumber.limit h.edge.a.x (take l.from es) (g.S.Scan.content l.scan)) (drop l.hole-index hs)
-    × All (λ h. IsToldAt (is_on_left l.fn.direction) (plain_walks whole l.walks) l.known l.parents.items h.value) (take l.hole-index hs)
+    × All (λ h. IsSwept g.I.IntNumber.limit h.edge.a.x (take l.from es) (g.S.Scan.content l.scan))
+    (drop l.hole-index hs)
+    × All (λ h. HasShapeNumber (is_on_left l.fn.direction) (plain_walks whole l.walks) l.known l.parents.items h.value)
+    (take l.hole-index hs)

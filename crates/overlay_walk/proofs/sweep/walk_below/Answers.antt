@@ -9,4 +9,8 @@ first_less-requires g c = (
 )
 
 pub returns : goal.returns
-returns g c = record { value = c.first_less.ensures.value; content = c.first_less.ensures.content; state = c.first_less.ensures.state }
+returns g c = record {
+  value = c.first_less.ensures.value;
+  content = c.first_less.ensures.content;
+  state = c.first_less.ensures.state;
+}

@@ -12,6 +12,8 @@ returns-in_ok-shapes_text-in-Overlay g c =
     let shapes = plain_shapes (λ z. z) c.in_ok-shapes-in-Overlay.shapes.items in
     rw c.in-Overlay.is (
       shapes,
-      subst (λ l. IsResultOfPaths (asked_by c.in-Overlay.query) (contour_paths (contours_at l)) shapes) c.deref-in-Overlay.ensures.value c.in_ok-shapes-in-Overlay.ensures,
-      c.in_ok-shapes_text-in-Overlay.ensures ∙ ap (λ l. lines_of_shapes (plain_shapes (λ z. z) l)) c.deref-in-Overlay-2.ensures.value,
+      subst (λ l. IsResultOfPaths (asked_by c.in-Overlay.query) (contour_paths (contours_at l)) shapes)
+          c.deref-in-Overlay.ensures.value c.in_ok-shapes-in-Overlay.ensures,
+      c.in_ok-shapes_text-in-Overlay.ensures
+          ∙ ap (λ l. lines_of_shapes (plain_shapes (λ z. z) l)) c.deref-in-Overlay-2.ensures.value,
     )

@@ -15,8 +15,10 @@ returns g c =
     shapes_answered (contour_paths (contours_at c.args.contours.now)) c.in_ok-builder.builder c.in_ok-builder.ensures
     _ (λ v. plain_shapes (λ z. z) v.items) c.args.query _ _ c.overlay.result
     e.query (ap (λ b. b.edges) held) (ap (λ b. b.failed) held)
-    (subst (λ b. IfOk c.overlay.result (λ v. IsResult (asked_with c.args.query b.options) c.overlay.new.self.edges (plain_shapes (λ z. z) v.items))) held
-    (subst (λ n. IfOk c.overlay.result (λ v. IsResult (record (asked_with c.args.query c.builder.inside.options) { min_output_area = n })
+    (subst (λ b. IfOk c.overlay.result (λ v. IsResult (asked_with c.args.query b.options) c.overlay.new.self.edges
+    (plain_shapes (λ z. z) v.items))) held
+    (subst (λ n. IfOk c.overlay.result
+    (λ v. IsResult (record (asked_with c.args.query c.builder.inside.options) { min_output_area = n })
     c.overlay.new.self.edges (plain_shapes (λ z. z) v.items))) c.unwrap_or-builder-inside.ensures e.result))
 
 pub returns-in_err-builder : goal.returns-in_err-builder

@@ -19,17 +19,21 @@ pub add_contour-requires : goal.add_contour-requires
 add_contour-requires g c =
     let here = contour_here c.args.contours.now _ _ c.given-item.result refl c.loop-given-test.true c.given-item.is in
     subst (λ ps. AllInRange 4611686018427387903 (points_at ps)) (sym c.deref.ensures.value)
-    (subst (λ x. AllInRange 4611686018427387903 x.points) (sym here.1) (c.requires c.loop-given.given-index (path_at c.given-item.result.contour) here.0))
+    (subst (λ x. AllInRange 4611686018427387903 x.points) (sym here.1)
+    (c.requires c.loop-given.given-index (path_at c.given-item.result.contour) here.0))
 
 pub returns-in_err-add_contour : goal.returns-in_err-add_contour
 returns-in_err-add_contour g c =
-    let p = err_from_is_err_and c.from_residual-in_err-add_contour.result c.from_residual-in_err-add_contour.ensures.1 in
+    let p = err_from_is_err_and c.from_residual-in_err-add_contour.result
+    c.from_residual-in_err-add_contour.ensures.1 in
     let here = contour_here c.args.contours.now _ _ c.given-item.result refl c.loop-given-test.true c.given-item.is in
     let e = c.in_err-add_contour.ensures in
     let b = c.loop-given.overlay in
-    rw (p.1, p.2) (contour_refused _ c.loop-given.given-index (path_at c.given-item.result.contour) b c.loop-given.invariant here.0 here.1 _
+    rw (p.1, p.2) (contour_refused _ c.loop-given.given-index (path_at c.given-item.result.contour) b
+    c.loop-given.invariant here.0 here.1 _
     (λ same. e.failed.0 (ap Err same))
-    (λ same. subst (λ ps. WouldWeighTooMuch b.options.preserve_input_collinear c.given-item.result.contour.shape_type (points_at ps) b.edges)
+    (λ same. subst (λ ps. WouldWeighTooMuch b.options.preserve_input_collinear c.given-item.result.contour.shape_type
+    (points_at ps) b.edges)
     c.deref.ensures.value (e.too_many (ap Err same)))
     (λ same. e.no_query (ap Err same)))
 
@@ -38,9 +42,11 @@ loop-given-preserved g c =
     let here = contour_here c.args.contours.now _ _ c.given-item.result refl c.loop-given-test.true c.given-item.is in
     let e = c.in_ok-add_contour.ensures in
     let b = c.loop-given.overlay in
-    one_more_added _ c.loop-given.given-index (path_at c.given-item.result.contour) b c.loop-given.invariant here.0 here.1 c.add_contour.new.self
+    one_more_added _ c.loop-given.given-index (path_at c.given-item.result.contour) b c.loop-given.invariant here.0
+    here.1 c.add_contour.new.self
     (subst
-    (λ ps. AddsContour b.options.preserve_input_collinear (edge_for c.given-item.result.contour.shape_type) (points_at ps) b.edges c.add_contour.new.self.edges)
+    (λ ps. AddsContour b.options.preserve_input_collinear (edge_for c.given-item.result.contour.shape_type)
+    (points_at ps) b.edges c.add_contour.new.self.edges)
     c.deref.ensures.value e.ok)
     e.light e.kept
 
@@ -48,5 +54,11 @@ pub returns : goal.returns
 returns g c =
     let cs = contour_paths (contours_at c.args.contours.now) in
     subst (λ l. HasAdded l c.loop-given.overlay)
-    (take_all c.loop-given.given-index cs (omega (arith, length-map c.args.contours.now contour_at, length-map (contours_at c.args.contours.now) (λ d. d.path))))
+    (take_all c.loop-given.given-index cs
+    (omega (
+      arith,
+      length-map c.args.contours.now contour_at,
+      length-map (contours_at c.args.contours.now)
+          (λ d. d.path),
+    )))
     c.loop-given.invariant

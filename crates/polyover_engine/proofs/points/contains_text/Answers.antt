@@ -13,10 +13,12 @@ use Rattle.polyover_engine.proofs.points.contains_text.Goals as goal
 
 pub contains_points-requires-clause-self_in_range : goal.contains_points-requires-clause-self_in_range
 contains_points-requires-clause-self_in_range g c =
-    All-cons (All (AllInRange 4611686018427387903)) _ [] c.in_ok-shape.ensures.in_range (All-nil (All (AllInRange 4611686018427387903)))
+    All-cons (All (AllInRange 4611686018427387903)) _ [] c.in_ok-shape.ensures.in_range
+    (All-nil (All (AllInRange 4611686018427387903)))
 
 pub contains_points-requires-clause-resolved : goal.contains_points-requires-clause-resolved
-contains_points-requires-clause-resolved g c = All-cons (All IsResolved) _ [] c.in_ok-shape.ensures.resolved (All-nil (All IsResolved))
+contains_points-requires-clause-resolved g c = All-cons (All IsResolved) _ [] c.in_ok-shape.ensures.resolved
+    (All-nil (All IsResolved))
 
 pub contains_points-requires-clause-points_in_range : goal.contains_points-requires-clause-points_in_range
 contains_points-requires-clause-points_in_range g c =
@@ -25,12 +27,14 @@ contains_points-requires-clause-points_in_range g c =
 pub returns-in_err-shape : goal.returns-in_err-shape
 returns-in_err-shape g c =
     let p = err_from_is_err_and c.from_residual.result c.from_residual.ensures.1 in
-    rw (p.1, p.2) (nothing_inside (figures_at c.args.figures.now) _ (ap contours_at c.deref.ensures.value) _ c.in_err-shape.ensures)
+    rw (p.1, p.2) (nothing_inside (figures_at c.args.figures.now) _ (ap contours_at c.deref.ensures.value) _
+    c.in_err-shape.ensures)
 
 pub returns : goal.returns
 returns g c = (
   c.in_ok-truths.truths.items,
-  tells_inside (figures_at c.args.figures.now) _ _ _ (ap contours_at c.deref.ensures.value) (ap points_at c.deref-2.ensures.value) c.in_ok-shape.ensures
+  tells_inside (figures_at c.args.figures.now) _ _ _ (ap contours_at c.deref.ensures.value)
+      (ap points_at c.deref-2.ensures.value) c.in_ok-shape.ensures
       _ c.in_ok-truths.ensures.inside,
   c.in_ok-truths_text.ensures ∙ ap (flat_map truth_line) c.deref-3.ensures.value,
 )

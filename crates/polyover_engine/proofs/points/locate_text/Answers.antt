@@ -13,10 +13,12 @@ use Rattle.polyover_engine.proofs.points.locate_text.Goals as goal
 
 pub locate_points-requires-clause-self_in_range : goal.locate_points-requires-clause-self_in_range
 locate_points-requires-clause-self_in_range g c =
-    All-cons (All (AllInRange 4611686018427387903)) _ [] c.in_ok-shape.ensures.in_range (All-nil (All (AllInRange 4611686018427387903)))
+    All-cons (All (AllInRange 4611686018427387903)) _ [] c.in_ok-shape.ensures.in_range
+    (All-nil (All (AllInRange 4611686018427387903)))
 
 pub locate_points-requires-clause-resolved : goal.locate_points-requires-clause-resolved
-locate_points-requires-clause-resolved g c = All-cons (All IsResolved) _ [] c.in_ok-shape.ensures.resolved (All-nil (All IsResolved))
+locate_points-requires-clause-resolved g c = All-cons (All IsResolved) _ [] c.in_ok-shape.ensures.resolved
+    (All-nil (All IsResolved))
 
 pub locate_points-requires-clause-points_in_range : goal.locate_points-requires-clause-points_in_range
 locate_points-requires-clause-points_in_range g c =
@@ -25,12 +27,14 @@ locate_points-requires-clause-points_in_range g c =
 pub returns-in_err-shape : goal.returns-in_err-shape
 returns-in_err-shape g c =
     let p = err_from_is_err_and c.from_residual.result c.from_residual.ensures.1 in
-    rw (p.1, p.2) (nothing_located (figures_at c.args.figures.now) _ (ap contours_at c.deref.ensures.value) _ c.in_err-shape.ensures)
+    rw (p.1, p.2) (nothing_located (figures_at c.args.figures.now) _ (ap contours_at c.deref.ensures.value) _
+    c.in_err-shape.ensures)
 
 pub returns : goal.returns
 returns g c = (
   c.in_ok-locations.locations.items,
-  tells_where (figures_at c.args.figures.now) _ _ _ (ap contours_at c.deref.ensures.value) (ap points_at c.deref-2.ensures.value) c.in_ok-shape.ensures
+  tells_where (figures_at c.args.figures.now) _ _ _ (ap contours_at c.deref.ensures.value)
+      (ap points_at c.deref-2.ensures.value) c.in_ok-shape.ensures
       _ c.in_ok-locations.ensures.located,
   c.in_ok-locations_text.ensures ∙ ap (flat_map location_line) c.deref-3.ensures.value,
 )

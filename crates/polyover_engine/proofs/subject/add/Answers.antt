@@ -9,14 +9,17 @@ use Rattle.polyover_engine.proofs.subject.add.Goals as goal
 pub returns-then-not-is_resolved : goal.returns-then-not-is_resolved
 returns-then-not-is_resolved g c = record {
   of_subject = c.in-Subject.is;
-  unresolved = λ h. false≢true (c.if-not-is_resolved.ensures.1 (subst (λ ps. IsResolved (points_at ps)) (sym c.deref.ensures.value) h));
+  unresolved = λ h. false≢true (c.if-not-is_resolved.ensures.1
+      (subst (λ ps. IsResolved (points_at ps)) (sym c.deref.ensures.value) h));
   number = refl;
 }
 
 pub returns-in_ok-push-in-Subject : goal.returns-in_ok-push-in-Subject
 returns-in_ok-push-in-Subject g c =
-    let copied = c.in_ok-extend_from_slice-in-Subject.ensures.items ∙ ap (λ l. l ++ c.deref-in-Subject.result.now) c.new-points.ensures.items
+    let copied = c.in_ok-extend_from_slice-in-Subject.ensures.items
+    ∙ ap (λ l. l ++ c.deref-in-Subject.result.now) c.new-points.ensures.items
     ∙ c.deref-in-Subject.ensures.value in
-    adds_pushed (contour_at c.args.given.now) c.in-Subject.is _ _ (points_pushed (λ v. v.items) _ _ _ _ c.in_ok-push-in-Subject.ensures.items copied)
+    adds_pushed (contour_at c.args.given.now) c.in-Subject.is _ _
+    (points_pushed (λ v. v.items) _ _ _ _ c.in_ok-push-in-Subject.ensures.items copied)
     (subst (λ ps. IsResolved (points_at ps)) c.deref.ensures.value (c.if-not-is_resolved.ensures.0 refl))
     c.requires

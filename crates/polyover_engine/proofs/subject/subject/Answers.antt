@@ -12,21 +12,25 @@ use Rattle.polyover_engine.proofs.subject.subject.Goals as goal
 pub add-requires : goal.add-requires
 add-requires g c =
     let here = contour_here c.args.contours.now _ _ c.given-item.result refl c.loop-given-test.true c.given-item.is in
-    subst (λ x. AllInRange 4611686018427387903 x.points) (sym here.1) (c.requires c.loop-given.given-index (path_at c.given-item.result.contour) here.0)
+    subst (λ x. AllInRange 4611686018427387903 x.points) (sym here.1)
+    (c.requires c.loop-given.given-index (path_at c.given-item.result.contour) here.0)
 
 pub returns-in_err-add : goal.returns-in_err-add
 returns-in_err-add g c =
     let p = err_from_is_err_and c.from_residual.result c.from_residual.ensures.1 in
     let here = given_here c.args.contours.now _ _ c.given-item.result refl c.loop-given-test.true c.given-item.is in
-    rw (p.1, p.2) (contour_not_taken _ c.loop-given.given-index (contour_at c.given-item.result) _ c.loop-given.invariant here.0 here.1 _ c.in_err-add.ensures)
+    rw (p.1, p.2) (contour_not_taken _ c.loop-given.given-index (contour_at c.given-item.result) _
+    c.loop-given.invariant here.0 here.1 _ c.in_err-add.ensures)
 
 pub loop-given-preserved : goal.loop-given-preserved
 loop-given-preserved g c =
     let here = given_here c.args.contours.now _ _ c.given-item.result refl c.loop-given-test.true c.given-item.is in
-    one_more_taken _ c.loop-given.given-index (contour_at c.given-item.result) _ c.loop-given.invariant here.0 here.1 _ c.in_ok-add.ensures
+    one_more_taken _ c.loop-given.given-index (contour_at c.given-item.result) _ c.loop-given.invariant here.0 here.1 _
+    c.in_ok-add.ensures
 
 pub returns : goal.returns
 returns g c =
     subst (λ l. IsSubject l (paths_of_shape (λ z. z) c.loop-given.shape.items))
-    (take_all c.loop-given.given-index (contours_at c.args.contours.now) (omega (arith, length-map c.args.contours.now contour_at)))
+    (take_all c.loop-given.given-index (contours_at c.args.contours.now)
+    (omega (arith, length-map c.args.contours.now contour_at)))
     c.loop-given.invariant

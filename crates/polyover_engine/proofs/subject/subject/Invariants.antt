@@ -6,4 +6,5 @@ use Rattle.polyover_engine.proofs.subject.subject.Given as goal
 
 -- the contours so far are taken
 abbrev pub invariant-loop-given : goal.invariant-loop-given
-invariant-loop-given g l = IsSubject (take l.given-index (contours_at l.contours)) (paths_of_shape (λ z. z) l.shape.items)
+invariant-loop-given g l = IsSubject (take l.given-index (contours_at l.contours))
+    (paths_of_shape (λ z. z) l.shape.items)

@@ -21,11 +21,13 @@ returns-in_ok-parse_overlay-in-overlay c =
 pub returns-in-contains : goal.returns-in-contains
 returns-in-contains c =
     let first : c.in_ok-next.field-0.now ≡ codes "contains" = search (rules, text_from_reads) in
-    contains_asked _ (words_left c.next.new.self) _ (c.in_ok-next.ensures.steps ∙ ap (λ w. w ∷ words_left c.next.new.self) first)
+    contains_asked _ (words_left c.next.new.self) _ (c.in_ok-next.ensures.steps
+    ∙ ap (λ w. w ∷ words_left c.next.new.self) first)
     c.if_last-in-contains.ensures.last c.if_last-in-contains.ensures.value
 
 pub returns-in-locate : goal.returns-in-locate
 returns-in-locate c =
     let first : c.in_ok-next.field-0.now ≡ codes "locate" = search (rules, text_from_reads) in
-    locate_asked _ (words_left c.next.new.self) _ (c.in_ok-next.ensures.steps ∙ ap (λ w. w ∷ words_left c.next.new.self) first)
+    locate_asked _ (words_left c.next.new.self) _ (c.in_ok-next.ensures.steps
+    ∙ ap (λ w. w ∷ words_left c.next.new.self) first)
     c.if_last.ensures.last c.if_last.ensures.value

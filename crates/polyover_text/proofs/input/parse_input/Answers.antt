@@ -18,7 +18,8 @@ loop-line-init g c =
 
 pub overflow_add-number : goal.overflow_add-number
 overflow_add-number g c =
-    let few : c.loop-line.number ≤ length c.args.text.now + 1 = count_read c.args.text.now _ _ _ c.loop-line.invariant.read in
+    let few : c.loop-line.number ≤ length c.args.text.now + 1 = count_read c.args.text.now _ _ _
+    c.loop-line.invariant.read in
     search rules
 
 pub returns-in-Err-Bad : goal.returns-in-Err-Bad
@@ -28,8 +29,10 @@ returns-in-Err-Bad g c =
 
 pub overflow_add-result : goal.overflow_add-result
 overflow_add-result g c =
-    let few : c.loop-line.number ≤ length c.args.text.now + 1 = count_read c.args.text.now _ _ _ c.loop-line.invariant.read in
+    let few : c.loop-line.number ≤ length c.args.text.now + 1 = count_read c.args.text.now _ _ _
+    c.loop-line.invariant.read in
     search rules
 
 pub returns-in-None-query : goal.returns-in-None-query
-returns-in-None-query g c = command_missing _ _ _ _ c.loop-line.invariant.read c.in-None.ensures.steps.0 c.in-None-query.is
+returns-in-None-query g c = command_missing _ _ _ _ c.loop-line.invariant.read c.in-None.ensures.steps.0
+    c.in-None-query.is

@@ -5,4 +5,6 @@ use Rattle.polyover_text.specs.Printed.{location_line}
 use Rattle.polyover_text.proofs.location_text.locations_text.Goals as goal
 
 pub returns : goal.returns
-returns g c = c.loop-location.invariant ∙ ap (flat_map location_line) (take_all c.loop-location.location-index c.args.locations.now c.loop-location-test.false)
+returns g c = c.loop-location.invariant
+    ∙ ap (flat_map location_line) (take_all c.loop-location.location-index c.args.locations.now
+    c.loop-location-test.false)

@@ -5,4 +5,5 @@ use Rattle.polyover_text.specs.Printed.{truth_line}
 use Rattle.polyover_text.proofs.location_text.truths_text.Goals as goal
 
 pub returns : goal.returns
-returns g c = c.loop-truth.invariant ∙ ap (flat_map truth_line) (take_all c.loop-truth.truth-index c.args.truths.now c.loop-truth-test.false)
+returns g c = c.loop-truth.invariant
+    ∙ ap (flat_map truth_line) (take_all c.loop-truth.truth-index c.args.truths.now c.loop-truth-test.false)

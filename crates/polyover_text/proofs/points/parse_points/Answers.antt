@@ -4,7 +4,8 @@ use Rattle.polyover_text.proofs.points.parse_points.Goals as goal
 pub loop-points-preserved : goal.loop-points-preserved
 loop-points-preserved g c =
     let first = rw c.in-Some.is at c.in_ok-point.ensures in
-    rw c.in_ok-push.ensures.items (one_more_point _ c.loop-points.points.items _ c.in-Some.point _ c.loop-points.invariant first)
+    rw c.in_ok-push.ensures.items (one_more_point _ c.loop-points.points.items _ c.in-Some.point _
+    c.loop-points.invariant first)
 
 pub returns : goal.returns
 returns g c =

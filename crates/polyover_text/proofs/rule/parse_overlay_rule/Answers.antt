@@ -18,7 +18,8 @@ pub returns-in-Difference : goal.returns-in-Difference
 returns-in-Difference c = text_from_reads c.args.word.now (codes "Difference") (search rules) (search rules)
 
 pub returns-in-InverseDifference : goal.returns-in-InverseDifference
-returns-in-InverseDifference c = text_from_reads c.args.word.now (codes "InverseDifference") (search rules) (search rules)
+returns-in-InverseDifference c = text_from_reads c.args.word.now (codes "InverseDifference") (search rules)
+    (search rules)
 
 pub returns-in-Xor : goal.returns-in-Xor
 returns-in-Xor c = text_from_reads c.args.word.now (codes "Xor") (search rules) (search rules)

@@ -10,22 +10,32 @@ pub contains_points-requires-clause-self_in_range : goal.contains_points-require
 contains_points-requires-clause-self_in_range g c =
     let whole = g.I.IntNumber.whole in
     let ps = plain_points whole c.args.contour.now.items in
-    (All-one (All (AllInRange g.I.IntNumber.limit)) (ps ∷ [])).0 ((All-one (AllInRange g.I.IntNumber.limit) ps).0 (subst (λ xs. AllInRange g.I.IntNumber.limit (plain_points whole xs)) c.deref.ensures.value c.assert_contour.ensures.range))
+    (All-one (All (AllInRange g.I.IntNumber.limit)) (ps ∷ [])).0
+    ((All-one (AllInRange g.I.IntNumber.limit) ps).0
+    (subst (λ xs. AllInRange g.I.IntNumber.limit (plain_points whole xs)) c.deref.ensures.value
+    c.assert_contour.ensures.range))
 
 pub contains_points-requires-clause-resolved : goal.contains_points-requires-clause-resolved
 contains_points-requires-clause-resolved g c =
     let whole = g.I.IntNumber.whole in
     let ps = plain_points whole c.args.contour.now.items in
-    (All-one (All (IsResolved)) (ps ∷ [])).0 ((All-one (IsResolved) ps).0 (subst (λ xs. IsResolved (plain_points whole xs)) c.deref.ensures.value c.assert_contour.ensures.resolved))
+    (All-one (All (IsResolved)) (ps ∷ [])).0
+    ((All-one (IsResolved) ps).0 (subst (λ xs. IsResolved (plain_points whole xs)) c.deref.ensures.value
+    c.assert_contour.ensures.resolved))
 
 pub locate_points-requires-clause-self_in_range : goal.locate_points-requires-clause-self_in_range
 locate_points-requires-clause-self_in_range g c =
     let whole = g.I.IntNumber.whole in
     let ps = plain_points whole c.args.contour.now.items in
-    (All-one (All (AllInRange g.I.IntNumber.limit)) (ps ∷ [])).0 ((All-one (AllInRange g.I.IntNumber.limit) ps).0 (subst (λ xs. AllInRange g.I.IntNumber.limit (plain_points whole xs)) c.deref.ensures.value c.assert_contour.ensures.range))
+    (All-one (All (AllInRange g.I.IntNumber.limit)) (ps ∷ [])).0
+    ((All-one (AllInRange g.I.IntNumber.limit) ps).0
+    (subst (λ xs. AllInRange g.I.IntNumber.limit (plain_points whole xs)) c.deref.ensures.value
+    c.assert_contour.ensures.range))
 
 pub locate_points-requires-clause-resolved : goal.locate_points-requires-clause-resolved
 locate_points-requires-clause-resolved g c =
     let whole = g.I.IntNumber.whole in
     let ps = plain_points whole c.args.contour.now.items in
-    (All-one (All (IsResolved)) (ps ∷ [])).0 ((All-one (IsResolved) ps).0 (subst (λ xs. IsResolved (plain_points whole xs)) c.deref.ensures.value c.assert_contour.ensures.resolved))
+    (All-one (All (IsResolved)) (ps ∷ [])).0
+    ((All-one (IsResolved) ps).0 (subst (λ xs. IsResolved (plain_points whole xs)) c.deref.ensures.value
+    c.assert_contour.ensures.resolved))

@@ -18,9 +18,11 @@ bind-requires-clause-single g c =
 
 pub bind-requires-clause-distinct : goal.bind-requires-clause-distinct
 bind-requires-clause-distinct g c =
-    subst (λ ws. AllPairs (λ e f. edge_eq e f ≡ false) (all_filled_above true (plain_walks (λ z. z) ws))) (sym c.deref.ensures.value)
+    subst (λ ws. AllPairs (λ e f. edge_eq e f ≡ false) (all_filled_above true (plain_walks (λ z. z) ws)))
+    (sym c.deref.ensures.value)
     c.in_ok-walks.ensures.distinct
 
 pub bind-requires-clause-settled : goal.bind-requires-clause-settled
 bind-requires-clause-settled g c =
-    subst (λ ws. IsSettledBy edge_of (all_steps (plain_walks (λ z. z) ws))) (sym c.deref.ensures.value) c.in_ok-walks.ensures.settled
+    subst (λ ws. IsSettledBy edge_of (all_steps (plain_walks (λ z. z) ws))) (sym c.deref.ensures.value)
+    c.in_ok-walks.ensures.settled

@@ -10,7 +10,8 @@ use Rattle.walk_tests.proofs.TriangleSteps.{triangle_long, shuffled_alternates, 
 use Rattle.walk_tests.proofs.triangle.open_triangle.Goals as goal
 
 pub new-requires : goal.new-requires
-new-requires g c = subst (All (IsLong g.I.IntNumber.limit)) (sym c.in_ok-steps.ensures) (triangle_long g.I.IntNumber.limit c.requires.limit)
+new-requires g c = subst (All (IsLong g.I.IntNumber.limit)) (sym c.in_ok-steps.ensures)
+    (triangle_long g.I.IntNumber.limit c.requires.limit)
 
 pub returns-clause-alternate : goal.returns-clause-alternate
 returns-clause-alternate g c =

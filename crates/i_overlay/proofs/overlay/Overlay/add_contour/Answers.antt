@@ -16,9 +16,12 @@ pub returns-in_err-add_path-clause-too_many : goal.returns-in_err-add_path-claus
 returns-in_err-add_path-clause-too_many g c =
     let points = plain_points g.I.IntNumber.whole c.args.contour.now in
     let p = err_from_is_err_and c.from_residual.result c.from_residual.ensures.1 in
-    rw (p.1, p.2) (λ same. subst (λ b. WouldWeighTooMuch b.options.preserve_input_collinear c.args.shape_type points b.edges) c.self.view_is
-    (contour_too_heavy c.self.inside.options.preserve_input_collinear c.args.shape_type (λ k. boolean_counts k.count) c.contour_kind-kind.result c.passing_without_data.result
-    c.contour_kind-kind.ensures (dataless_pass_once c.args.shape_type c.passing_without_data.result c.passing_without_data.ensures) points c.self.inside.core.edges
+    rw (p.1, p.2) (λ same. subst (λ b. WouldWeighTooMuch b.options.preserve_input_collinear c.args.shape_type points
+    b.edges) c.self.view_is
+    (contour_too_heavy c.self.inside.options.preserve_input_collinear c.args.shape_type (λ k. boolean_counts k.count)
+    c.contour_kind-kind.result c.passing_without_data.result
+    c.contour_kind-kind.ensures (dataless_pass_once c.args.shape_type c.passing_without_data.result
+    c.passing_without_data.ensures) points c.self.inside.core.edges
     (c.in_err-add_path.ensures.too_many (ap Err (ap error_of same)))))
 
 pub invariant_of-self-2 : goal.invariant_of-self-2
@@ -26,9 +29,12 @@ invariant_of-self-2 g c = λ ready.
     let points = plain_points g.I.IntNumber.whole c.args.contour.now in
     let keep = c.self.inside.options.preserve_input_collinear in
     let e = c.in_ok-add_path.ensures in
-    contour_keeps_balance keep c.args.shape_type points (edges_in c.self.inside.core.edges) (edges_in c.add_path.new.self.edges)
-    (contour_added keep c.args.shape_type (λ k. boolean_counts k.count) c.contour_kind-kind.result c.passing_without_data.result
-    c.contour_kind-kind.ensures (dataless_pass_once c.args.shape_type c.passing_without_data.result c.passing_without_data.ensures) points
+    contour_keeps_balance keep c.args.shape_type points (edges_in c.self.inside.core.edges)
+    (edges_in c.add_path.new.self.edges)
+    (contour_added keep c.args.shape_type (λ k. boolean_counts k.count) c.contour_kind-kind.result
+    c.passing_without_data.result
+    c.contour_kind-kind.ensures (dataless_pass_once c.args.shape_type c.passing_without_data.result
+    c.passing_without_data.ensures) points
     c.self.inside.core.edges c.add_path.new.self.edges e.ok)
     (c.self.invariant (sym (ap (λ h. h.failed) e.kept) ∙ ready))
 
@@ -37,8 +43,11 @@ returns-clause-ok g c =
     let points = plain_points g.I.IntNumber.whole c.args.contour.now in
     let keep = c.self.inside.options.preserve_input_collinear in
     let new = edges_in c.add_path.new.self.edges in
-    subst (λ b. AddsContour b.options.preserve_input_collinear (edge_for c.args.shape_type) points b.edges new) c.self.view_is
+    subst (λ b. AddsContour b.options.preserve_input_collinear (edge_for c.args.shape_type) points b.edges new)
+    c.self.view_is
     (as_contour keep (edge_for c.args.shape_type) points (edges_in c.self.inside.core.edges) new
-    (contour_added keep c.args.shape_type (λ k. boolean_counts k.count) c.contour_kind-kind.result c.passing_without_data.result
-    c.contour_kind-kind.ensures (dataless_pass_once c.args.shape_type c.passing_without_data.result c.passing_without_data.ensures) points
+    (contour_added keep c.args.shape_type (λ k. boolean_counts k.count) c.contour_kind-kind.result
+    c.passing_without_data.result
+    c.contour_kind-kind.ensures (dataless_pass_once c.args.shape_type c.passing_without_data.result
+    c.passing_without_data.ensures) points
     c.self.inside.core.edges c.add_path.new.self.edges c.in_ok-add_path.ensures.ok))

@@ -14,7 +14,8 @@ returns-clause-ok g c =
     (λ adds. (
       c.in_ok-points.points.items,
       c.in_ok-points.ensures.ok,
-      subst (λ ps. AddsContour keep (edge_for c.args.shape_type) (plain_points g.I.IntNumber.whole ps) c.args.self.now.edges c.add_contour.new.self.edges)
+      subst (λ ps. AddsContour keep (edge_for c.args.shape_type) (plain_points g.I.IntNumber.whole ps)
+          c.args.self.now.edges c.add_contour.new.self.edges)
           c.deref.ensures.value adds,
     ))
     c.add_contour.ensures.ok
@@ -24,6 +25,7 @@ returns-clause-too_many g c = λ same.
     let keep = c.args.self.now.options.preserve_input_collinear in (
       c.in_ok-points.points.items,
       c.in_ok-points.ensures.ok,
-      subst (λ ps. WouldWeighTooMuch keep c.args.shape_type (plain_points g.I.IntNumber.whole ps) c.args.self.now.edges) c.deref.ensures.value
+      subst (λ ps. WouldWeighTooMuch keep c.args.shape_type (plain_points g.I.IntNumber.whole ps) c.args.self.now.edges)
+          c.deref.ensures.value
           (c.add_contour.ensures.too_many same),
     )

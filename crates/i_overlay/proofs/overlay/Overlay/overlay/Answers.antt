@@ -16,10 +16,13 @@ pub returns-clause-empty : goal.returns-clause-empty
 returns-clause-empty g c = λ none.
     let e = c.extract-shapes.ensures in
     let same : edges_in c.arrange.new.self.edges ≡ [] =
-    sym (ap (λ b. b.edges) e.kept) ∙ sym (ap (λ b. b.edges) c.self-2.view_is) ∙ sym (ap (λ h. edges_in h.edges) c.set_failed.ensures) ∙ none in
+    sym (ap (λ b. b.edges) e.kept) ∙ sym (ap (λ b. b.edges) c.self-2.view_is)
+    ∙ sym (ap (λ h. edges_in h.edges) c.set_failed.ensures) ∙ none in
     no_shapes_held c.extract-shapes.result (λ v. v.items) (λ s. paths_of_shape g.I.IntNumber.whole s.items)
-    (asked g.I.Wide.WideIntNumber.width g.I.WideUInt.UIntNumber.natural c.args.fill_rule c.args.overlay_rule c.self.inside.options)
-    (edges_in c.arrange.new.self.edges) (subst (λ b. b.options.ogc ≡ false) (sym c.self.view_is) c.requires.no_ogc) e.result same
+    (asked g.I.Wide.WideIntNumber.width g.I.WideUInt.UIntNumber.natural c.args.fill_rule c.args.overlay_rule
+    c.self.inside.options)
+    (edges_in c.arrange.new.self.edges) (subst (λ b. b.options.ogc ≡ false) (sym c.self.view_is) c.requires.no_ogc)
+    e.result same
 
 pub returns-clause-exact : goal.returns-clause-exact
 returns-clause-exact g c = λ whole.
@@ -29,7 +32,8 @@ returns-clause-exact g c = λ whole.
     on_ok_weaker c.extract-shapes.result
     (λ there. subst (HaveSameWindings c.args.self.now.edges) (sym same)
     (subst (λ b. HaveSameWindings b.edges (edges_in c.arrange.new.self.edges)) c.self.view_is
-    (c.in_ok-arrange.ensures.query.arranged.exact (subst (λ b. MeetInWholePoints b.edges) (sym c.self.view_is) whole)).windings))
+    (c.in_ok-arrange.ensures.query.arranged.exact
+    (subst (λ b. MeetInWholePoints b.edges) (sym c.self.view_is) whole)).windings))
     e.buffer
 
 pub returns-clause-query : goal.returns-clause-query
@@ -37,7 +41,8 @@ returns-clause-query g c =
     let limit = g.I.IntNumber.limit in
     let new = plain_held c.set_failed.new.self in
     let same : edges_in c.set_failed.new.self.edges ≡ edges_in c.arrange.new.self.edges =
-    ap (λ h. edges_in h.edges) c.set_failed.ensures ∙ ap (λ b. b.edges) c.self-2.view_is ∙ ap (λ b. b.edges) c.extract-shapes.ensures.kept in
+    ap (λ h. edges_in h.edges) c.set_failed.ensures ∙ ap (λ b. b.edges) c.self-2.view_is
+    ∙ ap (λ b. b.edges) c.extract-shapes.ensures.kept in
     subst (λ b. AnswersQuery limit 64 (held_by b) new c.extract-shapes.result) c.self.view_is
     (answers_after limit 64 (plain_held c.self.inside.core) (plain_held c.arrange.new.self) new c.in_ok-arrange.field-0
     c.in_ok-arrange.ensures.query c.extract-shapes.result same

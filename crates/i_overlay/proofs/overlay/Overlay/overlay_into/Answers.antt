@@ -17,7 +17,8 @@ returns-clause-exact g c = λ whole.
     on_ok_weaker c.extract_into-written.result
     (λ there. subst (HaveSameWindings c.args.self.now.edges) (sym same)
     (subst (λ b. HaveSameWindings b.edges (edges_in c.arrange.new.self.edges)) c.self.view_is
-    (c.in_ok-arrange.ensures.query.arranged.exact (subst (λ b. MeetInWholePoints b.edges) (sym c.self.view_is) whole)).windings))
+    (c.in_ok-arrange.ensures.query.arranged.exact
+    (subst (λ b. MeetInWholePoints b.edges) (sym c.self.view_is) whole)).windings))
     e.buffer
 
 pub returns-clause-query : goal.returns-clause-query
@@ -25,7 +26,8 @@ returns-clause-query g c =
     let limit = g.I.IntNumber.limit in
     let new = plain_held c.set_failed.new.self in
     let same : edges_in c.set_failed.new.self.edges ≡ edges_in c.arrange.new.self.edges =
-    ap (λ h. edges_in h.edges) c.set_failed.ensures ∙ ap (λ b. b.edges) c.self-2.view_is ∙ ap (λ b. b.edges) c.extract_into-written.ensures.kept in
+    ap (λ h. edges_in h.edges) c.set_failed.ensures ∙ ap (λ b. b.edges) c.self-2.view_is
+    ∙ ap (λ b. b.edges) c.extract_into-written.ensures.kept in
     subst (λ b. AnswersQuery limit 64 (held_by b) new c.extract_into-written.result) c.self.view_is
     (answers_after limit 64 (plain_held c.self.inside.core) (plain_held c.arrange.new.self) new c.in_ok-arrange.field-0
     c.in_ok-arrange.ensures.query c.extract_into-written.result same

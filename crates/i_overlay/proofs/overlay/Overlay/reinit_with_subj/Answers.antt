@@ -7,5 +7,6 @@ use Rattle.i_overlay.proofs.overlay.Overlay.reinit_with_subj.Goals as goal
 
 pub returns : goal.returns
 returns g c =
-    subst (λ b. AddsAsAsked (paths_for Subject (g.R0.IntShapeResource.paths c.args.subj.now)) b c.add_source.new.self c.add_source.result)
+    subst (λ b. AddsAsAsked (paths_for Subject (g.R0.IntShapeResource.paths c.args.subj.now)) b c.add_source.new.self
+    c.add_source.result)
     c.clear.ensures c.add_source.ensures

@@ -8,4 +8,5 @@ returns-clause-carried g c = rw (c.edges.ensures.plain, c.edges.ensures.edges) a
 
 pub returns-clause-rounded : goal.returns-clause-rounded
 returns-clause-rounded g c =
-    subst (λ es. (c.in_ok-pieces.is_rounded ≡ false) ↔ MeetInWholePoints es) c.edges.ensures.plain c.in_ok-pieces.ensures.rounded
+    subst (λ es. (c.in_ok-pieces.is_rounded ≡ false) ↔ MeetInWholePoints es) c.edges.ensures.plain
+    c.in_ok-pieces.ensures.rounded

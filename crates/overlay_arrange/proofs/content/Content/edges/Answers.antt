@@ -11,4 +11,5 @@ returns-clause-plain g c =
 
 pub returns-clause-content : goal.returns-clause-content
 returns-clause-content g c =
-    rw (← plain_edges-seen g.I.IntNumber.whole g.C.EdgeCount.counts c.self.inside.edges.items c.args.self.now c.self.view_is) c.self.invariant.content
+    rw (← plain_edges-seen g.I.IntNumber.whole g.C.EdgeCount.counts c.self.inside.edges.items c.args.self.now
+    c.self.view_is) c.self.invariant.content

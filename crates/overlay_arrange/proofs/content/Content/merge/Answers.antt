@@ -6,12 +6,16 @@ pub returns-clause-ok : goal.returns-clause-ok
 returns-clause-ok g c =
     let whole = g.I.IntNumber.whole in
     let counts = g.C.EdgeCount.counts in
-    rw (← plain_edges-seen whole counts c.self.inside.edges.items c.args.self.now c.self.view_is, edges_in-carried whole counts c.merge-merged.new.edges.items)
+    rw (
+      ← plain_edges-seen whole counts c.self.inside.edges.items c.args.self.now c.self.view_is,
+      edges_in-carried whole counts c.merge-merged.new.edges.items,
+    )
     c.merge-merged.ensures.ok
 
 pub returns-clause-content : goal.returns-clause-content
 returns-clause-content g c =
-    rw (edges_in-carried g.I.IntNumber.whole g.C.EdgeCount.counts c.merge-merged.new.edges.items) c.merge-merged.ensures.content
+    rw (edges_in-carried g.I.IntNumber.whole g.C.EdgeCount.counts c.merge-merged.new.edges.items)
+    c.merge-merged.ensures.content
 
 pub returns-clause-carried : goal.returns-clause-carried
 returns-clause-carried g c = rw (← c.self.view_is) c.merge-merged.ensures.carried

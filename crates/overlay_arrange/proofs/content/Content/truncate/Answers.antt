@@ -8,7 +8,8 @@ use Rattle.overlay_arrange.proofs.content.Content.truncate.Goals as goal
 pub weight_of-self-inside-requires : goal.weight_of-self-inside-requires
 weight_of-self-inside-requires g c =
     let left = c.deref.ensures.value ∙ c.truncate.ensures.items in
-    (first_seen g.I.IntNumber.limit c.args.count (plain_edge g.I.IntNumber.whole g.C.EdgeCount.counts) c.self.inside.edges.items
+    (first_seen g.I.IntNumber.limit c.args.count (plain_edge g.I.IntNumber.whole g.C.EdgeCount.counts)
+    c.self.inside.edges.items
     c.deref.result.now left c.self.invariant.content).light
 
 pub invariant_of-self : goal.invariant_of-self

@@ -9,8 +9,10 @@ use Rattle.overlay_arrange.proofs.graph.Graph.edges.Goals as goal
 pub returns-clause-filled : goal.returns-clause-filled
 returns-clause-filled g c =
     ap (map (plain_vector g.I.IntNumber.whole)) c.deref.ensures.value
-    ∙ subst (λ h. map (plain_vector g.I.IntNumber.whole) c.self.inside.edges.items ≡ map (vector_of h.fill_rule (graph_edges h)) (graph_edges h)) c.self.view_is
-    (vectors_listed g.I.IntNumber.whole g.C.EdgeCount.counts g.I.IntNumber.limit c.self.inside.fill_rule c.self.inside.edges.items c.self.invariant)
+    ∙ subst (λ h. map (plain_vector g.I.IntNumber.whole) c.self.inside.edges.items ≡ map
+    (vector_of h.fill_rule (graph_edges h)) (graph_edges h)) c.self.view_is
+    (vectors_listed g.I.IntNumber.whole g.C.EdgeCount.counts g.I.IntNumber.limit c.self.inside.fill_rule
+    c.self.inside.edges.items c.self.invariant)
 
 pub returns-clause-arranged : goal.returns-clause-arranged
 returns-clause-arranged g c =

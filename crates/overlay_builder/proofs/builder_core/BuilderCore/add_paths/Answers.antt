@@ -17,15 +17,18 @@ loop-index-init g c =
 
 pub add_path-requires-clause-points : goal.add_path-requires-clause-points
 add_path-requires-clause-points g c =
-    All-read (g.R0.IntShapeResource.paths c.args.resource.now) c.loop-index.index (plain_points g.I.IntNumber.whole c.path.result.now)
+    All-read (g.R0.IntShapeResource.paths c.args.resource.now) c.loop-index.index
+    (plain_points g.I.IntNumber.whole c.path.result.now)
     c.path.ensures (AllInRange g.I.IntNumber.limit) c.requires.points
 
 pub loop-index-preserved : goal.loop-index-preserved
 loop-index-preserved g c =
     let e = c.in_ok-add_path.ensures in
     next_added carried_weight c.args.kind (passed_edge g.C.EdgeCount.counts c.args.passing)
-    (g.R0.IntShapeResource.paths c.args.resource.now) c.loop-index.index (plain_points g.I.IntNumber.whole c.path.result.now) c.path.ensures
-    c.args.self.now c.loop-index.self c.loop-index.invariant c.add_path.new.self e.ok e.light (ap (λ b. b.failed) e.kept)
+    (g.R0.IntShapeResource.paths c.args.resource.now) c.loop-index.index
+    (plain_points g.I.IntNumber.whole c.path.result.now) c.path.ensures
+    c.args.self.now c.loop-index.self c.loop-index.invariant c.add_path.new.self e.ok e.light
+    (ap (λ b. b.failed) e.kept)
 
 pub returns-in_err-add_path : goal.returns-in_err-add_path
 returns-in_err-add_path g c =
@@ -34,7 +37,9 @@ returns-in_err-add_path g c =
     let e = c.in_err-add_path.ensures in
     let p = err_from_is_err_and c.from_residual-in_err-add_path.result c.from_residual-in_err-add_path.ensures.1 in
     let error = c.in_err-add_path.field-0.0 in
-    rw (p.1, p.2) (subst (λ b. AddsAsAsked {V = Unit {0}} carried_weight (paths_as c.args.kind edge paths) c.args.self.now b (Err error)) (sym e.err)
-    (next_refused carried_weight c.args.kind edge paths c.loop-index.index (plain_points g.I.IntNumber.whole c.path.result.now) c.path.ensures
+    rw (p.1, p.2) (subst (λ b. AddsAsAsked {V = Unit {0}} carried_weight (paths_as c.args.kind edge paths)
+    c.args.self.now b (Err error)) (sym e.err)
+    (next_refused carried_weight c.args.kind edge paths c.loop-index.index
+    (plain_points g.I.IntNumber.whole c.path.result.now) c.path.ensures
     c.args.self.now c.loop-index.self c.loop-index.invariant error (λ is. e.failed.0 (ap Err is))
     (λ is. e.too_many (ap Err is)) (λ is. e.no_query (ap Err is))))

@@ -6,5 +6,6 @@ use Rattle.overlay_builder.proofs.builder_core.BuilderCore.add_paths.Given as go
 
 abbrev pub invariant-loop-index : goal.invariant-loop-index
 invariant-loop-index g l =
-    HasAddedFirst carried_weight l.kind (passed_edge g.C.EdgeCount.counts l.passing) (g.R0.IntShapeResource.paths l.resource) l.index
+    HasAddedFirst carried_weight l.kind (passed_edge g.C.EdgeCount.counts l.passing)
+    (g.R0.IntShapeResource.paths l.resource) l.index
     l.initial.self l.self

@@ -25,5 +25,6 @@ returns-else-n-eq1-clause-value t c =
 
 pub returns-else-n-eq1-clause-most : goal.returns-else-n-eq1-clause-most
 returns-else-n-eq1-clause-most t c =
-    quotient_within c.args.n c.args.t c.args.d c.carried-q.result.0 c.carried-q.result.1 c.requires.divides c.requires.part
+    quotient_within c.args.n c.args.t c.args.d c.carried-q.result.0 c.carried-q.result.1 c.requires.divides
+    c.requires.part
     (returns-else-n-eq1-clause-value t c)

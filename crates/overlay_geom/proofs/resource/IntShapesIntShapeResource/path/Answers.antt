@@ -7,9 +7,11 @@ use Rattle.overlay_geom.proofs.resource.IntShapesIntShapeResource.path.Goals as 
 
 pub contour_at-requires : goal.contour_at-requires
 contour_at-requires g c =
-    rw c.deref.ensures.value (within_cut (2 ^ 64 - 1) (paths_of_shapes g.I.IntNumber.whole c.args.self.now.items) c.args.index c.requires)
+    rw c.deref.ensures.value (within_cut (2 ^ 64 - 1) (paths_of_shapes g.I.IntNumber.whole c.args.self.now.items)
+    c.args.index c.requires)
 
 pub returns : goal.returns
 returns g c =
-    slice_get-cut (2 ^ 64 - 1) (paths_of_shapes g.I.IntNumber.whole c.args.self.now.items) c.args.index (plain_points g.I.IntNumber.whole c.contour_at.result.now)
+    slice_get-cut (2 ^ 64 - 1) (paths_of_shapes g.I.IntNumber.whole c.args.self.now.items) c.args.index
+    (plain_points g.I.IntNumber.whole c.contour_at.result.now)
     c.requires (rw (← c.deref.ensures.value) c.contour_at.ensures)

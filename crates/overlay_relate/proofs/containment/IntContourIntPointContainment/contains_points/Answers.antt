@@ -17,4 +17,5 @@ returns-clause-inside g c =
     let S = λ (q : Point) (t : Bool). IsOff (shapes_edges shapes) (in_plane q) → t ≡ is_in_shapes shapes (in_plane q) in
     subst (AnswersEach S qs) (ap (map is_inside) (sym c.deref.ensures.value) ∙ sym (c.in_ok-inside.ensures).inside)
     (answers_mapped (λ (q : Point) (l : PointLocation). IsLocatedAmong shapes (in_plane q) l) S is_inside
-    (λ q l at off. inside_off_shapes shapes (in_plane q) l off at) qs c.in_ok-locations.locations.items (c.in_ok-locations.ensures).located)
+    (λ q l at off. inside_off_shapes shapes (in_plane q) l off at) qs c.in_ok-locations.locations.items
+    (c.in_ok-locations.ensures).located)

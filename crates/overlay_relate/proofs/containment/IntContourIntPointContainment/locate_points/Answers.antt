@@ -15,21 +15,26 @@ pub locate_in_contour-requires-clause-contour : goal.locate_in_contour-requires-
 locate_in_contour-requires-clause-contour g c =
     let whole = g.I.IntNumber.whole in
     let P = AllInRange g.I.IntNumber.limit in
-    subst (λ xs. P (plain_points whole xs)) (sym c.deref.ensures.value) (All-head P (plain_points whole c.args.self.now.items) []
+    subst (λ xs. P (plain_points whole xs)) (sym c.deref.ensures.value)
+    (All-head P (plain_points whole c.args.self.now.items) []
     (All-head (All P) (plain_points whole c.args.self.now.items ∷ []) [] c.requires.self_in_range))
 
 pub locate_in_contour-requires-clause-resolved : goal.locate_in_contour-requires-clause-resolved
 locate_in_contour-requires-clause-resolved g c =
     let whole = g.I.IntNumber.whole in
     let P = IsResolved in
-    subst (λ xs. P (plain_points whole xs)) (sym c.deref.ensures.value) (All-head P (plain_points whole c.args.self.now.items) []
+    subst (λ xs. P (plain_points whole xs)) (sym c.deref.ensures.value)
+    (All-head P (plain_points whole c.args.self.now.items) []
     (All-head (All P) (plain_points whole c.args.self.now.items ∷ []) [] c.requires.resolved))
 
 pub returns-clause-located : goal.returns-clause-located
 returns-clause-located g c =
     let whole = g.I.IntNumber.whole in
     let shape = plain_points whole c.args.self.now.items ∷ [] in
-    answers_weaker (λ (q : Point) (l : PointLocation). IsLocatedIn shape (in_plane q) l) (λ (q : Point) (l : PointLocation). IsLocatedAmong (shape ∷ []) (in_plane q) l)
-    (λ q l at. among_one shape (in_plane q) l at) (plain_points whole c.args.points.now) c.in_ok-locations.locations.items
-    (subst (λ xs. AnswersWhere (IsLocatedIn (plain_points whole xs ∷ [])) (plain_points whole c.args.points.now) c.in_ok-locations.locations.items)
+    answers_weaker (λ (q : Point) (l : PointLocation). IsLocatedIn shape (in_plane q) l)
+    (λ (q : Point) (l : PointLocation). IsLocatedAmong (shape ∷ []) (in_plane q) l)
+    (λ q l at. among_one shape (in_plane q) l at) (plain_points whole c.args.points.now)
+    c.in_ok-locations.locations.items
+    (subst (λ xs. AnswersWhere (IsLocatedIn (plain_points whole xs ∷ [])) (plain_points whole c.args.points.now)
+    c.in_ok-locations.locations.items)
     c.deref.ensures.value (c.in_ok-locations.ensures).located)

@@ -16,19 +16,24 @@ pub locate_in_shape-requires-clause-contours : goal.locate_in_shape-requires-cla
 locate_in_shape-requires-clause-contours g c =
     let whole = g.I.IntNumber.whole in
     let P = All (AllInRange g.I.IntNumber.limit) in
-    subst (λ xs. P (paths_of_shape whole xs)) (sym c.deref.ensures.value) (All-head P (paths_of_shape whole c.args.self.now.items) [] c.requires.self_in_range)
+    subst (λ xs. P (paths_of_shape whole xs)) (sym c.deref.ensures.value)
+    (All-head P (paths_of_shape whole c.args.self.now.items) [] c.requires.self_in_range)
 
 pub locate_in_shape-requires-clause-resolved : goal.locate_in_shape-requires-clause-resolved
 locate_in_shape-requires-clause-resolved g c =
     let whole = g.I.IntNumber.whole in
     let P = All IsResolved in
-    subst (λ xs. P (paths_of_shape whole xs)) (sym c.deref.ensures.value) (All-head P (paths_of_shape whole c.args.self.now.items) [] c.requires.resolved)
+    subst (λ xs. P (paths_of_shape whole xs)) (sym c.deref.ensures.value)
+    (All-head P (paths_of_shape whole c.args.self.now.items) [] c.requires.resolved)
 
 pub returns-clause-located : goal.returns-clause-located
 returns-clause-located g c =
     let whole = g.I.IntNumber.whole in
     let shape = paths_of_shape whole c.args.self.now.items in
-    answers_weaker (λ (q : Point) (l : PointLocation). IsLocatedIn shape (in_plane q) l) (λ (q : Point) (l : PointLocation). IsLocatedAmong (shape ∷ []) (in_plane q) l)
-    (λ q l at. among_one shape (in_plane q) l at) (plain_points whole c.args.points.now) c.in_ok-locations.locations.items
-    (subst (λ xs. AnswersWhere (IsLocatedIn (paths_of_shape whole xs)) (plain_points whole c.args.points.now) c.in_ok-locations.locations.items)
+    answers_weaker (λ (q : Point) (l : PointLocation). IsLocatedIn shape (in_plane q) l)
+    (λ (q : Point) (l : PointLocation). IsLocatedAmong (shape ∷ []) (in_plane q) l)
+    (λ q l at. among_one shape (in_plane q) l at) (plain_points whole c.args.points.now)
+    c.in_ok-locations.locations.items
+    (subst (λ xs. AnswersWhere (IsLocatedIn (paths_of_shape whole xs)) (plain_points whole c.args.points.now)
+    c.in_ok-locations.locations.items)
     c.deref.ensures.value (c.in_ok-locations.ensures).located)

@@ -6,4 +6,5 @@ use Rattle.overlay_relate.proofs.containment.IntShapesIntPointContainment.locate
 
 pub locate_in_shapes-requires-clause-resolved : goal.locate_in_shapes-requires-clause-resolved
 locate_in_shapes-requires-clause-resolved g c =
-    subst (λ xs. All (All IsResolved) (plain_shapes g.I.IntNumber.whole xs)) (sym c.deref.ensures.value) c.requires.resolved
+    subst (λ xs. All (All IsResolved) (plain_shapes g.I.IntNumber.whole xs)) (sym c.deref.ensures.value)
+    c.requires.resolved

@@ -26,7 +26,8 @@ pub invariant_of-self-2 : goal.invariant_of-self-2
 invariant_of-self-2 g c = λ ready.
     let points = plain_points g.I.IntNumber.whole c.args.contour.now in
     let e = c.in_ok-add_path.ensures in
-    contour_keeps_balance false c.args.shape_type points (edges_in c.self.inside.core.edges) (edges_in c.add_path.new.self.edges)
+    contour_keeps_balance false c.args.shape_type points (edges_in c.self.inside.core.edges)
+    (edges_in c.add_path.new.self.edges)
     (contour_added false c.args.shape_type boolean_counts Thinned c.passing.result refl
     (counts_pass_once c.args.shape_type c.passing.result c.passing.ensures) points
     c.self.inside.core.edges c.add_path.new.self.edges e.ok)

@@ -13,7 +13,8 @@ returns-clause-ok g c =
     (λ adds. (
       c.in_ok-points.points.items,
       c.in_ok-points.ensures.ok,
-      subst (λ ps. AddsContour false (edge_for c.args.shape_type) (plain_points g.I.IntNumber.whole ps) c.args.self.now.edges c.add_contour.new.self.edges)
+      subst (λ ps. AddsContour false (edge_for c.args.shape_type) (plain_points g.I.IntNumber.whole ps)
+          c.args.self.now.edges c.add_contour.new.self.edges)
           c.deref.ensures.value adds,
     ))
     c.add_contour.ensures.ok
@@ -22,6 +23,7 @@ pub returns-clause-too_many : goal.returns-clause-too_many
 returns-clause-too_many g c = λ same. (
   c.in_ok-points.points.items,
   c.in_ok-points.ensures.ok,
-  subst (λ ps. WouldWeighTooMuch false c.args.shape_type (plain_points g.I.IntNumber.whole ps) c.args.self.now.edges) c.deref.ensures.value
+  subst (λ ps. WouldWeighTooMuch false c.args.shape_type (plain_points g.I.IntNumber.whole ps) c.args.self.now.edges)
+      c.deref.ensures.value
       (c.add_contour.ensures.too_many same),
 )

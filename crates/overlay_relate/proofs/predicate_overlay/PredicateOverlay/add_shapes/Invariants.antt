@@ -7,4 +7,5 @@ use Rattle.overlay_relate.proofs.predicate_overlay.PredicateOverlay.add_shapes.G
 
 abbrev pub invariant-loop-shape : goal.invariant-loop-shape
 invariant-loop-shape g l =
-    AddsAsAsked {V = Unit {0}} (paths_for l.shape_type (paths_of_shapes g.I.IntNumber.whole (take l.shape-index l.shapes))) l.initial.self l.self (Ok tt)
+    AddsAsAsked {V = Unit {0}} (paths_for l.shape_type
+    (paths_of_shapes g.I.IntNumber.whole (take l.shape-index l.shapes))) l.initial.self l.self (Ok tt)

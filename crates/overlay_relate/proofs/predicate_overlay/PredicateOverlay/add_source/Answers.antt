@@ -15,7 +15,8 @@ use Rattle.overlay_relate.proofs.predicate_overlay.PredicateOverlay.add_source.G
 pub invariant_of-self : goal.invariant_of-self
 invariant_of-self g c = λ ready.
     let paths = g.R0.IntShapeResource.paths c.args.resource.now in
-    adding_keeps_balance false (paths_for c.args.shape_type paths) (plain_held c.self.inside.core) (plain_held c.add_paths.new.self) c.add_paths.result
+    adding_keeps_balance false (paths_for c.args.shape_type paths) (plain_held c.self.inside.core)
+    (plain_held c.add_paths.new.self) c.add_paths.result
     (contours_added false c.args.shape_type boolean_counts Thinned c.passing.result refl
     (counts_pass_once c.args.shape_type c.passing.result c.passing.ensures) paths
     c.self.inside.core c.add_paths.new.self c.add_paths.result c.add_paths.ensures)
@@ -27,7 +28,8 @@ returns g c =
     let given = paths_for c.args.shape_type paths in
     record {
       added = subst
-          (λ b. AddsAsAsked weight (added_paths false given) (held_by b) (plain_held c.add_paths.new.self) c.add_paths.result)
+          (λ b. AddsAsAsked weight (added_paths false given) (held_by b) (plain_held c.add_paths.new.self)
+          c.add_paths.result)
           c.self.view_is
           (contours_added false c.args.shape_type boolean_counts Thinned c.passing.result refl
           (counts_pass_once c.args.shape_type c.passing.result c.passing.ensures) paths

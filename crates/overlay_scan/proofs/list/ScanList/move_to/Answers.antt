@@ -8,4 +8,5 @@ pub returns : goal.returns
 returns g c =
     let whole = g.I.IntNumber.whole in
     ap (λ es. record { entries = es; reached = Some (whole c.args.x) })
-    (ap (plain_entries whole) c.drop_ended.ensures ∙ map-filter (plain_entry whole) (λ f. int_lt (whole c.args.x) f.edge.b.x) c.args.self.now.live)
+    (ap (plain_entries whole) c.drop_ended.ensures
+    ∙ map-filter (plain_entry whole) (λ f. int_lt (whole c.args.x) f.edge.b.x) c.args.self.now.live)

@@ -17,15 +17,19 @@ returns-clause-value g c = λ answer asked rise.
     let fs = live_at (whole c.args.x) (plain_entries whole c.args.self.now.live) in
     let moved = ap (plain_entries whole) c.as_slice.ensures ∙ ap (λ s. s.entries) c.move_to.ensures in
     let place = c.count_up_to-place.ensures.count answer
-    (All-same (λ f. HoldsOfLine whole f.edge (λ line. (o : _) → goal.F-post g c.args.order line o → o ≡ answer f.edge)) (plain_entries whole c.as_slice.result.now) fs moved asked)
+    (All-same (λ f. HoldsOfLine whole f.edge (λ line. (o : _) → goal.F-post g c.args.order line o → o ≡ answer f.edge))
+    (plain_entries whole c.as_slice.result.now) fs moved asked)
     (subst (AnswersRise answer) (sym moved) rise) in
     c.value_before.ensures
     ∙ ap (λ es. value_or c.args.default (last_or None (take c.count_up_to-place.result es)))
     (ap (plain_entries whole) c.as_slice-2.ensures ∙ ap (λ s. s.entries) c.move_to.ensures)
-    ∙ ap (λ n. value_or c.args.default (last_or None (take n fs))) (place ∙ ap (prefix_len (λ f. not (is_gt (answer f.edge)))) moved)
-    ∙ ap (λ es. value_or c.args.default (last_or None es)) (sym (filter_is_prefix (λ f. not (is_gt (answer f.edge))) fs (pass_before answer fs rise)))
+    ∙ ap (λ n. value_or c.args.default (last_or None (take n fs)))
+    (place ∙ ap (prefix_len (λ f. not (is_gt (answer f.edge)))) moved)
+    ∙ ap (λ es. value_or c.args.default (last_or None es))
+    (sym (filter_is_prefix (λ f. not (is_gt (answer f.edge))) fs (pass_before answer fs rise)))
 
 pub returns-clause-state : goal.returns-clause-state
 returns-clause-state g c =
     let whole = g.I.IntNumber.whole in
-    sweep_moved g.I.IntNumber.limit (whole c.args.x) (plain_sweep whole c.args.self.now) (plain_sweep whole c.move_to.new.self) c.requires.state c.requires.moves c.move_to.ensures
+    sweep_moved g.I.IntNumber.limit (whole c.args.x) (plain_sweep whole c.args.self.now)
+    (plain_sweep whole c.move_to.new.self) c.requires.state c.requires.moves c.move_to.ensures

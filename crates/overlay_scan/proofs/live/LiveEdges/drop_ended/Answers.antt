@@ -8,11 +8,13 @@ use Rattle.overlay_scan.proofs.live.LiveEdges.drop_ended.Goals as goal
 pub returns-then-may_have_ended : goal.returns-then-may_have_ended
 returns-then-may_have_ended g c =
     let whole = g.I.IntNumber.whole in
-    filter_same _ (λ f. int_lt (whole c.args.x) (whole f.b.x)) _ (λ x b f' k. search rules) _ _ c.retain.ensures.filtered
+    filter_same _ (λ f. int_lt (whole c.args.x) (whole f.b.x)) _ (λ x b f' k. search rules) _ _
+    c.retain.ensures.filtered
     ∙ ap (filter (λ f. int_lt (whole c.args.x) (whole f.b.x))) c.self.view_is
 
 pub returns-else-may_have_ended : goal.returns-else-may_have_ended
 returns-else-may_have_ended g c =
     let whole = g.I.IntNumber.whole in
-    rw (← c.self.view_is) (sym (none_ended whole c.self.inside.least_end c.self.inside.entries.items c.args.x c.self.invariant
+    rw (← c.self.view_is) (sym (none_ended whole c.self.inside.least_end c.self.inside.entries.items c.args.x
+    c.self.invariant
     (sym c.may_have_ended.ensures ∙ c.if-may_have_ended.false)))

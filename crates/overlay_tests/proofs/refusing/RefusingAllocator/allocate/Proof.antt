@@ -15,7 +15,8 @@ use contract.Monad.{Fun, fact}
 use contract.Running.{tables, tables_of}
 use sound.WpLaws.{fm_of, WpFn-mono}
 use types.Part.{agg}
-use types.Run.{stop, fld, addr, no_more, and_then, lit, un, first, branches, skips, exec, returns, returns_within, enter}
+use types.Run.{stop, fld, addr, no_more, and_then, lit, un, first, branches, skips, exec, returns, returns_within}
+use types.Run.{enter}
 use denote.Exit.{yes}
 use denote.RattleType.{owns}
 use denote.Ref.{shr_vals}
@@ -29,12 +30,14 @@ use denote.Triple.Spec.{triple_of}
 use denote.Triple.Statement.{Triple}
 use denote.Triple.Table.{entered, cited}
 use denote.Triple.Walked.{Stays, stay_dropped, walk_of, ends_at, walked, Goes-dropped, walk_Meets}
-use types.Kit.{‵, raw, ◌⊛◌, some, later, given, at_ret, learn, ◌$◌, ◌∵◌, !, qed, by, move, keep, pick, use0, use1, use2, split, join, fsplit, fjoin, suffices, await, done}
+use types.Kit.{‵, raw, ◌⊛◌, some, later, given, at_ret, learn, ◌$◌, ◌∵◌, !, qed, by, move, keep, pick, use0, use1, use2}
+use types.Kit.{split, join, fsplit, fjoin, suffices, await, done}
 use types.ByLocal.{alloc_all, pass_all, free_all, look_at, get, through, sets, lands_as, env}
 use denote.RawPtr.{block_ptr}
 use denote.Builtin.{usize, RefOf}
 use denote.Triple.Call.{calls_at}
-use Rattle.std.proofs.alloc.Calls.{Al, α, seen, Answer, answer_val, Answer-typed, Answer-Ok, Answer-err, takes_key, Takes, at_takes, Answered, Takes-goes, Takes-gives, answers, got, token}
+use Rattle.std.proofs.alloc.Calls.{Al, α, seen, Answer, answer_val, Answer-typed, Answer-Ok, Answer-err, takes_key}
+use Rattle.std.proofs.alloc.Calls.{Takes, at_takes, Answered, Takes-goes, Takes-gives, answers, got, token}
 use Rattle.std.proofs.VecSteps.Shapes.{after}
 use Rattle.overlay_tests.proofs.Turns.{Turn, asked, lent_to_turn, told_by_turn}
 use Rattle.overlay_tests.proofs.refusing.takes_turn.Symbol as turn_symbol
@@ -69,7 +72,16 @@ module _ (Z : Al) {M : Type 1} {𝓤 : Ura M} (𝓛 : Logic 𝓤) (at_mem : Memo
 
   module _ (κ₁ κ₂ : Lft) (q₁ q₂ : Share) (inn : κ₁ ⊑ κ₂) (r : Bor (handle.the_row Z.row).Denot) (n a : ℕ) (τ : Ty) where
     abbrev bound : (walk_of 𝓛 (ended Z) (stayed Z) held).Ghost
-    bound = (((κ₁, (κ₂, tt)), (q₁, (q₂, tt)), (inn, tt), (r, (n, (a, tt))), (shr_vals r, (vint w64 n ∷ [], (vint w64 a ∷ [], tt)))), τ)
+    bound = (
+      (
+        (κ₁, (κ₂, tt)),
+        (q₁, (q₂, tt)),
+        (inn, tt),
+        (r, (n, (a, tt))),
+        (shr_vals r, (vint w64 n ∷ [], (vint w64 a ∷ [], tt))),
+      ),
+      τ,
+    )
 
     abbrev Post : Val → SProp 𝓤
     Post = (walk_of 𝓛 (ended Z) (stayed Z) held).post bound
@@ -78,23 +90,30 @@ module _ (Z : Al) {M : Type 1} {𝓤 : Ura M} (𝓛 : Logic 𝓤) (at_mem : Memo
     vs = vptr r.ref_ptr.0 r.ref_ptr.1 ∷ vint w64 n ∷ vint w64 a ∷ []
 
     -- With a block and both shares the call may answer the block.
-    grants : (b o : ℕ) → ent 𝓤 (sep 𝓤 (sem 𝓛 (got (token Z r.now.inner) τ true b o)) (sep 𝓤 (A.lft κ₁ q₁) (A.lft κ₂ q₂))) (Post (answer_val true b o))
+    grants : (b o : ℕ) → ent 𝓤 (sep 𝓤 (sem 𝓛 (got (token Z r.now.inner) τ true b o))
+        (sep 𝓤 (A.lft κ₁ q₁) (A.lft κ₂ q₂))) (Post (answer_val true b o))
     grants b o =
         qed 𝓛 (‵ (got (token Z r.now.inner) τ true b o) ∷ ‵ (flft κ₁ q₁) ∷ ‵ (flft κ₂ q₂) ∷ []) ∵
-        suffices ! _ (ends_at 𝓛 (ended Z) (stayed Z) held bound (answer_val true b o) (Ok (block_ptr b o)) (tt, (tt, (tt, tt))) (tt, (tt, (tt, tt)))) $
+        suffices ! _ (ends_at 𝓛 (ended Z) (stayed Z) held bound (answer_val true b o) (Ok (block_ptr b o))
+        (tt, (tt, (tt, tt))) (tt, (tt, (tt, tt)))) $
         use0 𝓛 (‵ (Answer.own_val (Ok (block_ptr b o)) (answer_val true b o ∷ []))) (Answer-Ok 𝓛 b o) $
-        nothing ! $ nothing ! $ fjoin ! $ nothing ! $ fjoin ! $ nothing ! $ fjoin ! $ join ! $ nothing ! $ move ! (4 ∷ 0 ∷ []) $ join ! $ move ! (3 ∷ 0 ∷ []) $ join ! $ join ! $ done !
+        nothing ! $ nothing ! $ fjoin ! $ nothing ! $ fjoin ! $ nothing ! $ fjoin ! $ join ! $ nothing ! $ move !
+        (4 ∷ 0 ∷ []) $ join ! $ move ! (3 ∷ 0 ∷ []) $ join ! $ join ! $ done !
 
     -- With both shares the call may answer the error.
     refuses : ent 𝓤 (sep 𝓤 (A.lft κ₁ q₁) (A.lft κ₂ q₂)) (Post (answer_val false 0 0))
     refuses =
         qed 𝓛 (‵ (flft κ₁ q₁) ∷ ‵ (flft κ₂ q₂) ∷ []) ∵
-        suffices ! _ (ends_at 𝓛 (ended Z) (stayed Z) held bound (answer_val false 0 0) (Err (record {})) (tt, (tt, (tt, tt))) (tt, (tt, (tt, tt)))) $
+        suffices ! _ (ends_at 𝓛 (ended Z) (stayed Z) held bound (answer_val false 0 0) (Err (record {}))
+        (tt, (tt, (tt, tt))) (tt, (tt, (tt, tt)))) $
         nothing ! $ use0 𝓛 (‵ (Answer.own_val (Err (record {})) (answer_val false 0 0 ∷ []))) (Answer-err 𝓛) $
-        nothing ! $ nothing ! $ fjoin ! $ nothing ! $ fjoin ! $ nothing ! $ fjoin ! $ join ! $ nothing ! $ move ! (4 ∷ 0 ∷ []) $ join ! $ move ! (3 ∷ 0 ∷ []) $ join ! $ join ! $ done !
+        nothing ! $ nothing ! $ fjoin ! $ nothing ! $ fjoin ! $ nothing ! $ fjoin ! $ join ! $ nothing ! $ move !
+        (4 ∷ 0 ∷ []) $ join ! $ move ! (3 ∷ 0 ∷ []) $ join ! $ join ! $ done !
 
-    module _ (𝓣 : Tables 𝓤 𝓛.H) (takes : Triple 𝓤 (𝓣.C (takes_key Z)) (Takes Z 𝓛 at_mem run)) (turns : Triple 𝓤 (𝓣.C turn_symbol.name) (Turn 𝓛 at_mem run)) where
-      walk : n < 2 ^ 64 → a < 2 ^ 64 → ent 𝓤 ((walk_of 𝓛 (ended Z) (stayed Z) held).pre bound) (WpFn 𝓤 H 𝓣.C 𝓣.Λ (here Z) vs Post)
+    module _ (𝓣 : Tables 𝓤 𝓛.H) (takes : Triple 𝓤 (𝓣.C (takes_key Z)) (Takes Z 𝓛 at_mem run))
+        (turns : Triple 𝓤 (𝓣.C turn_symbol.name) (Turn 𝓛 at_mem run)) where
+      walk : n < 2 ^ 64 → a < 2 ^ 64 → ent 𝓤 ((walk_of 𝓛 (ended Z) (stayed Z) held).pre bound)
+          (WpFn 𝓤 H 𝓣.C 𝓣.Λ (here Z) vs Post)
       walk fn fa =
           let h : Z.row.Denot = r.now.inner in
           let inner : ℕ × ℕ = (r.ref_ptr.0, r.ref_ptr.1 + up (align (α Z)) 0) in
@@ -102,17 +121,22 @@ module _ (Z : Al) {M : Type 1} {𝓤 : Ura M} (𝓛 : Logic 𝓤) (at_mem : Memo
           let ask : (Turn 𝓛 at_mem run).Ghost = asked 𝓛 at_mem run κ₁ q₁ left in
           let take : (Takes Z 𝓛 at_mem run).Ghost = at_takes Z 𝓛 at_mem run κ₁ q₁ inner h n a τ in
           let Said : Type 0 = (capped (size τ) ≡ n) × (capped (align τ) ≡ a) in
-          qed 𝓛 (((‵ (flft κ₁ q₁) ⊛ ‵ (flft κ₂ q₂) ⊛ ‵ ftrue) ⊛ ‵ (owns (types_at (ended Z).signature.params bound.0.0) bound.0.3 bound.0.4)) ∷ (raw (fact 𝓤 (κ₂ ⊑ Z.row.lives)) ⊛ raw (fact 𝓤 Said)) ∷ []) ∵
+          qed 𝓛 (((‵ (flft κ₁ q₁) ⊛ ‵ (flft κ₂ q₂) ⊛ ‵ ftrue) ⊛ ‵
+          (owns (types_at (ended Z).signature.params bound.0.0) bound.0.3 bound.0.4)) ∷
+          (raw (fact 𝓤 (κ₂ ⊑ Z.row.lives)) ⊛ raw (fact 𝓤 Said)) ∷ []) ∵
           move ! (1 ∷ []) $ split ! $ heard ! (κ₂ ⊑ Z.row.lives) (λ le. heard ! Said (λ said.
-          split ! $ split ! $ move ! (2 ∷ []) $ fsplit ! $ fsplit ! $ move ! (1 ∷ []) $ unhide ! $ fsplit ! $ fsplit ! $ use1 𝓛 (‵ (seen Z κ₁ inner h)) (id⊢ 𝓤 _) $
+          split ! $ split ! $ move ! (2 ∷ []) $ fsplit ! $ fsplit ! $ move ! (1 ∷ []) $ unhide ! $ fsplit ! $ fsplit ! $
+          use1 𝓛 (‵ (seen Z κ₁ inner h)) (id⊢ 𝓤 _) $
           move ! (1 ∷ []) $ fsplit ! $ move ! (7 ∷ []) $ split ! $ keep ! (2 ∷ 8 ∷ 4 ∷ 0 ∷ []) $
           -- [the cell; the share of the `&self`; the inner handle; the other share]
-          enter ! 𝓣.C 𝓣.Λ (here Z) vs _ $ alloc_all ! (λ l. pass_all ! refl ((tt, tt), ((tt, record { fits = fn }), ((tt, record { fits = fa }), tt))) $
+          enter ! 𝓣.C 𝓣.Λ (here Z) vs _ $ alloc_all !
+          (λ l. pass_all ! refl ((tt, tt), ((tt, record { fits = fn }), ((tt, record { fits = fa }), tt))) $
           let En : Env 𝓤 H = env (here Z).locals l in
           sets ! (addr ! (through ! refl (fld ! refl (stop !)))) refl (tt, tt) $
           use2 𝓛 (raw ((Turn 𝓛 at_mem run).pre ask)) (lent_to_turn 𝓛 at_mem run κ₁ q₁ left) $
           calls_at ! (fm_of 𝓤 H 𝓛.laws 𝓣) (Turn 𝓛 at_mem run) turns ask (and_then ! (get ! refl) (no_more !)) (λ flag.
-          use1 𝓛 (later (some (λ (y : Bool). given (flag ≡ vbool y) (‵ (flft κ₁ q₁))))) (told_by_turn 𝓛 at_mem run κ₁ q₁ left flag) $
+          use1 𝓛 (later (some (λ (y : Bool). given (flag ≡ vbool y) (‵ (flft κ₁ q₁)))))
+          (told_by_turn 𝓛 at_mem run κ₁ q₁ left flag) $
           await ! tt $ pick ! (λ y. learn ! (λ is_flag. lands_as ! is_flag refl (tt, tt) $
           sets ! (un ! (get ! refl) tt) refl (tt, tt) $
           first ! $ branches ! (get ! refl)
@@ -123,11 +147,15 @@ module _ (Z : Al) {M : Type 1} {𝓤 : Ura M} (𝓛 : Logic 𝓤) (at_mem : Memo
           (λ granted. skips ! $ exec ! 𝓣.C 𝓣.Λ En (after 4 (here Z).body) (at_ret En Post) $
           move ! (1 ∷ []) $
           sets ! (addr ! (through ! refl (fld ! refl (stop !)))) refl (tt, tt) $
-          use2 𝓛 (raw ((Takes Z 𝓛 at_mem run).pre take)) (Takes-goes Z 𝓛 at_mem run κ₁ q₁ inner h (⊑_trans κ₁ κ₂ Z.row.lives inn le) n a τ said.0 said.1 fn fa) $
-          calls_at ! (fm_of 𝓤 H 𝓛.laws 𝓣) (Takes Z 𝓛 at_mem run) takes take (and_then ! (get ! refl) (and_then ! (get ! refl) (and_then ! (get ! refl) (no_more !)))) (λ v.
-          use1 𝓛 (later (raw (Answered Z 𝓛 at_mem run h τ v) ⊛ ‵ (flft κ₁ q₁))) (Takes-gives Z 𝓛 at_mem run κ₁ q₁ inner h n a τ v) $ await ! tt $ split ! $
+          use2 𝓛 (raw ((Takes Z 𝓛 at_mem run).pre take))
+          (Takes-goes Z 𝓛 at_mem run κ₁ q₁ inner h (⊑_trans κ₁ κ₂ Z.row.lives inn le) n a τ said.0 said.1 fn fa) $
+          calls_at ! (fm_of 𝓤 H 𝓛.laws 𝓣) (Takes Z 𝓛 at_mem run) takes take
+          (and_then ! (get ! refl) (and_then ! (get ! refl) (and_then ! (get ! refl) (no_more !)))) (λ v.
+          use1 𝓛 (later (raw (Answered Z 𝓛 at_mem run h τ v) ⊛ ‵ (flft κ₁ q₁)))
+          (Takes-gives Z 𝓛 at_mem run κ₁ q₁ inner h n a τ v) $ await ! tt $ split ! $
           answers Z ! at_mem run h τ v
-          (λ b o e. fjoin ! $ lands_as ! e refl (Answer-typed true b o) $ returns ! (look_at ! 0 refl) $ free_all ! refl $
+          (λ b o e. fjoin ! $ lands_as ! e refl (Answer-typed true b o) $ returns ! (look_at ! 0 refl) $
+          free_all ! refl $
           keep ! (0 ∷ 1 ∷ 2 ∷ []) $ by ! (grants b o))
           (λ e. lands_as ! e refl (Answer-typed false 0 0) $ returns ! (look_at ! 0 refl) $ free_all ! refl $
           keep ! (0 ∷ 1 ∷ []) $ by ! refuses)))))))))
@@ -139,8 +167,17 @@ allocate_spec 𝓤 𝓛 𝓜 𝓡 wired Y L g d d' met _ =
     let 𝓣 : Tables 𝓤 𝓛.H = tables_of 𝓤 𝓛.H 𝓜 (tables 𝓤 𝓛.H 𝓜 𝓡 𝓡.env) in
     let c = F.clauses Y g d d' 𝓛 𝓜.mem 𝓡.returns in
     let Number : Slot 2 = plain (λ _. usize) in
-    entered 𝓤 𝓛.H (triple_of 𝓛 (F.signature Y) (F.spec Y g d d' 𝓛 𝓜.mem 𝓡.returns)) 𝓣.C 𝓣.Λ (key.name (args Z)) (here Z) (code.unfolded 𝓤 𝓛.H 𝓜 𝓡 wired (Y, tt) d d')
-    (walk_Meets 𝓛 (ended Z) (stayed Z) (Goes-dropped 𝓛 2 (self Z) yes (λ κs x f. refl), (Goes-dropped 𝓛 2 Number yes (λ κs x f. refl), (Goes-dropped 𝓛 2 Number yes (λ κs x f. refl), tt))) c (WpFn 𝓤 𝓛.H 𝓣.C 𝓣.Λ (here Z)) (WpFn-mono 𝓤 𝓛.H 𝓛.laws 𝓣 (here Z))
-    (walked 𝓛 (ended Z) (stayed Z) c (WpFn 𝓤 𝓛.H 𝓣.C 𝓣.Λ (here Z)) (λ κs. (shr_vals, (uint_vals w64, (uint_vals w64, tt)))) (λ κs. ((λ r vs s. s.0), (uint_Tells w64, (uint_Tells w64, tt))))
-    (λ κs qs bounds x τ are. walk Z 𝓛 𝓜.mem 𝓡.returns κs.0 κs.1.0 qs.0 qs.1.0 bounds.0 x.0 x.1.0 x.1.1.0 τ 𝓣 (met.allocate d')
-    (cited 𝓤 𝓛.H _ 𝓜 𝓡 𝓡.env turn_symbol.name (𝓡.env turn_symbol.name) refl (turn_met.met 𝓤 𝓛 𝓜 𝓡 (code.calls-overlay_tests::refusing::takes_turn 𝓡.env wired))) are.1.0.1 are.1.1.0.1)))
+    entered 𝓤 𝓛.H (triple_of 𝓛 (F.signature Y) (F.spec Y g d d' 𝓛 𝓜.mem 𝓡.returns)) 𝓣.C 𝓣.Λ (key.name (args Z)) (here Z)
+    (code.unfolded 𝓤 𝓛.H 𝓜 𝓡 wired (Y, tt) d d')
+    (walk_Meets 𝓛 (ended Z) (stayed Z) (
+      Goes-dropped 𝓛 2 (self Z) yes (λ κs x f. refl),
+      (Goes-dropped 𝓛 2 Number yes (λ κs x f. refl), (Goes-dropped 𝓛 2 Number yes (λ κs x f. refl), tt)),
+    ) c
+    (WpFn 𝓤 𝓛.H 𝓣.C 𝓣.Λ (here Z)) (WpFn-mono 𝓤 𝓛.H 𝓛.laws 𝓣 (here Z))
+    (walked 𝓛 (ended Z) (stayed Z) c (WpFn 𝓤 𝓛.H 𝓣.C 𝓣.Λ (here Z))
+    (λ κs. (shr_vals, (uint_vals w64, (uint_vals w64, tt))))
+    (λ κs. ((λ r vs s. s.0), (uint_Tells w64, (uint_Tells w64, tt))))
+    (λ κs qs bounds x τ are. walk Z 𝓛 𝓜.mem 𝓡.returns κs.0 κs.1.0 qs.0 qs.1.0 bounds.0 x.0 x.1.0 x.1.1.0 τ 𝓣
+    (met.allocate d')
+    (cited 𝓤 𝓛.H _ 𝓜 𝓡 𝓡.env turn_symbol.name (𝓡.env turn_symbol.name) refl
+    (turn_met.met 𝓤 𝓛 𝓜 𝓡 (code.calls-overlay_tests::refusing::takes_turn 𝓡.env wired))) are.1.0.1 are.1.1.0.1)))

@@ -8,5 +8,6 @@ pub returns : goal.returns
 returns g c =
     c.cross.ensures.value
     ∙ cross_with_turned
-    (plain_point g.I.IntNumber.whole c.args.self.node) (plain_point g.I.IntNumber.whole c.args.p) (plain_point g.I.IntNumber.whole c.args.q)
+    (plain_point g.I.IntNumber.whole c.args.self.node) (plain_point g.I.IntNumber.whole c.args.p)
+    (plain_point g.I.IntNumber.whole c.args.q)
     _ _ _ _ c.sub-to_p.ensures.x c.sub-to_p.ensures.y c.minus-back_y.ensures c.sub-to_q.ensures.x

@@ -13,19 +13,23 @@ use Rattle.overlay_walk.proofs.open_steps.OpenSteps.new.Goals as goal
 pub places_by_start-requires : goal.places_by_start-requires
 places_by_start-requires g c =
     let whole = g.I.IntNumber.whole in
-    let kept = IsPermutation-map (plain_step whole) c.args.steps.items c.sort_steps.new.steps.items c.sort_steps.ensures.permutation in
-    subst (λ (ss : List (StepTaken g.row.I.Denot)). All (IsLong g.I.IntNumber.limit) (plain_steps whole ss)) (sym c.deref.ensures.value)
+    let kept = IsPermutation-map (plain_step whole) c.args.steps.items c.sort_steps.new.steps.items
+    c.sort_steps.ensures.permutation in
+    subst (λ (ss : List (StepTaken g.row.I.Denot)). All (IsLong g.I.IntNumber.limit) (plain_steps whole ss))
+    (sym c.deref.ensures.value)
     (All-permutation (IsLong g.I.IntNumber.limit) _ _ kept c.requires)
 
 pub invariant_of-result : goal.invariant_of-result
 invariant_of-result g c =
     let whole = g.I.IntNumber.whole in
-    let kept = IsPermutation-map (plain_step whole) c.args.steps.items c.sort_steps.new.steps.items c.sort_steps.ensures.permutation in
+    let kept = IsPermutation-map (plain_step whole) c.args.steps.items c.sort_steps.new.steps.items
+    c.sort_steps.ensures.permutation in
     record {
       marked = search rules;
       leaving = c.in_ok-sort_steps.ensures.order;
       long = All-permutation (IsLong g.I.IntNumber.limit) _ _ kept c.requires;
-      starting = subst (λ (ss : List (StepTaken g.row.I.Denot)). ArePlacesByStart (plain_steps whole ss) c.in_ok-places.places.items) c.deref.ensures.value
+      starting = subst (λ (ss : List (StepTaken g.row.I.Denot)). ArePlacesByStart (plain_steps whole ss)
+          c.in_ok-places.places.items) c.deref.ensures.value
           c.in_ok-places.ensures.ok;
       passing = none_passed c.resize.new.self.items c.in_ok-places.places.items;
     }
@@ -33,5 +37,6 @@ invariant_of-result g c =
 pub returns-clause-all : goal.returns-clause-all
 returns-clause-all g c =
     subst (IsPermutation c.args.steps.items)
-    (sym (unmarked-cleared c.sort_steps.new.steps.items c.new-taken.result.items c.resize.new.self.items c.len.result _ c.new-taken.ensures.len c.new-taken.ensures.items c.in_ok-resize.ensures.items))
+    (sym (unmarked-cleared c.sort_steps.new.steps.items c.new-taken.result.items c.resize.new.self.items c.len.result _
+    c.new-taken.ensures.len c.new-taken.ensures.items c.in_ok-resize.ensures.items))
     c.sort_steps.ensures.permutation

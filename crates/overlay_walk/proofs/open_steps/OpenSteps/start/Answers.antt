@@ -15,8 +15,10 @@ returns-then-self-len-clause-none g c = (
       let taken = c.self.inside.taken.items in
       let passed = rw (c.deref.ensures.value, c.deref-2.ensures.value) at c.first_open-self-inside.ensures.passed in
       none_left whole g.I.IntNumber.limit steps taken c.self.invariant.marked (λ k low h.
-      none_open taken c.self.inside.places.items (plain_steps whole steps) c.self.invariant.starting c.first_open-self-inside.result passed
-      (let same = c.if-self-len.true in let counted = c.len.ensures in omega arith) k low (omega (arith, h, length-map steps (plain_step whole))))),
+      none_open taken c.self.inside.places.items (plain_steps whole steps) c.self.invariant.starting
+      c.first_open-self-inside.result passed
+      (let same = c.if-self-len.true in let counted = c.len.ensures in omega arith) k low
+      (omega (arith, h, length-map steps (plain_step whole))))),
   λ e. refl,
 )
 
@@ -29,10 +31,13 @@ returns-clause-some g c =
     let passed = rw (c.deref.ensures.value, c.deref-2.ensures.value) at c.first_open-self-inside.ensures.passed in
     let opened = rw (c.deref.ensures.value, c.deref-2.ensures.value) at c.first_open-self-inside.ensures.open in
     let inside : c.first_open-self-inside.result < length places =
-    (let differ = c.if-self-len.false in let counted = c.len.ensures in let ok = c.self.inside.places.ok.0 in let up = passed.within in omega arith) in
-    let first = place_read taken places (plain_steps whole steps) c.self.invariant.starting c.first_open-self-inside.result passed (length steps) c.index.result.now
+    (let differ = c.if-self-len.false in let counted = c.len.ensures in let ok = c.self.inside.places.ok.0 in
+    let up = passed.within in omega arith) in
+    let first = place_read taken places (plain_steps whole steps) c.self.invariant.starting
+    c.first_open-self-inside.result passed (length steps) c.index.result.now
     (length-map steps (plain_step whole)) inside c.index.ensures opened in
-    rw (← c.self.view_is) (start_left whole g.I.IntNumber.limit steps taken c.self.invariant.marked c.self.invariant.long
+    rw (← c.self.view_is) (start_left whole g.I.IntNumber.limit steps taken c.self.invariant.marked
+    c.self.invariant.long
     c.index.result.now c.index-2.result.now c.index-2.ensures first)
 
 pub returns-clause-start : goal.returns-clause-start
@@ -44,10 +49,13 @@ returns-clause-start g c =
     let passed = rw (c.deref.ensures.value, c.deref-2.ensures.value) at c.first_open-self-inside.ensures.passed in
     let opened = rw (c.deref.ensures.value, c.deref-2.ensures.value) at c.first_open-self-inside.ensures.open in
     let inside : c.first_open-self-inside.result < length places =
-    (let differ = c.if-self-len.false in let counted = c.len.ensures in let ok = c.self.inside.places.ok.0 in let up = passed.within in omega arith) in
-    let first = place_read taken places (plain_steps whole steps) c.self.invariant.starting c.first_open-self-inside.result passed (length steps) c.index.result.now
+    (let differ = c.if-self-len.false in let counted = c.len.ensures in let ok = c.self.inside.places.ok.0 in
+    let up = passed.within in omega arith) in
+    let first = place_read taken places (plain_steps whole steps) c.self.invariant.starting
+    c.first_open-self-inside.result passed (length steps) c.index.result.now
     (length-map steps (plain_step whole)) inside c.index.ensures opened in
-    rw (← c.self.view_is) (start_found whole g.I.IntNumber.limit steps taken c.self.invariant.marked c.self.invariant.long
+    rw (← c.self.view_is) (start_found whole g.I.IntNumber.limit steps taken c.self.invariant.marked
+    c.self.invariant.long
     c.index.result.now c.index-2.result.now c.index-2.ensures first)
 
 pub returns-clause-none : goal.returns-clause-none

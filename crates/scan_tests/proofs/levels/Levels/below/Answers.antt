@@ -10,7 +10,8 @@ first_less-requires g c = (
   (
     c.requires.sweep,
     asked g.I.IntNumber.limit c.args.self.now.reached c.args.x c.args.end c.args.self.now.heights.items
-        (g.S.Scan.content c.args.self.now.scan) c.requires c.check_next.ensures.later c.args.height c.check_next.ensures.free _ _
+        (g.S.Scan.content c.args.self.now.scan) c.requires c.check_next.ensures.later c.args.height
+        c.check_next.ensures.free _ _
         c.small.ensures.value c.level-line.ensures.line c.level-line.ensures.over,
   ),
 )
@@ -18,5 +19,6 @@ first_less-requires g c = (
 pub returns : goal.returns
 returns g c =
     moved_on g.I.IntNumber.limit c.args.self.now.reached c.args.x c.args.end c.args.self.now.heights.items
-    (g.S.Scan.content c.args.self.now.scan) c.requires c.check_next.ensures.later (g.S.Scan.content c.first_less.new.self) _
+    (g.S.Scan.content c.args.self.now.scan) c.requires c.check_next.ensures.later
+    (g.S.Scan.content c.first_less.new.self) _
     c.small.ensures.value c.first_less.ensures.content c.first_less.ensures.state

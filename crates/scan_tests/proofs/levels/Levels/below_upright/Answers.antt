@@ -9,7 +9,8 @@ pub first_less-requires : goal.first_less-requires
 first_less-requires g c =
     let later : c.args.self.now.reached ≤ c.args.x = search rules in
     let free : list_any (λ i. nat_eq i c.args.height) c.args.self.now.heights.items ≡ false = search rules in
-    let next_free : list_any (λ i. nat_eq i (c.args.height + 1)) c.args.self.now.heights.items ≡ false = search rules in (
+    let next_free : list_any (λ i. nat_eq i (c.args.height + 1)) c.args.self.now.heights.items ≡ false =
+    search rules in (
       line_fits _ _ g.met.I.IntNumber.small.align_bound g.met.I.IntNumber.small.size_bound,
       (
         c.requires.sweep,

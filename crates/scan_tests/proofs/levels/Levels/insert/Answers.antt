@@ -10,7 +10,8 @@ insert-requires g c = (
   (
     c.requires.sweep,
     insertable g.I.IntNumber.limit c.args.self.now.reached c.args.x c.args.end c.args.self.now.heights.items
-        (g.S.Scan.content c.args.self.now.scan) c.requires c.check_next.ensures.later c.args.height c.check_next.ensures.free _ _
+        (g.S.Scan.content c.args.self.now.scan) c.requires c.check_next.ensures.later c.args.height
+        c.check_next.ensures.free _ _
         c.small.ensures.value c.level-line.ensures.line c.level-line.ensures.over,
   ),
 )
@@ -18,6 +19,7 @@ insert-requires g c = (
 pub returns : goal.returns
 returns g c =
     put_in g.I.IntNumber.limit c.args.self.now.reached c.args.x c.args.end c.args.self.now.heights.items
-    (g.S.Scan.content c.args.self.now.scan) c.requires c.check_next.ensures.later c.args.height c.check_next.ensures.free c.args.height (g.S.Scan.content c.insert.new.self) _ _ _
+    (g.S.Scan.content c.args.self.now.scan) c.requires c.check_next.ensures.later c.args.height
+    c.check_next.ensures.free c.args.height (g.S.Scan.content c.insert.new.self) _ _ _
     c.small.ensures.value c.level-line.ensures.line c.in_ok-push.ensures.items
     c.in_ok-insert.ensures.ok c.insert.ensures.reached c.insert.ensures.state

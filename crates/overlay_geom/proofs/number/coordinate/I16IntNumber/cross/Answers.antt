@@ -5,7 +5,8 @@ use Rattle.overlay_geom.proofs.number.coordinate.I16IntNumber.cross.Goals as goa
 use mir.Syntax.{w16, w32}
 
 -- the program computes the cross product
-crossed : (c : goal.After-from-4) → IsCross w32 32766 c.args.ax c.args.ay c.args.bx c.args.by (cross_at w32 c.from.result c.from-2.result c.from-3.result c.from-4.result)
+crossed : (c : goal.After-from-4) → IsCross w32 32766 c.args.ax c.args.ay c.args.bx c.args.by
+    (cross_at w32 c.from.result c.from-2.result c.from-3.result c.from-4.result)
 crossed c = IsCross-minus w32 _ _ _ _ _ _ _ (lit< tt)
     (Exact-times w32 _ _ _ _ _ (lit< tt)
     (Exact-widened w16 w32 _ _ _ (lit< tt) c.ranges.ax c.requires.ax c.from.ensures)

@@ -5,7 +5,8 @@ use Rattle.overlay_geom.proofs.number.coordinate.I32IntNumber.cross.Goals as goa
 use mir.Syntax.{w32, w64}
 
 -- the program computes the cross product
-crossed : (c : goal.After-from-4) → IsCross w64 2147483646 c.args.ax c.args.ay c.args.bx c.args.by (cross_at w64 c.from.result c.from-2.result c.from-3.result c.from-4.result)
+crossed : (c : goal.After-from-4) → IsCross w64 2147483646 c.args.ax c.args.ay c.args.bx c.args.by
+    (cross_at w64 c.from.result c.from-2.result c.from-3.result c.from-4.result)
 crossed c = IsCross-minus w64 _ _ _ _ _ _ _ (lit< tt)
     (Exact-times w64 _ _ _ _ _ (lit< tt)
     (Exact-widened w32 w64 _ _ _ (lit< tt) c.ranges.ax c.requires.ax c.from.ensures)

@@ -7,8 +7,10 @@ use Rattle.overlay_geom.proofs.number.coordinate.I32IntNumber.part_way.Goals as 
 use mir.Syntax.{w32, w64}
 
 -- the program computes it
-computed : (c : goal.After-nearest_on_way) → Exact 1073741823 (place c.args.self c.args.to c.args.t c.args.d) (to_z w64 (of_z w64 c.nearest_on_way.result))
-computed c = Exact-part_way w32 w64 1073741823 9223372036854775807 c.args.self c.args.to c.args.t c.args.d _ _ _ _ _ (lit< tt) (lit< tt)
+computed : (c : goal.After-nearest_on_way) → Exact 1073741823 (place c.args.self c.args.to c.args.t c.args.d)
+    (to_z w64 (of_z w64 c.nearest_on_way.result))
+computed c = Exact-part_way w32 w64 1073741823 9223372036854775807 c.args.self c.args.to c.args.t c.args.d _ _ _ _ _
+    (lit< tt) (lit< tt)
     (record {
       from = c.requires.from;
       to = c.requires.to;

@@ -1,0 +1,38 @@
+-- What a new builder for predicates, to which paths were added, answers of the paths.
+use Rattle.std.proofs.Common.{ℤ, Bool, true, false, not, List, refl}
+use Rattle.std.proofs.lemmas.Bool.{false≢true}
+use Rattle.std.specs.Prelude.{◌↔◌, Result, Ok, Err, IfOk, OnOk, IsTrue}
+use Rattle.overlay_geom.specs.declared.error.OverlayError.{OverlayError}
+use Rattle.overlay_geom.specs.Edges.{CountedEdge}
+use Rattle.overlay_plane.specs.Predicates.{Intersects, IsDisjoint}
+use Rattle.overlay_arrange.specs.Arranged.{IsArranged}
+use Rattle.overlay_arrange.specs.Rules.{is_filled}
+use Rattle.overlay_arrange.specs.declared.fill_rule.FillRule.{FillRule}
+use Rattle.overlay_builder.specs.GivenPaths.{GivenPath, HoldsPaths}
+use Rattle.i_overlay.specs.Relations.{TellsOfPaths}
+
+-- the answer of a query on a content that the paths give is one of the paths
+pub answer_of_paths : (r : Result Bool OverlayError) (relation : (ℤ → Bool) → List CountedEdge → Type 0)
+    (fill : FillRule) (paths : List GivenPath)
+    (content edges : List CountedEdge) → HoldsPaths false paths content → OnOk r (IsArranged 64 content edges)
+    → IfOk r (λ b. IsTrue b ↔ relation (is_filled fill) edges) → IfOk r (TellsOfPaths relation fill paths)
+answer_of_paths (Ok b) relation fill paths content edges holds arranged tells =
+    record { content = content; edges = edges; holds = holds; arranged = arranged; tells = tells }
+answer_of_paths (Err e) relation fill paths content edges holds arranged tells = tt
+
+-- where one answer tells whether the shapes intersect, the opposite one tells whether they are disjoint
+pub disjoint_of_paths : (fill : FillRule) (paths : List GivenPath) (meets : Bool) →
+    TellsOfPaths Intersects fill paths meets →
+    TellsOfPaths IsDisjoint fill paths (not meets)
+disjoint_of_paths fill paths meets h = record {
+  content = h.content;
+  edges = h.edges;
+  holds = h.holds;
+  arranged = h.arranged;
+  tells = opposite meets h.tells;
+}
+  where
+    opposite : (b : Bool) → (IsTrue b ↔ Intersects (is_filled fill) h.edges) →
+        IsTrue (not b) ↔ IsDisjoint (is_filled fill) h.edges
+    opposite true tells = ((λ t. absurd (false≢true t)), (λ none. absurd (none (tells.0 refl))))
+    opposite false tells = ((λ t. λ meets. false≢true (tells.1 meets)), (λ none. refl))

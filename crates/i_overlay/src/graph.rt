@@ -1,0 +1,86 @@
+//! Views of an arrangement: made once, and asked often.
+
+ghost use Rattle.std.specs.Prelude.{◌≡◌, [], false, map, IfOk, OnOk, OnErr, IsOkUnless};
+ghost use Rattle.overlay_geom.specs.Flat.{paths_in};
+ghost use Rattle.overlay_geom.specs.Packed.{IsPacked};
+ghost use Rattle.overlay_geom.specs.Paths.{plain_shapes};
+ghost use Rattle.overlay_arrange.specs.Vectors.{plain_vector, vector_of};
+ghost use Rattle.i_overlay.specs.Overlay.{asked, IsResult, IsContoursResult};
+ghost use Rattle.i_overlay.specs.Views.{viewed_edges};
+
+use crate::extract::{extract_contours, extract_shapes};
+use crate::viewed_graph::ViewedGraph;
+use overlay_arrange::data::{CountWithData, OverlayEdgeData};
+use overlay_arrange::overlay_rule::OverlayRule;
+use overlay_arrange::vector::DataVectorEdge;
+use overlay_geom::error::OverlayError;
+use overlay_geom::flat::contours::FlatContoursBuffer;
+use overlay_geom::integer::OverlayInt;
+use overlay_geom::path::IntShapes;
+use overlay_walk::buffer::BooleanExtractionBuffer;
+use std::alloc::Allocator;
+
+/// A view of what a builder holds: the edges of its arrangement, with their filled sides under one fill
+/// rule. It is made by `Overlay::build_graph_view`, and borrows the builder; it can be asked as often as
+/// wanted, for other overlay rules too. An extraction that is refused leaves it as it was.
+#[derive(Drop)]
+pub struct OverlayGraph<'a, I: OverlayInt, D: OverlayEdgeData, A: Allocator> {
+    pub(crate) viewed: &'a ViewedGraph<I, CountWithData<D>, A>,
+}
+
+impl<I: OverlayInt, A: Allocator + Clone> OverlayGraph<'_, I, (), A> {
+    /// The contours round the region of the plane where the overlay rule holds, as shapes, as
+    /// `Overlay::overlay` gives them, by the options that the builder had when the view was made. The
+    /// buffer lends its room; what it holds changes no answer. `options.ogc` is not set. The only refusal
+    /// is `Memory`.
+    pub fn extract_shapes(
+        &self,
+        overlay_rule: OverlayRule,
+        buffer: &mut BooleanExtractionBuffer<I, A>,
+    ) -> Result<IntShapes<I, A>, OverlayError>
+        requires { self.now.viewed.now.options.ogc ≡ false }
+        ensures result { IfOk result (λ v. IsResult
+            (asked I.Wide.width I.WideUInt.natural self.now.viewed.now.graph.fill_rule overlay_rule
+            self.now.viewed.now.options)
+            (viewed_edges self.now.viewed.now) (plain_shapes I.whole v.items)) }
+        ensures err { IsOkUnless result OverlayError.Memory }
+    {
+        let options = self.viewed.options();
+        extract_shapes(self.viewed.graph(), overlay_rule, options, buffer)
+    }
+
+    /// Writes the contours round the region of the plane where the overlay rule holds into the output, one
+    /// behind the other, as `Overlay::overlay_into` does. What the output held is dropped. The buffer lends
+    /// its room; what it holds changes no answer. The only refusal is `Memory`, and then the output is empty.
+    pub fn extract_contours_into<B: Allocator>(
+        &self,
+        overlay_rule: OverlayRule,
+        buffer: &mut BooleanExtractionBuffer<I, A>,
+        output: &mut FlatContoursBuffer<I, B>,
+    ) -> Result<(), OverlayError>
+        ensures result { OnOk result (IsContoursResult
+            (asked I.Wide.width I.WideUInt.natural self.now.viewed.now.graph.fill_rule overlay_rule
+            self.now.viewed.now.options)
+            (viewed_edges self.now.viewed.now) (paths_in I.whole output.new.points.items output.new.ranges.items)) }
+        ensures packed { OnOk result (IsPacked output.new.points.items output.new.ranges.items) }
+        ensures no_points { OnErr result (output.new.points.items ≡ []) }
+        ensures no_ranges { OnErr result (output.new.ranges.items ≡ []) }
+        ensures err { IsOkUnless result OverlayError.Memory }
+    {
+        let options = self.viewed.options();
+        extract_contours(self.viewed.graph(), overlay_rule, options, buffer, output)
+    }
+}
+
+impl<I: OverlayInt, D: OverlayEdgeData, A: Allocator + Clone> OverlayGraph<'_, I, D, A> {
+    /// Every edge in order, by its smaller and then its larger end, with its filled sides, as
+    /// `Overlay::build_separate_vectors` gives them. The only refusal is `Memory`.
+    pub fn extract_separate_vectors(&self) -> Result<Vec<DataVectorEdge<I, ()>, A>, OverlayError>
+        ensures listed { IfOk result (λ v. map (plain_vector I.whole) v.items
+            ≡ map (vector_of self.now.viewed.now.graph.fill_rule (viewed_edges self.now.viewed.now))
+            (viewed_edges self.now.viewed.now)) }
+        ensures err { IsOkUnless result OverlayError.Memory }
+    {
+        self.viewed.graph().separate_vectors()
+    }
+}

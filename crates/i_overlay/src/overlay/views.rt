@@ -1,0 +1,67 @@
+//! A view of what a builder holds.
+
+ghost use Rattle.std.specs.Prelude.{◌≡◌, IfOk, IfSome, IsErrOf};
+ghost use Rattle.std.specs.Borrow.{sem};
+ghost use Rattle.std.specs.Io.BufRead.{Rests};
+ghost use Rattle.overlay_arrange.specs.Arranged.{IsArranged};
+ghost use Rattle.overlay_builder.specs.Held.{AnswersQuery};
+ghost use Rattle.i_overlay.specs.Builder.{held_by};
+ghost use Rattle.i_overlay.specs.Views.{IsView, EndsViewed, edges_shown, viewed_edges};
+ghost use Rattle.i_overlay.specs.contracts.overlay.Overlay.{the_row};
+
+use crate::graph::OverlayGraph;
+use crate::overlay::Overlay;
+use crate::viewed_graph::ViewedGraph;
+use overlay_arrange::data::CountWithData;
+use overlay_arrange::fill_rule::FillRule;
+use overlay_geom::error::OverlayError;
+use overlay_geom::integer::OverlayInt;
+use std::alloc::Allocator;
+
+impl<I: OverlayInt, A: Allocator + Clone> Overlay<I, A> {
+    /// Splits the edges where they meet, as `build_separate_vectors` does, and gives a view of them with
+    /// their filled sides under the rule, that can be asked for contours again and again. `None` comes
+    /// exactly where no edge is left. The view borrows the builder: no contour can be added while it is
+    /// there.
+    ///
+    /// Refusals are those of `build_separate_vectors`.
+    pub fn build_graph_view(
+        &mut self,
+        fill_rule: FillRule,
+    ) -> Result<Option<OverlayGraph<'_, I, (), A>>, OverlayError>
+        ensures arranged { IfOk result
+            (λ o. IsArranged 64 self.old.edges (edges_shown (λ v. viewed_edges v.viewed.now) o)) }
+        ensures view { IfOk result (λ o. IfSome o
+            (λ v. IsView 64 fill_rule self.old.options self.old.edges v.viewed.now)) }
+        ensures* after { sem 𝓛 (Rests
+            (the_row I.row A.row I.Wide.row I.WideUInt.row I.IntNumber I.Wide.WideIntNumber I.WideUInt.UIntNumber
+            A.Allocator)
+            self.entry (λ new. EndsViewed I.limit 64 (λ v. viewed_edges v.viewed.now) self.old new result)) }
+    {
+        let viewed = self.arranged_graph(fill_rule)?;
+        let has_edges = !viewed.graph().edges().is_empty();
+        self.viewed = Some(viewed);
+        match &self.viewed {
+            Some(viewed) if has_edges => Ok(Some(OverlayGraph { viewed })),
+            _ => Ok(None),
+        }
+    }
+
+    // What a view shows, once the edges are arranged. A refusal leaves the builder failed.
+    fn arranged_graph(
+        &mut self,
+        fill_rule: FillRule,
+    ) -> Result<ViewedGraph<I, CountWithData<()>, A>, OverlayError>
+        ensures query { AnswersQuery I.limit 64 (held_by self.old) (held_by self.new) result }
+        ensures edges { IfOk result (λ v. viewed_edges v ≡ self.new.edges) }
+        ensures rule { IfOk result (λ v. v.graph.fill_rule ≡ fill_rule) }
+        ensures options { IfOk result (λ v. v.options ≡ self.old.options) }
+        ensures kept { self.new ≡ record self.old { edges = self.new.edges; failed = self.new.failed } }
+        ensures untouched { IsErrOf result OverlayError.Failed → self.new ≡ self.old }
+    {
+        self.core.arrange(&mut ())?;
+        let graph = self.graph_filled_by(fill_rule);
+        self.core.set_failed(graph.is_err());
+        Ok(ViewedGraph::new(graph?, self.options))
+    }
+}

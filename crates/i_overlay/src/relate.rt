@@ -1,0 +1,173 @@
+//! How two resources lie to each other: predicates in one call, and the builder that answers them.
+
+ghost use Rattle.std.specs.Prelude.{All, IfOk, IfErr};
+ghost use Rattle.overlay_arrange.specs.declared.fill_rule.FillRule.TheVariants.{EvenOdd};
+ghost use Rattle.overlay_geom.specs.Points.{AllInRange};
+ghost use Rattle.overlay_builder.specs.GivenPaths.{subject_and_clip};
+ghost use Rattle.overlay_plane.specs.Predicates.{Intersects, InteriorsIntersect, Touches, PointIntersects};
+ghost use Rattle.overlay_plane.specs.Predicates.{IsWithin, IsDisjoint};
+ghost use Rattle.i_overlay.specs.OneShot.{MayRefusePaths};
+ghost use Rattle.i_overlay.specs.Relations.{TellsOfPaths};
+
+use overlay_geom::error::OverlayError;
+use overlay_geom::integer::OverlayInt;
+use overlay_geom::resource::IntShapeResource;
+pub use overlay_relate::predicate_overlay::PredicateOverlay;
+use std::alloc::Allocator;
+
+/// Predicates of two resources, each of its own type, under the fill rule EvenOdd. Each path is a closed
+/// contour, and points on one line are dropped. This resource is the subject, and `other` the clip. The
+/// points of both are in the coordinate range. Each answer is that of `PredicateOverlay` on a new builder:
+/// of the edges after splitting.
+///
+/// Refusals are `Memory`, `NotSettled` and `TooManyEdges`; nothing of the caller's is changed.
+pub trait IntRelate<I: OverlayInt>: IntShapeResource<I> {
+    /// Whether the two have a common point.
+    fn intersects<R1: IntShapeResource<I>, A: Allocator + Clone>(
+        &self,
+        alloc: A,
+        other: &R1,
+    ) -> Result<bool, OverlayError>
+        requires self_in_range { All (AllInRange I.limit) (Self.paths self.now) }
+        requires other_in_range { All (AllInRange I.limit) (R1.paths other.now) }
+        ensures answer { IfOk result (TellsOfPaths Intersects EvenOdd
+            (subject_and_clip (Self.paths self.now) (R1.paths other.now))) }
+        ensures err { IfErr result (MayRefusePaths (subject_and_clip (Self.paths self.now) (R1.paths other.now))) };
+
+    /// Whether both fill some point off the edges.
+    fn interiors_intersect<R1: IntShapeResource<I>, A: Allocator + Clone>(
+        &self,
+        alloc: A,
+        other: &R1,
+    ) -> Result<bool, OverlayError>
+        requires self_in_range { All (AllInRange I.limit) (Self.paths self.now) }
+        requires other_in_range { All (AllInRange I.limit) (R1.paths other.now) }
+        ensures answer { IfOk result (TellsOfPaths InteriorsIntersect EvenOdd
+            (subject_and_clip (Self.paths self.now) (R1.paths other.now))) }
+        ensures err { IfErr result (MayRefusePaths (subject_and_clip (Self.paths self.now) (R1.paths other.now))) };
+
+    /// Whether the two have a common point, and their interiors have none.
+    fn touches<R1: IntShapeResource<I>, A: Allocator + Clone>(
+        &self,
+        alloc: A,
+        other: &R1,
+    ) -> Result<bool, OverlayError>
+        requires self_in_range { All (AllInRange I.limit) (Self.paths self.now) }
+        requires other_in_range { All (AllInRange I.limit) (R1.paths other.now) }
+        ensures answer { IfOk result (TellsOfPaths Touches EvenOdd
+            (subject_and_clip (Self.paths self.now) (R1.paths other.now))) }
+        ensures err { IfErr result (MayRefusePaths (subject_and_clip (Self.paths self.now) (R1.paths other.now))) };
+
+    /// Whether the two meet in single points alone.
+    fn point_intersects<R1: IntShapeResource<I>, A: Allocator + Clone>(
+        &self,
+        alloc: A,
+        other: &R1,
+    ) -> Result<bool, OverlayError>
+        requires self_in_range { All (AllInRange I.limit) (Self.paths self.now) }
+        requires other_in_range { All (AllInRange I.limit) (R1.paths other.now) }
+        ensures answer { IfOk result (TellsOfPaths PointIntersects EvenOdd
+            (subject_and_clip (Self.paths self.now) (R1.paths other.now))) }
+        ensures err { IfErr result (MayRefusePaths (subject_and_clip (Self.paths self.now) (R1.paths other.now))) };
+
+    /// Whether this resource lies within the other one.
+    fn within<R1: IntShapeResource<I>, A: Allocator + Clone>(
+        &self,
+        alloc: A,
+        other: &R1,
+    ) -> Result<bool, OverlayError>
+        requires self_in_range { All (AllInRange I.limit) (Self.paths self.now) }
+        requires other_in_range { All (AllInRange I.limit) (R1.paths other.now) }
+        ensures answer { IfOk result (TellsOfPaths IsWithin EvenOdd
+            (subject_and_clip (Self.paths self.now) (R1.paths other.now))) }
+        ensures err { IfErr result (MayRefusePaths (subject_and_clip (Self.paths self.now) (R1.paths other.now))) };
+
+    /// Whether the two have no common point.
+    fn disjoint<R1: IntShapeResource<I>, A: Allocator + Clone>(
+        &self,
+        alloc: A,
+        other: &R1,
+    ) -> Result<bool, OverlayError>
+        requires self_in_range { All (AllInRange I.limit) (Self.paths self.now) }
+        requires other_in_range { All (AllInRange I.limit) (R1.paths other.now) }
+        ensures answer { IfOk result (TellsOfPaths IsDisjoint EvenOdd
+            (subject_and_clip (Self.paths self.now) (R1.paths other.now))) }
+        ensures err { IfErr result (MayRefusePaths (subject_and_clip (Self.paths self.now) (R1.paths other.now))) };
+
+    /// Whether the other resource lies within this one: `within` of the two exchanged.
+    fn covers<R1: IntShapeResource<I>, A: Allocator + Clone>(
+        &self,
+        alloc: A,
+        other: &R1,
+    ) -> Result<bool, OverlayError>
+        requires self_in_range { All (AllInRange I.limit) (Self.paths self.now) }
+        requires other_in_range { All (AllInRange I.limit) (R1.paths other.now) }
+        ensures answer { IfOk result (TellsOfPaths IsWithin EvenOdd
+            (subject_and_clip (R1.paths other.now) (Self.paths self.now))) }
+        ensures err { IfErr result (MayRefusePaths (subject_and_clip (R1.paths other.now) (Self.paths self.now))) };
+}
+
+impl<I: OverlayInt, R0: IntShapeResource<I>> IntRelate<I> for R0 {
+    fn intersects<R1: IntShapeResource<I>, A: Allocator + Clone>(
+        &self,
+        alloc: A,
+        other: &R1,
+    ) -> Result<bool, OverlayError> {
+        let mut overlay = PredicateOverlay::from_subj_and_clip(alloc, self, other)?;
+        overlay.intersects()
+    }
+
+    fn interiors_intersect<R1: IntShapeResource<I>, A: Allocator + Clone>(
+        &self,
+        alloc: A,
+        other: &R1,
+    ) -> Result<bool, OverlayError> {
+        let mut overlay = PredicateOverlay::from_subj_and_clip(alloc, self, other)?;
+        overlay.interiors_intersect()
+    }
+
+    fn touches<R1: IntShapeResource<I>, A: Allocator + Clone>(
+        &self,
+        alloc: A,
+        other: &R1,
+    ) -> Result<bool, OverlayError> {
+        let mut overlay = PredicateOverlay::from_subj_and_clip(alloc, self, other)?;
+        overlay.touches()
+    }
+
+    fn point_intersects<R1: IntShapeResource<I>, A: Allocator + Clone>(
+        &self,
+        alloc: A,
+        other: &R1,
+    ) -> Result<bool, OverlayError> {
+        let mut overlay = PredicateOverlay::from_subj_and_clip(alloc, self, other)?;
+        overlay.point_intersects()
+    }
+
+    fn within<R1: IntShapeResource<I>, A: Allocator + Clone>(
+        &self,
+        alloc: A,
+        other: &R1,
+    ) -> Result<bool, OverlayError> {
+        let mut overlay = PredicateOverlay::from_subj_and_clip(alloc, self, other)?;
+        overlay.within()
+    }
+
+    fn disjoint<R1: IntShapeResource<I>, A: Allocator + Clone>(
+        &self,
+        alloc: A,
+        other: &R1,
+    ) -> Result<bool, OverlayError> {
+        let meets = self.intersects(alloc, other)?;
+        Ok(!meets)
+    }
+
+    fn covers<R1: IntShapeResource<I>, A: Allocator + Clone>(
+        &self,
+        alloc: A,
+        other: &R1,
+    ) -> Result<bool, OverlayError> {
+        let mut exchanged = PredicateOverlay::from_subj_and_clip(alloc, other, self)?;
+        exchanged.within()
+    }
+}

@@ -1,0 +1,57 @@
+//! What a view of a builder shows: a graph, and the options that the builder had.
+
+ghost use Rattle.std.specs.Prelude.{◌≡◌};
+ghost use Rattle.overlay_plane.specs.Balance.{HasBalancedCounts};
+ghost use Rattle.overlay_arrange.specs.Graphs.{graph_edges};
+
+use overlay_arrange::count::EdgeCount;
+use overlay_arrange::graph::Graph;
+use overlay_arrange::options::IntOverlayOptions;
+use overlay_geom::integer::OverlayInt;
+use std::alloc::Allocator;
+use std::marker::Model;
+
+/// The graph of an arrangement at every point of which as many steps enter as leave, of the subject and
+/// of the clip; and the options by which contours are extracted from it.
+#[derive(Drop)]
+pub struct ViewedGraph<I: OverlayInt, C: EdgeCount, A: Allocator> {
+    graph: Graph<I, C, A>,
+    options: IntOverlayOptions<I::WideUInt>,
+}
+
+impl<I: OverlayInt, C: EdgeCount, A: Allocator> Model for ViewedGraph<I, C, A> {
+    ghost use Rattle.overlay_plane.specs.Balance.{HasBalancedCounts};
+    ghost use Rattle.overlay_arrange.specs.Graphs.{graph_edges};
+    ghost use Rattle.i_overlay.specs.Views.{Viewed};
+
+    ghost Value = { Viewed C I.WideUInt };
+
+    ghost view = { λ v. record { graph = v.graph; options = v.options } };
+
+    ghost invariant = { λ v. HasBalancedCounts (graph_edges v.graph) };
+}
+
+impl<I: OverlayInt, C: EdgeCount, A: Allocator> ViewedGraph<I, C, A> {
+    /// The graph, whose counts are balanced, with these options.
+    pub(crate) fn new(graph: Graph<I, C, A>, options: IntOverlayOptions<I::WideUInt>) -> Self
+        requires { HasBalancedCounts (graph_edges graph) }
+        ensures { result ≡ record { graph = graph; options = options } }
+    {
+        ViewedGraph { graph, options }
+    }
+
+    /// The graph.
+    pub(crate) fn graph(&self) -> &Graph<I, C, A>
+        ensures graph { result.now ≡ self.now.graph }
+        ensures balanced { HasBalancedCounts (graph_edges self.now.graph) }
+    {
+        &self.graph
+    }
+
+    /// The options.
+    pub(crate) fn options(&self) -> IntOverlayOptions<I::WideUInt>
+        ensures { result ≡ self.now.options }
+    {
+        self.options
+    }
+}

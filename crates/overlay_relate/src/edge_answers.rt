@@ -1,0 +1,80 @@
+//! Predicates answered from the filled sides of the edges of an arrangement.
+
+ghost use Rattle.std.specs.Prelude.{◌↔◌, ◌⊎◌, IsTrue, IfOk, IsOkUnless};
+ghost use Rattle.overlay_arrange.specs.Graphs.{graph_edges};
+ghost use Rattle.overlay_arrange.specs.Rules.{is_filled};
+ghost use Rattle.overlay_plane.specs.Balance.{HasBalancedCounts};
+ghost use Rattle.overlay_plane.specs.EdgePredicates.{SomeEdge, HasSharedEnd, has_both};
+ghost use Rattle.overlay_relate.specs.EdgeTests.{edge_passes};
+ghost use Rattle.overlay_relate.specs.PredicateQueries.{Holds};
+
+use crate::edge_test::{EdgeTest, some_passes};
+use crate::predicate::Predicate;
+use crate::shared_end::has_shared_end;
+use overlay_arrange::count::EdgeCount;
+use overlay_arrange::graph::Graph;
+use overlay_geom::error::OverlayError;
+use overlay_geom::number::IntNumber;
+use std::alloc::Allocator;
+
+/// Whether the predicate holds of the subject and the clip. The only refusal is `Memory`.
+pub(crate) fn answer<I: IntNumber, C: EdgeCount, A: Allocator + Clone>(
+    graph: &Graph<I, C, A>,
+    predicate: Predicate,
+) -> Result<bool, OverlayError>
+    requires { HasBalancedCounts (graph_edges graph.now) }
+    ensures ok { IfOk result (λ b. IsTrue b
+        ↔ Holds predicate (is_filled graph.now.fill_rule) (graph_edges graph.now)) }
+    ensures err { IsOkUnless result OverlayError.Memory }
+{
+    graph.note_arrangement();
+    match predicate {
+        Predicate::Intersect => meet(graph),
+        Predicate::InteriorsIntersect => Ok(some_edge(graph, EdgeTest::CommonSide)),
+        Predicate::Touch => {
+            if some_edge(graph, EdgeTest::CommonSide) {
+                return Ok(false);
+            }
+            meet(graph)
+        }
+        Predicate::PointIntersect => {
+            if some_edge(graph, EdgeTest::BothShapes) {
+                return Ok(false);
+            }
+            has_shared_end(graph)
+        }
+        Predicate::Within => {
+            if some_edge(graph, EdgeTest::SubjectOutside) {
+                return Ok(false);
+            }
+            Ok(some_edge(graph, EdgeTest::SubjectSide))
+        }
+    }
+}
+
+// Whether some edge has sides of both shapes, or their borders share an end.
+fn meet<I: IntNumber, C: EdgeCount, A: Allocator + Clone>(
+    graph: &Graph<I, C, A>,
+) -> Result<bool, OverlayError>
+    ensures ok { let es = graph_edges graph.now in
+        let filled = is_filled graph.now.fill_rule in
+        IfOk result (λ b. IsTrue b ↔ (SomeEdge (has_both filled es) es ⊎ HasSharedEnd filled es)) }
+    ensures err { IsOkUnless result OverlayError.Memory }
+{
+    let is_met = some_edge(graph, EdgeTest::BothShapes);
+    if is_met {
+        return Ok(true);
+    }
+    has_shared_end(graph)
+}
+
+// Whether some edge passes the test.
+fn some_edge<I: IntNumber, C: EdgeCount, A: Allocator + Clone>(
+    graph: &Graph<I, C, A>,
+    test: EdgeTest,
+) -> bool
+    ensures { let es = graph_edges graph.now in
+        IsTrue result ↔ SomeEdge (edge_passes test (is_filled graph.now.fill_rule) es) es }
+{
+    some_passes(graph.edges(), test)
+}

@@ -1,0 +1,47 @@
+//! How the predicates of one arrangement hang together, and what they have to do with overlays.
+
+ghost use Rattle.overlay_relate.specs.PredicateLaws.{TouchesIsIntersectsAlone, PointIntersectsTouches};
+ghost use Rattle.overlay_relate.specs.PredicateLaws.{WithinInteriorsIntersect, EmptyIsWithinNothing};
+ghost use Rattle.overlay_relate.specs.PredicateLaws.{DisjointIsNoIntersection, CoversIsWithinExchanged};
+ghost use Rattle.overlay_relate.specs.PredicateLaws.{RegionsTellPredicates, NothingHoldsWithoutEdges};
+
+/// Shapes touch exactly where they intersect and their interiors do not.
+pub fn touches_is_intersects_alone()
+    ensures { TouchesIsIntersectsAlone }
+{}
+
+/// Of an arrangement with balanced counts, shapes that meet in single points alone touch.
+pub fn point_intersects_touches()
+    ensures { PointIntersectsTouches }
+{}
+
+/// Where the subject lies within the clip, the interiors intersect.
+pub fn within_interiors_intersect()
+    ensures { WithinInteriorsIntersect }
+{}
+
+/// A subject that fills no point off the edges lies within nothing.
+pub fn empty_is_within_nothing()
+    ensures { EmptyIsWithinNothing }
+{}
+
+/// Shapes are disjoint exactly where they do not intersect.
+pub fn disjoint_is_no_intersection()
+    ensures { DisjointIsNoIntersection }
+{}
+
+/// The subject covers the clip exactly where, with the two exchanged, the subject lies within the clip.
+pub fn covers_is_within_exchanged()
+    ensures { CoversIsWithinExchanged }
+{}
+
+/// The interiors intersect exactly where the region of `Intersect` has a point off the edges, and the
+/// subject lies within the clip exactly where that of `Subject` has one and that of `Difference` none.
+pub fn regions_tell_predicates()
+    ensures { RegionsTellPredicates }
+{}
+
+/// Without edges no predicate holds.
+pub fn nothing_holds_without_edges()
+    ensures { NothingHoldsWithoutEdges }
+{}

@@ -1,0 +1,117 @@
+-- The groups that are outlines, and the steps of those that are holes: they alternate, each stands once, and each is
+-- long.
+use Rattle.std.proofs.Common.{◌≡◌, Bool, not, ℤ, ℕ, List, [], ◌∷◌, ◌++◌, filter, All, Contains, Vec, refl, ap, ◌∙◌}
+use Rattle.std.specs.List.{AllZip, flat_map}
+use Rattle.std.proofs.lemmas.List.{map-append}
+use Rattle.std.proofs.lemmas.List.Elements.{All-contains}
+use Rattle.overlay_geom.specs.Plane.{Step}
+use Rattle.overlay_geom.proofs.Mapped.{map-filter}
+use Rattle.overlay_plane.specs.Turn.{Hand}
+use Rattle.overlay_plane.specs.Alternates.{Alternates}
+use Rattle.overlay_plane.specs.BesideOrbits.{HasEachOnce}
+use Rattle.overlay_plane.specs.Binding.{is_hole}
+use Rattle.overlay_plane.specs.Contours.{filled_hand, IsCutInto, alternating, all_steps}
+use Rattle.overlay_plane.specs.RoledContours.{Contour, IsCutInGroups}
+use Rattle.overlay_plane.proofs.BalancedSteps.{orbits_have_each_once}
+use Rattle.overlay_plane.proofs.CutWalks.{cuts_take_each_once}
+use Rattle.overlay_plane.proofs.Entries.{all_of_entries, Contains-from_filter}
+use Rattle.overlay_plane.proofs.GroupSteps.{orbit_inside, orbit_alternates}
+use Rattle.overlay_plane.proofs.InsideOneGroup.{group_of, passing_inside, passing_alternate}
+use Rattle.overlay_plane.proofs.KeptWalks.{kept_in_relation}
+use Rattle.overlay_plane.proofs.LaterEntries.{Each-from_all_pairs, AllPairs-from_each}
+use Rattle.overlay_plane.proofs.NextSteps.{alternating_steps_lead_on}
+use Rattle.overlay_plane.proofs.ShuffledCuts.{HaveSame, cut_alike}
+use Rattle.overlay_plane.proofs.ShuffledPairs.{once_shuffled}
+use Rattle.overlay_plane.proofs.ShuffledSteps.{Differ}
+use Rattle.overlay_walk.specs.declared.step.Step.{Step as StepTaken}
+use Rattle.overlay_walk.specs.GroupedContours.{plain_groups}
+use Rattle.overlay_walk.specs.Steps.{plain_step, plain_steps, IsLong}
+use Rattle.overlay_walk.specs.Walks.{plain_walks}
+
+module _ {I A : Type 0} (whole : I → ℤ) where
+  -- groups with the walks that they are cut into, as whole numbers
+  pub cut_plain : (hand_of : Step → Hand) (gs : List (Vec (StepTaken I) A)) (cut : List (Vec (Vec (StepTaken I) A) A)) →
+      AllZip (λ g ws. IsCutInto hand_of (plain_steps whole g.items) (plain_walks whole ws.items)) gs cut →
+      AllZip (λ g ws. IsCutInto hand_of g ws) (plain_walks whole gs) (plain_groups whole cut)
+  cut_plain hand_of [] [] each = tt
+  cut_plain hand_of [] (ws ∷ cut) each = absurd each
+  cut_plain hand_of (g ∷ gs) [] each = absurd each
+  cut_plain hand_of (g ∷ gs) (ws ∷ cut) each = (each.0, cut_plain hand_of gs cut each.1)
+
+  -- the steps of groups
+  steps_plain : (gs : List (Vec (StepTaken I) A)) →
+      plain_steps whole (flat_map (λ (g : Vec (StepTaken I) A). g.items) gs) ≡ all_steps (plain_walks whole gs)
+  steps_plain [] = refl
+  steps_plain (g ∷ gs) = map-append (plain_step whole) g.items (flat_map (λ (h : Vec (StepTaken I) A). h.items) gs)
+      ∙ ap (λ ss. plain_steps whole g.items ++ ss) (steps_plain gs)
+
+  module _ (on_left : Bool) (groups : List (Vec (StepTaken I) A)) where
+    -- the outlines among them
+    pub outlines_plain : (gs : List (Vec (StepTaken I) A)) →
+        gs ≡ filter (λ g. not (is_hole on_left (plain_steps whole g.items))) groups →
+        plain_walks whole gs ≡ filter (λ g. not (is_hole on_left g)) (plain_walks whole groups)
+    outlines_plain gs are = ap (plain_walks whole) are
+        ∙ map-filter (λ (g : Vec (StepTaken I) A). plain_steps whole g.items) (λ g. not (is_hole on_left g)) groups
+
+    -- and the steps of the others
+    pub holes_plain : (ss : List (StepTaken I)) →
+        ss ≡ flat_map (λ g. g.items) (filter (λ (g : Vec (StepTaken I) A). is_hole on_left (plain_steps whole g.items))
+        groups) →
+        plain_steps whole ss ≡ all_steps (filter (is_hole on_left) (plain_walks whole groups))
+    holes_plain ss are = ap (plain_steps whole) are
+        ∙ steps_plain (filter (λ g. is_hole on_left (plain_steps whole g.items)) groups)
+        ∙ ap all_steps (map-filter (λ (g : Vec (StepTaken I) A). plain_steps whole g.items) (is_hole on_left) groups)
+
+-- what is known of the steps
+pub record AreGood (limit : ℕ) (steps : List Step) : Type 0 where
+  pub alternate : Alternates steps
+  pub once : HasEachOnce steps
+  pub long : All (IsLong limit) steps
+
+module _ (limit : ℕ) (steps : List Step) (good : AreGood limit steps) (on_left : Bool) (groups : List (List Step))
+    (grouped : IsCutInto (λ s. filled_hand on_left) steps groups) where
+  -- is known of each group
+  group_good : (g : List Step) → Contains groups g → AreGood limit g
+  group_good g c =
+      let own = group_of steps good.alternate on_left groups grouped g c in
+      record {
+        alternate = orbit_alternates steps good.alternate (filled_hand on_left) g own.orbit;
+        once = orbits_have_each_once steps (filled_hand on_left)
+            (alternating_steps_lead_on steps good.alternate (filled_hand on_left)) g own.orbit;
+        long = all_of_entries (IsLong limit) g
+            (λ s d. All-contains (IsLong limit) steps s good.long
+            (orbit_inside steps good.alternate (filled_hand on_left) g own.orbit s d));
+      }
+
+  -- so of those that are outlines
+  pub outlines_good : All (AreGood limit) (filter (λ g. not (is_hole on_left g)) groups)
+  outlines_good = all_of_entries (AreGood limit) (filter (λ g. not (is_hole on_left g)) groups)
+      (λ g c. group_good g (Contains-from_filter (λ h. not (is_hole on_left h)) groups g c).0)
+
+  -- and of the steps of all others
+  pub holes_good : AreGood limit (all_steps (filter (is_hole on_left) groups))
+  holes_good = record {
+    alternate = passing_alternate steps good.alternate on_left groups grouped (is_hole on_left);
+    once = AllPairs-from_each Differ (all_steps (filter (is_hole on_left) groups))
+        (kept_in_relation Differ (is_hole on_left) groups
+        (Each-from_all_pairs Differ (all_steps groups) (once_shuffled steps (all_steps groups)
+        (cuts_take_each_once (λ s. filled_hand on_left) steps (alternating good.alternate) good.once groups grouped)
+        good.once)));
+    long = all_of_entries (IsLong limit) (all_steps (filter (is_hole on_left) groups))
+        (λ s d. All-contains (IsLong limit) steps s good.long
+        (passing_inside steps good.alternate on_left groups grouped (is_hole on_left) s d));
+  }
+
+-- the same steps in another order are cut with groups into the same contours
+pub grouped_alike : (on_left : Bool) (keeps : List Step → Bool) (xs ys : List Step) → HaveSame xs ys →
+    (contours : List Contour) →
+    IsCutInGroups on_left keeps xs contours → IsCutInGroups on_left keeps ys contours
+grouped_alike on_left keeps xs ys same contours cut = record {
+  groups = cut.groups;
+  grouped = cut_alike (λ s. filled_hand on_left) xs ys same cut.groups cut.grouped;
+  inside = cut.inside;
+  cut_inside = cut.cut_inside;
+  others = cut.others;
+  cut_others = cut.cut_others;
+  are = cut.are;
+}

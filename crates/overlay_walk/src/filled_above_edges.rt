@@ -1,0 +1,79 @@
+//! The filled-above edges of walks.
+
+ghost use Rattle.std.specs.Prelude.{◌≡◌, ◌++◌, false, All, AllPairs, IfOk, OnOk, IsOkUnless};
+ghost use Rattle.std.specs.Prelude.{map};
+ghost use Rattle.overlay_geom.specs.Plane.{edge_eq};
+ghost use Rattle.overlay_plane.specs.Binding.{all_filled_above};
+ghost use Rattle.overlay_walk.specs.Steps.{plain_steps, is_on_left, IsLong};
+ghost use Rattle.overlay_walk.specs.WalkEdges.{numbered_entries, filled_entries};
+ghost use Rattle.overlay_walk.specs.WalkEdges.{IsFilledEntry, AreFilledEntries};
+ghost use Rattle.overlay_walk.specs.Walks.{plain_walks};
+
+use crate::by_anchor::sort_by_anchor;
+use crate::filled::{edge_along, is_filled_above};
+use crate::numbered_edge::NumberedEdge;
+use crate::step::Step;
+use overlay_arrange::options::ContourDirection;
+use overlay_geom::error::OverlayError;
+use overlay_geom::number::IntNumber;
+use std::alloc::Allocator;
+
+/// The filled-above edges of all walks, in the order of their smaller ends, each with the index of its
+/// walk. The only refusal is `Memory`.
+pub fn filled_above_edges<I: IntNumber, A: Allocator>(
+    alloc: A,
+    walks: &[Vec<Step<I>, A>],
+    direction: ContourDirection,
+) -> Result<Vec<NumberedEdge<I>, A>, OverlayError>
+    requires long { All (All (IsLong I.limit)) (plain_walks I.whole walks.now) }
+    requires distinct { AllPairs (λ e f. edge_eq e f ≡ false)
+        (all_filled_above (is_on_left direction) (plain_walks I.whole walks.now)) }
+    ensures ok { IfOk result (λ v. AreFilledEntries (is_on_left direction) (plain_walks I.whole walks.now)
+        (numbered_entries I.whole v.items)) }
+    ensures err { IsOkUnless result OverlayError.Memory }
+{
+    let mut edges = edges_walk_by_walk(alloc, walks, direction)?;
+    sort_by_anchor(&mut edges)?;
+    Ok(edges)
+}
+
+/// The same, walk by walk.
+fn edges_walk_by_walk<I: IntNumber, A: Allocator>(
+    alloc: A,
+    walks: &[Vec<Step<I>, A>],
+    direction: ContourDirection,
+) -> Result<Vec<NumberedEdge<I>, A>, OverlayError>
+    requires long { All (All (IsLong I.limit)) (plain_walks I.whole walks.now) }
+    ensures edges { IfOk result (λ v. map (λ f. f.edge) (numbered_entries I.whole v.items)
+        ≡ all_filled_above (is_on_left direction) (plain_walks I.whole walks.now)) }
+    ensures from { IfOk result (λ v. All (IsFilledEntry (is_on_left direction) (plain_walks I.whole walks.now))
+        (numbered_entries I.whole v.items)) }
+    ensures err { IsOkUnless result OverlayError.Memory }
+{
+    let mut edges = Vec::new(alloc);
+    for i in 0..walks.len() {
+        push_filled(&mut edges, &walks[i], i, direction)?;
+    }
+    Ok(edges)
+}
+
+/// Adds the filled-above edges of a walk with this index.
+fn push_filled<I: IntNumber, A: Allocator>(
+    edges: &mut Vec<NumberedEdge<I>, A>,
+    walk: &[Step<I>],
+    index: usize,
+    direction: ContourDirection,
+) -> Result<(), OverlayError>
+    requires { All (IsLong I.limit) (plain_steps I.whole walk.now) }
+    ensures ok { OnOk result (numbered_entries I.whole edges.new.items
+        ≡ numbered_entries I.whole edges.old.items ++ filled_entries (is_on_left direction) index
+        (plain_steps I.whole walk.now)) }
+    ensures err { IsOkUnless result OverlayError.Memory }
+{
+    for step in walk {
+        if is_filled_above(step, direction) {
+            edges.push(edge_along(step, index))?;
+        }
+    }
+    Ok(())
+}

@@ -1,0 +1,122 @@
+//! The cut with groups: the orbits by the hand of the filled side are groups, and what is cut of them once
+//! more, by the hand of the empty side, are contours that visit no point twice.
+
+ghost use Rattle.std.specs.Prelude.{◌≡◌, not, filter, All, IfOk, IsOkUnless};
+ghost use Rattle.std.specs.List.{AllZip, flat_map};
+ghost use Rattle.overlay_plane.specs.Alternates.{Alternates};
+ghost use Rattle.overlay_plane.specs.BesideOrbits.{HasEachOnce};
+ghost use Rattle.overlay_plane.specs.Binding.{is_hole};
+ghost use Rattle.overlay_plane.specs.Contours.{IsCutInto};
+ghost use Rattle.overlay_plane.specs.MinimumArea.{reaches};
+ghost use Rattle.overlay_plane.specs.RoledContours.{IsCutInGroups};
+ghost use Rattle.overlay_walk.specs.Steps.{is_on_left, plain_hand, plain_steps, IsLong};
+ghost use Rattle.overlay_walk.specs.Walks.{plain_walks};
+ghost use Rattle.overlay_walk.specs.GroupedContours.{plain_contours};
+
+use crate::area::large_walks;
+use crate::contour::Contour;
+use crate::contours::{cut_into_contours, empty_hand, filled_hand};
+use crate::filled::is_hole;
+use crate::group_contours::{group_contours, push_free_holes};
+use crate::hand::{Hand, HandRule};
+use crate::open_steps::OpenSteps;
+use crate::step::Step;
+use overlay_arrange::options::ContourDirection;
+use overlay_geom::error::OverlayError;
+use overlay_geom::number::{IntNumber, UIntNumber, WideIntNumber};
+use std::alloc::Allocator;
+
+/// Walks all steps left, in groups: orbits by the hand of the filled side, which is the left one where the
+/// direction is counterclockwise. A group that begins with an edge that is filled below is an outline's: it is
+/// walked again by the hand of the empty side, from the same start, and what is left of it are holes of that
+/// shape. The steps of all other groups together are walked by that hand last, and their walks are holes whose
+/// shape is still to be found. Of the contours those are given that have three points or more and reach the
+/// minimum area, a hole of an outline's group only with its outline. The steps alternate round every node.
+/// The only refusal is `Memory`, after which the steps left are open.
+pub fn cut_in_groups<I: IntNumber, A: Allocator + Clone>(
+    alloc: A,
+    steps: &mut OpenSteps<I, A>,
+    direction: ContourDirection,
+    min_output_area: I::WideUInt,
+) -> Result<Vec<Contour<I, A>, A>, OverlayError>
+    requires alternate { Alternates (plain_steps I.whole steps.old) }
+    requires once { HasEachOnce (plain_steps I.whole steps.old) }
+    requires long { All (IsLong I.limit) (plain_steps I.whole steps.old) }
+    ensures cut { IfOk result (λ cs. IsCutInGroups (is_on_left direction)
+        (λ w. reaches I.Wide.width (I.WideUInt.natural min_output_area) w) (plain_steps I.whole steps.old)
+        (plain_contours I.whole cs.items)) }
+    ensures err { IsOkUnless result OverlayError.Memory }
+{
+    let rule = HandRule::Always(filled_hand(direction));
+    let groups = cut_into_contours(alloc.clone()?, steps, rule)?;
+    let (outline_groups, hole_steps) = split_groups(alloc.clone()?, groups, direction)?;
+    let empty = empty_hand(direction);
+    let inside = cut_each(alloc.clone()?, outline_groups, empty)?;
+    let others = cut_again(alloc.clone()?, hole_steps, empty)?;
+    let mut contours = group_contours(alloc.clone()?, inside, min_output_area)?;
+    push_free_holes(&mut contours, large_walks(alloc, others, min_output_area)?)?;
+    Ok(contours)
+}
+
+// The groups that are outlines, and the steps of all groups that are holes.
+fn split_groups<I: IntNumber, A: Allocator + Clone>(
+    alloc: A,
+    groups: Vec<Vec<Step<I>, A>, A>,
+    direction: ContourDirection,
+) -> Result<(Vec<Vec<Step<I>, A>, A>, Vec<Step<I>, A>), OverlayError>
+    ensures outlines { IfOk result (λ r. r.0.items
+        ≡ filter (λ g. not (is_hole (is_on_left direction) (plain_steps I.whole g.items))) groups.items) }
+    ensures holes { IfOk result (λ r. r.1.items ≡ flat_map (λ g. g.items)
+        (filter (λ g. is_hole (is_on_left direction) (plain_steps I.whole g.items)) groups.items)) }
+    ensures err { IsOkUnless result OverlayError.Memory }
+{
+    let mut outline_groups = Vec::new(alloc.clone()?);
+    let mut hole_steps = Vec::new(alloc);
+    for group in groups {
+        if is_hole(&group, direction) {
+            hole_steps.extend_from_slice(&group)?;
+        } else {
+            outline_groups.push(group)?;
+        }
+    }
+    Ok((outline_groups, hole_steps))
+}
+
+// The walks of each group by a hand.
+fn cut_each<I: IntNumber, A: Allocator + Clone>(
+    alloc: A,
+    groups: Vec<Vec<Step<I>, A>, A>,
+    hand: Hand,
+) -> Result<Vec<Vec<Vec<Step<I>, A>, A>, A>, OverlayError>
+    requires alternate { All Alternates (plain_walks I.whole groups.items) }
+    requires once { All HasEachOnce (plain_walks I.whole groups.items) }
+    requires long { All (All (IsLong I.limit)) (plain_walks I.whole groups.items) }
+    ensures cut { IfOk result (λ r. AllZip (λ g ws. IsCutInto (λ s. plain_hand hand) (plain_steps I.whole g.items)
+        (plain_walks I.whole ws.items)) groups.items r.items) }
+    ensures long { IfOk result (λ r. All (λ ws. All (All (IsLong I.limit)) (plain_walks I.whole ws.items)) r.items) }
+    ensures err { IsOkUnless result OverlayError.Memory }
+{
+    let mut cut = Vec::new(alloc.clone()?);
+    for group in groups {
+        cut.push(cut_again(alloc.clone()?, group, hand)?)?;
+    }
+    Ok(cut)
+}
+
+// The walks of steps by a hand.
+fn cut_again<I: IntNumber, A: Allocator + Clone>(
+    alloc: A,
+    steps: Vec<Step<I>, A>,
+    hand: Hand,
+) -> Result<Vec<Vec<Step<I>, A>, A>, OverlayError>
+    requires alternate { Alternates (plain_steps I.whole steps.items) }
+    requires once { HasEachOnce (plain_steps I.whole steps.items) }
+    requires long { All (IsLong I.limit) (plain_steps I.whole steps.items) }
+    ensures cut { IfOk result (λ ws. IsCutInto (λ s. plain_hand hand) (plain_steps I.whole steps.items)
+        (plain_walks I.whole ws.items)) }
+    ensures long { IfOk result (λ ws. All (All (IsLong I.limit)) (plain_walks I.whole ws.items)) }
+    ensures err { IsOkUnless result OverlayError.Memory }
+{
+    let mut open = OpenSteps::new(steps)?;
+    cut_into_contours(alloc, &mut open, HandRule::Always(hand))
+}
