@@ -73,10 +73,10 @@ fn pieces_have_the_colour(rt: HostRuntime) {
     let mut store = u8::default();
     let edge = coloured(1, -4, Colour::Red);
     let piece = edge.count.split(&mut store);
-    let turned = piece.reversed(&mut store);
-    assert_eq!(rt; turned.count, ShapeCountBoolean { subj: -1, clip: 4 });
-    assert_eq!(rt; turned.edge_data, Colour::Red);
-    assert_eq!(rt; turned.subj(), -1);
-    assert_eq!(rt; turned.clip(), 4);
-    assert!(rt; !turned.is_nothing());
+    let reversed = piece.reversed(&mut store);
+    assert_eq!(rt; reversed.count, ShapeCountBoolean { subj: -1, clip: 4 });
+    assert_eq!(rt; reversed.edge_data, Colour::Red);
+    assert_eq!(rt; reversed.subj(), -1);
+    assert_eq!(rt; reversed.clip(), 4);
+    assert!(rt; !reversed.is_nothing());
 }

@@ -1,4 +1,4 @@
-//! String counts: what is merged, turned round and weighed.
+//! String counts: what is merged, reversed and weighed.
 
 use overlay_arrange::count::EdgeCount;
 use overlay_arrange::string_count::{STRING_AGAINST, STRING_ALONG, ShapeCountString};
@@ -23,11 +23,11 @@ fn directions_are_joined(rt: HostRuntime) {
 
 #[test]
 fn directions_are_exchanged(rt: HostRuntime) {
-    for (clip, turned) in [(0, 0), (1, 2), (2, 1), (3, 3), (4, 0), (253, 2)] {
+    for (clip, exchanged) in [(0, 0), (1, 2), (2, 1), (3, 3), (4, 0), (253, 2)] {
         let count = ShapeCountString { subj: 5, clip };
         let reversed = count.reversed(&mut ());
         assert_eq!(rt; reversed.subj, -5);
-        assert_eq!(rt; reversed.clip, turned, "at {clip}");
+        assert_eq!(rt; reversed.clip, exchanged, "at {clip}");
     }
 }
 

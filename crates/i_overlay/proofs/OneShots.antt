@@ -16,7 +16,7 @@ use Rattle.overlay_arrange.specs.declared.options.ContourDirection.TheVariants.{
 use Rattle.overlay_arrange.specs.declared.options.IntOverlayOptions.{IntOverlayOptions}
 use Rattle.overlay_builder.specs.Held.{Held, AnswersQuery}
 use Rattle.i_overlay.specs.OneShot.{asked_by_default, IsResultOfPaths, MayRefusePaths}
-use Rattle.i_overlay.specs.Overlay.{Asked, asked, IsResult}
+use Rattle.overlay_extract.specs.Results.{Asked, asked, IsResult}
 use Rattle.overlay_builder.specs.GivenPaths.{GivenPath, HoldsPaths}
 
 -- what the default options ask for

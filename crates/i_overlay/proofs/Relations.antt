@@ -21,6 +21,12 @@ answer_of_paths (Ok b) relation fill paths content edges holds arranged tells =
 answer_of_paths (Err e) relation fill paths content edges holds arranged tells = tt
 
 -- where one answer tells whether the shapes intersect, the opposite one tells whether they are disjoint
+pub opposite_tells : (filled : ℤ → Bool) (edges : List CountedEdge) (meets : Bool) →
+    (IsTrue meets ↔ Intersects filled edges)
+    → IsTrue (not meets) ↔ IsDisjoint filled edges
+opposite_tells filled edges true tells = ((λ t. absurd (false≢true t)), (λ none. absurd (none (tells.0 refl))))
+opposite_tells filled edges false tells = ((λ t. λ meets. false≢true (tells.1 meets)), (λ none. refl))
+
 pub disjoint_of_paths : (fill : FillRule) (paths : List GivenPath) (meets : Bool) →
     TellsOfPaths Intersects fill paths meets →
     TellsOfPaths IsDisjoint fill paths (not meets)
@@ -29,10 +35,5 @@ disjoint_of_paths fill paths meets h = record {
   edges = h.edges;
   holds = h.holds;
   arranged = h.arranged;
-  tells = opposite meets h.tells;
+  tells = opposite_tells (is_filled fill) h.edges meets h.tells;
 }
-  where
-    opposite : (b : Bool) → (IsTrue b ↔ Intersects (is_filled fill) h.edges) →
-        IsTrue (not b) ↔ IsDisjoint (is_filled fill) h.edges
-    opposite true tells = ((λ t. absurd (false≢true t)), (λ none. absurd (none (tells.0 refl))))
-    opposite false tells = ((λ t. λ meets. false≢true (tells.1 meets)), (λ none. refl))

@@ -14,7 +14,11 @@ abbrev at : ℕ → ℕ → Point
 at x y = record { x = pos x; y = pos y }
 
 abbrev passed : Point → Point → ℤ → ℤ → CountedEdge
-passed a b subj clip = record { a = a; b = b; subj = subj; clip = clip; along = false; against = false }
+passed a b subj clip = record {
+  a = a;
+  b = b;
+  counts = record { subj = subj; clip = clip; along = false; against = false };
+}
 
 abbrev corners : List Point
 corners = at 0 0 ∷ at 2 0 ∷ at 2 2 ∷ at 0 2 ∷ []

@@ -10,7 +10,7 @@ use Rattle.overlay_arrange.specs.declared.fill_rule.FillRule.{FillRule}
 use Rattle.overlay_arrange.specs.declared.overlay_rule.OverlayRule.{OverlayRule}
 use Rattle.overlay_arrange.specs.declared.options.ContourDirection.TheVariants.{CounterClockwise}
 use Rattle.overlay_builder.specs.GivenPaths.{SomePathWeighsTooMuch, GivenPath, HoldsPaths}
-use Rattle.i_overlay.specs.Overlay.{Asked, IsResult}
+use Rattle.overlay_extract.specs.Results.{Asked, IsResult}
 
 -- what rules ask for with the default options
 abbrev pub asked_by_default : Width → FillRule → OverlayRule → Asked

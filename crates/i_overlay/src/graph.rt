@@ -5,14 +5,14 @@ ghost use Rattle.overlay_geom.specs.Flat.{paths_in};
 ghost use Rattle.overlay_geom.specs.Packed.{IsPacked};
 ghost use Rattle.overlay_geom.specs.Paths.{plain_shapes};
 ghost use Rattle.overlay_arrange.specs.Vectors.{plain_vector, vector_of};
-ghost use Rattle.i_overlay.specs.Overlay.{asked, IsResult, IsContoursResult};
+ghost use Rattle.overlay_extract.specs.Results.{asked, IsResult, IsContoursResult};
 ghost use Rattle.i_overlay.specs.Views.{viewed_edges};
 
-use crate::extract::{extract_contours, extract_shapes};
 use crate::viewed_graph::ViewedGraph;
 use overlay_arrange::data::{CountWithData, OverlayEdgeData};
 use overlay_arrange::overlay_rule::OverlayRule;
 use overlay_arrange::vector::DataVectorEdge;
+use overlay_extract::extract::{extract_contours, extract_shapes};
 use overlay_geom::error::OverlayError;
 use overlay_geom::flat::contours::FlatContoursBuffer;
 use overlay_geom::integer::OverlayInt;

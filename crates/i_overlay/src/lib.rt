@@ -5,7 +5,6 @@
 //! resources lie to each other.
 #![tactic(auto)]
 
-mod assemble;
 pub mod edge_data;
 pub mod error;
 pub mod extract;
@@ -14,7 +13,6 @@ pub mod graph;
 pub mod i_float;
 pub mod i_shape;
 pub mod integer;
-pub mod laws;
 pub mod overlay;
 pub mod overlay_rule;
 pub mod point_location;

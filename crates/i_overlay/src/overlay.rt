@@ -12,9 +12,8 @@ ghost use Rattle.overlay_geom.specs.Settled.{IsSettled};
 ghost use Rattle.overlay_plane.specs.Meetings.{MeetInWholePoints};
 ghost use Rattle.overlay_builder.specs.Held.{AnswersQuery};
 ghost use Rattle.i_overlay.specs.Builder.{held_by};
-ghost use Rattle.i_overlay.specs.Overlay.{asked, IsResult, IsContoursResult};
+ghost use Rattle.overlay_extract.specs.Results.{asked, IsResult, IsContoursResult};
 
-use crate::extract::{emptied, extract_contours, extract_shapes};
 use crate::solver::Solver;
 use crate::viewed_graph::ViewedGraph;
 use overlay_arrange::data::CountWithData;
@@ -23,6 +22,7 @@ use overlay_arrange::graph::Graph;
 use overlay_arrange::overlay_rule::OverlayRule;
 use overlay_arrange::vector::DataVectorEdge;
 use overlay_builder::builder_core::BuilderCore;
+use overlay_extract::extract::{emptied, extract_contours, extract_shapes};
 use overlay_geom::error::OverlayError;
 use overlay_geom::flat::contours::FlatContoursBuffer;
 use overlay_geom::integer::OverlayInt;

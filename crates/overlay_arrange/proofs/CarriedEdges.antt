@@ -1,9 +1,9 @@
 -- Held edges with what they carry, and their counted edges alone.
 use Rattle.std.proofs.Common.{◌≡◌, ℤ, List, sym, ap, ◌∙◌}
 use Rattle.std.proofs.lemmas.Simd.{map-map}
+use Rattle.overlay_geom.specs.Counts.{Counts}
 use Rattle.overlay_plane.specs.Carried.{Carried, edges_in}
 use Rattle.overlay_arrange.specs.Content.{carried_edges, plain_edges}
-use Rattle.overlay_arrange.specs.Counts.{Counts}
 use Rattle.overlay_arrange.specs.declared.edge.CountedEdge.{CountedEdge as HeldEdge}
 
 -- the counted edges of held ones are their plain edges

@@ -4,6 +4,7 @@ use Rattle.std.proofs.Common.{subst, ◌∙◌, append_assoc, append-nil}
 use Rattle.std.specs.Prelude.{IsTrue, MatchBool, ◌↔◌}
 use Rattle.std.specs.declared.cmp.Ordering.TheVariants.{Less, Equal, Greater}
 use Rattle.std.proofs.lemmas.Bool.{false≢true}
+use Rattle.overlay_geom.specs.Counts.{Counts, reversed_counts}
 use Rattle.overlay_geom.specs.Plane.{Point, Step, point_eq, point_lt, steps_between, steps_through}
 use Rattle.overlay_geom.specs.Edges.{CountedEdge}
 use Rattle.overlay_plane.specs.Carried.{Carried}
@@ -11,7 +12,6 @@ use Rattle.overlay_plane.specs.Cutting.{piece_along}
 use Rattle.overlay_plane.specs.DerivedData.{AreGiven, none, ArePieces, GivesPiece, computed_chain}
 use Rattle.overlay_plane.proofs.DerivedLists.{given_both, given_one, given_weaker}
 use Rattle.overlay_arrange.specs.Content.{edge_with, point_cmp}
-use Rattle.overlay_arrange.specs.Counts.{Counts, reversed_counts}
 use Rattle.overlay_arrange.specs.Cut.{AddsGiven, StaysWhole}
 use Rattle.overlay_arrange.proofs.Pieces.{back_where_greater, on_where_less, same_where_equal, piece_back, piece_forth}
 

@@ -1,7 +1,7 @@
 -- The ends of edges with their counts cancel out where the edges' counts are balanced.
-use Rattle.std.proofs.Common.{◌≡◌, ℕ, ◌*◌, ◌^◌, ◌<◌, ◌≤◌, Bool, false, ℤ, pos, negsuc, neg_ℤ, ◌+ℤ◌, ◌-ℤ◌, ◌*ℤ◌, List}
-use Rattle.std.proofs.Common.{[], ◌∷◌, refl, sym, ◌∙◌, arith}
-use Rattle.std.specs.Prelude.{nat_abs, sum_by}
+use Rattle.std.proofs.Common.{◌≡◌, ◌*◌, ◌^◌, ◌<◌, ◌≤◌, Bool, false, ℤ, pos, neg_ℤ, ◌+ℤ◌, ◌-ℤ◌, ◌*ℤ◌, List}
+use Rattle.std.proofs.Common.{[], ◌∷◌, sym, ◌∙◌, arith}
+use Rattle.std.specs.Prelude.{sum_by}
 use Rattle.std.specs.Cmp.{IsStrictWeakOrder}
 use Rattle.std.specs.List.Sorted.{IsPermutation, IsSortedBy}
 use Rattle.std.proofs.lemmas.List.Sorted.{sorted_far, sum_by-IsPermutation}
@@ -16,6 +16,7 @@ use Rattle.overlay_geom.proofs.Totals.{total-IsPermutation}
 use Rattle.overlay_geom.proofs.Weights.{weight-cons}
 use Rattle.overlay_plane.specs.Balance.{HasBalancedCounts}
 use Rattle.overlay_plane.proofs.JoinedLists.{total-flat_map}
+use Rattle.overlay_plane.proofs.PieceCounts.{weight_reversed}
 use Rattle.overlay_plane.proofs.Totals.{total-same}
 use Rattle.overlay_arrange.specs.Ends.{CountedEnd, plain_end, plain_ends, counted_ends, all_counted_ends, end_weight}
 use Rattle.overlay_arrange.specs.Ends.{AreSummable, CancelOut}
@@ -28,22 +29,16 @@ risen c u v = solve 3 (λ c u v. ⊝ c ⊗ u ⊕ (c ⊗ v ⊕ number (pos 0)) �
 
 module _ (es : List CountedEdge) (g : Point → ℤ) where
   subj_sums : total (λ (n : CountedEnd). n.subj *ℤ g n.point) (all_counted_ends es) ≡ total
-      (λ (e : CountedEdge). e.subj *ℤ (g e.b -ℤ g e.a)) es
+      (λ (e : CountedEdge). e.counts.subj *ℤ (g e.b -ℤ g e.a)) es
   subj_sums = total-flat_map (λ (n : CountedEnd). n.subj *ℤ g n.point) counted_ends es
       ∙ total-same (λ e. total (λ (n : CountedEnd). n.subj *ℤ g n.point) (counted_ends e))
-      (λ e. e.subj *ℤ (g e.b -ℤ g e.a)) es (λ e c. risen e.subj (g e.a) (g e.b))
+      (λ e. e.counts.subj *ℤ (g e.b -ℤ g e.a)) es (λ e c. risen e.counts.subj (g e.a) (g e.b))
 
   clip_sums : total (λ (n : CountedEnd). n.clip *ℤ g n.point) (all_counted_ends es) ≡ total
-      (λ (e : CountedEdge). e.clip *ℤ (g e.b -ℤ g e.a)) es
+      (λ (e : CountedEdge). e.counts.clip *ℤ (g e.b -ℤ g e.a)) es
   clip_sums = total-flat_map (λ (n : CountedEnd). n.clip *ℤ g n.point) counted_ends es
       ∙ total-same (λ e. total (λ (n : CountedEnd). n.clip *ℤ g n.point) (counted_ends e))
-      (λ e. e.clip *ℤ (g e.b -ℤ g e.a)) es (λ e c. risen e.clip (g e.a) (g e.b))
-
--- the weight of a count does not ask for its sign
-weight_reversed : (z : ℤ) → nat_abs (neg_ℤ z) ≡ nat_abs z
-weight_reversed (pos ℕ.zero) = refl
-weight_reversed (pos (ℕ.suc n)) = refl
-weight_reversed (negsuc n) = refl
+      (λ e. e.counts.clip *ℤ (g e.b -ℤ g e.a)) es (λ e c. risen e.counts.clip (g e.a) (g e.b))
 
 -- the ends weigh at most twice what the edges do
 ends_light : (es : List CountedEdge) → sum_by end_weight (all_counted_ends es) ≤ 2 * weight es
@@ -52,8 +47,8 @@ ends_light (e ∷ es) =
     let rest = ends_light es in
     let both = sum_by-append end_weight (counted_ends e) (all_counted_ends es) in
     let all = weight-cons e es in
-    let s = weight_reversed e.subj in
-    let c = weight_reversed e.clip in
+    let s = weight_reversed e.counts.subj in
+    let c = weight_reversed e.counts.clip in
     omega arith
 
 module _ (es : List CountedEdge) (ns : List CountedEnd) (moved : IsPermutation (all_counted_ends es) ns) where

@@ -1,10 +1,10 @@
 -- Edges with their fill bits, as a graph holds them, are the vectors of its edges.
 use Rattle.std.proofs.Common.{◌≡◌, ℕ, ℤ, List, [], ◌∷◌, map, refl, sym, ap, ap₂, subst, ◌∙◌}
+use Rattle.overlay_geom.specs.Counts.{Counts}
 use Rattle.overlay_geom.specs.Points.{plain_point}
 use Rattle.overlay_geom.specs.Edges.{CountedEdge}
 use Rattle.overlay_plane.specs.Carried.{edges_in}
 use Rattle.overlay_arrange.specs.Content.{carried_edges, plain_edges}
-use Rattle.overlay_arrange.specs.Counts.{Counts}
 use Rattle.overlay_arrange.specs.Graphs.{carried_vectors, AreFilledBy, IsArrangement}
 use Rattle.overlay_arrange.specs.Rules.{fill_bits}
 use Rattle.overlay_arrange.specs.Vectors.{Vector, plain_vector, vector_of}

@@ -1,12 +1,11 @@
 -- The pieces of an edge along the steps between points of a chain: what a program makes of a step, and that a builder
 -- may hold it.
-use Rattle.std.proofs.Common.{◌≡◌, ℕ, ◌≤◌, Bool, true, false, cond, ℤ, pos, negsuc, neg_ℤ, ◌*ℤ◌, List, [], ◌∷◌, ◌++◌}
-use Rattle.std.proofs.Common.{map, get_or, refl, sym, ap, ap₂, subst, ◌∙◌, arith}
+use Rattle.std.proofs.Common.{◌≡◌, ℕ, ◌≤◌, Bool, true, false, cond, List, [], ◌∷◌, ◌++◌}
+use Rattle.std.proofs.Common.{map, get_or, refl, sym, ap, subst, ◌∙◌, arith}
 use Rattle.std.specs.List.{All}
 use Rattle.std.specs.declared.cmp.Ordering.TheVariants.{Less, Equal, Greater}
 use Rattle.std.specs.Ordering.{is_eq}
 use Rattle.std.proofs.lemmas.Bool.{false_from_ne_true}
-use Rattle.std.proofs.lemmas.Int.{ints}
 use Rattle.std.proofs.lemmas.List.Elements.{All-nil, All-cons, All-head, All-map}
 use Rattle.std.proofs.lemmas.List.Sums.{sum_by-append}
 use Rattle.overlay_geom.specs.Plane.{Point, Edge, point_eq, point_lt, steps_between}
@@ -16,10 +15,10 @@ use Rattle.overlay_geom.proofs.Orders.{Decides-point_eq, point_lt-back}
 use Rattle.overlay_geom.proofs.PointComparisons.{point_cmp-is_tie}
 use Rattle.overlay_geom.proofs.PointOrder.{Decides-point_lt, before_is_other}
 use Rattle.overlay_geom.proofs.Weights.{edge_weight}
+use Rattle.overlay_geom.specs.Counts.{Counts, reversed_counts}
 use Rattle.overlay_plane.specs.Cutting.{piece_along}
-use Rattle.overlay_plane.proofs.PieceWeights.{edge_weight-piece}
+use Rattle.overlay_plane.proofs.PieceCounts.{edge_weight-piece}
 use Rattle.overlay_arrange.specs.Content.{edge_with, point_cmp, IsHeld}
-use Rattle.overlay_arrange.specs.Counts.{Counts, reversed_counts}
 
 -- ---- how the two points of a step compare
 
@@ -73,10 +72,7 @@ abbrev piece_by : Bool → CountedEdge → Point → Point → CountedEdge
 piece_by t e p q = record {
   a = (cond {A = Edge} t (record { a = p; b = q }) (record { a = q; b = p })).a;
   b = (cond {A = Edge} t (record { a = p; b = q }) (record { a = q; b = p })).b;
-  subj = cond t (pos 1) (negsuc 0) *ℤ e.subj;
-  clip = cond t (pos 1) (negsuc 0) *ℤ e.clip;
-  along = cond t e.along e.against;
-  against = cond t e.against e.along;
+  counts = cond t e.counts (reversed_counts e.counts);
 }
 
 -- between two different points there is one piece
@@ -86,22 +82,12 @@ one_piece e p q t apart way =
     ap (λ s. map (piece_along e) (cond s [] (record { from = p; to = q } ∷ []))) apart
     ∙ ap (λ s. piece_by s e p q ∷ []) way
 
--- a number times 1 back
-times_back : (z : ℤ) → neg_ℤ z ≡ negsuc 0 *ℤ z
-times_back z = omega (arith, ints)
-
--- a number times 1
-times_on : (z : ℤ) → z ≡ pos 1 *ℤ z
-times_on z = omega (arith, ints)
-
 -- the piece of a step that leads on has the edge's counts
 pub piece_forth : (a b p q : Point) (c k : Counts) → point_cmp p q ≡ Less → k ≡ c →
     edge_with p q k ∷ [] ≡ map (piece_along (edge_with a b c)) (steps_between p q)
 piece_forth a b p q c k less same =
     let leads = on_where_less p q less in
     ap (λ n. edge_with p q n ∷ []) same
-    ∙ ap₂ (λ subj clip. record { a = p; b = q; subj = subj; clip = clip; along = c.along; against = c.against } ∷ [])
-    (times_on c.subj) (times_on c.clip)
     ∙ sym (one_piece (edge_with a b c) p q true leads.apart leads.on)
 
 -- the piece of a step that leads back has the counts reversed
@@ -110,8 +96,6 @@ pub piece_back : (a b p q : Point) (c k : Counts) → point_cmp p q ≡ Greater 
 piece_back a b p q c k greater reversed =
     let leads = back_where_greater p q greater in
     ap (λ n. edge_with q p n ∷ []) reversed
-    ∙ ap₂ (λ subj clip. record { a = q; b = p; subj = subj; clip = clip; along = c.against; against = c.along } ∷ [])
-    (times_back c.subj) (times_back c.clip)
     ∙ sym (one_piece (edge_with a b c) p q false leads.apart leads.back)
 
 -- ---- what a builder may hold

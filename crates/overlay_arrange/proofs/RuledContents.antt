@@ -1,11 +1,11 @@
--- The edges of an arrangement are a ruled list, under each of the rules.
+-- The edges of an arrangement are a planar list, and a ruled one under each of the rules.
 use Rattle.std.proofs.Common.{◌≡◌, ℕ, true, false, pos, List, refl, ap, ◌∙◌}
 use Rattle.std.proofs.lemmas.List.Elements.{All-contains}
 use Rattle.overlay_geom.specs.Plane.{point_lt}
 use Rattle.overlay_geom.specs.Edges.{CountedEdge, subj_of, clip_of}
 use Rattle.overlay_geom.specs.Settled.{IsSettled}
 use Rattle.overlay_plane.specs.Balance.{HasBalancedCounts}
-use Rattle.overlay_plane.specs.Regions.{IsRuled}
+use Rattle.overlay_plane.specs.Regions.{IsPlanar, IsRuled}
 use Rattle.overlay_plane.proofs.EdgeOrder.{distinct_from_ascending}
 use Rattle.overlay_plane.proofs.Entries.{all_of_entries}
 use Rattle.overlay_arrange.specs.Content.{IsHeld, IsContent, IsAscending}
@@ -37,15 +37,22 @@ neither_is_taken Xor = refl
 pub none_of_zero : (fill : FillRule) (rule : OverlayRule) → rules_hold fill rule (pos 0) (pos 0) ≡ false
 none_of_zero fill rule = ap (λ t. rule_holds rule t t) (zero_is_empty fill) ∙ neither_is_taken rule
 
--- the edges of a content that ascend, are settled and have balanced counts
-pub ruled_content : (limit : ℕ) (es : List CountedEdge) → IsContent limit es → IsAscending es → IsSettled es →
-    HasBalancedCounts es →
-    (fill : FillRule) (rule : OverlayRule) → IsRuled (rules_hold fill rule) subj_of clip_of es
-ruled_content limit es content ascending settled balanced fill rule = record {
+-- the edges of a content that ascend and are settled are planar
+pub planar_content : (limit : ℕ) (es : List CountedEdge) → IsContent limit es → IsAscending es → IsSettled es →
+    IsPlanar es
+planar_content limit es content ascending settled = record {
   forward = all_of_entries (λ e. point_lt e.a e.b ≡ true) es
       (λ e c. (All-contains (IsHeld limit) es e content.held c).forward);
   settled = settled;
   distinct = distinct_from_ascending es ascending;
+}
+
+-- and with balanced counts they are ruled
+pub ruled_content : (limit : ℕ) (es : List CountedEdge) → IsContent limit es → IsAscending es → IsSettled es →
+    HasBalancedCounts es →
+    (fill : FillRule) (rule : OverlayRule) → IsRuled (rules_hold fill rule) subj_of clip_of es
+ruled_content limit es content ascending settled balanced fill rule = record {
+  planar = planar_content limit es content ascending settled;
   subj_balanced = balanced.subj;
   clip_balanced = balanced.clip;
   none = none_of_zero fill rule;

@@ -11,8 +11,8 @@ use Rattle.overlay_geom.specs.Edges.{CountedEdge, ends_of}
 use Rattle.overlay_geom.proofs.Comparisons.{Decides-int_lt}
 use Rattle.overlay_geom.proofs.PointOrder.{Decides-point_lt}
 use Rattle.overlay_geom.proofs.Signs.{linear}
+use Rattle.overlay_geom.specs.Counts.{Counts}
 use Rattle.overlay_arrange.specs.Content.{IsAscending, IsHeld, plain_edge, plain_edges}
-use Rattle.overlay_arrange.specs.Counts.{Counts}
 use Rattle.overlay_arrange.specs.Heights.{span_of, IsApart}
 use Rattle.overlay_arrange.specs.Meetings.{AreSettledUpTo, IsAt, IsRunEnd}
 use Rattle.overlay_arrange.specs.Settle.{AreSettled}

@@ -45,8 +45,8 @@ bits_show_sides f = sides f.subj_above f.subj_below f.clip_above f.clip_below
 -- the bits between the windings below an edge and those beyond it are its fill bits
 pub bits_between_windings : (rule : FillRule) (es : List CountedEdge) (e : CountedEdge) (n : ℕ)
     (subj clip subj_above clip_above : ℤ) →
-    subj ≡ winding_below subj_of es e → clip ≡ winding_below clip_of es e → subj_above ≡ subj +ℤ e.subj →
-    clip_above ≡ clip +ℤ e.clip →
+    subj ≡ winding_below subj_of es e → clip ≡ winding_below clip_of es e → subj_above ≡ subj +ℤ e.counts.subj →
+    clip_above ≡ clip +ℤ e.counts.clip →
     n ≡ bits_of (record {
       subj_above = is_filled rule subj_above;
       subj_below = is_filled rule subj;

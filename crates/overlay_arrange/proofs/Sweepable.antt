@@ -46,9 +46,9 @@ module _ (es fs : List CountedEdge) (moved : IsPermutation es fs) where
     where
       bits : ℤ → ℤ → ℕ
       bits s c = bits_of (record {
-        subj_above = is_filled rule (s +ℤ e.subj);
+        subj_above = is_filled rule (s +ℤ e.counts.subj);
         subj_below = is_filled rule s;
-        clip_above = is_filled rule (c +ℤ e.clip);
+        clip_above = is_filled rule (c +ℤ e.counts.clip);
         clip_below = is_filled rule c;
       })
 
@@ -58,11 +58,13 @@ module _ (es fs : List CountedEdge) (moved : IsPermutation es fs) where
   module _ (limit : ℕ) (content : IsContent limit es) (ascending : IsAscending es) (settled : IsSettled es) where
     balanced_arrangement : (count : CountedEdge → ℤ) → IsBalanced ends_of count es → IsBalancedArrangement count fs
     balanced_arrangement count balanced = record {
-      forward = all_of_entries (λ e. point_lt e.a e.b ≡ true) fs
-          (λ e c. (All-contains (IsHeld limit) es e content.held (before e c)).forward);
-      settled = λ e f c d. settled e f (before e c) (before f d);
-      distinct = pairs_shuffled (λ e f. edge_eq (ends_of e) (ends_of f))
-          (λ e f. edge_eq-exchanged (ends_of e) (ends_of f)) es fs moved (distinct_from_ascending es ascending);
+      planar = record {
+        forward = all_of_entries (λ e. point_lt e.a e.b ≡ true) fs
+            (λ e c. (All-contains (IsHeld limit) es e content.held (before e c)).forward);
+        settled = λ e f c d. settled e f (before e c) (before f d);
+        distinct = pairs_shuffled (λ e f. edge_eq (ends_of e) (ends_of f))
+            (λ e f. edge_eq-exchanged (ends_of e) (ends_of f)) es fs moved (distinct_from_ascending es ascending);
+      };
       balanced = λ g. total-IsPermutation (λ e. count e *ℤ (g e.b -ℤ g e.a)) es fs moved ∙ balanced g;
     }
       where

@@ -39,7 +39,7 @@ module _ (limit : ℕ) (fs : List CountedEdge) (sweepable : IsSweepable limit fs
 
   entries_distinct : AllPairs (λ (e f : Entry Windings). edge_eq e.edge f.edge ≡ false) (wound_entries fs)
   entries_distinct = AllPairs-map (λ (e f : Entry Windings). edge_eq e.edge f.edge ≡ false)
-      (wound fs) fs sweepable.subj.distinct
+      (wound fs) fs sweepable.subj.planar.distinct
 
   entries_settled : IsSettledBy (λ (e : Entry Windings). e.edge) (wound_entries fs)
   entries_settled e f c d differ =
@@ -47,7 +47,7 @@ module _ (limit : ℕ) (fs : List CountedEdge) (sweepable : IsSweepable limit fs
       let h = Contains-from_map (wound fs) fs f d in
       subst (λ (k : Entry Windings). MeetInEnds k.edge f.edge) g.2
       (subst (λ (k : Entry Windings). MeetInEnds (ends_of g.0) k.edge) h.2
-      (sweepable.subj.settled g.0 h.0 g.1 h.1
+      (sweepable.subj.planar.settled g.0 h.0 g.1 h.1
       (subst (λ (k : Entry Windings). edge_eq k.edge (ends_of h.0) ≡ false) (sym g.2)
       (subst (λ (k : Entry Windings). edge_eq e.edge k.edge ≡ false) (sym h.2) differ))))
 

@@ -2,6 +2,7 @@
 use Rattle.std.specs.Prelude.{◌≡◌, ℕ, ◌^◌, ◌<◌, true, cond, ℤ, pos, negsuc, List, map, All, AllPairs}
 use Rattle.std.specs.declared.cmp.Ordering.{Ordering}
 use Rattle.std.specs.declared.cmp.Ordering.TheVariants.{Less, Equal, Greater}
+use Rattle.overlay_geom.specs.Counts.{Counts}
 use Rattle.overlay_geom.specs.Plane.{Point, Step, point_lt, edge_lt, edge_of, is_forward}
 use Rattle.overlay_arrange.specs.declared.options.ShapeType.{ShapeType}
 use Rattle.overlay_arrange.specs.declared.options.ShapeType.TheVariants.{Subject, Clip}
@@ -9,13 +10,13 @@ use Rattle.overlay_geom.specs.Points.{plain_point, InRange}
 pub use Rattle.overlay_geom.specs.Resolved.{point_cmp}
 use Rattle.overlay_geom.specs.Edges.{CountedEdge, ends_of, weight}
 use Rattle.overlay_plane.specs.Carried.{Carried}
-use Rattle.overlay_arrange.specs.Counts.{Counts, boolean_counts}
+use Rattle.overlay_arrange.specs.Counts.{boolean_counts}
 use Rattle.overlay_arrange.specs.declared.count.ShapeCountBoolean.{ShapeCountBoolean}
 use Rattle.overlay_arrange.specs.declared.edge.CountedEdge.{CountedEdge as HeldEdge}
 
 -- the counted edge between two points with these counts
 abbrev pub edge_with : Point → Point → Counts → CountedEdge
-edge_with a b c = record { a = a; b = b; subj = c.subj; clip = c.clip; along = c.along; against = c.against }
+edge_with a b c = record { a = a; b = b; counts = c }
 
 -- the counted edge at an edge's numbers
 abbrev pub plain_edge : {I C : Type 0} → (I → ℤ) → (C → Counts) → HeldEdge I C → CountedEdge

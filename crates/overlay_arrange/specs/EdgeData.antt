@@ -1,6 +1,7 @@
--- What merging, splitting and turning round make of edges that carry data beside their counts.
+-- What merging, splitting and reversing make of edges that carry data beside their counts.
 use Rattle.std.specs.Prelude.{◌≡◌}
-use Rattle.overlay_arrange.specs.Counts.{boolean_counts, joined_counts, reversed_counts}
+use Rattle.overlay_geom.specs.Counts.{joined_counts, reversed_counts}
+use Rattle.overlay_arrange.specs.Counts.{boolean_counts}
 use Rattle.overlay_arrange.specs.declared.count.ShapeCountBoolean.{ShapeCountBoolean}
 use Rattle.overlay_arrange.specs.declared.data.CountWithData.{CountWithData}
 

@@ -21,11 +21,10 @@ plain_ends whole ns = map (plain_end whole) ns
 
 -- the two ends of an edge
 abbrev pub counted_ends : CountedEdge → List CountedEnd
-counted_ends e = record { point = e.a; subj = neg_ℤ e.subj; clip = neg_ℤ e.clip } ∷ record {
-  point = e.b;
-  subj = e.subj;
-  clip = e.clip;
-} ∷ []
+counted_ends e =
+    record { point = e.a; subj = neg_ℤ e.counts.subj; clip = neg_ℤ e.counts.clip }
+    ∷ record { point = e.b; subj = e.counts.subj; clip = e.counts.clip }
+    ∷ []
 
 -- those of each edge of a list
 abbrev pub all_counted_ends : List CountedEdge → List CountedEnd

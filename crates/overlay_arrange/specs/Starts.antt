@@ -1,6 +1,7 @@
 -- The edges of a list in the order in which a sweep comes to them, and what it holds of them.
 use Rattle.std.specs.Prelude.{◌≡◌, ℕ, false, ℤ, List, map, AllPairs}
 use Rattle.std.specs.List.Sorted.{IsPermutation}
+use Rattle.overlay_geom.specs.Counts.{Counts}
 use Rattle.overlay_geom.specs.Edges.{CountedEdge, ends_of, subj_of, clip_of, winding_above}
 use Rattle.overlay_geom.specs.Numbered.{Numbered, numbered}
 use Rattle.overlay_geom.specs.Plane.{Edge}
@@ -10,7 +11,6 @@ use Rattle.overlay_plane.specs.Nodes.{IsBalancedArrangement}
 use Rattle.overlay_scan.specs.Scan.{Entry}
 use Rattle.overlay_scan.specs.Sweeps.{entry_of}
 use Rattle.overlay_arrange.specs.Content.{plain_edge, IsContent}
-use Rattle.overlay_arrange.specs.Counts.{Counts}
 use Rattle.overlay_arrange.specs.declared.starting_edge.StartingEdge.{StartingEdge}
 use Rattle.overlay_arrange.specs.declared.windings.Windings.{Windings}
 

@@ -1,8 +1,8 @@
 //! What an edge carries: how often paths pass it, and perhaps data.
 
 ghost use Rattle.std.specs.Prelude.{◌≡◌, ◌+◌, ◌^◌, ◌<◌};
-ghost use Rattle.overlay_arrange.specs.Counts.{Counts, joined_counts, reversed_counts, are_zero};
-ghost use Rattle.overlay_arrange.specs.Counts.{weight_of_counts};
+ghost use Rattle.overlay_geom.specs.Counts.{Counts, joined_counts, reversed_counts, are_zero};
+ghost use Rattle.overlay_geom.specs.Counts.{weight_of_counts};
 
 /// What an edge carries through an arrangement: how often paths pass it from its smaller to its
 /// larger end, less how often back, and perhaps data.

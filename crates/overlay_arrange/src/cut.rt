@@ -5,6 +5,7 @@ ghost use Rattle.std.specs.Prelude.{◌≡◌, ◌⊎◌, ◌↔◌, ◌^◌, �
 ghost use Rattle.std.specs.Prelude.{false, map, IfOk, IfErr, OnOk, IsOkUnless, IsErrOf};
 ghost use Rattle.std.specs.Prelude.{MatchBool, option_map, option_to_list, cond, int_le, int_lt};
 ghost use Rattle.std.specs.Ordering.{is_lt};
+ghost use Rattle.overlay_geom.specs.Counts.{weight_of_counts};
 ghost use Rattle.overlay_geom.specs.Edges.{ends_of, weight};
 ghost use Rattle.overlay_geom.specs.Plane.{steps_between, steps_through};
 ghost use Rattle.overlay_geom.specs.Points.{plain_point, plain_points, InRange, AllInRange};
@@ -16,7 +17,6 @@ ghost use Rattle.overlay_plane.specs.InOrder.{in_order};
 ghost use Rattle.overlay_plane.specs.Meetings.{MeetInWholePoints};
 ghost use Rattle.overlay_arrange.specs.Content.{plain_edge, plain_edges, carried_edge, carried_edges};
 ghost use Rattle.overlay_arrange.specs.Content.{IsHeld, IsContent, IsAscending};
-ghost use Rattle.overlay_arrange.specs.Counts.{weight_of_counts};
 ghost use Rattle.overlay_arrange.specs.Cut.{AddsGiven, IsOnLineOf, StaysWhole};
 ghost use Rattle.overlay_arrange.specs.Meetings.{plain_meetings, AreByPlace, ArePointsAt};
 

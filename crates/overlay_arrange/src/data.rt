@@ -1,7 +1,8 @@
 //! Data that edges carry through an overlay beside their counts.
 
 ghost use Rattle.std.specs.Prelude.{◌≡◌, ◌+◌, ◌^◌, ◌<◌, ⊤};
-ghost use Rattle.overlay_arrange.specs.Counts.{boolean_counts, weight_of_counts};
+ghost use Rattle.overlay_geom.specs.Counts.{weight_of_counts};
+ghost use Rattle.overlay_arrange.specs.Counts.{boolean_counts};
 ghost use Rattle.overlay_arrange.specs.declared.count.ShapeCountBoolean.{ShapeCountBoolean};
 
 use crate::count::{EdgeCount, ShapeCountBoolean};

@@ -1,12 +1,13 @@
 -- What the core of a builder adds, as contours of the subject or of the clip.
 use Rattle.std.proofs.Common.{◌≡◌, Bool, true, false, cond, pos, negsuc, List, [], ◌∷◌, map, refl, ap, ap₂, subst, ◌∙◌}
 use Rattle.std.specs.Prelude.{Result}
+use Rattle.overlay_geom.specs.Counts.{Counts}
 use Rattle.overlay_geom.specs.Edges.{CountedEdge, AddsContour, weight}
 use Rattle.overlay_geom.specs.Plane.{Point, Step, edge_of, is_forward}
 use Rattle.overlay_geom.specs.declared.error.OverlayError.{OverlayError}
 use Rattle.overlay_plane.specs.Carried.{Carried, edges_in}
 use Rattle.overlay_arrange.specs.Content.{count_for, edge_for, edge_with}
-use Rattle.overlay_arrange.specs.Counts.{Counts, boolean_counts}
+use Rattle.overlay_arrange.specs.Counts.{boolean_counts}
 use Rattle.overlay_arrange.specs.declared.count.ShapeCountBoolean.{ShapeCountBoolean}
 use Rattle.overlay_arrange.specs.declared.data.CountWithData.{CountWithData}
 use Rattle.overlay_arrange.specs.declared.options.ShapeType.{ShapeType}

@@ -25,19 +25,19 @@ use Rattle.overlay_builder.specs.GivenPaths.{GivenPath, added_path, added_paths}
 -- ---- one contour
 
 -- what two functions that agree make of a list
-same_edges : (f h : Step → CountedEdge) → ((s : Step) → f s ≡ h s) → (ss : List Step) → map f ss ≡ map h ss
+pub same_edges : (f h : Step → CountedEdge) → ((s : Step) → f s ≡ h s) → (ss : List Step) → map f ss ≡ map h ss
 same_edges f h same [] = refl
 same_edges f h same (s ∷ ss) = ap₂ (λ e es. e ∷ es) (same s) (same_edges f h same ss)
 
 -- the edge of a subject's step
-as_subject : (s : Step) → subject_edge s ≡ edge_for Subject s
+pub as_subject : (s : Step) → subject_edge s ≡ edge_for Subject s
 as_subject s =
     elim (is_forward s) as (λ t. Same (cond t (pos 1) (negsuc 0))
     (cond t (count_for Subject (pos 1)) (count_for Subject (negsuc 0))))
     [ true ↦ refl | false ↦ refl ]
   where
     Same : ℤ → ShapeCountBoolean → Type 0
-    Same z k = record { a = (edge_of s).a; b = (edge_of s).b; subj = z; clip = pos 0; along = false; against = false }
+    Same z k = edge_with (edge_of s).a (edge_of s).b (record { subj = z; clip = pos 0; along = false; against = false })
         ≡ edge_with (edge_of s).a (edge_of s).b (boolean_counts k)
 
 -- and of a clip's
@@ -48,7 +48,7 @@ as_clip s =
     [ true ↦ refl | false ↦ refl ]
   where
     Same : ℤ → ShapeCountBoolean → Type 0
-    Same z k = record { a = (edge_of s).a; b = (edge_of s).b; subj = pos 0; clip = z; along = false; against = false }
+    Same z k = edge_with (edge_of s).a (edge_of s).b (record { subj = pos 0; clip = z; along = false; against = false })
         ≡ edge_with (edge_of s).a (edge_of s).b (boolean_counts k)
 
 -- the edges of a closed contour's steps have balanced counts
@@ -89,6 +89,12 @@ paths_keep all from to keep no_path before = before
 paths_keep all from to keep (path_and_others {p} {ps} {mid} first h) before =
     paths_keep ps mid to (All-tail KeepsBalance p ps keep) h
     ((All-head KeepsBalance p ps keep).keeps from mid first before)
+
+-- so what contours add to nothing has balanced counts
+pub held_paths_are_balanced : (keep : Bool) (given : List GivenPath) (es : List CountedEdge) →
+    AddsPaths (added_paths keep given) [] es → HasBalancedCounts es
+held_paths_are_balanced keep given es added =
+    paths_keep (added_paths keep given) [] es (contours_keep keep given) added joining_keeps_balance.none
 
 -- the first ones of paths that do, do
 first_keep : (first rest : List (AddedPath CountedEdge)) → All KeepsBalance (first ++ rest) → All KeepsBalance first

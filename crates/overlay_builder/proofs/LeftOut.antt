@@ -38,6 +38,10 @@ thinned_to_itself : (ps qs : List Point) → ((k : ℕ) → k < length ps → ¬
 thinned_to_itself ps _ none (thin h) = refl
 thinned_to_itself ps qs none (drop_one k within straight rest) = absurd (none k within straight)
 
+-- where it may be thinned to itself, it is thinned to nothing else
+pub thinned_whole : (ps qs : List Point) → IsThinned ps qs → IsThinned ps ps → qs ≡ ps
+thinned_whole ps qs thinned itself = thinned_to_itself ps qs (none_is_straight ps ps itself refl) thinned
+
 -- where thinning left no fewer points, a list may be thinned to itself
 pub none_left_out : (ps qs : List Point) → IsThinned ps qs → length ps ≤ length qs → IsThinned ps ps
 none_left_out ps qs thinned as_many = by (thinned_is_shorter ps qs thinned)
@@ -49,7 +53,7 @@ none_left_out ps qs thinned as_many = by (thinned_is_shorter ps qs thinned)
 -- and where it may, thinning leaves no fewer
 pub as_many_left : (ps qs : List Point) → IsThinned ps qs → IsThinned ps ps → length ps ≤ length qs
 as_many_left ps qs thinned itself = omega
-    (arith, ap length (thinned_to_itself ps qs (none_is_straight ps ps itself refl) thinned))
+    (arith, ap length (thinned_whole ps qs thinned itself))
 
 -- whether a point was left out, told by the lengths
 pub left_out : (few many : ℕ) (ps qs : List Point) → few ≡ length qs → many ≡ length ps → IsThinned ps qs

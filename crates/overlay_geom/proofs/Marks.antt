@@ -14,22 +14,23 @@ use Rattle.overlay_geom.specs.Merged.{edges_between}
 
 -- the edge's counts are zero, and it has no mark
 pub record IsUncounted (e : CountedEdge) : Type 0 where
-  pub subj : e.subj ≡ pos 0
-  pub clip : e.clip ≡ pos 0
-  pub along : e.along ≡ false
-  pub against : e.against ≡ false
+  pub subj : e.counts.subj ≡ pos 0
+  pub clip : e.counts.clip ≡ pos 0
+  pub along : e.counts.along ≡ false
+  pub against : e.counts.against ≡ false
 
 -- that is what an edge that counts nothing is
 pub uncounted : (e : CountedEdge) → counts_nothing e ≡ true → IsUncounted e
 uncounted e h =
-    let last = and_parts (int_eq e.subj (pos 0) && int_eq e.clip (pos 0) && not e.along) (not e.against) h in
-    let third = and_parts (int_eq e.subj (pos 0) && int_eq e.clip (pos 0)) (not e.along) last.0 in
-    let zeros = and_parts (int_eq e.subj (pos 0)) (int_eq e.clip (pos 0)) third.0 in
+    let c = e.counts in
+    let last = and_parts (int_eq c.subj (pos 0) && int_eq c.clip (pos 0) && not c.along) (not c.against) h in
+    let third = and_parts (int_eq c.subj (pos 0) && int_eq c.clip (pos 0)) (not c.along) last.0 in
+    let zeros = and_parts (int_eq c.subj (pos 0)) (int_eq c.clip (pos 0)) third.0 in
     record {
-      subj = (Decides-int_eq e.subj (pos 0)).0 zeros.0;
-      clip = (Decides-int_eq e.clip (pos 0)).0 zeros.1;
-      along = not-true e.along third.1;
-      against = not-true e.against last.1;
+      subj = (Decides-int_eq c.subj (pos 0)).0 zeros.0;
+      clip = (Decides-int_eq c.clip (pos 0)).0 zeros.1;
+      along = not-true c.along third.1;
+      against = not-true c.against last.1;
     }
 
 -- nothing is added by a test that fails

@@ -7,7 +7,7 @@ use Rattle.std.proofs.lemmas.Int.{ints}
 use Rattle.std.proofs.lemmas.List.Elements.{All-cons, All-nil, All-contains, All-weaker}
 use Rattle.overlay_geom.specs.Plane.{Edge, edge_eq, edge_lt, total}
 use Rattle.overlay_geom.specs.Edges.{CountedEdge, ends_of, subj_of, clip_of, goes_along, goes_against, counts_nothing}
-use Rattle.overlay_geom.specs.Merged.{edges_between, joined_edge, IsMerged}
+use Rattle.overlay_geom.specs.Merged.{edges_between, all_counts, joined_edge, IsMerged}
 use Rattle.overlay_geom.proofs.Orders.{edge_eq-itself, edge_eq-from_lt, edge_eq-flip}
 use Rattle.overlay_geom.proofs.Marks.{IsUncounted, uncounted, or_false, marked_between}
 use Rattle.overlay_geom.proofs.Between.{edges_between-none, edges_between-here, edges_between-past, find_between}
@@ -53,16 +53,12 @@ alone_between (x ∷ es) up =
 pub joined_alone : (es : List CountedEdge) (f : CountedEdge) → edges_between es (ends_of f) ≡ f ∷ [] →
     joined_edge es (ends_of f) ≡ f
 joined_alone es f h =
-    let s : total subj_of (edges_between es (ends_of f)) ≡ f.subj = ap (total subj_of) h ∙ omega (arith, ints) in
-    let c : total clip_of (edges_between es (ends_of f)) ≡ f.clip = ap (total clip_of) h ∙ omega (arith, ints) in
+    let s : total subj_of (edges_between es (ends_of f)) ≡ f.counts.subj = ap (total subj_of) h ∙ omega (arith, ints) in
+    let c : total clip_of (edges_between es (ends_of f)) ≡ f.counts.clip = ap (total clip_of) h ∙ omega (arith, ints) in
     λ i. record {
       a = f.a;
       b = f.b;
-      subj = s i;
-      clip = c i;
-      along = marked goes_along i;
-      against =
-          marked goes_against i;
+      counts = record { subj = s i; clip = c i; along = marked goes_along i; against = marked goes_against i };
     }
   where
     marked : (mark : CountedEdge → Bool) → marked_between mark es (ends_of f) ≡ mark f
@@ -75,14 +71,7 @@ joined_itself es up = All-weaker (λ f. edges_between es (ends_of f) ≡ f ∷ [
 
 -- the one edge between these ends that all edges of a list become
 abbrev pub all_joined : Edge → List CountedEdge → CountedEdge
-all_joined e fs = record {
-  a = e.a;
-  b = e.b;
-  subj = total subj_of fs;
-  clip = total clip_of fs;
-  along = list_any goes_along fs;
-  against = list_any goes_against fs;
-}
+all_joined e fs = record { a = e.a; b = e.b; counts = all_counts fs }
 
 -- where no edges are, the joined one counts nothing
 pub joined_none : (es : List CountedEdge) (e : Edge) → edges_between es e ≡ [] →
@@ -123,11 +112,15 @@ pub same_from_nothing : (e f : CountedEdge) → ends_of e ≡ ends_of f → coun
 same_from_nothing e f ends g h =
     let none : IsUncounted e = uncounted e g in
     let others : IsUncounted f = uncounted f h in
-    let s : e.subj ≡ f.subj = none.subj ∙ sym others.subj in
-    let c : e.clip ≡ f.clip = none.clip ∙ sym others.clip in
-    let l : e.along ≡ f.along = none.along ∙ sym others.along in
-    let r : e.against ≡ f.against = none.against ∙ sym others.against in
-    λ i. record { a = (ends i).a; b = (ends i).b; subj = s i; clip = c i; along = l i; against = r i }
+    let s : e.counts.subj ≡ f.counts.subj = none.subj ∙ sym others.subj in
+    let c : e.counts.clip ≡ f.counts.clip = none.clip ∙ sym others.clip in
+    let l : e.counts.along ≡ f.counts.along = none.along ∙ sym others.along in
+    let r : e.counts.against ≡ f.counts.against = none.against ∙ sym others.against in
+    λ i. record {
+      a = (ends i).a;
+      b = (ends i).b;
+      counts = record { subj = s i; clip = c i; along = l i; against = r i };
+    }
 
 -- a merged list has the joined edges of the list that it was merged from
 pub IsMerged-alike : (old new : List CountedEdge) → IsMerged old new → JoinAlike old new

@@ -31,10 +31,12 @@ alike_shuffled xs ys h = record { at = at }
     at e i = record {
       a = e.a;
       b = e.b;
-      subj = same subj_of e i;
-      clip = same clip_of e i;
-      along = marked goes_along e i;
-      against = marked goes_against e i;
+      counts = record {
+        subj = same subj_of e i;
+        clip = same clip_of e i;
+        along = marked goes_along e i;
+        against = marked goes_against e i;
+      };
     }
 
 -- and weigh the same

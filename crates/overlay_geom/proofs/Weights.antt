@@ -1,37 +1,35 @@
 -- Merging makes no list heavier.
 use Rattle.std.proofs.Common.{◌≡◌, ℕ, ◌+◌, ◌≤◌, not, List, [], ◌∷◌, get_or, refl, ap, sym, ◌∙◌, arith}
 use Rattle.std.specs.List.{All, list_any}
-use Rattle.std.specs.Prelude.{nat_abs}
 use Rattle.std.proofs.lemmas.Int.{ints}
 use Rattle.std.proofs.lemmas.List.Elements.{All-head, All-tail}
 use Rattle.std.proofs.lemmas.List.Filters.{sum_by-filter_both}
 use Rattle.std.proofs.lemmas.List.Sums.{sum_by-cons}
-use Rattle.overlay_geom.specs.Plane.{Edge, edge_eq, total}
-use Rattle.overlay_geom.specs.Edges.{CountedEdge, ends_of, subj_of, clip_of, goes_along, goes_against, weight}
-use Rattle.overlay_geom.specs.Merged.{edges_between, joined_edge, IsMerged}
+use Rattle.overlay_geom.specs.Plane.{Edge, edge_eq}
+use Rattle.overlay_geom.specs.Counts.{weight_of_counts}
+use Rattle.overlay_geom.specs.Edges.{CountedEdge, ends_of, goes_along, goes_against, weight}
+use Rattle.overlay_geom.specs.Merged.{edges_between, all_counts, joined_edge, IsMerged}
 use Rattle.overlay_geom.proofs.Orders.{edge_eq-from_lt}
 use Rattle.overlay_geom.proofs.Between.{without, between_without}
-use Rattle.overlay_geom.proofs.Marks.{mark_weight, mark_weight-or}
+use Rattle.overlay_geom.proofs.Marks.{mark_weight-or}
 use Rattle.overlay_geom.proofs.Merging.{ComesBefore, Ascends, all_joined, AllPairs-head, AllPairs-tail}
 
 -- what one edge weighs
 abbrev pub edge_weight : CountedEdge → ℕ
-edge_weight e = nat_abs e.subj + nat_abs e.clip + mark_weight e.along + mark_weight e.against
+edge_weight e = weight_of_counts e.counts
 
 -- a list weighs what its first edge and the rest weigh
 pub weight-cons : (e : CountedEdge) (es : List CountedEdge) → weight (e ∷ es) ≡ edge_weight e + weight es
 weight-cons e es = sum_by-cons edge_weight e es
 
 -- the edge that edges become weighs no more than they do
-pub weight_of_totals : (es : List CountedEdge) →
-    nat_abs (total subj_of es) + nat_abs (total clip_of es) + mark_weight (list_any goes_along es) + mark_weight
-    (list_any goes_against es) ≤ weight es
+pub weight_of_totals : (es : List CountedEdge) → weight_of_counts (all_counts es) ≤ weight es
 weight_of_totals [] = omega arith
 weight_of_totals (e ∷ es) =
     let rest = weight_of_totals es in
     let all = weight-cons e es in
-    let along = mark_weight-or e.along (list_any goes_along es) in
-    let against = mark_weight-or e.against (list_any goes_against es) in
+    let along = mark_weight-or e.counts.along (list_any goes_along es) in
+    let against = mark_weight-or e.counts.against (list_any goes_against es) in
     omega (arith, ints)
 
 -- a joined edge weighs no more than the edges that it is made of

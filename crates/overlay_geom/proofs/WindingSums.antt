@@ -24,14 +24,14 @@ within_abs (negsuc n) = record { low = omega (arith, ints); high = omega (arith,
 -- the count of the subject is within the weight
 pub subj_weighed : IsWeighed subj_of
 subj_weighed = record {
-  within = λ e. let near = within_abs e.subj in
+  within = λ e. let near = within_abs e.counts.subj in
       record { low = omega (arith, ints); high = omega (arith, ints) };
 }
 
 -- and so is that of the clip
 pub clip_weighed : IsWeighed clip_of
 clip_weighed = record {
-  within = λ e. let near = within_abs e.clip in
+  within = λ e. let near = within_abs e.counts.clip in
       record { low = omega (arith, ints); high = omega (arith, ints) };
 }
 

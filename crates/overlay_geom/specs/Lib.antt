@@ -1,3 +1,4 @@
+pub mod Counts
 pub mod Edges
 pub mod Flat
 pub mod FlatLends

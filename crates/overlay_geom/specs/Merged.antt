@@ -3,6 +3,7 @@
 use Rattle.std.specs.Prelude.{◌≡◌, ◌⊎◌, true, false, List, filter, All, AllPairs, Contains}
 use Rattle.std.specs.List.{list_any}
 use Rattle.overlay_geom.specs.Plane.{PlanePoint, Edge, edge_eq, edge_lt, total}
+use Rattle.overlay_geom.specs.Counts.{Counts}
 use Rattle.overlay_geom.specs.Edges.{CountedEdge, ends_of, subj_of, clip_of, goes_along, goes_against, counts_nothing}
 use Rattle.overlay_geom.specs.Edges.{winding_by}
 
@@ -10,17 +11,18 @@ use Rattle.overlay_geom.specs.Edges.{winding_by}
 abbrev pub edges_between : List CountedEdge → Edge → List CountedEdge
 edges_between es e = filter (λ f. edge_eq (ends_of f) e) es
 
--- the one edge that the edges with these ends become: their counts are summed, and it has the marks that any of them
--- has
-abbrev pub joined_edge : List CountedEdge → Edge → CountedEdge
-joined_edge es e = record {
-  a = e.a;
-  b = e.b;
-  subj = total subj_of (edges_between es e);
-  clip = total clip_of (edges_between es e);
-  along = list_any goes_along (edges_between es e);
-  against = list_any goes_against (edges_between es e);
+-- the counts of all edges of the list together: their counts summed, and the marks that any of them has
+abbrev pub all_counts : List CountedEdge → Counts
+all_counts es = record {
+  subj = total subj_of es;
+  clip = total clip_of es;
+  along = list_any goes_along es;
+  against = list_any goes_against es;
 }
+
+-- the one edge that the edges with these ends become: it has the counts of all of them
+abbrev pub joined_edge : List CountedEdge → Edge → CountedEdge
+joined_edge es e = record { a = e.a; b = e.b; counts = all_counts (edges_between es e) }
 
 -- the second list is the first with equal edges made one, those without counts dropped, in ascending order
 pub record IsMerged (old new : List CountedEdge) : Type 0 where

@@ -1,5 +1,5 @@
 -- Lists that stand one behind the other in one list, with nothing between them.
-use Rattle.std.specs.Prelude.{◌≡◌, ℕ, ◌≤◌, List, [], ◌∷◌, length}
+use Rattle.std.specs.Prelude.{ℕ, ◌≤◌, List, [], ◌∷◌, length}
 use Rattle.std.specs.declared.ops.Range.{Range}
 
 -- the ranges go on from a place, each from where the one before it ends, up to the end

@@ -9,6 +9,7 @@ use Rattle.overlay_plane.specs.EdgeLists.{IsBalanced}
 use Rattle.overlay_plane.specs.Nodes.{IsBalancedArrangement}
 use Rattle.overlay_plane.specs.Regions.{holds_above, holds_below, one_if, selected_sign, IsRuled}
 use Rattle.overlay_plane.specs.SelectedSteps.{selected_steps}
+use Rattle.overlay_plane.specs.Turn.Hand.{left}
 use Rattle.overlay_plane.proofs.BalancedSteps.{alternating_steps_are_balanced}
 use Rattle.overlay_plane.proofs.RegionBelow.{region_from_selected_signs}
 use Rattle.overlay_plane.proofs.SelectedAlternate.{selected_steps_alternate}
@@ -25,25 +26,25 @@ module _ (holds : ℤ → ℤ → Bool) (subj clip : CountedEdge → ℤ) (es : 
 
   -- the selected steps, with the rule on the left
   abbrev steps : List Step
-  steps = selected_steps holds subj clip true es
+  steps = selected_steps holds subj clip left es
 
   -- each walks along an edge of the list
   along : (s : Step) → Contains steps s → (e : CountedEdge) × Contains es e × (edge_of s ≡ ends_of e)
   along s c =
-      let found = (selected_steps_of_edges holds subj clip true es).selected s c in (
+      let found = (selected_steps_of_edges holds subj clip left es).selected s c in (
         found.0,
         found.1.entry,
         ap edge_of found.1.walks
             ∙ along_edge (ends_of found.0)
-            (All-contains (λ f. point_lt f.a f.b ≡ true) es found.0 ruled.forward found.1.entry)
+            (All-contains (λ f. point_lt f.a f.b ≡ true) es found.0 ruled.planar.forward found.1.entry)
             (holds_above holds subj clip es found.0),
       )
 
   -- they count on an edge as its sign
   counts_sign : (e : CountedEdge) → Contains es e → count_on steps e ≡ sign e
-  counts_sign e c = selected_total holds subj clip es ruled true (λ f. edge_eq f (ends_of e))
+  counts_sign e c = selected_total holds subj clip es ruled left (λ f. edge_eq f (ends_of e))
       ∙ once (total (λ f. cond (edge_eq (ends_of f) (ends_of e)) (sign f) (pos 0)) es)
-      ∙ single_total es ruled.distinct sign e c
+      ∙ single_total es ruled.planar.distinct sign e c
     where
       once : (z : ℤ) → pos 1 *ℤ z ≡ z
       once z = omega (arith, ints)
@@ -54,18 +55,16 @@ module _ (holds : ℤ → ℤ → Bool) (subj clip : CountedEdge → ℤ) (es : 
       total-same (λ e. sign e *ℤ (g e.b -ℤ g e.a)) (λ e. count_on steps e *ℤ (g e.b -ℤ g e.a)) es
       (λ e c. ap (λ k. k *ℤ (g e.b -ℤ g e.a)) (sym (counts_sign e c)))
       ∙ (alternating_steps_are_balanced es steps
-      (record { forward = ruled.forward; settled = ruled.settled; distinct = ruled.distinct; along = along })
+      (record { planar = ruled.planar; along = along })
       (selected_steps_alternate holds subj clip es (arranged_by_subject holds subj clip es ruled)
-      (arranged_by_clip holds subj clip es ruled) true steps
-      (selected_steps_of_edges holds subj clip true es))
-      (selected_once holds subj clip es ruled true)).balanced g
+      (arranged_by_clip holds subj clip es ruled) left steps
+      (selected_steps_of_edges holds subj clip left es))
+      (selected_once holds subj clip es ruled left)).balanced g
 
   -- and the list is an arrangement by them
   pub arranged_by_signs : IsBalancedArrangement sign es
   arranged_by_signs = record {
-    forward = ruled.forward;
-    settled = ruled.settled;
-    distinct = ruled.distinct;
+    planar = ruled.planar;
     balanced =
         signs_are_balanced;
   }

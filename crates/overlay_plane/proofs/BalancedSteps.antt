@@ -49,7 +49,7 @@ module _ (es : List CountedEdge) (steps : List Step) (walks : WalksAlong es step
       total-same (λ e. rise_on e s) (λ e. cond (edge_eq (ends_of e) (ends_of own)) (rise e *ℤ sign_of s) (pos 0)) es
       (λ e at. times_taken (edge_eq (edge_of s) (ends_of e)) (rise e) (sign_of s)
       ∙ ap (λ b. cond b (rise e *ℤ sign_of s) (pos 0)) (one_test e))
-      ∙ single_total es walks.distinct (λ e. rise e *ℤ sign_of s) own (walks.along s (inside s c)).1
+      ∙ single_total es walks.planar.distinct (λ e. rise e *ℤ sign_of s) own (walks.along s (inside s c)).1
       ∙ ap (λ f. (g f.b -ℤ g f.a) *ℤ sign_of s) (sym along)
       ∙ *ℤ_comm (g (edge_of s).b -ℤ g (edge_of s).a) (sign_of s)
     where

@@ -50,7 +50,7 @@ module _ (es : List CountedEdge) (steps taken : List Step) (walks : WalksAlong e
   -- so the law of leftmost points holds of the counts of the steps
   outside : IsOutsideUpTo (count_on taken) es q
   outside = nothing_before_the_leftmost (count_on taken) es
-      (record { forward = walks.forward; settled = walks.settled; distinct = walks.distinct; balanced = part.balanced })
+      (record { planar = walks.planar; balanced = part.balanced })
       q nothing_before
 
   -- where no step is taken above an edge, no edge above it counts

@@ -17,9 +17,7 @@ module _ (es : List CountedEdge) (steps taken : List Step) (walks : WalksAlong e
   -- the edges, counted by the steps taken
   arrangement : IsBalancedArrangement (count_on taken) es
   arrangement = record {
-    forward = walks.forward;
-    settled = walks.settled;
-    distinct = walks.distinct;
+    planar = walks.planar;
     balanced =
         part.balanced;
   }

@@ -23,6 +23,7 @@ use Rattle.overlay_plane.proofs.FoundEntries.{IsFound, found_by}
 use Rattle.overlay_plane.proofs.JoinedLists.{total-map, total-flat_map, total-times, taken_out}
 use Rattle.overlay_plane.proofs.LinkCounts.{held_along, dropped_along, chain_along, one_if_none, missing, by_edges}
 use Rattle.overlay_plane.proofs.LinkCounts.{held_after, dropped_after}
+use Rattle.overlay_plane.proofs.PieceCounts.{subj_of_piece, clip_of_piece}
 use Rattle.overlay_plane.proofs.StepsAlong.{along}
 use Rattle.overlay_plane.proofs.Totals.{total-same, total-zero, total-filter}
 use Rattle.overlay_plane.proofs.WeighedLinks.{weighed, weighed-same, weighed-add, weighed-times, weighed-total}
@@ -35,11 +36,11 @@ pub record GoesOver (count : CountedEdge → ℤ) : Type 0 where
 
 -- as the subject's does
 pub subj_goes_over : GoesOver subj_of
-subj_goes_over = record { piece = λ e s. refl; joined = λ es e. refl }
+subj_goes_over = record { piece = subj_of_piece; joined = λ es e. refl }
 
 -- and the clip's
 pub clip_goes_over : GoesOver clip_of
-clip_goes_over = record { piece = λ e s. refl; joined = λ es e. refl }
+clip_goes_over = record { piece = clip_of_piece; joined = λ es e. refl }
 
 module _ (count : CountedEdge → ℤ) (goes_over : GoesOver count) where
   -- ---- one list of edges

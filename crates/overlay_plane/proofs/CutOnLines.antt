@@ -1,7 +1,7 @@
 -- Edges cut through points on their lines wind as before: along a line the signs of steps strictly below a point
 -- telescope.
 use Rattle.std.proofs.Common.{◌≡◌, ⊎_elim, Bool, true, false, cond, ◌&&◌, ℤ, pos, ◌-ℤ◌, ◌*ℤ◌, ◌<ℤ◌, int_lt, List, []}
-use Rattle.std.proofs.Common.{◌∷◌, ◌++◌, refl, sym, ap, ◌∙◌}
+use Rattle.std.proofs.Common.{◌∷◌, ◌++◌, sym, ap, ◌∙◌}
 use Rattle.std.specs.List.{All, flat_map}
 use Rattle.std.specs.Ordering.{int_eq}
 use Rattle.std.proofs.lemmas.Bool.{and_parts, or_cases}
@@ -23,6 +23,7 @@ use Rattle.overlay_plane.proofs.AlongLines.{winding_part, IsOnLine, left_above, 
 use Rattle.overlay_plane.proofs.AlongLines.{winding_part-vertical, below_on_line, vertical_below}
 use Rattle.overlay_plane.proofs.JoinedLists.{total-map, total-flat_map, total-times, taken_out}
 use Rattle.overlay_plane.proofs.LineForms.{formE, side-start, side-end}
+use Rattle.overlay_plane.proofs.PieceCounts.{subj_of_piece, clip_of_piece}
 use Rattle.overlay_plane.proofs.Strip.{starts_first}
 use Rattle.overlay_plane.proofs.Telescopes.{rises_along, last_from-append}
 use Rattle.overlay_plane.proofs.Tests.{lt_from_test}
@@ -116,6 +117,6 @@ winding_by-cut count points es each forward on p =
 -- the law of edges cut on their lines
 pub cutting_on_lines_keeps_windings : CuttingOnLinesKeepsWindings
 cutting_on_lines_keeps_windings es points forward on = record {
-  subj = winding_by-cut subj_of points es (λ e s. refl) forward on;
-  clip = winding_by-cut clip_of points es (λ e s. refl) forward on;
+  subj = winding_by-cut subj_of points es subj_of_piece forward on;
+  clip = winding_by-cut clip_of points es clip_of_piece forward on;
 }

@@ -9,6 +9,7 @@ use Rattle.overlay_plane.specs.Regions.{IsRuled}
 use Rattle.overlay_plane.specs.SelectedSteps.{selected_steps}
 use Rattle.overlay_plane.specs.Contours.{alternating, all_steps}
 use Rattle.overlay_plane.specs.ContourWindings.{CutsKeepWindings, ThinnedContoursWindAlike, ContoursWind}
+use Rattle.overlay_plane.specs.Turn.{Hand}
 use Rattle.overlay_plane.proofs.AddedWindings.{winding-taken}
 use Rattle.overlay_plane.proofs.AlongLines.{winding_part}
 use Rattle.overlay_plane.proofs.CutWalks.{cuts_take_each_once}
@@ -35,17 +36,17 @@ thinned_contours_wind_alike keep (g ∷ gs) (t ∷ ts) each p =
 
 -- the selected steps of a ruled list alternate
 pub selected_alternate : (holds : ℤ → ℤ → Bool) (subj clip : CountedEdge → ℤ) (es : List CountedEdge) →
-    IsRuled holds subj clip es → (on_left : Bool) →
-    Alternates (selected_steps holds subj clip on_left es)
-selected_alternate holds subj clip es ruled on_left =
+    IsRuled holds subj clip es → (filled : Hand) →
+    Alternates (selected_steps holds subj clip filled es)
+selected_alternate holds subj clip es ruled filled =
     selected_steps_alternate holds subj clip es (arranged_by_subject holds subj clip es ruled)
-    (arranged_by_clip holds subj clip es ruled) on_left
-    (selected_steps holds subj clip on_left es) (selected_steps_of_edges holds subj clip on_left es)
+    (arranged_by_clip holds subj clip es ruled) filled
+    (selected_steps holds subj clip filled es) (selected_steps_of_edges holds subj clip filled es)
 
 -- their contours wind once round each point where the rule holds
 pub contours_wind : ContoursWind
-contours_wind holds subj clip es ruled on_left hand_of walks cut p =
-    cuts_keep_windings hand_of (selected_steps holds subj clip on_left es)
-    (selected_alternate holds subj clip es ruled on_left)
-    (selected_steps_once holds subj clip es ruled on_left) walks cut p
-    ∙ selected_steps_wind holds subj clip es ruled on_left p
+contours_wind holds subj clip es ruled filled hand_of walks cut p =
+    cuts_keep_windings hand_of (selected_steps holds subj clip filled es)
+    (selected_alternate holds subj clip es ruled filled)
+    (selected_steps_once holds subj clip es ruled filled) walks cut p
+    ∙ selected_steps_wind holds subj clip es ruled filled p

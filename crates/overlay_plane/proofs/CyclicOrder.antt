@@ -4,9 +4,9 @@ use Rattle.std.proofs.Common.{◌≡◌, ⊎_elim, ◌+◌, true, false, refl, �
 use Rattle.std.proofs.lemmas.Bool.{both_ways}
 use Rattle.overlay_geom.specs.Plane.{Point}
 use Rattle.overlay_geom.proofs.Signs.{linear}
-use Rattle.overlay_plane.specs.Turn.{Hand, turn, dot_at, part_of_turn, is_met_before, IsMetBefore}
+use Rattle.overlay_plane.specs.Turn.{Hand, turn, dot_at, part_of_turn, is_met_before, IsMetBefore, other_hand}
 use Rattle.overlay_plane.specs.Turn.Hand.{left, right}
-use Rattle.overlay_plane.specs.Rays.{other_hand, Apart, RaysInCyclicOrder}
+use Rattle.overlay_plane.specs.Rays.{Apart, RaysInCyclicOrder}
 use Rattle.overlay_plane.proofs.Tests.{same_tests}
 use Rattle.overlay_plane.proofs.Turning.{turn_exchanged}
 use Rattle.overlay_plane.proofs.TurnOrder.{part_early, part_late, part_opposite, by_part, first_cases, first_by_part}

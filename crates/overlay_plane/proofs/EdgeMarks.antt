@@ -5,6 +5,7 @@ use Rattle.std.specs.List.{list_any}
 use Rattle.std.proofs.lemmas.Bool.{both_ways}
 use Rattle.std.proofs.lemmas.List.Elements.{All-contains}
 use Rattle.std.proofs.lemmas.List.Folds.{Any-from_list_any, list_any-from_Any}
+use Rattle.overlay_geom.specs.Counts.{reversed_counts}
 use Rattle.overlay_geom.specs.Plane.{Step, Edge, edge_eq, is_forward}
 use Rattle.overlay_geom.specs.Edges.{CountedEdge, ends_of, counts_nothing}
 use Rattle.overlay_geom.specs.Merged.{edges_between, joined_edge, IsMerged}
@@ -16,8 +17,8 @@ use Rattle.overlay_plane.proofs.Entries.{Contains-filter, Contains-from_filter, 
 
 -- the mark of an edge in its own direction, or against it
 abbrev pub mark : Bool → CountedEdge → Bool
-mark true e = e.along
-mark false e = e.against
+mark true e = e.counts.along
+mark false e = e.counts.against
 
 -- a direction along a step, as one along its edge: the same where the step runs forward
 abbrev pub along_edge : Bool → Bool → Bool
@@ -31,21 +32,29 @@ marks d e s = mark (along_edge (is_forward s) d) e
 pub marks-along : (e : CountedEdge) (s : Step) → marks_along e s ≡ marks true e s
 marks-along e s = by (is_forward s)
   where
-    by : (t : Bool) → cond t e.along e.against ≡ mark (along_edge t true) e
+    by : (t : Bool) → cond t e.counts.along e.counts.against ≡ mark (along_edge t true) e
     by true = refl
     by false = refl
 
 pub marks-against : (e : CountedEdge) (s : Step) → marks_against e s ≡ marks false e s
 marks-against e s = by (is_forward s)
   where
-    by : (t : Bool) → cond t e.against e.along ≡ mark (along_edge t false) e
+    by : (t : Bool) → cond t e.counts.against e.counts.along ≡ mark (along_edge t false) e
     by true = refl
     by false = refl
 
 -- a piece has the mark that its edge gives to the step
 pub mark-piece : (d : Bool) (e : CountedEdge) (s : Step) → mark d (piece_along e s) ≡ marks d e s
-mark-piece true e s = marks-along e s
-mark-piece false e s = marks-against e s
+mark-piece true e s = by (is_forward s)
+  where
+    by : (t : Bool) → (cond t e.counts (reversed_counts e.counts)).along ≡ mark (along_edge t true) e
+    by true = refl
+    by false = refl
+mark-piece false e s = by (is_forward s)
+  where
+    by : (t : Bool) → (cond t e.counts (reversed_counts e.counts)).against ≡ mark (along_edge t false) e
+    by true = refl
+    by false = refl
 
 -- ---- edges between two ends
 

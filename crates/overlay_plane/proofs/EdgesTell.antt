@@ -27,9 +27,7 @@ module _ (filled : ℤ → Bool) (es : List CountedEdge) (fillable : IsFillable 
   ruled_by : (rule : Bool → Bool → Bool) → rule false false ≡ false →
       IsRuled (λ s c. rule (filled s) (filled c)) subj_of clip_of es
   ruled_by rule none = record {
-    forward = fillable.forward;
-    settled = fillable.settled;
-    distinct = fillable.distinct;
+    planar = fillable.planar;
     subj_balanced = fillable.balanced.subj;
     clip_balanced = fillable.balanced.clip;
     none = ap₂ rule fillable.none fillable.none ∙ none;
@@ -47,7 +45,7 @@ module _ (filled : ℤ → Bool) (es : List CountedEdge) (fillable : IsFillable 
   EdgeOrEnd = SomeEdge (has_both filled es) es ⊎ HasSharedEnd filled es
 
   forward_at : (e : CountedEdge) → Contains es e → point_lt e.a e.b ≡ true
-  forward_at e c = All-contains (λ f. point_lt f.a f.b ≡ true) es e fillable.forward c
+  forward_at e c = All-contains (λ f. point_lt f.a f.b ≡ true) es e fillable.planar.forward c
 
   -- an end of an edge at a point
   end_at : (e : CountedEdge) (p : PlanePoint) → IsEnd (ends_of e) p → (v : Point) × EndsAt v e × IsAt v p
@@ -117,10 +115,10 @@ module _ (filled : ℤ → Bool) (es : List CountedEdge) (fillable : IsFillable 
         k.entry,
         and_from (fills_a_side filled es subj_of k.edge) (fills_a_side filled es clip_of k.edge)
             (subst (λ (e : CountedEdge). fills_a_side filled es subj_of e ≡ true)
-            (one_entry es fillable.distinct s.edge k.edge s.entry k.entry same) s.fills) k.fills,
+            (one_entry es fillable.planar.distinct s.edge k.edge s.entry k.entry same) s.fills) k.fills,
       )
       by false apart =
-          let ends = fillable.settled s.edge k.edge s.entry k.entry apart p (s.on, k.on) in
+          let ends = fillable.planar.settled s.edge k.edge s.entry k.entry apart p (s.on, k.on) in
           let at_s = end_at s.edge p ends.0 in
           let at_k = end_at k.edge p ends.1 in
           both_there filled es fillable at_s.0 s.edge s.entry at_s.1 (inr (s.edge, s.entry, at_s.1, s.fills))

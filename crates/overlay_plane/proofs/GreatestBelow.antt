@@ -13,7 +13,7 @@ pub winding_above_the_greatest_below : WindingAboveTheGreatestBelow
 winding_above_the_greatest_below = record {
   above = λ count es r p g h. above_the_greatest_taken count es r p.x p.d p.positive
       (λ f. is_strictly_below (ends_of f) p)
-      (takes_below ends_of es r.settled p) g (record { entry = h.entry; is = h.below; greatest = h.greatest });
+      (takes_below ends_of es r.planar.settled p) g (record { entry = h.entry; is = h.below; greatest = h.greatest });
   none = λ count es p none. total-zero (λ f. cond (is_strictly_below (ends_of f) p) (count f) (pos 0)) es
       (λ f at. ap (λ t. cond t (count f) (pos 0)) (none f at));
 }

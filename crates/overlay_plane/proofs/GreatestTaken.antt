@@ -58,7 +58,8 @@ module _ (count : CountedEdge → ℤ) (es : List CountedEdge) (r : IsBalancedAr
   counted_taken f at = by (edge_eq (ends_of f) (ends_of g)) refl
     where
       one : edge_eq (ends_of f) (ends_of g) ≡ true → taken f ≡ true
-      one same = subst (λ (e : CountedEdge). taken e ≡ true) (sym (one_entry es r.distinct f g at h.entry same)) h.is
+      one same = subst (λ (e : CountedEdge). taken e ≡ true) (sym (one_entry es r.planar.distinct f g at h.entry same))
+          h.is
 
       by : (t : Bool) → edge_eq (ends_of f) (ends_of g) ≡ t → cond (taken f) (count f) (pos 0) ≡
           cond (under_greatest f) (count f) (pos 0) +ℤ cond t (count f) (pos 0)
@@ -73,6 +74,7 @@ module _ (count : CountedEdge → ℤ) (es : List CountedEdge) (r : IsBalancedAr
       counted_taken
       ∙ total-add (λ f. cond (under_greatest f) (count f) (pos 0))
       (λ f. cond (edge_eq (ends_of f) (ends_of g)) (count f) (pos 0)) es
-      ∙ ap₂ (λ v w. v +ℤ w) (one_winding_along_a_side es count r.forward r.settled r.balanced g h.entry x d positive
+      ∙ ap₂ (λ v w. v +ℤ w) (one_winding_along_a_side es count r.planar.forward r.planar.settled r.balanced g h.entry x
+      d positive
       (down.over g h.entry h.is))
-      (single_total es r.distinct count g h.entry)
+      (single_total es r.planar.distinct count g h.entry)

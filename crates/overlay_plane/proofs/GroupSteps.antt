@@ -17,9 +17,7 @@ use Rattle.overlay_plane.proofs.ShuffledCuts.{alternate_alike}
 pub part_along : (es : List CountedEdge) (steps part : List Step) → WalksAlong es steps →
     ((s : Step) → Contains part s → Contains steps s) → WalksAlong es part
 part_along es steps part along inside = record {
-  forward = along.forward;
-  settled = along.settled;
-  distinct = along.distinct;
+  planar = along.planar;
   along = λ s c. along.along s (inside s c);
 }
 

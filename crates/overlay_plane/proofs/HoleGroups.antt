@@ -8,13 +8,12 @@ use Rattle.overlay_geom.specs.Plane.{Step, Edge, point_lt, point_eq, edge_of}
 use Rattle.overlay_geom.specs.Edges.{CountedEdge}
 use Rattle.overlay_geom.proofs.Orders.{point_eq-same, point_lt-back}
 use Rattle.overlay_geom.proofs.Signs.{linear}
-use Rattle.overlay_plane.specs.Turn.{step_round, IsNextStep}
+use Rattle.overlay_plane.specs.Turn.{step_round, IsNextStep, Hand, other_hand}
 use Rattle.overlay_plane.specs.Turn.Hand.{left, right}
 use Rattle.overlay_plane.specs.Alternates.{Alternates}
 use Rattle.overlay_plane.specs.Nodes.{edge_turn, turns_left}
 use Rattle.overlay_plane.specs.BesideOrbits.{winding_beside, WalksAlong, IsBalancedPart}
 use Rattle.overlay_plane.specs.LeftmostSteps.{StepHasEndBefore, NoneTakenAbove, IsOutsideOfSteps}
-use Rattle.overlay_plane.specs.Contours.{filled_hand, empty_hand}
 use Rattle.overlay_plane.specs.Binding.{is_hole}
 use Rattle.overlay_plane.proofs.BalancedSteps.{orbits_are_balanced, orbits_have_each_once}
 use Rattle.overlay_plane.proofs.BeforeTheSteps.{end_before, nothing_before_the_steps}
@@ -34,11 +33,11 @@ left_one_way e f turns = test_from_ge (pos 0) (edge_turn f e)
     (let up = lt_from_test (pos 0) (edge_turn e f) turns in let back = edge_turn_exchanged e f in omega linear)
 
 -- where the winding is one number on the left and the right of a step, it is so on its filled and its empty side
-sides_alike : (on_left : Bool) (es : List CountedEdge) (taken : List Step) (s : Step) →
+sides_alike : (filled : Hand) (es : List CountedEdge) (taken : List Step) (s : Step) →
     winding_beside left es taken s ≡ winding_beside right es taken s →
-    winding_beside (filled_hand on_left) es taken s ≡ winding_beside (empty_hand on_left) es taken s
-sides_alike true es taken s same = same
-sides_alike false es taken s same = sym same
+    winding_beside filled es taken s ≡ winding_beside (other_hand filled) es taken s
+sides_alike left es taken s same = same
+sides_alike right es taken s same = sym same
 
 -- the second edge starts before the first, or in the same point and not below it
 abbrev pub StartsNoLater : Edge → Edge → Type 0
@@ -56,16 +55,16 @@ one_no_later e f = by (point_lt f.a e.a) (point_eq f.a e.a) (turns_left f e) ref
     by false true false before same turns = inl (inr (point_eq-same f.a e.a same, turns))
 
 module _ (es : List CountedEdge) (steps : List Step) (along : WalksAlong es steps) (alternates : Alternates steps)
-    (on_left : Bool) where
+    (filled : Hand) where
   -- the edges of steps lead forward
   edge_forward : (s : Step) → Contains steps s → point_lt (edge_of s).a (edge_of s).b ≡ true
   edge_forward s c = let own = along.along s c in
       ap (λ (f : Edge). point_lt f.a f.b) own.2
-      ∙ All-contains (λ e. point_lt e.a e.b ≡ true) es own.0 along.forward own.1
+      ∙ All-contains (λ e. point_lt e.a e.b ≡ true) es own.0 along.planar.forward own.1
 
   -- the walk is a group
   abbrev pub IsGroup : List Step → Type 0
-  IsGroup group = IsFromStart steps (filled_hand on_left) group
+  IsGroup group = IsFromStart steps filled group
 
   -- the start of a group
   abbrev start_of : List Step → Step
@@ -74,42 +73,42 @@ module _ (es : List CountedEdge) (steps : List Step) (along : WalksAlong es step
   module _ (group : List Step) (own : IsGroup group) where
     -- its steps are among all of them
     inside : (s : Step) → Contains group s → Contains steps s
-    inside = orbit_inside steps alternates (filled_hand on_left) group own.orbit
+    inside = orbit_inside steps alternates filled group own.orbit
 
     -- and have balanced counts
     part : IsBalancedPart es steps group
-    part = orbits_are_balanced es steps along (filled_hand on_left) group own.orbit
+    part = orbits_are_balanced es steps along filled group own.orbit
 
     -- its winding is 0 up to its start
     outside : IsOutsideOfSteps es steps group (edge_of (start_of group)).a
     outside = nothing_before_the_steps es steps group along part (edge_of (start_of group)).a own.start.lowest
 
-    module _ (hole : is_hole on_left group ≡ true) where
+    module _ (hole : is_hole filled group ≡ true) where
       -- so it is 0 on the filled sides of a hole, since the start is filled above
-      filled_zero : (s : Step) → Contains group s → winding_beside (filled_hand on_left) es group s ≡ pos 0
+      filled_zero : (s : Step) → Contains group s → winding_beside filled es group s ≡ pos 0
       filled_zero s c =
-          one_winding_along_orbits es steps group along alternates part (filled_hand on_left) group own.orbit s
+          one_winding_along_orbits es steps group along alternates part filled group own.orbit s
           (start_of group) c own.start.among
-          ∙ filled_over on_left es group (start_of group) (first_filled on_left group hole)
+          ∙ filled_over filled es group (start_of group) (first_filled filled group hole)
           ∙ outside.over_top_step (start_of group) (inside (start_of group) own.start.among) refl own.start.top
 
       -- and another number on the empty ones
-      empty_not_zero : (s : Step) → Contains group s → ¬ (winding_beside (empty_hand on_left) es group s ≡ pos 0)
-      empty_not_zero s c = not_both_zero on_left es group s
+      empty_not_zero : (s : Step) → Contains group s → ¬ (winding_beside (other_hand filled) es group s ≡ pos 0)
+      empty_not_zero s c = not_both_zero filled es group s
           ((winding_across_alternating_steps es steps group alternates inside).rises
-          (orbits_have_each_once steps (filled_hand on_left)
-          (alternating_steps_lead_on steps alternates (filled_hand on_left)) group own.orbit) s c)
+          (orbits_have_each_once steps filled
+          (alternating_steps_lead_on steps alternates filled) group own.orbit) s c)
           (filled_zero s c)
 
   module _ (first second : List Step) (own : IsGroup first) (other : IsGroup second) where
     -- above a start that is no later the winding is 0, and on both sides of one that is earlier
-    zero_at_start : is_hole on_left second ≡ true → StartsNoLater (edge_of (start_of first))
+    zero_at_start : is_hole filled second ≡ true → StartsNoLater (edge_of (start_of first))
         (edge_of (start_of second)) →
-        winding_beside (filled_hand on_left) es first (start_of second) ≡ pos 0
+        winding_beside filled es first (start_of second) ≡ pos 0
     zero_at_start hole no_later =
         elim no_later [
-          | inl before ↦ outside_first.beside_earlier (filled_hand on_left) (start_of second) at_start (has_end before)
-          | inr level ↦ filled_over on_left es first (start_of second) (first_filled on_left second hole)
+          | inl before ↦ outside_first.beside_earlier filled (start_of second) at_start (has_end before)
+          | inr level ↦ filled_over filled es first (start_of second) (first_filled filled second hole)
               ∙ outside_first.over_top_step (start_of second) at_start level.0 (none_above level.1)
         ]
       where
@@ -138,14 +137,14 @@ module _ (es : List CountedEdge) (steps : List Step) (along : WalksAlong es step
     AreApart = (s : Step) → Contains second s → ¬ (Contains first s)
 
     -- so the winding of the first is 0 beside the second, if that starts no later
-    zero_beside : AreApart → is_hole on_left second ≡ true → StartsNoLater (edge_of (start_of first))
+    zero_beside : AreApart → is_hole filled second ≡ true → StartsNoLater (edge_of (start_of first))
         (edge_of (start_of second)) →
-        (s : Step) → Contains second s → winding_beside (empty_hand on_left) es first s ≡ pos 0
+        (s : Step) → Contains second s → winding_beside (other_hand filled) es first s ≡ pos 0
     zero_beside apart hole no_later s c =
-        sym (sides_alike on_left es first s
+        sym (sides_alike filled es first s
         ((winding_across_alternating_steps es steps first alternates (inside first own)).stays s
         (inside second other s c) (apart s c)))
-        ∙ one_winding_along_orbits es steps first along alternates (part first own) (filled_hand on_left) second
+        ∙ one_winding_along_orbits es steps first along alternates (part first own) filled second
         other.orbit s (start_of second) c other.start.among
         ∙ zero_at_start hole no_later
 
@@ -155,16 +154,16 @@ module _ (es : List CountedEdge) (steps : List Step) (along : WalksAlong es step
     -- the winding of a group on the empty side goes over to the next step
     goes_over : (group : List Step) (own : IsGroup group) → ((s : Step) → Contains group s → Contains all s) →
         (s t : Step) → Contains all s →
-        IsNextStep all (empty_hand on_left) s t → winding_beside (empty_hand on_left) es group s ≡ winding_beside
-        (empty_hand on_left) es group t
+        IsNextStep all (other_hand filled) s t → winding_beside (other_hand filled) es group s ≡ winding_beside
+        (other_hand filled) es group t
     goes_over group own within s t c next = one_winding_to_the_next es all group
         (part_along es steps all along all_inside) all_alternate
-        (record { inside = within; balanced = (part group own).balanced }) (empty_hand on_left) s t c next
+        (record { inside = within; balanced = (part group own).balanced }) (other_hand filled) s t c next
 
-    pub stays_inside : (first second : List Step) → IsGroup first → IsGroup second → is_hole on_left first ≡ true →
-        is_hole on_left second ≡ true →
+    pub stays_inside : (first second : List Step) → IsGroup first → IsGroup second → is_hole filled first ≡ true →
+        is_hole filled second ≡ true →
         ((s : Step) → Contains first s → Contains all s) → ((s : Step) → Contains second s → Contains all s) →
-        (s t : Step) → Contains first s → Contains second t → IsNextStep all (empty_hand on_left) s t →
+        (s t : Step) → Contains first s → Contains second t → IsNextStep all (other_hand filled) s t →
         ¬ (¬ (Contains first t))
     stays_inside first second own other hole other_hole within other_within s t c d next none = ⊎_elim
         (λ no_later. empty_not_zero first own hole s c
@@ -177,6 +176,6 @@ module _ (es : List CountedEdge) (steps : List Step) (along : WalksAlong es step
       where
         apart : (u : Step) → Contains second u → ¬ (Contains first u)
         apart u in_second in_first = none
-            ((orbits_are_apart steps (filled_hand on_left)
-            (alternating_steps_lead_on steps alternates (filled_hand on_left)) first second own.orbit other.orbit u
+            ((orbits_are_apart steps filled
+            (alternating_steps_lead_on steps alternates filled) first second own.orbit other.orbit u
             in_first in_second t).1 d)

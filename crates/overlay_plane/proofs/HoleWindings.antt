@@ -1,16 +1,16 @@
 -- The edge at a hole's anchor has its empty side above: along the hole's empty side its winding is one number, which is
 -- not 0, since the start has its filled side outside; and below the anchor the winding is 0.
-use Rattle.std.proofs.Common.{◌≡◌, Bool, true, false, cond, ℤ, pos, ◌+ℤ◌, List, [], ◌∷◌, Contains, refl, sym, ap, ◌∙◌}
+use Rattle.std.proofs.Common.{◌≡◌, true, false, cond, ℤ, pos, ◌+ℤ◌, List, [], ◌∷◌, Contains, refl, sym, ap, ◌∙◌}
 use Rattle.std.proofs.Common.{subst, arith}
 use Rattle.std.proofs.lemmas.Bool.{false≢true, false_from_ne_true, not-true}
 use Rattle.overlay_geom.specs.Plane.{Step, Edge, is_forward, edge_of}
 use Rattle.overlay_geom.specs.Edges.{CountedEdge}
 use Rattle.overlay_geom.proofs.Signs.{linear}
-use Rattle.overlay_plane.specs.Turn.{step_round, IsOrbit, no_step}
+use Rattle.overlay_plane.specs.Turn.{step_round, IsOrbit, no_step, Hand, other_hand}
 use Rattle.overlay_plane.specs.Turn.Hand.{left, right}
 use Rattle.overlay_plane.specs.BesideOrbits.{winding_under, winding_over, winding_beside, IsBalancedPart}
 use Rattle.overlay_plane.specs.LeftmostSteps.{NoneTakenBelow}
-use Rattle.overlay_plane.specs.Contours.{is_filled_above, filled_hand, empty_hand, outline_or_hole_hand}
+use Rattle.overlay_plane.specs.Contours.{is_filled_above, outline_or_hole_hand}
 use Rattle.overlay_plane.specs.Anchors.{IsAnchor}
 use Rattle.overlay_plane.specs.Binding.{is_hole}
 use Rattle.overlay_plane.proofs.BalancedSteps.{orbits_are_balanced}
@@ -22,70 +22,70 @@ use Rattle.overlay_plane.proofs.ItemsRound.{item_round-here, Contains-item_round
 use Rattle.overlay_plane.proofs.WalksOfCuts.{IsWalkOfCut}
 
 -- the first step of a hole is filled above
-pub first_filled : (on_left : Bool) (walk : List Step) → is_hole on_left walk ≡ true →
-    is_filled_above on_left (step_round walk 0) ≡ true
-first_filled on_left [] h = absurd (false≢true h)
-first_filled on_left (s ∷ ss) h = subst (λ (t : Step). is_filled_above on_left t ≡ true)
+pub first_filled : (filled : Hand) (walk : List Step) → is_hole filled walk ≡ true →
+    is_filled_above filled (step_round walk 0) ≡ true
+first_filled filled [] h = absurd (false≢true h)
+first_filled filled (s ∷ ss) h = subst (λ (t : Step). is_filled_above filled t ≡ true)
     (sym (item_round-here (s ∷ ss) no_step 0 (omega arith))) h
 
 -- where a step is filled above, its empty side is the lower one of its edge
-empty_below : (on_left : Bool) (es : List CountedEdge) (taken : List Step) (t : Step) →
-    is_filled_above on_left t ≡ true →
-    winding_beside (empty_hand on_left) es taken t ≡ winding_under es taken (edge_of t)
-empty_below true es taken t h =
+pub empty_below : (filled : Hand) (es : List CountedEdge) (taken : List Step) (t : Step) →
+    is_filled_above filled t ≡ true →
+    winding_beside (other_hand filled) es taken t ≡ winding_under es taken (edge_of t)
+empty_below left es taken t h =
     ap (λ b. cond b (winding_under es taken (edge_of t)) (winding_over es taken (edge_of t))) h
-empty_below false es taken t h =
+empty_below right es taken t h =
     ap (λ b. cond b (winding_over es taken (edge_of t)) (winding_under es taken (edge_of t)))
     (not-true (is_forward t) h)
 
 -- and its filled side the upper one
-pub filled_over : (on_left : Bool) (es : List CountedEdge) (taken : List Step) (t : Step) →
-    is_filled_above on_left t ≡ true →
-    winding_beside (filled_hand on_left) es taken t ≡ winding_over es taken (edge_of t)
-filled_over true es taken t h =
+pub filled_over : (filled : Hand) (es : List CountedEdge) (taken : List Step) (t : Step) →
+    is_filled_above filled t ≡ true →
+    winding_beside filled es taken t ≡ winding_over es taken (edge_of t)
+filled_over left es taken t h =
     ap (λ b. cond b (winding_over es taken (edge_of t)) (winding_under es taken (edge_of t))) h
-filled_over false es taken t h =
+filled_over right es taken t h =
     ap (λ b. cond b (winding_under es taken (edge_of t)) (winding_over es taken (edge_of t)))
     (not-true (is_forward t) h)
 
 -- the winding is not 0 on both sides of a step across which it rises by 1
-pub not_both_zero : (on_left : Bool) (es : List CountedEdge) (taken : List Step) (t : Step) →
+pub not_both_zero : (filled : Hand) (es : List CountedEdge) (taken : List Step) (t : Step) →
     winding_beside left es taken t ≡ winding_beside right es taken t +ℤ pos 1 →
-    winding_beside (filled_hand on_left) es taken t ≡ pos 0 →
-    ¬ (winding_beside (empty_hand on_left) es taken t ≡ pos 0)
-not_both_zero true es taken t rises filled empty = apart (winding_beside left es taken t)
-    (winding_beside right es taken t) rises filled empty
+    winding_beside filled es taken t ≡ pos 0 →
+    ¬ (winding_beside (other_hand filled) es taken t ≡ pos 0)
+not_both_zero left es taken t rises over empty = apart (winding_beside left es taken t)
+    (winding_beside right es taken t) rises over empty
   where
     apart : (a b : ℤ) → a ≡ b +ℤ pos 1 → a ≡ pos 0 → ¬ (b ≡ pos 0)
     apart a b h i j = omega linear
-not_both_zero false es taken t rises filled empty = apart (winding_beside left es taken t)
-    (winding_beside right es taken t) rises empty filled
+not_both_zero right es taken t rises over empty = apart (winding_beside left es taken t)
+    (winding_beside right es taken t) rises empty over
   where
     apart : (a b : ℤ) → a ≡ b +ℤ pos 1 → a ≡ pos 0 → ¬ (b ≡ pos 0)
     apart a b h i j = omega linear
 
 -- the anchor's edge has a step of the walk that is not filled above
-pub record HasEmptyAbove (on_left : Bool) (walk : List Step) (e : Edge) : Type 0 where
+pub record HasEmptyAbove (filled : Hand) (walk : List Step) (e : Edge) : Type 0 where
   pub step : Step
   pub among : Contains walk step
   pub along : edge_of step ≡ e
-  pub empty : is_filled_above on_left step ≡ false
+  pub empty : is_filled_above filled step ≡ false
 
-module _ (es : List CountedEdge) (on_left : Bool) (steps walk : List Step)
-    (own : IsWalkOfCut es (outline_or_hole_hand on_left) steps walk)
-    (hole : is_hole on_left walk ≡ true) where
+module _ (es : List CountedEdge) (filled : Hand) (steps walk : List Step)
+    (own : IsWalkOfCut es (outline_or_hole_hand filled) steps walk)
+    (hole : is_hole filled walk ≡ true) where
   -- the hole's start
   abbrev start : Step
   start = step_round walk 0
 
   -- the hole is its orbit by the empty hand
-  orbit : IsOrbit own.remaining (empty_hand on_left) walk
+  orbit : IsOrbit own.remaining (other_hand filled) walk
   orbit = subst (λ h. IsOrbit own.remaining h walk)
-      (ap (λ b. cond b (empty_hand on_left) (filled_hand on_left)) (first_filled on_left walk hole)) own.first.orbit
+      (ap (λ b. cond b (other_hand filled) filled) (first_filled filled walk hole)) own.first.orbit
 
   -- its steps have balanced counts
   part : IsBalancedPart es own.remaining walk
-  part = orbits_are_balanced es own.remaining own.along (empty_hand on_left) walk orbit
+  part = orbits_are_balanced es own.remaining own.along (other_hand filled) walk orbit
 
   -- and its start is one of them
   start_taken : Contains walk start
@@ -98,19 +98,19 @@ module _ (es : List CountedEdge) (on_left : Bool) (steps walk : List Step)
       start own.first.start.among refl (λ t c. own.first.start.top t (own.within t c))
 
   -- so below its start it is not
-  not_zero : ¬ (winding_beside (empty_hand on_left) es walk start ≡ pos 0)
-  not_zero = not_both_zero on_left es walk start
+  not_zero : ¬ (winding_beside (other_hand filled) es walk start ≡ pos 0)
+  not_zero = not_both_zero filled es walk start
       ((winding_across_alternating_steps es own.remaining walk own.first.alternate own.within).rises own.contour.once
       start start_taken)
-      (filled_over on_left es walk start (first_filled on_left walk hole) ∙ zero_over)
+      (filled_over filled es walk start (first_filled filled walk hole) ∙ zero_over)
 
   -- and the edge at its anchor, below which it is 0, is not filled above
-  pub empty_above_anchor : (e : Edge) → IsAnchor walk e → HasEmptyAbove on_left walk e
+  pub empty_above_anchor : (e : Edge) → IsAnchor walk e → HasEmptyAbove filled walk e
   empty_above_anchor e anchored = record {
     step = step;
     among = among;
     along = along;
-    empty = false_from_ne_true (is_filled_above on_left step) against;
+    empty = false_from_ne_true (is_filled_above filled step) against;
   }
     where
       found : (t : Step) × Contains walk t × (edge_of t ≡ e)
@@ -130,8 +130,8 @@ module _ (es : List CountedEdge) (on_left : Bool) (steps walk : List Step)
           anchored.leftmost).under_lowest_step step (own.within step among)
           (ap (λ f. f.a) along) (subst (λ (f : Edge). NoneTakenBelow walk e.a f) (sym along) anchored.lowest)
 
-      against : ¬ (is_filled_above on_left step ≡ true)
-      against filled = not_zero
-          (one_winding_along_orbits es own.remaining walk own.along own.first.alternate part (empty_hand on_left) walk
+      against : ¬ (is_filled_above filled step ≡ true)
+      against over = not_zero
+          (one_winding_along_orbits es own.remaining walk own.along own.first.alternate part (other_hand filled) walk
           orbit start step start_taken among
-          ∙ empty_below on_left es walk step filled ∙ zero_under)
+          ∙ empty_below filled es walk step over ∙ zero_under)

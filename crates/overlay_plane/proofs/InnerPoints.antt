@@ -304,14 +304,15 @@ pub winding_inside : (count : CountedEdge → ℤ) (es : List CountedEdge) → I
     (e : CountedEdge) → Contains es e →
     (p : PlanePoint) → IsOn (ends_of e) p → ¬ (IsEnd (ends_of e) p) → winding_by count es p ≡ winding_below count es e
 winding_inside count es arranged e c p on no_end = by_lt_z (pos 0) (width (ends_of e))
-    (λ wide. one_winding_at_inner_points es count arranged.forward arranged.settled arranged.balanced e c p on.on_line
+    (λ wide. one_winding_at_inner_points es count arranged.planar.forward arranged.planar.settled arranged.balanced e c
+    p on.on_line
     (inner (ends_of e) forward p on no_end wide))
     (λ narrow. total-same (λ f. cond (is_strictly_below (ends_of f) p) (count f) (pos 0))
     (λ f. cond (is_strictly_below (ends_of f) (midpoint (ends_of e))) (count f) (pos 0)) es
     (λ f d. ap (λ t. cond t (count f) (pos 0)) (one_test narrow f d)))
   where
     forward : point_lt e.a e.b ≡ true
-    forward = All-contains (λ f. point_lt f.a f.b ≡ true) es e arranged.forward c
+    forward = All-contains (λ f. point_lt f.a f.b ≡ true) es e arranged.planar.forward c
 
     one_test : width (ends_of e) ≤ℤ pos 0 → (f : CountedEdge) → Contains es f →
         is_strictly_below (ends_of f) p ≡ is_strictly_below (ends_of f) (midpoint (ends_of e))
@@ -336,4 +337,4 @@ winding_inside count es arranged e c p on no_end = by_lt_z (pos 0) (width (ends_
                 (and_parts (covers (ends_of f) q.x q.d) (int_lt (pos 0) (side (ends_of f) q)) t).0 in
                 let one = ap (λ (g : Edge). width g) (edge_eq-same (ends_of e) (ends_of f) same) in
                 omega linear)
-            by false other = arranged.settled e f c d other
+            by false other = arranged.planar.settled e f c d other

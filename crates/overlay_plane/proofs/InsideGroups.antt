@@ -1,7 +1,7 @@
 -- An orbit by the empty hand in a group, an orbit by the filled hand, visits no point twice: the stretch between two
 -- visits would wind alike on the empty side before and after the second one, and on the filled side, and yet rise by 1
 -- across one of the two steps.
-use Rattle.std.proofs.Common.{◌≡◌, ℕ, suc, ◌+◌, ◌-◌, ◌<◌, Bool, true, false, ℤ, pos, ◌+ℤ◌, List, length, get_or}
+use Rattle.std.proofs.Common.{◌≡◌, ℕ, suc, ◌+◌, ◌-◌, ◌<◌, false, ℤ, pos, ◌+ℤ◌, List, length, get_or}
 use Rattle.std.proofs.Common.{Contains, AllPairs, sym, ap, ◌∙◌, subst, arith}
 use Rattle.std.proofs.lemmas.Bool.{false_from_ne_true}
 use Rattle.std.proofs.lemmas.List.{get_or_default}
@@ -9,12 +9,11 @@ use Rattle.overlay_geom.specs.Plane.{Point, Step, point_eq, points_of, total}
 use Rattle.overlay_geom.specs.Edges.{CountedEdge}
 use Rattle.overlay_geom.proofs.Orders.{point_eq-same}
 use Rattle.overlay_geom.proofs.Signs.{linear}
-use Rattle.overlay_plane.specs.Turn.{step_round, no_step}
+use Rattle.overlay_plane.specs.Turn.{step_round, no_step, Hand, other_hand}
 use Rattle.overlay_plane.specs.Turn.Hand.{left, right}
 use Rattle.overlay_plane.specs.Alternates.{Alternates}
 use Rattle.overlay_plane.specs.BesideOrbits.{winding_beside, WalksAlong, IsBalancedPart, HasEachOnce}
 use Rattle.overlay_plane.specs.BesideOrbits.{WindingAcrossSteps}
-use Rattle.overlay_plane.specs.Contours.{filled_hand, empty_hand}
 use Rattle.overlay_plane.specs.Groups.{HasEachPointOnce, IsInsideAGroup, WalksInsideGroupsAreSimple}
 use Rattle.overlay_plane.proofs.BalancedSteps.{balanced_from_rises}
 use Rattle.overlay_plane.proofs.BesideAcross.{winding_across_alternating_steps}
@@ -34,32 +33,32 @@ rises_across_one : (a b c d : ℤ) → a ≡ c → b ≡ d → a ≡ b +ℤ pos 
 rises_across_one a b c d ac bd rises stays = omega linear
 
 -- so it is for the windings on the filled side and on the empty one
-not_both_alike : (on_left : Bool) (es : List CountedEdge) (taken : List Step) (s t : Step) →
-    winding_beside (filled_hand on_left) es taken s ≡ winding_beside (filled_hand on_left) es taken t →
-    winding_beside (empty_hand on_left) es taken s ≡ winding_beside (empty_hand on_left) es taken t →
+not_both_alike : (filled : Hand) (es : List CountedEdge) (taken : List Step) (s t : Step) →
+    winding_beside filled es taken s ≡ winding_beside filled es taken t →
+    winding_beside (other_hand filled) es taken s ≡ winding_beside (other_hand filled) es taken t →
     winding_beside left es taken s ≡ winding_beside right es taken s +ℤ pos 1 →
     ¬ (winding_beside left es taken t ≡ winding_beside right es taken t)
-not_both_alike true es taken s t filled empty =
+not_both_alike left es taken s t over empty =
     rises_across_one (winding_beside left es taken s) (winding_beside right es taken s) (winding_beside left es taken t)
-    (winding_beside right es taken t) filled empty
-not_both_alike false es taken s t filled empty =
+    (winding_beside right es taken t) over empty
+not_both_alike right es taken s t over empty =
     rises_across_one (winding_beside left es taken s) (winding_beside right es taken s) (winding_beside left es taken t)
-    (winding_beside right es taken t) empty filled
+    (winding_beside right es taken t) empty over
 
 module _ (es : List CountedEdge) (steps : List Step) (along : WalksAlong es steps) (alternates : Alternates steps)
-    (on_left : Bool)
-    (walk : List Step) (own : IsInsideAGroup on_left steps walk) where
+    (filled : Hand)
+    (walk : List Step) (own : IsInsideAGroup filled steps walk) where
   -- the group alternates
   group_alternates : Alternates own.group
-  group_alternates = orbit_alternates steps alternates (filled_hand on_left) own.group own.grouped
+  group_alternates = orbit_alternates steps alternates filled own.group own.grouped
 
   -- and is one of the steps
   group_inside : (s : Step) → Contains own.group s → Contains steps s
-  group_inside = orbit_inside steps alternates (filled_hand on_left) own.group own.grouped
+  group_inside = orbit_inside steps alternates filled own.group own.grouped
 
   -- each step of the walk is one of the group
   walk_in_group : (k : ℕ) → Contains own.group (step_round walk k)
-  walk_in_group = step_inside own.group (empty_hand on_left) walk own.inside
+  walk_in_group = step_inside own.group (other_hand filled) walk own.inside
 
   module _ (i n : ℕ) (within : suc (i + n) < length walk)
       (again : (step_round walk i).from ≡ (step_round walk (suc (i + n))).from) where
@@ -77,7 +76,7 @@ module _ (es : List CountedEdge) (steps : List Step) (along : WalksAlong es step
     level : (g : Point → ℤ) → total (signed_rise g) taken ≡ pos 0
     unfolding taken
     level g =
-        let rises = stretch_rises own.group (empty_hand on_left) walk own.inside g i (suc n) in
+        let rises = stretch_rises own.group (other_hand filled) walk own.inside g i (suc n) in
         let one_more : i + suc n ≡ suc (i + n) = omega arith in
         let last = ap (λ k. g (step_round walk k).from) one_more in
         let same = ap g again in
@@ -95,8 +94,8 @@ module _ (es : List CountedEdge) (steps : List Step) (along : WalksAlong es step
     taken_once : HasEachOnce taken
     unfolding taken
     taken_once = AllPairs-from_each Differ (stretch walk i (suc n))
-        (stretch_once own.group (empty_hand on_left) walk own.inside
-        (alternating_steps_lead_on own.group group_alternates (empty_hand on_left)) i (suc n) (omega arith))
+        (stretch_once own.group (other_hand filled) walk own.inside
+        (alternating_steps_lead_on own.group group_alternates (other_hand filled)) i (suc n) (omega arith))
 
     -- the step after them is none of them
     next_not_taken : ¬ (Contains taken (step_round walk (suc (i + n))))
@@ -104,8 +103,8 @@ module _ (es : List CountedEdge) (steps : List Step) (along : WalksAlong es step
     next_not_taken c =
         let at = place_in_stretch walk i (suc n) (step_round walk (suc (i + n))) c in
         let to = at.2 in
-        let one = once_each own.group (empty_hand on_left) walk own.inside
-        (alternating_steps_lead_on own.group group_alternates (empty_hand on_left)) at.0 (suc (i + n))
+        let one = once_each own.group (other_hand filled) walk own.inside
+        (alternating_steps_lead_on own.group group_alternates (other_hand filled)) at.0 (suc (i + n))
         (omega arith) within at.3 in
         absurd (omega arith)
 
@@ -120,14 +119,14 @@ module _ (es : List CountedEdge) (steps : List Step) (along : WalksAlong es step
 
     -- so there are no two visits
     no_second_visit : ⊥
-    no_second_visit = not_both_alike on_left es taken (step_round walk (i + n)) (step_round walk (suc (i + n)))
-        (one_winding_along_orbits es steps taken along alternates part_of_steps (filled_hand on_left)
+    no_second_visit = not_both_alike filled es taken (step_round walk (i + n)) (step_round walk (suc (i + n)))
+        (one_winding_along_orbits es steps taken along alternates part_of_steps filled
         own.group own.grouped
         (step_round walk (i + n)) (step_round walk (suc (i + n))) (walk_in_group (i + n)) (walk_in_group (suc (i + n))))
         (one_winding_to_the_next es own.group taken (part_along es steps own.group along group_inside) group_alternates
-        part_of_group (empty_hand on_left)
+        part_of_group (other_hand filled)
         (step_round walk (i + n)) (step_round walk (suc (i + n))) (walk_in_group (i + n))
-        (goes_on_round own.group (empty_hand on_left) walk own.inside (i + n)))
+        (goes_on_round own.group (other_hand filled) walk own.inside (i + n)))
         (across.rises taken_once (step_round walk (i + n)) last_taken)
         (across.stays (step_round walk (suc (i + n))) (walk_in_group (suc (i + n))) next_not_taken)
 
@@ -155,8 +154,8 @@ module _ (es : List CountedEdge) (steps : List Step) (along : WalksAlong es step
 
 -- the law
 pub walks_inside_groups_are_simple : WalksInsideGroupsAreSimple
-walks_inside_groups_are_simple es steps along alternates on_left walk own = record {
-  contour = orbits_are_contours own.group (group_alternates es steps along alternates on_left walk own)
-      (empty_hand on_left) walk own.inside;
-  points_once = points_once es steps along alternates on_left walk own;
+walks_inside_groups_are_simple es steps along alternates filled walk own = record {
+  contour = orbits_are_contours own.group (group_alternates es steps along alternates filled walk own)
+      (other_hand filled) walk own.inside;
+  points_once = points_once es steps along alternates filled walk own;
 }

@@ -4,11 +4,11 @@ use Rattle.std.proofs.Common.{◌≡◌, ℕ, zero, suc, ◌+◌, Bool, true, fa
 use Rattle.std.proofs.lemmas.Bool.{both_ways}
 use Rattle.std.proofs.lemmas.List.Elements.{All-contains}
 use Rattle.overlay_geom.specs.Plane.{Step}
-use Rattle.overlay_plane.specs.Turn.{Hand, step_round, is_met_before, IsNextStep}
+use Rattle.overlay_plane.specs.Turn.{Hand, step_round, is_met_before, IsNextStep, other_hand}
 use Rattle.overlay_plane.specs.Alternates.{Alternates}
 use Rattle.overlay_plane.specs.NextSteps.{IsClosedUnderNext}
 use Rattle.overlay_plane.specs.Orbits.{is_step_of}
-use Rattle.overlay_plane.specs.Contours.{filled_hand, empty_hand, IsCutInto, all_steps}
+use Rattle.overlay_plane.specs.Contours.{IsCutInto, all_steps}
 use Rattle.overlay_plane.specs.Binding.{is_hole}
 use Rattle.overlay_plane.specs.Groups.{OrbitsOfHoleGroupsAreInsideOne}
 use Rattle.overlay_plane.proofs.ClosedParts.{closed_parts_alternate}
@@ -43,12 +43,12 @@ next_among_fewer steps part inside hand s t next c = record {
       (inside u d));
 }
 
-module _ (steps : List Step) (alternates : Alternates steps) (on_left : Bool) (groups : List (List Step))
-    (grouped : IsCutInto (λ s. filled_hand on_left) steps groups) where
+module _ (steps : List Step) (alternates : Alternates steps) (filled : Hand) (groups : List (List Step))
+    (grouped : IsCutInto (λ s. filled) steps groups) where
   -- each group is an orbit, from its start
-  pub group_of : (group : List Step) → Contains groups group → IsFromStart steps (filled_hand on_left) group
-  group_of = walks_from_starts (filled_hand on_left) steps
-      (alternating_steps_lead_on steps alternates (filled_hand on_left)) groups grouped
+  pub group_of : (group : List Step) → Contains groups group → IsFromStart steps filled group
+  group_of = walks_from_starts filled steps
+      (alternating_steps_lead_on steps alternates filled) groups grouped
 
   module _ (test : List Step → Bool) where
     -- the steps of the groups that pass a test
@@ -72,10 +72,10 @@ module _ (steps : List Step) (alternates : Alternates steps) (on_left : Bool) (g
     -- they are among all steps
     pub passing_inside : (s : Step) → Contains passing s → Contains steps s
     passing_inside s c = let found = found_group s c in
-        orbit_inside steps alternates (filled_hand on_left) found.0 (group_of found.0 found.1).orbit s found.3
+        orbit_inside steps alternates filled found.0 (group_of found.0 found.1).orbit s found.3
 
     -- with each step they have the next one by the filled hand, and the one before
-    closed : IsClosedUnderNext steps (filled_hand on_left) (is_step_of passing)
+    closed : IsClosedUnderNext steps filled (is_step_of passing)
     closed s t c next = same_tests (is_step_of passing s) (is_step_of passing t)
         (λ e. let found = found_group s ((is_step_of_decides passing s).0 e) in
         (is_step_of_decides passing t).1 (in_passing found.0 found.1 found.2 t ((cycle found.0 found.1).0 found.3)))
@@ -84,8 +84,8 @@ module _ (steps : List Step) (alternates : Alternates steps) (on_left : Bool) (g
       where
         cycle : (group : List Step) → Contains groups group →
             (Contains group s → Contains group t) × (Contains group t → Contains group s)
-        cycle group at = (orbits_are_cycles steps (filled_hand on_left)
-            (alternating_steps_lead_on steps alternates (filled_hand on_left)) group (group_of group at).orbit).closed s
+        cycle group at = (orbits_are_cycles steps filled
+            (alternating_steps_lead_on steps alternates filled) group (group_of group at).orbit).closed s
             t c next
 
     -- so they alternate
@@ -94,44 +94,44 @@ module _ (steps : List Step) (alternates : Alternates steps) (on_left : Bool) (g
       (λ s c. (is_step_of_decides passing s).0 (Contains-from_filter (is_step_of passing) steps s c).1),
       (λ s c. Contains-filter (is_step_of passing) steps s (passing_inside s c) ((is_step_of_decides passing s).1 c)),
     )
-        (closed_parts_alternate steps alternates (filled_hand on_left) (is_step_of passing) closed).taken_alternate
+        (closed_parts_alternate steps alternates filled (is_step_of passing) closed).taken_alternate
 
 -- an orbit of the steps of hole groups stays inside the group of its first step
 pub orbits_of_hole_groups_are_inside_one : OrbitsOfHoleGroupsAreInsideOne
-orbits_of_hole_groups_are_inside_one es steps along alternates on_left groups grouped walk orbit = record {
+orbits_of_hole_groups_are_inside_one es steps along alternates filled groups grouped walk orbit = record {
   group = found.0;
   among = found.1;
   hole = found.2;
   inside = record {
     some = orbit.some;
     goes_on = λ k h. next_among_fewer all found.0
-        (in_passing steps alternates on_left groups grouped (is_hole on_left) found.0 found.1 found.2)
-        (empty_hand on_left)
+        (in_passing steps alternates filled groups grouped (is_hole filled) found.0 found.1 found.2)
+        (other_hand filled)
         (step_round walk k) (step_round walk (k + 1)) (orbit.goes_on k h) (stays (k + 1));
     once = orbit.once;
   };
 }
   where
     all : List Step
-    all = all_steps (filter (is_hole on_left) groups)
+    all = all_steps (filter (is_hole filled) groups)
 
-    found : (group : List Step) × Contains groups group × (is_hole on_left group ≡ true) × Contains group
+    found : (group : List Step) × Contains groups group × (is_hole filled group ≡ true) × Contains group
         (step_round walk 0)
-    found = found_group steps alternates on_left groups grouped (is_hole on_left) (step_round walk 0)
-        (step_inside all (empty_hand on_left) walk orbit 0)
+    found = found_group steps alternates filled groups grouped (is_hole filled) (step_round walk 0)
+        (step_inside all (other_hand filled) walk orbit 0)
 
     stays : (k : ℕ) → Contains found.0 (step_round walk k)
     stays zero = found.3
     stays (suc k) =
-        let after = found_group steps alternates on_left groups grouped (is_hole on_left) (step_round walk (suc k))
-        (step_inside all (empty_hand on_left) walk orbit (suc k)) in
+        let after = found_group steps alternates filled groups grouped (is_hole filled) (step_round walk (suc k))
+        (step_inside all (other_hand filled) walk orbit (suc k)) in
         not_none found.0 (step_round walk (suc k))
-        (stays_inside es steps along alternates on_left all
-        (passing_inside steps alternates on_left groups grouped (is_hole on_left))
-        (passing_alternate steps alternates on_left groups grouped (is_hole on_left)) found.0 after.0
-        (group_of steps alternates on_left groups grouped found.0 found.1)
-        (group_of steps alternates on_left groups grouped after.0 after.1) found.2 after.2
-        (in_passing steps alternates on_left groups grouped (is_hole on_left) found.0 found.1 found.2)
-        (in_passing steps alternates on_left groups grouped (is_hole on_left) after.0 after.1 after.2)
+        (stays_inside es steps along alternates filled all
+        (passing_inside steps alternates filled groups grouped (is_hole filled))
+        (passing_alternate steps alternates filled groups grouped (is_hole filled)) found.0 after.0
+        (group_of steps alternates filled groups grouped found.0 found.1)
+        (group_of steps alternates filled groups grouped after.0 after.1) found.2 after.2
+        (in_passing steps alternates filled groups grouped (is_hole filled) found.0 found.1 found.2)
+        (in_passing steps alternates filled groups grouped (is_hole filled) after.0 after.1 after.2)
         (step_round walk k) (step_round walk (suc k)) (stays k) after.3
-        (goes_on_round all (empty_hand on_left) walk orbit k))
+        (goes_on_round all (other_hand filled) walk orbit k))

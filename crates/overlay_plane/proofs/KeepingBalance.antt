@@ -17,6 +17,7 @@ use Rattle.overlay_plane.specs.Balance.{AddedContoursAreBalanced, JoiningKeepsBa
 use Rattle.overlay_plane.specs.Balance.{MergingKeepsBalance}
 use Rattle.overlay_plane.specs.Cutting.{piece_along, pieces_through, CuttingKeepsBalance}
 use Rattle.overlay_plane.proofs.JoinedLists.{total-append, total-map, total-flat_map, total-times}
+use Rattle.overlay_plane.proofs.PieceCounts.{subj_of_piece, clip_of_piece}
 use Rattle.overlay_plane.proofs.Telescopes.{signed_rise, signed_rise-chain, signed_rise-around}
 use Rattle.overlay_plane.proofs.Totals.{total-same, total-zero}
 
@@ -161,6 +162,6 @@ balanced_cut count points es each balanced g =
 -- the law of cut edges
 pub cutting_keeps_balance : CuttingKeepsBalance
 cutting_keeps_balance es points balanced = record {
-  subj = balanced_cut subj_of points es (λ e s. refl) balanced.subj;
-  clip = balanced_cut clip_of points es (λ e s. refl) balanced.clip;
+  subj = balanced_cut subj_of points es subj_of_piece balanced.subj;
+  clip = balanced_cut clip_of points es clip_of_piece balanced.clip;
 }

@@ -11,6 +11,7 @@ use Rattle.overlay_geom.proofs.Entries.{Contains-head, Contains-later}
 use Rattle.overlay_plane.specs.Contours.{all_steps, IsContour}
 use Rattle.overlay_plane.specs.Anchors.{HasEachEdgeOnce}
 use Rattle.overlay_plane.specs.Binding.{AreCutFrom, all_filled_above}
+use Rattle.overlay_plane.specs.Turn.{Hand}
 use Rattle.overlay_plane.proofs.Entries.{Contains-flat_map, Contains-from_flat_map, Contains-from_filter}
 use Rattle.overlay_plane.proofs.LaterEntries.{Each, Each-from_all_pairs, AllPairs-from_each, Contains-cases}
 use Rattle.overlay_plane.proofs.WalksApart.{walks_are_contours, walks_have_each_edge_once, walks_settled}
@@ -20,7 +21,7 @@ use Rattle.overlay_plane.proofs.WalksApart.{all_edges_once, distinct_above}
 
 module _ {X : Type 0} (R : X → X → Type 0) where
   -- those of the first list, those of the second, and those of the one to those of the other
-  Each-first : (xs ys : List X) → Each R (xs ++ ys) → Each R xs
+  pub Each-first : (xs ys : List X) → Each R (xs ++ ys) → Each R xs
   Each-first [] ys h = tt
   Each-first (x ∷ xs) ys h = ((λ z c. h.0 z (Contains-append_left xs ys z c)), Each-first xs ys h.1)
 
@@ -74,28 +75,28 @@ kept_in_relation R keeps (w ∷ ws) h = by (keeps w) (kept_in_relation R keeps w
         (λ x y c d. Each-across R w (all_steps ws) h x y c (step_of_kept keeps ws y d)) rest
     by false rest = rest
 
-module _ (holds : ℤ → ℤ → Bool) (subj clip : CountedEdge → ℤ) (es : List CountedEdge) (on_left : Bool)
+module _ (holds : ℤ → ℤ → Bool) (subj clip : CountedEdge → ℤ) (es : List CountedEdge) (filled : Hand)
     (walks : List (List Step))
-    (cut : AreCutFrom holds subj clip es on_left walks) (keeps : List Step → Bool) where
+    (cut : AreCutFrom holds subj clip es filled walks) (keeps : List Step → Bool) where
   -- each one is a contour
   pub kept_are_contours : All IsContour (filter keeps walks)
-  kept_are_contours = All-filter keeps IsContour walks (walks_are_contours holds subj clip es on_left walks cut)
+  kept_are_contours = All-filter keeps IsContour walks (walks_are_contours holds subj clip es filled walks cut)
 
   -- along each of its edges once
   pub kept_have_each_edge_once : All HasEachEdgeOnce (filter keeps walks)
   kept_have_each_edge_once = All-filter keeps HasEachEdgeOnce walks
-      (walks_have_each_edge_once holds subj clip es on_left walks cut)
+      (walks_have_each_edge_once holds subj clip es filled walks cut)
 
   -- no two of their filled-above edges are equal
-  pub kept_distinct : AllPairs (λ e f. edge_eq e f ≡ false) (all_filled_above on_left (filter keeps walks))
-  kept_distinct = distinct_above on_left (filter keeps walks)
+  pub kept_distinct : AllPairs (λ e f. edge_eq e f ≡ false) (all_filled_above filled (filter keeps walks))
+  kept_distinct = distinct_above filled (filter keeps walks)
       (AllPairs-from_each (λ s t. edge_eq (edge_of s) (edge_of t) ≡ false) (all_steps (filter keeps walks))
       (kept_in_relation (λ s t. edge_eq (edge_of s) (edge_of t) ≡ false) keeps walks
       (Each-from_all_pairs (λ s t. edge_eq (edge_of s) (edge_of t) ≡ false) (all_steps walks)
-      (all_edges_once holds subj clip es on_left walks cut))))
+      (all_edges_once holds subj clip es filled walks cut))))
 
   -- and they meet in ends alone
   pub kept_settled : IsSettledBy edge_of (all_steps (filter keeps walks))
   kept_settled s t at_s at_t apart =
-      walks_settled holds subj clip es on_left walks cut s t (step_of_kept keeps walks s at_s)
+      walks_settled holds subj clip es filled walks cut s t (step_of_kept keeps walks s at_s)
       (step_of_kept keeps walks t at_t) apart

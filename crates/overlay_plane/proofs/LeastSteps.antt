@@ -103,4 +103,4 @@ module _ (steps : List Step) (forward : (s : Step) → Contains steps s → lead
 pub leftmost_steps_exist : LeftmostStepsExist
 leftmost_steps_exist es steps taken walks inside = leftmost taken
     (λ s c. let own = walks.along s (inside s c) in
-    ap (λ f. point_lt f.a f.b) own.2 ∙ All-contains (λ e. point_lt e.a e.b ≡ true) es own.0 walks.forward own.1)
+    ap (λ f. point_lt f.a f.b) own.2 ∙ All-contains (λ e. point_lt e.a e.b ≡ true) es own.0 walks.planar.forward own.1)

@@ -109,7 +109,7 @@ module _ (count : CountedEdge → ℤ) (es : List CountedEdge) (arranged : IsBal
       (sym same) at_q)
       (total-same (λ f. cond (point_eq f.a q) (count f) (pos 0)) (λ f. under f +ℤ itself f) es each
       ∙ total-add under itself es ∙ ap (λ z. total_starting_under count es e +ℤ z)
-      (single_total es arranged.distinct count e at))
+      (single_total es arranged.planar.distinct count e at))
       none_starting
     where
       together : (b w u c s : ℤ) → b ≡ w +ℤ u → w ≡ pos 0 → s ≡ u +ℤ c → s ≡ pos 0 → b +ℤ c ≡ pos 0
@@ -165,7 +165,8 @@ module _ (count : CountedEdge → ℤ) (es : List CountedEdge) (arranged : IsBal
               (λ level. tests (point_eq f.a e.a) true l false i true (sym alike ∙ starts)
               (test_from_ge (pos 0) (edge_turn (ends_of f) (ends_of e)) (omega linear))
               (same_from_start (ends_of f) (ends_of e) (forward_entry count es arranged f is)
-              (forward_entry count es arranged e at) level (arranged.settled f e is at) (point_eq-same f.a q starts
+              (forward_entry count es arranged e at) level (arranged.planar.settled f e is at)
+              (point_eq-same f.a q starts
               ∙ sym same)) (count f) (second (count f)))
               (λ high. tests (point_eq f.a e.a) true l true i false (sym alike ∙ starts)
               (test_from_lt (pos 0) (edge_turn (ends_of f) (ends_of e)) high) (not_itself (λ z. omega linear))

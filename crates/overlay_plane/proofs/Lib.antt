@@ -14,6 +14,8 @@ pub mod BelowAnchors
 pub mod BelowHoles
 pub mod BesideAcross
 pub mod BesideNext
+pub mod BoundShapes
+pub mod BoundSteps
 pub mod ChainCounts
 pub mod ChainMarks
 pub mod ChainStops
@@ -22,6 +24,7 @@ pub mod Chains
 pub mod ClosedParts
 pub mod ClosedWalks
 pub mod CommonPoints
+pub mod ContourNumbers
 pub mod ContourSteps
 pub mod Crossing
 pub mod CrossingPoints
@@ -29,6 +32,7 @@ pub mod CutByOneHand
 pub mod CutChains
 pub mod CutLists
 pub mod CutOnLines
+pub mod CutParts
 pub mod CutWalks
 pub mod CutWindings
 pub mod CutsExist
@@ -47,6 +51,7 @@ pub mod Entries
 pub mod ExactRounds
 pub mod FilledEdges
 pub mod FoundEntries
+pub mod FreeHoles
 pub mod GreatestBelow
 pub mod GreatestTaken
 pub mod GroupSteps
@@ -57,6 +62,7 @@ pub mod HoleGroups
 pub mod HoleParents
 pub mod HoleWindings
 pub mod HolesAdded
+pub mod HolesInGroups
 pub mod InOrderLists
 pub mod InnerPoints
 pub mod InsideGroups
@@ -64,6 +70,7 @@ pub mod InsideOneGroup
 pub mod ItemsRound
 pub mod JoinedLists
 pub mod KeepingBalance
+pub mod KeptContours
 pub mod KeptWalks
 pub mod LaterEntries
 pub mod LeadingOn
@@ -105,9 +112,11 @@ pub mod OrbitsApart
 pub mod OrbitsSoFar
 pub mod OrderLaws
 pub mod ParentlessHoles
-pub mod PieceWeights
+pub mod PartsOfLists
+pub mod PieceCounts
 pub mod Pigeonhole
 pub mod Placements
+pub mod PlacesOfContours
 pub mod PointsAlong
 pub mod ReachedEdges
 pub mod RegionBelow
@@ -128,6 +137,7 @@ pub mod SettledPieces
 pub mod ShapeNumbers
 pub mod ShapeSteps
 pub mod ShapeWalks
+pub mod ShapesApart
 pub mod SharedCrossings
 pub mod SharedEnds
 pub mod ShuffledCuts

@@ -62,10 +62,10 @@ anchored_before walk contour e anchor s c g forward_g below = ⊎_elim
 
 -- the next walk of a hole is anchored before it
 pub next_is_anchored_before : NextIsAnchoredBefore
-next_is_anchored_before on_left walks contours hole next c n e anchor =
-    let found = Contains-from_map edge_of (filter (is_filled_above on_left) next) n.edge n.has in
+next_is_anchored_before filled walks contours hole next c n e anchor =
+    let found = Contains-from_map edge_of (filter (is_filled_above filled) next) n.edge n.has in
     let contour = All-contains IsContour walks next contours n.kept in
     anchored_before next contour e anchor found.0
-    (Contains-from_filter (is_filled_above on_left) next found.0 found.1).0 n.anchor
+    (Contains-from_filter (is_filled_above filled) next found.0 found.1).0 n.anchor
     (anchor_forward hole (All-contains IsContour walks hole contours c) n.anchor n.anchored)
     (subst (λ (f : Edge). is_below_anchor n.anchor f ≡ true) (sym found.2) n.next_below.below)

@@ -4,9 +4,8 @@ use Rattle.std.proofs.Common.{◌≡◌, ⊎_elim, false, List, Contains, refl, 
 use Rattle.std.proofs.lemmas.Bool.{both_ways, false_from_ne_true}
 use Rattle.overlay_geom.specs.Plane.{Step, point_eq}
 use Rattle.overlay_geom.proofs.Orders.{point_eq-same, point_eq-of_same}
-use Rattle.overlay_plane.specs.Turn.{Hand, is_met_before, IsMetBefore, IsNextStep}
+use Rattle.overlay_plane.specs.Turn.{Hand, is_met_before, IsMetBefore, IsNextStep, other_hand}
 use Rattle.overlay_plane.specs.Alternates.{Alternates}
-use Rattle.overlay_plane.specs.Rays.{other_hand}
 use Rattle.overlay_plane.specs.NextSteps.{LeadsOn, AlternatingStepsLeadOn, NextIsOneToOne}
 use Rattle.overlay_plane.proofs.Entries.{all_of_entries}
 use Rattle.overlay_plane.proofs.TurnOrder.{apart_exchanged, met_irreflexive, met_transitive, start_is_last}

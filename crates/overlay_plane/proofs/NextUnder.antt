@@ -30,7 +30,7 @@ module _ (count : CountedEdge → ℤ) (es : List CountedEdge) (r : IsBalancedAr
   pub above_the_greatest_under : (g : CountedEdge) → IsGreatestUnderIn es (ends_of e) x d g →
       winding_below count es e ≡ winding_above count es g
   above_the_greatest_under g h =
-      sym (one_winding_along_a_side es count r.forward r.settled r.balanced e at_e x d positive over_e)
+      sym (one_winding_along_a_side es count r.planar.forward r.planar.settled r.balanced e at_e x d positive over_e)
       ∙ above_the_greatest_taken count es r x d positive is_under_it
       (takes_under ends_of es (ends_of e) x d positive over_e) g (record {
         entry = h.entry;
@@ -44,7 +44,7 @@ module _ (count : CountedEdge → ℤ) (es : List CountedEdge) (r : IsBalancedAr
       is_under (ends_of f) (ends_of e) x d ≡ false) →
       winding_below count es e ≡ pos 0
   nothing_under none =
-      sym (one_winding_along_a_side es count r.forward r.settled r.balanced e at_e x d positive over_e)
+      sym (one_winding_along_a_side es count r.planar.forward r.planar.settled r.balanced e at_e x d positive over_e)
       ∙ total-zero (λ f. cond (is_under_it f) (count f) (pos 0)) es (λ f at. ap (λ t. cond t (count f) (pos 0))
       (false_from_ne_true (is_under_it f)
       (λ t. let both = and_parts (covers (ends_of f) x d) (is_under (ends_of f) (ends_of e) x d) t in

@@ -113,7 +113,7 @@ module _ (count : CountedEdge → ℤ) (es : List CountedEdge) (arranged : IsBal
         (edge_eq (ends_of e) (ends_of f)) refl
       where
         one : (x y : CountedEdge) → IsSpoke es v x → IsSpoke es v y → edge_eq (ends_of x) (ends_of y) ≡ true → x ≡ y
-        one x y sx sy same = one_entry es arranged.distinct x y sx.entry sy.entry same
+        one x y sx sy same = one_entry es arranged.planar.distinct x y sx.entry sy.entry same
 
         by : (i : Bool) → edge_eq (ends_of m) (ends_of f) ≡ i → (j : Bool) → edge_eq (ends_of m) (ends_of e) ≡ j →
             (k : Bool) → edge_eq (ends_of e) (ends_of f) ≡ k →

@@ -64,13 +64,13 @@ module _ (count : CountedEdge → ℤ) (es : List CountedEdge) (arranged : IsBal
     where
       form : edge_turn (ends_of f) (ends_of e) ≡ width (ends_of f) *ℤ (e.b.y -ℤ e.a.y)
       form = turn_is (ends_of e) (ends_of f) forward narrow (forward_entry count es arranged f is)
-          (arranged.settled e f at is)
+          (arranged.planar.settled e f at is)
 
   -- nothing is to the left of a vertical edge
   none_left : (f : CountedEdge) → Contains es f → turns_left (ends_of e) (ends_of f) ≡ false
   none_left f is = test_from_ge (pos 0) (edge_turn (ends_of e) (ends_of f))
       (let i = turn_is_not (ends_of e) (ends_of f) forward narrow (forward_entry count es arranged f is)
-      (arranged.settled e f at is) in
+      (arranged.planar.settled e f at is) in
       let r = rises in
       let high = mul-nonneg (width (ends_of f)) (e.b.y -ℤ e.a.y)
       (not_narrower (ends_of f) (forward_entry count es arranged f is)) (omega linear) in

@@ -46,7 +46,7 @@ module _ (count : CountedEdge → ℤ) (es : List CountedEdge) (arranged : IsBal
     (at : Contains es e) where
   -- an entry leads forward
   forward_at : (f : CountedEdge) → Contains es f → point_lt f.a f.b ≡ true
-  forward_at f is = All-contains (λ h. point_lt (ends_of h).a (ends_of h).b ≡ true) es f arranged.forward is
+  forward_at f is = All-contains (λ h. point_lt (ends_of h).a (ends_of h).b ≡ true) es f arranged.planar.forward is
 
   -- the winding below e as one sum
   abbrev Joined : Type 0
@@ -60,7 +60,8 @@ module _ (count : CountedEdge → ℤ) (es : List CountedEdge) (arranged : IsBal
       (λ f. cond (point_eq f.a e.a && turns_left (ends_of f) (ends_of e)) (count f) (pos 0)) es
     where
       slanted : pos 0 <ℤ width (ends_of e) → Joined
-      slanted wide = sym (one_winding_along_a_side es count arranged.forward arranged.settled arranged.balanced e at
+      slanted wide = sym (one_winding_along_a_side es count arranged.planar.forward arranged.planar.settled
+          arranged.balanced e at
           e.a.x (pos 1) (record { lt = tt })
           (and_from (int_le (e.a.x *ℤ pos 1) e.a.x) (int_lt e.a.x (e.b.x *ℤ pos 1))
           (test_from_le (e.a.x *ℤ pos 1) e.a.x (omega (arith, ints)))
@@ -72,7 +73,7 @@ module _ (count : CountedEdge → ℤ) (es : List CountedEdge) (arranged : IsBal
           (λ f is. adds_up (covers (ends_of f) e.a.x (pos 1) && is_under (ends_of f) (ends_of e) e.a.x (pos 1))
           (is_strictly_below (ends_of f) (in_plane e.a)) (point_eq f.a e.a && turns_left (ends_of f) (ends_of e))
           (count f)
-          (under_from_start (ends_of e) (ends_of f) (forward_at f is) (arranged.settled e f at is) wide))
+          (under_from_start (ends_of e) (ends_of f) (forward_at f is) (arranged.planar.settled e f at is) wide))
 
       upright : width (ends_of e) ≤ℤ pos 0 → Joined
       upright narrow = total-same (λ f. cond (is_strictly_below (ends_of f) (midpoint (ends_of e))) (count f) (pos 0))
@@ -82,7 +83,7 @@ module _ (count : CountedEdge → ℤ) (es : List CountedEdge) (arranged : IsBal
           (is_strictly_below (ends_of f) (in_plane e.a)) (point_eq f.a e.a && turns_left (ends_of f) (ends_of e))
           (count f)
           (upright_from_start (ends_of e) (ends_of f) (forward_at e at) narrow (forward_at f is)
-          (arranged.settled e f at is)))
+          (arranged.planar.settled e f at is)))
 
   -- the winding below e, from its end
   from_end : winding_below count es e ≡ winding_by count es (in_plane e.b) +ℤ total_ending_under count es e
@@ -104,7 +105,8 @@ module _ (count : CountedEdge → ℤ) (es : List CountedEdge) (arranged : IsBal
       left = e.b.x +ℤ e.b.x -ℤ pos 1
 
       slanted : pos 0 <ℤ width (ends_of e) → winding_below count es e ≡ total below es +ℤ total ending es
-      slanted wide = sym (one_winding_along_a_side es count arranged.forward arranged.settled arranged.balanced e at
+      slanted wide = sym (one_winding_along_a_side es count arranged.planar.forward arranged.planar.settled
+          arranged.balanced e at
           left (pos 2) (record { lt = tt })
           (covers_just_left (ends_of e) e.b.x (pos 1) (let w = wide in omega (arith, ints)) (omega (arith, ints))))
           ∙ total-same (λ f. cond (covers (ends_of f) left (pos 2) && is_under (ends_of f) (ends_of e) left (pos 2))
@@ -113,7 +115,7 @@ module _ (count : CountedEdge → ℤ) (es : List CountedEdge) (arranged : IsBal
           (λ f is. adds_up_with (covers (ends_of f) left (pos 2) && is_under (ends_of f) (ends_of e) left (pos 2))
           (is_strictly_below (ends_of f) (in_plane e.b)) (point_eq f.b e.b && turns_left (ends_of e) (ends_of f))
           (down f.b -ℤ down f.a) (count f)
-          (under_to_end (ends_of e) (ends_of f) (forward_at f is) (arranged.settled e f at is) wide))
+          (under_to_end (ends_of e) (ends_of f) (forward_at f is) (arranged.planar.settled e f at is) wide))
           ∙ total-add (λ f. below f +ℤ ending f) rise es
           ∙ ap₂ (λ a b. a +ℤ b) (total-add below ending es) (arranged.balanced down)
           ∙ +ℤ_idr (total below es +ℤ total ending es)
@@ -125,7 +127,7 @@ module _ (count : CountedEdge → ℤ) (es : List CountedEdge) (arranged : IsBal
           (is_strictly_below (ends_of f) (in_plane e.b)) (point_eq f.b e.b && turns_left (ends_of e) (ends_of f))
           (count f)
           (upright_from_end (ends_of e) (ends_of f) (forward_at e at) narrow (forward_at f is)
-          (arranged.settled e f at is)))
+          (arranged.planar.settled e f at is)))
           ∙ total-add below ending es
 
 -- below an edge the winding is that at its start and what starts there to the right

@@ -83,7 +83,7 @@ module _ (holds : ℤ → ℤ → Bool) (subj clip : CountedEdge → ℤ) (es : 
       by false false is_s is_t h = absurd (omega (arith, ints))
       by true false is_s is_t h = by_lt_z (pos 0) (width (ends_of f)) (λ wide. (f, c, wide, is_s))
           (λ narrow. absurd (let up = rises_upright (ends_of f)
-          (All-contains (λ g. point_lt g.a g.b ≡ true) es f ruled.forward c) narrow in
+          (All-contains (λ g. point_lt g.a g.b ≡ true) es f ruled.planar.forward c) narrow in
           falls (f.b.y -ℤ f.a.y) up h))
         where
           falls : (z : ℤ) → pos 0 <ℤ z → (pos 1 *ℤ z) <ℤ pos 0 → ⊥
@@ -92,7 +92,7 @@ module _ (holds : ℤ → ℤ → Bool) (subj clip : CountedEdge → ℤ) (es : 
   -- and where it holds above one: the heights of the edges across which it changes add up to 0
   from_above : (e : CountedEdge) → Contains es e → above e ≡ true → WideAbove
   from_above e c h = by_lt_z (pos 0) (width (ends_of e)) (λ wide. (e, c, wide, h)) (λ narrow. by (below e) refl
-      (rises_upright (ends_of e) (All-contains (λ g. point_lt g.a g.b ≡ true) es e ruled.forward c) narrow))
+      (rises_upright (ends_of e) (All-contains (λ g. point_lt g.a g.b ≡ true) es e ruled.planar.forward c) narrow))
     where
       by : (t : Bool) → below e ≡ t → pos 0 <ℤ (e.b.y -ℤ e.a.y) → WideAbove
       by true is up = from_below e is
@@ -109,7 +109,7 @@ module _ (holds : ℤ → ℤ → Bool) (subj clip : CountedEdge → ℤ) (es : 
   -- above an edge that is not vertical there is a point where the rule holds
   point_above : WideAbove → HoldsSomewhere holds subj clip es
   point_above (f, c, wide, h) =
-      let near = near_above es ruled.forward ruled.settled ruled.distinct f c wide in (
+      let near = near_above es ruled.planar.forward ruled.planar.settled ruled.planar.distinct f c wide in (
         near.0,
         near.1,
         ap₂ holds

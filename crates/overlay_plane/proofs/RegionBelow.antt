@@ -70,9 +70,10 @@ takes_under {X} ends xs g x d positive over_g = record {
 
 -- the signs of edges taken with all under them add up to the rule at the sums of their counts
 pub region_over_edges_taken : RegionOverEdgesTaken
-region_over_edges_taken holds subj clip es r x d positive taken takes = rises_over ends_of es r.forward r.settled x d
+region_over_edges_taken holds subj clip es r x d positive taken takes = rises_over ends_of es r.planar.forward
+    r.planar.settled x d
     positive taken takes subj clip
-    (λ v w. one_if (holds v w)) r.distinct r.subj_balanced r.clip_balanced
+    (λ v w. one_if (holds v w)) r.planar.distinct r.subj_balanced r.clip_balanced
     ∙ ap (λ t. here -ℤ one_if t) r.none ∙ +ℤ_idr here
   where
     here : ℤ
@@ -82,7 +83,7 @@ region_over_edges_taken holds subj clip es r x d positive taken takes = rises_ov
 -- those of the edges strictly below a point to the rule at the point
 pub region_from_selected_signs : RegionFromSelectedSigns
 region_from_selected_signs holds subj clip es r p = region_over_edges_taken holds subj clip es r p.x p.d p.positive
-    (λ e. is_strictly_below (ends_of e) p) (takes_below ends_of es r.settled p)
+    (λ e. is_strictly_below (ends_of e) p) (takes_below ends_of es r.planar.settled p)
 
 -- those of the edges under an edge to the rule just below it
 pub region_below_an_edge : RegionBelowAnEdge
@@ -94,5 +95,6 @@ region_below_an_edge holds subj clip es r e at x d positive over = region_over_e
   where
     winding : (count : CountedEdge → ℤ) → IsBalanced ends_of count es →
         total_under ends_of count es (ends_of e) x d ≡ winding_below count es e
-    winding count balanced = one_winding_along ends_of count es (ends_of e) r.forward (λ f c. r.settled e f at c)
+    winding count balanced = one_winding_along ends_of count es (ends_of e) r.planar.forward
+        (λ f c. r.planar.settled e f at c)
         balanced x d positive over

@@ -20,9 +20,9 @@ steps_of_contours (w ∷ ws) each = ap₂ (λ a b. a ++ b) (All-head IsContour w
 
 -- so the points of the contours wind as the selected steps
 pub results_wind : ResultsWind
-results_wind holds subj clip es ruled on_left hand_of walks cut keep result shown p =
+results_wind holds subj clip es ruled filled hand_of walks cut keep result shown p =
     thinned_contours_wind_alike keep (map points_of walks) result shown p
     ∙ ap (total (winding_part p)) (steps_of_contours walks
-    (cuts_are_contours hand_of (selected_steps holds subj clip on_left es)
-    (selected_alternate holds subj clip es ruled on_left) walks cut))
-    ∙ contours_wind holds subj clip es ruled on_left hand_of walks cut p
+    (cuts_are_contours hand_of (selected_steps holds subj clip filled es)
+    (selected_alternate holds subj clip es ruled filled) walks cut))
+    ∙ contours_wind holds subj clip es ruled filled hand_of walks cut p

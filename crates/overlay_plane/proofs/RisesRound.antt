@@ -89,7 +89,7 @@ module _ (subj clip : CountedEdge → ℤ) (es : List CountedEdge) (by_subj : Is
       (filter taken es) (λ m c. (taken_spoke m c).0)
       (Each-weaker (λ m n. edge_eq (ends_of m) (ends_of n) ≡ false) (Ordered met_first) (filter taken es) ordered
       (Each-filter (λ m n. edge_eq (ends_of m) (ends_of n) ≡ false) taken es
-      (Each-from_all_pairs (λ m n. edge_eq (ends_of m) (ends_of n) ≡ false) es by_subj.distinct)))
+      (Each-from_all_pairs (λ m n. edge_eq (ends_of m) (ends_of n) ≡ false) es by_subj.planar.distinct)))
     where
       ordered : (m n : CountedEdge) → Contains (filter taken es) m → Contains (filter taken es) n →
           edge_eq (ends_of m) (ends_of n) ≡ false → Ordered met_first m n

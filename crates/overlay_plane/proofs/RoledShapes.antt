@@ -14,49 +14,50 @@ use Rattle.overlay_plane.specs.RoledContours.{Contour, contours_from, is_outline
 use Rattle.overlay_plane.specs.RoledContours.{outline_of}
 use Rattle.overlay_plane.specs.BoundContours.{BoundContour, walks_in, contours_bound, own_holes, found_holes}
 use Rattle.overlay_plane.specs.BoundContours.{shape_begun_by, shapes_bound}
+use Rattle.overlay_plane.specs.Turn.{Hand}
 
-module _ (on_left : Bool) where
+module _ (filled : Hand) where
   -- the walks of the contours are the walks
-  pub walks_from : (n : ℕ) (walks : List (List Step)) → walks_in (contours_from on_left n walks) ≡ walks
+  pub walks_from : (n : ℕ) (walks : List (List Step)) → walks_in (contours_from filled n walks) ≡ walks
   walks_from n [] = refl
-  walks_from n (w ∷ ws) = by (is_hole on_left w) (λ k. walks_from k ws)
+  walks_from n (w ∷ ws) = by (is_hole filled w) (λ k. walks_from k ws)
     where
-      by : (t : Bool) → ((k : ℕ) → walks_in (contours_from on_left k ws) ≡ ws) →
-          walks_in (cond t (hole_to_bind w ∷ contours_from on_left n ws)
-          (outline_of n w ∷ contours_from on_left (suc n) ws)) ≡ w ∷ ws
+      by : (t : Bool) → ((k : ℕ) → walks_in (contours_from filled k ws) ≡ ws) →
+          walks_in (cond t (hole_to_bind w ∷ contours_from filled n ws)
+          (outline_of n w ∷ contours_from filled (suc n) ws)) ≡ w ∷ ws
       by true rest = ap (λ vs. w ∷ vs) (rest n)
       by false rest = ap (λ vs. w ∷ vs) (rest (suc n))
 
   -- as many are outlines
   pub outlines_counted : (n : ℕ) (walks : List (List Step)) →
-      length (filter (λ (c : Contour). is_outline c.role) (contours_from on_left n walks)) ≡ length
-      (outlines on_left walks)
+      length (filter (λ (c : Contour). is_outline c.role) (contours_from filled n walks)) ≡ length
+      (outlines filled walks)
   outlines_counted n [] = refl
-  outlines_counted n (w ∷ ws) = by (is_hole on_left w) (λ k. outlines_counted k ws)
+  outlines_counted n (w ∷ ws) = by (is_hole filled w) (λ k. outlines_counted k ws)
     where
-      by : (t : Bool) → ((k : ℕ) → length (filter (λ (c : Contour). is_outline c.role) (contours_from on_left k ws))
-          ≡ length (outlines on_left ws)) →
+      by : (t : Bool) → ((k : ℕ) → length (filter (λ (c : Contour). is_outline c.role) (contours_from filled k ws))
+          ≡ length (outlines filled ws)) →
           length (filter (λ (c : Contour). is_outline c.role)
-          (cond t (hole_to_bind w ∷ contours_from on_left n ws) (outline_of n w ∷ contours_from on_left (suc n) ws)))
-          ≡ length (cond (not t) (w ∷ outlines on_left ws) (outlines on_left ws))
+          (cond t (hole_to_bind w ∷ contours_from filled n ws) (outline_of n w ∷ contours_from filled (suc n) ws)))
+          ≡ length (cond (not t) (w ∷ outlines filled ws) (outlines filled ws))
       by true rest = rest n
       by false rest = ap suc (rest (suc n))
 
   -- walks with the numbers of their shapes as contours with these numbers
   abbrev roled : ℕ → List BoundWalk → List BoundContour
-  roled n bound = contours_bound (contours_from on_left n (map (λ b. b.steps) bound)) (map (λ b. b.shape) bound)
+  roled n bound = contours_bound (contours_from filled n (map (λ b. b.steps) bound)) (map (λ b. b.shape) bound)
 
   -- the first of them, by whether it is a hole
   abbrev roled_by : Bool → ℕ → BoundWalk → List BoundWalk → List BoundContour
   roled_by t n b bs = contours_bound
-      (cond t (hole_to_bind b.steps ∷ contours_from on_left n (map (λ b. b.steps) bs))
-      (outline_of n b.steps ∷ contours_from on_left (suc n) (map (λ b. b.steps) bs)))
+      (cond t (hole_to_bind b.steps ∷ contours_from filled n (map (λ b. b.steps) bs))
+      (outline_of n b.steps ∷ contours_from filled (suc n) (map (λ b. b.steps) bs)))
       (b.shape ∷ map (λ b. b.shape) bs)
 
   -- no hole is of an outline's group
   no_own_holes : (n m : ℕ) (bound : List BoundWalk) → own_holes (roled n bound) m ≡ []
   no_own_holes n m [] = refl
-  no_own_holes n m (b ∷ bs) = by (is_hole on_left b.steps) (λ k. no_own_holes k m bs)
+  no_own_holes n m (b ∷ bs) = by (is_hole filled b.steps) (λ k. no_own_holes k m bs)
     where
       by : (t : Bool) → ((k : ℕ) → own_holes (roled k bs) m ≡ []) → own_holes (roled_by t n b bs) m ≡ []
       by true rest = rest n
@@ -71,47 +72,47 @@ module _ (on_left : Bool) where
 
   abbrev bound_by : ℕ → BoundWalk → List BoundWalk → Bool → List (List Step)
   bound_by m b bs t = map (λ (c : BoundWalk). c.steps)
-      (cond t (b ∷ filter (λ (c : BoundWalk). is_hole on_left c.steps && is_number m c.shape) bs)
-      (filter (λ (c : BoundWalk). is_hole on_left c.steps && is_number m c.shape) bs))
+      (cond t (b ∷ filter (λ (c : BoundWalk). is_hole filled c.steps && is_number m c.shape) bs)
+      (filter (λ (c : BoundWalk). is_hole filled c.steps && is_number m c.shape) bs))
 
   -- they are the same
-  found_alike : (n m : ℕ) (bound : List BoundWalk) → found_holes (roled n bound) m ≡ holes_of on_left bound m
+  found_alike : (n m : ℕ) (bound : List BoundWalk) → found_holes (roled n bound) m ≡ holes_of filled bound m
   found_alike n m [] = refl
-  found_alike n m (b ∷ bs) = by (is_hole on_left b.steps) (λ k. found_alike k m bs)
+  found_alike n m (b ∷ bs) = by (is_hole filled b.steps) (λ k. found_alike k m bs)
     where
-      hole : (t : Bool) → found_holes (roled n bs) m ≡ holes_of on_left bs m → found_by n m b bs t ≡ bound_by m b bs t
+      hole : (t : Bool) → found_holes (roled n bs) m ≡ holes_of filled bs m → found_by n m b bs t ≡ bound_by m b bs t
       hole true rest = ap (λ vs. b.steps ∷ vs) rest
       hole false rest = rest
 
-      by : (t : Bool) → ((k : ℕ) → found_holes (roled k bs) m ≡ holes_of on_left bs m) →
+      by : (t : Bool) → ((k : ℕ) → found_holes (roled k bs) m ≡ holes_of filled bs m) →
           found_holes (roled_by t n b bs) m ≡ bound_by m b bs (t && is_number m b.shape)
       by true rest = hole (is_number m b.shape) (rest n)
       by false rest = rest (suc n)
 
   -- so the shapes are the same
   shapes_from_here : (all : List BoundContour) (walks : List BoundWalk) →
-      ((m : ℕ) → own_holes all m ++ found_holes all m ≡ holes_of on_left walks m) →
+      ((m : ℕ) → own_holes all m ++ found_holes all m ≡ holes_of filled walks m) →
       (n : ℕ) (bound : List BoundWalk) → flat_map (λ b. shape_begun_by all b.contour.role b.contour.steps)
       (roled n bound)
-      ≡ shapes_begun on_left walks n (outlines on_left (map (λ b. b.steps) bound))
+      ≡ shapes_begun filled walks n (outlines filled (map (λ b. b.steps) bound))
   shapes_from_here all walks alike n [] = refl
-  shapes_from_here all walks alike n (b ∷ bs) = by (is_hole on_left b.steps)
+  shapes_from_here all walks alike n (b ∷ bs) = by (is_hole filled b.steps)
       (λ k. shapes_from_here all walks alike k bs)
     where
       by : (t : Bool) → ((k : ℕ) → flat_map (λ c. shape_begun_by all c.contour.role c.contour.steps) (roled k bs)
-          ≡ shapes_begun on_left walks k (outlines on_left (map (λ b. b.steps) bs))) →
+          ≡ shapes_begun filled walks k (outlines filled (map (λ b. b.steps) bs))) →
           flat_map (λ c. shape_begun_by all c.contour.role c.contour.steps) (roled_by t n b bs)
-          ≡ shapes_begun on_left walks n (cond (not t) (b.steps ∷ outlines on_left (map (λ b. b.steps) bs))
-          (outlines on_left (map (λ b. b.steps) bs)))
+          ≡ shapes_begun filled walks n (cond (not t) (b.steps ∷ outlines filled (map (λ b. b.steps) bs))
+          (outlines filled (map (λ b. b.steps) bs)))
       by true rest = rest n
       by false rest = ap₂ (λ hs ss. (b.steps ∷ hs) ∷ ss) (alike n) (rest (suc n))
 
-  pub shapes_alike : (bound : List BoundWalk) → shapes_bound (roled 0 bound) ≡ shapes_of on_left bound
+  pub shapes_alike : (bound : List BoundWalk) → shapes_bound (roled 0 bound) ≡ shapes_of filled bound
   shapes_alike bound = shapes_from_here (roled 0 bound) bound
       (λ m. ap₂ (λ hs gs. hs ++ gs) (no_own_holes 0 m bound) (found_alike 0 m bound)) 0 bound
 
 -- a contour reaches the minimum area zero
-reaches_zero : (width : Width) (walk : List Step) → IsContour walk → reaches width 0 walk ≡ true
+pub reaches_zero : (width : Width) (walk : List Step) → IsContour walk → reaches width 0 walk ≡ true
 reaches_zero width walk c = three (length walk) c.three
   where
     three : (n : ℕ) → 3 ≤ n → (nat_le 3 n && nat_le 0 (nat_abs (int_wrap width (double_area (points_of walk))) / 2))

@@ -10,26 +10,27 @@ use Rattle.overlay_geom.specs.Plane.{Step}
 use Rattle.overlay_plane.specs.Binding.{is_hole, outlines}
 use Rattle.overlay_plane.specs.RoledContours.{free_hole, Contour, contours_from, is_free_hole, hole_to_bind, outline_of}
 use Rattle.overlay_plane.specs.BoundContours.{known_in}
+use Rattle.overlay_plane.specs.Turn.{Hand}
 
 -- what is one thing, where there is some, is one
 value_of : {X : Type 0} → X → Option X → X
 value_of x None = x
 value_of x (Some z) = z
 
-some-same : {X : Type 0} (x y : X) → Some x ≡ Some y → x ≡ y
+pub some-same : {X : Type 0} (x y : X) → Some x ≡ Some y → x ≡ y
 unfolding value_of
 some-same x y same = ap (value_of x) same
 
-module _ (on_left : Bool) where
+module _ (filled : Hand) where
   -- the contours, by whether the first walk is a hole
   abbrev contours_by : Bool → ℕ → List Step → List (List Step) → List Contour
-  contours_by t n w ws = cond t (hole_to_bind w ∷ contours_from on_left n ws)
-      (outline_of n w ∷ contours_from on_left (suc n) ws)
+  contours_by t n w ws = cond t (hole_to_bind w ∷ contours_from filled n ws)
+      (outline_of n w ∷ contours_from filled (suc n) ws)
 
   -- the walk is an outline with this number, where those of the list are numbered from n on, or a hole without one
   abbrev pub IsNumberedFrom : ℕ → List (List Step) → List Step → Option ℕ → Type 0
   IsNumberedFrom n os w number =
-      MatchOption number (is_hole on_left w ≡ true) (λ m. (j : ℕ) × (m ≡ n + j) × (slice_get os j ≡ Some w))
+      MatchOption number (is_hole filled w ≡ true) (λ m. (j : ℕ) × (m ≡ n + j) × (slice_get os j ≡ Some w))
 
   -- with another outline before them the numbers of the later ones grow by one
   after_outline : (n : ℕ) (o : List Step) (os : List (List Step)) (w : List Step) (number : Option ℕ) →
@@ -40,61 +41,61 @@ module _ (on_left : Bool) where
 
   -- the number of the walk at place i
   pub numbered_from : (n : ℕ) (walks : List (List Step)) (i : ℕ) (w : List Step) → slice_get walks i ≡ Some w →
-      IsNumberedFrom n (outlines on_left walks) w (slice_index_or (known_in (contours_from on_left n walks)) i None)
+      IsNumberedFrom n (outlines filled walks) w (slice_index_or (known_in (contours_from filled n walks)) i None)
   numbered_from n [] i w at = absurd (none-some w at)
-  numbered_from n (v ∷ ws) zero w at = by (is_hole on_left v) refl
+  numbered_from n (v ∷ ws) zero w at = by (is_hole filled v) refl
     where
       is_here : v ≡ w
       is_here = some-same v w at
 
-      by : (t : Bool) → is_hole on_left v ≡ t →
-          IsNumberedFrom n (cond (not t) (v ∷ outlines on_left ws) (outlines on_left ws)) w
+      by : (t : Bool) → is_hole filled v ≡ t →
+          IsNumberedFrom n (cond (not t) (v ∷ outlines filled ws) (outlines filled ws)) w
           (slice_index_or (known_in (contours_by t n v ws)) 0 None)
-      by true is = subst (λ u. is_hole on_left u ≡ true) is_here is
+      by true is = subst (λ u. is_hole filled u ≡ true) is_here is
       by false is = (0, omega arith, at)
-  numbered_from n (v ∷ ws) (suc i) w at = by (is_hole on_left v) (λ k. numbered_from k ws i w at)
+  numbered_from n (v ∷ ws) (suc i) w at = by (is_hole filled v) (λ k. numbered_from k ws i w at)
     where
-      by : (t : Bool) → ((k : ℕ) → IsNumberedFrom k (outlines on_left ws) w
-          (slice_index_or (known_in (contours_from on_left k ws)) i None)) →
-          IsNumberedFrom n (cond (not t) (v ∷ outlines on_left ws) (outlines on_left ws)) w
+      by : (t : Bool) → ((k : ℕ) → IsNumberedFrom k (outlines filled ws) w
+          (slice_index_or (known_in (contours_from filled k ws)) i None)) →
+          IsNumberedFrom n (cond (not t) (v ∷ outlines filled ws) (outlines filled ws)) w
           (slice_index_or (known_in (contours_by t n v ws)) (suc i) None)
       by true rest = rest n
-      by false rest = after_outline n v (outlines on_left ws) w
-          (slice_index_or (known_in (contours_from on_left (suc n) ws)) i None) (rest (suc n))
+      by false rest = after_outline n v (outlines filled ws) w
+          (slice_index_or (known_in (contours_from filled (suc n) ws)) i None) (rest (suc n))
 
   -- where a hole stands among the walks it stands among the contours
   pub hole_at : (n : ℕ) (walks : List (List Step)) (i : ℕ) (w : List Step) → slice_get walks i ≡ Some w →
-      is_hole on_left w ≡ true →
-      slice_get (contours_from on_left n walks) i ≡ Some (hole_to_bind w)
+      is_hole filled w ≡ true →
+      slice_get (contours_from filled n walks) i ≡ Some (hole_to_bind w)
   hole_at n [] i w at is = absurd (none-some w at)
   hole_at n (v ∷ ws) zero w at is =
-      subst (λ u. slice_get (contours_by (is_hole on_left u) n u ws) 0 ≡ Some (hole_to_bind w)) (sym (some-same v w at))
+      subst (λ u. slice_get (contours_by (is_hole filled u) n u ws) 0 ≡ Some (hole_to_bind w)) (sym (some-same v w at))
       (ap (λ t. slice_get (contours_by t n w ws) 0) is)
-  hole_at n (v ∷ ws) (suc i) w at is = by (is_hole on_left v) (λ k. hole_at k ws i w at is)
+  hole_at n (v ∷ ws) (suc i) w at is = by (is_hole filled v) (λ k. hole_at k ws i w at is)
     where
-      by : (t : Bool) → ((k : ℕ) → slice_get (contours_from on_left k ws) i ≡ Some (hole_to_bind w)) →
+      by : (t : Bool) → ((k : ℕ) → slice_get (contours_from filled k ws) i ≡ Some (hole_to_bind w)) →
           slice_get (contours_by t n v ws) (suc i) ≡ Some (hole_to_bind w)
       by true rest = rest n
       by false rest = rest (suc n)
 
   -- and a contour whose shape is to be found is a hole among the walks
   pub free_hole_at : (n : ℕ) (walks : List (List Step)) (i : ℕ) (c : Contour) →
-      slice_get (contours_from on_left n walks) i ≡ Some c →
-      c.role ≡ free_hole → (slice_get walks i ≡ Some c.steps) × (is_hole on_left c.steps ≡ true)
+      slice_get (contours_from filled n walks) i ≡ Some c →
+      c.role ≡ free_hole → (slice_get walks i ≡ Some c.steps) × (is_hole filled c.steps ≡ true)
   free_hole_at n [] i c at free = absurd (none-some c at)
-  free_hole_at n (v ∷ ws) zero c at free = by (is_hole on_left v) refl at
+  free_hole_at n (v ∷ ws) zero c at free = by (is_hole filled v) refl at
     where
-      by : (t : Bool) → is_hole on_left v ≡ t → slice_get (contours_by t n v ws) 0 ≡ Some c →
-          (Some v ≡ Some c.steps) × (is_hole on_left c.steps ≡ true)
+      by : (t : Bool) → is_hole filled v ≡ t → slice_get (contours_by t n v ws) 0 ≡ Some c →
+          (Some v ≡ Some c.steps) × (is_hole filled c.steps ≡ true)
       by true is here = let same = some-same (hole_to_bind v) c here in
-          (ap (λ (d : Contour). Some d.steps) same, subst (λ (d : Contour). is_hole on_left d.steps ≡ true) same is)
+          (ap (λ (d : Contour). Some d.steps) same, subst (λ (d : Contour). is_hole filled d.steps ≡ true) same is)
       by false is here = absurd (false≢true
           (ap (λ r. is_free_hole r) (ap (λ (d : Contour). d.role) (some-same (outline_of n v) c here) ∙ free)))
-  free_hole_at n (v ∷ ws) (suc i) c at free = by (is_hole on_left v) (λ k here. free_hole_at k ws i c here free) at
+  free_hole_at n (v ∷ ws) (suc i) c at free = by (is_hole filled v) (λ k here. free_hole_at k ws i c here free) at
     where
-      by : (t : Bool) → ((k : ℕ) → slice_get (contours_from on_left k ws) i ≡ Some c →
-          (slice_get ws i ≡ Some c.steps) × (is_hole on_left c.steps ≡ true)) →
+      by : (t : Bool) → ((k : ℕ) → slice_get (contours_from filled k ws) i ≡ Some c →
+          (slice_get ws i ≡ Some c.steps) × (is_hole filled c.steps ≡ true)) →
           slice_get (contours_by t n v ws) (suc i) ≡ Some c →
-          (slice_get ws i ≡ Some c.steps) × (is_hole on_left c.steps ≡ true)
+          (slice_get ws i ≡ Some c.steps) × (is_hole filled c.steps ≡ true)
       by true rest here = rest n here
       by false rest here = rest (suc n) here

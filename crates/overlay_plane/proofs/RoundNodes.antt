@@ -68,11 +68,12 @@ module _ (count : CountedEdge → ℤ) (es : List CountedEdge) (arranged : IsBal
       one : (h k : Bool) → point_eq g.a v ≡ h → point_eq e.a v ≡ k → alike h k ≡ true →
           edge_turn (ends_of e) (ends_of g) ≡ pos 0 → edge_eq (ends_of e) (ends_of g) ≡ true
       one true true hg he same level = same_from_start (ends_of e) (ends_of g) forward_e forward_g level
-          (arranged.settled e g spoke_e.entry spoke.entry) (point_eq-same e.a v he ∙ sym (point_eq-same g.a v hg))
+          (arranged.planar.settled e g spoke_e.entry spoke.entry)
+          (point_eq-same e.a v he ∙ sym (point_eq-same g.a v hg))
       one true false hg he same level = absurd (false≢true same)
       one false true hg he same level = absurd (false≢true same)
       one false false hg he same level = same_from_end (ends_of e) (ends_of g) forward_e forward_g level
-          (arranged.settled e g spoke_e.entry spoke.entry) (ends_there es v e spoke_e he
+          (arranged.planar.settled e g spoke_e.entry spoke.entry) (ends_there es v e spoke_e he
           ∙ sym (ends_there es v g spoke hg))
 
       there : (alike (point_eq g.a v) (point_eq e.a v) && is_level (sign_at (edge_turn (ends_of e) (ends_of g))))
@@ -160,7 +161,7 @@ module _ (count : CountedEdge → ℤ) (es : List CountedEdge) (arranged : IsBal
       ∙ total-add (λ g. (first_f g -ℤ first_e g) -ℤ itself g) all es
       ∙ ap₂ (λ x y. x +ℤ y) (total-sub (λ g. first_f g -ℤ first_e g) itself es
       ∙ ap₂ (λ x y. x -ℤ y) (total-sub first_f first_e es)
-      (single_total es arranged.distinct (spoke_count count v) e spoke_e.entry))
+      (single_total es arranged.planar.distinct (spoke_count count v) e spoke_e.entry))
       (whole (not (is_first_from_down v e f)))
       ∙ +ℤ_idr ((total_first count es v f -ℤ total_first count es v e) -ℤ spoke_count count v e)
     where

@@ -12,6 +12,7 @@ use Rattle.overlay_plane.specs.Alternates.{IsMetBetween, AreOneWay, Alternates}
 use Rattle.overlay_plane.specs.Nodes.{IsBalancedArrangement}
 use Rattle.overlay_plane.specs.Spokes.{IsSpoke, far_end, winding_before, winding_after}
 use Rattle.overlay_plane.specs.SelectedSteps.{step_with_left, IsSelectedStep, AreSelected, SelectedStepsAlternate}
+use Rattle.overlay_plane.specs.Turn.Hand.{left, right}
 use Rattle.overlay_plane.proofs.SameWay.{ends_differ}
 use Rattle.overlay_plane.proofs.SpokeWindings.{forward_entry, ends_there, not_start}
 use Rattle.overlay_plane.proofs.SpokeRays.{one_ray_one_spoke}
@@ -43,7 +44,7 @@ module _ (holds : ℤ → ℤ → Bool) (subj clip : CountedEdge → ℤ) (es : 
 
   -- a selected step with the side on its left
   abbrev Selected : CountedEdge → Step → Type 0
-  Selected = IsSelectedStep holds subj clip es true
+  Selected = IsSelectedStep holds subj clip es left
 
   -- ---- steps and spokes
 
@@ -233,7 +234,7 @@ module _ (holds : ℤ → ℤ → Bool) (subj clip : CountedEdge → ℤ) (es : 
 
   -- ---- the steps
 
-  module _ (steps : List Step) (taken : AreSelected holds subj clip es true steps) where
+  module _ (steps : List Step) (taken : AreSelected holds subj clip es left steps) where
     -- an edge has one selected step
     one_step : (e f : CountedEdge) (s t : Step) → Selected e s → Selected f t → e ≡ f → s ≡ t
     one_step e f s t se sf one = se.walks ∙ ap (λ (g : CountedEdge). step_with_left (above g) (ends_of g)) one
@@ -330,9 +331,9 @@ module _ (holds : ℤ → ℤ → Bool) (subj clip : CountedEdge → ℤ) (es : 
 
 -- with the side on the right, they are those of the opposite rule with the side on the left
 pub selected_steps_alternate : SelectedStepsAlternate
-selected_steps_alternate holds subj clip es by_subj by_clip true steps taken = alternate holds subj clip es by_subj
+selected_steps_alternate holds subj clip es by_subj by_clip left steps taken = alternate holds subj clip es by_subj
     by_clip steps taken
-selected_steps_alternate holds subj clip es by_subj by_clip false steps taken = alternate opposite subj clip es by_subj
+selected_steps_alternate holds subj clip es by_subj by_clip right steps taken = alternate opposite subj clip es by_subj
     by_clip steps (record {
       selected = λ s at. let own = taken.selected s at in
           (own.0, there own.0 s own.1);
@@ -346,8 +347,8 @@ selected_steps_alternate holds subj clip es by_subj by_clip false steps taken = 
     twice true = refl
     twice false = refl
 
-    there : (e : CountedEdge) (s : Step) → IsSelectedStep holds subj clip es false e s →
-        IsSelectedStep opposite subj clip es true e s
+    there : (e : CountedEdge) (s : Step) → IsSelectedStep holds subj clip es right e s →
+        IsSelectedStep opposite subj clip es left e s
     there e s h = record {
       entry = h.entry;
       changes = ap not h.changes;
@@ -355,8 +356,8 @@ selected_steps_alternate holds subj clip es by_subj by_clip false steps taken = 
           ∙ ap (λ t. step_with_left t (ends_of e)) h.changes;
     }
 
-    back : (e : CountedEdge) (s : Step) → IsSelectedStep opposite subj clip es true e s →
-        IsSelectedStep holds subj clip es false e s
+    back : (e : CountedEdge) (s : Step) → IsSelectedStep opposite subj clip es left e s →
+        IsSelectedStep holds subj clip es right e s
     back e s h =
         let change = sym (twice (holds_below holds subj clip es e)) ∙ ap not h.changes
         ∙ twice (not (holds_above holds subj clip es e)) in

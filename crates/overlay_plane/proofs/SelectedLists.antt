@@ -9,6 +9,7 @@ use Rattle.overlay_geom.specs.Edges.{CountedEdge, ends_of}
 use Rattle.overlay_plane.specs.Regions.{IsRuled, holds_above, holds_below}
 use Rattle.overlay_plane.specs.Nodes.{IsBalancedArrangement}
 use Rattle.overlay_plane.specs.SelectedSteps.{step_with_left, is_selected, SelectedStepsOfEdges}
+use Rattle.overlay_plane.specs.Turn.{is_left_hand}
 use Rattle.overlay_plane.proofs.Totals.{Contains-head, Contains-later}
 use Rattle.overlay_plane.proofs.LaterEntries.{Contains-cases}
 
@@ -46,7 +47,7 @@ module _ {X A : Type 0} (p : X → Bool) (h : X → A) where
 
 -- the list of selected steps has these steps and no others
 pub selected_steps_of_edges : SelectedStepsOfEdges
-selected_steps_of_edges holds subj clip on_left es = record {
+selected_steps_of_edges holds subj clip filled es = record {
   selected = λ s at. let found = taken_from (is_selected holds subj clip es) step es s at in (
     found.0,
     record {
@@ -62,7 +63,8 @@ selected_steps_of_edges holds subj clip on_left es = record {
 }
   where
     step : CountedEdge → Step
-    step e = step_with_left (cond on_left (holds_above holds subj clip es e) (holds_below holds subj clip es e))
+    step e = step_with_left (cond (is_left_hand filled) (holds_above holds subj clip es e)
+        (holds_below holds subj clip es e))
         (ends_of e)
 
     changes : (s t : Bool) → cond s (not t) t ≡ true → t ≡ not s
@@ -79,19 +81,13 @@ selected_steps_of_edges holds subj clip on_left es = record {
 pub arranged_by_subject : (holds : ℤ → ℤ → Bool) (subj clip : CountedEdge → ℤ) (es : List CountedEdge) →
     IsRuled holds subj clip es → IsBalancedArrangement subj es
 arranged_by_subject holds subj clip es ruled = record {
-  forward = ruled.forward;
-  settled = ruled.settled;
-  distinct =
-      ruled.distinct;
+  planar = ruled.planar;
   balanced = ruled.subj_balanced;
 }
 
 pub arranged_by_clip : (holds : ℤ → ℤ → Bool) (subj clip : CountedEdge → ℤ) (es : List CountedEdge) →
     IsRuled holds subj clip es → IsBalancedArrangement clip es
 arranged_by_clip holds subj clip es ruled = record {
-  forward = ruled.forward;
-  settled = ruled.settled;
-  distinct =
-      ruled.distinct;
+  planar = ruled.planar;
   balanced = ruled.clip_balanced;
 }

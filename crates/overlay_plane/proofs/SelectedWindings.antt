@@ -13,6 +13,8 @@ use Rattle.overlay_plane.specs.Regions.{holds_above, holds_below, one_if, select
 use Rattle.overlay_plane.specs.SelectedSteps.{step_with_left, is_selected, selected_steps}
 use Rattle.overlay_plane.specs.BesideOrbits.{HasEachOnce}
 use Rattle.overlay_plane.specs.ContourWindings.{once_round, SelectedStepsWind, SelectedStepsOnce}
+use Rattle.overlay_plane.specs.Turn.{Hand, is_left_hand}
+use Rattle.overlay_plane.specs.Turn.Hand.{left, right}
 use Rattle.overlay_plane.proofs.AtNodes.{same_steps}
 use Rattle.overlay_plane.proofs.JoinedLists.{total-flat_map, total-times}
 use Rattle.overlay_plane.proofs.LaterEntries.{Each, Each-from_all_pairs, AllPairs-from_each}
@@ -39,7 +41,7 @@ module _ (e : Edge) (forward : point_lt e.a e.b ≡ true) where
   sign_above above = ap (λ t. cond t (pos 1) (negsuc 0)) (forward_above above)
 
 module _ (holds : ℤ → ℤ → Bool) (subj clip : CountedEdge → ℤ) (es : List CountedEdge)
-    (ruled : IsRuled holds subj clip es) (on_left : Bool) where
+    (ruled : IsRuled holds subj clip es) (filled : Hand) where
   -- the rule holds above the edge, and below it
   abbrev above : CountedEdge → Bool
   above e = holds_above holds subj clip es e
@@ -49,14 +51,14 @@ module _ (holds : ℤ → ℤ → Bool) (subj clip : CountedEdge → ℤ) (es : 
 
   -- the edge's step, where it is selected
   abbrev step : CountedEdge → Step
-  step e = step_with_left (cond on_left (above e) (below e)) (ends_of e)
+  step e = step_with_left (cond (is_left_hand filled) (above e) (below e)) (ends_of e)
 
   abbrev chosen : CountedEdge → List Step
   chosen e = cond (is_selected holds subj clip es e) (step e ∷ []) []
 
   -- an edge of the list leads forward
   leads_forward : (e : CountedEdge) → Contains es e → point_lt e.a e.b ≡ true
-  leads_forward e c = All-contains (λ f. point_lt f.a f.b ≡ true) es e ruled.forward c
+  leads_forward e c = All-contains (λ f. point_lt f.a f.b ≡ true) es e ruled.planar.forward c
 
   -- ---- sums over the edges that pass a test
 
@@ -70,20 +72,21 @@ module _ (holds : ℤ → ℤ → Bool) (subj clip : CountedEdge → ℤ) (es : 
     signed e = cond (test (ends_of e)) (selected_sign holds subj clip es e) (pos 0)
 
     -- what the edge's step counts is its sign, once round
-    chosen_counts : (e : CountedEdge) → Contains es e → total part (chosen e) ≡ once_round on_left *ℤ signed e
+    chosen_counts : (e : CountedEdge) → Contains es e → total part (chosen e) ≡ once_round filled *ℤ signed e
     chosen_counts e c = chosen_part (is_selected holds subj clip es e)
         ∙ ap (λ k. total (λ z. z) (cond (is_selected holds subj clip es e) (k ∷ []) [])) counts
-        ∙ table on_left (above e) (below e) (test (ends_of e))
+        ∙ table (is_left_hand filled) (above e) (below e) (test (ends_of e))
       where
-        counts : part (step e) ≡ cond (test (ends_of e)) (cond (cond on_left (above e) (below e)) (pos 1) (negsuc 0))
+        counts : part (step e) ≡ cond (test (ends_of e)) (cond (cond (is_left_hand filled) (above e) (below e)) (pos 1)
+            (negsuc 0))
             (pos 0)
         counts = ap₂ (λ f k. cond (test f) k (pos 0))
-            (along_edge (ends_of e) (leads_forward e c) (cond on_left (above e) (below e)))
-            (sign_above (ends_of e) (leads_forward e c) (cond on_left (above e) (below e)))
+            (along_edge (ends_of e) (leads_forward e c) (cond (is_left_hand filled) (above e) (below e)))
+            (sign_above (ends_of e) (leads_forward e c) (cond (is_left_hand filled) (above e) (below e)))
 
         table : (t u v w : Bool) →
             total (λ k. k) (cond (cond u (not v) v) (cond w (cond (cond t u v) (pos 1) (negsuc 0)) (pos 0) ∷ []) []) ≡
-            once_round t *ℤ cond w (one_if u -ℤ one_if v) (pos 0)
+            cond t (pos 1) (negsuc 0) *ℤ cond w (one_if u -ℤ one_if v) (pos 0)
         table true true true true = refl
         table true true true false = refl
         table true true false true = refl
@@ -107,26 +110,26 @@ module _ (holds : ℤ → ℤ → Bool) (subj clip : CountedEdge → ℤ) (es : 
         chosen_part false = refl
 
     -- so the selected steps count as the signs, once round
-    pub selected_total : total part (selected_steps holds subj clip on_left es) ≡ once_round on_left *ℤ total signed es
+    pub selected_total : total part (selected_steps holds subj clip filled es) ≡ once_round filled *ℤ total signed es
     selected_total = total-flat_map part chosen es
-        ∙ total-same (λ e. total part (chosen e)) (λ e. once_round on_left *ℤ signed e) es chosen_counts
-        ∙ total-times (once_round on_left) signed es
+        ∙ total-same (λ e. total part (chosen e)) (λ e. once_round filled *ℤ signed e) es chosen_counts
+        ∙ total-times (once_round filled) signed es
 
   -- the rule's truth at a point, once round
-  once_where : (t : Bool) → once_round on_left *ℤ one_if t ≡ cond t (once_round on_left) (pos 0)
-  once_where t = by on_left t
+  once_where : (t : Bool) → once_round filled *ℤ one_if t ≡ cond t (once_round filled) (pos 0)
+  once_where t = by filled t
     where
-      by : (u v : Bool) → once_round u *ℤ one_if v ≡ cond v (once_round u) (pos 0)
-      by true true = refl
-      by true false = refl
-      by false true = refl
-      by false false = refl
+      by : (u : Hand) (v : Bool) → once_round u *ℤ one_if v ≡ cond v (once_round u) (pos 0)
+      by left true = refl
+      by left false = refl
+      by right true = refl
+      by right false = refl
 
   -- so they wind once where the rule holds
-  pub selected_wind : (p : PlanePoint) → winding (selected_steps holds subj clip on_left es) p ≡
-      cond (holds (winding_by subj es p) (winding_by clip es p)) (once_round on_left) (pos 0)
+  pub selected_wind : (p : PlanePoint) → winding (selected_steps holds subj clip filled es) p ≡
+      cond (holds (winding_by subj es p) (winding_by clip es p)) (once_round filled) (pos 0)
   selected_wind p = selected_total (λ e. is_strictly_below e p)
-      ∙ ap (λ k. once_round on_left *ℤ k) (region_from_selected_signs holds subj clip es ruled p)
+      ∙ ap (λ k. once_round filled *ℤ k) (region_from_selected_signs holds subj clip es ruled p)
       ∙ once_where (holds (winding_by subj es p) (winding_by clip es p))
 
   -- ---- each once
@@ -138,9 +141,9 @@ module _ (holds : ℤ → ℤ → Bool) (subj clip : CountedEdge → ℤ) (es : 
       (λ same. both_ways (edge_eq (ends_of e) (ends_of f)) apart (equal same))
     where
       one : step_eq (step e) (step f) ≡ true → ends_of e ≡ ends_of f
-      one same = sym (along_edge (ends_of e) (leads_forward e c) (cond on_left (above e) (below e)))
+      one same = sym (along_edge (ends_of e) (leads_forward e c) (cond (is_left_hand filled) (above e) (below e)))
           ∙ ap edge_of (same_steps (step e) (step f) same)
-          ∙ along_edge (ends_of f) (leads_forward f d) (cond on_left (above f) (below f))
+          ∙ along_edge (ends_of f) (leads_forward f d) (cond (is_left_hand filled) (above f) (below f))
 
       equal : step_eq (step e) (step f) ≡ true → edge_eq (ends_of e) (ends_of f) ≡ true
       equal same = edge_eq-from_ends (ends_of e) (ends_of f) (λ i. (one same i).a) (λ i. (one same i).b)
@@ -165,14 +168,14 @@ module _ (holds : ℤ → ℤ → Bool) (subj clip : CountedEdge → ℤ) (es : 
       )
 
   -- no step is selected twice
-  pub selected_once : HasEachOnce (selected_steps holds subj clip on_left es)
+  pub selected_once : HasEachOnce (selected_steps holds subj clip filled es)
   selected_once = AllPairs-from_each (λ s t. step_eq s t ≡ false) (flat_map chosen es)
       (each_apart es (λ f c. c) (Each-from_all_pairs (λ e f. edge_eq (ends_of e) (ends_of f) ≡ false) es
-      ruled.distinct))
+      ruled.planar.distinct))
 
 -- the laws
 pub selected_steps_wind : SelectedStepsWind
-selected_steps_wind holds subj clip es ruled on_left p = selected_wind holds subj clip es ruled on_left p
+selected_steps_wind holds subj clip es ruled filled p = selected_wind holds subj clip es ruled filled p
 
 pub selected_steps_once : SelectedStepsOnce
-selected_steps_once holds subj clip es ruled on_left = selected_once holds subj clip es ruled on_left
+selected_steps_once holds subj clip es ruled filled = selected_once holds subj clip es ruled filled

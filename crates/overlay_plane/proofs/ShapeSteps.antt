@@ -25,19 +25,19 @@ use Rattle.overlay_plane.proofs.SelectedWindings.{selected_steps_wind, selected_
 use Rattle.overlay_plane.proofs.ShapeWalks.{shapes_alike}
 
 -- a list is made of its entries
-single_parts : {X : Type 0} (xs : List X) → flat_map (λ x. x ∷ []) xs ≡ xs
+pub single_parts : {X : Type 0} (xs : List X) → flat_map (λ x. x ∷ []) xs ≡ xs
 single_parts [] = refl
 single_parts (x ∷ xs) = ap (λ ys. x ∷ ys) (single_parts xs)
 
 -- the shapes have each walk once
 pub shapes_have_each_walk : ShapesHaveEachWalk
-shapes_have_each_walk on_left walks bound are_bound have =
-    subst (λ ws. IsPermutation ws (walks_of (shapes_of on_left bound))) (single_parts walks)
-    (subst (λ ws. IsPermutation (flat_map (λ w. w ∷ []) walks) ws) (single_parts (walks_of (shapes_of on_left bound)))
-    (shapes_alike on_left walks bound are_bound have (λ w. w ∷ [])))
+shapes_have_each_walk filled walks bound are_bound have =
+    subst (λ ws. IsPermutation ws (walks_of (shapes_of filled bound))) (single_parts walks)
+    (subst (λ ws. IsPermutation (flat_map (λ w. w ∷ []) walks) ws) (single_parts (walks_of (shapes_of filled bound)))
+    (shapes_alike filled walks bound are_bound have (λ w. w ∷ [])))
 
 -- the steps of the points of shapes that are contours are their steps
-steps_of_all : (shapes : List (List (List Step))) → All IsContour (walks_of shapes) →
+pub steps_of_all : (shapes : List (List (List Step))) → All IsContour (walks_of shapes) →
     steps_of_shapes (points_of_shapes shapes) ≡ all_steps (walks_of shapes)
 steps_of_all [] each = refl
 steps_of_all (shape ∷ shapes) each =
@@ -47,29 +47,30 @@ steps_of_all (shape ∷ shapes) each =
 
 -- the shapes have each selected step once
 pub shapes_have_each_step : ShapesHaveEachStep
-shapes_have_each_step holds subj clip es on_left walks cut bound are_bound =
-    subst (λ ss. IsPermutation steps ss) (sym (steps_of_all (shapes_of on_left bound) contours))
-    (IsPermutation-trans steps (all_steps walks) (all_steps (walks_of (shapes_of on_left bound)))
-    (cuts_take_each_once (outline_or_hole_hand on_left) steps (alternating alternate)
-    (selected_steps_once holds subj clip es cut.ruled on_left) walks cut.cut)
-    (shapes_alike on_left walks bound are_bound have (λ (w : List Step). w)))
+shapes_have_each_step holds subj clip es filled walks cut bound are_bound =
+    subst (λ ss. IsPermutation steps ss) (sym (steps_of_all (shapes_of filled bound) contours))
+    (IsPermutation-trans steps (all_steps walks) (all_steps (walks_of (shapes_of filled bound)))
+    (cuts_take_each_once (outline_or_hole_hand filled) steps (alternating alternate)
+    (selected_steps_once holds subj clip es cut.ruled filled) walks cut.cut)
+    (shapes_alike filled walks bound are_bound have (λ (w : List Step). w)))
   where
     steps : List Step
-    steps = selected_steps holds subj clip on_left es
+    steps = selected_steps holds subj clip filled es
 
     alternate : Alternates steps
-    alternate = selected_alternate holds subj clip es cut.ruled on_left
+    alternate = selected_alternate holds subj clip es cut.ruled filled
 
-    have : HaveShapes on_left bound
-    have = bound_walks_have_shapes holds subj clip es on_left walks cut bound are_bound
+    have : HaveShapes filled bound
+    have = bound_walks_have_shapes holds subj clip es filled walks cut bound are_bound
 
-    contours : All IsContour (walks_of (shapes_of on_left bound))
-    contours = All-permutation IsContour walks (walks_of (shapes_of on_left bound))
-        (shapes_have_each_walk on_left walks bound are_bound have)
-        (cuts_are_contours (outline_or_hole_hand on_left) steps alternate walks cut.cut)
+    contours : All IsContour (walks_of (shapes_of filled bound))
+    contours = All-permutation IsContour walks (walks_of (shapes_of filled bound))
+        (shapes_have_each_walk filled walks bound are_bound have)
+        (cuts_are_contours (outline_or_hole_hand filled) steps alternate walks cut.cut)
 
 -- shapes wind alike, each contour as given or thinned
-thinned_shapes_wind_alike : (keep : Bool) (given taken : List (List (List Point))) → AreKeptOrThinned keep given taken →
+pub thinned_shapes_wind_alike : (keep : Bool) (given taken : List (List (List Point))) → AreKeptOrThinned keep given
+    taken →
     (p : PlanePoint) →
     winding (steps_of_shapes taken) p ≡ winding (steps_of_shapes given) p
 thinned_shapes_wind_alike keep [] [] each p = refl
@@ -83,9 +84,9 @@ thinned_shapes_wind_alike keep (g ∷ gs) (t ∷ ts) each p =
 
 -- so they wind as the selected steps
 pub shapes_wind : ShapesWind
-shapes_wind holds subj clip es on_left walks cut bound are_bound keep result shown p =
-    thinned_shapes_wind_alike keep (points_of_shapes (shapes_of on_left bound)) result shown p
-    ∙ total-IsPermutation (winding_part p) (selected_steps holds subj clip on_left es)
-    (steps_of_shapes (points_of_shapes (shapes_of on_left bound)))
-    (shapes_have_each_step holds subj clip es on_left walks cut bound are_bound)
-    ∙ selected_steps_wind holds subj clip es cut.ruled on_left p
+shapes_wind holds subj clip es filled walks cut bound are_bound keep result shown p =
+    thinned_shapes_wind_alike keep (points_of_shapes (shapes_of filled bound)) result shown p
+    ∙ total-IsPermutation (winding_part p) (selected_steps holds subj clip filled es)
+    (steps_of_shapes (points_of_shapes (shapes_of filled bound)))
+    (shapes_have_each_step holds subj clip es filled walks cut bound are_bound)
+    ∙ selected_steps_wind holds subj clip es cut.ruled filled p

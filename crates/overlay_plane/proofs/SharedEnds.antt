@@ -149,9 +149,7 @@ module _ (filled : ℤ → Bool) (es : List CountedEdge) (fillable : IsFillable 
   -- the list is ruled by what the subject alone fills, and by what the clip does
   pub ruled_by_subj : IsRuled (λ w z. filled w) subj_of subj_of es
   ruled_by_subj = record {
-    forward = fillable.forward;
-    settled = fillable.settled;
-    distinct = fillable.distinct;
+    planar = fillable.planar;
     subj_balanced = fillable.balanced.subj;
     clip_balanced = fillable.balanced.subj;
     none = fillable.none;
@@ -159,9 +157,7 @@ module _ (filled : ℤ → Bool) (es : List CountedEdge) (fillable : IsFillable 
 
   pub ruled_by_clip : IsRuled (λ w z. filled w) clip_of clip_of es
   ruled_by_clip = record {
-    forward = fillable.forward;
-    settled = fillable.settled;
-    distinct = fillable.distinct;
+    planar = fillable.planar;
     subj_balanced = fillable.balanced.clip;
     clip_balanced = fillable.balanced.clip;
     none = fillable.none;

@@ -100,28 +100,28 @@ cut_alike hand_of xs ys same walks (next {s} {ss} {rest} start orbit cut) =
 
 -- ---- selected steps in another order
 
-module _ (holds : ℤ → ℤ → Bool) (subj clip : CountedEdge → ℤ) (es : List CountedEdge) (on_left : Bool)
+module _ (holds : ℤ → ℤ → Bool) (subj clip : CountedEdge → ℤ) (es : List CountedEdge) (filled : Hand)
     (ruled : IsRuled holds subj clip es)
-    (steps : List Step) (moved : IsPermutation (selected_steps holds subj clip on_left es) steps) where
+    (steps : List Step) (moved : IsPermutation (selected_steps holds subj clip filled es) steps) where
   -- they have the same steps
-  same : HaveSame (selected_steps holds subj clip on_left es) steps
-  same = same_shuffled (selected_steps holds subj clip on_left es) steps moved
+  same : HaveSame (selected_steps holds subj clip filled es) steps
+  same = same_shuffled (selected_steps holds subj clip filled es) steps moved
 
   -- they alternate
   pub shuffled_alternate : Alternates steps
-  shuffled_alternate = alternate_alike (selected_steps holds subj clip on_left es) steps same
-      (selected_alternate holds subj clip es ruled on_left)
+  shuffled_alternate = alternate_alike (selected_steps holds subj clip filled es) steps same
+      (selected_alternate holds subj clip es ruled filled)
 
   -- none stands twice
   pub shuffled_once : HasEachOnce steps
-  shuffled_once = once_shuffled (selected_steps holds subj clip on_left es) steps moved
-      (selected_steps_once holds subj clip es ruled on_left)
+  shuffled_once = once_shuffled (selected_steps holds subj clip filled es) steps moved
+      (selected_steps_once holds subj clip es ruled filled)
 
   -- and what they are cut into the selected steps are cut into
-  pub shuffled_cut : (walks : List (List Step)) → IsCutInto (outline_or_hole_hand on_left) steps walks →
-      AreCutFrom holds subj clip es on_left walks
+  pub shuffled_cut : (walks : List (List Step)) → IsCutInto (outline_or_hole_hand filled) steps walks →
+      AreCutFrom holds subj clip es filled walks
   shuffled_cut walks cut = record {
     ruled = ruled;
-    cut = cut_alike (outline_or_hole_hand on_left) steps (selected_steps holds subj clip on_left es)
+    cut = cut_alike (outline_or_hole_hand filled) steps (selected_steps holds subj clip filled es)
         (same.1, same.0) walks cut;
   }

@@ -52,16 +52,17 @@ module _ (count : CountedEdge → ℤ) (es : List CountedEdge) (arranged : IsBal
             signed (alike h k) (edge_turn (ends_of e) (ends_of f)) ≡ pos 0 →
             pos 0 <ℤ signed (alike h k) (edge_dot (ends_of e) (ends_of f)) → edge_eq (ends_of e) (ends_of f) ≡ true
         by true true he hf level ahead = same_from_start (ends_of e) (ends_of f) forward_e forward_f level
-            (arranged.settled e f spoke_e.entry spoke_f.entry) (point_eq-same e.a v he ∙ sym (point_eq-same f.a v hf))
+            (arranged.planar.settled e f spoke_e.entry spoke_f.entry)
+            (point_eq-same e.a v he ∙ sym (point_eq-same f.a v hf))
         by true false he hf level ahead = absurd (against level ahead)
         by false true he hf level ahead = absurd (against level ahead)
         by false false he hf level ahead = same_from_end (ends_of e) (ends_of f) forward_e forward_f level
-            (arranged.settled e f spoke_e.entry spoke_f.entry) (ends_there es v e spoke_e he
+            (arranged.planar.settled e f spoke_e.entry spoke_f.entry) (ends_there es v e spoke_e he
             ∙ sym (ends_there es v f spoke_f hf))
 
     -- so they are one
     pub one_ray_one_spoke : AreOneWay v (far_end v e) (far_end v f) → e ≡ f
-    one_ray_one_spoke one = one_entry es arranged.distinct e f spoke_e.entry spoke_f.entry (same_ray one)
+    one_ray_one_spoke one = one_entry es arranged.planar.distinct e f spoke_e.entry spoke_f.entry (same_ray one)
 
     -- and others lie apart
     pub spokes_apart : edge_eq (ends_of e) (ends_of f) ≡ false → Apart v (far_end v e) (far_end v f)

@@ -31,7 +31,7 @@ total_first count es v e = total (λ g. cond (is_first_from_down v g e) (spoke_c
 pub forward_entry : (count : CountedEdge → ℤ) (es : List CountedEdge) → IsBalancedArrangement count es →
     (f : CountedEdge) → Contains es f → IsForward (ends_of f)
 forward_entry count es arranged f at = All-contains (λ h. point_lt (ends_of h).a (ends_of h).b ≡ true) es f
-    arranged.forward at
+    arranged.planar.forward at
 
 -- an edge that starts in v does not end there
 not_both_ends : (v : Point) (e : CountedEdge) → IsForward (ends_of e) → point_eq e.a v ≡ true → point_eq e.b v ≡ false
@@ -109,7 +109,7 @@ module _ (count : CountedEdge → ℤ) (es : List CountedEdge) (arranged : IsBal
         (total-same first (λ g. spoke_count count v g +ℤ (under g +ℤ itself g)) es each
         ∙ total-add (spoke_count count v) (λ g. under g +ℤ itself g) es
         ∙ ap (λ z. total (spoke_count count v) es +ℤ z) (total-add under itself es))
-        spokes_add_up (single_total es arranged.distinct count e spoke.entry)
+        spokes_add_up (single_total es arranged.planar.distinct count e spoke.entry)
       where
         first : CountedEdge → ℤ
         first g = cond (point_eq g.a v || turns_left (ends_of g) (ends_of e)) (spoke_count count v g) (pos 0)
@@ -194,7 +194,7 @@ module _ (count : CountedEdge → ℤ) (es : List CountedEdge) (arranged : IsBal
                 (test_from_ge (pos 0) (edge_turn (ends_of e) (ends_of g)) (omega linear))
                 (edge_eq-exchanged (ends_of e) (ends_of g)
                 (same_from_end (ends_of e) (ends_of g) (forward_entry count es arranged e spoke.entry) forward_g
-                level (arranged.settled e g spoke.entry at) (same ∙ sym (point_eq-same g.b v ends))))
+                level (arranged.planar.settled e g spoke.entry at) (same ∙ sym (point_eq-same g.b v ends))))
                 (cancels_second (count g)))
                 (λ high. tests false true l r i false true false
                 (test_from_ge (pos 0) (edge_turn (ends_of g) (ends_of e)) (let o = opposite in omega linear))

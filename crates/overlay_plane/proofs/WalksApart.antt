@@ -15,70 +15,91 @@ use Rattle.overlay_plane.specs.SelectedSteps.{selected_steps}
 use Rattle.overlay_plane.specs.Contours.{alternating, is_filled_above, outline_or_hole_hand, all_steps, IsContour}
 use Rattle.overlay_plane.specs.Anchors.{HasEachEdgeOnce}
 use Rattle.overlay_plane.specs.Binding.{AreCutFrom, all_filled_above, filled_above_edges}
+use Rattle.overlay_plane.specs.Turn.{Hand, other_hand}
 use Rattle.overlay_plane.proofs.CutWalks.{cuts_take_each_once}
 use Rattle.overlay_plane.proofs.CutWindings.{selected_alternate}
 use Rattle.overlay_plane.proofs.Entries.{all_of_entries}
+use Rattle.overlay_plane.proofs.FilledEdges.{HaveSelected}
 use Rattle.overlay_plane.proofs.SelectedWindings.{selected_steps_once}
 use Rattle.overlay_plane.proofs.ShuffledPairs.{edges_once_shuffled}
-use Rattle.overlay_plane.proofs.WalksOfCuts.{walk_of_a_cut, selected_along, edge_of_step, edges_meet, different_edges}
+use Rattle.overlay_plane.proofs.WalksOfCuts.{IsWalkOfCut, walk_of_a_cut, selected_along, edge_of_step, edges_meet}
+use Rattle.overlay_plane.proofs.WalksOfCuts.{different_edges}
 
 -- the filled-above edges of walks are those of all their steps
-filled_above_of_all : (on_left : Bool) (walks : List (List Step)) →
-    all_filled_above on_left walks ≡ filled_above_edges on_left (all_steps walks)
-filled_above_of_all on_left [] = refl
-filled_above_of_all on_left (w ∷ ws) =
-    ap (λ es. filled_above_edges on_left w ++ es) (filled_above_of_all on_left ws)
-    ∙ sym (map-append edge_of (filter (is_filled_above on_left) w) (filter (is_filled_above on_left) (all_steps ws)))
-    ∙ ap (map edge_of) (sym (filter-append (is_filled_above on_left) w (all_steps ws)))
+filled_above_of_all : (filled : Hand) (walks : List (List Step)) →
+    all_filled_above filled walks ≡ filled_above_edges filled (all_steps walks)
+filled_above_of_all filled [] = refl
+filled_above_of_all filled (w ∷ ws) =
+    ap (λ es. filled_above_edges filled w ++ es) (filled_above_of_all filled ws)
+    ∙ sym (map-append edge_of (filter (is_filled_above filled) w) (filter (is_filled_above filled) (all_steps ws)))
+    ∙ ap (map edge_of) (sym (filter-append (is_filled_above filled) w (all_steps ws)))
 
 -- no two of them are equal where no edge stands twice among the steps
-pub distinct_above : (on_left : Bool) (walks : List (List Step)) → HasEachEdgeOnce (all_steps walks) →
-    AllPairs (λ e f. edge_eq e f ≡ false) (all_filled_above on_left walks)
-distinct_above on_left walks once = subst (λ fs. AllPairs (λ e f. edge_eq e f ≡ false) fs)
-    (sym (filled_above_of_all on_left walks))
-    (AllPairs-map (λ e f. edge_eq e f ≡ false) edge_of (filter (is_filled_above on_left) (all_steps walks))
-    (AllPairs-filter (λ s t. edge_eq (edge_of s) (edge_of t) ≡ false) (is_filled_above on_left) (all_steps walks) once))
+pub distinct_above : (filled : Hand) (walks : List (List Step)) → HasEachEdgeOnce (all_steps walks) →
+    AllPairs (λ e f. edge_eq e f ≡ false) (all_filled_above filled walks)
+distinct_above filled walks once = subst (λ fs. AllPairs (λ e f. edge_eq e f ≡ false) fs)
+    (sym (filled_above_of_all filled walks))
+    (AllPairs-map (λ e f. edge_eq e f ≡ false) edge_of (filter (is_filled_above filled) (all_steps walks))
+    (AllPairs-filter (λ s t. edge_eq (edge_of s) (edge_of t) ≡ false) (is_filled_above filled) (all_steps walks) once))
 
-module _ (holds : ℤ → ℤ → Bool) (subj clip : CountedEdge → ℤ) (es : List CountedEdge) (on_left : Bool)
+module _ (holds : ℤ → ℤ → Bool) (subj clip : CountedEdge → ℤ) (es : List CountedEdge) (filled : Hand)
     (walks : List (List Step))
-    (cut : AreCutFrom holds subj clip es on_left walks) where
+    (cut : AreCutFrom holds subj clip es filled walks) where
   -- the selected steps
   abbrev pub selected : List Step
-  selected = selected_steps holds subj clip on_left es
+  selected = selected_steps holds subj clip filled es
 
   -- the walks have them in another order
   pub walks_have_each_step : IsPermutation selected (all_steps walks)
-  walks_have_each_step = cuts_take_each_once (outline_or_hole_hand on_left) selected
-      (alternating (selected_alternate holds subj clip es cut.ruled on_left))
-      (selected_steps_once holds subj clip es cut.ruled on_left) walks cut.cut
+  walks_have_each_step = cuts_take_each_once (outline_or_hole_hand filled) selected
+      (alternating (selected_alternate holds subj clip es cut.ruled filled))
+      (selected_steps_once holds subj clip es cut.ruled filled) walks cut.cut
 
   -- a walk's step is selected
   pub from_selected : (s : Step) → Contains (all_steps walks) s → Contains selected s
   from_selected s c = Contains-permutation (all_steps walks) selected s
       (IsPermutation-sym selected (all_steps walks) walks_have_each_step) c
 
+  -- each walk is the first of what is left of them
+  pub own_walk : (walk : List Step) → Contains walks walk → IsWalkOfCut es (outline_or_hole_hand filled) selected walk
+  own_walk = walk_of_a_cut holds subj clip es filled cut.ruled walks cut.cut
+
   -- each walk is a contour
   pub walks_are_contours : All IsContour walks
   walks_are_contours = all_of_entries IsContour walks
-      (λ w c. (walk_of_a_cut holds subj clip es on_left cut.ruled walks cut.cut w c).contour)
+      (λ w c. (own_walk w c).contour)
 
   -- along each of its edges once
   pub walks_have_each_edge_once : All HasEachEdgeOnce walks
   walks_have_each_edge_once = all_of_entries HasEachEdgeOnce walks
-      (λ w c. (walk_of_a_cut holds subj clip es on_left cut.ruled walks cut.cut w c).each_edge_once)
+      (λ w c. (own_walk w c).each_edge_once)
 
   -- no edge stands twice among all walks
   pub all_edges_once : HasEachEdgeOnce (all_steps walks)
   all_edges_once = edges_once_shuffled selected (all_steps walks) walks_have_each_step
-      (different_edges selected (selected_alternate holds subj clip es cut.ruled on_left) selected (λ s c. c)
-      (selected_steps_once holds subj clip es cut.ruled on_left))
+      (different_edges selected (selected_alternate holds subj clip es cut.ruled filled) selected (λ s c. c)
+      (selected_steps_once holds subj clip es cut.ruled filled))
 
   -- so no two of the filled-above edges are equal
-  pub filled_above_distinct : AllPairs (λ e f. edge_eq e f ≡ false) (all_filled_above on_left walks)
-  filled_above_distinct = distinct_above on_left walks all_edges_once
+  pub filled_above_distinct : AllPairs (λ e f. edge_eq e f ≡ false) (all_filled_above filled walks)
+  filled_above_distinct = distinct_above filled walks all_edges_once
 
   -- and they meet in ends alone
   pub walks_settled : IsSettledBy edge_of (all_steps walks)
-  walks_settled s t at_s at_t apart = edges_meet es cut.ruled.settled (edge_of s) (edge_of t)
-      (edge_of_step es selected (selected_along holds subj clip es on_left cut.ruled) s (from_selected s at_s))
-      (edge_of_step es selected (selected_along holds subj clip es on_left cut.ruled) t (from_selected t at_t)) apart
+  walks_settled s t at_s at_t apart = edges_meet es cut.ruled.planar.settled (edge_of s) (edge_of t)
+      (edge_of_step es selected (selected_along holds subj clip es filled cut.ruled) s (from_selected s at_s))
+      (edge_of_step es selected (selected_along holds subj clip es filled cut.ruled) t (from_selected t at_t)) apart
+
+  -- so they have the selected steps, each once, and can be bound
+  pub have_selected : HaveSelected holds subj clip es filled walks
+  have_selected = record {
+    ruled = cut.ruled;
+    each_once = walks_have_each_step;
+    bindable = record {
+      contours = walks_are_contours;
+      single = walks_have_each_edge_once;
+      distinct_above = filled_above_distinct;
+      distinct_below = distinct_above (other_hand filled) walks all_edges_once;
+      settled = walks_settled;
+    };
+  }

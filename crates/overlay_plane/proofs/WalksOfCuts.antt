@@ -8,7 +8,7 @@ use Rattle.overlay_geom.specs.Plane.{Step, Edge, edge_of, edge_eq, step_eq, poin
 use Rattle.overlay_geom.specs.Edges.{CountedEdge, ends_of}
 use Rattle.overlay_geom.specs.Settled.{MeetInEnds, IsSettledBy}
 use Rattle.overlay_geom.proofs.Orders.{edge_eq-same}
-use Rattle.overlay_plane.specs.Turn.{Hand, step_round}
+use Rattle.overlay_plane.specs.Turn.{Hand, step_round, is_left_hand}
 use Rattle.overlay_plane.specs.Alternates.{Alternates}
 use Rattle.overlay_plane.specs.Regions.{IsRuled, holds_above, holds_below}
 use Rattle.overlay_plane.specs.SelectedSteps.{selected_steps}
@@ -40,7 +40,8 @@ pub edge_forward : (holds : ℤ → ℤ → Bool) (subj clip : CountedEdge → �
     IsRuled holds subj clip es → (g : Edge) → IsEdgeOf es g →
     point_lt g.a g.b ≡ true
 edge_forward holds subj clip es ruled g h =
-    ap (λ f. point_lt f.a f.b) h.ends ∙ All-contains (λ e. point_lt e.a e.b ≡ true) es h.entry ruled.forward h.among
+    ap (λ f. point_lt f.a f.b) h.ends ∙ All-contains (λ e. point_lt e.a e.b ≡ true) es h.entry ruled.planar.forward
+    h.among
 
 -- and in a settled one two different such edges meet in ends alone
 pub edges_meet : (es : List CountedEdge) → IsSettledBy ends_of es → (g h : Edge) → IsEdgeOf es g → IsEdgeOf es h →
@@ -86,28 +87,27 @@ pub edge_of_step : (es : List CountedEdge) (steps : List Step) → WalksAlong es
     IsEdgeOf es (edge_of s)
 edge_of_step es steps along s c = let own = along.along s c in record { entry = own.0; among = own.1; ends = own.2 }
 
-module _ (holds : ℤ → ℤ → Bool) (subj clip : CountedEdge → ℤ) (es : List CountedEdge) (on_left : Bool)
+module _ (holds : ℤ → ℤ → Bool) (subj clip : CountedEdge → ℤ) (es : List CountedEdge) (filled : Hand)
     (ruled : IsRuled holds subj clip es) where
   -- selected steps walk along edges of the list
-  pub selected_along : WalksAlong es (selected_steps holds subj clip on_left es)
+  pub selected_along : WalksAlong es (selected_steps holds subj clip filled es)
   selected_along = record {
-    forward = ruled.forward;
-    settled = ruled.settled;
-    distinct = ruled.distinct;
-    along = λ s c. let own = (selected_steps_of_edges holds subj clip on_left es).selected s c in (
+    planar = ruled.planar;
+    along = λ s c. let own = (selected_steps_of_edges holds subj clip filled es).selected s c in (
       own.0,
       own.1.entry,
       ap edge_of own.1.walks
-          ∙ along_edge (ends_of own.0) (All-contains (λ e. point_lt e.a e.b ≡ true) es own.0 ruled.forward own.1.entry)
-          (cond on_left (holds_above holds subj clip es own.0) (holds_below holds subj clip es own.0)),
+          ∙ along_edge (ends_of own.0) (All-contains (λ e. point_lt e.a e.b ≡ true) es own.0 ruled.planar.forward
+          own.1.entry)
+          (cond (is_left_hand filled) (holds_above holds subj clip es own.0) (holds_below holds subj clip es own.0)),
     );
   }
 
   module _ (walks : List (List Step))
-      (cut : IsCutInto (outline_or_hole_hand on_left) (selected_steps holds subj clip on_left es) walks) where
+      (cut : IsCutInto (outline_or_hole_hand filled) (selected_steps holds subj clip filled es) walks) where
     -- each walk is such a walk
     pub walk_of_a_cut : (walk : List Step) → Contains walks walk →
-        IsWalkOfCut es (outline_or_hole_hand on_left) (selected_steps holds subj clip on_left es) walk
+        IsWalkOfCut es (outline_or_hole_hand filled) (selected_steps holds subj clip filled es) walk
     walk_of_a_cut walk at = record {
       remaining = remaining;
       inside = inside;
@@ -116,12 +116,12 @@ module _ (holds : ℤ → ℤ → Bool) (subj clip : CountedEdge → ℤ) (es : 
       within = within;
       contour = contour;
       each_edge_once = different_edges remaining first.alternate walk within contour.once;
-      settled = λ s t at_s at_t apart. edges_meet es ruled.settled (edge_of s) (edge_of t)
+      settled = λ s t at_s at_t apart. edges_meet es ruled.planar.settled (edge_of s) (edge_of t)
           (edge_of_step es remaining along s (within s at_s)) (edge_of_step es remaining along t (within t at_t)) apart;
     }
       where
         steps : List Step
-        steps = selected_steps holds subj clip on_left es
+        steps = selected_steps holds subj clip filled es
 
         remaining : List Step
         remaining = without steps (all_steps (take at.0 walks))
@@ -129,26 +129,24 @@ module _ (holds : ℤ → ℤ → Bool) (subj clip : CountedEdge → ℤ) (es : 
         inside : (s : Step) → Contains remaining s → Contains steps s
         inside s c = (left_parts steps (all_steps (take at.0 walks)) s c).0
 
-        first : IsFirstWalk (outline_or_hole_hand on_left) remaining walk
-        first = subst (λ w. IsFirstWalk (outline_or_hole_hand on_left) remaining w)
+        first : IsFirstWalk (outline_or_hole_hand filled) remaining walk
+        first = subst (λ w. IsFirstWalk (outline_or_hole_hand filled) remaining w)
             (get_or_default walks at.0 [] walk at.1 ∙ at.2)
-            (cuts_are_orbits (outline_or_hole_hand on_left) steps (selected_alternate holds subj clip es ruled on_left)
+            (cuts_are_orbits (outline_or_hole_hand filled) steps (selected_alternate holds subj clip es ruled filled)
             walks cut at.0 at.1)
 
         along : WalksAlong es remaining
         along = record {
-          forward = ruled.forward;
-          settled = ruled.settled;
-          distinct = ruled.distinct;
+          planar = ruled.planar;
           along = λ s c. selected_along.along s (inside s c);
         }
 
         within : (s : Step) → Contains walk s → Contains remaining s
         within s c = All-contains (Contains remaining) walk s
-            (orbits_are_cycles remaining (outline_or_hole_hand on_left (step_round walk 0))
-            (alternating_steps_lead_on remaining first.alternate (outline_or_hole_hand on_left (step_round walk 0)))
+            (orbits_are_cycles remaining (outline_or_hole_hand filled (step_round walk 0))
+            (alternating_steps_lead_on remaining first.alternate (outline_or_hole_hand filled (step_round walk 0)))
             walk first.orbit).inside c
 
         contour : IsContour walk
-        contour = orbits_are_contours remaining first.alternate (outline_or_hole_hand on_left (step_round walk 0))
+        contour = orbits_are_contours remaining first.alternate (outline_or_hole_hand filled (step_round walk 0))
             walk first.orbit

@@ -4,13 +4,12 @@ use Rattle.std.specs.Prelude.{◌≡◌, Bool, false, cond, not, ℤ, pos, ◌+�
 use Rattle.overlay_geom.specs.Plane.{Step, Edge, edge_eq, step_eq, is_forward, edge_of, sign_of, reversed_step}
 use Rattle.overlay_geom.specs.Plane.{midpoint, total}
 use Rattle.overlay_geom.specs.Edges.{CountedEdge, ends_of, winding_by}
-use Rattle.overlay_geom.specs.Settled.{IsSettled}
 use Rattle.overlay_plane.specs.Turn.{Hand, IsNextStep, IsOrbit}
 use Rattle.overlay_plane.specs.Turn.Hand.{left, right}
 use Rattle.overlay_plane.specs.Alternates.{Alternates}
 use Rattle.overlay_plane.specs.NextSteps.{LeadsOn, IsClosedUnderNext}
-use Rattle.overlay_plane.specs.EdgeLists.{IsForwardBy, IsBalanced}
-use Rattle.overlay_plane.specs.Regions.{HasDistinctEnds, one_if}
+use Rattle.overlay_plane.specs.EdgeLists.{IsBalanced}
+use Rattle.overlay_plane.specs.Regions.{IsPlanar, one_if}
 
 -- how often the steps walk along the edge, less how often back along it
 abbrev pub count_along : List Step → Edge → ℤ
@@ -42,11 +41,9 @@ times_held taken s = total (λ t. one_if (step_eq t s)) taken
 abbrev pub HasEachOnce : List Step → Type 0
 HasEachOnce steps = AllPairs (λ s t. step_eq s t ≡ false) steps
 
--- the steps walk along edges of a settled list that lead forward, no two with the same ends
+-- the steps walk along edges of a planar list
 pub record WalksAlong (es : List CountedEdge) (steps : List Step) : Type 0 where
-  pub forward : IsForwardBy ends_of es
-  pub settled : IsSettled es
-  pub distinct : HasDistinctEnds es
+  pub planar : IsPlanar es
   pub along : (s : Step) → Contains steps s → (e : CountedEdge) × Contains es e × (edge_of s ≡ ends_of e)
 
 -- some of the steps, whose counts are balanced

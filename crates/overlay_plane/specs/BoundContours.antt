@@ -7,6 +7,7 @@ use Rattle.overlay_plane.specs.Binding.{is_number}
 use Rattle.overlay_plane.specs.Roles.{IsShapeNumber}
 use Rattle.overlay_plane.specs.RoledContours.{Role, outline, own_hole, free_hole, Contour, stands_in, is_outline}
 use Rattle.overlay_plane.specs.RoledContours.{is_own_hole_of, is_free_hole}
+use Rattle.overlay_plane.specs.Turn.{Hand}
 
 -- the walks of contours, and the shapes in which they stand from the start
 abbrev pub walks_in : List Contour → List (List Step)
@@ -21,16 +22,16 @@ has_one_shape contours = length (filter (λ c. is_outline c.role) contours) == 1
 
 -- the number of the shape of the contour at place i, a hole whose shape is to be found: where there is one shape alone,
 -- that one; else its parent, or that it has none
-abbrev pub IsShapeFound : Bool → List Contour → ℕ → Option ℕ → Type 0
-IsShapeFound on_left contours i shape =
+abbrev pub IsShapeFound : Hand → List Contour → ℕ → Option ℕ → Type 0
+IsShapeFound filled contours i shape =
     MatchBool (has_one_shape contours) (shape ≡ Some 0)
-    (IsShapeNumber on_left (walks_in contours) (known_in contours) i shape)
+    (IsShapeNumber filled (walks_in contours) (known_in contours) i shape)
 
 -- the contours' shapes, as far as they are to be found; what stands at the others is left open
-pub record AreShapesFound (on_left : Bool) (contours : List Contour) (shapes : List (Option ℕ)) : Type 0 where
+pub record AreShapesFound (filled : Hand) (contours : List Contour) (shapes : List (Option ℕ)) : Type 0 where
   pub counted : length shapes ≡ length contours
   pub found : (i : ℕ) (c : Contour) → slice_get contours i ≡ Some c → c.role ≡ free_hole →
-      IsShapeFound on_left contours i (slice_index_or shapes i None)
+      IsShapeFound filled contours i (slice_index_or shapes i None)
 
 -- ---- shapes
 

@@ -66,10 +66,10 @@ count_of_chains count rounds old f = total
 -- the mark that an edge gives to a step of its chain: its own where the step runs forward, and the other one where it
 -- runs back
 abbrev pub marks_along : CountedEdge → Step → Bool
-marks_along e t = cond (is_forward t) e.along e.against
+marks_along e t = cond (is_forward t) e.counts.along e.counts.against
 
 abbrev pub marks_against : CountedEdge → Step → Bool
-marks_against e t = cond (is_forward t) e.against e.along
+marks_against e t = cond (is_forward t) e.counts.against e.counts.along
 
 -- some step along the edge f, of the chain of an added edge, is given the mark
 abbrev pub IsMarkedBy : (CountedEdge → Step → Bool) → List Round → List CountedEdge → Edge → Type 0
@@ -81,7 +81,7 @@ pub record ChainsHold (rounds : List Round) (k : ℕ) (old new : List CountedEdg
   pub keep_ends : All (λ e. Leads e.a (chain_through rounds e) e.b) old
   pub stay_near : All (λ e. All (λ t. IsNear k (ends_of e) t.from × IsNear k (ends_of e) t.to) (chain_through rounds e))
       old
-  pub subj_counts : All (λ f. f.subj ≡ count_of_chains subj_of rounds old (ends_of f)) new
-  pub clip_counts : All (λ f. f.clip ≡ count_of_chains clip_of rounds old (ends_of f)) new
-  pub along_marks : All (λ f. (f.along ≡ true) ↔ IsMarkedBy marks_along rounds old (ends_of f)) new
-  pub against_marks : All (λ f. (f.against ≡ true) ↔ IsMarkedBy marks_against rounds old (ends_of f)) new
+  pub subj_counts : All (λ f. f.counts.subj ≡ count_of_chains subj_of rounds old (ends_of f)) new
+  pub clip_counts : All (λ f. f.counts.clip ≡ count_of_chains clip_of rounds old (ends_of f)) new
+  pub along_marks : All (λ f. (f.counts.along ≡ true) ↔ IsMarkedBy marks_along rounds old (ends_of f)) new
+  pub against_marks : All (λ f. (f.counts.against ≡ true) ↔ IsMarkedBy marks_against rounds old (ends_of f)) new

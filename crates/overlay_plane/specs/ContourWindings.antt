@@ -5,21 +5,21 @@ use Rattle.std.specs.List.{AllZip, flat_map}
 use Rattle.overlay_geom.specs.Plane.{Point, PlanePoint, Step, steps_of, points_of, winding}
 use Rattle.overlay_geom.specs.Thinned.{IsKeptOrThinned}
 use Rattle.overlay_geom.specs.Edges.{CountedEdge, winding_by}
-use Rattle.overlay_plane.specs.Turn.{Hand}
+use Rattle.overlay_plane.specs.Turn.{Hand, is_left_hand}
 use Rattle.overlay_plane.specs.Alternates.{Alternates}
 use Rattle.overlay_plane.specs.Regions.{IsRuled}
 use Rattle.overlay_plane.specs.SelectedSteps.{selected_steps}
 use Rattle.overlay_plane.specs.BesideOrbits.{HasEachOnce}
 use Rattle.overlay_plane.specs.Contours.{IsCutInto, all_steps}
 
--- how often steps with their filled side on the left, or on the right, wind round what is filled
-abbrev pub once_round : Bool → ℤ
-once_round on_left = cond on_left (pos 1) (negsuc 0)
+-- how often steps that have their filled side by the hand wind round what is filled
+abbrev pub once_round : Hand → ℤ
+once_round filled = cond (is_left_hand filled) (pos 1) (negsuc 0)
 
 -- once where the rule holds of the windings at the point, and zero times elsewhere
-abbrev pub wanted_winding : (ℤ → ℤ → Bool) → (subj clip : CountedEdge → ℤ) → Bool → List CountedEdge → PlanePoint → ℤ
-wanted_winding holds subj clip on_left es p = cond (holds (winding_by subj es p) (winding_by clip es p))
-    (once_round on_left) (pos 0)
+abbrev pub wanted_winding : (ℤ → ℤ → Bool) → (subj clip : CountedEdge → ℤ) → Hand → List CountedEdge → PlanePoint → ℤ
+wanted_winding holds subj clip filled es p = cond (holds (winding_by subj es p) (winding_by clip es p))
+    (once_round filled) (pos 0)
 
 -- ---- selected steps
 
@@ -27,13 +27,13 @@ wanted_winding holds subj clip on_left es p = cond (holds (winding_by subj es p)
 abbrev pub SelectedStepsWind : Type 0
 SelectedStepsWind = (holds : ℤ → ℤ → Bool) (subj clip : CountedEdge → ℤ) (es : List CountedEdge) →
     IsRuled holds subj clip es →
-    (on_left : Bool) (p : PlanePoint) → winding (selected_steps holds subj clip on_left es) p ≡
-    wanted_winding holds subj clip on_left es p
+    (filled : Hand) (p : PlanePoint) → winding (selected_steps holds subj clip filled es) p ≡
+    wanted_winding holds subj clip filled es p
 
 -- no step is selected twice
 abbrev pub SelectedStepsOnce : Type 0
 SelectedStepsOnce = (holds : ℤ → ℤ → Bool) (subj clip : CountedEdge → ℤ) (es : List CountedEdge) →
-    IsRuled holds subj clip es → (on_left : Bool) → HasEachOnce (selected_steps holds subj clip on_left es)
+    IsRuled holds subj clip es → (filled : Hand) → HasEachOnce (selected_steps holds subj clip filled es)
 
 -- ---- their contours
 
@@ -51,16 +51,16 @@ ThinnedContoursWindAlike = (keep : Bool) (given taken : List (List Point)) → A
 -- the steps of the contours that the selected steps are cut into wind so
 abbrev pub ContoursWind : Type 0
 ContoursWind = (holds : ℤ → ℤ → Bool) (subj clip : CountedEdge → ℤ) (es : List CountedEdge) →
-    IsRuled holds subj clip es → (on_left : Bool) →
+    IsRuled holds subj clip es → (filled : Hand) →
     (hand_of : Step → Hand) (walks : List (List Step)) →
-    IsCutInto hand_of (selected_steps holds subj clip on_left es) walks →
-    (p : PlanePoint) → winding (all_steps walks) p ≡ wanted_winding holds subj clip on_left es p
+    IsCutInto hand_of (selected_steps holds subj clip filled es) walks →
+    (p : PlanePoint) → winding (all_steps walks) p ≡ wanted_winding holds subj clip filled es p
 
 -- and so do the contours' points, as given or thinned
 abbrev pub ResultsWind : Type 0
 ResultsWind = (holds : ℤ → ℤ → Bool) (subj clip : CountedEdge → ℤ) (es : List CountedEdge) →
-    IsRuled holds subj clip es → (on_left : Bool) →
+    IsRuled holds subj clip es → (filled : Hand) →
     (hand_of : Step → Hand) (walks : List (List Step)) →
-    IsCutInto hand_of (selected_steps holds subj clip on_left es) walks →
+    IsCutInto hand_of (selected_steps holds subj clip filled es) walks →
     (keep : Bool) (result : List (List Point)) → AllZip (IsKeptOrThinned keep) (map points_of walks) result →
-    (p : PlanePoint) → winding (flat_map steps_of result) p ≡ wanted_winding holds subj clip on_left es p
+    (p : PlanePoint) → winding (flat_map steps_of result) p ≡ wanted_winding holds subj clip filled es p

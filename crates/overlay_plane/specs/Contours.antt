@@ -5,31 +5,23 @@ use Rattle.std.specs.Prelude.{Contains, filter}
 use Rattle.std.specs.List.{flat_map}
 use Rattle.std.specs.List.Sorted.{IsPermutation}
 use Rattle.overlay_geom.specs.Plane.{Step, is_forward, edge_of, steps_of, points_of}
-use Rattle.overlay_plane.specs.Turn.{Hand, step_round, IsOrbit}
-use Rattle.overlay_plane.specs.Turn.Hand.{left, right}
+use Rattle.overlay_plane.specs.Turn.{Hand, step_round, IsOrbit, other_hand, is_left_hand}
 use Rattle.overlay_plane.specs.Alternates.{Alternates}
 use Rattle.overlay_plane.specs.NextSteps.{LeadsOn}
 use Rattle.overlay_plane.specs.Orbits.{is_step_of}
 use Rattle.overlay_plane.specs.BesideOrbits.{HasEachOnce}
 use Rattle.overlay_plane.specs.LeftmostSteps.{NoneHasEndBefore, NoneTakenAbove}
 
--- ---- hands, where the filled side of each step is its left one, or its right one
+-- ---- hands, where `filled` is the hand of the filled side of each step
 
 -- the upper side of the step's edge is its filled one
-abbrev pub is_filled_above : Bool → Step → Bool
-is_filled_above on_left s = cond on_left (is_forward s) (not (is_forward s))
+abbrev pub is_filled_above : Hand → Step → Bool
+is_filled_above filled s = cond (is_left_hand filled) (is_forward s) (not (is_forward s))
 
--- the hand of the filled side, and of the empty one
-abbrev pub filled_hand : Bool → Hand
-filled_hand on_left = cond on_left left right
-
-abbrev pub empty_hand : Bool → Hand
-empty_hand on_left = cond on_left right left
-
--- a contour that begins with an edge that is filled above is a hole, and turns by the empty hand; an outline turns by
--- the filled one
-abbrev pub outline_or_hole_hand : Bool → Step → Hand
-outline_or_hole_hand on_left s = cond (is_filled_above on_left s) (empty_hand on_left) (filled_hand on_left)
+-- a contour that begins with an edge that is filled above is a hole, and turns by the hand of the empty side; an
+-- outline turns by that of the filled one
+abbrev pub outline_or_hole_hand : Hand → Step → Hand
+outline_or_hole_hand filled s = cond (is_filled_above filled s) (other_hand filled) filled
 
 -- ---- the cut
 

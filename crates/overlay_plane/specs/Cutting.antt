@@ -1,8 +1,8 @@
 -- Edges cut into the pieces of a chain through whole points, which keeps balance, and windings where the points lie on
 -- the edges' lines.
-use Rattle.std.specs.Prelude.{◌≡◌, true, cond, pos, ◌*ℤ◌, List, [], ◌∷◌, ◌++◌, map, flat_map, All}
+use Rattle.std.specs.Prelude.{◌≡◌, true, cond, pos, List, [], ◌∷◌, ◌++◌, map, flat_map, All}
+use Rattle.overlay_geom.specs.Counts.{reversed_counts}
 use Rattle.overlay_geom.specs.Plane.{Point, PlanePoint, Step, Edge, point_lt, side, in_plane, edge_of, is_forward}
-use Rattle.overlay_geom.specs.Plane.{sign_of}
 use Rattle.overlay_geom.specs.Plane.{steps_between, steps_through, winding}
 use Rattle.overlay_geom.specs.Edges.{CountedEdge, ends_of}
 use Rattle.overlay_geom.specs.Merged.{HaveSameWindings}
@@ -16,15 +16,12 @@ CuttingOnALineKeepsWindings = (e : Edge) → point_lt e.a e.b ≡ true →
     (vs : List Point) → All (λ v. side e (in_plane v) ≡ pos 0) vs →
     (p : PlanePoint) → winding (steps_through e.a (vs ++ e.b ∷ [])) p ≡ winding (steps_between e.a e.b) p
 
--- the part of an edge along a step of its chain: the counts follow the sign of the step, and so do the two marks
+-- the part of an edge along a step of its chain: its counts, reversed where the step leads back
 abbrev pub piece_along : CountedEdge → Step → CountedEdge
 piece_along e s = record {
   a = (edge_of s).a;
   b = (edge_of s).b;
-  subj = sign_of s *ℤ e.subj;
-  clip = sign_of s *ℤ e.clip;
-  along = cond (is_forward s) e.along e.against;
-  against = cond (is_forward s) e.against e.along;
+  counts = cond (is_forward s) e.counts (reversed_counts e.counts);
 }
 
 -- the parts of an edge along the steps from its smaller end to its larger one through the points

@@ -19,6 +19,8 @@ pub mod GreatestBelow
 pub mod Groups
 pub mod Heights
 pub mod InOrder
+pub mod Islands
+pub mod KeptContours
 pub mod Leftmost
 pub mod LeftmostSteps
 pub mod Meetings

@@ -2,16 +2,13 @@
 use Rattle.std.specs.Prelude.{◌≡◌, Bool, cond, ◌&&◌, ℤ, pos, ◌+ℤ◌, ◌-ℤ◌, ◌*ℤ◌, int_lt, List, Contains}
 use Rattle.overlay_geom.specs.Plane.{Point, Edge, in_plane, point_eq, total}
 use Rattle.overlay_geom.specs.Edges.{CountedEdge, ends_of, winding_by, winding_below}
-use Rattle.overlay_geom.specs.Settled.{IsSettled}
 use Rattle.overlay_plane.specs.Heights.{width, is_under}
-use Rattle.overlay_plane.specs.EdgeLists.{IsForwardBy, IsBalanced}
-use Rattle.overlay_plane.specs.Regions.{HasDistinctEnds}
+use Rattle.overlay_plane.specs.EdgeLists.{IsBalanced}
+use Rattle.overlay_plane.specs.Regions.{IsPlanar}
 
--- a settled list of edges that lead forward, no two with the same ends, whose counts are balanced
+-- a planar list whose counts are balanced
 pub record IsBalancedArrangement (count : CountedEdge → ℤ) (es : List CountedEdge) : Type 0 where
-  pub forward : IsForwardBy ends_of es
-  pub settled : IsSettled es
-  pub distinct : HasDistinctEnds es
+  pub planar : IsPlanar es
   pub balanced : IsBalanced ends_of count es
 
 -- the cross product of the ways along two edges: positive where the way along f leads to the left of that along e

@@ -4,10 +4,8 @@ use Rattle.std.specs.Prelude.{◌≡◌, ◌⊎◌, Bool, true, false, ◌&&◌,
 use Rattle.overlay_geom.specs.Plane.{PlanePoint, IsOn, IsOff}
 use Rattle.overlay_geom.specs.Edges.{CountedEdge, ends_of, all_ends, subj_of, clip_of, winding_by, winding_below}
 use Rattle.overlay_geom.specs.Edges.{winding_above}
-use Rattle.overlay_geom.specs.Settled.{IsSettled}
 use Rattle.overlay_plane.specs.Balance.{HasBalancedCounts}
-use Rattle.overlay_plane.specs.EdgeLists.{IsForwardBy}
-use Rattle.overlay_plane.specs.Regions.{HasDistinctEnds}
+use Rattle.overlay_plane.specs.Regions.{IsPlanar}
 
 -- the shape fills the point
 abbrev pub fills_at : (ℤ → Bool) → List CountedEdge → (CountedEdge → ℤ) → PlanePoint → Bool
@@ -80,11 +78,8 @@ IsDisjoint filled es = ¬ (Intersects filled es)
 
 -- ---- what they are asked of
 
--- a settled list of edges that lead forward, no two with the same ends, with balanced counts, and a test that fails of
--- winding 0
+-- a planar list with balanced counts, and a test that fails of winding 0
 pub record IsFillable (filled : ℤ → Bool) (es : List CountedEdge) : Type 0 where
-  pub forward : IsForwardBy ends_of es
-  pub settled : IsSettled es
-  pub distinct : HasDistinctEnds es
+  pub planar : IsPlanar es
   pub balanced : HasBalancedCounts es
   pub none : filled (pos 0) ≡ false

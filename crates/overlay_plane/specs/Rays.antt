@@ -1,14 +1,9 @@
--- Rays round a point: different directions, the other hand, and the laws of the cyclic order in which a turning ray
--- meets them.
+-- Rays round a point: different directions, and the laws of the cyclic order in which a turning ray meets them, by
+-- either hand.
 use Rattle.std.specs.Prelude.{◌≡◌, ◌⊎◌, false}
 use Rattle.overlay_geom.specs.Plane.{Point}
-use Rattle.overlay_plane.specs.Turn.{Hand, is_met_before, IsMetBefore}
-use Rattle.overlay_plane.specs.Turn.Hand.{left, right}
+use Rattle.overlay_plane.specs.Turn.{Hand, other_hand, is_met_before, IsMetBefore}
 use Rattle.overlay_plane.specs.Alternates.{AreOneWay}
-
-abbrev pub other_hand : Hand → Hand
-other_hand left = right
-other_hand right = left
 
 -- the two points are other ones than v, and seen from v in different directions
 pub record Apart (v p q : Point) : Type 0 where

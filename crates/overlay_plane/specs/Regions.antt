@@ -27,17 +27,21 @@ selected_sign holds subj clip es e =
 abbrev pub HasDistinctEnds : List CountedEdge → Type 0
 HasDistinctEnds es = AllPairs (λ e f. edge_eq (ends_of e) (ends_of f) ≡ false) es
 
+-- the edges lead forward, meet in ends alone, and no two have the same ends
+pub record IsPlanar (es : List CountedEdge) : Type 0 where
+  pub forward : IsForwardBy ends_of es
+  pub settled : IsSettled es
+  pub distinct : HasDistinctEnds es
+
 -- the test takes entries whose edges cover the abscissa, and with each of them all under it
 pub record TakesDownward {X : Type 0} (ends : X → Edge) (xs : List X) (x d : ℤ) (taken : X → Bool) : Type 0 where
   pub over : (e : X) → Contains xs e → taken e ≡ true → covers (ends e) x d ≡ true
   pub downward : (e f : X) → Contains xs e → Contains xs f → taken e ≡ true → covers (ends f) x d ≡ true →
       is_under (ends f) (ends e) x d ≡ true → taken f ≡ true
 
--- a settled list without equal edges, with balanced counts, and a rule that does not hold of two windings 0
+-- a planar list with balanced counts, and a rule that does not hold of two windings 0
 pub record IsRuled (holds : ℤ → ℤ → Bool) (subj clip : CountedEdge → ℤ) (es : List CountedEdge) : Type 0 where
-  pub forward : IsForwardBy ends_of es
-  pub settled : IsSettled es
-  pub distinct : HasDistinctEnds es
+  pub planar : IsPlanar es
   pub subj_balanced : IsBalanced ends_of subj es
   pub clip_balanced : IsBalanced ends_of clip es
   pub none : holds (pos 0) (pos 0) ≡ false

@@ -6,7 +6,8 @@ use Rattle.std.specs.Prelude.{Some, None}
 use Rattle.std.specs.List.{AllZip, flat_map}
 use Rattle.overlay_geom.specs.Plane.{Step}
 use Rattle.overlay_plane.specs.Binding.{is_hole}
-use Rattle.overlay_plane.specs.Contours.{IsCutInto, all_steps, empty_hand, filled_hand, outline_or_hole_hand}
+use Rattle.overlay_plane.specs.Contours.{IsCutInto, all_steps, outline_or_hole_hand}
+use Rattle.overlay_plane.specs.Turn.{Hand, other_hand}
 
 -- what a contour is: the outline of the n-th shape, counted from 0; a hole that stands in the n-th shape from the
 -- start, as one of its outline's group; or a hole whose shape is still to be found
@@ -53,20 +54,20 @@ hole_to_bind walk = record { role = free_hole; steps = walk }
 -- ---- without groups
 
 -- the walks as contours, the outlines among them numbered from n on
-abbrev pub contours_from : Bool → ℕ → List (List Step) → List Contour
-contours_from on_left n [] = []
-contours_from on_left n (w ∷ ws) =
-    cond (is_hole on_left w) (hole_to_bind w ∷ contours_from on_left n ws)
-    (outline_of n w ∷ contours_from on_left (suc n) ws)
+abbrev pub contours_from : Hand → ℕ → List (List Step) → List Contour
+contours_from filled n [] = []
+contours_from filled n (w ∷ ws) =
+    cond (is_hole filled w) (hole_to_bind w ∷ contours_from filled n ws)
+    (outline_of n w ∷ contours_from filled (suc n) ws)
 
 -- the selected steps are cut into these contours, of which those are kept that pass the test
-pub record IsCut (on_left : Bool) (keeps : List Step → Bool) (selected : List Step)
+pub record IsCut (filled : Hand) (keeps : List Step → Bool) (selected : List Step)
     (contours : List Contour) : Type 0 where
   pub walks : List (List Step)
   -- while steps are left, the next walk is the orbit of the one of them that is along the top edge at their leftmost
   -- lowest point
-  pub cut : IsCutInto (outline_or_hole_hand on_left) selected walks
-  pub are : contours ≡ contours_from on_left 0 (filter keeps walks)
+  pub cut : IsCutInto (outline_or_hole_hand filled) selected walks
+  pub are : contours ≡ contours_from filled 0 (filter keeps walks)
 
 -- ---- with groups
 
@@ -89,21 +90,21 @@ group_contours_from n ((o ∷ hs) ∷ gs) = outline_of n o ∷ map (hole_of_grou
 -- the selected steps are grouped by the filled hand; the group of each outline is cut by the empty hand, its outline
 -- first; and so are the steps of all other groups together; of these contours those are kept that pass the test, a hole
 -- of an outline's group only with its outline
-pub record IsCutInGroups (on_left : Bool) (keeps : List Step → Bool) (selected : List Step)
+pub record IsCutInGroups (filled : Hand) (keeps : List Step → Bool) (selected : List Step)
     (contours : List Contour) : Type 0 where
   pub groups : List (List Step)
-  pub grouped : IsCutInto (λ s. filled_hand on_left) selected groups
+  pub grouped : IsCutInto (λ s. filled) selected groups
   pub inside : List (List (List Step))
-  pub cut_inside : AllZip (λ group walks. IsCutInto (λ s. empty_hand on_left) group walks)
-      (filter (λ g. not (is_hole on_left g)) groups) inside
+  pub cut_inside : AllZip (λ group walks. IsCutInto (λ s. other_hand filled) group walks)
+      (filter (λ g. not (is_hole filled g)) groups) inside
   pub others : List (List Step)
-  pub cut_others : IsCutInto (λ s. empty_hand on_left) (all_steps (filter (is_hole on_left) groups)) others
+  pub cut_others : IsCutInto (λ s. other_hand filled) (all_steps (filter (is_hole filled) groups)) others
   pub are : contours ≡ group_contours_from 0 (flat_map (kept_group keeps) inside) ++ map hole_to_bind
       (filter keeps others)
 
 -- ---- by the option
 
 -- the cut with groups, where it is asked for
-abbrev pub IsCutBy : Bool → Bool → (List Step → Bool) → List Step → List Contour → Type 0
-IsCutBy true on_left keeps selected contours = IsCutInGroups on_left keeps selected contours
-IsCutBy false on_left keeps selected contours = IsCut on_left keeps selected contours
+abbrev pub IsCutBy : Bool → Hand → (List Step → Bool) → List Step → List Contour → Type 0
+IsCutBy true filled keeps selected contours = IsCutInGroups filled keeps selected contours
+IsCutBy false filled keeps selected contours = IsCut filled keeps selected contours

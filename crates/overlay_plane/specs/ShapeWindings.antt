@@ -9,6 +9,7 @@ use Rattle.overlay_geom.specs.Edges.{CountedEdge}
 use Rattle.overlay_plane.specs.SelectedSteps.{selected_steps}
 use Rattle.overlay_plane.specs.ContourWindings.{wanted_winding}
 use Rattle.overlay_plane.specs.Binding.{BoundWalk, AreBound, AreCutFrom, shapes_of}
+use Rattle.overlay_plane.specs.Turn.{Hand}
 
 -- the points of the shapes' contours
 abbrev pub points_of_shapes : List (List (List Step)) → List (List (List Point))
@@ -24,17 +25,17 @@ AreKeptOrThinned keep given taken = AllZip (AllZip (IsKeptOrThinned keep)) given
 
 -- the shapes have each selected step exactly once
 abbrev pub ShapesHaveEachStep : Type 0
-ShapesHaveEachStep = (holds : ℤ → ℤ → Bool) (subj clip : CountedEdge → ℤ) (es : List CountedEdge) (on_left : Bool)
+ShapesHaveEachStep = (holds : ℤ → ℤ → Bool) (subj clip : CountedEdge → ℤ) (es : List CountedEdge) (filled : Hand)
     (walks : List (List Step)) →
-    AreCutFrom holds subj clip es on_left walks → (bound : List BoundWalk) → AreBound on_left walks bound →
-    IsPermutation (selected_steps holds subj clip on_left es)
-    (steps_of_shapes (points_of_shapes (shapes_of on_left bound)))
+    AreCutFrom holds subj clip es filled walks → (bound : List BoundWalk) → AreBound filled walks bound →
+    IsPermutation (selected_steps holds subj clip filled es)
+    (steps_of_shapes (points_of_shapes (shapes_of filled bound)))
 
 -- the shapes, each contour as it is or thinned, wind once where the rule holds, and zero times elsewhere
 abbrev pub ShapesWind : Type 0
-ShapesWind = (holds : ℤ → ℤ → Bool) (subj clip : CountedEdge → ℤ) (es : List CountedEdge) (on_left : Bool)
+ShapesWind = (holds : ℤ → ℤ → Bool) (subj clip : CountedEdge → ℤ) (es : List CountedEdge) (filled : Hand)
     (walks : List (List Step)) →
-    AreCutFrom holds subj clip es on_left walks → (bound : List BoundWalk) → AreBound on_left walks bound →
+    AreCutFrom holds subj clip es filled walks → (bound : List BoundWalk) → AreBound filled walks bound →
     (keep : Bool) (result : List (List (List Point))) →
-    AreKeptOrThinned keep (points_of_shapes (shapes_of on_left bound)) result →
-    (p : PlanePoint) → winding (steps_of_shapes result) p ≡ wanted_winding holds subj clip on_left es p
+    AreKeptOrThinned keep (points_of_shapes (shapes_of filled bound)) result →
+    (p : PlanePoint) → winding (steps_of_shapes result) p ≡ wanted_winding holds subj clip filled es p

@@ -9,6 +9,16 @@ pub data Hand : Type 0 where
   left : Hand
   right : Hand
 
+-- the hand of the other side
+abbrev pub other_hand : Hand → Hand
+other_hand left = right
+other_hand right = left
+
+-- the hand is the left one
+abbrev pub is_left_hand : Hand → Bool
+is_left_hand left = true
+is_left_hand right = false
+
 -- positive where a ray at v that turns by the hand from p comes to q before it has made a half turn;
 -- from the back of an arriving step the way through its left side is clockwise
 abbrev pub turn : Hand → Point → Point → Point → ℤ

@@ -13,6 +13,7 @@ pub mod contours;
 pub mod cutting;
 pub mod greatest;
 pub mod groups;
+pub mod kept_contours;
 pub mod leftmost;
 pub mod meeting;
 pub mod next_step;

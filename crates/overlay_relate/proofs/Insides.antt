@@ -101,10 +101,12 @@ module _ (es : List Edge) (of : AreOfContour es) where
   -- they are balanced
   arrangement : IsBalancedArrangement subj_of counted
   arrangement = record {
-    forward = all_of_entries (λ k. point_lt k.a k.b ≡ true) counted
-        (λ k c. All-contains (λ e. point_lt e.a e.b ≡ true) es (ends_of k) of.forward (of_counted k c));
-    settled = λ k l c d differ. settled (ends_of k) (ends_of l) (of_counted k c) (of_counted l d) differ;
-    distinct = counted_distinct;
+    planar = record {
+      forward = all_of_entries (λ k. point_lt k.a k.b ≡ true) counted
+          (λ k c. All-contains (λ e. point_lt e.a e.b ≡ true) es (ends_of k) of.forward (of_counted k c));
+      settled = λ k l c d differ. settled (ends_of k) (ends_of l) (of_counted k c) (of_counted l d) differ;
+      distinct = counted_distinct;
+    };
     balanced = (added_contours_are_balanced.subject of.contour).subj;
   }
 

@@ -62,12 +62,14 @@ disjoint_is_no_intersection fill es = (λ h. h, λ h. h)
 subj_exchanged : (es : List CountedEdge) (p : PlanePoint) →
     winding_by subj_of (map exchanged es) p ≡ winding_by clip_of es p
 subj_exchanged [] p = refl
-subj_exchanged (e ∷ es) p = ap (λ z. cond (is_strictly_below (ends_of e) p) e.clip (pos 0) +ℤ z) (subj_exchanged es p)
+subj_exchanged (e ∷ es) p = ap (λ z. cond (is_strictly_below (ends_of e) p) e.counts.clip (pos 0) +ℤ z)
+    (subj_exchanged es p)
 
 clip_exchanged : (es : List CountedEdge) (p : PlanePoint) →
     winding_by clip_of (map exchanged es) p ≡ winding_by subj_of es p
 clip_exchanged [] p = refl
-clip_exchanged (e ∷ es) p = ap (λ z. cond (is_strictly_below (ends_of e) p) e.subj (pos 0) +ℤ z) (clip_exchanged es p)
+clip_exchanged (e ∷ es) p = ap (λ z. cond (is_strictly_below (ends_of e) p) e.counts.subj (pos 0) +ℤ z)
+    (clip_exchanged es p)
 
 same_ends : (es : List CountedEdge) → all_ends (map exchanged es) ≡ all_ends es
 same_ends [] = refl

@@ -11,22 +11,17 @@ use Rattle.overlay_plane.proofs.EdgesTell.{edges_tell_predicates}
 use Rattle.overlay_arrange.specs.Graphs.{IsArrangement}
 use Rattle.overlay_arrange.specs.Rules.{is_filled}
 use Rattle.overlay_arrange.specs.declared.fill_rule.FillRule.{FillRule}
-use Rattle.overlay_arrange.specs.declared.overlay_rule.OverlayRule.TheVariants.{Subject}
-use Rattle.overlay_arrange.proofs.RuledContents.{ruled_content}
+use Rattle.overlay_arrange.proofs.RuledContents.{zero_is_empty, planar_content}
 
 module _ (limit : ℕ) (es : List CountedEdge) (arranged : IsArrangement limit es) (balanced : HasBalancedCounts es)
     (rule : FillRule) where
   -- predicates may be asked of an arrangement with balanced counts
   fillable_arrangement : IsFillable (is_filled rule) es
-  fillable_arrangement =
-      let ruled = ruled_content limit es arranged.content arranged.ascending arranged.settled balanced rule Subject in
-      record {
-        forward = ruled.forward;
-        settled = ruled.settled;
-        distinct = ruled.distinct;
-        balanced = balanced;
-        none = ruled.none;
-      }
+  fillable_arrangement = record {
+    planar = planar_content limit es arranged.content arranged.ascending arranged.settled;
+    balanced = balanced;
+    none = zero_is_empty rule;
+  }
 
   -- so its edges tell them
   pub told_by_edges : EdgesTell (is_filled rule) es

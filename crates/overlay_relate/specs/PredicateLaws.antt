@@ -39,7 +39,7 @@ DisjointIsNoIntersection = (fill : FillRule) (es : List CountedEdge) →
 
 -- the edge with the counts of the subject and of the clip exchanged
 abbrev pub exchanged : CountedEdge → CountedEdge
-exchanged e = record e { subj = e.clip; clip = e.subj }
+exchanged e = record e { counts = record e.counts { subj = e.counts.clip; clip = e.counts.subj } }
 
 -- the subject covers the clip exactly where, with the two exchanged, the subject lies within the clip
 abbrev pub CoversIsWithinExchanged : Type 0

@@ -10,7 +10,7 @@ use Rattle.overlay_geom.proofs.Entries.{Contains-head}
 use Rattle.overlay_plane.proofs.Entries.{Contains-filter, Contains-from_filter}
 use Rattle.overlay_plane.proofs.ShuffledSteps.{beside_one, one_or_beside}
 use Rattle.overlay_plane.proofs.Tests.{lt_from_test, test_from_lt}
-use Rattle.overlay_scan.specs.Scan.{Entry, Sweep, empty_sweep, live_at, moved_to, MayMoveTo, IsSweep, IsPutIn}
+use Rattle.overlay_scan.specs.Scan.{Entry, Sweep, empty_sweep, live_at, moved_to, IsSweep, IsPutIn}
 use Rattle.overlay_scan.specs.Sweeps.{IsSwept}
 
 -- the entry ends right of x

@@ -1,17 +1,15 @@
 -- The winding below an edge counts the edges below its start: so it is the one above the greatest of them.
-use Rattle.std.proofs.Common.{◌≡◌, ◌⊎◌, ⊎_elim, Bool, true, false, cond, ◌&&◌, ◌||◌, ℤ, pos, ◌+ℤ◌, int_lt, List}
-use Rattle.std.proofs.Common.{Contains, refl, sym, ap, ap₂, ◌∙◌, subst, arith}
-use Rattle.std.proofs.lemmas.Bool.{both_ways, and_parts, or_cases, false_from_ne_true}
+use Rattle.std.proofs.Common.{◌≡◌, ⊎_elim, Bool, true, false, cond, ◌&&◌, ◌||◌, ℤ, pos, ◌+ℤ◌, int_lt, List}
+use Rattle.std.proofs.Common.{Contains, refl, sym, ap, ◌∙◌, subst}
+use Rattle.std.proofs.lemmas.Bool.{and_parts, or_cases, false_from_ne_true}
 use lib.IntN.{+ℤ_idl, +ℤ_idr}
-use Rattle.overlay_geom.specs.Plane.{Point, Edge, edge_eq, side, in_plane, point_lt, point_eq, is_strictly_below}
+use Rattle.overlay_geom.specs.Plane.{Point, Edge, side, in_plane, point_lt, point_eq, is_strictly_below}
 use Rattle.overlay_geom.specs.Edges.{CountedEdge, ends_of, winding_below, winding_above}
-use Rattle.overlay_geom.specs.Settled.{MeetInEnds}
 use Rattle.overlay_geom.proofs.Orders.{point_eq-same}
 use Rattle.overlay_geom.proofs.Signs.{linear}
-use Rattle.std.specs.List.{All}
 use Rattle.std.proofs.lemmas.List.Elements.{All-contains}
 use Rattle.overlay_plane.specs.Anchors.{is_below_anchor}
-use Rattle.overlay_plane.specs.Heights.{covers, is_under}
+use Rattle.overlay_plane.specs.Heights.{covers}
 use Rattle.overlay_plane.specs.Nodes.{IsBalancedArrangement, edge_turn, turns_left}
 use Rattle.overlay_plane.specs.Regions.{TakesDownward, total_taken}
 use Rattle.overlay_plane.proofs.EdgeTurns.{wide_before_left}
@@ -41,7 +39,7 @@ module _ (count : CountedEdge → ℤ) (es : List CountedEdge) (r : IsBalancedAr
   below f = is_below_anchor (ends_of e) (ends_of f)
 
   forward : (f : CountedEdge) → Contains es f → point_lt f.a f.b ≡ true
-  forward f at = All-contains (λ (g : CountedEdge). point_lt g.a g.b ≡ true) es f r.forward at
+  forward f at = All-contains (λ (g : CountedEdge). point_lt g.a g.b ≡ true) es f r.planar.forward at
 
   -- an edge strictly below a point does not start there
   starts_elsewhere : (f : CountedEdge) → is_strictly_below (ends_of f) (in_plane e.a) ≡ true → point_eq f.a e.a ≡ false
@@ -82,7 +80,7 @@ module _ (count : CountedEdge → ℤ) (es : List CountedEdge) (r : IsBalancedAr
   -- with an edge below the start all under it are below
   beside : (f : CountedEdge) → Contains es f → covers (ends_of f) e.a.x (pos 1) ≡ true →
       IsBeside (ends_of e) (forward e at_e) (ends_of f)
-  beside f at over = record { over = over; meets = r.settled e f at_e at }
+  beside f at over = record { over = over; meets = r.planar.settled e f at_e at }
 
   takes_below_start : TakesDownward ends_of es e.a.x (pos 1) below
   takes_below_start = record {
@@ -90,7 +88,7 @@ module _ (count : CountedEdge → ℤ) (es : List CountedEdge) (r : IsBalancedAr
     downward = λ g f at_g at_f is over under. below_through (ends_of e) (forward e at_e) (ends_of f) (ends_of g)
         (beside f at_f over)
         (beside g at_g (below_is_over (ends_of e) (ends_of g) (forward e at_e) (forward g at_g) is))
-        (meets_under (ends_of g) (ends_of f) e.a.x (pos 1) (r.settled g f at_g at_f) under) under is;
+        (meets_under (ends_of g) (ends_of f) e.a.x (pos 1) (r.planar.settled g f at_g at_f) under) under is;
   }
 
   -- and it is the winding above the greatest edge below

@@ -1,6 +1,6 @@
 -- Where live edges stand with the windings above them, the look-up below the start of an edge gives the winding below
 -- that edge.
-use Rattle.std.proofs.Common.{◌≡◌, ◌⊎◌, ⊎_elim, inl, inr, Bool, true, false, ℤ, pos, List, Contains, Option, None, Some}
+use Rattle.std.proofs.Common.{◌≡◌, ⊎_elim, inl, inr, true, ℤ, pos, List, Contains, Option, None, Some}
 use Rattle.std.proofs.Common.{refl, sym, ap, ◌∙◌, subst}
 use Rattle.std.specs.List.{filter}
 use Rattle.std.proofs.lemmas.Bool.{false_from_ne_true}
@@ -48,7 +48,7 @@ module _ {V : Type 0} (number : V → ℤ) (value : CountedEdge → V) (count : 
         entry = own.1;
         is = subst (λ (h : Entry V). is_below_anchor (ends_of e) h.edge ≡ true) (sym own.2) great.below;
         greatest = λ h at below. ⊎_elim
-            (λ same. inl (one_entry es r.distinct h g at own.1
+            (λ same. inl (one_entry es r.planar.distinct h g at own.1
             (subst (λ (k : Edge). edge_eq (ends_of h) k ≡ true) (ap (λ (k : Entry V). k.edge) (same ∙ sym own.2))
             (edge_eq-itself (ends_of h)))))
             (λ under. inr (subst (λ (k : Entry V). is_under (ends_of h) k.edge e.a.x (pos 1) ≡ true) (sym own.2) under))

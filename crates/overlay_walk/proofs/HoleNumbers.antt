@@ -1,5 +1,5 @@
 -- The number of a hole follows from the walk that the look-up found, which has its own already.
-use Rattle.std.proofs.Common.{◌≡◌, inl, inr, ℕ, ◌+◌, ◌<◌, ◌≤◌, ◌≢◌, Bool, true, false, cond, nat_lt, List, [], ◌∷◌}
+use Rattle.std.proofs.Common.{◌≡◌, inl, inr, ℕ, ◌+◌, ◌<◌, ◌≤◌, ◌≢◌, true, false, cond, nat_lt, List, [], ◌∷◌}
 use Rattle.std.proofs.Common.{◌++◌, length, take, get_or, slice_set, Contains, Option, None, Some, refl, sym, ap, ◌∙◌}
 use Rattle.std.proofs.Common.{subst, arith}
 use Rattle.std.specs.List.{All, slice_get}
@@ -17,6 +17,7 @@ use Rattle.overlay_plane.specs.Binding.{IsNextWalk, HasNoneBelow}
 use Rattle.overlay_plane.specs.Roles.{HasNextAt, IsShapeNumber}
 use Rattle.overlay_plane.specs.Roles.IsFoundAt.{direct, through}
 use Rattle.overlay_plane.specs.Roles.IsNotFoundAt.{none, through as through_not_found}
+use Rattle.overlay_plane.specs.Turn.{Hand}
 use Rattle.overlay_plane.proofs.AnchorOrder.{anchored_before-itself}
 use Rattle.overlay_plane.proofs.Anchors.{anchor_forward}
 use Rattle.overlay_plane.proofs.Entries.{Contains-from_map}
@@ -44,11 +45,11 @@ by_eq : {P : Type 0} (a b : ℕ) → (a ≡ b → P) → (a ≢ b → P) → P
 by_eq a b same other = by_lt a b (λ lt. other (λ is. omega arith))
     (λ ge. by_lt b a (λ gt. other (λ is. omega arith)) (λ le. same (omega arith)))
 
-module _ (on_left : Bool) (walks : List (List Step)) (contours : All IsContour walks) (known : List (Option ℕ))
+module _ (filled : Hand) (walks : List (List Step)) (contours : All IsContour walks) (known : List (Option ℕ))
     (counted : length known ≡ length walks)
     (hs : List (Entry ℕ)) (holes : AreHoleEntries walks known hs) (parents : List (Option ℕ)) (i : ℕ) (h : Entry ℕ)
     (lt : i < length hs) (is : h ≡ get_or hs i h)
-    (numbered : All (λ k. HasShapeNumber on_left walks known parents k.value) (take i hs)) where
+    (numbered : All (λ k. HasShapeNumber filled walks known parents k.value) (take i hs)) where
   -- an entry that is anchored before the one at the place stands before it
   stands_before : (k : Entry ℕ) → Contains hs k → is_anchored_before k.edge h.edge ≡ true →
       is_anchored_before h.edge h.edge ≡ false → Contains (take i hs) k
@@ -66,8 +67,8 @@ module _ (on_left : Bool) (walks : List (List Step)) (contours : All IsContour w
   module _ (hole : List Step) (at : slice_get walks h.value ≡ Some hole) (anchor : IsAnchor hole h.edge) where
     -- the next walk has its number, if it stands in no shape from the start
     next_number : (n : ℕ) (next : List Step) → slice_get walks n ≡ Some next →
-        (is_next : IsNextWalk on_left walks hole next) → is_next.anchor ≡ h.edge →
-        get_or known n None ≡ None → IsShapeNumber on_left walks known n (get_or parents n None)
+        (is_next : IsNextWalk filled walks hole next) → is_next.anchor ≡ h.edge →
+        get_or known n None ≡ None → IsShapeNumber filled walks known n (get_or parents n None)
     next_number n next at_next is_next anchor_is also =
         let found = Contains-from_map (λ (k : Entry ℕ). k.value) hs n (holes.all n next at_next also) in
         let k = found.0 in
@@ -75,20 +76,20 @@ module _ (on_left : Bool) (walks : List (List Step)) (contours : All IsContour w
         let same : own.walk ≡ next = same_at walks n own.walk next (ap (slice_get walks) (sym found.2)
         ∙ own.at) at_next in
         let before = subst (λ (e : Edge). is_anchored_before k.edge e ≡ true) anchor_is
-        (next_is_anchored_before on_left walks contours hole next (Contains-at walks h.value hole at) is_next k.edge
+        (next_is_anchored_before filled walks contours hole next (Contains-at walks h.value hole at) is_next k.edge
         (subst (λ w. IsAnchor w k.edge) same own.has.anchor)) in
         let itself = anchored_before-itself h.edge
         (anchor_forward hole (All-contains IsContour walks hole contours (Contains-at walks h.value hole at))
         h.edge anchor) in
-        subst (λ m. IsShapeNumber on_left walks known m (get_or parents m None)) found.2
-        (All-contains (λ j. HasShapeNumber on_left walks known parents j.value) (take i hs) k numbered
+        subst (λ m. IsShapeNumber filled walks known m (get_or parents m None)) found.2
+        (All-contains (λ j. HasShapeNumber filled walks known parents j.value) (take i hs) k numbered
         (stands_before k found.1 before itself) next
         (ap (slice_get walks) found.2 ∙ at_next) (ap (λ m. get_or known m None) found.2 ∙ also))
 
     -- below it is no walk
-    pub number_of_none : (n : ℕ) → n ≡ length walks → HasNoneBelow on_left walks hole →
-        IsShapeNumber on_left walks known h.value (shape_of known parents n)
-    number_of_none n past nothing_below = subst (IsShapeNumber on_left walks known h.value) (sym nothing)
+    pub number_of_none : (n : ℕ) → n ≡ length walks → HasNoneBelow filled walks hole →
+        IsShapeNumber filled walks known h.value (shape_of known parents n)
+    number_of_none n past nothing_below = subst (IsShapeNumber filled walks known h.value) (sym nothing)
         (none hole at nothing_below)
       where
         nothing : shape_of known parents n ≡ None
@@ -98,9 +99,9 @@ module _ (on_left : Bool) (walks : List (List Step)) (contours : All IsContour w
 
     -- below it is the next walk
     pub number_of_next : (n : ℕ) (next : List Step) → slice_get walks n ≡ Some next →
-        (is_next : IsNextWalk on_left walks hole next) → is_next.anchor ≡ h.edge →
-        IsShapeNumber on_left walks known h.value (shape_of known parents n)
-    number_of_next n next at_next is_next anchor_is = subst (IsShapeNumber on_left walks known h.value) (sym within)
+        (is_next : IsNextWalk filled walks hole next) → is_next.anchor ≡ h.edge →
+        IsShapeNumber filled walks known h.value (shape_of known parents n)
+    number_of_next n next at_next is_next anchor_is = subst (IsShapeNumber filled walks known h.value) (sym within)
         (by (get_or known n None) refl)
       where
         within : shape_of known parents n ≡ cond (is_some (get_or known n None)) (get_or known n None)
@@ -109,38 +110,38 @@ module _ (on_left : Bool) (walks : List (List Step)) (contours : All IsContour w
             None)
             (let c = counted in let l = slice_get_within walks n next at_next in lt-ltb n (length known) (omega arith))
 
-        has_next : HasNextAt on_left walks h.value n
+        has_next : HasNextAt filled walks h.value n
         has_next = record { walk = hole; at = at; next = next; next_at = at_next; is_next = is_next }
 
-        on : get_or known n None ≡ None → (o : Option ℕ) → IsShapeNumber on_left walks known n o →
-            IsShapeNumber on_left walks known h.value o
+        on : get_or known n None ≡ None → (o : Option ℕ) → IsShapeNumber filled walks known n o →
+            IsShapeNumber filled walks known h.value o
         on also None without = through_not_found has_next also without
         on also (Some m) found = through has_next also found
 
-        by : (o : Option ℕ) → get_or known n None ≡ o → IsShapeNumber on_left walks known h.value
+        by : (o : Option ℕ) → get_or known n None ≡ o → IsShapeNumber filled walks known h.value
             (cond (is_some o) o (get_or parents n None))
         by (Some m) stands = direct has_next stands
         by None also = on also (get_or parents n None) (next_number n next at_next is_next anchor_is also)
 
     -- the number of the hole is written at its place
-    pub all_numbered : (shape : Option ℕ) → h.value < length parents → IsShapeNumber on_left walks known h.value shape →
-        All (λ k. HasShapeNumber on_left walks known (slice_set parents h.value shape) k.value) (take (i + 1) hs)
+    pub all_numbered : (shape : Option ℕ) → h.value < length parents → IsShapeNumber filled walks known h.value shape →
+        All (λ k. HasShapeNumber filled walks known (slice_set parents h.value shape) k.value) (take (i + 1) hs)
     all_numbered shape inside number_of_hole = subst
-        (All (λ k. HasShapeNumber on_left walks known (slice_set parents h.value shape) k.value))
+        (All (λ k. HasShapeNumber filled walks known (slice_set parents h.value shape) k.value))
         (sym (take_more hs i h lt ∙ ap (λ k. take i hs ++ k ∷ []) (sym is)))
-        (All-push (λ k. HasShapeNumber on_left walks known (slice_set parents h.value shape) k.value) (take i hs) h
-        (All-weaker (λ k. HasShapeNumber on_left walks known parents k.value)
-        (λ k. HasShapeNumber on_left walks known (slice_set parents h.value shape) k.value) (λ k. still k.value)
+        (All-push (λ k. HasShapeNumber filled walks known (slice_set parents h.value shape) k.value) (take i hs) h
+        (All-weaker (λ k. HasShapeNumber filled walks known parents k.value)
+        (λ k. HasShapeNumber filled walks known (slice_set parents h.value shape) k.value) (λ k. still k.value)
         (take i hs) numbered)
         here)
       where
-        here : HasShapeNumber on_left walks known (slice_set parents h.value shape) h.value
-        here w at_w hole_w = subst (IsShapeNumber on_left walks known h.value)
+        here : HasShapeNumber filled walks known (slice_set parents h.value shape) h.value
+        here w at_w hole_w = subst (IsShapeNumber filled walks known h.value)
             (sym (get_or-set_same parents h.value shape None inside)) number_of_hole
 
-        still : (n : ℕ) → HasShapeNumber on_left walks known parents n →
-            HasShapeNumber on_left walks known (slice_set parents h.value shape) n
+        still : (n : ℕ) → HasShapeNumber filled walks known parents n →
+            HasShapeNumber filled walks known (slice_set parents h.value shape) n
         still n old = by_eq n h.value
-            (λ same. subst (HasShapeNumber on_left walks known (slice_set parents h.value shape)) (sym same) here)
-            (λ other w at_w hole_w. subst (IsShapeNumber on_left walks known n)
+            (λ same. subst (HasShapeNumber filled walks known (slice_set parents h.value shape)) (sym same) here)
+            (λ other w at_w hole_w. subst (IsShapeNumber filled walks known n)
             (sym (get_or-set_other parents h.value n shape None other)) (old w at_w hole_w))

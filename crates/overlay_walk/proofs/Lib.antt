@@ -1,5 +1,5 @@
 pub mod AnchorsFound
-pub mod ShapeNumbers
+pub mod BoundRoles
 pub mod BoundWalks
 pub mod CutsOn
 pub mod FilledEntries
@@ -8,7 +8,9 @@ pub mod GroupContours
 pub mod HeldStarts
 pub mod HoleEntries
 pub mod HoleNumbers
+pub mod HolesRound
 pub mod InnerProducts
+pub mod KeptOnes
 pub mod NearestPoints
 pub mod NextBelow
 pub mod NextPlaces
@@ -18,9 +20,11 @@ pub mod OpenPlaces
 pub mod OutlineNumbers
 pub mod OutlinesKnown
 pub mod PointsRead
+pub mod RolesRead
 pub mod Runs
 pub mod SelectedByBits
 pub mod SelectedLong
+pub mod ShapeNumbers
 pub mod ShapesFound
 pub mod SplitGroups
 pub mod StartOrder

@@ -1,9 +1,8 @@
 -- What a look-up below an anchor finds: the walk with the next filled-above edge, or that no edge is below.
 use Rattle.std.proofs.Common.{◌≡◌, ◌⊎◌, inl, inr, ⊎_elim, ℕ, Bool, true, false, ◌&&◌, pos, ◌*ℤ◌, ◌<ℤ◌, int_lt, int_le}
-use Rattle.std.proofs.Common.{List, [], ◌∷◌, length, take, drop, Contains, Option, None, Some, refl, sym, ap, ap₂, ◌∙◌}
+use Rattle.std.proofs.Common.{List, length, take, drop, Contains, Option, None, Some, refl, sym, ap, ap₂, ◌∙◌}
 use Rattle.std.proofs.Common.{subst, arith}
-use Rattle.std.specs.List.{All, filter, last_or, slice_get}
-use Rattle.std.specs.Option.{MatchOption}
+use Rattle.std.specs.List.{All, filter, slice_get}
 use Rattle.std.proofs.lemmas.Bool.{and_parts, false_from_ne_true}
 use Rattle.std.proofs.lemmas.Int.{ints}
 use Rattle.std.proofs.lemmas.List.{take-append-drop}
@@ -14,6 +13,7 @@ use Rattle.overlay_plane.specs.Heights.{covers, is_under}
 use Rattle.overlay_plane.specs.Contours.{is_filled_above, IsContour, all_steps}
 use Rattle.overlay_plane.specs.Anchors.{IsAnchor, is_below_anchor, is_lower_at}
 use Rattle.overlay_plane.specs.Binding.{filled_above_edges, all_filled_above, IsNextWalk, HasNoneBelow}
+use Rattle.overlay_plane.specs.Turn.{Hand}
 use Rattle.overlay_plane.proofs.Anchors.{anchor_step}
 use Rattle.overlay_plane.proofs.BelowAnchors.{below_an_anchor_is_under}
 use Rattle.overlay_plane.proofs.ContourSteps.{contour_long}
@@ -30,7 +30,7 @@ use Rattle.overlay_walk.specs.Parents.{IsSwept}
 use Rattle.overlay_walk.specs.WalkEdges.{IsFilledEntry, AreFilledEntries}
 use Rattle.overlay_walk.proofs.HoleEntries.{Contains-at}
 
-module _ (on_left : Bool) (walks : List (List Step)) (contours : All IsContour walks)
+module _ (filled : Hand) (walks : List (List Step)) (contours : All IsContour walks)
     (settled : IsSettledBy edge_of (all_steps walks)) where
   -- an edge of a walk: that of a step, which leads forward
   pub record IsWalked (e : Edge) : Type 0 where
@@ -50,11 +50,11 @@ module _ (on_left : Bool) (walks : List (List Step)) (contours : All IsContour w
   }
 
   -- a filled-above edge of a walk is one
-  pub filled_walked : (f : Entry ℕ) → IsFilledEntry on_left walks f → IsWalked f.edge
-  filled_walked f filled =
-      let found = Contains-from_map edge_of (filter (is_filled_above on_left) filled.walk) f.edge filled.has in
-      walked filled.walk (Contains-at walks f.value filled.walk filled.at) found.0
-      (Contains-from_filter (is_filled_above on_left) filled.walk found.0 found.1).0 f.edge found.2
+  pub filled_walked : (f : Entry ℕ) → IsFilledEntry filled walks f → IsWalked f.edge
+  filled_walked f are_filled =
+      let found = Contains-from_map edge_of (filter (is_filled_above filled) are_filled.walk) f.edge are_filled.has in
+      walked are_filled.walk (Contains-at walks f.value are_filled.walk are_filled.at) found.0
+      (Contains-from_filter (is_filled_above filled) are_filled.walk found.0 found.1).0 f.edge found.2
 
   -- an anchor is one
   pub anchor_walked : (w : List Step) → Contains walks w → (e : Edge) → IsAnchor w e → IsWalked e
@@ -72,7 +72,7 @@ module _ (on_left : Bool) (walks : List (List Step)) (contours : All IsContour w
       by true same = inl same
       by false differ = inr (walked_meet e f of_e of_f differ)
 
-  module _ (fs : List (Entry ℕ)) (filled : AreFilledEntries on_left walks fs) (limit : ℕ) (hole : List Step)
+  module _ (fs : List (Entry ℕ)) (are_filled : AreFilledEntries filled walks fs) (limit : ℕ) (hole : List Step)
       (kept : Contains walks hole) (e : Edge)
       (anchor : IsAnchor hole e) (upright : covers e e.a.x (pos 1) ≡ true) (n : ℕ) (s : Sweep ℕ)
       (swept : IsSwept limit e.a.x (take n fs) s)
@@ -86,13 +86,13 @@ module _ (on_left : Bool) (walks : List (List Step)) (contours : All IsContour w
     listed f c = subst (λ gs. Contains gs f) (take-append-drop n fs)
         (Contains-append_left (take n fs) (drop n fs) f (swept.from f c))
 
-    own : (f : Entry ℕ) → Contains live f → IsFilledEntry on_left walks f
-    own f c = All-contains (IsFilledEntry on_left walks) fs f filled.from (listed f c)
+    own : (f : Entry ℕ) → Contains live f → IsFilledEntry filled walks f
+    own f c = All-contains (IsFilledEntry filled walks) fs f are_filled.from (listed f c)
 
     -- a live edge of a walk meets the anchor in ends alone
     pub meets_anchor : MeetsOthers e live
     meets_anchor = λ i d h differ. walked_meet e _ (anchor_walked hole kept e anchor)
-        (filled_walked _ (All-contains (IsFilledEntry on_left walks) fs _ filled.from
+        (filled_walked _ (All-contains (IsFilledEntry filled walks) fs _ are_filled.from
         (listed _ (Contains-get_or live i d h)))) differ
 
     -- all entries over the abscissa are live
@@ -117,11 +117,12 @@ module _ (on_left : Bool) (walks : List (List Step)) (contours : All IsContour w
         below_an_anchor_is_under e f of_e.forward of_f.forward (one_or_meet e f of_e of_f) upright
 
     -- an edge below the anchor is that of a live entry below it
-    live_below : (f : Edge) → Contains (all_filled_above on_left walks) f → is_below_anchor e f ≡ true →
+    live_below : (f : Edge) → Contains (all_filled_above filled walks) f → is_below_anchor e f ≡ true →
         (g : Entry ℕ) × Contains live g × (g.edge ≡ f) × (is_below_anchor e g.edge ≡ true)
     live_below f c below =
-        let found = Contains-from_map (λ (g : Entry ℕ). g.edge) fs f (filled.all f c) in
-        let of_g = filled_walked found.0 (All-contains (IsFilledEntry on_left walks) fs found.0 filled.from found.1) in
+        let found = Contains-from_map (λ (g : Entry ℕ). g.edge) fs f (are_filled.all f c) in
+        let of_g = filled_walked found.0 (All-contains (IsFilledEntry filled walks) fs found.0 are_filled.from
+        found.1) in
         let there = ap (is_below_anchor e) found.2 ∙ below in
         let parts = and_parts (covers (found.0).edge e.a.x (pos 1)) (is_under (found.0).edge e e.a.x (pos 1))
         (sym (below_is (found.0).edge of_g) ∙ there) in
@@ -131,12 +132,12 @@ module _ (on_left : Bool) (walks : List (List Step)) (contours : All IsContour w
     pub record FindsWalk (value : ℕ) : Type 0 where
       pub next : List Step
       pub at : slice_get walks value ≡ Some next
-      pub is_next : IsNextWalk on_left walks hole next
+      pub is_next : IsNextWalk filled walks hole next
       pub anchor_is : is_next.anchor ≡ e
 
     -- it finds nothing, or the next walk
     abbrev pub Finds : ℕ → Type 0
-    Finds value = ((value ≡ length walks) × HasNoneBelow on_left walks hole) ⊎ FindsWalk value
+    Finds value = ((value ≡ length walks) × HasNoneBelow filled walks hole) ⊎ FindsWalk value
 
     module _ (are_live : AreLive limit e.a.x live) where
       -- a live entry covers the abscissa
@@ -153,7 +154,7 @@ module _ (on_left : Bool) (walks : List (List Step)) (contours : All IsContour w
           anchored = anchor;
           edge = f.edge;
           next_below = record {
-            among = Contains-flat_map (filled_above_edges on_left) walks (own f great.entry).walk f.edge there
+            among = Contains-flat_map (filled_above_edges filled) walks (own f great.entry).walk f.edge there
                 (own f great.entry).has;
             below = great.below;
             greatest = no_greater;
@@ -173,7 +174,7 @@ module _ (on_left : Bool) (walks : List (List Step)) (contours : All IsContour w
               (under_irreflexive f.edge e.a.x (pos 1))
           not_under g (inr under) = under_asymmetric g.edge f.edge e.a.x (pos 1) under
 
-          no_greater : (g : Edge) → Contains (all_filled_above on_left walks) g → is_below_anchor e g ≡ true →
+          no_greater : (g : Edge) → Contains (all_filled_above filled walks) g → is_below_anchor e g ≡ true →
               is_lower_at e.a.x f.edge g ≡ false
           no_greater g c below =
               let found = live_below g c below in
@@ -187,7 +188,7 @@ module _ (on_left : Bool) (walks : List (List Step)) (contours : All IsContour w
       pub look_up : (none : ℕ) → none ≡ length walks → Finds (value_below none e live)
       look_up none past = by (entry_below e live) refl
         where
-          nothing : entry_below e live ≡ None → (f : Edge) → Contains (all_filled_above on_left walks) f →
+          nothing : entry_below e live ≡ None → (f : Edge) → Contains (all_filled_above filled walks) f →
               is_below_anchor e f ≡ false
           nothing is f c = false_from_ne_true (is_below_anchor e f) (λ below.
               let found = live_below f c below in

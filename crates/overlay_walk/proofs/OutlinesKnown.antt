@@ -1,5 +1,5 @@
 -- Where outlines alone stand in shapes from the start, what is found for holes is their parents.
-use Rattle.std.proofs.Common.{◌≡◌, ℕ, Bool, true, not, List, Option, None, Some, refl, ap, subst, arith}
+use Rattle.std.proofs.Common.{◌≡◌, ℕ, true, not, List, Option, None, Some, refl, ap, subst, arith}
 use Rattle.std.specs.List.{slice_get}
 use Rattle.std.specs.Option.{MatchOption}
 use Rattle.std.specs.Prelude.{slice_index_or}
@@ -13,78 +13,79 @@ use Rattle.overlay_plane.specs.RoledContours.{contours_from}
 use Rattle.overlay_plane.specs.Roles.{HasNextAt, IsFoundAt, IsNotFoundAt, IsShapeNumber}
 use Rattle.overlay_plane.specs.Roles.IsFoundAt.{direct, through}
 use Rattle.overlay_plane.specs.Roles.IsNotFoundAt.{none, through as through_not_found}
+use Rattle.overlay_plane.specs.Turn.{Hand}
 use Rattle.overlay_plane.proofs.Entries.{Contains-from_filter}
 use Rattle.overlay_plane.proofs.RoledWalks.{IsNumberedFrom, numbered_from}
 use Rattle.overlay_walk.specs.Parents.{HasShapeNumber}
 use Rattle.overlay_walk.proofs.HoleEntries.{same_at, Contains-at}
 
 -- the number of an outline among the outlines; a hole has none
-abbrev IsOutlineNumber : Bool → List (List Step) → List Step → Option ℕ → Type 0
-IsOutlineNumber on_left walks w number = MatchOption number (is_hole on_left w ≡ true)
-    (λ n. slice_get (outlines on_left walks) n ≡ Some w)
+abbrev IsOutlineNumber : Hand → List (List Step) → List Step → Option ℕ → Type 0
+IsOutlineNumber filled walks w number = MatchOption number (is_hole filled w ≡ true)
+    (λ n. slice_get (outlines filled walks) n ≡ Some w)
 
-module _ (on_left : Bool) (walks : List (List Step)) where
+module _ (filled : Hand) (walks : List (List Step)) where
   -- the shapes in which the walks stand from the start, as contours
   abbrev numbers : List (Option ℕ)
-  numbers = known_in (contours_from on_left 0 walks)
+  numbers = known_in (contours_from filled 0 walks)
 
   -- they are the outlines' numbers
   numbered : (n : ℕ) (w : List Step) → slice_get walks n ≡ Some w →
-      IsOutlineNumber on_left walks w (slice_index_or numbers n None)
-  numbered n w at = by (slice_index_or numbers n None) (numbered_from on_left 0 walks n w at)
+      IsOutlineNumber filled walks w (slice_index_or numbers n None)
+  numbered n w at = by (slice_index_or numbers n None) (numbered_from filled 0 walks n w at)
     where
-      by : (number : Option ℕ) → IsNumberedFrom on_left 0 (outlines on_left walks) w number →
-          IsOutlineNumber on_left walks w number
+      by : (number : Option ℕ) → IsNumberedFrom filled 0 (outlines filled walks) w number →
+          IsOutlineNumber filled walks w number
       by None is = is
       by (Some m) (j, e, there) = let same : j ≡ m = omega (arith, e) in
-          subst (λ k. slice_get (outlines on_left walks) k ≡ Some w) same there
+          subst (λ k. slice_get (outlines filled walks) k ≡ Some w) same there
 
   -- the number of the next walk
-  next_number : (i j : ℕ) (next : HasNextAt on_left walks i j) (o : Option ℕ) → slice_index_or numbers j None ≡ o →
-      IsOutlineNumber on_left walks next.next o
-  next_number i j next o is = subst (IsOutlineNumber on_left walks next.next) is (numbered j next.next next.next_at)
+  next_number : (i j : ℕ) (next : HasNextAt filled walks i j) (o : Option ℕ) → slice_index_or numbers j None ≡ o →
+      IsOutlineNumber filled walks next.next o
+  next_number i j next o is = subst (IsOutlineNumber filled walks next.next) is (numbered j next.next next.next_at)
 
   -- and the next walk of the walk that stands there
-  next_of : (i j : ℕ) (next : HasNextAt on_left walks i j) (w : List Step) → slice_get walks i ≡ Some w →
-      IsNextWalk on_left walks w next.next
-  next_of i j next w at = subst (λ v. IsNextWalk on_left walks v next.next) (same_at walks i next.walk w next.at at)
+  next_of : (i j : ℕ) (next : HasNextAt filled walks i j) (w : List Step) → slice_get walks i ≡ Some w →
+      IsNextWalk filled walks w next.next
+  next_of i j next w at = subst (λ v. IsNextWalk filled walks v next.next) (same_at walks i next.walk w next.at at)
       next.is_next
 
-  found_is_parent : (i n : ℕ) → IsFoundAt on_left walks numbers i n → (w : List Step) → slice_get walks i ≡ Some w →
-      IsParentOf on_left walks w n
+  found_is_parent : (i n : ℕ) → IsFoundAt filled walks numbers i n → (w : List Step) → slice_get walks i ≡ Some w →
+      IsParentOf filled walks w n
   found_is_parent i n (direct {j = j} next is) w at = direct_parent (next_of i j next w at)
       (next_number i j next (Some n) is)
   found_is_parent i n (through {j = j} next is rest) w at = through_parent (next_of i j next w at)
       (next_number i j next None is)
       (found_is_parent j n rest next.next next.next_at)
 
-  not_found_has_none : (i : ℕ) → IsNotFoundAt on_left walks numbers i → (w : List Step) → slice_get walks i ≡ Some w →
-      HasNoParent on_left walks w
+  not_found_has_none : (i : ℕ) → IsNotFoundAt filled walks numbers i → (w : List Step) → slice_get walks i ≡ Some w →
+      HasNoParent filled walks w
   not_found_has_none i (none walk at_walk nothing) w at = none_below
-      (subst (HasNoneBelow on_left walks) (same_at walks i walk w at_walk at) nothing)
+      (subst (HasNoneBelow filled walks) (same_at walks i walk w at_walk at) nothing)
   not_found_has_none i (through_not_found {j = j} next is rest) w at = through_hole (next_of i j next w at)
       (next_number i j next None is)
       (not_found_has_none j rest next.next next.next_at)
 
   -- a hole has no number
-  pub no_number : (n : ℕ) (w : List Step) → slice_get walks n ≡ Some w → is_hole on_left w ≡ true →
+  pub no_number : (n : ℕ) (w : List Step) → slice_get walks n ≡ Some w → is_hole filled w ≡ true →
       slice_index_or numbers n None ≡ None
   no_number n w at hole = by (slice_index_or numbers n None) (numbered n w at)
     where
-      by : (o : Option ℕ) → IsOutlineNumber on_left walks w o → o ≡ None
+      by : (o : Option ℕ) → IsOutlineNumber filled walks w o → o ≡ None
       by None is = refl
-      by (Some m) is = absurd (both_ways (not (is_hole on_left w)) (ap not hole)
-          (Contains-from_filter (λ v. not (is_hole on_left v)) walks w (Contains-at (outlines on_left walks) m w is)).1)
+      by (Some m) is = absurd (both_ways (not (is_hole filled w)) (ap not hole)
+          (Contains-from_filter (λ v. not (is_hole filled v)) walks w (Contains-at (outlines filled walks) m w is)).1)
 
   -- and its number
-  pub hole_numbered : (shapes : List (Option ℕ)) (n : ℕ) → HasShapeNumber on_left walks numbers shapes n →
+  pub hole_numbered : (shapes : List (Option ℕ)) (n : ℕ) → HasShapeNumber filled walks numbers shapes n →
       (w : List Step) → slice_get walks n ≡ Some w →
-      is_hole on_left w ≡ true → MatchOption (slice_index_or shapes n None) (HasNoParent on_left walks w)
-      (λ m. IsParentOf on_left walks w m)
+      is_hole filled w ≡ true → MatchOption (slice_index_or shapes n None) (HasNoParent filled walks w)
+      (λ m. IsParentOf filled walks w m)
   hole_numbered shapes n numbers_are w at hole = by (slice_index_or shapes n None)
       (numbers_are w at (no_number n w at hole))
     where
-      by : (o : Option ℕ) → IsShapeNumber on_left walks numbers n o → MatchOption o (HasNoParent on_left walks w)
-          (λ m. IsParentOf on_left walks w m)
+      by : (o : Option ℕ) → IsShapeNumber filled walks numbers n o → MatchOption o (HasNoParent filled walks w)
+          (λ m. IsParentOf filled walks w m)
       by None without = not_found_has_none n without w at
       by (Some m) found = found_is_parent n m found w at

@@ -1,5 +1,5 @@
 -- The points at which the steps of a walk begin, as a loop over the walk reads them.
-use Rattle.std.proofs.Common.{◌≡◌, ℕ, ◌<◌, ℤ, List, All, length, map, get_or, sym, ◌∙◌, subst}
+use Rattle.std.proofs.Common.{◌≡◌, ℕ, ◌<◌, ℤ, List, All, length, get_or, sym, ◌∙◌, subst}
 use Rattle.std.proofs.lemmas.List.{get_or_default, length-map}
 use Rattle.overlay_geom.specs.Plane.{Point, Step, points_of}
 use Rattle.overlay_geom.specs.Points.{plain_point, InRange}

@@ -6,6 +6,7 @@ use Rattle.overlay_geom.specs.Plane.{Step}
 use Rattle.overlay_geom.specs.Edges.{CountedEdge, ends_of, subj_of, clip_of}
 use Rattle.overlay_plane.specs.Regions.{holds_above, holds_below}
 use Rattle.overlay_plane.specs.SelectedSteps.{step_with_left, selected_steps}
+use Rattle.overlay_plane.specs.Turn.{Hand, is_left_hand}
 use Rattle.overlay_plane.proofs.Entries.{flat_map-same}
 use Rattle.overlay_arrange.specs.Rules.{rule_holds, rules_hold, fills_of, fill_bits}
 use Rattle.overlay_arrange.specs.Vectors.{Vector, vector_of}
@@ -27,29 +28,29 @@ module _ (fill : FillRule) (rule : OverlayRule) (es : List CountedEdge) where
       ap₂ (rule_holds rule) shown.subj_below shown.clip_below
 
   -- the step along an edge by whether the rules hold above it and below it
-  abbrev steps_between_sides : Bool → CountedEdge → Bool → Bool → List Step
-  steps_between_sides on_left e above below = cond (cond above (not below) below)
-      (step_with_left (cond on_left above below) (ends_of e) ∷ []) []
+  abbrev steps_between_sides : Hand → CountedEdge → Bool → Bool → List Step
+  steps_between_sides filled e above below = cond (cond above (not below) below)
+      (step_with_left (cond (is_left_hand filled) above below) (ends_of e) ∷ []) []
 
   -- so they tell the selected steps
-  selected_by_bits : (on_left : Bool) → flat_map (steps_by_bits rule on_left) (map (vector_of fill es) es)
-      ≡ selected_steps (rules_hold fill rule) subj_of clip_of on_left es
-  selected_by_bits on_left =
-      flat_map-map (steps_by_bits rule on_left) (vector_of fill es) es
-      ∙ flat_map-same (λ e. steps_by_bits rule on_left (vector_of fill es e))
-      (λ e. steps_between_sides on_left e (holds_above (rules_hold fill rule) subj_of clip_of es e)
+  selected_by_bits : (filled : Hand) → flat_map (steps_by_bits rule filled) (map (vector_of fill es) es)
+      ≡ selected_steps (rules_hold fill rule) subj_of clip_of filled es
+  selected_by_bits filled =
+      flat_map-map (steps_by_bits rule filled) (vector_of fill es) es
+      ∙ flat_map-same (λ e. steps_by_bits rule filled (vector_of fill es e))
+      (λ e. steps_between_sides filled e (holds_above (rules_hold fill rule) subj_of clip_of es e)
       (holds_below (rules_hold fill rule) subj_of clip_of es e)) es
-      (λ e c. ap₂ (steps_between_sides on_left e) (above_by_bits e) (below_by_bits e))
+      (λ e c. ap₂ (steps_between_sides filled e) (above_by_bits e) (below_by_bits e))
 
   -- and so do the vectors of the edges
-  selected_by_vectors : (on_left : Bool) (vs : List Vector) → vs ≡ map (vector_of fill es) es →
-      flat_map (steps_by_bits rule on_left) vs ≡ selected_steps (rules_hold fill rule) subj_of clip_of on_left es
-  selected_by_vectors on_left vs are = ap (flat_map (steps_by_bits rule on_left)) are ∙ selected_by_bits on_left
+  selected_by_vectors : (filled : Hand) (vs : List Vector) → vs ≡ map (vector_of fill es) es →
+      flat_map (steps_by_bits rule filled) vs ≡ selected_steps (rules_hold fill rule) subj_of clip_of filled es
+  selected_by_vectors filled vs are = ap (flat_map (steps_by_bits rule filled)) are ∙ selected_by_bits filled
 
   -- what they tell, in a list without steps
-  pub selected_in_room : (on_left : Bool) (room : List Step) (vs : List Vector) (ss : List Step) → room ≡ [] →
+  pub selected_in_room : (filled : Hand) (room : List Step) (vs : List Vector) (ss : List Step) → room ≡ [] →
       vs ≡ map (vector_of fill es) es →
-      ss ≡ room ++ flat_map (steps_by_bits rule on_left) vs →
-      ss ≡ selected_steps (rules_hold fill rule) subj_of clip_of on_left es
-  selected_in_room on_left room vs ss none are is = is
-      ∙ ap₂ (λ old new. old ++ new) none (selected_by_vectors on_left vs are)
+      ss ≡ room ++ flat_map (steps_by_bits rule filled) vs →
+      ss ≡ selected_steps (rules_hold fill rule) subj_of clip_of filled es
+  selected_in_room filled room vs ss none are is = is
+      ∙ ap₂ (λ old new. old ++ new) none (selected_by_vectors filled vs are)

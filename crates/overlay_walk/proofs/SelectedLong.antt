@@ -6,6 +6,7 @@ use Rattle.overlay_geom.specs.Edges.{CountedEdge, ends_of}
 use Rattle.overlay_geom.specs.Points.{InRange, AllInRange}
 use Rattle.overlay_plane.specs.Binding.{AreCutFrom}
 use Rattle.overlay_plane.specs.SelectedSteps.{step_with_left, selected_steps}
+use Rattle.overlay_plane.specs.Turn.{Hand}
 use Rattle.overlay_plane.proofs.Entries.{all_of_entries}
 use Rattle.overlay_plane.proofs.SameWay.{ends_differ}
 use Rattle.overlay_plane.proofs.SelectedLists.{selected_steps_of_edges}
@@ -30,22 +31,22 @@ step_is_long limit e held false = record {
 -- the selected steps
 pub selected_are_long : (limit : ℕ) (es : List CountedEdge) → IsContent limit es →
     (holds : ℤ → ℤ → Bool) (subj clip : CountedEdge → ℤ)
-    (on_left : Bool) → All (IsLong limit) (selected_steps holds subj clip on_left es)
-selected_are_long limit es content holds subj clip on_left =
-    all_of_entries (IsLong limit) (selected_steps holds subj clip on_left es) (λ s c.
-    let own = (selected_steps_of_edges holds subj clip on_left es).selected s c in
+    (filled : Hand) → All (IsLong limit) (selected_steps holds subj clip filled es)
+selected_are_long limit es content holds subj clip filled =
+    all_of_entries (IsLong limit) (selected_steps holds subj clip filled es) (λ s c.
+    let own = (selected_steps_of_edges holds subj clip filled es).selected s c in
     subst (λ t. IsLong limit t) (sym own.1.walks)
     (step_is_long limit own.0 (All-contains (IsHeld limit) es own.0 content.held own.1.entry) _))
 
 -- and those of their walks
 pub walks_are_long : (limit : ℕ) (es : List CountedEdge) → IsContent limit es →
     (holds : ℤ → ℤ → Bool) (subj clip : CountedEdge → ℤ)
-    (on_left : Bool) (walks : List (List Step)) → AreCutFrom holds subj clip es on_left walks →
+    (filled : Hand) (walks : List (List Step)) → AreCutFrom holds subj clip es filled walks →
     All (All (IsLong limit)) walks
-walks_are_long limit es content holds subj clip on_left walks cut = all_of_entries (All (IsLong limit)) walks (λ w c.
-    let own = walk_of_a_cut holds subj clip es on_left cut.ruled walks cut.cut w c in
-    all_of_entries (IsLong limit) w (λ s d. All-contains (IsLong limit) (selected_steps holds subj clip on_left es) s
-    (selected_are_long limit es content holds subj clip on_left) (own.inside s (own.within s d))))
+walks_are_long limit es content holds subj clip filled walks cut = all_of_entries (All (IsLong limit)) walks (λ w c.
+    let own = walk_of_a_cut holds subj clip es filled cut.ruled walks cut.cut w c in
+    all_of_entries (IsLong limit) w (λ s d. All-contains (IsLong limit) (selected_steps holds subj clip filled es) s
+    (selected_are_long limit es content holds subj clip filled) (own.inside s (own.within s d))))
 
 -- ---- points
 

@@ -1,10 +1,11 @@
 -- Walks with the numbers of their shapes, as a loop over both lists finds them.
 use Rattle.std.proofs.Common.{◌≡◌, ℕ, zero, suc, ◌+◌, ◌<◌, ◌≤◌, List, [], ◌∷◌, ◌++◌, map, take, length, get_or, refl}
 use Rattle.std.proofs.Common.{sym, ap, ap₂, ◌∙◌, subst, arith}
-use Rattle.std.specs.Prelude.{Bool, true, Option, Some, None, IfSome}
+use Rattle.std.specs.Prelude.{true, Option, IfSome}
 use Rattle.std.proofs.lemmas.List.{take_more, length-map}
 use Rattle.overlay_geom.specs.Plane.{Step}
 use Rattle.overlay_plane.specs.Binding.{BoundWalk, is_hole, outlines}
+use Rattle.overlay_plane.specs.Turn.{Hand}
 use Rattle.overlay_walk.specs.Walks.{with_shape_numbers, AreNumbered}
 
 -- no more walks have numbers than there are numbers
@@ -49,13 +50,13 @@ bound_more ws ns k w n in_walks in_numbers is_walk is_number =
     ∙ ap (λ b. take k (with_shape_numbers ws ns) ++ b ∷ []) (at.0 ∙ ap₂ with_number is_walk (sym is_number))
 
 -- the number of a hole is that of an outline
-pub bound_is_counted : (on_left : Bool) (ws : List (List Step)) (ns : List (Option ℕ)) →
-    AreNumbered on_left ws (with_shape_numbers ws ns) →
+pub bound_is_counted : (filled : Hand) (ws : List (List Step)) (ns : List (Option ℕ)) →
+    AreNumbered filled ws (with_shape_numbers ws ns) →
     (k : ℕ) (w : List Step) (n : Option ℕ) → k < length ws → get_or ws k w ≡ w → n ≡ get_or ns k n →
-    is_hole on_left w ≡ true →
-    IfSome n (λ m. m < length (outlines on_left ws))
-bound_is_counted on_left ws ns b k w n inside is_walk is_number hole =
+    is_hole filled w ≡ true →
+    IfSome n (λ m. m < length (outlines filled ws))
+bound_is_counted filled ws ns b k w n inside is_walk is_number hole =
     let enough = numbers_enough ws ns b.are in
     let at = bound_at ws ns k w n (with_number w n) inside (omega arith) in
-    subst (λ (x : BoundWalk). is_hole on_left x.steps ≡ true → IfSome x.shape (λ m. m < length (outlines on_left ws)))
+    subst (λ (x : BoundWalk). is_hole filled x.steps ≡ true → IfSome x.shape (λ m. m < length (outlines filled ws)))
     (at.0 ∙ ap₂ with_number is_walk (sym is_number)) (b.numbered k (with_number w n) at.1) hole

@@ -10,7 +10,7 @@ use Rattle.overlay_plane.specs.Turn.{Hand}
 use Rattle.overlay_plane.specs.Alternates.{Alternates}
 use Rattle.overlay_plane.specs.BesideOrbits.{HasEachOnce}
 use Rattle.overlay_plane.specs.Binding.{is_hole}
-use Rattle.overlay_plane.specs.Contours.{filled_hand, IsCutInto, alternating, all_steps}
+use Rattle.overlay_plane.specs.Contours.{IsCutInto, alternating, all_steps}
 use Rattle.overlay_plane.specs.RoledContours.{Contour, IsCutInGroups}
 use Rattle.overlay_plane.proofs.BalancedSteps.{orbits_have_each_once}
 use Rattle.overlay_plane.proofs.CutWalks.{cuts_take_each_once}
@@ -45,22 +45,22 @@ module _ {I A : Type 0} (whole : I → ℤ) where
   steps_plain (g ∷ gs) = map-append (plain_step whole) g.items (flat_map (λ (h : Vec (StepTaken I) A). h.items) gs)
       ∙ ap (λ ss. plain_steps whole g.items ++ ss) (steps_plain gs)
 
-  module _ (on_left : Bool) (groups : List (Vec (StepTaken I) A)) where
+  module _ (filled : Hand) (groups : List (Vec (StepTaken I) A)) where
     -- the outlines among them
     pub outlines_plain : (gs : List (Vec (StepTaken I) A)) →
-        gs ≡ filter (λ g. not (is_hole on_left (plain_steps whole g.items))) groups →
-        plain_walks whole gs ≡ filter (λ g. not (is_hole on_left g)) (plain_walks whole groups)
+        gs ≡ filter (λ g. not (is_hole filled (plain_steps whole g.items))) groups →
+        plain_walks whole gs ≡ filter (λ g. not (is_hole filled g)) (plain_walks whole groups)
     outlines_plain gs are = ap (plain_walks whole) are
-        ∙ map-filter (λ (g : Vec (StepTaken I) A). plain_steps whole g.items) (λ g. not (is_hole on_left g)) groups
+        ∙ map-filter (λ (g : Vec (StepTaken I) A). plain_steps whole g.items) (λ g. not (is_hole filled g)) groups
 
     -- and the steps of the others
     pub holes_plain : (ss : List (StepTaken I)) →
-        ss ≡ flat_map (λ g. g.items) (filter (λ (g : Vec (StepTaken I) A). is_hole on_left (plain_steps whole g.items))
+        ss ≡ flat_map (λ g. g.items) (filter (λ (g : Vec (StepTaken I) A). is_hole filled (plain_steps whole g.items))
         groups) →
-        plain_steps whole ss ≡ all_steps (filter (is_hole on_left) (plain_walks whole groups))
+        plain_steps whole ss ≡ all_steps (filter (is_hole filled) (plain_walks whole groups))
     holes_plain ss are = ap (plain_steps whole) are
-        ∙ steps_plain (filter (λ g. is_hole on_left (plain_steps whole g.items)) groups)
-        ∙ ap all_steps (map-filter (λ (g : Vec (StepTaken I) A). plain_steps whole g.items) (is_hole on_left) groups)
+        ∙ steps_plain (filter (λ g. is_hole filled (plain_steps whole g.items)) groups)
+        ∙ ap all_steps (map-filter (λ (g : Vec (StepTaken I) A). plain_steps whole g.items) (is_hole filled) groups)
 
 -- what is known of the steps
 pub record AreGood (limit : ℕ) (steps : List Step) : Type 0 where
@@ -68,47 +68,47 @@ pub record AreGood (limit : ℕ) (steps : List Step) : Type 0 where
   pub once : HasEachOnce steps
   pub long : All (IsLong limit) steps
 
-module _ (limit : ℕ) (steps : List Step) (good : AreGood limit steps) (on_left : Bool) (groups : List (List Step))
-    (grouped : IsCutInto (λ s. filled_hand on_left) steps groups) where
+module _ (limit : ℕ) (steps : List Step) (good : AreGood limit steps) (filled : Hand) (groups : List (List Step))
+    (grouped : IsCutInto (λ s. filled) steps groups) where
   -- is known of each group
   group_good : (g : List Step) → Contains groups g → AreGood limit g
   group_good g c =
-      let own = group_of steps good.alternate on_left groups grouped g c in
+      let own = group_of steps good.alternate filled groups grouped g c in
       record {
-        alternate = orbit_alternates steps good.alternate (filled_hand on_left) g own.orbit;
-        once = orbits_have_each_once steps (filled_hand on_left)
-            (alternating_steps_lead_on steps good.alternate (filled_hand on_left)) g own.orbit;
+        alternate = orbit_alternates steps good.alternate filled g own.orbit;
+        once = orbits_have_each_once steps filled
+            (alternating_steps_lead_on steps good.alternate filled) g own.orbit;
         long = all_of_entries (IsLong limit) g
             (λ s d. All-contains (IsLong limit) steps s good.long
-            (orbit_inside steps good.alternate (filled_hand on_left) g own.orbit s d));
+            (orbit_inside steps good.alternate filled g own.orbit s d));
       }
 
   -- so of those that are outlines
-  pub outlines_good : All (AreGood limit) (filter (λ g. not (is_hole on_left g)) groups)
-  outlines_good = all_of_entries (AreGood limit) (filter (λ g. not (is_hole on_left g)) groups)
-      (λ g c. group_good g (Contains-from_filter (λ h. not (is_hole on_left h)) groups g c).0)
+  pub outlines_good : All (AreGood limit) (filter (λ g. not (is_hole filled g)) groups)
+  outlines_good = all_of_entries (AreGood limit) (filter (λ g. not (is_hole filled g)) groups)
+      (λ g c. group_good g (Contains-from_filter (λ h. not (is_hole filled h)) groups g c).0)
 
   -- and of the steps of all others
-  pub holes_good : AreGood limit (all_steps (filter (is_hole on_left) groups))
+  pub holes_good : AreGood limit (all_steps (filter (is_hole filled) groups))
   holes_good = record {
-    alternate = passing_alternate steps good.alternate on_left groups grouped (is_hole on_left);
-    once = AllPairs-from_each Differ (all_steps (filter (is_hole on_left) groups))
-        (kept_in_relation Differ (is_hole on_left) groups
+    alternate = passing_alternate steps good.alternate filled groups grouped (is_hole filled);
+    once = AllPairs-from_each Differ (all_steps (filter (is_hole filled) groups))
+        (kept_in_relation Differ (is_hole filled) groups
         (Each-from_all_pairs Differ (all_steps groups) (once_shuffled steps (all_steps groups)
-        (cuts_take_each_once (λ s. filled_hand on_left) steps (alternating good.alternate) good.once groups grouped)
+        (cuts_take_each_once (λ s. filled) steps (alternating good.alternate) good.once groups grouped)
         good.once)));
-    long = all_of_entries (IsLong limit) (all_steps (filter (is_hole on_left) groups))
+    long = all_of_entries (IsLong limit) (all_steps (filter (is_hole filled) groups))
         (λ s d. All-contains (IsLong limit) steps s good.long
-        (passing_inside steps good.alternate on_left groups grouped (is_hole on_left) s d));
+        (passing_inside steps good.alternate filled groups grouped (is_hole filled) s d));
   }
 
 -- the same steps in another order are cut with groups into the same contours
-pub grouped_alike : (on_left : Bool) (keeps : List Step → Bool) (xs ys : List Step) → HaveSame xs ys →
+pub grouped_alike : (filled : Hand) (keeps : List Step → Bool) (xs ys : List Step) → HaveSame xs ys →
     (contours : List Contour) →
-    IsCutInGroups on_left keeps xs contours → IsCutInGroups on_left keeps ys contours
-grouped_alike on_left keeps xs ys same contours cut = record {
+    IsCutInGroups filled keeps xs contours → IsCutInGroups filled keeps ys contours
+grouped_alike filled keeps xs ys same contours cut = record {
   groups = cut.groups;
-  grouped = cut_alike (λ s. filled_hand on_left) xs ys same cut.groups cut.grouped;
+  grouped = cut_alike (λ s. filled) xs ys same cut.groups cut.grouped;
   inside = cut.inside;
   cut_inside = cut.cut_inside;
   others = cut.others;

@@ -1,18 +1,19 @@
 -- One turn of the sweep over anchors: what it asks of the list of live edges, and what it tells of a hole.
-use Rattle.std.proofs.Common.{◌≡◌, ⊎_elim, ℕ, ◌+◌, ◌<◌, ◌≤◌, Bool, true, ℤ, pos, ◌≤ℤ◌, ◌<ℤ◌, List, [], length, take}
-use Rattle.std.proofs.Common.{drop, get_or, slice_set, Contains, Option, refl, sym, subst}
+use Rattle.std.proofs.Common.{◌≡◌, ⊎_elim, ℕ, ◌+◌, ◌<◌, ◌≤◌, true, pos, ◌≤ℤ◌, ◌<ℤ◌, List, length, take}
+use Rattle.std.proofs.Common.{drop, get_or, slice_set, Contains, Option, sym, subst}
 use Rattle.std.specs.List.{All}
-use Rattle.std.proofs.lemmas.List.{drop_more, take_all}
-use Rattle.std.proofs.lemmas.List.Elements.{All-contains, All-head, All-tail, All-weaker}
+use Rattle.std.proofs.lemmas.List.{take_all}
+use Rattle.std.proofs.lemmas.List.Elements.{All-contains, All-weaker}
 use Rattle.std.proofs.lemmas.Option.{slice_get_within}
 use Rattle.overlay_geom.specs.Plane.{Step, edge_of}
 use Rattle.overlay_geom.specs.Settled.{IsSettledBy}
 use Rattle.overlay_plane.specs.Heights.{covers}
 use Rattle.overlay_plane.specs.Contours.{IsContour, all_steps}
 use Rattle.overlay_plane.specs.Anchors.{HasEachEdgeOnce}
+use Rattle.overlay_plane.specs.Turn.{Hand}
 use Rattle.overlay_plane.proofs.AnchorsLeadOn.{anchors_lead_on}
 use Rattle.overlay_plane.proofs.Entries.{Contains-flat_map, Contains-from_map}
-use Rattle.overlay_scan.specs.Scan.{Entry, Sweep, empty_sweep, live_at, moved_to, IsSweep, MeetsOthers, value_below}
+use Rattle.overlay_scan.specs.Scan.{Entry, Sweep, live_at, moved_to, IsSweep, MeetsOthers, value_below}
 pub use Rattle.overlay_scan.proofs.EntriesByStart.{at_front}
 use Rattle.overlay_scan.proofs.EntriesByStart.{after_front, later_starts}
 pub use Rattle.overlay_scan.proofs.SweptEntries.{nothing_swept}
@@ -23,13 +24,13 @@ use Rattle.overlay_walk.proofs.HoleEntries.{Contains-at}
 use Rattle.overlay_walk.proofs.HoleNumbers.{shape_of, number_of_none, number_of_next, all_numbered}
 use Rattle.overlay_walk.proofs.NextBelow.{filled_walked, walked_meet, meets_anchor, Finds, look_up}
 
-module _ (on_left : Bool) (walks : List (List Step)) (contours : All IsContour walks)
+module _ (filled : Hand) (walks : List (List Step)) (contours : All IsContour walks)
     (settled : IsSettledBy edge_of (all_steps walks)) where
   -- the filled-above edges meet in ends alone
-  pub entries_settled : (fs : List (Entry ℕ)) → AreFilledEntries on_left walks fs → IsSettledBy (λ f. f.edge) fs
-  entries_settled fs filled f g c d differ = walked_meet on_left walks contours settled f.edge g.edge
-      (filled_walked on_left walks contours settled f (All-contains (IsFilledEntry on_left walks) fs f filled.from c))
-      (filled_walked on_left walks contours settled g (All-contains (IsFilledEntry on_left walks) fs g filled.from d))
+  pub entries_settled : (fs : List (Entry ℕ)) → AreFilledEntries filled walks fs → IsSettledBy (λ f. f.edge) fs
+  entries_settled fs are_filled f g c d differ = walked_meet filled walks contours settled f.edge g.edge
+      (filled_walked filled walks contours settled f (All-contains (IsFilledEntry filled walks) fs f are_filled.from c))
+      (filled_walked filled walks contours settled g (All-contains (IsFilledEntry filled walks) fs g are_filled.from d))
       differ
 
   module _ (single : All HasEachEdgeOnce walks) (known : List (Option ℕ)) (h : Entry ℕ)
@@ -45,12 +46,12 @@ module _ (on_left : Bool) (walks : List (List Step)) (contours : All IsContour w
         (λ s t c d. settled s t (Contains-flat_map (λ w. w) walks own.walk s kept c)
         (Contains-flat_map (λ w. w) walks own.walk t kept d)) h.edge own.has.anchor
 
-    module _ (fs : List (Entry ℕ)) (filled : AreFilledEntries on_left walks fs) (limit n : ℕ) (s : Sweep ℕ)
+    module _ (fs : List (Entry ℕ)) (are_filled : AreFilledEntries filled walks fs) (limit n : ℕ) (s : Sweep ℕ)
         (swept : IsSwept limit h.edge.a.x (take n fs) s)
         (rest : All (λ f. h.edge.a.x <ℤ f.edge.a.x) (drop n fs)) where
       -- and meets the live edges in ends alone
       pub anchor_meets : MeetsOthers h.edge (live_at h.edge.a.x s.entries)
-      anchor_meets = meets_anchor on_left walks contours settled fs filled limit own.walk kept h.edge own.has.anchor
+      anchor_meets = meets_anchor filled walks contours settled fs are_filled limit own.walk kept h.edge own.has.anchor
           anchor_over n s swept rest
 
       module _ (known_counted : length known ≡ length walks) (hs : List (Entry ℕ))
@@ -67,33 +68,34 @@ module _ (on_left : Bool) (walks : List (List Step)) (contours : All IsContour w
         -- the hole has its number
         pub numbers_on : (none : ℕ) → none ≡ length walks →
             (below : ℕ) → below ≡ value_below none h.edge (live_at h.edge.a.x s.entries) →
-            All (λ k. HasShapeNumber on_left walks known parents k.value) (take i hs) →
-            All (λ k. HasShapeNumber on_left walks known (slice_set parents h.value (shape_of known parents below))
+            All (λ k. HasShapeNumber filled walks known parents k.value) (take i hs) →
+            All (λ k. HasShapeNumber filled walks known (slice_set parents h.value (shape_of known parents below))
             k.value) (take (i + 1) hs)
         numbers_on none past below found numbered =
-            all_numbered on_left walks contours known known_counted hs holes parents i h lt is numbered own.walk own.at
+            all_numbered filled walks contours known known_counted hs holes parents i h lt is numbered own.walk own.at
             own.has.anchor (shape_of known parents below)
             (subst (λ m. h.value < m) (sym counted) (slice_get_within walks h.value own.walk own.at))
             (⊎_elim
-            (λ nothing. number_of_none on_left walks contours known known_counted hs holes parents i h lt is numbered
+            (λ nothing. number_of_none filled walks contours known known_counted hs holes parents i h lt is numbered
             own.walk own.at own.has.anchor below nothing.0 nothing.1)
-            (λ walk. number_of_next on_left walks contours known known_counted hs holes parents i h lt is numbered
+            (λ walk. number_of_next filled walks contours known known_counted hs holes parents i h lt is numbered
             own.walk own.at own.has.anchor below walk.next walk.at
             walk.is_next walk.anchor_is)
-            (subst (Finds on_left walks contours settled fs filled limit own.walk kept h.edge own.has.anchor anchor_over
+            (subst (Finds filled walks contours settled fs are_filled limit own.walk kept h.edge own.has.anchor
+            anchor_over
             n s swept rest) (sym found)
-            (look_up on_left walks contours settled fs filled limit own.walk kept h.edge own.has.anchor anchor_over n
+            (look_up filled walks contours settled fs are_filled limit own.walk kept h.edge own.has.anchor anchor_over n
             s swept rest
             (subst (IsSweep limit) moved state) none past)))
 
 -- where the holes of all anchors have their numbers, each walk has
-pub all_walks_numbered : (on_left : Bool) (walks : List (List Step)) (known : List (Option ℕ)) (hs : List (Entry ℕ)) →
+pub all_walks_numbered : (filled : Hand) (walks : List (List Step)) (known : List (Option ℕ)) (hs : List (Entry ℕ)) →
     AreHoleEntries walks known hs → (parents : List (Option ℕ)) (i : ℕ) →
-    length hs ≤ i → All (λ k. HasShapeNumber on_left walks known parents k.value) (take i hs) →
-    (n : ℕ) → HasShapeNumber on_left walks known parents n
-all_walks_numbered on_left walks known hs holes parents i le numbered n w at hole =
+    length hs ≤ i → All (λ k. HasShapeNumber filled walks known parents k.value) (take i hs) →
+    (n : ℕ) → HasShapeNumber filled walks known parents n
+all_walks_numbered filled walks known hs holes parents i le numbered n w at hole =
     let found = Contains-from_map (λ (k : Entry ℕ). k.value) hs n (holes.all n w at hole) in
-    subst (HasShapeNumber on_left walks known parents) found.2
-    (All-contains (λ k. HasShapeNumber on_left walks known parents k.value) hs found.0
-    (subst (All (λ k. HasShapeNumber on_left walks known parents k.value)) (take_all i hs le) numbered) found.1)
+    subst (HasShapeNumber filled walks known parents) found.2
+    (All-contains (λ k. HasShapeNumber filled walks known parents k.value) hs found.0
+    (subst (All (λ k. HasShapeNumber filled walks known parents k.value)) (take_all i hs le) numbered) found.1)
     w at hole

@@ -1,5 +1,6 @@
 -- Walks as whole numbers, as a loop over the walks finds them.
-use Rattle.std.proofs.Common.{◌≡◌, ℕ, ◌+◌, ◌<◌, ℤ, List, [], ◌∷◌, ◌++◌, All, take, length, get_or, sym, ap, ◌∙◌, subst}
+use Rattle.std.proofs.Common.{◌≡◌, ℕ, ◌+◌, ◌<◌, ℤ, List, [], ◌∷◌, ◌++◌, map, All, take, length, get_or, sym, ap, ◌∙◌}
+use Rattle.std.proofs.Common.{subst}
 use Rattle.std.specs.List.{slice_get}
 use Rattle.std.specs.Prelude.{Vec, Some}
 use Rattle.std.proofs.lemmas.List.{length-map, map-append}
@@ -11,6 +12,12 @@ use Rattle.overlay_geom.proofs.Mapped.{mapped_more, read_mapped, All-mapped_at}
 use Rattle.overlay_walk.specs.declared.step.Step.{Step as StepTaken}
 use Rattle.overlay_walk.specs.Steps.{plain_steps, IsLong}
 use Rattle.overlay_walk.specs.Walks.{plain_walks}
+
+-- what a list is mapped to stands at the place at which an entry was read
+pub mapped_at : {X Y : Type 0} (f : X → Y) (xs : List X) (k : ℕ) (x : X) (y : Y) → k < length xs → x ≡ get_or xs k x →
+    y ≡ f x → slice_get (map f xs) k ≡ Some y
+mapped_at f xs k x y inside is same = slice_get_read (map f xs) (length xs) k y (sym (length-map xs f)) inside
+    (same ∙ sym (read_mapped f xs k x y inside is))
 
 -- the walk at whole numbers
 abbrev at_numbers : {I A : Type 0} → (I → ℤ) → Vec (StepTaken I) A → List Step
@@ -37,9 +44,7 @@ module _ {I A : Type 0} (whole : I → ℤ) where
       k < length ws → w ≡ get_or ws k w →
       ss ≡ w.items → slice_get (plain_walks whole ws) k ≡ Some (plain_steps whole ss)
   walk_at ws k w ss inside is same =
-      slice_get_read (plain_walks whole ws) (length ws) k (plain_steps whole ss)
-      (sym (length-map ws (at_numbers whole))) inside
-      (ap (plain_steps whole) same ∙ sym (walk_read whole ws k w inside is (plain_steps whole ss)))
+      mapped_at (at_numbers whole) ws k w (plain_steps whole ss) inside is (ap (plain_steps whole) same)
 
   -- and are long, where those of all walks are
   pub long_walk : (limit : ℕ) (ws : List (Vec (StepTaken I) A)) (k : ℕ) (w : Vec (StepTaken I) A)

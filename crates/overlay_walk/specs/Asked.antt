@@ -5,12 +5,13 @@ use Rattle.overlay_geom.specs.Plane.{Step}
 use Rattle.overlay_geom.specs.Edges.{CountedEdge, subj_of, clip_of}
 use Rattle.overlay_plane.specs.SelectedSteps.{selected_steps}
 use Rattle.overlay_plane.specs.MinimumArea.{reaches}
+use Rattle.overlay_plane.specs.Turn.{Hand}
 use Rattle.overlay_arrange.specs.Rules.{rules_hold}
 use Rattle.overlay_arrange.specs.declared.fill_rule.FillRule.{FillRule}
 use Rattle.overlay_arrange.specs.declared.overlay_rule.OverlayRule.{OverlayRule}
 use Rattle.overlay_arrange.specs.declared.options.ContourDirection.{ContourDirection}
 use Rattle.overlay_arrange.specs.declared.options.IntOverlayOptions.{IntOverlayOptions}
-use Rattle.overlay_walk.specs.Steps.{is_on_left}
+use Rattle.overlay_walk.specs.Steps.{filled_hand}
 
 -- what an overlay is asked for: the rules, and how the output is to look; and how many bits the type has in which
 -- areas are summed
@@ -40,14 +41,15 @@ asked area_width natural fill rule options = record {
 abbrev pub region_asked : Asked → ℤ → ℤ → Bool
 region_asked q = rules_hold q.fill q.rule
 
--- contours have the region on their left where the output is counterclockwise, on their right where it is clockwise
-abbrev pub filled_on_left : Asked → Bool
-filled_on_left q = is_on_left q.output_direction
+-- the hand by which contours have the region: the left one where the output is counterclockwise, the right one where it
+-- is clockwise
+abbrev pub filled_asked : Asked → Hand
+filled_asked q = filled_hand q.output_direction
 
 -- the selected steps of the edges: those of the edges on exactly one side of which the region is, each with that side
--- on its left or right, as contours have it
+-- by that hand
 abbrev pub selected_of : Asked → List CountedEdge → List Step
-selected_of q es = selected_steps (region_asked q) subj_of clip_of (filled_on_left q) es
+selected_of q es = selected_steps (region_asked q) subj_of clip_of (filled_asked q) es
 
 -- the contour has three points or more, and reaches the minimum area
 abbrev pub is_kept : Asked → List Step → Bool

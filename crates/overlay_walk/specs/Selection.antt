@@ -2,6 +2,7 @@
 use Rattle.std.specs.Prelude.{ℕ, Bool, not, cond, List, [], ◌∷◌}
 use Rattle.overlay_geom.specs.Plane.{Step, Edge}
 use Rattle.overlay_plane.specs.SelectedSteps.{step_with_left}
+use Rattle.overlay_plane.specs.Turn.{Hand, is_left_hand}
 use Rattle.overlay_arrange.specs.Counts.{has_bit}
 use Rattle.overlay_arrange.specs.Rules.{rule_holds}
 use Rattle.overlay_arrange.specs.Vectors.{Vector}
@@ -23,8 +24,9 @@ abbrev pub ends : Vector → Edge
 ends v = record { a = v.a; b = v.b }
 
 -- the step along the edge with that side on its left, or on its right, if there is one such side
-abbrev pub steps_by_bits : OverlayRule → Bool → Vector → List Step
-steps_by_bits rule on_left v =
+abbrev pub steps_by_bits : OverlayRule → Hand → Vector → List Step
+steps_by_bits rule filled v =
     cond (bits_select rule v.fill)
-    (step_with_left (cond on_left (bits_hold_above rule v.fill) (bits_hold_below rule v.fill)) (ends v) ∷ [])
+    (step_with_left (cond (is_left_hand filled) (bits_hold_above rule v.fill) (bits_hold_below rule v.fill)) (ends v)
+    ∷ [])
     []

@@ -1,5 +1,5 @@
 -- Steps that a program walks, as whole numbers.
-use Rattle.std.specs.Prelude.{◌≡◌, ℕ, Bool, true, false, cond, ℤ, List, [], ◌∷◌, map, AllPairs, slice_get, Some}
+use Rattle.std.specs.Prelude.{◌≡◌, ℕ, Bool, false, cond, ℤ, List, [], ◌∷◌, map, AllPairs, slice_get, Some}
 use Rattle.overlay_geom.specs.Plane.{Step, Edge, point_lt}
 use Rattle.overlay_geom.specs.Points.{plain_point, InRange}
 use Rattle.overlay_plane.specs.SelectedSteps.{step_with_left}
@@ -21,14 +21,14 @@ abbrev pub plain_hand : HandTaken → Hand
 plain_hand Left = left
 plain_hand Right = right
 
--- contours run with the filled side on the left where the direction is counterclockwise
-abbrev pub is_on_left : ContourDirection → Bool
-is_on_left CounterClockwise = true
-is_on_left Clockwise = false
+-- the hand of the filled side where contours run in a direction: the left one where it is counterclockwise
+abbrev pub filled_hand : ContourDirection → Hand
+filled_hand CounterClockwise = left
+filled_hand Clockwise = right
 
 -- the hand by which a walk turns that begins with a step, as the rule says
 abbrev pub hand_by : HandRule → Step → Hand
-hand_by (OutlineOrHole direction) s = outline_or_hole_hand (is_on_left direction) s
+hand_by (OutlineOrHole direction) s = outline_or_hole_hand (filled_hand direction) s
 hand_by (Always hand) s = plain_hand hand
 
 -- the step at a step's numbers, and those of a list, and of walks

@@ -1,11 +1,12 @@
 -- Numbered edges as whole numbers, each an entry of a sweep whose value is the number: those of walks have the index of
 -- the walk.
-use Rattle.std.specs.Prelude.{◌≡◌, ℕ, Bool, false, ℤ, List, map, All, AllPairs, Contains, slice_get, slice_index_or}
+use Rattle.std.specs.Prelude.{◌≡◌, ℕ, false, ℤ, List, map, All, AllPairs, Contains, slice_get, slice_index_or}
 use Rattle.std.specs.Prelude.{Option, None, Some}
 use Rattle.overlay_geom.specs.Plane.{Step, Edge, edge_eq}
 use Rattle.overlay_geom.specs.Points.{plain_point}
 use Rattle.overlay_plane.specs.Anchors.{IsAnchor}
 use Rattle.overlay_plane.specs.Binding.{filled_above_edges, all_filled_above}
+use Rattle.overlay_plane.specs.Turn.{Hand}
 use Rattle.overlay_scan.specs.Scan.{Entry}
 use Rattle.overlay_scan.specs.Sweeps.{IsByStart}
 use Rattle.overlay_walk.specs.declared.numbered_edge.NumberedEdge.{NumberedEdge}
@@ -21,8 +22,8 @@ abbrev pub numbered_entries : {I W U : Type 0} {i w u : _} → (I → ℤ) → L
 numbered_entries whole es = map (numbered_entry whole) es
 
 -- the filled-above edges of the walk with this index
-abbrev pub filled_entries : Bool → ℕ → List Step → List (Entry ℕ)
-filled_entries on_left n walk = map (λ e. record { edge = e; value = n }) (filled_above_edges on_left walk)
+abbrev pub filled_entries : Hand → ℕ → List Step → List (Entry ℕ)
+filled_entries filled n walk = map (λ e. record { edge = e; value = n }) (filled_above_edges filled walk)
 
 -- the walk with this index has the property
 pub record IsOfWalk (walks : List (List Step)) (n : ℕ) (P : List Step → Type 0) : Type 0 where
@@ -31,13 +32,13 @@ pub record IsOfWalk (walks : List (List Step)) (n : ℕ) (P : List Step → Type
   pub has : P walk
 
 -- the entry's edge is a filled-above edge of the entry's walk
-abbrev pub IsFilledEntry : Bool → List (List Step) → Entry ℕ → Type 0
-IsFilledEntry on_left walks f = IsOfWalk walks f.value (λ w. Contains (filled_above_edges on_left w) f.edge)
+abbrev pub IsFilledEntry : Hand → List (List Step) → Entry ℕ → Type 0
+IsFilledEntry filled walks f = IsOfWalk walks f.value (λ w. Contains (filled_above_edges filled w) f.edge)
 
 -- the entries are the filled-above edges of the walks, in the order of anchors
-pub record AreFilledEntries (on_left : Bool) (walks : List (List Step)) (fs : List (Entry ℕ)) : Type 0 where
-  pub from : All (IsFilledEntry on_left walks) fs
-  pub all : (e : Edge) → Contains (all_filled_above on_left walks) e → Contains (map (λ f. f.edge) fs) e
+pub record AreFilledEntries (filled : Hand) (walks : List (List Step)) (fs : List (Entry ℕ)) : Type 0 where
+  pub from : All (IsFilledEntry filled walks) fs
+  pub all : (e : Edge) → Contains (all_filled_above filled walks) e → Contains (map (λ f. f.edge) fs) e
   pub distinct : AllPairs (λ f g. edge_eq f.edge g.edge ≡ false) fs
   pub order : IsByStart fs
 

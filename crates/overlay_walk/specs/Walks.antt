@@ -1,7 +1,8 @@
 -- Walks, each the list of its steps, as whole numbers; and the numbers of their shapes.
-use Rattle.std.specs.Prelude.{◌≡◌, ◌<◌, ℕ, ℤ, Bool, true, List, [], ◌∷◌, map, length, All, Option, IfSome, Vec}
+use Rattle.std.specs.Prelude.{◌≡◌, ◌<◌, ℕ, ℤ, true, List, [], ◌∷◌, map, length, All, Option, IfSome, Vec}
 use Rattle.overlay_geom.specs.Plane.{Step}
 use Rattle.overlay_plane.specs.Binding.{BoundWalk, is_hole, outlines}
+use Rattle.overlay_plane.specs.Turn.{Hand}
 use Rattle.overlay_walk.specs.declared.step.Step.{Step as StepTaken}
 use Rattle.overlay_walk.specs.Steps.{plain_steps}
 
@@ -16,7 +17,7 @@ with_shape_numbers (w ∷ ws) [] = []
 with_shape_numbers (w ∷ ws) (s ∷ shapes) = record { steps = w; shape = s } ∷ with_shape_numbers ws shapes
 
 -- the walks, and of each hole among them the number of a shape that there is, or none
-pub record AreNumbered (on_left : Bool) (walks : List (List Step)) (bound : List BoundWalk) : Type 0 where
+pub record AreNumbered (filled : Hand) (walks : List (List Step)) (bound : List BoundWalk) : Type 0 where
   pub are : map (λ b. b.steps) bound ≡ walks
-  pub numbered : All (λ b. is_hole on_left b.steps ≡ true → IfSome b.shape (λ n. n < length (outlines on_left walks)))
+  pub numbered : All (λ b. is_hole filled b.steps ≡ true → IfSome b.shape (λ n. n < length (outlines filled walks)))
       bound

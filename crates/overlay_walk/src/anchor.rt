@@ -1,38 +1,38 @@
 //! The anchors of walks whose shapes are to be found.
 
-ghost use Rattle.std.specs.Prelude.{◌≡◌, ◌<◌, length, All, IfOk, IsOkUnless};
+ghost use Rattle.std.specs.Prelude.{◌≡◌, ◌<◌, length, map, All, IfOk, IsOkUnless};
 ghost use Rattle.overlay_plane.specs.Anchors.{IsAnchor};
 ghost use Rattle.overlay_plane.specs.Contours.{IsContour};
 ghost use Rattle.overlay_walk.specs.Steps.{plain_steps, IsLong};
 ghost use Rattle.overlay_walk.specs.WalkEdges.{numbered_entry, numbered_entries, AreHoleEntries};
-ghost use Rattle.overlay_walk.specs.Walks.{plain_walks};
 
 use crate::by_anchor::{compare_anchors, sort_by_anchor};
 use crate::filled::edge_along;
 use crate::numbered_edge::NumberedEdge;
 use crate::step::Step;
+use crate::walk::Walk;
 use overlay_geom::error::OverlayError;
 use overlay_geom::number::IntNumber;
 use std::alloc::Allocator;
 
 /// The anchors of the walks that stand in no shape from the start, in their order, each with the index
 /// of its walk. The only refusal is `Memory`.
-pub fn hole_anchors<I: IntNumber, A: Allocator>(
+pub fn hole_anchors<I: IntNumber, A: Allocator, W: Walk<I>>(
     alloc: A,
-    walks: &[Vec<Step<I>, A>],
+    walks: &[W],
     known: &[Option<usize>],
 ) -> Result<Vec<NumberedEdge<I>, A>, OverlayError>
-    requires long { All (All (IsLong I.limit)) (plain_walks I.whole walks.now) }
-    requires contours { All IsContour (plain_walks I.whole walks.now) }
+    requires long { All (All (IsLong I.limit)) (map W.walk walks.now) }
+    requires contours { All IsContour (map W.walk walks.now) }
     requires known { length known.now ≡ length walks.now }
-    ensures ok { IfOk result (λ v. AreHoleEntries (plain_walks I.whole walks.now) known.now
+    ensures ok { IfOk result (λ v. AreHoleEntries (map W.walk walks.now) known.now
         (numbered_entries I.whole v.items)) }
     ensures err { IsOkUnless result OverlayError.Memory }
 {
     let mut anchors = Vec::new(alloc);
     for i in 0..walks.len() {
         if known[i].is_none() {
-            anchors.push(anchor_of(&walks[i], i))?;
+            anchors.push(anchor_of(walks[i].steps(), i))?;
         }
     }
     sort_by_anchor(&mut anchors)?;

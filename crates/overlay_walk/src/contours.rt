@@ -2,9 +2,10 @@
 
 ghost use Rattle.std.specs.Prelude.{◌≡◌, [], All, Contains, IfOk, OnOk, IsOkUnless};
 ghost use Rattle.overlay_plane.specs.BesideOrbits.{HasEachOnce};
-ghost use Rattle.overlay_plane.specs.Contours.{outline_or_hole_hand, filled_hand, empty_hand};
+ghost use Rattle.overlay_plane.specs.Contours.{outline_or_hole_hand};
 ghost use Rattle.overlay_plane.specs.Contours.{CanBeCut, IsCutInto};
-ghost use Rattle.overlay_walk.specs.Steps.{plain_hand, plain_step, plain_steps, is_on_left, hand_by};
+ghost use Rattle.overlay_plane.specs.Turn.{other_hand};
+ghost use Rattle.overlay_walk.specs.Steps.{plain_hand, plain_step, plain_steps, filled_hand, hand_by};
 ghost use Rattle.overlay_walk.specs.Walks.{plain_walks};
 
 use crate::filled::is_filled_above;
@@ -53,7 +54,7 @@ fn hand_by<I: IntNumber>(rule: HandRule, start: Step<I>) -> Hand
 
 /// The hand by which the contour that starts with a step turns.
 fn hand_of<I: IntNumber>(start: Step<I>, direction: ContourDirection) -> Hand
-    ensures { plain_hand result ≡ outline_or_hole_hand (is_on_left direction) (plain_step I.whole start) }
+    ensures { plain_hand result ≡ outline_or_hole_hand (filled_hand direction) (plain_step I.whole start) }
 {
     if is_filled_above(&start, direction) {
         empty_hand(direction)
@@ -64,7 +65,7 @@ fn hand_of<I: IntNumber>(start: Step<I>, direction: ContourDirection) -> Hand
 
 /// The hand of the filled side of each step, where contours run in a direction.
 pub(crate) fn filled_hand(direction: ContourDirection) -> Hand
-    ensures { plain_hand result ≡ filled_hand (is_on_left direction) }
+    ensures { plain_hand result ≡ filled_hand direction }
 {
     match direction {
         ContourDirection::CounterClockwise => Hand::Left,
@@ -74,7 +75,7 @@ pub(crate) fn filled_hand(direction: ContourDirection) -> Hand
 
 /// The hand of its empty side.
 pub(crate) fn empty_hand(direction: ContourDirection) -> Hand
-    ensures { plain_hand result ≡ empty_hand (is_on_left direction) }
+    ensures { plain_hand result ≡ other_hand (filled_hand direction) }
 {
     match direction {
         ContourDirection::CounterClockwise => Hand::Right,

@@ -4,7 +4,7 @@ ghost use Rattle.std.specs.Prelude.{◌≡◌};
 ghost use Rattle.overlay_geom.specs.Plane.{edge_of};
 ghost use Rattle.overlay_plane.specs.Binding.{is_hole};
 ghost use Rattle.overlay_plane.specs.Contours.{is_filled_above};
-ghost use Rattle.overlay_walk.specs.Steps.{plain_step, plain_steps, is_on_left, IsLong};
+ghost use Rattle.overlay_walk.specs.Steps.{plain_step, plain_steps, filled_hand, IsLong};
 ghost use Rattle.overlay_walk.specs.WalkEdges.{numbered_entry};
 
 use crate::numbered_edge::NumberedEdge;
@@ -15,7 +15,7 @@ use overlay_geom::number::IntNumber;
 /// Whether the filled side of the step is the upper one of its edge. It is the step's left side where
 /// the direction is counterclockwise, else its right one.
 pub fn is_filled_above<I: IntNumber>(step: &Step<I>, direction: ContourDirection) -> bool
-    ensures { result ≡ is_filled_above (is_on_left direction) (plain_step I.whole step.now) }
+    ensures { result ≡ is_filled_above (filled_hand direction) (plain_step I.whole step.now) }
 {
     match direction {
         ContourDirection::CounterClockwise => is_forward(step),
@@ -25,7 +25,7 @@ pub fn is_filled_above<I: IntNumber>(step: &Step<I>, direction: ContourDirection
 
 /// Whether the walk is a hole: it begins with an edge that is filled above.
 pub fn is_hole<I: IntNumber>(walk: &[Step<I>], direction: ContourDirection) -> bool
-    ensures { result ≡ is_hole (is_on_left direction) (plain_steps I.whole walk.now) }
+    ensures { result ≡ is_hole (filled_hand direction) (plain_steps I.whole walk.now) }
 {
     match walk {
         [] => false,

@@ -4,15 +4,15 @@ ghost use Rattle.std.specs.Prelude.{◌≡◌, ◌++◌, false, All, AllPairs, I
 ghost use Rattle.std.specs.Prelude.{map};
 ghost use Rattle.overlay_geom.specs.Plane.{edge_eq};
 ghost use Rattle.overlay_plane.specs.Binding.{all_filled_above};
-ghost use Rattle.overlay_walk.specs.Steps.{plain_steps, is_on_left, IsLong};
+ghost use Rattle.overlay_walk.specs.Steps.{plain_steps, filled_hand, IsLong};
 ghost use Rattle.overlay_walk.specs.WalkEdges.{numbered_entries, filled_entries};
 ghost use Rattle.overlay_walk.specs.WalkEdges.{IsFilledEntry, AreFilledEntries};
-ghost use Rattle.overlay_walk.specs.Walks.{plain_walks};
 
 use crate::by_anchor::sort_by_anchor;
 use crate::filled::{edge_along, is_filled_above};
 use crate::numbered_edge::NumberedEdge;
 use crate::step::Step;
+use crate::walk::Walk;
 use overlay_arrange::options::ContourDirection;
 use overlay_geom::error::OverlayError;
 use overlay_geom::number::IntNumber;
@@ -20,15 +20,15 @@ use std::alloc::Allocator;
 
 /// The filled-above edges of all walks, in the order of their smaller ends, each with the index of its
 /// walk. The only refusal is `Memory`.
-pub fn filled_above_edges<I: IntNumber, A: Allocator>(
+pub fn filled_above_edges<I: IntNumber, A: Allocator, W: Walk<I>>(
     alloc: A,
-    walks: &[Vec<Step<I>, A>],
+    walks: &[W],
     direction: ContourDirection,
 ) -> Result<Vec<NumberedEdge<I>, A>, OverlayError>
-    requires long { All (All (IsLong I.limit)) (plain_walks I.whole walks.now) }
+    requires long { All (All (IsLong I.limit)) (map W.walk walks.now) }
     requires distinct { AllPairs (λ e f. edge_eq e f ≡ false)
-        (all_filled_above (is_on_left direction) (plain_walks I.whole walks.now)) }
-    ensures ok { IfOk result (λ v. AreFilledEntries (is_on_left direction) (plain_walks I.whole walks.now)
+        (all_filled_above (filled_hand direction) (map W.walk walks.now)) }
+    ensures ok { IfOk result (λ v. AreFilledEntries (filled_hand direction) (map W.walk walks.now)
         (numbered_entries I.whole v.items)) }
     ensures err { IsOkUnless result OverlayError.Memory }
 {
@@ -38,21 +38,21 @@ pub fn filled_above_edges<I: IntNumber, A: Allocator>(
 }
 
 /// The same, walk by walk.
-fn edges_walk_by_walk<I: IntNumber, A: Allocator>(
+fn edges_walk_by_walk<I: IntNumber, A: Allocator, W: Walk<I>>(
     alloc: A,
-    walks: &[Vec<Step<I>, A>],
+    walks: &[W],
     direction: ContourDirection,
 ) -> Result<Vec<NumberedEdge<I>, A>, OverlayError>
-    requires long { All (All (IsLong I.limit)) (plain_walks I.whole walks.now) }
+    requires long { All (All (IsLong I.limit)) (map W.walk walks.now) }
     ensures edges { IfOk result (λ v. map (λ f. f.edge) (numbered_entries I.whole v.items)
-        ≡ all_filled_above (is_on_left direction) (plain_walks I.whole walks.now)) }
-    ensures from { IfOk result (λ v. All (IsFilledEntry (is_on_left direction) (plain_walks I.whole walks.now))
+        ≡ all_filled_above (filled_hand direction) (map W.walk walks.now)) }
+    ensures from { IfOk result (λ v. All (IsFilledEntry (filled_hand direction) (map W.walk walks.now))
         (numbered_entries I.whole v.items)) }
     ensures err { IsOkUnless result OverlayError.Memory }
 {
     let mut edges = Vec::new(alloc);
     for i in 0..walks.len() {
-        push_filled(&mut edges, &walks[i], i, direction)?;
+        push_filled(&mut edges, walks[i].steps(), i, direction)?;
     }
     Ok(edges)
 }
@@ -66,7 +66,7 @@ fn push_filled<I: IntNumber, A: Allocator>(
 ) -> Result<(), OverlayError>
     requires { All (IsLong I.limit) (plain_steps I.whole walk.now) }
     ensures ok { OnOk result (numbered_entries I.whole edges.new.items
-        ≡ numbered_entries I.whole edges.old.items ++ filled_entries (is_on_left direction) index
+        ≡ numbered_entries I.whole edges.old.items ++ filled_entries (filled_hand direction) index
         (plain_steps I.whole walk.now)) }
     ensures err { IsOkUnless result OverlayError.Memory }
 {

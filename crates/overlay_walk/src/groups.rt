@@ -9,7 +9,7 @@ ghost use Rattle.overlay_plane.specs.Binding.{is_hole};
 ghost use Rattle.overlay_plane.specs.Contours.{IsCutInto};
 ghost use Rattle.overlay_plane.specs.MinimumArea.{reaches};
 ghost use Rattle.overlay_plane.specs.RoledContours.{IsCutInGroups};
-ghost use Rattle.overlay_walk.specs.Steps.{is_on_left, plain_hand, plain_steps, IsLong};
+ghost use Rattle.overlay_walk.specs.Steps.{filled_hand, plain_hand, plain_steps, IsLong};
 ghost use Rattle.overlay_walk.specs.Walks.{plain_walks};
 ghost use Rattle.overlay_walk.specs.GroupedContours.{plain_contours};
 
@@ -42,7 +42,7 @@ pub fn cut_in_groups<I: IntNumber, A: Allocator + Clone>(
     requires alternate { Alternates (plain_steps I.whole steps.old) }
     requires once { HasEachOnce (plain_steps I.whole steps.old) }
     requires long { All (IsLong I.limit) (plain_steps I.whole steps.old) }
-    ensures cut { IfOk result (λ cs. IsCutInGroups (is_on_left direction)
+    ensures cut { IfOk result (λ cs. IsCutInGroups (filled_hand direction)
         (λ w. reaches I.Wide.width (I.WideUInt.natural min_output_area) w) (plain_steps I.whole steps.old)
         (plain_contours I.whole cs.items)) }
     ensures err { IsOkUnless result OverlayError.Memory }
@@ -65,9 +65,9 @@ fn split_groups<I: IntNumber, A: Allocator + Clone>(
     direction: ContourDirection,
 ) -> Result<(Vec<Vec<Step<I>, A>, A>, Vec<Step<I>, A>), OverlayError>
     ensures outlines { IfOk result (λ r. r.0.items
-        ≡ filter (λ g. not (is_hole (is_on_left direction) (plain_steps I.whole g.items))) groups.items) }
+        ≡ filter (λ g. not (is_hole (filled_hand direction) (plain_steps I.whole g.items))) groups.items) }
     ensures holes { IfOk result (λ r. r.1.items ≡ flat_map (λ g. g.items)
-        (filter (λ g. is_hole (is_on_left direction) (plain_steps I.whole g.items)) groups.items)) }
+        (filter (λ g. is_hole (filled_hand direction) (plain_steps I.whole g.items)) groups.items)) }
     ensures err { IsOkUnless result OverlayError.Memory }
 {
     let mut outline_groups = Vec::new(alloc.clone()?);

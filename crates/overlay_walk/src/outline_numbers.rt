@@ -4,7 +4,7 @@ ghost use Rattle.std.specs.Prelude.{◌≡◌, length, IfOk, IsOkUnless};
 ghost use Rattle.overlay_plane.specs.Binding.{outlines};
 ghost use Rattle.overlay_plane.specs.BoundContours.{known_in};
 ghost use Rattle.overlay_plane.specs.RoledContours.{contours_from};
-ghost use Rattle.overlay_walk.specs.Steps.{is_on_left};
+ghost use Rattle.overlay_walk.specs.Steps.{filled_hand};
 ghost use Rattle.overlay_walk.specs.Walks.{plain_walks};
 
 use crate::filled::is_hole;
@@ -22,7 +22,7 @@ pub fn outline_numbers<I: IntNumber, A: Allocator>(
     direction: ContourDirection,
 ) -> Result<Vec<Option<usize>, A>, OverlayError>
     ensures ok { IfOk result (λ v. v.items
-        ≡ known_in (contours_from (is_on_left direction) 0 (plain_walks I.whole walks.now))) }
+        ≡ known_in (contours_from (filled_hand direction) 0 (plain_walks I.whole walks.now))) }
     ensures err { IsOkUnless result OverlayError.Memory }
 {
     let mut numbers = Vec::new(alloc);
@@ -43,7 +43,7 @@ pub fn count_outlines<I: IntNumber, A: Allocator>(
     walks: &[Vec<Step<I>, A>],
     direction: ContourDirection,
 ) -> usize
-    ensures { result ≡ length (outlines (is_on_left direction) (plain_walks I.whole walks.now)) }
+    ensures { result ≡ length (outlines (filled_hand direction) (plain_walks I.whole walks.now)) }
 {
     let mut count = 0;
     for i in 0..walks.len() {

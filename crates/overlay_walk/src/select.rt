@@ -5,7 +5,7 @@ ghost use Rattle.std.specs.Prelude.{List, slice_get, Some, All, IfSome, OnOk, Is
 ghost use Rattle.overlay_geom.specs.Plane.{Edge};
 ghost use Rattle.overlay_plane.specs.SelectedSteps.{step_with_left};
 ghost use Rattle.overlay_arrange.specs.Vectors.{plain_vector};
-ghost use Rattle.overlay_walk.specs.Steps.{is_on_left, plain_step, plain_steps, IsAlong, RunsAlong};
+ghost use Rattle.overlay_walk.specs.Steps.{filled_hand, plain_step, plain_steps, IsAlong, RunsAlong};
 ghost use Rattle.overlay_walk.specs.Selection.{ends, bits_hold_above, bits_hold_below, steps_by_bits};
 
 use crate::step::Step;
@@ -27,7 +27,7 @@ pub fn push_selected<I: IntNumber, D: Copy, A: Allocator>(
     direction: ContourDirection,
 ) -> Result<(), OverlayError>
     ensures ok { OnOk result (plain_steps I.whole steps.new.items ≡ plain_steps I.whole steps.old.items
-        ++ flat_map (steps_by_bits rule (is_on_left direction)) (map (plain_vector I.whole) edges.now)) }
+        ++ flat_map (steps_by_bits rule (filled_hand direction)) (map (plain_vector I.whole) edges.now)) }
     ensures along { OnOk result (
         All (RunsAlong I.whole (map (λ v. ends (plain_vector I.whole v)) edges.now)) steps.old.items
         → All (RunsAlong I.whole (map (λ v. ends (plain_vector I.whole v)) edges.now)) steps.new.items) }
@@ -48,7 +48,7 @@ fn push_step<I: IntNumber, D: Copy, A: Allocator>(
     direction: ContourDirection,
 ) -> Result<(), OverlayError>
     ensures ok { OnOk result (plain_steps I.whole steps.new.items ≡ plain_steps I.whole steps.old.items
-        ++ steps_by_bits rule (is_on_left direction) (plain_vector I.whole edge)) }
+        ++ steps_by_bits rule (filled_hand direction) (plain_vector I.whole edge)) }
     ensures along { OnOk result ((es : List Edge) → slice_get es number ≡ Some (ends (plain_vector I.whole edge))
         → All (RunsAlong I.whole es) steps.old.items → All (RunsAlong I.whole es) steps.new.items) }
     ensures err { IsOkUnless result OverlayError.Memory }
@@ -69,7 +69,7 @@ fn selected_step<I: IntNumber, D: Copy>(
     direction: ContourDirection,
 ) -> Option<Step<I>>
     ensures step { option_to_list (option_map (plain_step I.whole) result)
-        ≡ steps_by_bits rule (is_on_left direction) (plain_vector I.whole edge) }
+        ≡ steps_by_bits rule (filled_hand direction) (plain_vector I.whole edge) }
     ensures along { IfSome result (IsAlong I.whole number (ends (plain_vector I.whole edge))) }
 {
     let above = holds_above(rule, edge.fill);

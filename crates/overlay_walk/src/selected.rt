@@ -12,7 +12,7 @@ ghost use Rattle.overlay_plane.specs.SelectedSteps.{selected_steps};
 ghost use Rattle.overlay_arrange.specs.Graphs.{graph_edges};
 ghost use Rattle.overlay_arrange.specs.Rules.{rules_hold};
 ghost use Rattle.overlay_walk.specs.GroupedContours.{plain_contours};
-ghost use Rattle.overlay_walk.specs.Steps.{is_on_left, plain_steps, IsLong, RunsAlong};
+ghost use Rattle.overlay_walk.specs.Steps.{filled_hand, plain_steps, IsLong, RunsAlong};
 ghost use Rattle.overlay_walk.specs.Walks.{plain_walks};
 
 use crate::buffer::BooleanExtractionBuffer;
@@ -47,7 +47,7 @@ pub fn selected_walks<I: IntNumber, C: EdgeCount, A: Allocator + Clone>(
 ) -> Result<Vec<Vec<Step<I>, A>, A>, OverlayError>
     requires { HasBalancedCounts (graph_edges graph.now) }
     ensures cut { IfOk result (λ ws. AreCutFrom (rules_hold graph.now.fill_rule overlay_rule) subj_of clip_of
-        (graph_edges graph.now) (is_on_left direction) (plain_walks I.whole ws.items)) }
+        (graph_edges graph.now) (filled_hand direction) (plain_walks I.whole ws.items)) }
     ensures along { IfOk result (λ ws.
         All (λ w. All (RunsAlong I.whole (all_ends (graph_edges graph.now))) w.items) ws.items) }
     ensures long { IfOk result (λ ws. All (All (IsLong I.limit)) (plain_walks I.whole ws.items)) }
@@ -76,9 +76,9 @@ pub fn selected_contours<I: IntNumber, C: EdgeCount, A: Allocator + Clone>(
     buffer: &mut BooleanExtractionBuffer<I, A>,
 ) -> Result<Vec<Contour<I, A>, A>, OverlayError>
     requires { HasBalancedCounts (graph_edges graph.now) }
-    ensures cut { IfOk result (λ cs. IsCutInGroups (is_on_left direction)
+    ensures cut { IfOk result (λ cs. IsCutInGroups (filled_hand direction)
         (λ w. reaches I.Wide.width (I.WideUInt.natural min_output_area) w)
-        (selected_steps (rules_hold graph.now.fill_rule overlay_rule) subj_of clip_of (is_on_left direction)
+        (selected_steps (rules_hold graph.now.fill_rule overlay_rule) subj_of clip_of (filled_hand direction)
         (graph_edges graph.now)) (plain_contours I.whole cs.items)) }
     ensures simple { IfOk result (λ cs. All (λ c. IsSimpleContour c.steps) (plain_contours I.whole cs.items)) }
     ensures err { IsOkUnless result OverlayError.Memory }
@@ -102,7 +102,7 @@ fn open_selected<I: IntNumber, C: EdgeCount, A: Allocator + Clone>(
 ) -> Result<OpenSteps<I, A>, OverlayError>
     requires { steps.items ≡ [] }
     ensures selected { IfOk result (λ o. IsPermutation (selected_steps (rules_hold graph.now.fill_rule overlay_rule)
-        subj_of clip_of (is_on_left direction) (graph_edges graph.now)) (plain_steps I.whole o)) }
+        subj_of clip_of (filled_hand direction) (graph_edges graph.now)) (plain_steps I.whole o)) }
     ensures along { IfOk result (All (RunsAlong I.whole (all_ends (graph_edges graph.now)))) }
     ensures err { IsOkUnless result OverlayError.Memory }
 {

@@ -1,6 +1,6 @@
 //! The sweep over walks that finds the shapes of those that stand in none from the start.
 
-ghost use Rattle.std.specs.Prelude.{◌≡◌, ◌<◌, ◌≤◌, length, take, drop, slice_index_or, None};
+ghost use Rattle.std.specs.Prelude.{◌≡◌, ◌<◌, ◌≤◌, length, map, take, drop, slice_index_or, None};
 ghost use Rattle.std.specs.Prelude.{◌<ℤ◌, false, cond, nat_lt, All, AllPairs, IfOk, IsOkUnless};
 ghost use Rattle.std.specs.Option.{is_some};
 ghost use Rattle.overlay_geom.specs.Plane.{edge_of, edge_eq};
@@ -12,14 +12,13 @@ ghost use Rattle.overlay_scan.specs.Scan.{empty_sweep, live_at, moved_to, value_
 ghost use Rattle.overlay_scan.specs.Scan.{IsAsked, IsSweep, MayMoveTo, MeetsOthers};
 ghost use Rattle.overlay_scan.specs.Sweeps.{IsByStart};
 ghost use Rattle.overlay_walk.specs.Parents.{IsSwept, HasShapeNumber};
-ghost use Rattle.overlay_walk.specs.Steps.{is_on_left, IsLong};
+ghost use Rattle.overlay_walk.specs.Steps.{filled_hand, IsLong};
 ghost use Rattle.overlay_walk.specs.WalkEdges.{numbered_entry, numbered_entries};
-ghost use Rattle.overlay_walk.specs.Walks.{plain_walks};
 
 use crate::anchor::hole_anchors;
 use crate::filled_above_edges::filled_above_edges;
 use crate::numbered_edge::NumberedEdge;
-use crate::step::Step;
+use crate::walk::Walk;
 use overlay_arrange::options::ContourDirection;
 use overlay_geom::error::OverlayError;
 use overlay_geom::number::IntNumber;
@@ -29,23 +28,23 @@ use std::alloc::Allocator;
 /// For each walk that stands in no shape from the start (`known` has None there) the number of the shape
 /// that is found for it by its next filled-above edge, if one is. The scan is empty at first; what it
 /// holds afterwards is left open. The only refusal is `Memory`.
-pub fn parents_by_sweep<I: IntNumber, A: Allocator + Clone, S: Scan<I, usize>>(
+pub fn parents_by_sweep<I: IntNumber, A: Allocator + Clone, S: Scan<I, usize>, W: Walk<I>>(
     alloc: A,
     scan: &mut S,
-    walks: &[Vec<Step<I>, A>],
+    walks: &[W],
     known: &[Option<usize>],
     direction: ContourDirection,
 ) -> Result<Vec<Option<usize>, A>, OverlayError>
-    requires long { All (All (IsLong I.limit)) (plain_walks I.whole walks.now) }
-    requires contours { All IsContour (plain_walks I.whole walks.now) }
-    requires single { All HasEachEdgeOnce (plain_walks I.whole walks.now) }
+    requires long { All (All (IsLong I.limit)) (map W.walk walks.now) }
+    requires contours { All IsContour (map W.walk walks.now) }
+    requires single { All HasEachEdgeOnce (map W.walk walks.now) }
     requires distinct { AllPairs (λ e f. edge_eq e f ≡ false)
-        (all_filled_above (is_on_left direction) (plain_walks I.whole walks.now)) }
-    requires settled { IsSettledBy edge_of (all_steps (plain_walks I.whole walks.now)) }
+        (all_filled_above (filled_hand direction) (map W.walk walks.now)) }
+    requires settled { IsSettledBy edge_of (all_steps (map W.walk walks.now)) }
     requires known { length known.now ≡ length walks.now }
     requires empty { S.content scan.old ≡ empty_sweep }
     ensures counted { IfOk result (λ v. length v.items ≡ length walks.now) }
-    ensures numbers { IfOk result (λ v. (n : _) → HasShapeNumber (is_on_left direction) (plain_walks I.whole walks.now)
+    ensures numbers { IfOk result (λ v. (n : _) → HasShapeNumber (filled_hand direction) (map W.walk walks.now)
         known.now v.items n) }
     ensures err { IsOkUnless result OverlayError.Memory }
 {

@@ -5,6 +5,7 @@ mod faults;
 mod large;
 mod overlays;
 mod points;
+mod relations;
 
 use crate::engine::run;
 use crate::exit::Exit;

@@ -1,9 +1,8 @@
 -- A builder to which contours are added one by one.
-use Rattle.std.proofs.Common.{◌≡◌, ℕ, ◌+◌, ◌^◌, ◌<◌, true, false, List, [], ◌∷◌, ◌++◌, length, get_or, take, drop}
+use Rattle.std.proofs.Common.{◌≡◌, ℕ, ◌+◌, ◌^◌, ◌<◌, false, List, [], ◌∷◌, ◌++◌, length, get_or, take, drop}
 use Rattle.std.proofs.Common.{take-append-drop, refl, sym, ap, subst, ◌∙◌, lit<, arith}
-use Rattle.std.proofs.lemmas.Bool.{false≢true}
 use Rattle.std.proofs.lemmas.List.{length-map, get_or-map, map-append, take_more, drop_more}
-use Rattle.overlay_geom.specs.Edges.{AddsContour, weight}
+use Rattle.overlay_geom.specs.Edges.{AddsContour, CountedEdge, weight}
 use Rattle.overlay_geom.specs.declared.error.OverlayError.{OverlayError}
 use Rattle.overlay_geom.specs.declared.error.OverlayError.TheVariants.{Memory, NotSettled, TooManyEdges, Failed}
 use Rattle.overlay_arrange.specs.Content.{edge_for}
@@ -19,12 +18,8 @@ use Rattle.polyover_text.specs.Grammar.{contour_paths}
 use Rattle.polyover_text.specs.Statements.{path_at, contour_at, contours_at}
 use Rattle.polyover_engine.specs.Builders.{HasAdded}
 
-pub nothing_added : (b : Builder ℕ) → b.edges ≡ [] → IsNewBuilder (λ n. n) b → HasAdded [] b
-nothing_added b empty made = record {
-  holds = subst (HoldsPaths false []) (sym empty)
-      (record { added = no_path; light = lit< tt });
-  made = made;
-}
+pub no_path_held : (es : List CountedEdge) → es ≡ [] → HoldsPaths false [] es
+no_path_held es empty = subst (HoldsPaths false []) (sym empty) (record { added = no_path; light = lit< tt })
 
 -- the contour at a place of the list that is held
 pub given_here : {A : Type 0} (cs items : List (NumberedContour A)) (k : ℕ) (c : NumberedContour A) → items ≡ cs →
@@ -47,26 +42,21 @@ contour_here cs items k c same within here =
           (path_at c.contour) given.0),
     )
 
-module _ (cs : List GivenPath) (k : ℕ) (c : GivenPath) (old : Builder ℕ) (h : HasAdded (take k cs) old)
+-- ---- the edges
+
+module _ (cs : List GivenPath) (k : ℕ) (c : GivenPath) (old : List CountedEdge) (h : HoldsPaths false (take k cs) old)
     (within : k < length cs)
     (here : c ≡ get_or cs k c) where
   -- the next contour of the list is added
-  pub one_more_added : (new : Builder ℕ) → AddsContour old.options.preserve_input_collinear (edge_for c.shape_type)
-      c.points old.edges new.edges
-      → weight new.edges < 2 ^ 31 → new ≡ record old { edges = new.edges } → HasAdded (take (k + 1) cs) new
-  one_more_added new adds light kept = record {
-    holds = record {
-      added = subst (λ l. AddsPaths (added_paths false l) [] new.edges) (ap (λ x. take k cs ++ x ∷ []) here
-          ∙ sym (take_more cs k c within))
-          (subst (λ l. AddsPaths l [] new.edges) (sym (map-append (added_path false) (take k cs) (c ∷ [])))
-          (adds_last (added_paths false (take k cs)) (added_path false c) [] old.edges new.edges h.holds.added
-          (of_contour false (edge_for c.shape_type) c.points old.edges new.edges
-          (subst (λ keep. AddsContour keep (edge_for c.shape_type) c.points old.edges new.edges)
-          h.made.options.input_kept adds))));
-      light = light;
-    };
-    made = subst (IsNewBuilder (λ n. n)) (sym kept)
-        (record { ready = h.made.ready; options = h.made.options; buffer = h.made.buffer });
+  pub one_more_held : (new : List CountedEdge) → AddsContour false (edge_for c.shape_type) c.points old new →
+      weight new < 2 ^ 31 → HoldsPaths false (take (k + 1) cs) new
+  one_more_held new adds light = record {
+    added = subst (λ l. AddsPaths (added_paths false l) [] new) (ap (λ x. take k cs ++ x ∷ []) here
+        ∙ sym (take_more cs k c within))
+        (subst (λ l. AddsPaths l [] new) (sym (map-append (added_path false) (take k cs) (c ∷ [])))
+        (adds_last (added_paths false (take k cs)) (added_path false c) [] old new h.added
+        (of_contour false (edge_for c.shape_type) c.points old new adds)));
+    light = light;
   }
 
   -- the contours before it, it, and those after it
@@ -75,24 +65,41 @@ module _ (cs : List GivenPath) (k : ℕ) (c : GivenPath) (old : Builder ℕ) (h 
       ∙ ap (λ l. take k cs ++ l) (drop_more cs k c within ∙ ap (λ x. x ∷ drop (k + 1) cs) (sym here))
 
   -- a refusal of the next contour
-  pub contour_refused : (e : OverlayError) → (e ≡ Failed → old.failed ≡ true)
-      → (e ≡ TooManyEdges → WouldWeighTooMuch old.options.preserve_input_collinear c.shape_type c.points old.edges)
+  pub contour_refused : (e : OverlayError) → (e ≡ Failed → ⊥)
+      → (e ≡ TooManyEdges → WouldWeighTooMuch false c.shape_type c.points old)
       → (e ≡ NotSettled → ⊥)
       → MayRefuseBuilder false cs e
   contour_refused Memory failed heavy unsettled = tt
   contour_refused NotSettled failed heavy unsettled = absurd (unsettled refl)
   contour_refused TooManyEdges failed heavy unsettled = (
-    old.edges,
+    old,
     record {
       path = added_path false c;
       added = record {
         before = added_paths false (take k cs);
         after = added_paths false (drop (k + 1) cs);
         parts = ap (added_paths false) parted ∙ map-append (added_path false) (take k cs) (c ∷ drop (k + 1) cs);
-        added = h.holds.added;
+        added = h.added;
       };
-      refused = subst (λ keep. WouldWeighTooMuch keep c.shape_type c.points old.edges) h.made.options.input_kept
-          (heavy refl);
+      refused = heavy refl;
     },
   )
-  contour_refused Failed failed heavy unsettled = false≢true (sym h.made.ready ∙ failed refl)
+  contour_refused Failed failed heavy unsettled = absurd (failed refl)
+
+-- ---- a builder for overlays
+
+pub nothing_added : (b : Builder ℕ) → b.edges ≡ [] → IsNewBuilder (λ n. n) b → HasAdded [] b
+nothing_added b empty made = record { holds = no_path_held b.edges empty; made = made }
+
+pub one_more_added : (cs : List GivenPath) (k : ℕ) (c : GivenPath) (old new : Builder ℕ) → HasAdded (take k cs) old →
+    k < length cs → c ≡ get_or cs k c
+    → AddsContour old.options.preserve_input_collinear (edge_for c.shape_type) c.points old.edges new.edges
+    → weight new.edges < 2 ^ 31 → new ≡ record old { edges = new.edges } → HasAdded (take (k + 1) cs) new
+one_more_added cs k c old new h within here adds light kept = record {
+  holds = one_more_held cs k c old.edges h.holds within here new.edges
+      (subst (λ keep. AddsContour keep (edge_for c.shape_type) c.points old.edges new.edges)
+      h.made.options.input_kept adds)
+      light;
+  made = subst (IsNewBuilder (λ n. n)) (sym kept)
+      (record { ready = h.made.ready; options = h.made.options; buffer = h.made.buffer });
+}

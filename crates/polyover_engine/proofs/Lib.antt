@@ -1,3 +1,4 @@
+pub mod AskedAgain
 pub mod Builders
 pub mod Located
 pub mod Noted

@@ -11,7 +11,7 @@ use Rattle.overlay_arrange.specs.declared.fill_rule.FillRule.{FillRule}
 use Rattle.overlay_arrange.specs.declared.options.IntOverlayOptions.{IntOverlayOptions}
 use Rattle.overlay_builder.specs.Held.{Held, AnswersQuery}
 use Rattle.i_overlay.specs.Builder.{Builder, held_by}
-use Rattle.i_overlay.specs.Overlay.{Asked, asked, IsResult}
+use Rattle.overlay_extract.specs.Results.{Asked, asked, IsResult}
 use Rattle.overlay_builder.specs.GivenPaths.{MayRefuseBuilder, GivenPath, HoldsPaths}
 use Rattle.i_overlay.specs.OneShot.{IsResultOfPaths, MayRefusePaths}
 use Rattle.i_overlay.proofs.OneShots.{query_refused, result_of_paths}

@@ -1,5 +1,5 @@
--- What the program answers: the edges of the arrangement, the shapes of an overlay, or where points lie; and the text
--- of it.
+-- What the program answers: the edges of the arrangement, the shapes of an overlay, how the subject and the clip lie to
+-- each other, or where points lie; and the text of it.
 use Rattle.std.specs.Prelude.{◌≡◌, ℕ, Bool, false, List, [], ◌∷◌, map, All, unwrap_or}
 use Rattle.std.specs.Int.{w128}
 use Rattle.std.specs.List.{flat_map}
@@ -15,15 +15,17 @@ use Rattle.overlay_arrange.specs.declared.fill_rule.FillRule.{FillRule}
 use Rattle.overlay_arrange.specs.Arranged.{IsArranged}
 use Rattle.overlay_arrange.specs.Vectors.{Vector, vector_of}
 use Rattle.i_overlay.specs.OneShot.{IsResultOfPaths, MayRefusePaths}
-use Rattle.i_overlay.specs.Overlay.{Asked}
+use Rattle.overlay_extract.specs.Results.{Asked}
 use Rattle.overlay_builder.specs.GivenPaths.{GivenPath, HoldsPaths}
 use Rattle.polyover_text.specs.declared.query.OverlayQuery.{OverlayQuery}
 use Rattle.polyover_text.specs.declared.query.Query.{Query}
-use Rattle.polyover_text.specs.declared.query.Query.TheVariants.{Edges, Overlay, Contains, Locate}
+use Rattle.polyover_text.specs.declared.query.Query.TheVariants.{Edges, Overlay, Relate, Contains, Locate}
 use Rattle.polyover_text.specs.Grammar.{GivenFigures, paths_of, Asks, input_lines}
-use Rattle.polyover_text.specs.Printed.{edge_lines, lines_of_shapes, truth_line, location_line}
+use Rattle.polyover_text.specs.Printed.{edge_lines, lines_of_shapes, relation_lines, truth_line, location_line}
+use Rattle.polyover_text.specs.declared.relations.Relations.{Relations}
 use Rattle.polyover_engine.specs.declared.exit.Exit.{Exit}
 use Rattle.polyover_engine.specs.declared.exit.Exit.TheVariants.{Answered, Refused, BadInput, Io}
+use Rattle.polyover_engine.specs.Relations.{AreRelations, MayRefuseRelations}
 use Rattle.polyover_engine.specs.Subjects.{subject_of, IsFirstUnresolved}
 
 -- ---- edges
@@ -71,6 +73,8 @@ abbrev pub Answers : GivenFigures → Query → List ℕ → Type 0
 Answers fs (Edges fill) text = (vs : List Vector) × AreEdges (paths_of fs) fill vs × (text ≡ edge_lines vs)
 Answers fs (Overlay query) text = (shapes : List (List (List Point))) × IsResultOfPaths (asked_by query)
     (paths_of fs) shapes × (text ≡ lines_of_shapes shapes)
+Answers fs (Relate fill) text = (answers : Relations) × AreRelations (paths_of fs) fill answers
+    × (text ≡ relation_lines answers)
 Answers fs Contains text = (answers : List Bool) × TellInside fs answers × (text ≡ flat_map truth_line answers)
 Answers fs Locate text = (answers : List PointLocation) × TellWhere fs answers × (text ≡ flat_map location_line answers)
 
@@ -78,6 +82,7 @@ Answers fs Locate text = (answers : List PointLocation) × TellWhere fs answers 
 abbrev pub MayRefuseQuery : GivenFigures → Query → OverlayError → Type 0
 MayRefuseQuery fs (Edges fill) e = MayRefusePaths (paths_of fs) e
 MayRefuseQuery fs (Overlay query) e = MayRefusePaths (paths_of fs) e
+MayRefuseQuery fs (Relate fill) e = MayRefuseRelations (paths_of fs) e
 MayRefuseQuery fs Contains e = e ≡ Memory
 MayRefuseQuery fs Locate e = e ≡ Memory
 
@@ -85,6 +90,7 @@ MayRefuseQuery fs Locate e = e ≡ Memory
 abbrev pub AsksAboutPoints : Query → Type 0
 AsksAboutPoints (Edges fill) = ⊥
 AsksAboutPoints (Overlay query) = ⊥
+AsksAboutPoints (Relate fill) = ⊥
 AsksAboutPoints Contains = Unit {0}
 AsksAboutPoints Locate = Unit {0}
 

@@ -13,6 +13,7 @@ ghost use Rattle.polyover_text.specs.Statements.{contours_at, figures_at};
 use crate::builder::with_contours;
 use crate::exit::Exit;
 use crate::points::{contains_text, locate_text};
+use crate::relations::relations;
 use i_overlay::fill_rule::FillRule;
 use i_overlay::vector::edge::DataVectorEdge;
 use overlay_geom::error::OverlayError;
@@ -21,6 +22,7 @@ use polyover_text::edge_text::edges_text;
 use polyover_text::figures::NumberedContour;
 use polyover_text::input::Input;
 use polyover_text::query::{OverlayQuery, Query};
+use polyover_text::relations_text::relations_text;
 use polyover_text::shape_text::shapes_text;
 use std::alloc::Allocator;
 
@@ -41,6 +43,10 @@ pub fn answer_text<A: Allocator + Copy>(alloc: A, input: &Input<A>) -> Result<St
         Query::Overlay(query) => {
             let shapes = overlay_shapes(alloc, &input.figures.contours, query)?;
             Ok(shapes_text(alloc, &shapes)?)
+        }
+        Query::Relate(fill_rule) => {
+            let relations = relations(alloc, &input.figures.contours, fill_rule)?;
+            Ok(relations_text(alloc, &relations)?)
         }
         Query::Contains => contains_text(alloc, &input.figures),
         Query::Locate => locate_text(alloc, &input.figures),

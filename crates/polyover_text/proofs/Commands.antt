@@ -1,19 +1,49 @@
 -- The words of a command, taken one by one.
 use Rattle.std.proofs.Common.{◌≡◌, ◌⊎◌, inl, inr, [], ◌∷◌, Option, Some, None, MatchOption, IfSome, codes, sym, subst}
-use Rattle.std.proofs.Common.{refl, ap, ◌∙◌}
+use Rattle.std.proofs.Common.{refl, ap, ◌∙◌, get_or, ◌==◌}
+use Rattle.std.proofs.lemmas.Bool.{false≢true}
 use Rattle.polyover_text.specs.declared.query.Query.{Query}
 use Rattle.overlay_arrange.specs.declared.fill_rule.FillRule.{FillRule}
 use Rattle.polyover_text.specs.declared.query.OverlayQuery.{OverlayQuery}
-use Rattle.polyover_text.specs.declared.query.Query.TheVariants.{Edges, Overlay, Contains, Locate}
-use Rattle.polyover_text.specs.Grammar.{Word, Line, IsCommand, edges, overlay, contains, locate, fill_name, rule_name}
+use Rattle.polyover_text.specs.declared.query.Query.TheVariants.{Edges, Overlay, Relate, Contains, Locate}
+use Rattle.polyover_text.specs.Grammar.{Word, Line, IsCommand, edges, overlay, relate, contains, locate}
+use Rattle.polyover_text.specs.Grammar.{fill_name, rule_name}
 use Rattle.polyover_text.specs.Grammar.{default_output, SetOptions}
 
--- after `run edges` stands the name of a fill rule
-pub edges_asked : (ws : Line) (f : Word) (rest : Line) (fill : FillRule)
-    → ws ≡ f ∷ rest → rest ≡ [] → f ≡ fill_name fill → IsCommand (codes "run" ∷ codes "edges" ∷ ws) (Edges fill)
-edges_asked ws f rest fill words ended name =
-    let all : ws ≡ fill_name fill ∷ [] = cc in
-    subst (λ l. IsCommand (codes "run" ∷ codes "edges" ∷ l) (Edges fill)) (sym all) edges
+-- their first letters differ
+relate_is_not_locate : ¬ (codes "relate" ≡ codes "locate")
+relate_is_not_locate e = false≢true (sym (ap (λ l. get_or l 0 0 == 114) e))
+
+-- after `run edges`, and after `run relate`, stands the name of a fill rule, and no other word
+pub edges_asked : (ws rest : Line) (fill : FillRule) → ws ≡ codes "edges" ∷ rest → rest ≡ fill_name fill ∷ [] →
+    IsCommand (codes "run" ∷ ws) (Edges fill)
+edges_asked ws rest fill words named =
+    subst (λ l. IsCommand (codes "run" ∷ l) (Edges fill)) (sym (words ∙ ap (λ l. codes "edges" ∷ l) named)) edges
+
+pub relation_asked : (ws rest : Line) (fill : FillRule) → ws ≡ codes "relate" ∷ rest → rest ≡ fill_name fill ∷ [] →
+    IsCommand (codes "run" ∷ ws) (Relate fill)
+relation_asked ws rest fill words named =
+    subst (λ l. IsCommand (codes "run" ∷ l) (Relate fill)) (sym (words ∙ ap (λ l. codes "relate" ∷ l) named)) relate
+
+fill_named : (w : Word) (rest : Line) (query : Query) → IsCommand (codes "run" ∷ w ∷ rest) query →
+    (w ≡ codes "edges") ⊎ (w ≡ codes "relate")
+    → (fill : FillRule) × (rest ≡ fill_name fill ∷ [])
+fill_named w rest query (edges {fill}) e = (fill, refl)
+fill_named w rest query (overlay set) (inl e) = cc
+fill_named w rest query (overlay set) (inr e) = cc
+fill_named w rest query (relate {fill}) e = (fill, refl)
+fill_named w rest query contains (inl e) = cc
+fill_named w rest query contains (inr e) = cc
+fill_named w rest query locate (inl e) = cc
+fill_named w rest query locate (inr e) = absurd (relate_is_not_locate (sym e))
+
+-- where they are not, nothing is asked
+pub no_fill_named : (ws rest : Line) (w : Word) → ws ≡ w ∷ rest → (w ≡ codes "edges") ⊎ (w ≡ codes "relate")
+    → ((fill : FillRule) → ¬ (rest ≡ fill_name fill ∷ []))
+    → (query : Query) → ¬ (IsCommand (codes "run" ∷ ws) query)
+no_fill_named ws rest w words first none query h =
+    let named = fill_named w rest query (subst (λ l. IsCommand (codes "run" ∷ l) query) words h) first in
+    none named.0 named.1
 
 -- after `run overlay` stand the names of the rules, and then options
 pub overlay_asked : (ws : Line) (r f : Word) (rest more : Line) (asked : OverlayQuery)
@@ -24,17 +54,6 @@ overlay_asked ws r f rest more asked words left rule fill set =
     let all : ws ≡ rule_name asked.overlay_rule ∷ fill_name asked.fill_rule ∷ more = cc in
     subst (λ l. IsCommand (codes "run" ∷ codes "overlay" ∷ l) (Overlay asked)) (sym all) (overlay set)
 
-command_for_edges : (l : Line) (fill : FillRule) → IsCommand l (Edges fill) →
-    l ≡ codes "run" ∷ codes "edges" ∷ fill_name fill ∷ []
-command_for_edges l fill edges = refl
-
--- and no other word
-pub edges_and_more : (ws : Line) (f w : Word) (rest more : Line) → ws ≡ f ∷ rest → rest ≡ w ∷ more
-    → (fill : FillRule) → ¬ (IsCommand (codes "run" ∷ codes "edges" ∷ ws) (Edges fill))
-edges_and_more ws f w rest more words left fill h =
-    let all = command_for_edges (codes "run" ∷ codes "edges" ∷ ws) fill h in
-    cc
-
 -- after `run contains`, and after `run locate`, stands no word
 last_word : (w : Word) (rest : Line) (query : Query) → IsCommand (codes "run" ∷ w ∷ rest) query →
     (w ≡ codes "contains") ⊎ (w ≡ codes "locate") → rest ≡ []
@@ -42,6 +61,8 @@ last_word w rest query edges (inl e) = cc
 last_word w rest query edges (inr e) = cc
 last_word w rest query (overlay set) (inl e) = cc
 last_word w rest query (overlay set) (inr e) = cc
+last_word w rest query relate (inl e) = cc
+last_word w rest query relate (inr e) = absurd (relate_is_not_locate e)
 last_word w rest query contains e = refl
 last_word w rest query locate e = refl
 

@@ -1,4 +1,4 @@
--- The text of an answer: a line for each edge, lines for each shape, or a line for each point.
+-- The text of an answer: a line for each edge, lines for each shape, a line for each relation, or one for each point.
 use Rattle.std.specs.Prelude.{ℕ, Bool, true, false, List, [], ◌∷◌, ◌++◌, codes}
 use Rattle.std.specs.Fmt.{decimal, signed_decimal}
 use Rattle.std.specs.List.{flat_map}
@@ -6,6 +6,7 @@ use Rattle.overlay_geom.specs.Plane.{Point}
 use Rattle.overlay_arrange.specs.Vectors.{Vector}
 use Rattle.overlay_relate.specs.declared.location.PointLocation.{PointLocation}
 use Rattle.overlay_relate.specs.declared.location.PointLocation.TheVariants.{Inside, Boundary, Outside}
+use Rattle.polyover_text.specs.declared.relations.Relations.{Relations}
 
 -- ---- edges
 
@@ -48,3 +49,20 @@ abbrev pub location_line : PointLocation → List ℕ
 location_line Inside = codes "inside\n"
 location_line Boundary = codes "boundary\n"
 location_line Outside = codes "outside\n"
+
+-- ---- relations
+
+-- the name of the relation, whether it holds, and LF
+abbrev pub relation_line : List ℕ → Bool → List ℕ
+relation_line name holds = name ++ codes " " ++ truth_line holds
+
+-- the seven lines, in this order
+abbrev pub relation_lines : Relations → List ℕ
+relation_lines r =
+    relation_line (codes "intersects") r.intersects
+    ++ relation_line (codes "interiors_intersect") r.interiors_intersect
+    ++ relation_line (codes "touches") r.touches
+    ++ relation_line (codes "point_intersects") r.point_intersects
+    ++ relation_line (codes "within") r.within
+    ++ relation_line (codes "disjoint") r.disjoint
+    ++ relation_line (codes "covers") r.covers

@@ -4,7 +4,7 @@ ghost use Rattle.std.specs.Prelude.{◌≡◌, [], ◌∷◌, MatchOption, IfSom
 ghost use Rattle.overlay_arrange.specs.declared.fill_rule.FillRule.{FillRule};
 ghost use Rattle.polyover_text.specs.declared.query.Query.{Query};
 ghost use Rattle.polyover_text.specs.declared.query.OverlayQuery.{OverlayQuery};
-ghost use Rattle.polyover_text.specs.Grammar.{IsCommand};
+ghost use Rattle.polyover_text.specs.Grammar.{IsCommand, fill_name};
 ghost use Rattle.polyover_text.specs.Words.{words_left};
 
 use crate::fill::parse_fill_rule;
@@ -21,8 +21,9 @@ pub fn parse_command(mut words: Words<'_>) -> Option<Query>
         (λ query. IsCommand (codes "run" ∷ words_left words.entry) query) }
 {
     match words.next()? {
-        b"edges" => Some(Query::Edges(parse_edges(words)?)),
+        b"edges" => Some(Query::Edges(last_fill_rule(words)?)),
         b"overlay" => Some(Query::Overlay(parse_overlay(words)?)),
+        b"relate" => Some(Query::Relate(last_fill_rule(words)?)),
         b"contains" => if_last(words, Query::Contains),
         b"locate" => if_last(words, Query::Locate),
         _ => None,
@@ -40,13 +41,11 @@ fn if_last(mut words: Words<'_>, query: Query) -> Option<Query>
     }
 }
 
-// The fill rule under which edges are asked for, after the word `edges`.
-fn parse_edges(mut words: Words<'_>) -> Option<FillRule>
+// The fill rule that the one word left names.
+fn last_fill_rule(mut words: Words<'_>) -> Option<FillRule>
     ensures { MatchOption result
-        ((fill : FillRule)
-        → ¬ (IsCommand (codes "run" ∷ codes "edges" ∷ words_left words.entry) (Query.Edges fill)))
-        (λ fill. IsCommand (codes "run" ∷ codes "edges" ∷ words_left words.entry)
-        (Query.Edges fill)) }
+        ((fill : FillRule) → ¬ (words_left words.entry ≡ fill_name fill ∷ []))
+        (λ fill. words_left words.entry ≡ fill_name fill ∷ []) }
 {
     let fill_rule = parse_fill_rule(words.next()?)?;
     match words.next() {

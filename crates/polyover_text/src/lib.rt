@@ -15,6 +15,8 @@ mod number;
 pub mod options;
 mod points;
 pub mod query;
+pub mod relations;
+pub mod relations_text;
 mod rule;
 pub mod shape_text;
 mod split;

@@ -32,7 +32,8 @@ pub fn locations_text<A: Allocator>(
     Ok(text)
 }
 
-fn push_truth<A: Allocator>(text: &mut String<A>, truth: bool) -> Result<(), AllocError>
+/// Adds the line of a truth value: `true` or `false`.
+pub(crate) fn push_truth<A: Allocator>(text: &mut String<A>, truth: bool) -> Result<(), AllocError>
     ensures { OnOk result (string_bytes text.new ≡ string_bytes text.old ++ truth_line truth) }
 {
     if truth {

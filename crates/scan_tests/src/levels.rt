@@ -13,6 +13,7 @@ use overlay_geom::path::IntLine;
 use overlay_geom::point::IntPoint;
 use overlay_scan::list::ScanList;
 use overlay_scan::scan::Scan;
+use overlay_tree::tree::ScanTree;
 use std::alloc::Global;
 use std::process::Abort;
 
@@ -20,7 +21,7 @@ use std::process::Abort;
 const NONE: u8 = 255;
 
 // A coordinate type, with small numbers as coordinates.
-trait SmallNumber: IntNumber {
+pub(crate) trait SmallNumber: IntNumber {
     fn small(n: u8) -> Self
         ensures value { Self.IntNumber.whole result ≡ pos n }
         ensures fits { Within Self.IntNumber.limit (pos n) };
@@ -70,7 +71,7 @@ fn upright<I: SmallNumber>(x: u8, height: u8) -> IntLine<I>
 
 // A sweep over level edges at different heights. The value of each is its height.
 #[derive(Drop)]
-struct Levels<S> {
+pub(crate) struct Levels<S> {
     scan: S,
     // where the sweep may go on from
     reached: u8,
@@ -80,7 +81,7 @@ struct Levels<S> {
 
 impl<S> Levels<S> {
     // No edges yet.
-    fn new<I: SmallNumber>(alloc: Global, scan: S) -> Self
+    pub(crate) fn new<I: SmallNumber>(alloc: Global, scan: S) -> Self
     where
         S: Scan<I, u8>,
         requires { S.content scan ≡ empty_sweep }
@@ -105,7 +106,7 @@ impl<S> Levels<S> {
     }
 
     // Inserts the edge from x to `end` at a height.
-    fn insert<I: SmallNumber>(
+    pub(crate) fn insert<I: SmallNumber>(
         &mut self,
         rt: &impl Abort,
         x: u8,
@@ -126,7 +127,13 @@ impl<S> Levels<S> {
     }
 
     // The height of the highest edge under one from x to `end` at another height.
-    fn below<I: SmallNumber>(&mut self, rt: &impl Abort, x: u8, end: u8, height: u8) -> u8
+    pub(crate) fn below<I: SmallNumber>(
+        &mut self,
+        rt: &impl Abort,
+        x: u8,
+        end: u8,
+        height: u8,
+    ) -> u8
     where
         S: Scan<I, u8>,
         requires { IsLevelSweep I.limit self.old.reached self.old.heights.items (S.content self.old.scan) }
@@ -155,7 +162,7 @@ impl<S> Levels<S> {
     }
 
     // The height of the highest edge over x that is no higher than this height.
-    fn up_to<I: SmallNumber>(&mut self, rt: &impl Abort, x: u8, height: u8) -> u8
+    pub(crate) fn up_to<I: SmallNumber>(&mut self, rt: &impl Abort, x: u8, height: u8) -> u8
     where
         S: Scan<I, u8>,
         requires { IsLevelSweep I.limit self.old.reached self.old.heights.items (S.content self.old.scan) }
@@ -172,7 +179,7 @@ impl<S> Levels<S> {
     }
 
     // Begins anew.
-    fn clear<I: SmallNumber>(&mut self)
+    pub(crate) fn clear<I: SmallNumber>(&mut self)
     where
         S: Scan<I, u8>,
         ensures { IsLevelSweep I.limit self.new.reached self.new.heights.items (S.content self.new.scan) }
@@ -274,6 +281,17 @@ fn a_sweep_over_level_edges(rt: HostRuntime) -> Result<(), OverlayError> {
     check_sweep(&rt, rt.alloc(), list)?;
     let list: ScanList<i64, u8, _> = ScanList::default(rt.alloc());
     check_sweep(&rt, rt.alloc(), list)?;
+    Ok(())
+}
+
+#[test]
+fn a_sweep_over_level_edges_in_a_tree(rt: HostRuntime) -> Result<(), OverlayError> {
+    let tree: ScanTree<i16, u8, _> = ScanTree::default(rt.alloc());
+    check_sweep(&rt, rt.alloc(), tree)?;
+    let tree: ScanTree<i32, u8, _> = ScanTree::default(rt.alloc());
+    check_sweep(&rt, rt.alloc(), tree)?;
+    let tree: ScanTree<i64, u8, _> = ScanTree::default(rt.alloc());
+    check_sweep(&rt, rt.alloc(), tree)?;
     Ok(())
 }
 

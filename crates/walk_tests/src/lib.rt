@@ -2,7 +2,11 @@
 #![tactic(auto)]
 
 #[cfg(test)]
+mod counted;
+#[cfg(test)]
 mod groups;
+#[cfg(test)]
+mod kept;
 #[cfg(test)]
 mod no_steps;
 #[cfg(test)]

@@ -1,11 +1,12 @@
 //! The shape of two holes that touch its outline, the one by way of the other.
 
-ghost use Rattle.std.specs.Prelude.{◌≡◌, false, All, AllPairs, IfOk, true};
+ghost use Rattle.std.specs.Prelude.{◌≡◌, false, All, AllPairs, IfOk};
 ghost use Rattle.overlay_geom.specs.Plane.{edge_of, edge_eq};
 ghost use Rattle.overlay_geom.specs.Settled.{IsSettledBy};
 ghost use Rattle.overlay_plane.specs.Anchors.{HasEachEdgeOnce};
 ghost use Rattle.overlay_plane.specs.Binding.{all_filled_above};
 ghost use Rattle.overlay_plane.specs.Contours.{IsContour, all_steps};
+ghost use Rattle.overlay_plane.specs.Turn.{left};
 ghost use Rattle.overlay_walk.specs.Steps.{plain_step, IsLong};
 ghost use Rattle.overlay_walk.specs.Walks.{plain_walks};
 
@@ -40,7 +41,7 @@ fn three_outlines_and_two_holes(
     ensures contours { IfOk result (λ v. All IsContour (plain_walks (λ z. z) v.items)) }
     ensures single { IfOk result (λ v. All HasEachEdgeOnce (plain_walks (λ z. z) v.items)) }
     ensures distinct { IfOk result
-        (λ v. AllPairs (λ e f. edge_eq e f ≡ false) (all_filled_above true (plain_walks (λ z. z) v.items))) }
+        (λ v. AllPairs (λ e f. edge_eq e f ≡ false) (all_filled_above left (plain_walks (λ z. z) v.items))) }
     ensures settled { IfOk result (λ v. IsSettledBy edge_of (all_steps (plain_walks (λ z. z) v.items))) }
 {
     let beside = [

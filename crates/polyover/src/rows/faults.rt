@@ -196,3 +196,13 @@ fn each_growth_of_an_overlay_refused_in_turn(rt: HostRuntime) {
         "shape\n0 9 0 0 9 0 9 9\n3 3 3 6 6 6 6 3\n",
     );
 }
+
+#[test]
+fn each_growth_of_relations_refused_in_turn(rt: HostRuntime) {
+    refuse_each_growth(
+        &rt,
+        b"subject 1 1 3 1 3 3 1 3\nclip 0 0 4 0 4 4 0 4\nrun relate EvenOdd\n",
+        "intersects true\ninteriors_intersect true\ntouches false\npoint_intersects false\n\
+         within true\ndisjoint false\ncovers false\n",
+    );
+}

@@ -9,12 +9,12 @@ use Rattle.overlay_geom.specs.Edges.{ends_of, weight}
 use Rattle.overlay_geom.specs.Points.{plain_points}
 use Rattle.overlay_geom.specs.declared.point.IntPoint.{IntPoint}
 use Rattle.overlay_geom.proofs.Mapped.{All-mapped_at, Contains-mapped, mapped_rest, mapped_whole}
+use Rattle.overlay_geom.specs.Counts.{Counts}
 use Rattle.overlay_plane.specs.Carried.{Carried, edges_in}
 use Rattle.overlay_plane.specs.CutPoints.{cut_points}
 use Rattle.overlay_plane.specs.Cutting.{piece_along, pieces_through}
 use Rattle.overlay_plane.specs.DerivedData.{ArePieces, computed_chain}
 use Rattle.overlay_arrange.specs.Content.{carried_edge, carried_edges, plain_edge, plain_edges, IsHeld}
-use Rattle.overlay_arrange.specs.Counts.{Counts}
 use Rattle.overlay_arrange.specs.Cut.{AddsGiven, AreLedAlongLines}
 use Rattle.overlay_arrange.specs.Meetings.{plain_meetings, AreMeetings, ArePointsAt}
 use Rattle.overlay_arrange.specs.declared.meetings.Meeting.{Meeting}

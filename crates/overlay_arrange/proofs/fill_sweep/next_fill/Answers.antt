@@ -132,8 +132,8 @@ returns-clause-swept g c = λ f here.
     let test : c.is_lt.result ≡ int_lt e.a.x e.b.x = rw (c.is_lt.ensures, c.compare.ensures)
     (is_lt-int_cmp e.a.x e.b.x) in
     let above = c.beyond-above.result in
-    let subj_above = c.beyond-above.ensures.subj ∙ ap (λ w. w +ℤ e.subj) subj in
-    let clip_above = c.beyond-above.ensures.clip ∙ ap (λ w. w +ℤ e.clip) clip in
+    let subj_above = c.beyond-above.ensures.subj ∙ ap (λ w. w +ℤ e.counts.subj) subj in
+    let clip_above = c.beyond-above.ensures.clip ∙ ap (λ w. w +ℤ e.counts.clip) clip in
     subst (λ (h : CountedEdge). IsSwept limit h.a.x (take (i + 1) (wound_entries fs))
     (g.S.Scan.content c.if-is_lt.scan)) (sym is ∙ get_or_default fs i e f lt ∙ here)
     (elim c.if-is_lt.branch [

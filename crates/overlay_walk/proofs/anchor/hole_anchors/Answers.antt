@@ -1,36 +1,36 @@
 -- The anchor of a walk that stands in no shape is added, and at last all are sorted.
-use Rattle.std.proofs.Common.{◌+◌, ◌∷◌, [], List, None, length, ◌<◌, not, get_or, sym, ap, ◌∙◌, subst, arith}
+use Rattle.std.proofs.Common.{◌+◌, ◌∷◌, [], All, None, map, not, get_or, sym, ap, ◌∙◌, subst, arith}
 use Rattle.std.proofs.lemmas.List.{length-map, map-append}
 use Rattle.std.proofs.lemmas.List.Sorted.{IsPermutation-map}
 use Rattle.overlay_plane.specs.Contours.{IsContour}
-use Rattle.overlay_walk.specs.Steps.{plain_step, plain_steps}
+use Rattle.overlay_geom.proofs.Mapped.{All-mapped_at}
+use Rattle.overlay_walk.specs.Steps.{plain_step, plain_steps, IsLong}
 use Rattle.overlay_walk.specs.WalkEdges.{numbered_entry, numbered_entries}
-use Rattle.overlay_walk.specs.Walks.{plain_walks}
 use Rattle.overlay_walk.proofs.HoleEntries.{none_from_test, some_from_test, HaveHoles, hole_pushed, known_passed}
 use Rattle.overlay_walk.proofs.HoleEntries.{holes_sorted}
-use Rattle.overlay_walk.proofs.WalksRead.{walk_at, walk_has, long_walk}
+use Rattle.overlay_walk.proofs.WalksRead.{mapped_at}
 use Rattle.overlay_walk.proofs.anchor.hole_anchors.Goals as goal
 use Rattle.overlay_walk.proofs.anchor.hole_anchors.Goals.{then-is_none+in_ok-push, else-is_none}
 
 pub anchor_of-requires-clause-some : goal.anchor_of-requires-clause-some
 anchor_of-requires-clause-some g c =
     let whole = g.I.IntNumber.whole in
-    let contour = walk_has whole c.args.walks.now c.loop-i.i c.index-walks-i.result c.loop-i-test.true
-    c.index-walks-i.is IsContour c.requires.contours in
-    subst (λ (ss : List _). 0 < length ss) (sym c.deref.ensures.value)
-    (let three = contour.three in omega (arith, length-map c.index-walks-i.result.items (plain_step whole)))
+    let contour : IsContour (plain_steps whole c.steps.result.now) = subst IsContour (sym c.steps.ensures)
+    (All-mapped_at IsContour g.W.Walk.walk c.args.walks.now c.loop-i.i c.index-walks-i.result c.loop-i-test.true
+    c.index-walks-i.is c.requires.contours) in
+    let three = contour.three in omega (arith, three, length-map c.steps.result.now (plain_step whole))
 
 pub anchor_of-requires-clause-long : goal.anchor_of-requires-clause-long
 anchor_of-requires-clause-long g c =
-    long_walk g.I.IntNumber.whole g.I.IntNumber.limit c.args.walks.now c.loop-i.i c.index-walks-i.result _
-    c.loop-i-test.true
-    c.index-walks-i.is c.deref.ensures.value c.requires.long
+    subst (All (IsLong g.I.IntNumber.limit)) (sym c.steps.ensures)
+    (All-mapped_at (All (IsLong g.I.IntNumber.limit)) g.W.Walk.walk c.args.walks.now c.loop-i.i c.index-walks-i.result
+    c.loop-i-test.true c.index-walks-i.is c.requires.long)
 
 pub loop-i-preserved : goal.loop-i-preserved
 loop-i-preserved g c =
     let whole = g.I.IntNumber.whole in
     let known = c.args.known.now in
-    let walks = plain_walks whole c.args.walks.now in
+    let walks = map g.W.Walk.walk c.args.walks.now in
     let i = c.loop-i.i in
     let hs = numbered_entries whole c.loop-i.anchors.items in
     elim c.if-is_none.branch [
@@ -41,8 +41,8 @@ loop-i-preserved g c =
           ∙ map-append (numbered_entry whole) c.loop-i.anchors.items (w.anchor_of.result ∷ []) in
           subst (HaveHoles walks known (i + 1)) (sym items)
           (hole_pushed walks known i hs _ h c.loop-i.invariant
-          (walk_at whole c.args.walks.now i w.index-walks-i.result _ c.loop-i-test.true w.index-walks-i.is
-          w.deref.ensures.value)
+          (mapped_at g.W.Walk.walk c.args.walks.now i w.index-walks-i.result (plain_steps whole w.steps.result.now)
+          c.loop-i-test.true w.index-walks-i.is w.steps.ensures)
           (none_from_test (get_or known i None) (c.is_none.ensures ∙ ap not w.if-is_none.true))
           w.anchor_of.ensures.index w.anchor_of.ensures.anchor)
       | else-is_none w ↦
@@ -54,11 +54,11 @@ loop-i-preserved g c =
 pub returns-clause-ok : goal.returns-clause-ok
 returns-clause-ok g c =
     let whole = g.I.IntNumber.whole in
-    holes_sorted (plain_walks whole c.args.walks.now) c.args.known.now c.loop-i.i
+    holes_sorted (map g.W.Walk.walk c.args.walks.now) c.args.known.now c.loop-i.i
     (numbered_entries whole c.loop-i.anchors.items)
     (numbered_entries whole c.sort_by_anchor.new.edges.items)
     (let past = c.loop-i-test.false in let end = c.loop-i.auto.i-end in
-    omega (arith, length-map c.args.walks.now (λ w. plain_steps whole w.items)))
+    omega (arith, length-map c.args.walks.now g.W.Walk.walk))
     c.loop-i.invariant
     (IsPermutation-map (numbered_entry whole) c.loop-i.anchors.items c.sort_by_anchor.new.edges.items
     c.in_ok-sort_by_anchor.ensures.permutation)

@@ -1,10 +1,10 @@
 -- The anchors are those of the holes so far.
+use Rattle.std.proofs.Common.{map}
 use Rattle.overlay_walk.specs.WalkEdges.{numbered_entries}
-use Rattle.overlay_walk.specs.Walks.{plain_walks}
 use Rattle.overlay_walk.proofs.HoleEntries.{HaveHoles}
 use Rattle.overlay_walk.proofs.anchor.hole_anchors.Given as goal
 
 abbrev pub invariant-loop-i : goal.invariant-loop-i
 invariant-loop-i g l =
-    HaveHoles (plain_walks g.I.IntNumber.whole l.walks) l.known l.i
+    HaveHoles (map g.W.Walk.walk l.walks) l.known l.i
     (numbered_entries g.I.IntNumber.whole l.anchors.items)

@@ -1,11 +1,11 @@
 -- At first nothing is summed; each point adds its cross product with the next one.
-use Rattle.std.proofs.Common.{◌≡◌, ◌≤◌, ◌<◌, ◌+◌, ◌-◌, length, drop, get_or, sym, ap, ap₂, subst, ◌∙◌, arith, rules}
+use Rattle.std.proofs.Common.{◌≡◌, ◌<◌, ◌+◌, ◌-◌, length, drop, get_or, sym, ap, ap₂, ◌∙◌, arith, rules}
 use Rattle.std.specs.Prelude.{◌+ℤ◌}
 use Rattle.std.specs.Int.{int_wrap}
 use Rattle.std.proofs.lemmas.List.{drop_all}
 use Rattle.overlay_geom.specs.Plane.{points_of}
 use Rattle.overlay_geom.specs.Points.{plain_point, cross_of}
-use Rattle.overlay_plane.proofs.Areas.{next_in, rest_sum, next_in_more, wrapped_rest_more, wrapped_nothing, whole_sum}
+use Rattle.overlay_plane.proofs.Areas.{next_in, rest_sum, next_in_more, wrapped_rest_more, wrapped_nothing}
 use Rattle.overlay_walk.specs.Steps.{plain_steps}
 use Rattle.overlay_walk.proofs.PointsRead.{points_counted, point_read, point_in_range}
 use Rattle.overlay_walk.proofs.area.double_area.Goals as goal

@@ -2,7 +2,7 @@
 use Rattle.std.proofs.Common.{◌++◌, ◌∷◌, [], map, take, sym, ap, ap₂, ◌∙◌}
 use Rattle.std.proofs.lemmas.List.{map-append, append_assoc}
 use Rattle.overlay_geom.proofs.Mapped.{All-mapped_at, mapped_more}
-use Rattle.overlay_walk.specs.Steps.{plain_step, is_on_left, IsLong}
+use Rattle.overlay_walk.specs.Steps.{plain_step, filled_hand, IsLong}
 use Rattle.overlay_walk.specs.WalkEdges.{numbered_entry, numbered_entries, filled_entries}
 use Rattle.overlay_walk.proofs.FilledEntries.{filled_more, filled_same}
 use Rattle.overlay_walk.proofs.filled_above_edges.push_filled.Goals as goal
@@ -18,11 +18,11 @@ edge_along-requires g c =
 pub loop-step-preserved : goal.loop-step-preserved
 loop-step-preserved g c =
     let whole = g.I.IntNumber.whole in
-    let on_left = is_on_left c.args.direction in
+    let filled = filled_hand c.args.direction in
     let old = numbered_entries whole c.args.edges.now.items in
     let ss = map (plain_step whole) (take c.loop-step.step-index c.args.walk.now) in
     let s = plain_step whole c.step-item.result in
-    let more = ap (filled_entries on_left c.args.index)
+    let more = ap (filled_entries filled c.args.index)
     (mapped_more (plain_step whole) c.args.walk.now c.loop-step.step-index c.step-item.result c.loop-step-test.true
     c.step-item.is) in
     elim c.if-is_filled_above.branch [
@@ -31,11 +31,11 @@ loop-step-preserved g c =
           ∙ ap (numbered_entries whole) w.in_ok-push.ensures.items
           ∙ map-append (numbered_entry whole) c.loop-step.edges.items (w.edge_along.result ∷ [])
           ∙ ap₂ (λ es e. es ++ e ∷ []) c.loop-step.invariant w.edge_along.ensures
-          ∙ append_assoc old (filled_entries on_left c.args.index ss) _
-          ∙ ap (λ es. old ++ es) (sym (more ∙ filled_more on_left c.args.index ss s (sym c.is_filled_above.ensures
+          ∙ append_assoc old (filled_entries filled c.args.index ss) _
+          ∙ ap (λ es. old ++ es) (sym (more ∙ filled_more filled c.args.index ss s (sym c.is_filled_above.ensures
           ∙ w.if-is_filled_above.true)))
       | else-is_filled_above w ↦
           ap (λ (v : _). numbered_entries whole v.items) w.edges-is ∙ c.loop-step.invariant
-          ∙ ap (λ es. old ++ es) (sym (more ∙ filled_same on_left c.args.index ss s (sym c.is_filled_above.ensures
+          ∙ ap (λ es. old ++ es) (sym (more ∙ filled_same filled c.args.index ss s (sym c.is_filled_above.ensures
           ∙ w.if-is_filled_above.false)))
     ]

@@ -11,7 +11,7 @@ use Rattle.overlay_plane.specs.Contours.{IsCutInto, all_steps}
 use Rattle.overlay_plane.specs.MinimumArea.{reaches}
 use Rattle.overlay_plane.specs.RoledContours.{hole_to_bind}
 use Rattle.overlay_walk.specs.GroupedContours.{plain_groups}
-use Rattle.overlay_walk.specs.Steps.{is_on_left, plain_hand, plain_steps, IsLong}
+use Rattle.overlay_walk.specs.Steps.{filled_hand, plain_hand, plain_steps, IsLong}
 use Rattle.overlay_walk.specs.Walks.{plain_walks}
 use Rattle.overlay_walk.proofs.SplitGroups.{cut_plain, outlines_plain, holes_plain, AreGood, outlines_good, holes_good}
 use Rattle.overlay_walk.proofs.groups.cut_in_groups.Goals as goal
@@ -19,95 +19,95 @@ use Rattle.overlay_walk.proofs.groups.cut_in_groups.Goals as goal
 pub cut_each-requires-clause-alternate : goal.cut_each-requires-clause-alternate
 cut_each-requires-clause-alternate g c =
     let whole = g.I.IntNumber.whole in
-    let on_left = is_on_left c.args.direction in
+    let filled = filled_hand c.args.direction in
     let grouped = subst (λ h. IsCutInto (λ s. h) (plain_steps whole c.args.steps.now)
     (plain_walks whole c.in_ok-groups.groups.items)) c.filled_hand.ensures c.in_ok-groups.ensures.cut in
     subst (λ gs. All Alternates gs)
-    (sym (outlines_plain whole on_left c.in_ok-groups.groups.items c.in_ok-outline_groups.outline_groups.items
+    (sym (outlines_plain whole filled c.in_ok-groups.groups.items c.in_ok-outline_groups.outline_groups.items
     c.in_ok-outline_groups.ensures.outlines))
     (All-weaker (AreGood g.I.IntNumber.limit) Alternates (λ h good. good.alternate) _
     (outlines_good g.I.IntNumber.limit (plain_steps whole c.args.steps.now)
-    (record { alternate = c.requires.alternate; once = c.requires.once; long = c.requires.long }) on_left
+    (record { alternate = c.requires.alternate; once = c.requires.once; long = c.requires.long }) filled
     (plain_walks whole c.in_ok-groups.groups.items) grouped))
 
 pub cut_each-requires-clause-once : goal.cut_each-requires-clause-once
 cut_each-requires-clause-once g c =
     let whole = g.I.IntNumber.whole in
-    let on_left = is_on_left c.args.direction in
+    let filled = filled_hand c.args.direction in
     let grouped = subst (λ h. IsCutInto (λ s. h) (plain_steps whole c.args.steps.now)
     (plain_walks whole c.in_ok-groups.groups.items)) c.filled_hand.ensures c.in_ok-groups.ensures.cut in
     subst (λ gs. All HasEachOnce gs)
-    (sym (outlines_plain whole on_left c.in_ok-groups.groups.items c.in_ok-outline_groups.outline_groups.items
+    (sym (outlines_plain whole filled c.in_ok-groups.groups.items c.in_ok-outline_groups.outline_groups.items
     c.in_ok-outline_groups.ensures.outlines))
     (All-weaker (AreGood g.I.IntNumber.limit) HasEachOnce (λ h good. good.once) _
     (outlines_good g.I.IntNumber.limit (plain_steps whole c.args.steps.now)
-    (record { alternate = c.requires.alternate; once = c.requires.once; long = c.requires.long }) on_left
+    (record { alternate = c.requires.alternate; once = c.requires.once; long = c.requires.long }) filled
     (plain_walks whole c.in_ok-groups.groups.items) grouped))
 
 pub cut_each-requires-clause-long : goal.cut_each-requires-clause-long
 cut_each-requires-clause-long g c =
     let whole = g.I.IntNumber.whole in
-    let on_left = is_on_left c.args.direction in
+    let filled = filled_hand c.args.direction in
     let grouped = subst (λ h. IsCutInto (λ s. h) (plain_steps whole c.args.steps.now)
     (plain_walks whole c.in_ok-groups.groups.items)) c.filled_hand.ensures c.in_ok-groups.ensures.cut in
     subst (λ gs. All (All (IsLong g.I.IntNumber.limit)) gs)
-    (sym (outlines_plain whole on_left c.in_ok-groups.groups.items c.in_ok-outline_groups.outline_groups.items
+    (sym (outlines_plain whole filled c.in_ok-groups.groups.items c.in_ok-outline_groups.outline_groups.items
     c.in_ok-outline_groups.ensures.outlines))
     (All-weaker (AreGood g.I.IntNumber.limit) (All (IsLong g.I.IntNumber.limit)) (λ h good. good.long) _
     (outlines_good g.I.IntNumber.limit (plain_steps whole c.args.steps.now)
-    (record { alternate = c.requires.alternate; once = c.requires.once; long = c.requires.long }) on_left
+    (record { alternate = c.requires.alternate; once = c.requires.once; long = c.requires.long }) filled
     (plain_walks whole c.in_ok-groups.groups.items) grouped))
 
 pub cut_again-requires-clause-alternate : goal.cut_again-requires-clause-alternate
 cut_again-requires-clause-alternate g c =
     let whole = g.I.IntNumber.whole in
-    let on_left = is_on_left c.args.direction in
+    let filled = filled_hand c.args.direction in
     let grouped = subst (λ h. IsCutInto (λ s. h) (plain_steps whole c.args.steps.now)
     (plain_walks whole c.in_ok-groups.groups.items)) c.filled_hand.ensures c.in_ok-groups.ensures.cut in
     subst (λ ss. Alternates ss) (sym
-    (holes_plain whole on_left c.in_ok-groups.groups.items c.in_ok-outline_groups.hole_steps.items
+    (holes_plain whole filled c.in_ok-groups.groups.items c.in_ok-outline_groups.hole_steps.items
     c.in_ok-outline_groups.ensures.holes))
     (holes_good g.I.IntNumber.limit (plain_steps whole c.args.steps.now)
-    (record { alternate = c.requires.alternate; once = c.requires.once; long = c.requires.long }) on_left
+    (record { alternate = c.requires.alternate; once = c.requires.once; long = c.requires.long }) filled
     (plain_walks whole c.in_ok-groups.groups.items) grouped).alternate
 
 pub cut_again-requires-clause-once : goal.cut_again-requires-clause-once
 cut_again-requires-clause-once g c =
     let whole = g.I.IntNumber.whole in
-    let on_left = is_on_left c.args.direction in
+    let filled = filled_hand c.args.direction in
     let grouped = subst (λ h. IsCutInto (λ s. h) (plain_steps whole c.args.steps.now)
     (plain_walks whole c.in_ok-groups.groups.items)) c.filled_hand.ensures c.in_ok-groups.ensures.cut in
     subst (λ ss. HasEachOnce ss) (sym
-    (holes_plain whole on_left c.in_ok-groups.groups.items c.in_ok-outline_groups.hole_steps.items
+    (holes_plain whole filled c.in_ok-groups.groups.items c.in_ok-outline_groups.hole_steps.items
     c.in_ok-outline_groups.ensures.holes))
     (holes_good g.I.IntNumber.limit (plain_steps whole c.args.steps.now)
-    (record { alternate = c.requires.alternate; once = c.requires.once; long = c.requires.long }) on_left
+    (record { alternate = c.requires.alternate; once = c.requires.once; long = c.requires.long }) filled
     (plain_walks whole c.in_ok-groups.groups.items) grouped).once
 
 pub cut_again-requires-clause-long : goal.cut_again-requires-clause-long
 cut_again-requires-clause-long g c =
     let whole = g.I.IntNumber.whole in
-    let on_left = is_on_left c.args.direction in
+    let filled = filled_hand c.args.direction in
     let grouped = subst (λ h. IsCutInto (λ s. h) (plain_steps whole c.args.steps.now)
     (plain_walks whole c.in_ok-groups.groups.items)) c.filled_hand.ensures c.in_ok-groups.ensures.cut in
     subst (λ ss. All (IsLong g.I.IntNumber.limit) ss)
-    (sym (holes_plain whole on_left c.in_ok-groups.groups.items c.in_ok-outline_groups.hole_steps.items
+    (sym (holes_plain whole filled c.in_ok-groups.groups.items c.in_ok-outline_groups.hole_steps.items
     c.in_ok-outline_groups.ensures.holes))
     (holes_good g.I.IntNumber.limit (plain_steps whole c.args.steps.now)
-    (record { alternate = c.requires.alternate; once = c.requires.once; long = c.requires.long }) on_left
+    (record { alternate = c.requires.alternate; once = c.requires.once; long = c.requires.long }) filled
     (plain_walks whole c.in_ok-groups.groups.items) grouped).long
 
 pub returns-clause-cut : goal.returns-clause-cut
 returns-clause-cut g c =
     let whole = g.I.IntNumber.whole in
-    let on_left = is_on_left c.args.direction in
+    let filled = filled_hand c.args.direction in
     let keeps : List Step → Bool = λ w. reaches g.I.Wide.WideIntNumber.width
     (g.I.WideUInt.UIntNumber.natural c.args.min_output_area) w in
     let groups = c.in_ok-groups.groups.items in
     let others = c.in_ok-others.others.items in
-    let outlines_are = outlines_plain whole on_left groups c.in_ok-outline_groups.outline_groups.items
+    let outlines_are = outlines_plain whole filled groups c.in_ok-outline_groups.outline_groups.items
     c.in_ok-outline_groups.ensures.outlines in
-    let holes_are = holes_plain whole on_left groups c.in_ok-outline_groups.hole_steps.items
+    let holes_are = holes_plain whole filled groups c.in_ok-outline_groups.hole_steps.items
     c.in_ok-outline_groups.ensures.holes in
     record {
       groups = plain_walks whole groups;
@@ -115,7 +115,7 @@ returns-clause-cut g c =
           c.filled_hand.ensures c.in_ok-groups.ensures.cut;
       inside = plain_groups whole c.in_ok-inside.inside.items;
       cut_inside = subst (λ h. AllZip (λ v ws. IsCutInto (λ s. h) v ws)
-          (filter (λ v. not (is_hole on_left v)) (plain_walks whole groups))
+          (filter (λ v. not (is_hole filled v)) (plain_walks whole groups))
           (plain_groups whole c.in_ok-inside.inside.items))
           c.empty_hand-empty.ensures
           (subst (λ gs. AllZip (λ v ws. IsCutInto (λ s. plain_hand c.empty_hand-empty.result) v ws) gs
@@ -123,7 +123,7 @@ returns-clause-cut g c =
           (cut_plain whole (λ s. plain_hand c.empty_hand-empty.result) c.in_ok-outline_groups.outline_groups.items
           c.in_ok-inside.inside.items c.in_ok-inside.ensures.cut));
       others = plain_walks whole others;
-      cut_others = subst (λ h. IsCutInto (λ s. h) (all_steps (filter (is_hole on_left) (plain_walks whole groups)))
+      cut_others = subst (λ h. IsCutInto (λ s. h) (all_steps (filter (is_hole filled) (plain_walks whole groups)))
           (plain_walks whole others)) c.empty_hand-empty.ensures
           (subst (λ ss. IsCutInto (λ s. plain_hand c.empty_hand-empty.result) ss (plain_walks whole others)) holes_are
           c.in_ok-others.ensures.cut);

@@ -6,7 +6,7 @@ use Rattle.std.proofs.lemmas.Option.{slice_get-map, slice_get_read}
 use Rattle.overlay_geom.proofs.Mapped.{mapped_rest}
 use Rattle.overlay_arrange.specs.Vectors.{plain_vector}
 use Rattle.overlay_arrange.proofs.Appended.{next_appended}
-use Rattle.overlay_walk.specs.Steps.{is_on_left, plain_steps}
+use Rattle.overlay_walk.specs.Steps.{filled_hand, plain_steps}
 use Rattle.overlay_walk.specs.Selection.{ends, steps_by_bits}
 use Rattle.overlay_walk.proofs.select.push_selected.Goals as goal
 
@@ -19,7 +19,7 @@ loop-number-preserved g c =
     slice_get-map (λ v. ends (vector v)) edges c.loop-number.number
     ∙ ap (option_map (λ v. ends (vector v)))
     (slice_get_read edges _ c.loop-number.number edge refl c.loop-number-test.true c.index-edges-number.is) in (
-      next_appended (steps_by_bits c.args.rule (is_on_left c.args.direction))
+      next_appended (steps_by_bits c.args.rule (filled_hand c.args.direction))
           (plain_steps g.I.IntNumber.whole c.loop-number.steps.items) _
           (vector edge) (map vector (drop (c.loop-number.number + 1) edges)) _ _
           (mapped_rest vector edges c.loop-number.number edge c.loop-number-test.true c.index-edges-number.is)

@@ -11,7 +11,7 @@ use Rattle.overlay_geom.specs.Plane.{Edge}
 use Rattle.overlay_arrange.specs.Graphs.{graph_edges}
 use Rattle.overlay_arrange.specs.Rules.{rules_hold}
 use Rattle.overlay_arrange.specs.Vectors.{plain_vector, vector_of}
-use Rattle.overlay_walk.specs.Steps.{is_on_left, plain_step, plain_steps, IsLong, RunsAlong}
+use Rattle.overlay_walk.specs.Steps.{filled_hand, plain_step, plain_steps, IsLong, RunsAlong}
 use Rattle.overlay_walk.proofs.SelectedLong.{selected_are_long}
 use Rattle.overlay_walk.specs.Selection.{ends}
 use Rattle.overlay_walk.proofs.SelectedByBits.{selected_in_room}
@@ -20,20 +20,20 @@ use Rattle.overlay_walk.proofs.selected.open_selected.Goals as goal
 pub new-requires : goal.new-requires
 new-requires g c =
     let whole = g.I.IntNumber.whole in
-    let on_left = is_on_left c.args.direction in
+    let filled = filled_hand c.args.direction in
     let vectors = c.edges-edges.ensures.filled in
-    let are = selected_in_room c.args.graph.now.fill_rule c.args.overlay_rule (graph_edges c.args.graph.now) on_left _ _
+    let are = selected_in_room c.args.graph.now.fill_rule c.args.overlay_rule (graph_edges c.args.graph.now) filled _ _
     _ (ap (plain_steps whole) c.requires) vectors c.in_ok-push_selected.ensures.ok in
     subst (All (IsLong g.I.IntNumber.limit)) (sym are)
     (selected_are_long g.I.IntNumber.limit (graph_edges c.args.graph.now) c.edges-edges.ensures.arranged.content
-    (rules_hold c.args.graph.now.fill_rule c.args.overlay_rule) subj_of clip_of on_left)
+    (rules_hold c.args.graph.now.fill_rule c.args.overlay_rule) subj_of clip_of filled)
 
 pub returns-clause-selected : goal.returns-clause-selected
 returns-clause-selected g c =
     let whole = g.I.IntNumber.whole in
-    let on_left = is_on_left c.args.direction in
+    let filled = filled_hand c.args.direction in
     let vectors = c.edges-edges.ensures.filled in
-    let are = selected_in_room c.args.graph.now.fill_rule c.args.overlay_rule (graph_edges c.args.graph.now) on_left _ _
+    let are = selected_in_room c.args.graph.now.fill_rule c.args.overlay_rule (graph_edges c.args.graph.now) filled _ _
     _ (ap (plain_steps whole) c.requires) vectors c.in_ok-push_selected.ensures.ok in
     IfOk-weaker c.new.result (λ o. IsPermutation c.push_selected.new.steps.items o) _
     (λ o moved. subst (λ ss. IsPermutation ss (plain_steps whole o)) are

@@ -17,7 +17,7 @@ use Rattle.overlay_arrange.specs.Graphs.{graph_edges}
 use Rattle.overlay_arrange.specs.Rules.{rules_hold}
 use Rattle.overlay_arrange.proofs.RuledContents.{ruled_content}
 use Rattle.overlay_walk.specs.GroupedContours.{plain_contours}
-use Rattle.overlay_walk.specs.Steps.{is_on_left, plain_steps, IsLong}
+use Rattle.overlay_walk.specs.Steps.{filled_hand, plain_steps, IsLong}
 use Rattle.overlay_walk.proofs.SelectedLong.{selected_are_long}
 use Rattle.overlay_walk.proofs.SplitGroups.{grouped_alike}
 use Rattle.overlay_walk.proofs.selected.selected_contours.Goals as goal
@@ -29,7 +29,7 @@ cut_in_groups-requires-clause-alternate g c =
     c.note_arrangement.ensures.ascending c.note_arrangement.ensures.settled c.requires c.args.graph.now.fill_rule
     c.args.overlay_rule in
     shuffled_alternate (rules_hold c.args.graph.now.fill_rule c.args.overlay_rule) subj_of clip_of es
-    (is_on_left c.args.direction) ruled
+    (filled_hand c.args.direction) ruled
     (plain_steps g.I.IntNumber.whole c.in_ok-open.open) c.in_ok-open.ensures.selected
 
 pub cut_in_groups-requires-clause-once : goal.cut_in_groups-requires-clause-once
@@ -39,28 +39,28 @@ cut_in_groups-requires-clause-once g c =
     c.note_arrangement.ensures.ascending c.note_arrangement.ensures.settled c.requires c.args.graph.now.fill_rule
     c.args.overlay_rule in
     shuffled_once (rules_hold c.args.graph.now.fill_rule c.args.overlay_rule) subj_of clip_of es
-    (is_on_left c.args.direction) ruled
+    (filled_hand c.args.direction) ruled
     (plain_steps g.I.IntNumber.whole c.in_ok-open.open) c.in_ok-open.ensures.selected
 
 pub cut_in_groups-requires-clause-long : goal.cut_in_groups-requires-clause-long
 cut_in_groups-requires-clause-long g c =
     let es = graph_edges c.args.graph.now in
     let holds = rules_hold c.args.graph.now.fill_rule c.args.overlay_rule in
-    let on_left = is_on_left c.args.direction in
-    All-permutation (IsLong g.I.IntNumber.limit) (selected_steps holds subj_of clip_of on_left es)
+    let filled = filled_hand c.args.direction in
+    All-permutation (IsLong g.I.IntNumber.limit) (selected_steps holds subj_of clip_of filled es)
     (plain_steps g.I.IntNumber.whole c.in_ok-open.open)
     c.in_ok-open.ensures.selected (selected_are_long g.I.IntNumber.limit es c.note_arrangement.ensures.content holds
-    subj_of clip_of on_left)
+    subj_of clip_of filled)
 
 pub returns-clause-cut : goal.returns-clause-cut
 returns-clause-cut g c =
     let whole = g.I.IntNumber.whole in
     let es = graph_edges c.args.graph.now in
-    let on_left = is_on_left c.args.direction in
+    let filled = filled_hand c.args.direction in
     let selected = selected_steps (rules_hold c.args.graph.now.fill_rule c.args.overlay_rule) subj_of clip_of
-    on_left es in
+    filled es in
     let same = same_shuffled selected (plain_steps whole c.in_ok-open.open) c.in_ok-open.ensures.selected in
-    grouped_alike on_left _ (plain_steps whole c.in_ok-open.open) selected (same.1, same.0)
+    grouped_alike filled _ (plain_steps whole c.in_ok-open.open) selected (same.1, same.0)
     (plain_contours whole c.in_ok-contours.contours.items) c.in_ok-contours.ensures.cut
 
 pub returns-clause-simple : goal.returns-clause-simple
@@ -68,19 +68,19 @@ returns-clause-simple g c =
     let whole = g.I.IntNumber.whole in
     let es = graph_edges c.args.graph.now in
     let holds = rules_hold c.args.graph.now.fill_rule c.args.overlay_rule in
-    let on_left = is_on_left c.args.direction in
+    let filled = filled_hand c.args.direction in
     let keeps : List Step → Bool = λ w. reaches g.I.Wide.WideIntNumber.width
     (g.I.WideUInt.UIntNumber.natural c.args.min_output_area) w in
     let ruled = ruled_content g.I.IntNumber.limit es c.note_arrangement.ensures.content
     c.note_arrangement.ensures.ascending c.note_arrangement.ensures.settled c.requires c.args.graph.now.fill_rule
     c.args.overlay_rule in
-    let selected = selected_steps holds subj_of clip_of on_left es in
+    let selected = selected_steps holds subj_of clip_of filled es in
     let contours = plain_contours whole c.in_ok-contours.contours.items in
     let same = same_shuffled selected (plain_steps whole c.in_ok-open.open) c.in_ok-open.ensures.selected in
-    let along = selected_along holds subj_of clip_of es on_left ruled in
-    let alternate = selected_alternate holds subj_of clip_of es ruled on_left in
-    let cut = grouped_alike on_left keeps (plain_steps whole c.in_ok-open.open) selected (same.1, same.0) contours
+    let along = selected_along holds subj_of clip_of es filled ruled in
+    let alternate = selected_alternate holds subj_of clip_of es ruled filled in
+    let cut = grouped_alike filled keeps (plain_steps whole c.in_ok-open.open) selected (same.1, same.0) contours
     c.in_ok-contours.ensures.cut in
-    All-weaker (λ (d : Contour). IsInsideAGroup on_left selected d.steps) (λ (d : Contour). IsSimpleContour d.steps)
-    (λ d own. walks_inside_groups_are_simple es selected along alternate on_left d.steps own)
-    contours (contours_are_inside_groups es selected along alternate on_left keeps contours cut)
+    All-weaker (λ (d : Contour). IsInsideAGroup filled selected d.steps) (λ (d : Contour). IsSimpleContour d.steps)
+    (λ d own. walks_inside_groups_are_simple es selected along alternate filled d.steps own)
+    contours (contours_are_inside_groups es selected along alternate filled keeps contours cut)

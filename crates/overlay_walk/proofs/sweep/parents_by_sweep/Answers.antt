@@ -1,5 +1,6 @@
 -- One anchor more: what the calls ask, and the number that is found then.
-use Rattle.std.proofs.Common.{◌≡◌, ◌+◌, ◌<◌, ◌≤◌, ◌<ℤ◌, ℕ, false, List, slice_set, length, take, drop, refl, sym, ap}
+use Rattle.std.proofs.Common.{◌≡◌, ◌+◌, ◌<◌, ◌≤◌, ◌<ℤ◌, ℕ, false, List, slice_set, length, map, take, drop, refl, sym}
+use Rattle.std.proofs.Common.{ap}
 use Rattle.std.proofs.Common.{◌∙◌, subst, arith, rules}
 use Rattle.std.specs.List.{All, AllPairs}
 use Rattle.std.proofs.lemmas.List.{length-map, length-set}
@@ -11,9 +12,8 @@ use Rattle.overlay_geom.proofs.Mapped.{read_mapped}
 use Rattle.overlay_scan.specs.Scan.{Entry}
 use Rattle.overlay_scan.specs.Sweeps.{IsByStart}
 use Rattle.overlay_walk.specs.Parents.{IsSwept, HasShapeNumber}
-use Rattle.overlay_walk.specs.Steps.{plain_steps, is_on_left}
+use Rattle.overlay_walk.specs.Steps.{filled_hand}
 use Rattle.overlay_walk.specs.WalkEdges.{numbered_entry, numbered_entries, IsHoleEntry, AreHoleEntries}
-use Rattle.overlay_walk.specs.Walks.{plain_walks}
 use Rattle.overlay_walk.proofs.HoleNumbers.{shape_of}
 use Rattle.overlay_walk.proofs.Sweeping.{nothing_swept, at_front, entries_settled, anchor_meets, swept_on, numbers_on}
 use Rattle.overlay_walk.proofs.Sweeping.{all_walks_numbered}
@@ -42,7 +42,7 @@ pub insert_up_to-requires-clause-settled : goal.insert_up_to-requires-clause-set
 insert_up_to-requires-clause-settled g c =
     let whole = g.I.IntNumber.whole in
     subst (λ es. IsSettledBy (λ f. f.edge) (numbered_entries whole es)) (sym c.deref.ensures.value)
-    (entries_settled (is_on_left c.args.direction) (plain_walks whole c.args.walks.now) c.requires.contours
+    (entries_settled (filled_hand c.args.direction) (map g.W.Walk.walk c.args.walks.now) c.requires.contours
     c.requires.settled
     (numbered_entries whole c.in_ok-edges.edges.items) c.in_ok-edges.ensures.ok)
 
@@ -77,8 +77,8 @@ pub walk_below-below-requires-clause-meets : goal.walk_below-below-requires-clau
 walk_below-below-requires-clause-meets g c =
     let whole = g.I.IntNumber.whole in
     let limit = g.I.IntNumber.limit in
-    let on_left = is_on_left c.args.direction in
-    let walks = plain_walks whole c.args.walks.now in
+    let filled = filled_hand c.args.direction in
+    let walks = map g.W.Walk.walk c.args.walks.now in
     let fs = numbered_entries whole c.in_ok-edges.edges.items in
     let hs = numbered_entries whole c.deref-hole-items.result.now in
     let h = numbered_entry whole c.hole-item.result in
@@ -96,7 +96,7 @@ walk_below-below-requires-clause-meets g c =
     c.in_ok-from.ensures.swept in
     let rest = subst (λ es. All (λ (f : Entry ℕ). h.edge.a.x <ℤ f.edge.a.x) (drop n (numbered_entries whole es)))
     c.deref.ensures.value c.in_ok-from.ensures.rest in
-    anchor_meets on_left walks c.requires.contours c.requires.settled c.requires.single c.args.known.now h own fs
+    anchor_meets filled walks c.requires.contours c.requires.settled c.requires.single c.args.known.now h own fs
     c.in_ok-edges.ensures.ok limit n s swept rest
 
 pub shape_at-requires : goal.shape_at-requires
@@ -106,8 +106,8 @@ pub index_mut-requires : goal.index_mut-requires
 index_mut-requires g c =
     let whole = g.I.IntNumber.whole in
     let limit = g.I.IntNumber.limit in
-    let on_left = is_on_left c.args.direction in
-    let walks = plain_walks whole c.args.walks.now in
+    let filled = filled_hand c.args.direction in
+    let walks = map g.W.Walk.walk c.args.walks.now in
     let fs = numbered_entries whole c.in_ok-edges.edges.items in
     let hs = numbered_entries whole c.deref-hole-items.result.now in
     let h = numbered_entry whole c.hole-item.result in
@@ -121,7 +121,7 @@ index_mut-requires g c =
     let own = All-contains (IsHoleEntry walks c.args.known.now) hs h holes.from (i, inside, sym here) in
     let within = slice_get_within walks h.value own.walk own.at in
     let counted = c.loop-hole.invariant.0 in
-    let mapped = length-map c.args.walks.now (λ w. plain_steps whole w.items) in
+    let mapped = length-map c.args.walks.now g.W.Walk.walk in
     let held = c.loop-hole.parents.ok.0 in
     omega arith
 
@@ -129,8 +129,8 @@ pub loop-hole-preserved : goal.loop-hole-preserved
 loop-hole-preserved g c =
     let whole = g.I.IntNumber.whole in
     let limit = g.I.IntNumber.limit in
-    let on_left = is_on_left c.args.direction in
-    let walks = plain_walks whole c.args.walks.now in
+    let filled = filled_hand c.args.direction in
+    let walks = map g.W.Walk.walk c.args.walks.now in
     let fs = numbered_entries whole c.in_ok-edges.edges.items in
     let hs = numbered_entries whole c.deref-hole-items.result.now in
     let h = numbered_entry whole c.hole-item.result in
@@ -151,19 +151,19 @@ loop-hole-preserved g c =
     let t = g.S.Scan.content c.walk_below-below.new.scan in
     let known = c.args.known.now in
     let parents = c.loop-hole.parents.items in
-    let mapped = length-map c.args.walks.now (λ w. plain_steps whole w.items) in
+    let mapped = length-map c.args.walks.now g.W.Walk.walk in
     let counted : length parents ≡ length walks = c.loop-hole.invariant.0 ∙ sym mapped in
     let known_counted : length known ≡ length walks = c.requires.known ∙ sym mapped in
     let shape : c.shape_at.result ≡ shape_of known parents c.walk_below-below.result = c.shape_at.ensures
     ∙ ap (λ ps. shape_of known ps c.walk_below-below.result) c.deref-in-loop-hole.ensures.value in (
       length-set parents c.hole-item.result.number c.shape_at.result ∙ c.loop-hole.invariant.0,
       subst (λ (es : List _). n ≤ length es) c.deref.ensures.value c.in_ok-from.ensures.within,
-      swept_on on_left walks c.requires.contours c.requires.settled c.requires.single c.args.known.now h own fs
+      swept_on filled walks c.requires.contours c.requires.settled c.requires.single c.args.known.now h own fs
           c.in_ok-edges.ensures.ok limit n s swept rest known_counted hs holes parents counted i inside here t
           c.walk_below-below.ensures.content c.walk_below-below.ensures.state,
-      subst (λ o. All (λ (k : Entry ℕ). HasShapeNumber on_left walks known (slice_set parents h.value o) k.value)
+      subst (λ o. All (λ (k : Entry ℕ). HasShapeNumber filled walks known (slice_set parents h.value o) k.value)
           (take (i + 1) hs)) (sym shape)
-          (numbers_on on_left walks c.requires.contours c.requires.settled c.requires.single c.args.known.now h own fs
+          (numbers_on filled walks c.requires.contours c.requires.settled c.requires.single c.args.known.now h own fs
           c.in_ok-edges.ensures.ok limit n s swept rest known_counted hs holes parents counted i inside here t
           c.walk_below-below.ensures.content c.walk_below-below.ensures.state (length c.args.walks.now)
           (sym mapped) c.walk_below-below.result
@@ -173,12 +173,12 @@ loop-hole-preserved g c =
 pub returns-clause-numbers : goal.returns-clause-numbers
 returns-clause-numbers g c =
     let whole = g.I.IntNumber.whole in
-    let on_left = is_on_left c.args.direction in
-    let walks = plain_walks whole c.args.walks.now in
+    let filled = filled_hand c.args.direction in
+    let walks = map g.W.Walk.walk c.args.walks.now in
     let hs = numbered_entries whole c.deref-hole-items.result.now in
     let holes : AreHoleEntries walks c.args.known.now hs =
     subst (λ es. AreHoleEntries walks c.args.known.now (numbered_entries whole es))
     (sym c.deref-hole-items.ensures.value) c.in_ok-anchors.ensures.ok in
     let past : length hs ≤ c.loop-hole.hole-index = rw length-map c.loop-hole-test.false in
-    all_walks_numbered on_left walks c.args.known.now hs holes c.loop-hole.parents.items c.loop-hole.hole-index past
+    all_walks_numbered filled walks c.args.known.now hs holes c.loop-hole.parents.items c.loop-hole.hole-index past
     c.loop-hole.invariant.3

@@ -1,10 +1,9 @@
 -- The holes whose anchors the sweep has passed have their numbers, and the sweep may go on to those left.
-use Rattle.std.proofs.Common.{◌≡◌, ◌≤◌, length, take, drop}
+use Rattle.std.proofs.Common.{◌≡◌, ◌≤◌, length, map, take, drop}
 use Rattle.std.specs.List.{All}
 use Rattle.overlay_walk.specs.Parents.{IsSwept, HasShapeNumber}
-use Rattle.overlay_walk.specs.Steps.{is_on_left}
+use Rattle.overlay_walk.specs.Steps.{filled_hand}
 use Rattle.overlay_walk.specs.WalkEdges.{numbered_entries}
-use Rattle.overlay_walk.specs.Walks.{plain_walks}
 use Rattle.overlay_walk.proofs.sweep.parents_by_sweep.Given as goal
 
 abbrev pub invariant-loop-hole : goal.invariant-loop-hole
@@ -16,5 +15,5 @@ invariant-loop-hole g l =
     × (l.from ≤ length l.edges.items)
     × All (λ h. IsSwept g.I.IntNumber.limit h.edge.a.x (take l.from es) (g.S.Scan.content l.scan))
     (drop l.hole-index hs)
-    × All (λ h. HasShapeNumber (is_on_left l.fn.direction) (plain_walks whole l.walks) l.known l.parents.items h.value)
+    × All (λ h. HasShapeNumber (filled_hand l.fn.direction) (map g.W.Walk.walk l.walks) l.known l.parents.items h.value)
     (take l.hole-index hs)

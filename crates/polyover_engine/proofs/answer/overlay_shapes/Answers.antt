@@ -2,7 +2,7 @@ use Rattle.std.proofs.Common.{ap, subst}
 use Rattle.std.specs.Prelude.{IfOk}
 use Rattle.std.proofs.lemmas.Result.{err_from_is_err_and}
 use Rattle.overlay_geom.specs.Paths.{plain_shapes}
-use Rattle.i_overlay.specs.Overlay.{IsResult}
+use Rattle.overlay_extract.specs.Results.{IsResult}
 use Rattle.polyover_text.specs.Grammar.{contour_paths}
 use Rattle.polyover_text.specs.Statements.{contours_at}
 use Rattle.polyover_engine.proofs.Queries.{asked_with, shapes_answered, adding_refused}

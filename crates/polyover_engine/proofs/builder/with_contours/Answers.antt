@@ -1,4 +1,5 @@
-use Rattle.std.proofs.Common.{Err, ap, sym, subst, refl, arith}
+use Rattle.std.proofs.Common.{Err, ap, sym, subst, refl, arith, ◌∙◌}
+use Rattle.std.proofs.lemmas.Bool.{false≢true}
 use Rattle.std.proofs.lemmas.List.{length-map, take_all}
 use Rattle.std.proofs.lemmas.Result.{err_from_is_err_and}
 use Rattle.overlay_geom.specs.Edges.{AddsContour}
@@ -29,12 +30,15 @@ returns-in_err-add_contour g c =
     let here = contour_here c.args.contours.now _ _ c.given-item.result refl c.loop-given-test.true c.given-item.is in
     let e = c.in_err-add_contour.ensures in
     let b = c.loop-given.overlay in
-    rw (p.1, p.2) (contour_refused _ c.loop-given.given-index (path_at c.given-item.result.contour) b
-    c.loop-given.invariant here.0 here.1 _
-    (λ same. e.failed.0 (ap Err same))
-    (λ same. subst (λ ps. WouldWeighTooMuch b.options.preserve_input_collinear c.given-item.result.contour.shape_type
+    let held = c.loop-given.invariant in
+    rw (p.1, p.2) (contour_refused _ c.loop-given.given-index (path_at c.given-item.result.contour) b.edges
+    held.holds here.0 here.1 _
+    (λ same. false≢true (sym held.made.ready ∙ e.failed.0 (ap Err same)))
+    (λ same. subst (λ keep. WouldWeighTooMuch keep c.given-item.result.contour.shape_type
+    (points_at c.given-item.result.contour.points.items) b.edges) held.made.options.input_kept
+    (subst (λ ps. WouldWeighTooMuch b.options.preserve_input_collinear c.given-item.result.contour.shape_type
     (points_at ps) b.edges)
-    c.deref.ensures.value (e.too_many (ap Err same)))
+    c.deref.ensures.value (e.too_many (ap Err same))))
     (λ same. e.no_query (ap Err same)))
 
 pub loop-given-preserved : goal.loop-given-preserved
@@ -42,8 +46,8 @@ loop-given-preserved g c =
     let here = contour_here c.args.contours.now _ _ c.given-item.result refl c.loop-given-test.true c.given-item.is in
     let e = c.in_ok-add_contour.ensures in
     let b = c.loop-given.overlay in
-    one_more_added _ c.loop-given.given-index (path_at c.given-item.result.contour) b c.loop-given.invariant here.0
-    here.1 c.add_contour.new.self
+    one_more_added _ c.loop-given.given-index (path_at c.given-item.result.contour) b c.add_contour.new.self
+    c.loop-given.invariant here.0 here.1
     (subst
     (λ ps. AddsContour b.options.preserve_input_collinear (edge_for c.given-item.result.contour.shape_type)
     (points_at ps) b.edges c.add_contour.new.self.edges)

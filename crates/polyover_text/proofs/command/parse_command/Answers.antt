@@ -1,15 +1,22 @@
 use Rattle.std.proofs.Common.{◌≡◌, ◌∷◌, codes, ap, ◌∙◌, rules}
 use Rattle.std.proofs.lemmas.Slice.Eq.{text_from_reads}
 use Rattle.polyover_text.specs.Words.{words_left}
-use Rattle.polyover_text.proofs.Commands.{contains_asked, locate_asked}
+use Rattle.polyover_text.proofs.Commands.{edges_asked, relation_asked, contains_asked, locate_asked}
 use Rattle.polyover_text.proofs.command.parse_command.Goals as goal
 
-pub returns-in_ok-parse_edges-in-edges : goal.returns-in_ok-parse_edges-in-edges
-returns-in_ok-parse_edges-in-edges c =
+pub returns-in_ok-last_fill_rule-in-edges : goal.returns-in_ok-last_fill_rule-in-edges
+returns-in_ok-last_fill_rule-in-edges c =
     let first : c.in_ok-next.field-0.now ≡ codes "edges" = search (rules, text_from_reads) in
-    let line : words_left c.args.words ≡ codes "edges" ∷ words_left c.next.new.self =
-    c.in_ok-next.ensures.steps ∙ ap (λ w. w ∷ words_left c.next.new.self) first in
-    rw line c.in_ok-parse_edges-in-edges.ensures
+    edges_asked _ (words_left c.next.new.self) _ (c.in_ok-next.ensures.steps
+    ∙ ap (λ w. w ∷ words_left c.next.new.self) first)
+    c.in_ok-last_fill_rule-in-edges.ensures
+
+pub returns-in_ok-last_fill_rule-in-relate : goal.returns-in_ok-last_fill_rule-in-relate
+returns-in_ok-last_fill_rule-in-relate c =
+    let first : c.in_ok-next.field-0.now ≡ codes "relate" = search (rules, text_from_reads) in
+    relation_asked _ (words_left c.next.new.self) _ (c.in_ok-next.ensures.steps
+    ∙ ap (λ w. w ∷ words_left c.next.new.self) first)
+    c.in_ok-last_fill_rule-in-relate.ensures
 
 pub returns-in_ok-parse_overlay-in-overlay : goal.returns-in_ok-parse_overlay-in-overlay
 returns-in_ok-parse_overlay-in-overlay c =

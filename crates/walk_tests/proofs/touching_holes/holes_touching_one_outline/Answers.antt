@@ -1,10 +1,11 @@
 -- The walks are what binding asks for.
-use Rattle.std.proofs.Common.{◌≡◌, false, true, All, AllPairs, sym, subst}
+use Rattle.std.proofs.Common.{◌≡◌, false, All, AllPairs, sym, subst}
 use Rattle.overlay_geom.specs.Plane.{edge_of, edge_eq}
 use Rattle.overlay_geom.specs.Settled.{IsSettledBy}
 use Rattle.overlay_plane.specs.Anchors.{HasEachEdgeOnce}
 use Rattle.overlay_plane.specs.Binding.{all_filled_above}
 use Rattle.overlay_plane.specs.Contours.{IsContour, all_steps}
+use Rattle.overlay_plane.specs.Turn.{left}
 use Rattle.overlay_walk.specs.Walks.{plain_walks}
 use Rattle.walk_tests.proofs.touching_holes.holes_touching_one_outline.Goals as goal
 
@@ -18,7 +19,7 @@ bind-requires-clause-single g c =
 
 pub bind-requires-clause-distinct : goal.bind-requires-clause-distinct
 bind-requires-clause-distinct g c =
-    subst (λ ws. AllPairs (λ e f. edge_eq e f ≡ false) (all_filled_above true (plain_walks (λ z. z) ws)))
+    subst (λ ws. AllPairs (λ e f. edge_eq e f ≡ false) (all_filled_above left (plain_walks (λ z. z) ws)))
     (sym c.deref.ensures.value)
     c.in_ok-walks.ensures.distinct
 

@@ -8,8 +8,8 @@ use Rattle.overlay_plane.specs.Meetings.{MeetInWholePoints}
 use Rattle.overlay_builder.specs.Held.{AnswersQuery, plain_held}
 use Rattle.overlay_builder.proofs.Queries.{answers_after}
 use Rattle.i_overlay.specs.Builder.{held_by}
-use Rattle.i_overlay.specs.Overlay.{asked}
-use Rattle.i_overlay.proofs.NoShapes.{no_shapes_held}
+use Rattle.overlay_extract.specs.Results.{asked}
+use Rattle.overlay_extract.proofs.NoShapes.{no_shapes_held}
 use Rattle.i_overlay.proofs.overlay.Overlay.overlay.Goals as goal
 
 pub returns-clause-empty : goal.returns-clause-empty

@@ -4,7 +4,7 @@ use Rattle.std.specs.Prelude.{IfOk}
 use Rattle.overlay_geom.specs.Paths.{plain_shapes}
 use Rattle.i_overlay.specs.Builder.{held_by}
 use Rattle.i_overlay.specs.OneShot.{asked_by_default}
-use Rattle.i_overlay.specs.Overlay.{IsResult}
+use Rattle.overlay_extract.specs.Results.{IsResult}
 use Rattle.i_overlay.proofs.OneShots.{asked_of_default, result_of_paths, query_refused}
 use Rattle.i_overlay.proofs.single.AnySingleIntOverlay.overlay.Goals as goal
 

@@ -1,8 +1,7 @@
 -- The points and the ranges that are left are those of an added contour.
-use Rattle.std.proofs.Common.{◌≡◌, ◌++◌, ◌∷◌, [], length, sym, ap, ap₂, subst, subst₂, ◌∙◌}
+use Rattle.std.proofs.Common.{◌++◌, ◌∷◌, [], length, sym, ap, ap₂, subst₂, ◌∙◌}
 use Rattle.std.proofs.lemmas.List.{length-append}
-use Rattle.overlay_geom.specs.Flat.{range_behind, paths_in, AreInside}
-use Rattle.overlay_geom.specs.Points.{plain_points}
+use Rattle.overlay_geom.specs.Flat.{paths_in, AreInside}
 use Rattle.overlay_geom.proofs.FlatPaths.{inside_added, paths_added}
 use Rattle.overlay_geom.proofs.flat.contours.FlatContoursBuffer.add_contour.Goals as goal
 

@@ -1,0 +1,4 @@
+pub mod BoundAdded
+pub mod ContoursAdded
+pub mod NoShapes
+pub mod Results

@@ -1,0 +1,128 @@
+-- The result of an overlay: what walks of the selected steps, bound to shapes and shown by their points, are.
+use Rattle.std.proofs.Common.{◌≡◌, ℕ, true, false, List, [], ◌∷◌, map, Option, refl, sym, ap, ap₂, subst, ◌∙◌}
+use Rattle.std.specs.List.{AllZip, each_same, filter, flat_map}
+use Rattle.std.specs.List.Sorted.{IsPermutation}
+use Rattle.overlay_geom.specs.Plane.{Point, Step, steps_of, points_of}
+use Rattle.overlay_geom.specs.Thinned.{IsKeptOrThinned}
+use Rattle.overlay_geom.specs.Edges.{CountedEdge, subj_of, clip_of}
+use Rattle.overlay_plane.specs.Binding.{BoundWalk, AreBound, AreCutFrom, shapes_of}
+use Rattle.overlay_plane.specs.BoundContours.{AreShapesFound, walks_in}
+use Rattle.overlay_plane.specs.Contours.{outline_or_hole_hand}
+use Rattle.overlay_plane.specs.MinimumArea.{reaches}
+use Rattle.overlay_plane.specs.RoledContours.{Contour, contours_from, IsCut, IsCutBy}
+use Rattle.overlay_plane.specs.ShapeWindings.{points_of_shapes, steps_of_shapes, AreKeptOrThinned}
+use Rattle.overlay_plane.proofs.ResultWindings.{steps_of_contours, results_wind}
+use Rattle.overlay_plane.proofs.RoledShapes.{walks_from, all_kept}
+use Rattle.overlay_plane.proofs.ShapeSteps.{shapes_have_each_step, shapes_wind}
+use Rattle.overlay_plane.proofs.WalksApart.{walks_are_contours, walks_have_each_step}
+use Rattle.overlay_walk.specs.Walks.{with_shape_numbers}
+use Rattle.overlay_walk.proofs.BoundWalks.{are_bound, no_hole_is_lost, bound_contours}
+use Rattle.overlay_walk.proofs.ShapesFound.{as_many}
+use Rattle.overlay_extract.specs.Results.{Asked, region_asked, filled_asked, selected_of, is_kept, shapes_found}
+use Rattle.overlay_extract.specs.Results.{AreKeptWalks, IsResult, IsContoursResult}
+
+-- what is taken as it is given is the same
+same_contours : (given taken : List (List Point)) → AllZip (λ g t. t ≡ g) given taken → taken ≡ given
+same_contours given taken each = each_same given taken each
+
+same_shapes : (given taken : List (List (List Point))) → AreKeptOrThinned true given taken → taken ≡ given
+same_shapes [] [] each = refl
+same_shapes [] (t ∷ ts) each = absurd each
+same_shapes (g ∷ gs) [] each = absurd each
+same_shapes (g ∷ gs) (t ∷ ts) each = ap₂ (λ s ss. s ∷ ss) (same_contours g t each.0) (same_shapes gs ts each.1)
+
+module _ (q : Asked) (es : List CountedEdge) (kept : List (List Step)) (are : AreKeptWalks q es kept) where
+  -- with the minimum area zero all walks are kept
+  all_walks : q.min_output_area ≡ 0 → kept ≡ are.walks
+  all_walks all = are.are ∙ subst (λ n. filter (reaches q.area_width n) are.walks ≡ are.walks) (sym all)
+      (all_kept q.area_width are.walks
+      (walks_are_contours (region_asked q) subj_of clip_of es (filled_asked q) are.walks are.cut))
+
+  -- so the selected steps are cut into the walks that are kept
+  cut_all : q.min_output_area ≡ 0 → AreCutFrom (region_asked q) subj_of clip_of es (filled_asked q) kept
+  cut_all all = subst (AreCutFrom (region_asked q) subj_of clip_of es (filled_asked q)) (sym (all_walks all)) are.cut
+
+  -- the walks as contours
+  abbrev contours : List Contour
+  contours = contours_from (filled_asked q) 0 kept
+
+  contours_cut : IsCut (filled_asked q) (is_kept q) (selected_of q es) contours
+  contours_cut = record { walks = are.walks; cut = are.cut.cut; are = ap (contours_from (filled_asked q) 0) are.are }
+
+  -- ---- bound to shapes
+
+  module _ (shapes : List (Option ℕ)) (found : AreShapesFound (filled_asked q) contours shapes) where
+    abbrev bound : List BoundWalk
+    bound = with_shape_numbers kept shapes
+
+    bound_are : q.min_output_area ≡ 0 → AreBound (filled_asked q) kept bound
+    bound_are all = are_bound (region_asked q) subj_of clip_of es (filled_asked q) kept (cut_all all) shapes found
+
+    -- both give the same shapes
+    same_found : points_of_shapes (shapes_of (filled_asked q) bound) ≡ shapes_found contours shapes
+    same_found = ap points_of_shapes
+        (sym (bound_contours (filled_asked q) kept shapes (found.counted ∙ as_many (filled_asked q) kept)))
+
+    -- the shapes have each selected step once
+    each_once : q.min_output_area ≡ 0 →
+        IsPermutation (selected_of q es) (steps_of_shapes (shapes_found contours shapes))
+    each_once all = subst (λ ss. IsPermutation (selected_of q es) (steps_of_shapes ss)) same_found
+        (shapes_have_each_step (region_asked q) subj_of clip_of es (filled_asked q) kept (cut_all all) bound
+        (bound_are all))
+
+    -- what shows the shapes is the result
+    pub result_shown : q.ogc ≡ false → (result : List (List (List Point))) →
+        AreKeptOrThinned q.preserve_output_collinear (points_of_shapes (shapes_of (filled_asked q) bound)) result →
+        IsResult q es result
+    result_shown no_groups result shown = record {
+      contours = contours;
+      cut = subst (λ t. IsCutBy t (filled_asked q) (is_kept q) (selected_of q es) contours)
+          (sym no_groups) contours_cut;
+      shapes = shapes;
+      found = found;
+      shown = shown_found;
+      none_lost = λ all. no_hole_is_lost (region_asked q) subj_of clip_of es (filled_asked q) kept
+          (cut_all all) shapes found;
+      each_once = each_once;
+      kept_each_once = λ all keep. subst (λ ss. IsPermutation (selected_of q es) (steps_of_shapes ss))
+          (sym (same_shapes (shapes_found contours shapes) result
+          (subst (λ k. AreKeptOrThinned k (shapes_found contours shapes) result) keep shown_found))) (each_once all);
+      winds = λ all p off. shapes_wind (region_asked q) subj_of clip_of es (filled_asked q) kept (cut_all all) bound
+          (bound_are all)
+          q.preserve_output_collinear result shown p;
+    }
+      where
+        shown_found : AreKeptOrThinned q.preserve_output_collinear (shapes_found contours shapes) result
+        shown_found = subst (λ ss. AreKeptOrThinned q.preserve_output_collinear ss result) same_found shown
+
+  -- ---- in one list
+
+  -- the points of the contours are those of the walks
+  same_points : map points_of (walks_in contours) ≡ map points_of kept
+  same_points = ap (map points_of) (walks_from (filled_asked q) 0 kept)
+
+  -- they have each selected step once
+  each_in_list : q.min_output_area ≡ 0 → IsPermutation (selected_of q es) (flat_map steps_of (map points_of kept))
+  each_in_list all =
+      let cut = cut_all all in
+      subst (IsPermutation (selected_of q es))
+      (sym (steps_of_contours kept (walks_are_contours (region_asked q) subj_of clip_of es
+      (filled_asked q) kept cut)))
+      (walks_have_each_step (region_asked q) subj_of clip_of es (filled_asked q) kept cut)
+
+  -- what shows them is the result
+  pub contours_shown : (result : List (List Point)) → AllZip (IsKeptOrThinned q.preserve_output_collinear)
+      (map points_of kept) result →
+      IsContoursResult q es result
+  contours_shown result shown = record {
+    contours = contours;
+    cut = contours_cut;
+    shown = subst (λ ps. AllZip (IsKeptOrThinned q.preserve_output_collinear) ps result) (sym same_points) shown;
+    each_once = λ all. subst (λ ps. IsPermutation (selected_of q es) (flat_map steps_of ps)) (sym same_points)
+        (each_in_list all);
+    kept_each_once = λ all keep. subst (λ ps. IsPermutation (selected_of q es) (flat_map steps_of ps))
+        (sym (same_contours (map points_of kept) result
+        (subst (λ k. AllZip (IsKeptOrThinned k) (map points_of kept) result) keep shown))) (each_in_list all);
+    winds = λ all p off. results_wind (region_asked q) subj_of clip_of es are.cut.ruled (filled_asked q)
+        (outline_or_hole_hand (filled_asked q)) kept (cut_all all).cut q.preserve_output_collinear result shown p;
+  }

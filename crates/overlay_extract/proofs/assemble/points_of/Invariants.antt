@@ -1,0 +1,10 @@
+-- The points so far are those at which the steps so far begin.
+use Rattle.std.proofs.Common.{◌≡◌, take}
+use Rattle.overlay_geom.specs.Plane.{points_of}
+use Rattle.overlay_geom.specs.Points.{plain_points}
+use Rattle.overlay_walk.specs.Steps.{plain_steps}
+use Rattle.overlay_extract.proofs.assemble.points_of.Given as goal
+
+abbrev pub invariant-loop-step : goal.invariant-loop-step
+invariant-loop-step g l = plain_points g.I.IntNumber.whole l.points.items ≡ points_of
+    (plain_steps g.I.IntNumber.whole (take l.step-index l.walk))

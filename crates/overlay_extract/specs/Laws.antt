@@ -1,0 +1,46 @@
+-- What holds of the overlays of one arrangement.
+use Rattle.std.specs.Prelude.{◌≡◌, ℕ, neg_ℤ, List, map}
+use Rattle.overlay_geom.specs.Plane.{Point, PlanePoint, IsOff, winding}
+use Rattle.overlay_geom.specs.Edges.{CountedEdge, ends_of, subj_of, clip_of}
+use Rattle.overlay_plane.specs.Balance.{HasBalancedCounts}
+use Rattle.overlay_plane.specs.ContourWindings.{wanted_winding}
+use Rattle.overlay_plane.specs.ShapeWindings.{steps_of_shapes}
+use Rattle.overlay_arrange.specs.Arranged.{IsArranged}
+use Rattle.overlay_arrange.specs.Content.{IsContent}
+use Rattle.overlay_arrange.specs.declared.options.ContourDirection.{ContourDirection}
+use Rattle.overlay_arrange.specs.declared.options.ContourDirection.TheVariants.{CounterClockwise, Clockwise}
+use Rattle.overlay_extract.specs.Results.{Asked, region_asked, filled_asked, selected_of, IsResult}
+
+-- of an arrangement of edges with balanced counts, the selected steps wind once, in the output direction, round each
+-- point where the rules hold of the windings there, and zero times round each other one
+abbrev pub SelectedStepsWindRoundRegion : Type 0
+SelectedStepsWindRoundRegion = (q : Asked) (limit most : ℕ) (old new : List CountedEdge) → HasBalancedCounts old →
+    IsArranged most old new →
+    IsContent limit new → (p : PlanePoint) →
+    winding (selected_of q new) p ≡ wanted_winding (region_asked q) subj_of clip_of (filled_asked q) new p
+
+-- the same asked for, with another output direction
+abbrev pub turned_to : ContourDirection → Asked → Asked
+turned_to direction q = record q { output_direction = direction }
+
+-- where results of one arrangement are asked for in the two directions, with minimum area zero, the one winds against
+-- the other round each point off the edges
+abbrev pub DirectionTurnsWindings : Type 0
+DirectionTurnsWindings = (q : Asked) (es : List CountedEdge) (left right : List (List (List Point))) →
+    q.min_output_area ≡ 0 → IsResult (turned_to CounterClockwise q) es left →
+    IsResult (turned_to Clockwise q) es right →
+    (p : PlanePoint) → IsOff (map ends_of es) p →
+    winding (steps_of_shapes right) p ≡ neg_ℤ (winding (steps_of_shapes left) p)
+
+-- the same region is asked for, with the same output direction
+pub record AskAlike (q r : Asked) : Type 0 where
+  pub fill : q.fill ≡ r.fill
+  pub rule : q.rule ≡ r.rule
+  pub direction : q.output_direction ≡ r.output_direction
+
+-- where results of one arrangement are asked for alike, each with minimum area zero, they wind alike round each point
+-- off the edges
+abbrev pub SameRegionSameWindings : Type 0
+SameRegionSameWindings = (q r : Asked) (es : List CountedEdge) (left right : List (List (List Point))) → AskAlike q r →
+    q.min_output_area ≡ 0 → r.min_output_area ≡ 0 → IsResult q es left → IsResult r es right →
+    (p : PlanePoint) → IsOff (map ends_of es) p → winding (steps_of_shapes right) p ≡ winding (steps_of_shapes left) p

@@ -1,0 +1,157 @@
+//! The contours round the region where rules hold: bound to shapes, or in one list.
+
+ghost use Rattle.std.specs.Prelude.{◌≡◌, [], false, map, All, IfOk, OnOk, OnErr, IsOkUnless};
+ghost use Rattle.std.specs.List.{AllZip};
+ghost use Rattle.overlay_geom.specs.Flat.{paths_in};
+ghost use Rattle.overlay_geom.specs.Packed.{IsPacked};
+ghost use Rattle.overlay_geom.specs.Paths.{plain_shapes};
+ghost use Rattle.overlay_geom.specs.Plane.{points_of};
+ghost use Rattle.overlay_geom.specs.Thinned.{IsKeptOrThinned};
+ghost use Rattle.overlay_plane.specs.Balance.{HasBalancedCounts};
+ghost use Rattle.overlay_arrange.specs.Graphs.{graph_edges};
+ghost use Rattle.overlay_walk.specs.Steps.{IsLong};
+ghost use Rattle.overlay_walk.specs.Walks.{plain_walks};
+ghost use Rattle.overlay_extract.specs.Results.{asked, AreKeptWalks, IsResult, IsContoursResult};
+
+use crate::assemble::{assembled, contour};
+use overlay_arrange::count::EdgeCount;
+use overlay_arrange::graph::Graph;
+use overlay_arrange::options::IntOverlayOptions;
+use overlay_arrange::overlay_rule::OverlayRule;
+use overlay_geom::error::OverlayError;
+use overlay_geom::flat::contours::FlatContoursBuffer;
+use overlay_geom::number::IntNumber;
+use overlay_geom::path::IntShapes;
+use overlay_scan::list::ScanList;
+use overlay_walk::area::large_walks;
+use overlay_walk::bind::bind;
+use overlay_walk::buffer::BooleanExtractionBuffer;
+use overlay_walk::selected::selected_walks;
+use overlay_walk::step::Step;
+use std::alloc::Allocator;
+
+/// The shapes round the region where the rules hold, that of the graph and the overlay rule, of the
+/// windings that the graph's edges make: the outline of each, and then its holes, both in the order in
+/// which they are found. Contours below the minimum area are left out. The buffer lends its room. The
+/// only refusal is `Memory`.
+pub fn extract_shapes<I: IntNumber, C: EdgeCount, A: Allocator + Clone>(
+    graph: &Graph<I, C, A>,
+    overlay_rule: OverlayRule,
+    options: IntOverlayOptions<I::WideUInt>,
+    buffer: &mut BooleanExtractionBuffer<I, A>,
+) -> Result<IntShapes<I, A>, OverlayError>
+    requires balanced { HasBalancedCounts (graph_edges graph.now) }
+    requires no_ogc { options.ogc ≡ false }
+    ensures result { IfOk result (λ v. IsResult
+        (asked I.Wide.width I.WideUInt.natural graph.now.fill_rule overlay_rule options)
+        (graph_edges graph.now) (plain_shapes I.whole v.items)) }
+    ensures err { IsOkUnless result OverlayError.Memory }
+{
+    let direction = options.output_direction;
+    let walks = kept_walks(graph, overlay_rule, options, buffer)?;
+    let alloc = graph.allocator().clone()?;
+    let mut scan: ScanList<I, usize, A> = ScanList::default(alloc.clone()?);
+    let shapes = bind(alloc.clone()?, &mut scan, &walks, direction)?;
+    let keeps_points = options.preserve_output_collinear;
+    assembled(alloc, &walks, &shapes, direction, keeps_points)
+}
+
+/// The contours round the region where the rules hold, as they are found, one behind the other in the
+/// output. They are cut without groups, whatever the options say. Contours below the minimum area are
+/// left out. What the output held is dropped. The buffer lends its room. The only refusal is `Memory`,
+/// and then the output is empty.
+pub fn extract_contours<I: IntNumber, C: EdgeCount, A: Allocator + Clone, B: Allocator>(
+    graph: &Graph<I, C, A>,
+    overlay_rule: OverlayRule,
+    options: IntOverlayOptions<I::WideUInt>,
+    buffer: &mut BooleanExtractionBuffer<I, A>,
+    output: &mut FlatContoursBuffer<I, B>,
+) -> Result<(), OverlayError>
+    requires { HasBalancedCounts (graph_edges graph.now) }
+    ensures result { OnOk result (IsContoursResult
+        (asked I.Wide.width I.WideUInt.natural graph.now.fill_rule overlay_rule options)
+        (graph_edges graph.now) (paths_in I.whole output.new.points.items output.new.ranges.items)) }
+    ensures packed { OnOk result (IsPacked output.new.points.items output.new.ranges.items) }
+    ensures no_points { OnErr result (output.new.points.items ≡ []) }
+    ensures no_ranges { OnErr result (output.new.ranges.items ≡ []) }
+    ensures err { IsOkUnless result OverlayError.Memory }
+{
+    emptied(output);
+    let written = write_contours(graph, overlay_rule, options, buffer, output);
+    if written.is_err() {
+        emptied(output);
+    }
+    written
+}
+
+/// Drops all contours of the output.
+pub fn emptied<I: IntNumber, B: Allocator>(output: &mut FlatContoursBuffer<I, B>)
+    ensures points { output.new.points.items ≡ [] }
+    ensures ranges { output.new.ranges.items ≡ [] }
+{
+    output.points.clear();
+    output.ranges.clear();
+}
+
+// Writes the contours into the output, which is empty at first. Where it is refused some may stand.
+fn write_contours<I: IntNumber, C: EdgeCount, A: Allocator + Clone, B: Allocator>(
+    graph: &Graph<I, C, A>,
+    overlay_rule: OverlayRule,
+    options: IntOverlayOptions<I::WideUInt>,
+    buffer: &mut BooleanExtractionBuffer<I, A>,
+    output: &mut FlatContoursBuffer<I, B>,
+) -> Result<(), OverlayError>
+    requires balanced { HasBalancedCounts (graph_edges graph.now) }
+    requires no_points { output.old.points.items ≡ [] }
+    requires no_ranges { output.old.ranges.items ≡ [] }
+    ensures result { OnOk result (IsContoursResult
+        (asked I.Wide.width I.WideUInt.natural graph.now.fill_rule overlay_rule options)
+        (graph_edges graph.now) (paths_in I.whole output.new.points.items output.new.ranges.items)) }
+    ensures packed { OnOk result (IsPacked output.new.points.items output.new.ranges.items) }
+    ensures err { IsOkUnless result OverlayError.Memory }
+{
+    let walks = kept_walks(graph, overlay_rule, options, buffer)?;
+    let keeps_points = options.preserve_output_collinear;
+    add_contours(graph.allocator(), &walks, keeps_points, output)
+}
+
+// Adds the contours of the walks to the output, which is empty at first.
+fn add_contours<I: IntNumber, A: Allocator + Clone, B: Allocator>(
+    alloc: &A,
+    walks: &[Vec<Step<I>, A>],
+    keeps_points: bool,
+    output: &mut FlatContoursBuffer<I, B>,
+) -> Result<(), OverlayError>
+    requires long { All (All (IsLong I.limit)) (plain_walks I.whole walks.now) }
+    requires no_points { output.old.points.items ≡ [] }
+    requires no_ranges { output.old.ranges.items ≡ [] }
+    ensures shown { OnOk result (AllZip (IsKeptOrThinned keeps_points) (map points_of (plain_walks I.whole walks.now))
+        (paths_in I.whole output.new.points.items output.new.ranges.items)) }
+    ensures packed { OnOk result (IsPacked output.new.points.items output.new.ranges.items) }
+    ensures err { IsOkUnless result OverlayError.Memory }
+{
+    for walk in walks {
+        let contour = contour(alloc.clone()?, walk, keeps_points)?;
+        output.add_contour(&contour)?;
+    }
+    Ok(())
+}
+
+// The walks that the selected steps of the graph are cut into without groups, as far as they reach the
+// minimum area.
+fn kept_walks<I: IntNumber, C: EdgeCount, A: Allocator + Clone>(
+    graph: &Graph<I, C, A>,
+    overlay_rule: OverlayRule,
+    options: IntOverlayOptions<I::WideUInt>,
+    buffer: &mut BooleanExtractionBuffer<I, A>,
+) -> Result<Vec<Vec<Step<I>, A>, A>, OverlayError>
+    requires { HasBalancedCounts (graph_edges graph.now) }
+    ensures kept { IfOk result (λ ws. AreKeptWalks
+        (asked I.Wide.width I.WideUInt.natural graph.now.fill_rule overlay_rule options)
+        (graph_edges graph.now) (plain_walks I.whole ws.items)) }
+    ensures long { IfOk result (λ ws. All (All (IsLong I.limit)) (plain_walks I.whole ws.items)) }
+    ensures err { IsOkUnless result OverlayError.Memory }
+{
+    let walks = selected_walks(graph, overlay_rule, options.output_direction, buffer)?;
+    large_walks(graph.allocator().clone()?, walks, options.min_output_area)
+}

@@ -1,0 +1,172 @@
+-- The shapes to which all contours of a cut are bound, in groups or without, have each selected step once, and wind as
+-- these do, also thinned.
+use Rattle.std.proofs.Common.{◌≡◌, ⊎_elim, ℕ, suc, ◌<◌, Bool, true, false, ℤ, List, [], ◌∷◌, ◌++◌, All, map}
+use Rattle.std.proofs.Common.{length, Contains, Option, Some, None, refl, sym, ap, ◌∙◌, subst, arith}
+use Rattle.std.specs.Prelude.{slice_index_or, MatchBool}
+use Rattle.std.specs.List.{filter, flat_map, slice_get}
+use Rattle.std.specs.List.Sorted.{IsPermutation}
+use Rattle.std.proofs.lemmas.Bool.{eqb-true, false≢true}
+use Rattle.std.proofs.lemmas.List.Folds.{flat_map-map}
+use Rattle.std.proofs.lemmas.List.Sorted.{IsPermutation-trans, All-permutation}
+use Rattle.std.proofs.lemmas.Option.{none-some, MatchOption-at_some}
+use Rattle.overlay_geom.specs.Plane.{Step}
+use Rattle.overlay_geom.specs.Edges.{CountedEdge}
+use Rattle.overlay_geom.proofs.Totals.{total-IsPermutation}
+use Rattle.overlay_plane.specs.Turn.{Hand}
+use Rattle.overlay_plane.specs.SelectedSteps.{selected_steps}
+use Rattle.overlay_plane.specs.Contours.{all_steps, IsContour}
+use Rattle.overlay_plane.specs.Binding.{walks_of}
+use Rattle.overlay_plane.specs.RoledContours.{Role, outline, own_hole, free_hole, Contour, stands_in, is_outline}
+use Rattle.overlay_plane.specs.BoundContours.{BoundContour, walks_in, known_in, has_one_shape, AreShapesFound}
+use Rattle.overlay_plane.specs.BoundContours.{contours_bound, shapes_bound}
+use Rattle.overlay_plane.specs.Roles.{IsFoundAt, IsNotFoundAt, IsShapeNumber}
+use Rattle.overlay_plane.specs.ShapeWindings.{steps_of_shapes, points_of_shapes}
+use Rattle.overlay_plane.specs.KeptContours.{AreKeptContours, KeepsAll, AllShapesHaveEachStep, AllShapesWind}
+use Rattle.overlay_plane.proofs.AlongLines.{winding_part}
+use Rattle.overlay_plane.proofs.BoundShapes.{number_by, is_lost, parts_split, parts_alike}
+use Rattle.overlay_plane.proofs.ContourNumbers.{AreNumbers, outline_count, number_counted, found_counted, cut_numbered}
+use Rattle.overlay_plane.proofs.FreeHoles.{all_holes_have_shapes}
+use Rattle.overlay_plane.proofs.KeptContours.{can_be_bound, each_taken_once}
+use Rattle.overlay_plane.proofs.LaterEntries.{Contains-cases}
+use Rattle.overlay_plane.proofs.PlacesOfContours.{Contains-place}
+use Rattle.overlay_plane.proofs.RoledWalks.{some-same}
+use Rattle.overlay_plane.proofs.SelectedWindings.{selected_steps_wind}
+use Rattle.overlay_plane.proofs.ShapeSteps.{single_parts, steps_of_all, thinned_shapes_wind_alike}
+
+-- bound contours are the contours
+bound_again : (contours : List Contour) (shapes : List (Option ℕ)) → length shapes ≡ length contours →
+    map (λ (b : BoundContour). b.contour) (contours_bound contours shapes) ≡ contours
+bound_again [] shapes counted = refl
+bound_again (c ∷ cs) [] counted = absurd (omega (arith, counted))
+bound_again (c ∷ cs) (s ∷ shapes) counted = ap (λ ds. c ∷ ds) (bound_again cs shapes (omega (arith, counted)))
+
+-- each stands at a place, with the shape there
+bound_at : (contours : List Contour) (shapes : List (Option ℕ)) (b : BoundContour) →
+    Contains (contours_bound contours shapes) b →
+    (i : ℕ) × (slice_get contours i ≡ Some b.contour) × (slice_index_or shapes i None ≡ b.shape)
+bound_at [] shapes b at = absurd (elim at.1 [ ])
+bound_at (c ∷ cs) [] b at = absurd (elim at.1 [ ])
+bound_at (c ∷ cs) (s ∷ shapes) b at = ⊎_elim
+    (λ is. (0, ap (λ (d : BoundContour). Some d.contour) is, ap (λ (d : BoundContour). d.shape) is))
+    (λ later. let found = bound_at cs shapes b later in (suc found.0, found.1, found.2))
+    (Contains-cases (record { contour = c; shape = s }) (contours_bound cs shapes) b at)
+
+module _ (holds : ℤ → ℤ → Bool) (subj clip : CountedEdge → ℤ) (es : List CountedEdge) (filled : Hand)
+    (in_groups : Bool) (keeps : List Step → Bool) (contours : List Contour)
+    (kept : AreKeptContours holds subj clip es filled in_groups keeps contours)
+    (shapes : List (Option ℕ)) (found : AreShapesFound filled contours shapes) where
+  abbrev steps : List Step
+  steps = selected_steps holds subj clip filled es
+
+  abbrev bound : List BoundContour
+  bound = contours_bound contours shapes
+
+  again : map (λ (b : BoundContour). b.contour) bound ≡ contours
+  again = bound_again contours shapes found.counted
+
+  numbered : AreNumbers 0 contours
+  numbered = cut_numbered in_groups filled keeps steps contours kept.cut
+
+  -- a number that is found is that of an outline
+  number_found : (one : Bool) → has_one_shape contours ≡ one → (i : ℕ) (shape : Option ℕ) →
+      MatchBool one (shape ≡ Some 0) (IsShapeNumber filled (walks_in contours) (known_in contours) i shape) → (m : ℕ) →
+      shape ≡ Some m → m < outline_count contours
+  number_found true one i shape is m same =
+      let lone = eqb-true (outline_count contours) 1 one in
+      let first = some-same m 0 (sym same ∙ is) in omega (arith, lone, first)
+  number_found false one i shape is m same = found_counted filled contours numbered i m
+      (MatchOption-at_some (IsNotFoundAt filled (walks_in contours) (known_in contours) i)
+      (λ n. IsFoundAt filled (walks_in contours) (known_in contours) i n) m same is)
+
+  -- so is each number of a hole
+  number_below : (b : BoundContour) → Contains bound b → is_outline b.contour.role ≡ false → (m : ℕ) →
+      number_by b.contour.role b.shape ≡ Some m → m < outline_count contours
+  number_below b c = by b.contour.role refl
+    where
+      at : (i : ℕ) × (slice_get contours i ≡ Some b.contour) × (slice_index_or shapes i None ≡ b.shape)
+      at = bound_at contours shapes b c
+
+      by : (r : Role) → b.contour.role ≡ r → is_outline r ≡ false → (m : ℕ) → number_by r b.shape ≡ Some m →
+          m < outline_count contours
+      by (outline n) is hole m same = absurd (false≢true (sym hole))
+      by (own_hole n) is hole m same = let counted = number_counted 0 contours numbered b.contour
+          (Contains-place contours at.0 b.contour at.1) m (ap stands_in is ∙ same) in omega arith
+      by free_hole is hole m same = number_found (has_one_shape contours) refl at.0 (slice_index_or shapes at.0 None)
+          (found.found at.0 b.contour at.1 is) m (at.2 ∙ same)
+
+  -- the contours' parts are those of the bound contours
+  bound_parts : {Y : Type 0} (f : List Step → List Y) →
+      flat_map (λ (b : BoundContour). f b.contour.steps) bound ≡ flat_map f (walks_in contours)
+  bound_parts f = sym (flat_map-map (λ (c : Contour). f c.steps) (λ (b : BoundContour). b.contour) bound)
+      ∙ ap (flat_map (λ (c : Contour). f c.steps)) again
+      ∙ sym (flat_map-map f (λ (c : Contour). c.steps) contours)
+
+  -- the numbers, of the contours as they are bound
+  numbered_again : AreNumbers 0 (map (λ (b : BoundContour). b.contour) bound)
+  numbered_again = subst (AreNumbers 0) (sym again) numbered
+
+  below_again : (b : BoundContour) → Contains bound b → is_outline b.contour.role ≡ false → (m : ℕ) →
+      number_by b.contour.role b.shape ≡ Some m → m < outline_count (map (λ (d : BoundContour). d.contour) bound)
+  below_again = subst (λ cs. (b : BoundContour) → Contains bound b → is_outline b.contour.role ≡ false → (m : ℕ) →
+      number_by b.contour.role b.shape ≡ Some m → m < outline_count cs) (sym again) number_below
+
+  -- the shapes have the parts of the contours but of those that are left out
+  pub parts_left : {Y : Type 0} (f : List Step → List Y) →
+      (lost : List Y) × IsPermutation (flat_map f (walks_in contours))
+      (flat_map f (walks_of (shapes_bound bound)) ++ lost)
+  parts_left {Y} f = (
+    lost,
+    subst (λ ys. IsPermutation ys (flat_map f (walks_of (shapes_bound bound)) ++ lost))
+        (bound_parts f) (parts_split f bound numbered_again below_again),
+  )
+    where
+      lost : List Y
+      lost = flat_map (λ (b : BoundContour). f b.contour.steps) (filter (is_lost f bound) bound)
+
+  module _ (all : KeepsAll keeps) where
+    -- and each hole has one
+    has_number : (b : BoundContour) → Contains bound b → is_outline b.contour.role ≡ false →
+        ¬ (number_by b.contour.role b.shape ≡ None)
+    has_number b c = by b.contour.role refl
+      where
+        at : (i : ℕ) × (slice_get contours i ≡ Some b.contour) × (slice_index_or shapes i None ≡ b.shape)
+        at = bound_at contours shapes b c
+
+        by : (r : Role) → b.contour.role ≡ r → is_outline r ≡ false → ¬ (number_by r b.shape ≡ None)
+        by (outline n) is hole same = false≢true (sym hole)
+        by (own_hole n) is hole same = none-some n (sym same)
+        by free_hole is hole same = all_holes_have_shapes holds subj clip es filled in_groups keeps contours kept all
+            shapes found at.0 b.contour at.1 is (at.2 ∙ same)
+
+    -- so the shapes have the contours' parts
+    parts : {Y : Type 0} (f : List Step → List Y) →
+        IsPermutation (flat_map f (walks_in contours)) (flat_map f (walks_of (shapes_bound bound)))
+    parts f = subst (λ ys. IsPermutation ys (flat_map f (walks_of (shapes_bound bound)))) (bound_parts f)
+        (parts_alike f bound numbered_again below_again has_number)
+
+    -- each of their walks is a contour
+    walks_are_contours : All IsContour (walks_of (shapes_bound bound))
+    walks_are_contours = All-permutation IsContour (walks_in contours) (walks_of (shapes_bound bound))
+        (subst (λ ws. IsPermutation ws (walks_of (shapes_bound bound))) (single_parts (walks_in contours))
+        (subst (IsPermutation (flat_map (λ (w : List Step). w ∷ []) (walks_in contours)))
+        (single_parts (walks_of (shapes_bound bound))) (parts (λ w. w ∷ []))))
+        (can_be_bound holds subj clip es filled in_groups keeps contours kept).contours
+
+    pub each_step : IsPermutation steps (steps_of_shapes (points_of_shapes (shapes_bound bound)))
+    each_step = subst (IsPermutation steps) (sym (steps_of_all (shapes_bound bound) walks_are_contours))
+        (IsPermutation-trans steps (all_steps (walks_in contours)) (all_steps (walks_of (shapes_bound bound)))
+        (each_taken_once holds subj clip es filled in_groups keeps contours kept all) (parts (λ (w : List Step). w)))
+
+-- the shapes have each selected step once
+pub all_shapes_have_each_step : AllShapesHaveEachStep
+all_shapes_have_each_step holds subj clip es filled in_groups keeps contours kept all shapes found =
+    each_step holds subj clip es filled in_groups keeps contours kept shapes found all
+
+-- so they wind as these
+pub all_shapes_wind : AllShapesWind
+all_shapes_wind holds subj clip es filled in_groups keeps contours kept all shapes found as_given result shown p =
+    thinned_shapes_wind_alike as_given (points_of_shapes (shapes_bound (contours_bound contours shapes))) result shown p
+    ∙ total-IsPermutation (winding_part p) (selected_steps holds subj clip filled es)
+    (steps_of_shapes (points_of_shapes (shapes_bound (contours_bound contours shapes))))
+    (each_step holds subj clip es filled in_groups keeps contours kept shapes found all)
+    ∙ selected_steps_wind holds subj clip es kept.ruled filled p

@@ -1,0 +1,152 @@
+-- Each hole whose shape is to be found, of a cut in groups or without, has its empty side above its anchor: so where
+-- all contours are kept an edge is below it, and a shape is found for it.
+use Rattle.std.proofs.Common.{◌≡◌, ⊎_elim, ℕ, suc, Bool, true, false, ℤ, List, [], ◌∷◌, ◌++◌, map, Contains, Option}
+use Rattle.std.proofs.Common.{Some}
+use Rattle.std.proofs.Common.{None, filter, sym, ap, ◌∙◌, subst}
+use Rattle.std.specs.Prelude.{slice_index_or, MatchBool}
+use Rattle.std.specs.List.{flat_map, slice_get}
+use Rattle.std.proofs.lemmas.Bool.{both_ways, false≢true}
+use Rattle.std.proofs.lemmas.List.Elements.{Contains-append_cases}
+use Rattle.std.proofs.lemmas.Option.{none-some, MatchOption-at_none}
+use Rattle.overlay_geom.specs.Plane.{Step, Edge}
+use Rattle.overlay_geom.specs.Edges.{CountedEdge}
+use Rattle.overlay_plane.specs.Turn.{Hand, other_hand}
+use Rattle.overlay_plane.specs.Alternates.{Alternates}
+use Rattle.overlay_plane.specs.BesideOrbits.{WalksAlong}
+use Rattle.overlay_plane.specs.SelectedSteps.{selected_steps}
+use Rattle.overlay_plane.specs.Contours.{all_steps}
+use Rattle.overlay_plane.specs.Anchors.{IsAnchor, is_below_anchor}
+use Rattle.overlay_plane.specs.Binding.{is_hole}
+use Rattle.overlay_plane.specs.RoledContours.{free_hole, Contour, is_free_hole, kept_group}
+use Rattle.overlay_plane.specs.RoledContours.{hole_of_group, hole_to_bind, group_contours_from, outline_of}
+use Rattle.overlay_plane.specs.RoledContours.{IsCut, IsCutInGroups, IsCutBy}
+use Rattle.overlay_plane.specs.BoundContours.{walks_in, known_in, has_one_shape}
+use Rattle.overlay_plane.specs.Roles.{IsFoundAt, IsNotFoundAt, IsShapeNumber}
+use Rattle.overlay_plane.specs.Roles.IsNotFoundAt.{none, through}
+use Rattle.overlay_plane.specs.KeptContours.{AreKeptContours, KeepsAll, AllHolesHaveShapes}
+use Rattle.overlay_plane.proofs.BelowHoles.{some_below}
+use Rattle.overlay_plane.proofs.CutByOneHand.{walks_from_starts}
+use Rattle.overlay_plane.proofs.CutWindings.{selected_alternate}
+use Rattle.overlay_plane.proofs.Entries.{Contains-map, Contains-from_map, Contains-from_filter}
+use Rattle.overlay_plane.proofs.FilledEdges.{HaveSelected}
+use Rattle.overlay_plane.proofs.GroupedCuts.{hole_steps_alternate}
+use Rattle.overlay_plane.proofs.HolesInGroups.{empty_above_in_group}
+use Rattle.overlay_plane.proofs.HoleWindings.{HasEmptyAbove, empty_above_anchor}
+use Rattle.overlay_plane.proofs.InsideOneGroup.{group_of, orbits_of_hole_groups_are_inside_one}
+use Rattle.overlay_plane.proofs.KeptContours.{can_be_bound, each_taken_once}
+use Rattle.overlay_plane.proofs.LaterEntries.{Contains-cases}
+use Rattle.overlay_plane.proofs.NextSteps.{alternating_steps_lead_on}
+use Rattle.overlay_plane.proofs.PlacesOfContours.{Contains-place, contour_at, known_at, free_from_none}
+use Rattle.overlay_plane.proofs.RoledWalks.{free_hole_at, some-same}
+use Rattle.overlay_plane.proofs.WalksOfCuts.{selected_along, walk_of_a_cut}
+
+-- no contour of an outline's group is such a hole
+none_free : (n : ℕ) (gs : List (List (List Step))) (c : Contour) → Contains (group_contours_from n gs) c →
+    ¬ (is_free_hole c.role ≡ true)
+none_free n [] c at free = elim at.1 [ ]
+none_free n ([] ∷ gs) c at free = none_free n gs c at free
+none_free n ((o ∷ hs) ∷ gs) c at free = ⊎_elim
+    (λ is. false≢true (ap (λ (d : Contour). is_free_hole d.role) is ∙ free))
+    (λ later. ⊎_elim
+    (λ of_group. let found = Contains-from_map (hole_of_group n) hs c of_group in
+    false≢true (ap (λ (d : Contour). is_free_hole d.role) found.2 ∙ free))
+    (λ rest. none_free (suc n) gs c rest free)
+    (Contains-append_cases (map (hole_of_group n) hs) (group_contours_from (suc n) gs) c later))
+    (Contains-cases (outline_of n o) (map (hole_of_group n) hs ++ group_contours_from (suc n) gs) c at)
+
+module _ (holds : ℤ → ℤ → Bool) (subj clip : CountedEdge → ℤ) (es : List CountedEdge) (filled : Hand)
+    (in_groups : Bool) (keeps : List Step → Bool) (contours : List Contour)
+    (kept : AreKeptContours holds subj clip es filled in_groups keeps contours) where
+  -- the selected steps
+  abbrev steps : List Step
+  steps = selected_steps holds subj clip filled es
+
+  along : WalksAlong es steps
+  along = selected_along holds subj clip es filled kept.ruled
+
+  alternates : Alternates steps
+  alternates = selected_alternate holds subj clip es kept.ruled filled
+
+  -- the hole at a place has its empty side above its anchor
+  abbrev IsEmptyAbove : Contour → Type 0
+  IsEmptyAbove c = (e : Edge) → IsAnchor c.steps e → HasEmptyAbove filled c.steps e
+
+  -- without groups
+  empty_of_cut : IsCut filled keeps steps contours → (i : ℕ) (c : Contour) → slice_get contours i ≡ Some c →
+      c.role ≡ free_hole → IsEmptyAbove c
+  empty_of_cut cut i c at free e anchored =
+      let there = free_hole_at filled 0 (filter keeps cut.walks) i c (ap (λ cs. slice_get cs i) (sym cut.are) ∙ at)
+      free in
+      let walk = Contains-from_filter keeps cut.walks c.steps
+      (Contains-place (filter keeps cut.walks) i c.steps there.0) in
+      empty_above_anchor es filled steps c.steps
+      (walk_of_a_cut holds subj clip es filled kept.ruled cut.walks cut.cut c.steps walk.0) there.1 e anchored
+
+  -- with groups
+  empty_of_groups : IsCutInGroups filled keeps steps contours → (i : ℕ) (c : Contour) → slice_get contours i ≡ Some c →
+      c.role ≡ free_hole → IsEmptyAbove c
+  empty_of_groups cut i c at free = ⊎_elim
+      (λ of_group. absurd (none_free 0 (flat_map (kept_group keeps) cut.inside) c of_group (ap is_free_hole free)))
+      (λ other. let found = Contains-from_map hole_to_bind (filter keeps cut.others) c other in
+      subst IsEmptyAbove found.2
+      (of_other found.0 (Contains-from_filter keeps cut.others found.0 found.1).0))
+      (Contains-append_cases (group_contours_from 0 (flat_map (kept_group keeps) cut.inside))
+      (map hole_to_bind (filter keeps cut.others)) c
+      (subst (λ cs. Contains cs c) cut.are (Contains-place contours i c at)))
+    where
+      -- the steps of all groups that are holes
+      hole_steps : List Step
+      hole_steps = all_steps (filter (is_hole filled) cut.groups)
+
+      of_other : (w : List Step) → Contains cut.others w → (e : Edge) → IsAnchor w e → HasEmptyAbove filled w e
+      of_other w c =
+          let own = orbits_of_hole_groups_are_inside_one es steps along alternates filled cut.groups cut.grouped w
+          (walks_from_starts (other_hand filled) hole_steps
+          (alternating_steps_lead_on hole_steps (hole_steps_alternate steps alternates filled keeps contours cut)
+          (other_hand filled)) cut.others cut.cut_others w c).orbit in
+          empty_above_in_group es steps along alternates filled own.group
+          (group_of steps alternates filled cut.groups cut.grouped own.group own.among) own.hole w own.inside
+
+  -- by the option
+  empty_by : (t : Bool) → IsCutBy t filled keeps steps contours → (i : ℕ) (c : Contour) →
+      slice_get contours i ≡ Some c → c.role ≡ free_hole → IsEmptyAbove c
+  empty_by true cut = empty_of_groups cut
+  empty_by false cut = empty_of_cut cut
+
+  module _ (all : KeepsAll keeps) where
+    have : HaveSelected holds subj clip es filled (walks_in contours)
+    have = record {
+      ruled = kept.ruled;
+      each_once = each_taken_once holds subj clip es filled in_groups keeps contours kept all;
+      bindable = can_be_bound holds subj clip es filled in_groups keeps contours kept;
+    }
+
+    -- a shape is found for each such hole
+    never_lost : (i : ℕ) → IsNotFoundAt filled (walks_in contours) (known_in contours) i → (c : Contour) →
+        slice_get contours i ≡ Some c → ¬ (c.role ≡ free_hole)
+    never_lost i (none walk at_walk nothing) c at free =
+        let own = contour_at contours i walk at_walk in
+        let same : c.steps ≡ walk = ap (λ (d : Contour). d.steps) (some-same c own.0 (sym at ∙ own.1)) ∙ own.2 in
+        let anchored = subst (λ w. IsAnchor w nothing.anchor) (sym same) nothing.anchored in
+        let some = some_below holds subj clip es filled (walks_in contours) have c.steps
+        (Contains-map (λ (d : Contour). d.steps) contours c (Contains-place contours i c at)) nothing.anchor anchored
+        (empty_by in_groups kept.cut i c at free nothing.anchor anchored) in
+        both_ways (is_below_anchor nothing.anchor some.0) (nothing.none some.0 some.1) some.2
+    never_lost i (through {j} has_next unknown rest) c at free =
+        let next = contour_at contours j has_next.next has_next.next_at in
+        never_lost j rest next.0 next.1
+        (free_from_none next.0.role (sym (known_at contours j next.0 next.1) ∙ unknown))
+
+    never_none : (one : Bool) (i : ℕ) (shape : Option ℕ) → shape ≡ None →
+        MatchBool one (shape ≡ Some 0) (IsShapeNumber filled (walks_in contours) (known_in contours) i shape) →
+        (c : Contour) → slice_get contours i ≡ Some c → ¬ (c.role ≡ free_hole)
+    never_none true i shape is found c at free = none-some 0 (sym is ∙ found)
+    never_none false i shape is found c at free = never_lost i
+        (MatchOption-at_none (IsNotFoundAt filled (walks_in contours) (known_in contours) i)
+        (λ n. IsFoundAt filled (walks_in contours) (known_in contours) i n) is found) c at free
+
+-- so no hole is lost
+pub all_holes_have_shapes : AllHolesHaveShapes
+all_holes_have_shapes holds subj clip es filled in_groups keeps contours kept all shapes found i c at free is =
+    never_none holds subj clip es filled in_groups keeps contours kept all (has_one_shape contours) i
+    (slice_index_or shapes i None) is (found.found i c at free) c at free

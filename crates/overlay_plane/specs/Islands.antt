@@ -1,0 +1,86 @@
+-- The hole round an island, which is an outline: the hole that has the next filled-below edge below the island's
+-- anchor, or the hole round the outline that has it; and the links from shapes to the islands in their holes.
+use Rattle.std.specs.Prelude.{◌≡◌, ℕ, suc, ◌==◌, nat_lt, Bool, true, false, cond, ◌&&◌, ◌||◌, List, [], ◌∷◌, All}
+use Rattle.std.specs.Prelude.{AllPairs}
+use Rattle.std.specs.Prelude.{Contains, slice_get, Option, Some, MatchOption}
+use Rattle.std.specs.List.{AllZip}
+use Rattle.overlay_plane.specs.Turn.{Hand, other_hand}
+use Rattle.overlay_plane.specs.Binding.{HasNoneBelow}
+use Rattle.overlay_plane.specs.Roles.{HasNextAt}
+use Rattle.overlay_plane.specs.RoledContours.{outline, own_hole, Contour, is_outline}
+use Rattle.overlay_plane.specs.BoundContours.{walks_in}
+
+-- the contour at place j has the next filled-below edge below the anchor of the one at place i: what is filled below,
+-- with the filled side by one hand, is filled above with it by the other
+abbrev pub HasNextFilledBelow : Hand → List Contour → ℕ → ℕ → Type 0
+HasNextFilledBelow filled contours i j = HasNextAt (other_hand filled) (walks_in contours) i j
+
+-- at the place stands an outline, or a hole
+pub record StandsAs (begins : Bool) (contours : List Contour) (i : ℕ) : Type 0 where
+  pub contour : Contour
+  pub at : slice_get contours i ≡ Some contour
+  pub is : is_outline contour.role ≡ begins
+
+-- the hole at place k is round the contour at place i: it has the next filled-below edge, or is round the outline that
+-- has it
+pub data IsHoleRound (filled : Hand) (contours : List Contour) : ℕ → ℕ → Type 0 where
+  direct : {i k : ℕ} → HasNextFilledBelow filled contours i k → StandsAs false contours k →
+      IsHoleRound filled contours i k
+  through : {i j k : ℕ} → HasNextFilledBelow filled contours i j → StandsAs true contours j →
+      IsHoleRound filled contours j k →
+      IsHoleRound filled contours i k
+
+-- no hole is round it: there is no such edge, or no hole is round the outline that has it
+pub data HasNoHoleRound (filled : Hand) (contours : List Contour) : ℕ → Type 0 where
+  none : {i : ℕ} (c : Contour) → slice_get contours i ≡ Some c →
+      HasNoneBelow (other_hand filled) (walks_in contours) c.steps →
+      HasNoHoleRound filled contours i
+  through : {i j : ℕ} → HasNextFilledBelow filled contours i j → StandsAs true contours j →
+      HasNoHoleRound filled contours j →
+      HasNoHoleRound filled contours i
+
+-- the place of the hole round the contour at place i, or none where no hole is round it
+abbrev pub IsHoleFound : Hand → List Contour → ℕ → Option ℕ → Type 0
+IsHoleFound filled contours i hole = MatchOption hole (HasNoHoleRound filled contours i)
+    (λ k. IsHoleRound filled contours i k)
+
+-- the places of the outlines among contours that stand from place n on
+abbrev pub outlines_from : ℕ → List Contour → List ℕ
+outlines_from n [] = []
+outlines_from n (c ∷ cs) = cond (is_outline c.role) (n ∷ outlines_from (suc n) cs) (outlines_from (suc n) cs)
+
+-- for each outline, in their order, the place of the hole round it, or none
+abbrev pub AreHolesRound : Hand → List Contour → List (Option ℕ) → Type 0
+AreHolesRound filled contours holes = AllZip (IsHoleFound filled contours) (outlines_from 0 contours) holes
+
+-- ---- links
+
+-- a shape that lies in a hole of another one: the number of the other one, the hole's place among all contours, and the
+-- number of the shape
+pub record ChildLink : Type 0 where
+  pub parent_shape : ℕ
+  pub parent_contour : ℕ
+  pub child_shape : ℕ
+
+-- the order of links, by their fields in order
+abbrev pub link_lt : ChildLink → ChildLink → Bool
+link_lt k l = nat_lt k.parent_shape l.parent_shape || (k.parent_shape == l.parent_shape &&
+    (nat_lt k.parent_contour l.parent_contour ||
+    (k.parent_contour == l.parent_contour && nat_lt k.child_shape l.child_shape)))
+
+-- among contours that all stand in shapes the link tells of an outline and the hole round it
+pub record IsLink (filled : Hand) (contours : List Contour) (l : ChildLink) : Type 0 where
+  pub place : ℕ
+  pub island : Contour
+  pub at : slice_get contours place ≡ Some island
+  pub child : island.role ≡ outline l.child_shape
+  pub hole : Contour
+  pub hole_at : slice_get contours l.parent_contour ≡ Some hole
+  pub parent : hole.role ≡ own_hole l.parent_shape
+  pub round : IsHoleRound filled contours place l.parent_contour
+
+-- the list has exactly the links of the contours, in order
+pub record AreLinks (filled : Hand) (contours : List Contour) (links : List ChildLink) : Type 0 where
+  pub ascending : AllPairs (λ k l. link_lt k l ≡ true) links
+  pub are : All (IsLink filled contours) links
+  pub every : (l : ChildLink) → IsLink filled contours l → Contains links l

@@ -1,0 +1,10 @@
+pub mod AddedAlone
+pub mod ClosedPoints
+pub mod DirectionRead
+pub mod LeastPoints
+pub mod OnceSorted
+pub mod Outcomes
+pub mod ReversedContours
+pub mod SimpleEdges
+pub mod SimpleWindings
+pub mod TestedContours

@@ -1,0 +1,39 @@
+-- What a builder answers that drops what it held, and holds paths of the subject alone, brought into an arrangement.
+use Rattle.std.specs.Prelude.{◌≡◌, ◌⊎◌, ℕ, Bool, true, false, List, Result, IfErr, OnOk}
+use Rattle.overlay_geom.specs.Edges.{CountedEdge}
+use Rattle.overlay_geom.specs.declared.error.OverlayError.{OverlayError}
+use Rattle.overlay_geom.specs.declared.error.OverlayError.TheVariants.{Memory, NotSettled, TooManyEdges, Failed}
+use Rattle.overlay_arrange.specs.Arranged.{IsArranged, MayRefuseSplitting}
+use Rattle.overlay_arrange.specs.Content.{IsContent}
+use Rattle.overlay_builder.specs.GivenPaths.{GivenPath, HoldsPaths, SomePathWeighsTooMuch}
+use Rattle.overlay_builder.specs.Held.{Held}
+
+-- the edges are an arrangement of those that the paths give
+pub record IsArrangedAlone (keep : Bool) (most : ℕ) (paths : List GivenPath) (es : List CountedEdge) : Type 0 where
+  pub content : List CountedEdge
+  pub holds : HoldsPaths keep paths content
+  pub arranged : IsArranged most content es
+
+-- the edges that the paths give, brought into an arrangement, may be refused so
+pub record MayRefuseToSplit (keep : Bool) (most : ℕ) (paths : List GivenPath) (e : OverlayError) : Type 0 where
+  pub content : List CountedEdge
+  pub holds : HoldsPaths keep paths content
+  pub refused : MayRefuseSplitting most content e
+
+-- the paths may be refused so
+abbrev pub MayRefuseAlone : Bool → ℕ → List GivenPath → OverlayError → Type 0
+MayRefuseAlone keep most paths Memory = Unit {0}
+MayRefuseAlone keep most paths NotSettled = MayRefuseToSplit keep most paths NotSettled
+MayRefuseAlone keep most paths TooManyEdges =
+    SomePathWeighsTooMuch keep paths ⊎ MayRefuseToSplit keep most paths TooManyEdges
+MayRefuseAlone keep most paths Failed = ⊥
+
+-- a call that does so answers so, of what the builder holds afterwards; whether it had failed tells nothing
+pub record AnswersAlone {V : Type 0} (limit most : ℕ) (keep : Bool) (paths : List GivenPath) (new : Held CountedEdge)
+    (result : Result V OverlayError) : Type 0 where
+  pub usable : OnOk result (new.failed ≡ false)
+  pub arranged : OnOk result (IsArrangedAlone keep most paths new.edges)
+  pub content : OnOk result (IsContent limit new.edges)
+  -- any refusal leaves it failed, and is one of the paths
+  pub fails : IfErr result (λ e. new.failed ≡ true)
+  pub err : IfErr result (MayRefuseAlone keep most paths)

@@ -1,0 +1,5 @@
+pub mod Alone
+pub mod Laws
+pub mod Outcome
+pub mod Points
+pub mod Simple

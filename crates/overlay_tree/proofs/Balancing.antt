@@ -1,0 +1,84 @@
+-- A node between two trees whose heights differ by at most two, seen from either side, and where no turn is needed.
+use Rattle.std.proofs.Common.{◌≡◌, ℕ, ◌+◌, ◌≤◌, List, [], ◌∷◌, Option, refl, sym, subst, arith}
+use Rattle.overlay_tree.specs.declared.links.Links.{Links}
+use Rattle.overlay_tree.specs.declared.links.NodeIndex.{NodeIndex}
+use Rattle.overlay_tree.specs.declared.links.Side.{Side}
+use Rattle.overlay_tree.specs.declared.links.Side.TheVariants.{Left, Right}
+use Rattle.overlay_tree.specs.Sides.{opposite}
+use Rattle.overlay_tree.specs.Trees.{Tree, items, height, fork_on, AreDistinct, AreParts, IsRebuilt}
+use Rattle.overlay_tree.specs.Trees.{IsSettled, IsTooHigh}
+use Rattle.overlay_tree.proofs.Standing.{height_on, in_top, kept_more}
+use Rattle.overlay_tree.proofs.Rotations.{only}
+
+-- the same tree from the other side
+pub exchanged : (side : Side) (a : Tree) (i : ℕ) (b : Tree) → fork_on (opposite side) b i a ≡ fork_on side a i b
+exchanged Left a i b = refl
+exchanged Right a i b = refl
+
+pub parts_exchanged : (by : ℕ) (ls : List Links) (side : Side) (near far : Option NodeIndex) (i : ℕ) (a b : Tree) →
+    AreParts by ls side near i far a b → AreParts by ls (opposite side) far i near b a
+parts_exchanged by ls side near far i a b parts = record {
+  near_is = parts.far_is;
+  far_is = parts.near_is;
+  near_stands = parts.far_stands;
+  far_stands = parts.near_stands;
+  near_balanced = parts.far_balanced;
+  far_balanced = parts.near_balanced;
+  distinct = subst (λ t. AreDistinct (items t)) (sym (exchanged side a i b)) parts.distinct;
+  inside = parts.inside;
+  differ = (parts.differ.1, parts.differ.0);
+}
+
+pub settled_exchanged : (old new : List Links) (root : Option NodeIndex) (side : Side) (i : ℕ) (a b : Tree) →
+    IsSettled old new root (opposite side) b i a → IsSettled old new root side a i b
+settled_exchanged old new root side i a b s = record {
+  tree = s.tree;
+  rebuilt = subst (λ t. IsRebuilt (items t) old new root (items t) s.tree) (exchanged side a i b) s.rebuilt;
+  height_after = record {
+    not_lower = (let h = s.height_after.not_lower in omega arith);
+    not_higher = (let h = s.height_after.not_higher in omega arith);
+    level = λ near. (let h = s.height_after.level (near.1, near.0) in omega arith);
+  };
+}
+
+pub too_high : (ls : List Links) (side : Side) (near far : Option NodeIndex) (i : ℕ) (a b : Tree) →
+    AreParts 2 ls side near i far a b → height b + 1 ≤ height a → ¬ (height a ≤ height b + 1) →
+    IsTooHigh ls side near i far a b
+too_high ls side near far i a b parts more not_near = record {
+  parts = parts;
+  two_higher = (let most = parts.differ.0 in omega arith);
+}
+
+-- parts that are near enough
+pub near_parts : (ls : List Links) (side : Side) (near far : Option NodeIndex) (i : ℕ) (a b : Tree) →
+    AreParts 2 ls side near i far a b → height a ≤ height b + 1 → height b ≤ height a + 1 →
+    AreParts 1 ls side near i far a b
+near_parts ls side near far i a b parts low high = record {
+  near_is = parts.near_is;
+  far_is = parts.far_is;
+  near_stands = parts.near_stands;
+  far_stands = parts.far_stands;
+  near_balanced = parts.near_balanced;
+  far_balanced = parts.far_balanced;
+  distinct = parts.distinct;
+  inside = parts.inside;
+  differ = (low, high);
+}
+
+pub settled_at_once : (old new : List Links) (root : Option NodeIndex) (side : Side) (i : ℕ) (a b : Tree) →
+    IsRebuilt (i ∷ []) old new root (items (fork_on side a i b)) (fork_on side a i b) → IsSettled old new root side a i
+    b
+settled_at_once old new root side i a b made = record {
+  tree = fork_on side a i b;
+  rebuilt = record {
+    at_root = made.at_root;
+    same = refl;
+    kept = kept_more (i ∷ []) (items (fork_on side a i b)) old new made.kept
+        (only i (items (fork_on side a i b)) (in_top side a i b));
+  };
+  height_after = record {
+    not_lower = (let h = height_on side a i b in omega arith);
+    not_higher = (let h = height_on side a i b in omega arith);
+    level = λ near. height_on side a i b;
+  };
+}

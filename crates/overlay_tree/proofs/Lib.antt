@@ -1,0 +1,16 @@
+mod Asked
+mod Balancing
+mod Bound
+mod Descending
+mod Distinct
+mod Found
+mod Freshness
+mod GoingDown
+mod LookedUp
+mod Lowering
+mod Parted
+mod Replaced
+mod Rotations
+mod Settling
+mod Standing
+mod Walks

@@ -1,0 +1,111 @@
+-- What a way down through the tree does to the edges that are held.
+use Rattle.std.proofs.Common.{◌≡◌, inl, inr, true, ℕ, ℤ, int_lt, List, [], ◌∷◌, ◌++◌, length}
+use Rattle.std.proofs.Common.{slice_get, Option, None, Some, refl, sym, ap, subst, ◌∙◌, arith}
+use Rattle.std.specs.List.{filter_map, cons_option}
+use Rattle.std.specs.declared.cmp.Ordering.{Ordering}
+use Rattle.overlay_geom.specs.declared.point.IntPoint.{IntPoint}
+use Rattle.overlay_scan.specs.Lists.{plain_entry, plain_entries, PassBefore}
+use Rattle.overlay_scan.specs.Scan.{Entry, live_at, IsCallableOn}
+use Rattle.overlay_scan.specs.declared.list.LiveEdge.{LiveEdge}
+use Rattle.overlay_tree.specs.declared.links.Links.{Links}
+use Rattle.overlay_tree.specs.declared.links.NodeIndex.{NodeIndex}
+use Rattle.overlay_tree.specs.Descents.{live_entries, alone, Tells}
+use Rattle.overlay_tree.specs.Forests.{tree_at, IsForest, CanSettle, HasForest, IsFound, AreFewVisits}
+use Rattle.overlay_tree.specs.HeldEdges.{HeldEdges, IsLookedUp, IsQuick}
+use Rattle.overlay_tree.specs.Trees.{Tree, Leaf, items, IsIn, IsTreeAt}
+use Rattle.overlay_tree.proofs.Parted.{live-here}
+use Rattle.overlay_tree.proofs.Settling.{tree_at_is}
+
+-- the same entries of the same nodes
+same_entries : {I V : Type 0} (es new : List (LiveEdge I V)) (is : List ℕ) →
+    ((k : ℕ) → IsIn k is → slice_get new k ≡ slice_get es k) → filter_map (slice_get new) is ≡ filter_map
+    (slice_get es) is
+same_entries es new [] kept = refl
+same_entries es new (i ∷ is) kept = ap (λ o. cons_option o (filter_map (slice_get new) is)) (kept i (inl refl))
+    ∙ ap (cons_option (slice_get es i)) (same_entries es new is (λ k at. kept k (inr at)))
+
+-- a look-up puts in no node
+pub nothing_put : (ls : List Links) (root free : Option NodeIndex) (t : Tree) (unused : List ℕ) →
+    IsForest ls root free t unused → CanSettle ls root free None t unused
+nothing_put ls root free t unused forest = record {
+  forest = forest;
+  can = record { at = forest.at; put_stands = tt; other = λ k at none. none };
+  put_apart = λ k at none. none;
+}
+
+module _ {I V : Type 0} (whole : I → ℤ) (post : List (IntPoint I) → Ordering → Type 0) (x : ℤ)
+    (es now : List (LiveEdge I V))
+    (ls new : List Links) (root root' free' put : Option NodeIndex) (t : Tree) (v : Option V)
+    (at : IsTreeAt ls root t) (kept : (k : ℕ) → IsIn k (items t) → slice_get now k ≡ slice_get es k)
+    (found : IsFound whole post x now new t put root' free' v) (old_held new_held : HeldEdges I V)
+    (old_is : old_held.entries ≡ filter_map (slice_get es) (items (tree_at ls root)))
+    (new_is : new_held.entries ≡ filter_map (slice_get now) (items (tree_at new root'))) where
+  abbrev old_live : List (Entry V)
+  old_live = live_at x (plain_entries whole old_held.entries)
+
+  old_same : old_live ≡ live_entries whole x now (items t)
+  old_same = ap (λ fs. live_at x (plain_entries whole fs)) (old_is
+      ∙ ap (λ u. filter_map (slice_get es) (items u)) (tree_at_is ls t root at) ∙ sym
+      (same_entries es now (items t) kept))
+
+  new_same : live_at x (plain_entries whole new_held.entries) ≡ live_entries whole x now (items found.tree)
+  new_same = ap (λ fs. live_at x (plain_entries whole fs)) (new_is
+      ∙ ap (λ u. filter_map (slice_get now) (items u)) (tree_at_is new found.tree root' found.forest.at))
+
+  pub looked_up : (news : List (Entry V)) → live_entries whole x now (items (alone put)) ≡ news →
+      IsLookedUp whole post x old_held new_held news v
+  looked_up news news_are = record {
+    before = live_entries whole x now found.before;
+    after = live_entries whole x now found.after;
+    was = old_same ∙ found.was;
+    now = new_same ∙ found.now
+        ∙ ap (λ fs. live_entries whole x now found.before ++ (fs ++ live_entries whole x now found.after)) news_are;
+    parted = λ passes tells front. found.parted passes (subst (Tells whole post passes) old_same tells)
+        (subst (PassBefore passes) old_same front);
+  }
+
+  pub quick : (m : ℕ) → length (items (alone put)) ≡ m → old_held.held ≡ length (items (tree_at ls root)) →
+      new_held.held ≡ length (items (tree_at new root')) →
+      AreFewVisits old_held.visits new_held.visits (length (items t)) found.dropped → IsQuick old_held new_held m
+  quick m count old_count new_count few =
+      let was : old_held.held ≡ length (items t) = old_count ∙ ap (λ u. length (items u)) (tree_at_is ls t root at) in
+      let is : new_held.held ≡ length (items found.tree) = new_count
+      ∙ ap (λ u. length (items u)) (tree_at_is new found.tree root' found.forest.at) in
+      record {
+        dropped = found.dropped;
+        count = (let same = found.count in omega arith);
+        few = subst (λ n. AreFewVisits old_held.visits new_held.visits n found.dropped) (sym was) few;
+      }
+
+  -- some tree stands then
+  pub forest_left : HasForest new root' free'
+  forest_left = (found.tree, found.unused, found.forest)
+
+-- the order may be called on each live entry
+pub callable_in_tree : {I V : Type 0} (whole : I → ℤ) (pre : List (IntPoint I) → Type 0) (x : ℤ)
+    (es now : List (LiveEdge I V))
+    (ls : List Links) (root : Option NodeIndex) (fs : List (LiveEdge I V)) →
+    fs ≡ filter_map (slice_get es) (items (tree_at ls root)) → IsCallableOn whole pre
+    (live_at x (plain_entries whole fs)) →
+    (t : Tree) → IsTreeAt ls root t → ((k : ℕ) → IsIn k (items t) → slice_get now k ≡ slice_get es k) →
+    IsCallableOn whole pre (live_entries whole x now (items t))
+callable_in_tree whole pre x es now ls root fs is may t at kept =
+    subst (λ gs. IsCallableOn whole pre (live_at x (plain_entries whole gs))) (is
+    ∙ ap (λ u. filter_map (slice_get es) (items u)) (tree_at_is ls t root at) ∙ sym
+    (same_entries es now (items t) kept)) may
+
+-- the entry of the node that is put in
+pub one_live : {I V : Type 0} (whole : I → ℤ) (x : ℤ) (es : List (LiveEdge I V)) (i : NodeIndex) (f : LiveEdge I V) →
+    slice_get es i.place ≡ Some f → int_lt x (whole f.b.x) ≡ true →
+    live_entries whole x es (items (alone (Some i))) ≡ plain_entry whole f ∷ []
+one_live whole x es i f there live = live-here whole x es i.place [] f there live
+
+-- nothing stands, and no node is unused
+pub empty_forest : (ls : List Links) → IsForest ls None None Leaf []
+empty_forest ls = record {
+  at = record { is_root = refl; stands = tt; distinct = tt; balanced = tt };
+  free_is = refl;
+  chain = tt;
+  once = tt;
+  apart = λ k none. absurd none;
+}

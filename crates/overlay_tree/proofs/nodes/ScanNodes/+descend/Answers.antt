@@ -1,0 +1,171 @@
+-- The top is read: it has ended, or the way goes on on one of its sides.
+use Rattle.std.proofs.Common.{◌≡◌, ◌<◌, ◌++◌, Some, length, slice_get, sym, ap, subst, ◌∙◌, arith, rules}
+use Rattle.overlay_scan.specs.Scan.{IsCallableOn}
+use Rattle.overlay_tree.specs.declared.links.Side.TheVariants.{Left}
+use Rattle.overlay_tree.specs.Sides.{on}
+use Rattle.overlay_tree.specs.Descents.{live_entries, CanDescend, IsEndOf, end_above}
+use Rattle.overlay_tree.specs.Trees.{Tree, Fork, items, height, IsTreeAt, IsReplaced, stored_height}
+use Rattle.overlay_tree.proofs.Descending.{nothing_there, split_top, top_ended, top_place, callable_here, parts_of_end}
+use Rattle.overlay_tree.proofs.Descending.{end_over}
+use Rattle.overlay_tree.proofs.GoingDown.{false_if_not, true_if_not, same_links, way, can_fork, inside_way, can_near}
+use Rattle.overlay_tree.proofs.GoingDown.{lower_near, higher, may_on}
+use Rattle.overlay_tree.proofs.Replaced.{no_top}
+use Rattle.overlay_tree.proofs.Settling.{tree_at_is}
+use Rattle.overlay_tree.proofs.nodes.ScanNodes.+descend.Goals as goal
+
+pub returns-in_default-clause-end : goal.returns-in_default-clause-end
+returns-in_default-clause-end g t c u can =
+    nothing_there g.I.IntNumber.whole (goal.F-post g c.args.order.now) (g.I.IntNumber.whole c.args.x)
+    c.args.self.now.entries
+    c.args.self.now.links c.args.root c.args.put u (no_top u (sym c.in_default.is ∙ can.at.is_root)) can
+
+pub visit-f-requires : goal.visit-f-requires
+visit-f-requires g t c = top_place c.args.self.now.links c.args.root c.in-Some.i c.requires.tree.0 c.in-Some.is
+    c.requires.tree.1.at
+
+pub take_out-requires : goal.take_out-requires
+take_out-requires g t c =
+    let can = same_links c.args.self.now.links c.visit-f.new.self.links c.args.root c.args.put c.in-Some.i
+    c.requires.tree.0
+    c.visit-f.ensures.links c.in-Some.is c.requires.tree.1 in
+    let split = split_top c.visit-f.new.self.links c.in-Some.i c.requires.tree.0 can.at in
+    (split.0, split.1, subst (λ u. IsTreeAt c.visit-f.new.self.links (Some c.in-Some.i) u) split.2 can.at)
+
+pub returns-then-has_ended-clause-end : goal.returns-then-has_ended-clause-end
+returns-then-has_ended-clause-end g t c u given =
+    let ls = c.args.self.now.links in
+    let l1 = c.visit-f.new.self.links in
+    let can = same_links ls l1 c.args.root c.args.put c.in-Some.i u c.visit-f.ensures.links c.in-Some.is given in
+    let split = split_top l1 c.in-Some.i u can.at in
+    let at = subst (λ v. IsTreeAt l1 (Some c.in-Some.i) v) split.2 can.at in
+    top_ended g.I.IntNumber.whole (goal.F-post g c.args.order.now) (g.I.IntNumber.whole c.args.x)
+    c.args.self.now.entries
+    ls c.take_out.new.self.links c.args.put c.take_out.result c.in-Some.i.place split.0 split.1 u c.visit-f.result
+    split.2 c.visit-f.ensures.entry (false_if_not _ (sym c.has_ended.ensures ∙ c.if-has_ended.true))
+    (subst (λ n. IsReplaced (items (Fork split.0 c.in-Some.i.place split.1)) n c.take_out.new.self.links
+    (Fork split.0 c.in-Some.i.place split.1) c.take_out.result (items split.0 ++ items split.1)) c.visit-f.ensures.links
+    (c.take_out.ensures.tree split.0 split.1 at))
+
+pub links-links-requires : goal.links-links-requires
+links-links-requires g t c =
+    let low = top_place c.args.self.now.links c.args.root c.in-Some.i c.requires.tree.0 c.in-Some.is
+    c.requires.tree.1.at in
+    let same = ap length c.visit-f.ensures.links in
+    omega arith
+
+pub side_for-side-requires : goal.side_for-side-requires
+side_for-side-requires g t c =
+    let whole = g.I.IntNumber.whole in
+    let x = whole c.args.x in
+    let split = split_top c.args.self.now.links c.in-Some.i c.requires.tree.0
+    (subst (λ o. IsTreeAt c.args.self.now.links o c.requires.tree.0) c.in-Some.is c.requires.tree.1.at) in
+    let live = true_if_not _ (sym c.has_ended.ensures ∙ c.if-has_ended.false) in
+    callable_here whole x c.args.self.now.entries (goal.F-pre g c.args.order.now) c.in-Some.i.place c.visit-f.result
+    c.visit-f.ensures.entry live Left split.0 split.1
+    (subst (λ u. IsCallableOn whole (goal.F-pre g c.args.order.now)
+    (live_entries whole x c.args.self.now.entries (items u)))
+    split.2 (c.requires.callable c.requires.tree.0 c.requires.tree.1.at))
+
+pub descend-below-requires : goal.descend-below-requires
+descend-below-requires g t c =
+    let whole = g.I.IntNumber.whole in
+    let x = whole c.args.x in
+    let ls = c.args.self.now.links in
+    let l1 = c.visit-f.new.self.links in
+    let es1 = c.visit-f.new.self.entries in
+    let pre = goal.F-pre g c.args.order.now in
+    let u = c.requires.tree.0 in
+    let can = same_links ls l1 c.args.root c.args.put c.in-Some.i u c.visit-f.ensures.links c.in-Some.is
+    c.requires.tree.1 in
+    let side = c.side_for-side.result in
+    let links = c.links-links.result in
+    let live = true_if_not _ (sym c.has_ended.ensures ∙ c.if-has_ended.false) in
+    let there : slice_get es1 c.in-Some.i.place ≡ Some c.visit-f.result =
+    ap (λ e. slice_get e c.in-Some.i.place) c.visit-f.ensures.entries ∙ c.visit-f.ensures.entry in
+    let smaller : stored_height l1 c.on.result < stored_height ls c.args.root =
+    subst (λ h. stored_height l1 c.on.result < h)
+    (ap (λ n. stored_height n (Some c.in-Some.i)) c.visit-f.ensures.links ∙ ap (stored_height ls) (sym c.in-Some.is))
+    (lower_near l1 c.args.put c.in-Some.i side links u can c.links-links.ensures c.on.result c.on.ensures) in
+    let tree : (v : Tree) × CanDescend l1 c.on.result c.args.put v =
+    (_, can_near l1 c.args.put c.in-Some.i side links u can c.links-links.ensures c.on.result c.on.ensures) in
+    let callable : (v : Tree) → IsTreeAt l1 c.on.result v → IsCallableOn whole pre
+    (live_entries whole x es1 (items v)) =
+    may_on l1 c.args.put c.in-Some.i side links u can c.links-links.ensures whole x es1 pre c.visit-f.result there live
+    (subst (λ e. IsCallableOn whole pre (live_entries whole x e (items u))) (sym c.visit-f.ensures.entries)
+    (c.requires.callable u c.requires.tree.1.at)) c.on.result c.on.ensures in
+    search rules
+
+pub balance-root-requires : goal.balance-root-requires
+balance-root-requires g t c =
+    let whole = g.I.IntNumber.whole in
+    let x = whole c.args.x in
+    let ls = c.args.self.now.links in
+    let l1 = c.visit-f.new.self.links in
+    let u = c.requires.tree.0 in
+    let can = same_links ls l1 c.args.root c.args.put c.in-Some.i u c.visit-f.ensures.links c.in-Some.is
+    c.requires.tree.1 in
+    let side = c.side_for-side.result in
+    let read = c.links-links.ensures in
+    let o = way l1 c.args.put c.in-Some.i side c.links-links.result u can read in
+    let below = c.descend-below.ensures.end o.near
+    (can_near l1 c.args.put c.in-Some.i side c.links-links.result u can read c.on.result c.on.ensures) in
+    let parts = parts_of_end whole (goal.F-post g c.args.order.now) x c.visit-f.new.self.entries side c.in-Some.i.place
+    o.near
+    o.far l1 c.descend-below.new.self.links (Some c.in-Some.i) c.args.put c.descend-below.result.root c.on-2.result
+    (can_fork l1 c.args.put c.in-Some.i side c.links-links.result u can read)
+    (c.on-2.ensures ∙ ap (λ s. on s c.links-links.result) c.other.ensures ∙ o.far_is) o.far_stands
+    (inside_way l1 c.args.put c.in-Some.i side c.links-links.result u can read) c.descend-below.result.end below in
+    (parts.0, o.far, parts.1)
+
+pub returns-clause-end : goal.returns-clause-end
+returns-clause-end g t c u given =
+    let whole = g.I.IntNumber.whole in
+    let x = whole c.args.x in
+    let ls = c.args.self.now.links in
+    let l1 = c.visit-f.new.self.links in
+    let es1 = c.visit-f.new.self.entries in
+    let post = goal.F-post g c.args.order.now in
+    let new = c.balance-root.new.self.links in
+    let can = same_links ls l1 c.args.root c.args.put c.in-Some.i u c.visit-f.ensures.links c.in-Some.is given in
+    let side = c.side_for-side.result in
+    let read = c.links-links.ensures in
+    let o = way l1 c.args.put c.in-Some.i side c.links-links.result u can read in
+    let live = true_if_not _ (sym c.has_ended.ensures ∙ c.if-has_ended.false) in
+    let there : slice_get es1 c.in-Some.i.place ≡ Some c.visit-f.result =
+    ap (λ e. slice_get e c.in-Some.i.place) c.visit-f.ensures.entries ∙ c.visit-f.ensures.entry in
+    let below = c.descend-below.ensures.end o.near
+    (can_near l1 c.args.put c.in-Some.i side c.links-links.result u can read c.on.result c.on.ensures) in
+    let answer = c.side_for-side.ensures in
+    let ends = end_over whole post x es1 side c.in-Some.i.place o.near o.far l1 c.descend-below.new.self.links
+    (Some c.in-Some.i) c.args.put c.descend-below.result.root c.on-2.result
+    (can_fork l1 c.args.put c.in-Some.i side c.links-links.result u can read)
+    (c.on-2.ensures ∙ ap (λ s. on s c.links-links.result) c.other.ensures ∙ o.far_is) o.far_stands
+    (inside_way l1 c.args.put c.in-Some.i side c.links-links.result u can read) c.visit-f.result there live answer.0
+    answer.1
+    answer.2 c.descend-below.result.end below new c.balance-root.result
+    (λ v parts. c.balance-root.ensures.tree v o.far parts) in
+    let end = end_above side c.visit-f.result.value c.descend-below.result.end in
+    subst (λ e. IsEndOf whole post x c.args.self.now.entries ls new u c.args.put c.balance-root.result e)
+    (sym c.above.ensures)
+    (subst (λ n. IsEndOf whole post x c.args.self.now.entries n new u c.args.put c.balance-root.result end)
+    c.visit-f.ensures.links
+    (subst (λ es. IsEndOf whole post x es l1 new u c.args.put c.balance-root.result end) c.visit-f.ensures.entries
+    (subst (λ v. IsEndOf whole post x es1 l1 new v c.args.put c.balance-root.result end) (sym o.is) ends)))
+
+pub returns-clause-visits : goal.returns-clause-visits
+returns-clause-visits g t c u at =
+    let ls = c.args.self.now.links in
+    let l1 = c.visit-f.new.self.links in
+    let v = c.requires.tree.0 in
+    let can = same_links ls l1 c.args.root c.args.put c.in-Some.i v c.visit-f.ensures.links c.in-Some.is
+    c.requires.tree.1 in
+    let side = c.side_for-side.result in
+    let read = c.links-links.ensures in
+    let o = way l1 c.args.put c.in-Some.i side c.links-links.result v can read in
+    let near = can_near l1 c.args.put c.in-Some.i side c.links-links.result v can read c.on.result c.on.ensures in
+    let high = higher l1 c.args.put c.in-Some.i side c.links-links.result v can read in
+    let same = ap height (sym (tree_at_is ls u c.args.root at) ∙ tree_at_is ls v c.args.root c.requires.tree.1.at) in
+    let below = c.descend-below.ensures.visits o.near near.at in
+    let one = c.visit-f.ensures.count in
+    let last = c.balance-root.ensures.visits in
+    omega arith

@@ -1,0 +1,90 @@
+-- What a way down through a tree finds, and what it leaves.
+use Rattle.std.specs.Prelude.{◌≡◌, Bool, true, false, cond, not, ℕ, ℤ, int_lt, List, [], ◌∷◌, ◌++◌, All, Option, Some, None}
+use Rattle.std.specs.Prelude.{slice_get, filter_map, option_map}
+use Rattle.std.specs.List.{last_or}
+use Rattle.std.specs.Ordering.{is_gt}
+use Rattle.std.specs.declared.cmp.Ordering.{Ordering}
+use Rattle.overlay_geom.specs.declared.point.IntPoint.{IntPoint}
+use Rattle.overlay_scan.specs.Lists.{plain_entries, PassBefore}
+use Rattle.overlay_scan.specs.Scan.{Entry, live_at, HoldsOfLine}
+use Rattle.overlay_scan.specs.declared.list.LiveEdge.{LiveEdge}
+use Rattle.overlay_tree.specs.declared.descend.End.{End}
+use Rattle.overlay_tree.specs.declared.descend.End.TheVariants.{Ended, Found}
+use Rattle.overlay_tree.specs.declared.links.Links.{Links}
+use Rattle.overlay_tree.specs.declared.links.NodeIndex.{NodeIndex}
+use Rattle.overlay_tree.specs.declared.links.Side.{Side}
+use Rattle.overlay_tree.specs.declared.links.Side.TheVariants.{Left, Right}
+use Rattle.overlay_tree.specs.Trees.{Tree, Leaf, Fork, items, IsIn, Stands, IsTreeAt, IsReplaced}
+
+-- the entries of these nodes that are live at x, in order
+abbrev pub live_entries : {I V : Type 0} → (I → ℤ) → ℤ → List (LiveEdge I V) → List ℕ → List (Entry V)
+live_entries whole x es is = live_at x (plain_entries whole (filter_map (slice_get es) is))
+
+-- the tree of one node, or of none
+abbrev pub alone : Option NodeIndex → Tree
+alone None = Leaf
+alone (Some i) = Fork Leaf i.place Leaf
+
+-- a tree stands, and beside it the node that is to be put in, if there is one
+pub record CanDescend (ls : List Links) (root put : Option NodeIndex) (t : Tree) : Type 0 where
+  pub at : IsTreeAt ls root t
+  pub put_stands : Stands ls (alone put)
+  pub other : (k : ℕ) → IsIn k (items t) → IsIn k (items (alone put)) → ⊥
+
+-- the way leads to the left of an entry that is above
+abbrev pub side_of : Ordering → Side
+side_of o = cond (is_gt o) Left Right
+
+-- the value found below, or else that of the entry that was passed, where the way led on above it
+abbrev pub passed_on : {V : Type 0} → Side → V → Option V → Option V
+passed_on Left value v = v
+passed_on Right value None = Some value
+passed_on Right value (Some v) = Some v
+
+-- what the way came to, seen from such an entry
+abbrev pub end_above : {V : Type 0} → Side → V → End V → End V
+end_above side value (Ended j) = Ended j
+end_above side value (Found v) = Found (passed_on side value v)
+
+-- the order's answers say which entries pass
+abbrev pub Tells : {I V : Type 0} → (I → ℤ) → (List (IntPoint I) → Ordering → Type 0) → (Entry V → Bool) → List
+    (Entry V) → Type 0
+Tells whole post passes fs = All (λ f. HoldsOfLine whole f.edge
+    (λ line. (o : Ordering) → post line o → not (is_gt o) ≡ passes f)) fs
+
+-- the entries before pass, those after do not, and the value is the last one's before
+pub record IsParted {V : Type 0} (passes : Entry V → Bool) (before after : List (Entry V)) (v : Option V) : Type 0 where
+  pub pass : All (λ f. passes f ≡ true) before
+  pub fail : All (λ f. passes f ≡ false) after
+  pub value : v ≡ option_map (λ (f : Entry V). f.value) (last_or None before)
+
+-- in the place of some nodes in the middle of t stand others
+pub record IsExchanged (old new : List Links) (t : Tree) (root : Option NodeIndex)
+    (out into before after : List ℕ) : Type 0 where
+  pub same : items t ≡ before ++ (out ++ after)
+  pub replaced : IsReplaced (items t ++ into) old new t root (before ++ (into ++ after))
+
+module _ {I V : Type 0} (whole : I → ℤ) (post : List (IntPoint I) → Ordering → Type 0) (x : ℤ)
+    (es : List (LiveEdge I V)) where
+  -- an entry that has ended is taken out
+  pub record IsDropped (old new : List Links) (t : Tree) (put root : Option NodeIndex) (j : ℕ) : Type 0 where
+    pub before : List ℕ
+    pub after : List ℕ
+    pub exchanged : IsExchanged old new t root (j ∷ []) [] before after
+    pub entry : LiveEdge I V
+    pub there : slice_get es j ≡ Some entry
+    pub ended : int_lt x (whole entry.b.x) ≡ false
+
+  -- the node is put in between those that pass and those that do not
+  pub record IsPassed (old new : List Links) (t : Tree) (put root : Option NodeIndex) (v : Option V) : Type 0 where
+    pub before : List ℕ
+    pub after : List ℕ
+    pub exchanged : IsExchanged old new t root [] (items (alone put)) before after
+    pub parted : (passes : Entry V → Bool) → Tells whole post passes (live_entries whole x es (items t)) →
+        PassBefore passes (live_entries whole x es (items t)) →
+        IsParted passes (live_entries whole x es before) (live_entries whole x es after) v
+
+  -- the one or the other
+  abbrev pub IsEndOf : List Links → List Links → Tree → Option NodeIndex → Option NodeIndex → End V → Type 0
+  IsEndOf old new t put root (Ended j) = IsDropped old new t put root j.place
+  IsEndOf old new t put root (Found v) = IsPassed old new t put root v

@@ -1,0 +1,6 @@
+pub mod Descents
+pub mod Forests
+pub mod HeldEdges
+pub mod Sides
+pub mod Store
+pub mod Trees

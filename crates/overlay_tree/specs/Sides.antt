@@ -1,0 +1,25 @@
+-- The two sides of a node.
+use Rattle.std.specs.Prelude.{ℕ, Option, None}
+use Rattle.overlay_tree.specs.declared.links.Links.{Links}
+use Rattle.overlay_tree.specs.declared.links.NodeIndex.{NodeIndex}
+use Rattle.overlay_tree.specs.declared.links.Side.{Side}
+use Rattle.overlay_tree.specs.declared.links.Side.TheVariants.{Left, Right}
+
+-- the other side
+abbrev pub opposite : Side → Side
+opposite Left = Right
+opposite Right = Left
+
+-- links to the near node on the given side, and to the far one on the other
+abbrev pub linked : Side → Option NodeIndex → Option NodeIndex → ℕ → Links
+linked Left near far height = record { left = near; right = far; height = height }
+linked Right near far height = record { left = far; right = near; height = height }
+
+-- the node on a side
+abbrev pub on : Side → Links → Option NodeIndex
+on Left links = links.left
+on Right links = links.right
+
+-- the links of an unused node before the next one
+abbrev pub unused_before : Option NodeIndex → Links
+unused_before next = record { left = next; right = None; height = 0 }

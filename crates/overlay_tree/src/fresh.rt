@@ -1,0 +1,47 @@
+//! Nodes for new entries.
+
+ghost use Rattle.std.specs.Prelude.{◌≡◌, ℕ, List, OnErr, IfOk, IsOkUnless};
+ghost use Rattle.overlay_tree.specs.Forests.{IsForest, IsFresh};
+ghost use Rattle.overlay_tree.specs.Trees.{Tree};
+
+use crate::links::NodeIndex;
+use crate::nodes::ScanNodes;
+use overlay_geom::error::OverlayError;
+use overlay_geom::number::IntNumber;
+use overlay_scan::list::LiveEdge;
+use std::alloc::Allocator;
+
+/// A node that is in no tree, and the first one that may be used again after it.
+#[derive(Clone, Copy)]
+pub struct Fresh {
+    /// The node.
+    pub node: NodeIndex,
+    /// The first node that may be used again.
+    pub free: Option<NodeIndex>,
+}
+
+impl<I: IntNumber, V: Copy, A: Allocator> ScanNodes<I, V, A> {
+    /// A node for an entry: the first one that may be used again, or one more. The only refusal is `Memory`, after which
+    /// the nodes are as they were.
+    pub fn fresh(
+        &mut self,
+        free: Option<NodeIndex>,
+        entry: LiveEdge<I, V>,
+    ) -> Result<Fresh, OverlayError>
+        requires { (root : _) × (t : Tree) × (unused : List ℕ) × IsForest self.old.links root free t unused }
+        ensures ok { IfOk result (λ f. (root : _) → (t : Tree) → (unused : List ℕ)
+            → IsForest self.old.links root free t unused
+            → IsFresh self.old.entries self.new.entries self.new.links root t f.free f.node entry) }
+        ensures visits { self.new.visits ≡ self.old.visits }
+        ensures err { OnErr result (self.new ≡ self.old) }
+        ensures only { IsOkUnless result OverlayError.Memory }
+    {
+        let Some(node) = free else {
+            let node = self.push(entry)?;
+            return Ok(Fresh { node, free: None });
+        };
+        let free = self.links(node).left;
+        self.use_again(node, entry);
+        Ok(Fresh { node, free })
+    }
+}

@@ -1,0 +1,12 @@
+//! A sweep's live edges in a balanced tree.
+#![tactic(auto)]
+
+mod descend;
+mod fresh;
+mod links;
+mod nodes;
+mod rebalance;
+mod settle;
+mod take;
+pub mod tree;
+mod visits;

@@ -1,0 +1,214 @@
+//! Live edges in a balanced tree.
+
+ghost use Rattle.std.specs.Prelude.{◌≡◌, [], ◌∷◌, true, not, int_lt, Some, OnOk, OnErr, IsOkUnless};
+ghost use Rattle.std.specs.Ordering.{is_gt};
+ghost use Rattle.overlay_geom.specs.Lines.{plain_line};
+ghost use Rattle.overlay_scan.specs.Lists.{plain_entry, plain_entries, IsInRange, is_lower};
+ghost use Rattle.overlay_scan.specs.Scan.{empty_sweep, live_at, moved_to};
+ghost use Rattle.overlay_scan.specs.Scan.{MayMoveTo, IsOver, IsAsked, IsSweep, IsPutIn};
+ghost use Rattle.overlay_scan.specs.Scan.{MeetsOthers, IsNewAmong, value_below};
+ghost use Rattle.overlay_scan.specs.Scan.{IsCallableOn, IsAnsweredBy, AnswersRise, value_up_to};
+ghost use Rattle.overlay_tree.specs.HeldEdges.{held_sweep, IsLookedUp, IsQuick};
+
+use crate::links::NodeIndex;
+use crate::nodes::ScanNodes;
+use overlay_geom::error::OverlayError;
+use overlay_geom::number::IntNumber;
+use overlay_geom::path::IntLine;
+use overlay_scan::list::{LiveEdge, is_under};
+use overlay_scan::scan::Scan;
+use std::alloc::Allocator;
+use std::cmp::Ordering;
+use std::marker::Model;
+
+/// A [`Scan`] that keeps its edges in a balanced tree. An edge that has ended is dropped where a look-up or an insert
+/// meets it on its way down.
+#[derive(Drop)]
+pub struct ScanTree<I: IntNumber, V: Copy, A: Allocator> {
+    nodes: ScanNodes<I, V, A>,
+    // the top of the tree
+    root: Option<NodeIndex>,
+    // the first node that may be used again
+    free: Option<NodeIndex>,
+    // the x that was moved to last, and none after `clear`
+    reached: Option<I>,
+}
+
+impl<I: IntNumber, V: Copy, A: Allocator> Model for ScanTree<I, V, A> {
+    ghost use Rattle.std.specs.Prelude.{filter_map, slice_get, length};
+    ghost use Rattle.overlay_tree.specs.HeldEdges.{HeldEdges};
+    ghost use Rattle.overlay_tree.specs.Forests.{tree_at, HasForest};
+    ghost use Rattle.overlay_tree.specs.Trees.{items};
+
+    ghost Value = { HeldEdges I V };
+
+    ghost view = { λ s. record {
+      entries = filter_map (slice_get s.nodes.entries) (items (tree_at s.nodes.links s.root));
+      held = length (items (tree_at s.nodes.links s.root));
+      reached = s.reached;
+      visits = s.nodes.visits;
+    } };
+
+    ghost invariant = { λ s. HasForest s.nodes.links s.root s.free };
+}
+
+impl<I: IntNumber, V: Copy, A: Allocator> ScanTree<I, V, A> {
+    /// No edges. Their memory will be that of the allocator; none is taken yet.
+    pub fn default(alloc: A) -> Self
+        ensures { held_sweep I.whole result ≡ empty_sweep }
+    {
+        ScanTree {
+            nodes: ScanNodes::new(alloc),
+            root: None,
+            free: None,
+            reached: None,
+        }
+    }
+
+    // Looks up by an order at x.
+    fn look_up<F: Fn(IntLine<I>) -> Ordering>(&mut self, x: I, order: &F) -> Option<V>
+        requires { IsCallableOn I.whole (F.pre order.now)
+            (live_at (I.whole x) (plain_entries I.whole self.old.entries)) }
+        ensures found { IsLookedUp I.whole (F.post order.now) (I.whole x) self.old self.new [] result }
+        ensures quick { IsQuick self.old self.new 0 }
+        ensures reached { self.new.reached ≡ Some x }
+    {
+        let settled = self.nodes.settle(self.root, self.free, None, x, order);
+        self.root = settled.root;
+        self.free = settled.free;
+        self.reached = Some(x);
+        settled.value
+    }
+
+    // Puts in an entry by an order at x.
+    fn put_in<F: Fn(IntLine<I>) -> Ordering>(
+        &mut self,
+        x: I,
+        entry: LiveEdge<I, V>,
+        order: &F,
+    ) -> Result<(), OverlayError>
+        requires live { int_lt (I.whole x) (I.whole entry.b.x) ≡ true }
+        requires callable { IsCallableOn I.whole (F.pre order.now)
+            (live_at (I.whole x) (plain_entries I.whole self.old.entries)) }
+        ensures ok { OnOk result ((v : _) × IsLookedUp I.whole (F.post order.now) (I.whole x) self.old self.new
+            (plain_entry I.whole entry ∷ []) v) }
+        ensures quick { OnOk result (IsQuick self.old self.new 1) }
+        ensures err { OnErr result (self.new ≡ record self.old { reached = Some x }) }
+        ensures reached { self.new.reached ≡ Some x }
+        ensures only { IsOkUnless result OverlayError.Memory }
+    {
+        self.reached = Some(x);
+        let fresh = self.nodes.fresh(self.free, entry)?;
+        let settled = self
+            .nodes
+            .settle(self.root, fresh.free, Some(fresh.node), x, order);
+        self.root = settled.root;
+        self.free = settled.free;
+        Ok(())
+    }
+}
+
+impl<I: IntNumber, V: Copy, A: Allocator> Scan<I, V> for ScanTree<I, V, A> {
+    ghost use Rattle.overlay_tree.specs.HeldEdges.{held_sweep};
+
+    ghost content = { held_sweep I.whole };
+
+    fn insert(&mut self, edge: IntLine<I>, value: V, x: I) -> Result<(), OverlayError>
+        requires state { IsSweep I.limit (held_sweep I.whole self.old) }
+        requires moves { MayMoveTo (I.whole x) (held_sweep I.whole self.old) }
+        requires over { IsOver I.limit (I.whole x) (plain_line I.whole edge) }
+        requires meets { MeetsOthers (plain_line I.whole edge)
+            (live_at (I.whole x) (held_sweep I.whole self.old).entries) }
+        requires fresh { IsNewAmong (plain_line I.whole edge)
+            (live_at (I.whole x) (held_sweep I.whole self.old).entries) }
+        ensures ok { OnOk result (IsPutIn (I.whole x) (record { edge = plain_line I.whole edge; value = value })
+            (live_at (I.whole x) (held_sweep I.whole self.old).entries) (held_sweep I.whole self.new).entries) }
+        ensures err { OnErr result
+            (held_sweep I.whole self.new ≡ moved_to (I.whole x) (held_sweep I.whole self.old)) }
+        ensures reached { (held_sweep I.whole self.new).reached ≡ Some (I.whole x) }
+        ensures state { IsSweep I.limit (held_sweep I.whole self.new) }
+        ensures only { IsOkUnless result OverlayError.Memory }
+        ensures quick { OnOk result (IsQuick self.old self.new 1) }
+    {
+        let entry = live_edge(edge, value);
+        let asked = entry;
+        let order = |line: IntLine<I>| -> Ordering
+            requires { IsInRange I.limit (plain_line I.whole line) × IsInRange I.limit (plain_entry I.whole asked).edge }
+            ensures { not (is_gt result) ≡ is_lower (plain_line I.whole line) (plain_entry I.whole asked).edge }
+        { order_to(line, &asked) };
+        self.put_in(x, entry, &order)?;
+        Ok(())
+    }
+
+    fn first_less(&mut self, x: I, default: V, edge: IntLine<I>) -> V
+        requires state { IsSweep I.limit (held_sweep I.whole self.old) }
+        requires moves { MayMoveTo (I.whole x) (held_sweep I.whole self.old) }
+        requires asked { IsAsked I.limit (I.whole x) (plain_line I.whole edge) }
+        requires meets { MeetsOthers (plain_line I.whole edge)
+            (live_at (I.whole x) (held_sweep I.whole self.old).entries) }
+        ensures value { result ≡ value_below default (plain_line I.whole edge)
+            (live_at (I.whole x) (held_sweep I.whole self.old).entries) }
+        ensures content { held_sweep I.whole self.new ≡ moved_to (I.whole x) (held_sweep I.whole self.old) }
+        ensures state { IsSweep I.limit (held_sweep I.whole self.new) }
+        ensures quick { IsQuick self.old self.new 0 }
+    {
+        let asked = live_edge(edge, default);
+        let order = |line: IntLine<I>| -> Ordering
+            requires { IsInRange I.limit (plain_line I.whole line) × IsInRange I.limit (plain_entry I.whole asked).edge }
+            ensures { not (is_gt result) ≡ is_lower (plain_line I.whole line) (plain_entry I.whole asked).edge }
+        { order_to(line, &asked) };
+        let found = self.look_up(x, &order);
+        found.unwrap_or(default)
+    }
+
+    fn first_less_or_equal_by<F: Fn(IntLine<I>) -> Ordering + Drop>(
+        &mut self,
+        x: I,
+        default: V,
+        order: F,
+    ) -> V
+        requires state { IsSweep I.limit (held_sweep I.whole self.old) }
+        requires moves { MayMoveTo (I.whole x) (held_sweep I.whole self.old) }
+        requires callable { IsCallableOn I.whole (F.pre order)
+            (live_at (I.whole x) (held_sweep I.whole self.old).entries) }
+        ensures value { (answer : _) → IsAnsweredBy I.whole (F.post order) answer
+            (live_at (I.whole x) (held_sweep I.whole self.old).entries)
+            → AnswersRise answer (live_at (I.whole x) (held_sweep I.whole self.old).entries)
+            → result ≡ value_up_to default answer (live_at (I.whole x) (held_sweep I.whole self.old).entries) }
+        ensures content { held_sweep I.whole self.new ≡ moved_to (I.whole x) (held_sweep I.whole self.old) }
+        ensures state { IsSweep I.limit (held_sweep I.whole self.new) }
+        ensures quick { IsQuick self.old self.new 0 }
+    {
+        let value = self.look_up(x, &order);
+        value.unwrap_or(default)
+    }
+
+    fn clear(&mut self) {
+        self.nodes.clear();
+        self.root = None;
+        self.free = None;
+        self.reached = None;
+    }
+}
+
+// The line as an edge that is held.
+fn live_edge<I: IntNumber, V: Copy>(line: IntLine<I>, value: V) -> LiveEdge<I, V>
+    ensures { plain_entry I.whole result ≡ record { edge = plain_line I.whole line; value = value } }
+{
+    let [a, b] = line;
+    LiveEdge { a, b, value }
+}
+
+// `Less` for a line that is under the edge, and `Greater` for another.
+fn order_to<I: IntNumber, V: Copy>(line: IntLine<I>, e: &LiveEdge<I, V>) -> Ordering
+    requires one { IsInRange I.limit (plain_line I.whole line) }
+    requires other { IsInRange I.limit (plain_entry I.whole e.now).edge }
+    ensures { not (is_gt result) ≡ is_lower (plain_line I.whole line) (plain_entry I.whole e.now).edge }
+{
+    let f = live_edge(line, e.value);
+    if is_under(&f, e) {
+        Ordering::Less
+    } else {
+        Ordering::Greater
+    }
+}

@@ -1,0 +1,31 @@
+//! How many entries were visited. It exists in proofs alone: it takes no memory, and its methods do nothing.
+ghost use Rattle.std.specs.Prelude.{◌≡◌, ℕ, ◌+◌};
+ghost use Rattle.std.specs.Borrow.{ftrue};
+
+use std::marker::Model;
+
+/// A number of visits, without a greatest one.
+#[derive(Drop)]
+pub struct Visits {
+    pub ghost count: { ℕ },
+}
+
+impl Model for Visits {
+    ghost also_owns = { λ _. ftrue };
+}
+
+impl Visits {
+    /// No visit yet.
+    pub fn none() -> Visits
+        ensures { result.count ≡ 0 }
+    {
+        Visits {}
+    }
+
+    /// These visits, and one more.
+    pub fn and_one(&self) -> Visits
+        ensures { result.count ≡ self.now.count + 1 }
+    {
+        Visits {}
+    }
+}

@@ -1,0 +1,39 @@
+-- The contours that an overlay keeps of those that the selected steps are cut into, and what is true of them and of
+-- whichever shapes are found for them.
+use Rattle.std.specs.Prelude.{◌≡◌, ℕ, Bool, true, List, All, Option}
+use Rattle.std.specs.List.Sorted.{IsPermutation}
+use Rattle.overlay_geom.specs.Plane.{Point, PlanePoint, winding}
+use Rattle.overlay_geom.specs.Edges.{CountedEdge, subj_of, clip_of}
+use Rattle.overlay_plane.specs.BoundContours.{AreShapesFound, NoHoleIsLost, walks_in, contours_bound, shapes_bound}
+use Rattle.overlay_plane.specs.ContourWindings.{wanted_winding}
+use Rattle.overlay_plane.specs.Groups.{IsSimpleContour}
+use Rattle.overlay_plane.specs.KeptContours.{CanBeBound}
+use Rattle.overlay_plane.specs.RoledContours.{Contour, IsCutBy}
+use Rattle.overlay_plane.specs.ShapeWindings.{points_of_shapes, steps_of_shapes, AreKeptOrThinned}
+use Rattle.overlay_walk.specs.Asked.{Asked, region_asked, filled_asked, selected_of, is_kept}
+
+-- contours to which these shapes are bound, by their steps
+abbrev pub shapes_of_kept : List Contour → List (Option ℕ) → List (List (List Point))
+shapes_of_kept contours shapes = points_of_shapes (shapes_bound (contours_bound contours shapes))
+
+-- where the shapes are found, no hole is lost, and the shapes have each selected step exactly once; and, each contour
+-- as it is or thinned, they wind as asked
+pub record AreWhole (q : Asked) (es : List CountedEdge) (contours : List Contour)
+    (shapes : List (Option ℕ)) : Type 0 where
+  pub none_lost : NoHoleIsLost contours shapes
+  pub each_once : IsPermutation (selected_of q es) (steps_of_shapes (shapes_of_kept contours shapes))
+  pub winds : (as_given : Bool) (result : List (List (List Point))) →
+      AreKeptOrThinned as_given (shapes_of_kept contours shapes) result → (p : PlanePoint) →
+      winding (steps_of_shapes result) p ≡ wanted_winding (region_asked q) subj_of clip_of (filled_asked q) es p
+
+-- the contours are those that the selected steps are cut into, in groups if that is asked for, as far as they reach the
+-- minimum area
+pub record AreKeptResults (q : Asked) (es : List CountedEdge) (contours : List Contour) : Type 0 where
+  pub cut : IsCutBy q.ogc (filled_asked q) (is_kept q) (selected_of q es) contours
+  -- they can be bound
+  pub bindable : CanBeBound (filled_asked q) (walks_in contours)
+  -- in groups no contour visits a point twice
+  pub simple : q.ogc ≡ true → All IsSimpleContour (walks_in contours)
+  -- with the minimum area zero nothing is left out
+  pub whole : q.min_output_area ≡ 0 → (shapes : List (Option ℕ)) → AreShapesFound (filled_asked q) contours shapes →
+      AreWhole q es contours shapes

@@ -1,0 +1,84 @@
+use Rattle.std.proofs.Common.{Err, false, ap, sym, subst, refl, arith, ◌∙◌}
+use Rattle.std.proofs.lemmas.Bool.{false≢true}
+use Rattle.std.proofs.lemmas.List.{length-map, take_all}
+use Rattle.std.proofs.lemmas.Result.{err_from_is_err_and}
+use Rattle.overlay_geom.specs.Edges.{AddsContour}
+use Rattle.overlay_geom.specs.Points.{AllInRange}
+use Rattle.overlay_arrange.specs.Content.{edge_for}
+use Rattle.overlay_builder.specs.GivenPaths.{WouldWeighTooMuch}
+use Rattle.polyover_text.specs.Grammar.{contour_paths}
+use Rattle.polyover_text.specs.Points.{points_at}
+use Rattle.polyover_text.specs.Statements.{path_at, contour_at, contours_at}
+use Rattle.polyover_engine.specs.Relations.{HasAddedUnder, taken_path, taken_paths}
+use Rattle.polyover_engine.proofs.Builders.{no_path_held, contour_here, one_more_held, contour_refused}
+use Rattle.polyover_engine.proofs.AskedAgain.{taken_here}
+use Rattle.polyover_engine.proofs.predicate_builder.with_subject.Goals as goal
+
+pub loop-given-init : goal.loop-given-init
+loop-given-init g c =
+    let made = c.in_ok-overlay.ensures.ok in
+    let held = c.overlay.view_is in
+    record {
+      holds = no_path_held _ (ap (λ o. o.edges) held ∙ ap (λ o. o.edges) made);
+      ready = ap (λ o. o.failed) held ∙ ap (λ o. o.failed) made;
+      rule = refl;
+    }
+
+pub add_contour-requires : goal.add_contour-requires
+add_contour-requires g c =
+    let here = contour_here c.args.contours.now _ _ c.given-item.result refl c.loop-given-test.true c.given-item.is in
+    subst (λ ps. AllInRange 4611686018427387903 (points_at ps)) (sym c.deref.ensures.value)
+    (subst (λ x. AllInRange 4611686018427387903 x.points) (sym here.1)
+    (c.requires c.loop-given.given-index (path_at c.given-item.result.contour) here.0))
+
+pub returns-in_err-add_contour : goal.returns-in_err-add_contour
+returns-in_err-add_contour g c =
+    let p = err_from_is_err_and c.from_residual-in_err-add_contour.result
+    c.from_residual-in_err-add_contour.ensures.1 in
+    let given = contour_here c.args.contours.now _ _ c.given-item.result refl c.loop-given-test.true c.given-item.is in
+    let path = path_at c.given-item.result.contour in
+    let here = taken_here c.args.subject _ c.loop-given.given-index path given.0 given.1 in
+    let e = c.in_err-add_contour.ensures in
+    let b = c.loop-given.overlay in
+    let held = c.loop-given.invariant in
+    rw (p.1, p.2) (contour_refused _ c.loop-given.given-index (taken_path c.args.subject path) b.edges
+    held.holds here.0 here.1 _
+    (λ same. false≢true (sym held.ready ∙ e.failed.0 (ap Err same)))
+    (λ same. subst (λ t. WouldWeighTooMuch false t path.points b.edges) c.taken_for-shape_type.ensures
+    (subst (λ ps. WouldWeighTooMuch false c.taken_for-shape_type.result (points_at ps) b.edges)
+    c.deref.ensures.value (e.too_many (ap Err same))))
+    (λ same. e.no_query (ap Err same)))
+
+pub loop-given-preserved : goal.loop-given-preserved
+loop-given-preserved g c =
+    let given = contour_here c.args.contours.now _ _ c.given-item.result refl c.loop-given-test.true c.given-item.is in
+    let path = path_at c.given-item.result.contour in
+    let here = taken_here c.args.subject _ c.loop-given.given-index path given.0 given.1 in
+    let e = c.in_ok-add_contour.ensures in
+    let b = c.loop-given.overlay in
+    let held = c.loop-given.invariant in
+    let new = c.add_contour.new.self in
+    record {
+      holds = one_more_held _ c.loop-given.given-index (taken_path c.args.subject path) b.edges held.holds here.0 here.1
+          new.edges
+          (subst (λ t. AddsContour false (edge_for t) path.points b.edges new.edges) c.taken_for-shape_type.ensures
+          (subst (λ ps. AddsContour false (edge_for c.taken_for-shape_type.result) (points_at ps) b.edges new.edges)
+          c.deref.ensures.value e.ok))
+          e.light;
+      ready = ap (λ o. o.failed) e.kept ∙ held.ready;
+      rule = ap (λ o. o.fill_rule) e.kept ∙ held.rule;
+    }
+
+pub returns : goal.returns
+returns g c =
+    let cs = contour_paths (contours_at c.args.contours.now) in
+    subst (λ l. HasAddedUnder c.args.fill_rule l c.loop-given.overlay)
+    (take_all c.loop-given.given-index (taken_paths c.args.subject cs)
+    (omega (
+      arith,
+      length-map cs (taken_path c.args.subject),
+      length-map c.args.contours.now contour_at,
+      length-map (contours_at c.args.contours.now)
+          (λ d. d.path),
+    )))
+    c.loop-given.invariant
