@@ -1,6 +1,8 @@
 mod Rows
 pub mod Builders
+pub mod HeldAlone
 pub mod OneShots
 pub mod Relations
+pub mod SimplifiedContours
 pub mod TwoSources
 pub mod Views

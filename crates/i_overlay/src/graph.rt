@@ -31,14 +31,12 @@ pub struct OverlayGraph<'a, I: OverlayInt, D: OverlayEdgeData, A: Allocator> {
 impl<I: OverlayInt, A: Allocator + Clone> OverlayGraph<'_, I, (), A> {
     /// The contours round the region of the plane where the overlay rule holds, as shapes, as
     /// `Overlay::overlay` gives them, by the options that the builder had when the view was made. The
-    /// buffer lends its room; what it holds changes no answer. `options.ogc` is not set. The only refusal
-    /// is `Memory`.
+    /// buffer lends its room; what it holds changes no answer. The only refusal is `Memory`.
     pub fn extract_shapes(
         &self,
         overlay_rule: OverlayRule,
         buffer: &mut BooleanExtractionBuffer<I, A>,
     ) -> Result<IntShapes<I, A>, OverlayError>
-        requires { self.now.viewed.now.options.ogc ≡ false }
         ensures result { IfOk result (λ v. IsResult
             (asked I.Wide.width I.WideUInt.natural self.now.viewed.now.graph.fill_rule overlay_rule
             self.now.viewed.now.options)

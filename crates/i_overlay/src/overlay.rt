@@ -34,6 +34,7 @@ use std::marker::Model;
 mod adders;
 mod constructors;
 mod deprecated;
+mod simplify;
 mod views;
 
 pub use overlay_arrange::options::{ContourDirection, IntOverlayOptions, ShapeType};
@@ -111,9 +112,10 @@ impl<I: OverlayInt, A: Allocator + Clone> Overlay<I, A> {
     /// right.
     ///
     /// Outlines run in the direction `options.output_direction`, and holes against it. A hole that
-    /// touches its outline is a part of the outline. Unless `options.preserve_output_collinear`,
-    /// points on one line with their two neighbours are dropped. Where no edge is left there is no
-    /// shape. `options.ogc` is not set. After an answer there is a buffer, `boolean_buffer`.
+    /// touches its outline is a part of the outline; with `options.ogc` it is a hole of its shape, and no
+    /// contour visits a point twice. Unless `options.preserve_output_collinear`, points on one line with
+    /// their two neighbours are dropped. Where no edge is left there is no shape. After an answer there
+    /// is a buffer, `boolean_buffer`.
     ///
     /// A contour is left out where its double area before points are dropped, wrapped to the wide
     /// type, without its sign and halved downwards, is below `options.min_output_area`. Of the holes
@@ -126,7 +128,6 @@ impl<I: OverlayInt, A: Allocator + Clone> Overlay<I, A> {
         overlay_rule: OverlayRule,
         fill_rule: FillRule,
     ) -> Result<IntShapes<I, A>, OverlayError>
-        requires no_ogc { self.old.options.ogc ≡ false }
         ensures query { AnswersQuery I.limit 64 (held_by self.old) (held_by self.new) result }
         ensures result { IfOk result (λ v. IsResult
             (asked I.Wide.width I.WideUInt.natural fill_rule overlay_rule self.old.options)
@@ -207,7 +208,6 @@ impl<I: OverlayInt, A: Allocator + Clone> Overlay<I, A> {
         requires usable { self.old.failed ≡ false }
         requires ascending { IsAscending self.old.edges }
         requires settled { IsSettled self.old.edges }
-        requires no_ogc { self.old.options.ogc ≡ false }
         ensures result { IfOk result (λ v. IsResult
             (asked I.Wide.width I.WideUInt.natural fill_rule overlay_rule self.old.options)
             self.old.edges (plain_shapes I.whole v.items)) }

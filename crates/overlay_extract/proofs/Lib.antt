@@ -1,4 +1,6 @@
-pub mod BoundAdded
 pub mod ContoursAdded
+pub mod HolesPlaced
 pub mod NoShapes
+pub mod PlacedShapes
+pub mod PointsOnce
 pub mod Results

@@ -1,25 +1,28 @@
--- The result of an overlay: what walks of the selected steps, bound to shapes and shown by their points, are.
-use Rattle.std.proofs.Common.{◌≡◌, ℕ, true, false, List, [], ◌∷◌, map, Option, refl, sym, ap, ap₂, subst, ◌∙◌}
+-- The result of an overlay: what kept contours of the selected steps, in their shapes and shown by their points, are; and
+-- what walks that are cut without groups are in one list.
+use Rattle.std.proofs.Common.{◌≡◌, ℕ, true, List, [], ◌∷◌, map, All, Option, refl, sym, ap, ap₂, subst, ◌∙◌}
 use Rattle.std.specs.List.{AllZip, each_same, filter, flat_map}
 use Rattle.std.specs.List.Sorted.{IsPermutation}
+use Rattle.std.proofs.lemmas.List.Elements.{All-map}
 use Rattle.overlay_geom.specs.Plane.{Point, Step, steps_of, points_of}
 use Rattle.overlay_geom.specs.Thinned.{IsKeptOrThinned}
 use Rattle.overlay_geom.specs.Edges.{CountedEdge, subj_of, clip_of}
-use Rattle.overlay_plane.specs.Binding.{BoundWalk, AreBound, AreCutFrom, shapes_of}
+use Rattle.overlay_plane.specs.Binding.{AreCutFrom}
 use Rattle.overlay_plane.specs.BoundContours.{AreShapesFound, walks_in}
 use Rattle.overlay_plane.specs.Contours.{outline_or_hole_hand}
+use Rattle.overlay_plane.specs.Groups.{HasEachPointOnce, IsSimpleContour}
 use Rattle.overlay_plane.specs.MinimumArea.{reaches}
-use Rattle.overlay_plane.specs.RoledContours.{Contour, contours_from, IsCut, IsCutBy}
+use Rattle.overlay_plane.specs.PlacedContours.{ArePlaced, walks_at}
+use Rattle.overlay_plane.specs.RoledContours.{Contour, contours_from, IsCut}
 use Rattle.overlay_plane.specs.ShapeWindings.{points_of_shapes, steps_of_shapes, AreKeptOrThinned}
 use Rattle.overlay_plane.proofs.ResultWindings.{steps_of_contours, results_wind}
 use Rattle.overlay_plane.proofs.RoledShapes.{walks_from, all_kept}
-use Rattle.overlay_plane.proofs.ShapeSteps.{shapes_have_each_step, shapes_wind}
 use Rattle.overlay_plane.proofs.WalksApart.{walks_are_contours, walks_have_each_step}
-use Rattle.overlay_walk.specs.Walks.{with_shape_numbers}
-use Rattle.overlay_walk.proofs.BoundWalks.{are_bound, no_hole_is_lost, bound_contours}
-use Rattle.overlay_walk.proofs.ShapesFound.{as_many}
+use Rattle.overlay_walk.specs.KeptResults.{AreKeptResults}
 use Rattle.overlay_extract.specs.Results.{Asked, region_asked, filled_asked, selected_of, is_kept, shapes_found}
 use Rattle.overlay_extract.specs.Results.{AreKeptWalks, IsResult, IsContoursResult}
+use Rattle.overlay_extract.proofs.PlacedShapes.{placed_have}
+use Rattle.overlay_extract.proofs.PointsOnce.{shown_once}
 
 -- what is taken as it is given is the same
 same_contours : (given taken : List (List Point)) → AllZip (λ g t. t ≡ g) given taken → taken ≡ given
@@ -30,6 +33,50 @@ same_shapes [] [] each = refl
 same_shapes [] (t ∷ ts) each = absurd each
 same_shapes (g ∷ gs) [] each = absurd each
 same_shapes (g ∷ gs) (t ∷ ts) each = ap₂ (λ s ss. s ∷ ss) (same_contours g t each.0) (same_shapes gs ts each.1)
+
+-- ---- in shapes
+
+module _ (q : Asked) (es : List CountedEdge) (contours : List Contour) (kept : AreKeptResults q es contours)
+    (shapes : List (Option ℕ)) (found : AreShapesFound (filled_asked q) contours shapes)
+    (places : List (List ℕ)) (placed : ArePlaced contours shapes places) where
+  -- what is at the places are the shapes found
+  same_found : points_of_shapes (walks_at contours places) ≡ shapes_found contours shapes
+  same_found = ap points_of_shapes placed.are
+
+  -- in groups none of their contours visits a point twice
+  once : q.ogc ≡ true → All (All HasEachPointOnce) (shapes_found contours shapes)
+  once grouped = subst (All (All HasEachPointOnce)) same_found
+      (All-map (All HasEachPointOnce) (map points_of) (walks_at contours places)
+      (λ k d lt. All-map HasEachPointOnce points_of _
+      (placed_have (λ w. HasEachPointOnce (points_of w)) contours places
+      (λ i e less. (kept.simple grouped i e less).points_once) placed.inside k d lt)))
+
+  -- what shows the shapes is the result
+  pub result_shown : (result : List (List (List Point))) →
+      AreKeptOrThinned q.preserve_output_collinear (points_of_shapes (walks_at contours places)) result →
+      IsResult q es result
+  result_shown result shown = record {
+    contours = contours;
+    cut = kept.cut;
+    shapes = shapes;
+    found = found;
+    shown = shown_found;
+    none_lost = λ all. (kept.whole all shapes found).none_lost;
+    each_once = λ all. (kept.whole all shapes found).each_once;
+    kept_each_once = λ all keep. subst (λ ss. IsPermutation (selected_of q es) (steps_of_shapes ss))
+        (sym (same_shapes (shapes_found contours shapes) result
+        (subst (λ k. AreKeptOrThinned k (shapes_found contours shapes) result) keep shown_found)))
+        (kept.whole all shapes found).each_once;
+    winds = λ all p off. (kept.whole all shapes found).winds q.preserve_output_collinear result shown_found p;
+    points_once = once;
+    shown_points_once = λ grouped. shown_once q.preserve_output_collinear (shapes_found contours shapes) result
+        shown_found (once grouped);
+  }
+    where
+      shown_found : AreKeptOrThinned q.preserve_output_collinear (shapes_found contours shapes) result
+      shown_found = subst (λ ss. AreKeptOrThinned q.preserve_output_collinear ss result) same_found shown
+
+-- ---- in one list
 
 module _ (q : Asked) (es : List CountedEdge) (kept : List (List Step)) (are : AreKeptWalks q es kept) where
   -- with the minimum area zero all walks are kept
@@ -48,54 +95,6 @@ module _ (q : Asked) (es : List CountedEdge) (kept : List (List Step)) (are : Ar
 
   contours_cut : IsCut (filled_asked q) (is_kept q) (selected_of q es) contours
   contours_cut = record { walks = are.walks; cut = are.cut.cut; are = ap (contours_from (filled_asked q) 0) are.are }
-
-  -- ---- bound to shapes
-
-  module _ (shapes : List (Option ℕ)) (found : AreShapesFound (filled_asked q) contours shapes) where
-    abbrev bound : List BoundWalk
-    bound = with_shape_numbers kept shapes
-
-    bound_are : q.min_output_area ≡ 0 → AreBound (filled_asked q) kept bound
-    bound_are all = are_bound (region_asked q) subj_of clip_of es (filled_asked q) kept (cut_all all) shapes found
-
-    -- both give the same shapes
-    same_found : points_of_shapes (shapes_of (filled_asked q) bound) ≡ shapes_found contours shapes
-    same_found = ap points_of_shapes
-        (sym (bound_contours (filled_asked q) kept shapes (found.counted ∙ as_many (filled_asked q) kept)))
-
-    -- the shapes have each selected step once
-    each_once : q.min_output_area ≡ 0 →
-        IsPermutation (selected_of q es) (steps_of_shapes (shapes_found contours shapes))
-    each_once all = subst (λ ss. IsPermutation (selected_of q es) (steps_of_shapes ss)) same_found
-        (shapes_have_each_step (region_asked q) subj_of clip_of es (filled_asked q) kept (cut_all all) bound
-        (bound_are all))
-
-    -- what shows the shapes is the result
-    pub result_shown : q.ogc ≡ false → (result : List (List (List Point))) →
-        AreKeptOrThinned q.preserve_output_collinear (points_of_shapes (shapes_of (filled_asked q) bound)) result →
-        IsResult q es result
-    result_shown no_groups result shown = record {
-      contours = contours;
-      cut = subst (λ t. IsCutBy t (filled_asked q) (is_kept q) (selected_of q es) contours)
-          (sym no_groups) contours_cut;
-      shapes = shapes;
-      found = found;
-      shown = shown_found;
-      none_lost = λ all. no_hole_is_lost (region_asked q) subj_of clip_of es (filled_asked q) kept
-          (cut_all all) shapes found;
-      each_once = each_once;
-      kept_each_once = λ all keep. subst (λ ss. IsPermutation (selected_of q es) (steps_of_shapes ss))
-          (sym (same_shapes (shapes_found contours shapes) result
-          (subst (λ k. AreKeptOrThinned k (shapes_found contours shapes) result) keep shown_found))) (each_once all);
-      winds = λ all p off. shapes_wind (region_asked q) subj_of clip_of es (filled_asked q) kept (cut_all all) bound
-          (bound_are all)
-          q.preserve_output_collinear result shown p;
-    }
-      where
-        shown_found : AreKeptOrThinned q.preserve_output_collinear (shapes_found contours shapes) result
-        shown_found = subst (λ ss. AreKeptOrThinned q.preserve_output_collinear ss result) same_found shown
-
-  -- ---- in one list
 
   -- the points of the contours are those of the walks
   same_points : map points_of (walks_in contours) ≡ map points_of kept

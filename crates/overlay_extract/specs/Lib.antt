@@ -1,3 +1,3 @@
-pub mod Assembly
 pub mod Laws
+pub mod Places
 pub mod Results

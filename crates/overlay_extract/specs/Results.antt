@@ -1,5 +1,5 @@
 -- What an overlay answers: the contours that the selected steps of an arrangement are cut into, bound to shapes.
-use Rattle.std.specs.Prelude.{◌≡◌, ℕ, true, List, map, filter, Option}
+use Rattle.std.specs.Prelude.{◌≡◌, ℕ, true, List, All, map, filter, Option}
 use Rattle.std.specs.List.{AllZip, flat_map}
 use Rattle.std.specs.List.Sorted.{IsPermutation}
 use Rattle.overlay_geom.specs.Plane.{Point, Step, PlanePoint, IsOff, steps_of, points_of, winding}
@@ -8,6 +8,7 @@ use Rattle.overlay_geom.specs.Thinned.{IsKeptOrThinned}
 use Rattle.overlay_plane.specs.Binding.{AreCutFrom}
 use Rattle.overlay_plane.specs.BoundContours.{AreShapesFound, NoHoleIsLost, walks_in, contours_bound, shapes_bound}
 use Rattle.overlay_plane.specs.ContourWindings.{wanted_winding}
+use Rattle.overlay_plane.specs.Groups.{HasEachPointOnce}
 use Rattle.overlay_plane.specs.RoledContours.{Contour, IsCut, IsCutBy}
 use Rattle.overlay_plane.specs.ShapeWindings.{points_of_shapes, steps_of_shapes, AreKeptOrThinned}
 pub use Rattle.overlay_walk.specs.Asked.{Asked, asked, region_asked, filled_asked, selected_of, is_kept}
@@ -51,6 +52,9 @@ pub record IsResult (q : Asked) (es : List CountedEdge) (result : List (List (Li
       IsPermutation (selected_of q es) (steps_of_shapes result)
   -- and round each point off the edges the result winds as asked
   pub winds : q.min_output_area ≡ 0 → WindsRoundRegion q es (steps_of_shapes result)
+  -- with ogc none of the contours visits a point twice, and none of the result
+  pub points_once : q.ogc ≡ true → All (All HasEachPointOnce) (shapes_found contours shapes)
+  pub shown_points_once : q.ogc ≡ true → All (All HasEachPointOnce) result
 
 -- the contours of an overlay over the edges of an arrangement, in one list in the order in which they are found: they
 -- are cut without groups, whatever is asked for

@@ -1,6 +1,6 @@
 //! The contours round the region where rules hold: bound to shapes, or in one list.
 
-ghost use Rattle.std.specs.Prelude.{◌≡◌, [], false, map, All, IfOk, OnOk, OnErr, IsOkUnless};
+ghost use Rattle.std.specs.Prelude.{◌≡◌, [], map, All, IfOk, OnOk, OnErr, IsOkUnless};
 ghost use Rattle.std.specs.List.{AllZip};
 ghost use Rattle.overlay_geom.specs.Flat.{paths_in};
 ghost use Rattle.overlay_geom.specs.Packed.{IsPacked};
@@ -14,6 +14,7 @@ ghost use Rattle.overlay_walk.specs.Walks.{plain_walks};
 ghost use Rattle.overlay_extract.specs.Results.{asked, AreKeptWalks, IsResult, IsContoursResult};
 
 use crate::assemble::{assembled, contour};
+use crate::places::shape_places;
 use overlay_arrange::count::EdgeCount;
 use overlay_arrange::graph::Graph;
 use overlay_arrange::options::IntOverlayOptions;
@@ -24,36 +25,38 @@ use overlay_geom::number::IntNumber;
 use overlay_geom::path::IntShapes;
 use overlay_scan::list::ScanList;
 use overlay_walk::area::large_walks;
-use overlay_walk::bind::bind;
+use overlay_walk::bind::bind_contours;
 use overlay_walk::buffer::BooleanExtractionBuffer;
+use overlay_walk::kept::kept_contours;
 use overlay_walk::selected::selected_walks;
 use overlay_walk::step::Step;
 use std::alloc::Allocator;
 
 /// The shapes round the region where the rules hold, that of the graph and the overlay rule, of the
 /// windings that the graph's edges make: the outline of each, and then its holes, both in the order in
-/// which they are found. Contours below the minimum area are left out. The buffer lends its room. The
-/// only refusal is `Memory`.
+/// which they are found. With `ogc` no contour visits a point twice, and the holes of an outline's own group
+/// come before the others of its shape. Contours below the minimum area are left out, a hole of an outline's
+/// group with its outline. The buffer lends its room. The only refusal is `Memory`.
 pub fn extract_shapes<I: IntNumber, C: EdgeCount, A: Allocator + Clone>(
     graph: &Graph<I, C, A>,
     overlay_rule: OverlayRule,
     options: IntOverlayOptions<I::WideUInt>,
     buffer: &mut BooleanExtractionBuffer<I, A>,
 ) -> Result<IntShapes<I, A>, OverlayError>
-    requires balanced { HasBalancedCounts (graph_edges graph.now) }
-    requires no_ogc { options.ogc ≡ false }
+    requires { HasBalancedCounts (graph_edges graph.now) }
     ensures result { IfOk result (λ v. IsResult
         (asked I.Wide.width I.WideUInt.natural graph.now.fill_rule overlay_rule options)
         (graph_edges graph.now) (plain_shapes I.whole v.items)) }
     ensures err { IsOkUnless result OverlayError.Memory }
 {
-    let direction = options.output_direction;
-    let walks = kept_walks(graph, overlay_rule, options, buffer)?;
+    let contours = kept_contours(graph, overlay_rule, options, buffer)?;
     let alloc = graph.allocator().clone()?;
     let mut scan: ScanList<I, usize, A> = ScanList::default(alloc.clone()?);
-    let shapes = bind(alloc.clone()?, &mut scan, &walks, direction)?;
+    let direction = options.output_direction;
+    let found = bind_contours(alloc.clone()?, &mut scan, &contours, direction)?;
+    let places = shape_places(alloc.clone()?, &contours, &found)?;
     let keeps_points = options.preserve_output_collinear;
-    assembled(alloc, &walks, &shapes, direction, keeps_points)
+    assembled(alloc, &contours, &places, keeps_points)
 }
 
 /// The contours round the region where the rules hold, as they are found, one behind the other in the

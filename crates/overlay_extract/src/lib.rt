@@ -4,3 +4,4 @@
 mod assemble;
 pub mod extract;
 pub mod laws;
+mod places;

@@ -7,6 +7,7 @@ pub mod Crossing
 pub mod Divided
 pub mod Entries
 pub mod FlatPaths
+pub mod FlatShapes
 pub mod Identities
 pub mod JoinedLists
 pub mod Mapped

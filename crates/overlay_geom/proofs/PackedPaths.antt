@@ -14,19 +14,26 @@ behind_rises n rs end (next {r} {rs = rest} rises h) = let more = behind_rises r
     omega (arith, rises, more)
 
 -- and are inside
-behind_inside : (n : ℕ) (rs : List (Range ℕ)) (end : ℕ) → AreBehind n rs end → AreInside end rs
+pub behind_inside : (n : ℕ) (rs : List (Range ℕ)) (end : ℕ) → AreBehind n rs end → AreInside end rs
 behind_inside n rs end no_range = All-nil (IsInside end)
 behind_inside n rs end (next {r} {rs = rest} rises h) =
     All-cons (IsInside end) r rest (record { rises = rises; ends = behind_rises r.end rest end h })
     (behind_inside r.end rest end h)
 
 -- one range more
-behind_more : (n : ℕ) (rs : List (Range ℕ)) (end : ℕ) (r : Range ℕ) → r.start ≡ end → r.start ≤ r.end →
+pub behind_more : (n : ℕ) (rs : List (Range ℕ)) (end : ℕ) (r : Range ℕ) → r.start ≡ end → r.start ≤ r.end →
     AreBehind n rs end →
     AreBehind n (rs ++ r ∷ []) r.end
 behind_more n rs end r from rises no_range = subst (λ k. AreBehind k (r ∷ []) r.end) from (next rises no_range)
 behind_more n rs end r from rises (next {r = s} {rs = rest} first h) = next first
     (behind_more s.end rest end r from rises h)
+
+-- and more ranges
+pub behind_joined : (n : ℕ) (rs : List (Range ℕ)) (m : ℕ) (ss : List (Range ℕ)) (end : ℕ) → AreBehind n rs m →
+    AreBehind m ss end →
+    AreBehind n (rs ++ ss) end
+behind_joined n rs m ss end no_range more = more
+behind_joined n rs m ss end (next {r} {rs = rest} first h) more = next first (behind_joined r.end rest m ss end h more)
 
 -- nothing is packed
 pub packed_none : {X : Type 0} (xs : List X) (rs : List (Range ℕ)) → xs ≡ [] → rs ≡ [] → IsPacked xs rs

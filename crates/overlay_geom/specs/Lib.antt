@@ -2,6 +2,7 @@ pub mod Counts
 pub mod Edges
 pub mod Flat
 pub mod FlatLends
+pub mod FlatShapes
 pub mod Lines
 pub mod Merged
 pub mod Numbered

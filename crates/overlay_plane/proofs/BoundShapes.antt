@@ -16,7 +16,7 @@ use Rattle.overlay_plane.specs.RoledContours.{Role, outline, own_hole, free_hole
 use Rattle.overlay_plane.specs.RoledContours.{is_own_hole_of, is_free_hole}
 use Rattle.overlay_plane.specs.BoundContours.{BoundContour, own_holes, found_holes}
 use Rattle.overlay_plane.specs.BoundContours.{shape_begun_by, shapes_bound}
-use Rattle.overlay_plane.proofs.ContourNumbers.{AreNumbers, IsNumber, after, outline_count}
+use Rattle.overlay_plane.specs.ContourNumbers.{IsNumber, after, AreNumbers, outline_count}
 use Rattle.overlay_plane.proofs.ShapeNumbers.{is_from, from_start, number_split, not_below}
 use Rattle.overlay_plane.proofs.SplitLists.{IsPermutation-past, IsSplit, flat_map-split, filter-same, filter-all}
 use Rattle.overlay_plane.proofs.SplitLists.{filter-none}

@@ -19,12 +19,14 @@ use Rattle.overlay_plane.specs.Binding.{walks_of}
 use Rattle.overlay_plane.specs.RoledContours.{Role, outline, own_hole, free_hole, Contour, stands_in, is_outline}
 use Rattle.overlay_plane.specs.BoundContours.{BoundContour, walks_in, known_in, has_one_shape, AreShapesFound}
 use Rattle.overlay_plane.specs.BoundContours.{contours_bound, shapes_bound}
+use Rattle.overlay_plane.specs.ContourNumbers.{AreNumbers, outline_count}
 use Rattle.overlay_plane.specs.Roles.{IsFoundAt, IsNotFoundAt, IsShapeNumber}
 use Rattle.overlay_plane.specs.ShapeWindings.{steps_of_shapes, points_of_shapes}
 use Rattle.overlay_plane.specs.KeptContours.{AreKeptContours, KeepsAll, AllShapesHaveEachStep, AllShapesWind}
 use Rattle.overlay_plane.proofs.AlongLines.{winding_part}
 use Rattle.overlay_plane.proofs.BoundShapes.{number_by, is_lost, parts_split, parts_alike}
-use Rattle.overlay_plane.proofs.ContourNumbers.{AreNumbers, outline_count, number_counted, found_counted, cut_numbered}
+use Rattle.overlay_plane.proofs.ContourNumbers.{number_counted, cut_numbered}
+use Rattle.overlay_plane.proofs.FoundNumbers.{number_found}
 use Rattle.overlay_plane.proofs.FreeHoles.{all_holes_have_shapes}
 use Rattle.overlay_plane.proofs.KeptContours.{can_be_bound, each_taken_once}
 use Rattle.overlay_plane.proofs.LaterEntries.{Contains-cases}
@@ -34,14 +36,14 @@ use Rattle.overlay_plane.proofs.SelectedWindings.{selected_steps_wind}
 use Rattle.overlay_plane.proofs.ShapeSteps.{single_parts, steps_of_all, thinned_shapes_wind_alike}
 
 -- bound contours are the contours
-bound_again : (contours : List Contour) (shapes : List (Option ℕ)) → length shapes ≡ length contours →
+pub bound_again : (contours : List Contour) (shapes : List (Option ℕ)) → length shapes ≡ length contours →
     map (λ (b : BoundContour). b.contour) (contours_bound contours shapes) ≡ contours
 bound_again [] shapes counted = refl
 bound_again (c ∷ cs) [] counted = absurd (omega (arith, counted))
 bound_again (c ∷ cs) (s ∷ shapes) counted = ap (λ ds. c ∷ ds) (bound_again cs shapes (omega (arith, counted)))
 
 -- each stands at a place, with the shape there
-bound_at : (contours : List Contour) (shapes : List (Option ℕ)) (b : BoundContour) →
+pub bound_at : (contours : List Contour) (shapes : List (Option ℕ)) (b : BoundContour) →
     Contains (contours_bound contours shapes) b →
     (i : ℕ) × (slice_get contours i ≡ Some b.contour) × (slice_index_or shapes i None ≡ b.shape)
 bound_at [] shapes b at = absurd (elim at.1 [ ])
@@ -67,18 +69,7 @@ module _ (holds : ℤ → ℤ → Bool) (subj clip : CountedEdge → ℤ) (es : 
   numbered : AreNumbers 0 contours
   numbered = cut_numbered in_groups filled keeps steps contours kept.cut
 
-  -- a number that is found is that of an outline
-  number_found : (one : Bool) → has_one_shape contours ≡ one → (i : ℕ) (shape : Option ℕ) →
-      MatchBool one (shape ≡ Some 0) (IsShapeNumber filled (walks_in contours) (known_in contours) i shape) → (m : ℕ) →
-      shape ≡ Some m → m < outline_count contours
-  number_found true one i shape is m same =
-      let lone = eqb-true (outline_count contours) 1 one in
-      let first = some-same m 0 (sym same ∙ is) in omega (arith, lone, first)
-  number_found false one i shape is m same = found_counted filled contours numbered i m
-      (MatchOption-at_some (IsNotFoundAt filled (walks_in contours) (known_in contours) i)
-      (λ n. IsFoundAt filled (walks_in contours) (known_in contours) i n) m same is)
-
-  -- so is each number of a hole
+  -- each number of a hole is that of an outline
   number_below : (b : BoundContour) → Contains bound b → is_outline b.contour.role ≡ false → (m : ℕ) →
       number_by b.contour.role b.shape ≡ Some m → m < outline_count contours
   number_below b c = by b.contour.role refl
@@ -91,8 +82,8 @@ module _ (holds : ℤ → ℤ → Bool) (subj clip : CountedEdge → ℤ) (es : 
       by (outline n) is hole m same = absurd (false≢true (sym hole))
       by (own_hole n) is hole m same = let counted = number_counted 0 contours numbered b.contour
           (Contains-place contours at.0 b.contour at.1) m (ap stands_in is ∙ same) in omega arith
-      by free_hole is hole m same = number_found (has_one_shape contours) refl at.0 (slice_index_or shapes at.0 None)
-          (found.found at.0 b.contour at.1 is) m (at.2 ∙ same)
+      by free_hole is hole m same = number_found filled contours numbered shapes found at.0 b.contour at.1 is m
+          (at.2 ∙ same)
 
   -- the contours' parts are those of the bound contours
   bound_parts : {Y : Type 0} (f : List Step → List Y) →

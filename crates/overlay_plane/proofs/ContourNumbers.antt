@@ -14,32 +14,12 @@ use Rattle.overlay_plane.specs.RoledContours.{contours_from, kept_group, hole_of
 use Rattle.overlay_plane.specs.RoledContours.{group_contours_from}
 use Rattle.overlay_plane.specs.RoledContours.{outline_of, IsCutBy}
 use Rattle.overlay_plane.specs.BoundContours.{walks_in, known_in}
+use Rattle.overlay_plane.specs.ContourNumbers.{IsNumber, after, AreNumbers, outline_count}
 use Rattle.overlay_plane.specs.Roles.{IsFoundAt}
 use Rattle.overlay_plane.specs.Roles.IsFoundAt.{direct, through}
 use Rattle.overlay_plane.proofs.LaterEntries.{Contains-cases}
 use Rattle.overlay_plane.proofs.PlacesOfContours.{known_of}
 use Rattle.overlay_plane.proofs.RoledWalks.{some-same}
-
--- where n outlines came before: the next outline has this number, and a hole of a group has a smaller one
-abbrev pub IsNumber : ℕ → Role → Type 0
-IsNumber n (outline m) = m ≡ n
-IsNumber n (own_hole m) = m < n
-IsNumber n free_hole = ⊤
-
--- how many outlines came before what follows
-abbrev pub after : ℕ → Role → ℕ
-after n (outline m) = suc n
-after n (own_hole m) = n
-after n free_hole = n
-
--- so the roles are numbered, from n on
-abbrev pub AreNumbers : ℕ → List Contour → Type 0
-AreNumbers n [] = ⊤
-AreNumbers n (c ∷ cs) = IsNumber n c.role × AreNumbers (after n c.role) cs
-
--- how many outlines there are
-abbrev pub outline_count : List Contour → ℕ
-outline_count cs = length (filter (λ (c : Contour). is_outline c.role) cs)
 
 -- ---- each number is that of an outline
 

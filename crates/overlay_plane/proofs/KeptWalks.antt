@@ -25,11 +25,11 @@ module _ {X : Type 0} (R : X → X → Type 0) where
   Each-first [] ys h = tt
   Each-first (x ∷ xs) ys h = ((λ z c. h.0 z (Contains-append_left xs ys z c)), Each-first xs ys h.1)
 
-  Each-second : (xs ys : List X) → Each R (xs ++ ys) → Each R ys
+  pub Each-second : (xs ys : List X) → Each R (xs ++ ys) → Each R ys
   Each-second [] ys h = h
   Each-second (x ∷ xs) ys h = Each-second xs ys h.1
 
-  Each-across : (xs ys : List X) → Each R (xs ++ ys) → (x y : X) → Contains xs x → Contains ys y → R x y
+  pub Each-across : (xs ys : List X) → Each R (xs ++ ys) → (x y : X) → Contains xs x → Contains ys y → R x y
   Each-across [] ys h x y c d = absurd (elim c.1 [ ])
   Each-across (z ∷ zs) ys h x y c d =
       elim (Contains-cases z zs x c) [

@@ -51,6 +51,7 @@ pub mod Entries
 pub mod ExactRounds
 pub mod FilledEdges
 pub mod FoundEntries
+pub mod FoundNumbers
 pub mod FreeHoles
 pub mod GreatestBelow
 pub mod GreatestTaken
@@ -106,6 +107,7 @@ pub mod NodeStarts
 pub mod NodeUprights
 pub mod NodeWindings
 pub mod NodesMakeBalance
+pub mod OneHoleRound
 pub mod OrbitSteps
 pub mod OrbitWalks
 pub mod OrbitsApart
@@ -116,6 +118,7 @@ pub mod PartsOfLists
 pub mod PieceCounts
 pub mod Pigeonhole
 pub mod Placements
+pub mod PlacedHoles
 pub mod PlacesOfContours
 pub mod PointsAlong
 pub mod ReachedEdges
@@ -134,6 +137,7 @@ pub mod SelectedLists
 pub mod SelectedWindings
 pub mod SettledMeetings
 pub mod SettledPieces
+pub mod ShapeLinks
 pub mod ShapeNumbers
 pub mod ShapeSteps
 pub mod ShapeWalks
@@ -166,6 +170,7 @@ pub mod Totals
 pub mod TurnOrder
 pub mod Turning
 pub mod Under
+pub mod WalkedEdges
 pub mod Walks
 pub mod WalksApart
 pub mod WalksOfCuts

@@ -22,7 +22,7 @@ use Rattle.overlay_plane.proofs.ContourSteps.{contour_long}
 use Rattle.overlay_plane.proofs.Anchors.{anchor_forward}
 
 -- where the edge of a step starts before a point, so does an end of the step lie
-end_before : (s : Step) (q : Point) → point_lt (edge_of s).a q ≡ true → StepHasEndBefore q s
+pub end_before : (s : Step) (q : Point) → point_lt (edge_of s).a q ≡ true → StepHasEndBefore q s
 end_before s q before = by (is_forward s) before
   where
     by : (t : Bool) → point_lt (edge_by t s).a q ≡ true → StepHasEndBefore q s

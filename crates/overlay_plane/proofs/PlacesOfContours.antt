@@ -26,6 +26,13 @@ pub contour_at : (contours : List Contour) (i : ℕ) (w : List Step) → slice_g
     (c : Contour) × (slice_get contours i ≡ Some c) × (c.steps ≡ w)
 contour_at contours i w at = place_mapped (λ (c : Contour). c.steps) contours i w at
 
+-- and the walk of a contour stands at its place
+pub place_of_walk : (contours : List Contour) (i : ℕ) (c : Contour) → slice_get contours i ≡ Some c →
+    slice_get (walks_in contours) i ≡ Some c.steps
+place_of_walk [] i c at = absurd (none-some c at)
+place_of_walk (d ∷ ds) zero c at = ap (λ (k : Contour). Some k.steps) (some-same d c at)
+place_of_walk (d ∷ ds) (suc i) c at = place_of_walk ds i c at
+
 -- the number known at a place is that of the contour there
 pub known_at : (contours : List Contour) (i : ℕ) (c : Contour) → slice_get contours i ≡ Some c →
     slice_index_or (known_in contours) i None ≡ stands_in c.role

@@ -1,14 +1,15 @@
 -- The hole round an island, which is an outline: the hole that has the next filled-below edge below the island's
 -- anchor, or the hole round the outline that has it; and the links from shapes to the islands in their holes.
 use Rattle.std.specs.Prelude.{◌≡◌, ℕ, suc, ◌==◌, nat_lt, Bool, true, false, cond, ◌&&◌, ◌||◌, List, [], ◌∷◌, All}
-use Rattle.std.specs.Prelude.{AllPairs}
+use Rattle.std.specs.Prelude.{AllPairs, length, take, filter}
 use Rattle.std.specs.Prelude.{Contains, slice_get, Option, Some, MatchOption}
 use Rattle.std.specs.List.{AllZip}
 use Rattle.overlay_plane.specs.Turn.{Hand, other_hand}
 use Rattle.overlay_plane.specs.Binding.{HasNoneBelow}
 use Rattle.overlay_plane.specs.Roles.{HasNextAt}
-use Rattle.overlay_plane.specs.RoledContours.{outline, own_hole, Contour, is_outline}
+use Rattle.overlay_plane.specs.RoledContours.{outline, own_hole, free_hole, Contour, is_outline}
 use Rattle.overlay_plane.specs.BoundContours.{walks_in}
+use Rattle.overlay_plane.specs.KeptContours.{CanBeBound}
 
 -- the contour at place j has the next filled-below edge below the anchor of the one at place i: what is filled below,
 -- with the filled side by one hand, is filled above with it by the other
@@ -68,6 +69,13 @@ link_lt k l = nat_lt k.parent_shape l.parent_shape || (k.parent_shape == l.paren
     (nat_lt k.parent_contour l.parent_contour ||
     (k.parent_contour == l.parent_contour && nat_lt k.child_shape l.child_shape)))
 
+-- each contour stands in a shape from the start: the number of an outline is how many outlines come before it, and none
+-- is a hole whose shape is still to be found
+pub record AreInShapes (contours : List Contour) : Type 0 where
+  pub numbered : (i n : ℕ) (c : Contour) → slice_get contours i ≡ Some c → c.role ≡ outline n →
+      n ≡ length (filter (λ d. is_outline d.role) (take i contours))
+  pub none_free : (i : ℕ) (c : Contour) → slice_get contours i ≡ Some c → ¬ (c.role ≡ free_hole)
+
 -- among contours that all stand in shapes the link tells of an outline and the hole round it
 pub record IsLink (filled : Hand) (contours : List Contour) (l : ChildLink) : Type 0 where
   pub place : ℕ
@@ -84,3 +92,21 @@ pub record AreLinks (filled : Hand) (contours : List Contour) (links : List Chil
   pub ascending : AllPairs (λ k l. link_lt k l ≡ true) links
   pub are : All (IsLink filled contours) links
   pub every : (l : ChildLink) → IsLink filled contours l → Contains links l
+
+-- ---- laws
+
+-- of contours that can be bound at most one hole is round each
+abbrev pub OneHoleIsRound : Type 0
+OneHoleIsRound = (filled : Hand) (contours : List Contour) → CanBeBound filled (walks_in contours) → (i j k : ℕ) →
+    IsHoleRound filled contours i j → IsHoleRound filled contours i k → j ≡ k
+
+-- and not one and none
+abbrev pub NoHoleIsNone : Type 0
+NoHoleIsNone = (filled : Hand) (contours : List Contour) → CanBeBound filled (walks_in contours) → (i k : ℕ) →
+    IsHoleRound filled contours i k → ¬ (HasNoHoleRound filled contours i)
+
+-- so of contours that stand in shapes each shape is the child of at most one link
+abbrev pub EachShapeIsChildOnce : Type 0
+EachShapeIsChildOnce = (filled : Hand) (contours : List Contour) → CanBeBound filled (walks_in contours) →
+    AreInShapes contours → (k l : ChildLink) → IsLink filled contours k → IsLink filled contours l →
+    k.child_shape ≡ l.child_shape → k ≡ l

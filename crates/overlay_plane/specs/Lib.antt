@@ -8,6 +8,7 @@ pub mod Binding
 pub mod BoundContours
 pub mod Carried
 pub mod ChainLinks
+pub mod ContourNumbers
 pub mod ContourWindings
 pub mod Contours
 pub mod CutPoints
@@ -30,6 +31,7 @@ pub mod Nodes
 pub mod Orbits
 pub mod OrbitsSoFar
 pub mod Order
+pub mod PlacedContours
 pub mod Predicates
 pub mod Rays
 pub mod Regions

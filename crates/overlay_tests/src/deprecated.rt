@@ -61,7 +61,6 @@ fn check<I: OverlayInt + PartialEq + From<i16>>(
     rule: OverlayRule,
     wanted: Shapes<'_>,
 ) -> Result<(), OverlayError>
-    requires no_ogc { overlay.old.options.ogc ≡ false }
     ensures { overlay.new.options ≡ overlay.old.options }
 {
     let wanted = shapes_of(alloc, wanted)?;

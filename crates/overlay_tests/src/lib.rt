@@ -18,6 +18,8 @@ mod minimum;
 #[cfg(test)]
 mod names;
 #[cfg(test)]
+mod ogc;
+#[cfg(test)]
 mod one_call;
 #[cfg(test)]
 mod one_list;
@@ -38,6 +40,8 @@ mod selected;
 mod settings;
 #[cfg(test)]
 mod shapes;
+#[cfg(test)]
+mod simplify;
 #[cfg(test)]
 mod sources;
 #[cfg(test)]

@@ -37,7 +37,6 @@ fn are_the_corner<A: Allocator>(shapes: &IntShapes<i32, A>) -> bool {
 
 // What both squares fill: whether it is answered as it is to be, or the refusal.
 fn answers_the_corner<'a>(overlay: &mut Refusable<'a>) -> Result<bool, OverlayError>
-    requires no_ogc { overlay.old.options.ogc ≡ false }
     ensures { overlay.new.options ≡ overlay.old.options }
 {
     let shapes = overlay.overlay(OverlayRule::Intersect, FillRule::EvenOdd)?;
@@ -45,9 +44,7 @@ fn answers_the_corner<'a>(overlay: &mut Refusable<'a>) -> Result<bool, OverlayEr
 }
 
 // Checks that the builder has failed, and answers again once it is cleared.
-fn check_failed(rt: &impl Abort, overlay: &mut Refusable<'_>) -> Result<(), OverlayError>
-    requires no_ogc { overlay.old.options.ogc ≡ false }
-{
+fn check_failed(rt: &impl Abort, overlay: &mut Refusable<'_>) -> Result<(), OverlayError> {
     assert!(rt; answers_the_corner(overlay) == Err(OverlayError::Failed));
     assert!(rt; is_refused(add_squares(rt, overlay), OverlayError::Failed));
     overlay.clear();

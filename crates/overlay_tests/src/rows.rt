@@ -50,7 +50,6 @@ fn answers<I: OverlayInt + PartialEq + From<i16>>(
     overlay: &mut Overlay<I, Global>,
     row: &Row<'_>,
 ) -> Result<bool, OverlayError>
-    requires { overlay.old.options.ogc ≡ false }
     ensures { overlay.new.options ≡ overlay.old.options }
 {
     let wanted = shapes_of(alloc, row.wanted)?;
@@ -64,9 +63,7 @@ fn holds<I: OverlayInt + PartialEq + From<i16>>(
     alloc: Global,
     row: &Row<'_>,
     options: IntOverlayOptions<I::WideUInt>,
-) -> Result<bool, OverlayError>
-    requires { options.ogc ≡ false }
-{
+) -> Result<bool, OverlayError> {
     let mut overlay = builder_of(rt, alloc, row, options)?;
     let first = answers::<I>(alloc, &mut overlay, row) == Ok(true);
     let again = answers::<I>(alloc, &mut overlay, row) == Ok(true);
@@ -104,6 +101,30 @@ pub(crate) fn check_kept<I: OverlayInt + PartialEq + From<i16>>(
     row: &Row<'_>,
 ) -> Result<(), Fail> {
     assert!(rt; holds::<I>(rt, alloc, row, IntOverlayOptions::keep_all_points())?);
+    Ok(())
+}
+
+/// Checks the row where no contour visits a point twice.
+pub(crate) fn check_ogc<I: OverlayInt + PartialEq + From<i16>>(
+    rt: &impl Abort,
+    alloc: Global,
+    row: &Row<'_>,
+) -> Result<(), Fail> {
+    assert!(rt; holds::<I>(rt, alloc, row, IntOverlayOptions::ogc())?);
+    Ok(())
+}
+
+/// Checks the row where no contour visits a point twice, with clockwise output.
+pub(crate) fn check_ogc_clockwise<I: OverlayInt + PartialEq + From<i16>>(
+    rt: &impl Abort,
+    alloc: Global,
+    row: &Row<'_>,
+) -> Result<(), Fail> {
+    let clockwise = IntOverlayOptions {
+        output_direction: ContourDirection::Clockwise,
+        ..IntOverlayOptions::ogc()
+    };
+    assert!(rt; holds::<I>(rt, alloc, row, clockwise)?);
     Ok(())
 }
 

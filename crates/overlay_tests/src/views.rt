@@ -46,9 +46,7 @@ fn shows<I: OverlayInt + PartialEq + From<i16>>(
     rule: OverlayRule,
     buffer: &mut BooleanExtractionBuffer<I, Global>,
     contour: Points<'_>,
-) -> Result<bool, OverlayError>
-    requires { view.now.viewed.now.options.ogc ≡ false }
-{
+) -> Result<bool, OverlayError> {
     let wanted = shapes_of(alloc, &[&[contour]])?;
     Ok(view.extract_shapes(rule, buffer)? == wanted)
 }
@@ -72,9 +70,7 @@ fn check_asked_again<I: OverlayInt + PartialEq + From<i16>>(
     rt: &impl Abort,
     alloc: Global,
     view: &OverlayGraph<'_, I, (), Global>,
-) -> Result<(), OverlayError>
-    requires { view.now.viewed.now.options.ogc ≡ false }
-{
+) -> Result<(), OverlayError> {
     let mut buffer = BooleanExtractionBuffer::default(alloc);
     assert!(rt; shows(alloc, view, OverlayRule::Intersect, &mut buffer, CORNER)?);
     assert!(rt; shows(alloc, view, OverlayRule::Union, &mut buffer, BOTH)?);
@@ -96,9 +92,7 @@ fn check_view<I: OverlayInt + PartialEq + From<i16>>(
     rt: &impl Abort,
     alloc: Global,
     overlay: &mut Overlay<I, Global>,
-) -> Result<usize, OverlayError>
-    requires { overlay.old.options.ogc ≡ false }
-{
+) -> Result<usize, OverlayError> {
     match overlay.build_graph_view(FillRule::EvenOdd)? {
         Some(view) => {
             check_asked_again(rt, alloc, &view)?;

@@ -51,7 +51,7 @@ fn bad_lines(rt: HostRuntime) {
         (b"subject", 2),
         (b"subject 0 0\n\n", 3),
         (b"run overlay Union NonZero\n\nclip\n", 3),
-        (b"clip 0 0\nrun overlay Union NonZero ogc\n", 2),
+        (b"clip 0 0\nrun hierarchy Union NonZero\n", 2),
         (b"\nclip 0 0\nrun overlay Union NonZero min\n", 3),
     ];
     for (input, line) in rows {
@@ -62,7 +62,7 @@ fn bad_lines(rt: HostRuntime) {
 
 #[test]
 fn bad_commands(rt: HostRuntime) {
-    let rows: [&[u8]; 26] = [
+    let rows: [&[u8]; 25] = [
         b"run",
         b"run 7",
         b"run overlay",
@@ -76,7 +76,6 @@ fn bad_commands(rt: HostRuntime) {
         b"run overlay Union NonZero clockwise clockwise",
         b"run overlay Union NonZero keep keep",
         b"run overlay Union NonZero keep clockwise keep",
-        b"run overlay Union NonZero ogc",
         b"run overlay Union NonZero ogc ogc",
         b"run overlay Union NonZero min",
         b"run overlay Union NonZero min -1",

@@ -1,5 +1,5 @@
 -- What a query on a builder, to which all contours were added, says of the contours; and the text of its answer.
-use Rattle.std.proofs.Common.{◌≡◌, inl, ℕ, false, List, map, Option, Some, None, IfSome, sym, ap, subst, ◌∙◌}
+use Rattle.std.proofs.Common.{◌≡◌, inl, ℕ, false, List, map, Option, Some, None, IfSome, sym, subst, ◌∙◌}
 use Rattle.std.specs.Prelude.{Result, Ok, Err, IfOk, MatchResult, unwrap_or}
 use Rattle.std.specs.Int.{w128}
 use Rattle.overlay_geom.specs.declared.error.OverlayError.{OverlayError}
@@ -21,11 +21,12 @@ use Rattle.polyover_engine.specs.Answers.{AreEdges, Answers, IsAnswer, asked_by}
 use Rattle.polyover_engine.specs.Builders.{HasAdded}
 use Rattle.polyover_text.specs.Grammar.{GivenFigures, Asks, input_lines}
 
--- what is asked of a builder with these options, of which the query sets three
+-- what is asked of a builder with these options, of which the query sets four
 abbrev pub asked_with : OverlayQuery → IntOverlayOptions ℕ → Asked
 asked_with query options = asked w128 (λ n. n) query.fill_rule query.overlay_rule (record options {
   output_direction = query.output.output_direction;
   preserve_output_collinear = query.output.preserve_output_collinear;
+  ogc = query.output.ogc;
   min_output_area = unwrap_or query.output.min_output_area 0;
 })
 
@@ -41,10 +42,6 @@ module _ (cs : List GivenPath) (b : Builder ℕ) (h : HasAdded cs b) where
   edges_answered limit vectors fill new (Err e) query listed =
       query_refused limit cs (held_by b) new (Err e) h.holds h.made.ready query
 
-  -- what a query asks of it, as its settings say
-  asked_of_query : (query : OverlayQuery) → asked_with query b.options ≡ asked_by query
-  asked_of_query query = ap (λ t. record (asked_by query) { ogc = t }) h.made.options.for_ogc
-
   -- what an overlay answers, whatever the settings are that it sets
   pub shapes_answered : {V : Type 0} (limit : ℕ) (shapes : V → List (List (List Point))) (query : OverlayQuery)
       (old new : Held CountedEdge) (answer : Result V OverlayError) → AnswersQuery limit 64 old new answer →
@@ -53,8 +50,7 @@ module _ (cs : List GivenPath) (b : Builder ℕ) (h : HasAdded cs b) where
       → MatchResult answer (λ v. IsResultOfPaths (asked_by query) cs (shapes v)) (λ e. MayRefusePaths cs e)
   shapes_answered limit shapes query old new (Ok v) answers content failed result =
       result_of_paths {E = OverlayError} (Ok v) shapes (asked_by query) cs old.edges new.edges
-      (subst (HoldsPaths false cs) (sym content) h.holds) answers.arranged
-      (subst (λ q. IsResult q new.edges (shapes v)) (asked_of_query query) result)
+      (subst (HoldsPaths false cs) (sym content) h.holds) answers.arranged result
   shapes_answered limit shapes query old new (Err e) answers content failed result =
       query_refused limit cs old new (Err e) (subst (HoldsPaths false cs) (sym content) h.holds)
       (failed ∙ h.made.ready) answers

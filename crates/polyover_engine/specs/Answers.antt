@@ -47,7 +47,7 @@ asked_by q = record {
   rule = q.overlay_rule;
   output_direction = q.output.output_direction;
   preserve_output_collinear = q.output.preserve_output_collinear;
-  ogc = false;
+  ogc = q.output.ogc;
   min_output_area = unwrap_or q.output.min_output_area 0;
   area_width = w128;
 }

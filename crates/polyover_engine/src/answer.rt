@@ -83,6 +83,7 @@ fn overlay_shapes<A: Allocator + Clone>(
     let mut builder = with_contours(alloc, contours)?;
     builder.options.output_direction = query.output.output_direction;
     builder.options.preserve_output_collinear = query.output.preserve_output_collinear;
+    builder.options.ogc = query.output.ogc;
     builder.options.min_output_area = query.output.min_output_area.unwrap_or(0);
     builder.overlay(query.overlay_rule, query.fill_rule)
 }

@@ -4,7 +4,7 @@ use Rattle.std.proofs.Common.{Option, Some, None, MatchOption, is_some}
 use Rattle.std.proofs.lemmas.Bool.{false≢true}
 use Rattle.overlay_arrange.specs.declared.options.ContourDirection.TheVariants.{CounterClockwise, Clockwise}
 use Rattle.polyover_text.specs.declared.options.OutputOptions.{OutputOptions}
-use Rattle.polyover_text.specs.Grammar.{Word, Line, IsArea, default_output, SetOptions, none, clockwise, keep, min}
+use Rattle.polyover_text.specs.Grammar.{Word, Line, IsArea, default_output, SetOptions, none, clockwise, keep, ogc, min}
 use Rattle.polyover_text.specs.Options.{SetsOption, SetsNothing}
 use Rattle.polyover_text.proofs.Numbers.{number_is_numeral}
 
@@ -41,6 +41,10 @@ after_keep : (old o : OutputOptions) (ws : Line) → SetOptions old (codes "keep
     → (old.preserve_output_collinear ≡ false) × SetOptions (record old { preserve_output_collinear = true }) ws o
 after_keep old o ws (keep e h) = (e, h)
 
+after_ogc : (old o : OutputOptions) (ws : Line) → SetOptions old (codes "ogc" ∷ ws) o
+    → (old.ogc ≡ false) × SetOptions (record old { ogc = true }) ws o
+after_ogc old o ws (ogc e h) = (e, h)
+
 pub turned_clockwise : (old : OutputOptions) (w : Word) (ws : Line) (o : Option OutputOptions) → w ≡ codes "clockwise"
     → MatchOption o (old.output_direction ≡ Clockwise)
     (λ new. (old.output_direction ≡ CounterClockwise) × (new ≡ record old { output_direction = Clockwise }))
@@ -62,6 +66,16 @@ points_kept old w ws (Some new) named h =
     subst (λ v. SetsOption old (v ∷ ws) new ws) (sym named)
     (subst (λ v. SetsOption old (codes "keep" ∷ ws) v ws) (sym h.1)
     (λ o. (λ all. (after_keep old o ws all).1, λ others. keep h.0 others)))
+
+pub groups_set : (old : OutputOptions) (w : Word) (ws : Line) (o : Option OutputOptions) → w ≡ codes "ogc"
+    → MatchOption o (old.ogc ≡ true) (λ new. (old.ogc ≡ false) × (new ≡ record old { ogc = true }))
+    → MatchOption o (SetsNothing old (w ∷ ws)) (λ new. SetsOption old (w ∷ ws) new ws)
+groups_set old w ws None named set =
+    subst (λ v. SetsNothing old (v ∷ ws)) (sym named) (λ o h. let e = (after_ogc old o ws h).0 in cc)
+groups_set old w ws (Some new) named h =
+    subst (λ v. SetsOption old (v ∷ ws) new ws) (sym named)
+    (subst (λ v. SetsOption old (codes "ogc" ∷ ws) v ws) (sym h.1)
+    (λ o. (λ all. (after_ogc old o ws all).1, λ others. ogc h.0 others)))
 
 -- ---- the minimum area
 
@@ -126,9 +140,10 @@ area_set old ws w n rest words unset area = λ o. (
 
 -- ---- other words
 
--- a word that is none of the three
+-- a word that is none of the four
 pub begins_no_option : (old o : OutputOptions) (w : Word) (ws : Line) → w ≢ codes "clockwise" → w ≢ codes "keep"
-    → w ≢ codes "min" → ¬ (SetOptions old (w ∷ ws) o)
-begins_no_option old o w ws no_clockwise no_keep no_min (clockwise e h) = no_clockwise refl
-begins_no_option old o w ws no_clockwise no_keep no_min (keep e h) = no_keep refl
-begins_no_option old o w ws no_clockwise no_keep no_min (min e a h) = no_min refl
+    → w ≢ codes "ogc" → w ≢ codes "min" → ¬ (SetOptions old (w ∷ ws) o)
+begins_no_option old o w ws no_clockwise no_keep no_ogc no_min (clockwise e h) = no_clockwise refl
+begins_no_option old o w ws no_clockwise no_keep no_ogc no_min (keep e h) = no_keep refl
+begins_no_option old o w ws no_clockwise no_keep no_ogc no_min (ogc e h) = no_ogc refl
+begins_no_option old o w ws no_clockwise no_keep no_ogc no_min (min e a h) = no_min refl

@@ -108,18 +108,21 @@ abbrev pub default_output : OutputOptions
 default_output = record {
   output_direction = CounterClockwise;
   preserve_output_collinear = false;
+  ogc = false;
   min_output_area = None;
 }
 
 -- the words, read from left to right, set options that were not set, one after another, until these options are set:
--- `clockwise` turns outlines clockwise, `keep` keeps output points on one line, and `min` with a number sets the
--- minimum area
+-- `clockwise` turns outlines clockwise, `keep` keeps output points on one line, `ogc` lets no contour visit a point
+-- twice, and `min` with a number sets the minimum area
 pub data SetOptions : OutputOptions → List Word → OutputOptions → Type 0 where
   none : {o : OutputOptions} → SetOptions o [] o
   clockwise : {old o : OutputOptions} {ws : List Word} → old.output_direction ≡ CounterClockwise
       → SetOptions (record old { output_direction = Clockwise }) ws o → SetOptions old (codes "clockwise" ∷ ws) o
   keep : {old o : OutputOptions} {ws : List Word} → old.preserve_output_collinear ≡ false
       → SetOptions (record old { preserve_output_collinear = true }) ws o → SetOptions old (codes "keep" ∷ ws) o
+  ogc : {old o : OutputOptions} {ws : List Word} → old.ogc ≡ false
+      → SetOptions (record old { ogc = true }) ws o → SetOptions old (codes "ogc" ∷ ws) o
   min : {old o : OutputOptions} {w : Word} {n : ℕ} {ws : List Word} → old.min_output_area ≡ None → IsArea w n
       → SetOptions (record old { min_output_area = Some n }) ws o → SetOptions old (codes "min" ∷ w ∷ ws) o
 

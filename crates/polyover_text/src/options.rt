@@ -17,6 +17,8 @@ pub struct OutputOptions {
     pub output_direction: ContourDirection,
     /// Whether output points on one line with their two neighbours stay; otherwise they are dropped.
     pub preserve_output_collinear: bool,
+    /// Whether no contour visits a point twice.
+    pub ogc: bool,
     /// The smallest area of a contour that is kept, below 2^127; `None` where none is asked for, which keeps all.
     pub min_output_area: Option<u128>,
 }
@@ -36,13 +38,15 @@ pub fn parse_options(mut words: Words<'_>) -> Option<OutputOptions>
 }
 
 impl OutputOptions {
-    // Outlines run counterclockwise, points on one line are dropped, and contours of any area are kept.
+    // Outlines run counterclockwise, points on one line are dropped, contours may visit a point twice, and those of
+    // any area are kept.
     fn new() -> OutputOptions
         ensures { result ≡ default_output }
     {
         OutputOptions {
             output_direction: ContourDirection::CounterClockwise,
             preserve_output_collinear: false,
+            ogc: false,
             min_output_area: None,
         }
     }
@@ -58,6 +62,7 @@ impl OutputOptions {
         match word {
             b"clockwise" => self.turned_clockwise(),
             b"keep" => self.with_points_kept(),
+            b"ogc" => self.with_groups(),
             b"min" => self.with_min_output_area(words),
             _ => None,
         }
@@ -93,6 +98,18 @@ impl OutputOptions {
             preserve_output_collinear: true,
             ..self
         })
+    }
+
+    // The options with contours that visit no point twice, where that is not asked for already.
+    fn with_groups(self) -> Option<OutputOptions>
+        ensures { MatchOption result
+            (self.ogc ≡ true)
+            (λ new. (self.ogc ≡ false) × (new ≡ record self { ogc = true })) }
+    {
+        if self.ogc {
+            return None;
+        }
+        Some(OutputOptions { ogc: true, ..self })
     }
 
     // The options with the minimum area that the next word writes, where none is set already.

@@ -53,7 +53,7 @@ fn push<I: IntNumber + From<i16>>(
 }
 
 /// The graph of these edges, once they are arranged.
-pub fn graph_of<I: IntNumber + From<i16>>(
+pub(crate) fn graph_of<I: IntNumber + From<i16>>(
     rt: &impl Abort,
     alloc: Global,
     edges: &[Counted],
@@ -70,7 +70,7 @@ pub fn graph_of<I: IntNumber + From<i16>>(
 }
 
 /// Whether the steps begin at these points, one after another.
-pub fn begin_at<I: IntNumber + From<i16>>(steps: &[Step<I>], points: &[(i16, i16)]) -> bool {
+pub(crate) fn begin_at<I: IntNumber + From<i16>>(steps: &[Step<I>], points: &[(i16, i16)]) -> bool {
     if steps.len() != points.len() {
         return false;
     }

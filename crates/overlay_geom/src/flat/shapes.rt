@@ -1,13 +1,15 @@
 //! Shapes whose points stand in one list.
 
-ghost use Rattle.std.specs.Prelude.{◌≡◌, ◌≤◌, [], IfOk, IsOk, IsOkUnless, vec_capacity};
-ghost use Rattle.overlay_geom.specs.Flat.{paths_in, shapes_in};
+ghost use Rattle.std.specs.Prelude.{◌≡◌, ◌≤◌, ◌++◌, ◌∷◌, [], length, take, vec_capacity};
+ghost use Rattle.std.specs.Prelude.{IfOk, IsOk, OnOk, OnErr, IsOkUnless};
+ghost use Rattle.overlay_geom.specs.Flat.{range_behind, paths_in, shapes_in};
+ghost use Rattle.overlay_geom.specs.FlatShapes.{ArePathsAdded, AreShapesInside, AreShapesPacked};
 ghost use Rattle.overlay_geom.specs.Paths.{paths_of_shape, plain_shapes};
 
 use crate::error::OverlayError;
 use crate::flat::{copied, copied_ranges, part_in};
 use crate::number::IntNumber;
-use crate::path::{IntShape, IntShapes};
+use crate::path::{IntContour, IntShape, IntShapes};
 use crate::point::IntPoint;
 use std::alloc::Allocator;
 use std::ops::Range;
@@ -69,6 +71,25 @@ impl<I: IntNumber, A: Allocator + Clone> FlatShapesBuffer<I, A> {
         })
     }
 
+    /// The shapes in one list: their contours and points in their order, with nothing between them. So
+    /// [`to_shapes`](Self::to_shapes) gives them back. The only refusal is `Memory`.
+    pub fn from_shapes<B: Allocator>(
+        alloc: A,
+        shapes: &[IntShape<I, B>],
+    ) -> Result<Self, OverlayError>
+        ensures shapes { IfOk result (λ b. shapes_in I.whole b.points.items b.contour_ranges.items b.shape_ranges.items
+            ≡ plain_shapes I.whole shapes.now) }
+        ensures packed { IfOk result
+            (λ b. AreShapesPacked b.points.items b.contour_ranges.items b.shape_ranges.items) }
+        ensures only { IsOkUnless result OverlayError.Memory }
+    {
+        let mut buffer = Self::default(alloc)?;
+        for shape in shapes {
+            buffer.add_shape(shape)?;
+        }
+        Ok(buffer)
+    }
+
     /// Returns the shapes in a buffer of their own, by the same points and ranges.
     pub fn clone(&self) -> Result<Self, OverlayError>
         ensures points { IfOk result (λ b. b.points.items ≡ self.now.points.items) }
@@ -101,6 +122,98 @@ impl<I: IntNumber, A: Allocator + Clone> FlatShapesBuffer<I, A> {
             &self.shape_ranges,
         )
     }
+}
+
+impl<I: IntNumber, A: Allocator> FlatShapesBuffer<I, A> {
+    /// Adds these contours as the last shape, their points behind the points that are there. If all ranges
+    /// were inside their lists, they are so again, and the shapes are those before and this one. If it is
+    /// refused, the buffer stays as it is. The only refusal is `Memory`.
+    pub fn add_shape<B: Allocator>(
+        &mut self,
+        shape: &[IntContour<I, B>],
+    ) -> Result<(), OverlayError>
+        ensures inside { OnOk result
+            (AreShapesInside self.old.points.items self.old.contour_ranges.items self.old.shape_ranges.items
+            → AreShapesInside self.new.points.items self.new.contour_ranges.items self.new.shape_ranges.items) }
+        ensures packed { OnOk result
+            (AreShapesPacked self.old.points.items self.old.contour_ranges.items self.old.shape_ranges.items
+            → AreShapesPacked self.new.points.items self.new.contour_ranges.items self.new.shape_ranges.items) }
+        ensures shapes { OnOk result
+            (AreShapesInside self.old.points.items self.old.contour_ranges.items self.old.shape_ranges.items
+            → shapes_in I.whole self.new.points.items self.new.contour_ranges.items self.new.shape_ranges.items
+            ≡ shapes_in I.whole self.old.points.items self.old.contour_ranges.items self.old.shape_ranges.items
+            ++ paths_of_shape I.whole shape.now ∷ []) }
+        ensures same_points { OnErr result (self.new.points.items ≡ self.old.points.items) }
+        ensures same_contours { OnErr result (self.new.contour_ranges.items ≡ self.old.contour_ranges.items) }
+        ensures same_shapes { OnErr result (self.new.shape_ranges.items ≡ self.old.shape_ranges.items) }
+        ensures only { IsOkUnless result OverlayError.Memory }
+    {
+        let points = self.points.len();
+        let contours = self.contour_ranges.len();
+        if let Err(refused) = self.push_shape(shape) {
+            self.points.truncate(points);
+            self.contour_ranges.truncate(contours);
+            return Err(refused);
+        }
+        Ok(())
+    }
+
+    // The same; if it is refused, some of the contours may stand behind those that were there.
+    fn push_shape<B: Allocator>(&mut self, shape: &[IntContour<I, B>]) -> Result<(), OverlayError>
+        ensures contours { OnOk result (ArePathsAdded I.whole self.old.points.items self.old.contour_ranges.items
+            (paths_of_shape I.whole shape.now) self.new.points.items self.new.contour_ranges.items) }
+        ensures shape { OnOk result (self.new.shape_ranges.items ≡ self.old.shape_ranges.items ++ record
+            { start = length self.old.contour_ranges.items; end = length self.new.contour_ranges.items } ∷ []) }
+        ensures points_before { take (length self.old.points.items) self.new.points.items ≡ self.old.points.items }
+        ensures contours_before { take (length self.old.contour_ranges.items) self.new.contour_ranges.items
+            ≡ self.old.contour_ranges.items }
+        ensures same_shapes { OnErr result (self.new.shape_ranges.items ≡ self.old.shape_ranges.items) }
+        ensures only { IsOkUnless result OverlayError.Memory }
+    {
+        let start = self.contour_ranges.len();
+        push_contours(&mut self.points, &mut self.contour_ranges, shape)?;
+        self.shape_ranges.push(start..self.contour_ranges.len())?;
+        Ok(())
+    }
+}
+
+// Adds the points of the contours behind the points, and the range of each behind the ranges. If it is
+// refused, some may stand there.
+fn push_contours<I: IntNumber, A: Allocator, B: Allocator>(
+    points: &mut Vec<IntPoint<I>, A>,
+    ranges: &mut Vec<Range<usize>, A>,
+    contours: &[IntContour<I, B>],
+) -> Result<(), OverlayError>
+    ensures added { OnOk result (ArePathsAdded I.whole points.old.items ranges.old.items
+        (paths_of_shape I.whole contours.now) points.new.items ranges.new.items) }
+    ensures points_before { take (length points.old.items) points.new.items ≡ points.old.items }
+    ensures ranges_before { take (length ranges.old.items) ranges.new.items ≡ ranges.old.items }
+    ensures only { IsOkUnless result OverlayError.Memory }
+{
+    for contour in contours {
+        push_contour(points, ranges, contour)?;
+    }
+    Ok(())
+}
+
+// Adds the points behind the points, and their range behind the ranges. If it is refused, the points may
+// stand there.
+fn push_contour<I: IntNumber, A: Allocator>(
+    points: &mut Vec<IntPoint<I>, A>,
+    ranges: &mut Vec<Range<usize>, A>,
+    contour: &[IntPoint<I>],
+) -> Result<(), OverlayError>
+    ensures points { OnOk result (points.new.items ≡ points.old.items ++ contour.now) }
+    ensures ranges { OnOk result (ranges.new.items
+        ≡ ranges.old.items ++ range_behind points.old.items contour.now ∷ []) }
+    ensures points_before { take (length points.old.items) points.new.items ≡ points.old.items }
+    ensures same_ranges { OnErr result (ranges.new.items ≡ ranges.old.items) }
+    ensures only { IsOkUnless result OverlayError.Memory }
+{
+    let start = points.len();
+    points.extend_from_slice(contour)?;
+    ranges.push(start..points.len())?;
+    Ok(())
 }
 
 // A contour for each range, of the points at its places.

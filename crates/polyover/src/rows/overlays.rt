@@ -205,6 +205,46 @@ fn a_minimum_area_stands_at_any_place_among_options(rt: HostRuntime) {
     }
 }
 
+// A hole that touches its outline; two holes that touch in a corner; an island that touches the hole round it.
+const NOTCH: &str = "subject 0 0 6 0 6 6 0 6\nsubject 0 3 2 4 2 2\n";
+
+const CORNERS: &str =
+    "subject 0 0 10 0 10 10 0 10\nsubject 2 2 2 4 4 4 4 2\nsubject 4 4 4 6 6 6 6 4\n";
+
+const ISLAND: &str = "subject 0 0 10 0 10 10 0 10\nsubject 2 2 2 8 8 8 8 2\nsubject 2 5 4 4 4 6\n";
+
+#[test]
+fn contours_that_visit_no_point_twice(rt: HostRuntime) {
+    let corners = "shape\n0 10 0 0 10 0 10 10\n2 2 2 4 4 4 4 2\n4 4 4 6 6 6 6 4\n";
+    let rows = [
+        (
+            NOTCH,
+            "Subject EvenOdd ogc",
+            "shape\n0 0 6 0 6 6 0 6\n0 3 2 4 2 2\n",
+        ),
+        (
+            NOTCH,
+            "Subject EvenOdd min 0 ogc clockwise",
+            "shape\n0 0 0 6 6 6 6 0\n2 4 0 3 2 2\n",
+        ),
+        (CORNERS, "Subject EvenOdd", corners),
+        (CORNERS, "Subject EvenOdd ogc", corners),
+        (
+            ISLAND,
+            "Subject EvenOdd",
+            "shape\n0 10 0 0 10 0 10 10\n2 2 2 5 4 4 4 6 2 5 2 8 8 8 8 2\n",
+        ),
+        (
+            ISLAND,
+            "Subject EvenOdd ogc",
+            "shape\n0 10 0 0 10 0 10 10\n2 2 2 8 8 8 8 2\nshape\n4 6 2 5 4 4\n",
+        ),
+    ];
+    for (figures, command, wanted) in rows {
+        check_overlay(&rt, figures, command, wanted);
+    }
+}
+
 // Two bars of which the second covers the right half of the first and as much beside it.
 const BARS: &str = "subject 0 0 4 0 4 1 0 1\nclip 2 0 6 0 6 1 2 1\n";
 

@@ -1,17 +1,15 @@
--- The shapes so far have the holes so far.
+-- The shapes so far are those at the places so far.
 use Rattle.std.proofs.Common.{take}
 use Rattle.overlay_geom.specs.Paths.{plain_shapes}
-use Rattle.overlay_plane.specs.Binding.{outlines, shapes_begun}
+use Rattle.overlay_plane.specs.PlacedContours.{walks_at}
 use Rattle.overlay_plane.specs.ShapeWindings.{points_of_shapes, AreKeptOrThinned}
-use Rattle.overlay_walk.specs.Steps.{filled_hand}
-use Rattle.overlay_walk.specs.Walks.{plain_walks, with_shape_numbers}
+use Rattle.overlay_walk.specs.GroupedContours.{plain_contours}
+use Rattle.overlay_extract.specs.Places.{place_lists}
 use Rattle.overlay_extract.proofs.assemble.assembled.Given as goal
 
-abbrev pub invariant-loop-k : goal.invariant-loop-k
-invariant-loop-k g l =
-    let filled = filled_hand l.direction in
-    let walks = plain_walks g.I.IntNumber.whole l.walks in
+abbrev pub invariant-loop-shape : goal.invariant-loop-shape
+invariant-loop-shape g l =
+    let whole = g.I.IntNumber.whole in
     AreKeptOrThinned l.keeps_points
-    (points_of_shapes (shapes_begun filled (take l.k (with_shape_numbers walks l.numbers)) 0
-    (outlines filled walks)))
-    (plain_shapes g.I.IntNumber.whole l.shapes.items)
+    (points_of_shapes (walks_at (plain_contours whole l.contours) (place_lists (take l.shape-index l.places))))
+    (plain_shapes whole l.shapes.items)

@@ -1,111 +1,83 @@
--- The walks are contours along different edges, and what shows their shapes is the result.
-use Rattle.std.proofs.Common.{◌≡◌, false, All, AllPairs, sym, subst}
+-- The kept contours can be bound and placed, and what shows their shapes is the result.
+use Rattle.std.proofs.Common.{All, length, sym, subst, ◌∙◌}
 use Rattle.std.proofs.lemmas.Result.{IfOk-weaker}
 use Rattle.std.specs.Prelude.{IfOk}
-use Rattle.overlay_geom.specs.Edges.{subj_of, clip_of}
 use Rattle.overlay_geom.specs.Paths.{plain_shapes}
-use Rattle.overlay_geom.specs.Plane.{edge_of, edge_eq}
-use Rattle.overlay_geom.specs.Settled.{IsSettledBy}
-use Rattle.overlay_plane.specs.Anchors.{HasEachEdgeOnce}
-use Rattle.overlay_plane.specs.Binding.{all_filled_above, shapes_of}
-use Rattle.overlay_plane.specs.BoundContours.{AreShapesFound}
-use Rattle.overlay_plane.specs.Contours.{IsContour, all_steps}
-use Rattle.overlay_plane.specs.RoledContours.{contours_from}
+use Rattle.overlay_plane.specs.BoundContours.{walks_in, AreShapesFound}
+use Rattle.overlay_plane.specs.KeptContours.{CanBeBound}
+use Rattle.overlay_plane.specs.PlacedContours.{CanBePlaced, ArePlaced, walks_at}
 use Rattle.overlay_plane.specs.ShapeWindings.{points_of_shapes, AreKeptOrThinned}
-use Rattle.overlay_plane.proofs.KeptWalks.{kept_are_contours, kept_have_each_edge_once, kept_distinct, kept_settled}
 use Rattle.overlay_arrange.specs.Graphs.{graph_edges}
+use Rattle.overlay_walk.specs.GroupedContours.{plain_contours}
 use Rattle.overlay_walk.specs.Steps.{filled_hand, IsLong}
-use Rattle.overlay_walk.specs.Walks.{plain_walks, with_shape_numbers, AreNumbered}
-use Rattle.overlay_walk.proofs.BoundWalks.{are_numbered}
-use Rattle.overlay_extract.specs.Results.{asked, region_asked, filled_asked, is_kept}
+use Rattle.overlay_extract.specs.Places.{place_lists, AreInside}
+use Rattle.overlay_extract.specs.Results.{asked, is_kept, selected_of}
+use Rattle.overlay_extract.proofs.PlacedShapes.{can_be_placed}
 use Rattle.overlay_extract.proofs.Results.{result_shown}
 use Rattle.overlay_extract.proofs.extract.extract_shapes.Goals as goal
 
-pub bind-requires-clause-contours : goal.bind-requires-clause-contours
-bind-requires-clause-contours g c =
-    let whole = g.I.IntNumber.whole in
-    let k = c.in_ok-walks.ensures.kept in
-    let q = asked g.I.Wide.WideIntNumber.width g.I.WideUInt.UIntNumber.natural c.args.graph.now.fill_rule
-    c.args.overlay_rule c.args.options in
-    subst (λ ws. All IsContour (plain_walks whole ws)) (sym c.deref.ensures.value)
-    (subst (All IsContour) (sym k.are)
-    (kept_are_contours (region_asked q) subj_of clip_of (graph_edges c.args.graph.now) (filled_asked q) k.walks k.cut
-    (is_kept q)))
+pub bind_contours-requires-clause-bindable : goal.bind_contours-requires-clause-bindable
+bind_contours-requires-clause-bindable g c =
+    subst (λ cs. CanBeBound (filled_hand c.args.options.output_direction)
+    (walks_in (plain_contours g.I.IntNumber.whole cs))) (sym c.deref.ensures.value)
+    c.in_ok-contours.ensures.kept.bindable
 
-pub bind-requires-clause-single : goal.bind-requires-clause-single
-bind-requires-clause-single g c =
-    let whole = g.I.IntNumber.whole in
-    let k = c.in_ok-walks.ensures.kept in
-    let q = asked g.I.Wide.WideIntNumber.width g.I.WideUInt.UIntNumber.natural c.args.graph.now.fill_rule
-    c.args.overlay_rule c.args.options in
-    subst (λ ws. All HasEachEdgeOnce (plain_walks whole ws)) (sym c.deref.ensures.value)
-    (subst (All HasEachEdgeOnce) (sym k.are)
-    (kept_have_each_edge_once (region_asked q) subj_of clip_of (graph_edges c.args.graph.now) (filled_asked q) k.walks
-    k.cut (is_kept q)))
+pub bind_contours-requires-clause-long : goal.bind_contours-requires-clause-long
+bind_contours-requires-clause-long g c =
+    subst (λ cs. All (All (IsLong g.I.IntNumber.limit)) (walks_in (plain_contours g.I.IntNumber.whole cs)))
+    (sym c.deref.ensures.value) c.in_ok-contours.ensures.long
 
-pub bind-requires-clause-distinct : goal.bind-requires-clause-distinct
-bind-requires-clause-distinct g c =
+pub shape_places-requires : goal.shape_places-requires
+shape_places-requires g c =
     let whole = g.I.IntNumber.whole in
-    let k = c.in_ok-walks.ensures.kept in
+    let filled = filled_hand c.args.options.output_direction in
     let q = asked g.I.Wide.WideIntNumber.width g.I.WideUInt.UIntNumber.natural c.args.graph.now.fill_rule
     c.args.overlay_rule c.args.options in
-    subst (λ ws. AllPairs (λ e f. edge_eq e f ≡ false) (all_filled_above (filled_asked q) (plain_walks whole ws)))
-    (sym c.deref.ensures.value)
-    (subst (λ ws. AllPairs (λ e f. edge_eq e f ≡ false) (all_filled_above (filled_asked q) ws)) (sym k.are)
-    (kept_distinct (region_asked q) subj_of clip_of (graph_edges c.args.graph.now) (filled_asked q) k.walks k.cut
-    (is_kept q)))
+    let cs = c.in_ok-contours.contours.items in
+    let found : AreShapesFound filled (plain_contours whole cs) c.in_ok-found.found.items =
+    subst (λ ds. AreShapesFound filled (plain_contours whole ds) c.in_ok-found.found.items) c.deref.ensures.value
+    c.in_ok-found.ensures.found in
+    subst (CanBePlaced (plain_contours whole c.deref-2.result.now)) (sym c.deref-3.ensures.value)
+    (subst (λ ds. CanBePlaced (plain_contours whole ds) c.in_ok-found.found.items) (sym c.deref-2.ensures.value)
+    (can_be_placed q.ogc filled (is_kept q) (selected_of q (graph_edges c.args.graph.now)) (plain_contours whole cs)
+    c.in_ok-contours.ensures.kept.cut c.in_ok-found.found.items found))
 
-pub bind-requires-clause-settled : goal.bind-requires-clause-settled
-bind-requires-clause-settled g c =
+pub assembled-requires-clause-long : goal.assembled-requires-clause-long
+assembled-requires-clause-long g c =
+    subst (λ cs. All (All (IsLong g.I.IntNumber.limit)) (walks_in (plain_contours g.I.IntNumber.whole cs)))
+    (sym c.deref-4.ensures.value) c.in_ok-contours.ensures.long
+
+pub assembled-requires-clause-inside : goal.assembled-requires-clause-inside
+assembled-requires-clause-inside g c =
     let whole = g.I.IntNumber.whole in
-    let k = c.in_ok-walks.ensures.kept in
-    let q = asked g.I.Wide.WideIntNumber.width g.I.WideUInt.UIntNumber.natural c.args.graph.now.fill_rule
-    c.args.overlay_rule c.args.options in
-    subst (λ ws. IsSettledBy edge_of (all_steps (plain_walks whole ws))) (sym c.deref.ensures.value)
-    (subst (λ ws. IsSettledBy edge_of (all_steps ws)) (sym k.are)
-    (kept_settled (region_asked q) subj_of clip_of (graph_edges c.args.graph.now) (filled_asked q) k.walks k.cut
-    (is_kept q)))
+    subst (λ cs. AreInside (length (plain_contours whole cs)) (place_lists c.deref-5.result.now))
+    (c.deref-2.ensures.value ∙ sym c.deref-4.ensures.value)
+    (subst (λ ps. AreInside (length (plain_contours whole c.deref-2.result.now)) (place_lists ps))
+    (sym c.deref-5.ensures.value) c.in_ok-places.ensures.placed.inside)
 
 pub returns-clause-result : goal.returns-clause-result
 returns-clause-result g c =
     let whole = g.I.IntNumber.whole in
     let keep = c.args.options.preserve_output_collinear in
     let filled = filled_hand c.args.options.output_direction in
-    let walks = plain_walks whole c.in_ok-walks.walks.items in
-    let shapes = c.in_ok-shapes.shapes.items in
-    let found : AreShapesFound filled (contours_from filled 0 walks) shapes =
-    subst (λ ws. AreShapesFound filled (contours_from filled 0 (plain_walks whole ws)) shapes) c.deref.ensures.value
-    c.in_ok-shapes.ensures.found in
+    let q = asked g.I.Wide.WideIntNumber.width g.I.WideUInt.UIntNumber.natural c.args.graph.now.fill_rule
+    c.args.overlay_rule c.args.options in
+    let cs = c.in_ok-contours.contours.items in
+    let shapes = c.in_ok-found.found.items in
+    let places = c.in_ok-places.places.items in
+    let found : AreShapesFound filled (plain_contours whole cs) shapes =
+    subst (λ ds. AreShapesFound filled (plain_contours whole ds) shapes) c.deref.ensures.value
+    c.in_ok-found.ensures.found in
+    let placed : ArePlaced (plain_contours whole cs) shapes (place_lists places) =
+    subst (λ ss. ArePlaced (plain_contours whole cs) ss (place_lists places)) c.deref-3.ensures.value
+    (subst (λ ds. ArePlaced (plain_contours whole ds) c.deref-3.result.now (place_lists places))
+    c.deref-2.ensures.value c.in_ok-places.ensures.placed) in
     IfOk-weaker c.assembled.result _ _
-    (λ v shown. result_shown (asked g.I.Wide.WideIntNumber.width g.I.WideUInt.UIntNumber.natural
-    c.args.graph.now.fill_rule c.args.overlay_rule c.args.options)
-    (graph_edges c.args.graph.now) walks c.in_ok-walks.ensures.kept shapes found c.requires.no_ogc
-    (plain_shapes whole v.items) shown)
-    (subst (λ ns. IfOk c.assembled.result
-    (λ v. AreKeptOrThinned keep (points_of_shapes (shapes_of filled (with_shape_numbers walks ns)))
-    (plain_shapes whole v.items))) c.deref-3.ensures.value
-    (subst (λ ws. IfOk c.assembled.result
-    (λ v. AreKeptOrThinned keep (points_of_shapes
-    (shapes_of filled (with_shape_numbers (plain_walks whole ws) c.deref-3.result.now)))
-    (plain_shapes whole v.items))) c.deref-2.ensures.value
-    c.assembled.ensures.shapes))
-
-pub assembled-requires-clause-numbered : goal.assembled-requires-clause-numbered
-assembled-requires-clause-numbered g c =
-    let whole = g.I.IntNumber.whole in
-    let filled = filled_hand c.args.options.output_direction in
-    let walks = plain_walks whole c.in_ok-walks.walks.items in
-    let shapes = c.in_ok-shapes.shapes.items in
-    let found : AreShapesFound filled (contours_from filled 0 walks) shapes =
-    subst (λ ws. AreShapesFound filled (contours_from filled 0 (plain_walks whole ws)) shapes) c.deref.ensures.value
-    c.in_ok-shapes.ensures.found in
-    subst (λ ns. AreNumbered filled (plain_walks whole c.deref-2.result.now)
-    (with_shape_numbers (plain_walks whole c.deref-2.result.now) ns)) (sym c.deref-3.ensures.value)
-    (subst (λ ws. AreNumbered filled (plain_walks whole ws) (with_shape_numbers (plain_walks whole ws) shapes))
-    (sym c.deref-2.ensures.value)
-    (are_numbered filled walks shapes found))
-
-pub assembled-requires-clause-long : goal.assembled-requires-clause-long
-assembled-requires-clause-long g c =
-    subst (λ ws. All (All (IsLong g.I.IntNumber.limit)) (plain_walks g.I.IntNumber.whole ws))
-    (sym c.deref-2.ensures.value) c.in_ok-walks.ensures.long
+    (λ v shown. result_shown q (graph_edges c.args.graph.now) (plain_contours whole cs) c.in_ok-contours.ensures.kept
+    shapes found (place_lists places) placed (plain_shapes whole v.items) shown)
+    (subst (λ ps. IfOk c.assembled.result (λ v. AreKeptOrThinned keep
+    (points_of_shapes (walks_at (plain_contours whole cs) (place_lists ps))) (plain_shapes whole v.items)))
+    c.deref-5.ensures.value
+    (subst (λ ds. IfOk c.assembled.result (λ v. AreKeptOrThinned keep
+    (points_of_shapes (walks_at (plain_contours whole ds) (place_lists c.deref-5.result.now)))
+    (plain_shapes whole v.items))) c.deref-4.ensures.value c.assembled.ensures.shapes))

@@ -1,5 +1,5 @@
 -- Over no edges there is no shape; and a refusal is remembered.
-use Rattle.std.proofs.Common.{◌≡◌, false, [], sym, ap, subst, ◌∙◌}
+use Rattle.std.proofs.Common.{◌≡◌, [], sym, ap, subst, ◌∙◌}
 use Rattle.std.proofs.lemmas.Result.{on_ok_weaker}
 use Rattle.overlay_geom.specs.Merged.{HaveSameWindings}
 use Rattle.overlay_geom.specs.Paths.{paths_of_shape}
@@ -21,8 +21,7 @@ returns-clause-empty g c = λ none.
     no_shapes_held c.extract-shapes.result (λ v. v.items) (λ s. paths_of_shape g.I.IntNumber.whole s.items)
     (asked g.I.Wide.WideIntNumber.width g.I.WideUInt.UIntNumber.natural c.args.fill_rule c.args.overlay_rule
     c.self.inside.options)
-    (edges_in c.arrange.new.self.edges) (subst (λ b. b.options.ogc ≡ false) (sym c.self.view_is) c.requires.no_ogc)
-    e.result same
+    (edges_in c.arrange.new.self.edges) e.result same
 
 pub returns-clause-exact : goal.returns-clause-exact
 returns-clause-exact g c = λ whole.

@@ -1,7 +1,7 @@
 use Rattle.std.proofs.Common.{◌≡◌, codes, rules}
 use Rattle.std.proofs.lemmas.Slice.Eq.{text_from_reads}
 use Rattle.polyover_text.specs.Words.{words_left}
-use Rattle.polyover_text.proofs.OptionLists.{turned_clockwise, points_kept}
+use Rattle.polyover_text.proofs.OptionLists.{turned_clockwise, points_kept, groups_set}
 use Rattle.polyover_text.proofs.options.OutputOptions.with.Goals as goal
 
 pub returns-in-keep-clause-option : goal.returns-in-keep-clause-option
@@ -9,6 +9,12 @@ returns-in-keep-clause-option c =
     let named : c.args.word.now ≡ codes "keep" = search (rules, text_from_reads) in
     points_kept c.args.self c.args.word.now (words_left c.args.words.now)
     c.with_points_kept.result named c.with_points_kept.ensures
+
+pub returns-in-ogc-clause-option : goal.returns-in-ogc-clause-option
+returns-in-ogc-clause-option c =
+    let named : c.args.word.now ≡ codes "ogc" = search (rules, text_from_reads) in
+    groups_set c.args.self c.args.word.now (words_left c.args.words.now)
+    c.with_groups.result named c.with_groups.ensures
 
 pub returns-in-clockwise-clause-option : goal.returns-in-clockwise-clause-option
 returns-in-clockwise-clause-option c =

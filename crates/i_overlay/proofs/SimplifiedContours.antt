@@ -1,0 +1,69 @@
+-- What is left of a contour, of which one thing becomes, is what it is simplified to.
+use Rattle.std.proofs.Common.{◌≡◌, Bool, cond, pos, List, refl, sym, ap, subst, ◌∙◌}
+use Rattle.std.specs.Prelude.{◌↔◌, Option, None}
+use Rattle.overlay_geom.specs.Plane.{Point}
+use Rattle.overlay_geom.specs.Edges.{CountedEdge, subj_of, clip_of, winding_by}
+use Rattle.overlay_geom.specs.Plane.{winding}
+use Rattle.overlay_plane.specs.ContourWindings.{once_round}
+use Rattle.overlay_plane.specs.ShapeWindings.{steps_of_shapes}
+use Rattle.overlay_arrange.specs.Rules.{is_filled}
+use Rattle.overlay_arrange.specs.declared.fill_rule.FillRule.{FillRule}
+use Rattle.overlay_arrange.specs.declared.options.ContourDirection.{ContourDirection}
+use Rattle.overlay_arrange.specs.declared.options.ContourDirection.TheVariants.{CounterClockwise, Clockwise}
+use Rattle.overlay_arrange.specs.declared.overlay_rule.OverlayRule.TheVariants.{Subject}
+use Rattle.overlay_walk.specs.Steps.{filled_hand}
+use Rattle.overlay_extract.specs.Results.{Asked, WindsRoundRegion, region_asked}
+use Rattle.overlay_simplify.specs.Laws.{once_in}
+use Rattle.overlay_simplify.specs.Outcome.{IsOutcome, HasOutcome, shapes_left}
+use Rattle.overlay_simplify.specs.declared.outcome.Outcome.{Outcome}
+use Rattle.overlay_simplify.specs.declared.outcome.Outcome.TheVariants.{NotSimple, Empty, AsGiven, Reversed}
+use Rattle.overlay_simplify.proofs.Outcomes.{one_outcome, simple_contours_wind_once}
+use Rattle.i_overlay.specs.Simplified.{IsLeft, IsSimplifiedContour}
+
+module _ (keep : Bool) (ps : List Point) (es : List CountedEdge) where
+  module _ (q : Asked) (of_subject : q.rule ≡ Subject) where
+    -- how often contours wind in the output direction
+    once_so : (d : ContourDirection) → once_in d ≡ once_round (filled_hand d)
+    once_so CounterClockwise = refl
+    once_so Clockwise = refl
+
+    -- what is left of a simple contour winds as asked
+    simple_winds : (outcome : Outcome) → HasOutcome keep q.fill q.output_direction ps es outcome →
+        (shapes : List (List (List Point))) → shapes ≡ shapes_left outcome ps →
+        WindsRoundRegion q es (steps_of_shapes shapes)
+    simple_winds outcome has shapes is p off =
+        ap (λ ss. winding (steps_of_shapes ss) p) (is ∙ ap (λ o. shapes_left o ps) has.is)
+        ∙ simple_contours_wind_once q.fill q.output_direction has.direction ps es has.added.simple has.runs p
+        ∙ ap (λ once. cond (is_filled q.fill (winding_by subj_of es p)) once (pos 0)) (once_so q.output_direction)
+        ∙ sym (ap (λ r. cond (region_asked (record q { rule = r }) (winding_by subj_of es p)
+        (winding_by clip_of es p))
+        (once_round (filled_hand q.output_direction)) (pos 0)) of_subject)
+
+    pub simplified_contour : (outcome : Outcome) → IsOutcome keep q.fill q.output_direction ps es outcome →
+        (shapes : List (List (List Point))) → IsLeft outcome q ps es shapes → IsSimplifiedContour q keep ps es shapes
+    simplified_contour NotSimple becomes shapes left =
+        record { outcome = NotSimple; becomes = becomes; left = left; winds = left.winds }
+    simplified_contour Empty becomes shapes left = record
+        { outcome = Empty; becomes = becomes; left = left; winds = λ all. simple_winds Empty becomes shapes left }
+    simplified_contour AsGiven becomes shapes left = record
+        { outcome = AsGiven; becomes = becomes; left = left; winds = λ all. simple_winds AsGiven becomes shapes left }
+    simplified_contour Reversed becomes shapes left = record
+        { outcome = Reversed; becomes = becomes; left = left; winds = λ all. simple_winds Reversed becomes shapes left }
+
+  module _ (fill : FillRule) (output : ContourDirection) where
+    -- where it is simple, this is the one thing that becomes of it
+    outcome_is : (outcome other : Outcome) → IsOutcome keep fill output ps es outcome →
+        HasOutcome keep fill output ps es other → outcome ≡ other
+    outcome_is NotSimple other becomes has = absurd (becomes has.added)
+    outcome_is Empty other becomes has = one_outcome keep fill output ps es Empty other becomes has
+    outcome_is AsGiven other becomes has = one_outcome keep fill output ps es AsGiven other becomes has
+    outcome_is Reversed other becomes has = one_outcome keep fill output ps es Reversed other becomes has
+
+    -- so the answer without shapes comes exactly where it stays as it is given
+    pub none_as_given : {X : Type 0} (answer : Option X) (outcome : Outcome) →
+        IsOutcome keep fill output ps es outcome → (answer ≡ None) ↔ (outcome ≡ AsGiven) →
+        (answer ≡ None) ↔ HasOutcome keep fill output ps es AsGiven
+    none_as_given answer outcome becomes is = (
+      (λ none. subst (IsOutcome keep fill output ps es) (is.0 none) becomes),
+      (λ has. is.1 (outcome_is outcome AsGiven becomes has)),
+    )

@@ -1,0 +1,18 @@
+//! The hole round an island, and the links from shapes to the islands in their holes.
+
+ghost use Rattle.overlay_plane.specs.Islands.{OneHoleIsRound, NoHoleIsNone, EachShapeIsChildOnce};
+
+/// Of contours that can be bound at most one hole is round each.
+pub fn one_hole_is_round()
+    ensures { OneHoleIsRound }
+{}
+
+/// And not one and none.
+pub fn no_hole_is_none()
+    ensures { NoHoleIsNone }
+{}
+
+/// So of contours that stand in shapes each shape is the child of at most one link.
+pub fn each_shape_is_child_once()
+    ensures { EachShapeIsChildOnce }
+{}
