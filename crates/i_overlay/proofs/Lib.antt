@@ -4,5 +4,6 @@ pub mod HeldAlone
 pub mod OneShots
 pub mod Relations
 pub mod SimplifiedContours
+pub mod SimplifiedPaths
 pub mod TwoSources
 pub mod Views

@@ -1,13 +1,11 @@
 -- What a new builder, to which paths were added, answers of the paths.
-use Rattle.std.proofs.Common.{◌≡◌, ◌⊎◌, inl, inr, ℕ, Bool, false, List, sym, ap, ap₂, ◌∙◌}
-use Rattle.std.proofs.lemmas.Bool.{false≢true}
+use Rattle.std.proofs.Common.{◌≡◌, ℕ, Bool, false, List, ap, ap₂, ◌∙◌}
 use Rattle.std.specs.Prelude.{Result, Ok, Err, IfOk, IfErr, OnOk}
 use Rattle.std.specs.Int.{Width}
 use Rattle.overlay_geom.specs.declared.error.OverlayError.{OverlayError}
-use Rattle.overlay_geom.specs.declared.error.OverlayError.TheVariants.{Memory, NotSettled, TooManyEdges, Failed}
 use Rattle.overlay_geom.specs.Edges.{CountedEdge}
 use Rattle.overlay_geom.specs.Plane.{Point}
-use Rattle.overlay_arrange.specs.Arranged.{IsArranged, MayRefuseSplitting}
+use Rattle.overlay_arrange.specs.Arranged.{IsArranged}
 use Rattle.overlay_arrange.specs.Options.{AreOptions}
 use Rattle.overlay_arrange.specs.declared.fill_rule.FillRule.{FillRule}
 use Rattle.overlay_arrange.specs.declared.overlay_rule.OverlayRule.{OverlayRule}
@@ -18,6 +16,7 @@ use Rattle.overlay_builder.specs.Held.{Held, AnswersQuery}
 use Rattle.i_overlay.specs.OneShot.{asked_by_default, IsResultOfPaths, MayRefusePaths}
 use Rattle.overlay_extract.specs.Results.{Asked, asked, IsResult}
 use Rattle.overlay_builder.specs.GivenPaths.{GivenPath, HoldsPaths}
+use Rattle.overlay_simplify.proofs.AddedAlone.{query_refused as refused_alone}
 
 -- what the default options ask for
 pub asked_of_default : {U : Type 0} (area_width : Width) (natural : U → ℕ) (fill : FillRule) (rule : OverlayRule)
@@ -54,14 +53,4 @@ pub query_refused : {V : Type 0} (limit : ℕ) (paths : List GivenPath) (old new
     → HoldsPaths false paths old.edges → old.failed ≡ false → AnswersQuery limit 64 old new r
     → IfErr r (MayRefusePaths paths)
 query_refused limit paths old new (Ok v) holds ready h = tt
-query_refused limit paths old new (Err e) holds ready h = paths_refused e (unfailed h.err)
-  where
-    unfailed : ((e ≡ Failed) ⊎ MayRefuseSplitting 64 old.edges e) → MayRefuseSplitting 64 old.edges e
-    unfailed (inl same) = absurd (false≢true (sym ready ∙ h.failed.0 (ap Err same)))
-    unfailed (inr may) = may
-
-    paths_refused : (e : OverlayError) → MayRefuseSplitting 64 old.edges e → MayRefusePaths paths e
-    paths_refused Memory may = tt
-    paths_refused NotSettled may = record { content = old.edges; holds = holds; refused = may }
-    paths_refused TooManyEdges may = inr (record { content = old.edges; holds = holds; refused = may })
-    paths_refused Failed may = may
+query_refused limit paths old new (Err e) holds ready h = refused_alone false paths limit old new e holds ready h

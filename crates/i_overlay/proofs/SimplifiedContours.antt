@@ -1,7 +1,9 @@
 -- What is left of a contour, of which one thing becomes, is what it is simplified to.
-use Rattle.std.proofs.Common.{◌≡◌, Bool, cond, pos, List, refl, sym, ap, subst, ◌∙◌}
-use Rattle.std.specs.Prelude.{◌↔◌, Option, None}
-use Rattle.overlay_geom.specs.Plane.{Point}
+use Rattle.std.proofs.Common.{◌≡◌, Bool, cond, pos, List, [], ◌++◌, refl, sym, ap, subst, ◌∙◌}
+use Rattle.std.proofs.lemmas.List.{append-nil}
+use Rattle.std.specs.List.{flat_map}
+use Rattle.std.specs.Prelude.{◌↔◌, Option, None, reverse}
+use Rattle.overlay_geom.specs.Plane.{Point, steps_of}
 use Rattle.overlay_geom.specs.Edges.{CountedEdge, subj_of, clip_of, winding_by}
 use Rattle.overlay_geom.specs.Plane.{winding}
 use Rattle.overlay_plane.specs.ContourWindings.{once_round}
@@ -14,11 +16,11 @@ use Rattle.overlay_arrange.specs.declared.overlay_rule.OverlayRule.TheVariants.{
 use Rattle.overlay_walk.specs.Steps.{filled_hand}
 use Rattle.overlay_extract.specs.Results.{Asked, WindsRoundRegion, region_asked}
 use Rattle.overlay_simplify.specs.Laws.{once_in}
-use Rattle.overlay_simplify.specs.Outcome.{IsOutcome, HasOutcome, shapes_left}
+use Rattle.overlay_simplify.specs.Outcome.{IsOutcome, HasOutcome, shapes_left, contours_left}
 use Rattle.overlay_simplify.specs.declared.outcome.Outcome.{Outcome}
 use Rattle.overlay_simplify.specs.declared.outcome.Outcome.TheVariants.{NotSimple, Empty, AsGiven, Reversed}
 use Rattle.overlay_simplify.proofs.Outcomes.{one_outcome, simple_contours_wind_once}
-use Rattle.i_overlay.specs.Simplified.{IsLeft, IsSimplifiedContour}
+use Rattle.i_overlay.specs.Simplified.{IsLeft, IsSimplifiedContour, AreLeft, AreOfContour}
 
 module _ (keep : Bool) (ps : List Point) (es : List CountedEdge) where
   module _ (q : Asked) (of_subject : q.rule ≡ Subject) where
@@ -50,9 +52,44 @@ module _ (keep : Bool) (ps : List Point) (es : List CountedEdge) where
     simplified_contour Reversed becomes shapes left = record
         { outcome = Reversed; becomes = becomes; left = left; winds = λ all. simple_winds Reversed becomes shapes left }
 
+    -- the contours in one list have the same steps
+    same_steps : (outcome : Outcome) →
+        flat_map steps_of (contours_left outcome ps) ≡ steps_of_shapes (shapes_left outcome ps)
+    same_steps NotSimple = refl
+    same_steps Empty = refl
+    same_steps AsGiven = sym (append-nil (steps_of ps ++ []))
+    same_steps Reversed = sym (append-nil (steps_of (reverse ps) ++ []))
+
+    -- so they wind as asked
+    contours_wind : (outcome : Outcome) → HasOutcome keep q.fill q.output_direction ps es outcome →
+        (contours : List (List Point)) → contours ≡ contours_left outcome ps →
+        WindsRoundRegion q es (flat_map steps_of contours)
+    contours_wind outcome has contours is p off =
+        ap (λ ss. winding ss p) (ap (flat_map steps_of) is ∙ same_steps outcome)
+        ∙ simple_winds outcome has (shapes_left outcome ps) refl p off
+
+    pub contours_of_one : (outcome : Outcome) → IsOutcome keep q.fill q.output_direction ps es outcome →
+        (contours : List (List Point)) → AreLeft outcome q ps es contours → AreOfContour q keep ps es contours
+    contours_of_one NotSimple becomes contours left =
+        record { outcome = NotSimple; becomes = becomes; left = left; winds = left.winds }
+    contours_of_one Empty becomes contours left = record
+        { outcome = Empty; becomes = becomes; left = left; winds = λ all. contours_wind Empty becomes contours left }
+    contours_of_one AsGiven becomes contours left = record {
+      outcome = AsGiven;
+      becomes = becomes;
+      left = left;
+      winds = λ all. contours_wind AsGiven becomes contours left;
+    }
+    contours_of_one Reversed becomes contours left = record {
+      outcome = Reversed;
+      becomes = becomes;
+      left = left;
+      winds = λ all. contours_wind Reversed becomes contours left;
+    }
+
   module _ (fill : FillRule) (output : ContourDirection) where
     -- where it is simple, this is the one thing that becomes of it
-    outcome_is : (outcome other : Outcome) → IsOutcome keep fill output ps es outcome →
+    pub outcome_is : (outcome other : Outcome) → IsOutcome keep fill output ps es outcome →
         HasOutcome keep fill output ps es other → outcome ≡ other
     outcome_is NotSimple other becomes has = absurd (becomes has.added)
     outcome_is Empty other becomes has = one_outcome keep fill output ps es Empty other becomes has

@@ -1,16 +1,16 @@
 -- What an overlay of two resources answers that leaves no builder.
-use Rattle.std.specs.Prelude.{◌⊎◌, false, List}
+use Rattle.std.specs.Prelude.{false, List}
 use Rattle.std.specs.Int.{Width}
 use Rattle.overlay_geom.specs.Plane.{Point}
 use Rattle.overlay_geom.specs.Edges.{CountedEdge}
 use Rattle.overlay_geom.specs.declared.error.OverlayError.{OverlayError}
-use Rattle.overlay_geom.specs.declared.error.OverlayError.TheVariants.{Memory, NotSettled, TooManyEdges, Failed}
-use Rattle.overlay_arrange.specs.Arranged.{IsArranged, MayRefuseSplitting}
+use Rattle.overlay_arrange.specs.Arranged.{IsArranged}
 use Rattle.overlay_arrange.specs.declared.fill_rule.FillRule.{FillRule}
 use Rattle.overlay_arrange.specs.declared.overlay_rule.OverlayRule.{OverlayRule}
 use Rattle.overlay_arrange.specs.declared.options.ContourDirection.TheVariants.{CounterClockwise}
-use Rattle.overlay_builder.specs.GivenPaths.{SomePathWeighsTooMuch, GivenPath, HoldsPaths}
+use Rattle.overlay_builder.specs.GivenPaths.{GivenPath, HoldsPaths}
 use Rattle.overlay_extract.specs.Results.{Asked, IsResult}
+use Rattle.overlay_simplify.specs.Alone.{MayRefuseAlone}
 
 -- what rules ask for with the default options
 abbrev pub asked_by_default : Width → FillRule → OverlayRule → Asked
@@ -32,15 +32,6 @@ pub record IsResultOfPaths (q : Asked) (paths : List GivenPath) (result : List (
   pub arranged : IsArranged 64 content edges
   pub is_result : IsResult q edges result
 
--- the edges that the paths give, brought into an arrangement, may be refused so
-pub record MayRefuseSplittingPaths (paths : List GivenPath) (e : OverlayError) : Type 0 where
-  pub content : List CountedEdge
-  pub holds : HoldsPaths false paths content
-  pub refused : MayRefuseSplitting 64 content e
-
 -- the paths may be refused so
 abbrev pub MayRefusePaths : List GivenPath → OverlayError → Type 0
-MayRefusePaths paths Memory = Unit {0}
-MayRefusePaths paths NotSettled = MayRefuseSplittingPaths paths NotSettled
-MayRefusePaths paths TooManyEdges = SomePathWeighsTooMuch false paths ⊎ MayRefuseSplittingPaths paths TooManyEdges
-MayRefusePaths paths Failed = ⊥
+MayRefusePaths = MayRefuseAlone false 64

@@ -1,10 +1,16 @@
 -- What is left of paths where they are simplified.
-use Rattle.std.specs.Prelude.{◌≡◌, Bool, List, [], ◌∷◌, Option, Some, None}
-use Rattle.overlay_geom.specs.Plane.{Point}
+use Rattle.std.specs.Prelude.{◌≡◌, ◌≢◌, ◌⊎◌, Bool, List, [], ◌∷◌, Option, Some, None}
+use Rattle.std.specs.List.{flat_map}
+use Rattle.overlay_geom.specs.Plane.{Point, steps_of}
 use Rattle.overlay_geom.specs.Edges.{CountedEdge}
 use Rattle.overlay_plane.specs.ShapeWindings.{steps_of_shapes}
-use Rattle.overlay_extract.specs.Results.{Asked, IsResult, WindsRoundRegion}
-use Rattle.overlay_simplify.specs.Outcome.{IsOutcome, HasOutcome, shapes_left}
+use Rattle.overlay_arrange.specs.declared.fill_rule.FillRule.{FillRule}
+use Rattle.overlay_arrange.specs.declared.options.ContourDirection.{ContourDirection}
+use Rattle.overlay_arrange.specs.declared.options.ShapeType.TheVariants.{Subject}
+use Rattle.overlay_builder.specs.GivenPaths.{paths_for}
+use Rattle.overlay_extract.specs.Results.{Asked, IsResult, IsContoursResult, WindsRoundRegion}
+use Rattle.overlay_simplify.specs.Alone.{IsArrangedAlone}
+use Rattle.overlay_simplify.specs.Outcome.{IsSimpleAsAdded, IsOutcome, HasOutcome, shapes_left, contours_left}
 use Rattle.overlay_simplify.specs.declared.outcome.Outcome.{Outcome}
 use Rattle.overlay_simplify.specs.declared.outcome.Outcome.TheVariants.{NotSimple, Empty, AsGiven, Reversed}
 
@@ -45,3 +51,61 @@ StayAsGiven q keep (ps ∷ qs ∷ paths) es = ⊥
 abbrev pub shapes_answered : List (List Point) → Option (List (List (List Point))) → List (List (List Point))
 shapes_answered paths None = paths ∷ []
 shapes_answered paths (Some shapes) = shapes
+
+-- ---- of a source, where these edges are left of its paths
+
+-- the shapes that it is simplified to: with the minimum area zero as its paths are, and with a positive one the result
+-- of an overlay over the edges, of one path too
+pub record IsSimplifiedSource (q : Asked) (keep : Bool) (paths : List (List Point)) (es : List CountedEdge)
+    (shapes : List (List (List Point))) : Type 0 where
+  pub without_minimum : q.min_output_area ≡ 0 → IsSimplified q keep paths es shapes
+  pub with_minimum : q.min_output_area ≢ 0 → IsResult q es shapes
+
+-- the same over some arrangement of its paths alone
+pub record IsSimplifiedAlone (q : Asked) (keep : Bool) (paths : List (List Point))
+    (shapes : List (List (List Point))) : Type 0 where
+  pub edges : List CountedEdge
+  pub arranged : IsArrangedAlone keep 64 (paths_for Subject paths) edges
+  pub simplified : IsSimplifiedSource q keep paths edges shapes
+
+-- ---- of contours in one list, where these edges are left of theirs
+
+-- what is left of a contour that becomes this
+abbrev pub AreLeft : Outcome → Asked → List Point → List CountedEdge → List (List Point) → Type 0
+AreLeft NotSimple q ps es contours = IsContoursResult q es contours
+AreLeft Empty q ps es contours = contours ≡ contours_left Empty ps
+AreLeft AsGiven q ps es contours = contours ≡ contours_left AsGiven ps
+AreLeft Reversed q ps es contours = contours ≡ contours_left Reversed ps
+
+-- the contours that one is simplified to
+pub record AreOfContour (q : Asked) (keep : Bool) (ps : List Point) (es : List CountedEdge)
+    (contours : List (List Point)) : Type 0 where
+  pub outcome : Outcome
+  pub becomes : IsOutcome keep q.fill q.output_direction ps es outcome
+  pub left : AreLeft outcome q ps es contours
+  -- with the minimum area zero they wind as asked round each point off the edges, whatever becomes of it
+  pub winds : q.min_output_area ≡ 0 → WindsRoundRegion q es (flat_map steps_of contours)
+
+-- the contours that several are simplified to: of one it is asked whether it is simple, whatever the minimum area is,
+-- and of several they are the result of an overlay over the edges
+abbrev pub AreSimplified : Asked → Bool → List (List Point) → List CountedEdge → List (List Point) → Type 0
+AreSimplified q keep [] es contours = IsContoursResult q es contours
+AreSimplified q keep (ps ∷ []) es contours = AreOfContour q keep ps es contours
+AreSimplified q keep (ps ∷ qs ∷ paths) es contours = IsContoursResult q es contours
+
+-- what becomes of them all: of one that or this, and several have to be cut
+abbrev pub IsOutcomeOfAll : Bool → FillRule → ContourDirection → List (List Point) → List CountedEdge → Outcome → Type 0
+IsOutcomeOfAll keep fill output [] es outcome = outcome ≡ NotSimple
+IsOutcomeOfAll keep fill output (ps ∷ []) es outcome = IsOutcome keep fill output ps es outcome
+IsOutcomeOfAll keep fill output (ps ∷ qs ∷ paths) es outcome = outcome ≡ NotSimple
+
+-- they are cut: they are not one contour that is simple
+abbrev pub AreCut : Bool → List (List Point) → List CountedEdge → Type 0
+AreCut keep [] es = Unit {0}
+AreCut keep (ps ∷ []) es = ¬ (IsSimpleAsAdded keep ps es)
+AreCut keep (ps ∷ qs ∷ paths) es = Unit {0}
+
+-- points and ranges stay as they were, or there are none
+abbrev pub StayOrAreGone : {X Y : Type 0} → (old_points points : List X) → (old_ranges ranges : List Y) → Type 0
+StayOrAreGone old_points points old_ranges ranges =
+    ((points ≡ old_points) × (ranges ≡ old_ranges)) ⊎ ((points ≡ []) × (ranges ≡ []))

@@ -1,10 +1,13 @@
 //! Views of an arrangement: made once, and asked often.
 
 ghost use Rattle.std.specs.Prelude.{◌≡◌, [], false, map, IfOk, OnOk, OnErr, IsOkUnless};
-ghost use Rattle.overlay_geom.specs.Flat.{paths_in};
+ghost use Rattle.overlay_geom.specs.Flat.{paths_in, shapes_in};
+ghost use Rattle.overlay_geom.specs.FlatShapes.{AreShapesPacked};
 ghost use Rattle.overlay_geom.specs.Packed.{IsPacked};
 ghost use Rattle.overlay_geom.specs.Paths.{plain_shapes};
 ghost use Rattle.overlay_arrange.specs.Vectors.{plain_vector, vector_of};
+ghost use Rattle.overlay_extract.specs.ChildLinks.{plain_link};
+ghost use Rattle.overlay_extract.specs.PlacedResults.{IsHierarchy};
 ghost use Rattle.overlay_extract.specs.Results.{asked, IsResult, IsContoursResult};
 ghost use Rattle.i_overlay.specs.Views.{viewed_edges};
 
@@ -13,6 +16,7 @@ use overlay_arrange::data::{CountWithData, OverlayEdgeData};
 use overlay_arrange::overlay_rule::OverlayRule;
 use overlay_arrange::vector::DataVectorEdge;
 use overlay_extract::extract::{extract_contours, extract_shapes};
+use overlay_extract::hierarchy::{FlatShapeHierarchy, extract_shape_hierarchy};
 use overlay_geom::error::OverlayError;
 use overlay_geom::flat::contours::FlatContoursBuffer;
 use overlay_geom::integer::OverlayInt;
@@ -45,6 +49,27 @@ impl<I: OverlayInt, A: Allocator + Clone> OverlayGraph<'_, I, (), A> {
     {
         let options = self.viewed.options();
         extract_shapes(self.viewed.graph(), overlay_rule, options, buffer)
+    }
+
+    /// The same shapes in one list, and the links from them to the shapes that lie in their holes, as
+    /// `Overlay::overlay_hierarchy` gives them. The buffer lends its room; what it holds changes no answer. The
+    /// only refusal is `Memory`.
+    pub fn extract_shape_hierarchy(
+        &self,
+        overlay_rule: OverlayRule,
+        buffer: &mut BooleanExtractionBuffer<I, A>,
+    ) -> Result<FlatShapeHierarchy<I, A>, OverlayError>
+        ensures hierarchy { IfOk result (λ h. IsHierarchy
+            (asked I.Wide.width I.WideUInt.natural self.now.viewed.now.graph.fill_rule overlay_rule
+            self.now.viewed.now.options) (viewed_edges self.now.viewed.now)
+            (shapes_in I.whole h.shapes.points.items h.shapes.contour_ranges.items h.shapes.shape_ranges.items)
+            (map plain_link h.links.items)) }
+        ensures packed { IfOk result
+            (λ h. AreShapesPacked h.shapes.points.items h.shapes.contour_ranges.items h.shapes.shape_ranges.items) }
+        ensures err { IsOkUnless result OverlayError.Memory }
+    {
+        let options = self.viewed.options();
+        extract_shape_hierarchy(self.viewed.graph(), overlay_rule, options, buffer)
     }
 
     /// Writes the contours round the region of the plane where the overlay rule holds into the output, one

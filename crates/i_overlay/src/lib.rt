@@ -1,8 +1,8 @@
 //! Boolean operations on polygons with whole coordinates.
 //!
 //! Contours are added to an [`overlay::Overlay`] as subject or clip, and queries are answered on
-//! what was added. [`single::SingleIntOverlay`] answers in one call. [`relate::IntRelate`] tells how two
-//! resources lie to each other.
+//! what was added. [`single::SingleIntOverlay`] answers in one call, and [`simplify::Simplify`] gives clean
+//! shapes of one resource. [`relate::IntRelate`] tells how two resources lie to each other.
 #![tactic(auto)]
 
 pub mod edge_data;
@@ -10,6 +10,7 @@ pub mod error;
 pub mod extract;
 pub mod fill_rule;
 pub mod graph;
+pub mod hierarchy;
 pub mod i_float;
 pub mod i_shape;
 pub mod integer;
@@ -18,6 +19,7 @@ pub mod overlay_rule;
 pub mod point_location;
 pub mod relate;
 pub mod segm;
+pub mod simplify;
 pub mod single;
 pub mod solver;
 pub mod string;

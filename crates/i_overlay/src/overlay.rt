@@ -32,9 +32,12 @@ use std::alloc::Allocator;
 use std::marker::Model;
 
 mod adders;
+mod alone;
 mod constructors;
 mod deprecated;
+mod hierarchy;
 mod simplify;
+mod simplify_flat;
 mod views;
 
 pub use overlay_arrange::options::{ContourDirection, IntOverlayOptions, ShapeType};

@@ -71,8 +71,8 @@ contour_keeps_balance false t ps old new h before =
 -- ---- several
 
 -- a path keeps the counts balanced
-record KeepsBalance (p : AddedPath CountedEdge) : Type 0 where
-  keeps : (old new : List CountedEdge) → AddsOne p old new → HasBalancedCounts old → HasBalancedCounts new
+pub record KeepsBalance (p : AddedPath CountedEdge) : Type 0 where
+  pub keeps : (old new : List CountedEdge) → AddsOne p old new → HasBalancedCounts old → HasBalancedCounts new
 
 -- so do contours
 contours_keep : (keep : Bool) (given : List GivenPath) → All KeepsBalance (added_paths keep given)
@@ -101,20 +101,25 @@ first_keep : (first rest : List (AddedPath CountedEdge)) → All KeepsBalance (f
 first_keep first rest keep =
     subst (All KeepsBalance) (take-append_seam first rest) (All-take KeepsBalance (length first) (first ++ rest) keep)
 
--- a call that adds contours keeps the counts balanced, whatever it answers
-pub adding_keeps_balance : {V : Type 0} (keep : Bool) (given : List GivenPath) (old new : Held CountedEdge)
-    (r : Result V OverlayError)
-    → AddsAsAsked weight (added_paths keep given) old new r → HasBalancedCounts old.edges → HasBalancedCounts new.edges
-adding_keeps_balance keep given old new (Ok v) h before =
-    paths_keep (added_paths keep given) old.edges new.edges (contours_keep keep given) h.ok before
-adding_keeps_balance {V = V} keep given old new (Err e) h before = by h.err
+-- a call that adds such paths keeps the counts balanced, whatever it answers
+pub adding_balanced_paths : {V : Type 0} (ps : List (AddedPath CountedEdge)) → All KeepsBalance ps →
+    (old new : Held CountedEdge) (r : Result V OverlayError)
+    → AddsAsAsked weight ps old new r → HasBalancedCounts old.edges → HasBalancedCounts new.edges
+adding_balanced_paths ps keep old new (Ok v) h before = paths_keep ps old.edges new.edges keep h.ok before
+adding_balanced_paths {V = V} ps keep old new (Err e) h before = by h.err
   where
-    by : ((e ≡ Failed) ⊎ StopsAtPath weight (added_paths keep given) old.edges new.edges e) →
-        HasBalancedCounts new.edges
+    by : ((e ≡ Failed) ⊎ StopsAtPath weight ps old.edges new.edges e) → HasBalancedCounts new.edges
     by (inl is) = subst (λ b. HasBalancedCounts b.edges)
         (sym (h.untouched (ap {B = Result V OverlayError} (λ x. Err x) is))) before
     by (inr stops) =
         paths_keep stops.added.before old.edges new.edges
         (first_keep stops.added.before (stops.path ∷ stops.added.after)
-        (subst (All KeepsBalance) stops.added.parts (contours_keep keep given)))
+        (subst (All KeepsBalance) stops.added.parts keep))
         stops.added.added before
+
+-- so does one that adds contours
+pub adding_keeps_balance : {V : Type 0} (keep : Bool) (given : List GivenPath) (old new : Held CountedEdge)
+    (r : Result V OverlayError)
+    → AddsAsAsked weight (added_paths keep given) old new r → HasBalancedCounts old.edges → HasBalancedCounts new.edges
+adding_keeps_balance keep given old new r h before =
+    adding_balanced_paths (added_paths keep given) (contours_keep keep given) old new r h before

@@ -26,7 +26,7 @@ module _ {E : Type 0} where
 
 module _ {E : Type 0} (weigh : List E → ℕ) (ps qs : List (AddedPath E)) (old : List E) where
   -- one of some paths is refused, with others after them
-  stops_in_first : (new : List E) (e : OverlayError) → StopsAtPath weigh ps old new e →
+  pub stops_in_first : (new : List E) (e : OverlayError) → StopsAtPath weigh ps old new e →
       StopsAtPath weigh (ps ++ qs) old new e
   stops_in_first new e h = record {
     path = h.path;
@@ -40,7 +40,7 @@ module _ {E : Type 0} (weigh : List E → ℕ) (ps qs : List (AddedPath E)) (old
   }
 
   -- one of the others is, after all of the first ones
-  stops_after : (mid new : List E) (e : OverlayError) → AddsPaths ps old mid → StopsAtPath weigh qs mid new e
+  pub stops_after : (mid new : List E) (e : OverlayError) → AddsPaths ps old mid → StopsAtPath weigh qs mid new e
       → StopsAtPath weigh (ps ++ qs) old new e
   stops_after mid new e all h = record {
     path = h.path;

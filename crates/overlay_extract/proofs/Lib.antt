@@ -1,5 +1,9 @@
 pub mod ContoursAdded
+pub mod GroupsInShapes
+pub mod Hierarchies
 pub mod HolesPlaced
+pub mod LinkOrder
+pub mod LinksFound
 pub mod NoShapes
 pub mod PlacedShapes
 pub mod PointsOnce

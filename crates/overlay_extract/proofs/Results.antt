@@ -1,5 +1,5 @@
--- The result of an overlay: what kept contours of the selected steps, in their shapes and shown by their points, are; and
--- what walks that are cut without groups are in one list.
+-- The result of an overlay: what kept contours of the selected steps, in their shapes and shown by their points, are;
+-- and what walks that are cut without groups are in one list.
 use Rattle.std.proofs.Common.{◌≡◌, ℕ, true, List, [], ◌∷◌, map, All, Option, refl, sym, ap, ap₂, subst, ◌∙◌}
 use Rattle.std.specs.List.{AllZip, each_same, filter, flat_map}
 use Rattle.std.specs.List.Sorted.{IsPermutation}
@@ -28,7 +28,7 @@ use Rattle.overlay_extract.proofs.PointsOnce.{shown_once}
 same_contours : (given taken : List (List Point)) → AllZip (λ g t. t ≡ g) given taken → taken ≡ given
 same_contours given taken each = each_same given taken each
 
-same_shapes : (given taken : List (List (List Point))) → AreKeptOrThinned true given taken → taken ≡ given
+pub same_shapes : (given taken : List (List (List Point))) → AreKeptOrThinned true given taken → taken ≡ given
 same_shapes [] [] each = refl
 same_shapes [] (t ∷ ts) each = absurd each
 same_shapes (g ∷ gs) [] each = absurd each
@@ -40,11 +40,11 @@ module _ (q : Asked) (es : List CountedEdge) (contours : List Contour) (kept : A
     (shapes : List (Option ℕ)) (found : AreShapesFound (filled_asked q) contours shapes)
     (places : List (List ℕ)) (placed : ArePlaced contours shapes places) where
   -- what is at the places are the shapes found
-  same_found : points_of_shapes (walks_at contours places) ≡ shapes_found contours shapes
+  pub same_found : points_of_shapes (walks_at contours places) ≡ shapes_found contours shapes
   same_found = ap points_of_shapes placed.are
 
   -- in groups none of their contours visits a point twice
-  once : q.ogc ≡ true → All (All HasEachPointOnce) (shapes_found contours shapes)
+  pub once : q.ogc ≡ true → All (All HasEachPointOnce) (shapes_found contours shapes)
   once grouped = subst (All (All HasEachPointOnce)) same_found
       (All-map (All HasEachPointOnce) (map points_of) (walks_at contours places)
       (λ k d lt. All-map HasEachPointOnce points_of _
@@ -52,7 +52,7 @@ module _ (q : Asked) (es : List CountedEdge) (contours : List Contour) (kept : A
       (λ i e less. (kept.simple grouped i e less).points_once) placed.inside k d lt)))
 
   -- what shows the shapes is the result
-  pub result_shown : (result : List (List (List Point))) →
+  unfoldable pub result_shown : (result : List (List (List Point))) →
       AreKeptOrThinned q.preserve_output_collinear (points_of_shapes (walks_at contours places)) result →
       IsResult q es result
   result_shown result shown = record {

@@ -1,3 +1,7 @@
+pub mod ChildLinks
+pub mod InShapes
 pub mod Laws
+pub mod Links
+pub mod PlacedResults
 pub mod Places
 pub mod Results

@@ -14,7 +14,7 @@ ghost use Rattle.overlay_walk.specs.Walks.{plain_walks};
 ghost use Rattle.overlay_extract.specs.Results.{asked, AreKeptWalks, IsResult, IsContoursResult};
 
 use crate::assemble::{assembled, contour};
-use crate::places::shape_places;
+use crate::placed::placed_contours;
 use overlay_arrange::count::EdgeCount;
 use overlay_arrange::graph::Graph;
 use overlay_arrange::options::IntOverlayOptions;
@@ -23,11 +23,8 @@ use overlay_geom::error::OverlayError;
 use overlay_geom::flat::contours::FlatContoursBuffer;
 use overlay_geom::number::IntNumber;
 use overlay_geom::path::IntShapes;
-use overlay_scan::list::ScanList;
 use overlay_walk::area::large_walks;
-use overlay_walk::bind::bind_contours;
 use overlay_walk::buffer::BooleanExtractionBuffer;
-use overlay_walk::kept::kept_contours;
 use overlay_walk::selected::selected_walks;
 use overlay_walk::step::Step;
 use std::alloc::Allocator;
@@ -49,14 +46,10 @@ pub fn extract_shapes<I: IntNumber, C: EdgeCount, A: Allocator + Clone>(
         (graph_edges graph.now) (plain_shapes I.whole v.items)) }
     ensures err { IsOkUnless result OverlayError.Memory }
 {
-    let contours = kept_contours(graph, overlay_rule, options, buffer)?;
+    let placed = placed_contours(graph, overlay_rule, options, buffer)?;
     let alloc = graph.allocator().clone()?;
-    let mut scan: ScanList<I, usize, A> = ScanList::default(alloc.clone()?);
-    let direction = options.output_direction;
-    let found = bind_contours(alloc.clone()?, &mut scan, &contours, direction)?;
-    let places = shape_places(alloc.clone()?, &contours, &found)?;
     let keeps_points = options.preserve_output_collinear;
-    assembled(alloc, &contours, &places, keeps_points)
+    assembled(alloc, &placed.contours, &placed.places, keeps_points)
 }
 
 /// The contours round the region where the rules hold, as they are found, one behind the other in the

@@ -1,7 +1,13 @@
-//! The contours round the region where rules hold of a graph's windings, in shapes or in one list.
+//! The contours round the region where rules hold of a graph's windings, in shapes or in one list, and which shapes
+//! lie in holes of which.
 #![tactic(auto)]
 
 mod assemble;
+pub mod child_link;
 pub mod extract;
+pub mod hierarchy;
+mod in_shapes;
 pub mod laws;
+mod links;
+mod placed;
 mod places;

@@ -8,3 +8,4 @@ pub mod ReversedContours
 pub mod SimpleEdges
 pub mod SimpleWindings
 pub mod TestedContours
+pub mod TurnedParts

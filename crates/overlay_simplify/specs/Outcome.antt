@@ -41,6 +41,13 @@ shapes_left Empty ps = []
 shapes_left AsGiven ps = (ps ∷ []) ∷ []
 shapes_left Reversed ps = (reverse ps ∷ []) ∷ []
 
+-- and the contours, in one list
+abbrev pub contours_left : Outcome → List Point → List (List Point)
+contours_left NotSimple ps = []
+contours_left Empty ps = []
+contours_left AsGiven ps = ps ∷ []
+contours_left Reversed ps = reverse ps ∷ []
+
 -- ---- of any contour, of whose edges these are left when they are merged, or cut
 
 -- it is simple, and no point of it was left out in adding

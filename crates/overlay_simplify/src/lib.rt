@@ -3,6 +3,7 @@
 
 pub mod alone;
 pub mod direction;
+pub mod flat;
 pub mod laws;
 pub mod once;
 pub mod outcome;

@@ -14,6 +14,8 @@ mod edges;
 #[cfg(test)]
 mod failed;
 #[cfg(test)]
+mod hierarchy;
+#[cfg(test)]
 mod minimum;
 #[cfg(test)]
 mod names;
@@ -40,6 +42,8 @@ mod selected;
 mod settings;
 #[cfg(test)]
 mod shapes;
+#[cfg(test)]
+mod simplified;
 #[cfg(test)]
 mod simplify;
 #[cfg(test)]

@@ -17,6 +17,7 @@ use Rattle.overlay_plane.proofs.Entries.{all_of_entries, Contains-flat_map}
 use Rattle.overlay_plane.proofs.FreeHoles.{all_holes_have_shapes}
 use Rattle.overlay_plane.proofs.KeptContours.{can_be_bound, kept_contours_are_simple, kept_selected}
 use Rattle.overlay_plane.proofs.RoledShapes.{reaches_zero}
+use Rattle.overlay_plane.proofs.ShapesApart.{kept_shapes_can_be_bound}
 use Rattle.overlay_arrange.specs.Content.{IsContent}
 use Rattle.overlay_walk.specs.Asked.{Asked, region_asked, filled_asked, selected_of, is_kept}
 use Rattle.overlay_walk.specs.KeptResults.{AreKeptResults}
@@ -72,6 +73,8 @@ module _ (q : Asked) (es : List CountedEdge) (contours : List Contour)
   kept_results = record {
     cut = kept.cut;
     bindable = can_be_bound (region_asked q) subj_of clip_of es (filled_asked q) q.ogc (is_kept q) contours kept;
+    bindable_again = kept_shapes_can_be_bound (region_asked q) subj_of clip_of es (filled_asked q) q.ogc (is_kept q)
+        contours kept;
     simple = λ is. simple_by q.ogc is kept;
     whole = λ none shapes found. record {
       none_lost = all_holes_have_shapes (region_asked q) subj_of clip_of es (filled_asked q) q.ogc (is_kept q) contours

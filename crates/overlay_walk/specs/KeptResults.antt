@@ -4,6 +4,7 @@ use Rattle.std.specs.Prelude.{◌≡◌, ℕ, Bool, true, List, All, Option}
 use Rattle.std.specs.List.Sorted.{IsPermutation}
 use Rattle.overlay_geom.specs.Plane.{Point, PlanePoint, winding}
 use Rattle.overlay_geom.specs.Edges.{CountedEdge, subj_of, clip_of}
+use Rattle.overlay_plane.specs.Binding.{walks_of}
 use Rattle.overlay_plane.specs.BoundContours.{AreShapesFound, NoHoleIsLost, walks_in, contours_bound, shapes_bound}
 use Rattle.overlay_plane.specs.ContourWindings.{wanted_winding}
 use Rattle.overlay_plane.specs.Groups.{IsSimpleContour}
@@ -32,6 +33,9 @@ pub record AreKeptResults (q : Asked) (es : List CountedEdge) (contours : List C
   pub cut : IsCutBy q.ogc (filled_asked q) (is_kept q) (selected_of q es) contours
   -- they can be bound
   pub bindable : CanBeBound (filled_asked q) (walks_in contours)
+  -- and so can the walks of whichever shapes are found for them
+  pub bindable_again : (shapes : List (Option ℕ)) → AreShapesFound (filled_asked q) contours shapes →
+      CanBeBound (filled_asked q) (walks_of (shapes_bound (contours_bound contours shapes)))
   -- in groups no contour visits a point twice
   pub simple : q.ogc ≡ true → All IsSimpleContour (walks_in contours)
   -- with the minimum area zero nothing is left out

@@ -2,6 +2,7 @@
 
 mod edges;
 mod faults;
+mod hierarchies;
 mod large;
 mod overlays;
 mod points;
@@ -51,7 +52,7 @@ fn bad_lines(rt: HostRuntime) {
         (b"subject", 2),
         (b"subject 0 0\n\n", 3),
         (b"run overlay Union NonZero\n\nclip\n", 3),
-        (b"clip 0 0\nrun hierarchy Union NonZero\n", 2),
+        (b"clip 0 0\nrun slice NonZero\n", 2),
         (b"\nclip 0 0\nrun overlay Union NonZero min\n", 3),
     ];
     for (input, line) in rows {

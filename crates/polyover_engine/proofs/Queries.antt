@@ -1,6 +1,6 @@
 -- What a query on a builder, to which all contours were added, says of the contours; and the text of its answer.
 use Rattle.std.proofs.Common.{◌≡◌, inl, ℕ, false, List, map, Option, Some, None, IfSome, sym, subst, ◌∙◌}
-use Rattle.std.specs.Prelude.{Result, Ok, Err, IfOk, MatchResult, unwrap_or}
+use Rattle.std.specs.Prelude.{Result, Ok, Err, IfOk, MatchResult}
 use Rattle.std.specs.Int.{w128}
 use Rattle.overlay_geom.specs.declared.error.OverlayError.{OverlayError}
 use Rattle.overlay_geom.specs.declared.error.OverlayError.TheVariants.{Memory, NotSettled, TooManyEdges, Failed}
@@ -8,27 +8,19 @@ use Rattle.overlay_geom.specs.Edges.{CountedEdge}
 use Rattle.overlay_geom.specs.Plane.{Point}
 use Rattle.overlay_arrange.specs.Vectors.{Vector, vector_of}
 use Rattle.overlay_arrange.specs.declared.fill_rule.FillRule.{FillRule}
-use Rattle.overlay_arrange.specs.declared.options.IntOverlayOptions.{IntOverlayOptions}
 use Rattle.overlay_builder.specs.Held.{Held, AnswersQuery}
 use Rattle.i_overlay.specs.Builder.{Builder, held_by}
+use Rattle.overlay_extract.specs.PlacedResults.{IsHierarchy}
 use Rattle.overlay_extract.specs.Results.{Asked, asked, IsResult}
+use Rattle.overlay_plane.specs.Islands.{ChildLink}
 use Rattle.overlay_builder.specs.GivenPaths.{MayRefuseBuilder, GivenPath, HoldsPaths}
 use Rattle.i_overlay.specs.OneShot.{IsResultOfPaths, MayRefusePaths}
 use Rattle.i_overlay.proofs.OneShots.{query_refused, result_of_paths}
 use Rattle.polyover_text.specs.declared.query.OverlayQuery.{OverlayQuery}
 use Rattle.polyover_text.specs.declared.query.Query.{Query}
-use Rattle.polyover_engine.specs.Answers.{AreEdges, Answers, IsAnswer, asked_by}
-use Rattle.polyover_engine.specs.Builders.{HasAdded}
+use Rattle.polyover_engine.specs.Answers.{AreEdges, Answers, IsAnswer, IsHierarchyOfPaths}
+use Rattle.polyover_engine.specs.Builders.{HasAdded, IsAskedBuilder, asked_by}
 use Rattle.polyover_text.specs.Grammar.{GivenFigures, Asks, input_lines}
-
--- what is asked of a builder with these options, of which the query sets four
-abbrev pub asked_with : OverlayQuery → IntOverlayOptions ℕ → Asked
-asked_with query options = asked w128 (λ n. n) query.fill_rule query.overlay_rule (record options {
-  output_direction = query.output.output_direction;
-  preserve_output_collinear = query.output.preserve_output_collinear;
-  ogc = query.output.ogc;
-  min_output_area = unwrap_or query.output.min_output_area 0;
-})
 
 module _ (cs : List GivenPath) (b : Builder ℕ) (h : HasAdded cs b) where
   -- what a query for the edges answers
@@ -42,18 +34,37 @@ module _ (cs : List GivenPath) (b : Builder ℕ) (h : HasAdded cs b) where
   edges_answered limit vectors fill new (Err e) query listed =
       query_refused limit cs (held_by b) new (Err e) h.holds h.made.ready query
 
-  -- what an overlay answers, whatever the settings are that it sets
-  pub shapes_answered : {V : Type 0} (limit : ℕ) (shapes : V → List (List (List Point))) (query : OverlayQuery)
-      (old new : Held CountedEdge) (answer : Result V OverlayError) → AnswersQuery limit 64 old new answer →
-      old.edges ≡ b.edges → old.failed ≡ b.failed
-      → IfOk answer (λ v. IsResult (asked_with query b.options) new.edges (shapes v))
-      → MatchResult answer (λ v. IsResultOfPaths (asked_by query) cs (shapes v)) (λ e. MayRefusePaths cs e)
-  shapes_answered limit shapes query old new (Ok v) answers content failed result =
-      result_of_paths {E = OverlayError} (Ok v) shapes (asked_by query) cs old.edges new.edges
-      (subst (HoldsPaths false cs) (sym content) h.holds) answers.arranged result
-  shapes_answered limit shapes query old new (Err e) answers content failed result =
-      query_refused limit cs old new (Err e) (subst (HoldsPaths false cs) (sym content) h.holds)
-      (failed ∙ h.made.ready) answers
+module _ (cs : List GivenPath) (query : OverlayQuery) (b : Builder ℕ) (h : IsAskedBuilder cs query b) where
+  -- what a builder is asked for
+  abbrev pub asked_of : Asked
+  asked_of = asked w128 (λ n. n) query.fill_rule query.overlay_rule b.options
+
+  -- what an overlay answers
+  pub shapes_answered : {V : Type 0} (limit : ℕ) (shapes : V → List (List (List Point))) (new : Held CountedEdge)
+      (answer : Result V OverlayError) → AnswersQuery limit 64 (held_by b) new answer →
+      IfOk answer (λ v. IsResult asked_of new.edges (shapes v)) →
+      MatchResult answer (λ v. IsResultOfPaths (asked_by query) cs (shapes v)) (λ e. MayRefusePaths cs e)
+  shapes_answered limit shapes new (Ok v) answers result =
+      result_of_paths {E = OverlayError} (Ok v) shapes (asked_by query) cs b.edges new.edges h.holds answers.arranged
+      (subst (λ q. IsResult q new.edges (shapes v)) h.asked result)
+  shapes_answered limit shapes new (Err e) answers result =
+      query_refused limit cs (held_by b) new (Err e) h.holds h.ready answers
+
+  -- and what it answers that tells of the links too
+  pub hierarchy_answered : {V : Type 0} (limit : ℕ) (shapes : V → List (List (List Point)))
+      (links : V → List ChildLink) (new : Held CountedEdge) (answer : Result V OverlayError) →
+      AnswersQuery limit 64 (held_by b) new answer →
+      IfOk answer (λ v. IsHierarchy asked_of new.edges (shapes v) (links v)) →
+      MatchResult answer (λ v. IsHierarchyOfPaths (asked_by query) cs (shapes v) (links v)) (λ e. MayRefusePaths cs e)
+  hierarchy_answered limit shapes links new (Ok v) answers result = record {
+    content = b.edges;
+    edges = new.edges;
+    holds = h.holds;
+    arranged = answers.arranged;
+    is_hierarchy = subst (λ q. IsHierarchy q new.edges (shapes v) (links v)) h.asked result;
+  }
+  hierarchy_answered limit shapes links new (Err e) answers result =
+      query_refused limit cs (held_by b) new (Err e) h.holds h.ready answers
 
 -- where the contours can't be added, there is no answer
 pub adding_refused : (cs : List GivenPath) (e : OverlayError) → MayRefuseBuilder false cs e → MayRefusePaths cs e

@@ -4,7 +4,7 @@ use Rattle.overlay_geom.specs.declared.error.OverlayError.{OverlayError}
 use Rattle.overlay_geom.specs.declared.error.OverlayError.TheVariants.{Memory, NotSettled, TooManyEdges, Failed}
 use Rattle.polyover_text.specs.declared.query.Query.{Query}
 use Rattle.polyover_text.specs.Grammar.{GivenFigures, Asks, input_lines}
-use Rattle.polyover_text.specs.declared.query.Query.TheVariants.{Edges, Overlay, Relate, Contains, Locate}
+use Rattle.polyover_text.specs.declared.query.Query.TheVariants.{Edges, Overlay, Hierarchy, Relate, Contains, Locate}
 use Rattle.polyover_engine.specs.Answers.{MayRefuseQuery, AsksAboutPoints}
 use Rattle.polyover_engine.specs.Engine.{MayBeRefused, IsBadInput}
 use Rattle.polyover_engine.specs.Subjects.{IsFirstUnresolved}
@@ -12,6 +12,7 @@ use Rattle.polyover_engine.specs.Subjects.{IsFirstUnresolved}
 never_failed : (fs : GivenFigures) (query : Query) → MayRefuseQuery fs query Failed → ⊥
 never_failed fs (Edges fill) h = h
 never_failed fs (Overlay query) h = h
+never_failed fs (Hierarchy query) h = h
 never_failed fs (Relate fill) (inl h) = h
 never_failed fs (Relate fill) (inr h) = h
 never_failed fs Contains h = cc

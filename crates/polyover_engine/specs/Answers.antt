@@ -1,7 +1,6 @@
 -- What the program answers: the edges of the arrangement, the shapes of an overlay, how the subject and the clip lie to
 -- each other, or where points lie; and the text of it.
-use Rattle.std.specs.Prelude.{◌≡◌, ℕ, Bool, false, List, [], ◌∷◌, map, All, unwrap_or}
-use Rattle.std.specs.Int.{w128}
+use Rattle.std.specs.Prelude.{◌≡◌, ℕ, Bool, false, List, [], ◌∷◌, ◌++◌, map, All}
 use Rattle.std.specs.List.{flat_map}
 use Rattle.overlay_geom.specs.Resolved.{IsResolved}
 use Rattle.overlay_geom.specs.declared.error.OverlayError.{OverlayError}
@@ -15,13 +14,16 @@ use Rattle.overlay_arrange.specs.declared.fill_rule.FillRule.{FillRule}
 use Rattle.overlay_arrange.specs.Arranged.{IsArranged}
 use Rattle.overlay_arrange.specs.Vectors.{Vector, vector_of}
 use Rattle.i_overlay.specs.OneShot.{IsResultOfPaths, MayRefusePaths}
+use Rattle.overlay_extract.specs.PlacedResults.{IsHierarchy}
 use Rattle.overlay_extract.specs.Results.{Asked}
+use Rattle.overlay_plane.specs.Islands.{ChildLink}
+use Rattle.polyover_engine.specs.Builders.{asked_by}
 use Rattle.overlay_builder.specs.GivenPaths.{GivenPath, HoldsPaths}
-use Rattle.polyover_text.specs.declared.query.OverlayQuery.{OverlayQuery}
 use Rattle.polyover_text.specs.declared.query.Query.{Query}
-use Rattle.polyover_text.specs.declared.query.Query.TheVariants.{Edges, Overlay, Relate, Contains, Locate}
+use Rattle.polyover_text.specs.declared.query.Query.TheVariants.{Edges, Overlay, Hierarchy, Relate, Contains, Locate}
 use Rattle.polyover_text.specs.Grammar.{GivenFigures, paths_of, Asks, input_lines}
-use Rattle.polyover_text.specs.Printed.{edge_lines, lines_of_shapes, relation_lines, truth_line, location_line}
+use Rattle.polyover_text.specs.Printed.{edge_lines, lines_of_shapes, link_line, relation_lines, truth_line}
+use Rattle.polyover_text.specs.Printed.{location_line}
 use Rattle.polyover_text.specs.declared.relations.Relations.{Relations}
 use Rattle.polyover_engine.specs.declared.exit.Exit.{Exit}
 use Rattle.polyover_engine.specs.declared.exit.Exit.TheVariants.{Answered, Refused, BadInput, Io}
@@ -38,19 +40,20 @@ pub record AreEdges (cs : List GivenPath) (fill : FillRule) (vs : List Vector) :
   pub arranged : IsArranged 64 content edges
   pub listed : vs ≡ map (vector_of fill edges) edges
 
--- ---- shapes
+-- ---- shapes and their links
 
--- what the query asks of an overlay; areas at i64 are summed in i128
-abbrev pub asked_by : OverlayQuery → Asked
-asked_by q = record {
-  fill = q.fill_rule;
-  rule = q.overlay_rule;
-  output_direction = q.output.output_direction;
-  preserve_output_collinear = q.output.preserve_output_collinear;
-  ogc = q.output.ogc;
-  min_output_area = unwrap_or q.output.min_output_area 0;
-  area_width = w128;
-}
+-- the shapes and links over some arrangement of the edges that the contours give
+pub record IsHierarchyOfPaths (q : Asked) (cs : List GivenPath) (shapes : List (List (List Point)))
+    (links : List ChildLink) : Type 0 where
+  pub content : List CountedEdge
+  pub edges : List CountedEdge
+  pub holds : HoldsPaths false cs content
+  pub arranged : IsArranged 64 content edges
+  pub is_hierarchy : IsHierarchy q edges shapes links
+
+-- a line for each link
+abbrev pub link_lines : List ChildLink → List ℕ
+link_lines links = flat_map (λ l. link_line l.parent_shape l.parent_contour l.child_shape) links
 
 -- ---- points
 
@@ -73,6 +76,9 @@ abbrev pub Answers : GivenFigures → Query → List ℕ → Type 0
 Answers fs (Edges fill) text = (vs : List Vector) × AreEdges (paths_of fs) fill vs × (text ≡ edge_lines vs)
 Answers fs (Overlay query) text = (shapes : List (List (List Point))) × IsResultOfPaths (asked_by query)
     (paths_of fs) shapes × (text ≡ lines_of_shapes shapes)
+Answers fs (Hierarchy query) text = (shapes : List (List (List Point))) × (links : List ChildLink)
+    × IsHierarchyOfPaths (asked_by query) (paths_of fs) shapes links
+    × (text ≡ lines_of_shapes shapes ++ link_lines links)
 Answers fs (Relate fill) text = (answers : Relations) × AreRelations (paths_of fs) fill answers
     × (text ≡ relation_lines answers)
 Answers fs Contains text = (answers : List Bool) × TellInside fs answers × (text ≡ flat_map truth_line answers)
@@ -82,6 +88,7 @@ Answers fs Locate text = (answers : List PointLocation) × TellWhere fs answers 
 abbrev pub MayRefuseQuery : GivenFigures → Query → OverlayError → Type 0
 MayRefuseQuery fs (Edges fill) e = MayRefusePaths (paths_of fs) e
 MayRefuseQuery fs (Overlay query) e = MayRefusePaths (paths_of fs) e
+MayRefuseQuery fs (Hierarchy query) e = MayRefusePaths (paths_of fs) e
 MayRefuseQuery fs (Relate fill) e = MayRefuseRelations (paths_of fs) e
 MayRefuseQuery fs Contains e = e ≡ Memory
 MayRefuseQuery fs Locate e = e ≡ Memory
@@ -90,6 +97,7 @@ MayRefuseQuery fs Locate e = e ≡ Memory
 abbrev pub AsksAboutPoints : Query → Type 0
 AsksAboutPoints (Edges fill) = ⊥
 AsksAboutPoints (Overlay query) = ⊥
+AsksAboutPoints (Hierarchy query) = ⊥
 AsksAboutPoints (Relate fill) = ⊥
 AsksAboutPoints Contains = Unit {0}
 AsksAboutPoints Locate = Unit {0}

@@ -5,13 +5,15 @@ ghost use Rattle.overlay_geom.specs.Points.{AllInRange};
 ghost use Rattle.overlay_geom.specs.Paths.{plain_shapes};
 ghost use Rattle.overlay_arrange.specs.Vectors.{plain_vector};
 ghost use Rattle.i_overlay.specs.OneShot.{IsResultOfPaths, MayRefusePaths};
-ghost use Rattle.polyover_engine.specs.Answers.{Answers, AreEdges, EndsUnanswered, asked_by};
+ghost use Rattle.polyover_engine.specs.Answers.{Answers, AreEdges, EndsUnanswered};
+ghost use Rattle.polyover_engine.specs.Builders.{asked_by};
 ghost use Rattle.polyover_text.specs.Grammar.{contour_paths};
 ghost use Rattle.polyover_text.specs.Points.{FiguresInRange};
 ghost use Rattle.polyover_text.specs.Statements.{contours_at, figures_at};
 
-use crate::builder::with_contours;
+use crate::builder::{asked_builder, with_contours};
 use crate::exit::Exit;
+use crate::hierarchy::{hierarchy_text, overlay_hierarchy};
 use crate::points::{contains_text, locate_text};
 use crate::relations::relations;
 use i_overlay::fill_rule::FillRule;
@@ -43,6 +45,10 @@ pub fn answer_text<A: Allocator + Copy>(alloc: A, input: &Input<A>) -> Result<St
         Query::Overlay(query) => {
             let shapes = overlay_shapes(alloc, &input.figures.contours, query)?;
             Ok(shapes_text(alloc, &shapes)?)
+        }
+        Query::Hierarchy(query) => {
+            let hierarchy = overlay_hierarchy(alloc, &input.figures.contours, query)?;
+            Ok(hierarchy_text(alloc, &hierarchy)?)
         }
         Query::Relate(fill_rule) => {
             let relations = relations(alloc, &input.figures.contours, fill_rule)?;
@@ -80,10 +86,6 @@ fn overlay_shapes<A: Allocator + Clone>(
         (plain_shapes (λ z. z) v.items))
         (λ e. MayRefusePaths (contour_paths (contours_at contours.now)) e) }
 {
-    let mut builder = with_contours(alloc, contours)?;
-    builder.options.output_direction = query.output.output_direction;
-    builder.options.preserve_output_collinear = query.output.preserve_output_collinear;
-    builder.options.ogc = query.output.ogc;
-    builder.options.min_output_area = query.output.min_output_area.unwrap_or(0);
+    let mut builder = asked_builder(alloc, contours, query)?;
     builder.overlay(query.overlay_rule, query.fill_rule)
 }

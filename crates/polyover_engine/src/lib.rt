@@ -5,6 +5,7 @@ mod answer;
 mod builder;
 pub mod engine;
 pub mod exit;
+mod hierarchy;
 mod noting_reader;
 mod noting_writer;
 mod points;

@@ -5,10 +5,10 @@ use Rattle.std.proofs.lemmas.Bool.{false≢true}
 use Rattle.polyover_text.specs.declared.query.Query.{Query}
 use Rattle.overlay_arrange.specs.declared.fill_rule.FillRule.{FillRule}
 use Rattle.polyover_text.specs.declared.query.OverlayQuery.{OverlayQuery}
-use Rattle.polyover_text.specs.declared.query.Query.TheVariants.{Edges, Overlay, Relate, Contains, Locate}
-use Rattle.polyover_text.specs.Grammar.{Word, Line, IsCommand, edges, overlay, relate, contains, locate}
+use Rattle.polyover_text.specs.declared.query.Query.TheVariants.{Edges, Overlay, Hierarchy, Relate, Contains, Locate}
+use Rattle.polyover_text.specs.Grammar.{Word, Line, IsCommand, edges, overlay, hierarchy, relate, contains, locate}
 use Rattle.polyover_text.specs.Grammar.{fill_name, rule_name}
-use Rattle.polyover_text.specs.Grammar.{default_output, SetOptions}
+use Rattle.polyover_text.specs.Grammar.{AsksOverlay, asks, default_output, SetOptions}
 
 -- their first letters differ
 relate_is_not_locate : ¬ (codes "relate" ≡ codes "locate")
@@ -31,6 +31,8 @@ fill_named : (w : Word) (rest : Line) (query : Query) → IsCommand (codes "run"
 fill_named w rest query (edges {fill}) e = (fill, refl)
 fill_named w rest query (overlay set) (inl e) = cc
 fill_named w rest query (overlay set) (inr e) = cc
+fill_named w rest query (hierarchy set) (inl e) = cc
+fill_named w rest query (hierarchy set) (inr e) = cc
 fill_named w rest query (relate {fill}) e = (fill, refl)
 fill_named w rest query contains (inl e) = cc
 fill_named w rest query contains (inr e) = cc
@@ -45,14 +47,45 @@ no_fill_named ws rest w words first none query h =
     let named = fill_named w rest query (subst (λ l. IsCommand (codes "run" ∷ l) query) words h) first in
     none named.0 named.1
 
--- after `run overlay` stand the names of the rules, and then options
-pub overlay_asked : (ws : Line) (r f : Word) (rest more : Line) (asked : OverlayQuery)
+-- an overlay is asked for by the names of its rules, and then options
+pub overlay_named : (ws : Line) (r f : Word) (rest more : Line) (asked : OverlayQuery)
     → ws ≡ r ∷ rest → rest ≡ f ∷ more → r ≡ rule_name asked.overlay_rule → f ≡ fill_name asked.fill_rule
-    → SetOptions default_output more asked.output
-    → IsCommand (codes "run" ∷ codes "overlay" ∷ ws) (Overlay asked)
-overlay_asked ws r f rest more asked words left rule fill set =
+    → SetOptions default_output more asked.output → AsksOverlay ws asked
+overlay_named ws r f rest more asked words left rule fill set =
     let all : ws ≡ rule_name asked.overlay_rule ∷ fill_name asked.fill_rule ∷ more = cc in
-    subst (λ l. IsCommand (codes "run" ∷ codes "overlay" ∷ l) (Overlay asked)) (sym all) (overlay set)
+    subst (λ l. AsksOverlay l asked) (sym all) (asks set)
+
+-- so it is after `run overlay`, and after `run hierarchy`
+pub overlay_asked : (ws rest : Line) (asked : OverlayQuery) → ws ≡ codes "overlay" ∷ rest → AsksOverlay rest asked →
+    IsCommand (codes "run" ∷ ws) (Overlay asked)
+overlay_asked ws rest asked words named =
+    subst (λ l. IsCommand (codes "run" ∷ l) (Overlay asked)) (sym words) (overlay named)
+
+pub hierarchy_asked : (ws rest : Line) (asked : OverlayQuery) → ws ≡ codes "hierarchy" ∷ rest →
+    AsksOverlay rest asked → IsCommand (codes "run" ∷ ws) (Hierarchy asked)
+hierarchy_asked ws rest asked words named =
+    subst (λ l. IsCommand (codes "run" ∷ l) (Hierarchy asked)) (sym words) (hierarchy named)
+
+rules_named : (w : Word) (rest : Line) (query : Query) → IsCommand (codes "run" ∷ w ∷ rest) query →
+    (w ≡ codes "overlay") ⊎ (w ≡ codes "hierarchy") → (asked : OverlayQuery) × AsksOverlay rest asked
+rules_named w rest query edges (inl e) = cc
+rules_named w rest query edges (inr e) = cc
+rules_named w rest query (overlay {query = asked} named) e = (asked, named)
+rules_named w rest query (hierarchy {query = asked} named) e = (asked, named)
+rules_named w rest query relate (inl e) = cc
+rules_named w rest query relate (inr e) = cc
+rules_named w rest query contains (inl e) = cc
+rules_named w rest query contains (inr e) = cc
+rules_named w rest query locate (inl e) = cc
+rules_named w rest query locate (inr e) = cc
+
+-- where it is not, nothing is asked
+pub no_rules_named : (ws rest : Line) (w : Word) → ws ≡ w ∷ rest →
+    (w ≡ codes "overlay") ⊎ (w ≡ codes "hierarchy") → ((asked : OverlayQuery) → ¬ (AsksOverlay rest asked)) →
+    (query : Query) → ¬ (IsCommand (codes "run" ∷ ws) query)
+no_rules_named ws rest w words first none query h =
+    let named = rules_named w rest query (subst (λ l. IsCommand (codes "run" ∷ l) query) words h) first in
+    none named.0 named.1
 
 -- after `run contains`, and after `run locate`, stands no word
 last_word : (w : Word) (rest : Line) (query : Query) → IsCommand (codes "run" ∷ w ∷ rest) query →
@@ -61,6 +94,8 @@ last_word w rest query edges (inl e) = cc
 last_word w rest query edges (inr e) = cc
 last_word w rest query (overlay set) (inl e) = cc
 last_word w rest query (overlay set) (inr e) = cc
+last_word w rest query (hierarchy set) (inl e) = cc
+last_word w rest query (hierarchy set) (inr e) = cc
 last_word w rest query relate (inl e) = cc
 last_word w rest query relate (inr e) = absurd (relate_is_not_locate e)
 last_word w rest query contains e = refl

@@ -6,7 +6,7 @@ use Rattle.overlay_arrange.specs.Paths.{GivenPath}
 use Rattle.overlay_geom.specs.Plane.{Point}
 use Rattle.polyover_text.specs.declared.query.Query.{Query}
 use Rattle.polyover_text.specs.Grammar.{Word, Line, shape_name, GivesContour, contour, GivesPoint, point, IsCommand}
-use Rattle.polyover_text.specs.Grammar.{edges, overlay, relate, contains, locate}
+use Rattle.polyover_text.specs.Grammar.{edges, overlay, hierarchy, relate, contains, locate}
 use Rattle.polyover_text.specs.Statements.{SaysNothing}
 
 first_of_contour : (f : Word) (ws : Line) (c : GivenPath) → GivesContour (f ∷ ws) c → f ≡ shape_name c.shape_type
@@ -15,6 +15,7 @@ first_of_contour f ws c (contour h) = refl
 first_of_command : (f : Word) (ws : Line) (query : Query) → IsCommand (f ∷ ws) query → f ≡ codes "run"
 first_of_command f ws query edges = refl
 first_of_command f ws query (overlay options) = refl
+first_of_command f ws query (hierarchy options) = refl
 first_of_command f ws query relate = refl
 first_of_command f ws query contains = refl
 first_of_command f ws query locate = refl

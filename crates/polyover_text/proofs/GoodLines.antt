@@ -8,7 +8,7 @@ use Rattle.std.proofs.lemmas.List.{get_or_push, get_or-append-add, same_from_pus
 use Rattle.overlay_arrange.specs.Paths.{GivenPath}
 use Rattle.polyover_text.specs.declared.query.Query.{Query}
 use Rattle.polyover_text.specs.Grammar.{Word, Line, shape_name, GivesContour, contour, GivesPoint, point, IsCommand}
-use Rattle.polyover_text.specs.Grammar.{edges, overlay, relate, contains, locate, Asks, IsGoodSoFar}
+use Rattle.polyover_text.specs.Grammar.{edges, overlay, hierarchy, relate, contains, locate, Asks, IsGoodSoFar}
 use Rattle.polyover_text.specs.Grammar.{GivenFigures, no_figures, before_contours, AreFigures, none, blank}
 use Rattle.overlay_geom.specs.Plane.{Point}
 use Rattle.overlay_arrange.specs.declared.options.ShapeType.{ShapeType}
@@ -114,6 +114,7 @@ run_is_not_plain ws (inr (inl h)) =
 command_begins : (l : Line) (query : Query) → IsCommand l query → (ws : List Word) × (l ≡ codes "run" ∷ ws)
 command_begins l query edges = (_, refl)
 command_begins l query (overlay options) = (_, refl)
+command_begins l query (hierarchy options) = (_, refl)
 command_begins l query relate = (_, refl)
 command_begins l query contains = (_, refl)
 command_begins l query locate = (_, refl)

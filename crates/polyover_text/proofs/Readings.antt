@@ -9,6 +9,7 @@ use Rattle.polyover_text.specs.declared.input.Reading.{Reading}
 use Rattle.polyover_text.specs.declared.statement.Statement.{Statement}
 use Rattle.polyover_text.specs.declared.statement.Statement.TheVariants.{Blank, Contour, Point, Run}
 use Rattle.polyover_text.specs.Grammar.{Line, GivesContour, contour, GivesPoint, point, IsCommand, edges, overlay}
+use Rattle.polyover_text.specs.Grammar.{hierarchy}
 use Rattle.polyover_text.specs.Grammar.{relate, contains, locate, AreFigures}
 use Rattle.overlay_geom.specs.Points.{plain_point}
 use Rattle.overlay_geom.specs.declared.point.IntPoint.{IntPoint}
@@ -22,6 +23,7 @@ contour_has_word l c (contour h) e = cc
 command_has_word : (l : Line) (query : Query) → IsCommand l query → l ≡ [] → ⊥
 command_has_word l query edges e = cc
 command_has_word l query (overlay options) e = cc
+command_has_word l query (hierarchy options) e = cc
 command_has_word l query relate e = cc
 command_has_word l query contains e = cc
 command_has_word l query locate e = cc

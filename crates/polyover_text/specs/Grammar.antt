@@ -19,7 +19,7 @@ use Rattle.overlay_arrange.specs.Paths.{GivenPath}
 use Rattle.polyover_text.specs.declared.options.OutputOptions.{OutputOptions}
 use Rattle.polyover_text.specs.declared.query.OverlayQuery.{OverlayQuery}
 use Rattle.polyover_text.specs.declared.query.Query.{Query}
-use Rattle.polyover_text.specs.declared.query.Query.TheVariants.{Edges, Overlay, Relate, Contains, Locate}
+use Rattle.polyover_text.specs.declared.query.Query.TheVariants.{Edges, Overlay, Hierarchy, Relate, Contains, Locate}
 
 -- ---- lines and words
 
@@ -126,14 +126,21 @@ pub data SetOptions : OutputOptions → List Word → OutputOptions → Type 0 w
   min : {old o : OutputOptions} {w : Word} {n : ℕ} {ws : List Word} → old.min_output_area ≡ None → IsArea w n
       → SetOptions (record old { min_output_area = Some n }) ws o → SetOptions old (codes "min" ∷ w ∷ ws) o
 
+-- the words ask for an overlay: they name its rules, and then set options
+pub data AsksOverlay : List Word → OverlayQuery → Type 0 where
+  asks : {query : OverlayQuery} {ws : List Word} → SetOptions default_output ws query.output
+      → AsksOverlay (rule_name query.overlay_rule ∷ fill_name query.fill_rule ∷ ws) query
+
 -- the line asks for this: `run edges FILL` for the edges under a fill rule, `run overlay RULE FILL OPT..` for the
--- shapes of an overlay, `run relate FILL` for how subject and clip lie to each other, `run contains` for whether each
--- point is inside the subject, `run locate` for where each point lies in it
+-- shapes of an overlay, `run hierarchy RULE FILL OPT..` for these and which of them lie in holes of which, `run relate
+-- FILL` for how subject and clip lie to each other, `run contains` for whether each point is inside the subject, `run
+-- locate` for where each point lies in it
 pub data IsCommand : Line → Query → Type 0 where
   edges : {fill : FillRule} → IsCommand (codes "run" ∷ codes "edges" ∷ fill_name fill ∷ []) (Edges fill)
-  overlay : {query : OverlayQuery} {ws : List Word} → SetOptions default_output ws query.output
-      → IsCommand (codes "run" ∷ codes "overlay" ∷ rule_name query.overlay_rule ∷ fill_name query.fill_rule ∷ ws)
-      (Overlay query)
+  overlay : {query : OverlayQuery} {ws : List Word} → AsksOverlay ws query
+      → IsCommand (codes "run" ∷ codes "overlay" ∷ ws) (Overlay query)
+  hierarchy : {query : OverlayQuery} {ws : List Word} → AsksOverlay ws query
+      → IsCommand (codes "run" ∷ codes "hierarchy" ∷ ws) (Hierarchy query)
   relate : {fill : FillRule} → IsCommand (codes "run" ∷ codes "relate" ∷ fill_name fill ∷ []) (Relate fill)
   contains : IsCommand (codes "run" ∷ codes "contains" ∷ []) Contains
   locate : IsCommand (codes "run" ∷ codes "locate" ∷ []) Locate

@@ -37,6 +37,14 @@ shape_lines contours = codes "shape" ++ 10 ∷ flat_map contour_line contours
 abbrev pub lines_of_shapes : List (List (List Point)) → List ℕ
 lines_of_shapes shapes = flat_map shape_lines shapes
 
+-- ---- links
+
+-- `link p c s`, and LF
+abbrev pub link_line : ℕ → ℕ → ℕ → List ℕ
+link_line parent_shape parent_contour child_shape =
+    codes "link " ++ decimal parent_shape ++ codes " " ++ decimal parent_contour ++ codes " " ++ decimal child_shape
+    ++ 10 ∷ []
+
 -- ---- points
 
 -- `true` or `false`, and LF

@@ -4,7 +4,7 @@ ghost use Rattle.std.specs.Prelude.{◌≡◌, [], ◌∷◌, MatchOption, IfSom
 ghost use Rattle.overlay_arrange.specs.declared.fill_rule.FillRule.{FillRule};
 ghost use Rattle.polyover_text.specs.declared.query.Query.{Query};
 ghost use Rattle.polyover_text.specs.declared.query.OverlayQuery.{OverlayQuery};
-ghost use Rattle.polyover_text.specs.Grammar.{IsCommand, fill_name};
+ghost use Rattle.polyover_text.specs.Grammar.{IsCommand, AsksOverlay, fill_name};
 ghost use Rattle.polyover_text.specs.Words.{words_left};
 
 use crate::fill::parse_fill_rule;
@@ -23,6 +23,7 @@ pub fn parse_command(mut words: Words<'_>) -> Option<Query>
     match words.next()? {
         b"edges" => Some(Query::Edges(last_fill_rule(words)?)),
         b"overlay" => Some(Query::Overlay(parse_overlay(words)?)),
+        b"hierarchy" => Some(Query::Hierarchy(parse_overlay(words)?)),
         b"relate" => Some(Query::Relate(last_fill_rule(words)?)),
         b"contains" => if_last(words, Query::Contains),
         b"locate" => if_last(words, Query::Locate),
@@ -54,13 +55,11 @@ fn last_fill_rule(mut words: Words<'_>) -> Option<FillRule>
     }
 }
 
-// The rules and the options of an overlay, after the word `overlay`.
+// The rules and the options of an overlay.
 fn parse_overlay(mut words: Words<'_>) -> Option<OverlayQuery>
     ensures { MatchOption result
-        ((query : OverlayQuery)
-        → ¬ (IsCommand (codes "run" ∷ codes "overlay" ∷ words_left words.entry) (Query.Overlay query)))
-        (λ query. IsCommand (codes "run" ∷ codes "overlay" ∷ words_left words.entry)
-        (Query.Overlay query)) }
+        ((query : OverlayQuery) → ¬ (AsksOverlay (words_left words.entry) query))
+        (λ query. AsksOverlay (words_left words.entry) query) }
 {
     let overlay_rule = parse_overlay_rule(words.next()?)?;
     let fill_rule = parse_fill_rule(words.next()?)?;

@@ -10,6 +10,7 @@ mod fill;
 pub mod input;
 mod line_error;
 mod lines;
+pub mod link_text;
 pub mod location_text;
 mod number;
 pub mod options;

@@ -11,6 +11,8 @@ pub enum Query {
     Edges(FillRule),
     /// The shapes of an overlay.
     Overlay(OverlayQuery),
+    /// The shapes of an overlay, and which of them lie in holes of which.
+    Hierarchy(OverlayQuery),
     /// How the subject and the clip lie to each other under this rule.
     Relate(FillRule),
     /// Whether each point is inside the subject.

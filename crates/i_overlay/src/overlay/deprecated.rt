@@ -1,20 +1,26 @@
-//! Calls that the original keeps under old names: each is one call of a constructor or of `add_source`, over
-//! what borrows the lists that it is given. Of shapes it reads as many contours as `usize` can count.
+//! Calls that the original keeps under old names: each is one call of a constructor, of `add_source` or of an
+//! overlay of paths alone, over what borrows the lists that it is given. Of shapes it reads as many contours as
+//! `usize` can count.
 
-ghost use Rattle.std.specs.Prelude.{◌≡◌, ◌∷◌, [], All, false, IfOk, IfErr};
+ghost use Rattle.std.specs.Prelude.{◌≡◌, ◌∷◌, [], All, false, Some, IfOk, IfErr, OnOk};
+ghost use Rattle.overlay_arrange.specs.declared.options.ShapeType.TheVariants.{Subject};
+ghost use Rattle.overlay_extract.specs.Results.{asked, IsResult};
 ghost use Rattle.overlay_geom.specs.Flat.{paths_in};
-ghost use Rattle.overlay_geom.specs.Paths.{paths_of_shape, paths_of_shapes, counted_paths};
+ghost use Rattle.overlay_geom.specs.Paths.{paths_of_shape, paths_of_shapes, counted_paths, plain_shapes};
 ghost use Rattle.overlay_geom.specs.Points.{plain_points, AllInRange};
 ghost use Rattle.overlay_builder.specs.GivenPaths.{MayRefuseBuilder, paths_for, subject_and_clip, HoldsPaths};
 ghost use Rattle.i_overlay.specs.Adding.{AddsAsAsked};
-ghost use Rattle.i_overlay.specs.Builder.{empty_builder, IsNewBuilder};
+ghost use Rattle.overlay_simplify.specs.Alone.{AnswersAlone};
+ghost use Rattle.i_overlay.specs.Builder.{empty_builder, held_by, IsNewBuilder};
 
 use crate::overlay::{IntOverlayOptions, Overlay, ShapeType};
 use crate::solver::Solver;
+use overlay_arrange::fill_rule::FillRule;
+use overlay_arrange::overlay_rule::OverlayRule;
 use overlay_geom::error::OverlayError;
 use overlay_geom::flat::contours::FlatContoursBuffer;
 use overlay_geom::integer::OverlayInt;
-use overlay_geom::path::{IntContour, IntShape, PathRef};
+use overlay_geom::path::{IntContour, IntShape, IntShapes, PathRef};
 use overlay_geom::point::IntPoint;
 use overlay_geom::resource::borrowed::{BorrowedContours, BorrowedShapes};
 use std::alloc::Allocator;
@@ -226,5 +232,34 @@ impl<I: OverlayInt, A: Allocator + Clone> Overlay<I, A> {
             self.old self.new result }
     {
         self.add_source(buffer, shape_type)
+    }
+
+    /// Drops the edges and mends a failed builder, adds the contours of all shapes as the subject, shape by
+    /// shape, and gives the answer of `overlay` with the rule `Subject`, also where they are one contour. The
+    /// points are in the coordinate range. After an answer the builder holds the arrangement of the contours
+    /// alone, and there is a buffer, `boolean_buffer`.
+    ///
+    /// Refusals, which leave the builder failed: `NotSettled`, `TooManyEdges`, also in adding, and `Memory`.
+    ///
+    /// Deprecated: `simplify_source` takes its place.
+    pub fn simplify_shapes<B: Allocator>(
+        &mut self,
+        shapes: &[IntShape<I, B>],
+        fill_rule: FillRule,
+    ) -> Result<IntShapes<I, A>, OverlayError>
+        requires { All (AllInRange I.limit) (counted_paths (paths_of_shapes I.whole shapes.now)) }
+        ensures alone { AnswersAlone I.limit 64 self.old.options.preserve_input_collinear (paths_for Subject
+            (counted_paths (paths_of_shapes I.whole shapes.now))) (held_by self.new) result }
+        ensures result { IfOk result (λ v. IsResult
+            (asked I.Wide.width I.WideUInt.natural fill_rule OverlayRule.Subject self.old.options)
+            self.new.edges (plain_shapes I.whole v.items)) }
+        ensures kept { self.new ≡ record self.old {
+          edges = self.new.edges;
+          boolean_buffer = self.new.boolean_buffer;
+          failed = self.new.failed;
+        } }
+        ensures buffer { OnOk result (self.new.boolean_buffer ≡ Some tt) }
+    {
+        self.overlay_alone(&BorrowedShapes { shapes }, fill_rule)
     }
 }

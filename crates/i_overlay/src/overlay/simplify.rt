@@ -1,33 +1,69 @@
-//! Simplification: the contour that a builder is given takes the place of what it held, and clean shapes of it
+//! Simplification: the paths that a builder is given take the place of what it held, and clean shapes of them
 //! are the answer.
 
-ghost use Rattle.std.specs.Prelude.{◌≡◌, ◌↔◌, ◌∷◌, [], false, Some, None, option_map, IfOk, OnOk, IsOkUnless};
+ghost use Rattle.std.specs.Prelude.{◌≡◌, ◌↔◌, ◌∷◌, [], All, length, IsTrue, false, Some, None, option_map};
+ghost use Rattle.std.specs.Prelude.{IfOk, OnOk, IsOkUnless};
 ghost use Rattle.overlay_arrange.specs.Content.{IsAscending};
 ghost use Rattle.overlay_arrange.specs.declared.options.ShapeType.TheVariants.{Subject};
 ghost use Rattle.overlay_builder.specs.GivenPaths.{paths_for};
 ghost use Rattle.overlay_extract.specs.Results.{asked};
-ghost use Rattle.overlay_geom.specs.Paths.{plain_shapes};
+ghost use Rattle.overlay_geom.specs.Paths.{paths_of_shape, plain_shapes};
 ghost use Rattle.overlay_geom.specs.Points.{plain_points, AllInRange};
 ghost use Rattle.overlay_geom.specs.Settled.{IsSettled};
 ghost use Rattle.overlay_simplify.specs.Alone.{AnswersAlone};
-ghost use Rattle.overlay_simplify.specs.Outcome.{IsOutcome};
 ghost use Rattle.i_overlay.specs.Builder.{held_by};
-ghost use Rattle.i_overlay.specs.Simplified.{IsLeft, IsSimplified, StayAsGiven, shapes_answered};
+ghost use Rattle.i_overlay.specs.Simplified.{IsLeft, IsSimplified, IsSimplifiedContour, IsSimplifiedSource};
+ghost use Rattle.i_overlay.specs.Simplified.{StayAsGiven, shapes_answered};
 
 use crate::overlay::Overlay;
 use overlay_arrange::fill_rule::FillRule;
 use overlay_arrange::overlay_rule::OverlayRule;
 use overlay_geom::error::OverlayError;
 use overlay_geom::integer::OverlayInt;
-use overlay_geom::path::IntShapes;
+use overlay_geom::number::UIntNumber;
+use overlay_geom::path::{IntContour, IntShapes};
 use overlay_geom::point::IntPoint;
+use overlay_geom::resource::IntShapeResource;
+use overlay_geom::resource::borrowed::BorrowedContours;
 use overlay_simplify::outcome::Outcome;
 use overlay_simplify::shapes::shapes_left;
-use overlay_simplify::simple::outcome_of_contour;
-use overlay_walk::buffer::BooleanExtractionBuffer;
 use std::alloc::Allocator;
 
 impl<I: OverlayInt, A: Allocator + Clone> Overlay<I, A> {
+    /// Drops the edges and mends a failed builder, adds the paths of the resource as the subject, and gives
+    /// the shapes that they are simplified to.
+    ///
+    /// One path is answered as `simplify_contour` does, with a shape of it where it stays as it is given, if
+    /// `options.min_output_area` is zero. Otherwise the answer is that of `overlay` with the rule `Subject`.
+    /// The points are in the coordinate range. After an answer the builder holds the arrangement of the paths
+    /// alone, and there is a buffer, `boolean_buffer`.
+    ///
+    /// Refusals, which leave the builder failed: `NotSettled`, `TooManyEdges`, also in adding, and `Memory`.
+    pub fn simplify_source<R0: IntShapeResource<I>>(
+        &mut self,
+        resource: &R0,
+        fill_rule: FillRule,
+    ) -> Result<IntShapes<I, A>, OverlayError>
+        requires points { All (AllInRange I.limit) (R0.paths resource.now) }
+        ensures alone { AnswersAlone I.limit 64 self.old.options.preserve_input_collinear
+            (paths_for Subject (R0.paths resource.now)) (held_by self.new) result }
+        ensures simplified { IfOk result (λ v. IsSimplifiedSource
+            (asked I.Wide.width I.WideUInt.natural fill_rule OverlayRule.Subject self.old.options)
+            self.old.options.preserve_input_collinear (R0.paths resource.now) self.new.edges
+            (plain_shapes I.whole v.items)) }
+        ensures kept { self.new ≡ record self.old {
+          edges = self.new.edges;
+          boolean_buffer = self.new.boolean_buffer;
+          failed = self.new.failed;
+        } }
+        ensures buffer { OnOk result (self.new.boolean_buffer ≡ Some tt) }
+    {
+        if self.takes_fast_path(resource) {
+            return self.simplify_path(resource.path(0), fill_rule);
+        }
+        self.overlay_alone(resource, fill_rule)
+    }
+
     /// Drops the edges and mends a failed builder, adds the contour as the subject, and gives the shapes
     /// that it is simplified to: `None` where it stays as it is given.
     ///
@@ -71,23 +107,76 @@ impl<I: OverlayInt, A: Allocator + Clone> Overlay<I, A> {
         answer
     }
 
-    // Holds the contour alone, arranged, and tells what becomes of it.
-    fn outcome_alone(
+    /// Drops the edges and mends a failed builder, adds the contours of the shape as the subject, and gives the
+    /// shapes that they are simplified to: `None` where they stay as they are given.
+    ///
+    /// One contour is answered as `simplify_contour` does, whatever `options.min_output_area` says. Otherwise
+    /// the answer is that of `overlay` with the rule `Subject`. The points are in the coordinate range. After
+    /// an answer the builder holds the arrangement of the contours alone, and there is a buffer,
+    /// `boolean_buffer`.
+    ///
+    /// Refusals, which leave the builder failed: `NotSettled`, `TooManyEdges`, also in adding, and `Memory`.
+    pub fn simplify_shape<B: Allocator>(
+        &mut self,
+        shape: &[IntContour<I, B>],
+        fill_rule: FillRule,
+    ) -> Result<Option<IntShapes<I, A>>, OverlayError>
+        requires points { All (AllInRange I.limit) (paths_of_shape I.whole shape.now) }
+        ensures alone { AnswersAlone I.limit 64 self.old.options.preserve_input_collinear
+            (paths_for Subject (paths_of_shape I.whole shape.now)) (held_by self.new) result }
+        ensures simplified { IfOk result (λ o. IsSimplified
+            (asked I.Wide.width I.WideUInt.natural fill_rule OverlayRule.Subject self.old.options)
+            self.old.options.preserve_input_collinear (paths_of_shape I.whole shape.now) self.new.edges
+            (shapes_answered (paths_of_shape I.whole shape.now) (option_map (λ v. plain_shapes I.whole v.items) o))) }
+        ensures as_given { IfOk result (λ o. (o ≡ None) ↔ StayAsGiven
+            (asked I.Wide.width I.WideUInt.natural fill_rule OverlayRule.Subject self.old.options)
+            self.old.options.preserve_input_collinear (paths_of_shape I.whole shape.now) self.new.edges) }
+        ensures kept { self.new ≡ record self.old {
+          edges = self.new.edges;
+          boolean_buffer = self.new.boolean_buffer;
+          failed = self.new.failed;
+        } }
+        ensures buffer { OnOk result (self.new.boolean_buffer ≡ Some tt) }
+    {
+        if shape.len() == 1 {
+            return self.simplify_contour(&shape[0], fill_rule);
+        }
+        let contours = BorrowedContours { contours: shape };
+        Ok(Some(self.overlay_alone(&contours, fill_rule)?))
+    }
+
+    // Whether the resource is one path and the minimum area is zero.
+    fn takes_fast_path<R0: IntShapeResource<I>>(&self, resource: &R0) -> bool
+        ensures { IsTrue result ↔ ((length (R0.paths resource.now) ≡ 1)
+            × (I.WideUInt.natural self.now.options.min_output_area ≡ 0)) }
+    {
+        resource.path_count() == 1 && I::WideUInt::zero().is_at_least(self.options.min_output_area)
+    }
+
+    // Holds the path alone, arranged, and gives the shapes that it is simplified to.
+    fn simplify_path(
         &mut self,
         contour: &[IntPoint<I>],
         fill_rule: FillRule,
-    ) -> Result<Outcome, OverlayError>
+    ) -> Result<IntShapes<I, A>, OverlayError>
         requires { AllInRange I.limit (plain_points I.whole contour.now) }
         ensures alone { AnswersAlone I.limit 64 self.old.options.preserve_input_collinear
             (paths_for Subject (plain_points I.whole contour.now ∷ [])) (held_by self.new) result }
-        ensures outcome { IfOk result (IsOutcome self.old.options.preserve_input_collinear fill_rule
-            self.old.options.output_direction (plain_points I.whole contour.now) self.new.edges) }
-        ensures kept { self.new ≡ record self.old { edges = self.new.edges; failed = self.new.failed } }
+        ensures simplified { IfOk result (λ v. IsSimplifiedContour
+            (asked I.Wide.width I.WideUInt.natural fill_rule OverlayRule.Subject self.old.options)
+            self.old.options.preserve_input_collinear (plain_points I.whole contour.now) self.new.edges
+            (plain_shapes I.whole v.items)) }
+        ensures kept { self.new ≡ record self.old {
+          edges = self.new.edges;
+          boolean_buffer = self.new.boolean_buffer;
+          failed = self.new.failed;
+        } }
+        ensures buffer { OnOk result (self.new.boolean_buffer ≡ Some tt) }
     {
-        self.viewed = None;
-        let keeps_points = self.options.preserve_input_collinear;
-        let direction = self.options.output_direction;
-        outcome_of_contour(&mut self.core, contour, keeps_points, fill_rule, direction)
+        let outcome = self.outcome_alone(contour, fill_rule)?;
+        let shapes = self.left(contour, fill_rule, outcome);
+        self.core.set_failed(shapes.is_err());
+        shapes
     }
 
     // The answer for a contour of which this becomes: `None` where it stays as it is given. The buffer is
@@ -140,18 +229,5 @@ impl<I: OverlayInt, A: Allocator + Clone> Overlay<I, A> {
         }
         self.keep_buffer()?;
         shapes_left(self.core.content().allocator().clone()?, contour, outcome)
-    }
-
-    // Makes a buffer where there is none. The only refusal is `Memory`.
-    fn keep_buffer(&mut self) -> Result<(), OverlayError>
-        ensures kept { self.new ≡ record self.old { boolean_buffer = self.new.boolean_buffer } }
-        ensures buffer { OnOk result (self.new.boolean_buffer ≡ Some tt) }
-        ensures err { IsOkUnless result OverlayError.Memory }
-    {
-        if self.boolean_buffer.is_none() {
-            let alloc = self.core.content().allocator().clone()?;
-            self.boolean_buffer = Some(BooleanExtractionBuffer::default(alloc));
-        }
-        Ok(())
     }
 }

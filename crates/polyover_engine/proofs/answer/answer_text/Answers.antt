@@ -4,7 +4,7 @@ use Rattle.i_overlay.specs.OneShot.{IsResultOfPaths}
 use Rattle.polyover_text.specs.Printed.{lines_of_shapes}
 use Rattle.polyover_text.specs.Grammar.{contour_paths}
 use Rattle.polyover_text.specs.Statements.{contours_at}
-use Rattle.polyover_engine.specs.Answers.{asked_by}
+use Rattle.polyover_engine.specs.Builders.{asked_by}
 use Rattle.polyover_engine.proofs.answer.answer_text.Goals as goal
 
 pub returns-in_ok-shapes_text-in-Overlay : goal.returns-in_ok-shapes_text-in-Overlay

@@ -1,7 +1,8 @@
-use Rattle.std.proofs.Common.{◌≡◌, ◌∷◌, codes, ap, ◌∙◌, rules}
+use Rattle.std.proofs.Common.{◌≡◌, ◌∷◌, None, codes, inl, inr, refl, ap, ◌∙◌, rules}
 use Rattle.std.proofs.lemmas.Slice.Eq.{text_from_reads}
 use Rattle.polyover_text.specs.Words.{words_left}
-use Rattle.polyover_text.proofs.Commands.{edges_asked, relation_asked, contains_asked, locate_asked}
+use Rattle.polyover_text.proofs.Commands.{edges_asked, overlay_asked, hierarchy_asked, no_rules_named}
+use Rattle.polyover_text.proofs.Commands.{relation_asked, contains_asked, locate_asked}
 use Rattle.polyover_text.proofs.command.parse_command.Goals as goal
 
 pub returns-in_ok-last_fill_rule-in-edges : goal.returns-in_ok-last_fill_rule-in-edges
@@ -21,9 +22,16 @@ returns-in_ok-last_fill_rule-in-relate c =
 pub returns-in_ok-parse_overlay-in-overlay : goal.returns-in_ok-parse_overlay-in-overlay
 returns-in_ok-parse_overlay-in-overlay c =
     let first : c.in_ok-next.field-0.now ≡ codes "overlay" = search (rules, text_from_reads) in
-    let line : words_left c.args.words ≡ codes "overlay" ∷ words_left c.next.new.self =
-    c.in_ok-next.ensures.steps ∙ ap (λ w. w ∷ words_left c.next.new.self) first in
-    rw line c.in_ok-parse_overlay-in-overlay.ensures
+    overlay_asked _ (words_left c.next.new.self) _ (c.in_ok-next.ensures.steps
+    ∙ ap (λ w. w ∷ words_left c.next.new.self) first)
+    c.in_ok-parse_overlay-in-overlay.ensures
+
+pub returns-in_ok-parse_overlay-in-hierarchy : goal.returns-in_ok-parse_overlay-in-hierarchy
+returns-in_ok-parse_overlay-in-hierarchy c =
+    let first : c.in_ok-next.field-0.now ≡ codes "hierarchy" = search (rules, text_from_reads) in
+    hierarchy_asked _ (words_left c.next.new.self) _ (c.in_ok-next.ensures.steps
+    ∙ ap (λ w. w ∷ words_left c.next.new.self) first)
+    c.in_ok-parse_overlay-in-hierarchy.ensures
 
 pub returns-in-contains : goal.returns-in-contains
 returns-in-contains c =
@@ -38,3 +46,19 @@ returns-in-locate c =
     locate_asked _ (words_left c.next.new.self) _ (c.in_ok-next.ensures.steps
     ∙ ap (λ w. w ∷ words_left c.next.new.self) first)
     c.if_last.ensures.last c.if_last.ensures.value
+
+pub returns-in_err-parse_overlay-in-overlay : goal.returns-in_err-parse_overlay-in-overlay
+returns-in_err-parse_overlay-in-overlay c =
+    let first : c.in_ok-next.field-0.now ≡ codes "overlay" = search (rules, text_from_reads) in
+    let none : c.from_residual-in_err-parse_overlay-in-overlay.result ≡ None = search rules in
+    rw none (no_rules_named _ (words_left c.next.new.self) (codes "overlay") (c.in_ok-next.ensures.steps
+    ∙ ap (λ w. w ∷ words_left c.next.new.self) first) (inl refl)
+    c.in_err-parse_overlay-in-overlay.ensures)
+
+pub returns-in_err-parse_overlay-in-hierarchy : goal.returns-in_err-parse_overlay-in-hierarchy
+returns-in_err-parse_overlay-in-hierarchy c =
+    let first : c.in_ok-next.field-0.now ≡ codes "hierarchy" = search (rules, text_from_reads) in
+    let none : c.from_residual-in_err-parse_overlay-in-hierarchy.result ≡ None = search rules in
+    rw none (no_rules_named _ (words_left c.next.new.self) (codes "hierarchy") (c.in_ok-next.ensures.steps
+    ∙ ap (λ w. w ∷ words_left c.next.new.self) first) (inr refl)
+    c.in_err-parse_overlay-in-hierarchy.ensures)

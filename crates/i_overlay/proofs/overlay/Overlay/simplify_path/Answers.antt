@@ -1,0 +1,50 @@
+-- What becomes of the contour is told and left; and a refusal is remembered.
+use Rattle.std.proofs.Common.{◌≡◌, refl, [], ◌∷◌, sym, ap, subst, ◌∙◌}
+use Rattle.std.proofs.lemmas.Result.{IfOk-weaker}
+use Rattle.std.specs.Prelude.{IfOk}
+use Rattle.overlay_geom.specs.Paths.{plain_shapes}
+use Rattle.overlay_geom.specs.Points.{plain_points}
+use Rattle.overlay_plane.specs.Carried.{edges_in}
+use Rattle.overlay_arrange.specs.declared.options.ShapeType.TheVariants.{Subject}
+use Rattle.overlay_arrange.specs.declared.overlay_rule.OverlayRule.TheVariants.{Subject as OfSubject}
+use Rattle.overlay_builder.specs.GivenPaths.{paths_for}
+use Rattle.overlay_builder.specs.Held.{plain_held}
+use Rattle.overlay_extract.specs.Results.{asked}
+use Rattle.i_overlay.specs.Builder.{held_by}
+use Rattle.i_overlay.specs.Simplified.{IsLeft, IsSimplifiedContour}
+use Rattle.i_overlay.proofs.HeldAlone.{alone_after}
+use Rattle.i_overlay.proofs.SimplifiedContours.{simplified_contour}
+use Rattle.i_overlay.proofs.overlay.Overlay.simplify_path.Goals as goal
+
+pub returns-clause-alone : goal.returns-clause-alone
+returns-clause-alone g c =
+    alone_after g.I.IntNumber.limit c.args.self.now.options.preserve_input_collinear
+    (paths_for Subject (plain_points g.I.IntNumber.whole c.args.contour.now ∷ []))
+    (held_by c.outcome_alone.new.self) (plain_held c.set_failed.new.self) c.in_ok-outcome.outcome
+    c.in_ok-outcome.ensures.alone c.left-shapes.result
+    (ap (λ h. edges_in h.edges) c.set_failed.ensures ∙ ap (λ b. b.edges) c.self.view_is
+    ∙ ap (λ b. b.edges) c.left-shapes.ensures.kept)
+    (ap (λ h. h.failed) c.set_failed.ensures ∙ c.is_err.ensures.value) c.left-shapes.ensures.err
+
+pub returns-clause-simplified : goal.returns-clause-simplified
+returns-clause-simplified g c =
+    let whole = g.I.IntNumber.whole in
+    let ps = plain_points whole c.args.contour.now in
+    let old = c.args.self.now in
+    let mid = c.outcome_alone.new.self in
+    let keep = old.options.preserve_input_collinear in
+    let width = g.I.Wide.WideIntNumber.width in
+    let natural = g.I.WideUInt.UIntNumber.natural in
+    let same : edges_in c.set_failed.new.self.edges ≡ mid.edges =
+    ap (λ h. edges_in h.edges) c.set_failed.ensures ∙ ap (λ b. b.edges) c.self.view_is
+    ∙ ap (λ b. b.edges) c.left-shapes.ensures.kept in
+    let same_options : mid.options ≡ old.options = ap (λ b. b.options) c.in_ok-outcome.ensures.kept in
+    subst (λ es. IfOk c.left-shapes.result (λ v. IsSimplifiedContour (asked width natural c.args.fill_rule OfSubject
+    old.options) keep ps es (plain_shapes whole v.items)))
+    (sym same)
+    (IfOk-weaker c.left-shapes.result _ _ (λ v left. simplified_contour keep ps mid.edges
+    (asked width natural c.args.fill_rule OfSubject old.options) refl c.in_ok-outcome.outcome
+    c.in_ok-outcome.ensures.outcome _
+    (subst (λ opts. IsLeft c.in_ok-outcome.outcome (asked width natural c.args.fill_rule OfSubject opts) ps mid.edges
+    (plain_shapes whole v.items)) same_options left))
+    c.left-shapes.ensures.left)

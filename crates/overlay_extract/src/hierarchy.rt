@@ -1,0 +1,105 @@
+//! Shapes in one list, and which of them lie in holes of which.
+
+ghost use Rattle.std.specs.Prelude.{◌≡◌, [], map, IfOk, IsOk, IsOkUnless};
+ghost use Rattle.overlay_geom.specs.Flat.{shapes_in};
+ghost use Rattle.overlay_geom.specs.FlatShapes.{AreShapesPacked};
+ghost use Rattle.overlay_plane.specs.Balance.{HasBalancedCounts};
+ghost use Rattle.overlay_arrange.specs.Graphs.{graph_edges};
+ghost use Rattle.overlay_extract.specs.ChildLinks.{plain_link};
+ghost use Rattle.overlay_extract.specs.PlacedResults.{IsHierarchy};
+ghost use Rattle.overlay_extract.specs.Results.{asked};
+
+use crate::assemble::assembled;
+use crate::child_link::ChildLink;
+use crate::in_shapes::in_shapes;
+use crate::links::links;
+use crate::placed::placed_contours;
+use overlay_arrange::count::EdgeCount;
+use overlay_arrange::graph::Graph;
+use overlay_arrange::options::IntOverlayOptions;
+use overlay_arrange::overlay_rule::OverlayRule;
+use overlay_geom::error::OverlayError;
+use overlay_geom::flat::shapes::FlatShapesBuffer;
+use overlay_geom::number::IntNumber;
+use overlay_walk::buffer::BooleanExtractionBuffer;
+use std::alloc::Allocator;
+
+/// Shapes in one list, and the links from them to the shapes that lie in their holes.
+#[derive(Drop)]
+#[derive_where(Debug, PartialEq, Eq; I)]
+pub struct FlatShapeHierarchy<I, A: Allocator> {
+    /// The shapes.
+    pub shapes: FlatShapesBuffer<I, A>,
+    /// For each shape that lies in a hole of another one the link that tells of it, in order.
+    pub links: Vec<ChildLink, A>,
+}
+
+impl<I: IntNumber, A: Allocator + Clone> FlatShapeHierarchy<I, A> {
+    /// No shapes, and no links. Their memory will be that of the allocator; none is taken yet. It is refused
+    /// only where a copy of the allocator is.
+    pub fn default(alloc: A) -> Result<Self, OverlayError>
+        ensures shapes { IfOk result
+            (λ h. shapes_in I.whole h.shapes.points.items h.shapes.contour_ranges.items h.shapes.shape_ranges.items
+            ≡ []) }
+        ensures links { IfOk result (λ h. h.links.items ≡ []) }
+        ensures succeeds { A.is_infallible alloc → IsOk result }
+        ensures only { IsOkUnless result OverlayError.Memory }
+    {
+        let links = Vec::new(alloc.clone()?);
+        let shapes = FlatShapesBuffer::default(alloc)?;
+        Ok(FlatShapeHierarchy { shapes, links })
+    }
+
+    /// Returns an equal hierarchy: the same points, ranges and links, in lists of its own. The only refusal
+    /// is `Memory`.
+    pub fn clone(&self) -> Result<Self, OverlayError>
+        ensures points { IfOk result (λ h. h.shapes.points.items ≡ self.now.shapes.points.items) }
+        ensures contour_ranges { IfOk result
+            (λ h. h.shapes.contour_ranges.items ≡ self.now.shapes.contour_ranges.items) }
+        ensures shape_ranges { IfOk result
+            (λ h. h.shapes.shape_ranges.items ≡ self.now.shapes.shape_ranges.items) }
+        ensures links { IfOk result (λ h. h.links.items ≡ self.now.links.items) }
+        ensures only { IsOkUnless result OverlayError.Memory }
+    {
+        let shapes = self.shapes.clone()?;
+        let mut links = Vec::new(self.links.allocator().clone()?);
+        links.extend_from_slice(&self.links)?;
+        Ok(FlatShapeHierarchy { shapes, links })
+    }
+}
+
+/// The shapes that [`extract_shapes`](crate::extract::extract_shapes) gives, in one list with nothing
+/// between them, and the links from them to the shapes that lie in their holes.
+///
+/// A shape lies in a hole where the next filled-below edge below its outline's leftmost lowest point is one
+/// of the hole, or of the outline of another shape that lies in it. Contours are looked at as they are before
+/// points on one line are dropped. The buffer lends its room. The only refusal is `Memory`.
+pub fn extract_shape_hierarchy<I: IntNumber, C: EdgeCount, A: Allocator + Clone>(
+    graph: &Graph<I, C, A>,
+    overlay_rule: OverlayRule,
+    options: IntOverlayOptions<I::WideUInt>,
+    buffer: &mut BooleanExtractionBuffer<I, A>,
+) -> Result<FlatShapeHierarchy<I, A>, OverlayError>
+    requires { HasBalancedCounts (graph_edges graph.now) }
+    ensures hierarchy { IfOk result (λ h. IsHierarchy
+        (asked I.Wide.width I.WideUInt.natural graph.now.fill_rule overlay_rule options) (graph_edges graph.now)
+        (shapes_in I.whole h.shapes.points.items h.shapes.contour_ranges.items h.shapes.shape_ranges.items)
+        (map plain_link h.links.items)) }
+    ensures packed { IfOk result
+        (λ h. AreShapesPacked h.shapes.points.items h.shapes.contour_ranges.items h.shapes.shape_ranges.items) }
+    ensures err { IsOkUnless result OverlayError.Memory }
+{
+    let placed = placed_contours(graph, overlay_rule, options, buffer)?;
+    let alloc = graph.allocator();
+    let keeps_points = options.preserve_output_collinear;
+    let shapes = assembled(
+        alloc.clone()?,
+        &placed.contours,
+        &placed.places,
+        keeps_points,
+    )?;
+    let ordered = in_shapes(alloc.clone()?, &placed.contours, &placed.places)?;
+    let links = links(alloc.clone()?, &ordered, options.output_direction)?;
+    let shapes = FlatShapesBuffer::from_shapes(alloc.clone()?, &shapes)?;
+    Ok(FlatShapeHierarchy { shapes, links })
+}

@@ -1,0 +1,80 @@
+//! The links of contours that stand in shapes.
+
+ghost use Rattle.std.specs.Prelude.{◌≡◌, ◌<◌, length, map, option_map, All, IfOk, IfSome, IsOkUnless};
+ghost use Rattle.overlay_plane.specs.BoundContours.{walks_in};
+ghost use Rattle.overlay_plane.specs.Islands.{AreInShapes, AreLinks};
+ghost use Rattle.overlay_plane.specs.KeptContours.{CanBeBound};
+ghost use Rattle.overlay_walk.specs.GroupedContours.{plain_contours};
+ghost use Rattle.overlay_walk.specs.Steps.{filled_hand, IsLong};
+ghost use Rattle.overlay_extract.specs.ChildLinks.{plain_link, HaveOtherChildren};
+ghost use Rattle.overlay_extract.specs.Links.{link_at, links_from};
+
+use crate::child_link::{ChildLink, sort_links};
+use overlay_arrange::options::ContourDirection;
+use overlay_geom::error::OverlayError;
+use overlay_geom::number::IntNumber;
+use overlay_scan::list::ScanList;
+use overlay_walk::contour::Contour;
+use overlay_walk::islands::holes_round;
+use std::alloc::Allocator;
+
+/// The links of contours that all stand in shapes, shape by shape, in order: for each shape in a hole of
+/// another one that other one, the place of the hole among the contours, and the shape. The only refusal is
+/// `Memory`.
+pub(crate) fn links<I: IntNumber, A: Allocator + Clone>(
+    alloc: A,
+    contours: &[Contour<I, A>],
+    direction: ContourDirection,
+) -> Result<Vec<ChildLink, A>, OverlayError>
+    requires long { All (All (IsLong I.limit)) (walks_in (plain_contours I.whole contours.now)) }
+    requires bindable { CanBeBound (filled_hand direction) (walks_in (plain_contours I.whole contours.now)) }
+    requires in_shapes { AreInShapes (plain_contours I.whole contours.now) }
+    ensures links { IfOk result (λ v. AreLinks (filled_hand direction) (plain_contours I.whole contours.now)
+        (map plain_link v.items)) }
+    ensures children { IfOk result (λ v. HaveOtherChildren (map plain_link v.items)) }
+    ensures err { IsOkUnless result OverlayError.Memory }
+{
+    let mut scan: ScanList<I, usize, A> = ScanList::default(alloc.clone()?);
+    let holes = holes_round(alloc.clone()?, &mut scan, contours, direction)?;
+    let mut links = links_by(alloc, contours, &holes)?;
+    sort_links(&mut links)?;
+    Ok(links)
+}
+
+// The links of the shapes to the holes round them, in the order of the shapes.
+fn links_by<I: IntNumber, A: Allocator>(
+    alloc: A,
+    contours: &[Contour<I, A>],
+    holes: &[Option<usize>],
+) -> Result<Vec<ChildLink, A>, OverlayError>
+    requires { All (λ h. IfSome h (λ k. k < length contours.now)) holes.now }
+    ensures ok { IfOk result
+        (λ v. map plain_link v.items ≡ links_from (plain_contours I.whole contours.now) 0 holes.now) }
+    ensures err { IsOkUnless result OverlayError.Memory }
+{
+    let mut links = Vec::new(alloc);
+    for child in 0..holes.len() {
+        if let Some(link) = link_at(contours, child, holes[child]) {
+            links.push(link)?;
+        }
+    }
+    Ok(links)
+}
+
+// The link of a shape to the hole at this place, if there is one and it stands in a shape.
+fn link_at<I: IntNumber, A: Allocator>(
+    contours: &[Contour<I, A>],
+    child: usize,
+    hole: Option<usize>,
+) -> Option<ChildLink>
+    requires { IfSome hole (λ k. k < length contours.now) }
+    ensures { option_map plain_link result ≡ link_at (plain_contours I.whole contours.now) child hole }
+{
+    let place = hole?;
+    let shape = contours[place].role.shape()?;
+    Some(ChildLink {
+        parent_shape_index: shape,
+        parent_contour_index: place,
+        child_shape_index: child,
+    })
+}

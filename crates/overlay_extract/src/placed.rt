@@ -1,0 +1,59 @@
+//! The contours of an overlay, placed in the shapes to which they are bound.
+
+ghost use Rattle.std.specs.Prelude.{All, IfOk, IsOkUnless};
+ghost use Rattle.overlay_plane.specs.Balance.{HasBalancedCounts};
+ghost use Rattle.overlay_plane.specs.BoundContours.{walks_in};
+ghost use Rattle.overlay_arrange.specs.Graphs.{graph_edges};
+ghost use Rattle.overlay_walk.specs.GroupedContours.{plain_contours};
+ghost use Rattle.overlay_walk.specs.Steps.{IsLong};
+ghost use Rattle.overlay_extract.specs.PlacedResults.{ArePlacedResults};
+ghost use Rattle.overlay_extract.specs.Places.{place_lists};
+ghost use Rattle.overlay_extract.specs.Results.{asked};
+
+use crate::places::shape_places;
+use overlay_arrange::count::EdgeCount;
+use overlay_arrange::graph::Graph;
+use overlay_arrange::options::IntOverlayOptions;
+use overlay_arrange::overlay_rule::OverlayRule;
+use overlay_geom::error::OverlayError;
+use overlay_geom::number::IntNumber;
+use overlay_scan::list::ScanList;
+use overlay_walk::bind::bind_contours;
+use overlay_walk::buffer::BooleanExtractionBuffer;
+use overlay_walk::contour::Contour;
+use overlay_walk::kept::kept_contours;
+use std::alloc::Allocator;
+
+/// Contours, and their places in shapes.
+#[derive(Drop)]
+pub(crate) struct PlacedContours<I, A: Allocator> {
+    /// The contours, as they are found.
+    pub contours: Vec<Contour<I, A>, A>,
+    /// For each shape the places of its contours among all, its outline first.
+    pub places: Vec<Vec<usize, A>, A>,
+}
+
+/// The contours round the region where the rules hold, and their places in the shapes that are found for
+/// them. The only refusal is `Memory`.
+pub(crate) fn placed_contours<I: IntNumber, C: EdgeCount, A: Allocator + Clone>(
+    graph: &Graph<I, C, A>,
+    overlay_rule: OverlayRule,
+    options: IntOverlayOptions<I::WideUInt>,
+    buffer: &mut BooleanExtractionBuffer<I, A>,
+) -> Result<PlacedContours<I, A>, OverlayError>
+    requires { HasBalancedCounts (graph_edges graph.now) }
+    ensures placed { IfOk result (λ p. ArePlacedResults
+        (asked I.Wide.width I.WideUInt.natural graph.now.fill_rule overlay_rule options)
+        (graph_edges graph.now) (plain_contours I.whole p.contours.items) (place_lists p.places.items)) }
+    ensures long { IfOk result
+        (λ p. All (All (IsLong I.limit)) (walks_in (plain_contours I.whole p.contours.items))) }
+    ensures err { IsOkUnless result OverlayError.Memory }
+{
+    let contours = kept_contours(graph, overlay_rule, options, buffer)?;
+    let alloc = graph.allocator().clone()?;
+    let mut scan: ScanList<I, usize, A> = ScanList::default(alloc.clone()?);
+    let direction = options.output_direction;
+    let found = bind_contours(alloc.clone()?, &mut scan, &contours, direction)?;
+    let places = shape_places(alloc, &contours, &found)?;
+    Ok(PlacedContours { contours, places })
+}

@@ -1,0 +1,17 @@
+-- The points of the contour are written over by themselves reversed.
+use Rattle.std.proofs.Common.{sym, ap, ◌∙◌}
+use Rattle.std.specs.Prelude.{reverse}
+use Rattle.overlay_geom.specs.Flat.{part_in, first_range}
+use Rattle.overlay_geom.specs.Points.{plain_points}
+use Rattle.overlay_simplify.specs.Outcome.{contours_left}
+use Rattle.overlay_simplify.proofs.TurnedParts.{contour_turned}
+use Rattle.overlay_simplify.proofs.flat.leave_contour.Goals as goal
+
+pub returns-in-Reversed-clause-left : goal.returns-in-Reversed-clause-left
+returns-in-Reversed-clause-left g c =
+    let whole = g.I.IntNumber.whole in
+    let b = c.args.buffer.now in
+    contour_turned whole b.points b.ranges.items c.requires c.reverse.new.self
+    (c.reverse.ensures.after ∙ ap reverse c.as_first_contour_mut.ensures.value)
+    ∙ ap (λ o. contours_left o (plain_points whole (part_in b.points.items (first_range b.ranges.items))))
+    (sym c.in-Reversed.is)

@@ -1,0 +1,10 @@
+pub mod AddedInRoles
+pub mod AddedPaths
+pub mod BalancedPaths
+pub mod JoinedPaths
+pub mod KeptPieces
+pub mod OneShots
+pub mod OpenLists
+pub mod TakenPieces
+pub mod TwoSources
+pub mod WalksOn

@@ -1,0 +1,39 @@
+-- The edges are arranged, and their graph has the pieces.
+use Rattle.std.proofs.Common.{inr, sym, ap, subst, ◌∙◌}
+use Rattle.std.proofs.lemmas.Result.{IfOk-weaker, IfErr-weaker}
+use Rattle.overlay_geom.specs.Paths.{paths_of_shape}
+use Rattle.overlay_geom.specs.Settled.{IsSettled}
+use Rattle.overlay_plane.specs.Carried.{edges_in}
+use Rattle.overlay_arrange.specs.Arranged.{IsArranged, MayRefuseSplitting}
+use Rattle.overlay_arrange.specs.Graphs.{Graph, graph_edges}
+use Rattle.overlay_arrange.specs.declared.string_count.ShapeCountString.{ShapeCountString}
+use Rattle.overlay_string.specs.ClipPaths.{ArePathsOf}
+use Rattle.overlay_string.specs.ClipPieces.{clip_pieces}
+use Rattle.overlay_string.proofs.string_overlay.StringOverlay.clip_string_lines_with_solver.Goals as goal
+
+pub graph-requires-clause-settled : goal.graph-requires-clause-settled
+graph-requires-clause-settled g c =
+    subst (λ es. IsSettled (edges_in es)) (sym c.content.ensures.edges)
+    c.in_ok-arrange.ensures.query.arranged.reached.settled
+
+pub returns-clause-clipped : goal.returns-clause-clipped
+returns-clause-clipped g c =
+    let whole = g.I.IntNumber.whole in
+    let rule = c.args.clip_rule in
+    let arrangement = edges_in c.arrange.new.self.edges in
+    IfOk-weaker c.clipped.result _ _
+    (λ v are. record {
+      arrangement = arrangement;
+      arranged = subst (λ b. IsArranged 64 b.edges arrangement) c.self.view_is
+          c.in_ok-arrange.ensures.query.arranged;
+      paths_of = subst (λ es. ArePathsOf (clip_pieces c.args.fill_rule rule (edges_in es)) (paths_of_shape whole v.items))
+          c.content.ensures.edges
+          (subst (λ (h : Graph ShapeCountString). ArePathsOf (clip_pieces h.fill_rule rule (graph_edges h))
+          (paths_of_shape whole v.items)) c.in_ok-graph.ensures.ok are);
+    })
+    c.clipped.ensures.paths
+
+pub returns-clause-err : goal.returns-clause-err
+returns-clause-err g c =
+    IfErr-weaker c.clipped.result _ _
+    (λ e is. inr (subst (MayRefuseSplitting 64 c.args.self.edges) (sym is) tt)) c.clipped.ensures.err

@@ -1,0 +1,171 @@
+//! Strings clipped by a shape in one call.
+
+ghost use Rattle.std.specs.Prelude.{◌∷◌, [], All, IfOk, IfErr};
+ghost use Rattle.overlay_geom.specs.Paths.{paths_of_shape};
+ghost use Rattle.overlay_geom.specs.Points.{plain_points, AllInRange};
+ghost use Rattle.overlay_string.specs.OneShot.{shape_and_strings, AreClippedOfPaths, MayRefusePaths};
+ghost use Rattle.overlay_string.specs.StringPaths.{paths_of_lines};
+
+use crate::clip_rule::ClipRule;
+use crate::lines::BorrowedLines;
+use crate::string_overlay::StringOverlay;
+use overlay_arrange::fill_rule::FillRule;
+use overlay_geom::error::OverlayError;
+use overlay_geom::integer::OverlayInt;
+use overlay_geom::path::{IntLine, IntPath, PathRef};
+use overlay_geom::resource::IntShapeResource;
+use overlay_geom::resource::borrowed::BorrowedContours;
+use std::alloc::Allocator;
+
+/// Strings clipped by this resource, whose paths are the closed contours of a shape, of which points on one line are
+/// dropped. The points of both are in the coordinate range. Each answer is that of `clip_string_lines` on a new
+/// builder.
+///
+/// Refusals are `Memory`, `NotSettled` and `TooManyEdges`; nothing of the caller's is changed.
+pub trait IntClip<I: OverlayInt>: IntShapeResource<I> {
+    /// What is left of the string from the first point of the line to the second one.
+    fn clip_line<A: Allocator + Clone>(
+        &self,
+        alloc: A,
+        line: IntLine<I>,
+        fill_rule: FillRule,
+        clip_rule: ClipRule,
+    ) -> Result<Vec<IntPath<I, A>, A>, OverlayError>
+        requires self_in_range { All (AllInRange I.limit) (Self.paths self.now) }
+        requires line_in_range { AllInRange I.limit (plain_points I.whole line) }
+        ensures clipped { IfOk result (λ v. AreClippedOfPaths fill_rule clip_rule
+            (shape_and_strings (Self.paths self.now) (plain_points I.whole line ∷ []))
+            (paths_of_shape I.whole v.items)) }
+        ensures err { IfErr result (MayRefusePaths
+            (shape_and_strings (Self.paths self.now) (plain_points I.whole line ∷ []))) };
+
+    /// What is left of the strings from the first point of each line to its second one.
+    fn clip_lines<A: Allocator + Clone>(
+        &self,
+        alloc: A,
+        lines: &[IntLine<I>],
+        fill_rule: FillRule,
+        clip_rule: ClipRule,
+    ) -> Result<Vec<IntPath<I, A>, A>, OverlayError>
+        requires self_in_range { All (AllInRange I.limit) (Self.paths self.now) }
+        requires lines_in_range { All (AllInRange I.limit) (paths_of_lines I.whole lines.now) }
+        ensures clipped { IfOk result (λ v. AreClippedOfPaths fill_rule clip_rule
+            (shape_and_strings (Self.paths self.now) (paths_of_lines I.whole lines.now))
+            (paths_of_shape I.whole v.items)) }
+        ensures err { IfErr result (MayRefusePaths
+            (shape_and_strings (Self.paths self.now) (paths_of_lines I.whole lines.now))) };
+
+    /// What is left of the open string through the points of the path.
+    fn clip_path<B: Allocator, A: Allocator + Clone>(
+        &self,
+        alloc: A,
+        path: &IntPath<I, B>,
+        fill_rule: FillRule,
+        clip_rule: ClipRule,
+    ) -> Result<Vec<IntPath<I, A>, A>, OverlayError>
+        requires self_in_range { All (AllInRange I.limit) (Self.paths self.now) }
+        requires path_in_range { AllInRange I.limit (plain_points I.whole path.now.items) }
+        ensures clipped { IfOk result (λ v. AreClippedOfPaths fill_rule clip_rule
+            (shape_and_strings (Self.paths self.now) (plain_points I.whole path.now.items ∷ []))
+            (paths_of_shape I.whole v.items)) }
+        ensures err { IfErr result (MayRefusePaths
+            (shape_and_strings (Self.paths self.now) (plain_points I.whole path.now.items ∷ []))) };
+
+    /// What is left of the open strings through the points of each path.
+    fn clip_paths<B: Allocator, A: Allocator + Clone>(
+        &self,
+        alloc: A,
+        paths: &[IntPath<I, B>],
+        fill_rule: FillRule,
+        clip_rule: ClipRule,
+    ) -> Result<Vec<IntPath<I, A>, A>, OverlayError>
+        requires self_in_range { All (AllInRange I.limit) (Self.paths self.now) }
+        requires paths_in_range { All (AllInRange I.limit) (paths_of_shape I.whole paths.now) }
+        ensures clipped { IfOk result (λ v. AreClippedOfPaths fill_rule clip_rule
+            (shape_and_strings (Self.paths self.now) (paths_of_shape I.whole paths.now))
+            (paths_of_shape I.whole v.items)) }
+        ensures err { IfErr result (MayRefusePaths
+            (shape_and_strings (Self.paths self.now) (paths_of_shape I.whole paths.now))) };
+
+    /// What is left of all paths of the other resource, each an open string.
+    fn clip_source<R1: IntShapeResource<I>, A: Allocator + Clone>(
+        &self,
+        alloc: A,
+        source: &R1,
+        fill_rule: FillRule,
+        clip_rule: ClipRule,
+    ) -> Result<Vec<IntPath<I, A>, A>, OverlayError>
+        requires self_in_range { All (AllInRange I.limit) (Self.paths self.now) }
+        requires source_in_range { All (AllInRange I.limit) (R1.paths source.now) }
+        ensures clipped { IfOk result (λ v. AreClippedOfPaths fill_rule clip_rule
+            (shape_and_strings (Self.paths self.now) (R1.paths source.now))
+            (paths_of_shape I.whole v.items)) }
+        ensures err { IfErr result (MayRefusePaths
+            (shape_and_strings (Self.paths self.now) (R1.paths source.now))) };
+}
+
+impl<I: OverlayInt, R0: IntShapeResource<I>> IntClip<I> for R0 {
+    fn clip_line<A: Allocator + Clone>(
+        &self,
+        alloc: A,
+        line: IntLine<I>,
+        fill_rule: FillRule,
+        clip_rule: ClipRule,
+    ) -> Result<Vec<IntPath<I, A>, A>, OverlayError>
+        requires self_in_range { All (AllInRange I.limit) (R0.paths self.now) }
+        requires line_in_range { AllInRange I.limit (plain_points I.whole line) }
+        ensures clipped { IfOk result (λ v. AreClippedOfPaths fill_rule clip_rule
+            (shape_and_strings (R0.paths self.now) (plain_points I.whole line ∷ []))
+            (paths_of_shape I.whole v.items)) }
+        ensures err { IfErr result (MayRefusePaths
+            (shape_and_strings (R0.paths self.now) (plain_points I.whole line ∷ []))) }
+    {
+        self.clip_source(alloc, &PathRef { points: &line }, fill_rule, clip_rule)
+    }
+
+    fn clip_lines<A: Allocator + Clone>(
+        &self,
+        alloc: A,
+        lines: &[IntLine<I>],
+        fill_rule: FillRule,
+        clip_rule: ClipRule,
+    ) -> Result<Vec<IntPath<I, A>, A>, OverlayError> {
+        self.clip_source(alloc, &BorrowedLines { lines }, fill_rule, clip_rule)
+    }
+
+    fn clip_path<B: Allocator, A: Allocator + Clone>(
+        &self,
+        alloc: A,
+        path: &IntPath<I, B>,
+        fill_rule: FillRule,
+        clip_rule: ClipRule,
+    ) -> Result<Vec<IntPath<I, A>, A>, OverlayError> {
+        self.clip_source(alloc, path, fill_rule, clip_rule)
+    }
+
+    fn clip_paths<B: Allocator, A: Allocator + Clone>(
+        &self,
+        alloc: A,
+        paths: &[IntPath<I, B>],
+        fill_rule: FillRule,
+        clip_rule: ClipRule,
+    ) -> Result<Vec<IntPath<I, A>, A>, OverlayError> {
+        self.clip_source(
+            alloc,
+            &BorrowedContours { contours: paths },
+            fill_rule,
+            clip_rule,
+        )
+    }
+
+    fn clip_source<R1: IntShapeResource<I>, A: Allocator + Clone>(
+        &self,
+        alloc: A,
+        source: &R1,
+        fill_rule: FillRule,
+        clip_rule: ClipRule,
+    ) -> Result<Vec<IntPath<I, A>, A>, OverlayError> {
+        let overlay = StringOverlay::from_shape_and_string(alloc, self, source)?;
+        overlay.clip_string_lines(fill_rule, clip_rule)
+    }
+}

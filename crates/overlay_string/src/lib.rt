@@ -1,0 +1,13 @@
+//! Strings, which are open or closed lines, over a shape.
+#![tactic(auto)]
+
+pub mod clip;
+pub mod clip_rule;
+mod joined_paths;
+mod kept_pieces;
+pub mod lines;
+mod open_pieces;
+mod piece;
+mod role;
+pub mod string_overlay;
+pub mod string_rule;

@@ -1,0 +1,51 @@
+//! As what a path is added to a builder for strings.
+
+ghost use Rattle.std.specs.Prelude.{◌≡◌};
+ghost use Rattle.overlay_string.specs.StringPaths.{kind_in, passing_in};
+
+use overlay_arrange::string_count::{STRING_AGAINST, STRING_ALONG, ShapeCountString};
+use overlay_builder::path::{PathKind, StepCounts};
+
+/// As what a path is added.
+#[derive(Debug, Clone, Copy, PartialEq, Eq)]
+pub enum PathRole {
+    /// A closed contour of the shape, of which points on one line are dropped.
+    Shape,
+    /// A string from its first point to its last one.
+    OpenString,
+    /// A string that runs back from its last point to its first.
+    ClosedString,
+}
+
+/// How the points of such a path are taken.
+pub fn kind_in(role: PathRole) -> PathKind
+    ensures { result ≡ kind_in role }
+{
+    match role {
+        PathRole::Shape => PathKind::Thinned,
+        PathRole::OpenString => PathKind::Open,
+        PathRole::ClosedString => PathKind::Closed,
+    }
+}
+
+/// What an edge carries that a step of such a path passes.
+pub fn passing_in(role: PathRole) -> StepCounts<ShapeCountString>
+    ensures { result ≡ passing_in role }
+{
+    match role {
+        PathRole::Shape => StepCounts {
+            along: ShapeCountString { subj: 1, clip: 0 },
+            back: ShapeCountString { subj: -1, clip: 0 },
+        },
+        PathRole::OpenString | PathRole::ClosedString => StepCounts {
+            along: ShapeCountString {
+                subj: 0,
+                clip: STRING_ALONG,
+            },
+            back: ShapeCountString {
+                subj: 0,
+                clip: STRING_AGAINST,
+            },
+        },
+    }
+}

@@ -1,0 +1,103 @@
+//! What is added to a builder for strings: closed contours of the shape, one by one or all paths of a resource.
+
+ghost use Rattle.std.specs.Prelude.{◌≡◌, ◌≢◌, ◌↔◌, ◌^◌, ◌<◌, true, List, All};
+ghost use Rattle.std.specs.Prelude.{Err, OnOk, OnErr, IsErrOf};
+ghost use Rattle.std.specs.Iterator.{Drains, IsFinite};
+ghost use Rattle.overlay_geom.specs.Edges.{weight};
+ghost use Rattle.overlay_geom.specs.Points.{plain_points, AllInRange};
+ghost use Rattle.overlay_builder.specs.PathLists.{AddsOne, WouldWeighTooMuch};
+ghost use Rattle.overlay_string.specs.StringBuilder.{AddsOneAsAsked, AddsAsAsked};
+ghost use Rattle.overlay_string.specs.StringPaths.{shape_contour, shape_contours, path_in, paths_in};
+
+use crate::role::{PathRole, kind_in, passing_in};
+use crate::string_overlay::StringOverlay;
+use overlay_builder::points::gathered;
+use overlay_geom::error::OverlayError;
+use overlay_geom::integer::OverlayInt;
+use overlay_geom::point::IntPoint;
+use overlay_geom::resource::IntShapeResource;
+use std::alloc::Allocator;
+
+impl<I: OverlayInt, A: Allocator + Clone> StringOverlay<I, A> {
+    /// Adds the steps of a contour of the shape: from each point to the next, and from the last to the first; a step
+    /// between equal points is none. Points on one line with their two neighbours are dropped first. The points are
+    /// in the coordinate range.
+    ///
+    /// Refusals, which leave the builder as it was: `Failed` before anything else, `TooManyEdges` where the weight
+    /// would come to 2^31, `Memory`.
+    pub fn add_shape_contour(&mut self, contour: &[IntPoint<I>]) -> Result<(), OverlayError>
+        requires { AllInRange I.limit (plain_points I.whole contour.now) }
+        ensures { AddsOneAsAsked (shape_contour (plain_points I.whole contour.now)) self.old self.new result }
+    {
+        self.add_one(contour, PathRole::Shape)
+    }
+
+    /// Adds one contour of the shape, as `add_shape_contour` does, whose points the iterator gives. It ends, and the
+    /// points are in the coordinate range. Refusals, which leave the builder as it was, are those of
+    /// `add_shape_contour`; where the builder has failed the iterator is not asked.
+    pub fn add_shape_contour_iter<P: Iterator<Item = IntPoint<I>> + Drop>(
+        &mut self,
+        iter: P,
+    ) -> Result<(), OverlayError>
+        requires can { P.can_next iter }
+        requires ends { IsFinite (P.remaining iter) }
+        requires in_range { (ps : List (IntPoint I)) → Drains P.next_gives iter ps
+            → AllInRange I.limit (plain_points I.whole ps) }
+        ensures ok { OnOk result ((ps : List (IntPoint I)) × Drains P.next_gives iter ps
+            × AddsOne (shape_contour (plain_points I.whole ps)) self.old.edges self.new.edges) }
+        ensures light { OnOk result (weight self.new.edges < 2 ^ 31) }
+        ensures kept { self.new ≡ record self.old { edges = self.new.edges } }
+        ensures err { OnErr result (self.new ≡ self.old) }
+        ensures failed { IsErrOf result OverlayError.Failed ↔ (self.old.failed ≡ true) }
+        ensures too_many { IsErrOf result OverlayError.TooManyEdges
+            → (ps : List (IntPoint I)) × Drains P.next_gives iter ps
+            × WouldWeighTooMuch weight (shape_contour (plain_points I.whole ps)) self.old.edges }
+        ensures no_query { result ≢ Err OverlayError.NotSettled }
+    {
+        self.core.check_usable()?;
+        let points = gathered(self.core.content().allocator().clone()?, iter)?;
+        self.add_shape_contour(&points)
+    }
+
+    /// Adds all paths of the resource in order as contours of the shape, each as `add_shape_contour` does. The points
+    /// are in the coordinate range.
+    ///
+    /// Refusals: `Failed` before anything else, and then nothing is changed; `TooManyEdges` at a path that would
+    /// bring the weight to 2^31; `Memory` at some path, it is not said which. After these two exactly the paths
+    /// before that one are added.
+    pub fn add_shape_source<R0: IntShapeResource<I>>(
+        &mut self,
+        resource: &R0,
+    ) -> Result<(), OverlayError>
+        requires { All (AllInRange I.limit) (R0.paths resource.now) }
+        ensures { AddsAsAsked (shape_contours (R0.paths resource.now)) self.old self.new result }
+    {
+        self.add_all(resource, PathRole::Shape)
+    }
+
+    // Adds a path in its role.
+    pub(super) fn add_one(
+        &mut self,
+        points: &[IntPoint<I>],
+        role: PathRole,
+    ) -> Result<(), OverlayError>
+        requires { AllInRange I.limit (plain_points I.whole points.now) }
+        ensures { AddsOneAsAsked (path_in role (plain_points I.whole points.now)) self.old self.new result }
+    {
+        self.core.add_path(points, kind_in(role), passing_in(role))?;
+        Ok(())
+    }
+
+    // Adds all paths of the resource in order, each in this role.
+    pub(super) fn add_all<R0: IntShapeResource<I>>(
+        &mut self,
+        resource: &R0,
+        role: PathRole,
+    ) -> Result<(), OverlayError>
+        requires { All (AllInRange I.limit) (R0.paths resource.now) }
+        ensures { AddsAsAsked (paths_in role (R0.paths resource.now)) self.old self.new result }
+    {
+        self.core
+            .add_paths(resource, kind_in(role), passing_in(role))
+    }
+}

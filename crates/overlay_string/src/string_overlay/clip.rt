@@ -1,0 +1,81 @@
+//! Strings, clipped by the shape.
+
+ghost use Rattle.std.specs.Prelude.{◌≡◌, ◌⊎◌, ◌↔◌, true, IfOk, IfErr, IsErrOf, IsOkUnless};
+ghost use Rattle.overlay_geom.specs.Paths.{paths_of_shape};
+ghost use Rattle.overlay_arrange.specs.Arranged.{MayRefuseSplitting};
+ghost use Rattle.overlay_arrange.specs.Graphs.{graph_edges};
+ghost use Rattle.overlay_string.specs.ClipPaths.{ArePathsOf, AreClipped};
+ghost use Rattle.overlay_string.specs.ClipPieces.{clip_pieces};
+
+use crate::clip_rule::ClipRule;
+use crate::joined_paths::joined_paths;
+use crate::kept_pieces::kept_pieces;
+use crate::open_pieces::OpenPieces;
+use crate::string_overlay::StringOverlay;
+use overlay_arrange::fill_rule::FillRule;
+use overlay_arrange::graph::Graph;
+use overlay_arrange::string_count::ShapeCountString;
+use overlay_builder::solver::Solver;
+use overlay_geom::error::OverlayError;
+use overlay_geom::integer::OverlayInt;
+use overlay_geom::number::IntNumber;
+use overlay_geom::path::IntPath;
+use std::alloc::Allocator;
+
+impl<I: OverlayInt, A: Allocator + Clone> StringOverlay<I, A> {
+    /// Splits the edges where they meet, and gives the parts of the strings that the clip rule keeps, as paths.
+    ///
+    /// The shape is what the fill rule fills. A part of a string lies along an edge of the arrangement; it is passed
+    /// once in each direction in which a string runs over it, however many strings do. The first edge in order, by its
+    /// smaller and then its larger end, with a part that no path has yet, begins a path. If the part from its smaller
+    /// end is left, the path begins with that and goes on at its end, by the first edge in order with a part that
+    /// leaves this point, until there is none. Else the path ends with the other part, and goes on at its beginning, by
+    /// the first edge in order with a part that arrives there.
+    ///
+    /// Refusals: `Failed` before anything else; `NotSettled` where edges still meet in points that are no ends of both
+    /// after 64 rounds; `TooManyEdges` where a round brings the weight to 2^31; `Memory`. The builder is dropped.
+    pub fn clip_string_lines(
+        self,
+        fill_rule: FillRule,
+        clip_rule: ClipRule,
+    ) -> Result<Vec<IntPath<I, A>, A>, OverlayError>
+        ensures clipped { IfOk result (λ v.
+            AreClipped 64 fill_rule clip_rule self.edges (paths_of_shape I.whole v.items)) }
+        ensures failed { IsErrOf result OverlayError.Failed ↔ (self.failed ≡ true) }
+        ensures err { IfErr result (λ e. (e ≡ OverlayError.Failed) ⊎ MayRefuseSplitting 64 self.edges e) }
+    {
+        self.clip_string_lines_with_solver(fill_rule, clip_rule, Solver::ABSOLUTE)
+    }
+
+    /// The same, where edges are split by this solver.
+    pub fn clip_string_lines_with_solver(
+        mut self,
+        fill_rule: FillRule,
+        clip_rule: ClipRule,
+        solver: Solver,
+    ) -> Result<Vec<IntPath<I, A>, A>, OverlayError>
+        ensures clipped { IfOk result (λ v.
+            AreClipped 64 fill_rule clip_rule self.edges (paths_of_shape I.whole v.items)) }
+        ensures failed { IsErrOf result OverlayError.Failed ↔ (self.failed ≡ true) }
+        ensures err { IfErr result (λ e. (e ≡ OverlayError.Failed) ⊎ MayRefuseSplitting 64 self.edges e) }
+    {
+        let _ = solver;
+        self.core.arrange(&mut ())?;
+        let graph = self.core.content().graph(fill_rule)?;
+        clipped(&graph, clip_rule)
+    }
+}
+
+// The paths of the pieces that a clip keeps of the graph's strings.
+fn clipped<I: IntNumber, A: Allocator + Clone>(
+    graph: &Graph<I, ShapeCountString, A>,
+    rule: ClipRule,
+) -> Result<Vec<IntPath<I, A>, A>, OverlayError>
+    ensures paths { IfOk result (λ v. ArePathsOf
+        (clip_pieces graph.now.fill_rule rule (graph_edges graph.now)) (paths_of_shape I.whole v.items)) }
+    ensures err { IsOkUnless result OverlayError.Memory }
+{
+    let kept = kept_pieces(graph, rule)?;
+    let mut pieces = OpenPieces::new(kept)?;
+    joined_paths(graph.allocator().clone()?, &mut pieces)
+}

@@ -1,0 +1,198 @@
+//! Strings clipped by a shape, on worked rows, at each coordinate type.
+
+use crate::points::{Points, assert_in_range, line_of, path_of, paths_of};
+use overlay_arrange::fill_rule::FillRule;
+use overlay_geom::integer::OverlayInt;
+use overlay_geom::path::{IntLine, IntPath};
+use overlay_geom::point::in_range;
+use overlay_geom::resource::borrowed::BorrowedContours;
+use overlay_string::clip::IntClip;
+use overlay_string::clip_rule::ClipRule;
+use overlay_string::lines::BorrowedLines;
+use overlay_string::string_overlay::StringOverlay;
+use std::alloc::Global;
+use std::process::Abort;
+use std::test::Fail;
+
+// A square of 20 round the origin.
+const SQUARE: Points<'static> = &[(-10, -10), (-10, 10), (10, 10), (10, -10)];
+
+const INSIDE: ClipRule = ClipRule {
+    invert: false,
+    boundary_included: false,
+};
+
+const OUTSIDE: ClipRule = ClipRule {
+    invert: true,
+    boundary_included: false,
+};
+
+const WITH_BOUNDARY: ClipRule = ClipRule {
+    invert: false,
+    boundary_included: true,
+};
+
+// The paths that are left of strings, clipped by a contour.
+fn clipped<I: OverlayInt + From<i16>>(
+    rt: &impl Abort,
+    alloc: Global,
+    contour: Points<'_>,
+    strings: &[Points<'_>],
+    rule: ClipRule,
+) -> Result<Vec<IntPath<I, Global>, Global>, Fail> {
+    let shape = path_of::<I>(alloc, contour)?;
+    let strings = paths_of::<I>(alloc, strings)?;
+    assert_in_range(rt, &shape);
+    assert_in_range(rt, &strings);
+    let overlay = StringOverlay::from_shape_and_string(alloc, &shape, &strings)?;
+    Ok(overlay.clip_string_lines(FillRule::NonZero, rule)?)
+}
+
+// Checks them.
+fn check<I: OverlayInt + PartialEq + From<i16>>(
+    rt: &impl Abort,
+    alloc: Global,
+    contour: Points<'_>,
+    strings: &[Points<'_>],
+    rule: ClipRule,
+    wanted: &[Points<'_>],
+) -> Result<(), Fail> {
+    let paths = clipped::<I>(rt, alloc, contour, strings, rule)?;
+    let wanted = paths_of::<I>(alloc, wanted)?;
+    assert!(rt; paths == wanted);
+    Ok(())
+}
+
+// One line through the square, or along its side, or without a shape.
+fn lines<I: OverlayInt + PartialEq + From<i16>>(
+    rt: &impl Abort,
+    alloc: Global,
+) -> Result<(), Fail> {
+    let line: &[Points<'_>] = &[&[(0, -15), (0, 15)]];
+    check::<I>(rt, alloc, SQUARE, line, INSIDE, &[&[(0, -10), (0, 10)]])?;
+    let rest: &[Points<'_>] = &[&[(0, -15), (0, -10)], &[(0, 10), (0, 15)]];
+    check::<I>(rt, alloc, SQUARE, line, OUTSIDE, rest)?;
+    let both: &[Points<'_>] = &[&[(0, -15), (0, 15)], &[(0, 15), (0, -15)]];
+    check::<I>(
+        rt,
+        alloc,
+        SQUARE,
+        both,
+        INSIDE,
+        &[&[(0, -10), (0, 10), (0, -10)]],
+    )?;
+    let side: &[Points<'_>] = &[&[(-10, -15), (-10, 15)]];
+    check::<I>(rt, alloc, SQUARE, side, INSIDE, &[])?;
+    check::<I>(
+        rt,
+        alloc,
+        SQUARE,
+        side,
+        WITH_BOUNDARY,
+        &[&[(-10, -10), (-10, 10)]],
+    )?;
+    check::<I>(
+        rt,
+        alloc,
+        &[],
+        &[&[(0, 0), (10, 0)]],
+        OUTSIDE,
+        &[&[(0, 0), (10, 0)]],
+    )
+}
+
+// A path in and out of the square.
+fn path<I: OverlayInt + PartialEq + From<i16>>(rt: &impl Abort, alloc: Global) -> Result<(), Fail> {
+    let path: Points<'_> = &[
+        (-20, 10),
+        (-20, 0),
+        (0, 0),
+        (0, 10),
+        (5, 10),
+        (20, -5),
+        (5, -5),
+        (0, -10),
+        (-5, -5),
+        (-15, -15),
+    ];
+    let below: Points<'_> = &[(10, -5), (5, -5), (0, -10), (-5, -5), (-10, -10)];
+    let wanted: &[Points<'_>] = &[below, &[(-10, 0), (0, 0), (0, 10)], &[(5, 10), (10, 5)]];
+    check::<I>(rt, alloc, SQUARE, &[path], INSIDE, wanted)?;
+    let above: Points<'_> = &[(-10, 0), (0, 0), (0, 10), (5, 10), (10, 5)];
+    check::<I>(rt, alloc, SQUARE, &[path], WITH_BOUNDARY, &[below, above])
+}
+
+// Lines that meet in one point inside: the first edge in order goes on.
+fn fork<I: OverlayInt + PartialEq + From<i16>>(rt: &impl Abort, alloc: Global) -> Result<(), Fail> {
+    let strings: &[Points<'_>] = &[&[(0, 0), (5, 5)], &[(-5, 0), (0, 0)], &[(0, 0), (5, -5)]];
+    let wanted: &[Points<'_>] = &[&[(-5, 0), (0, 0), (5, -5)], &[(0, 0), (5, 5)]];
+    check::<I>(rt, alloc, SQUARE, strings, INSIDE, wanted)
+}
+
+// Shapes of one corner, and of a notch; and a path along the side of a shape.
+fn corners<I: OverlayInt + PartialEq + From<i16>>(
+    rt: &impl Abort,
+    alloc: Global,
+) -> Result<(), Fail> {
+    let corner: Points<'_> = &[(-1, 0), (1, 0), (0, 1)];
+    let line: &[Points<'_>] = &[&[(0, -1), (0, 2)]];
+    assert!(rt; clipped::<I>(rt, alloc, corner, line, INSIDE)?.len() == 1);
+    assert!(rt; clipped::<I>(rt, alloc, corner, line, OUTSIDE)?.len() == 2);
+    let square: Points<'_> = &[(-1, -1), (1, -1), (1, 1), (-1, 1)];
+    let side: &[Points<'_>] = &[&[(-1, -1), (1, -1)]];
+    assert!(rt; clipped::<I>(rt, alloc, square, side, INSIDE)?.is_empty());
+    assert!(rt; clipped::<I>(rt, alloc, square, side, WITH_BOUNDARY)?.len() == 1);
+    let notch: Points<'_> = &[(0, 0), (2, 0), (2, 2), (1, 0), (0, 2)];
+    assert!(rt; clipped::<I>(rt, alloc, notch, &[&[(-3, 2), (3, 2)]], INSIDE)?.is_empty());
+    let roof: Points<'_> = &[(-2, -2), (2, -2), (3, 0), (-3, 0)];
+    let round: &[Points<'_>] = &[&[(-4, 1), (-2, -2), (2, -2), (4, 1)]];
+    assert!(rt; clipped::<I>(rt, alloc, roof, round, INSIDE)?.is_empty());
+    assert!(rt; clipped::<I>(rt, alloc, roof, round, WITH_BOUNDARY)?.len() == 1);
+    Ok(())
+}
+
+// Each call that clips at once.
+fn at_once<I: OverlayInt + PartialEq + From<i16>>(
+    rt: &impl Abort,
+    alloc: Global,
+) -> Result<(), Fail> {
+    let shape = path_of::<I>(alloc, SQUARE)?;
+    assert_in_range(rt, &shape);
+    let rule = FillRule::NonZero;
+    let line: IntLine<I> = line_of((0, -15), (0, 15));
+    assert!(rt; in_range(&line));
+    let wanted = paths_of::<I>(alloc, &[&[(0, -10), (0, 10)]])?;
+    assert!(rt; shape.clip_line(alloc, line, rule, INSIDE)? == wanted);
+    let lines = [line_of::<I>((0, -15), (0, 15)), line_of((0, 15), (0, -15))];
+    let borrowed = BorrowedLines { lines: &lines };
+    assert_in_range(rt, &borrowed);
+    let both_ways = paths_of::<I>(alloc, &[&[(0, -10), (0, 10), (0, -10)]])?;
+    assert!(rt; shape.clip_lines(alloc, borrowed.lines, rule, INSIDE)? == both_ways);
+    let path = path_of::<I>(alloc, &[(0, -15), (0, 0), (0, 15)])?;
+    assert!(rt; in_range(&path));
+    let by_three = paths_of::<I>(alloc, &[&[(0, -10), (0, 0), (0, 10)]])?;
+    assert!(rt; shape.clip_path(alloc, &path, rule, INSIDE)? == by_three);
+    let paths = paths_of::<I>(alloc, &[&[(0, -15), (0, 15)], &[(20, 0), (30, 0)]])?;
+    let listed = BorrowedContours { contours: &paths };
+    assert_in_range(rt, &listed);
+    assert!(rt; shape.clip_paths(alloc, listed.contours, rule, INSIDE)? == wanted);
+    assert_in_range(rt, &paths);
+    assert!(rt; shape.clip_source(alloc, &paths, rule, INSIDE)? == wanted);
+    Ok(())
+}
+
+// All of these, at a coordinate type.
+fn rows<I: OverlayInt + PartialEq + From<i16>>(rt: &impl Abort, alloc: Global) -> Result<(), Fail> {
+    lines::<I>(rt, alloc)?;
+    path::<I>(rt, alloc)?;
+    fork::<I>(rt, alloc)?;
+    corners::<I>(rt, alloc)?;
+    at_once::<I>(rt, alloc)
+}
+
+#[test]
+fn worked_rows(rt: HostRuntime) -> Result<(), Fail> {
+    rows::<i16>(&rt, rt.alloc())?;
+    rows::<i32>(&rt, rt.alloc())?;
+    rows::<i64>(&rt, rt.alloc())
+}

@@ -1,0 +1,9 @@
+//! Tests of the public calls on strings over a shape.
+#![tactic(auto)]
+
+#[cfg(test)]
+mod built;
+#[cfg(test)]
+mod clip;
+#[cfg(test)]
+mod points;
