@@ -1,0 +1,2 @@
+pub mod FilledSides
+pub mod Loops

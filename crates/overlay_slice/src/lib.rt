@@ -1,0 +1,5 @@
+//! Slicing: the filled sides of the edges of an arrangement, walked along and cut into loops, and the shapes that the
+//! loops make.
+#![tactic(auto)]
+
+pub mod filled_sides;
