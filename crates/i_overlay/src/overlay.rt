@@ -123,7 +123,8 @@ impl<I: OverlayInt, A: Allocator + Clone> Overlay<I, A> {
     /// A contour is left out where its double area before points are dropped, wrapped to the wide
     /// type, without its sign and halved downwards, is below `options.min_output_area`. Of the holes
     /// that stay all go to the shape that stays, where it is the only one; where several stay, each
-    /// goes to its parent among what is left, and one without a parent is left out.
+    /// goes to its parent among what is left, and one without a parent is left out. With `options.ogc` a
+    /// hole that was cut from an outline stays in the shape of this one, and is left out with it.
     ///
     /// Refusals are those of `build_separate_vectors`.
     pub fn overlay(

@@ -39,6 +39,20 @@ fn shapes_in_holes(rt: HostRuntime) {
              link 0 1 1\nlink 0 1 2\n",
         ),
         (
+            NEST,
+            "Subject EvenOdd clockwise",
+            "shape\n0 0 0 100 100 100 100 0\n10 90 10 10 90 10 90 90\n\
+             shape\n20 20 20 80 80 80 80 20\n30 70 30 30 70 30 70 70\n\
+             shape\n40 40 40 60 60 60 60 40\nlink 0 1 1\nlink 1 3 2\n",
+        ),
+        (
+            PAIR,
+            "Subject EvenOdd clockwise",
+            "shape\n0 0 0 100 100 100 100 0\n10 90 10 10 90 10 90 90\n\
+             shape\n20 20 20 30 30 30 30 20\nshape\n60 60 60 70 70 70 70 60\n\
+             link 0 1 1\nlink 0 1 2\n",
+        ),
+        (
             ISLAND,
             "Subject EvenOdd",
             "shape\n0 10 0 0 10 0 10 10\n2 2 2 5 4 4 4 6 2 5 2 8 8 8 8 2\n",

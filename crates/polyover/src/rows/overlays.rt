@@ -216,6 +216,7 @@ const ISLAND: &str = "subject 0 0 10 0 10 10 0 10\nsubject 2 2 2 8 8 8 8 2\nsubj
 #[test]
 fn contours_that_visit_no_point_twice(rt: HostRuntime) {
     let corners = "shape\n0 10 0 0 10 0 10 10\n2 2 2 4 4 4 4 2\n4 4 4 6 6 6 6 4\n";
+    let turned_corners = "shape\n0 0 0 10 10 10 10 0\n2 4 2 2 4 2 4 4\n4 6 4 4 6 4 6 6\n";
     let rows = [
         (
             NOTCH,
@@ -229,6 +230,8 @@ fn contours_that_visit_no_point_twice(rt: HostRuntime) {
         ),
         (CORNERS, "Subject EvenOdd", corners),
         (CORNERS, "Subject EvenOdd ogc", corners),
+        (CORNERS, "Subject EvenOdd clockwise", turned_corners),
+        (CORNERS, "Subject EvenOdd ogc clockwise", turned_corners),
         (
             ISLAND,
             "Subject EvenOdd",
@@ -236,8 +239,18 @@ fn contours_that_visit_no_point_twice(rt: HostRuntime) {
         ),
         (
             ISLAND,
+            "Subject EvenOdd clockwise",
+            "shape\n0 0 0 10 10 10 10 0\n2 5 2 2 8 2 8 8 2 8 2 5 4 6 4 4\n",
+        ),
+        (
+            ISLAND,
             "Subject EvenOdd ogc",
             "shape\n0 10 0 0 10 0 10 10\n2 2 2 8 8 8 8 2\nshape\n4 6 2 5 4 4\n",
+        ),
+        (
+            ISLAND,
+            "Subject EvenOdd clockwise ogc",
+            "shape\n0 0 0 10 10 10 10 0\n2 2 8 2 8 8 2 8\nshape\n2 5 4 6 4 4\n",
         ),
     ];
     for (figures, command, wanted) in rows {
