@@ -1,6 +1,22 @@
-//! Lines, under the path that they have in Rust.
+//! Strings, which are lines and paths over a shape, under the paths that they have in Rust.
+
+/// Strings clipped by a shape.
+pub mod clip {
+    pub use overlay_string::clip::IntClip;
+    pub use overlay_string::clip_rule::ClipRule;
+}
 
 /// Lines.
 pub mod line {
     pub use overlay_geom::path::IntLine;
+}
+
+/// The builder for strings.
+pub mod overlay {
+    pub use overlay_string::string_overlay::StringOverlay;
+}
+
+/// What strings do to a shape.
+pub mod rule {
+    pub use overlay_string::string_rule::StringRule;
 }

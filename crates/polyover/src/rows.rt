@@ -1,5 +1,6 @@
 //! Worked inputs with what is written for them, and readers and writers that fail.
 
+mod clips;
 mod edges;
 mod faults;
 mod hierarchies;

@@ -1,5 +1,6 @@
 pub mod AskedAgain
 pub mod Builders
+pub mod Clips
 pub mod Located
 pub mod Noted
 pub mod Queries

@@ -1,5 +1,6 @@
 pub mod Answers
 pub mod Builders
+pub mod Clips
 pub mod Engine
 pub mod Exits
 pub mod Noted

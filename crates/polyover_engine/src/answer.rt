@@ -12,6 +12,7 @@ ghost use Rattle.polyover_text.specs.Points.{FiguresInRange};
 ghost use Rattle.polyover_text.specs.Statements.{contours_at, figures_at};
 
 use crate::builder::{asked_builder, with_contours};
+use crate::clip::clipped_lines;
 use crate::exit::Exit;
 use crate::hierarchy::{hierarchy_text, overlay_hierarchy};
 use crate::points::{contains_text, locate_text};
@@ -23,13 +24,14 @@ use overlay_geom::path::IntShapes;
 use polyover_text::edge_text::edges_text;
 use polyover_text::figures::NumberedContour;
 use polyover_text::input::Input;
+use polyover_text::path_text::paths_text;
 use polyover_text::query::{OverlayQuery, Query};
 use polyover_text::relations_text::relations_text;
 use polyover_text::shape_text::shapes_text;
 use std::alloc::Allocator;
 
 /// The text of the answer to an input, whose points are in the coordinate range. Refusals are those
-/// of the builder to which the contours are added, and of the query on it; where points are asked about,
+/// of the builder to which the contours (and the open paths that are clipped) are added, and of the query on it; where points are asked about,
 /// `Memory`, and `BadInput` at the line of the first contour of the subject that is not resolved.
 pub fn answer_text<A: Allocator + Copy>(alloc: A, input: &Input<A>) -> Result<String<A>, Exit>
     requires { FiguresInRange (figures_at input.now.figures) }
@@ -53,6 +55,10 @@ pub fn answer_text<A: Allocator + Copy>(alloc: A, input: &Input<A>) -> Result<St
         Query::Relate(fill_rule) => {
             let relations = relations(alloc, &input.figures.contours, fill_rule)?;
             Ok(relations_text(alloc, &relations)?)
+        }
+        Query::ClipLines(query) => {
+            let paths = clipped_lines(alloc, &input.figures, query)?;
+            Ok(paths_text(alloc, &paths)?)
         }
         Query::Contains => contains_text(alloc, &input.figures),
         Query::Locate => locate_text(alloc, &input.figures),

@@ -3,6 +3,7 @@
 
 mod answer;
 mod builder;
+mod clip;
 pub mod engine;
 pub mod exit;
 mod hierarchy;
@@ -12,6 +13,7 @@ mod points;
 mod predicate_builder;
 mod read;
 mod relations;
+mod string_builder;
 mod subject;
 mod turn;
 mod write;

@@ -4,9 +4,12 @@ use Rattle.std.proofs.Common.{refl, ap, ◌∙◌, get_or, ◌==◌}
 use Rattle.std.proofs.lemmas.Bool.{false≢true}
 use Rattle.polyover_text.specs.declared.query.Query.{Query}
 use Rattle.overlay_arrange.specs.declared.fill_rule.FillRule.{FillRule}
+use Rattle.polyover_text.specs.declared.query.ClipQuery.{ClipQuery}
 use Rattle.polyover_text.specs.declared.query.OverlayQuery.{OverlayQuery}
-use Rattle.polyover_text.specs.declared.query.Query.TheVariants.{Edges, Overlay, Hierarchy, Relate, Contains, Locate}
-use Rattle.polyover_text.specs.Grammar.{Word, Line, IsCommand, edges, overlay, hierarchy, relate, contains, locate}
+use Rattle.polyover_text.specs.declared.query.Query.TheVariants.{Edges, Overlay, Hierarchy, Relate, ClipLines}
+use Rattle.polyover_text.specs.declared.query.Query.TheVariants.{Contains, Locate}
+use Rattle.polyover_text.specs.Grammar.{Word, Line, IsCommand, edges, overlay, hierarchy, relate, clip_lines}
+use Rattle.polyover_text.specs.Grammar.{contains, locate, AsksClip, asks_clip, default_clip, SetClipOptions}
 use Rattle.polyover_text.specs.Grammar.{fill_name, rule_name}
 use Rattle.polyover_text.specs.Grammar.{AsksOverlay, asks, default_output, SetOptions}
 
@@ -34,6 +37,8 @@ fill_named w rest query (overlay set) (inr e) = cc
 fill_named w rest query (hierarchy set) (inl e) = cc
 fill_named w rest query (hierarchy set) (inr e) = cc
 fill_named w rest query (relate {fill}) e = (fill, refl)
+fill_named w rest query (clip_lines named) (inl e) = cc
+fill_named w rest query (clip_lines named) (inr e) = cc
 fill_named w rest query contains (inl e) = cc
 fill_named w rest query contains (inr e) = cc
 fill_named w rest query locate (inl e) = cc
@@ -74,6 +79,8 @@ rules_named w rest query (overlay {query = asked} named) e = (asked, named)
 rules_named w rest query (hierarchy {query = asked} named) e = (asked, named)
 rules_named w rest query relate (inl e) = cc
 rules_named w rest query relate (inr e) = cc
+rules_named w rest query (clip_lines named) (inl e) = cc
+rules_named w rest query (clip_lines named) (inr e) = cc
 rules_named w rest query contains (inl e) = cc
 rules_named w rest query contains (inr e) = cc
 rules_named w rest query locate (inl e) = cc
@@ -87,6 +94,37 @@ no_rules_named ws rest w words first none query h =
     let named = rules_named w rest query (subst (λ l. IsCommand (codes "run" ∷ l) query) words h) first in
     none named.0 named.1
 
+-- a clip is asked for by the name of its fill rule, and then options
+pub clip_named : (ws : Line) (f : Word) (more : Line) (asked : ClipQuery) → ws ≡ f ∷ more
+    → f ≡ fill_name asked.fill_rule → SetClipOptions default_clip more asked.options → AsksClip ws asked
+clip_named ws f more asked words fill set =
+    let all : ws ≡ fill_name asked.fill_rule ∷ more = cc in
+    subst (λ l. AsksClip l asked) (sym all) (asks_clip set)
+
+-- so it is after `run clip`
+pub clip_asked : (ws rest : Line) (asked : ClipQuery) → ws ≡ codes "clip" ∷ rest → AsksClip rest asked →
+    IsCommand (codes "run" ∷ ws) (ClipLines asked)
+clip_asked ws rest asked words named =
+    subst (λ l. IsCommand (codes "run" ∷ l) (ClipLines asked)) (sym words) (clip_lines named)
+
+clip_rule_named : (w : Word) (rest : Line) (query : Query) → IsCommand (codes "run" ∷ w ∷ rest) query →
+    w ≡ codes "clip" → (asked : ClipQuery) × AsksClip rest asked
+clip_rule_named w rest query edges e = cc
+clip_rule_named w rest query (overlay set) e = cc
+clip_rule_named w rest query (hierarchy set) e = cc
+clip_rule_named w rest query relate e = cc
+clip_rule_named w rest query (clip_lines {query = asked} named) e = (asked, named)
+clip_rule_named w rest query contains e = cc
+clip_rule_named w rest query locate e = cc
+
+-- where it is not, nothing is asked
+pub no_clip_named : (ws rest : Line) → ws ≡ codes "clip" ∷ rest → ((asked : ClipQuery) → ¬ (AsksClip rest asked)) →
+    (query : Query) → ¬ (IsCommand (codes "run" ∷ ws) query)
+no_clip_named ws rest words none query h =
+    let named = clip_rule_named (codes "clip") rest query (subst (λ l. IsCommand (codes "run" ∷ l) query) words h)
+    refl in
+    none named.0 named.1
+
 -- after `run contains`, and after `run locate`, stands no word
 last_word : (w : Word) (rest : Line) (query : Query) → IsCommand (codes "run" ∷ w ∷ rest) query →
     (w ≡ codes "contains") ⊎ (w ≡ codes "locate") → rest ≡ []
@@ -98,6 +136,8 @@ last_word w rest query (hierarchy set) (inl e) = cc
 last_word w rest query (hierarchy set) (inr e) = cc
 last_word w rest query relate (inl e) = cc
 last_word w rest query relate (inr e) = absurd (relate_is_not_locate e)
+last_word w rest query (clip_lines named) (inl e) = cc
+last_word w rest query (clip_lines named) (inr e) = cc
 last_word w rest query contains e = refl
 last_word w rest query locate e = refl
 

@@ -8,6 +8,7 @@ use Rattle.std.proofs.lemmas.List.{get_or_push, get_or-append-add, same_from_pus
 use Rattle.overlay_arrange.specs.Paths.{GivenPath}
 use Rattle.polyover_text.specs.declared.query.Query.{Query}
 use Rattle.polyover_text.specs.Grammar.{Word, Line, shape_name, GivesContour, contour, GivesPoint, point, IsCommand}
+use Rattle.polyover_text.specs.Grammar.{GivesOpenPath, open_path, clip_lines}
 use Rattle.polyover_text.specs.Grammar.{edges, overlay, hierarchy, relate, contains, locate, Asks, IsGoodSoFar}
 use Rattle.polyover_text.specs.Grammar.{GivenFigures, no_figures, before_contours, AreFigures, none, blank}
 use Rattle.overlay_geom.specs.Plane.{Point}
@@ -26,6 +27,7 @@ one_more_blank : (n : ℕ) (ls : List Line) (fs : GivenFigures) → AreFigures n
 one_more_blank n ls fs none = blank none
 one_more_blank n ls fs (blank h) = blank (one_more_blank _ _ _ h)
 one_more_blank n ls fs (contour first h) = contour first (one_more_blank _ _ _ h)
+one_more_blank n ls fs (open_path first h) = open_path first (one_more_blank _ _ _ h)
 one_more_blank n ls fs (point first h) = point first (one_more_blank _ _ _ h)
 
 one_more_contour : (n : ℕ) (ls : List Line) (fs : GivenFigures) (l : Line) (c : GivenPath) (m : ℕ) →
@@ -36,8 +38,23 @@ one_more_contour n ls fs l c m none last e =
 one_more_contour n ls fs l c m (blank h) last e = blank (one_more_contour (n + 1) _ _ l c m h last (omega (arith, e)))
 one_more_contour n ls fs l c m (contour first h) last e = contour first
     (one_more_contour (n + 1) _ _ l c m h last (omega (arith, e)))
+one_more_contour n ls fs l c m (open_path first h) last e = open_path first
+    (one_more_contour (n + 1) _ _ l c m h last (omega (arith, e)))
 one_more_contour n ls fs l c m (point first h) last e = point first
     (one_more_contour (n + 1) _ _ l c m h last (omega (arith, e)))
+
+-- an open path after the others
+abbrev pub after_lines : GivenFigures → List Point → GivenFigures
+after_lines fs ps = record fs { lines = fs.lines ++ ps ∷ [] }
+
+pub one_more_path : (n : ℕ) (ls : List Line) (fs : GivenFigures) (l : Line) (ps : List Point) → AreFigures n ls fs →
+    GivesOpenPath l ps
+    → AreFigures n (ls ++ l ∷ []) (after_lines fs ps)
+one_more_path n ls fs l ps none last = open_path last none
+one_more_path n ls fs l ps (blank h) last = blank (one_more_path _ _ _ l ps h last)
+one_more_path n ls fs l ps (contour first h) last = contour first (one_more_path _ _ _ l ps h last)
+one_more_path n ls fs l ps (open_path first h) last = open_path first (one_more_path _ _ _ l ps h last)
+one_more_path n ls fs l ps (point first h) last = point first (one_more_path _ _ _ l ps h last)
 
 -- a point after the others
 abbrev pub after_points : GivenFigures → Point → GivenFigures
@@ -49,6 +66,7 @@ pub one_more_point : (n : ℕ) (ls : List Line) (fs : GivenFigures) (l : Line) (
 one_more_point n ls fs l p none last = point last none
 one_more_point n ls fs l p (blank h) last = blank (one_more_point _ _ _ l p h last)
 one_more_point n ls fs l p (contour first h) last = contour first (one_more_point _ _ _ l p h last)
+one_more_point n ls fs l p (open_path first h) last = open_path first (one_more_point _ _ _ l p h last)
 one_more_point n ls fs l p (point first h) last = point first (one_more_point _ _ _ l p h last)
 
 -- blank lines and one more
@@ -77,21 +95,27 @@ takes_contour ls fs l c n h last e = one_more_contour 1 ls fs l c n h last (omeg
 
 -- the line is blank, or gives a figure
 abbrev IsPlain : Line → Type 0
-IsPlain l = (l ≡ []) ⊎ (((c : GivenPath) × GivesContour l c) ⊎ ((p : Point) × GivesPoint l p))
+IsPlain l = (l ≡ []) ⊎ (((c : GivenPath) × GivesContour l c) ⊎ (((ps : List Point) × GivesOpenPath l ps)
+    ⊎ ((p : Point) × GivesPoint l p)))
 
 -- so is each line among figures
 among_figures : (n : ℕ) (before : List Line) (l : Line) (after : List Line) (fs : GivenFigures) →
     AreFigures n (before ++ l ∷ after) fs → IsPlain l
 among_figures n [] l after fs (blank h) = inl refl
 among_figures n [] l after fs (contour first h) = inr (inl (_, first))
-among_figures n [] l after fs (point first h) = inr (inr (_, first))
+among_figures n [] l after fs (open_path first h) = inr (inr (inl (_, first)))
+among_figures n [] l after fs (point first h) = inr (inr (inr (_, first)))
 among_figures n (b ∷ before) l after fs (blank h) = among_figures (n + 1) before l after _ h
 among_figures n (b ∷ before) l after fs (contour first h) = among_figures (n + 1) before l after _ h
+among_figures n (b ∷ before) l after fs (open_path first h) = among_figures (n + 1) before l after _ h
 among_figures n (b ∷ before) l after fs (point first h) = among_figures (n + 1) before l after _ h
 
 -- a contour's line begins with the name of its shape
 contour_begins : (l : Line) (c : GivenPath) → GivesContour l c → (ws : List Word) × (l ≡ shape_name c.shape_type ∷ ws)
 contour_begins l c (contour h) = (_, refl)
+
+path_begins : (l : Line) (ps : List Point) → GivesOpenPath l ps → (ws : List Word) × (l ≡ codes "line" ∷ ws)
+path_begins l ps (open_path h) = (_, refl)
 
 point_begins : (l : Line) (p : Point) → GivesPoint l p → (ws : List Word) × (l ≡ codes "point" ∷ ws)
 point_begins l p (point x y) = (_, refl)
@@ -106,7 +130,8 @@ first_word v w vs ws e = cc
 -- a line that begins with `run` is not blank and gives no figure
 run_is_not_plain : (ws : List Word) → ¬ (IsPlain (codes "run" ∷ ws))
 run_is_not_plain ws (inl e) = cc
-run_is_not_plain ws (inr (inr h)) = let begins = point_begins _ h.0 h.1 in let e = begins.1 in cc
+run_is_not_plain ws (inr (inr (inl h))) = let begins = path_begins _ h.0 h.1 in let e = begins.1 in cc
+run_is_not_plain ws (inr (inr (inr h))) = let begins = point_begins _ h.0 h.1 in let e = begins.1 in cc
 run_is_not_plain ws (inr (inl h)) =
     let begins = contour_begins _ h.0 h.1 in
     no_shape_is_run h.0.shape_type (first_word _ _ _ _ begins.1)
@@ -116,6 +141,7 @@ command_begins l query edges = (_, refl)
 command_begins l query (overlay options) = (_, refl)
 command_begins l query (hierarchy options) = (_, refl)
 command_begins l query relate = (_, refl)
+command_begins l query (clip_lines named) = (_, refl)
 command_begins l query contains = (_, refl)
 command_begins l query locate = (_, refl)
 
@@ -159,7 +185,8 @@ no_command_among ls fs gs query h figures =
 not_plain : (l : Line) → SaysNothing l → ¬ (IsPlain l)
 not_plain l bad (inl e) = bad.some_word e
 not_plain l bad (inr (inl h)) = bad.no_contour h.0 h.1
-not_plain l bad (inr (inr h)) = bad.no_point h.0 h.1
+not_plain l bad (inr (inr (inl h))) = bad.no_path h.0 h.1
+not_plain l bad (inr (inr (inr h))) = bad.no_point h.0 h.1
 
 pub refuses_nothing : (ls : List Line) (l : Line) → SaysNothing l → ¬ (IsGoodSoFar (ls ++ l ∷ []))
 refuses_nothing ls l bad (inl h) = not_plain l bad (among_figures 1 ls l [] h.0 h.1)
@@ -172,6 +199,8 @@ before_last : (n : ℕ) (ls : List Line) (l : Line) (fs : GivenFigures) → AreF
 before_last n [] l fs h = (no_figures, none)
 before_last n (x ∷ ls) l fs (blank h) = let rest = before_last (n + 1) ls l _ h in (rest.0, blank rest.1)
 before_last n (x ∷ ls) l fs (contour first h) = let rest = before_last (n + 1) ls l _ h in (_, contour first rest.1)
+before_last n (x ∷ ls) l fs (open_path first h) =
+    let rest = before_last (n + 1) ls l _ h in (_, open_path first rest.1)
 before_last n (x ∷ ls) l fs (point first h) = let rest = before_last (n + 1) ls l _ h in (_, point first rest.1)
 
 pub refuses_word : (ls : List Line) (fs : GivenFigures) (query : Query) (l : Line) → Asks ls fs query → ¬ (l ≡ []) →

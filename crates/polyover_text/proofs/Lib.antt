@@ -1,3 +1,4 @@
+pub mod ClipOptionLists
 pub mod Commands
 pub mod FirstLine
 pub mod FirstWord

@@ -1,21 +1,23 @@
 -- What the program holds of the lines so far, when it takes one more line or refuses it.
 use Rattle.std.proofs.Common.{◌≡◌, ℕ, ◌+◌, ℤ, List, [], ◌∷◌, ◌++◌, Option, Some, None, map, length, refl, sym, ap}
 use Rattle.std.proofs.Common.{subst, ◌∙◌}
+use Rattle.std.specs.Prelude.{Vec}
 use Rattle.std.proofs.lemmas.List.{map_push}
 use Rattle.polyover_text.specs.declared.query.Query.{Query}
 use Rattle.polyover_text.specs.declared.figures.Figures.{Figures}
 use Rattle.polyover_text.specs.declared.figures.NumberedContour.{NumberedContour}
 use Rattle.polyover_text.specs.declared.input.Reading.{Reading}
 use Rattle.polyover_text.specs.declared.statement.Statement.{Statement}
-use Rattle.polyover_text.specs.declared.statement.Statement.TheVariants.{Blank, Contour, Point, Run}
+use Rattle.polyover_text.specs.declared.statement.Statement.TheVariants.{Blank, Contour, OpenPath, Point, Run}
 use Rattle.polyover_text.specs.Grammar.{Line, GivesContour, contour, GivesPoint, point, IsCommand, edges, overlay}
-use Rattle.polyover_text.specs.Grammar.{hierarchy}
-use Rattle.polyover_text.specs.Grammar.{relate, contains, locate, AreFigures}
+use Rattle.polyover_text.specs.Grammar.{hierarchy, relate, clip_lines, contains, locate, AreFigures}
+use Rattle.polyover_text.specs.Grammar.{GivesOpenPath, open_path}
 use Rattle.overlay_geom.specs.Points.{plain_point}
 use Rattle.overlay_geom.specs.declared.point.IntPoint.{IntPoint}
 use Rattle.polyover_text.specs.Inputs.{Give, RefusesLine}
 use Rattle.polyover_text.specs.Statements.{path_at, contour_at, contours_at, figures_at, Says}
-use Rattle.polyover_text.proofs.GoodLines.{takes_contour, one_more_point, refuses_word}
+use Rattle.polyover_text.specs.Points.{points_at}
+use Rattle.polyover_text.proofs.GoodLines.{takes_contour, one_more_path, one_more_point, refuses_word}
 
 contour_has_word : (l : Line) (c : _) → GivesContour l c → l ≡ [] → ⊥
 contour_has_word l c (contour h) e = cc
@@ -25,8 +27,12 @@ command_has_word l query edges e = cc
 command_has_word l query (overlay options) e = cc
 command_has_word l query (hierarchy options) e = cc
 command_has_word l query relate e = cc
+command_has_word l query (clip_lines named) e = cc
 command_has_word l query contains e = cc
 command_has_word l query locate e = cc
+
+path_has_word : (l : Line) (ps : _) → GivesOpenPath l ps → l ≡ [] → ⊥
+path_has_word l ps (open_path h) e = cc
 
 point_has_word : (l : Line) (p : _) → GivesPoint l p → l ≡ [] → ⊥
 point_has_word l p (point x y) e = cc
@@ -35,6 +41,7 @@ point_has_word l p (point x y) e = cc
 has_word : {A : Type 0} (l : Line) (s : Statement A) → Says l s → (s ≡ Blank → ⊥) → l ≡ [] → ⊥
 has_word l Blank says other e = other refl
 has_word l (Contour c) says other e = contour_has_word l (path_at c) says e
+has_word l (OpenPath ps) says other e = path_has_word l (points_at ps.items) says e
 has_word l (Point p) says other e = point_has_word l (plain_point (λ z. z) p) says e
 has_word l (Run query) says other e = command_has_word l query says e
 
@@ -60,6 +67,20 @@ takes_pushed ls l old new c n query none kept pushed numbered next says h =
     (subst (λ cs. AreFigures 1 (ls ++ l ∷ []) (record (figures_at old) { contours = cs })) held
     (takes_contour ls (figures_at old) l (path_at c.contour) c.line (subst (Give ls (figures_at old)) none h) says
     (numbered ∙ next))))
+
+-- an open path is held last
+pub takes_path : {A : Type 0} (ls : List Line) (l : Line) (old new : Figures A) (path : Vec (IntPoint ℤ) A)
+    (query : Option Query) → query ≡ None
+    → new ≡ record old { lines = new.lines } → new.lines.items ≡ old.lines.items ++ path ∷ []
+    → GivesOpenPath l (points_at path.items) → Give ls (figures_at old) query
+    → Give (ls ++ l ∷ []) (figures_at new) query
+takes_path ls l old new path query none kept pushed says h =
+    let held = sym (ap (map (λ ps. points_at ps.items)) pushed
+    ∙ map_push (λ ps. points_at ps.items) old.lines.items path) in
+    subst (λ q. Give (ls ++ l ∷ []) (figures_at new) q) (sym none)
+    (subst (λ fs. AreFigures 1 (ls ++ l ∷ []) (figures_at fs)) (sym kept)
+    (subst (λ paths. AreFigures 1 (ls ++ l ∷ []) (record (figures_at old) { lines = paths })) held
+    (one_more_path 1 ls (figures_at old) l (points_at path.items) (subst (Give ls (figures_at old)) none h) says)))
 
 -- a point is held last
 pub takes_point : {A : Type 0} (ls : List Line) (l : Line) (old new : Figures A) (p : IntPoint ℤ)

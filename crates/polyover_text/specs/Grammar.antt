@@ -16,10 +16,13 @@ use Rattle.overlay_arrange.specs.declared.options.ContourDirection.TheVariants.{
 use Rattle.overlay_arrange.specs.declared.options.ShapeType.{ShapeType}
 use Rattle.overlay_arrange.specs.declared.options.ShapeType.TheVariants.{Subject, Clip}
 use Rattle.overlay_arrange.specs.Paths.{GivenPath}
+use Rattle.polyover_text.specs.declared.clip_options.ClipOptions.{ClipOptions}
 use Rattle.polyover_text.specs.declared.options.OutputOptions.{OutputOptions}
+use Rattle.polyover_text.specs.declared.query.ClipQuery.{ClipQuery}
 use Rattle.polyover_text.specs.declared.query.OverlayQuery.{OverlayQuery}
 use Rattle.polyover_text.specs.declared.query.Query.{Query}
-use Rattle.polyover_text.specs.declared.query.Query.TheVariants.{Edges, Overlay, Hierarchy, Relate, Contains, Locate}
+use Rattle.polyover_text.specs.declared.query.Query.TheVariants.{Edges, Overlay, Hierarchy, Relate, ClipLines}
+use Rattle.polyover_text.specs.declared.query.Query.TheVariants.{Contains, Locate}
 
 -- ---- lines and words
 
@@ -79,6 +82,12 @@ pub data GivesContour : Line → GivenPath → Type 0 where
   contour : {shape_type : ShapeType} {ws : List Word} {ps : List Point} → ArePoints ws ps
       → GivesContour (shape_name shape_type ∷ ws) (record { shape_type = shape_type; points = ps })
 
+-- ---- open paths
+
+-- the line gives an open path: `line x y ..`
+pub data GivesOpenPath : Line → List Point → Type 0 where
+  open_path : {ws : List Word} {ps : List Point} → ArePoints ws ps → GivesOpenPath (codes "line" ∷ ws) ps
+
 -- ---- points
 
 -- the line gives a point: `point x y`
@@ -131,10 +140,29 @@ pub data AsksOverlay : List Word → OverlayQuery → Type 0 where
   asks : {query : OverlayQuery} {ws : List Word} → SetOptions default_output ws query.output
       → AsksOverlay (rule_name query.overlay_rule ∷ fill_name query.fill_rule ∷ ws) query
 
+-- no option of a clip is set: the parts inside are kept, and none on the boundary
+abbrev pub default_clip : ClipOptions
+default_clip = record { invert = false; boundary_included = false }
+
+-- the words, read from left to right, set options of a clip that were not set, one after another, until these options
+-- are set: `invert` keeps the parts outside in place of those inside, `boundary` those on the boundary too
+pub data SetClipOptions : ClipOptions → List Word → ClipOptions → Type 0 where
+  none : {o : ClipOptions} → SetClipOptions o [] o
+  invert : {old o : ClipOptions} {ws : List Word} → old.invert ≡ false
+      → SetClipOptions (record old { invert = true }) ws o → SetClipOptions old (codes "invert" ∷ ws) o
+  boundary : {old o : ClipOptions} {ws : List Word} → old.boundary_included ≡ false
+      → SetClipOptions (record old { boundary_included = true }) ws o → SetClipOptions old (codes "boundary" ∷ ws) o
+
+-- the words ask for a clip: they name its fill rule, and then set options
+pub data AsksClip : List Word → ClipQuery → Type 0 where
+  asks_clip : {query : ClipQuery} {ws : List Word} → SetClipOptions default_clip ws query.options
+      → AsksClip (fill_name query.fill_rule ∷ ws) query
+
 -- the line asks for this: `run edges FILL` for the edges under a fill rule, `run overlay RULE FILL OPT..` for the
 -- shapes of an overlay, `run hierarchy RULE FILL OPT..` for these and which of them lie in holes of which, `run relate
--- FILL` for how subject and clip lie to each other, `run contains` for whether each point is inside the subject, `run
--- locate` for where each point lies in it
+-- FILL` for how subject and clip lie to each other, `run clip FILL OPT..` for the parts of the open paths that a clip by
+-- the subject keeps, `run contains` for whether each point is inside the subject, `run locate` for where each point lies
+-- in it
 pub data IsCommand : Line → Query → Type 0 where
   edges : {fill : FillRule} → IsCommand (codes "run" ∷ codes "edges" ∷ fill_name fill ∷ []) (Edges fill)
   overlay : {query : OverlayQuery} {ws : List Word} → AsksOverlay ws query
@@ -142,6 +170,8 @@ pub data IsCommand : Line → Query → Type 0 where
   hierarchy : {query : OverlayQuery} {ws : List Word} → AsksOverlay ws query
       → IsCommand (codes "run" ∷ codes "hierarchy" ∷ ws) (Hierarchy query)
   relate : {fill : FillRule} → IsCommand (codes "run" ∷ codes "relate" ∷ fill_name fill ∷ []) (Relate fill)
+  clip_lines : {query : ClipQuery} {ws : List Word} → AsksClip ws query
+      → IsCommand (codes "run" ∷ codes "clip" ∷ ws) (ClipLines query)
   contains : IsCommand (codes "run" ∷ codes "contains" ∷ []) Contains
   locate : IsCommand (codes "run" ∷ codes "locate" ∷ []) Locate
 
@@ -172,6 +202,10 @@ paths_of fs = contour_paths fs.contours
 abbrev pub before_contours : ℕ → GivenPath → GivenFigures → GivenFigures
 before_contours n c fs = record fs { contours = record { line = n; path = c } ∷ fs.contours }
 
+-- an open path before the others
+abbrev pub before_lines : List Point → GivenFigures → GivenFigures
+before_lines ps fs = record fs { lines = ps ∷ fs.lines }
+
 -- a point before the others
 abbrev pub before_points : Point → GivenFigures → GivenFigures
 before_points p fs = record fs { points = p ∷ fs.points }
@@ -183,6 +217,9 @@ pub data AreFigures : ℕ → List Line → GivenFigures → Type 0 where
   contour : {n : ℕ} {l : Line} {c : GivenPath} {ls : List Line} {fs : GivenFigures} → GivesContour l c →
       AreFigures (n + 1) ls fs
       → AreFigures n (l ∷ ls) (before_contours n c fs)
+  open_path : {n : ℕ} {l : Line} {ps : List Point} {ls : List Line} {fs : GivenFigures} → GivesOpenPath l ps →
+      AreFigures (n + 1) ls fs
+      → AreFigures n (l ∷ ls) (before_lines ps fs)
   point : {n : ℕ} {l : Line} {p : Point} {ls : List Line} {fs : GivenFigures} → GivesPoint l p →
       AreFigures (n + 1) ls fs
       → AreFigures n (l ∷ ls) (before_points p fs)

@@ -1,3 +1,4 @@
+pub mod ClipOptions
 pub mod Grammar
 pub mod Inputs
 pub mod Lines

@@ -20,4 +20,5 @@ pub record IsFirstPoint (ws : Line) (p : IntPoint ℤ) (rest : Line) : Type 0 wh
 -- all points of the figures are in the coordinate range
 pub record FiguresInRange (fs : GivenFigures) : Type 0 where
   pub contours : All (λ c. AllInRange 4611686018427387903 c.points) (paths_of fs)
+  pub lines : All (AllInRange 4611686018427387903) fs.lines
   pub points : AllInRange 4611686018427387903 fs.points

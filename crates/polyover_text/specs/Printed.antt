@@ -1,4 +1,5 @@
--- The text of an answer: a line for each edge, lines for each shape, a line for each relation, or one for each point.
+-- The text of an answer: a line for each edge, lines for each shape, a line for each path, for each relation, or for
+-- each point.
 use Rattle.std.specs.Prelude.{ℕ, Bool, true, false, List, [], ◌∷◌, ◌++◌, codes}
 use Rattle.std.specs.Fmt.{decimal, signed_decimal}
 use Rattle.std.specs.List.{flat_map}
@@ -36,6 +37,12 @@ shape_lines contours = codes "shape" ++ 10 ∷ flat_map contour_line contours
 
 abbrev pub lines_of_shapes : List (List (List Point)) → List ℕ
 lines_of_shapes shapes = flat_map shape_lines shapes
+
+-- ---- paths
+
+-- a line of points for each path
+abbrev pub lines_of_paths : List (List Point) → List ℕ
+lines_of_paths paths = flat_map contour_line paths
 
 -- ---- links
 

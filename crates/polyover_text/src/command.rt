@@ -3,13 +3,15 @@
 ghost use Rattle.std.specs.Prelude.{◌≡◌, [], ◌∷◌, MatchOption, IfSome, codes};
 ghost use Rattle.overlay_arrange.specs.declared.fill_rule.FillRule.{FillRule};
 ghost use Rattle.polyover_text.specs.declared.query.Query.{Query};
+ghost use Rattle.polyover_text.specs.declared.query.ClipQuery.{ClipQuery};
 ghost use Rattle.polyover_text.specs.declared.query.OverlayQuery.{OverlayQuery};
-ghost use Rattle.polyover_text.specs.Grammar.{IsCommand, AsksOverlay, fill_name};
+ghost use Rattle.polyover_text.specs.Grammar.{IsCommand, AsksOverlay, AsksClip, fill_name};
 ghost use Rattle.polyover_text.specs.Words.{words_left};
 
+use crate::clip_options::parse_clip_options;
 use crate::fill::parse_fill_rule;
 use crate::options::parse_options;
-use crate::query::{OverlayQuery, Query};
+use crate::query::{ClipQuery, OverlayQuery, Query};
 use crate::rule::parse_overlay_rule;
 use crate::words::Words;
 use overlay_arrange::fill_rule::FillRule;
@@ -25,6 +27,7 @@ pub fn parse_command(mut words: Words<'_>) -> Option<Query>
         b"overlay" => Some(Query::Overlay(parse_overlay(words)?)),
         b"hierarchy" => Some(Query::Hierarchy(parse_overlay(words)?)),
         b"relate" => Some(Query::Relate(last_fill_rule(words)?)),
+        b"clip" => Some(Query::ClipLines(parse_clip(words)?)),
         b"contains" => if_last(words, Query::Contains),
         b"locate" => if_last(words, Query::Locate),
         _ => None,
@@ -69,4 +72,15 @@ fn parse_overlay(mut words: Words<'_>) -> Option<OverlayQuery>
         fill_rule,
         output,
     })
+}
+
+// The fill rule and the options of a clip.
+fn parse_clip(mut words: Words<'_>) -> Option<ClipQuery>
+    ensures { MatchOption result
+        ((query : ClipQuery) → ¬ (AsksClip (words_left words.entry) query))
+        (λ query. AsksClip (words_left words.entry) query) }
+{
+    let fill_rule = parse_fill_rule(words.next()?)?;
+    let options = parse_clip_options(words)?;
+    Some(ClipQuery { fill_rule, options })
 }

@@ -9,7 +9,7 @@ use std::alloc::Allocator;
 pub struct Figures<A: Allocator> {
     /// The contours.
     pub contours: Vec<NumberedContour<A>, A>,
-    /// The open paths, of which no line of the grammar gives one yet.
+    /// The open paths.
     pub lines: Vec<Vec<IntPoint<i64>, A>, A>,
     /// The points that are asked about.
     pub points: Vec<IntPoint<i64>, A>,

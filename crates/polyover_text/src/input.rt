@@ -53,6 +53,7 @@ impl<A: Allocator + Copy> Reading<A> {
                     .contours
                     .push(NumberedContour { line, contour })?;
             }
+            (Statement::OpenPath(points), None) => self.figures.lines.push(points)?,
             (Statement::Point(point), None) => self.figures.points.push(point)?,
             (Statement::Run(query), None) => self.query = Some(query),
             (_, Some(_)) => return Err(LineError::Bad),

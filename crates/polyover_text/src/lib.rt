@@ -2,6 +2,7 @@
 //! input, and the lines of an answer.
 #![tactic(auto)]
 
+pub mod clip_options;
 mod command;
 pub mod contour;
 pub mod edge_text;
@@ -14,6 +15,7 @@ pub mod link_text;
 pub mod location_text;
 mod number;
 pub mod options;
+pub mod path_text;
 mod points;
 pub mod query;
 pub mod relations;

@@ -1,5 +1,6 @@
 //! What an input asks for.
 
+use crate::clip_options::ClipOptions;
 use crate::options::OutputOptions;
 use overlay_arrange::fill_rule::FillRule;
 use overlay_arrange::overlay_rule::OverlayRule;
@@ -15,6 +16,8 @@ pub enum Query {
     Hierarchy(OverlayQuery),
     /// How the subject and the clip lie to each other under this rule.
     Relate(FillRule),
+    /// The parts of the lines that a clip by the subject keeps.
+    ClipLines(ClipQuery),
     /// Whether each point is inside the subject.
     Contains,
     /// Where each point lies in the subject.
@@ -30,4 +33,13 @@ pub struct OverlayQuery {
     pub fill_rule: FillRule,
     /// How the output is to look.
     pub output: OutputOptions,
+}
+
+/// The rule of a clip, and which parts of the lines it keeps.
+#[derive(Clone, Copy)]
+pub struct ClipQuery {
+    /// Which windings are filled.
+    pub fill_rule: FillRule,
+    /// Which parts are kept.
+    pub options: ClipOptions,
 }

@@ -39,7 +39,8 @@ fn push_shape<A: Allocator>(
     Ok(())
 }
 
-fn push_contour<A: Allocator>(
+/// Adds the line of a contour, or of a path: `x y x y ..`.
+pub(crate) fn push_contour<A: Allocator>(
     text: &mut String<A>,
     contour: &[IntPoint<i64>],
 ) -> Result<(), AllocError>

@@ -1,6 +1,6 @@
 //! What a line says.
 
-ghost use Rattle.std.specs.Prelude.{◌≡◌, ◌∷◌, MatchResult};
+ghost use Rattle.std.specs.Prelude.{◌≡◌, ◌∷◌, MatchResult, codes};
 ghost use Rattle.polyover_text.specs.Grammar.{words, shape_name};
 ghost use Rattle.polyover_text.specs.Statements.{Says, IsFaultOf};
 ghost use Rattle.polyover_text.specs.Words.{words_left};
@@ -22,13 +22,16 @@ pub enum Statement<A: Allocator> {
     Blank,
     /// A contour.
     Contour(Contour<A>),
+    /// An open path.
+    OpenPath(Vec<IntPoint<i64>, A>),
     /// A point.
     Point(IntPoint<i64>),
     /// The command: this is asked for.
     Run(Query),
 }
 
-/// What a line says, if it is of the grammar. `Memory` comes where a contour's points did not fit.
+/// What a line says, if it is of the grammar. `Memory` comes where the points of a contour or of an open path did not
+/// fit.
 pub fn parse_statement<A: Allocator>(alloc: A, line: &[u8]) -> Result<Statement<A>, LineError>
     ensures { MatchResult result
         (λ s. Says (words line.now) s)
@@ -39,6 +42,7 @@ pub fn parse_statement<A: Allocator>(alloc: A, line: &[u8]) -> Result<Statement<
         None => Ok(Statement::Blank),
         Some(b"subject") => parse_contour(alloc, ShapeType::Subject, words),
         Some(b"clip") => parse_contour(alloc, ShapeType::Clip, words),
+        Some(b"line") => parse_open_path(alloc, words),
         Some(b"point") => match parse_point(words) {
             Some(point) => Ok(Statement::Point(point)),
             None => Err(LineError::Bad),
@@ -63,4 +67,14 @@ fn parse_contour<A: Allocator>(
 {
     let points = parse_points(alloc, words)?;
     Ok(Statement::Contour(Contour { shape_type, points }))
+}
+
+// The open path, after the word `line`.
+fn parse_open_path<A: Allocator>(alloc: A, words: Words<'_>) -> Result<Statement<A>, LineError>
+    ensures { MatchResult result
+        (λ s. Says (codes "line" ∷ words_left words.entry) s)
+        (λ e. IsFaultOf (codes "line" ∷ words_left words.entry) e) }
+{
+    let points = parse_points(alloc, words)?;
+    Ok(Statement::OpenPath(points))
 }

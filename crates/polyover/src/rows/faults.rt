@@ -206,3 +206,12 @@ fn each_growth_of_relations_refused_in_turn(rt: HostRuntime) {
          within true\ndisjoint false\ncovers false\n",
     );
 }
+
+#[test]
+fn each_growth_of_a_clip_refused_in_turn(rt: HostRuntime) {
+    refuse_each_growth(
+        &rt,
+        b"subject 0 0 9 0 9 9 0 9\nline -3 3 12 3\nline 3 -3 3 12\nrun clip NonZero\n",
+        "0 3 3 3 3 9\n3 0 3 3 9 3\n",
+    );
+}

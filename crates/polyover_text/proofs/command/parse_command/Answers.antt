@@ -2,7 +2,8 @@ use Rattle.std.proofs.Common.{◌≡◌, ◌∷◌, None, codes, inl, inr, refl,
 use Rattle.std.proofs.lemmas.Slice.Eq.{text_from_reads}
 use Rattle.polyover_text.specs.Words.{words_left}
 use Rattle.polyover_text.proofs.Commands.{edges_asked, overlay_asked, hierarchy_asked, no_rules_named}
-use Rattle.polyover_text.proofs.Commands.{relation_asked, contains_asked, locate_asked}
+use Rattle.polyover_text.proofs.Commands.{clip_asked, no_clip_named}
+use Rattle.polyover_text.proofs.Commands.{relation_asked, no_fill_named, contains_asked, locate_asked}
 use Rattle.polyover_text.proofs.command.parse_command.Goals as goal
 
 pub returns-in_ok-last_fill_rule-in-edges : goal.returns-in_ok-last_fill_rule-in-edges
@@ -62,3 +63,26 @@ returns-in_err-parse_overlay-in-hierarchy c =
     rw none (no_rules_named _ (words_left c.next.new.self) (codes "hierarchy") (c.in_ok-next.ensures.steps
     ∙ ap (λ w. w ∷ words_left c.next.new.self) first) (inr refl)
     c.in_err-parse_overlay-in-hierarchy.ensures)
+
+pub returns-in_ok-parse_clip-in-clip : goal.returns-in_ok-parse_clip-in-clip
+returns-in_ok-parse_clip-in-clip c =
+    let first : c.in_ok-next.field-0.now ≡ codes "clip" = search (rules, text_from_reads) in
+    clip_asked _ (words_left c.next.new.self) _ (c.in_ok-next.ensures.steps
+    ∙ ap (λ w. w ∷ words_left c.next.new.self) first)
+    c.in_ok-parse_clip-in-clip.ensures
+
+pub returns-in_err-parse_clip-in-clip : goal.returns-in_err-parse_clip-in-clip
+returns-in_err-parse_clip-in-clip c =
+    let first : c.in_ok-next.field-0.now ≡ codes "clip" = search (rules, text_from_reads) in
+    let none : c.from_residual-in_err-parse_clip-in-clip.result ≡ None = search rules in
+    rw none (no_clip_named _ (words_left c.next.new.self) (c.in_ok-next.ensures.steps
+    ∙ ap (λ w. w ∷ words_left c.next.new.self) first)
+    c.in_err-parse_clip-in-clip.ensures)
+
+pub returns-in_err-last_fill_rule-in-relate : goal.returns-in_err-last_fill_rule-in-relate
+returns-in_err-last_fill_rule-in-relate c =
+    let first : c.in_ok-next.field-0.now ≡ codes "relate" = search (rules, text_from_reads) in
+    let none : c.from_residual-in_err-last_fill_rule-in-relate.result ≡ None = search rules in
+    rw none (no_fill_named _ (words_left c.next.new.self) (codes "relate") (c.in_ok-next.ensures.steps
+    ∙ ap (λ w. w ∷ words_left c.next.new.self) first) (inr refl)
+    c.in_err-last_fill_rule-in-relate.ensures)

@@ -19,11 +19,19 @@ returns-in-Some-clip g c =
     sym c.new-words.ensures ∙ c.in-Some-clip.ensures.steps ∙ ap (λ w. w ∷ words_left c.next.new.self) first in
     rw line c.parse_contour.ensures
 
+pub returns-in-Some-line : goal.returns-in-Some-line
+returns-in-Some-line g c =
+    let first : c.in-Some-line.field-0.now ≡ codes "line" = search (rules, text_from_reads) in
+    let line : words c.args.line.now ≡ codes "line" ∷ words_left c.next.new.self =
+    sym c.new-words.ensures ∙ c.in-Some-line.ensures.steps ∙ ap (λ w. w ∷ words_left c.next.new.self) first in
+    rw line c.parse_open_path.ensures
+
 pub returns : goal.returns
 returns g c =
     let f = c.in-Some.field-0.now in
     let subject : f ≢ codes "subject" = search rules in
     let clip : f ≢ codes "clip" = search rules in
+    let lines : f ≢ codes "line" = search rules in
     let points : f ≢ codes "point" = search rules in
     let run : f ≢ codes "run" = search rules in
-    nothing_by_first_word _ f _ (sym c.new-words.ensures ∙ c.in-Some.ensures.steps) subject clip points run
+    nothing_by_first_word _ f _ (sym c.new-words.ensures ∙ c.in-Some.ensures.steps) subject clip lines points run

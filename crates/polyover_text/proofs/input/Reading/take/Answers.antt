@@ -2,9 +2,10 @@ use Rattle.std.proofs.Common.{refl, subst}
 use Rattle.std.proofs.lemmas.Result.{err_from_is_err_and}
 use Rattle.polyover_text.specs.Statements.{figures_at, IsFaultOf}
 use Rattle.polyover_text.proofs.GoodLines.{takes_blank, refuses_nothing}
-use Rattle.polyover_text.proofs.Readings.{refuses_after_command, takes_pushed, takes_point}
+use Rattle.polyover_text.proofs.Readings.{refuses_after_command, takes_pushed, takes_path, takes_point}
 use Rattle.polyover_text.proofs.input.Reading.take.Goals as goal
 use Rattle.polyover_text.proofs.input.Reading.take.Goals.{in_default-Some-via-in-Contour+in-Some}
+use Rattle.polyover_text.proofs.input.Reading.take.Goals.{in_default-Some-via-in-OpenPath+in-Some}
 use Rattle.polyover_text.proofs.input.Reading.take.Goals.{in_default-Some-via-in-Point+in-Some}
 use Rattle.polyover_text.proofs.input.Reading.take.Goals.{in_default-Some-via-in-Run+in-Some}
 
@@ -19,6 +20,9 @@ pub returns-in_default-Some : goal.returns-in_default-Some
 returns-in_default-Some g c =
     elim c.in_default-Some.branch [
       | in_default-Some-via-in-Contour+in-Some w ↦ λ e. refuses_after_command _ _ c.in_ok-parse_statement.field-0 _
+          c.in_ok-parse_statement.ensures
+          w.in_default-Some.not-Blank-0 w.in_default-Some.is-1
+      | in_default-Some-via-in-OpenPath+in-Some w ↦ λ e. refuses_after_command _ _ c.in_ok-parse_statement.field-0 _
           c.in_ok-parse_statement.ensures
           w.in_default-Some.not-Blank-0 w.in_default-Some.is-1
       | in_default-Some-via-in-Point+in-Some w ↦ λ e. refuses_after_command _ _ c.in_ok-parse_statement.field-0 _
@@ -50,4 +54,13 @@ returns-in_ok-push-in-Point-None g c =
       takes = λ ls e h. takes_point ls _ c.args.self.now.figures
           (record c.args.self.now.figures { points = c.push-in-Point-None.new.self }) _ _
           c.in-Point-None.is-1 refl c.in_ok-push-in-Point-None.ensures.items says h;
+    }
+
+pub returns-in_ok-push-in-OpenPath-None : goal.returns-in_ok-push-in-OpenPath-None
+returns-in_ok-push-in-OpenPath-None g c =
+    let says = rw c.in-OpenPath-None.is-0 at c.in_ok-parse_statement.ensures in
+    record {
+      takes = λ ls e h. takes_path ls _ c.args.self.now.figures
+          (record c.args.self.now.figures { lines = c.push-in-OpenPath-None.new.self }) _ _
+          c.in-OpenPath-None.is-1 refl c.in_ok-push-in-OpenPath-None.ensures.items says h;
     }
