@@ -1,4 +1,5 @@
 pub mod Descents
+pub mod EitherScans
 pub mod Forests
 pub mod HeldEdges
 pub mod Sides

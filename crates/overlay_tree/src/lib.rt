@@ -2,6 +2,7 @@
 #![tactic(auto)]
 
 mod descend;
+pub mod either;
 mod fresh;
 mod links;
 mod nodes;

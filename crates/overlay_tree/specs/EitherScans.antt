@@ -1,0 +1,24 @@
+-- What a scan of either kind is seen as.
+use Rattle.std.specs.Prelude.{ℕ, ℤ, Bool, true, false}
+use Rattle.overlay_scan.specs.Lists.{plain_sweep}
+use Rattle.overlay_scan.specs.Scan.{Sweep}
+use Rattle.overlay_tree.specs.HeldEdges.{held_sweep, IsQuick}
+use Rattle.overlay_tree.specs.declared.either.EitherScan.{EitherScan}
+use Rattle.overlay_tree.specs.declared.either.EitherScan.TheVariants.{List, Tree}
+
+-- the sweep that it stands for
+abbrev pub either_sweep : {I V A W U : Type 0} → (I → ℤ) → EitherScan I V A W U → Sweep V
+either_sweep whole (List s) = plain_sweep whole s
+either_sweep whole (Tree s) = held_sweep whole s
+
+-- it is a tree
+abbrev pub is_tree : {I V A W U : Type 0} → EitherScan I V A W U → Bool
+is_tree (List s) = false
+is_tree (Tree s) = true
+
+-- what was a list still is one; what was a tree still is one, and makes few visits for a call that puts in so many edges
+abbrev pub IsQuickAsTree : {I V A W U : Type 0} → EitherScan I V A W U → EitherScan I V A W U → ℕ → Type 0
+IsQuickAsTree (List s) (List t) put = Unit {0}
+IsQuickAsTree (List s) (Tree t) put = ⊥
+IsQuickAsTree (Tree s) (List t) put = ⊥
+IsQuickAsTree (Tree s) (Tree t) put = IsQuick s t put
