@@ -1,2 +1,3 @@
+pub mod ClosedWalks
 pub mod FilledSides
 pub mod Loops
