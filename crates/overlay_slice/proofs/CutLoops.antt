@@ -1,12 +1,12 @@
 -- What is walked so far, cut into loops: a loop is cut off where the walk comes back to a point, and what is left at the
 -- end is the last one.
 use Rattle.std.proofs.Common.{◌≡◌, ◌⊎◌, inl, inr, ⊎_elim, ℕ, zero, suc, ◌+◌, ◌<◌, ◌≤◌, Bool, true, false}
-use Rattle.std.proofs.Common.{List, [], ◌∷◌, ◌++◌, map, length, All, Contains, refl, sym, ap, ◌∙◌, subst, arith}
+use Rattle.std.proofs.Common.{List, [], ◌∷◌, ◌++◌, map, length, take, drop, All, Contains, refl, sym, ap, ◌∙◌, subst, arith}
 use Rattle.std.specs.List.{flat_map}
 use Rattle.std.specs.List.Sorted.{IsPermutation}
-use Rattle.std.proofs.lemmas.List.{append_assoc, append-nil, length-append, map-append}
+use Rattle.std.proofs.lemmas.List.{append_assoc, append-nil, length-append, map-append, take-append-drop, drop_more}
 use Rattle.std.proofs.lemmas.List.Concat.{flat_map-append}
-use Rattle.std.proofs.lemmas.List.Elements.{All-nil, All-cons, All-head, All-push, All-append, All-weaker}
+use Rattle.std.proofs.lemmas.List.Elements.{All-nil, All-cons, All-head, All-push, All-append, All-weaker, All-contains}
 use Rattle.std.proofs.lemmas.List.Elements.{Contains-append_left, Contains-append_right}
 use Rattle.std.proofs.lemmas.List.Sorted.{IsPermutation-refl, IsPermutation-trans, IsPermutation-append}
 use Rattle.std.proofs.lemmas.List.Sorted.{IsPermutation-append_left, IsPermutation-append_right}
@@ -16,25 +16,17 @@ use Rattle.overlay_geom.proofs.Entries.{Contains-head, Contains-later}
 use Rattle.overlay_geom.proofs.Orders.{point_eq-same, point_eq-of_same}
 use Rattle.overlay_plane.specs.Contours.{all_steps}
 use Rattle.overlay_plane.specs.Groups.{HasEachPointOnce, IsSimpleContour}
-use Rattle.overlay_plane.proofs.Entries.{All-first, All-rest, all_of_entries}
-use Rattle.overlay_plane.proofs.LaterEntries.{Contains-cases, Each, Each-push, Each-from_all_pairs, AllPairs-from_each}
+use Rattle.overlay_plane.specs.Turn.{no_step}
+use Rattle.overlay_plane.proofs.Entries.{All-first, All-rest, all_of_entries, Contains-map, Contains-from_map}
+use Rattle.overlay_plane.proofs.KeptWalks.{Each-first, Each-second, Each-across}
+use Rattle.overlay_plane.proofs.LaterEntries.{Each, Each-push, Each-from_all_pairs, AllPairs-from_each}
 use Rattle.overlay_plane.proofs.ShuffledPairs.{pairs_shuffled}
 use Rattle.overlay_slice.specs.ClosedWalks.{LeadsTo, IsClosedWalk, HasLength, HasEachBothWays, IsCutIntoLoops, IsCutSoFar}
-use Rattle.overlay_slice.proofs.ClosedWalks.{leads-append, leads-parts, leads-push, closed_is_simple}
+use Rattle.overlay_slice.specs.ClosedWalks.{NoneLeaves}
+use Rattle.overlay_walk.specs.Places.{step_at}
+use Rattle.overlay_slice.proofs.ClosedWalks.{leads-parts, leads-push, leads-begins, closed_is_simple}
 
 -- ---- lists
-
--- in a list in two parts each is in relation to the later ones of its part, and those of the first to those of the second
-each-parts : {X : Type 0} (R : X → X → Type 0) (xs ys : List X) → Each R (xs ++ ys) →
-    Each R xs × Each R ys × ((x y : X) → Contains xs x → Contains ys y → R x y)
-each-parts R [] ys h = (tt, h, λ x y c d. absurd (elim c.1 [ ]))
-each-parts {X} R (x ∷ xs) ys h =
-    let rest = each-parts R xs ys h.1 in (
-      ((λ z c. h.0 z (Contains-append_left xs ys z c)), rest.0),
-      rest.1,
-      λ a b c d. ⊎_elim (λ is. subst (λ u. R u b) is (h.0 b (Contains-append_right xs ys b d)))
-          (λ later. rest.2 a b later d) (Contains-cases x xs a c),
-    )
 
 -- the points of a walk in two parts
 points_in_parts : (xs ys : List Step) → HasEachPointOnce (points_of (xs ++ ys)) →
@@ -44,14 +36,14 @@ points_in_parts xs ys once = subst (Each (λ p q. point_eq p q ≡ false)) (map-
 
 points_once_first : (xs ys : List Step) → HasEachPointOnce (points_of (xs ++ ys)) → HasEachPointOnce (points_of xs)
 points_once_first xs ys once = AllPairs-from_each (λ p q. point_eq p q ≡ false) (points_of xs)
-    (each-parts (λ p q. point_eq p q ≡ false) (points_of xs) (points_of ys) (points_in_parts xs ys once)).0
+    (Each-first (λ p q. point_eq p q ≡ false) (points_of xs) (points_of ys) (points_in_parts xs ys once))
 
 points_once_rest : (xs ys : List Step) → HasEachPointOnce (points_of (xs ++ ys)) → HasEachPointOnce (points_of ys)
 points_once_rest xs ys once = AllPairs-from_each (λ p q. point_eq p q ≡ false) (points_of ys)
-    (each-parts (λ p q. point_eq p q ≡ false) (points_of xs) (points_of ys) (points_in_parts xs ys once)).1
+    (Each-second (λ p q. point_eq p q ≡ false) (points_of xs) (points_of ys) (points_in_parts xs ys once))
 
 -- the steps of one more loop
-all_steps-push : (loops : List (List Step)) (loop : List Step) → all_steps (loops ++ loop ∷ []) ≡ all_steps loops ++ loop
+pub all_steps-push : (loops : List (List Step)) (loop : List Step) → all_steps (loops ++ loop ∷ []) ≡ all_steps loops ++ loop
 all_steps-push loops loop = flat_map-append (λ (l : List Step). l) loops (loop ∷ [])
     ∙ ap (λ ss. all_steps loops ++ ss) (append-nil loop)
 
@@ -155,7 +147,7 @@ module _ (start v : Point) (walked xs ys : List Step) (loops : List (List Step))
 
 -- the walk goes on by a step from a point that it has not visited before
 pub cut_goes_on : (start : Point) (walked path : List Step) (loops : List (List Step)) (s : Step) → HasLength s →
-    IsCutSoFar start s.from walked path loops → ((p : Point) → Contains (points_of path) p → point_eq p s.from ≡ false) →
+    IsCutSoFar start s.from walked path loops → NoneLeaves s.from path →
     IsCutSoFar start s.to (walked ++ s ∷ []) (path ++ s ∷ []) loops
 cut_goes_on start walked path loops s long so_far new = record {
   dropped = so_far.dropped;
@@ -170,8 +162,13 @@ cut_goes_on start walked path loops s long so_far new = record {
   points_once = subst HasEachPointOnce (sym (map-append (λ (t : Step). t.from) path (s ∷ [])))
       (AllPairs-from_each (λ p q. point_eq p q ≡ false) (points_of path ++ s.from ∷ [])
       (Each-push (λ p q. point_eq p q ≡ false) (points_of path) s.from
-      (Each-from_all_pairs (λ p q. point_eq p q ≡ false) (points_of path) so_far.points_once) new));
+      (Each-from_all_pairs (λ p q. point_eq p q ≡ false) (points_of path) so_far.points_once) others));
 }
+  where
+    others : (p : Point) → Contains (points_of path) p → point_eq p s.from ≡ false
+    others p c = let own = Contains-from_map (λ (t : Step). t.from) path p c in
+        subst (λ q. point_eq q s.from ≡ false) own.2
+        (All-contains (λ t. point_eq t.from s.from ≡ false) path own.0 new own.1)
 
 -- the walk is at its end, back at its start, with nothing left on its path
 pub cut_ended : (start : Point) (walked : List Step) (loops : List (List Step)) →
@@ -182,3 +179,51 @@ cut_ended start walked loops so_far = record {
   both_ways = so_far.both_ways;
   simple = so_far.simple;
 }
+
+-- ---- at a place of the path
+
+module _ (start : Point) (walked path : List Step) (loops : List (List Step)) (k : ℕ) (within : k < length path)
+    (so_far : IsCutSoFar start (step_at path k).from walked path loops) where
+  -- the path in two parts, before the place and from it on
+  abbrev v : Point
+  v = (step_at path k).from
+
+  in_parts : IsCutSoFar start v walked (take k path ++ drop k path) loops
+  in_parts = subst (λ p. IsCutSoFar start v walked p loops) (sym (take-append-drop k path)) so_far
+
+  from_here : drop k path ≡ step_at path k ∷ drop (k + 1) path
+  from_here = drop_more path k no_step within
+
+  -- the first part leads to the point that the step there leaves, and the other one back to it
+  both_lead : LeadsTo start (take k path) v × LeadsTo v (drop k path) v
+  both_lead =
+      let parts = leads-parts start v (take k path) (drop k path) in_parts.leads in
+      let here = leads-begins parts.0 v (step_at path k) (drop (k + 1) path)
+      (subst (λ p. LeadsTo parts.0 p v) from_here parts.2) in
+      (subst (LeadsTo start (take k path)) here parts.1, subst (λ p. LeadsTo p (drop k path) v) here parts.2)
+
+  pub cut_short_at : length (drop k path) < 3 → IsCutSoFar start v walked (take k path) loops
+  cut_short_at short = cut_short start v walked (take k path) (drop k path) loops in_parts both_lead.0 both_lead.1 short
+
+  -- the loop, of which the step at the place stands last
+  pub cut_loop_at : 3 ≤ length (drop k path) → IsCutSoFar start v walked (take k path)
+      (loops ++ (drop 1 (drop k path) ++ take 1 (drop k path)) ∷ [])
+  cut_loop_at three = subst (λ (p : List Step). IsCutSoFar start v walked (take k path)
+      (loops ++ (drop 1 p ++ take 1 p) ∷ [])) (sym from_here)
+      (cut_loop start v walked (take k path) (drop k path) loops in_parts
+      (drop (k + 1) path ++ step_at path k ∷ []) (step_at path k).to
+      (subst (λ p. IsPermutation p (drop (k + 1) path ++ step_at path k ∷ [])) (sym from_here)
+      (IsPermutation-append_comm (step_at path k ∷ []) (drop (k + 1) path)))
+      (leads-push (step_at path k).to (drop (k + 1) path) (step_at path k)
+      (subst (λ p. LeadsTo v p v) from_here both_lead.1).1) both_lead.0
+      (let l = length-append (drop (k + 1) path) (step_at path k ∷ []) in
+      let m = ap length from_here in omega arith))
+
+  -- before the place no step leaves that point
+  pub none_before : NoneLeaves v (take k path)
+  none_before = all_of_entries (λ s. point_eq s.from v ≡ false) (take k path) (λ s c.
+      Each-across (λ p q. point_eq p q ≡ false) (points_of (take k path)) (points_of (drop k path))
+      (points_in_parts (take k path) (drop k path) in_parts.points_once) s.from v
+      (Contains-map (λ (t : Step). t.from) (take k path) s c)
+      (subst (λ (p : List Step). Contains (points_of p) v) (sym from_here)
+      (Contains-head v (points_of (drop (k + 1) path)))))

@@ -3,5 +3,7 @@ pub mod ClosedWalks
 pub mod CutLoops
 pub mod NextSides
 pub mod SideLists
+pub mod SideOnce
 pub mod SideSpokes
 pub mod SimpleLoops
+pub mod ToursCut

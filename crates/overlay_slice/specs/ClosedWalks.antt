@@ -1,9 +1,10 @@
 -- Walks from point to point, and the loops into which a closed one is cut at the points that it visits more than once.
-use Rattle.std.specs.Prelude.{◌≡◌, List, [], ◌∷◌, ◌++◌, All, Contains}
+use Rattle.std.specs.Prelude.{◌≡◌, ℕ, ◌<◌, false, List, [], ◌∷◌, ◌++◌, length, All, Contains, Option, None, Some}
 use Rattle.std.specs.List.Sorted.{IsPermutation}
-use Rattle.overlay_geom.specs.Plane.{Point, Step, points_of, reversed_step}
+use Rattle.overlay_geom.specs.Plane.{Point, Step, point_eq, points_of, reversed_step}
 use Rattle.overlay_plane.specs.Contours.{all_steps}
 use Rattle.overlay_plane.specs.Groups.{HasEachPointOnce, IsSimpleContour}
+use Rattle.overlay_walk.specs.Places.{step_at}
 
 -- the steps lead from p to q: the first one begins in p, each other where the one before it ends, and the last ends in q
 abbrev pub LeadsTo : Point → List Step → Point → Type 0
@@ -43,3 +44,12 @@ pub record IsCutSoFar (start reached : Point) (walked path : List Step) (loops :
   pub leads : LeadsTo start path reached
   pub long : All HasLength path
   pub points_once : HasEachPointOnce (points_of path)
+
+-- none of the steps begins in the point
+abbrev pub NoneLeaves : Point → List Step → Type 0
+NoneLeaves v steps = All (λ s. point_eq s.from v ≡ false) steps
+
+-- the place of a step that begins in the point, or that there is none
+abbrev pub IsPlaceLeft : List Step → Point → Option ℕ → Type 0
+IsPlaceLeft steps v None = NoneLeaves v steps
+IsPlaceLeft steps v (Some k) = (k < length steps) × ((step_at steps k).from ≡ v)

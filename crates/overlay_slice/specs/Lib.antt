@@ -1,3 +1,4 @@
 pub mod ClosedWalks
 pub mod FilledSides
 pub mod Loops
+pub mod Tours

@@ -2,4 +2,5 @@
 //! loops make.
 #![tactic(auto)]
 
+pub mod cutter;
 pub mod filled_sides;
