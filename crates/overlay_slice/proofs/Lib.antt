@@ -4,6 +4,9 @@ pub mod CutLoops
 pub mod NextSides
 pub mod SideLists
 pub mod SideOnce
+pub mod SideOrbits
 pub mod SideSpokes
 pub mod SimpleLoops
+pub mod StepCounts
+pub mod Tours
 pub mod ToursCut

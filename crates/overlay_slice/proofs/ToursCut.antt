@@ -43,7 +43,7 @@ none_cut = record {
 }
 
 -- a walk more among which one passes steps
-more_walks : (walks : List (List Step)) (walk steps : List Step) → ArePassedByOne walks steps →
+pub more_walks : (walks : List (List Step)) (walk steps : List Step) → ArePassedByOne walks steps →
     ArePassedByOne (walks ++ walk ∷ []) steps
 more_walks walks walk steps by = record {
   walk = by.walk;

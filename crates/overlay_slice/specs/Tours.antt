@@ -57,3 +57,17 @@ ToursMakeLoops = (fills : ℤ → Bool) (count : CountedEdge → ℤ) (es : List
     IsBalancedArrangement count es → (tours loops : List (List Step)) →
     AreTours (filled_sides fills count es) tours → AreCutIntoLoops tours loops →
     AreLoops (filled_sides fills count es) loops
+
+-- ---- orbits as tours
+
+-- the walks are split into the tours: each leads back to where it begins and is of one walk, and each step of the walks
+-- stands in one tour
+pub record AreSplitIntoTours (walks tours : List (List Step)) : Type 0 where
+  pub each_once : IsPermutation (all_steps walks) (all_steps tours)
+  pub closed : All IsClosedWalk tours
+  pub of_one : All (ArePassedByOne walks) tours
+
+-- the tours of orbits of the sides are tours of the sides
+abbrev pub OrbitsMakeTours : Type 0
+OrbitsMakeTours = (sides : List Step) (orbits tours : List (List Step)) → AreOrbits sides orbits →
+    AreSplitIntoTours orbits tours → AreTours sides tours
