@@ -1,4 +1,5 @@
 pub mod AlongSides
+pub mod BoundLoops
 pub mod ClosedWalks
 pub mod CutLoops
 pub mod NextSides

@@ -1,3 +1,4 @@
+pub mod Bound
 pub mod ClosedWalks
 pub mod FilledSides
 pub mod Loops
