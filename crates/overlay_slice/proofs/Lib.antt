@@ -11,3 +11,4 @@ pub mod SimpleLoops
 pub mod StepCounts
 pub mod Tours
 pub mod ToursCut
+pub mod TurnedLoops

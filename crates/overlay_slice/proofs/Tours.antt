@@ -9,9 +9,10 @@ use Rattle.std.proofs.lemmas.List.Elements.{Contains-append_left}
 use Rattle.std.proofs.lemmas.List.Sorted.{IsPermutation-refl, IsPermutation-trans, IsPermutation-append, IsPermutation-sym}
 use Rattle.std.proofs.lemmas.List.Sorted.{All-permutation, Contains-permutation}
 use Rattle.overlay_geom.specs.Plane.{Point, Step}
-use Rattle.overlay_plane.specs.Contours.{all_steps}
+use Rattle.overlay_plane.specs.Contours.{all_steps, IsContour}
 use Rattle.overlay_plane.specs.Turn.{Hand, step_round, no_step, IsOrbit}
 use Rattle.overlay_plane.specs.Turn.Hand.{left}
+use Rattle.overlay_plane.proofs.ContourSteps.{some_step}
 use Rattle.overlay_plane.proofs.Entries.{all_of_entries, Contains-flat_map}
 use Rattle.overlay_plane.proofs.ItemsRound.{item_round-here, item_round-whole}
 use Rattle.overlay_plane.proofs.OrbitSteps.{goes_on_round}
@@ -34,9 +35,11 @@ leads_by_places s (t ∷ ts) q on end = (
   leads_by_places t ts q (λ k h. on (suc k) (omega arith)) end,
 )
 
-pub orbit_closed : (steps : List Step) (hand : Hand) (walk : List Step) → IsOrbit steps hand walk → IsClosedWalk walk
-orbit_closed steps hand [] orbit = absurd (let some = orbit.some in omega arith)
-orbit_closed steps hand (s ∷ ss) orbit = record {
+-- a walk in which the step after each begins where it ends, round and round, leads back to where it begins
+pub closed_round : (walk : List Step) → 0 < length walk →
+    ((k : ℕ) → (step_round walk (suc k)).from ≡ (step_round walk k).to) → IsClosedWalk walk
+closed_round [] some leads = absurd (omega arith)
+closed_round (s ∷ ss) some leads = record {
   start = s.from;
   leads_back = (refl, leads_by_places s ss s.from on end);
 }
@@ -44,16 +47,23 @@ orbit_closed steps hand (s ∷ ss) orbit = record {
     at : (k : ℕ) → k < length (s ∷ ss) → step_round (s ∷ ss) k ≡ get_or (s ∷ ss) k no_step
     at k h = item_round-here (s ∷ ss) no_step k h
 
-    leads : (k : ℕ) → (step_round (s ∷ ss) k).to ≡ (step_round (s ∷ ss) (suc k)).from
-    leads k = sym (goes_on_round steps hand (s ∷ ss) orbit k).leaves
-
     on : (k : ℕ) → k < length ss → (get_or (s ∷ ss) k no_step).to ≡ (get_or ss k no_step).from
-    on k h = ap (λ (t : Step). t.to) (sym (at k (omega arith))) ∙ leads k
+    on k h = ap (λ (t : Step). t.to) (sym (at k (omega arith))) ∙ sym (leads k)
         ∙ ap (λ (t : Step). t.from) (at (suc k) (omega arith))
 
     end : (get_or (s ∷ ss) (length ss) no_step).to ≡ s.from
-    end = ap (λ (t : Step). t.to) (sym (at (length ss) (omega arith))) ∙ leads (length ss)
+    end = ap (λ (t : Step). t.to) (sym (at (length ss) (omega arith))) ∙ sym (leads (length ss))
         ∙ ap (λ (t : Step). t.from) (item_round-whole (s ∷ ss) no_step ∙ at 0 (omega arith))
+
+-- so an orbit does
+pub orbit_closed : (steps : List Step) (hand : Hand) (walk : List Step) → IsOrbit steps hand walk → IsClosedWalk walk
+orbit_closed steps hand walk orbit = closed_round walk orbit.some (λ k. (goes_on_round steps hand walk orbit k).leaves)
+
+-- and a contour
+pub contour_closed : (walk : List Step) → IsContour walk → IsClosedWalk walk
+contour_closed walk contour = closed_round walk (some_step walk contour)
+    (λ k. let one_more : suc k ≡ k + 1 = omega arith in
+    ap (λ j. (step_round walk j).from) one_more ∙ contour.leads_on k)
 
 -- ---- one walk after the other
 

@@ -1,7 +1,8 @@
 -- Walks from point to point, and the loops into which a closed one is cut at the points that it visits more than once.
-use Rattle.std.specs.Prelude.{◌≡◌, ℕ, ◌<◌, false, List, [], ◌∷◌, ◌++◌, length, All, Contains, Option, None, Some}
+use Rattle.std.specs.Prelude.{◌≡◌, ℕ, ◌<◌, false, List, [], ◌∷◌, ◌++◌, length, take, drop, All, Contains}
+use Rattle.std.specs.Prelude.{Option, None, Some}
 use Rattle.std.specs.List.Sorted.{IsPermutation}
-use Rattle.overlay_geom.specs.Plane.{Point, Step, point_eq, points_of, reversed_step}
+use Rattle.overlay_geom.specs.Plane.{Point, Step, point_eq, points_of, reversed_step, backward}
 use Rattle.overlay_plane.specs.Contours.{all_steps}
 use Rattle.overlay_plane.specs.Groups.{HasEachPointOnce, IsSimpleContour}
 use Rattle.overlay_walk.specs.Places.{step_at}
@@ -31,6 +32,11 @@ pub record IsCutIntoLoops (walk : List Step) (loops : List (List Step)) : Type 0
   pub each_once : IsPermutation walk (all_steps loops ++ dropped)
   pub both_ways : HasEachBothWays dropped
   pub simple : All IsSimpleContour loops
+
+-- the same loop passed back, begun a step later: the point at which it begins is the last one that it visited, and so the
+-- points are the same in the opposite order
+abbrev pub turned_loop : List Step → List Step
+turned_loop loop = drop 1 (backward loop) ++ take 1 (backward loop)
 
 -- ---- on the way
 
