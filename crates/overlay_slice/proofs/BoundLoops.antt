@@ -7,7 +7,6 @@ use Rattle.std.proofs.lemmas.List.{map-append}
 use Rattle.std.proofs.lemmas.List.Elements.{filter-append, All-filter, All-weaker, All-contains}
 use Rattle.overlay_geom.specs.Plane.{Step, Edge, point_eq, edge_of, edge_eq, step_eq, is_forward, reversed_step}
 use Rattle.overlay_geom.specs.Edges.{CountedEdge}
-use Rattle.overlay_geom.specs.Settled.{IsSettledBy}
 use Rattle.overlay_geom.proofs.Orders.{point_eq-same}
 use Rattle.overlay_plane.specs.Anchors.{HasEachEdgeOnce}
 use Rattle.overlay_plane.specs.Binding.{all_filled_above, filled_above_edges}
@@ -15,10 +14,10 @@ use Rattle.overlay_plane.specs.Contours.{all_steps, is_filled_above, IsContour}
 use Rattle.overlay_plane.specs.Groups.{IsSimpleContour}
 use Rattle.overlay_plane.specs.KeptContours.{CanBeBound}
 use Rattle.overlay_plane.specs.Nodes.{IsBalancedArrangement}
-use Rattle.overlay_plane.specs.Turn.{Hand, other_hand}
+use Rattle.overlay_plane.specs.Turn.{Hand}
 use Rattle.overlay_plane.specs.Turn.Hand.{left, right}
 use Rattle.overlay_plane.proofs.AtNodes.{equal_steps}
-use Rattle.overlay_plane.proofs.Entries.{all_of_entries, Contains-from_filter}
+use Rattle.overlay_plane.proofs.Entries.{Contains-from_filter}
 use Rattle.overlay_plane.proofs.KeptWalks.{step_of_kept, kept_in_relation}
 use Rattle.overlay_plane.proofs.LaterEntries.{Each, Each-weaker, Each-map, Each-filter}
 use Rattle.overlay_plane.proofs.LaterEntries.{Each-from_all_pairs, AllPairs-from_each}

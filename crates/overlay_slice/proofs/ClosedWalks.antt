@@ -1,22 +1,18 @@
 -- Walks from point to point: parts of them, longer ones, and closed ones as contours.
-use Rattle.std.proofs.Common.{◌≡◌, ◌⊎◌, inl, inr, ⊎_elim, ℕ, zero, suc, ◌+◌, ◌%◌, ◌<◌, ◌≤◌, Bool, true, false, cond}
-use Rattle.std.proofs.Common.{List, [], ◌∷◌, ◌++◌, map, length, get_or, take, drop, All, Contains, AllPairs}
+use Rattle.std.proofs.Common.{◌≡◌, ⊎_elim, ℕ, zero, suc, ◌+◌, ◌%◌, ◌<◌, ◌≤◌, Bool, true, false, cond}
+use Rattle.std.proofs.Common.{List, [], ◌∷◌, ◌++◌, map, length, get_or, All}
 use Rattle.std.proofs.Common.{refl, sym, ap, ap₂, ◌∙◌, subst, arith}
 use Rattle.std.proofs.lemmas.Bool.{cases_lt, and_left}
 use Rattle.std.proofs.lemmas.List.{get_or-map, length-map}
 use Rattle.std.proofs.lemmas.Nat.{mod_below}
-use Rattle.std.proofs.lemmas.List.Elements.{All-head, All-tail, Contains-append_left, Contains-append_right}
-use Rattle.overlay_geom.specs.Plane.{Point, Step, point_eq, step_eq, steps_between, steps_through, steps_of, points_of}
-use Rattle.overlay_geom.proofs.Entries.{Contains-head}
-use Rattle.overlay_geom.proofs.Orders.{point_eq-same, point_eq-of_same}
+use Rattle.std.proofs.lemmas.List.Elements.{All-head, All-tail}
+use Rattle.overlay_geom.specs.Plane.{Point, Step, point_eq, steps_between, steps_through, steps_of, points_of}
+use Rattle.overlay_geom.proofs.Orders.{point_eq-same}
 use Rattle.overlay_plane.specs.BesideOrbits.{HasEachOnce}
-use Rattle.overlay_plane.specs.Contours.{IsContour}
 use Rattle.overlay_plane.specs.Groups.{HasEachPointOnce, IsSimpleContour}
 use Rattle.overlay_plane.specs.Turn.{step_round, no_step}
-use Rattle.overlay_plane.proofs.AtNodes.{same_steps}
 use Rattle.overlay_plane.proofs.ItemsRound.{item_round-here, item_round-whole, item_round-within, item_round-next}
-use Rattle.overlay_plane.proofs.LaterEntries.{Contains-cases, Each, Each-from_all_pairs, AllPairs-from_each}
-use Rattle.overlay_slice.specs.ClosedWalks.{LeadsTo, IsClosedWalk, HasLength}
+use Rattle.overlay_slice.specs.ClosedWalks.{LeadsTo, HasLength}
 
 -- ---- parts
 

@@ -1,14 +1,13 @@
 -- What is walked so far, cut into loops: a loop is cut off where the walk comes back to a point, and what is left at the
 -- end is the last one.
-use Rattle.std.proofs.Common.{◌≡◌, ◌⊎◌, inl, inr, ⊎_elim, ℕ, zero, suc, ◌+◌, ◌<◌, ◌≤◌, Bool, true, false}
-use Rattle.std.proofs.Common.{List, [], ◌∷◌, ◌++◌, map, length, take, drop, All, Contains, refl, sym, ap, ◌∙◌, subst, arith}
-use Rattle.std.specs.List.{flat_map}
+use Rattle.std.proofs.Common.{◌≡◌, ℕ, ◌+◌, ◌<◌, ◌≤◌, false}
+use Rattle.std.proofs.Common.{List, [], ◌∷◌, ◌++◌, length, take, drop, All, Contains, refl, sym, ap, ◌∙◌, subst, arith}
 use Rattle.std.specs.List.Sorted.{IsPermutation}
 use Rattle.std.proofs.lemmas.List.{append_assoc, append-nil, length-append, map-append, take-append-drop, drop_more}
 use Rattle.std.proofs.lemmas.List.Concat.{flat_map-append}
 use Rattle.std.proofs.lemmas.List.Elements.{All-nil, All-cons, All-head, All-push, All-append, All-weaker, All-contains}
 use Rattle.std.proofs.lemmas.List.Elements.{Contains-append_left, Contains-append_right}
-use Rattle.std.proofs.lemmas.List.Sorted.{IsPermutation-refl, IsPermutation-trans, IsPermutation-append}
+use Rattle.std.proofs.lemmas.List.Sorted.{IsPermutation-refl, IsPermutation-trans}
 use Rattle.std.proofs.lemmas.List.Sorted.{IsPermutation-append_left, IsPermutation-append_right}
 use Rattle.std.proofs.lemmas.List.Sorted.{IsPermutation-append_comm, IsPermutation-map, All-permutation}
 use Rattle.overlay_geom.specs.Plane.{Point, Step, point_eq, points_of, reversed_step}
@@ -21,7 +20,7 @@ use Rattle.overlay_plane.proofs.Entries.{All-first, All-rest, all_of_entries, Co
 use Rattle.overlay_plane.proofs.KeptWalks.{Each-first, Each-second, Each-across}
 use Rattle.overlay_plane.proofs.LaterEntries.{Each, Each-push, Each-from_all_pairs, AllPairs-from_each}
 use Rattle.overlay_plane.proofs.ShuffledPairs.{pairs_shuffled}
-use Rattle.overlay_slice.specs.ClosedWalks.{LeadsTo, IsClosedWalk, HasLength, HasEachBothWays, IsCutIntoLoops, IsCutSoFar}
+use Rattle.overlay_slice.specs.ClosedWalks.{LeadsTo, HasLength, HasEachBothWays, IsCutIntoLoops, IsCutSoFar}
 use Rattle.overlay_slice.specs.ClosedWalks.{NoneLeaves}
 use Rattle.overlay_walk.specs.Places.{step_at}
 use Rattle.overlay_slice.proofs.ClosedWalks.{leads-parts, leads-push, leads-begins, closed_is_simple}
@@ -227,3 +226,16 @@ module _ (start : Point) (walked path : List Step) (loops : List (List Step)) (k
       (Contains-map (λ (t : Step). t.from) (take k path) s c)
       (subst (λ (p : List Step). Contains (points_of p) v) (sym from_here)
       (Contains-head v (points_of (drop (k + 1) path)))))
+
+-- ---- at the end
+
+module _ (start : Point) (walked path : List Step) (loops : List (List Step))
+    (so_far : IsCutSoFar start start walked path loops) where
+  -- what is left is dropped, where it is short, and else the last loop
+  pub short_ended : length path < 3 → IsCutIntoLoops walked loops
+  short_ended short = cut_ended start walked loops
+      (cut_short start start walked [] path loops so_far refl so_far.leads short)
+
+  pub loop_ended : 3 ≤ length path → IsCutIntoLoops walked (loops ++ path ∷ [])
+  loop_ended three = cut_ended start walked (loops ++ path ∷ [])
+      (cut_loop start start walked [] path loops so_far path start (IsPermutation-refl path) so_far.leads refl three)

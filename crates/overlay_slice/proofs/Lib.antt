@@ -2,6 +2,7 @@ pub mod AlongSides
 pub mod BoundLoops
 pub mod ClosedWalks
 pub mod CutLoops
+pub mod CutPlaces
 pub mod NextSides
 pub mod SideLists
 pub mod SideOnce

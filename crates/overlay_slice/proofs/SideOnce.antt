@@ -1,6 +1,6 @@
 -- No step stands twice among the filled sides, and each leads from one point to another.
-use Rattle.std.proofs.Common.{◌≡◌, inl, inr, ⊎_elim, Bool, true, false, cond, ℤ, List, [], ◌∷◌, ◌++◌, All, Contains}
-use Rattle.std.proofs.Common.{refl, sym, ap, ◌∙◌, subst}
+use Rattle.std.proofs.Common.{◌≡◌, ⊎_elim, Bool, true, false, cond, ℤ, List, [], ◌∷◌, ◌++◌, All, Contains}
+use Rattle.std.proofs.Common.{sym, ap, ◌∙◌, subst}
 use Rattle.std.specs.List.{flat_map}
 use Rattle.std.proofs.lemmas.Bool.{both_ways, false_from_ne_true}
 use Rattle.std.proofs.lemmas.List.Elements.{Contains-append_cases}
@@ -11,13 +11,12 @@ use Rattle.overlay_geom.proofs.Orders.{edge_eq-from_ends}
 use Rattle.overlay_plane.specs.BesideOrbits.{HasEachOnce}
 use Rattle.overlay_plane.specs.Nodes.{IsBalancedArrangement}
 use Rattle.overlay_plane.specs.SelectedSteps.{step_with_left}
-use Rattle.overlay_plane.specs.Turn.Hand.{left}
 use Rattle.overlay_plane.proofs.AtNodes.{same_steps}
 use Rattle.overlay_plane.proofs.Entries.{all_of_entries, Contains-from_flat_map}
 use Rattle.overlay_plane.proofs.LaterEntries.{Each, Each-from_all_pairs, AllPairs-from_each}
 use Rattle.overlay_plane.proofs.ShuffledSteps.{Differ}
 use Rattle.overlay_slice.specs.ClosedWalks.{HasLength}
-use Rattle.overlay_slice.specs.FilledSides.{sides_of, filled_sides, IsFilledSide}
+use Rattle.overlay_slice.specs.FilledSides.{sides_of, filled_sides}
 use Rattle.overlay_slice.proofs.SideLists.{sides_listed, listed_edge}
 use Rattle.overlay_slice.proofs.SideSpokes.{ends_apart, long}
 

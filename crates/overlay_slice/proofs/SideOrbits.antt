@@ -1,12 +1,11 @@
 -- The filled sides, in whichever order they stand, are cut into their orbits.
-use Rattle.std.proofs.Common.{◌≡◌, Bool, ℤ, List, All, Contains, refl, subst}
+use Rattle.std.proofs.Common.{Bool, ℤ, List, refl}
 use Rattle.std.specs.List.Sorted.{IsPermutation}
 use Rattle.std.proofs.lemmas.List.Sorted.{IsPermutation-trans}
 use Rattle.overlay_geom.specs.Plane.{Step}
 use Rattle.overlay_geom.specs.Edges.{CountedEdge}
 use Rattle.overlay_plane.specs.BesideOrbits.{HasEachOnce}
 use Rattle.overlay_plane.specs.Contours.{CanBeCut, by_one_hand, IsCutInto, all_steps}
-use Rattle.overlay_plane.specs.NextSteps.{LeadsOn}
 use Rattle.overlay_plane.specs.Nodes.{IsBalancedArrangement}
 use Rattle.overlay_plane.specs.Turn.{IsOrbit}
 use Rattle.overlay_plane.specs.Turn.Hand.{left}

@@ -1,11 +1,10 @@
 -- Orbits lead back to where they begin; walks that do are split into tours, one after the other; and the tours of orbits
 -- are tours of the sides.
-use Rattle.std.proofs.Common.{◌≡◌, ℕ, zero, suc, ◌+◌, ◌<◌, List, [], ◌∷◌, ◌++◌, length, get_or, All, Contains, refl, sym, ap}
+use Rattle.std.proofs.Common.{◌≡◌, ℕ, suc, ◌+◌, ◌<◌, List, [], ◌∷◌, ◌++◌, length, get_or, All, Contains, refl, sym, ap}
 use Rattle.std.proofs.Common.{◌∙◌, subst, arith}
 use Rattle.std.specs.List.Sorted.{IsPermutation}
 use Rattle.std.proofs.lemmas.List.Concat.{flat_map-append}
 use Rattle.std.proofs.lemmas.List.Elements.{All-nil, All-append, All-weaker, All-contains, Contains-push}
-use Rattle.std.proofs.lemmas.List.Elements.{Contains-append_left}
 use Rattle.std.proofs.lemmas.List.Sorted.{IsPermutation-refl, IsPermutation-trans, IsPermutation-append, IsPermutation-sym}
 use Rattle.std.proofs.lemmas.List.Sorted.{All-permutation, Contains-permutation}
 use Rattle.overlay_geom.specs.Plane.{Point, Step}
@@ -17,7 +16,7 @@ use Rattle.overlay_plane.proofs.Entries.{all_of_entries, Contains-flat_map}
 use Rattle.overlay_plane.proofs.ItemsRound.{item_round-here, item_round-whole}
 use Rattle.overlay_plane.proofs.OrbitSteps.{goes_on_round}
 use Rattle.overlay_slice.specs.ClosedWalks.{LeadsTo, IsClosedWalk}
-use Rattle.overlay_slice.specs.Tours.{AreOrbits, AreTours, LiesInOneOrbit, ArePassedByOne, AreSplitIntoTours}
+use Rattle.overlay_slice.specs.Tours.{LiesInOneOrbit, ArePassedByOne, AreSplitIntoTours}
 use Rattle.overlay_slice.specs.Tours.{OrbitsMakeTours}
 use Rattle.overlay_slice.proofs.CutLoops.{all_steps-push}
 use Rattle.overlay_slice.proofs.StepCounts.{all_steps_shuffled}

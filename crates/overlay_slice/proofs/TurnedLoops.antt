@@ -1,10 +1,10 @@
 -- A walk and the walk back: what the walk back is cut into, turned round, is what the walk is cut into.
-use Rattle.std.proofs.Common.{◌≡◌, ◌+◌, ◌<◌, ◌≤◌, List, [], ◌∷◌, ◌++◌, map, reverse, length, take, drop, All, Contains}
+use Rattle.std.proofs.Common.{◌≡◌, List, [], ◌∷◌, ◌++◌, map, take, drop, All, Contains}
 use Rattle.std.proofs.Common.{refl, sym, ap, ◌∙◌, subst, arith}
 use Rattle.std.specs.List.Sorted.{IsPermutation}
 use Rattle.std.proofs.lemmas.List.{map-append, length-map, reverse-append, take-append-drop}
-use Rattle.std.proofs.lemmas.List.Elements.{All-map, All-weaker, All-contains}
-use Rattle.std.proofs.lemmas.List.Sorted.{IsPermutation-refl, IsPermutation-sym, IsPermutation-trans, IsPermutation-map}
+use Rattle.std.proofs.lemmas.List.Elements.{All-map, All-weaker}
+use Rattle.std.proofs.lemmas.List.Sorted.{IsPermutation-refl, IsPermutation-trans, IsPermutation-map}
 use Rattle.std.proofs.lemmas.List.Sorted.{IsPermutation-append, IsPermutation-append_comm, IsPermutation-reverse}
 use Rattle.std.proofs.lemmas.List.Sorted.{length_permutation, All-permutation}
 use Rattle.std.proofs.lemmas.Simd.{map-map}
@@ -15,7 +15,7 @@ use Rattle.overlay_plane.specs.Groups.{HasEachPointOnce, IsSimpleContour}
 use Rattle.overlay_plane.proofs.ContourSteps.{contour_long}
 use Rattle.overlay_plane.proofs.Entries.{all_of_entries, Contains-map}
 use Rattle.overlay_plane.proofs.ShuffledPairs.{pairs_shuffled}
-use Rattle.overlay_slice.specs.ClosedWalks.{LeadsTo, IsClosedWalk, HasLength, HasEachBothWays, IsCutIntoLoops}
+use Rattle.overlay_slice.specs.ClosedWalks.{LeadsTo, IsClosedWalk, HasLength, IsCutIntoLoops}
 use Rattle.overlay_slice.specs.ClosedWalks.{turned_loop}
 use Rattle.overlay_slice.proofs.ClosedWalks.{leads-append, leads-parts, leads-push, closed_is_simple}
 use Rattle.overlay_slice.proofs.Tours.{contour_closed}

@@ -83,10 +83,11 @@ impl<I: IntNumber, A: Allocator + Clone> LoopCutter<I, A> {
             × NoneLeaves (plain_point I.whole point) (plain_steps I.whole self.new.path.items)) }
         ensures err { IsOkUnless result OverlayError.Memory }
     {
-        match place_left(&self.path, point) {
-            Some(place) => self.cut_from(place),
-            None => Ok(()),
-        }
+        let Some(place) = place_left(&self.path, point) else {
+            return Ok(());
+        };
+        self.cut_from(place)?;
+        Ok(())
     }
 
     // Cuts off the path from a place on, which leads back to the point that the step there leaves.
@@ -117,9 +118,10 @@ impl<I: IntNumber, A: Allocator + Clone> LoopCutter<I, A> {
         ensures err { IsOkUnless result OverlayError.Memory }
     {
         let LoopCutter { path, mut loops } = self;
-        if path.len() >= 3 {
-            loops.push(path)?;
+        if path.len() < 3 {
+            return Ok(loops);
         }
+        loops.push(path)?;
         Ok(loops)
     }
 }
