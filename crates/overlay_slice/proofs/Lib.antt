@@ -3,13 +3,16 @@ pub mod BoundLoops
 pub mod ClosedWalks
 pub mod CutLoops
 pub mod CutPlaces
+pub mod LoopsFound
 pub mod NextSides
+pub mod OrbitTours
 pub mod SideLists
 pub mod SideOnce
 pub mod SideOrbits
 pub mod SideSpokes
+pub mod SidesByBits
 pub mod SimpleLoops
 pub mod StepCounts
-pub mod Tours
 pub mod ToursCut
+pub mod TourSplits
 pub mod TurnedLoops

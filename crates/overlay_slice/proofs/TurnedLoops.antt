@@ -18,7 +18,7 @@ use Rattle.overlay_plane.proofs.ShuffledPairs.{pairs_shuffled}
 use Rattle.overlay_slice.specs.ClosedWalks.{LeadsTo, IsClosedWalk, HasLength, IsCutIntoLoops}
 use Rattle.overlay_slice.specs.ClosedWalks.{turned_loop}
 use Rattle.overlay_slice.proofs.ClosedWalks.{leads-append, leads-parts, leads-push, closed_is_simple}
-use Rattle.overlay_slice.proofs.Tours.{contour_closed}
+use Rattle.overlay_slice.proofs.OrbitTours.{contour_closed}
 
 -- ---- the walk back
 

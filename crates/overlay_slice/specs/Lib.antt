@@ -2,4 +2,5 @@ pub mod Bound
 pub mod ClosedWalks
 pub mod FilledSides
 pub mod Loops
+pub mod SidesByBits
 pub mod Tours

@@ -1,14 +1,14 @@
 -- Orbits of filled sides, the closed walks of which they consist, and the loops into which all of those are cut.
-use Rattle.std.specs.Prelude.{Bool, ℤ, List, ◌++◌, All, Contains}
+use Rattle.std.specs.Prelude.{◌≡◌, Bool, ℤ, List, [], ◌++◌, All, Contains}
 use Rattle.std.specs.List.Sorted.{IsPermutation}
-use Rattle.overlay_geom.specs.Plane.{Step, reversed_step}
+use Rattle.overlay_geom.specs.Plane.{Point, Step, reversed_step}
 use Rattle.overlay_geom.specs.Edges.{CountedEdge}
 use Rattle.overlay_plane.specs.Contours.{all_steps}
 use Rattle.overlay_plane.specs.Groups.{IsSimpleContour}
 use Rattle.overlay_plane.specs.Nodes.{IsBalancedArrangement}
 use Rattle.overlay_plane.specs.Turn.{IsOrbit}
 use Rattle.overlay_plane.specs.Turn.Hand.{left}
-use Rattle.overlay_slice.specs.ClosedWalks.{IsClosedWalk}
+use Rattle.overlay_slice.specs.ClosedWalks.{LeadsTo, IsClosedWalk}
 use Rattle.overlay_slice.specs.FilledSides.{filled_sides, IsInOneOrbit}
 use Rattle.overlay_slice.specs.Loops.{AreLoops}
 
@@ -71,3 +71,18 @@ pub record AreSplitIntoTours (walks tours : List (List Step)) : Type 0 where
 abbrev pub OrbitsMakeTours : Type 0
 OrbitsMakeTours = (sides : List Step) (orbits tours : List (List Step)) → AreOrbits sides orbits →
     AreSplitIntoTours orbits tours → AreTours sides tours
+
+-- ---- a closed walk, split
+
+-- one walk is split into tours
+pub record IsSplitInto (walk : List Step) (tours : List (List Step)) : Type 0 where
+  pub each_once : IsPermutation walk (all_steps tours)
+  pub closed : All IsClosedWalk tours
+
+-- what is walked from the start to the point reached is split into the tours, but for the one under way, which is none
+-- where the point reached is the start
+pub record IsSplitSoFar (start reached : Point) (walked tour : List Step) (tours : List (List Step)) : Type 0 where
+  pub steps : all_steps tours ++ tour ≡ walked
+  pub closed : All IsClosedWalk tours
+  pub leads : LeadsTo start tour reached
+  pub at_start : reached ≡ start → tour ≡ []

@@ -4,3 +4,8 @@
 
 pub mod cutter;
 pub mod filled_sides;
+pub mod loops;
+pub mod orbits;
+mod sides;
+mod tour_order;
+pub mod tours;
