@@ -77,6 +77,18 @@ module _ (fills : ℤ → Bool) (count : CountedEdge → ℤ) (es : List Counted
         (sym (ap fills left_of_back) ∙ sym (ap (λ t. fills (winding_on_side left count es e t)) back) ∙ filled))))
         along.walks
 
+    -- and have its ends
+    pub listed_edge : (s : Step) → Contains (sides_of fills count es e) s → edge_of s ≡ ends_of e
+    listed_edge s c = ⊎_elim
+        (λ up. sym (ap edge_of (entry_if (fills (winding_above count es e)) (step_with_left true (ends_of e)) s up).1)
+        ∙ along_edge (ends_of e) (forward_entry count es arranged e at) true)
+        (λ down. sym (ap edge_of
+        (entry_if (fills (winding_below count es e)) (step_with_left false (ends_of e)) s down).1)
+        ∙ along_edge (ends_of e) (forward_entry count es arranged e at) false)
+        (Contains-append_cases
+        (cond (fills (winding_above count es e)) (step_with_left true (ends_of e) ∷ []) [])
+        (cond (fills (winding_below count es e)) (step_with_left false (ends_of e) ∷ []) []) s c)
+
   -- so the list has the filled sides
   pub sides_listed : AreFilledSides fills count es left (filled_sides fills count es)
   sides_listed = record {

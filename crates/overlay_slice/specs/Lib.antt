@@ -1,2 +1,6 @@
+pub mod Bound
+pub mod ClosedWalks
 pub mod FilledSides
 pub mod Loops
+pub mod SidesByBits
+pub mod Tours

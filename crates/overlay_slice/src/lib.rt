@@ -2,4 +2,10 @@
 //! loops make.
 #![tactic(auto)]
 
+pub mod cutter;
 pub mod filled_sides;
+pub mod loops;
+pub mod orbits;
+mod sides;
+mod tour_order;
+pub mod tours;

@@ -1,0 +1,25 @@
+-- Where the point was visited the path is cut at its place, and else it stays.
+use Rattle.std.proofs.Common.{take, sym, subst, arith}
+use Rattle.std.proofs.lemmas.List.{length-map}
+use Rattle.overlay_slice.specs.ClosedWalks.{IsCutSoFar, NoneLeaves}
+use Rattle.overlay_slice.proofs.CutPlaces.{none_in_front}
+use Rattle.overlay_walk.specs.Steps.{plain_step, plain_steps}
+use Rattle.overlay_walk.specs.Walks.{plain_walks}
+use Rattle.overlay_slice.proofs.cutter.LoopCutter.cut_at.Goals as goal
+
+pub returns-clause-cut : goal.returns-clause-cut
+returns-clause-cut g c start walked so_far =
+    let whole = g.I.IntNumber.whole in
+    let path = c.args.self.now.path.items in
+    let loops = plain_walks whole c.args.self.now.loops.items in
+    let place = c.in-Some.place in
+    let found = rw c.deref.ensures.value at c.in-Some.ensures in
+    let inside = found.0 in
+    let same = length-map path (plain_step whole) in
+    let here = subst (λ p. IsCutSoFar start p walked (plain_steps whole path) loops) (sym found.1) so_far in (
+      subst (λ p. IsCutSoFar start p walked (plain_steps whole c.cut_from.new.self.path.items)
+          (plain_walks whole c.cut_from.new.self.loops.items)) found.1
+          (c.in_ok-cut_from.ensures.cut start walked here),
+      rw c.in_ok-cut_from.ensures.path (subst (λ p. NoneLeaves p (plain_steps whole (take place path))) found.1
+          (none_in_front whole start walked path loops place (omega (arith, inside, same)) here)),
+    )

@@ -1,0 +1,10 @@
+-- The tours so far are cut.
+use Rattle.std.proofs.Common.{take}
+use Rattle.overlay_slice.specs.Tours.{AreCutIntoLoops}
+use Rattle.overlay_walk.specs.Walks.{plain_walks}
+use Rattle.overlay_slice.proofs.loops.loops_of.Given as goal
+
+abbrev pub invariant-loop-i : goal.invariant-loop-i
+invariant-loop-i g l =
+    let whole = g.I.IntNumber.whole in
+    AreCutIntoLoops (plain_walks whole (take l.i l.tours)) (plain_walks whole l.loops.items)

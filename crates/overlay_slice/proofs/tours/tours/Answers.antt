@@ -1,0 +1,44 @@
+-- Each orbit is split, and the tours are put in order.
+use Rattle.std.proofs.Common.{◌++◌, take, sym, subst, arith}
+use Rattle.std.proofs.lemmas.List.{map-append}
+use Rattle.std.proofs.lemmas.List.Sorted.{IsPermutation-map}
+use Rattle.overlay_geom.proofs.Mapped.{All-mapped_at, mapped_more, mapped_whole}
+use Rattle.overlay_slice.specs.ClosedWalks.{IsClosedWalk}
+use Rattle.overlay_slice.specs.Tours.{AreSplitIntoTours}
+use Rattle.overlay_slice.proofs.OrbitTours.{walk_split, split_shuffled}
+use Rattle.overlay_walk.specs.Steps.{plain_steps}
+use Rattle.overlay_walk.specs.Walks.{plain_walks}
+use Rattle.overlay_slice.proofs.tours.tours.Goals as goal
+
+pub tours_of-requires : goal.tours_of-requires
+tours_of-requires g c =
+    let whole = g.I.IntNumber.whole in
+    rw c.deref.ensures.value (All-mapped_at IsClosedWalk (λ (w : _). plain_steps whole w.items) c.args.orbits.now c.loop-i.i
+    c.index-orbits-i.result c.loop-i-test.true c.index-orbits-i.is c.requires)
+
+pub loop-i-preserved : goal.loop-i-preserved
+loop-i-preserved g c =
+    let whole = g.I.IntNumber.whole in
+    let l = c.loop-i in
+    let orbits = c.args.orbits.now in
+    let orbit = c.index-orbits-i.result in
+    let added = plain_walks whole c.in_ok-of_orbit.of_orbit.items in
+    let split = rw c.deref.ensures.value at c.in_ok-of_orbit.ensures.tours in
+    rw (c.in_ok-append.ensures.items, map-append)
+    (subst (λ ws. AreSplitIntoTours ws (plain_walks whole l.tours.items ++ added))
+    (sym (mapped_more (λ (w : _). plain_steps whole w.items) orbits l.i orbit c.loop-i-test.true c.index-orbits-i.is))
+    (walk_split (plain_walks whole (take l.i orbits)) (plain_walks whole l.tours.items) l.invariant
+    (plain_steps whole orbit.items) added split.each_once split.closed))
+
+pub returns-clause-tours : goal.returns-clause-tours
+returns-clause-tours g c =
+    let whole = g.I.IntNumber.whole in
+    let l = c.loop-i in
+    let orbits = c.args.orbits.now in
+    let past = c.loop-i-test.false in
+    split_shuffled (plain_walks whole orbits) (plain_walks whole l.tours.items)
+    (plain_walks whole c.sort_by.new.self.items)
+    (subst (λ ws. AreSplitIntoTours ws (plain_walks whole l.tours.items))
+    (mapped_whole (λ (w : _). plain_steps whole w.items) orbits l.i (omega arith)) l.invariant)
+    (IsPermutation-map (λ (w : _). plain_steps whole w.items) l.tours.items c.sort_by.new.self.items
+    c.in_ok-sort_by.ensures.permutation)

@@ -1,0 +1,10 @@
+-- The orbits so far are split.
+use Rattle.std.proofs.Common.{take}
+use Rattle.overlay_slice.specs.Tours.{AreSplitIntoTours}
+use Rattle.overlay_walk.specs.Walks.{plain_walks}
+use Rattle.overlay_slice.proofs.tours.tours.Given as goal
+
+abbrev pub invariant-loop-i : goal.invariant-loop-i
+invariant-loop-i g l =
+    let whole = g.I.IntNumber.whole in
+    AreSplitIntoTours (plain_walks whole (take l.i l.orbits)) (plain_walks whole l.tours.items)
