@@ -1,0 +1,4 @@
+pub mod EnteringSums
+pub mod ListedVectors
+pub mod Sums
+pub mod TurnedFills

@@ -1,0 +1,45 @@
+-- What contracts see of a builder of edges with data, and what its queries do to it.
+use Rattle.std.specs.Prelude.{◌≡◌, ℕ, Bool, true, false, List, [], Option, None}
+use Rattle.overlay_geom.specs.Counts.{Counts}
+use Rattle.overlay_geom.specs.Edges.{CountedEdge}
+use Rattle.overlay_plane.specs.Carried.{Carried, edges_in}
+use Rattle.overlay_arrange.specs.Arranged.{IsArrangedCarrying}
+use Rattle.overlay_arrange.specs.Counts.{boolean_counts}
+use Rattle.overlay_arrange.specs.EdgeData.{AreMerged, IsPiece, IsReversed}
+use Rattle.overlay_arrange.specs.Options.{AreOptions}
+use Rattle.overlay_arrange.specs.declared.count.ShapeCountBoolean.{ShapeCountBoolean}
+use Rattle.overlay_arrange.specs.declared.data.CountWithData.{CountWithData}
+use Rattle.overlay_arrange.specs.declared.options.IntOverlayOptions.{IntOverlayOptions}
+use Rattle.overlay_builder.specs.Held.{Held}
+use Rattle.overlay_builder.specs.declared.solver.Solver.{Solver}
+
+-- a builder of edges with data: its settings, whether it holds a buffer for extractions (of which nothing is seen), the
+-- counted edges that it holds, each with its data, the store of the data, and whether a query was refused
+pub record EdgeBuilder (U D S : Type 0) : Type 0 where
+  pub solver : Solver
+  pub options : IntOverlayOptions U
+  pub boolean_buffer : Option (Unit {0})
+  pub edges : List (Carried (CountWithData D))
+  pub store : S
+  pub failed : Bool
+
+-- a new builder: it keeps points on one line in the output alone, has no buffer and no edges, and has not failed
+pub record IsNewEdgeBuilder {U D S : Type 0} (natural : U → ℕ) (b : EdgeBuilder U D S) : Type 0 where
+  pub options : AreOptions natural false true false b.options
+  pub buffer : b.boolean_buffer ≡ None
+  pub edges : b.edges ≡ []
+  pub ready : b.failed ≡ false
+
+-- the part of it that all builders have, without the data
+abbrev pub held_by : {U D S : Type 0} → EdgeBuilder U D S → Held CountedEdge
+held_by b = record { edges = edges_in b.edges; failed = b.failed }
+
+-- ---- queries
+
+-- the second list is an arrangement of the first one, reached with so many cutting rounds at most, and its data is
+-- derived along the rounds that led there, by what the three operations on data may answer
+abbrev pub IsArrangedWithData : {D : Type 0} →
+    (ShapeCountBoolean → D → ShapeCountBoolean → D → D → Type 0) → (D → D → Type 0) → (D → D → Type 0) → ℕ →
+    List (Carried (CountWithData D)) → List (Carried (CountWithData D)) → Type 0
+IsArrangedWithData merges splits reverses most old new =
+    IsArrangedCarrying (AreMerged merges) (IsPiece splits) (IsReversed reverses) most old new

@@ -1,0 +1,76 @@
+//! The edges of an answer, as vectors with data.
+
+ghost use Rattle.std.specs.Prelude.{◌≡◌, false, IfOk, OnOk, IsErrOf, IsOkUnless};
+ghost use Rattle.overlay_geom.specs.Settled.{IsSettled};
+ghost use Rattle.overlay_plane.specs.Carried.{edges_in};
+ghost use Rattle.overlay_arrange.specs.Content.{IsAscending};
+ghost use Rattle.overlay_builder.specs.Held.{AnswersQuery};
+ghost use Rattle.overlay_vector.specs.DataVectors.{plain_data_vectors, selected_vectors};
+ghost use Rattle.overlay_vector.specs.EdgeBuilder.{held_by, IsArrangedWithData};
+
+use crate::edge_overlay::EdgeOverlay;
+use crate::selected_vectors::selected_vectors;
+use overlay_arrange::data::OverlayEdgeData;
+use overlay_arrange::fill_rule::FillRule;
+use overlay_arrange::overlay_rule::OverlayRule;
+use overlay_arrange::vector::DataVectorEdge;
+use overlay_geom::error::OverlayError;
+use overlay_geom::integer::OverlayInt;
+use std::alloc::Allocator;
+
+impl<I: OverlayInt, D: OverlayEdgeData, A: Allocator + Clone> EdgeOverlay<I, D, A> {
+    /// Splits the edges where they meet, and gives those on exactly one side of which the rules hold, in
+    /// order, by the smaller and then the larger end; each from its smaller to its larger end, with the
+    /// sides that the subject and the clip fill under the rule, seen on this way, and with its data.
+    ///
+    /// In each round equal edges are merged, and each edge is cut where others meet it; a meeting point
+    /// that is not whole is rounded to one whole point, at most 1/2 away in x and in y. The data of equal
+    /// edges is merged, two by two; that of an edge that is cut into two pieces or more is split, once for
+    /// each piece, and that of a piece which runs against its edge is reversed. What was arranged before
+    /// stays as it is. The edges need not be balanced: the winding below an edge is the sum of the counts
+    /// strictly below its midpoint.
+    ///
+    /// Refusals: `Failed` before anything else, and then nothing is changed; `NotSettled` where edges still
+    /// meet in points that are no ends of both after 64 rounds; `TooManyEdges` where a round brings the
+    /// weight to 2^31; `Memory`. After these three the builder has failed, and what it holds and its store
+    /// are left open.
+    pub fn build_vectors(
+        &mut self,
+        overlay_rule: OverlayRule,
+        fill_rule: FillRule,
+    ) -> Result<Vec<DataVectorEdge<I, D>, A>, OverlayError>
+        ensures query { AnswersQuery I.limit 64 (held_by self.old) (held_by self.new) result }
+        ensures carried { OnOk result
+            (IsArrangedWithData D.merges D.splits D.reverses 64 self.old.edges self.new.edges) }
+        ensures listed { IfOk result (λ v. plain_data_vectors I.whole v.items
+            ≡ selected_vectors fill_rule overlay_rule self.new.edges) }
+        ensures kept { self.new ≡ record self.old {
+          edges = self.new.edges;
+          store = self.new.store;
+          failed = self.new.failed;
+        } }
+        ensures untouched { IsErrOf result OverlayError.Failed → self.new ≡ self.old }
+    {
+        self.core.check_usable()?;
+        self.core.arrange(&mut self.store)?;
+        let listed = self.list(overlay_rule, fill_rule);
+        self.core.set_failed(listed.is_err());
+        listed
+    }
+
+    // The selected edges of the arranged ones.
+    fn list(
+        &self,
+        overlay_rule: OverlayRule,
+        fill_rule: FillRule,
+    ) -> Result<Vec<DataVectorEdge<I, D>, A>, OverlayError>
+        requires ascending { IsAscending (edges_in self.now.edges) }
+        requires settled { IsSettled (edges_in self.now.edges) }
+        ensures listed { IfOk result (λ v. plain_data_vectors I.whole v.items
+            ≡ selected_vectors fill_rule overlay_rule self.now.edges) }
+        ensures err { IsOkUnless result OverlayError.Memory }
+    {
+        let graph = self.core.content().graph(fill_rule)?;
+        selected_vectors(&graph, overlay_rule)
+    }
+}

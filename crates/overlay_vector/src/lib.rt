@@ -1,0 +1,11 @@
+//! Edges that carry data: their builder, and the edges and contours of its answers.
+#![tactic(auto)]
+
+mod balance;
+pub mod edge_overlay;
+pub mod edges;
+pub mod input_edge;
+pub mod laws;
+pub mod path;
+pub mod selected_vectors;
+pub mod side_fill;

@@ -1,0 +1,39 @@
+//! The filled sides of an edge, seen on the way back.
+
+ghost use Rattle.std.specs.Prelude.{◌≡◌, ◌≤◌};
+ghost use Rattle.overlay_arrange.specs.Rules.{bit};
+ghost use Rattle.overlay_vector.specs.SideFills.{turned_fill};
+
+use overlay_arrange::vector::{CLIP_LEFT, CLIP_RIGHT, SUBJ_LEFT, SUBJ_RIGHT, SideFill};
+
+/// What can be seen the other way round.
+pub trait Reverse {
+    // What is seen then.
+    ghost turned: { Self → Self };
+
+    /// Returns what is seen the other way round.
+    fn reverse(self) -> Self
+        ensures { result ≡ turned self };
+}
+
+/// Left and right change places, for the subject and for the clip.
+impl Reverse for SideFill {
+    ghost turned = { turned_fill };
+
+    /// Returns the filled sides of the edge as they are seen on the way back: left and right change
+    /// places, for the subject and for the clip, and higher bits are dropped.
+    fn reverse(self) -> SideFill {
+        bit_if(self & SUBJ_RIGHT != 0, SUBJ_LEFT)
+            + bit_if(self & SUBJ_LEFT != 0, SUBJ_RIGHT)
+            + bit_if(self & CLIP_RIGHT != 0, CLIP_LEFT)
+            + bit_if(self & CLIP_LEFT != 0, CLIP_RIGHT)
+    }
+}
+
+// The bit of a side where it is filled, and 0 elsewhere.
+fn bit_if(is_filled: bool, side: SideFill) -> SideFill
+    ensures value { result ≡ bit is_filled side }
+    ensures at_most { result ≤ side }
+{
+    if is_filled { side } else { 0 }
+}
