@@ -1,10 +1,13 @@
 pub mod AddedInRoles
 pub mod AddedPaths
 pub mod BalancedPaths
+pub mod ClippedOnce
 pub mod JoinedPaths
 pub mod KeptPieces
 pub mod OneShots
 pub mod OpenLists
+pub mod PartedPieces
+pub mod PiecesInPaths
 pub mod TakenPieces
 pub mod TwoSources
 pub mod WalksOn

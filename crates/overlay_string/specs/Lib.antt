@@ -1,5 +1,6 @@
 pub mod ClipPaths
 pub mod ClipPieces
+pub mod Laws
 pub mod OneShot
 pub mod OpenPlaces
 pub mod Pieces

@@ -5,6 +5,7 @@ pub mod clip;
 pub mod clip_rule;
 mod joined_paths;
 mod kept_pieces;
+pub mod laws;
 pub mod lines;
 mod open_pieces;
 mod piece;
