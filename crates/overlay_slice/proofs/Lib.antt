@@ -1,3 +1,4 @@
+pub mod AnchorSteps
 pub mod AlongSides
 pub mod BoundLoops
 pub mod ClosedWalks
