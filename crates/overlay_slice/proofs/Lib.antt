@@ -4,6 +4,7 @@ pub mod BoundLoops
 pub mod ClosedWalks
 pub mod CutLoops
 pub mod CutPlaces
+pub mod KeptLoops
 pub mod LoopsFound
 pub mod NextSides
 pub mod OrbitTours

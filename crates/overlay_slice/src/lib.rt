@@ -9,5 +9,6 @@ pub mod loops;
 pub mod orbits;
 pub mod roles;
 mod sides;
+pub mod slices;
 mod tour_order;
 pub mod tours;
