@@ -1,8 +1,10 @@
+pub mod AnchorSteps
 pub mod AlongSides
 pub mod BoundLoops
 pub mod ClosedWalks
 pub mod CutLoops
 pub mod CutPlaces
+pub mod KeptLoops
 pub mod LoopsFound
 pub mod NextSides
 pub mod OrbitTours

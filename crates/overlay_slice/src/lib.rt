@@ -2,10 +2,13 @@
 //! loops make.
 #![tactic(auto)]
 
+pub mod anchor;
 pub mod cutter;
 pub mod filled_sides;
 pub mod loops;
 pub mod orbits;
+pub mod roles;
 mod sides;
+pub mod slices;
 mod tour_order;
 pub mod tours;
