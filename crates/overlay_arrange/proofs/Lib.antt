@@ -25,6 +25,7 @@ pub mod MeetingRuns
 pub mod MergedContent
 pub mod PairMeetings
 pub mod Pieces
+pub mod PushedReversed
 pub mod RoundsTaken
 pub mod RuledContents
 pub mod RunEnds

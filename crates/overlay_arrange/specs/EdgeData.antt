@@ -1,9 +1,14 @@
 -- What merging, splitting and reversing make of edges that carry data beside their counts.
 use Rattle.std.specs.Prelude.{◌≡◌}
-use Rattle.overlay_geom.specs.Counts.{joined_counts, reversed_counts}
+use Rattle.overlay_geom.specs.Counts.{Counts, joined_counts, reversed_counts}
 use Rattle.overlay_arrange.specs.Counts.{boolean_counts}
 use Rattle.overlay_arrange.specs.declared.count.ShapeCountBoolean.{ShapeCountBoolean}
 use Rattle.overlay_arrange.specs.declared.data.CountWithData.{CountWithData}
+
+-- whatever an edge carries: the counts have the other sign, and what is carried may be a reversed of the other
+pub record IsReversedBy {C : Type 0} (counts : C → Counts) (reverses : C → C → Type 0) (c t : C) : Type 0 where
+  pub counts_turned : counts t ≡ reversed_counts (counts c)
+  pub carried : reverses c t
 
 -- equal edges are merged: the counts are summed, and the data of both is merged beside the counts of both
 pub record AreMerged {D : Type 0} (merges : ShapeCountBoolean → D → ShapeCountBoolean → D → D → Type 0)

@@ -11,6 +11,7 @@ ghost use Rattle.overlay_plane.specs.DerivedData.{CarriesMerged};
 ghost use Rattle.overlay_arrange.specs.Content.{plain_edge, plain_edges};
 ghost use Rattle.overlay_arrange.specs.Content.{carried_edge, carried_edges};
 ghost use Rattle.overlay_arrange.specs.Content.{IsAscending, IsContent, IsHeld};
+ghost use Rattle.overlay_arrange.specs.EdgeData.{IsReversedBy};
 
 use crate::count::EdgeCount;
 use crate::edge::CountedEdge;
@@ -101,6 +102,38 @@ impl<I: IntNumber, C: EdgeCount, A: Allocator> Content<I, C, A> {
             return Err(OverlayError::TooManyEdges);
         }
         self.edges.push(edge)?;
+        self.weight += added;
+        Ok(())
+    }
+
+    /// Adds an edge that carries the reversed of what this one does, or, where it is refused, none, and
+    /// then the store is not called. Its counts weigh less than 2^31.
+    pub fn push_reversed(
+        &mut self,
+        edge: CountedEdge<I, C>,
+        store: &mut C::Store,
+    ) -> Result<(), OverlayError>
+        requires held { IsHeld I.limit (plain_edge I.whole C.counts edge) }
+        requires light { weight_of_counts (C.counts edge.count) < 2 ^ 31 }
+        ensures ok { OnOk result ((turned : C) × IsReversedBy C.counts C.reverses edge.count turned
+            × (self.new ≡ self.old ++ carried_edge I.whole C.counts (record edge { count = turned }) ∷ [])) }
+        ensures err { OnErr result (self.new ≡ self.old) }
+        ensures untouched { OnErr result (store.new ≡ store.old) }
+        ensures too_many { IsErrOf result OverlayError.TooManyEdges
+            → 2 ^ 31 ≤ weight (edges_in self.old ++ plain_edge I.whole C.counts edge ∷ []) }
+        ensures only { IfErr result (λ e. (e ≡ OverlayError.Memory) ⊎ (e ≡ OverlayError.TooManyEdges)) }
+    {
+        let added = edge.count.weight();
+        if WEIGHT_LIMIT - self.weight <= added {
+            return Err(OverlayError::TooManyEdges);
+        }
+        self.edges.reserve(1)?;
+        let count = edge.count.reversed(store);
+        self.edges.push_reserved(CountedEdge {
+            a: edge.a,
+            b: edge.b,
+            count,
+        });
         self.weight += added;
         Ok(())
     }

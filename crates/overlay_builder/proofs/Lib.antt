@@ -11,5 +11,6 @@ pub mod PassedEdges
 pub mod PathLists
 pub mod PlainPoints
 pub mod Queries
+pub mod SingleSteps
 pub mod SourcePaths
 pub mod TakenPaths

@@ -1,3 +1,4 @@
+pub mod AddedSteps
 pub mod GivenPaths
 pub mod Held
 pub mod Passing

@@ -3,17 +3,20 @@
 ghost use Rattle.std.specs.Prelude.{◌≡◌, ◌≢◌, ◌↔◌, ◌^◌, ◌<◌, true, false, [], if◌then◌else◌, All};
 ghost use Rattle.std.specs.Prelude.{Ok, Err, IfOk, OnOk, OnErr, IsOkUnless, IsErrOf};
 ghost use Rattle.overlay_geom.specs.Edges.{weight};
-ghost use Rattle.overlay_geom.specs.Points.{plain_points, AllInRange};
+ghost use Rattle.overlay_geom.specs.Counts.{weight_of_counts};
+ghost use Rattle.overlay_geom.specs.Points.{plain_point, plain_points, InRange, AllInRange};
 ghost use Rattle.overlay_plane.specs.Arrangements.{IsReachedBy};
 ghost use Rattle.overlay_plane.specs.Carried.{edges_in};
 ghost use Rattle.overlay_arrange.specs.Arranged.{IsArrangedCarrying};
 ghost use Rattle.overlay_arrange.specs.Content.{IsContent};
+ghost use Rattle.overlay_builder.specs.AddedSteps.{AddsStep, StepWeighsTooMuch};
 ghost use Rattle.overlay_builder.specs.Held.{nothing_held, plain_held, AnswersQuery};
 ghost use Rattle.overlay_builder.specs.PathLists.{carried_weight, path_as, paths_as};
 ghost use Rattle.overlay_builder.specs.PathLists.{AddsAsAsked, WouldWeighTooMuch};
 ghost use Rattle.overlay_builder.specs.Paths.{passed_edge, AddsPath, AreLight, IsTakenAs};
 
 use crate::path::{PathKind, StepCounts, add_path};
+use crate::single_step::push_step;
 use overlay_arrange::content::Content;
 use overlay_arrange::count::EdgeCount;
 use overlay_geom::error::OverlayError;
@@ -67,6 +70,40 @@ impl<I: IntNumber, C: EdgeCount, A: Allocator> BuilderCore<I, C, A> {
     {
         self.content.note_limits();
         &self.content
+    }
+
+    /// Adds the edge between two points, in the coordinate range, that carries `given`; where the first
+    /// point is the larger one, the reversed of that. Between equal points there is none. The counts of
+    /// `given` weigh less than 2^31.
+    ///
+    /// Refusals, which leave the core and the store as they were: `Failed` before anything else,
+    /// `TooManyEdges` where the weight would come to 2^31, `Memory`.
+    pub fn add_step(
+        &mut self,
+        from: IntPoint<I>,
+        to: IntPoint<I>,
+        given: C,
+        store: &mut C::Store,
+    ) -> Result<(), OverlayError>
+        requires light { weight_of_counts (C.counts given) < 2 ^ 31 }
+        requires from { InRange I.limit (plain_point I.whole from) }
+        requires to { InRange I.limit (plain_point I.whole to) }
+        ensures ok { OnOk result (AddsStep C.counts C.reverses given (plain_point I.whole from)
+            (plain_point I.whole to) self.old.edges self.new.edges) }
+        ensures kept { self.new ≡ record self.old { edges = self.new.edges } }
+        ensures light { weight (edges_in self.new.edges) < 2 ^ 31 }
+        ensures err { OnErr result (self.new ≡ self.old) }
+        ensures untouched { OnErr result (store.new ≡ store.old) }
+        ensures failed { IsErrOf result OverlayError.Failed ↔ (self.old.failed ≡ true) }
+        ensures too_many { IsErrOf result OverlayError.TooManyEdges → StepWeighsTooMuch C.counts given
+            (plain_point I.whole from) (plain_point I.whole to) self.old.edges }
+        ensures no_query { result ≢ Err OverlayError.NotSettled }
+    {
+        self.content.note_limits();
+        self.check_usable()?;
+        let added = push_step(&mut self.content, from, to, given, store);
+        self.content.note_limits();
+        added
     }
 
     /// Refuses by `Failed` where a query was refused since the edges were last dropped.

@@ -5,5 +5,6 @@ pub mod boolean;
 pub mod builder_core;
 pub mod path;
 pub mod points;
+mod single_step;
 pub mod solver;
 pub mod thin;

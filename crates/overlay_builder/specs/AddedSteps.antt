@@ -1,0 +1,26 @@
+-- A single step that becomes a counted edge, and what it carries: it is reversed where the step runs back.
+use Rattle.std.specs.Prelude.{◌≡◌, ◌↔◌, ◌⊎◌, ◌^◌, ◌<◌, ◌≤◌, ◌++◌, true, MatchBool, List, [], map, All}
+use Rattle.overlay_geom.specs.Counts.{Counts}
+use Rattle.overlay_geom.specs.Edges.{CountedEdge, weight}
+use Rattle.overlay_geom.specs.Plane.{Point, Step, edge_of, is_forward, steps_between}
+use Rattle.overlay_arrange.specs.Content.{edge_with}
+use Rattle.overlay_arrange.specs.EdgeData.{IsReversedBy}
+use Rattle.overlay_plane.specs.Carried.{Carried, edges_in}
+
+-- the edge on which the step runs, carrying this
+abbrev pub edge_carrying : {C : Type 0} → (C → Counts) → C → Step → Carried C
+edge_carrying counts c s = record { edge = edge_with (edge_of s).a (edge_of s).b (counts c); carries = c }
+
+-- the second list is the first one, followed by the edge of the step between two points, which carries what is given,
+-- or, where the step runs from the larger to the smaller point, the reversed of it; between equal points there is no step
+pub record AddsStep {C : Type 0} (counts : C → Counts) (reverses : C → C → Type 0) (given : C) (from to : Point)
+    (old new : List (Carried C)) : Type 0 where
+  pub carried : C
+  pub is_carried : All (λ s. MatchBool (is_forward s) (carried ≡ given) (IsReversedBy counts reverses given carried))
+      (steps_between from to)
+  pub content : new ≡ old ++ map (edge_carrying counts carried) (steps_between from to)
+
+-- the edge that carries this, on which the step between the points runs, would bring the weight to 2^31
+abbrev pub StepWeighsTooMuch : {C : Type 0} → (C → Counts) → C → Point → Point → List (Carried C) → Type 0
+StepWeighsTooMuch counts given from to es =
+    2 ^ 31 ≤ weight (edges_in (es ++ map (edge_carrying counts given) (steps_between from to)))
