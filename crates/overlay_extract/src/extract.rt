@@ -15,6 +15,7 @@ ghost use Rattle.overlay_extract.specs.Results.{asked, AreKeptWalks, IsResult, I
 
 use crate::assemble::{assembled, contour};
 use crate::placed::placed_contours;
+use crate::scans::TREE_FROM_PARENTS;
 use overlay_arrange::count::EdgeCount;
 use overlay_arrange::graph::Graph;
 use overlay_arrange::options::IntOverlayOptions;
@@ -46,7 +47,25 @@ pub fn extract_shapes<I: IntNumber, C: EdgeCount, A: Allocator + Clone>(
         (graph_edges graph.now) (plain_shapes I.whole v.items)) }
     ensures err { IsOkUnless result OverlayError.Memory }
 {
-    let placed = placed_contours(graph, overlay_rule, options, buffer)?;
+    extract_shapes_with_trees_from(graph, overlay_rule, options, buffer, TREE_FROM_PARENTS)
+}
+
+/// The shapes that [`extract_shapes`] gives, for a limit of the caller's: where there are `tree_from` shapes or
+/// more their live edges are kept in a tree, and else in a list. The only refusal is `Memory`.
+pub fn extract_shapes_with_trees_from<I: IntNumber, C: EdgeCount, A: Allocator + Clone>(
+    graph: &Graph<I, C, A>,
+    overlay_rule: OverlayRule,
+    options: IntOverlayOptions<I::WideUInt>,
+    buffer: &mut BooleanExtractionBuffer<I, A>,
+    tree_from: usize,
+) -> Result<IntShapes<I, A>, OverlayError>
+    requires { HasBalancedCounts (graph_edges graph.now) }
+    ensures result { IfOk result (λ v. IsResult
+        (asked I.Wide.width I.WideUInt.natural graph.now.fill_rule overlay_rule options)
+        (graph_edges graph.now) (plain_shapes I.whole v.items)) }
+    ensures err { IsOkUnless result OverlayError.Memory }
+{
+    let placed = placed_contours(graph, overlay_rule, options, buffer, tree_from)?;
     let alloc = graph.allocator().clone()?;
     let keeps_points = options.preserve_output_collinear;
     assembled(alloc, &placed.contours, &placed.places, keeps_points)

@@ -14,6 +14,7 @@ use crate::child_link::ChildLink;
 use crate::in_shapes::in_shapes;
 use crate::links::links;
 use crate::placed::placed_contours;
+use crate::scans::TREE_FROM_PARENTS;
 use overlay_arrange::count::EdgeCount;
 use overlay_arrange::graph::Graph;
 use overlay_arrange::options::IntOverlayOptions;
@@ -89,7 +90,29 @@ pub fn extract_shape_hierarchy<I: IntNumber, C: EdgeCount, A: Allocator + Clone>
         (λ h. AreShapesPacked h.shapes.points.items h.shapes.contour_ranges.items h.shapes.shape_ranges.items) }
     ensures err { IsOkUnless result OverlayError.Memory }
 {
-    let placed = placed_contours(graph, overlay_rule, options, buffer)?;
+    extract_shape_hierarchy_with_trees_from(graph, overlay_rule, options, buffer, TREE_FROM_PARENTS)
+}
+
+/// The hierarchy that [`extract_shape_hierarchy`] gives, for a limit of the caller's: where there are `tree_from`
+/// shapes or more, or holes, their live edges are kept in a tree, and else in a list. The only refusal is
+/// `Memory`.
+pub fn extract_shape_hierarchy_with_trees_from<I: IntNumber, C: EdgeCount, A: Allocator + Clone>(
+    graph: &Graph<I, C, A>,
+    overlay_rule: OverlayRule,
+    options: IntOverlayOptions<I::WideUInt>,
+    buffer: &mut BooleanExtractionBuffer<I, A>,
+    tree_from: usize,
+) -> Result<FlatShapeHierarchy<I, A>, OverlayError>
+    requires { HasBalancedCounts (graph_edges graph.now) }
+    ensures hierarchy { IfOk result (λ h. IsHierarchy
+        (asked I.Wide.width I.WideUInt.natural graph.now.fill_rule overlay_rule options) (graph_edges graph.now)
+        (shapes_in I.whole h.shapes.points.items h.shapes.contour_ranges.items h.shapes.shape_ranges.items)
+        (map plain_link h.links.items)) }
+    ensures packed { IfOk result
+        (λ h. AreShapesPacked h.shapes.points.items h.shapes.contour_ranges.items h.shapes.shape_ranges.items) }
+    ensures err { IsOkUnless result OverlayError.Memory }
+{
+    let placed = placed_contours(graph, overlay_rule, options, buffer, tree_from)?;
     let alloc = graph.allocator();
     let keeps_points = options.preserve_output_collinear;
     let shapes = assembled(
@@ -99,7 +122,12 @@ pub fn extract_shape_hierarchy<I: IntNumber, C: EdgeCount, A: Allocator + Clone>
         keeps_points,
     )?;
     let ordered = in_shapes(alloc.clone()?, &placed.contours, &placed.places)?;
-    let links = links(alloc.clone()?, &ordered, options.output_direction)?;
+    let links = links(
+        alloc.clone()?,
+        &ordered,
+        options.output_direction,
+        tree_from,
+    )?;
     let shapes = FlatShapesBuffer::from_shapes(alloc.clone()?, &shapes)?;
     Ok(FlatShapeHierarchy { shapes, links })
 }

@@ -11,3 +11,4 @@ pub mod laws;
 mod links;
 mod placed;
 mod places;
+mod scans;

@@ -10,21 +10,23 @@ ghost use Rattle.overlay_extract.specs.ChildLinks.{plain_link, HaveOtherChildren
 ghost use Rattle.overlay_extract.specs.Links.{link_at, links_from};
 
 use crate::child_link::{ChildLink, sort_links};
+use crate::scans::scan_for_islands;
 use overlay_arrange::options::ContourDirection;
 use overlay_geom::error::OverlayError;
 use overlay_geom::number::IntNumber;
-use overlay_scan::list::ScanList;
 use overlay_walk::contour::Contour;
 use overlay_walk::islands::holes_round;
 use std::alloc::Allocator;
 
 /// The links of contours that all stand in shapes, shape by shape, in order: for each shape in a hole of
-/// another one that other one, the place of the hole among the contours, and the shape. The only refusal is
-/// `Memory`.
+/// another one that other one, the place of the hole among the contours, and the shape. The live edges are
+/// kept in a tree where there are `tree_from` holes or more, and else in a list; the answer is the same. The
+/// only refusal is `Memory`.
 pub(crate) fn links<I: IntNumber, A: Allocator + Clone>(
     alloc: A,
     contours: &[Contour<I, A>],
     direction: ContourDirection,
+    tree_from: usize,
 ) -> Result<Vec<ChildLink, A>, OverlayError>
     requires long { All (All (IsLong I.limit)) (walks_in (plain_contours I.whole contours.now)) }
     requires bindable { CanBeBound (filled_hand direction) (walks_in (plain_contours I.whole contours.now)) }
@@ -34,7 +36,7 @@ pub(crate) fn links<I: IntNumber, A: Allocator + Clone>(
     ensures children { IfOk result (λ v. HaveOtherChildren (map plain_link v.items)) }
     ensures err { IsOkUnless result OverlayError.Memory }
 {
-    let mut scan: ScanList<I, usize, A> = ScanList::default(alloc.clone()?);
+    let mut scan = scan_for_islands(alloc.clone()?, contours, tree_from);
     let holes = holes_round(alloc.clone()?, &mut scan, contours, direction)?;
     let mut links = links_by(alloc, contours, &holes)?;
     sort_links(&mut links)?;

@@ -11,13 +11,13 @@ ghost use Rattle.overlay_extract.specs.Places.{place_lists};
 ghost use Rattle.overlay_extract.specs.Results.{asked};
 
 use crate::places::shape_places;
+use crate::scans::scan_for_holes;
 use overlay_arrange::count::EdgeCount;
 use overlay_arrange::graph::Graph;
 use overlay_arrange::options::IntOverlayOptions;
 use overlay_arrange::overlay_rule::OverlayRule;
 use overlay_geom::error::OverlayError;
 use overlay_geom::number::IntNumber;
-use overlay_scan::list::ScanList;
 use overlay_walk::bind::bind_contours;
 use overlay_walk::buffer::BooleanExtractionBuffer;
 use overlay_walk::contour::Contour;
@@ -34,12 +34,14 @@ pub(crate) struct PlacedContours<I, A: Allocator> {
 }
 
 /// The contours round the region where the rules hold, and their places in the shapes that are found for
-/// them. The only refusal is `Memory`.
+/// them. The live edges are kept in a tree where there are `tree_from` shapes or more, and else in a list; the
+/// answer is the same. The only refusal is `Memory`.
 pub(crate) fn placed_contours<I: IntNumber, C: EdgeCount, A: Allocator + Clone>(
     graph: &Graph<I, C, A>,
     overlay_rule: OverlayRule,
     options: IntOverlayOptions<I::WideUInt>,
     buffer: &mut BooleanExtractionBuffer<I, A>,
+    tree_from: usize,
 ) -> Result<PlacedContours<I, A>, OverlayError>
     requires { HasBalancedCounts (graph_edges graph.now) }
     ensures placed { IfOk result (λ p. ArePlacedResults
@@ -51,7 +53,7 @@ pub(crate) fn placed_contours<I: IntNumber, C: EdgeCount, A: Allocator + Clone>(
 {
     let contours = kept_contours(graph, overlay_rule, options, buffer)?;
     let alloc = graph.allocator().clone()?;
-    let mut scan: ScanList<I, usize, A> = ScanList::default(alloc.clone()?);
+    let mut scan = scan_for_holes(alloc.clone()?, &contours, tree_from);
     let direction = options.output_direction;
     let found = bind_contours(alloc.clone()?, &mut scan, &contours, direction)?;
     let places = shape_places(alloc, &contours, &found)?;

@@ -19,6 +19,10 @@ use overlay_geom::path::{IntContour, IntShape, IntShapes};
 use overlay_geom::point::IntPoint;
 use std::alloc::Allocator;
 
+/// The number of edges of a contour from which on the live ones are kept in a tree. Of fewer edges so few are live
+/// at a time that a list answers sooner.
+const TREE_FROM_EDGES: usize = 8_000;
+
 /// Where points lie: in a contour, in a shape, whose contours are joined by exclusive or, or in several
 /// shapes, joined by or.
 ///
@@ -79,7 +83,7 @@ impl<I: OverlayInt, B: Allocator> IntPointContainment<I> for IntContour<I, B> {
         alloc: A,
         points: &[IntPoint<I>],
     ) -> Result<Vec<PointLocation, A>, OverlayError> {
-        let locations = locate_in_contour(alloc, self, points)?;
+        let locations = locate_in_contour(alloc, self, points, TREE_FROM_EDGES)?;
         Ok(locations)
     }
 }
@@ -104,7 +108,7 @@ impl<I: OverlayInt, B: Allocator> IntPointContainment<I> for IntShape<I, B> {
         alloc: A,
         points: &[IntPoint<I>],
     ) -> Result<Vec<PointLocation, A>, OverlayError> {
-        let locations = locate_in_shape(alloc, self, points)?;
+        let locations = locate_in_shape(alloc, self, points, TREE_FROM_EDGES)?;
         Ok(locations)
     }
 }
@@ -129,7 +133,7 @@ impl<I: OverlayInt, B: Allocator> IntPointContainment<I> for IntShapes<I, B> {
         alloc: A,
         points: &[IntPoint<I>],
     ) -> Result<Vec<PointLocation, A>, OverlayError> {
-        let locations = locate_in_shapes(alloc, self, points)?;
+        let locations = locate_in_shapes(alloc, self, points, TREE_FROM_EDGES)?;
         Ok(locations)
     }
 }

@@ -1,11 +1,13 @@
 //! Where points lie in one contour.
 
-ghost use Rattle.std.specs.Prelude.{◌≡◌, ◌++◌, [], ◌∷◌, All, IfOk, OnOk, IsOkUnless};
+ghost use Rattle.std.specs.Prelude.{◌≡◌, ◌≤◌, ◌↔◌, ◌++◌, true, [], ◌∷◌, length, All, IfOk, OnOk, IsOkUnless};
 ghost use Rattle.overlay_geom.specs.Points.{plain_point, plain_points, InRange, AllInRange};
 ghost use Rattle.overlay_geom.specs.Resolved.{plain_edges, edges_between, edges_through};
 ghost use Rattle.overlay_geom.specs.Resolved.{edges_of, IsLongEdge, IsResolved};
 ghost use Rattle.overlay_relate.specs.Answers.{AnswersWhere};
 ghost use Rattle.overlay_relate.specs.Locations.{IsLocatedIn};
+ghost use Rattle.overlay_scan.specs.Scan.{empty_sweep};
+ghost use Rattle.overlay_tree.specs.EitherScans.{either_sweep, is_tree};
 
 use crate::location::PointLocation;
 use crate::sweep::locate_by_sweep;
@@ -13,14 +15,17 @@ use overlay_geom::edge::{IntEdge, edge_between};
 use overlay_geom::error::OverlayError;
 use overlay_geom::number::IntNumber;
 use overlay_geom::point::IntPoint;
-use overlay_scan::list::ScanList;
+use overlay_tree::either::EitherScan;
 use std::alloc::Allocator;
 
-/// Where each of the points lies in the contour, in their order. The only refusal is `Memory`.
-pub(crate) fn locate_in_contour<I: IntNumber, A: Allocator + Clone>(
+/// Where each of the points lies in the contour, in their order. The edges that are live are kept in a tree
+/// where the contour has `tree_from` edges or more, and else in a list; the answer is the same. The only
+/// refusal is `Memory`.
+pub fn locate_in_contour<I: IntNumber, A: Allocator + Clone>(
     alloc: A,
     contour: &[IntPoint<I>],
     points: &[IntPoint<I>],
+    tree_from: usize,
 ) -> Result<Vec<PointLocation, A>, OverlayError>
     requires contour { AllInRange I.limit (plain_points I.whole contour.now) }
     requires resolved { IsResolved (plain_points I.whole contour.now) }
@@ -30,9 +35,21 @@ pub(crate) fn locate_in_contour<I: IntNumber, A: Allocator + Clone>(
     ensures err { IsOkUnless result OverlayError.Memory }
 {
     let edges = contour_edges(alloc.clone()?, contour)?;
-    let mut scan: ScanList<I, usize, A> = ScanList::default(alloc.clone()?);
+    let mut scan = scan_for(alloc.clone()?, &edges, tree_from);
     let answers = locate_by_sweep(alloc, &mut scan, &edges, points)?;
     Ok(answers)
+}
+
+/// No live edges yet, in a tree where there are `tree_from` edges or more to come, and else in a list.
+fn scan_for<I: IntNumber, A: Allocator>(
+    alloc: A,
+    edges: &[IntEdge<I>],
+    tree_from: usize,
+) -> EitherScan<I, usize, A>
+    ensures empty { either_sweep I.whole result ≡ empty_sweep }
+    ensures tree { (is_tree result ≡ true) ↔ (tree_from ≤ length edges.now) }
+{
+    EitherScan::for_count(alloc, edges.len(), tree_from)
 }
 
 /// The edges of a contour's steps, in their order. The only refusal is `Memory`.

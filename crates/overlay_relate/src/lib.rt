@@ -3,7 +3,7 @@
 
 mod border_end;
 pub mod containment;
-mod contour;
+pub mod contour;
 mod edge_answers;
 mod edge_test;
 mod joined;
@@ -13,7 +13,7 @@ mod predicate;
 pub mod predicate_laws;
 pub mod predicate_overlay;
 mod queries;
-mod shapes;
+pub mod shapes;
 mod shared_end;
 mod starts;
 mod sweep;

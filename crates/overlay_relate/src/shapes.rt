@@ -16,11 +16,13 @@ use overlay_geom::path::{IntContour, IntShape};
 use overlay_geom::point::IntPoint;
 use std::alloc::Allocator;
 
-/// Where each of the points lies in the shape, in their order. The only refusal is `Memory`.
-pub(crate) fn locate_in_shape<I: IntNumber, A: Allocator, B: Allocator + Clone>(
+/// Where each of the points lies in the shape, in their order, with trees for contours of `tree_from` edges or
+/// more. The only refusal is `Memory`.
+pub fn locate_in_shape<I: IntNumber, A: Allocator, B: Allocator + Clone>(
     alloc: B,
     contours: &[IntContour<I, A>],
     points: &[IntPoint<I>],
+    tree_from: usize,
 ) -> Result<Vec<PointLocation, B>, OverlayError>
     requires contours { All (AllInRange I.limit) (paths_of_shape I.whole contours.now) }
     requires resolved { All IsResolved (paths_of_shape I.whole contours.now) }
@@ -31,17 +33,19 @@ pub(crate) fn locate_in_shape<I: IntNumber, A: Allocator, B: Allocator + Clone>(
 {
     let mut answers = outside(alloc.clone()?, points)?;
     for contour in contours {
-        let here = locate_in_contour(alloc.clone()?, contour, points)?;
+        let here = locate_in_contour(alloc.clone()?, contour, points, tree_from)?;
         answers = join_all(alloc.clone()?, Parts::Contours, &answers, &here)?;
     }
     Ok(answers)
 }
 
-/// Where each of the points lies among the shapes, in their order. The only refusal is `Memory`.
-pub(crate) fn locate_in_shapes<I: IntNumber, A: Allocator, B: Allocator + Clone>(
+/// Where each of the points lies among the shapes, in their order, with trees for contours of `tree_from` edges or
+/// more. The only refusal is `Memory`.
+pub fn locate_in_shapes<I: IntNumber, A: Allocator, B: Allocator + Clone>(
     alloc: B,
     shapes: &[IntShape<I, A>],
     points: &[IntPoint<I>],
+    tree_from: usize,
 ) -> Result<Vec<PointLocation, B>, OverlayError>
     requires shapes { All (All (AllInRange I.limit)) (plain_shapes I.whole shapes.now) }
     requires resolved { All (All IsResolved) (plain_shapes I.whole shapes.now) }
@@ -52,7 +56,7 @@ pub(crate) fn locate_in_shapes<I: IntNumber, A: Allocator, B: Allocator + Clone>
 {
     let mut answers = outside(alloc.clone()?, points)?;
     for shape in shapes {
-        let here = locate_in_shape(alloc.clone()?, shape, points)?;
+        let here = locate_in_shape(alloc.clone()?, shape, points, tree_from)?;
         answers = join_all(alloc.clone()?, Parts::Shapes, &answers, &here)?;
     }
     Ok(answers)

@@ -24,7 +24,7 @@ mod next;
 mod numbered_edge;
 pub mod open_steps;
 mod outline_numbers;
-mod roles;
+pub mod roles;
 pub mod select;
 pub mod selected;
 pub mod side;

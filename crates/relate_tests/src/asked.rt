@@ -1,4 +1,5 @@
-//! Questions to contours and shapes, which stop the test where a condition does not hold.
+//! Questions to contours and shapes, which stop the test where a condition does not hold, or where the locations
+//! are others by lists or by trees alone.
 
 ghost use Rattle.std.specs.Prelude.{All};
 ghost use Rattle.overlay_geom.specs.Points.{plain_points, AllInRange};
@@ -10,10 +11,15 @@ use overlay_geom::path::{IntContour, IntShape, IntShapes};
 use overlay_geom::point::{IntPoint, in_range};
 use overlay_geom::resolved::is_resolved;
 use overlay_relate::containment::IntPointContainment;
+use overlay_relate::contour::locate_in_contour;
 use overlay_relate::location::PointLocation;
+use overlay_relate::shapes::{locate_in_shape, locate_in_shapes};
 use std::alloc::{Allocator, Global};
 use std::process::Abort;
 use std::test::Fail;
+
+// The limits at which each contour is looked at in a tree, and in a list.
+const LIMITS: [usize; 2] = [0, usize::MAX];
 
 /// What was answered: whether each point is inside, and where it lies.
 #[derive(Drop)]
@@ -65,6 +71,9 @@ pub(crate) fn ask_contour<I: OverlayInt>(
     assert!(rt; in_range(points));
     let inside = contour.contains_points(alloc, points)?;
     let locations = contour.locate_points(alloc, points)?;
+    for tree_from in LIMITS {
+        assert!(rt; locate_in_contour(alloc, contour, points, tree_from)? == locations);
+    }
     Ok(Answers { inside, locations })
 }
 
@@ -79,6 +88,9 @@ pub(crate) fn ask_shape<I: OverlayInt>(
     assert!(rt; in_range(points));
     let inside = shape.contains_points(alloc, points)?;
     let locations = shape.locate_points(alloc, points)?;
+    for tree_from in LIMITS {
+        assert!(rt; locate_in_shape(alloc, shape, points, tree_from)? == locations);
+    }
     Ok(Answers { inside, locations })
 }
 
@@ -93,6 +105,9 @@ pub(crate) fn ask_shapes<I: OverlayInt>(
     assert!(rt; in_range(points));
     let inside = shapes.contains_points(alloc, points)?;
     let locations = shapes.locate_points(alloc, points)?;
+    for tree_from in LIMITS {
+        assert!(rt; locate_in_shapes(alloc, shapes, points, tree_from)? == locations);
+    }
     Ok(Answers { inside, locations })
 }
 

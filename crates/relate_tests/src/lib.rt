@@ -8,6 +8,8 @@ mod borders;
 #[cfg(test)]
 mod built;
 #[cfg(test)]
+mod many;
+#[cfg(test)]
 mod predicates;
 #[cfg(test)]
 mod resolved;

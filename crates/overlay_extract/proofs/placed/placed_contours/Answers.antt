@@ -14,13 +14,13 @@ use Rattle.overlay_extract.proofs.placed.placed_contours.Goals as goal
 pub bind_contours-requires-clause-bindable : goal.bind_contours-requires-clause-bindable
 bind_contours-requires-clause-bindable g c =
     subst (λ cs. CanBeBound (filled_hand c.args.options.output_direction)
-    (walks_in (plain_contours g.I.IntNumber.whole cs))) (sym c.deref.ensures.value)
+    (walks_in (plain_contours g.I.IntNumber.whole cs))) (sym c.deref-2.ensures.value)
     c.in_ok-contours.ensures.kept.bindable
 
 pub bind_contours-requires-clause-long : goal.bind_contours-requires-clause-long
 bind_contours-requires-clause-long g c =
     subst (λ cs. All (All (IsLong g.I.IntNumber.limit)) (walks_in (plain_contours g.I.IntNumber.whole cs)))
-    (sym c.deref.ensures.value) c.in_ok-contours.ensures.long
+    (sym c.deref-2.ensures.value) c.in_ok-contours.ensures.long
 
 pub shape_places-requires : goal.shape_places-requires
 shape_places-requires g c =
@@ -30,10 +30,10 @@ shape_places-requires g c =
     c.args.overlay_rule c.args.options in
     let cs = c.in_ok-contours.contours.items in
     let found : AreShapesFound filled (plain_contours whole cs) c.in_ok-found.found.items =
-    subst (λ ds. AreShapesFound filled (plain_contours whole ds) c.in_ok-found.found.items) c.deref.ensures.value
+    subst (λ ds. AreShapesFound filled (plain_contours whole ds) c.in_ok-found.found.items) c.deref-2.ensures.value
     c.in_ok-found.ensures.found in
-    subst (CanBePlaced (plain_contours whole c.deref-2.result.now)) (sym c.deref-3.ensures.value)
-    (subst (λ ds. CanBePlaced (plain_contours whole ds) c.in_ok-found.found.items) (sym c.deref-2.ensures.value)
+    subst (CanBePlaced (plain_contours whole c.deref-3.result.now)) (sym c.deref-4.ensures.value)
+    (subst (λ ds. CanBePlaced (plain_contours whole ds) c.in_ok-found.found.items) (sym c.deref-3.ensures.value)
     (can_be_placed q.ogc filled (is_kept q) (selected_of q (graph_edges c.args.graph.now)) (plain_contours whole cs)
     c.in_ok-contours.ensures.kept.cut c.in_ok-found.found.items found))
 
@@ -47,9 +47,9 @@ returns-clause-placed g c =
     record {
       kept = c.in_ok-contours.ensures.kept;
       shapes = shapes;
-      found = subst (λ ds. AreShapesFound filled (plain_contours whole ds) shapes) c.deref.ensures.value
+      found = subst (λ ds. AreShapesFound filled (plain_contours whole ds) shapes) c.deref-2.ensures.value
           c.in_ok-found.ensures.found;
-      placed = subst (λ ss. ArePlaced (plain_contours whole cs) ss (place_lists places)) c.deref-3.ensures.value
-          (subst (λ ds. ArePlaced (plain_contours whole ds) c.deref-3.result.now (place_lists places))
-          c.deref-2.ensures.value c.in_ok-places.ensures.placed);
+      placed = subst (λ ss. ArePlaced (plain_contours whole cs) ss (place_lists places)) c.deref-4.ensures.value
+          (subst (λ ds. ArePlaced (plain_contours whole ds) c.deref-4.result.now (place_lists places))
+          c.deref-3.ensures.value c.in_ok-places.ensures.placed);
     }
