@@ -9,7 +9,6 @@ ghost use Rattle.overlay_walk.specs.GroupedContours.{plain_contours};
 use overlay_geom::number::IntNumber;
 use overlay_tree::either::EitherScan;
 use overlay_walk::contour::Contour;
-use overlay_walk::roles::shape_count;
 use std::alloc::Allocator;
 
 /// The number of parents from which on their live edges are kept in a tree: shapes for holes, and holes for
@@ -26,7 +25,7 @@ pub(crate) fn scan_for_holes<I: IntNumber, A: Allocator>(
     ensures tree { (is_tree result ≡ true)
         ↔ (tree_from ≤ length (filter (λ c. is_outline c.role) (plain_contours I.whole contours.now))) }
 {
-    EitherScan::for_count(alloc, shape_count(contours), tree_from)
+    EitherScan::for_count(alloc, count_outlines(contours), tree_from)
 }
 
 /// No live edges yet, in a tree where the contours have `tree_from` holes or more, and else in a list.
@@ -39,6 +38,19 @@ pub(crate) fn scan_for_islands<I: IntNumber, A: Allocator>(
     ensures tree { (is_tree result ≡ true)
         ↔ (tree_from ≤ length (filter (λ c. not (is_outline c.role)) (plain_contours I.whole contours.now))) }
 {
-    let holes = contours.len() - shape_count(contours);
+    let holes = contours.len() - count_outlines(contours);
     EitherScan::for_count(alloc, holes, tree_from)
+}
+
+// How many of the contours are outlines.
+fn count_outlines<I: IntNumber, A: Allocator>(contours: &[Contour<I, A>]) -> usize
+    ensures { result ≡ length (filter (λ c. is_outline c.role) (plain_contours I.whole contours.now)) }
+{
+    let mut count = 0;
+    for i in 0..contours.len() {
+        if contours[i].role.is_outline() {
+            count += 1;
+        }
+    }
+    count
 }

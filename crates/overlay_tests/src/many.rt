@@ -14,14 +14,14 @@ use std::test::Fail;
 // A square, as it comes out.
 type Square = [(i16, i16); 4];
 
-// A square as an outline, by its lower left corner and the length of a side.
-fn outline(x: i16, y: i16, side: i16) -> Square {
-    [(x, y + side), (x, y), (x + side, y), (x + side, y + side)]
+// A square as an outline, by its lower left and its upper right corner.
+fn outline(low: (i16, i16), high: (i16, i16)) -> Square {
+    [(low.0, high.1), low, (high.0, low.1), high]
 }
 
 // The same as a hole.
-fn hole(x: i16, y: i16, side: i16) -> Square {
-    [(x, y), (x, y + side), (x + side, y + side), (x + side, y)]
+fn hole(low: (i16, i16), high: (i16, i16)) -> Square {
+    [low, (low.0, high.1), high, (high.0, low.1)]
 }
 
 // The squares come out as they are added, two a shape, with these links.
@@ -58,9 +58,10 @@ fn check_pairs<I: OverlayInt + PartialEq + From<i16>>(
 // Forty squares side by side, each with a hole.
 fn side_by_side(alloc: Global) -> Result<Vec<Square, Global>, Fail> {
     let mut squares = Vec::new(alloc);
-    for i in 0..40i16 {
-        squares.push(outline(10 * i, 0, 6))?;
-        squares.push(hole(10 * i + 2, 2, 2))?;
+    for i in 0..40u8 {
+        let x = 10 * i16::from(i);
+        squares.push(outline((x, 0), (x + 6, 6)))?;
+        squares.push(hole((x + 2, 2), (x + 4, 4)))?;
     }
     Ok(squares)
 }
@@ -68,9 +69,11 @@ fn side_by_side(alloc: Global) -> Result<Vec<Square, Global>, Fail> {
 // Seventy squares in one another.
 fn in_one_another(alloc: Global) -> Result<Vec<Square, Global>, Fail> {
     let mut squares = Vec::new(alloc);
-    for j in 0..35i16 {
-        squares.push(outline(2 * j, 2 * j, 200 - 4 * j))?;
-        squares.push(hole(2 * j + 1, 2 * j + 1, 198 - 4 * j))?;
+    for j in 0..35u8 {
+        let low = 2 * i16::from(j);
+        let high = 200 - low;
+        squares.push(outline((low, low), (high, high)))?;
+        squares.push(hole((low + 1, low + 1), (high - 1, high - 1)))?;
     }
     Ok(squares)
 }
@@ -87,7 +90,8 @@ fn forty_squares_with_holes(rt: HostRuntime) -> Result<(), Fail> {
 fn seventy_squares_in_one_another(rt: HostRuntime) -> Result<(), Fail> {
     let squares = in_one_another(rt.alloc())?;
     let mut links = Vec::new(rt.alloc());
-    for j in 0..34usize {
+    for j in 0..34u8 {
+        let j = usize::from(j);
         links.push((j, 2 * j + 1, j + 1))?;
     }
     check_pairs::<i16>(&rt, rt.alloc(), &squares, &links)?;

@@ -24,7 +24,7 @@ mod next;
 mod numbered_edge;
 pub mod open_steps;
 mod outline_numbers;
-pub mod roles;
+mod roles;
 pub mod select;
 pub mod selected;
 pub mod side;

@@ -18,9 +18,6 @@ use std::alloc::{Allocator, Global};
 use std::process::Abort;
 use std::test::Fail;
 
-// The limits at which each contour is looked at in a tree, and in a list.
-const LIMITS: [usize; 2] = [0, usize::MAX];
-
 /// What was answered: whether each point is inside, and where it lies.
 #[derive(Drop)]
 pub(crate) struct Answers {
@@ -60,6 +57,54 @@ pub(crate) fn assert_shapes<I: OverlayInt, A: Allocator>(rt: &impl Abort, shapes
     }
 }
 
+// Whether the points lie so in the contour, by trees alone and by lists alone.
+fn are_in_contour<I: OverlayInt>(
+    alloc: Global,
+    contour: &[IntPoint<I>],
+    points: &[IntPoint<I>],
+    locations: &[PointLocation],
+) -> Result<bool, Fail>
+    requires contour { AllInRange I.limit (plain_points I.whole contour.now) }
+    requires resolved { IsResolved (plain_points I.whole contour.now) }
+    requires points { AllInRange I.limit (plain_points I.whole points.now) }
+{
+    let by_trees = locate_in_contour(alloc, contour, points, 0)?;
+    let by_lists = locate_in_contour(alloc, contour, points, usize::MAX)?;
+    Ok(by_trees.as_slice() == locations && by_lists.as_slice() == locations)
+}
+
+// Whether they lie so in the shape.
+fn are_in_shape<I: OverlayInt>(
+    alloc: Global,
+    contours: &[IntContour<I, Global>],
+    points: &[IntPoint<I>],
+    locations: &[PointLocation],
+) -> Result<bool, Fail>
+    requires contours { All (AllInRange I.limit) (paths_of_shape I.whole contours.now) }
+    requires resolved { All IsResolved (paths_of_shape I.whole contours.now) }
+    requires points { AllInRange I.limit (plain_points I.whole points.now) }
+{
+    let by_trees = locate_in_shape(alloc, contours, points, 0)?;
+    let by_lists = locate_in_shape(alloc, contours, points, usize::MAX)?;
+    Ok(by_trees.as_slice() == locations && by_lists.as_slice() == locations)
+}
+
+// Whether they lie so among the shapes.
+fn are_in_shapes<I: OverlayInt>(
+    alloc: Global,
+    shapes: &[IntShape<I, Global>],
+    points: &[IntPoint<I>],
+    locations: &[PointLocation],
+) -> Result<bool, Fail>
+    requires shapes { All (All (AllInRange I.limit)) (plain_shapes I.whole shapes.now) }
+    requires resolved { All (All IsResolved) (plain_shapes I.whole shapes.now) }
+    requires points { AllInRange I.limit (plain_points I.whole points.now) }
+{
+    let by_trees = locate_in_shapes(alloc, shapes, points, 0)?;
+    let by_lists = locate_in_shapes(alloc, shapes, points, usize::MAX)?;
+    Ok(by_trees.as_slice() == locations && by_lists.as_slice() == locations)
+}
+
 /// Asks a contour about the points.
 pub(crate) fn ask_contour<I: OverlayInt>(
     rt: &impl Abort,
@@ -67,13 +112,12 @@ pub(crate) fn ask_contour<I: OverlayInt>(
     contour: &IntContour<I, Global>,
     points: &[IntPoint<I>],
 ) -> Result<Answers, Fail> {
-    assert_contour(rt, contour);
+    let all = contour.as_slice();
+    assert_contour(rt, all);
     assert!(rt; in_range(points));
     let inside = contour.contains_points(alloc, points)?;
     let locations = contour.locate_points(alloc, points)?;
-    for tree_from in LIMITS {
-        assert!(rt; locate_in_contour(alloc, contour, points, tree_from)? == locations);
-    }
+    assert!(rt; are_in_contour(alloc, all, points, &locations)?);
     Ok(Answers { inside, locations })
 }
 
@@ -84,13 +128,12 @@ pub(crate) fn ask_shape<I: OverlayInt>(
     shape: &IntShape<I, Global>,
     points: &[IntPoint<I>],
 ) -> Result<Answers, Fail> {
-    assert_shape(rt, shape);
+    let all = shape.as_slice();
+    assert_shape(rt, all);
     assert!(rt; in_range(points));
     let inside = shape.contains_points(alloc, points)?;
     let locations = shape.locate_points(alloc, points)?;
-    for tree_from in LIMITS {
-        assert!(rt; locate_in_shape(alloc, shape, points, tree_from)? == locations);
-    }
+    assert!(rt; are_in_shape(alloc, all, points, &locations)?);
     Ok(Answers { inside, locations })
 }
 
@@ -101,13 +144,12 @@ pub(crate) fn ask_shapes<I: OverlayInt>(
     shapes: &IntShapes<I, Global>,
     points: &[IntPoint<I>],
 ) -> Result<Answers, Fail> {
-    assert_shapes(rt, shapes);
+    let all = shapes.as_slice();
+    assert_shapes(rt, all);
     assert!(rt; in_range(points));
     let inside = shapes.contains_points(alloc, points)?;
     let locations = shapes.locate_points(alloc, points)?;
-    for tree_from in LIMITS {
-        assert!(rt; locate_in_shapes(alloc, shapes, points, tree_from)? == locations);
-    }
+    assert!(rt; are_in_shapes(alloc, all, points, &locations)?);
     Ok(Answers { inside, locations })
 }
 

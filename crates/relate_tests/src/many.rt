@@ -32,13 +32,11 @@ fn side_by_side<I: OverlayInt + From<i16>>(rt: &impl Abort, alloc: Global) -> Re
     let mut shapes: IntShapes<I, Global> = Vec::new(alloc);
     let mut asked = Vec::new(alloc);
     let mut wanted = Vec::new(alloc);
-    for i in 0..40i16 {
-        let x = 10 * i;
+    for i in 0..40u8 {
+        let x = 10 * i16::from(i);
         shapes.push(framed::<I>(alloc, [[x, 0], [x + 6, 6]], [[x + 2, 2], [x + 4, 4]])?)?;
-        for (at, inside) in [(1, true), (3, false), (5, true), (8, false)] {
-            asked.push([x + at, 3])?;
-            wanted.push(inside)?;
-        }
+        asked.extend_from_slice(&[[x + 1, 3], [x + 3, 3], [x + 5, 3], [x + 8, 3]])?;
+        wanted.extend_from_slice(&[true, false, true, false])?;
     }
     let asked = points::<I>(alloc, &asked)?;
     let answers = ask_shapes(rt, alloc, &shapes, &asked)?;
@@ -49,8 +47,9 @@ fn side_by_side<I: OverlayInt + From<i16>>(rt: &impl Abort, alloc: Global) -> Re
 // Seventy squares in one another, two a shape. Only in the middle and outside all is a whole point on no edge.
 fn in_one_another<I: OverlayInt + From<i16>>(rt: &impl Abort, alloc: Global) -> Result<(), Fail> {
     let mut shapes: IntShapes<I, Global> = Vec::new(alloc);
-    for j in 0..35i16 {
-        let (low, high) = (2 * j, 200 - 2 * j);
+    for j in 0..35u8 {
+        let low = 2 * i16::from(j);
+        let high = 200 - low;
         let hole = [[low + 1, low + 1], [high - 1, high - 1]];
         shapes.push(framed::<I>(alloc, [[low, low], [high, high]], hole)?)?;
     }
