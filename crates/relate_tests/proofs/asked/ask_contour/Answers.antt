@@ -12,7 +12,7 @@ contains_points-requires-clause-self_in_range g c =
     let ps = plain_points whole c.args.contour.now.items in
     (All-one (All (AllInRange g.I.IntNumber.limit)) (ps ∷ [])).0
     ((All-one (AllInRange g.I.IntNumber.limit) ps).0
-    (subst (λ xs. AllInRange g.I.IntNumber.limit (plain_points whole xs)) c.deref.ensures.value
+    (subst (λ xs. AllInRange g.I.IntNumber.limit (plain_points whole xs)) c.as_slice-all.ensures.value
     c.assert_contour.ensures.range))
 
 pub contains_points-requires-clause-resolved : goal.contains_points-requires-clause-resolved
@@ -20,7 +20,7 @@ contains_points-requires-clause-resolved g c =
     let whole = g.I.IntNumber.whole in
     let ps = plain_points whole c.args.contour.now.items in
     (All-one (All (IsResolved)) (ps ∷ [])).0
-    ((All-one (IsResolved) ps).0 (subst (λ xs. IsResolved (plain_points whole xs)) c.deref.ensures.value
+    ((All-one (IsResolved) ps).0 (subst (λ xs. IsResolved (plain_points whole xs)) c.as_slice-all.ensures.value
     c.assert_contour.ensures.resolved))
 
 pub locate_points-requires-clause-self_in_range : goal.locate_points-requires-clause-self_in_range
@@ -29,7 +29,7 @@ locate_points-requires-clause-self_in_range g c =
     let ps = plain_points whole c.args.contour.now.items in
     (All-one (All (AllInRange g.I.IntNumber.limit)) (ps ∷ [])).0
     ((All-one (AllInRange g.I.IntNumber.limit) ps).0
-    (subst (λ xs. AllInRange g.I.IntNumber.limit (plain_points whole xs)) c.deref.ensures.value
+    (subst (λ xs. AllInRange g.I.IntNumber.limit (plain_points whole xs)) c.as_slice-all.ensures.value
     c.assert_contour.ensures.range))
 
 pub locate_points-requires-clause-resolved : goal.locate_points-requires-clause-resolved
@@ -37,5 +37,5 @@ locate_points-requires-clause-resolved g c =
     let whole = g.I.IntNumber.whole in
     let ps = plain_points whole c.args.contour.now.items in
     (All-one (All (IsResolved)) (ps ∷ [])).0
-    ((All-one (IsResolved) ps).0 (subst (λ xs. IsResolved (plain_points whole xs)) c.deref.ensures.value
+    ((All-one (IsResolved) ps).0 (subst (λ xs. IsResolved (plain_points whole xs)) c.as_slice-all.ensures.value
     c.assert_contour.ensures.resolved))

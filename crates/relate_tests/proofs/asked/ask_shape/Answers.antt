@@ -11,14 +11,15 @@ contains_points-requires-clause-self_in_range g c =
     let whole = g.I.IntNumber.whole in
     let cs = paths_of_shape whole c.args.shape.now.items in
     (All-one (All (AllInRange g.I.IntNumber.limit)) cs).0
-    (subst (λ xs. All (AllInRange g.I.IntNumber.limit) (paths_of_shape whole xs)) c.deref.ensures.value
+    (subst (λ xs. All (AllInRange g.I.IntNumber.limit) (paths_of_shape whole xs)) c.as_slice-all.ensures.value
     c.assert_shape.ensures.range)
 
 pub contains_points-requires-clause-resolved : goal.contains_points-requires-clause-resolved
 contains_points-requires-clause-resolved g c =
     let whole = g.I.IntNumber.whole in
     let cs = paths_of_shape whole c.args.shape.now.items in
-    (All-one (All (IsResolved)) cs).0 (subst (λ xs. All (IsResolved) (paths_of_shape whole xs)) c.deref.ensures.value
+    (All-one (All (IsResolved)) cs).0 (subst (λ xs. All (IsResolved) (paths_of_shape whole xs))
+    c.as_slice-all.ensures.value
     c.assert_shape.ensures.resolved)
 
 pub locate_points-requires-clause-self_in_range : goal.locate_points-requires-clause-self_in_range
@@ -26,12 +27,13 @@ locate_points-requires-clause-self_in_range g c =
     let whole = g.I.IntNumber.whole in
     let cs = paths_of_shape whole c.args.shape.now.items in
     (All-one (All (AllInRange g.I.IntNumber.limit)) cs).0
-    (subst (λ xs. All (AllInRange g.I.IntNumber.limit) (paths_of_shape whole xs)) c.deref.ensures.value
+    (subst (λ xs. All (AllInRange g.I.IntNumber.limit) (paths_of_shape whole xs)) c.as_slice-all.ensures.value
     c.assert_shape.ensures.range)
 
 pub locate_points-requires-clause-resolved : goal.locate_points-requires-clause-resolved
 locate_points-requires-clause-resolved g c =
     let whole = g.I.IntNumber.whole in
     let cs = paths_of_shape whole c.args.shape.now.items in
-    (All-one (All (IsResolved)) cs).0 (subst (λ xs. All (IsResolved) (paths_of_shape whole xs)) c.deref.ensures.value
+    (All-one (All (IsResolved)) cs).0 (subst (λ xs. All (IsResolved) (paths_of_shape whole xs))
+    c.as_slice-all.ensures.value
     c.assert_shape.ensures.resolved)
