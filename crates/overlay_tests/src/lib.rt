@@ -16,6 +16,8 @@ mod failed;
 #[cfg(test)]
 mod hierarchy;
 #[cfg(test)]
+mod many;
+#[cfg(test)]
 mod minimum;
 #[cfg(test)]
 mod names;
@@ -50,5 +52,7 @@ mod simplify;
 mod sources;
 #[cfg(test)]
 mod squares;
+#[cfg(test)]
+mod trees;
 #[cfg(test)]
 mod views;

@@ -18,36 +18,42 @@ use std::alloc::Global;
 use std::process::Abort;
 
 // The answer where no edge is found.
-const NONE: u8 = 255;
+pub(crate) const NONE: u16 = u16::MAX;
+
+// The greatest coordinate, which each coordinate type has.
+const MOST: u16 = 16383;
 
 // A coordinate type, with small numbers as coordinates.
 pub(crate) trait SmallNumber: IntNumber {
-    fn small(n: u8) -> Self
+    fn small(n: u16) -> Self
+        requires { n ≤ 16383 }
         ensures value { Self.IntNumber.whole result ≡ pos n }
         ensures fits { Within Self.IntNumber.limit (pos n) };
 }
 
 impl SmallNumber for i16 {
-    fn small(n: u8) -> i16 {
-        i16::from(n)
+    fn small(n: u16) -> i16 {
+        n as i16
     }
 }
 
 impl SmallNumber for i32 {
-    fn small(n: u8) -> i32 {
+    fn small(n: u16) -> i32 {
         i32::from(n)
     }
 }
 
 impl SmallNumber for i64 {
-    fn small(n: u8) -> i64 {
+    fn small(n: u16) -> i64 {
         i64::from(n)
     }
 }
 
 // The edge from x to `end` at a height.
-fn level<I: SmallNumber>(x: u8, end: u8, height: u8) -> IntLine<I>
-    requires { x < end }
+fn level<I: SmallNumber>(x: u16, end: u16, height: u16) -> IntLine<I>
+    requires long { x < end }
+    requires near { end ≤ 16383 }
+    requires low { height ≤ 16383 }
     ensures line { plain_line I.whole result ≡ level_edge x end height }
     ensures over { IsOver I.limit (pos x) (level_edge x end height) }
 {
@@ -58,8 +64,9 @@ fn level<I: SmallNumber>(x: u8, end: u8, height: u8) -> IntLine<I>
 }
 
 // The vertical edge over x from a height to the next one.
-fn upright<I: SmallNumber>(x: u8, height: u8) -> IntLine<I>
-    requires { height < 255 }
+fn upright<I: SmallNumber>(x: u16, height: u16) -> IntLine<I>
+    requires near { x ≤ 16383 }
+    requires low { height < 16383 }
     ensures line { plain_line I.whole result ≡ upright_edge x height }
     ensures asked { IsAsked I.limit (pos x) (upright_edge x height) }
 {
@@ -74,16 +81,16 @@ fn upright<I: SmallNumber>(x: u8, height: u8) -> IntLine<I>
 pub(crate) struct Levels<S> {
     scan: S,
     // where the sweep may go on from
-    reached: u8,
+    reached: u16,
     // the heights of the edges that were inserted
-    heights: Vec<u8, Global>,
+    heights: Vec<u16, Global>,
 }
 
 impl<S> Levels<S> {
     // No edges yet.
     pub(crate) fn new<I: SmallNumber>(alloc: Global, scan: S) -> Self
     where
-        S: Scan<I, u8>,
+        S: Scan<I, u16>,
         requires { S.content scan ≡ empty_sweep }
         ensures { IsLevelSweep I.limit result.reached result.heights.items (S.content result.scan) }
     {
@@ -95,13 +102,16 @@ impl<S> Levels<S> {
     }
 
     // Stops the test unless an edge from x to `end` at a height may come next.
-    fn check_next(&self, rt: &impl Abort, x: u8, end: u8, height: u8)
+    fn check_next(&self, rt: &impl Abort, x: u16, end: u16, height: u16)
         ensures later { self.now.reached ≤ x }
         ensures long { x < end }
+        ensures near { end ≤ 16383 }
+        ensures low { height ≤ 16383 }
         ensures free { list_any (λ i. nat_eq i height) self.now.heights.items ≡ false }
     {
         assert!(rt; self.reached <= x);
         assert!(rt; x < end);
+        assert!(rt; end <= MOST && height <= MOST);
         assert!(rt; !self.heights.contains(&height));
     }
 
@@ -109,12 +119,12 @@ impl<S> Levels<S> {
     pub(crate) fn insert<I: SmallNumber>(
         &mut self,
         rt: &impl Abort,
-        x: u8,
-        end: u8,
-        height: u8,
+        x: u16,
+        end: u16,
+        height: u16,
     ) -> Result<(), OverlayError>
     where
-        S: Scan<I, u8>,
+        S: Scan<I, u16>,
         requires { IsLevelSweep I.limit self.old.reached self.old.heights.items (S.content self.old.scan) }
         ensures { OnOk result (IsLevelSweep I.limit self.new.reached self.new.heights.items (S.content self.new.scan)) }
     {
@@ -130,12 +140,12 @@ impl<S> Levels<S> {
     pub(crate) fn below<I: SmallNumber>(
         &mut self,
         rt: &impl Abort,
-        x: u8,
-        end: u8,
-        height: u8,
-    ) -> u8
+        x: u16,
+        end: u16,
+        height: u16,
+    ) -> u16
     where
-        S: Scan<I, u8>,
+        S: Scan<I, u16>,
         requires { IsLevelSweep I.limit self.old.reached self.old.heights.items (S.content self.old.scan) }
         ensures { IsLevelSweep I.limit self.new.reached self.new.heights.items (S.content self.new.scan) }
     {
@@ -146,14 +156,14 @@ impl<S> Levels<S> {
     }
 
     // The height of the highest edge below a vertical one over x, from a height to the next one.
-    fn below_upright<I: SmallNumber>(&mut self, rt: &impl Abort, x: u8, height: u8) -> u8
+    fn below_upright<I: SmallNumber>(&mut self, rt: &impl Abort, x: u16, height: u16) -> u16
     where
-        S: Scan<I, u8>,
+        S: Scan<I, u16>,
         requires { IsLevelSweep I.limit self.old.reached self.old.heights.items (S.content self.old.scan) }
         ensures { IsLevelSweep I.limit self.new.reached self.new.heights.items (S.content self.new.scan) }
     {
         assert!(rt; self.reached <= x);
-        assert!(rt; height < 255);
+        assert!(rt; x <= MOST && height < MOST);
         assert!(rt; !self.heights.contains(&height));
         assert!(rt; !self.heights.contains(&(height + 1)));
         let line: IntLine<I> = upright(x, height);
@@ -162,13 +172,14 @@ impl<S> Levels<S> {
     }
 
     // The height of the highest edge over x that is no higher than this height.
-    pub(crate) fn up_to<I: SmallNumber>(&mut self, rt: &impl Abort, x: u8, height: u8) -> u8
+    pub(crate) fn up_to<I: SmallNumber>(&mut self, rt: &impl Abort, x: u16, height: u16) -> u16
     where
-        S: Scan<I, u8>,
+        S: Scan<I, u16>,
         requires { IsLevelSweep I.limit self.old.reached self.old.heights.items (S.content self.old.scan) }
         ensures { IsLevelSweep I.limit self.new.reached self.new.heights.items (S.content self.new.scan) }
     {
         assert!(rt; self.reached <= x);
+        assert!(rt; x <= MOST && height <= MOST);
         self.reached = x;
         let y = I::small(height);
         self.scan
@@ -181,7 +192,7 @@ impl<S> Levels<S> {
     // Begins anew.
     pub(crate) fn clear<I: SmallNumber>(&mut self)
     where
-        S: Scan<I, u8>,
+        S: Scan<I, u16>,
         ensures { IsLevelSweep I.limit self.new.reached self.new.heights.items (S.content self.new.scan) }
     {
         self.scan.clear();
@@ -191,7 +202,7 @@ impl<S> Levels<S> {
 }
 
 // Two edges, and what is found below, between and above them.
-fn check_two_edges<I: SmallNumber, S: Scan<I, u8>>(
+fn check_two_edges<I: SmallNumber, S: Scan<I, u16>>(
     rt: &impl Abort,
     levels: &mut Levels<S>,
 ) -> Result<(), OverlayError>
@@ -208,7 +219,7 @@ fn check_two_edges<I: SmallNumber, S: Scan<I, u8>>(
 }
 
 // What is found below vertical edges, under both, between them and above both.
-fn check_uprights<I: SmallNumber, S: Scan<I, u8>>(rt: &impl Abort, levels: &mut Levels<S>)
+fn check_uprights<I: SmallNumber, S: Scan<I, u16>>(rt: &impl Abort, levels: &mut Levels<S>)
     requires { IsLevelSweep I.limit levels.old.reached levels.old.heights.items (S.content levels.old.scan) }
     ensures { IsLevelSweep I.limit levels.new.reached levels.new.heights.items (S.content levels.new.scan) }
 {
@@ -218,7 +229,7 @@ fn check_uprights<I: SmallNumber, S: Scan<I, u8>>(rt: &impl Abort, levels: &mut 
 }
 
 // A third edge between them.
-fn check_third_edge<I: SmallNumber, S: Scan<I, u8>>(
+fn check_third_edge<I: SmallNumber, S: Scan<I, u16>>(
     rt: &impl Abort,
     levels: &mut Levels<S>,
 ) -> Result<(), OverlayError>
@@ -233,7 +244,7 @@ fn check_third_edge<I: SmallNumber, S: Scan<I, u8>>(
 }
 
 // The highest of the three up to a height, and where the third one has ended.
-fn check_heights<I: SmallNumber, S: Scan<I, u8>>(rt: &impl Abort, levels: &mut Levels<S>)
+fn check_heights<I: SmallNumber, S: Scan<I, u16>>(rt: &impl Abort, levels: &mut Levels<S>)
     requires { IsLevelSweep I.limit levels.old.reached levels.old.heights.items (S.content levels.old.scan) }
 {
     assert_eq!(rt; levels.up_to(rt, 2, 1), NONE);
@@ -245,7 +256,7 @@ fn check_heights<I: SmallNumber, S: Scan<I, u8>>(rt: &impl Abort, levels: &mut L
 }
 
 // A new beginning.
-fn check_cleared<I: SmallNumber, S: Scan<I, u8>>(
+fn check_cleared<I: SmallNumber, S: Scan<I, u16>>(
     rt: &impl Abort,
     levels: &mut Levels<S>,
 ) -> Result<(), OverlayError> {
@@ -258,7 +269,7 @@ fn check_cleared<I: SmallNumber, S: Scan<I, u8>>(
 }
 
 // Two edges, a third between them that ends before them, and a new beginning.
-fn check_sweep<I: SmallNumber, S: Scan<I, u8> + Drop>(
+fn check_sweep<I: SmallNumber, S: Scan<I, u16> + Drop>(
     rt: &impl Abort,
     alloc: Global,
     scan: S,
@@ -275,32 +286,32 @@ fn check_sweep<I: SmallNumber, S: Scan<I, u8> + Drop>(
 
 #[test]
 fn a_sweep_over_level_edges(rt: HostRuntime) -> Result<(), OverlayError> {
-    let list: ScanList<i16, u8, _> = ScanList::default(rt.alloc());
+    let list: ScanList<i16, u16, _> = ScanList::default(rt.alloc());
     check_sweep(&rt, rt.alloc(), list)?;
-    let list: ScanList<i32, u8, _> = ScanList::default(rt.alloc());
+    let list: ScanList<i32, u16, _> = ScanList::default(rt.alloc());
     check_sweep(&rt, rt.alloc(), list)?;
-    let list: ScanList<i64, u8, _> = ScanList::default(rt.alloc());
+    let list: ScanList<i64, u16, _> = ScanList::default(rt.alloc());
     check_sweep(&rt, rt.alloc(), list)?;
     Ok(())
 }
 
 #[test]
 fn a_sweep_over_level_edges_in_a_tree(rt: HostRuntime) -> Result<(), OverlayError> {
-    let tree: ScanTree<i16, u8, _> = ScanTree::default(rt.alloc());
+    let tree: ScanTree<i16, u16, _> = ScanTree::default(rt.alloc());
     check_sweep(&rt, rt.alloc(), tree)?;
-    let tree: ScanTree<i32, u8, _> = ScanTree::default(rt.alloc());
+    let tree: ScanTree<i32, u16, _> = ScanTree::default(rt.alloc());
     check_sweep(&rt, rt.alloc(), tree)?;
-    let tree: ScanTree<i64, u8, _> = ScanTree::default(rt.alloc());
+    let tree: ScanTree<i64, u16, _> = ScanTree::default(rt.alloc());
     check_sweep(&rt, rt.alloc(), tree)?;
     Ok(())
 }
 
 // The heights of the highest edges over x no higher than 0, 1 and 2.
-fn heights_over<I: SmallNumber, S: Scan<I, u8>>(
+fn heights_over<I: SmallNumber, S: Scan<I, u16>>(
     levels: &mut Levels<S>,
     rt: &impl Abort,
-    x: u8,
-) -> [u8; 3]
+    x: u16,
+) -> [u16; 3]
     requires { IsLevelSweep I.limit levels.old.reached levels.old.heights.items (S.content levels.old.scan) }
     ensures { IsLevelSweep I.limit levels.new.reached levels.new.heights.items (S.content levels.new.scan) }
 {
@@ -313,7 +324,7 @@ fn heights_over<I: SmallNumber, S: Scan<I, u8>>(
 
 #[test]
 fn edges_that_end_at_or_before_x_are_dropped(rt: HostRuntime) -> Result<(), OverlayError> {
-    let list: ScanList<i32, u8, _> = ScanList::default(rt.alloc());
+    let list: ScanList<i32, u16, _> = ScanList::default(rt.alloc());
     let mut levels = Levels::new(rt.alloc(), list);
     levels.insert(&rt, 0, 3, 0)?;
     levels.insert(&rt, 0, 5, 1)?;

@@ -5,3 +5,5 @@
 mod levels;
 #[cfg(test)]
 mod list;
+#[cfg(test)]
+mod many;
