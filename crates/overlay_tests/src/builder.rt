@@ -1,11 +1,11 @@
 //! The builder where memory is refused: every request of a call in turn.
 
 use crate::builders::{add, check_edges, edge_count, has_edges, is_refused};
-use crate::refusing::Refusing;
 use crate::squares::{PLENTY, Refusable, square, square_edges};
 use i_overlay::fill_rule::FillRule;
 use i_overlay::overlay::{IntOverlayOptions, ShapeType};
 use overlay_geom::error::OverlayError;
+use refusing_alloc::refusing::Refusing;
 use std::alloc::Global;
 use std::process::Abort;
 use std::test::Fail;

@@ -1,4 +1,4 @@
-//! What the tests of the overlay crates share, and the tests of the builder and its queries.
+//! Tests of the builder and its queries.
 #![tactic(auto)]
 
 #[cfg(test)]
@@ -33,7 +33,6 @@ mod overlays;
 mod paths;
 #[cfg(test)]
 mod reexports;
-pub mod refusing;
 #[cfg(test)]
 mod relations;
 #[cfg(test)]

@@ -3,13 +3,13 @@
 ghost use Rattle.std.specs.Prelude.{◌≡◌, false};
 
 use crate::builders::{add, is_refused};
-use crate::refusing::Refusing;
 use crate::squares::{PLENTY, Refusable, square};
 use i_overlay::fill_rule::FillRule;
 use i_overlay::overlay::ShapeType;
 use i_overlay::overlay_rule::OverlayRule;
 use overlay_geom::error::OverlayError;
 use overlay_geom::path::IntShapes;
+use refusing_alloc::refusing::Refusing;
 use std::alloc::{Allocator, Global};
 use std::process::Abort;
 use std::test::Fail;

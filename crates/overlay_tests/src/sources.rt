@@ -4,12 +4,12 @@ use crate::builders::{
     add_points, add_source, edge_count, from_subj, from_subj_and_clip, is_refused,
     reinit_with_subj, reinit_with_subj_and_clip,
 };
-use crate::refusing::Refusing;
 use crate::squares::{PLENTY, Refusable, square};
 use i_overlay::fill_rule::FillRule;
 use i_overlay::overlay::ShapeType;
 use overlay_geom::error::OverlayError;
 use overlay_geom::path::{IntShape, PathRef};
+use refusing_alloc::refusing::Refusing;
 use std::alloc::Global;
 use std::process::Abort;
 use std::test::Fail;

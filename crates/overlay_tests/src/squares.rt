@@ -1,10 +1,10 @@
 //! Builders whose memory may be refused, and squares to add to them.
 
 use crate::builders::edge;
-use crate::refusing::Refusing;
 use i_overlay::overlay::Overlay;
 use i_overlay::vector::edge::DataVectorEdge;
 use overlay_geom::point::IntPoint;
+use refusing_alloc::refusing::Refusing;
 use std::alloc::Global;
 
 /// More requests than a call on two squares makes.

@@ -115,7 +115,7 @@ impl<S> Levels<S> {
         assert!(rt; !self.heights.contains(&height));
     }
 
-    // Inserts the edge from x to `end` at a height.
+    // Inserts the edge from x to `end` at a height. A refusal leaves the heights and the live edges as they were.
     pub(crate) fn insert<I: SmallNumber>(
         &mut self,
         rt: &impl Abort,
@@ -126,13 +126,14 @@ impl<S> Levels<S> {
     where
         S: Scan<I, u16>,
         requires { IsLevelSweep I.limit self.old.reached self.old.heights.items (S.content self.old.scan) }
-        ensures { OnOk result (IsLevelSweep I.limit self.new.reached self.new.heights.items (S.content self.new.scan)) }
+        ensures { IsLevelSweep I.limit self.new.reached self.new.heights.items (S.content self.new.scan) }
     {
         self.check_next(rt, x, end, height);
         let line: IntLine<I> = level(x, end, height);
-        self.scan.insert(line, height, I::small(x))?;
-        self.heights.push(height)?;
+        self.heights.reserve(1)?;
         self.reached = x;
+        self.scan.insert(line, height, I::small(x))?;
+        self.heights.push_reserved(height);
         Ok(())
     }
 

@@ -4,7 +4,7 @@ use super::check_reader;
 use crate::engine::run;
 use crate::exit::Exit;
 use overlay_geom::error::OverlayError;
-use overlay_tests::refusing::Refusing;
+use refusing_alloc::refusing::Refusing;
 use std::alloc::Allocator;
 use std::io;
 use std::io::{ErrorKind, Read, Write};

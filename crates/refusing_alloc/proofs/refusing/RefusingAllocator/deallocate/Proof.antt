@@ -35,11 +35,11 @@ use types.Kit.{Item, ‵, raw, ◌⊛◌, later, given, learn, ◌$◌, ◌∵�
 use types.Kit.{fsplit, fjoin, feq_i, group, suffices, await, done}
 use types.ByLocal.{alloc_all, pass_all, free_all, look_at, get, through, sets, lands_as}
 use Rattle.std.proofs.alloc.Calls.{Al, α, seen, token, gives_key, Gives, at_gives, Gives-goes, Gives-Gives}
-use Rattle.overlay_tests.specs.contracts.refusing.Refusing as handle
-use Rattle.overlay_tests.specs.contracts.refusing.RefusingAllocator.deallocate as F
-use Rattle.overlay_tests.specs.contracts.refusing.RefusingAllocator.deallocate.Key as key
-use Rattle.overlay_tests.proofs.refusing.RefusingAllocator.deallocate.Statement as stated
-use Rattle.overlay_tests.proofs.refusing.RefusingAllocator.deallocate.Code as code
+use Rattle.refusing_alloc.specs.contracts.refusing.Refusing as handle
+use Rattle.refusing_alloc.specs.contracts.refusing.RefusingAllocator.deallocate as F
+use Rattle.refusing_alloc.specs.contracts.refusing.RefusingAllocator.deallocate.Key as key
+use Rattle.refusing_alloc.proofs.refusing.RefusingAllocator.deallocate.Statement as stated
+use Rattle.refusing_alloc.proofs.refusing.RefusingAllocator.deallocate.Code as code
 
 module _ (Z : Al) where
   abbrev args : Args

@@ -39,14 +39,14 @@ use denote.Triple.Call.{calls_at}
 use Rattle.std.proofs.alloc.Calls.{Al, α, seen, Answer, answer_val, Answer-typed, Answer-Ok, Answer-err, takes_key}
 use Rattle.std.proofs.alloc.Calls.{Takes, at_takes, Answered, Takes-goes, Takes-gives, answers, got, token}
 use Rattle.std.proofs.VecSteps.Shapes.{after}
-use Rattle.overlay_tests.proofs.Turns.{Turn, asked, lent_to_turn, told_by_turn}
-use Rattle.overlay_tests.proofs.refusing.takes_turn.Symbol as turn_symbol
-use Rattle.overlay_tests.proofs.refusing.takes_turn.Met as turn_met
-use Rattle.overlay_tests.specs.contracts.refusing.Refusing as handle
-use Rattle.overlay_tests.specs.contracts.refusing.RefusingAllocator.allocate as F
-use Rattle.overlay_tests.specs.contracts.refusing.RefusingAllocator.allocate.Key as key
-use Rattle.overlay_tests.proofs.refusing.RefusingAllocator.allocate.Statement as stated
-use Rattle.overlay_tests.proofs.refusing.RefusingAllocator.allocate.Code as code
+use Rattle.refusing_alloc.proofs.Turns.{Turn, asked, lent_to_turn, told_by_turn}
+use Rattle.refusing_alloc.proofs.refusing.takes_turn.Symbol as turn_symbol
+use Rattle.refusing_alloc.proofs.refusing.takes_turn.Met as turn_met
+use Rattle.refusing_alloc.specs.contracts.refusing.Refusing as handle
+use Rattle.refusing_alloc.specs.contracts.refusing.RefusingAllocator.allocate as F
+use Rattle.refusing_alloc.specs.contracts.refusing.RefusingAllocator.allocate.Key as key
+use Rattle.refusing_alloc.proofs.refusing.RefusingAllocator.allocate.Statement as stated
+use Rattle.refusing_alloc.proofs.refusing.RefusingAllocator.allocate.Code as code
 
 module _ (Z : Al) where
   abbrev args : Args
@@ -180,4 +180,4 @@ allocate_spec 𝓤 𝓛 𝓜 𝓡 wired Y L g d d' met _ =
     (λ κs qs bounds x τ are. walk Z 𝓛 𝓜.mem 𝓡.returns κs.0 κs.1.0 qs.0 qs.1.0 bounds.0 x.0 x.1.0 x.1.1.0 τ 𝓣
     (met.allocate d')
     (cited 𝓤 𝓛.H _ 𝓜 𝓡 𝓡.env turn_symbol.name (𝓡.env turn_symbol.name) refl
-    (turn_met.met 𝓤 𝓛 𝓜 𝓡 (code.calls-overlay_tests::refusing::takes_turn 𝓡.env wired))) are.1.0.1 are.1.1.0.1)))
+    (turn_met.met 𝓤 𝓛 𝓜 𝓡 (code.calls-refusing_alloc::refusing::takes_turn 𝓡.env wired))) are.1.0.1 are.1.1.0.1)))

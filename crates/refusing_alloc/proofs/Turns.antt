@@ -17,7 +17,7 @@ use seplogic.Ra.Ura.{Ura}
 use types.Kit.{ !, await, check, done, feq_i, feq_l, fjoin, join, keep, later, move, now as at_once, pick, qed, show}
 use types.Kit.{some, split, updating, use1, ‵, ◌$◌, ◌∵◌, ◌⊛◌}
 use types.Logic.{Logic, sem}
-use Rattle.overlay_tests.specs.contracts.refusing.takes_turn as turn
+use Rattle.refusing_alloc.specs.contracts.refusing.takes_turn as turn
 use Rattle.std.specs.contracts.cell.Cell as cell
 
 -- The cell that counts what is left.

@@ -1,0 +1,4 @@
+//! Memory that is refused, for tests.
+#![tactic(auto)]
+
+pub mod refusing;
