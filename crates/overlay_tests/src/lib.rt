@@ -16,8 +16,6 @@ mod failed;
 #[cfg(test)]
 mod hierarchy;
 #[cfg(test)]
-mod many;
-#[cfg(test)]
 mod minimum;
 #[cfg(test)]
 mod names;
@@ -51,7 +49,5 @@ mod simplify;
 mod sources;
 #[cfg(test)]
 mod squares;
-#[cfg(test)]
-mod trees;
 #[cfg(test)]
 mod views;

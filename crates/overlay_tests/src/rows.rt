@@ -4,7 +4,6 @@ ghost use Rattle.std.specs.Prelude.{◌≡◌, false, IfOk};
 
 use crate::builders::check_fills;
 use crate::contours::{Points, add_contours, shapes_of};
-use crate::trees::gives_shapes;
 use i_overlay::fill_rule::FillRule;
 use i_overlay::overlay::{ContourDirection, IntOverlayOptions, Overlay, ShapeType};
 use i_overlay::overlay_rule::OverlayRule;
@@ -58,8 +57,7 @@ fn answers<I: OverlayInt + PartialEq + From<i16>>(
     Ok(shapes == wanted)
 }
 
-// Whether a builder with the row's contours answers its shapes, and answers them again, and whether they come with
-// trees alone and with lists alone.
+// Whether a builder with the row's contours answers its shapes, and answers them again.
 fn holds<I: OverlayInt + PartialEq + From<i16>>(
     rt: &impl Abort,
     alloc: Global,
@@ -69,8 +67,7 @@ fn holds<I: OverlayInt + PartialEq + From<i16>>(
     let mut overlay = builder_of(rt, alloc, row, options)?;
     let first = answers::<I>(alloc, &mut overlay, row) == Ok(true);
     let again = answers::<I>(alloc, &mut overlay, row) == Ok(true);
-    let by_each = gives_shapes::<I>(rt, alloc, row, options) == Ok(true);
-    Ok(first && again && by_each)
+    Ok(first && again)
 }
 
 /// Checks the row with the default options.
