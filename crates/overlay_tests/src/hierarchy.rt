@@ -20,16 +20,18 @@ struct Linked<'a> {
     links: &'a [(usize, usize, usize)],
 }
 
+const NEST_GIVEN: &[Points<'static>] = &[
+    &[(0, 0), (100, 0), (100, 100), (0, 100)],
+    &[(10, 10), (90, 10), (90, 90), (10, 90)],
+    &[(20, 20), (80, 20), (80, 80), (20, 80)],
+    &[(30, 30), (70, 30), (70, 70), (30, 70)],
+    &[(40, 40), (60, 40), (60, 60), (40, 60)],
+];
+
 // Squares in one another: three shapes, of which the second and the third lie in a hole each.
 const NEST: Linked<'static> = Linked {
     row: Row {
-        subj: &[
-            &[(0, 0), (100, 0), (100, 100), (0, 100)],
-            &[(10, 10), (90, 10), (90, 90), (10, 90)],
-            &[(20, 20), (80, 20), (80, 80), (20, 80)],
-            &[(30, 30), (70, 30), (70, 70), (30, 70)],
-            &[(40, 40), (60, 40), (60, 60), (40, 60)],
-        ],
+        subj: NEST_GIVEN,
         clip: &[],
         rule: OverlayRule::Subject,
         fill: FillRule::EvenOdd,
@@ -48,15 +50,58 @@ const NEST: Linked<'static> = Linked {
     links: &[(0, 1, 1), (1, 3, 2)],
 };
 
-// Two islands in one hole, clockwise.
+// The same, clockwise.
+const NEST_CLOCKWISE: Linked<'static> = Linked {
+    row: Row {
+        subj: NEST_GIVEN,
+        clip: &[],
+        rule: OverlayRule::Subject,
+        fill: FillRule::EvenOdd,
+        wanted: &[
+            &[
+                &[(0, 0), (0, 100), (100, 100), (100, 0)],
+                &[(10, 90), (10, 10), (90, 10), (90, 90)],
+            ],
+            &[
+                &[(20, 20), (20, 80), (80, 80), (80, 20)],
+                &[(30, 70), (30, 30), (70, 30), (70, 70)],
+            ],
+            &[&[(40, 40), (40, 60), (60, 60), (60, 40)]],
+        ],
+    },
+    links: &[(0, 1, 1), (1, 3, 2)],
+};
+
+const PAIR_GIVEN: &[Points<'static>] = &[
+    &[(0, 0), (100, 0), (100, 100), (0, 100)],
+    &[(10, 10), (90, 10), (90, 90), (10, 90)],
+    &[(20, 20), (30, 20), (30, 30), (20, 30)],
+    &[(60, 60), (70, 60), (70, 70), (60, 70)],
+];
+
+// Two islands in one hole.
 const PAIR: Linked<'static> = Linked {
     row: Row {
-        subj: &[
-            &[(0, 0), (100, 0), (100, 100), (0, 100)],
-            &[(10, 10), (90, 10), (90, 90), (10, 90)],
-            &[(20, 20), (30, 20), (30, 30), (20, 30)],
-            &[(60, 60), (70, 60), (70, 70), (60, 70)],
+        subj: PAIR_GIVEN,
+        clip: &[],
+        rule: OverlayRule::Subject,
+        fill: FillRule::EvenOdd,
+        wanted: &[
+            &[
+                &[(0, 100), (0, 0), (100, 0), (100, 100)],
+                &[(10, 10), (10, 90), (90, 90), (90, 10)],
+            ],
+            &[&[(20, 30), (20, 20), (30, 20), (30, 30)]],
+            &[&[(60, 70), (60, 60), (70, 60), (70, 70)]],
         ],
+    },
+    links: &[(0, 1, 1), (0, 1, 2)],
+};
+
+// The same, clockwise.
+const PAIR_CLOCKWISE: Linked<'static> = Linked {
+    row: Row {
+        subj: PAIR_GIVEN,
         clip: &[],
         rule: OverlayRule::Subject,
         fill: FillRule::EvenOdd,
@@ -72,14 +117,16 @@ const PAIR: Linked<'static> = Linked {
     links: &[(0, 1, 1), (0, 1, 2)],
 };
 
+const TOUCHING_GIVEN: &[Points<'static>] = &[
+    &[(0, 0), (10, 0), (10, 10), (0, 10)],
+    &[(2, 2), (2, 8), (8, 8), (8, 2)],
+    &[(2, 5), (4, 4), (4, 6)],
+];
+
 // With groups an island that touches the hole round it is a shape of its own, and lies in the hole.
 const TOUCHING: Linked<'static> = Linked {
     row: Row {
-        subj: &[
-            &[(0, 0), (10, 0), (10, 10), (0, 10)],
-            &[(2, 2), (2, 8), (8, 8), (8, 2)],
-            &[(2, 5), (4, 4), (4, 6)],
-        ],
+        subj: TOUCHING_GIVEN,
         clip: &[],
         rule: OverlayRule::Subject,
         fill: FillRule::EvenOdd,
@@ -89,6 +136,24 @@ const TOUCHING: Linked<'static> = Linked {
                 &[(2, 2), (2, 8), (8, 8), (8, 2)],
             ],
             &[&[(4, 6), (2, 5), (4, 4)]],
+        ],
+    },
+    links: &[(0, 1, 1)],
+};
+
+// The same, clockwise.
+const TOUCHING_CLOCKWISE: Linked<'static> = Linked {
+    row: Row {
+        subj: TOUCHING_GIVEN,
+        clip: &[],
+        rule: OverlayRule::Subject,
+        fill: FillRule::EvenOdd,
+        wanted: &[
+            &[
+                &[(0, 0), (0, 10), (10, 10), (10, 0)],
+                &[(2, 2), (8, 2), (8, 8), (2, 8)],
+            ],
+            &[&[(2, 5), (4, 6), (4, 4)]],
         ],
     },
     links: &[(0, 1, 1)],
@@ -143,8 +208,15 @@ fn check_each<I: OverlayInt + PartialEq + From<i16>>(
     };
     check::<I>(rt, alloc, &NEST, IntOverlayOptions::default())?;
     check::<I>(rt, alloc, &NEST, IntOverlayOptions::ogc())?;
-    check::<I>(rt, alloc, &PAIR, clockwise)?;
-    check::<I>(rt, alloc, &TOUCHING, IntOverlayOptions::ogc())
+    check::<I>(rt, alloc, &NEST_CLOCKWISE, clockwise)?;
+    check::<I>(rt, alloc, &PAIR, IntOverlayOptions::default())?;
+    check::<I>(rt, alloc, &PAIR_CLOCKWISE, clockwise)?;
+    check::<I>(rt, alloc, &TOUCHING, IntOverlayOptions::ogc())?;
+    let both = IntOverlayOptions {
+        output_direction: ContourDirection::Clockwise,
+        ..IntOverlayOptions::ogc()
+    };
+    check::<I>(rt, alloc, &TOUCHING_CLOCKWISE, both)
 }
 
 #[test]

@@ -88,6 +88,27 @@ const ISLAND_JOINED: Row<'static> = Row {
     ]],
 };
 
+// The same, clockwise.
+const ISLAND_JOINED_CLOCKWISE: Row<'static> = Row {
+    subj: ISLAND,
+    clip: &[],
+    rule: OverlayRule::Subject,
+    fill: FillRule::EvenOdd,
+    wanted: &[&[
+        &[(0, 0), (0, 10), (10, 10), (10, 0)],
+        &[
+            (2, 5),
+            (2, 2),
+            (8, 2),
+            (8, 8),
+            (2, 8),
+            (2, 5),
+            (4, 6),
+            (4, 4),
+        ],
+    ]],
+};
+
 // With groups it is a shape of its own.
 const ISLAND_CUT: Row<'static> = Row {
     subj: ISLAND,
@@ -132,7 +153,8 @@ fn groups_at_i16(rt: HostRuntime) -> Result<(), Fail> {
 fn no_groups_at_i16(rt: HostRuntime) -> Result<(), Fail> {
     check::<i16>(&rt, rt.alloc(), &BOTH_CORNERS)?;
     check_clockwise::<i16>(&rt, rt.alloc(), &BOTH_CORNERS_CLOCKWISE)?;
-    check::<i16>(&rt, rt.alloc(), &ISLAND_JOINED)
+    check::<i16>(&rt, rt.alloc(), &ISLAND_JOINED)?;
+    check_clockwise::<i16>(&rt, rt.alloc(), &ISLAND_JOINED_CLOCKWISE)
 }
 
 #[test]
@@ -149,7 +171,8 @@ fn groups_at_i32(rt: HostRuntime) -> Result<(), Fail> {
 fn no_groups_at_i32(rt: HostRuntime) -> Result<(), Fail> {
     check::<i32>(&rt, rt.alloc(), &BOTH_CORNERS)?;
     check_clockwise::<i32>(&rt, rt.alloc(), &BOTH_CORNERS_CLOCKWISE)?;
-    check::<i32>(&rt, rt.alloc(), &ISLAND_JOINED)
+    check::<i32>(&rt, rt.alloc(), &ISLAND_JOINED)?;
+    check_clockwise::<i32>(&rt, rt.alloc(), &ISLAND_JOINED_CLOCKWISE)
 }
 
 #[test]
@@ -166,5 +189,6 @@ fn groups_at_i64(rt: HostRuntime) -> Result<(), Fail> {
 fn no_groups_at_i64(rt: HostRuntime) -> Result<(), Fail> {
     check::<i64>(&rt, rt.alloc(), &BOTH_CORNERS)?;
     check_clockwise::<i64>(&rt, rt.alloc(), &BOTH_CORNERS_CLOCKWISE)?;
-    check::<i64>(&rt, rt.alloc(), &ISLAND_JOINED)
+    check::<i64>(&rt, rt.alloc(), &ISLAND_JOINED)?;
+    check_clockwise::<i64>(&rt, rt.alloc(), &ISLAND_JOINED_CLOCKWISE)
 }

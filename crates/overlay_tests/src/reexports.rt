@@ -15,6 +15,9 @@ use i_overlay::point_location::{IntPointContainment, PointLocation};
 use i_overlay::segm::boolean::ShapeCountBoolean;
 use i_overlay::segm::string::ShapeCountString;
 use i_overlay::solver::Solver;
+use i_overlay::string::clip::{ClipRule, IntClip};
+use i_overlay::string::overlay::StringOverlay;
+use i_overlay::string::rule::StringRule;
 use i_overlay::vector::edge::{
     CLIP_LEFT, CLIP_RIGHT, DataVectorEdge, SUBJ_LEFT, SUBJ_RIGHT, SideFill,
 };
@@ -127,5 +130,25 @@ fn flat_buffers(rt: HostRuntime) -> Result<(), Fail> {
     assert!(&rt; !contours.is_single_contour());
     let shapes: FlatShapesBuffer<i32, Global> = FlatShapesBuffer::default(rt.alloc())?;
     assert_eq!(&rt; shapes.to_shapes()?.len(), 0);
+    Ok(())
+}
+
+// Whether strings may be clipped by it.
+fn may_clip<R: IntClip<i32>>(_shape: &R) -> bool {
+    true
+}
+
+#[test]
+fn strings(rt: HostRuntime) -> Result<(), Fail> {
+    let contour: Vec<IntPoint<i32>, Global> = Vec::new(rt.alloc());
+    assert!(&rt; may_clip(&contour));
+    let rule = ClipRule {
+        invert: true,
+        boundary_included: false,
+    };
+    let overlay: StringOverlay<i32, Global> = StringOverlay::new(rt.alloc(), 0)?;
+    let paths = overlay.clip_string_lines(FillRule::NonZero, rule)?;
+    assert!(&rt; paths.is_empty());
+    assert!(&rt; StringRule::Slice == StringRule::Slice);
     Ok(())
 }

@@ -44,6 +44,10 @@ fn rows<I: OverlayInt + From<i16>>(rt: &impl Abort, alloc: Global) -> Result<(),
     let outer = [(0, 0), (4, 0), (4, 4), (0, 4)];
     let inside = answers::<I>(rt, alloc, &[(1, 1), (3, 1), (3, 3), (1, 3)], &outer)?;
     assert!(rt; inside == [true, true, false, false, true, false, false]);
+    // of no edges nothing holds but that the two are disjoint, and so of an empty subject
+    let disjoint_alone = [false, false, false, false, false, true, false];
+    assert!(rt; answers::<I>(rt, alloc, &[], &[])? == disjoint_alone);
+    assert!(rt; answers::<I>(rt, alloc, &[], &square)? == disjoint_alone);
     Ok(())
 }
 
