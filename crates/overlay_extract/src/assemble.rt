@@ -24,7 +24,7 @@ use std::alloc::Allocator;
 /// The shapes of which the contours stand at these places. The points are those at which the steps begin;
 /// unless they are to be kept, those on one line with their two neighbours are dropped. The only refusal is
 /// `Memory`.
-pub(crate) fn assembled<I: IntNumber, A: Allocator + Clone>(
+pub fn assembled<I: IntNumber, A: Allocator + Clone>(
     alloc: A,
     contours: &[Contour<I, A>],
     places: &[Vec<usize, A>],
@@ -67,7 +67,7 @@ fn shape_at<I: IntNumber, A: Allocator + Clone>(
 }
 /// The points at which the steps of the walk begin, without those on one line with their two
 /// neighbours unless they are to be kept. The only refusal is `Memory`.
-pub(crate) fn contour<I: IntNumber, A: Allocator + Clone>(
+pub fn contour<I: IntNumber, A: Allocator + Clone>(
     alloc: A,
     walk: &[Step<I>],
     keeps_points: bool,

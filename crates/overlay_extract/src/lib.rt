@@ -2,7 +2,7 @@
 //! lie in holes of which.
 #![tactic(auto)]
 
-mod assemble;
+pub mod assemble;
 pub mod child_link;
 pub mod extract;
 pub mod hierarchy;
@@ -10,5 +10,5 @@ mod in_shapes;
 pub mod laws;
 mod links;
 mod placed;
-mod places;
-mod scans;
+pub mod places;
+pub mod scans;

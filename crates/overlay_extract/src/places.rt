@@ -25,7 +25,7 @@ pub(crate) enum Holes {
 /// For each shape, in the order of the outlines, the places of its contours among all: of its outline, of
 /// the holes of the outline's own group, and then of those for which it is found, each in their order. A
 /// hole for which no shape is found stands nowhere. The only refusal is `Memory`.
-pub(crate) fn shape_places<I: IntNumber, A: Allocator + Clone>(
+pub fn shape_places<I: IntNumber, A: Allocator + Clone>(
     alloc: A,
     contours: &[Contour<I, A>],
     found: &[Option<usize>],

@@ -13,10 +13,10 @@ use std::alloc::Allocator;
 
 /// The number of parents from which on their live edges are kept in a tree: shapes for holes, and holes for
 /// islands. The edges of fewer ones are sooner found in a list.
-pub(crate) const TREE_FROM_PARENTS: usize = 32;
+pub const TREE_FROM_PARENTS: usize = 32;
 
 /// No live edges yet, in a tree where the contours have `tree_from` outlines or more, and else in a list.
-pub(crate) fn scan_for_holes<I: IntNumber, A: Allocator>(
+pub fn scan_for_holes<I: IntNumber, A: Allocator>(
     alloc: A,
     contours: &[Contour<I, A>],
     tree_from: usize,
@@ -29,7 +29,7 @@ pub(crate) fn scan_for_holes<I: IntNumber, A: Allocator>(
 }
 
 /// No live edges yet, in a tree where the contours have `tree_from` holes or more, and else in a list.
-pub(crate) fn scan_for_islands<I: IntNumber, A: Allocator>(
+pub fn scan_for_islands<I: IntNumber, A: Allocator>(
     alloc: A,
     contours: &[Contour<I, A>],
     tree_from: usize,
