@@ -36,12 +36,3 @@ some_back whole loop simple back is =
     let same = sym (length-map back (plain_step whole)) ∙ ap length is ∙ length-reverse (map reversed_step loop)
     ∙ length-map loop reversed_step in
     omega arith
-
--- the steps in the opposite order
-pub reversed_plain : {I : Type 0} (whole : I → ℤ) (steps : List (StepTaken I)) →
-    plain_steps whole (reverse steps) ≡ reverse (plain_steps whole steps)
-reversed_plain whole [] = refl
-reversed_plain whole (s ∷ ss) = ap (plain_steps whole) (reverse-append (s ∷ []) ss)
-    ∙ map-append (plain_step whole) (reverse ss) (s ∷ [])
-    ∙ ap (λ xs. xs ++ plain_step whole s ∷ []) (reversed_plain whole ss)
-    ∙ sym (reverse-append (plain_step whole s ∷ []) (plain_steps whole ss))

@@ -31,12 +31,12 @@ module _ (fills : ℤ → Bool) (count : CountedEdge → ℤ) (es : List Counted
     (arranged : IsBalancedArrangement count es) where
   module _ (e : CountedEdge) (at : Contains es e) where
     -- on the left of the step along the edge is its upper side
-    left_of_along : winding_on_side left count es e (step_with_left true (ends_of e)) ≡ winding_above count es e
+    pub left_of_along : winding_on_side left count es e (step_with_left true (ends_of e)) ≡ winding_above count es e
     left_of_along = ap (λ t. cond t (winding_above count es e) (winding_below count es e))
         (point_eq-of_same e.a e.a refl)
 
     -- on that of the step back its lower one
-    left_of_back : winding_on_side left count es e (step_with_left false (ends_of e)) ≡ winding_below count es e
+    pub left_of_back : winding_on_side left count es e (step_with_left false (ends_of e)) ≡ winding_below count es e
     left_of_back = ap (λ t. cond t (winding_above count es e) (winding_below count es e))
         (not_start count es arranged e.b e at refl)
 

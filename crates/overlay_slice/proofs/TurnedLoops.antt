@@ -45,12 +45,12 @@ rotated k xs = subst (λ zs. IsPermutation zs (drop k xs ++ take k xs)) (take-ap
     (IsPermutation-append_comm (take k xs) (drop k xs))
 
 -- back and back again each step is the one that it was
-again : (ss : List Step) → map reversed_step (map reversed_step ss) ≡ ss
+pub again : (ss : List Step) → map reversed_step (map reversed_step ss) ≡ ss
 again [] = refl
 again (s ∷ ss) = ap (λ ts. s ∷ ts) (again ss)
 
 -- the walk back has the steps back
-backward_steps : (ss : List Step) → IsPermutation (map reversed_step ss) (backward ss)
+pub backward_steps : (ss : List Step) → IsPermutation (map reversed_step ss) (backward ss)
 backward_steps ss = IsPermutation-reverse (map reversed_step ss)
 
 -- the steps back of the walk back are those of the walk
@@ -60,12 +60,12 @@ steps_again ss = subst (λ zs. IsPermutation zs (map reversed_step (backward ss)
 
 -- ---- a loop turned round
 
-turned_steps : (loop : List Step) → IsPermutation (map reversed_step loop) (turned_loop loop)
+pub turned_steps : (loop : List Step) → IsPermutation (map reversed_step loop) (turned_loop loop)
 turned_steps loop = IsPermutation-trans (map reversed_step loop) (backward loop) (turned_loop loop)
     (backward_steps loop) (rotated 1 (backward loop))
 
 -- the points at which the steps of a walk end
-ends_of_walk : (s : Step) (ss : List Step) (q : Point) → LeadsTo s.to ss q →
+pub ends_of_walk : (s : Step) (ss : List Step) (q : Point) → LeadsTo s.to ss q →
     map (λ (t : Step). t.to) (s ∷ ss) ≡ points_of ss ++ q ∷ []
 ends_of_walk s [] q h = ap (λ p. p ∷ []) h
 ends_of_walk s (t ∷ ts) q h = ap (λ p. p ∷ map (λ (u : Step). u.to) (t ∷ ts)) (sym h.0)

@@ -4,11 +4,14 @@
 
 pub mod anchor;
 pub mod cutter;
+pub mod direction;
 pub mod filled_sides;
+pub mod laws;
 pub mod loops;
 pub mod orbits;
 pub mod roles;
 mod sides;
+pub mod sliced;
 pub mod slices;
 mod tour_order;
 pub mod tours;

@@ -3,7 +3,7 @@ use Rattle.std.proofs.Common.{[], ◌∷◌, ◌++◌, map, reverse, take, sym, 
 use Rattle.std.proofs.lemmas.List.{map-append}
 use Rattle.overlay_geom.specs.Plane.{reversed_step}
 use Rattle.overlay_geom.proofs.Mapped.{mapped_more, mapped_whole}
-use Rattle.overlay_slice.proofs.LoopsFound.{reversed_plain}
+use Rattle.overlay_slice.proofs.ChangedLists.{map-reverse}
 use Rattle.overlay_walk.specs.Steps.{plain_step, plain_steps}
 use Rattle.overlay_slice.proofs.loops.walked_back.Goals as goal
 
@@ -26,5 +26,5 @@ returns-clause-back g c =
     let l = c.loop-place in
     let past = c.loop-place-test.false in
     rw c.reverse.ensures.items
-    (reversed_plain whole l.back.items ∙ ap reverse (l.invariant
+    (map-reverse (plain_step whole) l.back.items ∙ ap reverse (l.invariant
     ∙ ap (map reversed_step) (mapped_whole (plain_step whole) c.args.walk.now l.place (omega arith))))
