@@ -8,6 +8,7 @@ pub mod OneShots
 pub mod OpenLists
 pub mod PartedPieces
 pub mod PiecesInPaths
+pub mod StringViews
 pub mod TakenPieces
 pub mod TwoSources
 pub mod WalksOn

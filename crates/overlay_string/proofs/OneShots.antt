@@ -1,4 +1,4 @@
--- What a clip of paths that were added to a new builder answers of the paths.
+-- What a query of paths that were added to a new builder answers of the paths.
 use Rattle.std.proofs.Common.{◌≡◌, ◌⊎◌, inl, inr, Bool, true, false, List, sym, ap, ◌∙◌}
 use Rattle.std.proofs.lemmas.Bool.{false≢true}
 use Rattle.std.specs.Prelude.{◌↔◌, Result, Ok, Err, IfErr, IsErrOf}
@@ -27,7 +27,7 @@ module _ (paths : List (AddedPath CountedEdge)) where
       inr (record { content = content; holds = holds; refused = may })
   splitting_refused content holds Failed may = may
 
-  -- so the refusal of a clip is one of the paths, as the builder had not failed
+  -- so the refusal of a query is one of the paths, as the builder had not failed
   pub clip_refused : {V : Type 0} (content : List CountedEdge) (had_failed : Bool) → HoldsPaths paths content →
       had_failed ≡ false → (r : Result V OverlayError) → (IsErrOf r Failed ↔ (had_failed ≡ true))
       → IfErr r (λ e. (e ≡ Failed) ⊎ MayRefuseSplitting 64 content e) → IfErr r (MayRefusePaths paths)

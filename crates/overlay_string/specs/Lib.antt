@@ -6,3 +6,5 @@ pub mod OpenPlaces
 pub mod Pieces
 pub mod StringBuilder
 pub mod StringPaths
+pub mod StringSlices
+pub mod StringViews

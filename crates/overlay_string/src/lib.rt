@@ -1,6 +1,7 @@
 //! Strings, which are open or closed lines, over a shape.
 #![tactic(auto)]
 
+mod balanced_graph;
 pub mod clip;
 pub mod clip_rule;
 mod joined_paths;
@@ -10,5 +11,7 @@ pub mod lines;
 mod open_pieces;
 mod piece;
 mod role;
+pub mod slice;
+pub mod string_graph;
 pub mod string_overlay;
 pub mod string_rule;

@@ -1,5 +1,6 @@
 //! The builder for strings: it holds a shape, and strings that lie over it.
 
+use crate::balanced_graph::BalancedGraph;
 use overlay_arrange::string_count::ShapeCountString;
 use overlay_builder::builder_core::BuilderCore;
 use overlay_geom::integer::OverlayInt;
@@ -11,6 +12,7 @@ mod clip;
 mod constructors;
 mod deprecated;
 mod strings;
+mod views;
 
 pub use overlay_arrange::options::IntOverlayOptions;
 
@@ -24,6 +26,8 @@ pub struct StringOverlay<I: OverlayInt, A: Allocator> {
     pub options: IntOverlayOptions<I::WideUInt>,
     // the edges, and whether a query was refused
     core: BuilderCore<I, ShapeCountString, A>,
+    // what the last view shows; no answer reads it
+    viewed: Option<BalancedGraph<I, A>>,
 }
 
 impl<I: OverlayInt, A: Allocator> Model for StringOverlay<I, A> {

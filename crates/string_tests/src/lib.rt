@@ -7,3 +7,7 @@ mod built;
 mod clip;
 #[cfg(test)]
 mod points;
+#[cfg(test)]
+mod slice;
+#[cfg(test)]
+mod views;

@@ -32,7 +32,11 @@ impl<I: OverlayInt, A: Allocator + Clone> StringOverlay<I, A> {
         ensures err { IsOkUnless result OverlayError.Memory }
     {
         let core = BuilderCore::with_capacity(alloc, capacity)?;
-        Ok(StringOverlay { options, core })
+        Ok(StringOverlay {
+            options,
+            core,
+            viewed: None,
+        })
     }
 
     /// A builder with the paths of `shape` as closed contours of the shape, and the default options. The points are
