@@ -9,6 +9,6 @@ pub mod hierarchy;
 mod in_shapes;
 pub mod laws;
 mod links;
-pub mod placed;
+mod placed;
 pub mod places;
 pub mod scans;

@@ -26,7 +26,7 @@ use std::alloc::Allocator;
 
 /// Contours, and their places in shapes.
 #[derive(Drop)]
-pub struct PlacedContours<I, A: Allocator> {
+pub(crate) struct PlacedContours<I, A: Allocator> {
     /// The contours, as they are found.
     pub contours: Vec<Contour<I, A>, A>,
     /// For each shape the places of its contours among all, its outline first.
@@ -36,7 +36,7 @@ pub struct PlacedContours<I, A: Allocator> {
 /// The contours round the region where the rules hold, and their places in the shapes that are found for
 /// them. The live edges are kept in a tree where there are `tree_from` shapes or more, and else in a list; the
 /// answer is the same. The only refusal is `Memory`.
-pub fn placed_contours<I: IntNumber, C: EdgeCount, A: Allocator + Clone>(
+pub(crate) fn placed_contours<I: IntNumber, C: EdgeCount, A: Allocator + Clone>(
     graph: &Graph<I, C, A>,
     overlay_rule: OverlayRule,
     options: IntOverlayOptions<I::WideUInt>,
