@@ -8,6 +8,7 @@ mod large;
 mod overlays;
 mod points;
 mod relations;
+mod slices;
 
 use crate::engine::run;
 use crate::exit::Exit;
@@ -53,7 +54,7 @@ fn bad_lines(rt: HostRuntime) {
         (b"subject", 2),
         (b"subject 0 0\n\n", 3),
         (b"run overlay Union NonZero\n\nclip\n", 3),
-        (b"clip 0 0\nrun slice NonZero\n", 2),
+        (b"clip 0 0\nrun merge NonZero\n", 2),
         (b"\nclip 0 0\nrun overlay Union NonZero min\n", 3),
     ];
     for (input, line) in rows {

@@ -5,5 +5,6 @@ pub mod Located
 pub mod Noted
 pub mod Queries
 pub mod Refusals
+pub mod Slices
 pub mod Subjects
 pub mod Writing

@@ -5,7 +5,7 @@ use Rattle.overlay_geom.specs.declared.error.OverlayError.TheVariants.{Memory, N
 use Rattle.polyover_text.specs.declared.query.Query.{Query}
 use Rattle.polyover_text.specs.Grammar.{GivenFigures, Asks, input_lines}
 use Rattle.polyover_text.specs.declared.query.Query.TheVariants.{Edges, Overlay, Hierarchy, Relate, ClipLines}
-use Rattle.polyover_text.specs.declared.query.Query.TheVariants.{Contains, Locate}
+use Rattle.polyover_text.specs.declared.query.Query.TheVariants.{Slice, Contains, Locate}
 use Rattle.polyover_engine.specs.Answers.{MayRefuseQuery, AsksAboutPoints}
 use Rattle.polyover_engine.specs.Engine.{MayBeRefused, IsBadInput}
 use Rattle.polyover_engine.specs.Subjects.{IsFirstUnresolved}
@@ -17,6 +17,7 @@ never_failed fs (Hierarchy query) h = h
 never_failed fs (Relate fill) (inl h) = h
 never_failed fs (Relate fill) (inr h) = h
 never_failed fs (ClipLines query) h = h
+never_failed fs (Slice fill) h = h
 never_failed fs Contains h = cc
 never_failed fs Locate h = cc
 

@@ -14,15 +14,22 @@ use Rattle.polyover_engine.specs.declared.exit.Exit.{Exit}
 use Rattle.polyover_engine.specs.declared.exit.Exit.TheVariants.{Answered, Refused, BadInput, Io}
 use Rattle.polyover_engine.specs.Subjects.{subject_part, subject_of, IsSubject, HasNoSubject, AddsContour, IsNotAdded}
 
+-- what the contours up to a place of the list give, one more than those before it
+pub subject_so_far : (cs : List GivenContour) (k : ℕ) (c : GivenContour) → k < length cs → c ≡ get_or cs k c
+    → (old new : List (List Point)) → old ≡ subject_of (take k cs)
+    → new ≡ old ++ subject_part c.path.shape_type c.path.points → new ≡ subject_of (take (k + 1) cs)
+subject_so_far cs k c within here old new shown added =
+    added ∙ ap (λ l. l ++ subject_part c.path.shape_type c.path.points) shown
+    ∙ flat_map_more (λ d. subject_part d.path.shape_type d.path.points) [] (take k cs) c
+    ∙ ap subject_of (ap (λ x. take k cs ++ x ∷ []) here ∙ sym (take_more cs k c within))
+
 module _ (cs : List GivenContour) (k : ℕ) (c : GivenContour) (old : List (List Point)) (h : IsSubject (take k cs) old)
     (within : k < length cs)
     (here : c ≡ get_or cs k c) where
   -- the next contour of the list is taken
   pub one_more_taken : (new : List (List Point)) → AddsContour c old new → IsSubject (take (k + 1) cs) new
   one_more_taken new adds = record {
-    shown = adds.added ∙ ap (λ l. l ++ subject_part c.path.shape_type c.path.points) h.shown
-        ∙ flat_map_more (λ d. subject_part d.path.shape_type d.path.points) [] (take k cs) c
-        ∙ ap subject_of (ap (λ x. take k cs ++ x ∷ []) here ∙ sym (take_more cs k c within));
+    shown = subject_so_far cs k c within here old new h.shown adds.added;
     resolved = subst (All IsResolved) (sym adds.added)
         (All-append IsResolved old (subject_part c.path.shape_type c.path.points) h.resolved adds.resolved);
     in_range = subst (All (AllInRange 4611686018427387903)) (sym adds.added)

@@ -1,6 +1,8 @@
 -- What the program answers: the edges of the arrangement, the shapes of an overlay, how the subject and the clip lie to
--- each other, what a clip leaves of open paths, or where points lie; and the text of it.
+-- each other, what a clip leaves of open paths, what these slice the subject into, or where points lie; and the text
+-- of it.
 use Rattle.std.specs.Prelude.{◌≡◌, ℕ, Bool, false, List, [], ◌∷◌, ◌++◌, map, All}
+use Rattle.std.specs.Int.{w128}
 use Rattle.std.specs.List.{flat_map}
 use Rattle.overlay_geom.specs.Resolved.{IsResolved}
 use Rattle.overlay_geom.specs.declared.error.OverlayError.{OverlayError}
@@ -21,14 +23,15 @@ use Rattle.polyover_engine.specs.Builders.{asked_by}
 use Rattle.overlay_builder.specs.GivenPaths.{GivenPath, HoldsPaths}
 use Rattle.polyover_text.specs.declared.query.Query.{Query}
 use Rattle.polyover_text.specs.declared.query.Query.TheVariants.{Edges, Overlay, Hierarchy, Relate, ClipLines}
-use Rattle.polyover_text.specs.declared.query.Query.TheVariants.{Contains, Locate}
+use Rattle.polyover_text.specs.declared.query.Query.TheVariants.{Slice, Contains, Locate}
 use Rattle.polyover_text.specs.Grammar.{GivenFigures, paths_of, Asks, input_lines}
 use Rattle.polyover_text.specs.Printed.{edge_lines, lines_of_shapes, link_line, relation_lines, truth_line}
 use Rattle.polyover_text.specs.Printed.{location_line, lines_of_paths}
 use Rattle.polyover_text.specs.declared.relations.Relations.{Relations}
 use Rattle.polyover_engine.specs.declared.exit.Exit.{Exit}
 use Rattle.polyover_engine.specs.declared.exit.Exit.TheVariants.{Answered, Refused, BadInput, Io}
-use Rattle.overlay_string.specs.OneShot.{AreClippedOfPaths, MayRefusePaths as MayRefuseClip}
+use Rattle.overlay_string.specs.OneShot.{AreClippedOfPaths, MayRefusePaths as MayRefuseStrings}
+use Rattle.overlay_string.specs.StringSlices.{AreSlicedOfPaths}
 use Rattle.polyover_engine.specs.Clips.{clip_rule_of, shape_and_lines}
 use Rattle.polyover_engine.specs.Relations.{AreRelations, MayRefuseRelations}
 use Rattle.polyover_engine.specs.Subjects.{subject_of, IsFirstUnresolved}
@@ -87,6 +90,8 @@ Answers fs (Relate fill) text = (answers : Relations) × AreRelations (paths_of 
 Answers fs (ClipLines query) text = (paths : List (List Point))
     × AreClippedOfPaths query.fill_rule (clip_rule_of query.options) (shape_and_lines fs) paths
     × (text ≡ lines_of_paths paths)
+Answers fs (Slice fill) text = (shapes : List (List (List Point)))
+    × AreSlicedOfPaths w128 fill (shape_and_lines fs) shapes × (text ≡ lines_of_shapes shapes)
 Answers fs Contains text = (answers : List Bool) × TellInside fs answers × (text ≡ flat_map truth_line answers)
 Answers fs Locate text = (answers : List PointLocation) × TellWhere fs answers × (text ≡ flat_map location_line answers)
 
@@ -96,7 +101,8 @@ MayRefuseQuery fs (Edges fill) e = MayRefusePaths (paths_of fs) e
 MayRefuseQuery fs (Overlay query) e = MayRefusePaths (paths_of fs) e
 MayRefuseQuery fs (Hierarchy query) e = MayRefusePaths (paths_of fs) e
 MayRefuseQuery fs (Relate fill) e = MayRefuseRelations (paths_of fs) e
-MayRefuseQuery fs (ClipLines query) e = MayRefuseClip (shape_and_lines fs) e
+MayRefuseQuery fs (ClipLines query) e = MayRefuseStrings (shape_and_lines fs) e
+MayRefuseQuery fs (Slice fill) e = MayRefuseStrings (shape_and_lines fs) e
 MayRefuseQuery fs Contains e = e ≡ Memory
 MayRefuseQuery fs Locate e = e ≡ Memory
 
@@ -107,6 +113,7 @@ AsksAboutPoints (Overlay query) = ⊥
 AsksAboutPoints (Hierarchy query) = ⊥
 AsksAboutPoints (Relate fill) = ⊥
 AsksAboutPoints (ClipLines query) = ⊥
+AsksAboutPoints (Slice fill) = ⊥
 AsksAboutPoints Contains = Unit {0}
 AsksAboutPoints Locate = Unit {0}
 

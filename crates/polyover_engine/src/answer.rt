@@ -17,6 +17,7 @@ use crate::exit::Exit;
 use crate::hierarchy::{hierarchy_text, overlay_hierarchy};
 use crate::points::{contains_text, locate_text};
 use crate::relations::relations;
+use crate::slice::sliced_subject;
 use i_overlay::fill_rule::FillRule;
 use i_overlay::vector::edge::DataVectorEdge;
 use overlay_geom::error::OverlayError;
@@ -30,9 +31,9 @@ use polyover_text::relations_text::relations_text;
 use polyover_text::shape_text::shapes_text;
 use std::alloc::Allocator;
 
-/// The text of the answer to an input, whose points are in the coordinate range. Refusals are those
-/// of the builder to which the contours (and the open paths that are clipped) are added, and of the query on it; where points are asked about,
-/// `Memory`, and `BadInput` at the line of the first contour of the subject that is not resolved.
+/// The text of the answer to an input, whose points are in the coordinate range. Refusals are those of the builder to
+/// which the contours (and the open paths that are clipped, or slice) are added, and of the query on it; where points
+/// are asked about, `Memory`, and `BadInput` at the line of the first contour of the subject that is not resolved.
 pub fn answer_text<A: Allocator + Copy>(alloc: A, input: &Input<A>) -> Result<String<A>, Exit>
     requires { FiguresInRange (figures_at input.now.figures) }
     ensures { MatchResult result
@@ -59,6 +60,10 @@ pub fn answer_text<A: Allocator + Copy>(alloc: A, input: &Input<A>) -> Result<St
         Query::ClipLines(query) => {
             let paths = clipped_lines(alloc, &input.figures, query)?;
             Ok(paths_text(alloc, &paths)?)
+        }
+        Query::Slice(fill_rule) => {
+            let slices = sliced_subject(alloc, &input.figures, fill_rule)?;
+            Ok(shapes_text(alloc, &slices)?)
         }
         Query::Contains => contains_text(alloc, &input.figures),
         Query::Locate => locate_text(alloc, &input.figures),

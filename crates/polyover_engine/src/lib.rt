@@ -13,6 +13,7 @@ mod points;
 mod predicate_builder;
 mod read;
 mod relations;
+mod slice;
 mod string_builder;
 mod subject;
 mod turn;

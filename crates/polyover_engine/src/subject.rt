@@ -1,15 +1,18 @@
-//! The subject of an input as one shape.
+//! The subject of an input as one shape, with each contour resolved, or whatever they are.
 
-ghost use Rattle.std.specs.Prelude.{◌≡◌, ◌++◌, MatchResult, All};
+ghost use Rattle.std.specs.Prelude.{◌≡◌, [], ◌∷◌, ◌++◌, MatchResult, All, IfOk, OnOk, IsOkUnless};
 ghost use Rattle.overlay_geom.specs.Points.{AllInRange};
 ghost use Rattle.overlay_geom.specs.Paths.{paths_of_shape};
 ghost use Rattle.polyover_text.specs.Grammar.{contour_paths};
+ghost use Rattle.polyover_text.specs.Points.{points_at};
 ghost use Rattle.polyover_text.specs.Statements.{contour_at, contours_at};
-ghost use Rattle.polyover_engine.specs.Subjects.{IsSubject, HasNoSubject, AddsContour, IsNotAdded};
+ghost use Rattle.polyover_engine.specs.Subjects.{IsSubject, HasNoSubject, AddsContour, IsNotAdded, subject_of};
 
 use crate::exit::Exit;
 use i_overlay::overlay::ShapeType;
+use overlay_geom::error::OverlayError;
 use overlay_geom::path::IntShape;
+use overlay_geom::point::IntPoint;
 use overlay_geom::resolved::is_resolved;
 use polyover_text::figures::NumberedContour;
 use std::alloc::Allocator;
@@ -51,10 +54,44 @@ fn add<A: Allocator + Copy>(
             if !is_resolved(&contour.points) {
                 return Err(Exit::BadInput(given.line));
             }
-            let mut points = Vec::new(alloc);
-            points.extend_from_slice(&contour.points)?;
-            shape.push(points)?;
+            push_copy(alloc, shape, &contour.points)?;
             Ok(())
         }
     }
+}
+
+/// The contours of the subject, in order, as one shape, resolved or not. The only refusal is `Memory`.
+pub(crate) fn subject_contours<A: Allocator + Copy>(
+    alloc: A,
+    contours: &[NumberedContour<A>],
+) -> Result<IntShape<i64, A>, OverlayError>
+    ensures ok { IfOk result
+        (λ shape. paths_of_shape (λ z. z) shape.items ≡ subject_of (contours_at contours.now)) }
+    ensures err { IsOkUnless result OverlayError.Memory }
+{
+    let mut shape = Vec::new(alloc);
+    for given in contours {
+        let contour = &given.contour;
+        match contour.shape_type {
+            ShapeType::Subject => push_copy(alloc, &mut shape, &contour.points)?,
+            ShapeType::Clip => {}
+        }
+    }
+    Ok(shape)
+}
+
+// Adds a contour with these points to the shape. The only refusal is `Memory`.
+fn push_copy<A: Allocator + Copy>(
+    alloc: A,
+    shape: &mut IntShape<i64, A>,
+    points: &[IntPoint<i64>],
+) -> Result<(), OverlayError>
+    ensures ok { OnOk result (paths_of_shape (λ z. z) shape.new.items
+        ≡ paths_of_shape (λ z. z) shape.old.items ++ points_at points.now ∷ []) }
+    ensures err { IsOkUnless result OverlayError.Memory }
+{
+    let mut contour = Vec::new(alloc);
+    contour.extend_from_slice(points)?;
+    shape.push(contour)?;
+    Ok(())
 }

@@ -7,9 +7,9 @@ use Rattle.overlay_arrange.specs.declared.fill_rule.FillRule.{FillRule}
 use Rattle.polyover_text.specs.declared.query.ClipQuery.{ClipQuery}
 use Rattle.polyover_text.specs.declared.query.OverlayQuery.{OverlayQuery}
 use Rattle.polyover_text.specs.declared.query.Query.TheVariants.{Edges, Overlay, Hierarchy, Relate, ClipLines}
-use Rattle.polyover_text.specs.declared.query.Query.TheVariants.{Contains, Locate}
+use Rattle.polyover_text.specs.declared.query.Query.TheVariants.{Slice, Contains, Locate}
 use Rattle.polyover_text.specs.Grammar.{Word, Line, IsCommand, edges, overlay, hierarchy, relate, clip_lines}
-use Rattle.polyover_text.specs.Grammar.{contains, locate, AsksClip, asks_clip, default_clip, SetClipOptions}
+use Rattle.polyover_text.specs.Grammar.{slice, contains, locate, AsksClip, asks_clip, default_clip, SetClipOptions}
 use Rattle.polyover_text.specs.Grammar.{fill_name, rule_name}
 use Rattle.polyover_text.specs.Grammar.{AsksOverlay, asks, default_output, SetOptions}
 
@@ -17,7 +17,7 @@ use Rattle.polyover_text.specs.Grammar.{AsksOverlay, asks, default_output, SetOp
 relate_is_not_locate : ¬ (codes "relate" ≡ codes "locate")
 relate_is_not_locate e = false≢true (sym (ap (λ l. get_or l 0 0 == 114) e))
 
--- after `run edges`, and after `run relate`, stands the name of a fill rule, and no other word
+-- after `run edges`, `run relate` and `run slice` stands the name of a fill rule, and no other word
 pub edges_asked : (ws rest : Line) (fill : FillRule) → ws ≡ codes "edges" ∷ rest → rest ≡ fill_name fill ∷ [] →
     IsCommand (codes "run" ∷ ws) (Edges fill)
 edges_asked ws rest fill words named =
@@ -28,24 +28,38 @@ pub relation_asked : (ws rest : Line) (fill : FillRule) → ws ≡ codes "relate
 relation_asked ws rest fill words named =
     subst (λ l. IsCommand (codes "run" ∷ l) (Relate fill)) (sym (words ∙ ap (λ l. codes "relate" ∷ l) named)) relate
 
-fill_named : (w : Word) (rest : Line) (query : Query) → IsCommand (codes "run" ∷ w ∷ rest) query →
-    (w ≡ codes "edges") ⊎ (w ≡ codes "relate")
+pub slice_asked : (ws rest : Line) (fill : FillRule) → ws ≡ codes "slice" ∷ rest → rest ≡ fill_name fill ∷ [] →
+    IsCommand (codes "run" ∷ ws) (Slice fill)
+slice_asked ws rest fill words named =
+    subst (λ l. IsCommand (codes "run" ∷ l) (Slice fill)) (sym (words ∙ ap (λ l. codes "slice" ∷ l) named)) slice
+
+-- the word is one of these three
+abbrev pub TakesFill : Word → Type 0
+TakesFill w = (w ≡ codes "edges") ⊎ (w ≡ codes "relate") ⊎ (w ≡ codes "slice")
+
+fill_named : (w : Word) (rest : Line) (query : Query) → IsCommand (codes "run" ∷ w ∷ rest) query → TakesFill w
     → (fill : FillRule) × (rest ≡ fill_name fill ∷ [])
 fill_named w rest query (edges {fill}) e = (fill, refl)
 fill_named w rest query (overlay set) (inl e) = cc
-fill_named w rest query (overlay set) (inr e) = cc
+fill_named w rest query (overlay set) (inr (inl e)) = cc
+fill_named w rest query (overlay set) (inr (inr e)) = cc
 fill_named w rest query (hierarchy set) (inl e) = cc
-fill_named w rest query (hierarchy set) (inr e) = cc
+fill_named w rest query (hierarchy set) (inr (inl e)) = cc
+fill_named w rest query (hierarchy set) (inr (inr e)) = cc
 fill_named w rest query (relate {fill}) e = (fill, refl)
 fill_named w rest query (clip_lines named) (inl e) = cc
-fill_named w rest query (clip_lines named) (inr e) = cc
+fill_named w rest query (clip_lines named) (inr (inl e)) = cc
+fill_named w rest query (clip_lines named) (inr (inr e)) = cc
+fill_named w rest query (slice {fill}) e = (fill, refl)
 fill_named w rest query contains (inl e) = cc
-fill_named w rest query contains (inr e) = cc
+fill_named w rest query contains (inr (inl e)) = cc
+fill_named w rest query contains (inr (inr e)) = cc
 fill_named w rest query locate (inl e) = cc
-fill_named w rest query locate (inr e) = absurd (relate_is_not_locate (sym e))
+fill_named w rest query locate (inr (inl e)) = absurd (relate_is_not_locate (sym e))
+fill_named w rest query locate (inr (inr e)) = cc
 
 -- where they are not, nothing is asked
-pub no_fill_named : (ws rest : Line) (w : Word) → ws ≡ w ∷ rest → (w ≡ codes "edges") ⊎ (w ≡ codes "relate")
+pub no_fill_named : (ws rest : Line) (w : Word) → ws ≡ w ∷ rest → TakesFill w
     → ((fill : FillRule) → ¬ (rest ≡ fill_name fill ∷ []))
     → (query : Query) → ¬ (IsCommand (codes "run" ∷ ws) query)
 no_fill_named ws rest w words first none query h =
@@ -81,6 +95,8 @@ rules_named w rest query relate (inl e) = cc
 rules_named w rest query relate (inr e) = cc
 rules_named w rest query (clip_lines named) (inl e) = cc
 rules_named w rest query (clip_lines named) (inr e) = cc
+rules_named w rest query slice (inl e) = cc
+rules_named w rest query slice (inr e) = cc
 rules_named w rest query contains (inl e) = cc
 rules_named w rest query contains (inr e) = cc
 rules_named w rest query locate (inl e) = cc
@@ -114,6 +130,7 @@ clip_rule_named w rest query (overlay set) e = cc
 clip_rule_named w rest query (hierarchy set) e = cc
 clip_rule_named w rest query relate e = cc
 clip_rule_named w rest query (clip_lines {query = asked} named) e = (asked, named)
+clip_rule_named w rest query slice e = cc
 clip_rule_named w rest query contains e = cc
 clip_rule_named w rest query locate e = cc
 
@@ -138,6 +155,8 @@ last_word w rest query relate (inl e) = cc
 last_word w rest query relate (inr e) = absurd (relate_is_not_locate e)
 last_word w rest query (clip_lines named) (inl e) = cc
 last_word w rest query (clip_lines named) (inr e) = cc
+last_word w rest query slice (inl e) = cc
+last_word w rest query slice (inr e) = cc
 last_word w rest query contains e = refl
 last_word w rest query locate e = refl
 

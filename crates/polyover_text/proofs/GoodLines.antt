@@ -8,7 +8,7 @@ use Rattle.std.proofs.lemmas.List.{get_or_push, get_or-append-add, same_from_pus
 use Rattle.overlay_arrange.specs.Paths.{GivenPath}
 use Rattle.polyover_text.specs.declared.query.Query.{Query}
 use Rattle.polyover_text.specs.Grammar.{Word, Line, shape_name, GivesContour, contour, GivesPoint, point, IsCommand}
-use Rattle.polyover_text.specs.Grammar.{GivesOpenPath, open_path, clip_lines}
+use Rattle.polyover_text.specs.Grammar.{GivesOpenPath, open_path, clip_lines, slice}
 use Rattle.polyover_text.specs.Grammar.{edges, overlay, hierarchy, relate, contains, locate, Asks, IsGoodSoFar}
 use Rattle.polyover_text.specs.Grammar.{GivenFigures, no_figures, before_contours, AreFigures, none, blank}
 use Rattle.overlay_geom.specs.Plane.{Point}
@@ -142,6 +142,7 @@ command_begins l query (overlay options) = (_, refl)
 command_begins l query (hierarchy options) = (_, refl)
 command_begins l query relate = (_, refl)
 command_begins l query (clip_lines named) = (_, refl)
+command_begins l query slice = (_, refl)
 command_begins l query contains = (_, refl)
 command_begins l query locate = (_, refl)
 

@@ -10,7 +10,7 @@ use Rattle.polyover_text.specs.declared.input.Reading.{Reading}
 use Rattle.polyover_text.specs.declared.statement.Statement.{Statement}
 use Rattle.polyover_text.specs.declared.statement.Statement.TheVariants.{Blank, Contour, OpenPath, Point, Run}
 use Rattle.polyover_text.specs.Grammar.{Line, GivesContour, contour, GivesPoint, point, IsCommand, edges, overlay}
-use Rattle.polyover_text.specs.Grammar.{hierarchy, relate, clip_lines, contains, locate, AreFigures}
+use Rattle.polyover_text.specs.Grammar.{hierarchy, relate, clip_lines, slice, contains, locate, AreFigures}
 use Rattle.polyover_text.specs.Grammar.{GivesOpenPath, open_path}
 use Rattle.overlay_geom.specs.Points.{plain_point}
 use Rattle.overlay_geom.specs.declared.point.IntPoint.{IntPoint}
@@ -28,6 +28,7 @@ command_has_word l query (overlay options) e = cc
 command_has_word l query (hierarchy options) e = cc
 command_has_word l query relate e = cc
 command_has_word l query (clip_lines named) e = cc
+command_has_word l query slice e = cc
 command_has_word l query contains e = cc
 command_has_word l query locate e = cc
 

@@ -22,7 +22,7 @@ use Rattle.polyover_text.specs.declared.query.ClipQuery.{ClipQuery}
 use Rattle.polyover_text.specs.declared.query.OverlayQuery.{OverlayQuery}
 use Rattle.polyover_text.specs.declared.query.Query.{Query}
 use Rattle.polyover_text.specs.declared.query.Query.TheVariants.{Edges, Overlay, Hierarchy, Relate, ClipLines}
-use Rattle.polyover_text.specs.declared.query.Query.TheVariants.{Contains, Locate}
+use Rattle.polyover_text.specs.declared.query.Query.TheVariants.{Slice, Contains, Locate}
 
 -- ---- lines and words
 
@@ -161,8 +161,8 @@ pub data AsksClip : List Word → ClipQuery → Type 0 where
 -- the line asks for this: `run edges FILL` for the edges under a fill rule, `run overlay RULE FILL OPT..` for the
 -- shapes of an overlay, `run hierarchy RULE FILL OPT..` for these and which of them lie in holes of which, `run relate
 -- FILL` for how subject and clip lie to each other, `run clip FILL OPT..` for the parts of the open paths that a clip by
--- the subject keeps, `run contains` for whether each point is inside the subject, `run locate` for where each point lies
--- in it
+-- the subject keeps, `run slice FILL` for the shapes into which the open paths cut the subject, `run contains` for
+-- whether each point is inside the subject, `run locate` for where each point lies in it
 pub data IsCommand : Line → Query → Type 0 where
   edges : {fill : FillRule} → IsCommand (codes "run" ∷ codes "edges" ∷ fill_name fill ∷ []) (Edges fill)
   overlay : {query : OverlayQuery} {ws : List Word} → AsksOverlay ws query
@@ -172,6 +172,7 @@ pub data IsCommand : Line → Query → Type 0 where
   relate : {fill : FillRule} → IsCommand (codes "run" ∷ codes "relate" ∷ fill_name fill ∷ []) (Relate fill)
   clip_lines : {query : ClipQuery} {ws : List Word} → AsksClip ws query
       → IsCommand (codes "run" ∷ codes "clip" ∷ ws) (ClipLines query)
+  slice : {fill : FillRule} → IsCommand (codes "run" ∷ codes "slice" ∷ fill_name fill ∷ []) (Slice fill)
   contains : IsCommand (codes "run" ∷ codes "contains" ∷ []) Contains
   locate : IsCommand (codes "run" ∷ codes "locate" ∷ []) Locate
 

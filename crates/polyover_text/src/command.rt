@@ -28,6 +28,7 @@ pub fn parse_command(mut words: Words<'_>) -> Option<Query>
         b"hierarchy" => Some(Query::Hierarchy(parse_overlay(words)?)),
         b"relate" => Some(Query::Relate(last_fill_rule(words)?)),
         b"clip" => Some(Query::ClipLines(parse_clip(words)?)),
+        b"slice" => Some(Query::Slice(last_fill_rule(words)?)),
         b"contains" => if_last(words, Query::Contains),
         b"locate" => if_last(words, Query::Locate),
         _ => None,

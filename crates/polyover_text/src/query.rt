@@ -18,6 +18,8 @@ pub enum Query {
     Relate(FillRule),
     /// The parts of the lines that a clip by the subject keeps.
     ClipLines(ClipQuery),
+    /// The shapes into which the lines cut the subject under this rule.
+    Slice(FillRule),
     /// Whether each point is inside the subject.
     Contains,
     /// Where each point lies in the subject.

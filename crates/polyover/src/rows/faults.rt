@@ -215,3 +215,12 @@ fn each_growth_of_a_clip_refused_in_turn(rt: HostRuntime) {
         "0 3 3 3 3 9\n3 0 3 3 9 3\n",
     );
 }
+
+#[test]
+fn each_growth_of_slices_refused_in_turn(rt: HostRuntime) {
+    refuse_each_growth(
+        &rt,
+        b"subject 0 0 9 0 9 9 0 9\nsubject 3 3 3 6 6 6 6 3\nline 0 1 9 1\nrun slice NonZero\n",
+        "shape\n9 0 9 1 0 1 0 0\nshape\n9 1 9 9 0 9 0 1\n3 3 3 6 6 6 6 3\n",
+    );
+}

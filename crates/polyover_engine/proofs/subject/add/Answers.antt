@@ -1,9 +1,10 @@
-use Rattle.std.proofs.Common.{sym, subst, ap, ◌∙◌, refl, ◌++◌}
+use Rattle.std.proofs.Common.{sym, subst, ap, ◌∙◌, refl, [], ◌∷◌, ◌++◌}
 use Rattle.std.proofs.lemmas.Bool.{false≢true}
+use Rattle.overlay_geom.specs.Paths.{paths_of_shape}
 use Rattle.overlay_geom.specs.Resolved.{IsResolved}
 use Rattle.polyover_text.specs.Points.{points_at}
 use Rattle.polyover_text.specs.Statements.{contour_at}
-use Rattle.polyover_engine.proofs.Subjects.{adds_pushed, points_pushed}
+use Rattle.polyover_engine.proofs.Subjects.{adds_pushed}
 use Rattle.polyover_engine.proofs.subject.add.Goals as goal
 
 pub returns-then-not-is_resolved : goal.returns-then-not-is_resolved
@@ -14,12 +15,10 @@ returns-then-not-is_resolved g c = record {
   number = refl;
 }
 
-pub returns-in_ok-push-in-Subject : goal.returns-in_ok-push-in-Subject
-returns-in_ok-push-in-Subject g c =
-    let copied = c.in_ok-extend_from_slice-in-Subject.ensures.items
-    ∙ ap (λ l. l ++ c.deref-in-Subject.result.now) c.new-points.ensures.items
-    ∙ c.deref-in-Subject.ensures.value in
+pub returns-in_ok-push_copy-in-Subject : goal.returns-in_ok-push_copy-in-Subject
+returns-in_ok-push_copy-in-Subject g c =
+    let old = paths_of_shape (λ z. z) c.args.shape.now.items in
     adds_pushed (contour_at c.args.given.now) c.in-Subject.is _ _
-    (points_pushed (λ v. v.items) _ _ _ _ c.in_ok-push-in-Subject.ensures.items copied)
+    (c.in_ok-push_copy-in-Subject.ensures.ok ∙ ap (λ l. old ++ points_at l ∷ []) c.deref-in-Subject.ensures.value)
     (subst (λ ps. IsResolved (points_at ps)) c.deref.ensures.value (c.if-not-is_resolved.ensures.0 refl))
     c.requires

@@ -3,7 +3,7 @@ use Rattle.std.proofs.lemmas.Slice.Eq.{text_from_reads}
 use Rattle.polyover_text.specs.Words.{words_left}
 use Rattle.polyover_text.proofs.Commands.{edges_asked, overlay_asked, hierarchy_asked, no_rules_named}
 use Rattle.polyover_text.proofs.Commands.{clip_asked, no_clip_named}
-use Rattle.polyover_text.proofs.Commands.{relation_asked, no_fill_named, contains_asked, locate_asked}
+use Rattle.polyover_text.proofs.Commands.{relation_asked, slice_asked, no_fill_named, contains_asked, locate_asked}
 use Rattle.polyover_text.proofs.command.parse_command.Goals as goal
 
 pub returns-in_ok-last_fill_rule-in-edges : goal.returns-in_ok-last_fill_rule-in-edges
@@ -19,6 +19,13 @@ returns-in_ok-last_fill_rule-in-relate c =
     relation_asked _ (words_left c.next.new.self) _ (c.in_ok-next.ensures.steps
     ∙ ap (λ w. w ∷ words_left c.next.new.self) first)
     c.in_ok-last_fill_rule-in-relate.ensures
+
+pub returns-in_ok-last_fill_rule-in-slice : goal.returns-in_ok-last_fill_rule-in-slice
+returns-in_ok-last_fill_rule-in-slice c =
+    let first : c.in_ok-next.field-0.now ≡ codes "slice" = search (rules, text_from_reads) in
+    slice_asked _ (words_left c.next.new.self) _ (c.in_ok-next.ensures.steps
+    ∙ ap (λ w. w ∷ words_left c.next.new.self) first)
+    c.in_ok-last_fill_rule-in-slice.ensures
 
 pub returns-in_ok-parse_overlay-in-overlay : goal.returns-in_ok-parse_overlay-in-overlay
 returns-in_ok-parse_overlay-in-overlay c =
@@ -79,10 +86,26 @@ returns-in_err-parse_clip-in-clip c =
     ∙ ap (λ w. w ∷ words_left c.next.new.self) first)
     c.in_err-parse_clip-in-clip.ensures)
 
+pub returns-in_err-last_fill_rule-in-edges : goal.returns-in_err-last_fill_rule-in-edges
+returns-in_err-last_fill_rule-in-edges c =
+    let first : c.in_ok-next.field-0.now ≡ codes "edges" = search (rules, text_from_reads) in
+    let none : c.from_residual-in_err-last_fill_rule-in-edges.result ≡ None = search rules in
+    rw none (no_fill_named _ (words_left c.next.new.self) (codes "edges") (c.in_ok-next.ensures.steps
+    ∙ ap (λ w. w ∷ words_left c.next.new.self) first) (inl refl)
+    c.in_err-last_fill_rule-in-edges.ensures)
+
 pub returns-in_err-last_fill_rule-in-relate : goal.returns-in_err-last_fill_rule-in-relate
 returns-in_err-last_fill_rule-in-relate c =
     let first : c.in_ok-next.field-0.now ≡ codes "relate" = search (rules, text_from_reads) in
     let none : c.from_residual-in_err-last_fill_rule-in-relate.result ≡ None = search rules in
     rw none (no_fill_named _ (words_left c.next.new.self) (codes "relate") (c.in_ok-next.ensures.steps
-    ∙ ap (λ w. w ∷ words_left c.next.new.self) first) (inr refl)
+    ∙ ap (λ w. w ∷ words_left c.next.new.self) first) (inr (inl refl))
     c.in_err-last_fill_rule-in-relate.ensures)
+
+pub returns-in_err-last_fill_rule-in-slice : goal.returns-in_err-last_fill_rule-in-slice
+returns-in_err-last_fill_rule-in-slice c =
+    let first : c.in_ok-next.field-0.now ≡ codes "slice" = search (rules, text_from_reads) in
+    let none : c.from_residual-in_err-last_fill_rule-in-slice.result ≡ None = search rules in
+    rw none (no_fill_named _ (words_left c.next.new.self) (codes "slice") (c.in_ok-next.ensures.steps
+    ∙ ap (λ w. w ∷ words_left c.next.new.self) first) (inr (inr refl))
+    c.in_err-last_fill_rule-in-slice.ensures)
