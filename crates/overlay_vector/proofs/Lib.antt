@@ -1,4 +1,13 @@
+pub mod AlongEdges
+pub mod EdgesAdded
+pub mod EndsOff
 pub mod EnteringSums
+pub mod JoinedContours
+pub mod JoinedWindings
 pub mod ListedVectors
+pub mod PlacesByEnds
 pub mod Sums
 pub mod TurnedFills
+pub mod VectorShapes
+pub mod WalkedEdges
+pub mod Zipped

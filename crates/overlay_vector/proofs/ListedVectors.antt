@@ -1,6 +1,6 @@
 -- What a program lists by fill bits are the selected edges of a graph, with their filled sides and data.
 use Rattle.std.proofs.Common.{◌≡◌, ℕ, ℤ, Bool, true, false, cond, not, List, [], ◌∷◌, ◌++◌, map, refl, sym, ap, ap₂}
-use Rattle.std.proofs.Common.{subst, ◌∙◌}
+use Rattle.std.proofs.Common.{◌∙◌}
 use Rattle.std.specs.List.{filter, flat_map}
 use Rattle.overlay_geom.specs.Counts.{Counts}
 use Rattle.overlay_geom.specs.Edges.{CountedEdge, subj_of, clip_of}
@@ -15,7 +15,7 @@ use Rattle.overlay_arrange.specs.declared.overlay_rule.OverlayRule.{OverlayRule}
 use Rattle.overlay_arrange.specs.declared.vector.DataVectorEdge.{DataVectorEdge}
 use Rattle.overlay_arrange.proofs.SideBits.{bits_show_sides}
 use Rattle.overlay_walk.specs.Selection.{bits_select, bits_hold_above, bits_hold_below}
-use Rattle.overlay_vector.specs.DataVectors.{DataVector, data_vector, is_selected_edge, selected_vectors}
+use Rattle.overlay_vector.specs.DataVectors.{DataVector, data_vector, is_selected_edge}
 use Rattle.overlay_vector.specs.ListedVectors.{uncounted, vectors_by_bits}
 
 -- the fill bits of the first vector, and the others
@@ -26,6 +26,34 @@ first_fill (v ∷ vs) = v.fill
 abbrev others : List Vector → List Vector
 others [] = []
 others (v ∷ vs) = vs
+
+module _ (fill : FillRule) (es : List CountedEdge) {I D : Type 0} (whole : I → ℤ)
+    (counts : CountWithData D → Counts) where
+  -- an edge of the graph as it is listed, once its fill bits are known
+  listed_one : (v : DataVectorEdge I (CountWithData D)) →
+      v.fill ≡ fill_bits fill es (carried_vector whole counts v).edge →
+      uncounted whole v ≡ data_vector fill es (carried_vector whole counts v)
+  listed_one v same = ap (λ n. let w : DataVector D = record {
+    a = (uncounted whole v).a;
+    b = (uncounted whole v).b;
+    fill = n;
+    data_of = (uncounted whole v).data_of;
+  } in w) same
+
+  every_one : (vs : List (DataVectorEdge I (CountWithData D))) →
+      map (plain_vector whole) vs ≡ map (vector_of fill es) (edges_in (carried_vectors whole counts vs)) →
+      map (uncounted whole) vs ≡ map (data_vector fill es) (carried_vectors whole counts vs)
+  every_one [] filled = refl
+  every_one (v ∷ vs) filled =
+      ap₂ (λ w ws. w ∷ ws) (listed_one v (ap first_fill filled)) (every_one vs (ap others filled))
+
+  -- all of them are listed, where they are seen as another list
+  pub listed_all : (vs : List (DataVectorEdge I (CountWithData D))) (xs : List (Carried (CountWithData D))) →
+      carried_vectors whole counts vs ≡ xs → map (plain_vector whole) vs ≡ map (vector_of fill es) (edges_in xs) →
+      map (uncounted whole) vs ≡ map (data_vector fill es) xs
+  listed_all vs xs seen filled =
+      every_one vs (filled ∙ ap (λ ys. map (vector_of fill es) (edges_in ys)) (sym seen))
+      ∙ ap (map (data_vector fill es)) seen
 
 module _ (fill : FillRule) (rule : OverlayRule) (es : List CountedEdge) where
   -- the fill bits tell whether an edge is selected
@@ -62,13 +90,7 @@ module _ (fill : FillRule) (rule : OverlayRule) (es : List CountedEdge) where
             ≡ map (data_vector fill es)
             (cond t (carried_vector whole counts v ∷ chosen (carried_vectors whole counts vs))
             (chosen (carried_vectors whole counts vs)))
-        by true same rest = ap₂ (λ w ws. w ∷ ws)
-            (ap (λ n. let w : DataVector D = record {
-              a = (uncounted whole v).a;
-              b = (uncounted whole v).b;
-              fill = n;
-              data_of = (uncounted whole v).data_of;
-            } in w) same) rest
+        by true same rest = ap₂ (λ w ws. w ∷ ws) (listed_one fill es whole counts v same) rest
         by false same rest = rest
 
     -- so they are where the graph's edges are seen as another list

@@ -1,12 +1,12 @@
 -- Filled sides that are turned twice.
-use Rattle.std.proofs.Common.{◌≡◌, ℕ, ◌+◌, ◌*◌, ◌/◌, ◌%◌, ◌<◌, Bool, true, false, ◌==◌, refl, sym, ap, ap₂, ◌∙◌, arith}
+use Rattle.std.proofs.Common.{◌≡◌, ℕ, ◌+◌, ◌*◌, ◌/◌, ◌%◌, ◌<◌, ◌==◌, ap, ap₂, ◌∙◌, arith}
 use Rattle.std.specs.Int.{bit_at}
 use Rattle.std.proofs.lemmas.Nat.Bits.{bit_at-lt}
 use Rattle.overlay_arrange.specs.Counts.{has_bit}
-use Rattle.overlay_arrange.specs.Rules.{Fills, bit, bits_of}
+use Rattle.overlay_arrange.specs.Rules.{Fills, bit}
 use Rattle.overlay_arrange.proofs.DirectionBits.{by_bit}
 use Rattle.overlay_arrange.proofs.SideBits.{bits_show_sides}
-use Rattle.overlay_vector.specs.SideFills.{turned_fill, TurningTwiceKeepsFills}
+use Rattle.overlay_vector.specs.SideFills.{TurningTwiceKeepsFills}
 
 -- the sides that the turned bits stand for
 abbrev turned_sides : ℕ → Fills

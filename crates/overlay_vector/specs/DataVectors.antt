@@ -32,6 +32,10 @@ abbrev pub data_vector : {D : Type 0} → FillRule → List CountedEdge → Carr
 data_vector rule es x =
     record { a = x.edge.a; b = x.edge.b; fill = fill_bits rule es x.edge; data_of = x.carries.edge_data }
 
+-- all edges in their order, with filled sides and data
+abbrev pub graph_vectors : {D : Type 0} → FillRule → List (Carried (CountWithData D)) → List (DataVector D)
+graph_vectors fill xs = map (data_vector fill (edges_in xs)) xs
+
 -- the rules hold on exactly one side of the edge
 abbrev pub is_selected_edge : FillRule → OverlayRule → List CountedEdge → CountedEdge → Bool
 is_selected_edge fill rule es e = is_selected (rules_hold fill rule) subj_of clip_of es e

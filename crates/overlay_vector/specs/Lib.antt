@@ -1,6 +1,10 @@
+pub mod AddedEdges
 pub mod DataVectors
 pub mod EdgeBuilder
 pub mod Entering
 pub mod HeldEdges
+pub mod Joining
 pub mod ListedVectors
 pub mod SideFills
+pub mod VectorContours
+pub mod VectorShapes

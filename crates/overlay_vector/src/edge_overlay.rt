@@ -12,7 +12,9 @@ use overlay_walk::buffer::BooleanExtractionBuffer;
 use std::alloc::Allocator;
 use std::marker::Model;
 
+mod add;
 mod held;
+mod shapes;
 mod stores;
 mod vectors;
 

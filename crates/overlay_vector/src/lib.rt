@@ -2,10 +2,14 @@
 #![tactic(auto)]
 
 mod balance;
+mod contours;
 pub mod edge_overlay;
 pub mod edges;
+pub mod graph_vectors;
 pub mod input_edge;
+mod joining;
 pub mod laws;
 pub mod path;
 pub mod selected_vectors;
 pub mod side_fill;
+pub mod vector_shapes;

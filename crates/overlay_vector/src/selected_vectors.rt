@@ -63,8 +63,8 @@ fn push_selected<I: IntNumber, D: Copy, A: Allocator>(
     Ok(())
 }
 
-// The edge with its data alone.
-fn with_data<I: IntNumber, D: Copy>(
+/// The edge with its data alone.
+pub(crate) fn with_data<I: IntNumber, D: Copy>(
     edge: DataVectorEdge<I, CountWithData<D>>,
 ) -> DataVectorEdge<I, D>
     ensures a { result.a ≡ edge.a }

@@ -1,5 +1,5 @@
 -- Each term is a count of 32 bits, or 0.
-use Rattle.std.proofs.Common.{cond, ℤ, pos, ◌-ℤ◌, w32, ap, ap₂, ◌∙◌}
+use Rattle.std.proofs.Common.{cond, pos, ◌-ℤ◌, w32, ap, ap₂, ◌∙◌}
 use Rattle.std.proofs.lemmas.Int.{to_z-of_z}
 use Rattle.overlay_geom.specs.Plane.{point_eq}
 use Rattle.overlay_geom.specs.Points.{plain_point}

@@ -1,12 +1,11 @@
 -- An edge that is not balanced at an end shows that the counts are not, and where all are, the counts are.
-use Rattle.std.proofs.Common.{refl, ap, subst, arith}
+use Rattle.std.proofs.Common.{refl, subst, arith}
 use Rattle.std.specs.List.{All}
 use Rattle.std.proofs.lemmas.Bool.{false≢true}
 use Rattle.std.proofs.lemmas.List.Elements.{All-contains}
 use Rattle.overlay_geom.specs.Edges.{CountedEdge, subj_of, clip_of}
 use Rattle.overlay_geom.specs.Points.{plain_point}
 use Rattle.overlay_geom.proofs.Mapped.{All-mapped_more, mapped_whole}
-use Rattle.overlay_plane.specs.Balance.{HasBalancedCounts}
 use Rattle.overlay_arrange.specs.Content.{plain_edge, plain_edges}
 use Rattle.overlay_vector.specs.Entering.{IsBalancedAt}
 use Rattle.overlay_vector.proofs.EnteringSums.{entering_none, balanced_by_ends}

@@ -1,5 +1,5 @@
 -- The masks test the bits of the sides above and below.
-use Rattle.std.proofs.Common.{◌≡◌, Bool, true, false, cond, not, ◌==◌, refl, ap₂, ◌∙◌}
+use Rattle.std.proofs.Common.{◌≡◌, Bool, true, false, cond, not, refl, ap₂, ◌∙◌}
 use Rattle.overlay_arrange.specs.Rules.{rule_holds}
 use Rattle.overlay_arrange.proofs.DirectionBits.{has_bit-masked}
 use Rattle.overlay_vector.proofs.selected_vectors.is_selected.Goals as goal

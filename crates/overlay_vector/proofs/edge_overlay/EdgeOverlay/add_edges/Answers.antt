@@ -1,0 +1,59 @@
+-- Each edge is added after those before it; where one is refused those before it stay.
+use Rattle.std.proofs.Common.{◌≡◌, false, ◌∷◌, ◌++◌, [], Err, inr, rules, refl, sym, ap, subst}
+use Rattle.std.proofs.iter.Next.{Yields-more}
+use Rattle.std.proofs.lemmas.List.Elements.{All-pop}
+use Rattle.std.proofs.lemmas.Result.{err_from_is_err_and}
+use Rattle.std.specs.Iterator.{Yields}
+use Rattle.std.specs.Prelude.{Some}
+use Rattle.overlay_vector.specs.AddedEdges.{IsEdgeInRange, StopsAtEdge}
+use Rattle.overlay_vector.proofs.EdgesAdded.{none_added, one_more_added, stops_here}
+use Rattle.overlay_vector.proofs.edge_overlay.EdgeOverlay.add_edges.Goals as goal
+
+pub loop-edge-init : goal.loop-edge-init
+loop-edge-init g c =
+    let ready : c.args.self.now.failed ≡ false = search rules in
+    let same : c.into_iter-edge-iterator.result ≡ c.args.iter = search rules in (
+      subst g.P.Iterator.can_next (sym same) c.requires.can,
+      search rules,
+      none_added g.I.IntNumber.whole c.args.shape_type g.D.OverlayEdgeData.reverses c.args.self.now ready
+          c.note_weight.ensures,
+    )
+
+pub add_edge-requires : goal.add_edge-requires
+add_edge-requires g c =
+    let steps = g.P.Iterator.next_gives in
+    let edge = c.in-Some.edge in
+    let given = c.loop-edge.yielded in
+    let same : c.into_iter-edge-iterator.result ≡ c.args.iter = search rules in
+    let more = Yields-more steps c.into_iter-edge-iterator.result given c.loop-edge.edge-iterator edge c.next.new.self
+    c.loop-edge.yielded_by c.in-Some.ensures.steps in
+    (All-pop (IsEdgeInRange g.I.IntNumber.whole g.I.IntNumber.limit) (given ++ edge ∷ []) given (Some edge) refl
+    (c.requires.in_range (given ++ edge ∷ []) c.next.new.self
+    (subst (λ s. Yields steps s (given ++ edge ∷ []) c.next.new.self) same more))).1
+
+pub loop-edge-preserved : goal.loop-edge-preserved
+loop-edge-preserved g c =
+    let e = c.in_ok-add_edge.ensures in (
+      search rules,
+      search rules,
+      one_more_added g.I.IntNumber.whole c.args.shape_type g.D.OverlayEdgeData.reverses c.loop-edge.yielded
+          c.in-Some.edge c.args.self.now c.loop-edge.self c.loop-edge.invariant.2 c.add_edge.new.self e.ok e.light e.kept,
+    )
+
+pub returns-in_err-add_edge-clause-err : goal.returns-in_err-add_edge-clause-err
+returns-in_err-add_edge-clause-err g c =
+    let whole = g.I.IntNumber.whole in
+    let reverses = g.D.OverlayEdgeData.reverses in
+    let steps = g.P.Iterator.next_gives in
+    let e = c.in_err-add_edge.ensures in
+    let same : c.into_iter-edge-iterator.result ≡ c.args.iter = search rules in
+    let p = err_from_is_err_and c.from_residual-in_err-add_edge.result c.from_residual-in_err-add_edge.ensures.1 in
+    let error = c.in_err-add_edge.field-0.0 in
+    let stops = stops_here whole c.args.shape_type reverses c.loop-edge.yielded c.in-Some.edge c.args.self.now
+    c.loop-edge.self c.loop-edge.invariant.2 steps c.into_iter-edge-iterator.result c.next.new.self
+    (c.loop-edge.edge-iterator, c.loop-edge.yielded_by, c.in-Some.ensures.steps) error
+    (λ is. e.failed.0 (ap Err is)) (λ is. e.too_many (ap Err is)) (λ is. e.no_query (ap Err is)) in
+    rw (p.1, p.2) (inr (subst (λ es. StopsAtEdge whole c.args.shape_type reverses steps c.args.iter
+    c.args.self.now.edges es error) (ap (λ b. b.edges) (sym e.err))
+    (subst (λ s. StopsAtEdge whole c.args.shape_type reverses steps s c.args.self.now.edges c.loop-edge.self.edges
+    error) same stops)))

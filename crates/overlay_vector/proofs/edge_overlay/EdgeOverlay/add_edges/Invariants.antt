@@ -1,0 +1,8 @@
+-- The edges that the iterator gave so far are added.
+use Rattle.overlay_vector.proofs.EdgesAdded.{HasAddedEdges}
+use Rattle.overlay_vector.proofs.edge_overlay.EdgeOverlay.add_edges.Given as goal
+
+abbrev pub invariant-loop-edge : goal.invariant-loop-edge
+invariant-loop-edge g l =
+    (goal.iterator-loop-edge g).can_next l.edge-iterator × (goal.iterator-loop-edge g).is_finite l.edge-iterator
+    × HasAddedEdges g.I.IntNumber.whole l.shape_type g.D.OverlayEdgeData.reverses l.yielded l.initial.self l.self

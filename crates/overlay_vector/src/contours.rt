@@ -1,0 +1,198 @@
+//! Contours as edges with filled sides and data, put together to shapes.
+
+ghost use Rattle.std.specs.Prelude.{◌≡◌, ◌<◌, true, cond, length, map, get_or, All, AllPairs, Contains, MatchBool};
+ghost use Rattle.std.specs.Prelude.{IfOk, IsOkUnless};
+ghost use Rattle.std.specs.List.{AllZip};
+ghost use Rattle.overlay_geom.specs.Plane.{edge_of, edge_lt, is_forward};
+ghost use Rattle.overlay_geom.specs.Points.{plain_point};
+ghost use Rattle.overlay_plane.specs.BoundContours.{walks_in};
+ghost use Rattle.overlay_plane.specs.PlacedContours.{walk_at, walks_at};
+ghost use Rattle.overlay_arrange.specs.Graphs.{graph_edges};
+ghost use Rattle.overlay_extract.specs.Places.{place_lists, AreInside};
+ghost use Rattle.overlay_walk.specs.GroupedContours.{plain_contours};
+ghost use Rattle.overlay_walk.specs.Steps.{plain_step, plain_steps};
+ghost use Rattle.overlay_vector.specs.DataVectors.{plain_data_vector, plain_data_vectors};
+ghost use Rattle.overlay_vector.specs.Joining.{IsInRange};
+ghost use Rattle.overlay_vector.specs.SideFills.{turned_fill};
+ghost use Rattle.overlay_vector.specs.VectorContours.{plain_ends, IsAlongOne};
+ghost use Rattle.overlay_vector.specs.VectorShapes.{plain_vector_shape, plain_vector_shapes, IsVectorAlong};
+ghost use Rattle.overlay_vector.specs.VectorShapes.{IsVectorContour, AreVectorContours};
+
+use crate::joining::joined;
+use crate::path::{DataVectorPath, DataVectorShape};
+use crate::side_fill::Reverse;
+use overlay_arrange::data::{CountWithData, OverlayEdgeData};
+use overlay_arrange::edge::compare_points;
+use overlay_arrange::graph::Graph;
+use overlay_arrange::vector::DataVectorEdge;
+use overlay_geom::error::OverlayError;
+use overlay_geom::number::IntNumber;
+use overlay_geom::point::IntPoint;
+use overlay_walk::contour::Contour;
+use overlay_walk::step::Step;
+use std::alloc::Allocator;
+
+/// The shapes of which the contours, along edges of the graph, stand at these places. Each step has the filled
+/// sides and the data of its edge, both turned round where it leads from the larger end; unless edges are to be
+/// kept, neighbours are joined. The only refusal is `Memory`.
+pub(crate) fn assembled<I: IntNumber, D: OverlayEdgeData, A: Allocator + Clone>(
+    graph: &Graph<I, CountWithData<D>, A>,
+    contours: &[Contour<I, A>],
+    places: &[Vec<usize, A>],
+    keeps_edges: bool,
+    store: &mut D::Store,
+) -> Result<Vec<DataVectorShape<I, D, A>, A>, OverlayError>
+    requires along { All (All (IsAlongOne (graph_edges graph.now))) (walks_in (plain_contours I.whole contours.now)) }
+    requires inside { AreInside (length (plain_contours I.whole contours.now)) (place_lists places.now) }
+    ensures shapes { IfOk result (λ v.
+        AreVectorContours D.reverses D.eq graph.now.fill_rule keeps_edges graph.now.edges
+        (walks_at (plain_contours I.whole contours.now) (place_lists places.now))
+        (plain_vector_shapes I.whole v.items)) }
+    ensures err { IsOkUnless result OverlayError.Memory }
+{
+    let mut shapes = Vec::new(graph.allocator().clone()?);
+    for shape in places {
+        shapes.push(shape_at(graph, contours, shape, keeps_edges, store)?)?;
+    }
+    Ok(shapes)
+}
+
+// The shape of which the contours stand at these places.
+fn shape_at<I: IntNumber, D: OverlayEdgeData, A: Allocator + Clone>(
+    graph: &Graph<I, CountWithData<D>, A>,
+    contours: &[Contour<I, A>],
+    places: &[usize],
+    keeps_edges: bool,
+    store: &mut D::Store,
+) -> Result<DataVectorShape<I, D, A>, OverlayError>
+    requires along { All (All (IsAlongOne (graph_edges graph.now))) (walks_in (plain_contours I.whole contours.now)) }
+    requires inside { All (λ k. k < length (plain_contours I.whole contours.now)) places.now }
+    ensures shape { IfOk result (λ v.
+        AllZip (IsVectorContour D.reverses D.eq graph.now.fill_rule keeps_edges graph.now.edges)
+        (map (walk_at (plain_contours I.whole contours.now)) places.now) (plain_vector_shape I.whole v.items)) }
+    ensures err { IsOkUnless result OverlayError.Memory }
+{
+    let mut shape = Vec::new(graph.allocator().clone()?);
+    for i in 0..places.len() {
+        let place = places[i];
+        shape.push(contour(graph, &contours[place].steps, keeps_edges, store)?)?;
+    }
+    Ok(shape)
+}
+
+// The walk as edges with filled sides and data; unless they are to be kept, neighbours are joined.
+fn contour<I: IntNumber, D: OverlayEdgeData, A: Allocator + Clone>(
+    graph: &Graph<I, CountWithData<D>, A>,
+    walk: &[Step<I>],
+    keeps_edges: bool,
+    store: &mut D::Store,
+) -> Result<DataVectorPath<I, D, A>, OverlayError>
+    requires { All (IsAlongOne (graph_edges graph.now)) (plain_steps I.whole walk.now) }
+    ensures ok { IfOk result (λ v. IsVectorContour D.reverses D.eq graph.now.fill_rule keeps_edges graph.now.edges
+        (plain_steps I.whole walk.now) (plain_data_vectors I.whole v.items)) }
+    ensures err { IsOkUnless result OverlayError.Memory }
+{
+    let vectors = vectors_along(graph, walk, store)?;
+    if keeps_edges {
+        return Ok(vectors);
+    }
+    joined(graph.allocator().clone()?, &vectors)
+}
+
+// The steps of the walk with the filled sides and the data of their edges.
+fn vectors_along<I: IntNumber, D: OverlayEdgeData, A: Allocator + Clone>(
+    graph: &Graph<I, CountWithData<D>, A>,
+    walk: &[Step<I>],
+    store: &mut D::Store,
+) -> Result<DataVectorPath<I, D, A>, OverlayError>
+    requires { All (IsAlongOne (graph_edges graph.now)) (plain_steps I.whole walk.now) }
+    ensures along { IfOk result (λ v. AllZip (IsVectorAlong D.reverses graph.now.fill_rule graph.now.edges)
+        (plain_steps I.whole walk.now) (plain_data_vectors I.whole v.items)) }
+    ensures in_range { IfOk result (λ v. All (IsInRange I.limit) (plain_data_vectors I.whole v.items)) }
+    ensures err { IsOkUnless result OverlayError.Memory }
+{
+    let mut vectors = Vec::with_capacity(graph.allocator().clone()?, walk.len())?;
+    for i in 0..walk.len() {
+        vectors.push(vector_along(graph, walk[i], store))?;
+    }
+    Ok(vectors)
+}
+
+// The step with the filled sides and the data of its edge.
+fn vector_along<I: IntNumber, D: OverlayEdgeData, A: Allocator>(
+    graph: &Graph<I, CountWithData<D>, A>,
+    step: Step<I>,
+    store: &mut D::Store,
+) -> DataVectorEdge<I, D>
+    requires { IsAlongOne (graph_edges graph.now) (plain_step I.whole step) }
+    ensures along { IsVectorAlong D.reverses graph.now.fill_rule graph.now.edges
+        (plain_step I.whole step) (plain_data_vector I.whole result) }
+    ensures in_range { IsInRange I.limit (plain_data_vector I.whole result) }
+{
+    let edges = graph.edges();
+    let place = place_of(edges, step);
+    walked(edges[place], step, store)
+}
+
+// The edge as the step walks along it: turned round where it leads from the larger end.
+fn walked<I: IntNumber, D: OverlayEdgeData>(
+    edge: DataVectorEdge<I, CountWithData<D>>,
+    step: Step<I>,
+    store: &mut D::Store,
+) -> DataVectorEdge<I, D>
+    ensures a { result.a ≡ step.from }
+    ensures b { result.b ≡ step.to }
+    ensures fill { result.fill ≡ cond (is_forward (plain_step I.whole step)) edge.fill (turned_fill edge.fill) }
+    ensures carried { MatchBool (is_forward (plain_step I.whole step))
+        (result.edge_data ≡ edge.edge_data.edge_data) (D.reverses edge.edge_data.edge_data result.edge_data) }
+{
+    let (a, b) = (step.from, step.to);
+    let mut fill = edge.fill;
+    let mut edge_data = edge.edge_data.edge_data;
+    if !compare_points(a, b).is_lt() {
+        fill = fill.reverse();
+        edge_data = edge_data.reversed(store);
+    }
+    DataVectorEdge {
+        a,
+        b,
+        fill,
+        edge_data,
+    }
+}
+
+// The place of the edge along which the step leads. The edges stand in order.
+fn place_of<I: IntNumber, C: Copy>(edges: &[DataVectorEdge<I, C>], step: Step<I>) -> usize
+    requires ascending { AllPairs (λ e f. edge_lt e f ≡ true) (map (plain_ends I.whole) edges.now) }
+    requires among { Contains (map (plain_ends I.whole) edges.now) (edge_of (plain_step I.whole step)) }
+    ensures within { result < length edges.now }
+    ensures found { (d : _) → get_or (map (plain_ends I.whole) edges.now) result d ≡ edge_of (plain_step I.whole step) }
+{
+    let (a, b) = ends_of(step);
+    edges.partition_point(|e| is_before(e, a, b))
+}
+
+// The two ends of the edge along which the step leads, the smaller one first.
+fn ends_of<I: IntNumber>(step: Step<I>) -> (IntPoint<I>, IntPoint<I>)
+    ensures start { plain_point I.whole result.0 ≡ (edge_of (plain_step I.whole step)).a }
+    ensures end { plain_point I.whole result.1 ≡ (edge_of (plain_step I.whole step)).b }
+{
+    if compare_points(step.from, step.to).is_lt() {
+        (step.from, step.to)
+    } else {
+        (step.to, step.from)
+    }
+}
+
+// Whether the edge comes before the one between the two points: by the smaller end, then by the larger.
+fn is_before<I: IntNumber, C: Copy>(
+    e: &DataVectorEdge<I, C>,
+    a: IntPoint<I>,
+    b: IntPoint<I>,
+) -> bool
+    ensures { result
+        ≡ edge_lt (plain_ends I.whole e.now) (record { a = plain_point I.whole a; b = plain_point I.whole b }) }
+{
+    let starts = compare_points(e.a, a);
+    starts.is_lt() || (starts.is_eq() && compare_points(e.b, b).is_lt())
+}

@@ -1,0 +1,94 @@
+//! Edges with data that are added to a builder.
+
+ghost use Rattle.std.specs.Prelude.{◌≡◌, ◌≢◌, ◌↔◌, ◌⊎◌, ◌^◌, ◌<◌, true, All};
+ghost use Rattle.std.specs.Prelude.{Err, IfErr, OnOk, OnErr, IsErrOf};
+ghost use Rattle.std.specs.Iterator.{IsFinite, HoldsAlong};
+ghost use Rattle.overlay_geom.specs.Edges.{weight};
+ghost use Rattle.overlay_plane.specs.Carried.{edges_in};
+ghost use Rattle.overlay_vector.specs.AddedEdges.{passed_once, AddsAllGiven, AddsEdge, EdgeWeighsTooMuch};
+ghost use Rattle.overlay_vector.specs.AddedEdges.{IsEdgeInRange, StopsAtEdge};
+
+use crate::edge_overlay::{EdgeOverlay, ShapeType};
+use crate::input_edge::InputEdge;
+use overlay_arrange::data::{CountWithData, OverlayEdgeData};
+use overlay_builder::boolean::passing;
+use overlay_geom::error::OverlayError;
+use overlay_geom::integer::OverlayInt;
+use std::alloc::Allocator;
+
+impl<I: OverlayInt, D: OverlayEdgeData, A: Allocator> EdgeOverlay<I, D, A> {
+    /// Adds an edge of the subject, or of the clip, from a to b, with its data. It is held from its smaller
+    /// to its larger end; where these are exchanged, it holds the reversed of its data. An edge between
+    /// equal points is none. Both ends are in the coordinate range.
+    ///
+    /// Refusals, which leave the builder and its store as they were: `Failed` before anything else,
+    /// `TooManyEdges` where the weight would come to 2^31, `Memory`. Room is taken before the data is
+    /// reversed.
+    pub fn add_edge(
+        &mut self,
+        edge: InputEdge<I, D>,
+        shape_type: ShapeType,
+    ) -> Result<(), OverlayError>
+        requires { IsEdgeInRange I.whole I.limit edge }
+        ensures ok { OnOk result
+            (AddsEdge I.whole shape_type D.reverses edge self.old.edges self.new.edges) }
+        ensures light { OnOk result (weight (edges_in self.new.edges) < 2 ^ 31) }
+        ensures kept { self.new ≡ record self.old { edges = self.new.edges; store = self.new.store } }
+        ensures err { OnErr result (self.new ≡ self.old) }
+        ensures failed { IsErrOf result OverlayError.Failed ↔ (self.old.failed ≡ true) }
+        ensures too_many { IsErrOf result OverlayError.TooManyEdges
+            → EdgeWeighsTooMuch I.whole shape_type edge self.old.edges }
+        ensures no_query { result ≢ Err OverlayError.NotSettled }
+    {
+        let given = passed_once(shape_type, edge.edge_data);
+        self.core.add_step(edge.a, edge.b, given, &mut self.store)
+    }
+
+    /// Adds the edges that the iterator gives, in order, each as `add_edge` does. It ends, and both ends of
+    /// each edge are in the coordinate range.
+    ///
+    /// Refusals: `Failed` before anything else, and then nothing is changed and the iterator is not asked;
+    /// `TooManyEdges` at an edge that would bring the weight to 2^31; `Memory` at some edge, it is not
+    /// said which. After these two exactly the edges before that one are added.
+    pub fn add_edges<P: Iterator<Item = InputEdge<I, D>> + Drop>(
+        &mut self,
+        iter: P,
+        shape_type: ShapeType,
+    ) -> Result<(), OverlayError>
+        requires can { P.can_next iter }
+        requires ends { IsFinite (P.remaining iter) }
+        requires in_range { HoldsAlong P.next_gives iter (All (IsEdgeInRange I.whole I.limit)) }
+        ensures ok { OnOk result (AddsAllGiven I.whole shape_type D.reverses P.next_gives iter
+            self.old.edges self.new.edges) }
+        ensures light { OnOk result (weight (edges_in self.new.edges) < 2 ^ 31) }
+        ensures kept { self.new ≡ record self.old { edges = self.new.edges; store = self.new.store } }
+        ensures failed { IsErrOf result OverlayError.Failed ↔ (self.old.failed ≡ true) }
+        ensures untouched { IsErrOf result OverlayError.Failed → self.new ≡ self.old }
+        ensures err { IfErr result (λ e. (e ≡ OverlayError.Failed)
+            ⊎ StopsAtEdge I.whole shape_type D.reverses P.next_gives iter self.old.edges self.new.edges e) }
+    {
+        self.core.check_usable()?;
+        self.note_weight();
+        for edge in iter {
+            self.add_edge(edge, shape_type)?;
+        }
+        Ok(())
+    }
+
+    // Does nothing. Its contract says that the edges weigh less than 2^31.
+    fn note_weight(&self)
+        ensures { weight (edges_in self.now.edges) < 2 ^ 31 }
+    {
+        let _ = self.core.content();
+    }
+}
+
+// What a step of the subject, or of the clip, with this data makes its edge carry where it runs along it.
+fn passed_once<D: OverlayEdgeData>(shape_type: ShapeType, edge_data: D) -> CountWithData<D>
+    ensures { result ≡ passed_once shape_type edge_data }
+{
+    CountWithData {
+        count: passing(shape_type).along,
+        edge_data,
+    }
+}

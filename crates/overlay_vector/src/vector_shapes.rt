@@ -1,0 +1,120 @@
+//! The contours round the region where rules hold, as edges with filled sides and data, bound to shapes.
+
+ghost use Rattle.std.specs.Prelude.{All, IfOk, IsOkUnless};
+ghost use Rattle.overlay_plane.specs.Balance.{HasBalancedCounts};
+ghost use Rattle.overlay_plane.specs.BoundContours.{walks_in, AreShapesFound};
+ghost use Rattle.overlay_plane.specs.KeptContours.{CanBeBound};
+ghost use Rattle.overlay_plane.specs.PlacedContours.{CanBePlaced};
+ghost use Rattle.overlay_arrange.specs.Graphs.{graph_edges};
+ghost use Rattle.overlay_extract.specs.Places.{place_lists};
+ghost use Rattle.overlay_extract.specs.Results.{asked};
+ghost use Rattle.overlay_walk.specs.GroupedContours.{plain_contours};
+ghost use Rattle.overlay_walk.specs.Steps.{filled_hand, IsLong};
+ghost use Rattle.overlay_vector.specs.VectorContours.{ArePlacedSomehow};
+ghost use Rattle.overlay_vector.specs.VectorShapes.{plain_vector_shapes, AreVectorShapes};
+
+use crate::contours::assembled;
+use crate::path::DataVectorShape;
+use overlay_arrange::count::EdgeCount;
+use overlay_arrange::data::{CountWithData, OverlayEdgeData};
+use overlay_arrange::graph::Graph;
+use overlay_arrange::options::{ContourDirection, IntOverlayOptions};
+use overlay_arrange::overlay_rule::OverlayRule;
+use overlay_extract::places::shape_places;
+use overlay_extract::scans::{TREE_FROM_PARENTS, scan_for_holes};
+use overlay_geom::error::OverlayError;
+use overlay_geom::number::IntNumber;
+use overlay_walk::bind::bind_contours;
+use overlay_walk::buffer::BooleanExtractionBuffer;
+use overlay_walk::contour::Contour;
+use overlay_walk::kept::kept_contours;
+use std::alloc::Allocator;
+
+/// The shapes round the region where the rules hold, that of the graph and the overlay rule, of the
+/// windings that the graph's edges make: the outline of each, and then its holes, both in the order in
+/// which they are found. The contours are cut without groups, whatever `options.ogc` says; those below the
+/// minimum area are left out.
+///
+/// Each contour is given by its edges on the way along it: each has the sides that are filled, as they are
+/// seen on this way, and the data of the arrangement's edge, `reversed` where it is walked from its larger
+/// end. Unless `options.preserve_output_collinear`, an edge that goes straight on from the one before it, with
+/// equal filled sides and equal data, is joined with it; the first one with the last too. The joined edge
+/// has the data of the first of them. The contours may begin anywhere.
+///
+/// The graph's counts are balanced. The buffer lends its room. The store is handed to `reversed`. The only
+/// refusal is `Memory`.
+pub fn vector_shapes<I: IntNumber, D: OverlayEdgeData, A: Allocator + Clone>(
+    graph: &Graph<I, CountWithData<D>, A>,
+    overlay_rule: OverlayRule,
+    options: IntOverlayOptions<I::WideUInt>,
+    buffer: &mut BooleanExtractionBuffer<I, A>,
+    store: &mut D::Store,
+) -> Result<Vec<DataVectorShape<I, D, A>, A>, OverlayError>
+    requires { HasBalancedCounts (graph_edges graph.now) }
+    ensures shapes { IfOk result (λ v. AreVectorShapes D.reverses D.eq
+        (asked I.Wide.width I.WideUInt.natural graph.now.fill_rule overlay_rule options)
+        graph.now.edges (plain_vector_shapes I.whole v.items)) }
+    ensures err { IsOkUnless result OverlayError.Memory }
+{
+    vector_shapes_with_trees_from(
+        graph,
+        overlay_rule,
+        options,
+        buffer,
+        store,
+        TREE_FROM_PARENTS,
+    )
+}
+
+/// The shapes that [`vector_shapes`] gives, for a limit of the caller's: where there are `tree_from` shapes or
+/// more their live edges are kept in a tree, and else in a list. The only refusal is `Memory`.
+pub fn vector_shapes_with_trees_from<I: IntNumber, D: OverlayEdgeData, A: Allocator + Clone>(
+    graph: &Graph<I, CountWithData<D>, A>,
+    overlay_rule: OverlayRule,
+    options: IntOverlayOptions<I::WideUInt>,
+    buffer: &mut BooleanExtractionBuffer<I, A>,
+    store: &mut D::Store,
+    tree_from: usize,
+) -> Result<Vec<DataVectorShape<I, D, A>, A>, OverlayError>
+    requires { HasBalancedCounts (graph_edges graph.now) }
+    ensures shapes { IfOk result (λ v. AreVectorShapes D.reverses D.eq
+        (asked I.Wide.width I.WideUInt.natural graph.now.fill_rule overlay_rule options)
+        graph.now.edges (plain_vector_shapes I.whole v.items)) }
+    ensures err { IsOkUnless result OverlayError.Memory }
+{
+    graph.note_arrangement();
+    let without_groups = IntOverlayOptions {
+        ogc: false,
+        ..options
+    };
+    let contours = kept_contours(graph, overlay_rule, without_groups, buffer)?;
+    let places = places_in_shapes(graph, &contours, options.output_direction, tree_from)?;
+    assembled(
+        graph,
+        &contours,
+        &places,
+        options.preserve_output_collinear,
+        store,
+    )
+}
+
+// The places of the contours in the shapes that are found for them.
+fn places_in_shapes<I: IntNumber, C: EdgeCount, A: Allocator + Clone>(
+    graph: &Graph<I, C, A>,
+    contours: &[Contour<I, A>],
+    direction: ContourDirection,
+    tree_from: usize,
+) -> Result<Vec<Vec<usize, A>, A>, OverlayError>
+    requires long { All (All (IsLong I.limit)) (walks_in (plain_contours I.whole contours.now)) }
+    requires bindable { CanBeBound (filled_hand direction) (walks_in (plain_contours I.whole contours.now)) }
+    requires placeable { (shapes : _) → AreShapesFound (filled_hand direction) (plain_contours I.whole contours.now) shapes
+        → CanBePlaced (plain_contours I.whole contours.now) shapes }
+    ensures placed { IfOk result (λ v.
+        ArePlacedSomehow (filled_hand direction) (plain_contours I.whole contours.now) (place_lists v.items)) }
+    ensures err { IsOkUnless result OverlayError.Memory }
+{
+    let alloc = graph.allocator().clone()?;
+    let mut scan = scan_for_holes(alloc.clone()?, contours, tree_from);
+    let found = bind_contours(alloc.clone()?, &mut scan, contours, direction)?;
+    shape_places(alloc, contours, &found)
+}

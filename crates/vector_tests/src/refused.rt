@@ -1,0 +1,109 @@
+//! Edges that are refused for want of memory: what was added before stays, and the store with it.
+
+use crate::colour::Colour;
+use crate::edges::{add, add_each, edge_of};
+use overlay_geom::error::OverlayError;
+use overlay_vector::edge_overlay::{EdgeOverlay, ShapeType};
+use overlay_vector::input_edge::InputEdge;
+use refusing_alloc::refusing::Refusing;
+use std::alloc::Global;
+use std::process::Abort;
+use std::test::Fail;
+
+// More requests than a call makes.
+const PLENTY: u64 = 100;
+
+// A builder whose memory may be refused.
+type Refusable<'a> = EdgeOverlay<i32, Colour, &'a Refusing<Global>>;
+
+// How many edges the builder holds.
+fn count_of(overlay: &Refusable<'_>) -> u32 {
+    let mut count: u32 = 0;
+    for _ in overlay.edges() {
+        count = count.saturating_add(1);
+    }
+    count
+}
+
+// Whether the answer is Ok; else it is `Memory`.
+fn is_added(rt: &impl Abort, answer: Result<(), OverlayError>) -> bool {
+    match answer {
+        Ok(()) => true,
+        Err(error) => {
+            assert!(rt; error == OverlayError::Memory);
+            false
+        }
+    }
+}
+
+// Adds an edge from its larger end while so many requests are granted, and answers whether that was
+// enough. Where it was not, there is no edge, and the store was not asked; the edge can be added later.
+fn adds_edge_or_nothing(
+    rt: &impl Abort,
+    memory: &Refusing<Global>,
+    granted: u64,
+) -> Result<bool, OverlayError> {
+    let mut overlay = Refusable::new(memory, 0)?;
+    memory.grant(granted);
+    let ends = ((4, 0), (0, 0));
+    let answer = add(rt, &mut overlay, ends, Colour::Red, ShapeType::Subject);
+    let added = is_added(rt, answer);
+    let wanted = if added { 1 } else { 0 };
+    assert!(rt; count_of(&overlay) == wanted);
+    assert!(rt; overlay.data_store().reverses == wanted);
+    memory.grant(PLENTY);
+    add(rt, &mut overlay, ends, Colour::Red, ShapeType::Subject)?;
+    assert!(rt; count_of(&overlay) == wanted + 1);
+    Ok(added)
+}
+
+#[test]
+fn a_refused_edge_leaves_builder_and_store(rt: HostRuntime) -> Result<(), Fail> {
+    let memory = Refusing::new(rt.alloc(), PLENTY);
+    for granted in 0..PLENTY {
+        if adds_edge_or_nothing(&rt, &memory, granted)? {
+            assert!(rt; granted > 0);
+            return Ok(());
+        }
+    }
+    assert!(rt; false, "no edge was added");
+    Ok(())
+}
+
+// Adds edges from their larger ends while so many requests are granted, and answers how many stand
+// then: those before the refused one, for each of which the store was asked once.
+fn count_added(
+    rt: &impl Abort,
+    memory: &Refusing<Global>,
+    edges: &[InputEdge<i32, Colour>],
+    granted: u64,
+) -> Result<usize, OverlayError> {
+    let mut overlay = Refusable::new(memory, 0)?;
+    memory.grant(granted);
+    let answer = add_each(rt, &mut overlay, edges);
+    let added = is_added(rt, answer);
+    let count = count_of(&overlay);
+    assert!(rt; overlay.data_store().reverses == count);
+    assert!(rt; added == (count as usize == edges.len()));
+    Ok(count as usize)
+}
+
+#[test]
+fn refused_edges_leave_those_before(rt: HostRuntime) -> Result<(), Fail> {
+    let memory = Refusing::new(rt.alloc(), PLENTY);
+    let mut edges = Vec::new(rt.alloc());
+    for x in 0..20i16 {
+        edges.push(edge_of::<i32, Colour>((x, 4), (x, 0), Colour::Green))?;
+    }
+    let mut kept_some = false;
+    for granted in 0..PLENTY {
+        let count = count_added(&rt, &memory, &edges, granted)?;
+        if count == 20 {
+            assert!(rt; kept_some);
+            return Ok(());
+        }
+        kept_some = kept_some || count > 0;
+    }
+    assert!(rt; false, "no edges were added");
+    Ok(())
+}
