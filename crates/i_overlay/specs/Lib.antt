@@ -2,5 +2,6 @@ pub mod Adding
 pub mod Builder
 pub mod OneShot
 pub mod Relations
+pub mod ShapeVectors
 pub mod Simplified
 pub mod Views

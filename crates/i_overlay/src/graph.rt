@@ -9,6 +9,8 @@ ghost use Rattle.overlay_arrange.specs.Vectors.{plain_vector, vector_of};
 ghost use Rattle.overlay_extract.specs.ChildLinks.{plain_link};
 ghost use Rattle.overlay_extract.specs.PlacedResults.{IsHierarchy};
 ghost use Rattle.overlay_extract.specs.Results.{asked, IsResult, IsContoursResult};
+ghost use Rattle.overlay_vector.specs.DataVectors.{graph_vectors, plain_data_vectors};
+ghost use Rattle.overlay_vector.specs.VectorShapes.{plain_vector_shapes, AreVectorShapes};
 ghost use Rattle.i_overlay.specs.Views.{viewed_edges};
 
 use crate::viewed_graph::ViewedGraph;
@@ -21,6 +23,9 @@ use overlay_geom::error::OverlayError;
 use overlay_geom::flat::contours::FlatContoursBuffer;
 use overlay_geom::integer::OverlayInt;
 use overlay_geom::path::IntShapes;
+use overlay_vector::graph_vectors::graph_vectors;
+use overlay_vector::path::DataVectorShape;
+use overlay_vector::vector_shapes::vector_shapes;
 use overlay_walk::buffer::BooleanExtractionBuffer;
 use std::alloc::Allocator;
 
@@ -96,6 +101,44 @@ impl<I: OverlayInt, A: Allocator + Clone> OverlayGraph<'_, I, (), A> {
 }
 
 impl<I: OverlayInt, D: OverlayEdgeData, A: Allocator + Clone> OverlayGraph<'_, I, D, A> {
+    /// The contours round the region of the plane where the overlay rule holds, cut without `ogc`, as shapes of
+    /// edges: each edge with the sides that the subject and the clip fill, seen on the way along the contour, and
+    /// with its data, `reversed` where the contour walks it from its larger end. Unless points on one line are kept,
+    /// by the options that the builder had when the view was made, neighbours on one line that have the same filled
+    /// sides and equal data are joined to one edge. A store is made for this call, and dropped after it. The buffer
+    /// lends its room; what it holds changes no answer. The only refusal is `Memory`.
+    pub fn extract_vector_shapes(
+        &self,
+        overlay_rule: OverlayRule,
+        buffer: &mut BooleanExtractionBuffer<I, A>,
+    ) -> Result<Vec<DataVectorShape<I, D, A>, A>, OverlayError>
+        ensures shapes { IfOk result (λ v. AreVectorShapes D.reverses D.eq
+            (asked I.Wide.width I.WideUInt.natural self.now.viewed.now.graph.fill_rule overlay_rule
+            self.now.viewed.now.options)
+            self.now.viewed.now.graph.edges (plain_vector_shapes I.whole v.items)) }
+        ensures err { IsOkUnless result OverlayError.Memory }
+    {
+        self.extract_vector_shapes_with_store(overlay_rule, buffer, &mut D::Store::default())
+    }
+
+    /// The same shapes, with a store of the caller's for what `reversed` does. The only refusal is `Memory`, and
+    /// then the store has what was done until then.
+    pub fn extract_vector_shapes_with_store(
+        &self,
+        overlay_rule: OverlayRule,
+        buffer: &mut BooleanExtractionBuffer<I, A>,
+        store: &mut D::Store,
+    ) -> Result<Vec<DataVectorShape<I, D, A>, A>, OverlayError>
+        ensures shapes { IfOk result (λ v. AreVectorShapes D.reverses D.eq
+            (asked I.Wide.width I.WideUInt.natural self.now.viewed.now.graph.fill_rule overlay_rule
+            self.now.viewed.now.options)
+            self.now.viewed.now.graph.edges (plain_vector_shapes I.whole v.items)) }
+        ensures err { IsOkUnless result OverlayError.Memory }
+    {
+        let options = self.viewed.options();
+        vector_shapes(self.viewed.graph(), overlay_rule, options, buffer, store)
+    }
+
     /// Every edge in order, by its smaller and then its larger end, with its filled sides, as
     /// `Overlay::build_separate_vectors` gives them. The only refusal is `Memory`.
     pub fn extract_separate_vectors(&self) -> Result<Vec<DataVectorEdge<I, ()>, A>, OverlayError>
@@ -105,5 +148,31 @@ impl<I: OverlayInt, D: OverlayEdgeData, A: Allocator + Clone> OverlayGraph<'_, I
         ensures err { IsOkUnless result OverlayError.Memory }
     {
         self.viewed.graph().separate_vectors()
+    }
+
+    /// Every edge in order, by its smaller and then its larger end, with its filled sides and its data. The
+    /// only refusal is `Memory`.
+    pub fn extract_vectors(&self) -> Result<Vec<DataVectorEdge<I, D>, A>, OverlayError>
+        ensures listed { IfOk result (λ v. plain_data_vectors I.whole v.items
+            ≡ graph_vectors self.now.viewed.now.graph.fill_rule self.now.viewed.now.graph.edges) }
+        ensures err { IsOkUnless result OverlayError.Memory }
+    {
+        self.extract_vectors_with_store(&mut D::Store::default())
+    }
+
+    /// The same edges, with the store of their data at hand. The store stays as it is: each edge is seen
+    /// from its smaller to its larger end, as the graph holds it, so that no data is reversed. The only
+    /// refusal is `Memory`.
+    pub fn extract_vectors_with_store(
+        &self,
+        store: &mut D::Store,
+    ) -> Result<Vec<DataVectorEdge<I, D>, A>, OverlayError>
+        ensures listed { IfOk result (λ v. plain_data_vectors I.whole v.items
+            ≡ graph_vectors self.now.viewed.now.graph.fill_rule self.now.viewed.now.graph.edges) }
+        ensures untouched { store.new ≡ store.old }
+        ensures err { IsOkUnless result OverlayError.Memory }
+    {
+        let _ = store;
+        graph_vectors(self.viewed.graph())
     }
 }

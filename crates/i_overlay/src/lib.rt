@@ -6,6 +6,7 @@
 #![tactic(auto)]
 
 pub mod edge_data;
+pub mod edge_overlay;
 pub mod error;
 pub mod extract;
 pub mod fill_rule;

@@ -36,6 +36,7 @@ mod alone;
 mod constructors;
 mod deprecated;
 mod hierarchy;
+mod shape_vectors;
 mod simplify;
 mod simplify_flat;
 mod views;
