@@ -2,6 +2,7 @@
 
 use crate::contours::{Points, add_contours, shapes_of};
 use crate::rows::{Row, builder_of};
+use crate::trees::gives_hierarchy;
 use i_overlay::extract::BooleanExtractionBuffer;
 use i_overlay::fill_rule::FillRule;
 use i_overlay::hierarchy::{ChildLink, FlatShapeHierarchy};
@@ -13,11 +14,13 @@ use std::alloc::Global;
 use std::process::Abort;
 use std::test::Fail;
 
-// What is asked of an overlay, and the links that it is to tell beside the shapes.
+/// What is asked of an overlay, and the links that it is to tell beside the shapes.
 #[derive(Drop)]
-struct Linked<'a> {
-    row: Row<'a>,
-    links: &'a [(usize, usize, usize)],
+pub(crate) struct Linked<'a> {
+    /// The overlay, and its shapes.
+    pub(crate) row: Row<'a>,
+    /// The links.
+    pub(crate) links: &'a [(usize, usize, usize)],
 }
 
 const NEST_GIVEN: &[Points<'static>] = &[
@@ -177,8 +180,8 @@ fn shows<I: OverlayInt + PartialEq + From<i16>>(
     Ok(hierarchy.shapes.to_shapes()? == wanted && hierarchy.links == links)
 }
 
-// The builder and a view of it tell the same, and a copy is equal.
-fn check<I: OverlayInt + PartialEq + From<i16>>(
+/// The builder and a view of it tell the same, by trees and by lists, and a copy is equal.
+pub(crate) fn check<I: OverlayInt + PartialEq + From<i16>>(
     rt: &impl Abort,
     alloc: Global,
     linked: &Linked<'_>,
@@ -188,6 +191,7 @@ fn check<I: OverlayInt + PartialEq + From<i16>>(
     let hierarchy = overlay.overlay_hierarchy(linked.row.rule, linked.row.fill)?;
     assert!(rt; shows(alloc, &hierarchy, linked)?);
     assert!(rt; hierarchy.clone()? == hierarchy);
+    assert!(rt; gives_hierarchy(rt, alloc, &linked.row, options, &hierarchy)?);
     let Some(view) = overlay.build_graph_view(linked.row.fill)? else {
         assert!(rt; false);
         return Ok(());

@@ -16,6 +16,8 @@ mod failed;
 #[cfg(test)]
 mod hierarchy;
 #[cfg(test)]
+mod many;
+#[cfg(test)]
 mod minimum;
 #[cfg(test)]
 mod names;
@@ -40,6 +42,8 @@ mod selected;
 #[cfg(test)]
 mod settings;
 #[cfg(test)]
+mod shape_vectors;
+#[cfg(test)]
 mod shapes;
 #[cfg(test)]
 mod simplified;
@@ -49,5 +53,7 @@ mod simplify;
 mod sources;
 #[cfg(test)]
 mod squares;
+#[cfg(test)]
+mod trees;
 #[cfg(test)]
 mod views;

@@ -1,6 +1,7 @@
 //! Each constant and type that `i_overlay` passes on from the crates below, once by its path.
 
 use i_overlay::edge_data::{EdgeDataMerge, OverlayEdgeData};
+use i_overlay::edge_overlay::{EdgeOverlay, Edges, InputEdge};
 use i_overlay::error::OverlayError;
 use i_overlay::fill_rule::FillRule;
 use i_overlay::i_float::int::number::int::IntNumber;
@@ -19,7 +20,8 @@ use i_overlay::string::clip::{ClipRule, IntClip};
 use i_overlay::string::overlay::StringOverlay;
 use i_overlay::string::rule::StringRule;
 use i_overlay::vector::edge::{
-    CLIP_LEFT, CLIP_RIGHT, DataVectorEdge, SUBJ_LEFT, SUBJ_RIGHT, SideFill,
+    CLIP_LEFT, CLIP_RIGHT, DataVectorEdge, DataVectorPath, DataVectorShape, Reverse, SUBJ_LEFT,
+    SUBJ_RIGHT, SideFill, ToPath, VectorPath, VectorShape,
 };
 use std::alloc::Global;
 use std::test::Fail;
@@ -150,5 +152,50 @@ fn strings(rt: HostRuntime) -> Result<(), Fail> {
     let paths = overlay.clip_string_lines(FillRule::NonZero, rule)?;
     assert!(&rt; paths.is_empty());
     assert!(&rt; StringRule::Slice == StringRule::Slice);
+    Ok(())
+}
+
+// How many edges are still to come.
+fn count_of(edges: Edges<'_, i32, ()>) -> usize {
+    let mut count: usize = 0;
+    for _ in edges {
+        count = count.saturating_add(1);
+    }
+    count
+}
+
+#[test]
+fn edges_with_data(rt: HostRuntime) -> Result<(), Fail> {
+    let overlay: EdgeOverlay<i32, (), Global> = EdgeOverlay::new(rt.alloc(), 1)?;
+    assert_eq!(&rt; count_of(overlay.edges()), 0);
+    let edge = InputEdge {
+        a: IntPoint::new(2i32, 3),
+        b: IntPoint::new(1, 0),
+        edge_data: (),
+    };
+    let mut path: VectorPath<i32, Global> = Vec::new(rt.alloc());
+    path.push(DataVectorEdge {
+        a: edge.a,
+        b: edge.b,
+        fill: (SUBJ_RIGHT | CLIP_RIGHT).reverse(),
+        edge_data: edge.edge_data,
+    })?;
+    assert_eq!(&rt; path[0].fill, SUBJ_LEFT | CLIP_LEFT);
+    let points = path.to_path(rt.alloc())?;
+    assert!(&rt; points.len() == 1 && points[0] == edge.a);
+    Ok(())
+}
+
+// How many contours the shape has.
+fn contour_count<D: Drop>(shape: &DataVectorShape<i32, D, Global>) -> usize {
+    shape.len()
+}
+
+#[test]
+fn shapes_of_edges(rt: HostRuntime) -> Result<(), Fail> {
+    let outline: DataVectorPath<i32, (), Global> = Vec::new(rt.alloc());
+    let mut shape: VectorShape<i32, Global> = Vec::new(rt.alloc());
+    shape.push(outline)?;
+    assert_eq!(&rt; contour_count(&shape), 1);
     Ok(())
 }

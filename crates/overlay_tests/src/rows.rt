@@ -4,6 +4,7 @@ ghost use Rattle.std.specs.Prelude.{◌≡◌, false, IfOk};
 
 use crate::builders::check_fills;
 use crate::contours::{Points, add_contours, shapes_of};
+use crate::trees::gives_shapes;
 use i_overlay::fill_rule::FillRule;
 use i_overlay::overlay::{ContourDirection, IntOverlayOptions, Overlay, ShapeType};
 use i_overlay::overlay_rule::OverlayRule;
@@ -57,7 +58,8 @@ fn answers<I: OverlayInt + PartialEq + From<i16>>(
     Ok(shapes == wanted)
 }
 
-// Whether a builder with the row's contours answers its shapes, and answers them again.
+// Whether a builder with the row's contours answers its shapes, and answers them again, and whether they come with
+// trees alone and with lists alone.
 fn holds<I: OverlayInt + PartialEq + From<i16>>(
     rt: &impl Abort,
     alloc: Global,
@@ -67,7 +69,8 @@ fn holds<I: OverlayInt + PartialEq + From<i16>>(
     let mut overlay = builder_of(rt, alloc, row, options)?;
     let first = answers::<I>(alloc, &mut overlay, row) == Ok(true);
     let again = answers::<I>(alloc, &mut overlay, row) == Ok(true);
-    Ok(first && again)
+    let by_each = gives_shapes::<I>(rt, alloc, row, options) == Ok(true);
+    Ok(first && again && by_each)
 }
 
 /// Checks the row with the default options.

@@ -80,11 +80,15 @@ fn check_asked_again<I: OverlayInt + PartialEq + From<i16>>(
     Ok(())
 }
 
-// How many edges the view has, and whether they are those of the builder.
-fn edges_viewed<I: OverlayInt>(
+// How many edges the view has; it gives the same with the data that they carry, which is none.
+fn edges_viewed<I: OverlayInt + PartialEq>(
+    rt: &impl Abort,
     view: &OverlayGraph<'_, I, (), Global>,
 ) -> Result<usize, OverlayError> {
-    Ok(view.extract_separate_vectors()?.len())
+    let edges = view.extract_separate_vectors()?;
+    assert!(rt; view.extract_vectors()? == edges);
+    assert!(rt; view.extract_vectors_with_store(&mut ())? == edges);
+    Ok(edges.len())
 }
 
 // Views the builder, checks what the view answers, and tells how many edges it has.
@@ -96,7 +100,7 @@ fn check_view<I: OverlayInt + PartialEq + From<i16>>(
     match overlay.build_graph_view(FillRule::EvenOdd)? {
         Some(view) => {
             check_asked_again(rt, alloc, &view)?;
-            edges_viewed(&view)
+            edges_viewed(rt, &view)
         }
         None => Ok(0),
     }
