@@ -145,18 +145,19 @@ fn at_once<I: OverlayInt + PartialEq + From<i16>>(
 fn nothing<I: OverlayInt + From<i16>>(rt: &impl Abort, alloc: Global) -> Result<(), Fail> {
     let shape = path_of::<I>(alloc, WIDE)?;
     assert_in_range(rt, &shape);
-    let line: IntLine<I> = line_of((-20, 0), (20, 0));
-    assert!(rt; in_range(&line));
+    let axis = path_of::<I>(alloc, &[(-20, 0), (20, 0)])?;
+    assert!(rt; in_range(&axis));
     assert!(rt;
         shape
-            .slice_by_line(alloc, line, FillRule::Negative)?
+            .slice_by_path(alloc, &axis, FillRule::Negative)?
             .is_empty()
     );
-    assert!(rt; shape.slice_by_line(alloc, line, FillRule::Positive)?.len() == 2);
+    assert!(rt; shape.slice_by_path(alloc, &axis, FillRule::Positive)?.len() == 2);
     let none = path_of::<I>(alloc, &[])?;
+    assert!(rt; in_range(&none));
     assert_in_range(rt, &none);
     assert!(rt;
-        none.slice_by_line(alloc, line, FillRule::NonZero)?
+        none.slice_by_path(alloc, &axis, FillRule::NonZero)?
             .is_empty()
     );
     assert!(rt;
