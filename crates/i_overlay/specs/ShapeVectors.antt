@@ -1,5 +1,5 @@
 -- An overlay as shapes of edges that carry no data.
-use Rattle.std.specs.Prelude.{◌≡◌, ⊤, Unit, true, List}
+use Rattle.std.specs.Prelude.{◌≡◌, ⊤, true, List}
 use Rattle.overlay_geom.specs.Edges.{CountedEdge}
 use Rattle.overlay_plane.specs.Carried.{Carried, edges_in}
 use Rattle.overlay_arrange.specs.declared.data.CountWithData.{CountWithData}
