@@ -50,6 +50,21 @@ fn point_of<I: IntNumber + From<i16>>(point: (i16, i16)) -> IntPoint<I> {
     IntPoint::new(I::from(point.0), I::from(point.1))
 }
 
+// Adds the edge, which leads from its smaller to its larger end in the coordinate range.
+fn push_edge<I: IntNumber>(
+    rt: &impl Abort,
+    content: &mut Content<I, ShapeCountString, Global>,
+    a: IntPoint<I>,
+    b: IntPoint<I>,
+    count: ShapeCountString,
+) -> Result<(), OverlayError> {
+    assert!(rt; a.x.is_in_range() && a.y.is_in_range());
+    assert!(rt; b.x.is_in_range() && b.y.is_in_range());
+    assert!(rt; compare_points(a, b).is_lt());
+    assert!(rt; count.subj >= -1 && count.subj <= 1);
+    content.push(CountedEdge { a, b, count })
+}
+
 // Adds the step, with the first of the counts if it leads from its edge's smaller end, and else with the other one.
 fn push<I: IntNumber + From<i16>>(
     rt: &impl Abort,
@@ -59,16 +74,10 @@ fn push<I: IntNumber + From<i16>>(
     counts: Counts,
 ) -> Result<(), OverlayError> {
     let (p, q) = (point_of::<I>(from), point_of::<I>(to));
-    let (a, b, count) = if compare_points(p, q).is_lt() {
-        (p, q, counts.along)
-    } else {
-        (q, p, counts.back)
-    };
-    assert!(rt; a.x.is_in_range() && a.y.is_in_range());
-    assert!(rt; b.x.is_in_range() && b.y.is_in_range());
-    assert!(rt; compare_points(a, b).is_lt());
-    assert!(rt; count.subj > i32::MIN);
-    content.push(CountedEdge { a, b, count })
+    if compare_points(p, q).is_lt() {
+        return push_edge(rt, content, p, q, counts.along);
+    }
+    push_edge(rt, content, q, p, counts.back)
 }
 
 // Adds the steps from each point to the next one.
