@@ -7,7 +7,7 @@ use overlay_arrange::vector::{DataVectorEdge, SideFill};
 use overlay_geom::error::OverlayError;
 use overlay_geom::integer::OverlayInt;
 use overlay_geom::path::IntLine;
-use overlay_geom::point::{IntPoint, in_range};
+use overlay_geom::point::IntPoint;
 use overlay_vector::edge_overlay::{EdgeOverlay, ShapeType};
 use overlay_vector::input_edge::InputEdge;
 use std::alloc::{Allocator, Global};
@@ -56,7 +56,8 @@ pub(crate) fn vector_of<I: OverlayInt + From<i16>, D>(
 pub(crate) fn assert_in_range<I: OverlayInt, D: Copy>(rt: &impl Abort, edge: &InputEdge<I, D>)
     ensures { IsEdgeInRange I.whole I.limit edge.now }
 {
-    assert!(rt; in_range(&[edge.a, edge.b]));
+    assert!(rt; edge.a.x.is_in_range() && edge.a.y.is_in_range());
+    assert!(rt; edge.b.x.is_in_range() && edge.b.y.is_in_range());
 }
 
 /// Adds an edge that is in range.

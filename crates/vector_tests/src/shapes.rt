@@ -30,11 +30,11 @@ fn is_round<I: OverlayInt + PartialEq>(
     path.is_empty()
 }
 
-// The union of a red and a green square that overlap.
+// Whether the union of a red and a green square that overlap is the contour of eight edges.
 fn two_squares<I: OverlayInt + PartialEq + From<i16>>(
     rt: &impl Abort,
     alloc: Global,
-) -> Result<(), Fail> {
+) -> Result<bool, Fail> {
     let mut overlay: EdgeOverlay<I, Colour, Global> = EdgeOverlay::new(alloc, 8)?;
     let red = [(0, 0), (4, 0), (4, 4), (0, 4)];
     let green = [(2, 0), (6, 0), (6, 4), (2, 4)];
@@ -42,7 +42,6 @@ fn two_squares<I: OverlayInt + PartialEq + From<i16>>(
     add_contour(rt, &mut overlay, &green, Colour::Green, ShapeType::Clip)?;
     assert!(rt; overlay.is_balanced());
     let shapes = overlay.build_vector_shapes(OverlayRule::Union, FillRule::NonZero)?;
-    assert!(rt; shapes.len() == 1 && shapes[0].len() == 1);
     let wanted: [DataVectorEdge<I, Colour>; 8] = [
         vector_of((0, 4), (0, 0), 1, Colour::Red),
         vector_of((0, 0), (2, 0), 1, Colour::Red),
@@ -53,8 +52,10 @@ fn two_squares<I: OverlayInt + PartialEq + From<i16>>(
         vector_of((4, 4), (2, 4), 5, Colour::Undefined),
         vector_of((2, 4), (0, 4), 1, Colour::Red),
     ];
-    assert!(rt; is_round(&shapes[0][0], &wanted));
-    Ok(())
+    if shapes.len() != 1 || shapes[0].len() != 1 {
+        return Ok(false);
+    }
+    Ok(is_round(&shapes[0][0], &wanted))
 }
 
 // How many edges the contour of a red square has, of which a half of one side has this colour.
@@ -83,7 +84,9 @@ fn edges_of_square<I: OverlayInt + From<i16>>(
     }
     assert!(rt; overlay.is_balanced());
     let shapes = overlay.build_vector_shapes(OverlayRule::Subject, FillRule::NonZero)?;
-    assert!(rt; shapes.len() == 1 && shapes[0].len() == 1);
+    if shapes.len() != 1 || shapes[0].len() != 1 {
+        return Ok(0);
+    }
     Ok(shapes[0][0].len())
 }
 
@@ -94,8 +97,8 @@ fn joined<I: OverlayInt + From<i16>>(rt: &impl Abort, alloc: Global) -> Result<(
     Ok(())
 }
 
-// A triangle that touches the side of another one from inside is a part of its contour.
-fn touching<I: OverlayInt + From<i16>>(rt: &impl Abort, alloc: Global) -> Result<(), Fail> {
+// How many edges the contour of a triangle has in which another one touches a side from inside.
+fn touching<I: OverlayInt + From<i16>>(rt: &impl Abort, alloc: Global) -> Result<usize, Fail> {
     let mut overlay: EdgeOverlay<I, Colour, Global> = EdgeOverlay::new(alloc, 6)?;
     let outer = [(-5, 0), (0, 0), (0, 5)];
     let inner = [(-3, 2), (-1, 2), (-1, 1)];
@@ -103,15 +106,18 @@ fn touching<I: OverlayInt + From<i16>>(rt: &impl Abort, alloc: Global) -> Result
     add_contour(rt, &mut overlay, &inner, Colour::Red, ShapeType::Subject)?;
     assert!(rt; overlay.is_balanced());
     let shapes = overlay.build_vector_shapes(OverlayRule::Subject, FillRule::NonZero)?;
-    assert!(rt; shapes.len() == 1 && shapes[0].len() == 1 && shapes[0][0].len() == 7);
-    Ok(())
+    if shapes.len() != 1 || shapes[0].len() != 1 {
+        return Ok(0);
+    }
+    Ok(shapes[0][0].len())
 }
 
 // All of these, at a coordinate type.
 fn rows<I: OverlayInt + PartialEq + From<i16>>(rt: &impl Abort, alloc: Global) -> Result<(), Fail> {
-    two_squares::<I>(rt, alloc)?;
+    assert!(rt; two_squares::<I>(rt, alloc)?);
     joined::<I>(rt, alloc)?;
-    touching::<I>(rt, alloc)
+    assert!(rt; touching::<I>(rt, alloc)? == 7);
+    Ok(())
 }
 
 #[test]
