@@ -7,7 +7,3 @@ mod built;
 mod clip;
 #[cfg(test)]
 mod points;
-#[cfg(test)]
-mod slice;
-#[cfg(test)]
-mod views;

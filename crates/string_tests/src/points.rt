@@ -5,7 +5,7 @@ ghost use Rattle.overlay_geom.specs.Points.{AllInRange};
 
 use overlay_geom::error::OverlayError;
 use overlay_geom::integer::OverlayInt;
-use overlay_geom::path::{IntContour, IntLine, IntPath, IntShapes};
+use overlay_geom::path::{IntContour, IntLine, IntPath};
 use overlay_geom::point::{IntPoint, in_range};
 use overlay_geom::resource::IntShapeResource;
 use std::alloc::Global;
@@ -16,12 +16,6 @@ pub(crate) type Points<'a> = &'a [(i16, i16)];
 
 /// A square, counterclockwise.
 pub(crate) const SQUARE: Points<'static> = &[(0, 0), (4, 0), (4, 4), (0, 4)];
-
-/// A square of 20 round the origin, counterclockwise from its upper left corner.
-pub(crate) const WIDE: Points<'static> = &[(-10, 10), (-10, -10), (10, -10), (10, 10)];
-
-/// A square of 10 round the origin, clockwise from its lower left corner.
-pub(crate) const NARROW: Points<'static> = &[(-5, -5), (-5, 5), (5, 5), (5, -5)];
 
 /// The point with these coordinates.
 pub(crate) fn point_of<I: OverlayInt + From<i16>>(point: (i16, i16)) -> IntPoint<I> {
@@ -56,18 +50,6 @@ pub(crate) fn paths_of<I: OverlayInt + From<i16>>(
     let mut all = Vec::new(alloc);
     for points in paths {
         all.push(path_of(alloc, points)?)?;
-    }
-    Ok(all)
-}
-
-/// Several shapes, each with its contours.
-pub(crate) fn shapes_of<I: OverlayInt + From<i16>>(
-    alloc: Global,
-    shapes: &[&[Points<'_>]],
-) -> Result<IntShapes<I, Global>, OverlayError> {
-    let mut all = Vec::new(alloc);
-    for contours in shapes {
-        all.push(paths_of(alloc, contours)?)?;
     }
     Ok(all)
 }
