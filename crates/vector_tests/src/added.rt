@@ -1,11 +1,11 @@
 //! Edges as they are held once added, at each coordinate type.
 
 use crate::colour::{Calls, Colour};
-use crate::edges::{add, add_contour, add_each, edge_of, ends_in, point_of};
+use crate::edges::{add_each, edge_of, ends_in, point_of};
 use overlay_arrange::fill_rule::FillRule;
 use overlay_arrange::overlay_rule::OverlayRule;
 use overlay_geom::integer::OverlayInt;
-use overlay_vector::edge_overlay::{EdgeOverlay, ShapeType};
+use overlay_vector::edge_overlay::EdgeOverlay;
 use std::alloc::Global;
 use std::process::Abort;
 use std::test::Fail;
@@ -51,42 +51,9 @@ fn cut<I: OverlayInt + PartialEq + From<i16>>(
     Ok(())
 }
 
-// Whether subject and clip are balanced, each by itself.
-fn balanced<I: OverlayInt + From<i16>>(rt: &impl Abort, alloc: Global) -> Result<(), Fail> {
-    let mut overlay: EdgeOverlay<I, Colour, Global> = EdgeOverlay::new(alloc, 8)?;
-    let triangle = [(0, 0), (4, 0), (0, 4)];
-    add_contour(rt, &mut overlay, &triangle, Colour::Red, ShapeType::Subject)?;
-    assert!(rt; overlay.is_balanced());
-    add(
-        rt,
-        &mut overlay,
-        ((0, 0), (5, 5)),
-        Colour::Red,
-        ShapeType::Subject,
-    )?;
-    add(
-        rt,
-        &mut overlay,
-        ((5, 5), (0, 0)),
-        Colour::Red,
-        ShapeType::Clip,
-    )?;
-    assert!(rt; !overlay.is_balanced());
-    Ok(())
-}
-
-// All of these, at a coordinate type.
-fn calls<I: OverlayInt + PartialEq + From<i16>>(
-    rt: &impl Abort,
-    alloc: Global,
-) -> Result<(), Fail> {
-    held::<I>(rt, alloc)?;
-    balanced::<I>(rt, alloc)
-}
-
 #[test]
 fn edges_added(rt: HostRuntime) -> Result<(), Fail> {
-    calls::<i16>(&rt, rt.alloc())?;
-    calls::<i32>(&rt, rt.alloc())?;
-    calls::<i64>(&rt, rt.alloc())
+    held::<i16>(&rt, rt.alloc())?;
+    held::<i32>(&rt, rt.alloc())?;
+    held::<i64>(&rt, rt.alloc())
 }

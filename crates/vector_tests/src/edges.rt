@@ -85,6 +85,21 @@ pub(crate) fn add_each<I: OverlayInt, D: OverlayEdgeData, A: Allocator + Clone>(
     overlay.add_edges(edges.iter().copied(), ShapeType::Subject)
 }
 
+/// Adds an edge from each place to the next one, with this data.
+pub(crate) fn add_way<I: OverlayInt + From<i16>, D: OverlayEdgeData>(
+    rt: &impl Abort,
+    overlay: &mut EdgeOverlay<I, D, Global>,
+    places: &[Place],
+    edge_data: D,
+    shape_type: ShapeType,
+) -> Result<(), OverlayError> {
+    for i in 1..places.len() {
+        let ends = (places[i - 1], places[i]);
+        add(rt, overlay, ends, edge_data, shape_type)?;
+    }
+    Ok(())
+}
+
 /// Adds the edges of a contour, each with this data.
 pub(crate) fn add_contour<I: OverlayInt + From<i16>, D: OverlayEdgeData>(
     rt: &impl Abort,
@@ -116,4 +131,22 @@ pub(crate) fn ends_in<I: OverlayInt, D: OverlayEdgeData>(
         ends.push(line)?;
     }
     Ok(ends)
+}
+
+/// Whether the closed contour is the wanted one, wherever it begins.
+pub(crate) fn is_round<I: OverlayInt + PartialEq, D: Copy + PartialEq>(
+    path: &[DataVectorEdge<I, D>],
+    wanted: &[DataVectorEdge<I, D>],
+) -> bool {
+    if path.len() != wanted.len() {
+        return false;
+    }
+    for start in 0..path.len() {
+        if path[start..] == wanted[..path.len() - start]
+            && path[..start] == wanted[path.len() - start..]
+        {
+            return true;
+        }
+    }
+    path.is_empty()
 }

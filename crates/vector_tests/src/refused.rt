@@ -3,6 +3,7 @@
 use crate::colour::Colour;
 use crate::edges::{add, add_each, edge_of};
 use overlay_geom::error::OverlayError;
+use overlay_geom::integer::OverlayInt;
 use overlay_vector::edge_overlay::{EdgeOverlay, ShapeType};
 use overlay_vector::input_edge::InputEdge;
 use refusing_alloc::refusing::Refusing;
@@ -14,10 +15,10 @@ use std::test::Fail;
 const PLENTY: u64 = 100;
 
 // A builder whose memory may be refused.
-type Refusable<'a> = EdgeOverlay<i32, Colour, &'a Refusing<Global>>;
+type Refusable<'a, I> = EdgeOverlay<I, Colour, &'a Refusing<Global>>;
 
 // How many edges the builder holds.
-fn count_of(overlay: &Refusable<'_>) -> u32 {
+fn count_of<I: OverlayInt>(overlay: &Refusable<'_, I>) -> u32 {
     let mut count: u32 = 0;
     for _ in overlay.edges() {
         count = count.saturating_add(1);
@@ -38,12 +39,12 @@ fn is_added(rt: &impl Abort, answer: Result<(), OverlayError>) -> bool {
 
 // Adds an edge from its larger end while so many requests are granted, and answers whether that was
 // enough. Where it was not, there is no edge, and the store was not asked; the edge can be added later.
-fn adds_edge_or_nothing(
+fn adds_edge_or_nothing<I: OverlayInt + From<i16>>(
     rt: &impl Abort,
     memory: &Refusing<Global>,
     granted: u64,
 ) -> Result<bool, OverlayError> {
-    let mut overlay = Refusable::new(memory, 0)?;
+    let mut overlay = Refusable::<I>::new(memory, 0)?;
     memory.grant(granted);
     let ends = ((4, 0), (0, 0));
     let answer = add(rt, &mut overlay, ends, Colour::Red, ShapeType::Subject);
@@ -57,28 +58,37 @@ fn adds_edge_or_nothing(
     Ok(added)
 }
 
-#[test]
-fn a_refused_edge_leaves_builder_and_store(rt: HostRuntime) -> Result<(), Fail> {
-    let memory = Refusing::new(rt.alloc(), PLENTY);
+// Whether an edge is added once so many requests are granted, at least one, and nothing before.
+fn edge_is_refused_first<I: OverlayInt + From<i16>>(
+    rt: &impl Abort,
+    alloc: Global,
+) -> Result<bool, Fail> {
+    let memory = Refusing::new(alloc, PLENTY);
     for granted in 0..PLENTY {
-        if adds_edge_or_nothing(&rt, &memory, granted)? {
-            assert!(rt; granted > 0);
-            return Ok(());
+        if adds_edge_or_nothing::<I>(rt, &memory, granted)? {
+            return Ok(granted > 0);
         }
     }
-    assert!(rt; false, "no edge was added");
+    Ok(false)
+}
+
+#[test]
+fn a_refused_edge_leaves_builder_and_store(rt: HostRuntime) -> Result<(), Fail> {
+    assert!(&rt; edge_is_refused_first::<i16>(&rt, rt.alloc())?);
+    assert!(&rt; edge_is_refused_first::<i32>(&rt, rt.alloc())?);
+    assert!(&rt; edge_is_refused_first::<i64>(&rt, rt.alloc())?);
     Ok(())
 }
 
 // Adds edges from their larger ends while so many requests are granted, and answers how many stand
 // then: those before the refused one, for each of which the store was asked once.
-fn count_added(
+fn count_added<I: OverlayInt>(
     rt: &impl Abort,
     memory: &Refusing<Global>,
-    edges: &[InputEdge<i32, Colour>],
+    edges: &[InputEdge<I, Colour>],
     granted: u64,
 ) -> Result<usize, OverlayError> {
-    let mut overlay = Refusable::new(memory, 0)?;
+    let mut overlay = Refusable::<I>::new(memory, 0)?;
     memory.grant(granted);
     let answer = add_each(rt, &mut overlay, edges);
     let added = is_added(rt, answer);
@@ -88,22 +98,39 @@ fn count_added(
     Ok(count as usize)
 }
 
-#[test]
-fn refused_edges_leave_those_before(rt: HostRuntime) -> Result<(), Fail> {
-    let memory = Refusing::new(rt.alloc(), PLENTY);
-    let mut edges = Vec::new(rt.alloc());
+// Twenty edges from their larger ends.
+fn twenty_edges<I: OverlayInt + From<i16>>(
+    alloc: Global,
+) -> Result<Vec<InputEdge<I, Colour>, Global>, OverlayError> {
+    let mut edges = Vec::new(alloc);
     for x in 0..20i16 {
-        edges.push(edge_of::<i32, Colour>((x, 4), (x, 0), Colour::Green))?;
+        edges.push(edge_of((x, 4), (x, 0), Colour::Green))?;
     }
+    Ok(edges)
+}
+
+// Whether all of them are added once so many requests are granted, and some of them with fewer.
+fn some_are_refused_first<I: OverlayInt + From<i16>>(
+    rt: &impl Abort,
+    alloc: Global,
+) -> Result<bool, Fail> {
+    let memory = Refusing::new(alloc, PLENTY);
+    let edges = twenty_edges::<I>(alloc)?;
     let mut kept_some = false;
     for granted in 0..PLENTY {
-        let count = count_added(&rt, &memory, &edges, granted)?;
+        let count = count_added(rt, &memory, &edges, granted)?;
         if count == 20 {
-            assert!(rt; kept_some);
-            return Ok(());
+            return Ok(kept_some);
         }
         kept_some = kept_some || count > 0;
     }
-    assert!(rt; false, "no edges were added");
+    Ok(false)
+}
+
+#[test]
+fn refused_edges_leave_those_before(rt: HostRuntime) -> Result<(), Fail> {
+    assert!(&rt; some_are_refused_first::<i16>(&rt, rt.alloc())?);
+    assert!(&rt; some_are_refused_first::<i32>(&rt, rt.alloc())?);
+    assert!(&rt; some_are_refused_first::<i64>(&rt, rt.alloc())?);
     Ok(())
 }

@@ -1,128 +1,119 @@
-//! Contours of edges with data on worked rows, at each coordinate type.
+//! Rows of coloured edges, and the shapes that an overlay makes of them.
 
 use crate::colour::Colour;
-use crate::edges::{Place, add, add_contour, vector_of};
+use crate::edges::{Place, add_way, is_round, vector_of};
 use overlay_arrange::fill_rule::FillRule;
-use overlay_arrange::options::IntOverlayOptions;
 use overlay_arrange::overlay_rule::OverlayRule;
-use overlay_arrange::vector::DataVectorEdge;
+use overlay_arrange::vector::{DataVectorEdge, SideFill};
+use overlay_geom::error::OverlayError;
 use overlay_geom::integer::OverlayInt;
-use overlay_vector::edge_overlay::{EdgeOverlay, ShapeType};
+use overlay_vector::edge_overlay::{EdgeOverlay, IntOverlayOptions, ShapeType};
+use overlay_vector::path::{DataVectorPath, DataVectorShape};
 use std::alloc::Global;
 use std::process::Abort;
-use std::test::Fail;
 
-// Whether the closed contour is the wanted one, wherever it begins.
-fn is_round<I: OverlayInt + PartialEq>(
-    path: &[DataVectorEdge<I, Colour>],
-    wanted: &[DataVectorEdge<I, Colour>],
-) -> bool {
-    if path.len() != wanted.len() {
-        return false;
-    }
-    for start in 0..path.len() {
-        if path[start..] == wanted[..path.len() - start]
-            && path[..start] == wanted[path.len() - start..]
-        {
-            return true;
-        }
-    }
-    path.is_empty()
+/// A colour, and places: an edge of the colour leads from each to the next one.
+pub(crate) type Way<'a> = (Colour, &'a [Place]);
+
+/// Where an edge of a contour begins, its filled sides and its colour. It ends where the next one begins.
+pub(crate) type Begun = (Place, SideFill, Colour);
+
+/// What is asked of an overlay, and the shapes that it is to give.
+#[derive(Drop)]
+pub(crate) struct Row<'a> {
+    /// The ways of the subject.
+    pub(crate) subj: &'a [Way<'a>],
+    /// The ways of the clip.
+    pub(crate) clip: &'a [Way<'a>],
+    /// The overlay rule.
+    pub(crate) rule: OverlayRule,
+    /// The fill rule.
+    pub(crate) fill: FillRule,
+    /// Whether edges on one line stay as they are, and are not joined.
+    pub(crate) keeps_edges: bool,
+    /// The contours of each shape, wherever they begin.
+    pub(crate) wanted: &'a [&'a [&'a [Begun]]],
 }
 
-// Whether the union of a red and a green square that overlap is the contour of eight edges.
-fn two_squares<I: OverlayInt + PartialEq + From<i16>>(
+/// The row's options.
+pub(crate) fn options_of<I: OverlayInt>(row: &Row<'_>) -> IntOverlayOptions<I::WideUInt> {
+    if row.keeps_edges {
+        IntOverlayOptions::keep_output_points()
+    } else {
+        IntOverlayOptions::default()
+    }
+}
+
+// Adds the edges of the ways.
+fn add_ways<I: OverlayInt + From<i16>>(
+    rt: &impl Abort,
+    overlay: &mut EdgeOverlay<I, Colour, Global>,
+    ways: &[Way<'_>],
+    shape_type: ShapeType,
+) -> Result<(), OverlayError> {
+    for way in ways {
+        add_way(rt, overlay, way.1, way.0, shape_type)?;
+    }
+    Ok(())
+}
+
+/// A builder with the row's edges and options.
+pub(crate) fn builder_of<I: OverlayInt + From<i16>>(
     rt: &impl Abort,
     alloc: Global,
-) -> Result<bool, Fail> {
-    let mut overlay: EdgeOverlay<I, Colour, Global> = EdgeOverlay::new(alloc, 8)?;
-    let red = [(0, 0), (4, 0), (4, 4), (0, 4)];
-    let green = [(2, 0), (6, 0), (6, 4), (2, 4)];
-    add_contour(rt, &mut overlay, &red, Colour::Red, ShapeType::Subject)?;
-    add_contour(rt, &mut overlay, &green, Colour::Green, ShapeType::Clip)?;
-    assert!(rt; overlay.is_balanced());
-    let shapes = overlay.build_vector_shapes(OverlayRule::Union, FillRule::NonZero)?;
-    let wanted: [DataVectorEdge<I, Colour>; 8] = [
-        vector_of((0, 4), (0, 0), 1, Colour::Red),
-        vector_of((0, 0), (2, 0), 1, Colour::Red),
-        vector_of((2, 0), (4, 0), 5, Colour::Undefined),
-        vector_of((4, 0), (6, 0), 4, Colour::Green),
-        vector_of((6, 0), (6, 4), 4, Colour::Green),
-        vector_of((6, 4), (4, 4), 4, Colour::Green),
-        vector_of((4, 4), (2, 4), 5, Colour::Undefined),
-        vector_of((2, 4), (0, 4), 1, Colour::Red),
-    ];
-    if shapes.len() != 1 || shapes[0].len() != 1 {
+    row: &Row<'_>,
+) -> Result<EdgeOverlay<I, Colour, Global>, OverlayError> {
+    let mut overlay = EdgeOverlay::new(alloc, 0)?;
+    overlay.options = options_of::<I>(row);
+    add_ways(rt, &mut overlay, row.subj, ShapeType::Subject)?;
+    add_ways(rt, &mut overlay, row.clip, ShapeType::Clip)?;
+    Ok(overlay)
+}
+
+// The contour of these edges.
+fn contour_of<I: OverlayInt + From<i16>>(
+    alloc: Global,
+    edges: &[Begun],
+) -> Result<Vec<DataVectorEdge<I, Colour>, Global>, OverlayError> {
+    let mut contour = Vec::new(alloc);
+    for i in 0..edges.len() {
+        let next = if i + 1 < edges.len() { i + 1 } else { 0 };
+        let (from, fill, colour) = edges[i];
+        contour.push(vector_of(from, edges[next].0, fill, colour))?;
+    }
+    Ok(contour)
+}
+
+// Whether the shape has these contours.
+fn is_shape<I: OverlayInt + PartialEq + From<i16>>(
+    alloc: Global,
+    shape: &[DataVectorPath<I, Colour, Global>],
+    wanted: &[&[Begun]],
+) -> Result<bool, OverlayError> {
+    if shape.len() != wanted.len() {
         return Ok(false);
     }
-    Ok(is_round(&shapes[0][0], &wanted))
+    for i in 0..wanted.len() {
+        if !is_round(&shape[i], &contour_of::<I>(alloc, wanted[i])?) {
+            return Ok(false);
+        }
+    }
+    Ok(true)
 }
 
-// How many edges the contour of a red square has, of which a half of one side has this colour.
-fn edges_of_square<I: OverlayInt + From<i16>>(
-    rt: &impl Abort,
+/// Whether these are the shapes with these contours.
+pub(crate) fn are_shapes<I: OverlayInt + PartialEq + From<i16>>(
     alloc: Global,
-    second: Colour,
-) -> Result<usize, Fail> {
-    let mut overlay: EdgeOverlay<I, Colour, Global> = EdgeOverlay::new(alloc, 5)?;
-    overlay.options = IntOverlayOptions::default();
-    let edges: [(Place, Place, Colour); 5] = [
-        ((0, 0), (2, 0), Colour::Red),
-        ((2, 0), (4, 0), second),
-        ((4, 0), (4, 4), Colour::Red),
-        ((4, 4), (0, 4), Colour::Red),
-        ((0, 4), (0, 0), Colour::Red),
-    ];
-    for edge in edges {
-        add(
-            rt,
-            &mut overlay,
-            (edge.0, edge.1),
-            edge.2,
-            ShapeType::Subject,
-        )?;
+    shapes: &[DataVectorShape<I, Colour, Global>],
+    wanted: &[&[&[Begun]]],
+) -> Result<bool, OverlayError> {
+    if shapes.len() != wanted.len() {
+        return Ok(false);
     }
-    assert!(rt; overlay.is_balanced());
-    let shapes = overlay.build_vector_shapes(OverlayRule::Subject, FillRule::NonZero)?;
-    if shapes.len() != 1 || shapes[0].len() != 1 {
-        return Ok(0);
+    for i in 0..wanted.len() {
+        if !is_shape::<I>(alloc, &shapes[i], wanted[i])? {
+            return Ok(false);
+        }
     }
-    Ok(shapes[0][0].len())
-}
-
-// Neighbours on one line are joined where their colours are equal.
-fn joined<I: OverlayInt + From<i16>>(rt: &impl Abort, alloc: Global) -> Result<(), Fail> {
-    assert!(rt; edges_of_square::<I>(rt, alloc, Colour::Green)? == 5);
-    assert!(rt; edges_of_square::<I>(rt, alloc, Colour::Red)? == 4);
-    Ok(())
-}
-
-// How many edges the contour of a triangle has in which another one touches a side from inside.
-fn touching<I: OverlayInt + From<i16>>(rt: &impl Abort, alloc: Global) -> Result<usize, Fail> {
-    let mut overlay: EdgeOverlay<I, Colour, Global> = EdgeOverlay::new(alloc, 6)?;
-    let outer = [(-5, 0), (0, 0), (0, 5)];
-    let inner = [(-3, 2), (-1, 2), (-1, 1)];
-    add_contour(rt, &mut overlay, &outer, Colour::Red, ShapeType::Subject)?;
-    add_contour(rt, &mut overlay, &inner, Colour::Red, ShapeType::Subject)?;
-    assert!(rt; overlay.is_balanced());
-    let shapes = overlay.build_vector_shapes(OverlayRule::Subject, FillRule::NonZero)?;
-    if shapes.len() != 1 || shapes[0].len() != 1 {
-        return Ok(0);
-    }
-    Ok(shapes[0][0].len())
-}
-
-// All of these, at a coordinate type.
-fn rows<I: OverlayInt + PartialEq + From<i16>>(rt: &impl Abort, alloc: Global) -> Result<(), Fail> {
-    assert!(rt; two_squares::<I>(rt, alloc)?);
-    joined::<I>(rt, alloc)?;
-    assert!(rt; touching::<I>(rt, alloc)? == 7);
-    Ok(())
-}
-
-#[test]
-fn vector_shapes_built(rt: HostRuntime) -> Result<(), Fail> {
-    rows::<i16>(&rt, rt.alloc())?;
-    rows::<i32>(&rt, rt.alloc())?;
-    rows::<i64>(&rt, rt.alloc())
+    Ok(true)
 }
