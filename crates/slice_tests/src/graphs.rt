@@ -45,8 +45,8 @@ const OF_STRING: Counts = Counts {
     },
 };
 
-// The point with these coordinates.
-fn point_of<I: IntNumber + From<i16>>(point: (i16, i16)) -> IntPoint<I> {
+/// The point with these coordinates.
+pub(crate) fn point_of<I: IntNumber + From<i16>>(point: (i16, i16)) -> IntPoint<I> {
     IntPoint::new(I::from(point.0), I::from(point.1))
 }
 

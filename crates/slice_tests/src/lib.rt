@@ -6,4 +6,6 @@ mod bound;
 #[cfg(test)]
 mod graphs;
 #[cfg(test)]
+mod loops;
+#[cfg(test)]
 mod rows;
