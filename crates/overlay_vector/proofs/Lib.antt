@@ -3,6 +3,7 @@ pub mod EdgesAdded
 pub mod EndsOff
 pub mod EnteringSums
 pub mod JoinedContours
+pub mod JoinedRuns
 pub mod JoinedWindings
 pub mod ListedVectors
 pub mod PlacesByEnds

@@ -3,6 +3,7 @@ pub mod DataVectors
 pub mod EdgeBuilder
 pub mod Entering
 pub mod HeldEdges
+pub mod JoinedRuns
 pub mod Joining
 pub mod ListedVectors
 pub mod SideFills
