@@ -7,3 +7,5 @@ mod built;
 mod clip;
 #[cfg(test)]
 mod points;
+#[cfg(test)]
+mod slice;

@@ -5,7 +5,7 @@ ghost use Rattle.overlay_geom.specs.Points.{AllInRange};
 
 use overlay_geom::error::OverlayError;
 use overlay_geom::integer::OverlayInt;
-use overlay_geom::path::{IntContour, IntLine, IntPath};
+use overlay_geom::path::{IntContour, IntLine, IntPath, IntShapes};
 use overlay_geom::point::{IntPoint, in_range};
 use overlay_geom::resource::IntShapeResource;
 use std::alloc::Global;
@@ -16,6 +16,12 @@ pub(crate) type Points<'a> = &'a [(i16, i16)];
 
 /// A square, counterclockwise.
 pub(crate) const SQUARE: Points<'static> = &[(0, 0), (4, 0), (4, 4), (0, 4)];
+
+/// A square of 20 round the origin, counterclockwise from its upper left corner.
+pub(crate) const WIDE: Points<'static> = &[(-10, 10), (-10, -10), (10, -10), (10, 10)];
+
+/// A square of 10 round the origin, clockwise from its lower left corner.
+pub(crate) const NARROW: Points<'static> = &[(-5, -5), (-5, 5), (5, 5), (5, -5)];
 
 /// The point with these coordinates.
 pub(crate) fn point_of<I: OverlayInt + From<i16>>(point: (i16, i16)) -> IntPoint<I> {
@@ -52,6 +58,19 @@ pub(crate) fn paths_of<I: OverlayInt + From<i16>>(
         all.push(path_of(alloc, points)?)?;
     }
     Ok(all)
+}
+
+/// Whether these are the shapes, each with its contours.
+pub(crate) fn are_shapes<I: OverlayInt + PartialEq + From<i16>>(
+    alloc: Global,
+    shapes: &IntShapes<I, Global>,
+    wanted: &[&[Points<'_>]],
+) -> Result<bool, OverlayError> {
+    let mut all = Vec::new(alloc);
+    for contours in wanted {
+        all.push(paths_of(alloc, contours)?)?;
+    }
+    Ok(*shapes == all)
 }
 
 /// Stops the test where a path is out of range.
