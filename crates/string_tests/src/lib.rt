@@ -9,3 +9,5 @@ mod clip;
 mod points;
 #[cfg(test)]
 mod slice;
+#[cfg(test)]
+mod views;
