@@ -6,6 +6,8 @@ mod built;
 #[cfg(test)]
 mod clip;
 #[cfg(test)]
+mod clip_calls;
+#[cfg(test)]
 mod points;
 #[cfg(test)]
 mod slice;

@@ -1,0 +1,229 @@
+//! Strings clipped in one call, on the rows of each call, at each coordinate type.
+
+use crate::points::{Points, assert_in_range, line_of, path_of, paths_of};
+use overlay_arrange::fill_rule::FillRule;
+use overlay_geom::integer::OverlayInt;
+use overlay_geom::path::{IntLine, IntPath};
+use overlay_geom::point::in_range;
+use overlay_string::clip::IntClip;
+use overlay_string::clip_rule::ClipRule;
+use overlay_string::lines::BorrowedLines;
+use std::alloc::Global;
+use std::process::Abort;
+use std::test::Fail;
+
+// A square of 20 round the origin, and a line along its left side.
+const SQUARE: Points<'static> = &[(-10, -10), (-10, 10), (10, 10), (10, -10)];
+
+const SIDE: Points<'static> = &[(-10, -15), (-10, 15)];
+
+// A triangle, and a line through its top.
+const TRIANGLE: Points<'static> = &[(-1, 0), (1, 0), (0, 1)];
+
+const UPRIGHT: Points<'static> = &[(0, -1), (0, 2)];
+
+// A path that runs along the lower side of a trapezium, and leaves it at both ends.
+const TRAPEZIUM: Points<'static> = &[(-2, -2), (2, -2), (3, 0), (-3, 0)];
+
+const BOWL: Points<'static> = &[(-4, 1), (-2, -2), (2, -2), (4, 1)];
+
+// A path in and out of the square.
+const IN_AND_OUT: Points<'static> = &[
+    (-20, 10),
+    (-20, 0),
+    (0, 0),
+    (0, 10),
+    (5, 10),
+    (20, -5),
+    (5, -5),
+    (0, -10),
+    (-5, -5),
+    (-15, -15),
+];
+
+// What it has below in the square.
+const BELOW: Points<'static> = &[(10, -5), (5, -5), (0, -10), (-5, -5), (-10, -10)];
+
+// The clip rules, by whether they keep what is outside, and whether the boundary.
+const INSIDE: ClipRule = ClipRule {
+    invert: false,
+    boundary_included: false,
+};
+
+const OUTSIDE: ClipRule = ClipRule {
+    invert: true,
+    boundary_included: false,
+};
+
+const WITH_BOUNDARY: ClipRule = ClipRule {
+    invert: false,
+    boundary_included: true,
+};
+
+const NOT_WITHIN: ClipRule = ClipRule {
+    invert: true,
+    boundary_included: true,
+};
+
+// What is left of a line.
+fn by_line<I: OverlayInt + From<i16>>(
+    rt: &impl Abort,
+    alloc: Global,
+    contour: Points<'_>,
+    line: Points<'_>,
+    rule: ClipRule,
+) -> Result<Vec<IntPath<I, Global>, Global>, Fail> {
+    assert!(rt; line.len() == 2);
+    let shape = path_of::<I>(alloc, contour)?;
+    assert_in_range(rt, &shape);
+    let line: IntLine<I> = line_of(line[0], line[1]);
+    assert!(rt; in_range(&line));
+    Ok(shape.clip_line(alloc, line, FillRule::NonZero, rule)?)
+}
+
+// What is left of three lines.
+fn by_lines<I: OverlayInt + From<i16>>(
+    rt: &impl Abort,
+    alloc: Global,
+    contour: Points<'_>,
+    lines: [IntLine<I>; 3],
+) -> Result<Vec<IntPath<I, Global>, Global>, Fail> {
+    let shape = path_of::<I>(alloc, contour)?;
+    assert_in_range(rt, &shape);
+    let borrowed = BorrowedLines { lines: &lines };
+    assert_in_range(rt, &borrowed);
+    Ok(shape.clip_lines(alloc, borrowed.lines, FillRule::NonZero, INSIDE)?)
+}
+
+// What is left of a path.
+fn by_path<I: OverlayInt + From<i16>>(
+    rt: &impl Abort,
+    alloc: Global,
+    contour: Points<'_>,
+    path: Points<'_>,
+    rule: ClipRule,
+) -> Result<Vec<IntPath<I, Global>, Global>, Fail> {
+    let shape = path_of::<I>(alloc, contour)?;
+    assert_in_range(rt, &shape);
+    let path = path_of::<I>(alloc, path)?;
+    assert!(rt; in_range(&path));
+    Ok(shape.clip_path(alloc, &path, FillRule::NonZero, rule)?)
+}
+
+// Whether these paths are left of a line.
+fn leaves<I: OverlayInt + PartialEq + From<i16>>(
+    rt: &impl Abort,
+    alloc: Global,
+    contour: Points<'_>,
+    line: Points<'_>,
+    rule: ClipRule,
+    wanted: &[Points<'_>],
+) -> Result<bool, Fail> {
+    let paths = by_line::<I>(rt, alloc, contour, line, rule)?;
+    Ok(paths == paths_of(alloc, wanted)?)
+}
+
+// Whether these are left of a path.
+fn leaves_of_path<I: OverlayInt + PartialEq + From<i16>>(
+    rt: &impl Abort,
+    alloc: Global,
+    contour: Points<'_>,
+    path: Points<'_>,
+    rule: ClipRule,
+    wanted: &[Points<'_>],
+) -> Result<bool, Fail> {
+    let paths = by_path::<I>(rt, alloc, contour, path, rule)?;
+    Ok(paths == paths_of(alloc, wanted)?)
+}
+
+// Whether of lines that meet in one point the first edge in order goes on.
+fn forks<I: OverlayInt + PartialEq + From<i16>>(
+    rt: &impl Abort,
+    alloc: Global,
+) -> Result<bool, Fail> {
+    let lines = [
+        line_of((0, 0), (5, 5)),
+        line_of((-5, 0), (0, 0)),
+        line_of((0, 0), (5, -5)),
+    ];
+    let paths = by_lines::<I>(rt, alloc, SQUARE, lines)?;
+    let wanted: &[Points<'_>] = &[&[(-5, 0), (0, 0), (5, -5)], &[(0, 0), (5, 5)]];
+    Ok(paths == paths_of(alloc, wanted)?)
+}
+
+// Whether a line outside is left at both ends.
+fn leaves_ends<I: OverlayInt + PartialEq + From<i16>>(
+    rt: &impl Abort,
+    alloc: Global,
+) -> Result<bool, Fail> {
+    let line: Points<'_> = &[(0, -15), (0, 15)];
+    let wanted: &[Points<'_>] = &[&[(0, -15), (0, -10)], &[(0, 10), (0, 15)]];
+    leaves::<I>(rt, alloc, SQUARE, line, OUTSIDE, wanted)
+}
+
+// Whether a line passes a notch at its top, and nothing is left of it.
+fn passes_a_notch<I: OverlayInt + PartialEq + From<i16>>(
+    rt: &impl Abort,
+    alloc: Global,
+) -> Result<bool, Fail> {
+    let notch: Points<'_> = &[(0, 0), (2, 0), (2, 2), (1, 0), (0, 2)];
+    leaves::<I>(rt, alloc, notch, &[(-3, 2), (3, 2)], INSIDE, &[])
+}
+
+// Lines along the side of a square, and through the top of a triangle.
+fn lines<I: OverlayInt + PartialEq + From<i16>>(
+    rt: &impl Abort,
+    alloc: Global,
+) -> Result<(), Fail> {
+    let on_side: &[Points<'_>] = &[&[(-10, -10), (-10, 10)]];
+    let past: &[Points<'_>] = &[&[(-10, -15), (-10, -10), (-10, 10), (-10, 15)]];
+    let above: &[Points<'_>] = &[&[(0, -1), (0, 0)], &[(0, 1), (0, 2)]];
+    assert!(rt; leaves_ends::<I>(rt, alloc)?);
+    assert!(rt; leaves::<I>(rt, alloc, SQUARE, SIDE, INSIDE, &[])?);
+    assert!(rt; leaves::<I>(rt, alloc, SQUARE, SIDE, WITH_BOUNDARY, on_side)?);
+    assert!(rt; leaves::<I>(rt, alloc, SQUARE, SIDE, NOT_WITHIN, past)?);
+    assert!(rt; leaves::<I>(rt, alloc, TRIANGLE, UPRIGHT, INSIDE, &[&[(0, 0), (0, 1)]])?);
+    assert!(rt; leaves::<I>(rt, alloc, TRIANGLE, UPRIGHT, OUTSIDE, above)?);
+    assert!(rt; passes_a_notch::<I>(rt, alloc)?);
+    assert!(rt;
+        leaves::<I>(
+            rt,
+            alloc,
+            &[],
+            &[(0, 0), (10, 0)],
+            OUTSIDE,
+            &[&[(0, 0), (10, 0)]]
+        )?
+    );
+    Ok(())
+}
+
+// Paths, and lines that fork.
+fn paths<I: OverlayInt + PartialEq + From<i16>>(
+    rt: &impl Abort,
+    alloc: Global,
+) -> Result<(), Fail> {
+    let parted: &[Points<'_>] = &[BELOW, &[(-10, 0), (0, 0), (0, 10)], &[(5, 10), (10, 5)]];
+    let joined: &[Points<'_>] = &[BELOW, &[(-10, 0), (0, 0), (0, 10), (5, 10), (10, 5)]];
+    let bottom: &[Points<'_>] = &[&[(-2, -2), (2, -2)]];
+    assert!(rt; leaves_of_path::<I>(rt, alloc, SQUARE, IN_AND_OUT, INSIDE, parted)?);
+    assert!(rt; leaves_of_path::<I>(rt, alloc, SQUARE, IN_AND_OUT, WITH_BOUNDARY, joined)?);
+    assert!(rt; leaves_of_path::<I>(rt, alloc, TRAPEZIUM, BOWL, INSIDE, &[])?);
+    assert!(rt; leaves_of_path::<I>(rt, alloc, TRAPEZIUM, BOWL, WITH_BOUNDARY, bottom)?);
+    assert!(rt; forks::<I>(rt, alloc)?);
+    Ok(())
+}
+
+#[test]
+fn clipped_lines(rt: HostRuntime) -> Result<(), Fail> {
+    lines::<i16>(&rt, rt.alloc())?;
+    lines::<i32>(&rt, rt.alloc())?;
+    lines::<i64>(&rt, rt.alloc())
+}
+
+#[test]
+fn clipped_paths(rt: HostRuntime) -> Result<(), Fail> {
+    paths::<i16>(&rt, rt.alloc())?;
+    paths::<i32>(&rt, rt.alloc())?;
+    paths::<i64>(&rt, rt.alloc())
+}
