@@ -1,5 +1,9 @@
 //! The worked rows of contours again, of a graph, with the live edges in trees alone and in lists alone.
 
+ghost use Rattle.std.specs.Prelude.{◌≡◌};
+ghost use Rattle.overlay_geom.specs.Counts.{weight_of_counts};
+ghost use Rattle.overlay_arrange.specs.Counts.{boolean_counts};
+
 use crate::colour::{Calls, Colour};
 use crate::edges::{Place, point_of};
 use crate::shapes::{Row, Way, are_shapes, builder_of, options_of};
@@ -11,7 +15,6 @@ use overlay_arrange::data::CountWithData;
 use overlay_arrange::edge::{CountedEdge, compare_points};
 use overlay_geom::error::OverlayError;
 use overlay_geom::integer::OverlayInt;
-use overlay_geom::point::IntPoint;
 use overlay_vector::edge_overlay::{EdgeOverlay, ShapeType};
 use overlay_vector::vector_shapes::vector_shapes_with_trees_from;
 use std::alloc::Global;
@@ -21,37 +24,19 @@ use std::test::Fail;
 // Edges with colours.
 type Coloured<I> = Content<I, CountWithData<Colour>, Global>;
 
-// What a step of the subject, or of the clip, passes: 1 along the edge, or -1 back.
-fn passed(shape_type: ShapeType, times: i32) -> ShapeCountBoolean {
-    match shape_type {
-        ShapeType::Subject => ShapeCountBoolean {
-            subj: times,
-            clip: 0,
-        },
-        ShapeType::Clip => ShapeCountBoolean {
-            subj: 0,
-            clip: times,
-        },
+// How often a step of the subject, or of the clip, passes its edge: once, along it or back.
+fn passed(shape_type: ShapeType, is_along: bool) -> ShapeCountBoolean
+    ensures { weight_of_counts (boolean_counts result) ≡ 1 }
+{
+    match (shape_type, is_along) {
+        (ShapeType::Subject, true) => ShapeCountBoolean { subj: 1, clip: 0 },
+        (ShapeType::Subject, false) => ShapeCountBoolean { subj: -1, clip: 0 },
+        (ShapeType::Clip, true) => ShapeCountBoolean { subj: 0, clip: 1 },
+        (ShapeType::Clip, false) => ShapeCountBoolean { subj: 0, clip: -1 },
     }
 }
 
-// Adds the edge, which leads from its smaller to its larger end in the coordinate range.
-fn push_edge<I: OverlayInt>(
-    rt: &impl Abort,
-    content: &mut Coloured<I>,
-    a: IntPoint<I>,
-    b: IntPoint<I>,
-    count: CountWithData<Colour>,
-) -> Result<(), OverlayError> {
-    assert!(rt; a.x.is_in_range() && a.y.is_in_range());
-    assert!(rt; b.x.is_in_range() && b.y.is_in_range());
-    assert!(rt; compare_points(a, b).is_lt());
-    assert!(rt; count.count.subj >= -1 && count.count.subj <= 1);
-    assert!(rt; count.count.clip >= -1 && count.count.clip <= 1);
-    content.push(CountedEdge { a, b, count })
-}
-
-// Adds the step of this colour.
+// Adds the step, which leads from one end to the other in the coordinate range.
 fn push<I: OverlayInt + From<i16>>(
     rt: &impl Abort,
     content: &mut Coloured<I>,
@@ -59,13 +44,19 @@ fn push<I: OverlayInt + From<i16>>(
     edge_data: Colour,
     shape_type: ShapeType,
 ) -> Result<(), OverlayError> {
-    let (p, q) = (point_of::<I>(ends.0), point_of::<I>(ends.1));
-    if compare_points(p, q).is_lt() {
-        let count = passed(shape_type, 1);
-        return push_edge(rt, content, p, q, CountWithData { count, edge_data });
-    }
-    let count = passed(shape_type, -1);
-    push_edge(rt, content, q, p, CountWithData { count, edge_data })
+    let (from, to) = (point_of::<I>(ends.0), point_of::<I>(ends.1));
+    let is_along = compare_points(from, to).is_lt();
+    let (a, b) = if is_along { (from, to) } else { (to, from) };
+    assert!(rt; a.x.is_in_range());
+    assert!(rt; a.y.is_in_range());
+    assert!(rt; b.x.is_in_range());
+    assert!(rt; b.y.is_in_range());
+    assert!(rt; compare_points(a, b).is_lt());
+    let count = CountWithData {
+        count: passed(shape_type, is_along),
+        edge_data,
+    };
+    content.push(CountedEdge { a, b, count })
 }
 
 // Adds the steps of a way.
