@@ -12,30 +12,60 @@ use std::alloc::Global;
 use std::process::Abort;
 use std::test::Fail;
 
-// Each constructor is granted, and has the options that are asked for.
-fn constructors<I: OverlayInt + From<i16>>(rt: &impl Abort, alloc: Global) -> Result<(), Fail> {
+// Whether the options of a builder without edges are those that are asked for.
+fn is_empty<I: OverlayInt>(alloc: Global) -> Result<bool, Fail> {
+    let overlay: StringOverlay<I, Global> = StringOverlay::new(alloc, 4)?;
+    Ok(!overlay.options.ogc)
+}
+
+fn is_empty_with<I: OverlayInt>(alloc: Global) -> Result<bool, Fail> {
+    let options = IntOverlayOptions::ogc();
+    let overlay: StringOverlay<I, Global> = StringOverlay::with_options(alloc, 4, options)?;
+    Ok(overlay.options.ogc)
+}
+
+// Whether those of a builder with a shape are.
+fn has_shape<I: OverlayInt + From<i16>>(rt: &impl Abort, alloc: Global) -> Result<bool, Fail> {
+    let shape = paths_of::<I>(alloc, &[SQUARE])?;
+    assert_in_range(rt, &shape);
+    Ok(!StringOverlay::from_shape(alloc, &shape)?.options.ogc)
+}
+
+fn has_shape_with<I: OverlayInt + From<i16>>(rt: &impl Abort, alloc: Global) -> Result<bool, Fail> {
+    let shape = paths_of::<I>(alloc, &[SQUARE])?;
+    assert_in_range(rt, &shape);
+    let overlay = StringOverlay::from_shape_custom(alloc, &shape, IntOverlayOptions::ogc())?;
+    Ok(overlay.options.ogc)
+}
+
+// Whether those of one with a shape and a string are.
+fn has_both<I: OverlayInt + From<i16>>(rt: &impl Abort, alloc: Global) -> Result<bool, Fail> {
     let shape = paths_of::<I>(alloc, &[SQUARE])?;
     let string = path_of::<I>(alloc, &[(-1, 2), (5, 2)])?;
     assert_in_range(rt, &shape);
     assert_in_range(rt, &string);
-    let empty: StringOverlay<I, Global> = StringOverlay::new(alloc, 4)?;
-    assert!(rt; !empty.options.ogc);
+    let overlay = StringOverlay::from_shape_and_string(alloc, &shape, &string)?;
+    Ok(!overlay.options.ogc)
+}
+
+fn has_both_with<I: OverlayInt + From<i16>>(rt: &impl Abort, alloc: Global) -> Result<bool, Fail> {
+    let shape = paths_of::<I>(alloc, &[SQUARE])?;
+    let string = path_of::<I>(alloc, &[(-1, 2), (5, 2)])?;
+    assert_in_range(rt, &shape);
+    assert_in_range(rt, &string);
     let options = IntOverlayOptions::ogc();
-    let custom: StringOverlay<I, Global> = StringOverlay::with_options(alloc, 4, options)?;
-    assert!(rt; custom.options.ogc);
-    assert!(rt; !StringOverlay::from_shape(alloc, &shape)?.options.ogc);
-    assert!(rt;
-        StringOverlay::from_shape_custom(alloc, &shape, options)?
-            .options
-            .ogc
-    );
-    assert!(rt;
-        !StringOverlay::from_shape_and_string(alloc, &shape, &string)?
-            .options
-            .ogc
-    );
-    let both = StringOverlay::from_shape_and_string_custom(alloc, &shape, &string, options)?;
-    assert!(rt; both.options.ogc);
+    let overlay = StringOverlay::from_shape_and_string_custom(alloc, &shape, &string, options)?;
+    Ok(overlay.options.ogc)
+}
+
+// Each constructor is granted, and has the options that are asked for.
+fn constructors<I: OverlayInt + From<i16>>(rt: &impl Abort, alloc: Global) -> Result<(), Fail> {
+    assert!(rt; is_empty::<I>(alloc)?);
+    assert!(rt; is_empty_with::<I>(alloc)?);
+    assert!(rt; has_shape::<I>(rt, alloc)?);
+    assert!(rt; has_shape_with::<I>(rt, alloc)?);
+    assert!(rt; has_both::<I>(rt, alloc)?);
+    assert!(rt; has_both_with::<I>(rt, alloc)?);
     Ok(())
 }
 
@@ -62,8 +92,8 @@ fn shapes<I: OverlayInt + From<i16>>(rt: &impl Abort, alloc: Global) -> Result<(
     Ok(())
 }
 
-// Each adder of strings is granted.
-fn strings<I: OverlayInt + From<i16>>(rt: &impl Abort, alloc: Global) -> Result<(), Fail> {
+// Each adder of lines is granted.
+fn lines<I: OverlayInt + From<i16>>(rt: &impl Abort, alloc: Global) -> Result<(), Fail> {
     let mut overlay: StringOverlay<I, Global> = StringOverlay::new(alloc, 0)?;
     let line: IntLine<I> = line_of((0, 0), (3, 1));
     assert!(rt; in_range(&line));
@@ -72,10 +102,22 @@ fn strings<I: OverlayInt + From<i16>>(rt: &impl Abort, alloc: Global) -> Result<
     let borrowed = BorrowedLines { lines: &lines };
     assert_in_range(rt, &borrowed);
     overlay.add_string_lines(borrowed.lines)?;
+    Ok(())
+}
+
+// Each adder of a path is granted.
+fn strings<I: OverlayInt + From<i16>>(rt: &impl Abort, alloc: Global) -> Result<(), Fail> {
+    let mut overlay: StringOverlay<I, Global> = StringOverlay::new(alloc, 0)?;
     let path = path_of::<I>(alloc, &[(0, 0), (3, 1), (2, 2)])?;
     assert!(rt; in_range(&path));
     overlay.add_string_path(&path)?;
     overlay.add_string_contour(&path)?;
+    Ok(())
+}
+
+// Each adder of a resource is granted.
+fn sources<I: OverlayInt + From<i16>>(rt: &impl Abort, alloc: Global) -> Result<(), Fail> {
+    let mut overlay: StringOverlay<I, Global> = StringOverlay::new(alloc, 0)?;
     let paths = paths_of::<I>(alloc, &[SQUARE, &[(0, 0), (3, 1)]])?;
     assert_in_range(rt, &paths);
     overlay.add_string_source(&paths)?;
@@ -83,7 +125,7 @@ fn strings<I: OverlayInt + From<i16>>(rt: &impl Abort, alloc: Global) -> Result<
     Ok(())
 }
 
-// So is each deprecated one.
+// So is each deprecated one of contours and of paths.
 fn lists<I: OverlayInt + From<i16>>(rt: &impl Abort, alloc: Global) -> Result<(), Fail> {
     let mut overlay: StringOverlay<I, Global> = StringOverlay::new(alloc, 0)?;
     let paths = paths_of::<I>(alloc, &[SQUARE, &[(0, 0), (3, 1)]])?;
@@ -91,40 +133,68 @@ fn lists<I: OverlayInt + From<i16>>(rt: &impl Abort, alloc: Global) -> Result<()
     overlay.add_shape_contours(&paths)?;
     overlay.add_string_paths(&paths)?;
     overlay.add_string_contours(&paths)?;
+    Ok(())
+}
+
+// And that of shapes.
+fn lists_of_shapes<I: OverlayInt + From<i16>>(rt: &impl Abort, alloc: Global) -> Result<(), Fail> {
+    let mut overlay: StringOverlay<I, Global> = StringOverlay::new(alloc, 0)?;
     let mut shapes: IntShapes<I, Global> = Vec::new(alloc);
-    shapes.push(paths)?;
+    shapes.push(paths_of::<I>(alloc, &[SQUARE, &[(0, 0), (3, 1)]])?)?;
     let borrowed = BorrowedShapes { shapes: &shapes };
     assert_in_range(rt, &borrowed);
     overlay.add_shapes(borrowed.shapes)?;
     Ok(())
 }
 
-// And each deprecated constructor.
-fn with_lists<I: OverlayInt + From<i16>>(rt: &impl Abort, alloc: Global) -> Result<(), Fail> {
+// Whether a builder that is made from a contour has the default options.
+fn has_contour<I: OverlayInt + From<i16>>(rt: &impl Abort, alloc: Global) -> Result<bool, Fail> {
     let contour = path_of::<I>(alloc, SQUARE)?;
     assert!(rt; in_range(&contour));
-    assert!(rt;
+    Ok(
         !StringOverlay::with_shape_contour(alloc, &contour)?
             .options
-            .ogc
-    );
+            .ogc,
+    )
+}
+
+// Whether one that is made from several does.
+fn has_contours<I: OverlayInt + From<i16>>(rt: &impl Abort, alloc: Global) -> Result<bool, Fail> {
     let shape = paths_of::<I>(alloc, &[SQUARE])?;
     assert_in_range(rt, &BorrowedContours { contours: &shape });
-    assert!(rt;
+    Ok(
         !StringOverlay::with_shape_contours(alloc, &shape)?
             .options
-            .ogc
-    );
-    assert!(rt; !StringOverlay::with_shape(alloc, &shape)?.options.ogc);
+            .ogc,
+    )
+}
+
+// Whether one that is made from a shape does.
+fn has_one_shape<I: OverlayInt + From<i16>>(rt: &impl Abort, alloc: Global) -> Result<bool, Fail> {
+    let shape = paths_of::<I>(alloc, &[SQUARE])?;
+    assert_in_range(rt, &BorrowedContours { contours: &shape });
+    Ok(!StringOverlay::with_shape(alloc, &shape)?.options.ogc)
+}
+
+// Whether one that is made from several does.
+fn has_shapes<I: OverlayInt + From<i16>>(rt: &impl Abort, alloc: Global) -> Result<bool, Fail> {
     let mut shapes: IntShapes<I, Global> = Vec::new(alloc);
-    shapes.push(shape)?;
+    shapes.push(paths_of::<I>(alloc, &[SQUARE])?)?;
     let borrowed = BorrowedShapes { shapes: &shapes };
     assert_in_range(rt, &borrowed);
-    assert!(rt;
+    Ok(
         !StringOverlay::with_shapes(alloc, borrowed.shapes)?
             .options
-            .ogc
-    );
+            .ogc,
+    )
+}
+
+// Each deprecated constructor is granted.
+fn with_lists<I: OverlayInt + From<i16>>(rt: &impl Abort, alloc: Global) -> Result<(), Fail> {
+    assert!(rt; has_contour::<I>(rt, alloc)?);
+    assert!(rt; has_contours::<I>(rt, alloc)?);
+    assert!(rt; has_one_shape::<I>(rt, alloc)?);
+    assert!(rt; has_shapes::<I>(rt, alloc)?);
     Ok(())
 }
 
@@ -132,8 +202,11 @@ fn with_lists<I: OverlayInt + From<i16>>(rt: &impl Abort, alloc: Global) -> Resu
 fn calls<I: OverlayInt + From<i16>>(rt: &impl Abort, alloc: Global) -> Result<(), Fail> {
     constructors::<I>(rt, alloc)?;
     shapes::<I>(rt, alloc)?;
+    lines::<I>(rt, alloc)?;
     strings::<I>(rt, alloc)?;
+    sources::<I>(rt, alloc)?;
     lists::<I>(rt, alloc)?;
+    lists_of_shapes::<I>(rt, alloc)?;
     with_lists::<I>(rt, alloc)
 }
 

@@ -1,14 +1,10 @@
 //! Strings clipped by a shape, on worked rows, at each coordinate type.
 
-use crate::points::{Points, assert_in_range, line_of, path_of, paths_of};
+use crate::points::{Points, assert_in_range, path_of, paths_of};
 use overlay_arrange::fill_rule::FillRule;
 use overlay_geom::integer::OverlayInt;
-use overlay_geom::path::{IntLine, IntPath};
-use overlay_geom::point::in_range;
-use overlay_geom::resource::borrowed::BorrowedContours;
-use overlay_string::clip::IntClip;
+use overlay_geom::path::IntPath;
 use overlay_string::clip_rule::ClipRule;
-use overlay_string::lines::BorrowedLines;
 use overlay_string::string_overlay::StringOverlay;
 use std::alloc::Global;
 use std::process::Abort;
@@ -151,43 +147,12 @@ fn corners<I: OverlayInt + PartialEq + From<i16>>(
     Ok(())
 }
 
-// Each call that clips at once.
-fn at_once<I: OverlayInt + PartialEq + From<i16>>(
-    rt: &impl Abort,
-    alloc: Global,
-) -> Result<(), Fail> {
-    let shape = path_of::<I>(alloc, SQUARE)?;
-    assert_in_range(rt, &shape);
-    let rule = FillRule::NonZero;
-    let line: IntLine<I> = line_of((0, -15), (0, 15));
-    assert!(rt; in_range(&line));
-    let wanted = paths_of::<I>(alloc, &[&[(0, -10), (0, 10)]])?;
-    assert!(rt; shape.clip_line(alloc, line, rule, INSIDE)? == wanted);
-    let lines = [line_of::<I>((0, -15), (0, 15)), line_of((0, 15), (0, -15))];
-    let borrowed = BorrowedLines { lines: &lines };
-    assert_in_range(rt, &borrowed);
-    let both_ways = paths_of::<I>(alloc, &[&[(0, -10), (0, 10), (0, -10)]])?;
-    assert!(rt; shape.clip_lines(alloc, borrowed.lines, rule, INSIDE)? == both_ways);
-    let path = path_of::<I>(alloc, &[(0, -15), (0, 0), (0, 15)])?;
-    assert!(rt; in_range(&path));
-    let by_three = paths_of::<I>(alloc, &[&[(0, -10), (0, 0), (0, 10)]])?;
-    assert!(rt; shape.clip_path(alloc, &path, rule, INSIDE)? == by_three);
-    let paths = paths_of::<I>(alloc, &[&[(0, -15), (0, 15)], &[(20, 0), (30, 0)]])?;
-    let listed = BorrowedContours { contours: &paths };
-    assert_in_range(rt, &listed);
-    assert!(rt; shape.clip_paths(alloc, listed.contours, rule, INSIDE)? == wanted);
-    assert_in_range(rt, &paths);
-    assert!(rt; shape.clip_source(alloc, &paths, rule, INSIDE)? == wanted);
-    Ok(())
-}
-
 // All of these, at a coordinate type.
 fn rows<I: OverlayInt + PartialEq + From<i16>>(rt: &impl Abort, alloc: Global) -> Result<(), Fail> {
     lines::<I>(rt, alloc)?;
     path::<I>(rt, alloc)?;
     fork::<I>(rt, alloc)?;
-    corners::<I>(rt, alloc)?;
-    at_once::<I>(rt, alloc)
+    corners::<I>(rt, alloc)
 }
 
 #[test]

@@ -5,6 +5,7 @@ use overlay_arrange::fill_rule::FillRule;
 use overlay_geom::integer::OverlayInt;
 use overlay_geom::path::{IntLine, IntPath};
 use overlay_geom::point::in_range;
+use overlay_geom::resource::borrowed::BorrowedContours;
 use overlay_string::clip::IntClip;
 use overlay_string::clip_rule::ClipRule;
 use overlay_string::lines::BorrowedLines;
@@ -12,8 +13,10 @@ use std::alloc::Global;
 use std::process::Abort;
 use std::test::Fail;
 
-// A square of 20 round the origin, and a line along its left side.
+// A square of 20 round the origin, and lines through its middle and along its left side.
 const SQUARE: Points<'static> = &[(-10, -10), (-10, 10), (10, 10), (10, -10)];
+
+const MIDDLE: Points<'static> = &[(0, -15), (0, 15)];
 
 const SIDE: Points<'static> = &[(-10, -15), (-10, 15)];
 
@@ -81,16 +84,16 @@ fn by_line<I: OverlayInt + From<i16>>(
     Ok(shape.clip_line(alloc, line, FillRule::NonZero, rule)?)
 }
 
-// What is left of three lines.
+// What is left of several lines.
 fn by_lines<I: OverlayInt + From<i16>>(
     rt: &impl Abort,
     alloc: Global,
     contour: Points<'_>,
-    lines: [IntLine<I>; 3],
+    lines: &[IntLine<I>],
 ) -> Result<Vec<IntPath<I, Global>, Global>, Fail> {
     let shape = path_of::<I>(alloc, contour)?;
     assert_in_range(rt, &shape);
-    let borrowed = BorrowedLines { lines: &lines };
+    let borrowed = BorrowedLines { lines };
     assert_in_range(rt, &borrowed);
     Ok(shape.clip_lines(alloc, borrowed.lines, FillRule::NonZero, INSIDE)?)
 }
@@ -108,6 +111,33 @@ fn by_path<I: OverlayInt + From<i16>>(
     let path = path_of::<I>(alloc, path)?;
     assert!(rt; in_range(&path));
     Ok(shape.clip_path(alloc, &path, FillRule::NonZero, rule)?)
+}
+
+// What is left of the paths in a list inside the square.
+fn by_paths<I: OverlayInt + From<i16>>(
+    rt: &impl Abort,
+    alloc: Global,
+    paths: &[Points<'_>],
+) -> Result<Vec<IntPath<I, Global>, Global>, Fail> {
+    let shape = path_of::<I>(alloc, SQUARE)?;
+    assert_in_range(rt, &shape);
+    let paths = paths_of::<I>(alloc, paths)?;
+    let borrowed = BorrowedContours { contours: &paths };
+    assert_in_range(rt, &borrowed);
+    Ok(shape.clip_paths(alloc, borrowed.contours, FillRule::NonZero, INSIDE)?)
+}
+
+// What is left of the paths of a resource inside it.
+fn by_source<I: OverlayInt + From<i16>>(
+    rt: &impl Abort,
+    alloc: Global,
+    paths: &[Points<'_>],
+) -> Result<Vec<IntPath<I, Global>, Global>, Fail> {
+    let shape = path_of::<I>(alloc, SQUARE)?;
+    assert_in_range(rt, &shape);
+    let paths = paths_of::<I>(alloc, paths)?;
+    assert_in_range(rt, &paths);
+    Ok(shape.clip_source(alloc, &paths, FillRule::NonZero, INSIDE)?)
 }
 
 // Whether these paths are left of a line.
@@ -146,9 +176,37 @@ fn forks<I: OverlayInt + PartialEq + From<i16>>(
         line_of((-5, 0), (0, 0)),
         line_of((0, 0), (5, -5)),
     ];
-    let paths = by_lines::<I>(rt, alloc, SQUARE, lines)?;
+    let paths = by_lines::<I>(rt, alloc, SQUARE, &lines)?;
     let wanted: &[Points<'_>] = &[&[(-5, 0), (0, 0), (5, -5)], &[(0, 0), (5, 5)]];
     Ok(paths == paths_of(alloc, wanted)?)
+}
+
+// Whether a line that is given in both directions is passed in both.
+fn turns_back<I: OverlayInt + PartialEq + From<i16>>(
+    rt: &impl Abort,
+    alloc: Global,
+) -> Result<bool, Fail> {
+    let lines = [line_of((0, -15), (0, 15)), line_of((0, 15), (0, -15))];
+    let paths = by_lines::<I>(rt, alloc, SQUARE, &lines)?;
+    Ok(paths == paths_of(alloc, &[&[(0, -10), (0, 10), (0, -10)]])?)
+}
+
+// Whether a part of one path in a list is left, and nothing of one at a distance.
+fn leaves_of_paths<I: OverlayInt + PartialEq + From<i16>>(
+    rt: &impl Abort,
+    alloc: Global,
+) -> Result<bool, Fail> {
+    let paths = by_paths::<I>(rt, alloc, &[MIDDLE, &[(20, 0), (30, 0)]])?;
+    Ok(paths == paths_of(alloc, &[&[(0, -10), (0, 10)]])?)
+}
+
+// Whether the same is left of them as a resource.
+fn leaves_of_source<I: OverlayInt + PartialEq + From<i16>>(
+    rt: &impl Abort,
+    alloc: Global,
+) -> Result<bool, Fail> {
+    let paths = by_source::<I>(rt, alloc, &[MIDDLE, &[(20, 0), (30, 0)]])?;
+    Ok(paths == paths_of(alloc, &[&[(0, -10), (0, 10)]])?)
 }
 
 // Whether a line outside is left at both ends.
@@ -156,9 +214,8 @@ fn leaves_ends<I: OverlayInt + PartialEq + From<i16>>(
     rt: &impl Abort,
     alloc: Global,
 ) -> Result<bool, Fail> {
-    let line: Points<'_> = &[(0, -15), (0, 15)];
     let wanted: &[Points<'_>] = &[&[(0, -15), (0, -10)], &[(0, 10), (0, 15)]];
-    leaves::<I>(rt, alloc, SQUARE, line, OUTSIDE, wanted)
+    leaves::<I>(rt, alloc, SQUARE, MIDDLE, OUTSIDE, wanted)
 }
 
 // Whether a line passes a notch at its top, and nothing is left of it.
@@ -170,7 +227,7 @@ fn passes_a_notch<I: OverlayInt + PartialEq + From<i16>>(
     leaves::<I>(rt, alloc, notch, &[(-3, 2), (3, 2)], INSIDE, &[])
 }
 
-// Lines along the side of a square, and through the top of a triangle.
+// Lines through the middle of a square, along its side, and through the top of a triangle.
 fn lines<I: OverlayInt + PartialEq + From<i16>>(
     rt: &impl Abort,
     alloc: Global,
@@ -178,6 +235,7 @@ fn lines<I: OverlayInt + PartialEq + From<i16>>(
     let on_side: &[Points<'_>] = &[&[(-10, -10), (-10, 10)]];
     let past: &[Points<'_>] = &[&[(-10, -15), (-10, -10), (-10, 10), (-10, 15)]];
     let above: &[Points<'_>] = &[&[(0, -1), (0, 0)], &[(0, 1), (0, 2)]];
+    assert!(rt; leaves::<I>(rt, alloc, SQUARE, MIDDLE, INSIDE, &[&[(0, -10), (0, 10)]])?);
     assert!(rt; leaves_ends::<I>(rt, alloc)?);
     assert!(rt; leaves::<I>(rt, alloc, SQUARE, SIDE, INSIDE, &[])?);
     assert!(rt; leaves::<I>(rt, alloc, SQUARE, SIDE, WITH_BOUNDARY, on_side)?);
@@ -198,19 +256,33 @@ fn lines<I: OverlayInt + PartialEq + From<i16>>(
     Ok(())
 }
 
-// Paths, and lines that fork.
+// Paths.
 fn paths<I: OverlayInt + PartialEq + From<i16>>(
     rt: &impl Abort,
     alloc: Global,
 ) -> Result<(), Fail> {
+    let through: Points<'_> = &[(0, -15), (0, 0), (0, 15)];
+    let by_three: &[Points<'_>] = &[&[(0, -10), (0, 0), (0, 10)]];
     let parted: &[Points<'_>] = &[BELOW, &[(-10, 0), (0, 0), (0, 10)], &[(5, 10), (10, 5)]];
     let joined: &[Points<'_>] = &[BELOW, &[(-10, 0), (0, 0), (0, 10), (5, 10), (10, 5)]];
     let bottom: &[Points<'_>] = &[&[(-2, -2), (2, -2)]];
+    assert!(rt; leaves_of_path::<I>(rt, alloc, SQUARE, through, INSIDE, by_three)?);
     assert!(rt; leaves_of_path::<I>(rt, alloc, SQUARE, IN_AND_OUT, INSIDE, parted)?);
     assert!(rt; leaves_of_path::<I>(rt, alloc, SQUARE, IN_AND_OUT, WITH_BOUNDARY, joined)?);
     assert!(rt; leaves_of_path::<I>(rt, alloc, TRAPEZIUM, BOWL, INSIDE, &[])?);
     assert!(rt; leaves_of_path::<I>(rt, alloc, TRAPEZIUM, BOWL, WITH_BOUNDARY, bottom)?);
+    Ok(())
+}
+
+// Several lines, or several paths.
+fn strings<I: OverlayInt + PartialEq + From<i16>>(
+    rt: &impl Abort,
+    alloc: Global,
+) -> Result<(), Fail> {
     assert!(rt; forks::<I>(rt, alloc)?);
+    assert!(rt; turns_back::<I>(rt, alloc)?);
+    assert!(rt; leaves_of_paths::<I>(rt, alloc)?);
+    assert!(rt; leaves_of_source::<I>(rt, alloc)?);
     Ok(())
 }
 
@@ -226,4 +298,11 @@ fn clipped_paths(rt: HostRuntime) -> Result<(), Fail> {
     paths::<i16>(&rt, rt.alloc())?;
     paths::<i32>(&rt, rt.alloc())?;
     paths::<i64>(&rt, rt.alloc())
+}
+
+#[test]
+fn clipped_strings(rt: HostRuntime) -> Result<(), Fail> {
+    strings::<i16>(&rt, rt.alloc())?;
+    strings::<i32>(&rt, rt.alloc())?;
+    strings::<i64>(&rt, rt.alloc())
 }
