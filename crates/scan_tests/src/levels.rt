@@ -157,7 +157,12 @@ impl<S> Levels<S> {
     }
 
     // The height of the highest edge below a vertical one over x, from a height to the next one.
-    fn below_upright<I: SmallNumber>(&mut self, rt: &impl Abort, x: u16, height: u16) -> u16
+    pub(crate) fn below_upright<I: SmallNumber>(
+        &mut self,
+        rt: &impl Abort,
+        x: u16,
+        height: u16,
+    ) -> u16
     where
         S: Scan<I, u16>,
         requires { IsLevelSweep I.limit self.old.reached self.old.heights.items (S.content self.old.scan) }

@@ -1,4 +1,4 @@
-//! Tests of `overlay_scan`, which stand above it so that it is proved without them.
+//! Tests of `overlay_scan` and `overlay_tree`, which stand above them so that they are proved without them.
 #![tactic(auto)]
 
 #[cfg(test)]
@@ -7,3 +7,5 @@ mod levels;
 mod list;
 #[cfg(test)]
 mod many;
+#[cfg(test)]
+mod orders;

@@ -1,9 +1,10 @@
 //! A list and a tree of many edges, put in from below, from above, from both sides by turns and at random.
 
-ghost use Rattle.std.specs.Prelude.{OnOk};
+ghost use Rattle.std.specs.Prelude.{◌≡◌, OnOk};
 ghost use Rattle.scan_tests.specs.LevelEdges.{IsLevelSweep};
 
-use crate::levels::{Levels, SmallNumber};
+use crate::levels::{Levels, NONE, SmallNumber};
+use crate::orders::{COUNT, Order, any_gap, any_height, heights_in};
 use overlay_geom::error::OverlayError;
 use overlay_scan::list::ScanList;
 use overlay_scan::scan::Scan;
@@ -12,31 +13,8 @@ use refusing_alloc::refusing::Refusing;
 use std::alloc::Global;
 use std::process::Abort;
 
-// How many edges are put in.
-const COUNT: u16 = 10_000;
-
-// In which order their heights come.
-#[derive(Clone, Copy)]
-enum Order {
-    Rising,
-    Falling,
-    Zigzag,
-    Scattered,
-}
-
-// The n-th height. Scattered ones are multiples of a number that has no factor in common with the count, so that each
-// comes once.
-fn height_at(order: Order, n: u16) -> u16 {
-    let n = n % COUNT;
-    let last = COUNT - 1;
-    match order {
-        Order::Rising => n,
-        Order::Falling => last - n,
-        Order::Zigzag if n % 2 == 0 => n / 2,
-        Order::Zigzag => last - n / 2,
-        Order::Scattered => (u32::from(n) * 7919 % u32::from(COUNT)) as u16,
-    }
-}
+// How many edges are put in after a refusal.
+const LATER: u16 = 100;
 
 // Where the n-th edge starts and ends. They reach to different ends, so that some have ended later on.
 fn span_at(n: u16) -> (u16, u16) {
@@ -44,7 +22,33 @@ fn span_at(n: u16) -> (u16, u16) {
     (x, x + 1 + n % 89)
 }
 
-// Puts an edge into both, and asks both for the highest edge up to a height.
+// The n-th height, or one that no edge has.
+fn height_at(heights: &[u16], n: u16) -> u16 {
+    match heights.get(usize::from(n)) {
+        Some(height) => *height,
+        None => NONE,
+    }
+}
+
+// What each look-up finds where the n-th edge starts: up to some height, below a level edge and below a vertical one.
+fn answers<I: SmallNumber, S: Scan<I, u16>>(
+    levels: &mut Levels<S>,
+    rt: &impl Abort,
+    n: u16,
+) -> [u16; 3]
+    requires { IsLevelSweep I.limit levels.old.reached levels.old.heights.items (S.content levels.old.scan) }
+    ensures { IsLevelSweep I.limit levels.new.reached levels.new.heights.items (S.content levels.new.scan) }
+{
+    let (x, end) = span_at(n);
+    let asked = 3 * u64::from(n);
+    [
+        levels.up_to(rt, x, any_height(asked)),
+        levels.below(rt, x, end, any_gap(asked + 1)),
+        levels.below_upright(rt, x, any_gap(asked + 2)),
+    ]
+}
+
+// Puts the n-th edge into both, and asks both.
 fn put_and_ask<I: SmallNumber, S: Scan<I, u16>, T: Scan<I, u16>>(
     rt: &impl Abort,
     list: &mut Levels<S>,
@@ -62,44 +66,51 @@ fn put_and_ask<I: SmallNumber, S: Scan<I, u16>, T: Scan<I, u16>>(
     let (x, end) = span_at(n);
     list.insert(rt, x, end, height)?;
     tree.insert(rt, x, end, height)?;
-    let asked = height_at(Order::Scattered, n / 3);
-    assert_eq!(rt; list.up_to(rt, x, asked), tree.up_to(rt, x, asked));
+    assert_eq!(rt; answers(list, rt, n), answers(tree, rt, n));
     Ok(())
 }
 
-// Puts all edges into both, in this order.
+// Puts the edges from one to before another into both, and asks both after each.
 fn check_order<I: SmallNumber, S: Scan<I, u16>, T: Scan<I, u16>>(
     rt: &impl Abort,
     list: &mut Levels<S>,
     tree: &mut Levels<T>,
-    order: Order,
+    heights: &[u16],
+    from: u16,
+    to: u16,
 ) -> Result<(), OverlayError>
     requires list { IsLevelSweep I.limit list.old.reached list.old.heights.items (S.content list.old.scan) }
     requires tree { IsLevelSweep I.limit tree.old.reached tree.old.heights.items (T.content tree.old.scan) }
 {
-    for n in 0..COUNT {
-        put_and_ask(rt, list, tree, n, height_at(order, n))?;
+    for n in from..to {
+        put_and_ask(rt, list, tree, n, height_at(heights, n))?;
     }
     Ok(())
 }
 
-// The same over a list and a tree at 32 bits.
-fn compare(rt: &impl Abort, alloc: Global, order: Order) -> Result<(), OverlayError> {
-    let list: ScanList<i32, u16, _> = ScanList::default(alloc);
-    let tree: ScanTree<i32, u16, _> = ScanTree::default(alloc);
+// All edges in this order in a list and in a tree.
+fn compare<I: SmallNumber>(
+    rt: &impl Abort,
+    alloc: Global,
+    order: Order,
+) -> Result<(), OverlayError> {
+    let heights = heights_in(alloc, order)?;
+    let list: ScanList<I, u16, _> = ScanList::default(alloc);
+    let tree: ScanTree<I, u16, _> = ScanTree::default(alloc);
     let mut list = Levels::new(alloc, list);
     let mut tree = Levels::new(alloc, tree);
-    check_order(rt, &mut list, &mut tree, order)
+    check_order(rt, &mut list, &mut tree, &heights, 0, COUNT)
 }
 
-// Puts an edge into both. A tree that is refused memory answers as before, and takes the edge once memory is granted
-// again. Returns whether it was refused.
+// Puts the n-th edge into both. A tree that is refused memory answers as before, and takes the edge once memory is
+// granted again. Returns whether it was refused.
 fn put_again<I: SmallNumber, S: Scan<I, u16>, T: Scan<I, u16>>(
     rt: &impl Abort,
     list: &mut Levels<S>,
     tree: &mut Levels<T>,
     memory: &Refusing<Global>,
     n: u16,
+    height: u16,
 ) -> Result<bool, OverlayError>
     requires list { IsLevelSweep I.limit list.old.reached list.old.heights.items (S.content list.old.scan) }
     requires tree { IsLevelSweep I.limit tree.old.reached tree.old.heights.items (T.content tree.old.scan) }
@@ -109,11 +120,9 @@ fn put_again<I: SmallNumber, S: Scan<I, u16>, T: Scan<I, u16>>(
         (IsLevelSweep I.limit tree.new.reached tree.new.heights.items (T.content tree.new.scan)) }
 {
     let (x, end) = span_at(n);
-    let height = height_at(Order::Scattered, n);
     let is_refused = tree.insert(rt, x, end, height).is_err();
     if is_refused {
-        let asked = height_at(Order::Scattered, n / 3);
-        assert_eq!(rt; list.up_to(rt, x, asked), tree.up_to(rt, x, asked));
+        assert_eq!(rt; answers(list, rt, n), answers(tree, rt, n));
         memory.grant(u64::MAX);
         tree.insert(rt, x, end, height)?;
     }
@@ -121,38 +130,46 @@ fn put_again<I: SmallNumber, S: Scan<I, u16>, T: Scan<I, u16>>(
     Ok(is_refused)
 }
 
-// Puts all edges into both. Returns whether the tree was refused memory.
+// Puts edges into both until the tree is refused memory, and then some more. Returns whether it was refused.
 fn check_refused<I: SmallNumber, S: Scan<I, u16>, T: Scan<I, u16>>(
     rt: &impl Abort,
     list: &mut Levels<S>,
     tree: &mut Levels<T>,
     memory: &Refusing<Global>,
+    heights: &[u16],
 ) -> Result<bool, OverlayError>
     requires list { IsLevelSweep I.limit list.old.reached list.old.heights.items (S.content list.old.scan) }
     requires tree { IsLevelSweep I.limit tree.old.reached tree.old.heights.items (T.content tree.old.scan) }
 {
-    let mut is_refused = false;
     for n in 0..COUNT {
-        is_refused |= put_again(rt, list, tree, memory, n)?;
+        if put_again(rt, list, tree, memory, n, height_at(heights, n))? {
+            check_order(rt, list, tree, heights, n + 1, COUNT.min(n + 1 + LATER))?;
+            return Ok(true);
+        }
     }
-    Ok(is_refused)
+    Ok(false)
 }
 
 // The same, where so many requests of the tree are granted before one is refused.
-fn is_refused_after(rt: &impl Abort, alloc: Global, granted: u64) -> Result<bool, OverlayError> {
+fn is_refused_after<I: SmallNumber>(
+    rt: &impl Abort,
+    alloc: Global,
+    granted: u64,
+) -> Result<bool, OverlayError> {
+    let heights = heights_in(alloc, Order::Random)?;
     let memory = Refusing::new(alloc, granted);
-    let list: ScanList<i32, u16, _> = ScanList::default(alloc);
-    let tree: ScanTree<i32, u16, _> = ScanTree::default(&memory);
+    let list: ScanList<I, u16, _> = ScanList::default(alloc);
+    let tree: ScanTree<I, u16, _> = ScanTree::default(&memory);
     let mut list = Levels::new(alloc, list);
     let mut tree = Levels::new(alloc, tree);
-    check_refused(rt, &mut list, &mut tree, &memory)
+    check_refused(rt, &mut list, &mut tree, &memory, &heights)
 }
 
-#[test]
-fn each_growth_refused_in_turn(rt: HostRuntime) -> Result<(), OverlayError> {
+// Refuses each growth in turn, until none is left.
+fn check_growths<I: SmallNumber>(rt: &impl Abort, alloc: Global) -> Result<(), OverlayError> {
     let mut last = 0;
     for granted in 0..64 {
-        if !is_refused_after(&rt, rt.alloc(), granted)? {
+        if !is_refused_after::<I>(rt, alloc, granted)? {
             break;
         }
         last = granted;
@@ -162,22 +179,36 @@ fn each_growth_refused_in_turn(rt: HostRuntime) -> Result<(), OverlayError> {
     Ok(())
 }
 
+// An order at each coordinate type.
+fn compare_at_each_type(rt: &impl Abort, alloc: Global, order: Order) -> Result<(), OverlayError> {
+    compare::<i16>(rt, alloc, order)?;
+    compare::<i32>(rt, alloc, order)?;
+    compare::<i64>(rt, alloc, order)
+}
+
+#[test]
+fn each_growth_refused_in_turn(rt: HostRuntime) -> Result<(), OverlayError> {
+    check_growths::<i16>(&rt, rt.alloc())?;
+    check_growths::<i32>(&rt, rt.alloc())?;
+    check_growths::<i64>(&rt, rt.alloc())
+}
+
 #[test]
 fn edges_from_below(rt: HostRuntime) -> Result<(), OverlayError> {
-    compare(&rt, rt.alloc(), Order::Rising)
+    compare_at_each_type(&rt, rt.alloc(), Order::Rising)
 }
 
 #[test]
 fn edges_from_above(rt: HostRuntime) -> Result<(), OverlayError> {
-    compare(&rt, rt.alloc(), Order::Falling)
+    compare_at_each_type(&rt, rt.alloc(), Order::Falling)
 }
 
 #[test]
 fn edges_from_both_sides(rt: HostRuntime) -> Result<(), OverlayError> {
-    compare(&rt, rt.alloc(), Order::Zigzag)
+    compare_at_each_type(&rt, rt.alloc(), Order::Zigzag)
 }
 
 #[test]
 fn edges_at_random(rt: HostRuntime) -> Result<(), OverlayError> {
-    compare(&rt, rt.alloc(), Order::Scattered)
+    compare_at_each_type(&rt, rt.alloc(), Order::Random)
 }
