@@ -12,7 +12,7 @@ use overlay_walk::contour::Contour;
 use std::alloc::Allocator;
 
 /// The number of parents from which on their live edges are kept in a tree: shapes for holes, and holes for
-/// islands. The edges of fewer ones are sooner found in a list.
+/// islands. From there on the bound on visits counts; of fewer parents a list is short.
 pub const TREE_FROM_PARENTS: usize = 32;
 
 /// No live edges yet, in a tree where the contours have `tree_from` outlines or more, and else in a list.

@@ -1,6 +1,6 @@
 -- What a sweep is asked for, found among the edges that a tree holds.
 use Rattle.std.proofs.Common.{◌≡◌, Bool, not, ℕ, ℤ, List, [], ◌∷◌, ◌++◌, Option, None, Some}
-use Rattle.std.proofs.Common.{take, drop, sym, ap, subst, ◌∙◌}
+use Rattle.std.proofs.Common.{take, drop, refl, sym, ap, subst, ◌∙◌, arith}
 use Rattle.std.specs.List.{last_or, filter, prefix_len}
 use Rattle.std.specs.Option.{option_map}
 use Rattle.std.specs.Prelude.{Result, Ok, Err, OnErr}
@@ -17,7 +17,7 @@ use Rattle.overlay_scan.proofs.Moving.{sweep_after_move, live_in_range}
 use Rattle.overlay_scan.proofs.Prefixes.{filter_is_prefix}
 use Rattle.overlay_scan.proofs.PutIn.{lower_before, asked_before, found_below, put_in}
 use Rattle.overlay_tree.specs.Descents.{Tells}
-use Rattle.overlay_tree.specs.HeldEdges.{HeldEdges, held_sweep, live_where, IsLookedUp}
+use Rattle.overlay_tree.specs.HeldEdges.{HeldEdges, held_sweep, live_where, IsLookedUp, IsQuick}
 use Rattle.overlay_tree.proofs.Found.{live_held, filter_parted, placed_between, value_from, value_of_last}
 
 module _ {I V : Type 0} (whole : I → ℤ) (post : List (IntPoint I) → Ordering → Type 0) (x : I)
@@ -136,3 +136,12 @@ lines_in_range whole limit x fs e live in_range k d lt a b at_a at_b = (
 pub on_err : {A E P : Type 0} (r : Result A E) → P → OnErr r P
 on_err (Ok a) p = tt
 on_err (Err e) p = p
+
+-- where only the place of the sweep changes, nothing is dropped and nothing visited
+pub still_quick : {I V : Type 0} (old : HeldEdges I V) (reached : Option I) →
+    IsQuick old (record old { reached = reached }) 0
+still_quick old reached = record {
+  dropped = 0;
+  count = refl;
+  few = λ digits lt. omega arith;
+}

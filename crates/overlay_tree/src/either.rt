@@ -17,8 +17,7 @@ use overlay_scan::scan::Scan;
 use std::alloc::Allocator;
 use std::cmp::Ordering;
 
-/// A [`Scan`] of either kind: a list, which is the quicker one while few edges are held, or a tree. What is
-/// answered is the same.
+/// A [`Scan`] of either kind: a list or a tree. What is answered is the same; a tree visits few edges for each answer.
 #[derive(Drop)]
 pub enum EitherScan<I: IntNumber, V: Copy, A: Allocator> {
     /// A list.
@@ -64,6 +63,7 @@ impl<I: IntNumber, V: Copy, A: Allocator> Scan<I, V> for EitherScan<I, V, A> {
         ensures only { IsOkUnless result OverlayError.Memory }
         ensures kind { is_tree self.new ≡ is_tree self.old }
         ensures quick { OnOk result (IsQuickAsTree self.old self.new 1) }
+        ensures quick_err { OnErr result (IsQuickAsTree self.old self.new 0) }
     {
         match self {
             EitherScan::List(list) => list.insert(edge, value, x),

@@ -129,6 +129,7 @@ impl<I: IntNumber, V: Copy, A: Allocator> Scan<I, V> for ScanTree<I, V, A> {
         ensures state { IsSweep I.limit (held_sweep I.whole self.new) }
         ensures only { IsOkUnless result OverlayError.Memory }
         ensures quick { OnOk result (IsQuick self.old self.new 1) }
+        ensures quick_err { OnErr result (IsQuick self.old self.new 0) }
     {
         let entry = live_edge(edge, value);
         let asked = entry;

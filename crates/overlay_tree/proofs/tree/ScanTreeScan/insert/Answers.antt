@@ -10,8 +10,8 @@ use Rattle.overlay_scan.specs.Lists.{plain_entry, IsInRange, is_lower}
 use Rattle.overlay_scan.specs.Scan.{live_at, IsCallableOn}
 use Rattle.overlay_scan.proofs.Moving.{sweep_after_move, sweep_moved, sweep_from_live}
 use Rattle.overlay_scan.proofs.PutIn.{live_with}
-use Rattle.overlay_tree.specs.HeldEdges.{held_sweep, IsLookedUp}
-use Rattle.overlay_tree.proofs.Asked.{live_is, now_is, told_by, is_put_in, lines_in_range, on_err}
+use Rattle.overlay_tree.specs.HeldEdges.{held_sweep, IsLookedUp, IsQuick}
+use Rattle.overlay_tree.proofs.Asked.{live_is, now_is, told_by, is_put_in, lines_in_range, on_err, still_quick}
 use Rattle.overlay_tree.proofs.tree.ScanTreeScan.insert.Goals as goal
 
 pub put_in-requires-clause-live : goal.put_in-requires-clause-live
@@ -57,6 +57,12 @@ returns-in_err-put_in-clause-state g c =
     c.requires.state c.requires.moves (ap (held_sweep whole) c.in_err-put_in.ensures.err
     ∙ ap (λ fs. record { entries = fs; reached = Some (whole c.args.x) })
     (sym (live_is whole (λ line o. Unit {0}) c.args.x old old c.requires.moves)))
+
+pub returns-in_err-put_in-clause-quick_err : goal.returns-in_err-put_in-clause-quick_err
+returns-in_err-put_in-clause-quick_err g c =
+    let old = c.args.self.now in
+    on_err c.from_residual.result
+    (subst (λ new. IsQuick old new 0) (sym c.in_err-put_in.ensures.err) (still_quick old (Some c.args.x)))
 
 pub returns-clause-ok : goal.returns-clause-ok
 returns-clause-ok g c =
