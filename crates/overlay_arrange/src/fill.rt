@@ -1,7 +1,9 @@
 //! The filled sides of edges.
 
-ghost use Rattle.std.specs.Prelude.{◌≡◌, map, IfOk, IsOkUnless};
+ghost use Rattle.std.specs.Prelude.{◌≡◌, ◌≤◌, ◌↔◌, true, map, length, IfOk, IsOkUnless};
 ghost use Rattle.overlay_geom.specs.Settled.{IsSettled};
+ghost use Rattle.overlay_scan.specs.Scan.{empty_sweep};
+ghost use Rattle.overlay_tree.specs.EitherScans.{either_sweep, is_tree};
 ghost use Rattle.overlay_arrange.specs.Content.{plain_edges, IsContent, IsAscending};
 ghost use Rattle.overlay_arrange.specs.Rules.{fill_bits};
 
@@ -12,16 +14,24 @@ use crate::fill_rays::fills_by_rays;
 use crate::fill_rule::FillRule;
 use crate::fill_sweep::fills_by_sweep;
 use crate::vector::SideFill;
+use crate::windings::Windings;
 use overlay_geom::error::OverlayError;
 use overlay_geom::number::IntNumber;
-use overlay_scan::list::ScanList;
+use overlay_tree::either::EitherScan;
 use std::alloc::Allocator;
 
-/// The filled sides of every edge of an arrangement, in the order of the edges.
-pub fn fills_of_edges<I: IntNumber, C: EdgeCount, A: Allocator + Clone>(
+/// The number of edges from which on the live ones are kept in a tree. Where half of the edges are live at once,
+/// a tree is the quicker one from some 2,000 edges on; where few are, a list is a little quicker at any number.
+pub(crate) const TREE_FROM_EDGES: usize = 4_000;
+
+/// The filled sides of every edge of an arrangement, in the order of the edges. The edges that are live are kept in a
+/// tree where there are `tree_from` edges or more, and else in a list; the answer is the same. The only refusal is
+/// `Memory`.
+pub fn fills_with_trees_from<I: IntNumber, C: EdgeCount, A: Allocator + Clone>(
     alloc: A,
     edges: &[CountedEdge<I, C>],
     rule: FillRule,
+    tree_from: usize,
 ) -> Result<Vec<SideFill, A>, OverlayError>
     requires content { IsContent I.limit (plain_edges I.whole C.counts edges.now) }
     requires ascending { IsAscending (plain_edges I.whole C.counts edges.now) }
@@ -32,10 +42,22 @@ pub fn fills_of_edges<I: IntNumber, C: EdgeCount, A: Allocator + Clone>(
 {
     let balanced = is_balanced(alloc.clone()?, edges)?;
     if balanced {
-        let mut scan = ScanList::default(alloc.clone()?);
+        let mut scan = scan_for(alloc.clone()?, edges, tree_from);
         fills_by_sweep(alloc, &mut scan, edges, rule)
     } else {
         // What edges carry may have any counts, and then no sweep tells the winding below an edge.
         fills_by_rays(alloc, edges, rule)
     }
+}
+
+/// No live edges yet, in a tree where there are `tree_from` edges or more, and else in a list.
+fn scan_for<I: IntNumber, C: EdgeCount, A: Allocator>(
+    alloc: A,
+    edges: &[CountedEdge<I, C>],
+    tree_from: usize,
+) -> EitherScan<I, Windings, A>
+    ensures empty { either_sweep I.whole result ≡ empty_sweep }
+    ensures tree { (is_tree result ≡ true) ↔ (tree_from ≤ length edges.now) }
+{
+    EitherScan::for_count(alloc, edges.len(), tree_from)
 }

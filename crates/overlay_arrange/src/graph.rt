@@ -8,7 +8,7 @@ ghost use Rattle.overlay_arrange.specs.Vectors.{plain_vector, vector_of};
 
 use crate::count::EdgeCount;
 use crate::edge::CountedEdge;
-use crate::fill::fills_of_edges;
+use crate::fill::{TREE_FROM_EDGES, fills_with_trees_from};
 use crate::fill_rule::FillRule;
 use crate::vector::{DataVectorEdge, SideFill};
 use overlay_geom::error::OverlayError;
@@ -55,7 +55,7 @@ impl<I: IntNumber, C: EdgeCount, A: Allocator + Clone> Graph<I, C, A> {
             g ≡ record { fill_rule = fill_rule; edges = carried_edges I.whole C.counts edges.now }) }
         ensures err { IsOkUnless result OverlayError.Memory }
     {
-        let fills = fills_of_edges(alloc.clone()?, edges, fill_rule)?;
+        let fills = fills_with_trees_from(alloc.clone()?, edges, fill_rule, TREE_FROM_EDGES)?;
         let edges = with_fills(alloc, edges, &fills)?;
         Ok(Graph { fill_rule, edges })
     }

@@ -10,7 +10,7 @@ mod crossing;
 mod cut;
 pub mod data;
 pub mod edge;
-mod fill;
+pub mod fill;
 mod fill_rays;
 pub mod fill_rule;
 mod fill_sweep;

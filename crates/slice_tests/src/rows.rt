@@ -18,7 +18,8 @@ const LOWER: Points<'static> = &[(10, -10), (10, 0), (-10, 0), (-10, -10)];
 
 const UPPER: Points<'static> = &[(10, 0), (10, 10), (-10, 10), (-10, 0)];
 
-// The shapes into which the contours are sliced, as they are to be.
+// The shapes into which the contours are sliced, as they are to be: with the limit for trees as it is, with trees
+// alone, and with lists alone.
 fn check<I: IntNumber + PartialEq + From<i16>>(
     rt: &impl Abort,
     alloc: Global,
@@ -28,9 +29,13 @@ fn check<I: IntNumber + PartialEq + From<i16>>(
 ) -> Result<(), Fail> {
     let graph = graph_of::<I>(rt, alloc, contours, strings)?;
     let all = I::WideUInt::zero();
-    let shapes = sliced_shapes(&graph, ContourDirection::CounterClockwise, all)?;
+    let direction = ContourDirection::CounterClockwise;
     let wanted = shapes_of::<I>(alloc, wanted)?;
-    assert!(rt; shapes == wanted);
+    assert!(rt; sliced_shapes(&graph, direction, all)? == wanted);
+    for tree_from in [0, usize::MAX] {
+        let again = sliced_shapes_with_trees_from(&graph, direction, all, tree_from)?;
+        assert!(rt; again == wanted);
+    }
     Ok(())
 }
 
@@ -86,28 +91,12 @@ fn clockwise<I: IntNumber + PartialEq + From<i16>>(
     Ok(())
 }
 
-// With a limit of the caller's for trees the answer is the same.
-fn trees<I: IntNumber + PartialEq + From<i16>>(rt: &impl Abort, alloc: Global) -> Result<(), Fail> {
-    let island: Points<'static> = &[(-5, -5), (-5, 5), (5, 5), (5, -5), (-5, -5)];
-    let graph = graph_of::<I>(rt, alloc, &[SQUARE], &[island])?;
-    let all = I::WideUInt::zero();
-    let direction = ContourDirection::CounterClockwise;
-    let shapes = sliced_shapes(&graph, direction, all)?;
-    assert!(rt; shapes.len() == 2);
-    for tree_from in [0, usize::MAX] {
-        let again = sliced_shapes_with_trees_from(&graph, direction, all, tree_from)?;
-        assert!(rt; again == shapes);
-    }
-    Ok(())
-}
-
 // All of these, at a coordinate type.
 fn rows<I: IntNumber + PartialEq + From<i16>>(rt: &impl Abort, alloc: Global) -> Result<(), Fail> {
     lines::<I>(rt, alloc)?;
     hole::<I>(rt, alloc)?;
     nothing::<I>(rt, alloc)?;
-    clockwise::<I>(rt, alloc)?;
-    trees::<I>(rt, alloc)
+    clockwise::<I>(rt, alloc)
 }
 
 #[test]
