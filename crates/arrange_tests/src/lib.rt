@@ -10,6 +10,8 @@ mod data;
 #[cfg(test)]
 mod edges;
 #[cfg(test)]
+mod fills;
+#[cfg(test)]
 mod graph;
 #[cfg(test)]
 mod rounds;

@@ -1,0 +1,345 @@
+#!/usr/bin/env python3
+"""Times sweeps with their live edges in a list and in a tree, and prints a table in Markdown for each kind of sweep.
+
+    scans.py [--edges N ..] [--runs N] [--only KIND ..] [--write PROGRAM | --program PROGRAM]
+
+    holes    holes are bound to shapes (`bind_contours`): rectangles one below another, each a step further right
+             than the one above it, with a hole each; a quarter of the edges are live at once
+    points   three points are located in a contour (`locate_in_contour`, without the test that it is resolved):
+             a zigzag between a slanted and an upright line; nearly all edges are live at once
+    fills    the filled sides of edges (`fills_with_trees_from`, with the test of balance): those of the rectangles
+             and holes; half are live at once
+    apart    the same of rectangles none of which lies under another; a few edges are live at once
+
+In the first three every new edge goes in below all live ones, or above the lowest one or two. Coordinates have 64 bits.
+
+The crates are copied to a temporary folder, and a program is added that makes an input, sweeps some times, and prints
+the processor time of each sweep by a clock of its own, and what it answers, or a sum of it, which must be the same with
+a list and with a tree. Nothing is proved: `rt try` runs it on small inputs
+with checks, and hands a module to clang; this is compiled again with -O3 and without the checks, which a proved
+program does not have. That takes a minute or two; `--write` leaves the program, and `--program` times it again. The
+least time of all rounds of the runs counts, in which lists and trees take turns.
+"""
+
+import argparse
+import re
+import shutil
+import subprocess
+import tempfile
+from pathlib import Path
+
+ROOT = Path(__file__).resolve().parent.parent
+KINDS = {
+    "holes": "Binding of holes",
+    "points": "Points in a contour",
+    "fills": "Filled sides",
+    "apart": "Filled sides, few edges live",
+}
+LIMITS = {"list": 2**64 - 1, "tree": 0}
+COLUMNS = ("Edges", "List, ms", "Tree, ms")
+EDGES_OF_A_RUN = 100_000
+SMALL = [str(word) for kind in KINDS for limit in LIMITS.values() for word in (kind, 80, limit, 1)]
+
+NAME = "timed_scans"
+USES = " ".join(f"overlay_{name}" for name in "geom plane scan tree arrange walk builder relate".split())
+DRIVER = """\
+//! Times sweeps: KIND EDGES TREE_FROM ROUNDS, as often as is wanted.
+#![tactic(auto)]
+
+use anyhow::{Result, bail};
+use overlay_arrange::count::ShapeCountBoolean;
+use overlay_arrange::edge::{CountedEdge, compare_edges, compare_points};
+use overlay_arrange::fill::fills_with_trees_from;
+use overlay_arrange::fill_rule::FillRule;
+use overlay_arrange::options::ContourDirection;
+use overlay_geom::point::IntPoint;
+use overlay_relate::contour::locate_in_contour;
+use overlay_relate::location::PointLocation;
+use overlay_tree::either::EitherScan;
+use overlay_walk::bind::bind_contours;
+use overlay_walk::contour::{Contour, Role};
+use overlay_walk::step::Step;
+use std::alloc::Global;
+use std::env;
+use std::time::CpuClock;
+
+type Point = IntPoint<i64>;
+type Edges = Vec<CountedEdge<i64, ShapeCountBoolean>>;
+
+// The corners of a rectangle, or of its hole, counterclockwise.
+fn corners(place: usize, steps: usize, inset: i64) -> [Point; 4] {
+    let (i, width) = (place as i64, 4 * steps as i64);
+    let (left, right) = (4 * i + inset, 4 * i + width - inset);
+    let (bottom, top) = (inset - 8 * i, 6 - inset - 8 * i);
+    [(left, bottom), (right, bottom), (right, top), (left, top)].map(|(x, y)| IntPoint::new(x, y))
+}
+
+fn add_rectangle(alloc: Global, all: &mut Vec<Contour<i64, Global>>, place: usize, steps: usize) -> Result<()> {
+    let (outline, hole) = (corners(place, steps, 0), corners(place, steps, 1));
+    let (mut forth, mut back) = (Vec::new(alloc), Vec::new(alloc));
+    for k in 0..4 {
+        forth.push(Step { from: outline[k], to: outline[(k + 1) % 4], edge: 0 })?;
+        back.push(Step { from: hole[3 - k], to: hole[(6 - k) % 4], edge: 0 })?;
+    }
+    all.push(Contour { role: Role::Outline(place), steps: forth })?;
+    all.push(Contour { role: Role::FreeHole, steps: back })?;
+    Ok(())
+}
+
+// Rectangles, each so many steps wide.
+fn rectangles(alloc: Global, edges: usize, width: usize) -> Result<Vec<Contour<i64, Global>>> {
+    let mut all = Vec::new(alloc);
+    for place in 0..edges / 8 {
+        add_rectangle(alloc, &mut all, place, width)?;
+    }
+    Ok(all)
+}
+
+fn add_edge(edges: &mut Edges, from: Point, to: Point) -> Result<()> {
+    let is_forward = compare_points(from, to).is_lt();
+    let (a, b, subj) = if is_forward { (from, to, 1) } else { (to, from, -1) };
+    edges.push(CountedEdge { a, b, count: ShapeCountBoolean { subj, clip: 0 } })?;
+    Ok(())
+}
+
+fn edges_of(alloc: Global, contours: &[Contour<i64, Global>]) -> Result<Edges> {
+    let mut edges = Vec::new(alloc);
+    for contour in contours {
+        for step in &contour.steps {
+            add_edge(&mut edges, step.from, step.to)?;
+        }
+    }
+    edges.sort_by(|e, f| compare_edges(e, f))?;
+    Ok(edges)
+}
+
+fn zigzag(alloc: Global, edges: usize) -> Result<Vec<Point>> {
+    let mut contour = Vec::new(alloc);
+    let teeth = edges as i64 / 2 - 1;
+    for i in 0..teeth {
+        contour.push(IntPoint::new(i, -2 * i))?;
+        contour.push(IntPoint::new(teeth, -2 * i - 1))?;
+    }
+    contour.push(IntPoint::new(teeth + 1, -2 * teeth))?;
+    contour.push(IntPoint::new(teeth + 1, 2))?;
+    Ok(contour)
+}
+
+fn time(rt: &impl CpuClock) -> Result<u128> {
+    Ok(rt.process_cpu_time()?.as_nanos())
+}
+
+fn holes(rt: &(impl CpuClock + Print), alloc: Global, [edges, tree_from, rounds]: [usize; 3]) -> Result<()> {
+    let contours = rectangles(alloc, edges, edges / 8)?;
+    for _ in 0..rounds {
+        let start = time(rt)?;
+        let mut scan = EitherScan::for_count(alloc, contours.len() / 2, tree_from);
+        let found = bind_contours(alloc, &mut scan, &contours, ContourDirection::CounterClockwise)?;
+        let took = time(rt)? - start;
+        let sum = found.iter().enumerate().map(|(i, n)| i * n.unwrap_or(0)).sum::<usize>();
+        println!(rt; "{took} {sum}")?;
+    }
+    Ok(())
+}
+
+fn points(rt: &(impl CpuClock + Print), alloc: Global, [edges, tree_from, rounds]: [usize; 3]) -> Result<()> {
+    let contour = zigzag(alloc, edges)?;
+    let x = edges as i64 / 2 - 2;
+    let points = [IntPoint::new(x, 1), IntPoint::new(x, -1), contour[1]];
+    for _ in 0..rounds {
+        let start = time(rt)?;
+        let found = locate_in_contour(alloc, &contour, &points, tree_from)?;
+        let took = time(rt)? - start;
+        println!(rt; "{took} {found:?}")?;
+    }
+    Ok(())
+}
+
+fn fills(
+    rt: &(impl CpuClock + Print),
+    alloc: Global,
+    [edges, tree_from, rounds]: [usize; 3],
+    width: usize,
+) -> Result<()> {
+    let all = edges_of(alloc, &rectangles(alloc, edges, width)?)?;
+    for _ in 0..rounds {
+        let start = time(rt)?;
+        let found = fills_with_trees_from(alloc, &all, FillRule::NonZero, tree_from)?;
+        let took = time(rt)? - start;
+        let sum = found.iter().enumerate().map(|(i, n)| i * usize::from(*n)).sum::<usize>();
+        println!(rt; "{took} {sum}")?;
+    }
+    Ok(())
+}
+
+fn number(words: &mut impl Iterator<Item = String>) -> Result<usize> {
+    let Some(word) = words.next() else { bail!("KIND EDGES TREE_FROM ROUNDS") };
+    Ok(word.parse::<usize>()?)
+}
+
+fn main(rt: HostRuntime) -> Result<()> {
+    let mut words = env::args(&rt)?;
+    let _ = words.next();
+    while let Some(kind) = words.next() {
+        let asked = [number(&mut words)?, number(&mut words)?, number(&mut words)?];
+        match kind.as_str() {
+            "holes" => holes(&rt, rt.alloc(), asked)?,
+            "points" => points(&rt, rt.alloc(), asked)?,
+            "apart" => fills(&rt, rt.alloc(), asked, 1)?,
+            _ => fills(&rt, rt.alloc(), asked, asked[0] / 8)?,
+        }
+    }
+    Ok(())
+}
+"""
+
+CLANG = """\
+#!/bin/sh
+for word in "$@"; do case "$word" in *.bc) cp "$word" "{module}";; esac; done
+exec "{clang}" "$@"
+"""
+FLAGS = ("--target=x86_64-unknown-linux-gnu", "--no-default-config", "-march=x86-64", "-fPIE", "-x", "ir")
+TO_TEXT = ("-S", "-emit-llvm", "-Xclang", "-disable-llvm-passes")
+# What a checked module has more than a proved one: traps, and a pattern in memory that is not written yet.
+CHECK = re.compile(r"^  call void @llvm\.(trap\(\)|memset\.p0\.i64\(ptr %\w+, i8 -86,).*\n", re.M)
+
+
+# ---- the program
+
+
+def crate_lines():
+    """The lines of crates.txt that the program needs, by the names of the crates."""
+    lines = [line.split(":") for line in (ROOT / "crates.txt").read_text().splitlines() if not line.startswith("#")]
+    return {name: uses for name, uses in lines if name in USES.split()}
+
+
+def make_repository(folder):
+    """A repository of the crates, and of the program."""
+    lines = crate_lines()
+    for name in lines:
+        shutil.copytree(ROOT / "crates" / name, folder / "crates" / name, ignore=shutil.ignore_patterns("out"))
+    lines[NAME] = f" {USES} anyhow"
+    (folder / "crates.txt").write_text("".join(f"{name}:{uses}\n" for name, uses in lines.items()))
+    source = folder / "crates" / NAME / "src"
+    source.mkdir(parents=True)
+    (source / "main.rt").write_text(DRIVER)
+
+
+def link_all(source, target, *others):
+    """A folder of links to what another one holds, but for the names of `others`."""
+    target.mkdir()
+    for each in source.iterdir():
+        if each.name not in others:
+            (target / each.name).symlink_to(each)
+
+
+def make_kit(kit, folder, module):
+    """A kit of links, whose clang leaves a copy of the last module that it is given."""
+    link_all(kit, folder, "bin", "toolchain")
+    link_all(kit / "bin", folder / "bin", "rt", "rtlib.py")
+    for name in ("rt", "rtlib.py"):
+        shutil.copy(kit / "bin" / name, folder / "bin" / name)
+    link_all(kit / "toolchain", folder / "toolchain", "bin")
+    link_all(kit / "toolchain/bin", folder / "toolchain/bin", "clang")
+    clang = folder / "toolchain/bin/clang"
+    clang.write_text(CLANG.format(module=module, clang=kit / "toolchain/bin/clang"))
+    clang.chmod(0o755)
+
+
+def answer_of(words, **how):
+    """What a command writes; it must end with status 0."""
+    ran = subprocess.run([str(word) for word in words], capture_output=True, text=True, **how)
+    if ran.returncode != 0:
+        raise SystemExit(f"{words[0]}: status {ran.returncode}\n{ran.stdout}{ran.stderr}".strip())
+    return ran.stdout
+
+
+def compile_module(kit, module, program):
+    """Compiles a module without its checks, and links it."""
+    text, machine = module.with_suffix(".ll"), module.with_suffix(".o")
+    clang = kit / "toolchain/bin/clang"
+    answer_of([clang, *FLAGS, *TO_TEXT, module, "-o", text])
+    free, count = CHECK.subn("", text.read_text())
+    if count == 0:
+        raise SystemExit("the module has no checks of the kind that is dropped")
+    text.write_text(free)
+    answer_of([clang, *FLAGS, "-O3", "-c", text, "-o", machine])
+    answer_of(["cc", machine, kit / "c" / "libos_c.a", kit / "c" / "liblibc_c.a", "-o", program])
+
+
+def build(folder, program):
+    """Builds the program in an empty folder, and runs it on small inputs with checks first."""
+    kit = Path(shutil.which("rt") or "rt").resolve().parent.parent
+    module = folder / "module.bc"
+    make_kit(kit, folder / "kit", module)
+    make_repository(folder / "repository")
+    place = folder / "repository" / "crates" / NAME
+    answer_of([folder / "kit" / "bin" / "rt", "try", "--", *SMALL], cwd=place, stdin=subprocess.DEVNULL)
+    compile_module(kit, module, program)
+
+
+# ---- the table
+
+
+def least(program, kind, edges, runs):
+    """The least time of each kind of live edges, in milliseconds; all runs must give one answer."""
+    rounds = max(1, EDGES_OF_A_RUN // edges)
+    times, answers = {name: [] for name in LIMITS}, set()
+    for _ in range(runs):
+        for name, limit in LIMITS.items():
+            for line in answer_of([program, kind, edges, limit, rounds]).splitlines():
+                took, answer = line.split(" ", 1)
+                times[name].append(int(took) / 1e6)
+                answers.add(answer)
+    if len(answers) != 1:
+        raise SystemExit(f"{kind} of {edges} edges: a list and a tree differ: {answers}")
+    return [min(taken) for taken in times.values()]
+
+
+def row(cells):
+    """A row of a table in Markdown."""
+    return "| " + " | ".join(cells) + " |"
+
+
+def figure(milliseconds):
+    """A time, with three digits or so."""
+    digits = 4 if milliseconds < 1 else 2 if milliseconds < 100 else 0
+    return f"{milliseconds:.{digits}f}"
+
+
+def print_table(program, kind, sizes, runs):
+    """Prints the table of a kind, each row as soon as it is known."""
+    print(f"{KINDS[kind]}\n\n{row(COLUMNS)}\n{row('---' for _ in COLUMNS)}", flush=True)
+    for edges in sizes:
+        times = least(program, kind, edges, runs)
+        print(row([f"{edges:,}", *map(figure, times)]), flush=True)
+    print()
+
+
+def read_options():
+    """The options of the command line."""
+    parser = argparse.ArgumentParser(description=__doc__, formatter_class=argparse.RawDescriptionHelpFormatter)
+    parser.add_argument("--edges", type=int, nargs="+", default=[100, 1000, 10000, 100000])
+    parser.add_argument("--runs", type=int, default=5, metavar="N", help="so many runs of each")
+    parser.add_argument("--only", nargs="+", choices=KINDS, default=list(KINDS), metavar="KIND")
+    parser.add_argument("--write", type=Path, metavar="PROGRAM", help="leave the program here")
+    parser.add_argument("--program", type=Path, help="time a program that --write left")
+    options = parser.parse_args()
+    if min(options.edges) < 16 or options.runs < 1:
+        parser.error("at least 16 edges, and one run")
+    return options
+
+
+def main():
+    options = read_options()
+    with tempfile.TemporaryDirectory() as name:
+        folder = Path(name)
+        program = (options.program or options.write or folder / NAME).resolve()
+        if options.program is None:
+            build(folder, program)
+        for kind in options.only:
+            print_table(program, kind, options.edges, options.runs)
+
+
+if __name__ == "__main__":
+    main()

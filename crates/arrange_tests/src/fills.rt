@@ -1,0 +1,60 @@
+//! The filled sides of edges, where live ones are kept in trees alone and in lists alone.
+
+use crate::edges::{Held, edge, with_edges};
+use overlay_arrange::fill::fills_with_trees_from;
+use overlay_arrange::fill_rule::FillRule;
+use overlay_arrange::vector::{SUBJ_LEFT, SUBJ_RIGHT, SideFill};
+use overlay_geom::error::OverlayError;
+use overlay_geom::number::IntNumber;
+use std::alloc::Global;
+use std::process::Abort;
+use std::test::Fail;
+
+// Whether the edges of an arrangement have these filled sides, in order.
+fn check<I: IntNumber>(
+    rt: &impl Abort,
+    alloc: Global,
+    mut content: Held<I>,
+    wanted: &[SideFill],
+) -> Result<(), OverlayError> {
+    content.arrange(&mut ())?;
+    for tree_from in [0, usize::MAX] {
+        let fills = fills_with_trees_from(alloc, content.edges(), FillRule::NonZero, tree_from)?;
+        assert!(rt; &fills[..] == wanted);
+    }
+    Ok(())
+}
+
+// Twice round a square, whose inner sides are filled; and one edge alone, whose counts are not balanced and whose left
+// side is filled.
+fn rows<I: IntNumber>(
+    rt: &impl Abort,
+    alloc: Global,
+    zero: I,
+    one: I,
+    two: I,
+) -> Result<(), OverlayError> {
+    let square = [
+        edge(zero, zero, two, zero, 2),
+        edge(two, zero, two, two, 2),
+        edge(zero, two, two, two, -2),
+        edge(zero, zero, zero, two, -2),
+    ];
+    let held = with_edges(rt, alloc, &square)?;
+    check(
+        rt,
+        alloc,
+        held,
+        &[SUBJ_RIGHT, SUBJ_LEFT, SUBJ_RIGHT, SUBJ_LEFT],
+    )?;
+    let alone = with_edges(rt, alloc, &[edge(zero, zero, two, one, 1)])?;
+    check(rt, alloc, alone, &[SUBJ_LEFT])
+}
+
+#[test]
+fn fills_of_either_kind(rt: HostRuntime) -> Result<(), Fail> {
+    rows(&rt, rt.alloc(), 0i16, 1, 2)?;
+    rows(&rt, rt.alloc(), 0i32, 1, 2)?;
+    rows(&rt, rt.alloc(), 0i64, 1, 2)?;
+    Ok(())
+}
