@@ -1,8 +1,9 @@
 -- The paths that pieces of strings are joined to. The pieces stand in the order of their edges, of one edge the piece
 -- from its smaller end first.
 use Rattle.std.specs.Prelude.{◌≡◌, ◌≢◌, ℕ, true, false, List, [], ◌∷◌, ◌++◌, map, All, Result, OnOk, IfOk, IfErr}
-use Rattle.overlay_geom.specs.Edges.{CountedEdge}
+use Rattle.overlay_geom.specs.Edges.{CountedEdge, ends_of}
 use Rattle.overlay_geom.specs.Plane.{Point, Step, is_forward, reversed_step, backward}
+use Rattle.overlay_plane.specs.EdgeLists.{IsForwardBy}
 use Rattle.overlay_arrange.specs.Arranged.{IsArranged}
 use Rattle.overlay_arrange.specs.declared.fill_rule.FillRule.{FillRule}
 use Rattle.overlay_string.specs.ClipPieces.{clip_pieces}
@@ -53,9 +54,10 @@ pub record ArePathsOf (pieces : List Step) (paths : List (List Point)) : Type 0 
   pub shown : paths ≡ map points_along walks
 
 -- the paths are those of the pieces that a clip keeps in an arrangement of the edges, with so many cutting rounds at
--- most
+-- most; its edges lead forward
 pub record AreClipped (most : ℕ) (fill : FillRule) (rule : ClipRule) (es : List CountedEdge)
     (paths : List (List Point)) : Type 0 where
   pub arrangement : List CountedEdge
   pub arranged : IsArranged most es arrangement
+  pub forward : IsForwardBy ends_of arrangement
   pub paths_of : ArePathsOf (clip_pieces fill rule arrangement) paths

@@ -26,6 +26,7 @@ returns-clause-clipped g c =
       arrangement = arrangement;
       arranged = subst (λ b. IsArranged 64 b.edges arrangement) c.self.view_is
           c.in_ok-arrange.ensures.query.arranged;
+      forward = λ k d lt. (c.in_ok-arrange.ensures.query.content.held k d lt).forward;
       paths_of = subst (λ es. ArePathsOf (clip_pieces c.args.fill_rule rule (edges_in es)) (paths_of_shape whole v.items))
           c.content.ensures.edges
           (subst (λ (h : Graph ShapeCountString). ArePathsOf (clip_pieces h.fill_rule rule (graph_edges h))
