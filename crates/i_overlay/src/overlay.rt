@@ -221,7 +221,10 @@ impl<I: OverlayInt, A: Allocator + Clone> Overlay<I, A> {
         ensures err { IsOkUnless result OverlayError.Memory }
     {
         let graph = self.graph_filled_by(fill_rule)?;
-        let mut buffer = taken(&mut self.boolean_buffer, graph.allocator())?;
+        let mut buffer = BooleanExtractionBuffer::taken_from(
+            &mut self.boolean_buffer,
+            graph.allocator(),
+        )?;
         let shapes = extract_shapes(&graph, overlay_rule, self.options, &mut buffer);
         self.boolean_buffer = Some(buffer);
         shapes
@@ -251,7 +254,10 @@ impl<I: OverlayInt, A: Allocator + Clone> Overlay<I, A> {
         ensures err { IsOkUnless result OverlayError.Memory }
     {
         let graph = self.graph_filled_by(fill_rule)?;
-        let mut buffer = taken(&mut self.boolean_buffer, graph.allocator())?;
+        let mut buffer = BooleanExtractionBuffer::taken_from(
+            &mut self.boolean_buffer,
+            graph.allocator(),
+        )?;
         let written = extract_contours(&graph, overlay_rule, self.options, &mut buffer, output);
         self.boolean_buffer = Some(buffer);
         written
@@ -269,18 +275,5 @@ impl<I: OverlayInt, A: Allocator + Clone> Overlay<I, A> {
         ensures err { IsOkUnless result OverlayError.Memory }
     {
         self.core.content().graph(fill_rule)
-    }
-}
-
-// The buffer that was there, or an empty one. The only refusal is `Memory`.
-fn taken<I: OverlayInt, A: Allocator + Clone>(
-    buffer: &mut Option<BooleanExtractionBuffer<I, A>>,
-    alloc: &A,
-) -> Result<BooleanExtractionBuffer<I, A>, OverlayError>
-    ensures { IsOkUnless result OverlayError.Memory }
-{
-    match buffer.take() {
-        Some(buffer) => Ok(buffer),
-        None => Ok(BooleanExtractionBuffer::default(alloc.clone()?)),
     }
 }

@@ -1,8 +1,9 @@
 //! Room that extractions use again.
 
-ghost use Rattle.std.specs.Prelude.{◌≡◌, []};
+ghost use Rattle.std.specs.Prelude.{◌≡◌, [], None, IsOkUnless};
 
 use crate::step::Step;
+use overlay_geom::error::OverlayError;
 use overlay_geom::number::IntNumber;
 use std::alloc::Allocator;
 use std::marker::Model;
@@ -44,5 +45,19 @@ impl<I: IntNumber, A: Allocator> BooleanExtractionBuffer<I, A> {
     pub fn put_room(&mut self, mut room: Vec<Step<I>, A>) {
         room.clear();
         self.room = room;
+    }
+}
+
+impl<I: IntNumber, A: Allocator + Clone> BooleanExtractionBuffer<I, A> {
+    /// Takes the buffer that is there, or makes an empty one. None is there afterwards. The only refusal is `Memory`,
+    /// of a clone of the allocator.
+    pub fn taken_from(slot: &mut Option<Self>, alloc: &A) -> Result<Self, OverlayError>
+        ensures none { slot.new ≡ None }
+        ensures err { IsOkUnless result OverlayError.Memory }
+    {
+        match slot.take() {
+            Some(buffer) => Ok(buffer),
+            None => Ok(BooleanExtractionBuffer::default(alloc.clone()?)),
+        }
     }
 }

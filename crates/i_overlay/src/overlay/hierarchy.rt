@@ -13,12 +13,13 @@ ghost use Rattle.overlay_geom.specs.Settled.{IsSettled};
 ghost use Rattle.overlay_plane.specs.Meetings.{MeetInWholePoints};
 ghost use Rattle.i_overlay.specs.Builder.{held_by};
 
-use crate::overlay::{Overlay, taken};
+use crate::overlay::Overlay;
 use overlay_arrange::fill_rule::FillRule;
 use overlay_arrange::overlay_rule::OverlayRule;
 use overlay_extract::hierarchy::{FlatShapeHierarchy, extract_shape_hierarchy};
 use overlay_geom::error::OverlayError;
 use overlay_geom::integer::OverlayInt;
+use overlay_walk::buffer::BooleanExtractionBuffer;
 use std::alloc::Allocator;
 
 impl<I: OverlayInt, A: Allocator + Clone> Overlay<I, A> {
@@ -80,7 +81,10 @@ impl<I: OverlayInt, A: Allocator + Clone> Overlay<I, A> {
         ensures err { IsOkUnless result OverlayError.Memory }
     {
         let graph = self.graph_filled_by(fill_rule)?;
-        let mut buffer = taken(&mut self.boolean_buffer, graph.allocator())?;
+        let mut buffer = BooleanExtractionBuffer::taken_from(
+            &mut self.boolean_buffer,
+            graph.allocator(),
+        )?;
         let hierarchy = extract_shape_hierarchy(&graph, overlay_rule, self.options, &mut buffer);
         self.boolean_buffer = Some(buffer);
         hierarchy

@@ -11,13 +11,14 @@ ghost use Rattle.overlay_vector.specs.VectorShapes.{plain_vector_shapes};
 ghost use Rattle.i_overlay.specs.Builder.{held_by};
 ghost use Rattle.i_overlay.specs.ShapeVectors.{AreShapeVectors};
 
-use crate::overlay::{Overlay, taken};
+use crate::overlay::Overlay;
 use overlay_arrange::fill_rule::FillRule;
 use overlay_arrange::overlay_rule::OverlayRule;
 use overlay_geom::error::OverlayError;
 use overlay_geom::integer::OverlayInt;
 use overlay_vector::path::VectorShape;
 use overlay_vector::vector_shapes::vector_shapes;
+use overlay_walk::buffer::BooleanExtractionBuffer;
 use std::alloc::Allocator;
 
 impl<I: OverlayInt, A: Allocator + Clone> Overlay<I, A> {
@@ -73,7 +74,10 @@ impl<I: OverlayInt, A: Allocator + Clone> Overlay<I, A> {
         ensures err { IsOkUnless result OverlayError.Memory }
     {
         let graph = self.graph_filled_by(fill_rule)?;
-        let mut buffer = taken(&mut self.boolean_buffer, graph.allocator())?;
+        let mut buffer = BooleanExtractionBuffer::taken_from(
+            &mut self.boolean_buffer,
+            graph.allocator(),
+        )?;
         let shapes = vector_shapes(&graph, overlay_rule, self.options, &mut buffer, &mut ());
         self.boolean_buffer = Some(buffer);
         shapes

@@ -89,7 +89,10 @@ impl<I: OverlayInt, D: OverlayEdgeData, A: Allocator + Clone> EdgeOverlay<I, D, 
         ensures err { IsOkUnless result OverlayError.Memory }
     {
         let graph = self.core.content().graph(fill_rule)?;
-        let mut buffer = taken(&mut self.boolean_buffer, graph.allocator())?;
+        let mut buffer = BooleanExtractionBuffer::taken_from(
+            &mut self.boolean_buffer,
+            graph.allocator(),
+        )?;
         let shapes = vector_shapes(
             &graph,
             overlay_rule,
@@ -99,18 +102,5 @@ impl<I: OverlayInt, D: OverlayEdgeData, A: Allocator + Clone> EdgeOverlay<I, D, 
         );
         self.boolean_buffer = Some(buffer);
         shapes
-    }
-}
-
-// The buffer that was there, or an empty one. The only refusal is `Memory`.
-fn taken<I: OverlayInt, A: Allocator + Clone>(
-    buffer: &mut Option<BooleanExtractionBuffer<I, A>>,
-    alloc: &A,
-) -> Result<BooleanExtractionBuffer<I, A>, OverlayError>
-    ensures { IsOkUnless result OverlayError.Memory }
-{
-    match buffer.take() {
-        Some(buffer) => Ok(buffer),
-        None => Ok(BooleanExtractionBuffer::default(alloc.clone()?)),
     }
 }
