@@ -7,10 +7,10 @@ use Rattle.overlay_geom.specs.Edges.{CountedEdge}
 use Rattle.overlay_plane.specs.Carried.{Carried, edges_in}
 use Rattle.overlay_arrange.specs.Arranged.{IsArranged}
 use Rattle.overlay_arrange.specs.declared.fill_rule.FillRule.{FillRule}
-use Rattle.overlay_builder.specs.Held.{AnswersQuery}
+use Rattle.overlay_builder.specs.Held.{AnswersQuery, shown_edges}
 use Rattle.overlay_builder.proofs.Queries.{answers_after}
 use Rattle.i_overlay.specs.Builder.{Builder, held_by}
-use Rattle.i_overlay.specs.Views.{Viewed, IsView, EndsViewed, edges_shown, viewed_edges}
+use Rattle.i_overlay.specs.Views.{Viewed, IsView, EndsViewed, viewed_edges}
 
 -- a list of edges that have been read has one exactly where as many were read
 pub some_read : {X C : Type 0} (carried : X → Carried C) (read : List X) (es : List (Carried C)) → map carried read ≡ es
@@ -41,7 +41,7 @@ module _ {C U : Type 0} (limit most : ℕ) (old new : Builder U) (seen : Viewed 
 
   -- and once the view has ended, the builder is as after any query
   pub ends_viewed : {V : Type 0} {edges_of : V → List CountedEdge} {shown : Option V} {later : Builder U} → later ≡ new
-      → edges_shown edges_of shown ≡ new.edges → new ≡ record old { edges = new.edges; failed = new.failed }
+      → shown_edges edges_of shown ≡ new.edges → new ≡ record old { edges = new.edges; failed = new.failed }
       → EndsViewed limit most edges_of old later (Ok shown)
   ends_viewed {edges_of = edges_of} {shown = shown} is are kept =
       subst (λ b. EndsViewed limit most edges_of old b (Ok shown)) (sym is) (record {

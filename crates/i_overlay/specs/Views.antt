@@ -1,5 +1,5 @@
 -- What a view shows of a builder, and what making it leaves of the builder.
-use Rattle.std.specs.Prelude.{◌≡◌, ◌≢◌, ℕ, List, [], Option, Some, None, Result, IfOk, IsErrOf}
+use Rattle.std.specs.Prelude.{◌≡◌, ◌≢◌, ℕ, List, [], Option, Result, IfOk, IsErrOf}
 use Rattle.overlay_geom.specs.Edges.{CountedEdge}
 use Rattle.overlay_geom.specs.declared.error.OverlayError.{OverlayError}
 use Rattle.overlay_geom.specs.declared.error.OverlayError.TheVariants.{Failed}
@@ -7,13 +7,8 @@ use Rattle.overlay_arrange.specs.Arranged.{IsArranged}
 use Rattle.overlay_arrange.specs.Graphs.{Graph, graph_edges}
 use Rattle.overlay_arrange.specs.declared.fill_rule.FillRule.{FillRule}
 use Rattle.overlay_arrange.specs.declared.options.IntOverlayOptions.{IntOverlayOptions}
-use Rattle.overlay_builder.specs.Held.{AnswersQuery}
+use Rattle.overlay_builder.specs.Held.{AnswersQuery, shown_edges}
 use Rattle.i_overlay.specs.Builder.{Builder, held_by}
-
--- the edges that an answer shows: those of the view, and none where there is no view
-abbrev pub edges_shown : {V : Type 0} → (V → List CountedEdge) → Option V → List CountedEdge
-edges_shown edges_of None = []
-edges_shown edges_of (Some v) = edges_of v
 
 -- what a view shows: a graph, and the options by which contours are extracted from it
 pub record Viewed (C U : Type 0) : Type 0 where
@@ -36,6 +31,6 @@ pub record IsView {C U : Type 0} (most : ℕ) (rule : FillRule) (options : IntOv
 pub record EndsViewed {V U : Type 0} (limit most : ℕ) (edges_of : V → List CountedEdge) (old new : Builder U)
     (result : Result (Option V) OverlayError) : Type 0 where
   pub query : AnswersQuery limit most (held_by old) (held_by new) result
-  pub shown : IfOk result (λ o. edges_shown edges_of o ≡ new.edges)
+  pub shown : IfOk result (λ o. shown_edges edges_of o ≡ new.edges)
   pub kept : new ≡ record old { edges = new.edges; failed = new.failed }
   pub untouched : IsErrOf result Failed → new ≡ old

@@ -1,5 +1,6 @@
 -- What contracts see of the core of a builder.
-use Rattle.std.specs.Prelude.{◌≡◌, ◌↔◌, ◌⊎◌, ℕ, Bool, true, false, List, [], map, Result, IfErr, IsErrOf, OnOk}
+use Rattle.std.specs.Prelude.{◌≡◌, ◌↔◌, ◌⊎◌, ℕ, Bool, true, false, List, [], map, Option, Some, None}
+use Rattle.std.specs.Prelude.{Result, IfErr, IsErrOf, OnOk}
 use Rattle.overlay_geom.specs.Edges.{CountedEdge}
 use Rattle.overlay_geom.specs.declared.error.OverlayError.{OverlayError}
 use Rattle.overlay_geom.specs.declared.error.OverlayError.TheVariants.{Failed}
@@ -34,3 +35,8 @@ pub record AnswersQuery {V : Type 0} (limit most : ℕ) (old new : Held CountedE
   pub untouched : IsErrOf result Failed → new ≡ old
   -- any other refusal is one of bringing the edges into an arrangement
   pub err : IfErr result (λ e. (e ≡ Failed) ⊎ MayRefuseSplitting most old.edges e)
+
+-- the edges that an answer shows: those of the view, and none where there is no view
+abbrev pub shown_edges : {V : Type 0} → (V → List CountedEdge) → Option V → List CountedEdge
+shown_edges edges_of None = []
+shown_edges edges_of (Some v) = edges_of v

@@ -8,10 +8,10 @@ use Rattle.overlay_plane.specs.Carried.{Carried, edges_in}
 use Rattle.overlay_arrange.specs.Arranged.{IsArranged}
 use Rattle.overlay_arrange.specs.Graphs.{Graph, graph_edges}
 use Rattle.overlay_arrange.specs.declared.fill_rule.FillRule.{FillRule}
-use Rattle.overlay_builder.specs.Held.{AnswersQuery}
+use Rattle.overlay_builder.specs.Held.{AnswersQuery, shown_edges}
 use Rattle.overlay_builder.proofs.Queries.{answers_after}
 use Rattle.overlay_string.specs.StringBuilder.{StringBuilder, held_by}
-use Rattle.overlay_string.specs.StringViews.{IsStringView, EndsStringView, shown_edges}
+use Rattle.overlay_string.specs.StringViews.{IsStringView, EndsStringView}
 
 -- a list of edges that have been read has one exactly where as many were read
 pub some_read : {X C : Type 0} (carried : X → Carried C) (read : List X) (es : List (Carried C)) → map carried read ≡ es

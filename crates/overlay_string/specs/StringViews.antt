@@ -1,18 +1,13 @@
 -- What a view shows of a builder for strings, and what making it leaves of the builder.
-use Rattle.std.specs.Prelude.{◌≡◌, ◌≢◌, ℕ, List, [], Option, Some, None, Result, IfOk, IsErrOf}
+use Rattle.std.specs.Prelude.{◌≡◌, ◌≢◌, ℕ, List, [], Option, Result, IfOk, IsErrOf}
 use Rattle.overlay_geom.specs.Edges.{CountedEdge}
 use Rattle.overlay_geom.specs.declared.error.OverlayError.{OverlayError}
 use Rattle.overlay_geom.specs.declared.error.OverlayError.TheVariants.{Failed}
 use Rattle.overlay_arrange.specs.Arranged.{IsArranged}
 use Rattle.overlay_arrange.specs.Graphs.{Graph, graph_edges}
 use Rattle.overlay_arrange.specs.declared.fill_rule.FillRule.{FillRule}
-use Rattle.overlay_builder.specs.Held.{AnswersQuery}
+use Rattle.overlay_builder.specs.Held.{AnswersQuery, shown_edges}
 use Rattle.overlay_string.specs.StringBuilder.{StringBuilder, held_by}
-
--- the edges that an answer shows: those of the view, and none where there is no view
-abbrev pub shown_edges : {V : Type 0} → (V → List CountedEdge) → Option V → List CountedEdge
-shown_edges edges_of None = []
-shown_edges edges_of (Some v) = edges_of v
 
 -- the graph shows an arrangement with some edge, of what a builder held, and the sides that are filled under the rule
 pub record IsStringView {C : Type 0} (most : ℕ) (rule : FillRule) (held : List CountedEdge) (g : Graph C) : Type 0 where

@@ -4,9 +4,9 @@ ghost use Rattle.std.specs.Prelude.{◌≡◌, IfOk, IfSome, IsErrOf};
 ghost use Rattle.std.specs.Borrow.{sem};
 ghost use Rattle.std.specs.Io.BufRead.{Rests};
 ghost use Rattle.overlay_arrange.specs.Arranged.{IsArranged};
-ghost use Rattle.overlay_builder.specs.Held.{AnswersQuery};
+ghost use Rattle.overlay_builder.specs.Held.{AnswersQuery, shown_edges};
 ghost use Rattle.i_overlay.specs.Builder.{held_by};
-ghost use Rattle.i_overlay.specs.Views.{IsView, EndsViewed, edges_shown, viewed_edges};
+ghost use Rattle.i_overlay.specs.Views.{IsView, EndsViewed, viewed_edges};
 ghost use Rattle.i_overlay.specs.contracts.overlay.Overlay.{the_row};
 
 use crate::graph::OverlayGraph;
@@ -30,7 +30,7 @@ impl<I: OverlayInt, A: Allocator + Clone> Overlay<I, A> {
         fill_rule: FillRule,
     ) -> Result<Option<OverlayGraph<'_, I, (), A>>, OverlayError>
         ensures arranged { IfOk result
-            (λ o. IsArranged 64 self.old.edges (edges_shown (λ v. viewed_edges v.viewed.now) o)) }
+            (λ o. IsArranged 64 self.old.edges (shown_edges (λ v. viewed_edges v.viewed.now) o)) }
         ensures view { IfOk result (λ o. IfSome o
             (λ v. IsView 64 fill_rule self.old.options self.old.edges v.viewed.now)) }
         ensures* after { sem 𝓛 (Rests

@@ -6,10 +6,10 @@ ghost use Rattle.std.specs.Io.BufRead.{Rests};
 ghost use Rattle.overlay_geom.specs.Paths.{plain_shapes};
 ghost use Rattle.overlay_arrange.specs.Arranged.{IsArranged, MayRefuseSplitting};
 ghost use Rattle.overlay_arrange.specs.Graphs.{graph_edges};
-ghost use Rattle.overlay_builder.specs.Held.{AnswersQuery};
+ghost use Rattle.overlay_builder.specs.Held.{AnswersQuery, shown_edges};
 ghost use Rattle.overlay_string.specs.StringBuilder.{held_by};
 ghost use Rattle.overlay_string.specs.StringSlices.{AreSliced};
-ghost use Rattle.overlay_string.specs.StringViews.{IsStringView, EndsStringView, shown_edges};
+ghost use Rattle.overlay_string.specs.StringViews.{IsStringView, EndsStringView};
 ghost use Rattle.overlay_string.specs.contracts.string_overlay.StringOverlay.{the_row};
 
 use crate::balanced_graph::BalancedGraph;
