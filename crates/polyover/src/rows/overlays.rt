@@ -163,6 +163,9 @@ fn options_stand_in_any_order(rt: HostRuntime) {
     check_overlay(&rt, SIDE_BY_SIDE, "Subject NonZero keep clockwise", wanted);
 }
 
+// A square of area 4.
+const SMALL_SQUARE: &str = "subject 0 0 2 0 2 2 0 2\n";
+
 // A square of area 36 with a square hole of area 4.
 const FRAME: &str = "subject 0 0 6 0 6 6 0 6\nsubject 2 2 2 4 4 4 4 2\n";
 
@@ -171,6 +174,9 @@ fn contours_below_the_minimum_area_are_left_out(rt: HostRuntime) {
     let square = "shape\n2 4 2 2 4 2 4 4\n";
     check_overlay(&rt, TWO_SQUARES, "Intersect EvenOdd min 4", square);
     check_overlay(&rt, TWO_SQUARES, "Intersect EvenOdd min 5", "");
+    let small = "shape\n0 2 0 0 2 0 2 2\n";
+    check_overlay(&rt, SMALL_SQUARE, "Subject NonZero min 4", small);
+    check_overlay(&rt, SMALL_SQUARE, "Subject NonZero min 5", "");
     let outline = "shape\n0 6 0 0 6 0 6 6\n";
     let both = "shape\n0 6 0 0 6 0 6 6\n2 2 2 4 4 4 4 2\n";
     let rows = [
