@@ -19,6 +19,11 @@ pub mod int {
             pub use overlay_geom::number::IntNumber;
         }
 
+        /// Numbers in which products of coordinates are measured.
+        pub mod wide_int {
+            pub use overlay_geom::number::WideIntNumber;
+        }
+
         /// Unsigned numbers in which areas are measured.
         pub mod uint {
             pub use overlay_geom::number::UIntNumber;

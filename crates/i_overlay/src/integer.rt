@@ -1,4 +1,5 @@
-//! The coordinate types, and the test of their range.
+//! The coordinate types, and the tests that points are in their range and that a contour is resolved.
 
 pub use overlay_geom::integer::OverlayInt;
 pub use overlay_geom::point::in_range;
+pub use overlay_geom::resolved::is_resolved;

@@ -202,6 +202,23 @@ pub(crate) fn check<I: OverlayInt + PartialEq + From<i16>>(
     Ok(())
 }
 
+// Which contours of the hierarchy are which shape's: from the first number up to the second one.
+fn check_ranges<I: OverlayInt + PartialEq + From<i16>>(
+    rt: &impl Abort,
+    alloc: Global,
+    linked: &Linked<'_>,
+    wanted: &[(usize, usize)],
+) -> Result<(), Fail> {
+    let mut overlay = builder_of::<I>(rt, alloc, &linked.row, IntOverlayOptions::default())?;
+    let hierarchy = overlay.overlay_hierarchy(linked.row.rule, linked.row.fill)?;
+    let ranges = &hierarchy.shapes.shape_ranges;
+    assert_eq!(rt; ranges.len(), wanted.len());
+    for (range, (start, end)) in ranges.iter().zip(wanted.iter()) {
+        assert!(rt; range.start == *start && range.end == *end);
+    }
+    Ok(())
+}
+
 fn check_each<I: OverlayInt + PartialEq + From<i16>>(
     rt: &impl Abort,
     alloc: Global,
@@ -214,6 +231,8 @@ fn check_each<I: OverlayInt + PartialEq + From<i16>>(
     check::<I>(rt, alloc, &NEST, IntOverlayOptions::ogc())?;
     check::<I>(rt, alloc, &NEST_CLOCKWISE, clockwise)?;
     check::<I>(rt, alloc, &PAIR, IntOverlayOptions::default())?;
+    check_ranges::<I>(rt, alloc, &NEST, &[(0, 2), (2, 4), (4, 5)])?;
+    check_ranges::<I>(rt, alloc, &PAIR, &[(0, 2), (2, 3), (3, 4)])?;
     check::<I>(rt, alloc, &PAIR_CLOCKWISE, clockwise)?;
     check::<I>(rt, alloc, &TOUCHING, IntOverlayOptions::ogc())?;
     let both = IntOverlayOptions {

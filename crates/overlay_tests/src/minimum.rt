@@ -24,6 +24,24 @@ const NO_CORNER: Row<'static> = Row {
     wanted: &[],
 };
 
+// A square of 4.
+const SMALL: Row<'static> = Row {
+    subj: &[&[(0, 0), (2, 0), (2, 2), (0, 2)]],
+    clip: &[],
+    rule: OverlayRule::Subject,
+    fill: FillRule::NonZero,
+    wanted: &[&[&[(0, 2), (0, 0), (2, 0), (2, 2)]]],
+};
+
+// The same, too small.
+const NO_SMALL: Row<'static> = Row {
+    subj: &[&[(0, 0), (2, 0), (2, 2), (0, 2)]],
+    clip: &[],
+    rule: OverlayRule::Subject,
+    fill: FillRule::NonZero,
+    wanted: &[],
+};
+
 // A square of 36 with a hole of 4.
 const RING: &[Points<'static>] = &[
     &[(0, 0), (6, 0), (6, 6), (0, 6)],
@@ -100,6 +118,8 @@ const LARGE_HOLE: Row<'static> = Row {
 fn minimum_at_i16(rt: HostRuntime) -> Result<(), Fail> {
     check_minimum::<i16>(&rt, rt.alloc(), &CORNER, 4)?;
     check_minimum::<i16>(&rt, rt.alloc(), &NO_CORNER, 5)?;
+    check_minimum::<i16>(&rt, rt.alloc(), &SMALL, 4)?;
+    check_minimum::<i16>(&rt, rt.alloc(), &NO_SMALL, 5)?;
     check_minimum::<i16>(&rt, rt.alloc(), &WITH_HOLE, 4)?;
     check_minimum::<i16>(&rt, rt.alloc(), &WITHOUT_HOLE, 5)?;
     check_minimum::<i16>(&rt, rt.alloc(), &WITHOUT_HOLE, 36)?;
@@ -112,6 +132,8 @@ fn minimum_at_i16(rt: HostRuntime) -> Result<(), Fail> {
 fn minimum_at_i32(rt: HostRuntime) -> Result<(), Fail> {
     check_minimum::<i32>(&rt, rt.alloc(), &CORNER, 4)?;
     check_minimum::<i32>(&rt, rt.alloc(), &NO_CORNER, 5)?;
+    check_minimum::<i32>(&rt, rt.alloc(), &SMALL, 4)?;
+    check_minimum::<i32>(&rt, rt.alloc(), &NO_SMALL, 5)?;
     check_minimum::<i32>(&rt, rt.alloc(), &WITH_HOLE, 4)?;
     check_minimum::<i32>(&rt, rt.alloc(), &WITHOUT_HOLE, 5)?;
     check_minimum::<i32>(&rt, rt.alloc(), &WITHOUT_HOLE, 36)?;
@@ -124,6 +146,8 @@ fn minimum_at_i32(rt: HostRuntime) -> Result<(), Fail> {
 fn minimum_at_i64(rt: HostRuntime) -> Result<(), Fail> {
     check_minimum::<i64>(&rt, rt.alloc(), &CORNER, 4)?;
     check_minimum::<i64>(&rt, rt.alloc(), &NO_CORNER, 5)?;
+    check_minimum::<i64>(&rt, rt.alloc(), &SMALL, 4)?;
+    check_minimum::<i64>(&rt, rt.alloc(), &NO_SMALL, 5)?;
     check_minimum::<i64>(&rt, rt.alloc(), &WITH_HOLE, 4)?;
     check_minimum::<i64>(&rt, rt.alloc(), &WITHOUT_HOLE, 5)?;
     check_minimum::<i64>(&rt, rt.alloc(), &WITHOUT_HOLE, 36)?;

@@ -6,10 +6,11 @@ use i_overlay::error::OverlayError;
 use i_overlay::fill_rule::FillRule;
 use i_overlay::i_float::int::number::int::IntNumber;
 use i_overlay::i_float::int::number::uint::UIntNumber;
+use i_overlay::i_float::int::number::wide_int::WideIntNumber;
 use i_overlay::i_float::int::point::IntPoint;
 use i_overlay::i_float::int::vector::IntVector;
 use i_overlay::i_shape::flat::buffer::{FlatContoursBuffer, FlatShapesBuffer};
-use i_overlay::integer::{OverlayInt, in_range};
+use i_overlay::integer::{OverlayInt, in_range, is_resolved};
 use i_overlay::overlay::{ContourDirection, IntOverlayOptions, ShapeType};
 use i_overlay::overlay_rule::OverlayRule;
 use i_overlay::point_location::{IntPointContainment, PointLocation};
@@ -24,6 +25,7 @@ use i_overlay::vector::edge::{
     SUBJ_RIGHT, SideFill, ToPath, VectorPath, VectorShape,
 };
 use std::alloc::Global;
+use std::process::Abort;
 use std::test::Fail;
 
 // The bits of the sides: above a step from left to right is its left side.
@@ -50,6 +52,11 @@ fn nothing<U: UIntNumber>() -> U {
     U::zero()
 }
 
+// Whether the product is below zero, of any type of the trait's.
+fn is_negative<W: WideIntNumber>(product: W) -> bool {
+    product.sign().is_lt()
+}
+
 // Whether the point is in the coordinate range of its type.
 fn is_usable<I: OverlayInt>(point: IntPoint<I>) -> bool {
     in_range(&[point])
@@ -65,6 +72,26 @@ fn traits_of_numbers(rt: HostRuntime) {
     assert!(&rt; !is_usable(IntPoint::new(16384i16, 0)));
     let cross = IntVector::new(2i32, 3).cross_product(IntVector::new(5, 7));
     assert_eq!(&rt; cross, -1);
+    assert!(&rt; is_negative(cross));
+}
+
+// Whether a contour in range is resolved.
+fn is_clean<I: OverlayInt>(rt: &impl Abort, contour: &[IntPoint<I>]) -> bool {
+    assert!(rt; in_range(contour));
+    is_resolved(contour)
+}
+
+#[test]
+fn tests_of_contours(rt: HostRuntime) {
+    let triangle = [
+        IntPoint::new(0i32, 0),
+        IntPoint::new(10, 0),
+        IntPoint::new(0, 10),
+    ];
+    assert!(&rt; is_clean(&rt, &triangle));
+    let (low, high) = (IntPoint::new(0i32, 0), IntPoint::new(10, 10));
+    let bow = [low, high, IntPoint::new(10, 0), IntPoint::new(0, 10)];
+    assert!(&rt; !is_clean(&rt, &bow));
 }
 
 #[test]

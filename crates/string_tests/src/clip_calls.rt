@@ -227,6 +227,18 @@ fn passes_a_notch<I: OverlayInt + PartialEq + From<i16>>(
     leaves::<I>(rt, alloc, notch, &[(-3, 2), (3, 2)], INSIDE, &[])
 }
 
+// Whether a line that is a side of a square is left with the boundary, and not without it.
+fn lies_on_a_side<I: OverlayInt + PartialEq + From<i16>>(
+    rt: &impl Abort,
+    alloc: Global,
+) -> Result<bool, Fail> {
+    let square: Points<'_> = &[(-1, -1), (1, -1), (1, 1), (-1, 1)];
+    let side: Points<'_> = &[(-1, -1), (1, -1)];
+    let without = leaves::<I>(rt, alloc, square, side, INSIDE, &[])?;
+    let with = leaves::<I>(rt, alloc, square, side, WITH_BOUNDARY, &[side])?;
+    Ok(without && with)
+}
+
 // Lines through the middle of a square, along its side, and through the top of a triangle.
 fn lines<I: OverlayInt + PartialEq + From<i16>>(
     rt: &impl Abort,
@@ -243,6 +255,7 @@ fn lines<I: OverlayInt + PartialEq + From<i16>>(
     assert!(rt; leaves::<I>(rt, alloc, TRIANGLE, UPRIGHT, INSIDE, &[&[(0, 0), (0, 1)]])?);
     assert!(rt; leaves::<I>(rt, alloc, TRIANGLE, UPRIGHT, OUTSIDE, above)?);
     assert!(rt; passes_a_notch::<I>(rt, alloc)?);
+    assert!(rt; lies_on_a_side::<I>(rt, alloc)?);
     assert!(rt;
         leaves::<I>(
             rt,
