@@ -1,9 +1,9 @@
 //! Callers of the library, which are proved by the contracts of its public calls alone.
 #![tactic(auto)]
 
+pub mod all_slices;
 pub mod answered_run;
 pub mod asked_query;
-pub mod chosen_scan;
 pub mod clipped_line;
 pub mod closed_walks;
 pub mod common_shapes;
