@@ -1,5 +1,7 @@
 //! Counts with data on a data type of two colours.
 
+ghost use Rattle.std.specs.Prelude.{⊤};
+
 use overlay_arrange::count::{EdgeCount, ShapeCountBoolean};
 use overlay_arrange::data::{CountWithData, EdgeDataMerge, OverlayEdgeData};
 use overlay_arrange::edge::CountedEdge;
@@ -15,6 +17,8 @@ enum Colour {
 // The store counts the edges of two colours.
 impl OverlayEdgeData for Colour {
     type Store = u8;
+
+    ghost merges = { λ _ _ _ _ _. ⊤ };
 
     fn merge(merge: EdgeDataMerge<ShapeCountBoolean, Colour>, store: &mut u8) -> Colour {
         if merge.lhs_data == merge.rhs_data {

@@ -8,3 +8,4 @@ mod graph;
 mod rounds;
 mod string_count;
 mod tallies;
+mod truncated;

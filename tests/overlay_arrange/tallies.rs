@@ -1,5 +1,7 @@
 //! Data that counts what is done to it, through cutting and merging.
 
+ghost use Rattle.std.specs.Prelude.{⊤};
+
 use overlay_arrange::content::Content;
 use overlay_arrange::count::ShapeCountBoolean;
 use overlay_arrange::data::{CountWithData, EdgeDataMerge, OverlayEdgeData};
@@ -39,6 +41,8 @@ impl Tally {
 
 impl OverlayEdgeData for Tally {
     type Store = Tally;
+
+    ghost merges = { λ _ _ _ _ _. ⊤ };
 
     fn merge(merge: EdgeDataMerge<ShapeCountBoolean, Tally>, store: &mut Tally) -> Tally {
         let one = Tally::of(0, 0, 1);

@@ -103,17 +103,6 @@ fn paths_of_a_resource_are_added_and_arranged(rt: HostRuntime) -> Result<(), Fai
 }
 
 #[test]
-fn the_first_edges_are_left(rt: HostRuntime) -> Result<(), Fail> {
-    let path = path_with_a_straight_point(0i32, 2, 4);
-    let mut content = crate::rounds::with_subject(&rt, rt.alloc(), &path)?;
-    assert!(rt; content.len() == 4);
-    content.truncate(1);
-    assert!(rt; content.len() == 1);
-    assert!(rt; content.edges()[0].b == path[1]);
-    Ok(())
-}
-
-#[test]
 fn a_path_that_weighs_too_much_is_refused(rt: HostRuntime) -> Result<(), Fail> {
     let heavy = ShapeCountBoolean {
         subj: 1073741824,

@@ -7,7 +7,6 @@ use overlay_geom::point::IntPoint;
 use overlay_scan::list::ScanList;
 use overlay_scan::scan::Scan;
 use overlay_tree::tree::ScanTree;
-use std::alloc::Global;
 use std::process::Abort;
 
 // The answer where no edge is found.
@@ -61,21 +60,12 @@ pub(crate) struct Levels<S> {
     scan: S,
     // where the sweep may go on from
     reached: u16,
-    // the heights of the edges that were inserted
-    heights: Vec<u16, Global>,
 }
 
 impl<S> Levels<S> {
     // No edges yet.
-    pub(crate) fn new<I: SmallNumber>(alloc: Global, scan: S) -> Self
-    where
-        S: Scan<I, u16>,
-    {
-        Levels {
-            scan,
-            reached: 0,
-            heights: Vec::new(alloc),
-        }
+    pub(crate) fn new(scan: S) -> Self {
+        Levels { scan, reached: 0 }
     }
 
     // Stops the test unless an edge from x to `end` at a height may come next.
@@ -83,10 +73,9 @@ impl<S> Levels<S> {
         assert!(rt; self.reached <= x);
         assert!(rt; x < end);
         assert!(rt; end <= MOST && height <= MOST);
-        assert!(rt; !self.heights.contains(&height));
     }
 
-    // Inserts the edge from x to `end` at a height. A refusal leaves the heights and the live edges as they were.
+    // Inserts the edge from x to `end` at a height. A refusal leaves the live edges as they were.
     pub(crate) fn insert<I: SmallNumber>(
         &mut self,
         rt: &impl Abort,
@@ -99,11 +88,8 @@ impl<S> Levels<S> {
     {
         self.check_next(rt, x, end, height);
         let line: IntLine<I> = level(x, end, height);
-        self.heights.reserve(1)?;
         self.reached = x;
-        self.scan.insert(line, height, I::small(x))?;
-        self.heights.push_reserved(height);
-        Ok(())
+        self.scan.insert(line, height, I::small(x))
     }
 
     // The height of the highest edge under one from x to `end` at another height.
@@ -135,8 +121,6 @@ impl<S> Levels<S> {
     {
         assert!(rt; self.reached <= x);
         assert!(rt; x <= MOST && height < MOST);
-        assert!(rt; !self.heights.contains(&height));
-        assert!(rt; !self.heights.contains(&(height + 1)));
         let line: IntLine<I> = upright(x, height);
         self.reached = x;
         self.scan.first_less(I::small(x), NONE, line)
@@ -164,7 +148,6 @@ impl<S> Levels<S> {
         S: Scan<I, u16>,
     {
         self.scan.clear();
-        self.heights.clear();
         self.reached = 0;
     }
 }
@@ -226,10 +209,9 @@ fn check_cleared<I: SmallNumber, S: Scan<I, u16>>(
 // Two edges, a third between them that ends before them, and a new beginning.
 fn check_sweep<I: SmallNumber, S: Scan<I, u16> + Drop>(
     rt: &impl Abort,
-    alloc: Global,
     scan: S,
 ) -> Result<(), OverlayError> {
-    let mut levels = Levels::new(alloc, scan);
+    let mut levels = Levels::new(scan);
     check_two_edges(rt, &mut levels)?;
     check_uprights(rt, &mut levels);
     check_third_edge(rt, &mut levels)?;
@@ -240,22 +222,22 @@ fn check_sweep<I: SmallNumber, S: Scan<I, u16> + Drop>(
 #[test]
 fn a_sweep_over_level_edges(rt: HostRuntime) -> Result<(), OverlayError> {
     let list: ScanList<i16, u16, _> = ScanList::default(rt.alloc());
-    check_sweep(&rt, rt.alloc(), list)?;
+    check_sweep(&rt, list)?;
     let list: ScanList<i32, u16, _> = ScanList::default(rt.alloc());
-    check_sweep(&rt, rt.alloc(), list)?;
+    check_sweep(&rt, list)?;
     let list: ScanList<i64, u16, _> = ScanList::default(rt.alloc());
-    check_sweep(&rt, rt.alloc(), list)?;
+    check_sweep(&rt, list)?;
     Ok(())
 }
 
 #[test]
 fn a_sweep_over_level_edges_in_a_tree(rt: HostRuntime) -> Result<(), OverlayError> {
     let tree: ScanTree<i16, u16, _> = ScanTree::default(rt.alloc());
-    check_sweep(&rt, rt.alloc(), tree)?;
+    check_sweep(&rt, tree)?;
     let tree: ScanTree<i32, u16, _> = ScanTree::default(rt.alloc());
-    check_sweep(&rt, rt.alloc(), tree)?;
+    check_sweep(&rt, tree)?;
     let tree: ScanTree<i64, u16, _> = ScanTree::default(rt.alloc());
-    check_sweep(&rt, rt.alloc(), tree)?;
+    check_sweep(&rt, tree)?;
     Ok(())
 }
 
@@ -275,7 +257,7 @@ fn heights_over<I: SmallNumber, S: Scan<I, u16>>(
 #[test]
 fn edges_that_end_at_or_before_x_are_dropped(rt: HostRuntime) -> Result<(), OverlayError> {
     let list: ScanList<i32, u16, _> = ScanList::default(rt.alloc());
-    let mut levels = Levels::new(rt.alloc(), list);
+    let mut levels = Levels::new(list);
     levels.insert(&rt, 0, 3, 0)?;
     levels.insert(&rt, 0, 5, 1)?;
     levels.insert(&rt, 0, 4, 2)?;

@@ -81,8 +81,8 @@ fn compare<I: SmallNumber>(
     let heights = heights_in(alloc, order)?;
     let list: ScanList<I, u16, _> = ScanList::default(alloc);
     let tree: ScanTree<I, u16, _> = ScanTree::default(alloc);
-    let mut list = Levels::new(alloc, list);
-    let mut tree = Levels::new(alloc, tree);
+    let mut list = Levels::new(list);
+    let mut tree = Levels::new(tree);
     check_order(rt, &mut list, &mut tree, &heights, 0, COUNT)
 }
 
@@ -134,8 +134,8 @@ fn is_refused_after<I: SmallNumber>(
     let memory = Refusing::new(alloc, granted);
     let list: ScanList<I, u16, _> = ScanList::default(alloc);
     let tree: ScanTree<I, u16, _> = ScanTree::default(&memory);
-    let mut list = Levels::new(alloc, list);
-    let mut tree = Levels::new(alloc, tree);
+    let mut list = Levels::new(list);
+    let mut tree = Levels::new(tree);
     check_refused(rt, &mut list, &mut tree, &memory, &heights)
 }
 

@@ -1,5 +1,7 @@
 //! Colours as data of edges, and a store that counts what is asked of it.
 
+ghost use Rattle.std.specs.Prelude.{⊤};
+
 use overlay_arrange::count::ShapeCountBoolean;
 use overlay_arrange::data::{EdgeDataMerge, OverlayEdgeData};
 
@@ -27,6 +29,8 @@ pub(crate) struct Calls {
 
 impl OverlayEdgeData for Colour {
     type Store = Calls;
+
+    ghost merges = { λ _ _ _ _ _. ⊤ };
 
     fn merge(merge: EdgeDataMerge<ShapeCountBoolean, Colour>, store: &mut Calls) -> Colour {
         store.merges = store.merges.saturating_add(1);

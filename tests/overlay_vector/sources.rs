@@ -1,5 +1,7 @@
 //! Sets of sources as data of edges, and a store that grants so many unions.
 
+ghost use Rattle.std.specs.Prelude.{⊤};
+
 use overlay_arrange::count::ShapeCountBoolean;
 use overlay_arrange::data::{EdgeDataMerge, OverlayEdgeData};
 
@@ -39,6 +41,8 @@ impl Grants {
 
 impl OverlayEdgeData for Sources {
     type Store = Grants;
+
+    ghost merges = { λ _ _ _ _ _. ⊤ };
 
     fn merge(merge: EdgeDataMerge<ShapeCountBoolean, Sources>, store: &mut Grants) -> Sources {
         if store.take() {
