@@ -89,8 +89,19 @@ pub(crate) fn ask_contour<I: OverlayInt>(
     contour: &IntContour<I, Global>,
     points: &[IntPoint<I>],
 ) -> Result<Answers, Fail> {
+    assert_contour(rt, contour);
+    ask_resolved(rt, alloc, contour, points)
+}
+
+/// Asks a contour that is known to be resolved about the points.
+pub(crate) fn ask_resolved<I: OverlayInt>(
+    rt: &impl Abort,
+    alloc: Global,
+    contour: &IntContour<I, Global>,
+    points: &[IntPoint<I>],
+) -> Result<Answers, Fail> {
     let all = contour.as_slice();
-    assert_contour(rt, all);
+    assert!(rt; in_range(all));
     assert!(rt; in_range(points));
     let inside = contour.contains_points(alloc, points)?;
     let locations = contour.locate_points(alloc, points)?;
