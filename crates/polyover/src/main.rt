@@ -4,8 +4,6 @@
 pub mod engine;
 pub mod exit;
 mod report;
-#[cfg(test)]
-mod rows;
 
 use engine::run;
 use report::{Ending, report};

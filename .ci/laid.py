@@ -1,0 +1,34 @@
+"""The crates, laid into a folder of their own as `rt try` needs them: what `.ci/refused` and `.ci/tests` share."""
+
+import re
+import shutil
+from pathlib import Path
+
+CRATES = Path("crates.txt")
+PARTS = ("src", "specs")
+LINE = re.compile(r"(\w+):((?: +\w+)*) *")
+
+
+def lines_in(file: Path) -> dict[str, list[str]]:
+    """What each name on a line of the file stands on."""
+    texts = [line.partition("#")[0].rstrip() for line in file.read_text().splitlines()]
+    found = {}
+    for text in filter(None, texts):
+        words = LINE.fullmatch(text)
+        if not words or words[1] in found:
+            raise SystemExit(f"{file}: not a line NAME: CRATE .., or a second one of its name: {text}")
+        found[words[1]] = words[2].split()
+    return found
+
+
+def lay_crates(root: Path, more: dict[str, list[str]]) -> None:
+    """Copies the source and the definitions of each crate; crates.txt has a line for each, and for those that are to come."""
+    crates = lines_in(CRATES)
+    for name in crates:
+        for part in PARTS:
+            if Path("crates", name, part).is_dir():
+                shutil.copytree(Path("crates", name, part), root / "crates" / name / part)
+    for name in more:
+        (root / "crates" / name / "src").mkdir(parents=True)
+    lines = [f"{name}: {' '.join(uses)}\n" for name, uses in (crates | more).items()]
+    (root / CRATES).write_text("".join(lines))

@@ -1,0 +1,2 @@
+mod ComputedWalks
+mod TouchingHoles

@@ -1,0 +1,27 @@
+//! The shapes of a simple contour.
+
+ghost use Rattle.overlay_geom.specs.Points.{plain_points, AllInRange};
+
+use overlay_arrange::data::CountWithData;
+use overlay_arrange::fill_rule::FillRule;
+use overlay_arrange::options::ContourDirection;
+use overlay_builder::builder_core::BuilderCore;
+use overlay_geom::error::OverlayError;
+use overlay_geom::path::IntShapes;
+use overlay_geom::point::IntPoint;
+use overlay_simplify::outcome::Outcome;
+use overlay_simplify::shapes::shapes_left;
+use overlay_simplify::simple::outcome_of_contour;
+use std::alloc::Global;
+
+/// The shapes of a contour that is simple; none of one that would have to be cut.
+pub fn shapes_if_simple(
+    core: &mut BuilderCore<i32, CountWithData<()>, Global>,
+    contour: &[IntPoint<i32>],
+) -> Result<IntShapes<i32, Global>, OverlayError>
+    requires { AllInRange 1073741823 (plain_points (λ z. z) contour.now) }
+{
+    let direction = ContourDirection::CounterClockwise;
+    let outcome = outcome_of_contour(core, contour, false, FillRule::NonZero, direction)?;
+    shapes_left(Global, contour, outcome)
+}

@@ -1,0 +1,20 @@
+//! Edges that are split until they are arranged.
+
+ghost use Rattle.std.specs.Prelude.{OnOk};
+ghost use Rattle.overlay_plane.specs.Carried.{edges_in};
+ghost use Rattle.overlay_arrange.specs.Arranged.{IsArranged};
+
+use overlay_arrange::content::Content;
+use overlay_arrange::count::ShapeCountBoolean;
+use overlay_geom::error::OverlayError;
+use std::alloc::Global;
+
+/// Splits the edges, and tells how many there are.
+pub fn split_edges(
+    content: &mut Content<i32, ShapeCountBoolean, Global>,
+) -> Result<usize, OverlayError>
+    ensures { OnOk result (IsArranged 64 (edges_in content.old) (edges_in content.new)) }
+{
+    content.arrange(&mut ())?;
+    Ok(content.edges().len())
+}

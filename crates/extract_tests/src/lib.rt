@@ -1,5 +1,0 @@
-//! Tests of the public calls that extract the contours of a region.
-#![tactic(auto)]
-
-#[cfg(test)]
-mod simplified;

@@ -1,3 +1,0 @@
-mod ComputedWalks
-mod TouchingHoles
-mod TriangleSteps

@@ -1,0 +1,30 @@
+//! Tests of `i_overlay`: the builder and its queries.
+
+mod builder;
+mod builders;
+mod contours;
+mod deprecated;
+mod edges;
+mod failed;
+mod hierarchy;
+mod many;
+mod minimum;
+mod names;
+mod ogc;
+mod one_call;
+mod one_list;
+mod overlays;
+mod paths;
+mod reexports;
+mod relations;
+mod rows;
+mod selected;
+mod settings;
+mod shape_vectors;
+mod shapes;
+mod simplified;
+mod simplify;
+mod sources;
+mod squares;
+mod trees;
+mod views;

@@ -1,0 +1,153 @@
+//! What is asked of overlays and what they are to answer, row by row.
+
+use crate::builders::check_fills;
+use crate::contours::{Points, add_contours, shapes_of};
+use crate::trees::gives_shapes;
+use i_overlay::fill_rule::FillRule;
+use i_overlay::overlay::{ContourDirection, IntOverlayOptions, Overlay, ShapeType};
+use i_overlay::overlay_rule::OverlayRule;
+use i_overlay::solver::Solver;
+use overlay_geom::error::OverlayError;
+use overlay_geom::integer::OverlayInt;
+use std::alloc::Global;
+use std::process::Abort;
+use std::test::Fail;
+
+/// What is asked of an overlay, and the shapes that it is to give.
+#[derive(Drop)]
+pub(crate) struct Row<'a> {
+    /// The contours of the subject.
+    pub(crate) subj: &'a [Points<'a>],
+    /// The contours of the clip.
+    pub(crate) clip: &'a [Points<'a>],
+    /// The overlay rule.
+    pub(crate) rule: OverlayRule,
+    /// The fill rule.
+    pub(crate) fill: FillRule,
+    /// The shapes that the answer has.
+    pub(crate) wanted: &'a [&'a [Points<'a>]],
+}
+
+/// A builder with the row's contours and these options.
+pub(crate) fn builder_of<I: OverlayInt + From<i16>>(
+    rt: &impl Abort,
+    alloc: Global,
+    row: &Row<'_>,
+    options: IntOverlayOptions<I::WideUInt>,
+) -> Result<Overlay<I, Global>, OverlayError> {
+    let mut overlay = Overlay::new_custom(alloc, 0, options, Solver::ABSOLUTE)?;
+    add_contours(rt, alloc, &mut overlay, row.subj, ShapeType::Subject)?;
+    add_contours(rt, alloc, &mut overlay, row.clip, ShapeType::Clip)?;
+    Ok(overlay)
+}
+
+// Whether the builder answers the row's shapes.
+fn answers<I: OverlayInt + PartialEq + From<i16>>(
+    alloc: Global,
+    overlay: &mut Overlay<I, Global>,
+    row: &Row<'_>,
+) -> Result<bool, OverlayError> {
+    let wanted = shapes_of(alloc, row.wanted)?;
+    let shapes = overlay.overlay(row.rule, row.fill)?;
+    Ok(shapes == wanted)
+}
+
+// Whether a builder with the row's contours answers its shapes, and answers them again, and whether they come with
+// trees alone and with lists alone.
+fn holds<I: OverlayInt + PartialEq + From<i16>>(
+    rt: &impl Abort,
+    alloc: Global,
+    row: &Row<'_>,
+    options: IntOverlayOptions<I::WideUInt>,
+) -> Result<bool, OverlayError> {
+    let mut overlay = builder_of(rt, alloc, row, options)?;
+    let first = answers::<I>(alloc, &mut overlay, row) == Ok(true);
+    let again = answers::<I>(alloc, &mut overlay, row) == Ok(true);
+    let by_each = gives_shapes::<I>(rt, alloc, row, options) == Ok(true);
+    Ok(first && again && by_each)
+}
+
+/// Checks the row with the default options.
+pub(crate) fn check<I: OverlayInt + PartialEq + From<i16>>(
+    rt: &impl Abort,
+    alloc: Global,
+    row: &Row<'_>,
+) -> Result<(), Fail> {
+    assert!(rt; holds::<I>(rt, alloc, row, IntOverlayOptions::default())?);
+    Ok(())
+}
+
+/// Checks the row with clockwise output.
+pub(crate) fn check_clockwise<I: OverlayInt + PartialEq + From<i16>>(
+    rt: &impl Abort,
+    alloc: Global,
+    row: &Row<'_>,
+) -> Result<(), Fail> {
+    let clockwise = IntOverlayOptions {
+        output_direction: ContourDirection::Clockwise,
+        ..IntOverlayOptions::default()
+    };
+    assert!(rt; holds::<I>(rt, alloc, row, clockwise)?);
+    Ok(())
+}
+
+/// Checks the row where points on one line stay.
+pub(crate) fn check_kept<I: OverlayInt + PartialEq + From<i16>>(
+    rt: &impl Abort,
+    alloc: Global,
+    row: &Row<'_>,
+) -> Result<(), Fail> {
+    assert!(rt; holds::<I>(rt, alloc, row, IntOverlayOptions::keep_all_points())?);
+    Ok(())
+}
+
+/// Checks the row where no contour visits a point twice.
+pub(crate) fn check_ogc<I: OverlayInt + PartialEq + From<i16>>(
+    rt: &impl Abort,
+    alloc: Global,
+    row: &Row<'_>,
+) -> Result<(), Fail> {
+    assert!(rt; holds::<I>(rt, alloc, row, IntOverlayOptions::ogc())?);
+    Ok(())
+}
+
+/// Checks the row where no contour visits a point twice, with clockwise output.
+pub(crate) fn check_ogc_clockwise<I: OverlayInt + PartialEq + From<i16>>(
+    rt: &impl Abort,
+    alloc: Global,
+    row: &Row<'_>,
+) -> Result<(), Fail> {
+    let clockwise = IntOverlayOptions {
+        output_direction: ContourDirection::Clockwise,
+        ..IntOverlayOptions::ogc()
+    };
+    assert!(rt; holds::<I>(rt, alloc, row, clockwise)?);
+    Ok(())
+}
+
+/// Checks the row with this minimum area.
+pub(crate) fn check_minimum<I: OverlayInt + PartialEq + From<i16>>(
+    rt: &impl Abort,
+    alloc: Global,
+    row: &Row<'_>,
+    min_output_area: I::WideUInt,
+) -> Result<(), Fail> {
+    let options = IntOverlayOptions {
+        min_output_area,
+        ..IntOverlayOptions::default()
+    };
+    assert!(rt; holds::<I>(rt, alloc, row, options)?);
+    Ok(())
+}
+
+/// Checks the fills of the edges of the row's contours.
+pub(crate) fn check_edges<I: OverlayInt + From<i16>>(
+    rt: &impl Abort,
+    alloc: Global,
+    row: &Row<'_>,
+    fills: &[u8],
+) -> Result<(), Fail> {
+    let mut overlay = builder_of::<I>(rt, alloc, row, IntOverlayOptions::default())?;
+    check_fills(rt, &mut overlay, row.fill, fills);
+    Ok(())
+}

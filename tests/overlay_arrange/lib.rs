@@ -1,0 +1,11 @@
+//! Tests of `overlay_arrange`: edges that are merged, cut and filled.
+
+mod cut;
+mod data;
+mod edges;
+mod fills;
+mod graph;
+mod rounds;
+mod string_count;
+mod tallies;
+mod truncated;

@@ -1,0 +1,161 @@
+//! Data that counts what is done to it, through cutting and merging.
+
+ghost use Rattle.std.specs.Prelude.{⊤};
+
+use overlay_arrange::content::Content;
+use overlay_arrange::count::ShapeCountBoolean;
+use overlay_arrange::data::{CountWithData, EdgeDataMerge, OverlayEdgeData};
+use overlay_arrange::edge::{CountedEdge, compare_points};
+use overlay_geom::error::OverlayError;
+use overlay_geom::number::IntNumber;
+use overlay_geom::point::IntPoint;
+use std::alloc::Global;
+use std::process::Abort;
+use std::test::Fail;
+
+// How often data was split, reversed and merged; as a store, how often each was called.
+#[derive(Debug, Clone, Copy, PartialEq, Default)]
+struct Tally {
+    splits: u32,
+    reversals: u32,
+    merges: u32,
+}
+
+impl Tally {
+    fn of(splits: u32, reversals: u32, merges: u32) -> Tally {
+        Tally {
+            splits,
+            reversals,
+            merges,
+        }
+    }
+
+    fn plus(self, other: Tally) -> Tally {
+        Tally {
+            splits: self.splits.saturating_add(other.splits),
+            reversals: self.reversals.saturating_add(other.reversals),
+            merges: self.merges.saturating_add(other.merges),
+        }
+    }
+}
+
+impl OverlayEdgeData for Tally {
+    type Store = Tally;
+
+    ghost merges = { λ _ _ _ _ _. ⊤ };
+
+    fn merge(merge: EdgeDataMerge<ShapeCountBoolean, Tally>, store: &mut Tally) -> Tally {
+        let one = Tally::of(0, 0, 1);
+        *store = store.plus(one);
+        merge.lhs_data.plus(merge.rhs_data).plus(one)
+    }
+
+    fn split(self, store: &mut Tally) -> Tally {
+        let one = Tally::of(1, 0, 0);
+        *store = store.plus(one);
+        self.plus(one)
+    }
+
+    fn reversed(self, store: &mut Tally) -> Tally {
+        let one = Tally::of(0, 1, 0);
+        *store = store.plus(one);
+        self.plus(one)
+    }
+}
+
+// An edge by its two ends, and what its data tallies.
+#[derive(Clone, Copy)]
+struct EdgeTally {
+    ends: [i32; 4],
+    tally: Tally,
+}
+
+// An edge with these ends and this tally.
+fn tallied(ends: [i32; 4], splits: u32, reversals: u32, merges: u32) -> EdgeTally {
+    EdgeTally {
+        ends,
+        tally: Tally::of(splits, reversals, merges),
+    }
+}
+
+// Adds an edge that the subject passes once, with data that tallies nothing.
+fn push<I: IntNumber>(
+    rt: &impl Abort,
+    content: &mut Content<I, CountWithData<Tally>, Global>,
+    a: IntPoint<I>,
+    b: IntPoint<I>,
+) -> Result<(), OverlayError> {
+    assert!(rt; a.x.is_in_range());
+    assert!(rt; a.y.is_in_range());
+    assert!(rt; b.x.is_in_range());
+    assert!(rt; b.y.is_in_range());
+    assert!(rt; compare_points(a, b).is_lt());
+    let count = CountWithData {
+        count: ShapeCountBoolean { subj: 1, clip: 0 },
+        edge_data: Tally::of(0, 0, 0),
+    };
+    content.push(CountedEdge { a, b, count })
+}
+
+// The edges are arranged to the wanted ones, with so many calls.
+fn check(
+    rt: &impl Abort,
+    alloc: Global,
+    edges: &[[i32; 4]],
+    wanted: &[EdgeTally],
+    wanted_calls: Tally,
+) -> Result<(), OverlayError> {
+    let mut content = Content::with_capacity(alloc, 0)?;
+    for ends in edges {
+        let a = IntPoint::new(ends[0], ends[1]);
+        let b = IntPoint::new(ends[2], ends[3]);
+        push(rt, &mut content, a, b)?;
+    }
+    let mut calls = Tally::default();
+    content.arrange(&mut calls)?;
+    assert!(rt; calls == wanted_calls);
+    assert!(rt; content.edges().len() == wanted.len());
+    for (edge, want) in content.edges().iter().zip(wanted) {
+        assert!(rt; [edge.a.x, edge.a.y, edge.b.x, edge.b.y] == want.ends);
+        assert!(rt; edge.count.edge_data == want.tally);
+    }
+    Ok(())
+}
+
+#[test]
+fn a_cut_edge_is_split_for_each_piece_and_one_that_shares_an_end_is_not(
+    rt: HostRuntime,
+) -> Result<(), Fail> {
+    let edges = [[0, 0, 4, 4], [0, 4, 4, 0], [4, 4, 6, 4]];
+    let wanted = [
+        tallied([0, 0, 2, 2], 1, 0, 0),
+        tallied([0, 4, 2, 2], 1, 0, 0),
+        tallied([2, 2, 4, 0], 1, 0, 0),
+        tallied([2, 2, 4, 4], 1, 0, 0),
+        tallied([4, 4, 6, 4], 0, 0, 0),
+    ];
+    check(&rt, rt.alloc(), &edges, &wanted, Tally::of(4, 0, 0))?;
+    Ok(())
+}
+
+#[test]
+fn a_piece_against_its_edge_is_split_and_reversed(rt: HostRuntime) -> Result<(), Fail> {
+    // The steep edge is led through (1, 5), and from there down to (1, 0) against its direction.
+    let edges = [[0, 25, 1, 0], [0, 5, 7, 5]];
+    let wanted = [
+        tallied([0, 5, 1, 5], 1, 0, 0),
+        tallied([0, 25, 1, 5], 1, 0, 0),
+        tallied([1, 0, 1, 5], 1, 1, 0),
+        tallied([1, 5, 7, 5], 1, 0, 0),
+    ];
+    check(&rt, rt.alloc(), &edges, &wanted, Tally::of(4, 1, 0))?;
+    Ok(())
+}
+
+#[test]
+fn three_equal_edges_are_merged_two_by_two(rt: HostRuntime) -> Result<(), Fail> {
+    let edges = [[0, 0, 2, 0], [0, 0, 2, 0], [0, 0, 2, 0]];
+    let wanted = [tallied([0, 0, 2, 0], 0, 0, 2)];
+    check(&rt, rt.alloc(), &edges, &wanted, Tally::of(0, 0, 2))?;
+    Ok(())
+}

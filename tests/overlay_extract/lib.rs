@@ -1,0 +1,3 @@
+//! Tests of `overlay_extract`: the contours of a region.
+
+mod simplified;

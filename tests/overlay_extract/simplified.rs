@@ -1,0 +1,165 @@
+//! The shapes of contours that are simplified, extracted with trees alone and with lists alone, at each coordinate type.
+
+use overlay_arrange::balance::is_balanced;
+use overlay_arrange::content::Content;
+use overlay_arrange::count::ShapeCountBoolean;
+use overlay_arrange::fill_rule::FillRule;
+use overlay_arrange::graph::Graph;
+use overlay_arrange::options::{IntOverlayOptions, ShapeType};
+use overlay_arrange::overlay_rule::OverlayRule;
+use overlay_builder::boolean::passing;
+use overlay_builder::path::{PathKind, add_path};
+use overlay_extract::extract::extract_shapes_with_trees_from;
+use overlay_geom::error::OverlayError;
+use overlay_geom::integer::OverlayInt;
+use overlay_geom::path::{IntContour, IntShapes};
+use overlay_geom::point::{IntPoint, in_range};
+use overlay_walk::buffer::BooleanExtractionBuffer;
+use std::alloc::Global;
+use std::process::Abort;
+use std::test::Fail;
+
+// The limits at which a tree, and a list, is taken whatever the number of shapes.
+const LIMITS: [usize; 2] = [0, usize::MAX];
+
+// Points by their coordinates, small enough for each coordinate type.
+type Points<'a> = &'a [(i16, i16)];
+
+// A square that runs clockwise, and as it is walked.
+const CLOCKWISE: Points<'static> = &[(0, 0), (0, 10), (10, 10), (10, 0)];
+
+const CLOCKWISE_WALKED: Points<'static> = &[(0, 10), (0, 0), (10, 0), (10, 10)];
+
+// A contour with an area of 50 that runs clockwise, and as it is walked.
+const SLIVER: Points<'static> = &[(-100, -100), (0, 0), (101, 100)];
+
+const SLIVER_WALKED: Points<'static> = &[(0, 0), (-100, -100), (101, 100)];
+
+// A contour that visits a point twice, and what is left of it.
+const VISITED_TWICE: Points<'static> = &[(0, 0), (-3, 2), (-3, -2), (0, 0), (-2, 1), (-2, -1)];
+
+const VISITED_ONCE: Points<'static> = &[(-3, 2), (-3, -2), (0, 0)];
+
+// A square with an area of 4, and as it is walked.
+const SMALL: Points<'static> = &[(0, 0), (2, 0), (2, 2), (0, 2)];
+
+const SMALL_WALKED: Points<'static> = &[(0, 2), (0, 0), (2, 0), (2, 2)];
+
+// The contour with these points.
+fn contour_of<I: OverlayInt + From<i16>>(
+    alloc: Global,
+    points: Points<'_>,
+) -> Result<IntContour<I, Global>, OverlayError> {
+    let mut contour = Vec::new(alloc);
+    for point in points {
+        contour.push(IntPoint::new(I::from(point.0), I::from(point.1)))?;
+    }
+    Ok(contour)
+}
+
+// One shape of this contour, or none of no points.
+fn shapes_of<I: OverlayInt + From<i16>>(
+    alloc: Global,
+    points: Points<'_>,
+) -> Result<IntShapes<I, Global>, OverlayError> {
+    let mut shapes = Vec::new(alloc);
+    if !points.is_empty() {
+        let mut shape = Vec::new(alloc);
+        shape.push(contour_of(alloc, points)?)?;
+        shapes.push(shape)?;
+    }
+    Ok(shapes)
+}
+
+// The graph of the contour as the subject, without points on one line, once it is arranged.
+fn graph_of<I: OverlayInt + From<i16>>(
+    rt: &impl Abort,
+    alloc: Global,
+    points: Points<'_>,
+    fill_rule: FillRule,
+) -> Result<Graph<I, ShapeCountBoolean, Global>, OverlayError> {
+    let contour = contour_of(alloc, points)?;
+    assert!(rt; in_range(&contour));
+    let mut content = Content::with_capacity(alloc, 0)?;
+    add_path(
+        &mut content,
+        &contour,
+        PathKind::Thinned,
+        passing(ShapeType::Subject),
+    )?;
+    content.arrange(&mut ())?;
+    assert!(rt; is_balanced(alloc, content.edges())?);
+    content.graph(fill_rule)
+}
+
+// Checks the contour's shape, if it has one, with trees alone and with lists alone.
+fn check<I: OverlayInt + PartialEq + From<i16>>(
+    rt: &impl Abort,
+    alloc: Global,
+    points: Points<'_>,
+    fill_rule: FillRule,
+    options: IntOverlayOptions<I::WideUInt>,
+    wanted: Points<'_>,
+) -> Result<(), OverlayError> {
+    let wanted = shapes_of::<I>(alloc, wanted)?;
+    let graph = graph_of::<I>(rt, alloc, points, fill_rule)?;
+    let mut buffer = BooleanExtractionBuffer::default(alloc);
+    for tree_from in LIMITS {
+        let shapes = extract_shapes_with_trees_from(
+            &graph,
+            OverlayRule::Subject,
+            options,
+            &mut buffer,
+            tree_from,
+        )?;
+        assert!(rt; shapes == wanted);
+    }
+    Ok(())
+}
+
+// The rows with the default options.
+fn check_defaults<I: OverlayInt + PartialEq + From<i16>>(
+    rt: &impl Abort,
+    alloc: Global,
+) -> Result<(), OverlayError> {
+    let options = IntOverlayOptions::default();
+    let rule = FillRule::NonZero;
+    check::<I>(rt, alloc, CLOCKWISE, FillRule::Positive, options, &[])?;
+    let negative = FillRule::Negative;
+    check::<I>(rt, alloc, CLOCKWISE, negative, options, CLOCKWISE_WALKED)?;
+    check::<I>(rt, alloc, &[(0, 0), (1, 1)], rule, options, &[])?;
+    check::<I>(rt, alloc, SLIVER, rule, options, SLIVER_WALKED)?;
+    check::<I>(rt, alloc, VISITED_TWICE, rule, options, VISITED_ONCE)?;
+    check::<I>(rt, alloc, SMALL, rule, options, SMALL_WALKED)
+}
+
+// A square below the minimum area.
+fn check_minimum<I: OverlayInt + PartialEq + From<i16>>(
+    rt: &impl Abort,
+    alloc: Global,
+    min_output_area: I::WideUInt,
+) -> Result<(), OverlayError> {
+    let options = IntOverlayOptions {
+        min_output_area,
+        ..IntOverlayOptions::default()
+    };
+    check::<I>(rt, alloc, SMALL, FillRule::NonZero, options, &[])
+}
+
+#[test]
+fn simplified_at_i16(rt: HostRuntime) -> Result<(), Fail> {
+    check_defaults::<i16>(&rt, rt.alloc())?;
+    Ok(check_minimum::<i16>(&rt, rt.alloc(), 5)?)
+}
+
+#[test]
+fn simplified_at_i32(rt: HostRuntime) -> Result<(), Fail> {
+    check_defaults::<i32>(&rt, rt.alloc())?;
+    Ok(check_minimum::<i32>(&rt, rt.alloc(), 5)?)
+}
+
+#[test]
+fn simplified_at_i64(rt: HostRuntime) -> Result<(), Fail> {
+    check_defaults::<i64>(&rt, rt.alloc())?;
+    Ok(check_minimum::<i64>(&rt, rt.alloc(), 5)?)
+}

@@ -1,0 +1,154 @@
+//! Questions to contours and shapes, which stop the test where a condition does not hold, or where the locations
+//! are others by lists or by trees alone.
+
+use overlay_geom::integer::OverlayInt;
+use overlay_geom::path::{IntContour, IntShape, IntShapes};
+use overlay_geom::point::{IntPoint, in_range};
+use overlay_geom::resolved::is_resolved;
+use overlay_relate::containment::IntPointContainment;
+use overlay_relate::contour::locate_in_contour;
+use overlay_relate::location::PointLocation;
+use overlay_relate::shapes::{locate_in_shape, locate_in_shapes};
+use std::alloc::{Allocator, Global};
+use std::process::Abort;
+use std::test::Fail;
+
+/// What was answered: whether each point is inside, and where it lies.
+#[derive(Drop)]
+pub(crate) struct Answers {
+    pub(crate) inside: Vec<bool, Global>,
+    pub(crate) locations: Vec<PointLocation, Global>,
+}
+
+/// Stops the test where the points are out of range, or the contour is not resolved.
+pub(crate) fn assert_contour<I: OverlayInt>(rt: &impl Abort, contour: &[IntPoint<I>]) {
+    assert!(rt; in_range(contour));
+    assert!(rt; is_resolved(contour));
+}
+
+/// The same for each contour.
+pub(crate) fn assert_shape<I: OverlayInt, A: Allocator>(
+    rt: &impl Abort,
+    contours: &[IntContour<I, A>],
+) {
+    for contour in contours {
+        assert_contour(rt, contour);
+    }
+}
+
+/// The same for each shape.
+pub(crate) fn assert_shapes<I: OverlayInt, A: Allocator>(
+    rt: &impl Abort,
+    shapes: &[IntShape<I, A>],
+) {
+    for shape in shapes {
+        assert_shape(rt, shape);
+    }
+}
+
+// Whether the points lie so in the contour, by trees alone and by lists alone.
+fn are_in_contour<I: OverlayInt>(
+    alloc: Global,
+    contour: &[IntPoint<I>],
+    points: &[IntPoint<I>],
+    locations: &[PointLocation],
+) -> Result<bool, Fail> {
+    let by_trees = locate_in_contour(alloc, contour, points, 0)?;
+    let by_lists = locate_in_contour(alloc, contour, points, usize::MAX)?;
+    Ok(by_trees.as_slice() == locations && by_lists.as_slice() == locations)
+}
+
+// Whether they lie so in the shape.
+fn are_in_shape<I: OverlayInt>(
+    alloc: Global,
+    contours: &[IntContour<I, Global>],
+    points: &[IntPoint<I>],
+    locations: &[PointLocation],
+) -> Result<bool, Fail> {
+    let by_trees = locate_in_shape(alloc, contours, points, 0)?;
+    let by_lists = locate_in_shape(alloc, contours, points, usize::MAX)?;
+    Ok(by_trees.as_slice() == locations && by_lists.as_slice() == locations)
+}
+
+// Whether they lie so among the shapes.
+fn are_in_shapes<I: OverlayInt>(
+    alloc: Global,
+    shapes: &[IntShape<I, Global>],
+    points: &[IntPoint<I>],
+    locations: &[PointLocation],
+) -> Result<bool, Fail> {
+    let by_trees = locate_in_shapes(alloc, shapes, points, 0)?;
+    let by_lists = locate_in_shapes(alloc, shapes, points, usize::MAX)?;
+    Ok(by_trees.as_slice() == locations && by_lists.as_slice() == locations)
+}
+
+/// Asks a contour about the points.
+pub(crate) fn ask_contour<I: OverlayInt>(
+    rt: &impl Abort,
+    alloc: Global,
+    contour: &IntContour<I, Global>,
+    points: &[IntPoint<I>],
+) -> Result<Answers, Fail> {
+    assert_contour(rt, contour);
+    ask_resolved(rt, alloc, contour, points)
+}
+
+/// Asks a contour that is known to be resolved about the points.
+pub(crate) fn ask_resolved<I: OverlayInt>(
+    rt: &impl Abort,
+    alloc: Global,
+    contour: &IntContour<I, Global>,
+    points: &[IntPoint<I>],
+) -> Result<Answers, Fail> {
+    let all = contour.as_slice();
+    assert!(rt; in_range(all));
+    assert!(rt; in_range(points));
+    let inside = contour.contains_points(alloc, points)?;
+    let locations = contour.locate_points(alloc, points)?;
+    assert!(rt; are_in_contour(alloc, all, points, &locations)?);
+    Ok(Answers { inside, locations })
+}
+
+/// Asks a shape about the points.
+pub(crate) fn ask_shape<I: OverlayInt>(
+    rt: &impl Abort,
+    alloc: Global,
+    shape: &IntShape<I, Global>,
+    points: &[IntPoint<I>],
+) -> Result<Answers, Fail> {
+    let all = shape.as_slice();
+    assert_shape(rt, all);
+    assert!(rt; in_range(points));
+    let inside = shape.contains_points(alloc, points)?;
+    let locations = shape.locate_points(alloc, points)?;
+    assert!(rt; are_in_shape(alloc, all, points, &locations)?);
+    Ok(Answers { inside, locations })
+}
+
+/// Asks several shapes about the points.
+pub(crate) fn ask_shapes<I: OverlayInt>(
+    rt: &impl Abort,
+    alloc: Global,
+    shapes: &IntShapes<I, Global>,
+    points: &[IntPoint<I>],
+) -> Result<Answers, Fail> {
+    let all = shapes.as_slice();
+    assert_shapes(rt, all);
+    assert!(rt; in_range(points));
+    let inside = shapes.contains_points(alloc, points)?;
+    let locations = shapes.locate_points(alloc, points)?;
+    assert!(rt; are_in_shapes(alloc, all, points, &locations)?);
+    Ok(Answers { inside, locations })
+}
+
+/// The points with these coordinates.
+pub(crate) fn points<I: OverlayInt + From<i16>>(
+    alloc: Global,
+    coordinates: &[[i16; 2]],
+) -> Result<Vec<IntPoint<I>, Global>, Fail> {
+    let mut points = Vec::new(alloc);
+    for at in coordinates {
+        points.push(IntPoint::new(I::from(at[0]), I::from(at[1])))?;
+    }
+    Ok(points)
+}

@@ -1,0 +1,10 @@
+//! Tests of `overlay_relate`: where points lie in contours and shapes, and builders for predicates.
+
+mod asked;
+mod borders;
+mod built;
+mod many;
+mod predicates;
+mod resolved;
+mod rows;
+mod saw;

@@ -1,0 +1,88 @@
+//! Which of two edges is under the other one, and a list of no edge and of one.
+
+use overlay_geom::error::OverlayError;
+use overlay_geom::path::IntLine;
+use overlay_geom::point::IntPoint;
+use overlay_scan::list::{LiveEdge, ScanList, is_under};
+use overlay_scan::scan::Scan;
+use std::cmp::Ordering;
+
+// An edge from (ax, ay) to (bx, by).
+fn edge<I>(ax: I, ay: I, bx: I, by: I) -> LiveEdge<I, u8> {
+    LiveEdge {
+        a: IntPoint::new(ax, ay),
+        b: IntPoint::new(bx, by),
+        value: 0,
+    }
+}
+
+#[test]
+fn which_edge_is_under_which(rt: HostRuntime) {
+    let low = edge(0i32, 0, 10, 0);
+    let high = edge(2i32, 3, 6, 9);
+    assert!(rt; is_under(&low, &high));
+    assert!(rt; !is_under(&high, &low));
+    assert!(rt; !is_under(&low, &low));
+}
+
+#[test]
+fn which_edge_is_under_which_at_a_shared_start(rt: HostRuntime) {
+    let falling = edge(1i16, 1, 4, -2);
+    let rising = edge(1i16, 1, 3, 2);
+    assert!(rt; is_under(&falling, &rising));
+    assert!(rt; !is_under(&rising, &falling));
+}
+
+#[test]
+fn which_edge_is_under_a_vertical_one(rt: HostRuntime) {
+    let upright = edge(2i32, 3, 2, 9);
+    let from_its_start = edge(2i32, 3, 6, 40);
+    let below_its_start = edge(0i32, 0, 10, 1);
+    let above_its_start = edge(0i32, 4, 10, 4);
+    let through_its_end = edge(0i32, 9, 2, 9);
+    assert!(rt; is_under(&from_its_start, &upright));
+    assert!(rt; is_under(&below_its_start, &upright));
+    assert!(rt; !is_under(&above_its_start, &upright));
+    assert!(rt; !is_under(&through_its_end, &upright));
+    assert!(rt; !is_under(&upright, &upright));
+}
+
+#[test]
+fn which_edge_is_under_which_at_the_ends_of_the_range(rt: HostRuntime) {
+    let level = edge(-4611686018427387903i64, 0, 4611686018427387903, 1);
+    let above = edge(0i64, 1, 1, 4611686018427387903);
+    let below = edge(0i64, 0, 1, -4611686018427387903);
+    assert!(rt; is_under(&level, &above));
+    assert!(rt; is_under(&below, &level));
+    assert!(rt; !is_under(&level, &below));
+}
+
+#[test]
+fn an_empty_list_gives_the_default(rt: HostRuntime) {
+    let mut list: ScanList<i16, u8, _> = ScanList::default(rt.alloc());
+    assert_eq!(rt;
+        list.first_less(0, 7, [IntPoint::new(0, 0), IntPoint::new(1, 0)]),
+        7
+    );
+}
+
+// Looks for any edge at all.
+fn is_reached(_line: IntLine<i64>) -> Ordering {
+    Ordering::Equal
+}
+
+#[test]
+fn one_edge_is_inserted_and_cleared(rt: HostRuntime) -> Result<(), OverlayError> {
+    let mut list: ScanList<i64, u8, _> = ScanList::default(rt.alloc());
+    list.insert([IntPoint::new(0, 0), IntPoint::new(4, 2)], 1, 0)?;
+    assert_eq!(rt;
+        list.first_less_or_equal_by(0, 7, |line: IntLine<i64>| is_reached(line)),
+        1
+    );
+    list.clear();
+    assert_eq!(rt;
+        list.first_less_or_equal_by(0, 7, |line: IntLine<i64>| is_reached(line)),
+        7
+    );
+    Ok(())
+}

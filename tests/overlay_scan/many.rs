@@ -1,0 +1,188 @@
+//! A list and a tree of many edges, put in from below, from above, from both sides by turns and at random.
+
+use crate::levels::{Levels, NONE, SmallNumber};
+use crate::orders::{COUNT, Order, any_gap, any_height, heights_in};
+use overlay_geom::error::OverlayError;
+use overlay_scan::list::ScanList;
+use overlay_scan::scan::Scan;
+use overlay_tree::tree::ScanTree;
+use refusing_alloc::refusing::Refusing;
+use std::alloc::Global;
+use std::process::Abort;
+
+// How many edges are put in after a refusal.
+const LATER: u16 = 100;
+
+// Where the n-th edge starts and ends. They reach to different ends, so that some have ended later on.
+fn span_at(n: u16) -> (u16, u16) {
+    let x = n / 100;
+    (x, x + 1 + n % 89)
+}
+
+// The n-th height, or one that no edge has.
+fn height_at(heights: &[u16], n: u16) -> u16 {
+    match heights.get(usize::from(n)) {
+        Some(height) => *height,
+        None => NONE,
+    }
+}
+
+// What each look-up finds where the n-th edge starts: up to some height, below a level edge and below a vertical one.
+fn answers<I: SmallNumber, S: Scan<I, u16>>(
+    levels: &mut Levels<S>,
+    rt: &impl Abort,
+    n: u16,
+) -> [u16; 3] {
+    let (x, end) = span_at(n);
+    let asked = 3 * u64::from(n);
+    [
+        levels.up_to(rt, x, any_height(asked)),
+        levels.below(rt, x, end, any_gap(asked + 1)),
+        levels.below_upright(rt, x, any_gap(asked + 2)),
+    ]
+}
+
+// Puts the n-th edge into both, and asks both.
+fn put_and_ask<I: SmallNumber, S: Scan<I, u16>, T: Scan<I, u16>>(
+    rt: &impl Abort,
+    list: &mut Levels<S>,
+    tree: &mut Levels<T>,
+    n: u16,
+    height: u16,
+) -> Result<(), OverlayError> {
+    let (x, end) = span_at(n);
+    list.insert(rt, x, end, height)?;
+    tree.insert(rt, x, end, height)?;
+    assert_eq!(rt; answers(list, rt, n), answers(tree, rt, n));
+    Ok(())
+}
+
+// Puts the edges from one to before another into both, and asks both after each.
+fn check_order<I: SmallNumber, S: Scan<I, u16>, T: Scan<I, u16>>(
+    rt: &impl Abort,
+    list: &mut Levels<S>,
+    tree: &mut Levels<T>,
+    heights: &[u16],
+    from: u16,
+    to: u16,
+) -> Result<(), OverlayError> {
+    for n in from..to {
+        put_and_ask(rt, list, tree, n, height_at(heights, n))?;
+    }
+    Ok(())
+}
+
+// All edges in this order in a list and in a tree.
+fn compare<I: SmallNumber>(
+    rt: &impl Abort,
+    alloc: Global,
+    order: Order,
+) -> Result<(), OverlayError> {
+    let heights = heights_in(alloc, order)?;
+    let list: ScanList<I, u16, _> = ScanList::default(alloc);
+    let tree: ScanTree<I, u16, _> = ScanTree::default(alloc);
+    let mut list = Levels::new(list);
+    let mut tree = Levels::new(tree);
+    check_order(rt, &mut list, &mut tree, &heights, 0, COUNT)
+}
+
+// Puts the n-th edge into both. A tree that is refused memory answers as before, and takes the edge once memory is
+// granted again. Returns whether it was refused.
+fn put_again<I: SmallNumber, S: Scan<I, u16>, T: Scan<I, u16>>(
+    rt: &impl Abort,
+    list: &mut Levels<S>,
+    tree: &mut Levels<T>,
+    memory: &Refusing<Global>,
+    n: u16,
+    height: u16,
+) -> Result<bool, OverlayError> {
+    let (x, end) = span_at(n);
+    let is_refused = tree.insert(rt, x, end, height).is_err();
+    if is_refused {
+        assert_eq!(rt; answers(list, rt, n), answers(tree, rt, n));
+        memory.grant(u64::MAX);
+        tree.insert(rt, x, end, height)?;
+    }
+    list.insert(rt, x, end, height)?;
+    Ok(is_refused)
+}
+
+// Puts edges into both until the tree is refused memory, and then some more. Returns whether it was refused.
+fn check_refused<I: SmallNumber, S: Scan<I, u16>, T: Scan<I, u16>>(
+    rt: &impl Abort,
+    list: &mut Levels<S>,
+    tree: &mut Levels<T>,
+    memory: &Refusing<Global>,
+    heights: &[u16],
+) -> Result<bool, OverlayError> {
+    for n in 0..COUNT {
+        if put_again(rt, list, tree, memory, n, height_at(heights, n))? {
+            check_order(rt, list, tree, heights, n + 1, COUNT.min(n + 1 + LATER))?;
+            return Ok(true);
+        }
+    }
+    Ok(false)
+}
+
+// The same, where so many requests of the tree are granted before one is refused.
+fn is_refused_after<I: SmallNumber>(
+    rt: &impl Abort,
+    alloc: Global,
+    granted: u64,
+) -> Result<bool, OverlayError> {
+    let heights = heights_in(alloc, Order::Random)?;
+    let memory = Refusing::new(alloc, granted);
+    let list: ScanList<I, u16, _> = ScanList::default(alloc);
+    let tree: ScanTree<I, u16, _> = ScanTree::default(&memory);
+    let mut list = Levels::new(list);
+    let mut tree = Levels::new(tree);
+    check_refused(rt, &mut list, &mut tree, &memory, &heights)
+}
+
+// Refuses each growth in turn, until none is left.
+fn check_growths<I: SmallNumber>(rt: &impl Abort, alloc: Global) -> Result<(), OverlayError> {
+    let mut last = 0;
+    for granted in 0..64 {
+        if !is_refused_after::<I>(rt, alloc, granted)? {
+            break;
+        }
+        last = granted;
+    }
+    // the nodes grow to twice their number, again and again
+    assert!(rt; 4 < last && last < 63);
+    Ok(())
+}
+
+// An order at each coordinate type.
+fn compare_at_each_type(rt: &impl Abort, alloc: Global, order: Order) -> Result<(), OverlayError> {
+    compare::<i16>(rt, alloc, order)?;
+    compare::<i32>(rt, alloc, order)?;
+    compare::<i64>(rt, alloc, order)
+}
+
+#[test]
+fn each_growth_refused_in_turn(rt: HostRuntime) -> Result<(), OverlayError> {
+    check_growths::<i16>(&rt, rt.alloc())?;
+    check_growths::<i32>(&rt, rt.alloc())?;
+    check_growths::<i64>(&rt, rt.alloc())
+}
+
+#[test]
+fn edges_from_below(rt: HostRuntime) -> Result<(), OverlayError> {
+    compare_at_each_type(&rt, rt.alloc(), Order::Rising)
+}
+
+#[test]
+fn edges_from_above(rt: HostRuntime) -> Result<(), OverlayError> {
+    compare_at_each_type(&rt, rt.alloc(), Order::Falling)
+}
+
+#[test]
+fn edges_from_both_sides(rt: HostRuntime) -> Result<(), OverlayError> {
+    compare_at_each_type(&rt, rt.alloc(), Order::Zigzag)
+}
+
+#[test]
+fn edges_at_random(rt: HostRuntime) -> Result<(), OverlayError> {
+    compare_at_each_type(&rt, rt.alloc(), Order::Random)
+}

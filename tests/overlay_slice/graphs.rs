@@ -1,0 +1,140 @@
+//! Graphs of a shape and of strings over it, from small coordinates.
+
+use overlay_arrange::balance::is_balanced;
+use overlay_arrange::content::Content;
+use overlay_arrange::edge::{CountedEdge, compare_points};
+use overlay_arrange::fill_rule::FillRule;
+use overlay_arrange::graph::Graph;
+use overlay_arrange::string_count::{STRING_AGAINST, STRING_ALONG, ShapeCountString};
+use overlay_geom::error::OverlayError;
+use overlay_geom::number::IntNumber;
+use overlay_geom::path::{IntShape, IntShapes};
+use overlay_geom::point::IntPoint;
+use std::alloc::Global;
+use std::process::Abort;
+
+/// Points by their coordinates, small enough for each coordinate type.
+pub(crate) type Points<'a> = &'a [(i16, i16)];
+
+/// The counts of a step that leads from its edge's smaller end to the larger one, and of one back.
+#[derive(Clone, Copy)]
+struct Counts {
+    along: ShapeCountString,
+    back: ShapeCountString,
+}
+
+/// Those of the shape.
+const OF_SHAPE: Counts = Counts {
+    along: ShapeCountString { subj: 1, clip: 0 },
+    back: ShapeCountString { subj: -1, clip: 0 },
+};
+
+/// Those of a string.
+const OF_STRING: Counts = Counts {
+    along: ShapeCountString {
+        subj: 0,
+        clip: STRING_ALONG,
+    },
+    back: ShapeCountString {
+        subj: 0,
+        clip: STRING_AGAINST,
+    },
+};
+
+/// The point with these coordinates.
+pub(crate) fn point_of<I: IntNumber + From<i16>>(point: (i16, i16)) -> IntPoint<I> {
+    IntPoint::new(I::from(point.0), I::from(point.1))
+}
+
+// Adds the edge, which leads from its smaller to its larger end in the coordinate range.
+fn push_edge<I: IntNumber>(
+    rt: &impl Abort,
+    content: &mut Content<I, ShapeCountString, Global>,
+    a: IntPoint<I>,
+    b: IntPoint<I>,
+    count: ShapeCountString,
+) -> Result<(), OverlayError> {
+    assert!(rt; a.x.is_in_range() && a.y.is_in_range());
+    assert!(rt; b.x.is_in_range() && b.y.is_in_range());
+    assert!(rt; compare_points(a, b).is_lt());
+    assert!(rt; count.subj >= -1 && count.subj <= 1);
+    content.push(CountedEdge { a, b, count })
+}
+
+// Adds the step, with the first of the counts if it leads from its edge's smaller end, and else with the other one.
+fn push<I: IntNumber + From<i16>>(
+    rt: &impl Abort,
+    content: &mut Content<I, ShapeCountString, Global>,
+    from: (i16, i16),
+    to: (i16, i16),
+    counts: Counts,
+) -> Result<(), OverlayError> {
+    let (p, q) = (point_of::<I>(from), point_of::<I>(to));
+    if compare_points(p, q).is_lt() {
+        return push_edge(rt, content, p, q, counts.along);
+    }
+    push_edge(rt, content, q, p, counts.back)
+}
+
+// Adds the steps from each point to the next one.
+fn push_path<I: IntNumber + From<i16>>(
+    rt: &impl Abort,
+    content: &mut Content<I, ShapeCountString, Global>,
+    points: Points<'_>,
+    counts: Counts,
+) -> Result<(), OverlayError> {
+    for i in 1..points.len() {
+        push(rt, content, points[i - 1], points[i], counts)?;
+    }
+    Ok(())
+}
+
+/// The graph of the contours, which are closed, and of the strings, which are open, once they are arranged.
+pub(crate) fn graph_of<I: IntNumber + From<i16>>(
+    rt: &impl Abort,
+    alloc: Global,
+    contours: &[Points<'_>],
+    strings: &[Points<'_>],
+) -> Result<Graph<I, ShapeCountString, Global>, OverlayError> {
+    let mut content = Content::with_capacity(alloc, 0)?;
+    for contour in contours {
+        push_path(rt, &mut content, contour, OF_SHAPE)?;
+        if let [first, .., last] = contour {
+            push(rt, &mut content, *last, *first, OF_SHAPE)?;
+        }
+    }
+    for string in strings {
+        push_path(rt, &mut content, string, OF_STRING)?;
+    }
+    content.arrange(&mut ())?;
+    assert!(rt; is_balanced(alloc, content.edges())?);
+    content.graph(FillRule::NonZero)
+}
+
+// The shape with these contours.
+fn shape_of<I: IntNumber + From<i16>>(
+    alloc: Global,
+    contours: &[Points<'_>],
+) -> Result<IntShape<I, Global>, OverlayError> {
+    let mut shape = Vec::new(alloc);
+    for points in contours {
+        let mut contour = Vec::new(alloc);
+        for point in *points {
+            contour.push(point_of(*point))?;
+        }
+        shape.push(contour)?;
+    }
+    Ok(shape)
+}
+
+/// Several shapes.
+pub(crate) fn shapes_of<I: IntNumber + From<i16>>(
+    alloc: Global,
+    shapes: &[&[Points<'_>]],
+) -> Result<IntShapes<I, Global>, OverlayError> {
+    let mut all = Vec::new(alloc);
+    for contours in shapes {
+        all.push(shape_of(alloc, contours)?)?;
+    }
+    Ok(all)
+}

@@ -1,0 +1,8 @@
+//! Tests of `overlay_string`: strings over a shape.
+
+mod built;
+mod clip;
+mod clip_calls;
+mod points;
+mod slice;
+mod views;

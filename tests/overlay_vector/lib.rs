@@ -1,0 +1,14 @@
+//! Tests of `overlay_vector`: edges with data.
+
+mod added;
+mod balance;
+mod colour;
+mod edges;
+mod refused;
+mod rows;
+mod shapes;
+mod sources;
+mod stores;
+mod traced;
+mod trees;
+mod vectors;

@@ -1,0 +1,8 @@
+//! Tests of `overlay_walk`: walks along the steps of an arrangement.
+
+mod counted;
+mod groups;
+mod kept;
+mod no_steps;
+mod rays;
+mod triangle;
