@@ -9,10 +9,10 @@ is what reading the contours and the test that they are resolved take.
 import argparse
 import subprocess
 import time
-from pathlib import Path
 from random import Random
 
-PROGRAM = Path(__file__).resolve().parent.parent / "crates" / "polyover" / "out" / "polyover"
+from build import add_program_option, program_of
+
 RUNS = 3
 
 
@@ -57,10 +57,11 @@ def seconds(program, text):
 
 def main():
     parser = argparse.ArgumentParser(description=__doc__, formatter_class=argparse.RawDescriptionHelpFormatter)
-    parser.add_argument("--program", type=Path, default=PROGRAM)
+    add_program_option(parser)
     parser.add_argument("--edges", type=int, nargs="+", default=[100, 1000, 10000])
     parser.add_argument("--seed", type=int, default=1)
     given = parser.parse_args()
+    program = program_of(parser, given)
     print("| Subject | Edges | Points | Command | Seconds | Without points |")
     print("|---|---|---|---|---|---|")
     for name, make in (("saw", saw), ("squares", squares)):
@@ -68,8 +69,8 @@ def main():
             contours = make(edges)
             points = asked_points(contours, edges, given.seed)
             for command in ("run contains", "run locate"):
-                full = seconds(given.program, text_of(contours, points, command))
-                bare = seconds(given.program, text_of(contours, [], command))
+                full = seconds(program, text_of(contours, points, command))
+                bare = seconds(program, text_of(contours, [], command))
                 print(f"| {name} | {edges} | {len(points)} | `{command}` | {full:.3f} | {bare:.3f} |")
 
 

@@ -11,9 +11,9 @@ from dataclasses import dataclass
 from pathlib import Path
 from random import Random
 
-BENCHES = Path(__file__).resolve().parent
-PROGRAM = BENCHES.parent / "crates" / "polyover" / "out" / "polyover"
-DRAWING = BENCHES / "drawing.txt"
+from build import add_program_option, program_of
+
+DRAWING = Path(__file__).resolve().parent / "drawing.txt"
 COMMANDS = {"edges": "run edges NonZero", "overlay": "run overlay Xor NonZero"}
 SHAPES = ("subject", "clip")
 LARGEST_COORDINATE = 4611686018427387903
@@ -237,7 +237,7 @@ def print_table(inputs, options):
 def read_options():
     """The options of the command line."""
     parser = argparse.ArgumentParser(description=__doc__)
-    parser.add_argument("--program", type=Path, default=PROGRAM, help="the program to time")
+    add_program_option(parser)
     parser.add_argument("--command", choices=COMMANDS, default="overlay", help="what the program is asked for")
     parser.add_argument("--limit", type=float, default=60, metavar="SECONDS", help="stop a run after so long")
     parser.add_argument("--edges", type=int, nargs="+", default=[100, 1000, 10000], help="sizes of the inputs")
@@ -248,9 +248,8 @@ def read_options():
     options = parser.parse_args()
     if options.extent > LARGEST_COORDINATE or min(options.edges) < 12 or options.extent < max(options.edges):
         parser.error(f"at least 12 edges, and an extent from their number up to {LARGEST_COORDINATE}")
-    options.program = options.program.resolve()
-    if options.write is None and not options.program.is_file():
-        parser.error(f"no program at {options.program}; README.md says how to build it")
+    if options.write is None:
+        options.program = program_of(parser, options)
     return options
 
 

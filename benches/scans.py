@@ -13,22 +13,18 @@
 
 In the first three every new edge goes in below all live ones, or above the lowest one or two. Coordinates have 64 bits.
 
-The crates are copied to a temporary folder, and a program is added that makes an input, sweeps some times, and prints
-the processor time of each sweep by a clock of its own, and what it answers, or a sum of it, which must be the same with
-a list and with a tree. Nothing is proved: `rt try` runs it on small inputs
-with checks, and hands a module to clang; this is compiled again with -O3 and without the checks, which a proved
-program does not have. That takes a minute or two; `--write` leaves the program, and `--program` times it again. The
-least time of all rounds of the runs counts, in which lists and trees take turns.
+A program of its own (`build.py` makes it, in a minute or two) makes an input, sweeps some times, and prints the
+processor time of each sweep by a clock of its own, and what it answers, or a sum of it, which must be the same with a
+list and with a tree. `--write` leaves the program, and `--program` times it again. The least time of all rounds of the
+runs counts, in which lists and trees take turns.
 """
 
 import argparse
-import re
-import shutil
-import subprocess
 import tempfile
 from pathlib import Path
 
-ROOT = Path(__file__).resolve().parent.parent
+from build import answer_of, build
+
 KINDS = {
     "holes": "Binding of holes",
     "points": "Points in a contour",
@@ -41,7 +37,7 @@ EDGES_OF_A_RUN = 100_000
 SMALL = [str(word) for kind in KINDS for limit in LIMITS.values() for word in (kind, 80, limit, 1)]
 
 NAME = "timed_scans"
-USES = " ".join(f"overlay_{name}" for name in "geom plane scan tree arrange walk builder relate".split())
+USES = ["overlay_geom", "overlay_scan", "overlay_tree", "overlay_arrange", "overlay_walk", "overlay_relate", "anyhow"]
 DRIVER = """\
 //! Times sweeps: KIND EDGES TREE_FROM ROUNDS, as often as is wanted.
 #![tactic(auto)]
@@ -193,89 +189,17 @@ fn main(rt: HostRuntime) -> Result<()> {
 }
 """
 
-CLANG = """\
-#!/bin/sh
-for word in "$@"; do case "$word" in *.bc) cp "$word" "{module}";; esac; done
-exec "{clang}" "$@"
-"""
-FLAGS = ("--target=x86_64-unknown-linux-gnu", "--no-default-config", "-march=x86-64", "-fPIE", "-x", "ir")
-TO_TEXT = ("-S", "-emit-llvm", "-Xclang", "-disable-llvm-passes")
-# What a checked module has more than a proved one: traps, and a pattern in memory that is not written yet.
-CHECK = re.compile(r"^  call void @llvm\.(trap\(\)|memset\.p0\.i64\(ptr %\w+, i8 -86,).*\n", re.M)
-
 
 # ---- the program
 
 
-def crate_lines():
-    """The lines of crates.txt that the program needs, by the names of the crates."""
-    lines = [line.split(":") for line in (ROOT / "crates.txt").read_text().splitlines() if not line.startswith("#")]
-    return {name: uses for name, uses in lines if name in USES.split()}
-
-
-def make_repository(folder):
-    """A repository of the crates, and of the program."""
-    lines = crate_lines()
-    for name in lines:
-        shutil.copytree(ROOT / "crates" / name, folder / "crates" / name, ignore=shutil.ignore_patterns("out"))
-    lines[NAME] = f" {USES} anyhow"
-    (folder / "crates.txt").write_text("".join(f"{name}:{uses}\n" for name, uses in lines.items()))
-    source = folder / "crates" / NAME / "src"
-    source.mkdir(parents=True)
-    (source / "main.rt").write_text(DRIVER)
-
-
-def link_all(source, target, *others):
-    """A folder of links to what another one holds, but for the names of `others`."""
-    target.mkdir()
-    for each in source.iterdir():
-        if each.name not in others:
-            (target / each.name).symlink_to(each)
-
-
-def make_kit(kit, folder, module):
-    """A kit of links, whose clang leaves a copy of the last module that it is given."""
-    link_all(kit, folder, "bin", "toolchain")
-    link_all(kit / "bin", folder / "bin", "rt", "rtlib.py")
-    for name in ("rt", "rtlib.py"):
-        shutil.copy(kit / "bin" / name, folder / "bin" / name)
-    link_all(kit / "toolchain", folder / "toolchain", "bin")
-    link_all(kit / "toolchain/bin", folder / "toolchain/bin", "clang")
-    clang = folder / "toolchain/bin/clang"
-    clang.write_text(CLANG.format(module=module, clang=kit / "toolchain/bin/clang"))
-    clang.chmod(0o755)
-
-
-def answer_of(words, **how):
-    """What a command writes; it must end with status 0."""
-    ran = subprocess.run([str(word) for word in words], capture_output=True, text=True, **how)
-    if ran.returncode != 0:
-        raise SystemExit(f"{words[0]}: status {ran.returncode}\n{ran.stdout}{ran.stderr}".strip())
-    return ran.stdout
-
-
-def compile_module(kit, module, program):
-    """Compiles a module without its checks, and links it."""
-    text, machine = module.with_suffix(".ll"), module.with_suffix(".o")
-    clang = kit / "toolchain/bin/clang"
-    answer_of([clang, *FLAGS, *TO_TEXT, module, "-o", text])
-    free, count = CHECK.subn("", text.read_text())
-    if count == 0:
-        raise SystemExit("the module has no checks of the kind that is dropped")
-    text.write_text(free)
-    answer_of([clang, *FLAGS, "-O3", "-c", text, "-o", machine])
-    answer_of(["cc", machine, kit / "c" / "libos_c.a", kit / "c" / "liblibc_c.a", "-o", program])
-
-
-def build(folder, program):
-    """Builds the program in an empty folder, and runs it on small inputs with checks first."""
-    kit = Path(shutil.which("rt") or "rt").resolve().parent.parent
-    module = folder / "module.bc"
-    make_kit(kit, folder / "kit", module)
-    make_repository(folder / "repository")
-    place = folder / "repository" / "crates" / NAME
-    answer_of([folder / "kit" / "bin" / "rt", "try", "--", *SMALL], cwd=place, stdin=subprocess.DEVNULL)
-    compile_module(kit, module, program)
+def build_scans(program):
+    """Leaves the program at a path; it is run on small inputs with checks first."""
+    with tempfile.TemporaryDirectory() as name:
+        source = Path(name, NAME, "src")
+        source.mkdir(parents=True)
+        (source / "main.rt").write_text(DRIVER)
+        build(program, source.parent, USES, words=SMALL)
 
 
 # ---- the table
@@ -336,7 +260,7 @@ def main():
         folder = Path(name)
         program = (options.program or options.write or folder / NAME).resolve()
         if options.program is None:
-            build(folder, program)
+            build_scans(program)
         for kind in options.only:
             print_table(program, kind, options.edges, options.runs)
 

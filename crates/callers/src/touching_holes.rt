@@ -5,16 +5,18 @@ ghost use Rattle.overlay_geom.specs.Plane.{edge_of, edge_eq};
 ghost use Rattle.overlay_geom.specs.Settled.{IsSettledBy};
 ghost use Rattle.overlay_plane.specs.Anchors.{HasEachEdgeOnce};
 ghost use Rattle.overlay_plane.specs.Binding.{all_filled_above};
+ghost use Rattle.overlay_plane.specs.BoundContours.{walks_in};
 ghost use Rattle.overlay_plane.specs.Contours.{IsContour, all_steps};
-ghost use Rattle.overlay_plane.specs.Turn.{left};
+ghost use Rattle.overlay_plane.specs.Turn.{left, right};
+ghost use Rattle.overlay_walk.specs.GroupedContours.{plain_contours};
 ghost use Rattle.overlay_walk.specs.Steps.{plain_step, IsLong};
-ghost use Rattle.overlay_walk.specs.Walks.{plain_walks};
 
 use overlay_arrange::options::ContourDirection;
 use overlay_geom::error::OverlayError;
 use overlay_geom::point::IntPoint;
 use overlay_scan::list::ScanList;
-use overlay_walk::bind::bind;
+use overlay_walk::bind::bind_contours;
+use overlay_walk::contour::{Contour, Role};
 use overlay_walk::step::Step;
 use std::alloc::Global;
 
@@ -30,19 +32,23 @@ fn step(ax: i32, ay: i32, bx: i32, by: i32) -> Step<i32>
 }
 
 // Three outlines, the second of which touches two holes in the point (2, 3). Each step has its filled
-// side on the left: the outlines run counterclockwise, the holes clockwise. Each walk begins as a cut
+// side on the left: the outlines run counterclockwise, the holes clockwise. Each contour begins as a cut
 // into contours begins it, with the top edge at its leftmost lowest point. An outline comes to that
 // point along this edge, which is filled below; a hole leaves it along one that is filled above.
 fn three_outlines_and_two_holes(
     alloc: Global,
-) -> Result<Vec<Vec<Step<i32>, Global>, Global>, OverlayError>
+) -> Result<Vec<Contour<i32, Global>, Global>, OverlayError>
     ensures err { IsOkUnless result OverlayError.Memory }
-    ensures long { IfOk result (λ v. All (All (IsLong 1073741823)) (plain_walks (λ z. z) v.items)) }
-    ensures contours { IfOk result (λ v. All IsContour (plain_walks (λ z. z) v.items)) }
-    ensures single { IfOk result (λ v. All HasEachEdgeOnce (plain_walks (λ z. z) v.items)) }
-    ensures distinct { IfOk result
-        (λ v. AllPairs (λ e f. edge_eq e f ≡ false) (all_filled_above left (plain_walks (λ z. z) v.items))) }
-    ensures settled { IfOk result (λ v. IsSettledBy edge_of (all_steps (plain_walks (λ z. z) v.items))) }
+    ensures long { IfOk result
+        (λ v. All (All (IsLong 1073741823)) (walks_in (plain_contours (λ z. z) v.items))) }
+    ensures contours { IfOk result (λ v. All IsContour (walks_in (plain_contours (λ z. z) v.items))) }
+    ensures single { IfOk result (λ v. All HasEachEdgeOnce (walks_in (plain_contours (λ z. z) v.items))) }
+    ensures distinct_above { IfOk result (λ v. AllPairs (λ e f. edge_eq e f ≡ false)
+        (all_filled_above left (walks_in (plain_contours (λ z. z) v.items)))) }
+    ensures distinct_below { IfOk result (λ v. AllPairs (λ e f. edge_eq e f ≡ false)
+        (all_filled_above right (walks_in (plain_contours (λ z. z) v.items)))) }
+    ensures settled { IfOk result
+        (λ v. IsSettledBy edge_of (all_steps (walks_in (plain_contours (λ z. z) v.items)))) }
 {
     let beside = [
         step(-3, 4, -3, 2),
@@ -65,22 +71,37 @@ fn three_outlines_and_two_holes(
     ];
     let upper = [step(2, 3, 4, 4), step(4, 4, 4, 3), step(4, 3, 2, 3)];
     let lower = [step(2, 3, 4, 2), step(4, 2, 3, 1), step(3, 1, 2, 3)];
-    let walks = vec![in alloc;
-        Vec::from_array(alloc, beside)?,
-        Vec::from_array(alloc, round)?,
-        Vec::from_array(alloc, below)?,
-        Vec::from_array(alloc, upper)?,
-        Vec::from_array(alloc, lower)?,
+    let contours = vec![in alloc;
+        Contour {
+            role: Role::Outline(0),
+            steps: Vec::from_array(alloc, beside)?
+        },
+        Contour {
+            role: Role::Outline(1),
+            steps: Vec::from_array(alloc, round)?
+        },
+        Contour {
+            role: Role::Outline(2),
+            steps: Vec::from_array(alloc, below)?
+        },
+        Contour {
+            role: Role::FreeHole,
+            steps: Vec::from_array(alloc, upper)?
+        },
+        Contour {
+            role: Role::FreeHole,
+            steps: Vec::from_array(alloc, lower)?
+        },
     ]?;
-    Ok(walks)
+    Ok(contours)
 }
 
-/// The outlines to which the holes are bound: next below the lower hole is the second outline, and next below the
-/// upper hole is the lower one. The only refusal is `Memory`.
+/// The outlines to which the holes are bound, none for an outline: next below the lower hole is the second outline, and
+/// next below the upper hole is the lower one. The only refusal is `Memory`.
 pub fn outlines_of_holes(alloc: Global) -> Result<Vec<Option<usize>, Global>, OverlayError>
     ensures { IsOkUnless result OverlayError.Memory }
 {
-    let walks = three_outlines_and_two_holes(alloc)?;
+    let contours = three_outlines_and_two_holes(alloc)?;
     let mut scan: ScanList<i32, usize, _> = ScanList::default(alloc);
-    bind(alloc, &mut scan, &walks, ContourDirection::CounterClockwise)
+    bind_contours(alloc, &mut scan, &contours, ContourDirection::CounterClockwise)
 }

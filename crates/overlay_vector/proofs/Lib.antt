@@ -1,4 +1,3 @@
-pub mod AlongEdges
 pub mod EdgesAdded
 pub mod EndsOff
 pub mod EnteringSums
@@ -6,7 +5,6 @@ pub mod JoinedContours
 pub mod JoinedRuns
 pub mod JoinedWindings
 pub mod ListedVectors
-pub mod PlacesByEnds
 pub mod Sums
 pub mod TurnedFills
 pub mod VectorShapes

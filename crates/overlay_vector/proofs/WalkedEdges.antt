@@ -1,16 +1,19 @@
 -- A step along an edge of a graph, with what the edge has.
-use Rattle.std.proofs.Common.{◌≡◌, ℕ, ◌<◌, Bool, true, false, cond, ℤ, List, map, length, get_or, All, AllPairs, Contains}
+use Rattle.std.proofs.Common.{◌≡◌, ℕ, ◌<◌, Bool, true, false, cond, ℤ, List, map, length, get_or, Contains, Some}
 use Rattle.std.proofs.Common.{MatchBool, [], ◌∷◌, refl, sym, ap, subst, ◌∙◌, arith}
+use Rattle.std.specs.List.{slice_get}
 use Rattle.std.proofs.lemmas.List.{length-map, get_or-map}
 use Rattle.std.proofs.lemmas.List.Elements.{Contains-get_or, All-get_or}
+use Rattle.std.proofs.lemmas.Option.{get_or_from_slice_get, slice_get_within}
 use Rattle.overlay_geom.specs.Counts.{Counts}
-use Rattle.overlay_geom.specs.Edges.{CountedEdge, ends_of}
-use Rattle.overlay_geom.specs.Plane.{Step, Edge, edge_of, edge_lt, is_forward}
+use Rattle.overlay_geom.specs.Edges.{CountedEdge, ends_of, all_ends}
+use Rattle.overlay_geom.specs.Plane.{Step, Edge, edge_of, is_forward, point_lt}
 use Rattle.overlay_geom.specs.Points.{plain_point, InRange}
 use Rattle.overlay_geom.specs.declared.point.IntPoint.{IntPoint}
-use Rattle.overlay_geom.proofs.Mapped.{AllPairs-map}
 use Rattle.overlay_plane.specs.Carried.{Carried, edges_in}
-use Rattle.overlay_arrange.specs.Content.{IsHeld, IsAscending}
+use Rattle.overlay_plane.specs.SelectedSteps.{step_with_left}
+use Rattle.overlay_plane.proofs.SelectedWindings.{along_edge}
+use Rattle.overlay_arrange.specs.Content.{IsHeld}
 use Rattle.overlay_arrange.specs.Graphs.{carried_vector, carried_vectors, IsArrangement}
 use Rattle.overlay_arrange.specs.Rules.{fill_bits}
 use Rattle.overlay_arrange.specs.Vectors.{Vector, plain_vector, vector_of}
@@ -31,7 +34,7 @@ module _ {I D : Type 0} (whole : I → ℤ) (counts : CountWithData D → Counts
     (vs : List (DataVectorEdge I (CountWithData D))) (xs : List (Carried (CountWithData D)))
     (seen : carried_vectors whole counts vs ≡ xs) where
   -- the ends of the edges are those of the graph's
-  pub same_ends : map (plain_ends whole) vs ≡ map ends_of (edges_in xs)
+  same_ends : map (plain_ends whole) vs ≡ map ends_of (edges_in xs)
   same_ends = go vs ∙ ap (λ ys. map ends_of (edges_in ys)) seen
     where
       go : (ws : List (DataVectorEdge I (CountWithData D))) →
@@ -39,10 +42,13 @@ module _ {I D : Type 0} (whole : I → ℤ) (counts : CountWithData D → Counts
       go [] = refl
       go (w ∷ ws) = ap (λ es. plain_ends whole w ∷ es) (go ws)
 
-  -- so they stand in order
-  pub ends_ascend : IsAscending (edges_in xs) → AllPairs (λ e f. edge_lt e f ≡ true) (map (plain_ends whole) vs)
-  ends_ascend up = subst (AllPairs (λ e f. edge_lt e f ≡ true)) (sym same_ends)
-      (AllPairs-map (λ e f. edge_lt e f ≡ true) ends_of (edges_in xs) up)
+  -- a number of one of the graph's is that of an edge
+  pub within_edges_seen : (k : ℕ) (e : Edge) → slice_get (all_ends (edges_in xs)) k ≡ Some e → k < length vs
+  within_edges_seen k e stands =
+      let inside = slice_get_within (all_ends (edges_in xs)) k e stands in
+      let same = ap length same_ends in
+      let long = length-map vs (plain_ends whole) in
+      omega (arith, inside, same, long)
 
   module _ (limit : ℕ) (rule : FillRule) (arranged : IsArrangement limit (edges_in xs))
       (filled : map (plain_vector whole) vs ≡ map (vector_of rule (edges_in xs)) (edges_in xs))
@@ -79,6 +85,18 @@ module _ {I D : Type 0} (whole : I → ℤ) (counts : CountWithData D → Counts
 
     held : IsHeld limit x.edge
     held = subst (IsHeld limit) edge_at (All-get_or (IsHeld limit) (edges_in xs) k x.edge within_edges arranged.content.held)
+
+    -- a step along the edge with this number among the graph's leads along it
+    pub leads_along : (e : Edge) → slice_get (all_ends (edges_in xs)) k ≡ Some e → (above : Bool) (s : Step) →
+        s ≡ step_with_left above e → ends_of x.edge ≡ edge_of s
+    leads_along e stands above s walks = here ∙ sym (along_edge e forward above) ∙ ap edge_of (sym walks)
+      where
+        here : plain_ends whole v ≡ e
+        here = sym (get_or-map (plain_ends whole) vs k d e within) ∙ ap (λ es. get_or es k e) same_ends
+            ∙ get_or_from_slice_get (all_ends (edges_in xs)) k e e stands
+
+        forward : point_lt e.a e.b ≡ true
+        forward = ap (λ (f : Edge). point_lt f.a f.b) (sym here) ∙ held.forward
 
     module _ (reverses : D → D → Type 0) (s : Step) (ends : ends_of x.edge ≡ edge_of s) (r : DataVector D)
         (walks : step_along r ≡ s) where

@@ -1,17 +1,12 @@
--- Steps along the edges of a graph, and the places of contours in shapes.
-use Rattle.std.specs.Prelude.{ℕ, ℤ, List, map, Contains, Option}
-use Rattle.overlay_geom.specs.Edges.{CountedEdge, ends_of}
-use Rattle.overlay_geom.specs.Plane.{Step, Edge, edge_of}
+-- Edges of a graph without what they carry, and the places of contours in shapes.
+use Rattle.std.specs.Prelude.{ℕ, ℤ, List, Option}
+use Rattle.overlay_geom.specs.Plane.{Edge}
 use Rattle.overlay_geom.specs.Points.{plain_point}
 use Rattle.overlay_plane.specs.BoundContours.{AreShapesFound}
 use Rattle.overlay_plane.specs.PlacedContours.{ArePlaced}
 use Rattle.overlay_plane.specs.RoledContours.{Contour}
 use Rattle.overlay_plane.specs.Turn.{Hand}
 use Rattle.overlay_arrange.specs.declared.vector.DataVectorEdge.{DataVectorEdge}
-
--- the step leads along an edge of the list
-abbrev pub IsAlongOne : List CountedEdge → Step → Type 0
-IsAlongOne es s = Contains (map ends_of es) (edge_of s)
 
 -- the ends of an edge at its numbers
 abbrev pub plain_ends : {I C : Type 0} → (I → ℤ) → DataVectorEdge I C → Edge

@@ -1,20 +1,17 @@
 //! Contours as edges with filled sides and data, put together to shapes.
 
-ghost use Rattle.std.specs.Prelude.{◌≡◌, ◌<◌, true, cond, length, map, get_or, All, AllPairs, Contains, MatchBool};
-ghost use Rattle.std.specs.Prelude.{IfOk, IsOkUnless};
+ghost use Rattle.std.specs.Prelude.{◌≡◌, ◌<◌, cond, length, map, All, MatchBool, IfOk, IsOkUnless};
 ghost use Rattle.std.specs.List.{AllZip};
-ghost use Rattle.overlay_geom.specs.Plane.{edge_of, edge_lt, is_forward};
-ghost use Rattle.overlay_geom.specs.Points.{plain_point};
-ghost use Rattle.overlay_plane.specs.BoundContours.{walks_in};
+ghost use Rattle.overlay_geom.specs.Edges.{all_ends};
+ghost use Rattle.overlay_geom.specs.Plane.{is_forward};
 ghost use Rattle.overlay_plane.specs.PlacedContours.{walk_at, walks_at};
 ghost use Rattle.overlay_arrange.specs.Graphs.{graph_edges};
 ghost use Rattle.overlay_extract.specs.Places.{place_lists, AreInside};
 ghost use Rattle.overlay_walk.specs.GroupedContours.{plain_contours};
-ghost use Rattle.overlay_walk.specs.Steps.{plain_step, plain_steps};
+ghost use Rattle.overlay_walk.specs.Steps.{plain_step, plain_steps, RunsAlong};
 ghost use Rattle.overlay_vector.specs.DataVectors.{plain_data_vector, plain_data_vectors};
 ghost use Rattle.overlay_vector.specs.Joining.{IsInRange};
 ghost use Rattle.overlay_vector.specs.SideFills.{turned_fill};
-ghost use Rattle.overlay_vector.specs.VectorContours.{plain_ends, IsAlongOne};
 ghost use Rattle.overlay_vector.specs.VectorShapes.{plain_vector_shape, plain_vector_shapes, IsVectorAlong};
 ghost use Rattle.overlay_vector.specs.VectorShapes.{IsVectorContour, AreVectorContours};
 
@@ -27,7 +24,6 @@ use overlay_arrange::graph::Graph;
 use overlay_arrange::vector::DataVectorEdge;
 use overlay_geom::error::OverlayError;
 use overlay_geom::number::IntNumber;
-use overlay_geom::point::IntPoint;
 use overlay_walk::contour::Contour;
 use overlay_walk::step::Step;
 use std::alloc::Allocator;
@@ -42,7 +38,7 @@ pub(crate) fn assembled<I: IntNumber, D: OverlayEdgeData, A: Allocator + Clone>(
     keeps_edges: bool,
     store: &mut D::Store,
 ) -> Result<Vec<DataVectorShape<I, D, A>, A>, OverlayError>
-    requires along { All (All (IsAlongOne (graph_edges graph.now))) (walks_in (plain_contours I.whole contours.now)) }
+    requires along { All (λ c. All (RunsAlong I.whole (all_ends (graph_edges graph.now))) c.steps.items) contours.now }
     requires inside { AreInside (length (plain_contours I.whole contours.now)) (place_lists places.now) }
     ensures shapes { IfOk result (λ v.
         AreVectorContours D.reverses D.eq graph.now.fill_rule keeps_edges graph.now.edges
@@ -65,7 +61,7 @@ fn shape_at<I: IntNumber, D: OverlayEdgeData, A: Allocator + Clone>(
     keeps_edges: bool,
     store: &mut D::Store,
 ) -> Result<DataVectorShape<I, D, A>, OverlayError>
-    requires along { All (All (IsAlongOne (graph_edges graph.now))) (walks_in (plain_contours I.whole contours.now)) }
+    requires along { All (λ c. All (RunsAlong I.whole (all_ends (graph_edges graph.now))) c.steps.items) contours.now }
     requires inside { All (λ k. k < length (plain_contours I.whole contours.now)) places.now }
     ensures shape { IfOk result (λ v.
         AllZip (IsVectorContour D.reverses D.eq graph.now.fill_rule keeps_edges graph.now.edges)
@@ -87,7 +83,7 @@ fn contour<I: IntNumber, D: OverlayEdgeData, A: Allocator + Clone>(
     keeps_edges: bool,
     store: &mut D::Store,
 ) -> Result<DataVectorPath<I, D, A>, OverlayError>
-    requires { All (IsAlongOne (graph_edges graph.now)) (plain_steps I.whole walk.now) }
+    requires { All (RunsAlong I.whole (all_ends (graph_edges graph.now))) walk.now }
     ensures ok { IfOk result (λ v. IsVectorContour D.reverses D.eq graph.now.fill_rule keeps_edges graph.now.edges
         (plain_steps I.whole walk.now) (plain_data_vectors I.whole v.items)) }
     ensures err { IsOkUnless result OverlayError.Memory }
@@ -105,7 +101,7 @@ fn vectors_along<I: IntNumber, D: OverlayEdgeData, A: Allocator + Clone>(
     walk: &[Step<I>],
     store: &mut D::Store,
 ) -> Result<DataVectorPath<I, D, A>, OverlayError>
-    requires { All (IsAlongOne (graph_edges graph.now)) (plain_steps I.whole walk.now) }
+    requires { All (RunsAlong I.whole (all_ends (graph_edges graph.now))) walk.now }
     ensures along { IfOk result (λ v. AllZip (IsVectorAlong D.reverses graph.now.fill_rule graph.now.edges)
         (plain_steps I.whole walk.now) (plain_data_vectors I.whole v.items)) }
     ensures in_range { IfOk result (λ v. All (IsInRange I.limit) (plain_data_vectors I.whole v.items)) }
@@ -124,13 +120,13 @@ fn vector_along<I: IntNumber, D: OverlayEdgeData, A: Allocator>(
     step: Step<I>,
     store: &mut D::Store,
 ) -> DataVectorEdge<I, D>
-    requires { IsAlongOne (graph_edges graph.now) (plain_step I.whole step) }
+    requires { RunsAlong I.whole (all_ends (graph_edges graph.now)) step }
     ensures along { IsVectorAlong D.reverses graph.now.fill_rule graph.now.edges
         (plain_step I.whole step) (plain_data_vector I.whole result) }
     ensures in_range { IsInRange I.limit (plain_data_vector I.whole result) }
 {
     let edges = graph.edges();
-    let place = place_of(edges, step);
+    let place = step.edge;
     walked(edges[place], step, store)
 }
 
@@ -159,40 +155,4 @@ fn walked<I: IntNumber, D: OverlayEdgeData>(
         fill,
         edge_data,
     }
-}
-
-// The place of the edge along which the step leads. The edges stand in order.
-fn place_of<I: IntNumber, C: Copy>(edges: &[DataVectorEdge<I, C>], step: Step<I>) -> usize
-    requires ascending { AllPairs (λ e f. edge_lt e f ≡ true) (map (plain_ends I.whole) edges.now) }
-    requires among { Contains (map (plain_ends I.whole) edges.now) (edge_of (plain_step I.whole step)) }
-    ensures within { result < length edges.now }
-    ensures found { (d : _) → get_or (map (plain_ends I.whole) edges.now) result d ≡ edge_of (plain_step I.whole step) }
-{
-    let (a, b) = ends_of(step);
-    edges.partition_point(|e| is_before(e, a, b))
-}
-
-// The two ends of the edge along which the step leads, the smaller one first.
-fn ends_of<I: IntNumber>(step: Step<I>) -> (IntPoint<I>, IntPoint<I>)
-    ensures start { plain_point I.whole result.0 ≡ (edge_of (plain_step I.whole step)).a }
-    ensures end { plain_point I.whole result.1 ≡ (edge_of (plain_step I.whole step)).b }
-{
-    if compare_points(step.from, step.to).is_lt() {
-        (step.from, step.to)
-    } else {
-        (step.to, step.from)
-    }
-}
-
-// Whether the edge comes before the one between the two points: by the smaller end, then by the larger.
-fn is_before<I: IntNumber, C: Copy>(
-    e: &DataVectorEdge<I, C>,
-    a: IntPoint<I>,
-    b: IntPoint<I>,
-) -> bool
-    ensures { result
-        ≡ edge_lt (plain_ends I.whole e.now) (record { a = plain_point I.whole a; b = plain_point I.whole b }) }
-{
-    let starts = compare_points(e.a, a);
-    starts.is_lt() || (starts.is_eq() && compare_points(e.b, b).is_lt())
 }

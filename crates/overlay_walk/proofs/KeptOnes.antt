@@ -1,5 +1,5 @@
 -- What is true of contours that an overlay keeps, and that their steps are long.
-use Rattle.std.proofs.Common.{◌≡◌, ℕ, Bool, true, false, ℤ, List, All, Vec, filter, sym, ap, ◌∙◌, subst}
+use Rattle.std.proofs.Common.{◌≡◌, ℕ, Bool, true, false, ℤ, List, All, Vec, map, filter, sym, ap, ◌∙◌, subst}
 use Rattle.std.proofs.lemmas.Bool.{false≢true}
 use Rattle.std.proofs.lemmas.List.Elements.{All-contains}
 use Rattle.overlay_geom.specs.Plane.{Step}
@@ -13,7 +13,7 @@ use Rattle.overlay_plane.specs.MinimumArea.{reaches}
 use Rattle.overlay_plane.specs.RoledContours.{Contour, contours_from, IsCutInGroups, IsCutBy}
 use Rattle.overlay_plane.specs.Regions.{IsRuled}
 use Rattle.overlay_plane.proofs.BoundSteps.{all_shapes_have_each_step, all_shapes_wind}
-use Rattle.overlay_plane.proofs.Entries.{all_of_entries, Contains-flat_map}
+use Rattle.overlay_plane.proofs.Entries.{all_of_entries, Contains-map, Contains-flat_map}
 use Rattle.overlay_plane.proofs.FreeHoles.{all_holes_have_shapes}
 use Rattle.overlay_plane.proofs.KeptContours.{can_be_bound, kept_contours_are_simple, kept_selected}
 use Rattle.overlay_plane.proofs.RoledShapes.{reaches_zero}
@@ -23,6 +23,7 @@ use Rattle.overlay_walk.specs.Asked.{Asked, region_asked, filled_asked, selected
 use Rattle.overlay_walk.specs.KeptResults.{AreKeptResults}
 use Rattle.overlay_walk.specs.Steps.{plain_steps, IsLong}
 use Rattle.overlay_walk.specs.Walks.{plain_walks}
+use Rattle.overlay_walk.specs.declared.contour.Contour.{Contour as ContourTaken}
 use Rattle.overlay_walk.specs.declared.step.Step.{Step as StepTaken}
 use Rattle.overlay_walk.proofs.SelectedLong.{selected_are_long}
 
@@ -48,6 +49,14 @@ module _ (q : Asked) (es : List CountedEdge) where
     cut = subst (λ t. IsCutBy t (filled_asked q) (is_kept q) (selected_of q es) contours) (sym is)
         (record { walks = walks; cut = cut.cut; are = are });
   }
+
+-- what holds of each walk holds of the contours that they become
+pub of_each_walk : {I A : Type 0} (P : Vec (StepTaken I) A → Type 0) (contours : List (ContourTaken I A))
+    (walks : List (Vec (StepTaken I) A)) → map (λ (c : ContourTaken I A). c.steps) contours ≡ walks → All P walks →
+    All (λ c. P c.steps) contours
+of_each_walk {I} {A} P contours walks are all = all_of_entries (λ c. P c.steps) contours (λ c at.
+    All-contains P (map (λ (d : ContourTaken I A). d.steps) contours) c.steps (subst (All P) (sym are) all)
+    (Contains-map (λ (d : ContourTaken I A). d.steps) contours c at))
 
 -- the large ones of some walks as contours
 pub large_alike : {I A : Type 0} (whole : I → ℤ) (q : Asked) (walks large : List (Vec (StepTaken I) A))

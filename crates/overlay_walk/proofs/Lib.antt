@@ -1,6 +1,5 @@
 pub mod AnchorsFound
 pub mod BoundRoles
-pub mod BoundWalks
 pub mod CutsOn
 pub mod FilledEntries
 pub mod FirstPlaces
@@ -17,15 +16,11 @@ pub mod NextPlaces
 pub mod NextTaken
 pub mod OneSide
 pub mod OpenPlaces
-pub mod OutlineNumbers
-pub mod OutlinesKnown
 pub mod PointsRead
 pub mod RolesRead
 pub mod Runs
 pub mod SelectedByBits
 pub mod SelectedLong
-pub mod ShapeNumbers
-pub mod ShapesFound
 pub mod SplitGroups
 pub mod StartOrder
 pub mod StartPlaces

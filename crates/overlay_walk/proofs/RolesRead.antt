@@ -9,22 +9,17 @@ use Rattle.overlay_plane.specs.Binding.{is_hole}
 use Rattle.overlay_plane.specs.BoundContours.{walks_in, known_in}
 use Rattle.overlay_plane.specs.Turn.{Hand}
 use Rattle.overlay_walk.specs.declared.contour.Contour.{Contour as ContourTaken}
-use Rattle.overlay_walk.specs.GroupedContours.{plain_role, plain_contours}
+use Rattle.overlay_walk.specs.GroupedContours.{plain_role, plain_contours, walk_of}
 use Rattle.overlay_walk.specs.HolePlaces.{place_if, hole_places, at_outlines}
-use Rattle.overlay_walk.specs.Steps.{plain_steps}
 
 -- the number of the shape in which a contour stands from the start
 abbrev pub number_of : {I A : Type 0} → ContourTaken I A → Option ℕ
 number_of c = stands_in (plain_role c.role)
 
 module _ {I A : Type 0} (whole : I → ℤ) where
-  -- the walk of a contour at whole numbers
-  abbrev pub walk_of : ContourTaken I A → List Step
-  walk_of c = plain_steps whole c.steps.items
-
-  pub walks_alike : (cs : List (ContourTaken I A)) → walks_in (plain_contours whole cs) ≡ map walk_of cs
+  pub walks_alike : (cs : List (ContourTaken I A)) → walks_in (plain_contours whole cs) ≡ map (walk_of whole) cs
   walks_alike [] = refl
-  walks_alike (c ∷ cs) = ap (λ ws. walk_of c ∷ ws) (walks_alike cs)
+  walks_alike (c ∷ cs) = ap (λ ws. walk_of whole c ∷ ws) (walks_alike cs)
 
   pub numbers_alike : (cs : List (ContourTaken I A)) → known_in (plain_contours whole cs) ≡ map number_of cs
   numbers_alike [] = refl

@@ -15,9 +15,12 @@ plain_role (Outline n) = outline n
 plain_role (OwnHole n) = own_hole n
 plain_role FreeHole = free_hole
 
--- the contour at a contour's numbers, and those of a list
+-- the contour at a contour's numbers, its walk alone, and the contours of a list
 abbrev pub plain_contour : {I A : Type 0} → (I → ℤ) → ContourTaken I A → Contour
 plain_contour whole c = record { role = plain_role c.role; steps = plain_steps whole c.steps.items }
+
+abbrev pub walk_of : {I A : Type 0} → (I → ℤ) → ContourTaken I A → List Step
+walk_of whole c = plain_steps whole c.steps.items
 
 abbrev pub plain_contours : {I A : Type 0} → (I → ℤ) → List (ContourTaken I A) → List Contour
 plain_contours whole cs = map (plain_contour whole) cs

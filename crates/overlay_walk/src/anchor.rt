@@ -3,36 +3,37 @@
 ghost use Rattle.std.specs.Prelude.{◌≡◌, ◌<◌, length, map, All, IfOk, IsOkUnless};
 ghost use Rattle.overlay_plane.specs.Anchors.{IsAnchor};
 ghost use Rattle.overlay_plane.specs.Contours.{IsContour};
+ghost use Rattle.overlay_walk.specs.GroupedContours.{walk_of};
 ghost use Rattle.overlay_walk.specs.Steps.{plain_steps, IsLong};
 ghost use Rattle.overlay_walk.specs.WalkEdges.{numbered_entry, numbered_entries, AreHoleEntries};
 
 use crate::by_anchor::{compare_anchors, sort_by_anchor};
+use crate::contour::Contour;
 use crate::filled::edge_along;
 use crate::numbered_edge::NumberedEdge;
 use crate::step::Step;
-use crate::walk::Walk;
 use overlay_geom::error::OverlayError;
 use overlay_geom::number::IntNumber;
 use std::alloc::Allocator;
 
 /// The anchors of the walks that stand in no shape from the start, in their order, each with the index
 /// of its walk. The only refusal is `Memory`.
-pub fn hole_anchors<I: IntNumber, A: Allocator, W: Walk<I>>(
+pub fn hole_anchors<I: IntNumber, A: Allocator>(
     alloc: A,
-    walks: &[W],
+    contours: &[Contour<I, A>],
     known: &[Option<usize>],
 ) -> Result<Vec<NumberedEdge<I>, A>, OverlayError>
-    requires long { All (All (IsLong I.limit)) (map W.walk walks.now) }
-    requires contours { All IsContour (map W.walk walks.now) }
-    requires known { length known.now ≡ length walks.now }
-    ensures ok { IfOk result (λ v. AreHoleEntries (map W.walk walks.now) known.now
+    requires long { All (All (IsLong I.limit)) (map (walk_of I.whole) contours.now) }
+    requires contours { All IsContour (map (walk_of I.whole) contours.now) }
+    requires known { length known.now ≡ length contours.now }
+    ensures ok { IfOk result (λ v. AreHoleEntries (map (walk_of I.whole) contours.now) known.now
         (numbered_entries I.whole v.items)) }
     ensures err { IsOkUnless result OverlayError.Memory }
 {
     let mut anchors = Vec::new(alloc);
-    for i in 0..walks.len() {
+    for i in 0..contours.len() {
         if known[i].is_none() {
-            anchors.push(anchor_of(walks[i].steps(), i))?;
+            anchors.push(anchor_of(&contours[i].steps, i))?;
         }
     }
     sort_by_anchor(&mut anchors)?;

@@ -1,4 +1,4 @@
-//! Binding: the shape in which each hole stands, and shapes found for walks in general.
+//! Binding: the shape in which each hole stands.
 
 ghost use Rattle.std.specs.Prelude.{◌≡◌, false, length, map, All, AllPairs, Some, IfOk, IsOkUnless};
 ghost use Rattle.overlay_geom.specs.Plane.{edge_of, edge_eq};
@@ -8,59 +8,21 @@ ghost use Rattle.overlay_plane.specs.Binding.{all_filled_above};
 ghost use Rattle.overlay_plane.specs.BoundContours.{walks_in, AreShapesFound};
 ghost use Rattle.overlay_plane.specs.Contours.{IsContour, all_steps};
 ghost use Rattle.overlay_plane.specs.KeptContours.{CanBeBound};
-ghost use Rattle.overlay_plane.specs.RoledContours.{contours_from};
 ghost use Rattle.overlay_plane.specs.Roles.{hand_on_side};
 ghost use Rattle.overlay_scan.specs.Scan.{empty_sweep};
-ghost use Rattle.overlay_walk.specs.GroupedContours.{plain_contours};
+ghost use Rattle.overlay_walk.specs.GroupedContours.{plain_contours, walk_of};
 ghost use Rattle.overlay_walk.specs.Parents.{HasShapeNumber};
 ghost use Rattle.overlay_walk.specs.Steps.{filled_hand, plain_side, IsLong};
-ghost use Rattle.overlay_walk.specs.Walks.{plain_walks};
 
 use crate::contour::Contour;
-use crate::outline_numbers::{count_outlines, outline_numbers};
 use crate::roles::{shape_count, shapes_known};
 use crate::side::Side;
-use crate::step::Step;
 use crate::sweep::parents_by_sweep;
-use crate::walk::Walk;
 use overlay_arrange::options::ContourDirection;
 use overlay_geom::error::OverlayError;
 use overlay_geom::number::IntNumber;
 use overlay_scan::scan::Scan;
 use std::alloc::Allocator;
-
-/// A list as long as that of the walks. At a hole stands the number of the shape in which it stands. Where
-/// there is one outline alone that is its shape. Else it is the one whose outline has the next
-/// filled-above edge below the hole's anchor, or that of the hole that has it, and None for a hole with no
-/// such edge, or with that of such a hole. What stands at an outline is left open.
-///
-/// Shapes are numbered from 0 by their outlines, in the order of the walks. The walks are contours whose
-/// edges meet in ends alone; none walks along an edge twice, and no two filled-above edges are equal.
-/// The scan is empty at first; what it holds afterwards is left open. The only refusal is `Memory`.
-pub fn bind<I: IntNumber, A: Allocator + Clone, S: Scan<I, usize>>(
-    alloc: A,
-    scan: &mut S,
-    walks: &[Vec<Step<I>, A>],
-    direction: ContourDirection,
-) -> Result<Vec<Option<usize>, A>, OverlayError>
-    requires long { All (All (IsLong I.limit)) (plain_walks I.whole walks.now) }
-    requires contours { All IsContour (plain_walks I.whole walks.now) }
-    requires single { All HasEachEdgeOnce (plain_walks I.whole walks.now) }
-    requires distinct { AllPairs (λ e f. edge_eq e f ≡ false)
-        (all_filled_above (filled_hand direction) (plain_walks I.whole walks.now)) }
-    requires settled { IsSettledBy edge_of (all_steps (plain_walks I.whole walks.now)) }
-    requires empty { S.content scan.old ≡ empty_sweep }
-    ensures found { IfOk result (λ v. AreShapesFound (filled_hand direction)
-        (contours_from (filled_hand direction) 0 (plain_walks I.whole walks.now)) v.items) }
-    ensures err { IsOkUnless result OverlayError.Memory }
-{
-    if count_outlines(walks, direction) == 1 {
-        return all_in_first(alloc, walks.len());
-    }
-    let numbers = outline_numbers(alloc.clone()?, walks, direction)?;
-    let parents = parents_by_sweep(alloc, scan, walks, &numbers, direction)?;
-    Ok(parents)
-}
 
 /// The number of the first shape, so often.
 fn all_in_first<A: Allocator>(alloc: A, count: usize) -> Result<Vec<Option<usize>, A>, OverlayError>
@@ -98,70 +60,47 @@ pub fn bind_contours<I: IntNumber, A: Allocator + Clone, S: Scan<I, usize>>(
         return all_in_first(alloc, contours.len());
     }
     let known = shapes_known(alloc.clone()?, contours)?;
-    let shapes = find_in(alloc, scan, contours, &known, direction, Side::Above)?;
+    let shapes = find_shapes(alloc, scan, contours, &known, direction, Side::Above)?;
     Ok(shapes)
 }
 
-/// A list as long as that of the walks, of which some stand in shapes from the start: outlines, and holes
-/// of an outline's own group, with the shape's number in `known`. At each other one, where `known` has
-/// None, stands the number that is found for it by the walk that has the next edge, among the edges that
-/// are filled on the side, below its anchor: the one that is known of that walk, or the one that is found
-/// for it. It is None where there is no such edge, or where none is found for that walk. What stands at
-/// the others is left open.
+/// A list as long as that of the contours, of which some stand in shapes from the start: those have the
+/// shape's number in `known`. At each other one, where `known` has None, stands the number that is found for
+/// it by the contour that has the next edge, among the edges that are filled on the side, below its anchor:
+/// the one that is known of that contour, or the one that is found for it. It is None where there is no such
+/// edge, or where none is found for that contour. What stands at the others is left open.
 ///
 /// So by `Side::Above` holes find their parents, and by `Side::Below`, with the holes' numbers as known,
-/// an island the hole round it. The walks are as for [`bind`], with the edges that are filled on the side
-/// in place of the filled-above ones. The scan is empty at first; what it holds afterwards is left open.
-/// The only refusal is `Memory`.
-pub fn find_shapes<I: IntNumber, A: Allocator + Clone, S: Scan<I, usize>>(
+/// an island the hole round it. The contours are as for [`bind_contours`]. The only refusal is `Memory`.
+pub(crate) fn find_shapes<I: IntNumber, A: Allocator + Clone, S: Scan<I, usize>>(
     alloc: A,
     scan: &mut S,
-    walks: &[Vec<Step<I>, A>],
+    contours: &[Contour<I, A>],
     known: &[Option<usize>],
     direction: ContourDirection,
     side: Side,
 ) -> Result<Vec<Option<usize>, A>, OverlayError>
-    requires long { All (All (IsLong I.limit)) (plain_walks I.whole walks.now) }
-    requires contours { All IsContour (plain_walks I.whole walks.now) }
-    requires single { All HasEachEdgeOnce (plain_walks I.whole walks.now) }
-    requires distinct { AllPairs (λ e f. edge_eq e f ≡ false)
-        (all_filled_above (hand_on_side (plain_side side) (filled_hand direction)) (plain_walks I.whole walks.now)) }
-    requires settled { IsSettledBy edge_of (all_steps (plain_walks I.whole walks.now)) }
-    requires known { length known.now ≡ length walks.now }
+    requires long { All (All (IsLong I.limit)) (map (walk_of I.whole) contours.now) }
+    requires contours { All IsContour (map (walk_of I.whole) contours.now) }
+    requires single { All HasEachEdgeOnce (map (walk_of I.whole) contours.now) }
+    requires distinct { AllPairs (λ e f. edge_eq e f ≡ false) (all_filled_above
+        (hand_on_side (plain_side side) (filled_hand direction)) (map (walk_of I.whole) contours.now)) }
+    requires settled { IsSettledBy edge_of (all_steps (map (walk_of I.whole) contours.now)) }
+    requires known { length known.now ≡ length contours.now }
     requires empty { S.content scan.old ≡ empty_sweep }
-    ensures counted { IfOk result (λ v. length v.items ≡ length walks.now) }
+    ensures counted { IfOk result (λ v. length v.items ≡ length contours.now) }
     ensures numbers { IfOk result (λ v. (n : _) → HasShapeNumber
         (hand_on_side (plain_side side) (filled_hand direction))
-        (plain_walks I.whole walks.now) known.now v.items n) }
+        (map (walk_of I.whole) contours.now) known.now v.items n) }
     ensures err { IsOkUnless result OverlayError.Memory }
 {
-    find_in(alloc, scan, walks, known, direction, side)
-}
-
-/// The same, for walks or for contours.
-pub(crate) fn find_in<I: IntNumber, A: Allocator + Clone, S: Scan<I, usize>, W: Walk<I>>(
-    alloc: A,
-    scan: &mut S,
-    walks: &[W],
-    known: &[Option<usize>],
-    direction: ContourDirection,
-    side: Side,
-) -> Result<Vec<Option<usize>, A>, OverlayError>
-    requires long { All (All (IsLong I.limit)) (map W.walk walks.now) }
-    requires contours { All IsContour (map W.walk walks.now) }
-    requires single { All HasEachEdgeOnce (map W.walk walks.now) }
-    requires distinct { AllPairs (λ e f. edge_eq e f ≡ false)
-        (all_filled_above (hand_on_side (plain_side side) (filled_hand direction)) (map W.walk walks.now)) }
-    requires settled { IsSettledBy edge_of (all_steps (map W.walk walks.now)) }
-    requires known { length known.now ≡ length walks.now }
-    requires empty { S.content scan.old ≡ empty_sweep }
-    ensures counted { IfOk result (λ v. length v.items ≡ length walks.now) }
-    ensures numbers { IfOk result (λ v. (n : _) → HasShapeNumber
-        (hand_on_side (plain_side side) (filled_hand direction))
-        (map W.walk walks.now) known.now v.items n) }
-    ensures err { IsOkUnless result OverlayError.Memory }
-{
-    parents_by_sweep(alloc, scan, walks, known, filled_above_as(direction, side))
+    parents_by_sweep(
+        alloc,
+        scan,
+        contours,
+        known,
+        filled_above_as(direction, side),
+    )
 }
 
 /// The direction in which contours run whose filled-above edges are those that are filled on the side

@@ -9,7 +9,7 @@ ghost use Rattle.overlay_walk.specs.GroupedContours.{plain_contours};
 ghost use Rattle.overlay_walk.specs.HolePlaces.{hole_places, at_outlines};
 ghost use Rattle.overlay_walk.specs.Steps.{filled_hand, IsLong};
 
-use crate::bind::find_in;
+use crate::bind::find_shapes;
 use crate::contour::Contour;
 use crate::side::Side;
 use overlay_arrange::options::ContourDirection;
@@ -39,7 +39,7 @@ pub fn holes_round<I: IntNumber, A: Allocator + Clone, S: Scan<I, usize>>(
     ensures err { IsOkUnless result OverlayError.Memory }
 {
     let places = hole_places(alloc.clone()?, contours)?;
-    let found = find_in(
+    let found = find_shapes(
         alloc.clone()?,
         scan,
         contours,

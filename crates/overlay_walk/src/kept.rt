@@ -1,6 +1,7 @@
 //! The contours that the selected steps of a graph are cut into, in groups or without, as far as they are kept.
 
-ghost use Rattle.std.specs.Prelude.{◌≡◌, All, IfOk, IsOkUnless};
+ghost use Rattle.std.specs.Prelude.{◌≡◌, false, map, All, IfOk, IsOkUnless};
+ghost use Rattle.overlay_geom.specs.Edges.{all_ends};
 ghost use Rattle.overlay_plane.specs.Balance.{HasBalancedCounts};
 ghost use Rattle.overlay_plane.specs.BoundContours.{walks_in};
 ghost use Rattle.overlay_plane.specs.RoledContours.{contours_from};
@@ -8,7 +9,7 @@ ghost use Rattle.overlay_arrange.specs.Graphs.{graph_edges};
 ghost use Rattle.overlay_walk.specs.Asked.{asked};
 ghost use Rattle.overlay_walk.specs.GroupedContours.{plain_contours};
 ghost use Rattle.overlay_walk.specs.KeptResults.{AreKeptResults};
-ghost use Rattle.overlay_walk.specs.Steps.{filled_hand, IsLong};
+ghost use Rattle.overlay_walk.specs.Steps.{filled_hand, IsLong, RunsAlong};
 ghost use Rattle.overlay_walk.specs.Walks.{plain_walks};
 
 use crate::area::large_walks;
@@ -31,7 +32,8 @@ use std::alloc::Allocator;
 /// [`cut_in_groups`](crate::groups::cut_in_groups) tells; without it each walk is an outline, which turns
 /// through its filled side, or a hole whose shape is to be found, which turns through its empty one. Those
 /// are given that have three points or more and reach the minimum area of the options, a hole of an
-/// outline's group only with its outline. The counts of the edges are balanced.
+/// outline's group only with its outline. The counts of the edges are balanced. Without `ogc` each step has
+/// the number of its edge in the graph.
 ///
 /// The buffer lends its room. The only refusal is `Memory`, after which the buffer may be left without
 /// room.
@@ -46,6 +48,8 @@ pub fn kept_contours<I: IntNumber, C: EdgeCount, A: Allocator + Clone>(
         (asked I.Wide.width I.WideUInt.natural graph.now.fill_rule overlay_rule options)
         (graph_edges graph.now) (plain_contours I.whole cs.items)) }
     ensures long { IfOk result (λ cs. All (All (IsLong I.limit)) (walks_in (plain_contours I.whole cs.items))) }
+    ensures along { IfOk result (λ cs. options.ogc ≡ false →
+        All (λ c. All (RunsAlong I.whole (all_ends (graph_edges graph.now))) c.steps.items) cs.items) }
     ensures err { IsOkUnless result OverlayError.Memory }
 {
     graph.note_arrangement();
@@ -67,6 +71,7 @@ fn roled<I: IntNumber, A: Allocator>(
 ) -> Result<Vec<Contour<I, A>, A>, OverlayError>
     ensures ok { IfOk result (λ cs. plain_contours I.whole cs.items
         ≡ contours_from (filled_hand direction) 0 (plain_walks I.whole walks.items)) }
+    ensures steps { IfOk result (λ cs. map (λ c. c.steps) cs.items ≡ walks.items) }
     ensures err { IsOkUnless result OverlayError.Memory }
 {
     let mut contours = Vec::new(alloc);

@@ -11,14 +11,15 @@ ghost use Rattle.overlay_plane.specs.Contours.{IsContour, all_steps};
 ghost use Rattle.overlay_scan.specs.Scan.{empty_sweep, live_at, moved_to, value_below};
 ghost use Rattle.overlay_scan.specs.Scan.{IsAsked, IsSweep, MayMoveTo, MeetsOthers};
 ghost use Rattle.overlay_scan.specs.Sweeps.{IsByStart};
+ghost use Rattle.overlay_walk.specs.GroupedContours.{walk_of};
 ghost use Rattle.overlay_walk.specs.Parents.{IsSwept, HasShapeNumber};
 ghost use Rattle.overlay_walk.specs.Steps.{filled_hand, IsLong};
 ghost use Rattle.overlay_walk.specs.WalkEdges.{numbered_entry, numbered_entries};
 
 use crate::anchor::hole_anchors;
+use crate::contour::Contour;
 use crate::filled_above_edges::filled_above_edges;
 use crate::numbered_edge::NumberedEdge;
-use crate::walk::Walk;
 use overlay_arrange::options::ContourDirection;
 use overlay_geom::error::OverlayError;
 use overlay_geom::number::IntNumber;
@@ -28,34 +29,34 @@ use std::alloc::Allocator;
 /// For each walk that stands in no shape from the start (`known` has None there) the number of the shape
 /// that is found for it by its next filled-above edge, if one is. The scan is empty at first; what it
 /// holds afterwards is left open. The only refusal is `Memory`.
-pub fn parents_by_sweep<I: IntNumber, A: Allocator + Clone, S: Scan<I, usize>, W: Walk<I>>(
+pub fn parents_by_sweep<I: IntNumber, A: Allocator + Clone, S: Scan<I, usize>>(
     alloc: A,
     scan: &mut S,
-    walks: &[W],
+    contours: &[Contour<I, A>],
     known: &[Option<usize>],
     direction: ContourDirection,
 ) -> Result<Vec<Option<usize>, A>, OverlayError>
-    requires long { All (All (IsLong I.limit)) (map W.walk walks.now) }
-    requires contours { All IsContour (map W.walk walks.now) }
-    requires single { All HasEachEdgeOnce (map W.walk walks.now) }
+    requires long { All (All (IsLong I.limit)) (map (walk_of I.whole) contours.now) }
+    requires contours { All IsContour (map (walk_of I.whole) contours.now) }
+    requires single { All HasEachEdgeOnce (map (walk_of I.whole) contours.now) }
     requires distinct { AllPairs (λ e f. edge_eq e f ≡ false)
-        (all_filled_above (filled_hand direction) (map W.walk walks.now)) }
-    requires settled { IsSettledBy edge_of (all_steps (map W.walk walks.now)) }
-    requires known { length known.now ≡ length walks.now }
+        (all_filled_above (filled_hand direction) (map (walk_of I.whole) contours.now)) }
+    requires settled { IsSettledBy edge_of (all_steps (map (walk_of I.whole) contours.now)) }
+    requires known { length known.now ≡ length contours.now }
     requires empty { S.content scan.old ≡ empty_sweep }
-    ensures counted { IfOk result (λ v. length v.items ≡ length walks.now) }
-    ensures numbers { IfOk result (λ v. (n : _) → HasShapeNumber (filled_hand direction) (map W.walk walks.now)
-        known.now v.items n) }
+    ensures counted { IfOk result (λ v. length v.items ≡ length contours.now) }
+    ensures numbers { IfOk result (λ v. (n : _) → HasShapeNumber (filled_hand direction)
+        (map (walk_of I.whole) contours.now) known.now v.items n) }
     ensures err { IsOkUnless result OverlayError.Memory }
 {
-    let edges = filled_above_edges(alloc.clone()?, walks, direction)?;
-    let anchors = hole_anchors(alloc.clone()?, walks, known)?;
+    let edges = filled_above_edges(alloc.clone()?, contours, direction)?;
+    let anchors = hole_anchors(alloc.clone()?, contours, known)?;
     let mut parents = Vec::new(alloc);
-    parents.resize(walks.len(), None)?;
+    parents.resize(contours.len(), None)?;
     let mut from = 0;
     for hole in &anchors {
         from = insert_up_to(scan, &edges, from, hole.a.x)?;
-        let below = walk_below(scan, hole, walks.len());
+        let below = walk_below(scan, hole, contours.len());
         parents[hole.number] = shape_at(known, &parents, below);
     }
     Ok(parents)

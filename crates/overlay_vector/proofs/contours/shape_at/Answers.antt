@@ -2,15 +2,14 @@
 use Rattle.std.proofs.Common.{◌≡◌, ◌∷◌, ◌++◌, [], ◌+◌, ◌<◌, map, take, length, get_or, All, sym, ap, ◌∙◌, subst, arith}
 use Rattle.std.specs.List.{AllZip}
 use Rattle.std.proofs.lemmas.List.{length-map, map-append, take_all, take_more}
+use Rattle.overlay_geom.specs.Edges.{all_ends}
 use Rattle.overlay_geom.proofs.Mapped.{read_mapped}
 use Rattle.overlay_plane.specs.PlacedContours.{walk_at}
 use Rattle.overlay_arrange.specs.Graphs.{graph_edges}
 use Rattle.overlay_walk.specs.GroupedContours.{plain_contour, plain_contours}
-use Rattle.overlay_walk.specs.Steps.{plain_steps}
+use Rattle.overlay_walk.specs.Steps.{plain_steps, RunsAlong}
 use Rattle.overlay_extract.proofs.HolesPlaced.{walk_there}
-use Rattle.overlay_extract.proofs.PlacedShapes.{walk_has}
 use Rattle.overlay_vector.specs.DataVectors.{plain_data_vectors}
-use Rattle.overlay_vector.specs.VectorContours.{IsAlongOne}
 use Rattle.overlay_vector.specs.VectorShapes.{plain_vector_shape, IsVectorContour}
 use Rattle.overlay_vector.proofs.Zipped.{zipped_more}
 use Rattle.overlay_vector.proofs.contours.shape_at.Goals as goal
@@ -29,13 +28,9 @@ contour-requires g c =
     let place = get_or c.args.places.now c.loop-i.i 0 in
     let x = c.index-contours-place.result in
     let long = length-map c.args.contours.now plain in
-    let along = IsAlongOne (graph_edges c.args.graph.now) in
+    let along = RunsAlong whole (all_ends (graph_edges c.args.graph.now)) in
     let inside : place < length cs = c.requires.inside c.loop-i.i 0 c.loop-i-test.true in
-    let walk = walk_there cs place (plain x) inside
-    (read_mapped plain c.args.contours.now place x (plain x) (omega (arith, inside, long)) c.index-contours-place.is) in
-    subst (λ ss. All along (plain_steps whole ss))
-    (sym (c.deref.ensures.value ∙ ap (λ (y : _). y.steps.items) (sym c.index-contours-place.is)))
-    (subst (All along) walk (walk_has (All along) cs place c.requires.along inside))
+    subst (All along) (sym c.deref.ensures.value) (c.requires.along place x (omega (arith, inside, long)))
 
 pub loop-i-preserved : goal.loop-i-preserved
 loop-i-preserved g c =

@@ -3,19 +3,20 @@ use Rattle.std.proofs.Common.{◌∷◌, ◌++◌, [], ◌+◌, take, All, get_o
 use Rattle.std.specs.List.{AllZip}
 use Rattle.std.proofs.lemmas.List.{map-append, take_all}
 use Rattle.std.proofs.lemmas.List.Elements.{All-push}
-use Rattle.overlay_geom.proofs.Mapped.{mapped_more, All-mapped_at}
+use Rattle.overlay_geom.specs.Edges.{all_ends}
+use Rattle.overlay_geom.proofs.Mapped.{mapped_more}
 use Rattle.overlay_arrange.specs.Graphs.{graph_edges}
-use Rattle.overlay_walk.specs.Steps.{plain_step, plain_steps}
+use Rattle.overlay_walk.specs.Steps.{plain_step, plain_steps, RunsAlong}
 use Rattle.overlay_vector.specs.DataVectors.{plain_data_vector, plain_data_vectors}
 use Rattle.overlay_vector.specs.Joining.{IsInRange}
-use Rattle.overlay_vector.specs.VectorContours.{IsAlongOne}
 use Rattle.overlay_vector.specs.VectorShapes.{IsVectorAlong}
 use Rattle.overlay_vector.proofs.Zipped.{zipped_more}
 use Rattle.overlay_vector.proofs.contours.vectors_along.Goals as goal
 
 pub vector_along-requires : goal.vector_along-requires
-vector_along-requires g c = All-mapped_at (IsAlongOne (graph_edges c.args.graph.now)) (plain_step g.I.IntNumber.whole)
-    c.args.walk.now c.loop-i.i c.index-walk-i.result c.loop-i-test.true c.index-walk-i.is c.requires
+vector_along-requires g c =
+    let along = RunsAlong g.I.IntNumber.whole (all_ends (graph_edges c.args.graph.now)) in
+    subst along (sym c.index-walk-i.is) (c.requires c.loop-i.i c.index-walk-i.result c.loop-i-test.true)
 
 pub loop-i-preserved : goal.loop-i-preserved
 loop-i-preserved g c =

@@ -1,19 +1,18 @@
 -- What shows the contours at their places is the answer.
-use Rattle.std.proofs.Common.{All, length, sym, subst}
+use Rattle.std.proofs.Common.{All, length, refl, sym, subst}
 use Rattle.std.proofs.lemmas.Result.{IfOk-weaker}
+use Rattle.overlay_geom.specs.Edges.{all_ends}
 use Rattle.overlay_plane.specs.BoundContours.{walks_in, AreShapesFound}
 use Rattle.overlay_plane.specs.KeptContours.{CanBeBound}
 use Rattle.overlay_plane.specs.PlacedContours.{walks_at, CanBePlaced}
 use Rattle.overlay_arrange.specs.Graphs.{graph_edges}
-use Rattle.overlay_arrange.proofs.RuledContents.{ruled_content}
 use Rattle.overlay_walk.specs.Asked.{Asked, asked, is_kept, selected_of}
 use Rattle.overlay_walk.specs.GroupedContours.{plain_contours}
-use Rattle.overlay_walk.specs.Steps.{filled_hand, IsLong}
+use Rattle.overlay_walk.specs.Steps.{filled_hand, IsLong, RunsAlong}
 use Rattle.overlay_extract.specs.Places.{place_lists, AreInside}
 use Rattle.overlay_extract.proofs.PlacedShapes.{can_be_placed}
-use Rattle.overlay_vector.specs.VectorContours.{IsAlongOne, ArePlacedSomehow}
+use Rattle.overlay_vector.specs.VectorContours.{ArePlacedSomehow}
 use Rattle.overlay_vector.specs.VectorShapes.{plain_vector_shapes, AreVectorContours, AreVectorShapes}
-use Rattle.overlay_vector.proofs.AlongEdges.{kept_are_along}
 use Rattle.overlay_vector.proofs.VectorShapes.{vector_shapes_shown, without_groups}
 use Rattle.overlay_vector.proofs.vector_shapes.vector_shapes_with_trees_from.Goals as goal
 
@@ -42,15 +41,9 @@ places_in_shapes-requires-clause-placeable g c =
 
 pub assembled-requires-clause-along : goal.assembled-requires-clause-along
 assembled-requires-clause-along g c =
-    let whole = g.I.IntNumber.whole in
-    let limit = g.I.IntNumber.limit in
-    let es = graph_edges c.args.graph.now in
-    let q = without_groups (asked g.I.Wide.WideIntNumber.width g.I.WideUInt.UIntNumber.natural
-    c.args.graph.now.fill_rule c.args.overlay_rule c.args.options) in
-    let ruled = ruled_content limit es c.note_arrangement.ensures.content c.note_arrangement.ensures.ascending
-    c.note_arrangement.ensures.settled c.requires c.args.graph.now.fill_rule c.args.overlay_rule in
-    subst (λ cs. All (All (IsAlongOne es)) (walks_in (plain_contours whole cs))) (sym c.deref-2.ensures.value)
-    (kept_are_along q es (plain_contours whole c.in_ok-contours.contours.items) ruled c.in_ok-contours.ensures.kept.cut)
+    let along = RunsAlong g.I.IntNumber.whole (all_ends (graph_edges c.args.graph.now)) in
+    subst (All (λ (k : _). All along k.steps.items)) (sym c.deref-2.ensures.value)
+    (c.in_ok-contours.ensures.along refl)
 
 pub assembled-requires-clause-inside : goal.assembled-requires-clause-inside
 assembled-requires-clause-inside g c =

@@ -9,11 +9,11 @@ use Rattle.overlay_plane.specs.Binding.{all_filled_above}
 use Rattle.overlay_plane.specs.BoundContours.{known_in, AreShapesFound}
 use Rattle.overlay_plane.specs.Contours.{IsContour, all_steps}
 use Rattle.overlay_plane.specs.RoledContours.{Contour, stands_in}
-use Rattle.overlay_walk.specs.GroupedContours.{plain_contour, plain_contours}
+use Rattle.overlay_walk.specs.GroupedContours.{plain_contour, plain_contours, walk_of}
 use Rattle.overlay_walk.specs.Parents.{HasShapeNumber}
 use Rattle.overlay_walk.specs.Steps.{filled_hand, IsLong}
 use Rattle.overlay_walk.proofs.BoundRoles.{first_for_all, each_by_sweep}
-use Rattle.overlay_walk.proofs.RolesRead.{walk_of, walks_alike}
+use Rattle.overlay_walk.proofs.RolesRead.{walks_alike}
 use Rattle.overlay_walk.proofs.bind.bind_contours.Goals as goal
 
 pub returns-then-shape_count-eq1-clause-found : goal.returns-then-shape_count-eq1-clause-found
@@ -26,30 +26,30 @@ returns-then-shape_count-eq1-clause-found g c =
     (sym c.shape_count.ensures ∙ c.if-shape_count-eq1.true) all.1)
     c.all_in_first.ensures.ok
 
-pub find_in-requires-clause-long : goal.find_in-requires-clause-long
-find_in-requires-clause-long g c =
+pub find_shapes-requires-clause-long : goal.find_shapes-requires-clause-long
+find_shapes-requires-clause-long g c =
     subst (All (All (IsLong g.I.IntNumber.limit))) (walks_alike g.I.IntNumber.whole c.args.contours.now) c.requires.long
 
-pub find_in-requires-clause-contours : goal.find_in-requires-clause-contours
-find_in-requires-clause-contours g c =
+pub find_shapes-requires-clause-contours : goal.find_shapes-requires-clause-contours
+find_shapes-requires-clause-contours g c =
     subst (All IsContour) (walks_alike g.I.IntNumber.whole c.args.contours.now) c.requires.bindable.contours
 
-pub find_in-requires-clause-single : goal.find_in-requires-clause-single
-find_in-requires-clause-single g c =
+pub find_shapes-requires-clause-single : goal.find_shapes-requires-clause-single
+find_shapes-requires-clause-single g c =
     subst (All HasEachEdgeOnce) (walks_alike g.I.IntNumber.whole c.args.contours.now) c.requires.bindable.single
 
-pub find_in-requires-clause-distinct : goal.find_in-requires-clause-distinct
-find_in-requires-clause-distinct g c =
+pub find_shapes-requires-clause-distinct : goal.find_shapes-requires-clause-distinct
+find_shapes-requires-clause-distinct g c =
     subst (λ ws. AllPairs (λ e f. edge_eq e f ≡ false) (all_filled_above (filled_hand c.args.direction) ws))
     (walks_alike g.I.IntNumber.whole c.args.contours.now) c.requires.bindable.distinct_above
 
-pub find_in-requires-clause-settled : goal.find_in-requires-clause-settled
-find_in-requires-clause-settled g c =
+pub find_shapes-requires-clause-settled : goal.find_shapes-requires-clause-settled
+find_shapes-requires-clause-settled g c =
     subst (λ ws. IsSettledBy edge_of (all_steps ws)) (walks_alike g.I.IntNumber.whole c.args.contours.now)
     c.requires.bindable.settled
 
-pub find_in-requires-clause-known : goal.find_in-requires-clause-known
-find_in-requires-clause-known g c =
+pub find_shapes-requires-clause-known : goal.find_shapes-requires-clause-known
+find_shapes-requires-clause-known g c =
     let contours = plain_contours g.I.IntNumber.whole c.args.contours.now in
     ap length (c.deref.ensures.value ∙ c.in_ok-known.ensures.ok)
     ∙ length-map contours (λ (k : Contour). stands_in k.role)

@@ -1,5 +1,6 @@
 -- The edges are those of the walks so far.
 use Rattle.std.proofs.Common.{map}
+use Rattle.overlay_walk.specs.GroupedContours.{walk_of}
 use Rattle.overlay_walk.specs.Steps.{filled_hand}
 use Rattle.overlay_walk.specs.WalkEdges.{numbered_entries}
 use Rattle.overlay_walk.proofs.FilledEntries.{HaveFilled}
@@ -7,5 +8,5 @@ use Rattle.overlay_walk.proofs.filled_above_edges.edges_walk_by_walk.Given as go
 
 abbrev pub invariant-loop-i : goal.invariant-loop-i
 invariant-loop-i g l =
-    HaveFilled (filled_hand l.direction) (map g.W.Walk.walk l.walks) l.i
+    HaveFilled (filled_hand l.direction) (map (walk_of g.I.IntNumber.whole) l.contours) l.i
     (numbered_entries g.I.IntNumber.whole l.edges.items)

@@ -1,5 +1,5 @@
 -- The next outline is added.
-use Rattle.std.proofs.Common.{◌≡◌, ◌+◌, ◌++◌, [], ◌∷◌, sym, ap, ◌∙◌, arith}
+use Rattle.std.proofs.Common.{◌≡◌, ◌+◌, ◌++◌, [], ◌∷◌, map, sym, ap, ◌∙◌, arith}
 use Rattle.std.specs.Vec.Iter.{into_iter_items}
 use Rattle.std.proofs.lemmas.List.{append_assoc, length-append, map-append}
 use Rattle.overlay_plane.specs.Binding.{is_hole}
@@ -34,4 +34,7 @@ loop-steps-preserved g c =
           ∙ ap (λ ws. so_far ++ contours_from filled l.number (plain_walks whole ws)) (sym c.in-Some.ensures.steps.0)
           ∙ l.invariant.3,
       omega (arith, few, longer),
+      ap (λ (ks : _). map (λ (k : _). k.steps) ks) c.in_ok-push-2.ensures.items
+          ∙ map-append (λ (k : _). k.steps) l.contours.items _
+          ∙ ap (λ ws. ws ++ c.in-Some.steps ∷ []) l.invariant.5,
     )

@@ -1,5 +1,5 @@
 -- With the walks that are left, the contours so far are those of all walks.
-use Rattle.std.proofs.Common.{◌≡◌, ◌≤◌, ◌++◌, length}
+use Rattle.std.proofs.Common.{◌≡◌, ◌≤◌, ◌++◌, map, length}
 use Rattle.std.specs.Vec.Iter.{into_iter_items}
 use Rattle.overlay_plane.specs.RoledContours.{contours_from}
 use Rattle.overlay_walk.specs.GroupedContours.{plain_contours}
@@ -17,4 +17,5 @@ invariant-loop-steps g l =
     (plain_contours whole l.contours.items ++ contours_from filled l.number
     (plain_walks whole (into_iter_items l.steps-iterator))
     ≡ contours_from filled 0 (plain_walks whole l.fn.walks.items)) ×
-    (l.number ≤ length l.yielded)
+    (l.number ≤ length l.yielded) ×
+    (map (λ k. k.steps) l.contours.items ≡ l.yielded)

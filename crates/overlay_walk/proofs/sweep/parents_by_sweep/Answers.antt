@@ -11,6 +11,7 @@ use Rattle.overlay_geom.specs.Settled.{IsSettledBy}
 use Rattle.overlay_geom.proofs.Mapped.{read_mapped}
 use Rattle.overlay_scan.specs.Scan.{Entry}
 use Rattle.overlay_scan.specs.Sweeps.{IsByStart}
+use Rattle.overlay_walk.specs.GroupedContours.{walk_of}
 use Rattle.overlay_walk.specs.Parents.{IsSwept, HasShapeNumber}
 use Rattle.overlay_walk.specs.Steps.{filled_hand}
 use Rattle.overlay_walk.specs.WalkEdges.{numbered_entry, numbered_entries, IsHoleEntry, AreHoleEntries}
@@ -42,7 +43,7 @@ pub insert_up_to-requires-clause-settled : goal.insert_up_to-requires-clause-set
 insert_up_to-requires-clause-settled g c =
     let whole = g.I.IntNumber.whole in
     subst (λ es. IsSettledBy (λ f. f.edge) (numbered_entries whole es)) (sym c.deref.ensures.value)
-    (entries_settled (filled_hand c.args.direction) (map g.W.Walk.walk c.args.walks.now) c.requires.contours
+    (entries_settled (filled_hand c.args.direction) (map (walk_of whole) c.args.contours.now) c.requires.contours
     c.requires.settled
     (numbered_entries whole c.in_ok-edges.edges.items) c.in_ok-edges.ensures.ok)
 
@@ -78,7 +79,7 @@ walk_below-below-requires-clause-meets g c =
     let whole = g.I.IntNumber.whole in
     let limit = g.I.IntNumber.limit in
     let filled = filled_hand c.args.direction in
-    let walks = map g.W.Walk.walk c.args.walks.now in
+    let walks = map (walk_of g.I.IntNumber.whole) c.args.contours.now in
     let fs = numbered_entries whole c.in_ok-edges.edges.items in
     let hs = numbered_entries whole c.deref-hole-items.result.now in
     let h = numbered_entry whole c.hole-item.result in
@@ -107,7 +108,7 @@ index_mut-requires g c =
     let whole = g.I.IntNumber.whole in
     let limit = g.I.IntNumber.limit in
     let filled = filled_hand c.args.direction in
-    let walks = map g.W.Walk.walk c.args.walks.now in
+    let walks = map (walk_of g.I.IntNumber.whole) c.args.contours.now in
     let fs = numbered_entries whole c.in_ok-edges.edges.items in
     let hs = numbered_entries whole c.deref-hole-items.result.now in
     let h = numbered_entry whole c.hole-item.result in
@@ -121,7 +122,7 @@ index_mut-requires g c =
     let own = All-contains (IsHoleEntry walks c.args.known.now) hs h holes.from (i, inside, sym here) in
     let within = slice_get_within walks h.value own.walk own.at in
     let counted = c.loop-hole.invariant.0 in
-    let mapped = length-map c.args.walks.now g.W.Walk.walk in
+    let mapped = length-map c.args.contours.now (walk_of g.I.IntNumber.whole) in
     let held = c.loop-hole.parents.ok.0 in
     omega arith
 
@@ -130,7 +131,7 @@ loop-hole-preserved g c =
     let whole = g.I.IntNumber.whole in
     let limit = g.I.IntNumber.limit in
     let filled = filled_hand c.args.direction in
-    let walks = map g.W.Walk.walk c.args.walks.now in
+    let walks = map (walk_of g.I.IntNumber.whole) c.args.contours.now in
     let fs = numbered_entries whole c.in_ok-edges.edges.items in
     let hs = numbered_entries whole c.deref-hole-items.result.now in
     let h = numbered_entry whole c.hole-item.result in
@@ -151,7 +152,7 @@ loop-hole-preserved g c =
     let t = g.S.Scan.content c.walk_below-below.new.scan in
     let known = c.args.known.now in
     let parents = c.loop-hole.parents.items in
-    let mapped = length-map c.args.walks.now g.W.Walk.walk in
+    let mapped = length-map c.args.contours.now (walk_of g.I.IntNumber.whole) in
     let counted : length parents ≡ length walks = c.loop-hole.invariant.0 ∙ sym mapped in
     let known_counted : length known ≡ length walks = c.requires.known ∙ sym mapped in
     let shape : c.shape_at.result ≡ shape_of known parents c.walk_below-below.result = c.shape_at.ensures
@@ -165,7 +166,7 @@ loop-hole-preserved g c =
           (take (i + 1) hs)) (sym shape)
           (numbers_on filled walks c.requires.contours c.requires.settled c.requires.single c.args.known.now h own fs
           c.in_ok-edges.ensures.ok limit n s swept rest known_counted hs holes parents counted i inside here t
-          c.walk_below-below.ensures.content c.walk_below-below.ensures.state (length c.args.walks.now)
+          c.walk_below-below.ensures.content c.walk_below-below.ensures.state (length c.args.contours.now)
           (sym mapped) c.walk_below-below.result
           c.walk_below-below.ensures.value c.loop-hole.invariant.3),
     )
@@ -174,7 +175,7 @@ pub returns-clause-numbers : goal.returns-clause-numbers
 returns-clause-numbers g c =
     let whole = g.I.IntNumber.whole in
     let filled = filled_hand c.args.direction in
-    let walks = map g.W.Walk.walk c.args.walks.now in
+    let walks = map (walk_of g.I.IntNumber.whole) c.args.contours.now in
     let hs = numbered_entries whole c.deref-hole-items.result.now in
     let holes : AreHoleEntries walks c.args.known.now hs =
     subst (λ es. AreHoleEntries walks c.args.known.now (numbered_entries whole es))
