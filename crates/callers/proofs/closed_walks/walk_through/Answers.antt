@@ -23,7 +23,7 @@ loop-i-preserved g c = (
 
 pub returns-clause-closed : goal.returns-clause-closed
 returns-clause-closed g c = record {
-  start = plain_point g.I.IntNumber.whole c.args.points;
+  start = _;
   leads_back = c.in_ok-push_step-2.ensures.leads _ c.loop-i.invariant.0;
 }
 
