@@ -1,7 +1,10 @@
-//! Edges that are refused for want of memory: what was added before stays, and the store with it.
+//! Edges that are refused for want of memory: what was added before stays, and the store with it; and what a builder
+//! answers of which a query was refused so.
 
 use crate::colour::Colour;
 use crate::edges::{add, add_each, edge_of};
+use overlay_arrange::fill_rule::FillRule;
+use overlay_arrange::overlay_rule::OverlayRule;
 use overlay_geom::error::OverlayError;
 use overlay_geom::integer::OverlayInt;
 use overlay_vector::edge_overlay::{EdgeOverlay, ShapeType};
@@ -132,5 +135,34 @@ fn refused_edges_leave_those_before(rt: HostRuntime) -> Result<(), Fail> {
     assert!(&rt; some_are_refused_first::<i16>(&rt, rt.alloc())?);
     assert!(&rt; some_are_refused_first::<i32>(&rt, rt.alloc())?);
     assert!(&rt; some_are_refused_first::<i64>(&rt, rt.alloc())?);
+    Ok(())
+}
+
+// Whether a builder of an open edge, of which a query was refused, answers `Failed` where it is asked for shapes.
+fn failed_one_answers<I: OverlayInt + From<i16>>(
+    rt: &impl Abort,
+    alloc: Global,
+) -> Result<bool, Fail> {
+    let memory = Refusing::new(alloc, PLENTY);
+    let mut overlay = Refusable::<I>::new(&memory, 1)?;
+    let ends = ((0, 0), (4, 0));
+    add(rt, &mut overlay, ends, Colour::Red, ShapeType::Subject)?;
+    memory.grant(0);
+    let Err(error) = overlay.build_vectors(OverlayRule::Subject, FillRule::NonZero) else {
+        return Ok(false);
+    };
+    assert!(rt; error == OverlayError::Memory);
+    memory.grant(PLENTY);
+    match overlay.build_vector_shapes(OverlayRule::Subject, FillRule::NonZero) {
+        Ok(_) => Ok(false),
+        Err(error) => Ok(error == OverlayError::Failed),
+    }
+}
+
+#[test]
+fn a_failed_builder_may_be_asked_for_shapes(rt: HostRuntime) -> Result<(), Fail> {
+    assert!(&rt; failed_one_answers::<i16>(&rt, rt.alloc())?);
+    assert!(&rt; failed_one_answers::<i32>(&rt, rt.alloc())?);
+    assert!(&rt; failed_one_answers::<i64>(&rt, rt.alloc())?);
     Ok(())
 }

@@ -4,7 +4,7 @@ use Rattle.std.proofs.lemmas.Bool.{false≢true}
 use Rattle.std.specs.Prelude.{◌↔◌, Result, Ok, Err, IfOk, OnOk, IsTrue}
 use Rattle.overlay_geom.specs.declared.error.OverlayError.{OverlayError}
 use Rattle.overlay_geom.specs.Edges.{CountedEdge}
-use Rattle.overlay_plane.specs.Predicates.{Intersects, IsDisjoint}
+use Rattle.overlay_plane.specs.Predicates.{Intersects, IsDisjoint, IsFillable}
 use Rattle.overlay_arrange.specs.Arranged.{IsArranged}
 use Rattle.overlay_arrange.specs.Rules.{is_filled}
 use Rattle.overlay_arrange.specs.declared.fill_rule.FillRule.{FillRule}
@@ -15,10 +15,17 @@ use Rattle.i_overlay.specs.Relations.{TellsOfPaths}
 pub answer_of_paths : (r : Result Bool OverlayError) (relation : (ℤ → Bool) → List CountedEdge → Type 0)
     (fill : FillRule) (paths : List GivenPath)
     (content edges : List CountedEdge) → HoldsPaths false paths content → OnOk r (IsArranged 64 content edges)
+    → OnOk r (IsFillable (is_filled fill) edges)
     → IfOk r (λ b. IsTrue b ↔ relation (is_filled fill) edges) → IfOk r (TellsOfPaths relation fill paths)
-answer_of_paths (Ok b) relation fill paths content edges holds arranged tells =
-    record { content = content; edges = edges; holds = holds; arranged = arranged; tells = tells }
-answer_of_paths (Err e) relation fill paths content edges holds arranged tells = tt
+answer_of_paths (Ok b) relation fill paths content edges holds arranged fillable tells = record {
+  content = content;
+  edges = edges;
+  holds = holds;
+  arranged = arranged;
+  fillable = fillable;
+  tells = tells;
+}
+answer_of_paths (Err e) relation fill paths content edges holds arranged fillable tells = tt
 
 -- where one answer tells whether the shapes intersect, the opposite one tells whether they are disjoint
 pub opposite_tells : (filled : ℤ → Bool) (edges : List CountedEdge) (meets : Bool) →
@@ -35,5 +42,6 @@ disjoint_of_paths fill paths meets h = record {
   edges = h.edges;
   holds = h.holds;
   arranged = h.arranged;
+  fillable = h.fillable;
   tells = opposite_tells (is_filled fill) h.edges meets h.tells;
 }

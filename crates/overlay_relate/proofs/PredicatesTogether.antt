@@ -7,6 +7,7 @@ use Rattle.overlay_geom.specs.Edges.{CountedEdge, ends_of, all_ends, subj_of, cl
 use Rattle.overlay_plane.specs.EdgePredicates.{has_both, has_common_side}
 use Rattle.overlay_plane.specs.Predicates.{fills_at, fills_above, fills_below, fills_a_side, IsInClosedRegion}
 use Rattle.overlay_plane.specs.Predicates.{LiesWithin}
+use Rattle.overlay_plane.proofs.EdgesTell.{edges_tell_predicates}
 use Rattle.overlay_arrange.specs.Rules.{is_filled}
 use Rattle.overlay_arrange.specs.declared.fill_rule.FillRule.{FillRule}
 use Rattle.overlay_arrange.proofs.RuledContents.{zero_is_empty}
@@ -14,7 +15,7 @@ use Rattle.overlay_relate.specs.PredicateLaws.{TouchesIsIntersectsAlone, PointIn
 use Rattle.overlay_relate.specs.PredicateLaws.{WithinInteriorsIntersect, EmptyIsWithinNothing}
 use Rattle.overlay_relate.specs.PredicateLaws.{DisjointIsNoIntersection, exchanged, CoversIsWithinExchanged}
 use Rattle.overlay_relate.specs.PredicateLaws.{RegionsTellPredicates, NothingHoldsWithoutEdges}
-use Rattle.overlay_relate.proofs.ToldByEdges.{told_by_edges}
+use Rattle.overlay_relate.proofs.ToldByEdges.{fillable}
 
 pub touches_is_intersects_alone : TouchesIsIntersectsAlone
 touches_is_intersects_alone fill es = (λ h. h, λ h. h)
@@ -35,10 +36,11 @@ common_side_is_both filled es e t = ⊎_elim
     (fills_below filled es subj_of e && fills_below filled es clip_of e) t)
 
 pub point_intersects_touches : PointIntersectsTouches
-point_intersects_touches limit fill es arranged balanced (meets, none) = (
+point_intersects_touches fill es planar balanced (meets, none) = (
   meets,
   λ inside.
-      let some = (told_by_edges limit es arranged balanced fill).interiors_intersect.0 inside in
+      let some = (edges_tell_predicates (is_filled fill) es (fillable fill es planar balanced)).interiors_intersect.0
+      inside in
       both_ways (has_both (is_filled fill) es some.0) (none some.0 some.1)
       (common_side_is_both (is_filled fill) es some.0 some.2),
 )

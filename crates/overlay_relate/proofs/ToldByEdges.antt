@@ -3,27 +3,37 @@ use Rattle.std.proofs.Common.{◌≡◌, ◌⊎◌, ℕ, ℤ, Bool, true, false,
 use Rattle.std.proofs.lemmas.Bool.{false≢true, both_ways}
 use Rattle.std.specs.Prelude.{◌↔◌, IsTrue}
 use Rattle.overlay_geom.specs.Edges.{CountedEdge, subj_of}
+use Rattle.overlay_geom.specs.Settled.{IsSettled}
 use Rattle.overlay_plane.specs.Balance.{HasBalancedCounts}
 use Rattle.overlay_plane.specs.EdgePredicates.{SomeEdge, HasSharedEnd, has_both, has_common_side, pokes_out, EdgesTell}
 use Rattle.overlay_plane.specs.Predicates.{fills_a_side, Intersects, InteriorsIntersect, Touches, PointIntersects}
 use Rattle.overlay_plane.specs.Predicates.{IsWithin, IsFillable}
+use Rattle.overlay_plane.specs.Regions.{IsPlanar}
 use Rattle.overlay_plane.proofs.EdgesTell.{edges_tell_predicates}
+use Rattle.overlay_arrange.specs.Content.{IsContent, IsAscending}
 use Rattle.overlay_arrange.specs.Graphs.{IsArrangement}
 use Rattle.overlay_arrange.specs.Rules.{is_filled}
 use Rattle.overlay_arrange.specs.declared.fill_rule.FillRule.{FillRule}
 use Rattle.overlay_arrange.proofs.RuledContents.{zero_is_empty, planar_content}
 
+-- predicates may be asked of a planar list with balanced counts
+pub fillable : (rule : FillRule) (es : List CountedEdge) → IsPlanar es → HasBalancedCounts es →
+    IsFillable (is_filled rule) es
+fillable rule es planar balanced = record { planar = planar; balanced = balanced; none = zero_is_empty rule }
+
+-- so they may of what a content holds that ascends and is settled
+pub fillable_content : (limit : ℕ) (rule : FillRule) (es : List CountedEdge) → IsContent limit es → IsAscending es →
+    IsSettled es → HasBalancedCounts es → IsFillable (is_filled rule) es
+fillable_content limit rule es content ascending settled balanced =
+    fillable rule es (planar_content limit es content ascending settled) balanced
+
 module _ (limit : ℕ) (es : List CountedEdge) (arranged : IsArrangement limit es) (balanced : HasBalancedCounts es)
     (rule : FillRule) where
-  -- predicates may be asked of an arrangement with balanced counts
   fillable_arrangement : IsFillable (is_filled rule) es
-  fillable_arrangement = record {
-    planar = planar_content limit es arranged.content arranged.ascending arranged.settled;
-    balanced = balanced;
-    none = zero_is_empty rule;
-  }
+  fillable_arrangement =
+      fillable_content limit rule es arranged.content arranged.ascending arranged.settled balanced
 
-  -- so its edges tell them
+  -- its edges tell them
   pub told_by_edges : EdgesTell (is_filled rule) es
   told_by_edges = edges_tell_predicates (is_filled rule) es fillable_arrangement
 

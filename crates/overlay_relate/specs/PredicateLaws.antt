@@ -1,11 +1,11 @@
 -- How the predicates of one arrangement hang together, and what they have to do with overlays.
-use Rattle.std.specs.Prelude.{◌≡◌, ◌↔◌, ℕ, false, List, [], map}
+use Rattle.std.specs.Prelude.{◌≡◌, ◌↔◌, false, List, [], map}
 use Rattle.overlay_geom.specs.Plane.{PlanePoint, IsOff}
 use Rattle.overlay_geom.specs.Edges.{CountedEdge, all_ends, subj_of, clip_of}
 use Rattle.overlay_plane.specs.Balance.{HasBalancedCounts}
 use Rattle.overlay_plane.specs.Predicates.{fills_at, HoldsSomewhere, Intersects, InteriorsIntersect, Touches}
 use Rattle.overlay_plane.specs.Predicates.{PointIntersects, IsWithin, Covers, IsDisjoint}
-use Rattle.overlay_arrange.specs.Graphs.{IsArrangement}
+use Rattle.overlay_plane.specs.Regions.{IsPlanar}
 use Rattle.overlay_arrange.specs.Rules.{is_filled, rules_hold}
 use Rattle.overlay_arrange.specs.declared.fill_rule.FillRule.{FillRule}
 use Rattle.overlay_arrange.specs.declared.overlay_rule.OverlayRule.TheVariants.{Subject, Intersect, Difference}
@@ -15,10 +15,9 @@ abbrev pub TouchesIsIntersectsAlone : Type 0
 TouchesIsIntersectsAlone = (fill : FillRule) (es : List CountedEdge) →
     Touches (is_filled fill) es ↔ (Intersects (is_filled fill) es × (¬ (InteriorsIntersect (is_filled fill) es)))
 
--- of an arrangement with balanced counts, shapes that meet in single points alone touch
+-- of a planar list with balanced counts, shapes that meet in single points alone touch
 abbrev pub PointIntersectsTouches : Type 0
-PointIntersectsTouches = (limit : ℕ) (fill : FillRule) (es : List CountedEdge) → IsArrangement limit es →
-    HasBalancedCounts es →
+PointIntersectsTouches = (fill : FillRule) (es : List CountedEdge) → IsPlanar es → HasBalancedCounts es →
     PointIntersects (is_filled fill) es → Touches (is_filled fill) es
 
 -- where the subject lies within the clip, the interiors intersect

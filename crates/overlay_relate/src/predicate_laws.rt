@@ -10,7 +10,8 @@ pub fn touches_is_intersects_alone()
     ensures { TouchesIsIntersectsAlone }
 {}
 
-/// Of an arrangement with balanced counts, shapes that meet in single points alone touch.
+/// Of edges that lead forward, meet in ends alone and have balanced counts, shapes that meet in single points alone
+/// touch.
 pub fn point_intersects_touches()
     ensures { PointIntersectsTouches }
 {}

@@ -184,6 +184,7 @@ module _ (width : Width) (min : ℕ) (fill : FillRule) (direction : ContourDirec
 
   pub sliced : IsSliced width min fill direction es result
   sliced = record {
+    balanced = arranged;
     contours = contours;
     shapes = shapes;
     slices = slices;

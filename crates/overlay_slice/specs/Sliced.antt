@@ -9,6 +9,7 @@ use Rattle.overlay_plane.specs.BesideOrbits.{HasEachOnce}
 use Rattle.overlay_plane.specs.BoundContours.{NoHoleIsLost}
 use Rattle.overlay_plane.specs.ContourWindings.{wanted_winding}
 use Rattle.overlay_plane.specs.Groups.{HasEachPointOnce}
+use Rattle.overlay_plane.specs.Nodes.{IsBalancedArrangement}
 use Rattle.overlay_plane.specs.RoledContours.{Contour}
 use Rattle.overlay_plane.specs.ShapeWindings.{steps_of_shapes}
 use Rattle.overlay_arrange.specs.Rules.{is_filled, rules_hold}
@@ -64,6 +65,8 @@ WindsRoundFilled fill direction es steps = (p : PlanePoint) → IsOff (map ends_
 -- type of this width, are left out
 pub record IsSliced (width : Width) (min : ℕ) (fill : FillRule) (direction : ContourDirection) (es : List CountedEdge)
     (result : List (List (List Point))) : Type 0 where
+  -- the edges lead forward and meet in ends alone, and the subject's counts are balanced, as laws of filled sides ask
+  pub balanced : IsBalancedArrangement subj_of es
   -- the loops into which the filled sides are cut, as far as they reach the minimum area; of those that are holes, the
   -- shape: the parent, or the one shape that there is
   pub contours : List Contour

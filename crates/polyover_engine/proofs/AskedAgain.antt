@@ -3,11 +3,12 @@ use Rattle.std.proofs.Common.{◌≡◌, ◌⊎◌, inl, inr, ℕ, ◌<◌, ℤ,
 use Rattle.std.proofs.Common.{subst, ◌∙◌, arith}
 use Rattle.std.proofs.lemmas.Bool.{false≢true}
 use Rattle.std.proofs.lemmas.List.{length-map, get_or-map, map-id}
-use Rattle.std.specs.Prelude.{◌↔◌, Result, Ok, Err, IfOk, MatchResult, IsTrue}
+use Rattle.std.specs.Prelude.{◌↔◌, Result, Ok, Err, IfOk, OnOk, MatchResult, IsTrue}
 use Rattle.overlay_geom.specs.Edges.{CountedEdge}
 use Rattle.overlay_geom.specs.declared.error.OverlayError.{OverlayError}
 use Rattle.overlay_geom.specs.declared.error.OverlayError.TheVariants.{Memory, NotSettled, TooManyEdges, Failed}
 use Rattle.overlay_plane.specs.Arrangements.{IsReachedBy}
+use Rattle.overlay_plane.specs.Predicates.{IsFillable}
 use Rattle.overlay_arrange.specs.Arranged.{IsArranged, MayRefuseSplitting, WasArranged}
 use Rattle.overlay_arrange.specs.Rules.{is_filled}
 use Rattle.overlay_arrange.specs.declared.fill_rule.FillRule.{FillRule}
@@ -123,14 +124,16 @@ told_of_arrangement relation cs fill content edges old new b rule h told =
 pub told_or_refused : (r : Result Bool OverlayError) (relation : (ℤ → Bool) → List CountedEdge → Type 0) (limit : ℕ)
     (cs : List GivenPath) (fill : FillRule) (old new : PredicateBuilder) → HasAddedUnder fill cs old
     → AnswersQuery limit 64 (held_by old) (held_by new) r
+    → OnOk r (IsFillable (is_filled old.fill_rule) new.edges)
     → IfOk r (λ b. IsTrue b ↔ relation (is_filled old.fill_rule) new.edges)
     → MatchResult r (λ b. TellsOfPaths relation fill cs b) (λ e. MayRefusePaths cs e)
-told_or_refused (Ok b) relation limit cs fill old new h query told = record {
+told_or_refused (Ok b) relation limit cs fill old new h query fillable told = record {
   content = old.edges;
   edges = new.edges;
   holds = h.holds;
   arranged = query.arranged;
+  fillable = subst (λ f. IsFillable (is_filled f) new.edges) h.rule fillable;
   tells = subst (λ f. IsTrue b ↔ relation (is_filled f) new.edges) h.rule told;
 }
-told_or_refused (Err e) relation limit cs fill old new h query told =
+told_or_refused (Err e) relation limit cs fill old new h query fillable told =
     query_refused limit cs (held_by old) (held_by new) (Err e) h.holds h.ready query

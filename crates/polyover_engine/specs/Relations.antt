@@ -3,7 +3,7 @@ use Rattle.std.specs.Prelude.{◌≡◌, ◌↔◌, ◌⊎◌, false, List, map,
 use Rattle.overlay_geom.specs.Edges.{CountedEdge}
 use Rattle.overlay_geom.specs.declared.error.OverlayError.{OverlayError}
 use Rattle.overlay_plane.specs.Predicates.{Intersects, InteriorsIntersect, Touches, PointIntersects, IsWithin}
-use Rattle.overlay_plane.specs.Predicates.{IsDisjoint}
+use Rattle.overlay_plane.specs.Predicates.{IsDisjoint, IsFillable}
 use Rattle.overlay_arrange.specs.Arranged.{IsArranged}
 use Rattle.overlay_arrange.specs.Rules.{is_filled}
 use Rattle.overlay_arrange.specs.declared.fill_rule.FillRule.{FillRule}
@@ -33,12 +33,14 @@ abbrev pub exchanged : List GivenPath → List GivenPath
 exchanged cs = taken_paths Clip cs
 
 -- the answers tell whether the relations hold of some arrangement of the edges that the contours give, under the fill
--- rule; the last one, whether the subject lies within the clip in some arrangement of the contours exchanged
+-- rule, whose edges are planar, with balanced counts; the last one, whether the subject lies within the clip in some
+-- arrangement of the contours exchanged
 pub record AreRelations (cs : List GivenPath) (fill : FillRule) (r : Relations) : Type 0 where
   pub content : List CountedEdge
   pub edges : List CountedEdge
   pub holds : HoldsPaths false cs content
   pub arranged : IsArranged 64 content edges
+  pub fillable : IsFillable (is_filled fill) edges
   pub intersects : IsTrue r.intersects ↔ Intersects (is_filled fill) edges
   pub interiors_intersect : IsTrue r.interiors_intersect ↔ InteriorsIntersect (is_filled fill) edges
   pub touches : IsTrue r.touches ↔ Touches (is_filled fill) edges

@@ -1,9 +1,10 @@
 //! The predicates of a builder: how its subject and its clip lie to each other.
 
-ghost use Rattle.std.specs.Prelude.{◌≡◌, ◌↔◌, false, IsTrue, IfOk, IsOkUnless, IsErrOf};
+ghost use Rattle.std.specs.Prelude.{◌≡◌, ◌↔◌, false, IsTrue, IfOk, OnOk, IsOkUnless, IsErrOf};
 ghost use Rattle.overlay_geom.specs.Settled.{IsSettled};
 ghost use Rattle.overlay_plane.specs.Balance.{HasBalancedCounts};
 ghost use Rattle.overlay_plane.specs.Predicates.{Intersects, InteriorsIntersect, Touches, PointIntersects, IsWithin};
+ghost use Rattle.overlay_plane.specs.Predicates.{IsFillable};
 ghost use Rattle.overlay_arrange.specs.Content.{IsAscending};
 ghost use Rattle.overlay_arrange.specs.Rules.{is_filled};
 ghost use Rattle.overlay_builder.specs.Held.{AnswersQuery};
@@ -23,8 +24,8 @@ impl<I: OverlayInt, A: Allocator + Clone> PredicateOverlay<I, A> {
     ///
     /// In each round equal edges are merged, and each edge is cut where others meet it; a meeting
     /// point that is not whole is rounded to one whole point, at most 1/2 away in x and in y. What was
-    /// arranged before stays as it is. The answer is that of the edges which are held afterwards; where
-    /// there are none it is `false`.
+    /// arranged before stays as it is. The answer is that of the edges which are held afterwards, which
+    /// lead forward, meet in ends alone and have balanced counts; where there are none it is `false`.
     ///
     /// Refusals: `Failed` before anything else, and then nothing is changed; `NotSettled` where
     /// edges still meet in points that are no ends of both after 64 rounds; `TooManyEdges` where a
@@ -34,6 +35,7 @@ impl<I: OverlayInt, A: Allocator + Clone> PredicateOverlay<I, A> {
         ensures query { AnswersQuery I.limit 64 (held_by self.old) (held_by self.new) result }
         ensures answer { IfOk result (λ b. IsTrue b ↔ Intersects (is_filled self.old.fill_rule) self.new.edges) }
         ensures kept { self.new ≡ record self.old { edges = self.new.edges; failed = self.new.failed } }
+        ensures fillable { OnOk result (IsFillable (is_filled self.old.fill_rule) self.new.edges) }
         ensures untouched { IsErrOf result OverlayError.Failed → self.new ≡ self.old }
     {
         self.ask(Predicate::Intersect)
@@ -46,6 +48,7 @@ impl<I: OverlayInt, A: Allocator + Clone> PredicateOverlay<I, A> {
         ensures answer { IfOk result (λ b. IsTrue b
             ↔ InteriorsIntersect (is_filled self.old.fill_rule) self.new.edges) }
         ensures kept { self.new ≡ record self.old { edges = self.new.edges; failed = self.new.failed } }
+        ensures fillable { OnOk result (IsFillable (is_filled self.old.fill_rule) self.new.edges) }
         ensures untouched { IsErrOf result OverlayError.Failed → self.new ≡ self.old }
     {
         self.ask(Predicate::InteriorsIntersect)
@@ -57,6 +60,7 @@ impl<I: OverlayInt, A: Allocator + Clone> PredicateOverlay<I, A> {
         ensures query { AnswersQuery I.limit 64 (held_by self.old) (held_by self.new) result }
         ensures answer { IfOk result (λ b. IsTrue b ↔ Touches (is_filled self.old.fill_rule) self.new.edges) }
         ensures kept { self.new ≡ record self.old { edges = self.new.edges; failed = self.new.failed } }
+        ensures fillable { OnOk result (IsFillable (is_filled self.old.fill_rule) self.new.edges) }
         ensures untouched { IsErrOf result OverlayError.Failed → self.new ≡ self.old }
     {
         self.ask(Predicate::Touch)
@@ -70,6 +74,7 @@ impl<I: OverlayInt, A: Allocator + Clone> PredicateOverlay<I, A> {
         ensures answer { IfOk result (λ b. IsTrue b
             ↔ PointIntersects (is_filled self.old.fill_rule) self.new.edges) }
         ensures kept { self.new ≡ record self.old { edges = self.new.edges; failed = self.new.failed } }
+        ensures fillable { OnOk result (IsFillable (is_filled self.old.fill_rule) self.new.edges) }
         ensures untouched { IsErrOf result OverlayError.Failed → self.new ≡ self.old }
     {
         self.ask(Predicate::PointIntersect)
@@ -82,6 +87,7 @@ impl<I: OverlayInt, A: Allocator + Clone> PredicateOverlay<I, A> {
         ensures query { AnswersQuery I.limit 64 (held_by self.old) (held_by self.new) result }
         ensures answer { IfOk result (λ b. IsTrue b ↔ IsWithin (is_filled self.old.fill_rule) self.new.edges) }
         ensures kept { self.new ≡ record self.old { edges = self.new.edges; failed = self.new.failed } }
+        ensures fillable { OnOk result (IsFillable (is_filled self.old.fill_rule) self.new.edges) }
         ensures untouched { IsErrOf result OverlayError.Failed → self.new ≡ self.old }
     {
         self.ask(Predicate::Within)
@@ -93,6 +99,7 @@ impl<I: OverlayInt, A: Allocator + Clone> PredicateOverlay<I, A> {
         ensures answer { IfOk result (λ b. IsTrue b
             ↔ Holds predicate (is_filled self.old.fill_rule) self.new.edges) }
         ensures kept { self.new ≡ record self.old { edges = self.new.edges; failed = self.new.failed } }
+        ensures fillable { OnOk result (IsFillable (is_filled self.old.fill_rule) self.new.edges) }
         ensures untouched { IsErrOf result OverlayError.Failed → self.new ≡ self.old }
     {
         self.core.arrange(&mut ())?;
@@ -107,6 +114,7 @@ impl<I: OverlayInt, A: Allocator + Clone> PredicateOverlay<I, A> {
         requires ascending { IsAscending self.now.edges }
         requires settled { IsSettled self.now.edges }
         ensures answer { IfOk result (λ b. IsTrue b ↔ Holds predicate (is_filled self.now.fill_rule) self.now.edges) }
+        ensures fillable { OnOk result (IsFillable (is_filled self.now.fill_rule) self.now.edges) }
         ensures err { IsOkUnless result OverlayError.Memory }
     {
         let graph = self.core.content().graph(self.fill_rule)?;

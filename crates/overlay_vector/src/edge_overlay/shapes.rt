@@ -5,6 +5,7 @@ ghost use Rattle.overlay_geom.specs.Settled.{IsSettled};
 ghost use Rattle.overlay_plane.specs.Balance.{HasBalancedCounts};
 ghost use Rattle.overlay_plane.specs.Carried.{edges_in};
 ghost use Rattle.overlay_arrange.specs.Content.{IsAscending};
+ghost use Rattle.overlay_builder.specs.GivenPaths.{IsBalancedUnlessFailed};
 ghost use Rattle.overlay_builder.specs.Held.{AnswersQuery};
 ghost use Rattle.overlay_extract.specs.Results.{asked};
 ghost use Rattle.overlay_vector.specs.EdgeBuilder.{held_by, IsArrangedWithData};
@@ -40,13 +41,14 @@ impl<I: OverlayInt, D: OverlayEdgeData, A: Allocator + Clone> EdgeOverlay<I, D, 
     /// parent is left out. After an answer there is a buffer, `boolean_buffer`.
     ///
     /// The edges are balanced, as `is_balanced` tells: as many steps of the subject, and of the clip, enter
-    /// each point as leave it. Refusals are those of `build_vectors`.
+    /// each point as leave it. A builder that has failed may be asked whatever it holds, and answers `Failed`.
+    /// Refusals are those of `build_vectors`.
     pub fn build_vector_shapes(
         &mut self,
         overlay_rule: OverlayRule,
         fill_rule: FillRule,
     ) -> Result<Vec<DataVectorShape<I, D, A>, A>, OverlayError>
-        requires { HasBalancedCounts (edges_in self.old.edges) }
+        requires { IsBalancedUnlessFailed self.old.failed (edges_in self.old.edges) }
         ensures query { AnswersQuery I.limit 64 (held_by self.old) (held_by self.new) result }
         ensures carried { OnOk result
             (IsArrangedWithData D.merges D.splits D.reverses 64 self.old.edges self.new.edges) }

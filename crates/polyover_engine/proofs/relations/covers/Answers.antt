@@ -10,7 +10,7 @@ use Rattle.polyover_engine.proofs.relations.covers.Goals as goal
 pub returns : goal.returns
 returns g c =
     told_or_refused c.within.result IsWithin _ _ c.args.fill_rule c.in_ok-exchanged.exchanged c.within.new.self
-    c.in_ok-exchanged.ensures c.within.ensures.query c.within.ensures.answer
+    c.in_ok-exchanged.ensures c.within.ensures.query c.within.ensures.fillable c.within.ensures.answer
 
 pub returns-in_err-exchanged : goal.returns-in_err-exchanged
 returns-in_err-exchanged g c =

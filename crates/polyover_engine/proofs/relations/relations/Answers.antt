@@ -2,6 +2,7 @@ use Rattle.std.proofs.Common.{Err, inl, inr, subst}
 use Rattle.std.proofs.lemmas.Result.{err_from_is_err_and}
 use Rattle.overlay_arrange.specs.Rules.{is_filled}
 use Rattle.overlay_plane.specs.Predicates.{Intersects, InteriorsIntersect, Touches, PointIntersects, IsWithin}
+use Rattle.overlay_plane.specs.Predicates.{IsFillable}
 use Rattle.i_overlay.proofs.OneShots.{query_refused}
 use Rattle.i_overlay.proofs.Relations.{opposite_tells}
 use Rattle.overlay_relate.specs.PredicateBuilder.{held_by}
@@ -129,6 +130,7 @@ returns g c =
       edges = edges;
       holds = first.holds;
       arranged = first.arranged;
+      fillable = subst (λ f. IsFillable (is_filled f) edges) added.rule c.in_ok-intersects.ensures.fillable;
       intersects = meets;
       interiors_intersect = told_of_arrangement InteriorsIntersect cs c.args.fill_rule content edges
           c.intersects.new.self

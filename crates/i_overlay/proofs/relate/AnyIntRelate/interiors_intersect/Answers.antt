@@ -1,7 +1,7 @@
 -- The new builder answers of the paths that were added to it.
 use Rattle.std.proofs.Common.{ap, subst}
-use Rattle.std.specs.Prelude.{◌↔◌, IfOk, IsTrue}
-use Rattle.overlay_plane.specs.Predicates.{InteriorsIntersect}
+use Rattle.std.specs.Prelude.{◌↔◌, IfOk, OnOk, IsTrue}
+use Rattle.overlay_plane.specs.Predicates.{InteriorsIntersect, IsFillable}
 use Rattle.overlay_arrange.specs.Rules.{is_filled}
 use Rattle.overlay_arrange.specs.declared.fill_rule.FillRule.TheVariants.{EvenOdd}
 use Rattle.overlay_relate.specs.PredicateBuilder.{held_by}
@@ -15,6 +15,8 @@ returns-clause-answer g c =
     let new = c.interiors_intersect.new.self in
     answer_of_paths c.interiors_intersect.result InteriorsIntersect EvenOdd _ _ new.edges made.ok
     c.interiors_intersect.ensures.query.arranged
+    (subst (λ rule. OnOk c.interiors_intersect.result (IsFillable (is_filled rule) new.edges))
+    (ap (λ o. o.fill_rule) made.made) c.interiors_intersect.ensures.fillable)
     (subst (λ rule. IfOk c.interiors_intersect.result (λ b. IsTrue b ↔ InteriorsIntersect (is_filled rule) new.edges))
     (ap (λ o. o.fill_rule) made.made) c.interiors_intersect.ensures.answer)
 

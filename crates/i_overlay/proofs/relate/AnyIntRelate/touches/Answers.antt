@@ -1,7 +1,7 @@
 -- The new builder answers of the paths that were added to it.
 use Rattle.std.proofs.Common.{ap, subst}
-use Rattle.std.specs.Prelude.{◌↔◌, IfOk, IsTrue}
-use Rattle.overlay_plane.specs.Predicates.{Touches}
+use Rattle.std.specs.Prelude.{◌↔◌, IfOk, OnOk, IsTrue}
+use Rattle.overlay_plane.specs.Predicates.{Touches, IsFillable}
 use Rattle.overlay_arrange.specs.Rules.{is_filled}
 use Rattle.overlay_arrange.specs.declared.fill_rule.FillRule.TheVariants.{EvenOdd}
 use Rattle.overlay_relate.specs.PredicateBuilder.{held_by}
@@ -14,6 +14,8 @@ returns-clause-answer g c =
     let made = c.in_ok-overlay.ensures in
     let new = c.touches.new.self in
     answer_of_paths c.touches.result Touches EvenOdd _ _ new.edges made.ok c.touches.ensures.query.arranged
+    (subst (λ rule. OnOk c.touches.result (IsFillable (is_filled rule) new.edges)) (ap (λ o. o.fill_rule) made.made)
+    c.touches.ensures.fillable)
     (subst (λ rule. IfOk c.touches.result (λ b. IsTrue b ↔ Touches (is_filled rule) new.edges))
     (ap (λ o. o.fill_rule) made.made) c.touches.ensures.answer)
 

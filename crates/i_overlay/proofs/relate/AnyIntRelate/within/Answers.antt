@@ -1,7 +1,7 @@
 -- The new builder answers of the paths that were added to it.
 use Rattle.std.proofs.Common.{ap, subst}
-use Rattle.std.specs.Prelude.{◌↔◌, IfOk, IsTrue}
-use Rattle.overlay_plane.specs.Predicates.{IsWithin}
+use Rattle.std.specs.Prelude.{◌↔◌, IfOk, OnOk, IsTrue}
+use Rattle.overlay_plane.specs.Predicates.{IsWithin, IsFillable}
 use Rattle.overlay_arrange.specs.Rules.{is_filled}
 use Rattle.overlay_arrange.specs.declared.fill_rule.FillRule.TheVariants.{EvenOdd}
 use Rattle.overlay_relate.specs.PredicateBuilder.{held_by}
@@ -14,6 +14,8 @@ returns-clause-answer g c =
     let made = c.in_ok-overlay.ensures in
     let new = c.within.new.self in
     answer_of_paths c.within.result IsWithin EvenOdd _ _ new.edges made.ok c.within.ensures.query.arranged
+    (subst (λ rule. OnOk c.within.result (IsFillable (is_filled rule) new.edges)) (ap (λ o. o.fill_rule) made.made)
+    c.within.ensures.fillable)
     (subst (λ rule. IfOk c.within.result (λ b. IsTrue b ↔ IsWithin (is_filled rule) new.edges))
     (ap (λ o. o.fill_rule) made.made) c.within.ensures.answer)
 

@@ -1,8 +1,9 @@
 -- The edges are arranged, and then asked of; a refusal is remembered.
 use Rattle.std.proofs.Common.{sym, ap, subst, ◌∙◌}
-use Rattle.std.specs.Prelude.{◌↔◌, IsTrue, IfOk}
+use Rattle.std.specs.Prelude.{◌↔◌, IsTrue, IfOk, OnOk}
 use Rattle.overlay_arrange.specs.Rules.{is_filled}
 use Rattle.overlay_plane.specs.Carried.{edges_in}
+use Rattle.overlay_plane.specs.Predicates.{IsFillable}
 use Rattle.overlay_builder.specs.Held.{AnswersQuery, plain_held}
 use Rattle.overlay_builder.proofs.Queries.{answers_after}
 use Rattle.overlay_relate.specs.PredicateBuilder.{held_by}
@@ -25,3 +26,10 @@ returns-clause-answer g c =
     (subst (λ b. IfOk c.tell-told.result (λ t. IsTrue t ↔ Holds c.args.predicate (is_filled b.fill_rule)
     (edges_in c.arrange.new.self.edges))) c.self.view_is
     c.tell-told.ensures.answer)
+
+pub returns-clause-fillable : goal.returns-clause-fillable
+returns-clause-fillable g c =
+    subst (λ es. OnOk c.tell-told.result (IsFillable (is_filled c.args.self.now.fill_rule) es))
+    (sym (ap (λ h. edges_in h.edges) c.set_failed.ensures))
+    (subst (λ b. OnOk c.tell-told.result (IsFillable (is_filled b.fill_rule) (edges_in c.arrange.new.self.edges)))
+    c.self.view_is c.tell-told.ensures.fillable)
