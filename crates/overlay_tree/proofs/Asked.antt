@@ -143,5 +143,5 @@ pub still_quick : {I V : Type 0} (old : HeldEdges I V) (reached : Option I) →
 still_quick old reached = record {
   dropped = 0;
   count = refl;
-  few = λ digits lt. omega arith;
+  visited = record { never_fall = omega arith; few = λ digits lt. omega arith };
 }

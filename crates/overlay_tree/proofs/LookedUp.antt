@@ -1,5 +1,5 @@
 -- What a way down through the tree does to the edges that are held.
-use Rattle.std.proofs.Common.{◌≡◌, inl, inr, true, ℕ, ℤ, int_lt, List, [], ◌∷◌, ◌++◌, length}
+use Rattle.std.proofs.Common.{◌≡◌, inl, inr, true, ℕ, zero, suc, ◌<◌, ℤ, int_lt, List, [], ◌∷◌, ◌++◌, length}
 use Rattle.std.proofs.Common.{slice_get, Option, None, Some, refl, sym, ap, subst, ◌∙◌, arith}
 use Rattle.std.specs.List.{filter_map, cons_option}
 use Rattle.std.specs.declared.cmp.Ordering.{Ordering}
@@ -15,6 +15,7 @@ use Rattle.overlay_tree.specs.HeldEdges.{HeldEdges, IsLookedUp, IsQuick}
 use Rattle.overlay_tree.specs.Trees.{Tree, Leaf, items, IsIn, IsTreeAt}
 use Rattle.overlay_tree.proofs.Parted.{live-here}
 use Rattle.overlay_tree.proofs.Settling.{tree_at_is}
+use Rattle.overlay_tree.proofs.Standing.{all_inside}
 
 -- the same entries of the same nodes
 same_entries : {I V : Type 0} (es new : List (LiveEdge I V)) (is : List ℕ) →
@@ -23,6 +24,26 @@ same_entries : {I V : Type 0} (es new : List (LiveEdge I V)) (is : List ℕ) →
 same_entries es new [] kept = refl
 same_entries es new (i ∷ is) kept = ap (λ o. cons_option o (filter_map (slice_get new) is)) (kept i (inl refl))
     ∙ ap (cons_option (slice_get es i)) (same_entries es new is (λ k at. kept k (inr at)))
+
+reads : {X : Type 0} (xs : List X) (i : ℕ) → i < length xs → (x : X) × (slice_get xs i ≡ Some x)
+reads [] i lt = absurd (omega arith)
+reads (x ∷ xs) zero lt = (x, refl)
+reads (x ∷ xs) (suc i) lt = reads xs i (omega arith)
+
+-- each of these nodes has an entry
+entries_of : {X : Type 0} (xs : List X) (is : List ℕ) → ((k : ℕ) → IsIn k is → k < length xs) →
+    length (filter_map (slice_get xs) is) ≡ length is
+entries_of xs [] inside = refl
+entries_of xs (i ∷ is) inside =
+    ap (λ o. length (cons_option o (filter_map (slice_get xs) is))) (reads xs i (inside i (inl refl))).1
+    ∙ ap suc (entries_of xs is (λ k at. inside k (inr at)))
+
+-- a tree holds as many entries as it has nodes
+as_many_entries : {X : Type 0} (xs : List X) (ls : List Links) (root : Option NodeIndex) (t : Tree) →
+    IsTreeAt ls root t → length xs ≡ length ls →
+    length (filter_map (slice_get xs) (items (tree_at ls root))) ≡ length (items t)
+as_many_entries xs ls root t at enough = ap (λ u. length (filter_map (slice_get xs) (items u))) (tree_at_is ls t root at)
+    ∙ entries_of xs (items t) (λ k in_t. let inside = all_inside ls t at.stands k in_t in omega arith)
 
 -- a look-up puts in no node
 pub nothing_put : (ls : List Links) (root free : Option NodeIndex) (t : Tree) (unused : List ℕ) →
@@ -64,17 +85,17 @@ module _ {I V : Type 0} (whole : I → ℤ) (post : List (IntPoint I) → Orderi
         (subst (PassBefore passes) old_same front);
   }
 
-  pub quick : (m : ℕ) → length (items (alone put)) ≡ m → old_held.held ≡ length (items (tree_at ls root)) →
-      new_held.held ≡ length (items (tree_at new root')) →
+  pub quick : (m : ℕ) → length (items (alone put)) ≡ m → length es ≡ length ls → length now ≡ length new →
       AreFewVisits old_held.visits new_held.visits (length (items t)) found.dropped → IsQuick old_held new_held m
-  quick m count old_count new_count few =
-      let was : old_held.held ≡ length (items t) = old_count ∙ ap (λ u. length (items u)) (tree_at_is ls t root at) in
-      let is : new_held.held ≡ length (items found.tree) = new_count
-      ∙ ap (λ u. length (items u)) (tree_at_is new found.tree root' found.forest.at) in
+  quick m count enough enough_now few =
+      let was : length old_held.entries ≡ length (items t) = ap length old_is
+      ∙ as_many_entries es ls root t at enough in
+      let is : length new_held.entries ≡ length (items found.tree) = ap length new_is
+      ∙ as_many_entries now new root' found.tree found.forest.at enough_now in
       record {
         dropped = found.dropped;
         count = (let same = found.count in omega arith);
-        few = subst (λ n. AreFewVisits old_held.visits new_held.visits n found.dropped) (sym was) few;
+        visited = subst (λ n. AreFewVisits old_held.visits new_held.visits n found.dropped) (sym was) few;
       }
 
   -- some tree stands then

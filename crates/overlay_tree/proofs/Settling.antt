@@ -62,6 +62,7 @@ module _ {I V : Type 0} (whole : I → ℤ) (post : List (IntPoint I) → Orderi
     pub same : L (items tree) ≡ L (items t)
     pub dropped : ℕ
     pub count : length (items tree) + dropped ≡ length (items t)
+    pub never_fall : old_visits ≤ visits
     pub few : (digits : ℕ) → length (items t) + 1 < 2 ^ digits → visits ≤ old_visits + 2 * dropped * digits
 
   pub begun : (t : Tree) (unused : List ℕ) (ls : List Links) (root free put : Option NodeIndex) (visits : ℕ) →
@@ -73,6 +74,7 @@ module _ {I V : Type 0} (whole : I → ℤ) (post : List (IntPoint I) → Orderi
     same = refl;
     dropped = 0;
     count = omega arith;
+    never_fall = omega arith;
     few = λ digits low. omega arith;
   }
 
@@ -90,10 +92,14 @@ module _ {I V : Type 0} (whole : I → ℤ) (post : List (IntPoint I) → Orderi
 
   module _ (t : Tree) (old_visits : ℕ) (ls between : List Links) (root free put top : Option NodeIndex)
       (visits next : ℕ)
-      (s : IsSettling t old_visits ls root free put visits) (more : next ≤ visits + height s.tree) where
+      (s : IsSettling t old_visits ls root free put visits) (more : next ≤ visits + height s.tree)
+      (no_fewer : visits ≤ next) where
     visited : AreFewVisits old_visits next (length (items t)) s.dropped
-    visited digits low = few_more old_visits visits next (height s.tree) s.dropped digits (s.few digits low) more
-        (low_height digits s.tree s.can.can.at.balanced (let count = s.count in omega arith))
+    visited = record {
+      never_fall = (let before = s.never_fall in omega arith);
+      few = λ digits low. few_more old_visits visits next (height s.tree) s.dropped digits (s.few digits low) more
+          (low_height digits s.tree s.can.can.at.balanced (let count = s.count in omega arith));
+    }
 
     -- an entry that has ended was taken out, and its node may be used again
     module _ (j : NodeIndex) (h : IsDropped whole post x es ls between s.tree put top j.place) where
@@ -193,8 +199,13 @@ module _ {I V : Type 0} (whole : I → ℤ) (post : List (IntPoint I) → Orderi
               let old = ap length h.exchanged.same in
               let new = ap length h.exchanged.replaced.rebuilt.same in
               omega arith);
-          few = visited;
+          never_fall = visited.never_fall;
+          few = visited.few;
         }
+
+        -- and there are as many nodes as before
+        pub count_dropped : length after ≡ length ls
+        count_dropped = one.length_kept ∙ kept.length_kept
 
         pub smaller : length (items (tree_at after top)) < length (items (tree_at ls root))
         smaller =
@@ -210,6 +221,10 @@ module _ {I V : Type 0} (whole : I → ℤ) (post : List (IntPoint I) → Orderi
     module _ (v : Option V) (h : IsPassed whole post x es ls between s.tree put top v) where
       abbrev full : Tree
       full = h.exchanged.replaced.tree
+
+      -- there are as many nodes as before
+      pub count_passed : length between ≡ length ls
+      count_passed = h.exchanged.replaced.rebuilt.kept.length_kept
 
       was_apart : (k : ℕ) → IsIn k (h.before ++ h.after) → IsIn k s.unused → ⊥
       was_apart k at also = s.can.forest.apart k (subst (IsIn k) (sym h.exchanged.same) at) also

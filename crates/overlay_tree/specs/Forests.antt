@@ -52,9 +52,11 @@ pub record CanSettle (ls : List Links) (root free put : Option NodeIndex) (t : T
   pub can : CanDescend ls root put t
   pub put_apart : (k : ℕ) → IsIn k unused → IsIn k (items (alone put)) → ⊥
 
--- at most 2(d + 1) times as many visits as n + 1 has binary digits, where d of n are dropped
-abbrev pub AreFewVisits : ℕ → ℕ → ℕ → ℕ → Type 0
-AreFewVisits old new n d = (digits : ℕ) → n + 1 < 2 ^ digits → new ≤ old + 2 * (d + 1) * digits
+-- the number of visits has not fallen, and has risen by at most 2(d + 1) times as many as n + 1 has binary digits,
+-- where d of n are dropped
+pub record AreFewVisits (old new n d : ℕ) : Type 0 where
+  pub never_fall : old ≤ new
+  pub few : (digits : ℕ) → n + 1 < 2 ^ digits → new ≤ old + 2 * (d + 1) * digits
 
 module _ {I V : Type 0} (whole : I → ℤ) (post : List (IntPoint I) → Ordering → Type 0) (x : ℤ)
     (es : List (LiveEdge I V)) where

@@ -1,5 +1,5 @@
 -- What a tree of live edges is seen as, and the sweep that it stands for.
-use Rattle.std.specs.Prelude.{◌≡◌, ℕ, ◌+◌, ℤ, Bool, List, ◌++◌, Option, None, Some, option_map}
+use Rattle.std.specs.Prelude.{◌≡◌, ℕ, ◌+◌, ℤ, Bool, List, ◌++◌, length, Option, None, Some, option_map}
 use Rattle.std.specs.declared.cmp.Ordering.{Ordering}
 use Rattle.overlay_geom.specs.declared.point.IntPoint.{IntPoint}
 use Rattle.overlay_tree.specs.Descents.{Tells, IsParted}
@@ -8,11 +8,10 @@ use Rattle.overlay_scan.specs.Lists.{plain_entries, PassBefore}
 use Rattle.overlay_scan.specs.Scan.{Entry, Sweep, live_at}
 use Rattle.overlay_scan.specs.declared.list.LiveEdge.{LiveEdge}
 
--- the edges that are held, from bottom to top, of which some may have ended, and how many they are; where the sweep is;
--- and how often an entry was visited
+-- the edges that are held, from bottom to top, of which some may have ended; where the sweep is; and how often an entry
+-- was visited
 pub record HeldEdges (I V : Type 0) : Type 0 where
   pub entries : List (LiveEdge I V)
-  pub held : ℕ
   pub reached : Option I
   pub visits : ℕ
 
@@ -38,8 +37,8 @@ pub record IsLookedUp {I V : Type 0} (whole : I → ℤ) (post : List (IntPoint 
   pub parted : (passes : Entry V → Bool) → Tells whole post passes (live_at x (plain_entries whole old.entries)) →
       PassBefore passes (live_at x (plain_entries whole old.entries)) → IsParted passes before after v
 
--- it drops some of the entries that it meets, and makes few visits
+-- of the edges that are held it drops some, beside those that it puts in, and it makes few visits
 pub record IsQuick {I V : Type 0} (old new : HeldEdges I V) (put : ℕ) : Type 0 where
   pub dropped : ℕ
-  pub count : new.held + dropped ≡ old.held + put
-  pub few : AreFewVisits old.visits new.visits old.held dropped
+  pub count : length new.entries + dropped ≡ length old.entries + put
+  pub visited : AreFewVisits old.visits new.visits (length old.entries) dropped

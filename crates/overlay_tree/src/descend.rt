@@ -65,6 +65,7 @@ impl<I: IntNumber, V: Copy, A: Allocator> ScanNodes<I, V, A> {
             IsEndOf I.whole (F.post order.now) (I.whole x) self.old.entries self.old.links self.new.links t put
             result.root result.end }
         ensures entries { self.new.entries ≡ self.old.entries }
+        ensures never_fall { self.old.visits ≤ self.new.visits }
         ensures visits { (t : Tree) → IsTreeAt self.old.links root t → self.new.visits ≤ self.old.visits + height t }
     {
         let Some(i) = root else {

@@ -6,7 +6,7 @@ ghost use Rattle.overlay_scan.specs.Scan.{empty_sweep, live_at, moved_to};
 ghost use Rattle.overlay_scan.specs.Scan.{MayMoveTo, IsOver, IsAsked, IsSweep, IsPutIn};
 ghost use Rattle.overlay_scan.specs.Scan.{MeetsOthers, IsNewAmong, value_below};
 ghost use Rattle.overlay_scan.specs.Scan.{IsCallableOn, IsAnsweredBy, AnswersRise, value_up_to};
-ghost use Rattle.overlay_tree.specs.EitherScans.{either_sweep, is_tree, IsQuickAsTree};
+ghost use Rattle.overlay_tree.specs.EitherScans.{either_sweep, is_tree, tree_visits, IsQuickAsTree};
 
 use crate::tree::ScanTree;
 use overlay_geom::error::OverlayError;
@@ -32,6 +32,7 @@ impl<I: IntNumber, V: Copy, A: Allocator> EitherScan<I, V, A> {
     pub fn for_count(alloc: A, count: usize, tree_from: usize) -> Self
         ensures empty { either_sweep I.whole result ≡ empty_sweep }
         ensures tree { (is_tree result ≡ true) ↔ (tree_from ≤ count) }
+        ensures visits { tree_visits result ≡ 0 }
     {
         if count < tree_from {
             EitherScan::List(ScanList::default(alloc))
@@ -116,6 +117,7 @@ impl<I: IntNumber, V: Copy, A: Allocator> Scan<I, V> for EitherScan<I, V, A> {
     fn clear(&mut self)
         ensures empty { either_sweep I.whole self.new ≡ empty_sweep }
         ensures kind { is_tree self.new ≡ is_tree self.old }
+        ensures visits { tree_visits self.new ≡ tree_visits self.old }
     {
         match self {
             EitherScan::List(list) => list.clear(),

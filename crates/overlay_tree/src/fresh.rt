@@ -1,6 +1,6 @@
 //! Nodes for new entries.
 
-ghost use Rattle.std.specs.Prelude.{◌≡◌, ℕ, List, OnErr, IfOk, IsOkUnless};
+ghost use Rattle.std.specs.Prelude.{◌≡◌, ℕ, List, length, OnErr, IfOk, IsOkUnless};
 ghost use Rattle.overlay_tree.specs.Forests.{IsForest, IsFresh};
 ghost use Rattle.overlay_tree.specs.Trees.{Tree};
 
@@ -32,6 +32,7 @@ impl<I: IntNumber, V: Copy, A: Allocator> ScanNodes<I, V, A> {
         ensures ok { IfOk result (λ f. (root : _) → (t : Tree) → (unused : List ℕ)
             → IsForest self.old.links root free t unused
             → IsFresh self.old.entries self.new.entries self.new.links root t f.free f.node entry) }
+        ensures enough { length self.new.entries ≡ length self.new.links }
         ensures visits { self.new.visits ≡ self.old.visits }
         ensures err { OnErr result (self.new ≡ self.old) }
         ensures only { IsOkUnless result OverlayError.Memory }

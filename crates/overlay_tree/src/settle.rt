@@ -1,6 +1,6 @@
 //! Ways down through a tree until one meets no entry that has ended.
 
-ghost use Rattle.std.specs.Prelude.{◌≡◌, ℕ, List};
+ghost use Rattle.std.specs.Prelude.{◌≡◌, ℕ, List, length};
 ghost use Rattle.overlay_scan.specs.Scan.{IsCallableOn};
 ghost use Rattle.overlay_tree.specs.Descents.{live_entries};
 ghost use Rattle.overlay_tree.specs.Forests.{CanSettle, IsSettledSo};
@@ -44,6 +44,7 @@ impl<I: IntNumber, V: Copy, A: Allocator> ScanNodes<I, V, A> {
             IsSettledSo I.whole (F.post order.now) (I.whole x) self.old.entries self.old.visits self.new.visits
             self.new.links t put result.root result.free result.value }
         ensures entries { self.new.entries ≡ self.old.entries }
+        ensures count { length self.new.links ≡ length self.old.links }
     {
         let mut root = root;
         let mut free = free;

@@ -35,7 +35,7 @@ pub struct ScanTree<I: IntNumber, V: Copy, A: Allocator> {
 }
 
 impl<I: IntNumber, V: Copy, A: Allocator> Model for ScanTree<I, V, A> {
-    ghost use Rattle.std.specs.Prelude.{filter_map, slice_get, length};
+    ghost use Rattle.std.specs.Prelude.{◌≡◌, filter_map, slice_get, length};
     ghost use Rattle.overlay_tree.specs.HeldEdges.{HeldEdges};
     ghost use Rattle.overlay_tree.specs.Forests.{tree_at, HasForest};
     ghost use Rattle.overlay_tree.specs.Trees.{items};
@@ -44,18 +44,18 @@ impl<I: IntNumber, V: Copy, A: Allocator> Model for ScanTree<I, V, A> {
 
     ghost view = { λ s. record {
       entries = filter_map (slice_get s.nodes.entries) (items (tree_at s.nodes.links s.root));
-      held = length (items (tree_at s.nodes.links s.root));
       reached = s.reached;
       visits = s.nodes.visits;
     } };
 
-    ghost invariant = { λ s. HasForest s.nodes.links s.root s.free };
+    ghost invariant = { λ s. HasForest s.nodes.links s.root s.free × (length s.nodes.entries ≡ length s.nodes.links) };
 }
 
 impl<I: IntNumber, V: Copy, A: Allocator> ScanTree<I, V, A> {
     /// No edges. Their memory will be that of the allocator; none is taken yet.
     pub fn default(alloc: A) -> Self
-        ensures { held_sweep I.whole result ≡ empty_sweep }
+        ensures empty { held_sweep I.whole result ≡ empty_sweep }
+        ensures visits { result.visits ≡ 0 }
     {
         ScanTree {
             nodes: ScanNodes::new(alloc),
@@ -184,7 +184,10 @@ impl<I: IntNumber, V: Copy, A: Allocator> Scan<I, V> for ScanTree<I, V, A> {
         value.unwrap_or(default)
     }
 
-    fn clear(&mut self) {
+    fn clear(&mut self)
+        ensures empty { held_sweep I.whole self.new ≡ empty_sweep }
+        ensures visits { self.new.visits ≡ self.old.visits }
+    {
         self.nodes.clear();
         self.root = None;
         self.free = None;

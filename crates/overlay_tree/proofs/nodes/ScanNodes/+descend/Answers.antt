@@ -169,3 +169,10 @@ returns-clause-visits g t c u at =
     let one = c.visit-f.ensures.count in
     let last = c.balance-root.ensures.visits in
     omega arith
+
+pub returns-clause-never_fall : goal.returns-clause-never_fall
+returns-clause-never_fall g t c =
+    let one = c.visit-f.ensures.count in
+    let below = c.descend-below.ensures.never_fall in
+    let last = c.balance-root.ensures.visits in
+    omega arith

@@ -4,6 +4,7 @@ use Rattle.overlay_scan.specs.Scan.{IsCallableOn}
 use Rattle.overlay_tree.specs.Descents.{live_entries, IsEndOf}
 use Rattle.overlay_tree.specs.Trees.{items}
 use Rattle.overlay_tree.proofs.Settling.{IsSettling, begun, may_still, settling_on, inside_dropped, smaller, settled_so}
+use Rattle.overlay_tree.proofs.Settling.{count_dropped, count_passed}
 use Rattle.overlay_tree.proofs.nodes.ScanNodes.settle.Goals as goal
 
 pub loop-i-init : goal.loop-i-init
@@ -11,6 +12,7 @@ loop-i-init g c = (
   (λ t unused can. begun g.I.IntNumber.whole (goal.F-post g c.args.order.now) (g.I.IntNumber.whole c.args.x)
       c.args.self.now.entries t unused c.args.self.now.links c.args.root c.args.free c.args.put c.args.self.now.visits
       can),
+  refl,
   refl,
 )
 
@@ -47,7 +49,8 @@ set_unused-requires g c =
     (subst (λ e. IsEndOf whole post x e l.self.links d.new.self.links s.tree c.args.put d.result.root d.result.end)
     l.invariant.1 (d.ensures.end s.tree s.can.can)) in
     inside_dropped whole post x es t c.args.self.now.visits l.self.links d.new.self.links l.root l.free c.args.put
-    d.result.root l.self.visits d.new.self.visits s (d.ensures.visits s.tree s.can.can.at) c.in-Ended.i h
+    d.result.root l.self.visits d.new.self.visits s (d.ensures.visits s.tree s.can.can.at)
+    d.ensures.never_fall c.in-Ended.i h
 
 pub loop-i-smaller : goal.loop-i-smaller
 loop-i-smaller g c =
@@ -64,7 +67,8 @@ loop-i-smaller g c =
     (subst (λ e. IsEndOf whole post x e l.self.links d.new.self.links s.tree c.args.put d.result.root d.result.end)
     l.invariant.1 (d.ensures.end s.tree s.can.can)) in
     smaller whole post x es t c.args.self.now.visits l.self.links d.new.self.links l.root l.free c.args.put
-    d.result.root l.self.visits d.new.self.visits s (d.ensures.visits s.tree s.can.can.at) c.in-Ended.i h
+    d.result.root l.self.visits d.new.self.visits s (d.ensures.visits s.tree s.can.can.at)
+    d.ensures.never_fall c.in-Ended.i h
     c.set_unused.new.self.links c.set_unused.ensures.links
 
 pub loop-i-preserved : goal.loop-i-preserved
@@ -84,9 +88,26 @@ loop-i-preserved g c = (
       subst (λ v. IsSettling whole post x es t c.args.self.now.visits c.set_unused.new.self.links d.result.root
       (Some c.in-Ended.i) c.args.put v) (sym c.set_unused.ensures.visits)
       (settling_on whole post x es t c.args.self.now.visits l.self.links d.new.self.links l.root l.free c.args.put
-      d.result.root l.self.visits d.new.self.visits s (d.ensures.visits s.tree s.can.can.at) c.in-Ended.i h
+      d.result.root l.self.visits d.new.self.visits s (d.ensures.visits s.tree s.can.can.at)
+      d.ensures.never_fall c.in-Ended.i h
       c.set_unused.new.self.links c.set_unused.ensures.links)),
   c.set_unused.ensures.entries ∙ c.descend-descent.ensures.entries ∙ c.loop-i.invariant.1,
+  (
+      let whole = g.I.IntNumber.whole in
+      let post = goal.F-post g c.args.order.now in
+      let x = whole c.args.x in
+      let es = c.args.self.now.entries in
+      let l = c.loop-i in
+      let d = c.descend-descent in
+      let t = c.requires.forest.0 in
+      let s = l.invariant.0 t c.requires.forest.1 c.requires.forest.2 in
+      let h = subst (λ e. IsEndOf whole post x es l.self.links d.new.self.links s.tree c.args.put d.result.root e)
+      c.in-Ended.is
+      (subst (λ e. IsEndOf whole post x e l.self.links d.new.self.links s.tree c.args.put d.result.root d.result.end)
+      l.invariant.1 (d.ensures.end s.tree s.can.can)) in
+      count_dropped whole post x es t c.args.self.now.visits l.self.links d.new.self.links l.root l.free c.args.put
+      d.result.root l.self.visits d.new.self.visits s (d.ensures.visits s.tree s.can.can.at) d.ensures.never_fall
+      c.in-Ended.i h c.set_unused.new.self.links c.set_unused.ensures.links ∙ l.invariant.2),
 )
 
 pub returns-in-Found-clause-found : goal.returns-in-Found-clause-found
@@ -104,4 +125,23 @@ returns-in-Found-clause-found g c t unused can =
     l.invariant.1 (d.ensures.end s.tree s.can.can)) in
     rw c.in-Found.value-is (settled_so whole post x es t c.args.self.now.visits l.self.links d.new.self.links l.root
     l.free c.args.put
-    d.result.root l.self.visits d.new.self.visits s (d.ensures.visits s.tree s.can.can.at) c.in-Found.value h)
+    d.result.root l.self.visits d.new.self.visits s (d.ensures.visits s.tree s.can.can.at)
+    d.ensures.never_fall c.in-Found.value h)
+
+pub returns-in-Found-clause-count : goal.returns-in-Found-clause-count
+returns-in-Found-clause-count g c =
+    let whole = g.I.IntNumber.whole in
+    let post = goal.F-post g c.args.order.now in
+    let x = whole c.args.x in
+    let es = c.args.self.now.entries in
+    let l = c.loop-i in
+    let d = c.descend-descent in
+    let t = c.requires.forest.0 in
+    let s = l.invariant.0 t c.requires.forest.1 c.requires.forest.2 in
+    let h = subst (λ e. IsEndOf whole post x es l.self.links d.new.self.links s.tree c.args.put d.result.root e)
+    c.in-Found.is
+    (subst (λ e. IsEndOf whole post x e l.self.links d.new.self.links s.tree c.args.put d.result.root d.result.end)
+    l.invariant.1 (d.ensures.end s.tree s.can.can)) in
+    count_passed whole post x es t c.args.self.now.visits l.self.links d.new.self.links l.root l.free c.args.put
+    d.result.root l.self.visits d.new.self.visits s (d.ensures.visits s.tree s.can.can.at) d.ensures.never_fall
+    c.in-Found.value h ∙ l.invariant.2

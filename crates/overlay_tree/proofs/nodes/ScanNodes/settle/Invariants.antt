@@ -11,6 +11,7 @@ invariant-loop-i g l = ((t : Tree) → (unused : List ℕ) →
     IsSettling g.I.IntNumber.whole (goal.F-post g l.order) (g.I.IntNumber.whole l.x) l.initial.self.entries t
     l.initial.self.visits l.self.links l.root l.free l.put l.self.visits)
     × (l.self.entries ≡ l.initial.self.entries)
+    × (length l.self.links ≡ length l.initial.self.links)
 
 abbrev pub decreases-loop-i : goal.decreases-loop-i
 decreases-loop-i g l = length (items (tree_at l.self.links l.root))

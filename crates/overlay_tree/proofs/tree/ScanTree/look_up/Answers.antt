@@ -1,5 +1,5 @@
 -- The tree is gone down, and nothing is put in.
-use Rattle.std.proofs.Common.{None, [], length, slice_get, refl, sym, ap, subst}
+use Rattle.std.proofs.Common.{None, [], length, slice_get, refl, sym, ap, subst, ◌∙◌}
 use Rattle.std.specs.List.{filter_map}
 use Rattle.overlay_tree.specs.Forests.{AreFewVisits, tree_at}
 use Rattle.overlay_tree.specs.Trees.{items}
@@ -9,7 +9,7 @@ use Rattle.overlay_tree.proofs.tree.ScanTree.look_up.Goals as goal
 pub settle-settled-requires-clause-forest : goal.settle-settled-requires-clause-forest
 settle-settled-requires-clause-forest g c =
     let in_self = c.self.inside in
-    let held = c.self.invariant in
+    let held = c.self.invariant.0 in
     (held.0, held.1, nothing_put in_self.nodes.links in_self.root in_self.free held.0 held.1 held.2)
 
 pub settle-settled-requires-clause-callable : goal.settle-settled-requires-clause-callable
@@ -20,9 +20,20 @@ settle-settled-requires-clause-callable g c t at =
     in_self.nodes.entries in_self.nodes.links in_self.root c.args.self.now.entries
     (ap (λ s. s.entries) (sym c.self.view_is)) c.requires t at (λ k there. refl)
 
+pub invariant_of-self : goal.invariant_of-self
+invariant_of-self g c =
+    let held = c.self.invariant.0 in
+    let nodes = c.self.inside.nodes in
+    let s = c.settle-settled in
+    let found = s.ensures.found held.0 held.1
+    (nothing_put nodes.links c.self.inside.root c.self.inside.free held.0 held.1 held.2) in (
+      (found.0.tree, found.0.unused, found.0.forest),
+      ap length s.ensures.entries ∙ c.self.invariant.1 ∙ sym s.ensures.count,
+    )
+
 pub returns-clause-found : goal.returns-clause-found
 returns-clause-found g c =
-    let held = c.self.invariant in
+    let held = c.self.invariant.0 in
     let nodes = c.self.inside.nodes in
     let s = c.settle-settled in
     let found = s.ensures.found held.0 held.1
@@ -35,7 +46,7 @@ returns-clause-found g c =
 
 pub returns-clause-quick : goal.returns-clause-quick
 returns-clause-quick g c =
-    let held = c.self.invariant in
+    let held = c.self.invariant.0 in
     let nodes = c.self.inside.nodes in
     let s = c.settle-settled in
     let found = s.ensures.found held.0 held.1
@@ -45,6 +56,6 @@ returns-clause-quick g c =
     nodes.links s.new.self.links c.self.inside.root s.result.root s.result.free None held.0 s.result.value held.2.at
     (λ k there. refl) found.0 c.args.self.now _ (ap (λ v. v.entries) (sym c.self.view_is))
     (ap (λ e. filter_map (slice_get e) (items (tree_at s.new.self.links s.result.root))) s.ensures.entries) 0 refl
-    (ap (λ v. v.held) (sym c.self.view_is)) refl
+    c.self.invariant.1 (c.self.invariant.1 ∙ sym s.ensures.count)
     (subst (λ v. AreFewVisits v s.new.self.visits (length (items held.0)) found.0.dropped)
     (ap (λ v. v.visits) c.self.view_is) found.1)

@@ -12,7 +12,7 @@ use Rattle.overlay_tree.proofs.tree.ScanTree.put_in.Goals as goal
 
 pub settle-settled-requires-clause-forest : goal.settle-settled-requires-clause-forest
 settle-settled-requires-clause-forest g c =
-    let held = c.self.invariant in
+    let held = c.self.invariant.0 in
     let f = c.in_ok-fresh.ensures.ok c.self.inside.root held.0 held.1 held.2 in
     (held.0, f.unused, f.can)
 
@@ -20,7 +20,7 @@ pub settle-settled-requires-clause-callable : goal.settle-settled-requires-claus
 settle-settled-requires-clause-callable g c u at =
     let whole = g.I.IntNumber.whole in
     let pre = goal.F-pre g c.args.order.now in
-    let held = c.self.invariant in
+    let held = c.self.invariant.0 in
     let nodes = c.self.inside.nodes in
     let root = c.self.inside.root in
     let now = c.fresh.new.self in
@@ -32,15 +32,17 @@ settle-settled-requires-clause-callable g c u at =
 
 pub invariant_of-self-2 : goal.invariant_of-self-2
 invariant_of-self-2 g c =
-    let held = c.self.invariant in
+    let held = c.self.invariant.0 in
     let f = c.in_ok-fresh.ensures.ok c.self.inside.root held.0 held.1 held.2 in
-    let found = c.settle-settled.ensures.found held.0 f.unused f.can in
-    (found.0.tree, found.0.unused, found.0.forest)
+    let found = c.settle-settled.ensures.found held.0 f.unused f.can in (
+      (found.0.tree, found.0.unused, found.0.forest),
+      ap length c.settle-settled.ensures.entries ∙ c.fresh.ensures.enough ∙ sym c.settle-settled.ensures.count,
+    )
 
 pub returns-clause-ok : goal.returns-clause-ok
 returns-clause-ok g c =
     let whole = g.I.IntNumber.whole in
-    let held = c.self.invariant in
+    let held = c.self.invariant.0 in
     let nodes = c.self.inside.nodes in
     let s = c.settle-settled in
     let now = c.fresh.new.self in
@@ -59,7 +61,7 @@ returns-clause-ok g c =
 pub returns-clause-quick : goal.returns-clause-quick
 returns-clause-quick g c =
     let whole = g.I.IntNumber.whole in
-    let held = c.self.invariant in
+    let held = c.self.invariant.0 in
     let nodes = c.self.inside.nodes in
     let s = c.settle-settled in
     let now = c.fresh.new.self in
@@ -69,6 +71,6 @@ returns-clause-quick g c =
     nodes.links s.new.self.links c.self.inside.root s.result.root s.result.free (Some c.in_ok-fresh.fresh.node) held.0
     s.result.value held.2.at f.kept found.0 c.args.self.now _ (ap (λ v. v.entries) (sym c.self.view_is))
     (ap (λ e. filter_map (slice_get e) (items (tree_at s.new.self.links s.result.root))) s.ensures.entries) 1 refl
-    (ap (λ v. v.held) (sym c.self.view_is)) refl
+    c.self.invariant.1 (c.fresh.ensures.enough ∙ sym s.ensures.count)
     (subst (λ v. AreFewVisits v s.new.self.visits (length (items held.0)) found.0.dropped)
     (c.fresh.ensures.visits ∙ ap (λ v. v.visits) c.self.view_is) found.1)

@@ -1,10 +1,22 @@
 -- The shape that was pushed is one more.
-use Rattle.std.proofs.Common.{sym, subst, ap, ◌∙◌}
+use Rattle.std.proofs.Common.{◌+◌, ◌++◌, ◌∷◌, [], length, sym, subst, ap, ◌∙◌}
+use Rattle.std.proofs.lemmas.List.{length-append}
 use Rattle.overlay_geom.specs.Flat.{shapes_in}
+use Rattle.overlay_geom.specs.FlatAdded.{ranges_from}
 use Rattle.overlay_geom.specs.FlatShapes.{AreShapesInside, AreShapesPacked}
 use Rattle.overlay_geom.specs.Paths.{paths_of_shape}
+use Rattle.overlay_geom.proofs.FlatAdded.{length-ranges_from}
 use Rattle.overlay_geom.proofs.FlatShapes.{shapes_added, inside_added, packed_added}
 use Rattle.overlay_geom.proofs.flat.shapes.FlatShapesBuffer.add_shape.Goals as goal
+
+pub returns-clause-shape_ranges : goal.returns-clause-shape_ranges
+returns-clause-shape_ranges g c =
+    let old = c.args.self.now in
+    let rs = old.contour_ranges.items in
+    let ranges = ranges_from (length old.points.items) c.args.shape.now in
+    c.in_default.ensures.shape ∙ ap (λ n. old.shape_ranges.items ++ record { start = length rs; end = n } ∷ [])
+    (ap length c.in_default.ensures.ranges ∙ length-append rs ranges
+    ∙ ap (λ n. length rs + n) (length-ranges_from (length old.points.items) c.args.shape.now))
 
 pub returns-clause-inside : goal.returns-clause-inside
 returns-clause-inside g c = λ inside.
