@@ -53,19 +53,24 @@ def argument_of(text):
 
 
 def type_name(text):
-    """The name of a type, its path and its parameters left out, beginning with a capital."""
+    """The name of a type, its path and its parameters left out, beginning with a capital; `()` is `Unit`."""
+    if text.strip() == "()":
+        return "Unit"
     found = re.match(r"\s*&?\s*(?:\w+\s*::\s*)*(\w+)", text)
     return found[1][0].upper() + found[1][1:] if found else ""
 
 
 def owner_of(head):
-    """Of the head of an impl: the type, and the trait and its first argument, if it is of one."""
+    """Of the head of an impl: the type, and the trait and its first argument, if it is of one; a parameter is `Any`."""
+    own = head[: len(head) - len(past_generics(head))]
     head = re.split(r"\bwhere\b", past_generics(head))[0]
     depth = 0
     for place, sign in enumerate(head):
         depth += (sign == "<") - (sign == ">" and head[place - 1] != "-")
         if not depth and re.match(r"\sfor\s", head[place : place + 5]):
-            return type_name(head[place + 5 :]), type_name(head[:place]), argument_of(head[:place])
+            kind = type_name(head[place + 5 :])
+            kind = "Any" if re.search(rf"[<,]\s*{kind}\b", own) else kind
+            return kind, type_name(head[:place]), argument_of(head[:place])
     return type_name(head), "", ""
 
 

@@ -114,6 +114,22 @@ fn a_reader_that_fails(rt: HostRuntime) {
 }
 
 #[test]
+fn a_reader_that_fails_after_a_bad_line(rt: HostRuntime) {
+    let rows: [&[u8]; 2] = [
+        b"subjects\nrun edges NonZero\n",
+        b"subject 0 0 2 2 2 0 0 2\npoint 1 0\nrun contains\n",
+    ];
+    for bytes in rows {
+        let enough = bytes.len() as u64 + 1;
+        for reads in 0..enough {
+            check_reader(&rt, FailingReader { bytes, reads }, "", Exit::Io);
+        }
+        let reads = enough;
+        check_reader(&rt, FailingReader { bytes, reads }, "", Exit::BadInput(1));
+    }
+}
+
+#[test]
 fn an_interrupted_reader_is_asked_again(rt: HostRuntime) {
     let reader = InterruptedReader {
         bytes: SQUARE,

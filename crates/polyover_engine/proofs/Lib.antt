@@ -1,10 +1,11 @@
 pub mod AskedAgain
 pub mod Builders
 pub mod Clips
+pub mod Endings
 pub mod Located
-pub mod Noted
 pub mod Queries
 pub mod Refusals
 pub mod Slices
 pub mod Subjects
+pub mod TurnsTaken
 pub mod Writing

@@ -1,16 +1,16 @@
 -- A refusal of what an input asks for.
 use Rattle.std.proofs.Common.{◌≡◌, ℕ, List, Option, Some, None, IfSome, inl, inr, subst, ◌∙◌}
 use Rattle.overlay_geom.specs.declared.error.OverlayError.{OverlayError}
-use Rattle.overlay_geom.specs.declared.error.OverlayError.TheVariants.{Memory, NotSettled, TooManyEdges, Failed}
+use Rattle.overlay_geom.specs.declared.error.OverlayError.TheVariants.{Failed}
 use Rattle.polyover_text.specs.declared.query.Query.{Query}
 use Rattle.polyover_text.specs.Grammar.{GivenFigures, Asks, input_lines}
 use Rattle.polyover_text.specs.declared.query.Query.TheVariants.{Edges, Overlay, Hierarchy, Relate, ClipLines}
 use Rattle.polyover_text.specs.declared.query.Query.TheVariants.{Slice, Contains, Locate}
 use Rattle.polyover_engine.specs.Answers.{MayRefuseQuery, AsksAboutPoints}
-use Rattle.polyover_engine.specs.Engine.{MayBeRefused, IsBadInput}
+use Rattle.polyover_engine.specs.Engine.{IsRefused, IsBadInput}
 use Rattle.polyover_engine.specs.Subjects.{IsFirstUnresolved}
 
-never_failed : (fs : GivenFigures) (query : Query) → MayRefuseQuery fs query Failed → ⊥
+pub never_failed : (fs : GivenFigures) (query : Query) → MayRefuseQuery fs query Failed → ⊥
 never_failed fs (Edges fill) h = h
 never_failed fs (Overlay query) h = h
 never_failed fs (Hierarchy query) h = h
@@ -21,32 +21,18 @@ never_failed fs (Slice fill) h = h
 never_failed fs Contains h = cc
 never_failed fs Locate h = cc
 
-refused_for : (bytes : List ℕ) (fs : GivenFigures) (query : Query) (e : OverlayError) →
-    Asks (input_lines bytes) fs query → MayRefuseQuery fs query e
-    → MayBeRefused bytes e
-refused_for bytes fs query Memory asks refused = tt
-refused_for bytes fs query NotSettled asks refused = record {
-  figures = fs;
-  query = query;
-  asks = asks;
-  refused = refused;
-}
-refused_for bytes fs query TooManyEdges asks refused = record {
-  figures = fs;
-  query = query;
-  asks = asks;
-  refused = refused;
-}
-refused_for bytes fs query Failed asks refused = absurd (never_failed fs query refused)
-
--- the same where the reader tells what was read
-pub refused_for_read : (given : Option (List ℕ)) (bytes text : List ℕ) (fs : GivenFigures) (query : Query)
+-- what the query may be refused for, said of what was read, where the reader tells that
+pub refused_read : (given : Option (List ℕ)) (bytes text : List ℕ) (fs : GivenFigures) (query : Query)
     (e : OverlayError)
     → IfSome given (λ b. bytes ≡ b) → text ≡ bytes → Asks (input_lines text) fs query → MayRefuseQuery fs query e
-    → IfSome given (λ b. MayBeRefused b e)
-refused_for_read None bytes text fs query e read same asks refused = tt
-refused_for_read (Some b) bytes text fs query e read same asks refused =
-    refused_for b fs query e (subst (λ l. Asks (input_lines l) fs query) (same ∙ read) asks) refused
+    → IfSome given (λ b. IsRefused b e)
+refused_read None bytes text fs query e read same asks refused = tt
+refused_read (Some b) bytes text fs query e read same asks refused = record {
+  figures = fs;
+  query = query;
+  asks = subst (λ l. Asks (input_lines l) fs query) (same ∙ read) asks;
+  refused = refused;
+}
 
 -- a contour that has to be resolved, and is not
 pub unresolved_read : (given : Option (List ℕ)) (bytes text : List ℕ) (fs : GivenFigures) (query : Query) (n : ℕ)

@@ -3,7 +3,11 @@ pub mod Builders
 pub mod Clips
 pub mod Engine
 pub mod Exits
-pub mod Noted
+pub mod ReadAll
+pub mod Reading
 pub mod Relations
 pub mod Subjects
+pub mod Turns
+pub mod WriteAll
+pub mod Writing
 pub mod Written

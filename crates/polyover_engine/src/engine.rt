@@ -1,44 +1,31 @@
 //! The engine: an input is read, parsed, answered and written.
 
-ghost use Rattle.std.specs.Prelude.{◌≡◌, false, MatchResult, string_bytes};
-ghost use Rattle.polyover_engine.specs.Engine.{EndsAs, EndsNoted, EndsUnwritten, HasAnswer};
+ghost use Rattle.std.specs.Prelude.{⊤, MatchResult, string_bytes};
+ghost use Rattle.polyover_engine.specs.Engine.{Endings, EndsAs, HasAnswer};
 
 use crate::answer::answer_text;
 use crate::exit::Exit;
-use crate::noting_reader::NotingReader;
-use crate::noting_writer::NotingWriter;
 use crate::read::read_all;
+use crate::read_turns::ReadTurns;
 use crate::write::write_all;
+use crate::write_turns::WriteTurns;
 use polyover_text::input::parse_input;
 use std::alloc::Allocator;
-use std::io::{Read, Write};
 
 /// Reads everything from the reader, and writes the answer to the writer.
 ///
 /// Faults are found in this order: the whole input is read, all its lines are parsed, the command runs, the whole
 /// answer is written. Want of memory may come in any of these steps but the last, in the place of what would follow.
-pub fn run<A: Allocator + Clone, Rd: Read, Wr: Write>(
+///
+/// The reader may be any `Read`, the writer any `Write`.
+#[tactic(auto, using(crate::proofs::Endings::ends_untouched, crate::proofs::Endings::ends_writing))]
+pub fn run<A: Allocator + Clone, Rd: ReadTurns, Wr: WriteTurns>(
     alloc: A,
     reader: &mut Rd,
     writer: &mut Wr,
 ) -> Exit
-    ensures { EndsAs (Rd.remaining reader.old) (Wr.contents writer.old) (Wr.contents writer.new) result }
-{
-    let mut input = NotingReader::new(reader);
-    let mut output = NotingWriter::new(writer);
-    run_noted(alloc, &mut input, &mut output)
-}
-
-// The same, where the faults of the reader and of the writer are noted.
-fn run_noted<A: Allocator + Clone, Rd: Read, Wr: Write>(
-    alloc: A,
-    reader: &mut NotingReader<'_, Rd>,
-    writer: &mut NotingWriter<'_, Wr>,
-) -> Exit
-    requires reader { reader.old.is_failed ≡ false }
-    requires writer { writer.old.is_failed ≡ false }
-    ensures same_writer { writer.new.writer.ghost_name ≡ writer.old.writer.ghost_name }
-    ensures ends { EndsNoted Rd.remaining Wr.contents reader.old reader.new writer.old writer.new result }
+    ensures { EndsAs Rd.remaining Rd.reads Wr.contents Wr.writes Wr.flushes reader.old reader.new writer.old writer.new
+        result }
 {
     match answer(&alloc, reader) {
         Ok(text) => write_all(writer, text.as_bytes()),
@@ -47,13 +34,10 @@ fn run_noted<A: Allocator + Clone, Rd: Read, Wr: Write>(
 }
 
 // The text of the answer to what the reader has left.
-fn answer<A: Allocator + Copy, Rd: Read>(
-    alloc: A,
-    reader: &mut NotingReader<'_, Rd>,
-) -> Result<String<A>, Exit>
+fn answer<A: Allocator + Copy, Rd: ReadTurns>(alloc: A, reader: &mut Rd) -> Result<String<A>, Exit>
     ensures { MatchResult result
-        (λ text. HasAnswer Rd.remaining reader.old reader.new (string_bytes text))
-        (λ exit. EndsUnwritten Rd.remaining reader.old reader.new exit) }
+        (λ text. HasAnswer Rd.remaining Rd.reads reader.old reader.new (string_bytes text))
+        (λ exit. Endings Rd.remaining Rd.reads reader.old reader.new ⊤ (λ _. ⊥) (λ _. ⊥) exit) }
 {
     let bytes = read_all(alloc, reader)?;
     let input = parse_input(alloc, &bytes)?;

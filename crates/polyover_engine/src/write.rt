@@ -1,40 +1,45 @@
 //! Writing the whole answer.
 
-ghost use Rattle.std.specs.Prelude.{◌≡◌};
-ghost use Rattle.polyover_engine.specs.Noted.{EndsWriting, EndsFlushing};
+ghost use Rattle.std.specs.Prelude.{◌≡◌, []};
+ghost use Rattle.polyover_engine.specs.WriteAll.{EndsWriting};
 
 use crate::exit::Exit;
-use crate::noting_writer::NotingWriter;
 use crate::turn::Turn;
-use std::io::Write;
+use crate::write_turns::WriteTurns;
 
-/// Writes the text, and flushes it. `Answered`, or `Io` where a fault was noted, and a beginning of the text was
+/// Writes the text, and flushes it. `Answered`, or `Io` where writing failed, and a beginning of the text was
 /// written. A write that is interrupted is tried again.
-pub(crate) fn write_all<W: Write>(writer: &mut NotingWriter<'_, W>, text: &[u8]) -> Exit
-    ensures same_writer { writer.new.writer.ghost_name ≡ writer.old.writer.ghost_name }
-    ensures ends { EndsWriting W.contents writer.old writer.new text.now result }
+pub(crate) fn write_all<W: WriteTurns>(writer: &mut W, text: &[u8]) -> Exit
+    ensures { EndsWriting W.contents W.writes W.flushes text.now writer.old writer.new result }
 {
     let mut rest = text;
+    let mut turns_left = u64::MAX;
     while !rest.is_empty() {
-        match writer.write(rest) {
+        if turns_left == 0 {
+            return Exit::Io;
+        }
+        turns_left -= 1;
+        match writer.write_turn(rest) {
+            Turn::Done(0) | Turn::Failed => return Exit::Io,
             Turn::Done(count) => rest = &rest[count..],
             Turn::Interrupted => {}
-            Turn::Failed => return Exit::Io,
         }
     }
     flush(writer)
 }
 
 // Flushes the writer. A flush that is interrupted is tried again.
-fn flush<W: Write>(writer: &mut NotingWriter<'_, W>) -> Exit
-    ensures same_writer { writer.new.writer.ghost_name ≡ writer.old.writer.ghost_name }
-    ensures ends { EndsFlushing W.contents writer.old writer.new result }
+fn flush<W: WriteTurns>(writer: &mut W) -> Exit
+    ensures { EndsWriting W.contents W.writes W.flushes [] writer.old writer.new result }
 {
-    loop {
-        match writer.flush() {
+    let mut turns_left = u64::MAX;
+    while turns_left > 0 {
+        turns_left -= 1;
+        match writer.flush_turn() {
             Turn::Done(_) => return Exit::Answered,
             Turn::Interrupted => {}
             Turn::Failed => return Exit::Io,
         }
     }
+    Exit::Io
 }

@@ -1,14 +1,16 @@
-use Rattle.std.proofs.Common.{◌≡◌, []}
-use Rattle.std.specs.Io.KnownBytes.{Appends}
+use Rattle.std.proofs.Common.{◌≡◌}
+use Rattle.std.specs.Io.KnownBytes.{Keeps}
+use Rattle.polyover_engine.specs.Writing.{AsksWriter}
+use Rattle.polyover_engine.proofs.TurnsTaken.{HasTaken}
 use Rattle.polyover_engine.proofs.write.flush.Given as goal
 
--- nothing is written, and no fault is noted
-abbrev pub invariant-loop : goal.invariant-loop
-invariant-loop g l = record {
-  unwritten : Appends (g.W.Write.contents l.fn.writer.writer.now) (g.W.Write.contents l.writer.writer.now) [];
-  same : l.writer.writer.ghost_name ≡ l.fn.writer.writer.ghost_name;
-  no_fault : l.writer.is_failed ≡ l.fn.writer.is_failed;
-}
+-- nothing is written, and no turn failed
+abbrev pub invariant-loop-turns_left : goal.invariant-loop-turns_left
+invariant-loop-turns_left g l =
+    let w = g.W.WriteTurns in record {
+      unwritten : Keeps (w.contents l.fn.writer) (w.contents l.writer);
+      taken : HasTaken (AsksWriter w.contents w.writes w.flushes) l.turns_left l.fn.writer l.writer;
+    }
 
-abbrev pub decreases-loop : goal.decreases-loop
-decreases-loop g l = l.writer.turns
+abbrev pub decreases-loop-turns_left : goal.decreases-loop-turns_left
+decreases-loop-turns_left g l = l.turns_left

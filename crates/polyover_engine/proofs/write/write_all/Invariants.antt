@@ -1,15 +1,16 @@
 use Rattle.std.proofs.Common.{◌≡◌}
+use Rattle.polyover_engine.specs.Writing.{AsksWriter}
+use Rattle.polyover_engine.proofs.TurnsTaken.{HasTaken}
 use Rattle.polyover_engine.proofs.Writing.{HasWritten}
 use Rattle.polyover_engine.proofs.write.write_all.Given as goal
 
--- the text before the rest is written, and no fault is noted
+-- the text before the rest is written, and no turn failed
 abbrev pub invariant-loop-rest : goal.invariant-loop-rest
-invariant-loop-rest g l = record {
-  written : HasWritten (g.W.Write.contents l.fn.writer.writer.now) (g.W.Write.contents l.writer.writer.now)
-      l.fn.text l.rest;
-  same : l.writer.writer.ghost_name ≡ l.fn.writer.writer.ghost_name;
-  no_fault : l.writer.is_failed ≡ l.fn.writer.is_failed;
-}
+invariant-loop-rest g l =
+    let w = g.W.WriteTurns in record {
+      written : HasWritten (w.contents l.fn.writer) (w.contents l.writer) l.fn.text l.rest;
+      taken : HasTaken (AsksWriter w.contents w.writes w.flushes) l.turns_left l.fn.writer l.writer;
+    }
 
 abbrev pub decreases-loop-rest : goal.decreases-loop-rest
-decreases-loop-rest g l = l.writer.turns
+decreases-loop-rest g l = l.turns_left
