@@ -31,7 +31,7 @@ fn with_pieces<I: OverlayInt + From<i16>>(
 ) -> Result<EdgeOverlay<I, Road, Global>, OverlayError> {
     let mut overlay = no_roads(alloc)?;
     for piece in pieces {
-        let edge = InputEdge {
+        let edge: InputEdge<I, Road> = InputEdge {
             a: point_of(piece.0),
             b: point_of(piece.1),
             edge_data: Road { number: piece.2 },

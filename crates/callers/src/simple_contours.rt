@@ -16,6 +16,7 @@ use std::alloc::Global;
 
 /// The shapes of a contour that is simple; none of one that would have to be cut.
 pub fn shapes_if_simple(
+    alloc: Global,
     core: &mut BuilderCore<i32, CountWithData<()>, Global>,
     contour: &[IntPoint<i32>],
 ) -> Result<IntShapes<i32, Global>, OverlayError>
@@ -23,5 +24,5 @@ pub fn shapes_if_simple(
 {
     let direction = ContourDirection::CounterClockwise;
     let outcome = outcome_of_contour(core, contour, false, FillRule::NonZero, direction)?;
-    shapes_left(Global, contour, outcome)
+    shapes_left(alloc, contour, outcome)
 }

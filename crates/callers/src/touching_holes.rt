@@ -103,5 +103,10 @@ pub fn outlines_of_holes(alloc: Global) -> Result<Vec<Option<usize>, Global>, Ov
 {
     let contours = three_outlines_and_two_holes(alloc)?;
     let mut scan: ScanList<i32, usize, _> = ScanList::default(alloc);
-    bind_contours(alloc, &mut scan, &contours, ContourDirection::CounterClockwise)
+    bind_contours(
+        alloc,
+        &mut scan,
+        &contours,
+        ContourDirection::CounterClockwise,
+    )
 }
