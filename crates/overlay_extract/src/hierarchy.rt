@@ -39,9 +39,9 @@ impl<I: IntNumber, A: Allocator + Clone> FlatShapeHierarchy<I, A> {
     /// No shapes, and no links. Their memory will be that of the allocator; none is taken yet. It is refused
     /// only where a copy of the allocator is.
     pub fn default(alloc: A) -> Result<Self, OverlayError>
-        ensures shapes { IfOk result
-            (λ h. shapes_in I.whole h.shapes.points.items h.shapes.contour_ranges.items h.shapes.shape_ranges.items
-            ≡ []) }
+        ensures points { IfOk result (λ h. h.shapes.points.items ≡ []) }
+        ensures contour_ranges { IfOk result (λ h. h.shapes.contour_ranges.items ≡ []) }
+        ensures shape_ranges { IfOk result (λ h. h.shapes.shape_ranges.items ≡ []) }
         ensures links { IfOk result (λ h. h.links.items ≡ []) }
         ensures succeeds { A.is_infallible alloc → IsOk result }
         ensures only { IsOkUnless result OverlayError.Memory }

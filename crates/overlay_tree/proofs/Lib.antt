@@ -8,6 +8,7 @@ mod Freshness
 mod GoingDown
 mod LookedUp
 mod Lowering
+mod ManyCalls
 mod Parted
 mod Replaced
 mod Rotations

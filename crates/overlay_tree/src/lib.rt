@@ -4,6 +4,7 @@
 mod descend;
 pub mod either;
 mod fresh;
+pub mod laws;
 mod links;
 mod nodes;
 mod rebalance;
