@@ -1,5 +1,5 @@
 -- What turns of reading do, and how reading ends.
-use Rattle.std.specs.Prelude.{◌≡◌, ◌⊎◌, ◌<◌, ◌≤◌, ℕ, List, length, take, Option, IfSome, Result}
+use Rattle.std.specs.Prelude.{◌≡◌, ◌⊎◌, ◌<◌, ◌≤◌, ℕ, List, length, take, Option, Result}
 use Rattle.std.specs.Io.KnownBytes.{Consumes, Keeps, IsAtEnd, ReadConsumes}
 use Rattle.std.specs.declared.io.Error.{Error}
 use Rattle.polyover_engine.specs.Turns.{IsTurnOf, GoesWell, EndsBy, IsWornOut}

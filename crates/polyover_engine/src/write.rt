@@ -1,6 +1,6 @@
 //! Writing the whole answer.
 
-ghost use Rattle.std.specs.Prelude.{◌≡◌, []};
+ghost use Rattle.std.specs.Prelude.{[]};
 ghost use Rattle.polyover_engine.specs.WriteAll.{EndsWriting};
 
 use crate::exit::Exit;

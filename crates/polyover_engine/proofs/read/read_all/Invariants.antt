@@ -1,4 +1,3 @@
-use Rattle.std.proofs.Common.{◌≡◌}
 use Rattle.std.specs.Io.KnownBytes.{Consumes}
 use Rattle.polyover_engine.specs.Reading.{AsksReader}
 use Rattle.polyover_engine.proofs.TurnsTaken.{HasTaken}

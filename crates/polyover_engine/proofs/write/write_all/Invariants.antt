@@ -1,4 +1,3 @@
-use Rattle.std.proofs.Common.{◌≡◌}
 use Rattle.polyover_engine.specs.Writing.{AsksWriter}
 use Rattle.polyover_engine.proofs.TurnsTaken.{HasTaken}
 use Rattle.polyover_engine.proofs.Writing.{HasWritten}
