@@ -17,7 +17,8 @@ ranges_push : {X A : Type 0} (n : ℕ) (vs : List (Vec X A)) (v : Vec X A) →
 ranges_push n [] v = let zero_more : n ≡ n + 0 = omega arith in ap (λ m. range_of m (length v.items) ∷ []) zero_more
 ranges_push n (w ∷ vs) v =
     let long = length-append w.items (joined_items vs) in
-    let same : n + length w.items + length (joined_items vs) ≡ n + length (joined_items (w ∷ vs)) = omega (arith, long) in
+    let same : n + length w.items + length (joined_items vs) ≡ n + length (joined_items (w ∷ vs))
+    = omega (arith, long) in
     ap (λ rs. range_of n (length w.items) ∷ rs) (ranges_push (n + length w.items) vs v
     ∙ ap (λ m. ranges_from (n + length w.items) vs ++ range_of m (length v.items) ∷ []) same)
 
