@@ -1,11 +1,12 @@
-pub mod AnchorSteps
 pub mod AlongSides
+pub mod AnchorSteps
 pub mod BoundLoops
 pub mod BoundSlices
 pub mod ChangedLists
 pub mod ClosedWalks
 pub mod CutLoops
 pub mod CutPlaces
+pub mod CutsInOrder
 pub mod KeptLoops
 pub mod LoopsFound
 pub mod LoopWindings
@@ -16,9 +17,9 @@ pub mod RoledLoops
 pub mod SideLists
 pub mod SideOnce
 pub mod SideOrbits
+pub mod SidesByBits
 pub mod SideSpokes
 pub mod SideWindings
-pub mod SidesByBits
 pub mod SimpleLoops
 pub mod SlicedShapes
 pub mod SlicesShown
