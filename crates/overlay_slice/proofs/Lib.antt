@@ -7,6 +7,9 @@ pub mod ClosedWalks
 pub mod CutLoops
 pub mod CutPlaces
 pub mod CutsInOrder
+pub mod FoundEdges
+pub mod FoundLoops
+pub mod GoingOn
 pub mod KeptLoops
 pub mod LoopsFound
 pub mod LoopWindings
@@ -24,6 +27,8 @@ pub mod SimpleLoops
 pub mod SlicedShapes
 pub mod SlicesShown
 pub mod StepCounts
+pub mod TourParts
+pub mod TourRanks
 pub mod ToursCut
 pub mod TourSplits
 pub mod TurnedLoops

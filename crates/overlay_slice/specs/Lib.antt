@@ -6,4 +6,6 @@ pub mod Repeats
 pub mod SidesByBits
 pub mod Sliced
 pub mod Slices
+pub mod SlicingWalks
+pub mod TourOrder
 pub mod Tours
