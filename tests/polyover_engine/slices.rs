@@ -212,3 +212,32 @@ fn bad_commands(rt: HostRuntime) {
         Exit::BadInput(2),
     );
 }
+
+// The contours that begin in one point: two shapes that touch there; two parts on both sides of a path from there, of
+// which the one above comes first; a shape and its holes; and the same with another shape, which is found between them.
+#[test]
+fn contours_from_one_point(rt: HostRuntime) {
+    let ring = "subject 0 0 12 -6 12 6\nsubject 0 0 8 1 8 3\nsubject 0 0 5 -2 5 -1\n";
+    let with_another = "subject 0 0 12 -6 12 6\nsubject 0 0 8 1 8 3\nsubject 0 0 5 -2 5 -1\nsubject 0 0 6 -9 6 -8\n";
+    let rows = [
+        (
+            "subject 0 0 9 1 9 4\nsubject 0 0 6 -4 6 -1\n",
+            "",
+            "shape\n0 0 6 -4 6 -1\nshape\n0 0 9 1 9 4\n",
+        ),
+        (
+            "subject 0 0 6 -6 6 6\n",
+            "line 0 0 2 1 6 0\n",
+            "shape\n0 0 2 1 6 0 6 6\nshape\n6 -6 6 0 2 1 0 0\n",
+        ),
+        (ring, "", "shape\n0 0 12 -6 12 6\n5 -1 5 -2 0 0\n8 3 8 1 0 0\n"),
+        (
+            with_another,
+            "",
+            "shape\n0 0 6 -9 6 -8\nshape\n0 0 12 -6 12 6\n5 -1 5 -2 0 0\n8 3 8 1 0 0\n",
+        ),
+    ];
+    for (contours, lines, wanted) in rows {
+        check_slices(&rt, contours, lines, "EvenOdd", wanted);
+    }
+}

@@ -75,6 +75,12 @@ way_goes_on start walked s rest tour new_tour tours new_tours way on = record {
   leads_back = way.leads_back.1;
 }
 
+-- where the next step leaves is the point reached
+pub reached_here : (start : Point) (walked : List Step) (s : Step) (rest tour : List Step) (tours : List (List Step)) →
+    IsOnItsWay start walked (s ∷ rest) tour tours → IsSplitSoFar start s.from walked tour tours
+reached_here start walked s rest tour tours way =
+    subst (λ p. IsSplitSoFar start p walked tour tours) (sym way.leads_back.0) way.so_far
+
 -- after the last one
 pub way_ended : (start : Point) (walk tour : List Step) (tours : List (List Step)) → IsOnItsWay start walk [] tour tours →
     IsSplitInto walk tours

@@ -23,7 +23,7 @@ use Rattle.overlay_slice.proofs.OrbitTours.{contour_closed}
 -- ---- the walk back
 
 -- the walk back begins with the way back of the last step
-backward-cons : (s : Step) (ss : List Step) → backward (s ∷ ss) ≡ backward ss ++ reversed_step s ∷ []
+pub backward-cons : (s : Step) (ss : List Step) → backward (s ∷ ss) ≡ backward ss ++ reversed_step s ∷ []
 backward-cons s ss = reverse-append (reversed_step s ∷ []) (map reversed_step ss)
 
 -- it leads back
@@ -40,7 +40,7 @@ rotated_leads p xs ys h =
     (parts.0, leads-append parts.0 p parts.0 ys xs parts.2 parts.1)
 
 -- a list begun at a later place
-rotated : (k : _) (xs : List Step) → IsPermutation xs (drop k xs ++ take k xs)
+pub rotated : (k : _) (xs : List Step) → IsPermutation xs (drop k xs ++ take k xs)
 rotated k xs = subst (λ zs. IsPermutation zs (drop k xs ++ take k xs)) (take-append-drop k xs)
     (IsPermutation-append_comm (take k xs) (drop k xs))
 
@@ -54,7 +54,7 @@ pub backward_steps : (ss : List Step) → IsPermutation (map reversed_step ss) (
 backward_steps ss = IsPermutation-reverse (map reversed_step ss)
 
 -- the steps back of the walk back are those of the walk
-steps_again : (ss : List Step) → IsPermutation ss (map reversed_step (backward ss))
+pub steps_again : (ss : List Step) → IsPermutation ss (map reversed_step (backward ss))
 steps_again ss = subst (λ zs. IsPermutation zs (map reversed_step (backward ss))) (again ss)
     (IsPermutation-map reversed_step (map reversed_step ss) (backward ss) (backward_steps ss))
 
@@ -72,7 +72,7 @@ ends_of_walk s (t ∷ ts) q h = ap (λ p. p ∷ map (λ (u : Step). u.to) (t ∷
     ∙ ap (λ ps. t.from ∷ ps) (ends_of_walk t ts q h.1)
 
 -- in a closed walk they are those at which they begin
-ends_are_starts : (p : Point) (walk : List Step) → LeadsTo p walk p →
+pub ends_are_starts : (p : Point) (walk : List Step) → LeadsTo p walk p →
     IsPermutation (points_of walk) (map (λ (t : Step). t.to) walk)
 ends_are_starts p [] h = IsPermutation-refl []
 ends_are_starts p (s ∷ ss) h = subst (IsPermutation (points_of (s ∷ ss)))

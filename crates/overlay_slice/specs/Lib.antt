@@ -2,7 +2,10 @@ pub mod Bound
 pub mod ClosedWalks
 pub mod FilledSides
 pub mod Loops
+pub mod Repeats
 pub mod SidesByBits
 pub mod Sliced
 pub mod Slices
+pub mod SlicingWalks
+pub mod TourOrder
 pub mod Tours

@@ -13,13 +13,15 @@ use Rattle.overlay_arrange.specs.declared.fill_rule.FillRule.{FillRule}
 use Rattle.overlay_slice.specs.Bound.{HaveRoles}
 use Rattle.overlay_slice.specs.FilledSides.{filled_sides}
 use Rattle.overlay_slice.specs.Loops.{AreLoops}
+use Rattle.overlay_slice.specs.SlicingWalks.{AreFoundInOrder}
 
--- the contours are the loops into which the filled sides of the edges are cut, as far as they reach the minimum area in a
--- type of this width, with their roles
+-- the contours are the loops into which the filled sides of the edges are cut, in the order in which they are found, as
+-- far as they reach the minimum area in a type of this width, with their roles
 pub record AreSliceContours (width : Width) (min : ℕ) (fill : FillRule) (es : List CountedEdge)
     (contours : List Contour) : Type 0 where
   pub loops : List (List Step)
   pub cut : AreLoops (filled_sides (is_filled fill) subj_of es) loops
+  pub found : AreFoundInOrder (filled_sides (is_filled fill) subj_of es) loops
   pub kept : walks_in contours ≡ filter (reaches width min) loops
   pub roles : HaveRoles 0 contours
 

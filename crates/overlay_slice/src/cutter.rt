@@ -4,6 +4,7 @@ ghost use Rattle.std.specs.Prelude.{◌≡◌, ◌<◌, ◌++◌, [], ◌∷◌,
 ghost use Rattle.overlay_geom.specs.Points.{plain_point};
 ghost use Rattle.overlay_slice.specs.ClosedWalks.{HasLength, IsClosedWalk, IsCutIntoLoops};
 ghost use Rattle.overlay_slice.specs.ClosedWalks.{IsCutSoFar, IsPlaceLeft, NoneLeaves};
+ghost use Rattle.overlay_slice.specs.Repeats.{IsCutAtRepeats, IsCutOnTheWay};
 ghost use Rattle.overlay_walk.specs.Places.{step_at};
 ghost use Rattle.overlay_walk.specs.Steps.{plain_step, plain_steps};
 ghost use Rattle.overlay_walk.specs.Walks.{plain_walks};
@@ -27,6 +28,8 @@ pub fn cut_loops<I: IntNumber, A: Allocator + Clone>(
     requires long { All HasLength (plain_steps I.whole walk.now) }
     ensures cut { IfOk result
         (λ ls. IsCutIntoLoops (plain_steps I.whole walk.now) (plain_walks I.whole ls.items)) }
+    ensures order { IfOk result
+        (λ ls. IsCutAtRepeats (plain_steps I.whole walk.now) (plain_walks I.whole ls.items)) }
     ensures err { IsOkUnless result OverlayError.Memory }
 {
     let mut cutter = LoopCutter::new(alloc)?;
@@ -66,6 +69,11 @@ impl<I: IntNumber, A: Allocator + Clone> LoopCutter<I, A> {
             (plain_walks I.whole self.old.loops.items) →
             IsCutSoFar start (plain_step I.whole step).to (walked ++ plain_step I.whole step ∷ [])
             (plain_steps I.whole self.new.path.items) (plain_walks I.whole self.new.loops.items)) }
+        ensures order { OnOk result ((walk rest : _) →
+            IsCutOnTheWay walk (plain_steps I.whole self.old.path.items) (plain_step I.whole step ∷ rest)
+            (plain_walks I.whole self.old.loops.items) →
+            IsCutOnTheWay walk (plain_steps I.whole self.new.path.items) rest
+            (plain_walks I.whole self.new.loops.items)) }
         ensures err { IsOkUnless result OverlayError.Memory }
     {
         self.cut_at(step.from)?;
@@ -79,6 +87,12 @@ impl<I: IntNumber, A: Allocator + Clone> LoopCutter<I, A> {
             IsCutSoFar start (plain_point I.whole point) walked (plain_steps I.whole self.old.path.items)
             (plain_walks I.whole self.old.loops.items) →
             IsCutSoFar start (plain_point I.whole point) walked (plain_steps I.whole self.new.path.items)
+            (plain_walks I.whole self.new.loops.items)
+            × NoneLeaves (plain_point I.whole point) (plain_steps I.whole self.new.path.items)) }
+        ensures order { OnOk result ((walk t rest : _) → t.from ≡ plain_point I.whole point →
+            IsCutOnTheWay walk (plain_steps I.whole self.old.path.items) (t ∷ rest)
+            (plain_walks I.whole self.old.loops.items) →
+            IsCutOnTheWay walk (plain_steps I.whole self.new.path.items) (t ∷ rest)
             (plain_walks I.whole self.new.loops.items)
             × NoneLeaves (plain_point I.whole point) (plain_steps I.whole self.new.path.items)) }
         ensures err { IsOkUnless result OverlayError.Memory }
@@ -99,6 +113,12 @@ impl<I: IntNumber, A: Allocator + Clone> LoopCutter<I, A> {
             (plain_steps I.whole self.old.path.items) (plain_walks I.whole self.old.loops.items) →
             IsCutSoFar start (step_at (plain_steps I.whole self.old.path.items) place).from walked
             (plain_steps I.whole self.new.path.items) (plain_walks I.whole self.new.loops.items)) }
+        ensures order { OnOk result ((walk t rest : _) →
+            t.from ≡ (step_at (plain_steps I.whole self.old.path.items) place).from →
+            IsCutOnTheWay walk (plain_steps I.whole self.old.path.items) (t ∷ rest)
+            (plain_walks I.whole self.old.loops.items) →
+            IsCutOnTheWay walk (plain_steps I.whole self.new.path.items) (t ∷ rest)
+            (plain_walks I.whole self.new.loops.items)) }
         ensures err { IsOkUnless result OverlayError.Memory }
     {
         let mut tail = self.path.split_off(place)?;
@@ -115,6 +135,9 @@ impl<I: IntNumber, A: Allocator + Clone> LoopCutter<I, A> {
         ensures cut { IfOk result (λ ls. (start : _) (walked : _) →
             IsCutSoFar start start walked (plain_steps I.whole self.path.items) (plain_walks I.whole self.loops.items) →
             IsCutIntoLoops walked (plain_walks I.whole ls.items)) }
+        ensures order { IfOk result (λ ls. (walk : _) →
+            IsCutOnTheWay walk (plain_steps I.whole self.path.items) [] (plain_walks I.whole self.loops.items) →
+            IsCutAtRepeats walk (plain_walks I.whole ls.items)) }
         ensures err { IsOkUnless result OverlayError.Memory }
     {
         let LoopCutter { path, mut loops } = self;

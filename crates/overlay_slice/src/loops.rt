@@ -10,6 +10,8 @@ ghost use Rattle.overlay_arrange.specs.Rules.{is_filled};
 ghost use Rattle.overlay_slice.specs.ClosedWalks.{HasLength, IsClosedWalk, IsCutIntoLoops, turned_loop};
 ghost use Rattle.overlay_slice.specs.FilledSides.{filled_sides};
 ghost use Rattle.overlay_slice.specs.Loops.{AreLoops};
+ghost use Rattle.overlay_slice.specs.SlicingWalks.{AreFoundInOrder};
+ghost use Rattle.overlay_slice.specs.TourOrder.{AreLoopsOfTour, AreLoopsOfTours};
 ghost use Rattle.overlay_slice.specs.Tours.{AreCutIntoLoops};
 ghost use Rattle.overlay_walk.specs.Steps.{plain_steps};
 ghost use Rattle.overlay_walk.specs.Walks.{plain_walks};
@@ -39,6 +41,8 @@ pub fn filled_loops<I: IntNumber, C: EdgeCount, A: Allocator + Clone>(
     requires { HasBalancedCounts (graph_edges graph.now) }
     ensures loops { IfOk result (λ ls. AreLoops
         (filled_sides (is_filled graph.now.fill_rule) subj_of (graph_edges graph.now)) (plain_walks I.whole ls.items)) }
+    ensures order { IfOk result (λ ls. AreFoundInOrder
+        (filled_sides (is_filled graph.now.fill_rule) subj_of (graph_edges graph.now)) (plain_walks I.whole ls.items)) }
     ensures err { IsOkUnless result OverlayError.Memory }
 {
     graph.note_arrangement();
@@ -56,6 +60,8 @@ fn loops_of<I: IntNumber, A: Allocator + Clone>(
     requires long { All (All HasLength) (plain_walks I.whole tours.now) }
     ensures loops { IfOk result
         (λ ls. AreCutIntoLoops (plain_walks I.whole tours.now) (plain_walks I.whole ls.items)) }
+    ensures order { IfOk result
+        (λ ls. AreLoopsOfTours (plain_walks I.whole tours.now) (plain_walks I.whole ls.items)) }
     ensures err { IsOkUnless result OverlayError.Memory }
 {
     let mut loops = Vec::new(alloc.clone()?);
@@ -75,6 +81,8 @@ fn loops_of_tour<I: IntNumber, A: Allocator + Clone>(
     requires long { All HasLength (plain_steps I.whole tour.now) }
     ensures loops { IfOk result
         (λ ls. IsCutIntoLoops (plain_steps I.whole tour.now) (plain_walks I.whole ls.items)) }
+    ensures order { IfOk result
+        (λ ls. AreLoopsOfTour (plain_steps I.whole tour.now) (plain_walks I.whole ls.items)) }
     ensures err { IsOkUnless result OverlayError.Memory }
 {
     if is_walked_along(tour) {

@@ -1,9 +1,12 @@
 //! The tours of which orbits consist: closed walks from the smallest point of an orbit back to it.
 
-ghost use Rattle.std.specs.Prelude.{◌≤◌, ◌++◌, [], ◌∷◌, length, All, IfOk, OnOk, IsOkUnless};
+ghost use Rattle.std.specs.Prelude.{◌≡◌, ◌<◌, ◌≤◌, ◌++◌, [], ◌∷◌, false, length, All, IfOk, OnOk, IsOkUnless};
+ghost use Rattle.overlay_geom.specs.Plane.{point_lt};
 ghost use Rattle.overlay_geom.specs.Points.{plain_point};
 ghost use Rattle.overlay_slice.specs.ClosedWalks.{IsClosedWalk};
+ghost use Rattle.overlay_slice.specs.TourOrder.{AreFromStart, AreToursInOrder, IsSplitAtLeast, IsSplitAtStart};
 ghost use Rattle.overlay_slice.specs.Tours.{AreSplitIntoTours, IsSplitInto, IsSplitSoFar};
+ghost use Rattle.overlay_walk.specs.Places.{step_at};
 ghost use Rattle.overlay_walk.specs.Steps.{plain_step, plain_steps};
 ghost use Rattle.overlay_walk.specs.Walks.{plain_walks};
 
@@ -27,6 +30,8 @@ pub fn tours<I: IntNumber, A: Allocator + Clone>(
     requires { All IsClosedWalk (plain_walks I.whole orbits.now) }
     ensures tours { IfOk result
         (λ ts. AreSplitIntoTours (plain_walks I.whole orbits.now) (plain_walks I.whole ts.items)) }
+    ensures order { IfOk result
+        (λ ts. AreToursInOrder (plain_walks I.whole orbits.now) (plain_walks I.whole ts.items)) }
     ensures err { IsOkUnless result OverlayError.Memory }
 {
     let mut tours = Vec::new(alloc.clone()?);
@@ -45,6 +50,8 @@ fn tours_of<I: IntNumber, A: Allocator + Clone>(
 ) -> Result<Vec<Vec<Step<I>, A>, A>, OverlayError>
     requires { IsClosedWalk (plain_steps I.whole orbit.now) }
     ensures tours { IfOk result (λ ts. IsSplitInto (plain_steps I.whole orbit.now) (plain_walks I.whole ts.items)) }
+    ensures least { IfOk result
+        (λ ts. IsSplitAtLeast (plain_steps I.whole orbit.now) (plain_walks I.whole ts.items)) }
     ensures err { IsOkUnless result OverlayError.Memory }
 {
     let mut from_least = Vec::from_slice(alloc.clone()?, orbit)?;
@@ -54,7 +61,10 @@ fn tours_of<I: IntNumber, A: Allocator + Clone>(
 
 // The place of a step that leaves the smallest point.
 fn least_place<I: IntNumber>(orbit: &[Step<I>]) -> usize
-    ensures { result ≤ length orbit.now }
+    ensures place { result ≤ length orbit.now }
+    ensures within { 0 < length orbit.now → result < length orbit.now }
+    ensures least { All (λ s. point_lt s.from (step_at (plain_steps I.whole orbit.now) result).from ≡ false)
+        (plain_steps I.whole orbit.now) }
 {
     let mut least = 0;
     for place in 0..orbit.len() {
@@ -72,6 +82,8 @@ fn split<I: IntNumber, A: Allocator + Clone>(
 ) -> Result<Vec<Vec<Step<I>, A>, A>, OverlayError>
     requires { IsClosedWalk (plain_steps I.whole walk.now) }
     ensures tours { IfOk result (λ ts. IsSplitInto (plain_steps I.whole walk.now) (plain_walks I.whole ts.items)) }
+    ensures start { IfOk result
+        (λ ts. IsSplitAtStart (plain_steps I.whole walk.now) (plain_walks I.whole ts.items)) }
     ensures err { IsOkUnless result OverlayError.Memory }
 {
     let mut tours = Vec::new(alloc.clone()?);
@@ -97,6 +109,12 @@ fn go_on<I: IntNumber, A: Allocator + Clone>(
         walked (plain_steps I.whole tour.old.items) (plain_walks I.whole tours.old.items) →
         IsSplitSoFar (plain_point I.whole start) (plain_step I.whole step).to (walked ++ plain_step I.whole step ∷ [])
         (plain_steps I.whole tour.new.items) (plain_walks I.whole tours.new.items)) }
+    ensures start { OnOk result ((walked : _) → IsSplitSoFar (plain_point I.whole start) (plain_step I.whole step).from
+        walked (plain_steps I.whole tour.old.items) (plain_walks I.whole tours.old.items) →
+        AreFromStart (plain_point I.whole start) (plain_steps I.whole tour.old.items)
+        (plain_walks I.whole tours.old.items) →
+        AreFromStart (plain_point I.whole start) (plain_steps I.whole tour.new.items)
+        (plain_walks I.whole tours.new.items)) }
     ensures err { IsOkUnless result OverlayError.Memory }
 {
     tour.push(step)?;

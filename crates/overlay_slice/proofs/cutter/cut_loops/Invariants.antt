@@ -1,5 +1,6 @@
--- What is walked so far is cut, and what is to come leads back to the start.
+-- What is walked so far is cut, in order, and what is to come leads back to the start.
 use Rattle.std.proofs.Common.{take, drop}
+use Rattle.overlay_slice.specs.Repeats.{IsCutOnTheWay}
 use Rattle.overlay_slice.proofs.CutPlaces.{IsOnItsWay}
 use Rattle.overlay_walk.specs.Steps.{plain_steps}
 use Rattle.overlay_walk.specs.Walks.{plain_walks}
@@ -8,5 +9,7 @@ use Rattle.overlay_slice.proofs.cutter.cut_loops.Given as goal
 abbrev pub invariant-loop-place : goal.invariant-loop-place
 invariant-loop-place g l =
     let whole = g.I.IntNumber.whole in
-    IsOnItsWay (plain_steps whole (take l.place l.walk)) (plain_steps whole (drop l.place l.walk))
-    (plain_steps whole l.cutter.path.items) (plain_walks whole l.cutter.loops.items)
+    let path = plain_steps whole l.cutter.path.items in
+    let loops = plain_walks whole l.cutter.loops.items in
+    IsOnItsWay (plain_steps whole (take l.place l.walk)) (plain_steps whole (drop l.place l.walk)) path loops
+    × IsCutOnTheWay (plain_steps whole l.walk) path (plain_steps whole (drop l.place l.walk)) loops

@@ -4,6 +4,7 @@ use Rattle.overlay_geom.specs.Edges.{subj_of}
 use Rattle.overlay_arrange.specs.Graphs.{graph_edges}
 use Rattle.overlay_arrange.specs.Rules.{is_filled}
 use Rattle.overlay_slice.specs.FilledSides.{filled_sides}
+use Rattle.overlay_slice.proofs.FoundLoops.{loops_found}
 use Rattle.overlay_slice.proofs.LoopsFound.{orbits_closed, tours_long}
 use Rattle.overlay_slice.proofs.OrbitTours.{orbits_make_tours}
 use Rattle.overlay_slice.proofs.SideOnce.{filled_sides_long}
@@ -52,3 +53,21 @@ returns-clause-loops g c =
     (balanced_arrangement g.I.IntNumber.limit es c.note_arrangement.ensures c.requires) tours
     (plain_walks whole ls.items) (orbits_make_tours sides orbits tours c.in_ok-orbits.ensures.orbits split) cut)
     (rw c.deref-2.ensures.value at c.loops_of.ensures.loops)
+
+pub returns-clause-order : goal.returns-clause-order
+returns-clause-order g c =
+    let whole = g.I.IntNumber.whole in
+    let graph = c.args.graph.now in
+    let es = graph_edges graph in
+    let fills = is_filled graph.fill_rule in
+    let sides = filled_sides fills subj_of es in
+    let orbits = plain_walks whole c.in_ok-orbits.orbits.items in
+    let tours = plain_walks whole c.in_ok-tours.tours.items in
+    let split = rw c.deref.ensures.value at c.in_ok-tours.ensures.tours in
+    let order = rw c.deref.ensures.value at c.in_ok-tours.ensures.order in
+    IfOk-weaker c.loops_of.result _ _
+    (λ ls found. loops_found fills subj_of es
+    (balanced_arrangement g.I.IntNumber.limit es c.note_arrangement.ensures c.requires) orbits tours
+    (plain_walks whole ls.items) c.in_ok-orbits.ensures.orbits
+    (orbits_make_tours sides orbits tours c.in_ok-orbits.ensures.orbits split).each_once order found)
+    (rw c.deref-2.ensures.value at c.loops_of.ensures.order)

@@ -1,16 +1,17 @@
 -- One more tour is cut.
-use Rattle.std.proofs.Common.{◌++◌, take, All, sym, subst, arith}
-use Rattle.std.proofs.lemmas.List.{map-append}
-use Rattle.overlay_geom.proofs.Mapped.{All-mapped_at, mapped_more, mapped_whole}
+use Rattle.std.proofs.Common.{◌+◌, ◌++◌, take, drop, All, sym, subst, arith}
+use Rattle.std.proofs.lemmas.List.{drop_all, map-append}
+use Rattle.overlay_geom.proofs.Mapped.{All-mapped_at, mapped_more, mapped_rest, mapped_whole}
 use Rattle.overlay_slice.specs.ClosedWalks.{IsClosedWalk, HasLength}
 use Rattle.overlay_slice.specs.Tours.{AreCutIntoLoops}
+use Rattle.overlay_slice.proofs.TourParts.{AreFoundSoFar, tour_found, all_found}
 use Rattle.overlay_slice.proofs.ToursCut.{none_cut, walk_cut}
 use Rattle.overlay_walk.specs.Steps.{plain_steps}
 use Rattle.overlay_walk.specs.Walks.{plain_walks}
 use Rattle.overlay_slice.proofs.loops.loops_of.Goals as goal
 
 pub loop-i-init : goal.loop-i-init
-loop-i-init g c = rw c.new-loops.ensures.items none_cut
+loop-i-init g c = rw c.new-loops.ensures.items (none_cut, λ others are. are)
 
 pub loops_of_tour-requires-clause-closed : goal.loops_of_tour-requires-clause-closed
 loops_of_tour-requires-clause-closed g c =
@@ -32,11 +33,19 @@ loop-i-preserved g c =
     let tour = c.index-tours-i.result in
     let added = plain_walks whole c.in_ok-of_tour.of_tour.items in
     let cut = rw c.deref.ensures.value at c.in_ok-of_tour.ensures.loops in
-    rw (c.in_ok-append.ensures.items, map-append)
-    (subst (λ ws. AreCutIntoLoops ws (plain_walks whole l.loops.items ++ added))
-    (sym (mapped_more (λ (w : _). plain_steps whole w.items) tours l.i tour c.loop-i-test.true c.index-tours-i.is))
-    (walk_cut (plain_walks whole (take l.i tours)) (plain_walks whole l.loops.items) l.invariant
-    (plain_steps whole tour.items) added cut))
+    let order = rw c.deref.ensures.value at c.in_ok-of_tour.ensures.order in
+    rw (c.in_ok-append.ensures.items, map-append) (
+      subst (λ ws. AreCutIntoLoops ws (plain_walks whole l.loops.items ++ added))
+          (sym (mapped_more (λ (w : _). plain_steps whole w.items) tours l.i tour c.loop-i-test.true
+          c.index-tours-i.is))
+          (walk_cut (plain_walks whole (take l.i tours)) (plain_walks whole l.loops.items) l.invariant.0
+          (plain_steps whole tour.items) added cut),
+      tour_found (plain_walks whole tours) (plain_walks whole (drop (l.i + 1) tours)) (plain_walks whole l.loops.items)
+          added (plain_steps whole tour.items)
+          (subst (λ ws. AreFoundSoFar (plain_walks whole tours) ws (plain_walks whole l.loops.items))
+          (mapped_rest (λ (w : _). plain_steps whole w.items) tours l.i tour c.loop-i-test.true c.index-tours-i.is)
+          l.invariant.1) order,
+    )
 
 pub returns-clause-loops : goal.returns-clause-loops
 returns-clause-loops g c =
@@ -44,4 +53,14 @@ returns-clause-loops g c =
     let l = c.loop-i in
     let past = c.loop-i-test.false in
     subst (λ ws. AreCutIntoLoops ws (plain_walks whole l.loops.items))
-    (mapped_whole (λ (w : _). plain_steps whole w.items) c.args.tours.now l.i (omega arith)) l.invariant
+    (mapped_whole (λ (w : _). plain_steps whole w.items) c.args.tours.now l.i (omega arith)) l.invariant.0
+
+pub returns-clause-order : goal.returns-clause-order
+returns-clause-order g c =
+    let whole = g.I.IntNumber.whole in
+    let l = c.loop-i in
+    let tours = c.args.tours.now in
+    let past = c.loop-i-test.false in
+    all_found (plain_walks whole tours) (plain_walks whole l.loops.items)
+    (subst (λ ws. AreFoundSoFar (plain_walks whole tours) (plain_walks whole ws) (plain_walks whole l.loops.items))
+    (drop_all l.i tours (omega arith)) l.invariant.1)

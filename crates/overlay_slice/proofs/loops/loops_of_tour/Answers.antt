@@ -1,7 +1,9 @@
 -- What the walk back is cut into is turned round.
-use Rattle.std.proofs.Common.{sym, subst}
+use Rattle.std.proofs.Common.{sym, ◌∙◌, subst}
 use Rattle.std.proofs.lemmas.Result.{IfOk-weaker}
 use Rattle.overlay_slice.specs.ClosedWalks.{IsCutIntoLoops}
+use Rattle.overlay_slice.specs.TourOrder.{AreLoopsOfTour}
+use Rattle.overlay_slice.proofs.TourParts.{along_loops, back_loops}
 use Rattle.overlay_slice.proofs.TurnedLoops.{cut_turned, backward_closed, backward_long}
 use Rattle.overlay_walk.specs.Steps.{plain_steps}
 use Rattle.overlay_walk.specs.Walks.{plain_walks}
@@ -27,4 +29,22 @@ returns-clause-loops g c =
     let cut = rw (c.deref.ensures.value, c.in_ok-back.ensures.back) at c.in_ok-loops.ensures.cut in
     IfOk-weaker c.turned_loops.result _ _
     (λ ls is. subst (IsCutIntoLoops tour) (sym is) (cut_turned tour (plain_walks whole c.in_ok-loops.loops.items) cut))
+    (rw c.deref-2.ensures.value at c.turned_loops.ensures.turned)
+
+pub returns-then-is_walked_along-clause-order : goal.returns-then-is_walked_along-clause-order
+returns-then-is_walked_along-clause-order g c =
+    let whole = g.I.IntNumber.whole in
+    IfOk-weaker c.cut_loops.result _ _
+    (λ ls cut. along_loops (plain_steps whole c.args.tour.now) (plain_walks whole ls.items)
+    (sym c.is_walked_along.ensures ∙ c.if-is_walked_along.true) cut)
+    c.cut_loops.ensures.order
+
+pub returns-clause-order : goal.returns-clause-order
+returns-clause-order g c =
+    let whole = g.I.IntNumber.whole in
+    let tour = plain_steps whole c.args.tour.now in
+    let cut = rw (c.deref.ensures.value, c.in_ok-back.ensures.back) at c.in_ok-loops.ensures.order in
+    IfOk-weaker c.turned_loops.result _ _
+    (λ ls is. back_loops tour (plain_walks whole c.in_ok-loops.loops.items) (plain_walks whole ls.items)
+    (sym c.is_walked_along.ensures ∙ c.if-is_walked_along.false) cut is)
     (rw c.deref-2.ensures.value at c.turned_loops.ensures.turned)

@@ -48,6 +48,7 @@ returns-clause-contours g c =
     let loops = c.in_ok-loops.loops.items in record {
       loops = plain_walks whole loops;
       cut = c.in_ok-loops.ensures.loops;
+      found = c.in_ok-loops.ensures.order;
       kept = c.in_ok-contours.ensures.walks ∙ ap (plain_walks whole) c.in_ok-large.ensures.ok
           ∙ map-filter (λ (w : _). plain_steps whole w.items) keeps loops;
       roles = c.in_ok-contours.ensures.roles;

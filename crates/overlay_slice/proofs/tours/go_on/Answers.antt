@@ -7,6 +7,7 @@ use Rattle.overlay_geom.specs.Plane.{point_eq}
 use Rattle.overlay_geom.specs.Points.{plain_point}
 use Rattle.overlay_geom.proofs.Orders.{point_eq-same, point_eq-of_same}
 use Rattle.overlay_geom.proofs.PointComparisons.{point_cmp-is_tie}
+use Rattle.overlay_slice.proofs.TourParts.{start_goes_on, start_comes_back}
 use Rattle.overlay_slice.proofs.TourSplits.{tour_goes_on, tour_comes_back}
 use Rattle.overlay_walk.specs.Steps.{plain_step, plain_steps}
 use Rattle.overlay_walk.specs.Walks.{plain_walks}
@@ -40,6 +41,33 @@ returns-clause-on g c walked so_far =
     )
     (tour_comes_back start walked (plain_steps whole c.args.tour.now.items) (plain_walks whole c.args.tours.now.items)
     (plain_step whole c.args.step) so_far
+    (point_eq-same end start
+    (sym (point_cmp-is_tie end start) ∙ ap is_eq (sym c.compare_points.ensures) ∙ sym c.is_eq.ensures
+    ∙ c.if-not-is_eq.false)))
+
+pub returns-then-not-is_eq-clause-start : goal.returns-then-not-is_eq-clause-start
+returns-then-not-is_eq-clause-start g c walked so_far from_start =
+    let whole = g.I.IntNumber.whole in
+    rw (c.in_ok-push.ensures.items, map-append)
+    (start_goes_on (plain_point whole c.args.start) walked (plain_steps whole c.args.tour.now.items)
+    (plain_walks whole c.args.tours.now.items) (plain_step whole c.args.step) so_far from_start)
+
+pub returns-clause-start : goal.returns-clause-start
+returns-clause-start g c walked so_far from_start =
+    let whole = g.I.IntNumber.whole in
+    let start = plain_point whole c.args.start in
+    let end = plain_point whole c.args.step.to in
+    rw (
+      c.replace.ensures.after,
+      c.new-next.ensures.items,
+      c.in_ok-push-2.ensures.items,
+      map-append,
+      c.replace.ensures.value,
+      c.in_ok-push.ensures.items,
+      map-append,
+    )
+    (start_comes_back start walked (plain_steps whole c.args.tour.now.items) (plain_walks whole c.args.tours.now.items)
+    (plain_step whole c.args.step) so_far from_start
     (point_eq-same end start
     (sym (point_cmp-is_tie end start) ∙ ap is_eq (sym c.compare_points.ensures) ∙ sym c.is_eq.ensures
     ∙ c.if-not-is_eq.false)))
