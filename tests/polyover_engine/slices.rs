@@ -218,7 +218,8 @@ fn bad_commands(rt: HostRuntime) {
 #[test]
 fn contours_from_one_point(rt: HostRuntime) {
     let ring = "subject 0 0 12 -6 12 6\nsubject 0 0 8 1 8 3\nsubject 0 0 5 -2 5 -1\n";
-    let with_another = "subject 0 0 12 -6 12 6\nsubject 0 0 8 1 8 3\nsubject 0 0 5 -2 5 -1\nsubject 0 0 6 -9 6 -8\n";
+    let with_another =
+        "subject 0 0 12 -6 12 6\nsubject 0 0 8 1 8 3\nsubject 0 0 5 -2 5 -1\nsubject 0 0 6 -9 6 -8\n";
     let rows = [
         (
             "subject 0 0 9 1 9 4\nsubject 0 0 6 -4 6 -1\n",
@@ -230,7 +231,11 @@ fn contours_from_one_point(rt: HostRuntime) {
             "line 0 0 2 1 6 0\n",
             "shape\n0 0 2 1 6 0 6 6\nshape\n6 -6 6 0 2 1 0 0\n",
         ),
-        (ring, "", "shape\n0 0 12 -6 12 6\n5 -1 5 -2 0 0\n8 3 8 1 0 0\n"),
+        (
+            ring,
+            "",
+            "shape\n0 0 12 -6 12 6\n5 -1 5 -2 0 0\n8 3 8 1 0 0\n",
+        ),
         (
             with_another,
             "",
