@@ -26,6 +26,7 @@ pub mod ClosedWalks
 pub mod CommonPoints
 pub mod ContourNumbers
 pub mod ContourSteps
+pub mod CountedSteps
 pub mod Crossing
 pub mod CrossingPoints
 pub mod CutByOneHand
@@ -107,6 +108,7 @@ pub mod NodeStarts
 pub mod NodeUprights
 pub mod NodeWindings
 pub mod NodesMakeBalance
+pub mod OnceOrNot
 pub mod OneHoleRound
 pub mod OrbitSteps
 pub mod OrbitWalks
@@ -117,8 +119,8 @@ pub mod ParentlessHoles
 pub mod PartsOfLists
 pub mod PieceCounts
 pub mod Pigeonhole
-pub mod Placements
 pub mod PlacedHoles
+pub mod Placements
 pub mod PlacesOfContours
 pub mod PointsAlong
 pub mod ReachedEdges
