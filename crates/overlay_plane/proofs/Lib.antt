@@ -1,3 +1,4 @@
+pub mod AboveNext
 pub mod AddedWindings
 pub mod AfterRounds
 pub mod AlongLines
@@ -14,6 +15,7 @@ pub mod BelowAnchors
 pub mod BelowHoles
 pub mod BesideAcross
 pub mod BesideNext
+pub mod BetweenEdges
 pub mod BoundShapes
 pub mod BoundSteps
 pub mod ChainCounts
