@@ -1,11 +1,11 @@
 -- Each shape by itself: its contours wind once round a point of the plane, or zero times.
 use Rattle.std.specs.Prelude.{◌≡◌, ◌⊎◌, Bool, true, ℕ, ℤ, pos, List, Contains, All, AllPairs, Option}
 use Rattle.std.specs.List.{flat_map}
-use Rattle.overlay_geom.specs.Plane.{Point, PlanePoint, Step, edge_of, steps_of, winding}
+use Rattle.overlay_geom.specs.Plane.{Point, PlanePoint, Step, steps_of, winding}
 use Rattle.overlay_geom.specs.Edges.{CountedEdge}
 use Rattle.overlay_plane.specs.Turn.{Hand, IsOrbit}
 use Rattle.overlay_plane.specs.Alternates.{Alternates}
-use Rattle.overlay_plane.specs.BesideOrbits.{WalksAlong, winding_under, winding_beside}
+use Rattle.overlay_plane.specs.BesideOrbits.{WalksAlong, winding_beside}
 use Rattle.overlay_plane.specs.ContourWindings.{once_round}
 use Rattle.overlay_plane.specs.RoledContours.{Contour}
 use Rattle.overlay_plane.specs.BoundContours.{AreShapesFound, walks_in, contours_bound, shapes_bound}
@@ -25,12 +25,13 @@ abbrev pub HasOneWinding : Hand → List CountedEdge → (taken walk : List Step
 HasOneWinding filled es taken walk = (s t : Step) → Contains walk s → Contains walk t →
     winding_beside filled es taken s ≡ winding_beside filled es taken t
 
--- below two steps that an orbit leaves, of which one ends where the other one begins, the orbit winds alike
+-- beside two steps that an orbit leaves, of which one ends where the other one begins, the orbit winds alike, by each
+-- hand
 abbrev pub OneWindingPastOrbits : Type 0
 OneWindingPastOrbits = (es : List CountedEdge) (steps : List Step) → WalksAlong es steps → Alternates steps →
     (hand : Hand) (walk : List Step) → IsOrbit steps hand walk → (s t : Step) → Contains steps s → Contains steps t →
     ¬ (Contains walk s) → ¬ (Contains walk t) → s.to ≡ t.from →
-    winding_under es walk (edge_of s) ≡ winding_under es walk (edge_of t)
+    (side : Hand) → winding_beside side es walk s ≡ winding_beside side es walk t
 
 -- the shapes to which all contours are bound wind so, each contour as it is or thinned
 abbrev pub EachShapeWindsOnceOrNot : Type 0
