@@ -20,7 +20,7 @@ use Rattle.overlay_plane.proofs.Under.{under_irreflexive, under_transitive}
 
 -- ---- sums of numbers that are not above 0
 
-at_most_zero : {X : Type 0} (f : X → ℤ) (xs : List X) → ((x : X) → Contains xs x → f x ≤ℤ pos 0) → total f xs ≤ℤ pos 0
+pub at_most_zero : {X : Type 0} (f : X → ℤ) (xs : List X) → ((x : X) → Contains xs x → f x ≤ℤ pos 0) → total f xs ≤ℤ pos 0
 at_most_zero f [] h = omega linear
 at_most_zero f (x ∷ xs) h =
     let first = h x (Contains-head x xs) in

@@ -291,8 +291,12 @@ module _ (holds : ℤ → ℤ → Bool) (subj clip : CountedEdge → ℤ) (es : 
     -- it is of a contour that stands in the shape from the start
     lowest_own : (c : Contour) × Contains contours c × (stands_in c.role ≡ Some n) × Contains c.steps leftmost.lowest
     lowest_own = ⊎_elim
-        (λ (own : IsOwn w.0). (own.contour, own.among, own.stands,
-        subst (λ v. Contains v leftmost.lowest) (sym own.is) w.2))
+        (λ (own : IsOwn w.0). (
+          own.contour,
+          own.among,
+          own.stands,
+          subst (λ v. Contains v leftmost.lowest) (sym own.is) w.2,
+        ))
         (λ (hole : IsFound w.0).
         let after = after_own filled contours bindable n hole.place hole.number hole.contour.steps
         (place_of_walk contours hole.place hole.contour hole.at) in

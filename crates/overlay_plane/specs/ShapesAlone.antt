@@ -1,5 +1,5 @@
 -- Each shape by itself: its contours wind once round a point of the plane, or zero times.
-use Rattle.std.specs.Prelude.{◌≡◌, ◌⊎◌, Bool, true, ℕ, ℤ, pos, List, Contains, All, AllPairs, Option}
+use Rattle.std.specs.Prelude.{◌≡◌, ◌⊎◌, Bool, true, ℕ, ℤ, pos, List, Contains, All, Option}
 use Rattle.std.specs.List.{flat_map}
 use Rattle.overlay_geom.specs.Plane.{Point, PlanePoint, Step, steps_of, winding}
 use Rattle.overlay_geom.specs.Edges.{CountedEdge}
