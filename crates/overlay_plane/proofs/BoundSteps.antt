@@ -136,7 +136,7 @@ module _ (holds : ℤ → ℤ → Bool) (subj clip : CountedEdge → ℤ) (es : 
         (parts_alike f bound numbered_again below_again has_number)
 
     -- each of their walks is a contour
-    walks_are_contours : All IsContour (walks_of (shapes_bound bound))
+    pub walks_are_contours : All IsContour (walks_of (shapes_bound bound))
     walks_are_contours = All-permutation IsContour (walks_in contours) (walks_of (shapes_bound bound))
         (subst (λ ws. IsPermutation ws (walks_of (shapes_bound bound))) (single_parts (walks_in contours))
         (subst (IsPermutation (flat_map (λ (w : List Step). w ∷ []) (walks_in contours)))

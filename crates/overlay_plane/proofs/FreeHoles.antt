@@ -108,14 +108,15 @@ module _ (holds : ℤ → ℤ → Bool) (subj clip : CountedEdge → ℤ) (es : 
           (group_of steps alternates filled cut.groups cut.grouped own.group own.among) own.hole w own.inside
 
   -- by the option
-  empty_by : (t : Bool) → IsCutBy t filled keeps steps contours → (i : ℕ) (c : Contour) →
+  pub empty_by : (t : Bool) → IsCutBy t filled keeps steps contours → (i : ℕ) (c : Contour) →
       slice_get contours i ≡ Some c → c.role ≡ free_hole → IsEmptyAbove c
   empty_by true cut = empty_of_groups cut
   empty_by false cut = empty_of_cut cut
 
   module _ (all : KeepsAll keeps) where
-    have : HaveSelected holds subj clip es filled (walks_in contours)
-    have = record {
+    -- the contours have the selected steps
+    pub have_all : HaveSelected holds subj clip es filled (walks_in contours)
+    have_all = record {
       ruled = kept.ruled;
       each_once = each_taken_once holds subj clip es filled in_groups keeps contours kept all;
       bindable = can_be_bound holds subj clip es filled in_groups keeps contours kept;
@@ -128,7 +129,7 @@ module _ (holds : ℤ → ℤ → Bool) (subj clip : CountedEdge → ℤ) (es : 
         let own = contour_at contours i walk at_walk in
         let same : c.steps ≡ walk = ap (λ (d : Contour). d.steps) (some-same c own.0 (sym at ∙ own.1)) ∙ own.2 in
         let anchored = subst (λ w. IsAnchor w nothing.anchor) (sym same) nothing.anchored in
-        let some = some_below holds subj clip es filled (walks_in contours) have c.steps
+        let some = some_below holds subj clip es filled (walks_in contours) have_all c.steps
         (Contains-map (λ (d : Contour). d.steps) contours c (Contains-place contours i c at)) nothing.anchor anchored
         (empty_by in_groups kept.cut i c at free nothing.anchor anchored) in
         both_ways (is_below_anchor nothing.anchor some.0) (nothing.none some.0 some.1) some.2

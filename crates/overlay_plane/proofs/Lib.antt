@@ -1,5 +1,8 @@
+pub mod AboveNext
+pub mod AddedWalks
 pub mod AddedWindings
 pub mod AfterRounds
+pub mod AlongCuts
 pub mod AlongLines
 pub mod AlongOrder
 pub mod AnchorOrder
@@ -14,6 +17,7 @@ pub mod BelowAnchors
 pub mod BelowHoles
 pub mod BesideAcross
 pub mod BesideNext
+pub mod BetweenEdges
 pub mod BoundShapes
 pub mod BoundSteps
 pub mod ChainCounts
@@ -26,6 +30,7 @@ pub mod ClosedWalks
 pub mod CommonPoints
 pub mod ContourNumbers
 pub mod ContourSteps
+pub mod CountedSteps
 pub mod Crossing
 pub mod CrossingPoints
 pub mod CutByOneHand
@@ -40,6 +45,7 @@ pub mod CuttingRounds
 pub mod CyclicOrder
 pub mod DerivedLists
 pub mod Dropping
+pub mod EachAlone
 pub mod EachOnce
 pub mod EdgeMarks
 pub mod EdgeOrder
@@ -50,8 +56,10 @@ pub mod Ends
 pub mod Entries
 pub mod ExactRounds
 pub mod FilledEdges
+pub mod FirstInShape
 pub mod FoundEntries
 pub mod FoundNumbers
+pub mod FoundWindings
 pub mod FreeHoles
 pub mod GreatestBelow
 pub mod GreatestTaken
@@ -107,18 +115,23 @@ pub mod NodeStarts
 pub mod NodeUprights
 pub mod NodeWindings
 pub mod NodesMakeBalance
+pub mod NumberedContours
+pub mod OnceOrNot
 pub mod OneHoleRound
 pub mod OrbitSteps
 pub mod OrbitWalks
 pub mod OrbitsApart
 pub mod OrbitsSoFar
 pub mod OrderLaws
+pub mod OwnContours
+pub mod OwnGroups
 pub mod ParentlessHoles
 pub mod PartsOfLists
+pub mod PastOrbits
 pub mod PieceCounts
 pub mod Pigeonhole
-pub mod Placements
 pub mod PlacedHoles
+pub mod Placements
 pub mod PlacesOfContours
 pub mod PointsAlong
 pub mod ReachedEdges
@@ -129,8 +142,10 @@ pub mod RisesRound
 pub mod RoledShapes
 pub mod RoledWalks
 pub mod RoundNodes
+pub mod RoundWalks
 pub mod RoundedAlong
 pub mod SameOrder
+pub mod SameSector
 pub mod SameWay
 pub mod SelectedAlternate
 pub mod SelectedLists
@@ -141,6 +156,7 @@ pub mod ShapeLinks
 pub mod ShapeNumbers
 pub mod ShapeSteps
 pub mod ShapeWalks
+pub mod ShapesAlone
 pub mod ShapesApart
 pub mod SharedCrossings
 pub mod SharedEnds
@@ -157,6 +173,7 @@ pub mod SpokeRays
 pub mod SpokeSigns
 pub mod SpokeTurns
 pub mod SpokeWindings
+pub mod StartWindings
 pub mod StepTotals
 pub mod StepsAlong
 pub mod StraightOn

@@ -21,18 +21,18 @@ use Rattle.overlay_plane.proofs.RoundNodes.{one_winding_between_spokes}
 
 module _ (count : CountedEdge → ℤ) (es : List CountedEdge) (arranged : IsBalancedArrangement count es) where
   -- a step that arrives in v, as a spoke there
-  record Arrives (v : Point) (e : CountedEdge) (s : Step) : Type 0 where
-    spoke : IsSpoke es v e
-    far : far_end v e ≡ s.from
-    on_left : winding_on_side left count es e s ≡ winding_before count es v e
-    on_right : winding_on_side right count es e s ≡ winding_after count es v e
+  pub record Arrives (v : Point) (e : CountedEdge) (s : Step) : Type 0 where
+    pub spoke : IsSpoke es v e
+    pub far : far_end v e ≡ s.from
+    pub on_left : winding_on_side left count es e s ≡ winding_before count es v e
+    pub on_right : winding_on_side right count es e s ≡ winding_after count es v e
 
   -- and one that leaves
-  record Leaves (v : Point) (e : CountedEdge) (s : Step) : Type 0 where
-    spoke : IsSpoke es v e
-    far : far_end v e ≡ s.to
-    on_left : winding_on_side left count es e s ≡ winding_after count es v e
-    on_right : winding_on_side right count es e s ≡ winding_before count es v e
+  pub record Leaves (v : Point) (e : CountedEdge) (s : Step) : Type 0 where
+    pub spoke : IsSpoke es v e
+    pub far : far_end v e ≡ s.to
+    pub on_left : winding_on_side left count es e s ≡ winding_after count es v e
+    pub on_right : winding_on_side right count es e s ≡ winding_before count es v e
 
   -- two tests with one answer choose the same
   choose : {b c : Bool} (x y : ℤ) (t : Bool) → b ≡ t → c ≡ t → cond b x y ≡ cond c x y
@@ -48,7 +48,7 @@ module _ (count : CountedEdge → ℤ) (es : List CountedEdge) (arranged : IsBal
 
   module _ (v : Point) (e : CountedEdge) (s : Step) (along : IsStepAlong es e s) where
     -- a step that arrives in v is a spoke there
-    arrives : s.to ≡ v → Arrives v e s
+    pub arrives : s.to ≡ v → Arrives v e s
     arrives ends = ⊎_elim forth back along.walks
       where
         forth : s ≡ record { from = e.a; to = e.b } → Arrives v e s
@@ -75,7 +75,7 @@ module _ (count : CountedEdge → ℤ) (es : List CountedEdge) (arranged : IsBal
             }
 
     -- and so is one that leaves
-    leaves : s.from ≡ v → Leaves v e s
+    pub leaves : s.from ≡ v → Leaves v e s
     leaves starts = ⊎_elim forth back along.walks
       where
         forth : s ≡ record { from = e.a; to = e.b } → Leaves v e s

@@ -40,6 +40,7 @@ pub mod Roles
 pub mod Rounds
 pub mod SelectedSteps
 pub mod ShapeWindings
+pub mod ShapesAlone
 pub mod Spokes
 pub mod Thinning
 pub mod Turn

@@ -26,6 +26,7 @@ pub mod predicates;
 pub mod rays;
 pub mod region;
 pub mod selected;
+pub mod shapes_alone;
 pub mod side;
 pub mod spoke;
 pub mod thinning;

@@ -1,0 +1,44 @@
+-- Each shape by itself: its contours wind once round a point of the plane, or zero times.
+use Rattle.std.specs.Prelude.{◌≡◌, ◌⊎◌, Bool, true, ℕ, ℤ, pos, List, Contains, All, Option}
+use Rattle.std.specs.List.{flat_map}
+use Rattle.overlay_geom.specs.Plane.{Point, PlanePoint, Step, steps_of, winding}
+use Rattle.overlay_geom.specs.Edges.{CountedEdge}
+use Rattle.overlay_plane.specs.Turn.{Hand, IsOrbit}
+use Rattle.overlay_plane.specs.Alternates.{Alternates}
+use Rattle.overlay_plane.specs.BesideOrbits.{WalksAlong, winding_beside}
+use Rattle.overlay_plane.specs.ContourWindings.{once_round}
+use Rattle.overlay_plane.specs.RoledContours.{Contour}
+use Rattle.overlay_plane.specs.BoundContours.{AreShapesFound, walks_in, contours_bound, shapes_bound}
+use Rattle.overlay_plane.specs.KeptContours.{AreKeptContours, KeepsAll}
+use Rattle.overlay_plane.specs.ShapeWindings.{points_of_shapes, AreKeptOrThinned}
+
+-- round each point of the plane the steps wind once, as steps with their filled side by the hand do, or zero times
+abbrev pub WindsOnceOrNot : Hand → List Step → Type 0
+WindsOnceOrNot filled steps = (p : PlanePoint) → (winding steps p ≡ once_round filled) ⊎ (winding steps p ≡ pos 0)
+
+-- the steps of the contours of each shape wind so
+abbrev pub EachWindsOnceOrNot : Hand → List (List (List Point)) → Type 0
+EachWindsOnceOrNot filled shapes = All (λ shape. WindsOnceOrNot filled (flat_map steps_of shape)) shapes
+
+-- on the filled sides of a walk's steps the winding of the steps taken is one number
+abbrev pub HasOneWinding : Hand → List CountedEdge → (taken walk : List Step) → Type 0
+HasOneWinding filled es taken walk = (s t : Step) → Contains walk s → Contains walk t →
+    winding_beside filled es taken s ≡ winding_beside filled es taken t
+
+-- beside two steps that an orbit leaves, of which one ends where the other one begins, the orbit winds alike, by each
+-- hand
+abbrev pub OneWindingPastOrbits : Type 0
+OneWindingPastOrbits = (es : List CountedEdge) (steps : List Step) → WalksAlong es steps → Alternates steps →
+    (hand : Hand) (walk : List Step) → IsOrbit steps hand walk → (s t : Step) → Contains steps s → Contains steps t →
+    ¬ (Contains walk s) → ¬ (Contains walk t) → s.to ≡ t.from →
+    (side : Hand) → winding_beside side es walk s ≡ winding_beside side es walk t
+
+-- the shapes to which all contours are bound wind so, each contour as it is or thinned
+abbrev pub EachShapeWindsOnceOrNot : Type 0
+EachShapeWindsOnceOrNot = (holds : ℤ → ℤ → Bool) (subj clip : CountedEdge → ℤ) (es : List CountedEdge)
+    (filled : Hand) (in_groups : Bool) (keeps : List Step → Bool) (contours : List Contour) →
+    AreKeptContours holds subj clip es filled in_groups keeps contours → KeepsAll keeps →
+    (shapes : List (Option ℕ)) → AreShapesFound filled contours shapes →
+    (as_given : Bool) (result : List (List (List Point))) →
+    AreKeptOrThinned as_given (points_of_shapes (shapes_bound (contours_bound contours shapes))) result →
+    EachWindsOnceOrNot filled result
