@@ -14,6 +14,7 @@ pub mod BelowAnchors
 pub mod BelowHoles
 pub mod BesideAcross
 pub mod BesideNext
+pub mod BeyondHalves
 pub mod BoundShapes
 pub mod BoundSteps
 pub mod ChainCounts
@@ -58,6 +59,7 @@ pub mod GreatestTaken
 pub mod GroupSteps
 pub mod GroupedCuts
 pub mod GroupedWalks
+pub mod HalfPlanes
 pub mod HeldChains
 pub mod HoleGroups
 pub mod HoleParents
@@ -129,6 +131,7 @@ pub mod RisesRound
 pub mod RoledShapes
 pub mod RoledWalks
 pub mod RoundNodes
+pub mod RoundedHalves
 pub mod RoundedAlong
 pub mod SameOrder
 pub mod SameWay
