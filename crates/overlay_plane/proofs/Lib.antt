@@ -18,6 +18,7 @@ pub mod BelowHoles
 pub mod BesideAcross
 pub mod BesideNext
 pub mod BetweenEdges
+pub mod BeyondHalves
 pub mod BoundShapes
 pub mod BoundSteps
 pub mod ChainCounts
@@ -66,6 +67,7 @@ pub mod GreatestTaken
 pub mod GroupSteps
 pub mod GroupedCuts
 pub mod GroupedWalks
+pub mod HalfPlanes
 pub mod HeldChains
 pub mod HoleGroups
 pub mod HoleParents
@@ -143,6 +145,7 @@ pub mod RoledShapes
 pub mod RoledWalks
 pub mod RoundNodes
 pub mod RoundWalks
+pub mod RoundedHalves
 pub mod RoundedAlong
 pub mod SameOrder
 pub mod SameSector

@@ -18,6 +18,7 @@ pub mod EdgeLists
 pub mod EdgePredicates
 pub mod GreatestBelow
 pub mod Groups
+pub mod HalfPlanes
 pub mod Heights
 pub mod InOrder
 pub mod Islands

@@ -13,6 +13,7 @@ pub mod contours;
 pub mod cutting;
 pub mod greatest;
 pub mod groups;
+pub mod half_planes;
 pub mod islands;
 pub mod kept_contours;
 pub mod leftmost;

@@ -1,0 +1,5 @@
+pub mod AscendingLists
+pub mod Boxes
+pub mod FrontPlaces
+pub mod LinesAcross
+pub mod Multiples
