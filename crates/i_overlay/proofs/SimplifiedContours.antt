@@ -1,13 +1,17 @@
 -- What is left of a contour, of which one thing becomes, is what it is simplified to.
-use Rattle.std.proofs.Common.{◌≡◌, Bool, cond, pos, List, [], ◌++◌, refl, sym, ap, subst, ◌∙◌}
+use Rattle.std.proofs.Common.{◌≡◌, ◌⊎◌, inl, inr, Bool, true, false, cond, pos, List, [], ◌∷◌, ◌++◌, refl, sym, ap}
+use Rattle.std.proofs.Common.{subst, ◌∙◌}
 use Rattle.std.proofs.lemmas.List.{append-nil}
+use Rattle.std.proofs.lemmas.List.Elements.{All-nil, All-cons}
 use Rattle.std.specs.List.{flat_map}
 use Rattle.std.specs.Prelude.{◌↔◌, Option, None, reverse}
 use Rattle.overlay_geom.specs.Plane.{Point, steps_of}
 use Rattle.overlay_geom.specs.Edges.{CountedEdge, subj_of, clip_of, winding_by}
 use Rattle.overlay_geom.specs.Plane.{winding}
 use Rattle.overlay_plane.specs.ContourWindings.{once_round}
+use Rattle.overlay_plane.specs.ShapesAlone.{WindsOnceOrNot, EachWindsOnceOrNot}
 use Rattle.overlay_plane.specs.ShapeWindings.{steps_of_shapes}
+use Rattle.overlay_plane.specs.Turn.{Hand}
 use Rattle.overlay_arrange.specs.Rules.{is_filled}
 use Rattle.overlay_arrange.specs.declared.fill_rule.FillRule.{FillRule}
 use Rattle.overlay_arrange.specs.declared.options.ContourDirection.{ContourDirection}
@@ -41,16 +45,68 @@ module _ (keep : Bool) (ps : List Point) (es : List CountedEdge) where
         (winding_by clip_of es p))
         (once_round (filled_hand q.output_direction)) (pos 0)) of_subject)
 
+    -- and each shape by itself once or zero times
+    simple_alone : (outcome : Outcome) → HasOutcome keep q.fill q.output_direction ps es outcome →
+        (shapes : List (List (List Point))) → shapes ≡ shapes_left outcome ps →
+        EachWindsOnceOrNot (filled_hand q.output_direction) shapes
+    simple_alone outcome has shapes is = subst (EachWindsOnceOrNot (filled_hand q.output_direction)) (sym is)
+        (by outcome (λ p. subst (λ z. (z ≡ once_round (filled_hand q.output_direction)) ⊎ (z ≡ pos 0))
+        (sym (ap (λ o. winding (steps_of_shapes (shapes_left o ps)) p) has.is
+        ∙ simple_contours_wind_once q.fill q.output_direction has.direction ps es has.added.simple has.runs p
+        ∙ ap (λ once. cond (is_filled q.fill (winding_by subj_of es p)) once (pos 0)) (once_so q.output_direction)))
+        (once_or_none (is_filled q.fill (winding_by subj_of es p)))))
+      where
+        hand : Hand
+        hand = filled_hand q.output_direction
+
+        once_or_none : (t : Bool) → (cond t (once_round hand) (pos 0) ≡ once_round hand)
+            ⊎ (cond t (once_round hand) (pos 0) ≡ pos 0)
+        once_or_none true = inl refl
+        once_or_none false = inr refl
+
+        one : (points : List Point) → WindsOnceOrNot hand (steps_of_shapes ((points ∷ []) ∷ [])) →
+            EachWindsOnceOrNot hand ((points ∷ []) ∷ [])
+        one points winds = All-cons (λ shape. WindsOnceOrNot hand (flat_map steps_of shape)) (points ∷ []) []
+            (subst (WindsOnceOrNot hand) (append-nil (flat_map steps_of (points ∷ []))) winds)
+            (All-nil (λ shape. WindsOnceOrNot hand (flat_map steps_of shape)))
+
+        by : (o : Outcome) → WindsOnceOrNot hand (steps_of_shapes (shapes_left o ps)) →
+            EachWindsOnceOrNot hand (shapes_left o ps)
+        by NotSimple winds = All-nil (λ shape. WindsOnceOrNot hand (flat_map steps_of shape))
+        by Empty winds = All-nil (λ shape. WindsOnceOrNot hand (flat_map steps_of shape))
+        by AsGiven winds = one ps winds
+        by Reversed winds = one (reverse ps) winds
+
     pub simplified_contour : (outcome : Outcome) → IsOutcome keep q.fill q.output_direction ps es outcome →
         (shapes : List (List (List Point))) → IsLeft outcome q ps es shapes → IsSimplifiedContour q keep ps es shapes
-    simplified_contour NotSimple becomes shapes left =
-        record { outcome = NotSimple; becomes = becomes; left = left; winds = left.winds }
-    simplified_contour Empty becomes shapes left = record
-        { outcome = Empty; becomes = becomes; left = left; winds = λ all. simple_winds Empty becomes shapes left }
-    simplified_contour AsGiven becomes shapes left = record
-        { outcome = AsGiven; becomes = becomes; left = left; winds = λ all. simple_winds AsGiven becomes shapes left }
-    simplified_contour Reversed becomes shapes left = record
-        { outcome = Reversed; becomes = becomes; left = left; winds = λ all. simple_winds Reversed becomes shapes left }
+    simplified_contour NotSimple becomes shapes left = record {
+      outcome = NotSimple;
+      becomes = becomes;
+      left = left;
+      winds = left.winds;
+      each_alone = left.each_alone;
+    }
+    simplified_contour Empty becomes shapes left = record {
+      outcome = Empty;
+      becomes = becomes;
+      left = left;
+      winds = λ all. simple_winds Empty becomes shapes left;
+      each_alone = λ all. simple_alone Empty becomes shapes left;
+    }
+    simplified_contour AsGiven becomes shapes left = record {
+      outcome = AsGiven;
+      becomes = becomes;
+      left = left;
+      winds = λ all. simple_winds AsGiven becomes shapes left;
+      each_alone = λ all. simple_alone AsGiven becomes shapes left;
+    }
+    simplified_contour Reversed becomes shapes left = record {
+      outcome = Reversed;
+      becomes = becomes;
+      left = left;
+      winds = λ all. simple_winds Reversed becomes shapes left;
+      each_alone = λ all. simple_alone Reversed becomes shapes left;
+    }
 
     -- the contours in one list have the same steps
     same_steps : (outcome : Outcome) →

@@ -3,12 +3,13 @@ use Rattle.std.specs.Prelude.{◌≡◌, ◌≢◌, ◌⊎◌, Bool, List, [], �
 use Rattle.std.specs.List.{flat_map}
 use Rattle.overlay_geom.specs.Plane.{Point, steps_of}
 use Rattle.overlay_geom.specs.Edges.{CountedEdge}
+use Rattle.overlay_plane.specs.ShapesAlone.{EachWindsOnceOrNot}
 use Rattle.overlay_plane.specs.ShapeWindings.{steps_of_shapes}
 use Rattle.overlay_arrange.specs.declared.fill_rule.FillRule.{FillRule}
 use Rattle.overlay_arrange.specs.declared.options.ContourDirection.{ContourDirection}
 use Rattle.overlay_arrange.specs.declared.options.ShapeType.TheVariants.{Subject}
 use Rattle.overlay_builder.specs.GivenPaths.{paths_for}
-use Rattle.overlay_extract.specs.Results.{Asked, IsResult, IsContoursResult, WindsRoundRegion}
+use Rattle.overlay_extract.specs.Results.{Asked, filled_asked, IsResult, IsContoursResult, WindsRoundRegion}
 use Rattle.overlay_simplify.specs.Alone.{IsArrangedAlone}
 use Rattle.overlay_simplify.specs.Outcome.{IsSimpleAsAdded, IsOutcome, HasOutcome, shapes_left, contours_left}
 use Rattle.overlay_simplify.specs.declared.outcome.Outcome.{Outcome}
@@ -31,6 +32,8 @@ pub record IsSimplifiedContour (q : Asked) (keep : Bool) (ps : List Point) (es :
   pub left : IsLeft outcome q ps es shapes
   -- with the minimum area zero they wind as asked round each point off the edges, whatever becomes of it
   pub winds : q.min_output_area ≡ 0 → WindsRoundRegion q es (steps_of_shapes shapes)
+  -- and each shape by itself once, in the output direction, or zero times
+  pub each_alone : q.min_output_area ≡ 0 → EachWindsOnceOrNot (filled_asked q) shapes
 
 -- ---- of paths, where these edges are left of theirs
 

@@ -68,6 +68,7 @@ module _ (q : Asked) (es : List CountedEdge) (contours : List Contour) (kept : A
         (subst (λ k. AreKeptOrThinned k (shapes_found contours shapes) result) keep shown_found)))
         (kept.whole all shapes found).each_once;
     winds = λ all p off. (kept.whole all shapes found).winds q.preserve_output_collinear result shown_found p;
+    each_alone = λ all. (kept.whole all shapes found).each_alone q.preserve_output_collinear result shown_found;
     points_once = once;
     shown_points_once = λ grouped. shown_once q.preserve_output_collinear (shapes_found contours shapes) result
         shown_found (once grouped);

@@ -10,6 +10,7 @@ use Rattle.overlay_plane.specs.BoundContours.{AreShapesFound, NoHoleIsLost, walk
 use Rattle.overlay_plane.specs.ContourWindings.{wanted_winding}
 use Rattle.overlay_plane.specs.Groups.{HasEachPointOnce}
 use Rattle.overlay_plane.specs.RoledContours.{Contour, IsCut, IsCutBy}
+use Rattle.overlay_plane.specs.ShapesAlone.{EachWindsOnceOrNot}
 use Rattle.overlay_plane.specs.ShapeWindings.{points_of_shapes, steps_of_shapes, AreKeptOrThinned}
 pub use Rattle.overlay_walk.specs.Asked.{Asked, asked, region_asked, filled_asked, selected_of, is_kept}
 
@@ -52,6 +53,8 @@ pub record IsResult (q : Asked) (es : List CountedEdge) (result : List (List (Li
       IsPermutation (selected_of q es) (steps_of_shapes result)
   -- and round each point off the edges the result winds as asked
   pub winds : q.min_output_area ≡ 0 → WindsRoundRegion q es (steps_of_shapes result)
+  -- and each shape by itself winds once, in the output direction, round a point, or zero times
+  pub each_alone : q.min_output_area ≡ 0 → EachWindsOnceOrNot (filled_asked q) result
   -- with ogc none of the contours visits a point twice, and none of the result
   pub points_once : q.ogc ≡ true → All (All HasEachPointOnce) (shapes_found contours shapes)
   pub shown_points_once : q.ogc ≡ true → All (All HasEachPointOnce) result

@@ -111,6 +111,7 @@ pub mod NextOfHoles
 pub mod NextSteps
 pub mod NextUnder
 pub mod NextWindings
+pub mod NoTwoShapes
 pub mod NodeEnds
 pub mod NodeForms
 pub mod NodeStarts

@@ -1,5 +1,5 @@
 -- Each shape by itself: its contours wind once round a point of the plane, or zero times.
-use Rattle.std.specs.Prelude.{◌≡◌, ◌⊎◌, Bool, true, ℕ, ℤ, pos, List, Contains, All, Option}
+use Rattle.std.specs.Prelude.{◌≡◌, ◌⊎◌, Bool, true, ℕ, ℤ, pos, List, Contains, All, AllPairs, Option}
 use Rattle.std.specs.List.{flat_map}
 use Rattle.overlay_geom.specs.Plane.{Point, PlanePoint, Step, steps_of, winding}
 use Rattle.overlay_geom.specs.Edges.{CountedEdge}
@@ -10,7 +10,7 @@ use Rattle.overlay_plane.specs.ContourWindings.{once_round}
 use Rattle.overlay_plane.specs.RoledContours.{Contour}
 use Rattle.overlay_plane.specs.BoundContours.{AreShapesFound, walks_in, contours_bound, shapes_bound}
 use Rattle.overlay_plane.specs.KeptContours.{AreKeptContours, KeepsAll}
-use Rattle.overlay_plane.specs.ShapeWindings.{points_of_shapes, AreKeptOrThinned}
+use Rattle.overlay_plane.specs.ShapeWindings.{points_of_shapes, AreKeptOrThinned, steps_of_shapes}
 
 -- round each point of the plane the steps wind once, as steps with their filled side by the hand do, or zero times
 abbrev pub WindsOnceOrNot : Hand → List Step → Type 0
@@ -42,3 +42,10 @@ EachShapeWindsOnceOrNot = (holds : ℤ → ℤ → Bool) (subj clip : CountedEdg
     (as_given : Bool) (result : List (List (List Point))) →
     AreKeptOrThinned as_given (points_of_shapes (shapes_bound (contours_bound contours shapes))) result →
     EachWindsOnceOrNot filled result
+
+-- where shapes that wind so by themselves wind once or zero times together, no two of them wind there
+abbrev pub NoTwoWindRoundOnePoint : Type 0
+NoTwoWindRoundOnePoint = (filled : Hand) (shapes : List (List (List Point))) → EachWindsOnceOrNot filled shapes →
+    (p : PlanePoint) →
+    (winding (steps_of_shapes shapes) p ≡ once_round filled) ⊎ (winding (steps_of_shapes shapes) p ≡ pos 0) →
+    AllPairs (λ s t. (winding (flat_map steps_of s) p ≡ pos 0) ⊎ (winding (flat_map steps_of t) p ≡ pos 0)) shapes

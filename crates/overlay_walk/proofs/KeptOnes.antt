@@ -13,6 +13,7 @@ use Rattle.overlay_plane.specs.MinimumArea.{reaches}
 use Rattle.overlay_plane.specs.RoledContours.{Contour, contours_from, IsCutInGroups, IsCutBy}
 use Rattle.overlay_plane.specs.Regions.{IsRuled}
 use Rattle.overlay_plane.proofs.BoundSteps.{all_shapes_have_each_step, all_shapes_wind}
+use Rattle.overlay_plane.proofs.ShapesAlone.{each_shape_winds_once_or_not}
 use Rattle.overlay_plane.proofs.Entries.{all_of_entries, Contains-map, Contains-flat_map}
 use Rattle.overlay_plane.proofs.FreeHoles.{all_holes_have_shapes}
 use Rattle.overlay_plane.proofs.KeptContours.{can_be_bound, kept_contours_are_simple, kept_selected}
@@ -92,6 +93,8 @@ module _ (q : Asked) (es : List CountedEdge) (contours : List Contour)
           contours kept (all_kept none) shapes found;
       winds = all_shapes_wind (region_asked q) subj_of clip_of es (filled_asked q) q.ogc (is_kept q) contours kept
           (all_kept none) shapes found;
+      each_alone = each_shape_winds_once_or_not (region_asked q) subj_of clip_of es (filled_asked q) q.ogc (is_kept q)
+          contours kept (all_kept none) shapes found;
     };
   }
 

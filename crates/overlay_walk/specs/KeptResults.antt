@@ -10,6 +10,7 @@ use Rattle.overlay_plane.specs.ContourWindings.{wanted_winding}
 use Rattle.overlay_plane.specs.Groups.{IsSimpleContour}
 use Rattle.overlay_plane.specs.KeptContours.{CanBeBound}
 use Rattle.overlay_plane.specs.RoledContours.{Contour, IsCutBy}
+use Rattle.overlay_plane.specs.ShapesAlone.{EachWindsOnceOrNot}
 use Rattle.overlay_plane.specs.ShapeWindings.{points_of_shapes, steps_of_shapes, AreKeptOrThinned}
 use Rattle.overlay_walk.specs.Asked.{Asked, region_asked, filled_asked, selected_of, is_kept}
 
@@ -18,7 +19,7 @@ abbrev pub shapes_of_kept : List Contour → List (Option ℕ) → List (List (L
 shapes_of_kept contours shapes = points_of_shapes (shapes_bound (contours_bound contours shapes))
 
 -- where the shapes are found, no hole is lost, and the shapes have each selected step exactly once; and, each contour
--- as it is or thinned, they wind as asked
+-- as it is or thinned, they wind as asked, and each by itself once or zero times
 pub record AreWhole (q : Asked) (es : List CountedEdge) (contours : List Contour)
     (shapes : List (Option ℕ)) : Type 0 where
   pub none_lost : NoHoleIsLost contours shapes
@@ -26,6 +27,9 @@ pub record AreWhole (q : Asked) (es : List CountedEdge) (contours : List Contour
   pub winds : (as_given : Bool) (result : List (List (List Point))) →
       AreKeptOrThinned as_given (shapes_of_kept contours shapes) result → (p : PlanePoint) →
       winding (steps_of_shapes result) p ≡ wanted_winding (region_asked q) subj_of clip_of (filled_asked q) es p
+  -- and each of them by itself winds once, or zero times
+  pub each_alone : (as_given : Bool) (result : List (List (List Point))) →
+      AreKeptOrThinned as_given (shapes_of_kept contours shapes) result → EachWindsOnceOrNot (filled_asked q) result
 
 -- the contours are those that the selected steps are cut into, in groups if that is asked for, as far as they reach the
 -- minimum area
