@@ -1,20 +1,21 @@
 //! A run of the engine.
 
-ghost use Rattle.std.specs.Prelude.{◌≡◌, true};
-ghost use Rattle.polyover_engine.specs.Engine.{WritesAnswer};
+ghost use Rattle.std.specs.Prelude.{◌≡◌, true, List, ℕ};
+ghost use Rattle.polyover_engine.specs.Writing.{IsWritten};
 
 use polyover_engine::engine::run;
 use polyover_engine::exit::Exit;
+use polyover_engine::read_turns::ReadTurns;
+use polyover_engine::write_turns::WriteTurns;
 use std::alloc::Allocator;
-use std::io::{Read, Write};
 
 /// Whether an answer was written.
-pub fn is_answered<A: Allocator + Clone, R: Read, W: Write>(
+pub fn is_answered<A: Allocator + Clone, R: ReadTurns, W: WriteTurns>(
     alloc: A,
     reader: &mut R,
     writer: &mut W,
 ) -> bool
-    ensures { result ≡ true → WritesAnswer (R.remaining reader.old) (W.contents writer.old) (W.contents writer.new) }
+    ensures { result ≡ true → (text : List ℕ) × IsWritten W.contents W.writes W.flushes text writer.old writer.new }
 {
     match run(alloc, reader, writer) {
         Exit::Answered => true,
