@@ -1,0 +1,4 @@
+//! Tests of `overlay_tiles`: which grids fit.
+
+mod fits;
+mod points;

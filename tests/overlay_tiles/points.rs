@@ -1,0 +1,46 @@
+//! Contours and shapes from small coordinates, and the test of their range.
+
+use overlay_geom::error::OverlayError;
+use overlay_geom::integer::OverlayInt;
+use overlay_geom::path::IntContour;
+use overlay_geom::point::{IntPoint, in_range};
+use overlay_geom::resource::IntShapeResource;
+use overlay_tiles::grid::Grid;
+use std::alloc::Global;
+use std::process::Abort;
+
+/// Points by their coordinates, small enough for each coordinate type.
+pub(crate) type Points<'a> = &'a [(i16, i16)];
+
+/// The contour through these points.
+pub(crate) fn contour_of<I: OverlayInt + From<i16>>(
+    alloc: Global,
+    points: Points<'_>,
+) -> Result<IntContour<I, Global>, OverlayError> {
+    let mut contour = Vec::new(alloc);
+    for point in points {
+        contour.push(IntPoint {
+            x: I::from(point.0),
+            y: I::from(point.1),
+        })?;
+    }
+    Ok(contour)
+}
+
+/// The grid of cells of this width and height.
+pub(crate) fn grid_of<I: OverlayInt + From<i16>>(width: i16, height: i16) -> Grid<I> {
+    Grid {
+        width: I::from(width),
+        height: I::from(height),
+    }
+}
+
+/// Stops the test where a path is out of range.
+pub(crate) fn assert_in_range<I: OverlayInt, R0: IntShapeResource<I>>(
+    rt: &impl Abort,
+    resource: &R0,
+) {
+    for index in 0..resource.path_count() {
+        assert!(rt; in_range(resource.path(index)));
+    }
+}
