@@ -60,6 +60,15 @@ def type_name(text):
     return found[1][0].upper() + found[1][1:] if found else ""
 
 
+def arguments_in(text, own):
+    """Of a type's arguments where one is no parameter: all of them, as a check prints them; else nothing."""
+    found = re.search(r"<(.*)>", text, re.S)
+    names = [it.strip() for it in found[1].split(",")] if found else []
+    names = ["unit" if it == "()" else it for it in names if not it.startswith("'")]
+    is_own = all(re.search(rf"[<,]\s*{re.escape(it)}\b", own) for it in names)
+    return "" if is_own or any(set("<>[]&") & set(it) for it in names) else "+" + "+".join(names)
+
+
 def owner_of(head):
     """Of the head of an impl: the type, and the trait and its first argument, if it is of one; a parameter is `Any`."""
     own = head[: len(head) - len(past_generics(head))]
@@ -71,7 +80,7 @@ def owner_of(head):
             kind = type_name(head[place + 5 :])
             kind = "Any" if re.search(rf"[<,]\s*{kind}\b", own) else kind
             return kind, type_name(head[:place]), argument_of(head[:place])
-    return type_name(head), "", ""
+    return type_name(head) + arguments_in(head, own), "", ""
 
 
 def module_of(file):
@@ -108,7 +117,8 @@ def functions_of(crate):
                 kind, of, argument = owner_of(around[-1][2])
                 # (a trait that a type has twice is told apart by its argument)
                 is_twice = bool(of) and sum(it[:2] == (kind, of) for it in heads) > 1
-                module, owner = (module if of else homes.get(kind, module)), [kind + of + argument * is_twice]
+                home = homes.get(kind.partition("+")[0], module)
+                module, owner = (module if of else home), [kind + of + argument * is_twice]
             names = [*module, *owner, head[2]]
             end = item_end(plain, head.start(), head[1])
             is_cyclic = crate.joinpath("proofs", *names[:-1], f"+{names[-1]}").is_dir()
