@@ -1,5 +1,6 @@
 //! Tests of `i_overlay`: the builder and its queries.
 
+mod alone;
 mod builder;
 mod builders;
 mod contours;
