@@ -11,7 +11,7 @@ use Rattle.std.proofs.lemmas.List.Elements.{Contains-append_left, Contains-appen
 use Rattle.std.proofs.lemmas.List.Sorted.{All-permutation, Contains-permutation}
 use Rattle.std.proofs.lemmas.Option.{none-some, slice_get_within, slice_get-get_or}
 use Rattle.overlay_plane.specs.BoundContours.{walks_in, known_in}
-use Rattle.overlay_plane.specs.Islands.{ChildLink, link_lt, AreInShapes, IsLink, AreLinks, IsHoleRound, IsHoleFound}
+use Rattle.overlay_plane.specs.Islands.{ChildLink, link_lt, AreInShapes, IsLink, AreLinks, IsHoleRound}
 use Rattle.overlay_plane.specs.Islands.{AreHolesRound, outlines_from}
 use Rattle.overlay_plane.specs.KeptContours.{CanBeBound}
 use Rattle.overlay_plane.specs.RoledContours.{Role, outline, own_hole, free_hole, Contour, is_outline, stands_in}
@@ -166,10 +166,10 @@ module _ (cs : List Contour) where
 pub holes_inside : (filled : Hand) (cs : List Contour) (holes : List (Option ℕ)) → AreHolesRound filled cs holes →
     All (λ hole. IfSome hole (λ k. k < length cs)) holes
 holes_inside filled cs holes round j d inside =
-    let found = first_at (IsHoleFound filled cs) (outlines_from 0 cs) holes round j (get_or holes j d)
+    let found = first_at (IsHoleRound filled cs) (outlines_from 0 cs) holes round j (get_or holes j d)
     (slice_get-get_or holes j d inside) in by found.0 (get_or holes j d) found.2
   where
-    by : (p : ℕ) (hole : Option ℕ) → IsHoleFound filled cs p hole → IfSome hole (λ k. k < length cs)
+    by : (p : ℕ) (hole : Option ℕ) → IsHoleRound filled cs p hole → IfSome hole (λ k. k < length cs)
     by p None is = tt
     by p (Some k) is = let stands = hole_stands filled cs p k is in slice_get_within cs k stands.contour stands.at
 
@@ -187,15 +187,15 @@ module _ (filled : Hand) (cs : List Contour) (can : CanBeBound filled (walks_in 
   pub links_are : (l : ChildLink) → Contains (links_from cs 0 holes) l → IsLink filled cs l
   links_are l c =
       let read = read_of cs 0 holes l c in
-      let found = first_at (IsHoleFound filled cs) (outlines_from 0 cs) holes round read.place (Some l.parent_contour)
+      let found = first_at (IsHoleRound filled cs) (outlines_from 0 cs) holes round read.place (Some l.parent_contour)
       read.hole in
       let island = outline_of_number 0 cs read.place found.0 found.1 in
       let own = island.2 in
       let number = number_of own.contour.role own.is in
       let own_child : read.place ≡ l.child_shape = (let child = read.child in omega (arith, child)) in
       let same : found.0 ≡ island.0 = (let place = island.1 in omega (arith, place)) in
-      let round_it : IsHoleRound filled cs island.0 l.parent_contour =
-      subst (λ p. IsHoleRound filled cs p l.parent_contour) same found.2 in
+      let round_it : IsHoleRound filled cs island.0 (Some l.parent_contour) =
+      subst (λ p. IsHoleRound filled cs p (Some l.parent_contour)) same found.2 in
       let hole = hole_stands filled cs island.0 l.parent_contour round_it in
       record {
         place = island.0;
@@ -213,11 +213,11 @@ module _ (filled : Hand) (cs : List Contour) (can : CanBeBound filled (walks_in 
   -- and each link is read
   pub links_read : (l : ChildLink) → IsLink filled cs l → Contains (links_from cs 0 holes) l
   links_read l link =
-      let found = second_at (IsHoleFound filled cs) (outlines_from 0 cs) holes round l.child_shape link.place
+      let found = second_at (IsHoleRound filled cs) (outlines_from 0 cs) holes round l.child_shape link.place
       (place_of_child filled cs stand l link) in
       by found.0 found.1 found.2
     where
-      by : (hole : Option ℕ) → slice_get holes l.child_shape ≡ Some hole → IsHoleFound filled cs link.place hole →
+      by : (hole : Option ℕ) → slice_get holes l.child_shape ≡ Some hole → IsHoleRound filled cs link.place hole →
           Contains (links_from cs 0 holes) l
       by None at none = absurd (hole_and_none filled cs can link.place l.parent_contour link.round none)
       by (Some k) at is = link_read cs 0 holes l (record {

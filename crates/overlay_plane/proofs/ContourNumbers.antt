@@ -3,20 +3,18 @@
 use Rattle.std.proofs.Common.{◌≡◌, ⊎_elim, ℕ, suc, ◌+◌, ◌<◌, Bool, true, false, cond, List, [], ◌∷◌, ◌++◌, map}
 use Rattle.std.proofs.Common.{length}
 use Rattle.std.proofs.Common.{Contains, Some, filter, refl, sym, ap, ◌∙◌, subst, arith}
-use Rattle.std.specs.Bool.{⊤}
 use Rattle.std.specs.List.{flat_map}
 use Rattle.std.proofs.lemmas.Option.{none-some}
 use Rattle.overlay_geom.specs.Plane.{Step}
 use Rattle.overlay_plane.specs.Turn.{Hand}
 use Rattle.overlay_plane.specs.Binding.{is_hole}
+use Rattle.overlay_plane.specs.Binding.IsFoundBelow.{direct, through}
 use Rattle.overlay_plane.specs.RoledContours.{Role, outline, own_hole, free_hole, Contour, stands_in, is_outline}
 use Rattle.overlay_plane.specs.RoledContours.{contours_from, kept_group, hole_of_group, hole_to_bind}
 use Rattle.overlay_plane.specs.RoledContours.{group_contours_from}
 use Rattle.overlay_plane.specs.RoledContours.{outline_of, IsCutBy}
-use Rattle.overlay_plane.specs.BoundContours.{walks_in, known_in}
+use Rattle.overlay_plane.specs.BoundContours.{IsParent}
 use Rattle.overlay_plane.specs.ContourNumbers.{IsNumber, after, AreNumbers, outline_count}
-use Rattle.overlay_plane.specs.Roles.{IsFoundAt}
-use Rattle.overlay_plane.specs.Roles.IsFoundAt.{direct, through}
 use Rattle.overlay_plane.proofs.LaterEntries.{Contains-cases}
 use Rattle.overlay_plane.proofs.PlacesOfContours.{known_of}
 use Rattle.overlay_plane.proofs.RoledWalks.{some-same}
@@ -53,7 +51,7 @@ number_counted n (d ∷ ds) are c at m stands =
 
 -- and so is a number that is found
 pub found_counted : (filled : Hand) (cs : List Contour) → AreNumbers 0 cs → (i m : ℕ) →
-    IsFoundAt filled (walks_in cs) (known_in cs) i m → m < outline_count cs
+    IsParent filled cs i (Some m) → m < outline_count cs
 found_counted filled cs are i m (direct {j} has_next known) =
     let from = known_of cs j m known in
     let counted = number_counted 0 cs are from.0 from.1 m from.2 in omega arith

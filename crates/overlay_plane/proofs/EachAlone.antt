@@ -1,16 +1,14 @@
 -- Each shape to which all contours are bound winds once or zero times round each point: along the contours that stand
 -- in it from the start its winding is once, since its lowest edge at its leftmost lowest point is one of theirs; so it
 -- is along the holes that are found for it.
-use Rattle.std.proofs.Common.{◌≡◌, ◌⊎◌, inl, inr, ⊎_elim, ℕ, Bool, true, false, ◌&&◌, ◌==◌, ℤ, pos, List, [], ◌∷◌, ◌++◌}
-use Rattle.std.proofs.Common.{map, length, filter, Contains, Option, Some, None, All, refl, sym, ap, ◌∙◌, subst, arith}
+use Rattle.std.proofs.Common.{◌≡◌, ◌⊎◌, inl, inr, ⊎_elim, ℕ, Bool, true, false, ◌&&◌, ℤ, pos, List, [], ◌∷◌, ◌++◌}
+use Rattle.std.proofs.Common.{filter, Contains, Option, Some, None, refl, sym, ap, ◌∙◌, subst, arith}
 use Rattle.std.specs.Prelude.{slice_index_or, MatchBool}
-use Rattle.std.specs.List.{flat_map, slice_get}
-use Rattle.std.specs.List.Sorted.{IsPermutation}
+use Rattle.std.specs.List.{slice_get}
 use Rattle.std.proofs.lemmas.Bool.{and_parts, eqb-true, eq-eqb, false≢true}
 use Rattle.std.proofs.lemmas.List.Elements.{All-contains, Contains-append_cases, Contains-append_left}
-use Rattle.std.proofs.lemmas.List.Elements.{Contains-append_right}
-use Rattle.std.proofs.lemmas.Option.{none-some, MatchOption-at_some}
-use Rattle.overlay_geom.specs.Plane.{Step, Edge, edge_of, step_eq}
+use Rattle.std.proofs.lemmas.Option.{none-some}
+use Rattle.overlay_geom.specs.Plane.{Step, edge_of}
 use Rattle.overlay_geom.specs.Edges.{CountedEdge}
 use Rattle.overlay_plane.specs.Turn.{Hand, other_hand}
 use Rattle.overlay_plane.specs.Alternates.{Alternates}
@@ -22,10 +20,9 @@ use Rattle.overlay_plane.specs.ContourWindings.{once_round}
 use Rattle.overlay_plane.specs.Binding.{is_number}
 use Rattle.overlay_plane.specs.RoledContours.{Role, outline, own_hole, free_hole, Contour, stands_in, is_own_hole_of}
 use Rattle.overlay_plane.specs.RoledContours.{is_free_hole, IsCutBy}
-use Rattle.overlay_plane.specs.BoundContours.{BoundContour, walks_in, known_in, has_one_shape, AreShapesFound}
-use Rattle.overlay_plane.specs.BoundContours.{contours_bound, own_holes, found_holes, IsShapeFound}
+use Rattle.overlay_plane.specs.BoundContours.{BoundContour, IsParent, walks_in, has_one_shape, AreShapesFound}
+use Rattle.overlay_plane.specs.BoundContours.{contours_bound, own_holes, found_holes}
 use Rattle.overlay_plane.specs.Groups.{IsInsideAGroup}
-use Rattle.overlay_plane.specs.Roles.{IsFoundAt, IsNotFoundAt, IsShapeNumber}
 use Rattle.overlay_plane.specs.KeptContours.{AreKeptContours, KeepsAll, CanBeBound}
 use Rattle.overlay_plane.specs.ShapesAlone.{HasOneWinding, WindsOnceOrNot}
 use Rattle.overlay_plane.proofs.AddedWalks.{one_together, contour_part, contours_part}
@@ -39,7 +36,7 @@ use Rattle.overlay_plane.proofs.CutWindings.{selected_alternate}
 use Rattle.overlay_plane.proofs.Entries.{Contains-filter, Contains-from_filter, Contains-map, Contains-from_map}
 use Rattle.overlay_plane.proofs.Entries.{Contains-flat_map, Contains-from_flat_map}
 use Rattle.overlay_plane.proofs.FilledEdges.{HaveSelected}
-use Rattle.overlay_plane.proofs.FirstInShape.{IsAfterOwn, after_own, lowest_not_found}
+use Rattle.overlay_plane.proofs.FirstInShape.{after_own, lowest_not_found}
 use Rattle.overlay_plane.proofs.FoundWindings.{found_once}
 use Rattle.overlay_plane.proofs.FreeHoles.{empty_by, have_all}
 use Rattle.overlay_plane.proofs.GroupedCuts.{contours_are_inside_groups}
@@ -169,16 +166,14 @@ module _ (holds : ℤ → ℤ → Bool) (subj clip : CountedEdge → ℤ) (es : 
       place : ℕ
       at : slice_get contours place ≡ Some contour
       free : contour.role ≡ free_hole
-      number : IsFoundAt filled (walks_in contours) (known_in contours) place n
+      number : IsParent filled contours place (Some n)
       is : contour.steps ≡ w
 
     found_number : (one : Bool) → one ≡ false → (i : ℕ) (shape : Option ℕ) →
-        MatchBool one (shape ≡ Some 0) (IsShapeNumber filled (walks_in contours) (known_in contours) i shape) →
-        shape ≡ Some n → IsFoundAt filled (walks_in contours) (known_in contours) i n
+        MatchBool one (shape ≡ Some 0) (IsParent filled contours i shape) → shape ≡ Some n →
+        IsParent filled contours i (Some n)
     found_number true not_one i shape is same = absurd (false≢true (sym not_one))
-    found_number false not_one i shape is same =
-        MatchOption-at_some (IsNotFoundAt filled (walks_in contours) (known_in contours) i)
-        (λ m. IsFoundAt filled (walks_in contours) (known_in contours) i m) n same is
+    found_number false not_one i shape is same = subst (IsParent filled contours i) same is
 
     walk_cases : (w : List Step) → Contains ws w → IsOwn w ⊎ IsFound w
     walk_cases w c = ⊎_elim

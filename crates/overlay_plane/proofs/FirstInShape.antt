@@ -1,8 +1,7 @@
 -- The lowest edge at the leftmost lowest point of a shape is not one of a hole that is found for it: a contour that
 -- stands in the shape from the start is anchored before each such hole.
-use Rattle.std.proofs.Common.{◌≡◌, ⊎_elim, ℕ, Bool, true, false, ◌&&◌, List, Contains, Option, Some, None, refl, sym, ap}
+use Rattle.std.proofs.Common.{◌≡◌, ⊎_elim, ℕ, Bool, true, false, ◌&&◌, List, Contains, Some, refl, sym, ap}
 use Rattle.std.proofs.Common.{◌∙◌, subst}
-use Rattle.std.specs.Prelude.{slice_index_or}
 use Rattle.std.specs.List.{slice_get}
 use Rattle.std.proofs.lemmas.Bool.{both_ways, and_parts, or_cases, false_from_ne_true}
 use Rattle.std.proofs.lemmas.List.Elements.{All-contains}
@@ -13,15 +12,14 @@ use Rattle.overlay_plane.specs.LeftmostSteps.{HasLeftmost}
 use Rattle.overlay_plane.specs.Contours.{IsContour}
 use Rattle.overlay_plane.specs.Anchors.{IsAnchor, is_anchored_before}
 use Rattle.overlay_plane.specs.RoledContours.{Contour, stands_in}
-use Rattle.overlay_plane.specs.BoundContours.{walks_in, known_in}
-use Rattle.overlay_plane.specs.Roles.{HasNextAt, IsFoundAt}
-use Rattle.overlay_plane.specs.Roles.IsFoundAt.{direct, through}
+use Rattle.overlay_plane.specs.Binding.IsFoundBelow.{direct, through}
+use Rattle.overlay_plane.specs.BoundContours.{IsParent, walks_in}
 use Rattle.overlay_plane.specs.KeptContours.{CanBeBound}
 use Rattle.overlay_plane.specs.Turn.{Hand}
 use Rattle.overlay_plane.proofs.Anchors.{anchors_exist, anchor_forward}
 use Rattle.overlay_plane.proofs.AnchorOrder.{anchored_before-transitive}
 use Rattle.overlay_plane.proofs.ContourSteps.{contour_long}
-use Rattle.overlay_plane.proofs.EdgeTurns.{IsForward, left_of_not_left}
+use Rattle.overlay_plane.proofs.EdgeTurns.{left_of_not_left}
 use Rattle.overlay_plane.proofs.Entries.{Contains-from_map}
 use Rattle.overlay_plane.proofs.LongSteps.{long_leads_forward}
 use Rattle.overlay_plane.proofs.NextAnchors.{next_is_anchored_before, end_before}
@@ -53,7 +51,7 @@ module _ (filled : Hand) (contours : List Contour) (bindable : CanBeBound filled
       (Contains-place (walks_in contours) i w at)
 
   -- so it is before an anchor of each hole that is found for the shape
-  pub after_own : (i : ℕ) → IsFoundAt filled (walks_in contours) (known_in contours) i n → (w : List Step) →
+  pub after_own : (i : ℕ) → IsParent filled contours i (Some n) → (w : List Step) →
       slice_get (walks_in contours) i ≡ Some w → (a : Edge) × IsAnchor w a × IsAfterOwn a
   after_own i (direct {j} has known) w at =
       let own = contour_at contours j has.next has.next_at in

@@ -1,28 +1,25 @@
 -- A number that is found for a contour is that of an outline.
-use Rattle.std.proofs.Common.{◌≡◌, ℕ, ◌<◌, Bool, true, false, List, Option, Some, None, refl, sym, ◌∙◌, arith}
+use Rattle.std.proofs.Common.{◌≡◌, ℕ, ◌<◌, Bool, true, false, List, Option, Some, None, refl, sym, ◌∙◌, subst, arith}
 use Rattle.std.specs.Prelude.{slice_index_or, MatchBool}
 use Rattle.std.specs.List.{slice_get}
 use Rattle.std.proofs.lemmas.Bool.{eqb-true}
-use Rattle.std.proofs.lemmas.Option.{MatchOption-at_some}
 use Rattle.overlay_plane.specs.Turn.{Hand}
 use Rattle.overlay_plane.specs.RoledContours.{Contour, free_hole}
-use Rattle.overlay_plane.specs.BoundContours.{walks_in, known_in, has_one_shape, AreShapesFound}
+use Rattle.overlay_plane.specs.BoundContours.{IsParent, has_one_shape, AreShapesFound}
 use Rattle.overlay_plane.specs.ContourNumbers.{AreNumbers, outline_count}
-use Rattle.overlay_plane.specs.Roles.{IsFoundAt, IsNotFoundAt, IsShapeNumber}
 use Rattle.overlay_plane.proofs.ContourNumbers.{found_counted}
 use Rattle.overlay_plane.proofs.RoledWalks.{some-same}
 
 module _ (filled : Hand) (contours : List Contour) (numbered : AreNumbers 0 contours)
     (shapes : List (Option ℕ)) (found : AreShapesFound filled contours shapes) where
   found_by : (one : Bool) → has_one_shape contours ≡ one → (i : ℕ) (shape : Option ℕ) →
-      MatchBool one (shape ≡ Some 0) (IsShapeNumber filled (walks_in contours) (known_in contours) i shape) → (m : ℕ) →
+      MatchBool one (shape ≡ Some 0) (IsParent filled contours i shape) → (m : ℕ) →
       shape ≡ Some m → m < outline_count contours
   found_by true one i shape is m same =
       let lone = eqb-true (outline_count contours) 1 one in
       let first = some-same m 0 (sym same ∙ is) in omega (arith, lone, first)
   found_by false one i shape is m same = found_counted filled contours numbered i m
-      (MatchOption-at_some (IsNotFoundAt filled (walks_in contours) (known_in contours) i)
-      (λ n. IsFoundAt filled (walks_in contours) (known_in contours) i n) m same is)
+      (subst (IsParent filled contours i) same is)
 
   pub number_found : (i : ℕ) (c : Contour) → slice_get contours i ≡ Some c → c.role ≡ free_hole → (m : ℕ) →
       slice_index_or shapes i None ≡ Some m → m < outline_count contours

@@ -1,7 +1,6 @@
 -- Where the contours that stand in a shape from the start have the winding of some steps once on their filled sides, so
 -- have the holes that are found for it: from the next filled-above edge below a hole it goes over to the hole.
-use Rattle.std.proofs.Common.{◌≡◌, ℕ, Bool, true, ℤ, List, Contains, Option, Some, None, sym, ap, ◌∙◌, subst}
-use Rattle.std.specs.Prelude.{slice_index_or}
+use Rattle.std.proofs.Common.{◌≡◌, ℕ, Bool, true, ℤ, List, Contains, Some, sym, ap, ◌∙◌, subst}
 use Rattle.std.specs.List.{filter, slice_get}
 use Rattle.overlay_geom.specs.Plane.{Step, Edge, edge_of}
 use Rattle.overlay_geom.specs.Edges.{CountedEdge}
@@ -11,9 +10,9 @@ use Rattle.overlay_plane.specs.Contours.{is_filled_above}
 use Rattle.overlay_plane.specs.ContourWindings.{once_round}
 use Rattle.overlay_plane.specs.Anchors.{IsAnchor}
 use Rattle.overlay_plane.specs.RoledContours.{Contour, free_hole, stands_in}
-use Rattle.overlay_plane.specs.BoundContours.{walks_in, known_in}
-use Rattle.overlay_plane.specs.Roles.{HasNextAt, IsFoundAt}
-use Rattle.overlay_plane.specs.Roles.IsFoundAt.{direct, through}
+use Rattle.overlay_plane.specs.Binding.{HasNextAt}
+use Rattle.overlay_plane.specs.Binding.IsFoundBelow.{direct, through}
+use Rattle.overlay_plane.specs.BoundContours.{IsParent, walks_in}
 use Rattle.overlay_plane.specs.ShapesAlone.{HasOneWinding}
 use Rattle.overlay_plane.specs.Turn.{Hand}
 use Rattle.overlay_plane.proofs.AboveNext.{alike_above_next}
@@ -69,7 +68,7 @@ module _ (holds : ℤ → ℤ → Bool) (subj clip : CountedEdge → ℤ) (es : 
     module _ (n : ℕ) (own_once : (c : Contour) → Contains contours c → stands_in c.role ≡ Some n → IsOnceAlong c.steps)
       where
         -- so it goes over along the chain
-        pub found_once : (i : ℕ) → IsFoundAt filled (walks_in contours) (known_in contours) i n → (c : Contour) →
+        pub found_once : (i : ℕ) → IsParent filled contours i (Some n) → (c : Contour) →
             slice_get contours i ≡ Some c → c.role ≡ free_hole → IsOnceAlong c.steps
         found_once i (direct {j} has known) c at free =
             let there = contour_at contours i has.walk has.at in

@@ -2,12 +2,12 @@
 -- all contours are kept an edge is below it, and a shape is found for it.
 use Rattle.std.proofs.Common.{◌≡◌, ⊎_elim, ℕ, suc, Bool, true, false, ℤ, List, [], ◌∷◌, ◌++◌, map, Contains, Option}
 use Rattle.std.proofs.Common.{Some}
-use Rattle.std.proofs.Common.{None, filter, sym, ap, ◌∙◌, subst}
+use Rattle.std.proofs.Common.{None, filter, refl, sym, ap, ◌∙◌, subst, arith}
 use Rattle.std.specs.Prelude.{slice_index_or, MatchBool}
 use Rattle.std.specs.List.{flat_map, slice_get}
-use Rattle.std.proofs.lemmas.Bool.{both_ways, false≢true}
+use Rattle.std.proofs.lemmas.Bool.{both_ways, eqb-true, false≢true}
 use Rattle.std.proofs.lemmas.List.Elements.{Contains-append_cases}
-use Rattle.std.proofs.lemmas.Option.{none-some, MatchOption-at_none}
+use Rattle.std.proofs.lemmas.Option.{none-some}
 use Rattle.overlay_geom.specs.Plane.{Step, Edge}
 use Rattle.overlay_geom.specs.Edges.{CountedEdge}
 use Rattle.overlay_plane.specs.Turn.{Hand, other_hand}
@@ -17,14 +17,15 @@ use Rattle.overlay_plane.specs.SelectedSteps.{selected_steps}
 use Rattle.overlay_plane.specs.Contours.{all_steps}
 use Rattle.overlay_plane.specs.Anchors.{IsAnchor, is_below_anchor}
 use Rattle.overlay_plane.specs.Binding.{is_hole}
+use Rattle.overlay_plane.specs.Binding.IsFoundBelow.{nothing, through}
 use Rattle.overlay_plane.specs.RoledContours.{free_hole, Contour, is_free_hole, kept_group}
 use Rattle.overlay_plane.specs.RoledContours.{hole_of_group, hole_to_bind, group_contours_from, outline_of}
 use Rattle.overlay_plane.specs.RoledContours.{IsCut, IsCutInGroups, IsCutBy}
-use Rattle.overlay_plane.specs.BoundContours.{walks_in, known_in, has_one_shape}
-use Rattle.overlay_plane.specs.Roles.{IsFoundAt, IsNotFoundAt, IsShapeNumber}
-use Rattle.overlay_plane.specs.Roles.IsNotFoundAt.{none, through}
-use Rattle.overlay_plane.specs.KeptContours.{AreKeptContours, KeepsAll, AllHolesHaveShapes}
+use Rattle.overlay_plane.specs.BoundContours.{IsParent, walks_in, has_one_shape}
+use Rattle.overlay_plane.specs.ContourNumbers.{outline_count}
+use Rattle.overlay_plane.specs.KeptContours.{AreKeptContours, KeepsAll, AllParentsAreFound, AllHolesHaveShapes}
 use Rattle.overlay_plane.proofs.BelowHoles.{some_below}
+use Rattle.overlay_plane.proofs.ContourNumbers.{cut_numbered, found_counted}
 use Rattle.overlay_plane.proofs.CutByOneHand.{walks_from_starts}
 use Rattle.overlay_plane.proofs.CutWindings.{selected_alternate}
 use Rattle.overlay_plane.proofs.Entries.{Contains-map, Contains-from_map, Contains-from_filter}
@@ -123,28 +124,45 @@ module _ (holds : ℤ → ℤ → Bool) (subj clip : CountedEdge → ℤ) (es : 
     }
 
     -- a shape is found for each such hole
-    never_lost : (i : ℕ) → IsNotFoundAt filled (walks_in contours) (known_in contours) i → (c : Contour) →
+    pub never_lost : (i : ℕ) → IsParent filled contours i None → (c : Contour) →
         slice_get contours i ≡ Some c → ¬ (c.role ≡ free_hole)
-    never_lost i (none walk at_walk nothing) c at free =
+    never_lost i (nothing walk at_walk below) c at free =
         let own = contour_at contours i walk at_walk in
         let same : c.steps ≡ walk = ap (λ (d : Contour). d.steps) (some-same c own.0 (sym at ∙ own.1)) ∙ own.2 in
-        let anchored = subst (λ w. IsAnchor w nothing.anchor) (sym same) nothing.anchored in
+        let anchored = subst (λ w. IsAnchor w below.anchor) (sym same) below.anchored in
         let some = some_below holds subj clip es filled (walks_in contours) have_all c.steps
-        (Contains-map (λ (d : Contour). d.steps) contours c (Contains-place contours i c at)) nothing.anchor anchored
-        (empty_by in_groups kept.cut i c at free nothing.anchor anchored) in
-        both_ways (is_below_anchor nothing.anchor some.0) (nothing.none some.0 some.1) some.2
+        (Contains-map (λ (d : Contour). d.steps) contours c (Contains-place contours i c at)) below.anchor anchored
+        (empty_by in_groups kept.cut i c at free below.anchor anchored) in
+        both_ways (is_below_anchor below.anchor some.0) (below.none some.0 some.1) some.2
     never_lost i (through {j} has_next unknown rest) c at free =
         let next = contour_at contours j has_next.next has_next.next_at in
         never_lost j rest next.0 next.1
         (free_from_none next.0.role (sym (known_at contours j next.0 next.1) ∙ unknown))
 
     never_none : (one : Bool) (i : ℕ) (shape : Option ℕ) → shape ≡ None →
-        MatchBool one (shape ≡ Some 0) (IsShapeNumber filled (walks_in contours) (known_in contours) i shape) →
+        MatchBool one (shape ≡ Some 0) (IsParent filled contours i shape) →
         (c : Contour) → slice_get contours i ≡ Some c → ¬ (c.role ≡ free_hole)
     never_none true i shape is found c at free = none-some 0 (sym is ∙ found)
-    never_none false i shape is found c at free = never_lost i
-        (MatchOption-at_none (IsNotFoundAt filled (walks_in contours) (known_in contours) i)
-        (λ n. IsFoundAt filled (walks_in contours) (known_in contours) i n) is found) c at free
+    never_none false i shape is found c at free = never_lost i (subst (IsParent filled contours i) is found) c at free
+
+    -- so where there is one shape alone, it is the parent of each hole
+    parent_by : (one : Bool) → has_one_shape contours ≡ one → (i : ℕ) (shape : Option ℕ) →
+        IsParent filled contours i shape → (c : Contour) → slice_get contours i ≡ Some c → c.role ≡ free_hole →
+        MatchBool one (shape ≡ Some 0) (IsParent filled contours i shape)
+    parent_by true one i None parent c at free = absurd (never_lost i parent c at free)
+    parent_by true one i (Some m) parent c at free = ap Some
+        (let lone = eqb-true (outline_count contours) 1 one in
+        let low = found_counted filled contours (cut_numbered in_groups filled keeps steps contours kept.cut) i m parent in
+        omega (arith, lone, low))
+    parent_by false one i shape parent c at free = parent
+
+-- the holes' parents are the shapes found
+pub all_parents_are_found : AllParentsAreFound
+all_parents_are_found holds subj clip es filled in_groups keeps contours kept all shapes counted parents = record {
+  counted = counted;
+  found = λ i c at free. parent_by holds subj clip es filled in_groups keeps contours kept all (has_one_shape contours)
+      refl i (slice_index_or shapes i None) (parents i c at free) c at free;
+}
 
 -- so no hole is lost
 pub all_holes_have_shapes : AllHolesHaveShapes

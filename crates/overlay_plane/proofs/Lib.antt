@@ -71,8 +71,8 @@ pub mod HalfPlanes
 pub mod HeldChains
 pub mod HoleGroups
 pub mod HoleParents
+pub mod HolePlaces
 pub mod HoleWindings
-pub mod HolesAdded
 pub mod HolesInGroups
 pub mod InOrderLists
 pub mod InnerPoints
@@ -128,7 +128,6 @@ pub mod OrbitsSoFar
 pub mod OrderLaws
 pub mod OwnContours
 pub mod OwnGroups
-pub mod ParentlessHoles
 pub mod PartsOfLists
 pub mod PastOrbits
 pub mod PieceCounts
@@ -159,7 +158,6 @@ pub mod SettledPieces
 pub mod ShapeLinks
 pub mod ShapeNumbers
 pub mod ShapeSteps
-pub mod ShapeWalks
 pub mod ShapesAlone
 pub mod ShapesApart
 pub mod SharedCrossings

@@ -1,13 +1,12 @@
 -- What stands at a place of walks, and of the contours that they are without groups.
-use Rattle.std.proofs.Common.{◌≡◌, ℕ, zero, suc, ◌+◌, Bool, true, false, cond, not, List, [], ◌∷◌, Option, Some, None}
-use Rattle.std.proofs.Common.{refl, sym, ap, ◌∙◌, subst, arith}
+use Rattle.std.proofs.Common.{◌≡◌, ℕ, zero, suc, Bool, true, false, cond, List, [], ◌∷◌, Option, Some, None}
+use Rattle.std.proofs.Common.{refl, sym, ap, ◌∙◌, subst}
 use Rattle.std.specs.Prelude.{slice_index_or}
 use Rattle.std.specs.List.{slice_get}
-use Rattle.std.specs.Option.{MatchOption}
 use Rattle.std.proofs.lemmas.Bool.{false≢true}
 use Rattle.std.proofs.lemmas.Option.{none-some}
 use Rattle.overlay_geom.specs.Plane.{Step}
-use Rattle.overlay_plane.specs.Binding.{is_hole, outlines}
+use Rattle.overlay_plane.specs.Binding.{is_hole}
 use Rattle.overlay_plane.specs.RoledContours.{free_hole, Contour, contours_from, is_free_hole, hole_to_bind, outline_of}
 use Rattle.overlay_plane.specs.BoundContours.{known_in}
 use Rattle.overlay_plane.specs.Turn.{Hand}
@@ -27,41 +26,21 @@ module _ (filled : Hand) where
   contours_by t n w ws = cond t (hole_to_bind w ∷ contours_from filled n ws)
       (outline_of n w ∷ contours_from filled (suc n) ws)
 
-  -- the walk is an outline with this number, where those of the list are numbered from n on, or a hole without one
-  abbrev pub IsNumberedFrom : ℕ → List (List Step) → List Step → Option ℕ → Type 0
-  IsNumberedFrom n os w number =
-      MatchOption number (is_hole filled w ≡ true) (λ m. (j : ℕ) × (m ≡ n + j) × (slice_get os j ≡ Some w))
-
-  -- with another outline before them the numbers of the later ones grow by one
-  after_outline : (n : ℕ) (o : List Step) (os : List (List Step)) (w : List Step) (number : Option ℕ) →
-      IsNumberedFrom (suc n) os w number →
-      IsNumberedFrom n (o ∷ os) w number
-  after_outline n o os w None is = is
-  after_outline n o os w (Some m) (j, e, at) = (suc j, omega (arith, e), at)
-
-  -- the number of the walk at place i
-  pub numbered_from : (n : ℕ) (walks : List (List Step)) (i : ℕ) (w : List Step) → slice_get walks i ≡ Some w →
-      IsNumberedFrom n (outlines filled walks) w (slice_index_or (known_in (contours_from filled n walks)) i None)
-  numbered_from n [] i w at = absurd (none-some w at)
-  numbered_from n (v ∷ ws) zero w at = by (is_hole filled v) refl
+  -- where an outline stands among the walks, a number is known
+  pub number_at : (n : ℕ) (walks : List (List Step)) (i : ℕ) (w : List Step) → slice_get walks i ≡ Some w →
+      is_hole filled w ≡ false → (m : ℕ) × (slice_index_or (known_in (contours_from filled n walks)) i None ≡ Some m)
+  number_at n [] i w at is = absurd (none-some w at)
+  number_at n (v ∷ ws) zero w at is = (
+    n,
+    ap (λ t. slice_index_or (known_in (contours_by t n v ws)) 0 None)
+        (ap (is_hole filled) (some-same v w at) ∙ is),
+  )
+  number_at n (v ∷ ws) (suc i) w at is = by (is_hole filled v) (λ k. number_at k ws i w at is)
     where
-      is_here : v ≡ w
-      is_here = some-same v w at
-
-      by : (t : Bool) → is_hole filled v ≡ t →
-          IsNumberedFrom n (cond (not t) (v ∷ outlines filled ws) (outlines filled ws)) w
-          (slice_index_or (known_in (contours_by t n v ws)) 0 None)
-      by true is = subst (λ u. is_hole filled u ≡ true) is_here is
-      by false is = (0, omega arith, at)
-  numbered_from n (v ∷ ws) (suc i) w at = by (is_hole filled v) (λ k. numbered_from k ws i w at)
-    where
-      by : (t : Bool) → ((k : ℕ) → IsNumberedFrom k (outlines filled ws) w
-          (slice_index_or (known_in (contours_from filled k ws)) i None)) →
-          IsNumberedFrom n (cond (not t) (v ∷ outlines filled ws) (outlines filled ws)) w
-          (slice_index_or (known_in (contours_by t n v ws)) (suc i) None)
+      by : (t : Bool) → ((k : ℕ) → (m : ℕ) × (slice_index_or (known_in (contours_from filled k ws)) i None ≡ Some m)) →
+          (m : ℕ) × (slice_index_or (known_in (contours_by t n v ws)) (suc i) None ≡ Some m)
       by true rest = rest n
-      by false rest = after_outline n v (outlines filled ws) w
-          (slice_index_or (known_in (contours_from filled (suc n) ws)) i None) (rest (suc n))
+      by false rest = rest (suc n)
 
   -- where a hole stands among the walks it stands among the contours
   pub hole_at : (n : ℕ) (walks : List (List Step)) (i : ℕ) (w : List Step) → slice_get walks i ≡ Some w →

@@ -1,17 +1,19 @@
 -- Outlines are numbered in their order, so a link is told by its child.
 use Rattle.std.proofs.Common.{◌≡◌, ℕ, zero, suc, ◌+◌, Bool, true, false, cond, List, [], ◌∷◌, length, take, filter}
-use Rattle.std.proofs.Common.{Contains, refl, sym, ◌∙◌, ap, ap₂, subst, arith}
+use Rattle.std.proofs.Common.{refl, sym, ◌∙◌, ap, subst, arith}
 use Rattle.std.specs.Prelude.{Some}
 use Rattle.std.specs.List.{slice_get}
 use Rattle.std.proofs.lemmas.Bool.{both_ways}
 use Rattle.std.proofs.lemmas.Option.{none-some}
+use Rattle.overlay_plane.specs.Binding.IsFoundBelow.{direct, through}
 use Rattle.overlay_plane.specs.BoundContours.{walks_in}
-use Rattle.overlay_plane.specs.Islands.{StandsAs, IsHoleRound, outlines_from, ChildLink, AreInShapes, IsLink}
-use Rattle.overlay_plane.specs.Islands.IsHoleRound.{direct, through}
+use Rattle.overlay_plane.specs.Islands.{IsHoleRound, outlines_from, ChildLink, AreInShapes, IsLink}
 use Rattle.overlay_plane.specs.KeptContours.{CanBeBound}
 use Rattle.overlay_plane.specs.RoledContours.{Role, outline, own_hole, free_hole, Contour, is_outline, stands_in}
 use Rattle.overlay_plane.specs.Turn.{Hand}
+use Rattle.overlay_plane.proofs.HolePlaces.{place_at, hole_from}
 use Rattle.overlay_plane.proofs.OneHoleRound.{same_at, one_hole_round}
+use Rattle.overlay_plane.proofs.PlacesOfContours.{contour_at}
 use Rattle.overlay_plane.proofs.RoledWalks.{some-same}
 
 -- how many outlines come before a place
@@ -93,9 +95,18 @@ outline_of_number m (d ∷ ds) n p at = by (is_outline d.role) refl n at (λ k. 
         )
 
 -- the hole round an island stands as one
-pub hole_stands : (filled : Hand) (cs : List Contour) (i k : ℕ) → IsHoleRound filled cs i k → StandsAs false cs k
-hole_stands filled cs i k (direct next hole) = hole
-hole_stands filled cs i k (through {j = j} next island rest) = hole_stands filled cs j k rest
+pub record IsHoleAt (cs : List Contour) (k : ℕ) : Type 0 where
+  pub contour : Contour
+  pub at : slice_get cs k ≡ Some contour
+  pub is : is_outline contour.role ≡ false
+
+pub hole_stands : (filled : Hand) (cs : List Contour) (i k : ℕ) → IsHoleRound filled cs i (Some k) → IsHoleAt cs k
+hole_stands filled cs i k (direct {j = j} next known) =
+    let own = contour_at cs j next.next next.next_at in
+    let hole = hole_from (is_outline own.0.role) (0 + j) k (sym (place_at 0 cs j own.0 own.1) ∙ known) in
+    let same : j ≡ k = (let e = hole.1 in omega (arith, e)) in
+    subst (IsHoleAt cs) same (record { contour = own.0; at = own.1; is = hole.0 })
+hole_stands filled cs i k (through {j = j} next unknown rest) = hole_stands filled cs j k rest
 
 -- the number of an outline
 pub number_of : (role : Role) → is_outline role ≡ true → (n : ℕ) × (role ≡ outline n)
@@ -129,7 +140,7 @@ child_once filled cs can stand k l of_k of_l same =
 
     contours : k.parent_contour ≡ l.parent_contour
     contours = one_hole_round filled cs can of_l.place k.parent_contour l.parent_contour
-        (subst (λ p. IsHoleRound filled cs p k.parent_contour) places of_k.round) of_l.round
+        (subst (λ p. IsHoleRound filled cs p (Some k.parent_contour)) places of_k.round) of_l.round
 
     holes : of_k.hole ≡ of_l.hole
     holes = same_at cs l.parent_contour of_k.hole of_l.hole

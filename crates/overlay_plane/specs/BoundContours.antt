@@ -3,8 +3,7 @@ use Rattle.std.specs.Prelude.{◌≡◌, ℕ, ◌==◌, Bool, ◌&&◌, List, []
 use Rattle.std.specs.Prelude.{slice_index_or, Option, Some, None, MatchBool}
 use Rattle.std.specs.List.{flat_map}
 use Rattle.overlay_geom.specs.Plane.{Step}
-use Rattle.overlay_plane.specs.Binding.{is_number}
-use Rattle.overlay_plane.specs.Roles.{IsShapeNumber}
+use Rattle.overlay_plane.specs.Binding.{IsFoundBelow, is_number}
 use Rattle.overlay_plane.specs.RoledContours.{Role, outline, own_hole, free_hole, Contour, stands_in, is_outline}
 use Rattle.overlay_plane.specs.RoledContours.{is_own_hole_of, is_free_hole}
 use Rattle.overlay_plane.specs.Turn.{Hand}
@@ -16,22 +15,23 @@ walks_in contours = map (λ c. c.steps) contours
 abbrev pub known_in : List Contour → List (Option ℕ)
 known_in contours = map (λ c. stands_in c.role) contours
 
+-- the parent of the hole at place i, a hole whose shape is to be found, by the parent's number: the shape in which the
+-- contour stands that has the next filled-above edge below the hole's anchor, or the parent of the hole that has it; or
+-- that it has no parent
+abbrev pub IsParent : Hand → List Contour → ℕ → Option ℕ → Type 0
+IsParent filled contours i shape = IsFoundBelow filled (walks_in contours) (known_in contours) i shape
+
 -- there is one outline alone
 abbrev pub has_one_shape : List Contour → Bool
 has_one_shape contours = length (filter (λ c. is_outline c.role) contours) == 1
 
--- the number of the shape of the contour at place i, a hole whose shape is to be found: where there is one shape alone,
--- that one; else its parent, or that it has none
-abbrev pub IsShapeFound : Hand → List Contour → ℕ → Option ℕ → Type 0
-IsShapeFound filled contours i shape =
-    MatchBool (has_one_shape contours) (shape ≡ Some 0)
-    (IsShapeNumber filled (walks_in contours) (known_in contours) i shape)
-
--- the contours' shapes, as far as they are to be found; what stands at the others is left open
+-- the contours' shapes, as far as they are to be found: where there is one shape alone, that one; else each hole's
+-- parent. What stands at the others is left open
 pub record AreShapesFound (filled : Hand) (contours : List Contour) (shapes : List (Option ℕ)) : Type 0 where
   pub counted : length shapes ≡ length contours
   pub found : (i : ℕ) (c : Contour) → slice_get contours i ≡ Some c → c.role ≡ free_hole →
-      IsShapeFound filled contours i (slice_index_or shapes i None)
+      MatchBool (has_one_shape contours) (slice_index_or shapes i None ≡ Some 0)
+      (IsParent filled contours i (slice_index_or shapes i None))
 
 -- ---- shapes
 

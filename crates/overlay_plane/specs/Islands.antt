@@ -1,49 +1,29 @@
 -- The hole round an island, which is an outline: the hole that has the next filled-below edge below the island's
 -- anchor, or the hole round the outline that has it; and the links from shapes to the islands in their holes.
-use Rattle.std.specs.Prelude.{◌≡◌, ℕ, suc, ◌==◌, nat_lt, Bool, true, false, cond, ◌&&◌, ◌||◌, List, [], ◌∷◌, All}
+use Rattle.std.specs.Prelude.{◌≡◌, ℕ, suc, ◌==◌, nat_lt, Bool, true, cond, ◌&&◌, ◌||◌, List, [], ◌∷◌, All}
 use Rattle.std.specs.Prelude.{AllPairs, length, take, filter}
-use Rattle.std.specs.Prelude.{Contains, slice_get, Option, Some, MatchOption}
+use Rattle.std.specs.Prelude.{Contains, slice_get, Option, Some, None}
 use Rattle.std.specs.List.{AllZip}
 use Rattle.overlay_plane.specs.Turn.{Hand, other_hand}
-use Rattle.overlay_plane.specs.Binding.{HasNoneBelow}
-use Rattle.overlay_plane.specs.Roles.{HasNextAt}
+use Rattle.overlay_plane.specs.Binding.{IsFoundBelow}
 use Rattle.overlay_plane.specs.RoledContours.{outline, own_hole, free_hole, Contour, is_outline}
 use Rattle.overlay_plane.specs.BoundContours.{walks_in}
 use Rattle.overlay_plane.specs.KeptContours.{CanBeBound}
 
--- the contour at place j has the next filled-below edge below the anchor of the one at place i: what is filled below,
--- with the filled side by one hand, is filled above with it by the other
-abbrev pub HasNextFilledBelow : Hand → List Contour → ℕ → ℕ → Type 0
-HasNextFilledBelow filled contours i j = HasNextAt (other_hand filled) (walks_in contours) i j
+-- for each contour, where the first one stands at place n, its place if it is a hole, or none
+abbrev pub place_if : Bool → ℕ → Option ℕ
+place_if begins n = cond begins None (Some n)
 
--- at the place stands an outline, or a hole
-pub record StandsAs (begins : Bool) (contours : List Contour) (i : ℕ) : Type 0 where
-  pub contour : Contour
-  pub at : slice_get contours i ≡ Some contour
-  pub is : is_outline contour.role ≡ begins
+abbrev pub hole_places : ℕ → List Contour → List (Option ℕ)
+hole_places n [] = []
+hole_places n (c ∷ cs) = place_if (is_outline c.role) n ∷ hole_places (suc n) cs
 
--- the hole at place k is round the contour at place i: it has the next filled-below edge, or is round the outline that
--- has it
-pub data IsHoleRound (filled : Hand) (contours : List Contour) : ℕ → ℕ → Type 0 where
-  direct : {i k : ℕ} → HasNextFilledBelow filled contours i k → StandsAs false contours k →
-      IsHoleRound filled contours i k
-  through : {i j k : ℕ} → HasNextFilledBelow filled contours i j → StandsAs true contours j →
-      IsHoleRound filled contours j k →
-      IsHoleRound filled contours i k
-
--- no hole is round it: there is no such edge, or no hole is round the outline that has it
-pub data HasNoHoleRound (filled : Hand) (contours : List Contour) : ℕ → Type 0 where
-  none : {i : ℕ} (c : Contour) → slice_get contours i ≡ Some c →
-      HasNoneBelow (other_hand filled) (walks_in contours) c.steps →
-      HasNoHoleRound filled contours i
-  through : {i j : ℕ} → HasNextFilledBelow filled contours i j → StandsAs true contours j →
-      HasNoHoleRound filled contours j →
-      HasNoHoleRound filled contours i
-
--- the place of the hole round the contour at place i, or none where no hole is round it
-abbrev pub IsHoleFound : Hand → List Contour → ℕ → Option ℕ → Type 0
-IsHoleFound filled contours i hole = MatchOption hole (HasNoHoleRound filled contours i)
-    (λ k. IsHoleRound filled contours i k)
+-- the hole round the contour at place i, by the hole's place: the hole that has the next filled-below edge, or the hole
+-- round the outline that has it; or that no hole is round it. What is filled below, with the filled side by one hand, is
+-- filled above with it by the other
+abbrev pub IsHoleRound : Hand → List Contour → ℕ → Option ℕ → Type 0
+IsHoleRound filled contours i hole =
+    IsFoundBelow (other_hand filled) (walks_in contours) (hole_places 0 contours) i hole
 
 -- the places of the outlines among contours that stand from place n on
 abbrev pub outlines_from : ℕ → List Contour → List ℕ
@@ -52,7 +32,7 @@ outlines_from n (c ∷ cs) = cond (is_outline c.role) (n ∷ outlines_from (suc 
 
 -- for each outline, in their order, the place of the hole round it, or none
 abbrev pub AreHolesRound : Hand → List Contour → List (Option ℕ) → Type 0
-AreHolesRound filled contours holes = AllZip (IsHoleFound filled contours) (outlines_from 0 contours) holes
+AreHolesRound filled contours holes = AllZip (IsHoleRound filled contours) (outlines_from 0 contours) holes
 
 -- ---- links
 
@@ -85,7 +65,7 @@ pub record IsLink (filled : Hand) (contours : List Contour) (l : ChildLink) : Ty
   pub hole : Contour
   pub hole_at : slice_get contours l.parent_contour ≡ Some hole
   pub parent : hole.role ≡ own_hole l.parent_shape
-  pub round : IsHoleRound filled contours place l.parent_contour
+  pub round : IsHoleRound filled contours place (Some l.parent_contour)
 
 -- the list has exactly the links of the contours, in order
 pub record AreLinks (filled : Hand) (contours : List Contour) (links : List ChildLink) : Type 0 where
@@ -98,12 +78,12 @@ pub record AreLinks (filled : Hand) (contours : List Contour) (links : List Chil
 -- of contours that can be bound at most one hole is round each
 abbrev pub OneHoleIsRound : Type 0
 OneHoleIsRound = (filled : Hand) (contours : List Contour) → CanBeBound filled (walks_in contours) → (i j k : ℕ) →
-    IsHoleRound filled contours i j → IsHoleRound filled contours i k → j ≡ k
+    IsHoleRound filled contours i (Some j) → IsHoleRound filled contours i (Some k) → j ≡ k
 
 -- and not one and none
 abbrev pub NoHoleIsNone : Type 0
 NoHoleIsNone = (filled : Hand) (contours : List Contour) → CanBeBound filled (walks_in contours) → (i k : ℕ) →
-    IsHoleRound filled contours i k → ¬ (HasNoHoleRound filled contours i)
+    IsHoleRound filled contours i (Some k) → ¬ (IsHoleRound filled contours i None)
 
 -- so of contours that stand in shapes each shape is the child of at most one link
 abbrev pub EachShapeIsChildOnce : Type 0

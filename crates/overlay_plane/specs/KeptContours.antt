@@ -1,7 +1,8 @@
 -- What is kept of the contours that the selected steps of an arrangement are cut into, in groups or without: the
 -- contours can be bound to shapes; and where all of them are kept no hole is lost, and the shapes to which they are
 -- bound have each selected step once.
-use Rattle.std.specs.Prelude.{◌≡◌, ℕ, Bool, true, false, ℤ, List, All, AllPairs, Option}
+use Rattle.std.specs.Prelude.{◌≡◌, ℕ, Bool, true, false, ℤ, List, length, All, AllPairs, Option, Some, None, slice_get}
+use Rattle.std.specs.Prelude.{slice_index_or}
 use Rattle.std.specs.List.Sorted.{IsPermutation}
 use Rattle.overlay_geom.specs.Plane.{Point, PlanePoint, Step, edge_of, edge_eq, winding}
 use Rattle.overlay_geom.specs.Edges.{CountedEdge}
@@ -13,8 +14,9 @@ use Rattle.overlay_plane.specs.Contours.{all_steps, IsContour}
 use Rattle.overlay_plane.specs.ContourWindings.{wanted_winding}
 use Rattle.overlay_plane.specs.Anchors.{HasEachEdgeOnce}
 use Rattle.overlay_plane.specs.Binding.{all_filled_above, walks_of}
-use Rattle.overlay_plane.specs.RoledContours.{Contour, IsCutBy}
-use Rattle.overlay_plane.specs.BoundContours.{AreShapesFound, NoHoleIsLost, walks_in, contours_bound, shapes_bound}
+use Rattle.overlay_plane.specs.RoledContours.{Contour, free_hole, IsCutBy}
+use Rattle.overlay_plane.specs.BoundContours.{IsParent, AreShapesFound, NoHoleIsLost, walks_in, contours_bound}
+use Rattle.overlay_plane.specs.BoundContours.{shapes_bound}
 use Rattle.overlay_plane.specs.Groups.{IsSimpleContour}
 use Rattle.overlay_plane.specs.ShapeWindings.{points_of_shapes, steps_of_shapes, AreKeptOrThinned}
 
@@ -68,6 +70,16 @@ AllContoursTakeEachOnce = (holds : ℤ → ℤ → Bool) (subj clip : CountedEdg
     (in_groups : Bool) (keeps : List Step → Bool) (contours : List Contour) →
     AreKeptContours holds subj clip es filled in_groups keeps contours → KeepsAll keeps →
     IsPermutation (selected_steps holds subj clip filled es) (all_steps (walks_in contours))
+
+-- where there is one shape alone it is the parent of each hole: so the holes' parents are the shapes found
+abbrev pub AllParentsAreFound : Type 0
+AllParentsAreFound = (holds : ℤ → ℤ → Bool) (subj clip : CountedEdge → ℤ) (es : List CountedEdge) (filled : Hand)
+    (in_groups : Bool) (keeps : List Step → Bool) (contours : List Contour) →
+    AreKeptContours holds subj clip es filled in_groups keeps contours → KeepsAll keeps →
+    (shapes : List (Option ℕ)) → length shapes ≡ length contours →
+    ((i : ℕ) (c : Contour) → slice_get contours i ≡ Some c → c.role ≡ free_hole →
+    IsParent filled contours i (slice_index_or shapes i None)) →
+    AreShapesFound filled contours shapes
 
 -- a shape is found for each hole
 abbrev pub AllHolesHaveShapes : Type 0

@@ -32,12 +32,12 @@ pub mod Nodes
 pub mod Orbits
 pub mod OrbitsSoFar
 pub mod Order
+pub mod Parents
 pub mod PlacedContours
 pub mod Predicates
 pub mod Rays
 pub mod Regions
 pub mod RoledContours
-pub mod Roles
 pub mod Rounds
 pub mod SelectedSteps
 pub mod ShapeWindings

@@ -1,9 +1,8 @@
 //! Which shape a hole belongs to: anchors, the next edge below them, and parents.
 
 ghost use Rattle.overlay_plane.specs.Anchors.{AnchorsExist, AnchorsLeadOn, BelowAnAnchorIsUnder, LowerAtIsUnder};
-ghost use Rattle.overlay_plane.specs.Binding.{HolesHaveNext, HolesHaveParents, NextIsAnchoredBefore};
-ghost use Rattle.overlay_plane.specs.Binding.{ShapesHaveEachWalk, BoundWalksHaveShapes};
-ghost use Rattle.overlay_plane.specs.ShapeWindings.{ShapesHaveEachStep, ShapesWind};
+ghost use Rattle.overlay_plane.specs.Binding.{HolesHaveNext, NextIsAnchoredBefore};
+ghost use Rattle.overlay_plane.specs.Parents.{HolesHaveParents, ShapesHaveEachWalk};
 
 /// Every contour has an anchor.
 pub fn anchors_exist()
@@ -33,7 +32,7 @@ pub fn holes_have_next()
     ensures { HolesHaveNext }
 {}
 
-/// So each hole that selected steps are cut into has a parent.
+/// So each hole that selected steps are cut into has a parent, and is none that has no parent.
 pub fn holes_have_parents()
     ensures { HolesHaveParents }
 {}
@@ -43,23 +42,7 @@ pub fn next_is_anchored_before()
     ensures { NextIsAnchoredBefore }
 {}
 
-/// Where no hole is without a shape, the shapes have each contour exactly once.
+/// Where the outlines of contours are numbered in order and no hole is lost, the shapes have each contour exactly once.
 pub fn shapes_have_each_walk()
     ensures { ShapesHaveEachWalk }
-{}
-
-/// No hole that selected steps are cut into is without a shape.
-pub fn bound_walks_have_shapes()
-    ensures { BoundWalksHaveShapes }
-{}
-
-/// The shapes of the contours that selected steps are cut into have each of these steps exactly once.
-pub fn shapes_have_each_step()
-    ensures { ShapesHaveEachStep }
-{}
-
-/// The shapes of the contours that selected steps are cut into, as they are or thinned, wind once round each point
-/// where the rule holds, and zero times round each other one.
-pub fn shapes_wind()
-    ensures { ShapesWind }
 {}

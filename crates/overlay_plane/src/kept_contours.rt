@@ -3,7 +3,7 @@
 
 ghost use Rattle.overlay_plane.specs.KeptContours.{KeptContoursCanBeBound, KeptContoursAreSimple};
 ghost use Rattle.overlay_plane.specs.KeptContours.{KeptShapesCanBeBound, AllContoursTakeEachOnce, AllHolesHaveShapes};
-ghost use Rattle.overlay_plane.specs.KeptContours.{AllShapesHaveEachStep, AllShapesWind};
+ghost use Rattle.overlay_plane.specs.KeptContours.{AllParentsAreFound, AllShapesHaveEachStep, AllShapesWind};
 
 /// Contours that selected steps are cut into, as far as they are kept, can be bound to shapes.
 pub fn kept_contours_can_be_bound()
@@ -23,6 +23,11 @@ pub fn kept_shapes_can_be_bound()
 /// Where all are kept they take each selected step exactly once.
 pub fn all_contours_take_each_once()
     ensures { AllContoursTakeEachOnce }
+{}
+
+/// Their parents are the shapes found for the holes, also where there is one shape alone.
+pub fn all_parents_are_found()
+    ensures { AllParentsAreFound }
 {}
 
 /// And a shape is found for each hole.

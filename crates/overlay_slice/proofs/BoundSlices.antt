@@ -1,5 +1,4 @@
--- The shapes to which contours of slices are bound have each contour at most once, and where no hole is lost exactly
--- once; and each is an outline with its holes.
+-- Each of the shapes to which contours of slices are bound is an outline with its holes.
 use Rattle.std.proofs.Common.{◌≡◌, ℕ, ◌<◌, Bool, true, false, ◌&&◌, List, [], ◌∷◌, ◌++◌, map, All, Contains, Option}
 use Rattle.std.proofs.Common.{Some, None, refl, sym, ap, ◌∙◌, subst, arith}
 use Rattle.std.specs.Prelude.{slice_index_or}
@@ -26,81 +25,6 @@ use Rattle.overlay_plane.proofs.FoundNumbers.{number_found}
 use Rattle.overlay_plane.proofs.PlacesOfContours.{Contains-place}
 use Rattle.overlay_plane.proofs.RoledWalks.{some-same}
 use Rattle.overlay_plane.proofs.ShapeSteps.{single_parts}
-
--- ---- each contour once
-
-module _ (filled : Hand) (contours : List Contour) (numbered : AreNumbers 0 contours) (shapes : List (Option ℕ))
-    (found : AreShapesFound filled contours shapes) where
-  abbrev bound : List BoundContour
-  bound = contours_bound contours shapes
-
-  again : map (λ (b : BoundContour). b.contour) bound ≡ contours
-  again = bound_again contours shapes found.counted
-
-  -- each number of a hole is that of an outline
-  number_below : (b : BoundContour) → Contains bound b → is_outline b.contour.role ≡ false → (m : ℕ) →
-      number_by b.contour.role b.shape ≡ Some m → m < outline_count contours
-  number_below b c = by b.contour.role refl
-    where
-      at : (i : ℕ) × (slice_get contours i ≡ Some b.contour) × (slice_index_or shapes i None ≡ b.shape)
-      at = bound_at contours shapes b c
-
-      by : (r : Role) → b.contour.role ≡ r → is_outline r ≡ false → (m : ℕ) → number_by r b.shape ≡ Some m →
-          m < outline_count contours
-      by (outline n) is hole m same = absurd (false≢true (sym hole))
-      by (own_hole n) is hole m same = let counted = number_counted 0 contours numbered b.contour
-          (Contains-place contours at.0 b.contour at.1) m (ap stands_in is ∙ same) in omega arith
-      by free_hole is hole m same = number_found filled contours numbered shapes found at.0 b.contour at.1 is m
-          (at.2 ∙ same)
-
-  numbered_again : AreNumbers 0 (map (λ (b : BoundContour). b.contour) bound)
-  numbered_again = subst (AreNumbers 0) (sym again) numbered
-
-  below_again : (b : BoundContour) → Contains bound b → is_outline b.contour.role ≡ false → (m : ℕ) →
-      number_by b.contour.role b.shape ≡ Some m → m < outline_count (map (λ (d : BoundContour). d.contour) bound)
-  below_again = subst (λ cs. (b : BoundContour) → Contains bound b → is_outline b.contour.role ≡ false → (m : ℕ) →
-      number_by b.contour.role b.shape ≡ Some m → m < outline_count cs) (sym again) number_below
-
-  -- the walks, one by one
-  walks_bound : flat_map (λ (b : BoundContour). b.contour.steps ∷ []) bound ≡ walks_in contours
-  walks_bound = sym (flat_map-map (λ (c : Contour). c.steps ∷ []) (λ (b : BoundContour). b.contour) bound)
-      ∙ ap (flat_map (λ (c : Contour). c.steps ∷ [])) again
-      ∙ sym (flat_map-map (λ (w : List Step). w ∷ []) (λ (c : Contour). c.steps) contours)
-      ∙ single_parts (walks_in contours)
-
-  -- the shapes have the contours but those that are left out
-  pub walks_left : (lost : List (List Step)) × IsPermutation (walks_in contours) (walks_of (shapes_bound bound) ++ lost)
-  walks_left = (
-    lost,
-    subst (λ ws. IsPermutation ws (walks_of (shapes_bound bound) ++ lost)) walks_bound
-        (subst (λ ws. IsPermutation (flat_map (λ (b : BoundContour). b.contour.steps ∷ []) bound) (ws ++ lost))
-        (single_parts (walks_of (shapes_bound bound)))
-        (parts_split (λ w. w ∷ []) bound numbered_again below_again)),
-  )
-    where
-      lost : List (List Step)
-      lost = flat_map (λ (b : BoundContour). b.contour.steps ∷ []) (filter (is_lost (λ w. w ∷ []) bound) bound)
-
-  -- and all of them, where no hole is lost
-  pub walks_all : NoHoleIsLost contours shapes → IsPermutation (walks_in contours) (walks_of (shapes_bound bound))
-  walks_all none_lost = subst (λ ws. IsPermutation ws (walks_of (shapes_bound bound))) walks_bound
-      (subst (IsPermutation (flat_map (λ (b : BoundContour). b.contour.steps ∷ []) bound))
-      (single_parts (walks_of (shapes_bound bound)))
-      (parts_alike (λ w. w ∷ []) bound numbered_again below_again has_number))
-    where
-      has_number : (b : BoundContour) → Contains bound b → is_outline b.contour.role ≡ false →
-          ¬ (number_by b.contour.role b.shape ≡ None)
-      has_number b c = by b.contour.role refl
-        where
-          at : (i : ℕ) × (slice_get contours i ≡ Some b.contour) × (slice_index_or shapes i None ≡ b.shape)
-          at = bound_at contours shapes b c
-
-          by : (r : Role) → b.contour.role ≡ r → is_outline r ≡ false → ¬ (number_by r b.shape ≡ None)
-          by (outline n) is hole same = false≢true (sym hole)
-          by (own_hole n) is hole same = none-some n (sym same)
-          by free_hole is hole same = none_lost at.0 b.contour at.1 is (at.2 ∙ same)
-
--- ---- an outline, and its holes
 
 -- the first walk is an outline by what is said of outlines and holes, and the others are holes
 abbrev pub IsBegun : (Bool → List Step → Type 0) → List (List Step) → Type 0

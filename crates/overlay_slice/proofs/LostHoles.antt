@@ -6,21 +6,20 @@ use Rattle.std.specs.Prelude.{slice_index_or, MatchBool}
 use Rattle.std.specs.List.{filter, slice_get}
 use Rattle.std.proofs.lemmas.Bool.{both_ways}
 use Rattle.std.proofs.lemmas.List.Elements.{All-contains}
-use Rattle.std.proofs.lemmas.Option.{none-some, MatchOption-at_none}
+use Rattle.std.proofs.lemmas.Option.{none-some}
 use Rattle.overlay_geom.specs.Plane.{Step, Edge, edge_of, edge_eq, is_forward, midpoint, point_lt, reversed_step}
 use Rattle.overlay_geom.specs.Edges.{CountedEdge, ends_of, winding_by, winding_below, winding_above}
 use Rattle.overlay_geom.specs.Settled.{MeetInEnds}
 use Rattle.overlay_plane.specs.Anchors.{IsAnchor, HasEachEdgeOnce, is_below_anchor}
 use Rattle.overlay_plane.specs.Binding.{all_filled_above, filled_above_edges}
-use Rattle.overlay_plane.specs.BoundContours.{walks_in, known_in, has_one_shape, AreShapesFound, NoHoleIsLost}
+use Rattle.overlay_plane.specs.Binding.IsFoundBelow.{nothing, through}
+use Rattle.overlay_plane.specs.BoundContours.{IsParent, walks_in, has_one_shape, AreShapesFound, NoHoleIsLost}
 use Rattle.overlay_plane.specs.Contours.{all_steps, is_filled_above, IsContour}
 use Rattle.overlay_plane.specs.Heights.{covers, is_under}
 use Rattle.overlay_plane.specs.KeptContours.{CanBeBound}
 use Rattle.overlay_plane.specs.Nodes.{IsBalancedArrangement}
 use Rattle.overlay_plane.specs.Regions.{one_if, selected_sign}
 use Rattle.overlay_plane.specs.RoledContours.{Contour, is_outline, free_hole}
-use Rattle.overlay_plane.specs.Roles.{IsFoundAt, IsNotFoundAt, IsShapeNumber}
-use Rattle.overlay_plane.specs.Roles.IsNotFoundAt.{none, through}
 use Rattle.overlay_plane.specs.SelectedSteps.{step_with_left}
 use Rattle.overlay_plane.specs.Turn.Hand.{left}
 use Rattle.overlay_plane.specs.WindingsBeside.{winding_on_side}
@@ -192,28 +191,26 @@ module _ (fills : ℤ → Bool) (count : CountedEdge → ℤ) (es : List Counted
         (one_anchor (walks_in contours) bindable.contours bindable.single bindable.settled c.steps
         (Contains-map (λ (d : Contour). d.steps) contours c at) passes.anchor e passes.is_anchor anchored) passes.passes
 
-    never_lost : (i : ℕ) → IsNotFoundAt left (walks_in contours) (known_in contours) i → (c : Contour) →
+    never_lost : (i : ℕ) → IsParent left contours i None → (c : Contour) →
         slice_get contours i ≡ Some c → ¬ (c.role ≡ free_hole)
-    never_lost i (none walk at_walk nothing) c at free =
+    never_lost i (nothing walk at_walk below) c at free =
         let own = contour_at contours i walk at_walk in
         let same : c.steps ≡ walk = ap (λ (d : Contour). d.steps) (some-same c own.0 (sym at ∙ own.1)) ∙ own.2 in
-        let anchored = subst (λ w. IsAnchor w nothing.anchor) (sym same) nothing.anchored in
+        let anchored = subst (λ w. IsAnchor w below.anchor) (sym same) below.anchored in
         let here = Contains-place contours i c at in
         let some = some_below (walks_in contours) are c.steps (Contains-map (λ (d : Contour). d.steps) contours c here)
-        nothing.anchor anchored (hole_passes c here free nothing.anchor anchored) in
-        both_ways (is_below_anchor nothing.anchor some.0) (nothing.none some.0 some.1) some.2
+        below.anchor anchored (hole_passes c here free below.anchor anchored) in
+        both_ways (is_below_anchor below.anchor some.0) (below.none some.0 some.1) some.2
     never_lost i (through {j} has_next unknown rest) c at free =
         let next = contour_at contours j has_next.next has_next.next_at in
         never_lost j rest next.0 next.1
         (free_from_none next.0.role (sym (known_at contours j next.0 next.1) ∙ unknown))
 
     never_none : (one : Bool) (i : ℕ) (shape : Option ℕ) → shape ≡ None →
-        MatchBool one (shape ≡ Some 0) (IsShapeNumber left (walks_in contours) (known_in contours) i shape) →
+        MatchBool one (shape ≡ Some 0) (IsParent left contours i shape) →
         (c : Contour) → slice_get contours i ≡ Some c → ¬ (c.role ≡ free_hole)
     never_none true i shape is found c at free = none-some 0 (sym is ∙ found)
-    never_none false i shape is found c at free = never_lost i
-        (MatchOption-at_none (IsNotFoundAt left (walks_in contours) (known_in contours) i)
-        (λ n. IsFoundAt left (walks_in contours) (known_in contours) i n) is found) c at free
+    never_none false i shape is found c at free = never_lost i (subst (IsParent left contours i) is found) c at free
 
     -- so no hole is lost
     pub no_hole_lost : (shapes : List (Option ℕ)) → AreShapesFound left contours shapes → NoHoleIsLost contours shapes

@@ -25,7 +25,7 @@ use Rattle.overlay_plane.specs.RoledContours.{Contour, is_outline}
 use Rattle.overlay_plane.specs.ShapeWindings.{points_of_shapes}
 use Rattle.overlay_plane.specs.Turn.Hand.{left}
 use Rattle.overlay_plane.proofs.AlongLines.{winding_part}
-use Rattle.overlay_plane.proofs.BoundSteps.{bound_at}
+use Rattle.overlay_plane.proofs.BoundSteps.{bound_at, walks_left, shapes_have_each_walk}
 use Rattle.overlay_plane.proofs.Entries.{all_of_entries, All-first, Contains-map}
 use Rattle.overlay_plane.proofs.KeptWalks.{Each-first, step_of_kept, kept_in_relation}
 use Rattle.overlay_plane.proofs.LaterEntries.{Each-from_all_pairs, AllPairs-from_each}
@@ -44,7 +44,7 @@ use Rattle.overlay_slice.specs.Slices.{AreSlices}
 use Rattle.overlay_slice.specs.Sliced.{in_direction, slices_shown, left_steps, left_steps_of_shapes, sides_under}
 use Rattle.overlay_slice.specs.Sliced.{IsOutlineWithHoles, IsSliced}
 use Rattle.overlay_slice.specs.Tours.{LiesInOneOrbit}
-use Rattle.overlay_slice.proofs.BoundSlices.{walks_left, walks_all, IsBegun, shapes_begun}
+use Rattle.overlay_slice.proofs.BoundSlices.{IsBegun, shapes_begun}
 use Rattle.overlay_slice.proofs.LoopWindings.{loops_wind}
 use Rattle.overlay_slice.proofs.LostHoles.{no_hole_lost}
 use Rattle.overlay_slice.proofs.RoledLoops.{roles_numbered, role_passes}
@@ -174,7 +174,7 @@ module _ (width : Width) (min : ℕ) (fill : FillRule) (direction : ContourDirec
 
     all_walks : IsPermutation (all_steps (walks_in contours)) (all_steps walks)
     all_walks = all_steps_shuffled (walks_in contours) walks
-        (walks_all left contours numbered shapes slices.bound none_lost)
+        (shapes_have_each_walk left contours numbered shapes slices.bound none_lost)
 
     all_moved : IsPermutation (all_steps (walks_in contours)) (left_steps_of_shapes direction result)
     all_moved = IsPermutation-trans (all_steps (walks_in contours)) (all_steps walks)

@@ -13,10 +13,8 @@ use Rattle.std.proofs.lemmas.Option.{slice_get_within}
 use Rattle.overlay_geom.specs.Plane.{Step, Edge}
 use Rattle.overlay_plane.specs.Contours.{IsContour}
 use Rattle.overlay_plane.specs.Anchors.{IsAnchor, is_anchored_before}
-use Rattle.overlay_plane.specs.Binding.{IsNextWalk, HasNoneBelow}
-use Rattle.overlay_plane.specs.Roles.{HasNextAt, IsShapeNumber}
-use Rattle.overlay_plane.specs.Roles.IsFoundAt.{direct, through}
-use Rattle.overlay_plane.specs.Roles.IsNotFoundAt.{none, through as through_not_found}
+use Rattle.overlay_plane.specs.Binding.{IsNextWalk, HasNoneBelow, HasNextAt, IsFoundBelow}
+use Rattle.overlay_plane.specs.Binding.IsFoundBelow.{nothing, direct, through}
 use Rattle.overlay_plane.specs.Turn.{Hand}
 use Rattle.overlay_plane.proofs.AnchorOrder.{anchored_before-itself}
 use Rattle.overlay_plane.proofs.Anchors.{anchor_forward}
@@ -68,7 +66,7 @@ module _ (filled : Hand) (walks : List (List Step)) (contours : All IsContour wa
     -- the next walk has its number, if it stands in no shape from the start
     next_number : (n : ℕ) (next : List Step) → slice_get walks n ≡ Some next →
         (is_next : IsNextWalk filled walks hole next) → is_next.anchor ≡ h.edge →
-        get_or known n None ≡ None → IsShapeNumber filled walks known n (get_or parents n None)
+        get_or known n None ≡ None → IsFoundBelow filled walks known n (get_or parents n None)
     next_number n next at_next is_next anchor_is also =
         let found = Contains-from_map (λ (k : Entry ℕ). k.value) hs n (holes.all n next at_next also) in
         let k = found.0 in
@@ -81,27 +79,27 @@ module _ (filled : Hand) (walks : List (List Step)) (contours : All IsContour wa
         let itself = anchored_before-itself h.edge
         (anchor_forward hole (All-contains IsContour walks hole contours (Contains-at walks h.value hole at))
         h.edge anchor) in
-        subst (λ m. IsShapeNumber filled walks known m (get_or parents m None)) found.2
+        subst (λ m. IsFoundBelow filled walks known m (get_or parents m None)) found.2
         (All-contains (λ j. HasShapeNumber filled walks known parents j.value) (take i hs) k numbered
         (stands_before k found.1 before itself) next
         (ap (slice_get walks) found.2 ∙ at_next) (ap (λ m. get_or known m None) found.2 ∙ also))
 
     -- below it is no walk
     pub number_of_none : (n : ℕ) → n ≡ length walks → HasNoneBelow filled walks hole →
-        IsShapeNumber filled walks known h.value (shape_of known parents n)
-    number_of_none n past nothing_below = subst (IsShapeNumber filled walks known h.value) (sym nothing)
-        (none hole at nothing_below)
+        IsFoundBelow filled walks known h.value (shape_of known parents n)
+    number_of_none n past nothing_below = subst (IsFoundBelow filled walks known h.value) (sym no_shape)
+        (nothing hole at nothing_below)
       where
-        nothing : shape_of known parents n ≡ None
-        nothing = ap (λ t. cond t (cond (is_some (get_or known n None)) (get_or known n None) (get_or parents n None))
+        no_shape : shape_of known parents n ≡ None
+        no_shape = ap (λ t. cond t (cond (is_some (get_or known n None)) (get_or known n None) (get_or parents n None))
             None)
             (let c = counted in le-ltb n (length known) (omega arith))
 
     -- below it is the next walk
     pub number_of_next : (n : ℕ) (next : List Step) → slice_get walks n ≡ Some next →
         (is_next : IsNextWalk filled walks hole next) → is_next.anchor ≡ h.edge →
-        IsShapeNumber filled walks known h.value (shape_of known parents n)
-    number_of_next n next at_next is_next anchor_is = subst (IsShapeNumber filled walks known h.value) (sym within)
+        IsFoundBelow filled walks known h.value (shape_of known parents n)
+    number_of_next n next at_next is_next anchor_is = subst (IsFoundBelow filled walks known h.value) (sym within)
         (by (get_or known n None) refl)
       where
         within : shape_of known parents n ≡ cond (is_some (get_or known n None)) (get_or known n None)
@@ -113,18 +111,13 @@ module _ (filled : Hand) (walks : List (List Step)) (contours : All IsContour wa
         has_next : HasNextAt filled walks h.value n
         has_next = record { walk = hole; at = at; next = next; next_at = at_next; is_next = is_next }
 
-        on : get_or known n None ≡ None → (o : Option ℕ) → IsShapeNumber filled walks known n o →
-            IsShapeNumber filled walks known h.value o
-        on also None without = through_not_found has_next also without
-        on also (Some m) found = through has_next also found
-
-        by : (o : Option ℕ) → get_or known n None ≡ o → IsShapeNumber filled walks known h.value
+        by : (o : Option ℕ) → get_or known n None ≡ o → IsFoundBelow filled walks known h.value
             (cond (is_some o) o (get_or parents n None))
         by (Some m) stands = direct has_next stands
-        by None also = on also (get_or parents n None) (next_number n next at_next is_next anchor_is also)
+        by None also = through has_next also (next_number n next at_next is_next anchor_is also)
 
     -- the number of the hole is written at its place
-    pub all_numbered : (shape : Option ℕ) → h.value < length parents → IsShapeNumber filled walks known h.value shape →
+    pub all_numbered : (shape : Option ℕ) → h.value < length parents → IsFoundBelow filled walks known h.value shape →
         All (λ k. HasShapeNumber filled walks known (slice_set parents h.value shape) k.value) (take (i + 1) hs)
     all_numbered shape inside number_of_hole = subst
         (All (λ k. HasShapeNumber filled walks known (slice_set parents h.value shape) k.value))
@@ -136,12 +129,12 @@ module _ (filled : Hand) (walks : List (List Step)) (contours : All IsContour wa
         here)
       where
         here : HasShapeNumber filled walks known (slice_set parents h.value shape) h.value
-        here w at_w hole_w = subst (IsShapeNumber filled walks known h.value)
+        here w at_w hole_w = subst (IsFoundBelow filled walks known h.value)
             (sym (get_or-set_same parents h.value shape None inside)) number_of_hole
 
         still : (n : ℕ) → HasShapeNumber filled walks known parents n →
             HasShapeNumber filled walks known (slice_set parents h.value shape) n
         still n old = by_eq n h.value
             (λ same. subst (HasShapeNumber filled walks known (slice_set parents h.value shape)) (sym same) here)
-            (λ other w at_w hole_w. subst (IsShapeNumber filled walks known n)
+            (λ other w at_w hole_w. subst (IsFoundBelow filled walks known n)
             (sym (get_or-set_other parents h.value n shape None other)) (old w at_w hole_w))

@@ -10,7 +10,8 @@ use Rattle.overlay_plane.specs.BoundContours.{walks_in, known_in}
 use Rattle.overlay_plane.specs.Turn.{Hand}
 use Rattle.overlay_walk.specs.declared.contour.Contour.{Contour as ContourTaken}
 use Rattle.overlay_walk.specs.GroupedContours.{plain_role, plain_contours, walk_of}
-use Rattle.overlay_walk.specs.HolePlaces.{place_if, hole_places, at_outlines}
+use Rattle.overlay_plane.specs.Islands.{place_if, hole_places}
+use Rattle.overlay_walk.specs.HolePlaces.{at_outlines}
 
 -- the number of the shape in which a contour stands from the start
 abbrev pub number_of : {I A : Type 0} → ContourTaken I A → Option ℕ

@@ -1,7 +1,7 @@
 -- The shapes that a sweep over walks has found so far.
 use Rattle.std.specs.Prelude.{◌≡◌, ℕ, List, slice_get, slice_index_or, Option, None, Some}
 use Rattle.overlay_geom.specs.Plane.{Step}
-use Rattle.overlay_plane.specs.Roles.{IsShapeNumber}
+use Rattle.overlay_plane.specs.Binding.{IsFoundBelow}
 use Rattle.overlay_plane.specs.Turn.{Hand}
 pub use Rattle.overlay_scan.specs.Sweeps.{IsSwept}
 
@@ -9,4 +9,4 @@ pub use Rattle.overlay_scan.specs.Sweeps.{IsSwept}
 abbrev pub HasShapeNumber : Hand → List (List Step) → List (Option ℕ) → List (Option ℕ) → ℕ → Type 0
 HasShapeNumber filled walks known shapes n = (w : List Step) → slice_get walks n ≡ Some w →
     slice_index_or known n None ≡ None →
-    IsShapeNumber filled walks known n (slice_index_or shapes n None)
+    IsFoundBelow filled walks known n (slice_index_or shapes n None)

@@ -8,11 +8,10 @@ ghost use Rattle.overlay_plane.specs.Binding.{all_filled_above};
 ghost use Rattle.overlay_plane.specs.BoundContours.{walks_in, AreShapesFound};
 ghost use Rattle.overlay_plane.specs.Contours.{IsContour, all_steps};
 ghost use Rattle.overlay_plane.specs.KeptContours.{CanBeBound};
-ghost use Rattle.overlay_plane.specs.Roles.{hand_on_side};
 ghost use Rattle.overlay_scan.specs.Scan.{empty_sweep};
 ghost use Rattle.overlay_walk.specs.GroupedContours.{plain_contours, walk_of};
 ghost use Rattle.overlay_walk.specs.Parents.{HasShapeNumber};
-ghost use Rattle.overlay_walk.specs.Steps.{filled_hand, plain_side, IsLong};
+ghost use Rattle.overlay_walk.specs.Steps.{filled_hand, hand_on_side, IsLong};
 
 use crate::contour::Contour;
 use crate::roles::{shape_count, shapes_known};
@@ -84,13 +83,13 @@ pub(crate) fn find_shapes<I: IntNumber, A: Allocator + Clone, S: Scan<I, usize>>
     requires contours { All IsContour (map (walk_of I.whole) contours.now) }
     requires single { All HasEachEdgeOnce (map (walk_of I.whole) contours.now) }
     requires distinct { AllPairs (λ e f. edge_eq e f ≡ false) (all_filled_above
-        (hand_on_side (plain_side side) (filled_hand direction)) (map (walk_of I.whole) contours.now)) }
+        (hand_on_side side (filled_hand direction)) (map (walk_of I.whole) contours.now)) }
     requires settled { IsSettledBy edge_of (all_steps (map (walk_of I.whole) contours.now)) }
     requires known { length known.now ≡ length contours.now }
     requires empty { S.content scan.old ≡ empty_sweep }
     ensures counted { IfOk result (λ v. length v.items ≡ length contours.now) }
     ensures numbers { IfOk result (λ v. (n : _) → HasShapeNumber
-        (hand_on_side (plain_side side) (filled_hand direction))
+        (hand_on_side side (filled_hand direction))
         (map (walk_of I.whole) contours.now) known.now v.items n) }
     ensures err { IsOkUnless result OverlayError.Memory }
 {
@@ -106,7 +105,7 @@ pub(crate) fn find_shapes<I: IntNumber, A: Allocator + Clone, S: Scan<I, usize>>
 /// The direction in which contours run whose filled-above edges are those that are filled on the side
 /// where contours run in this one.
 fn filled_above_as(direction: ContourDirection, side: Side) -> ContourDirection
-    ensures { filled_hand result ≡ hand_on_side (plain_side side) (filled_hand direction) }
+    ensures { filled_hand result ≡ hand_on_side side (filled_hand direction) }
 {
     match (side, direction) {
         (Side::Above, direction) => direction,

@@ -2,11 +2,11 @@
 
 ghost use Rattle.std.specs.Prelude.{◌≡◌, length, All, IfOk, IsOkUnless};
 ghost use Rattle.overlay_plane.specs.BoundContours.{walks_in};
-ghost use Rattle.overlay_plane.specs.Islands.{AreHolesRound};
+ghost use Rattle.overlay_plane.specs.Islands.{hole_places, AreHolesRound};
 ghost use Rattle.overlay_plane.specs.KeptContours.{CanBeBound};
 ghost use Rattle.overlay_scan.specs.Scan.{empty_sweep};
 ghost use Rattle.overlay_walk.specs.GroupedContours.{plain_contours};
-ghost use Rattle.overlay_walk.specs.HolePlaces.{hole_places, at_outlines};
+ghost use Rattle.overlay_walk.specs.HolePlaces.{at_outlines};
 ghost use Rattle.overlay_walk.specs.Steps.{filled_hand, IsLong};
 
 use crate::bind::find_shapes;

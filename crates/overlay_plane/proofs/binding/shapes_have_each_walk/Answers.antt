@@ -1,5 +1,5 @@
 -- The shapes have each contour exactly once.
-use Rattle.overlay_plane.proofs.ShapeSteps.{shapes_have_each_walk}
+use Rattle.overlay_plane.proofs.BoundSteps.{shapes_have_each_walk}
 use Rattle.overlay_plane.proofs.binding.shapes_have_each_walk.Goals as goal
 
 pub returns : goal.returns

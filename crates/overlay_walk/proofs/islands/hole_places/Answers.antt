@@ -4,7 +4,7 @@ use Rattle.std.proofs.lemmas.List.{length-map, length-take-le}
 use Rattle.overlay_geom.proofs.Mapped.{mapped_more, mapped_whole}
 use Rattle.overlay_plane.specs.RoledContours.{is_outline}
 use Rattle.overlay_walk.specs.GroupedContours.{plain_contour, plain_contours}
-use Rattle.overlay_walk.specs.HolePlaces.{place_if, hole_places}
+use Rattle.overlay_plane.specs.Islands.{place_if, hole_places}
 use Rattle.overlay_walk.proofs.RolesRead.{places_more}
 use Rattle.overlay_walk.proofs.islands.hole_places.Goals as goal
 use Rattle.overlay_walk.proofs.islands.hole_places.Goals.{then-is_outline+in_ok-push, else-is_outline+in_ok-push-2}

@@ -1,7 +1,7 @@
 -- The places are those of the contours so far.
 use Rattle.std.proofs.Common.{◌≡◌, take}
 use Rattle.overlay_walk.specs.GroupedContours.{plain_contours}
-use Rattle.overlay_walk.specs.HolePlaces.{hole_places}
+use Rattle.overlay_plane.specs.Islands.{hole_places}
 use Rattle.overlay_walk.proofs.islands.hole_places.Given as goal
 
 abbrev pub invariant-loop-i : goal.invariant-loop-i

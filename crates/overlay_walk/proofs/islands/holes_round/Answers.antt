@@ -7,13 +7,14 @@ use Rattle.overlay_geom.specs.Settled.{IsSettledBy}
 use Rattle.overlay_plane.specs.Anchors.{HasEachEdgeOnce}
 use Rattle.overlay_plane.specs.Binding.{all_filled_above}
 use Rattle.overlay_plane.specs.Contours.{IsContour, all_steps}
-use Rattle.overlay_plane.specs.Islands.{AreHolesRound}
+use Rattle.overlay_plane.specs.Islands.{hole_places, AreHolesRound}
 use Rattle.overlay_plane.specs.Turn.{other_hand}
+use Rattle.overlay_plane.proofs.HolePlaces.{places_counted}
 use Rattle.overlay_walk.specs.GroupedContours.{plain_contour, plain_contours, walk_of}
-use Rattle.overlay_walk.specs.HolePlaces.{hole_places, at_outlines}
+use Rattle.overlay_walk.specs.HolePlaces.{at_outlines}
 use Rattle.overlay_walk.specs.Parents.{HasShapeNumber}
 use Rattle.overlay_walk.specs.Steps.{filled_hand, IsLong}
-use Rattle.overlay_walk.proofs.HolesRound.{holes_found, places_counted}
+use Rattle.overlay_walk.proofs.HolesRound.{holes_found}
 use Rattle.overlay_walk.proofs.RolesRead.{walks_alike}
 use Rattle.overlay_walk.proofs.islands.holes_round.Goals as goal
 
