@@ -1,6 +1,6 @@
 -- The chains of the added edges make the marks of the arrangement: no round changes which marks their steps are given
 -- along an edge.
-use Rattle.std.proofs.Common.{◌≡◌, ◌↔◌, Bool, true, List, [], ◌∷◌, Contains, sym, ap, ◌∙◌, subst}
+use Rattle.std.proofs.Common.{◌≡◌, ◌↔◌, ⊎_elim, Bool, true, false, List, [], ◌∷◌, Contains, sym, ap, ◌∙◌, subst}
 use Rattle.std.specs.List.{All, Any}
 use Rattle.std.specs.Prelude.{flat_map}
 use Rattle.std.proofs.lemmas.Bool.{both_ways}
@@ -9,14 +9,16 @@ use Rattle.overlay_geom.specs.Plane.{Step, point_lt, edge_of, is_forward}
 use Rattle.overlay_geom.specs.Edges.{CountedEdge, ends_of}
 use Rattle.overlay_geom.specs.Merged.{IsMerged}
 use Rattle.overlay_plane.specs.ChainLinks.{ChainLink, links_after, links_through, step_of, step_along, chain_through}
-use Rattle.overlay_plane.specs.ChainLinks.{IsMarkedBy}
+use Rattle.overlay_plane.specs.ChainLinks.{IsMarkedBy, marks_along, marks_against}
 use Rattle.overlay_plane.specs.ChainLinks.ChainLink.{held, dropped}
 use Rattle.overlay_plane.specs.EdgeLists.{IsForwardBy}
+use Rattle.overlay_plane.specs.MarkedChains.{IsMarkedStep, MarkedChainsStay}
 use Rattle.overlay_plane.specs.Rounds.{Round, AreRounds, pieces_of, after_rounds}
 use Rattle.overlay_plane.proofs.EdgeMarks.{mark, marks, along_edge, HasMarked, merged_marked, marked_merged}
+use Rattle.overlay_plane.proofs.EdgeMarks.{marked_held, marks-along, marks-against}
 use Rattle.overlay_plane.proofs.EdgesOfSteps.{edge_by}
 use Rattle.overlay_plane.proofs.Entries.{Contains-map, Contains-from_map, Contains-from_any, any_of_entry}
-use Rattle.overlay_plane.proofs.MarkedLinks.{MakeMarks, make_after, only_entry, not_both}
+use Rattle.overlay_plane.proofs.MarkedLinks.{MakeMarks, make_after, only_entry, not_both, along_edge-back}
 use Rattle.overlay_plane.proofs.Totals.{Contains-head}
 
 module _ (old : List CountedEdge) where
@@ -117,3 +119,39 @@ module _ (old : List CountedEdge) where
     chains_make_marks marked_as d same = All-weaker (Contains new)
         (λ f. (mark d f ≡ true) ↔ IsMarkedBy marked_as rs old (ends_of f))
         (λ f c. (mark_given marked_as d same f c, given_mark marked_as d same f c)) new (All-contains_itself new)
+
+    -- ---- the chain of an edge with a mark
+
+    module _ (e : CountedEdge) (inside : Contains old e) (d : Bool) (has : mark d e ≡ true) where
+      -- a mark that the edge gives to a held link is one of each edge of the arrangement with its ends
+      has_mark : (marked_as : CountedEdge → Step → Bool) (b : Bool) →
+          ((e : CountedEdge) (s : Step) → marked_as e s ≡ marks b e s) → (s : Step) →
+          Contains (links e) (held s) → (g : CountedEdge) → Contains new g → ends_of g ≡ edge_of s →
+          marked_as e s ≡ true → mark b g ≡ true
+      has_mark marked_as b same s link g at ends given = marked_merged (after_rounds old rs) new merged b g at
+          (subst (HasMarked b (after_rounds old rs)) (sym ends)
+          (make.makes b e inside s link (sym (same e s) ∙ given)))
+
+      by_link : (t : Step) (l : ChainLink) → Contains (links e) l → step_of l ≡ t → IsMarkedStep new e t
+      by_link t (held s) link is =
+          let some = make.makes (along_edge (is_forward s) d) e inside s link
+          (ap (λ b. mark b e) (along_edge-back (is_forward s) d) ∙ has) in
+          let found = marked_held (after_rounds old rs) new merged (along_edge (is_forward s) d) (edge_of s) some in
+          subst (IsMarkedStep new e) is (record {
+            edge = found.0;
+            entry = found.1;
+            ends = found.2;
+            along = has_mark marks_along true marks-along s link found.0 found.1 found.2;
+            against = has_mark marks_against false marks-against s link found.0 found.1 found.2;
+          })
+      by_link t (dropped s) link is = absurd (both_ways (mark d e) (make.unmarked e inside s link d) has)
+
+      -- an edge of the arrangement runs along each of its steps
+      pub marked_step : (t : Step) → Contains (chain_through rs e) t → IsMarkedStep new e t
+      marked_step t c = let link = Contains-from_map step_of (links e) t c in by_link t link.0 link.1 link.2
+
+-- the law of the chains of edges with a mark
+pub marked_chains_stay : MarkedChainsStay
+marked_chains_stay rounds old new forward reached e inside marked =
+    ⊎_elim (marked_step old rounds new reached.cut reached.merged forward e inside true)
+    (marked_step old rounds new reached.cut reached.merged forward e inside false) marked

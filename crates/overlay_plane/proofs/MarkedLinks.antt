@@ -58,7 +58,7 @@ edge-by false s long = ap (λ t. edge_by t (reversed_step s)) (turns_round s lon
     by false = refl
 
 -- a direction along an edge and back is the direction
-along_edge-back : (t d : Bool) → along_edge t (along_edge t d) ≡ d
+pub along_edge-back : (t d : Bool) → along_edge t (along_edge t d) ≡ d
 along_edge-back true d = refl
 along_edge-back false true = refl
 along_edge-back false false = refl

@@ -25,6 +25,7 @@ pub mod Islands
 pub mod KeptContours
 pub mod Leftmost
 pub mod LeftmostSteps
+pub mod MarkedChains
 pub mod Meetings
 pub mod MinimumArea
 pub mod NextSteps

@@ -2,6 +2,7 @@
 
 ghost use Rattle.overlay_plane.specs.Arrangements.{ArrangementsHoldChains, WholeMeetingsAreExact};
 ghost use Rattle.overlay_plane.specs.Arrangements.{ArrangementsKeepBalance, ArrangedStaysArranged};
+ghost use Rattle.overlay_plane.specs.MarkedChains.{MarkedChainsStay};
 
 /// The chains of the edges keep their ends, stay near, and make the counts of the arrangement.
 pub fn arrangements_hold_chains()
@@ -22,4 +23,9 @@ pub fn arrangements_keep_balance()
 /// An arrangement of an arrangement is the same list.
 pub fn arranged_stays_arranged()
     ensures { ArrangedStaysArranged }
+{}
+
+/// An arrangement has an edge along each step of the chain of an edge with a mark, and it has the mark too.
+pub fn marked_chains_stay()
+    ensures { MarkedChainsStay }
 {}
