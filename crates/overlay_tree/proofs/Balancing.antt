@@ -6,7 +6,7 @@ use Rattle.overlay_tree.specs.declared.links.Side.{Side}
 use Rattle.overlay_tree.specs.declared.links.Side.TheVariants.{Left, Right}
 use Rattle.overlay_tree.specs.Sides.{opposite}
 use Rattle.overlay_tree.specs.Trees.{Tree, items, height, fork_on, AreDistinct, AreParts, IsRebuilt}
-use Rattle.overlay_tree.specs.Trees.{IsSettled, IsTooHigh}
+use Rattle.overlay_tree.specs.Trees.{IsRebalanced, IsTooHigh}
 use Rattle.overlay_tree.proofs.Standing.{height_on, in_top, kept_more}
 use Rattle.overlay_tree.proofs.Rotations.{only}
 
@@ -30,7 +30,7 @@ parts_exchanged by ls side near far i a b parts = record {
 }
 
 pub settled_exchanged : (old new : List Links) (root : Option NodeIndex) (side : Side) (i : ℕ) (a b : Tree) →
-    IsSettled old new root (opposite side) b i a → IsSettled old new root side a i b
+    IsRebalanced old new root (opposite side) b i a → IsRebalanced old new root side a i b
 settled_exchanged old new root side i a b s = record {
   tree = s.tree;
   rebuilt = subst (λ t. IsRebuilt (items t) old new root (items t) s.tree) (exchanged side a i b) s.rebuilt;
@@ -66,8 +66,8 @@ near_parts ls side near far i a b parts low high = record {
 }
 
 pub settled_at_once : (old new : List Links) (root : Option NodeIndex) (side : Side) (i : ℕ) (a b : Tree) →
-    IsRebuilt (i ∷ []) old new root (items (fork_on side a i b)) (fork_on side a i b) → IsSettled old new root side a i
-    b
+    IsRebuilt (i ∷ []) old new root (items (fork_on side a i b)) (fork_on side a i b) →
+    IsRebalanced old new root side a i b
 settled_at_once old new root side i a b made = record {
   tree = fork_on side a i b;
   rebuilt = record {

@@ -2,12 +2,13 @@
 use Rattle.std.proofs.Common.{◌≡◌, ⊎_elim, ℕ, zero, suc, ◌+◌, ◌*◌, ◌^◌, ◌<◌, ◌≤◌, ◌∷◌, length, arith}
 use Rattle.std.proofs.lemmas.Bool.{cases_lt}
 use Rattle.std.proofs.lemmas.List.{length-append}
-use Rattle.overlay_tree.specs.Trees.{Tree, Leaf, Fork, items, height, IsBalanced}
+use Rattle.overlay_tree.specs.Trees.{Tree, Leaf, Fork, items, height, IsHeightBalanced}
 
 pow_next : (n : ℕ) → 2 ^ suc n ≡ 2 * 2 ^ n
 pow_next n = omega arith
 
-pub low_height : (digits : ℕ) (t : Tree) → IsBalanced t → length (items t) + 1 < 2 ^ digits → height t ≤ 2 * digits
+pub low_height : (digits : ℕ) (t : Tree) → IsHeightBalanced t → length (items t) + 1 < 2 ^ digits →
+    height t ≤ 2 * digits
 low_height digits Leaf bal few = omega arith
 low_height zero (Fork l i r) bal few = absurd (omega arith)
 low_height (suc digits) (Fork l i r) bal few =

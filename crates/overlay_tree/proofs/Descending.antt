@@ -1,5 +1,6 @@
 -- One step of the way down: a side of a node was gone down, and the node is put above what is left of it.
-use Rattle.std.proofs.Common.{◌≡◌, ◌⊎◌, ⊎_elim, inl, inr, Bool, true, false, not, ℕ, ℤ, ◌<◌, ◌≤◌, int_lt, List, [], ◌∷◌, ◌++◌}
+use Rattle.std.proofs.Common.{◌≡◌, ◌⊎◌, ⊎_elim, inl, inr, Bool, true, false, not, ℕ, ℤ, ◌<◌, ◌≤◌, int_lt, List, [], ◌∷◌}
+use Rattle.std.proofs.Common.{◌++◌}
 use Rattle.std.proofs.Common.{length, slice_get, Option, None, Some, refl, sym, ap, subst, ◌∙◌, arith}
 use Rattle.std.specs.Ordering.{is_gt}
 use Rattle.std.specs.declared.cmp.Ordering.{Ordering}
@@ -21,9 +22,11 @@ use Rattle.overlay_tree.specs.declared.links.Side.{Side}
 use Rattle.overlay_tree.specs.declared.links.Side.TheVariants.{Left, Right}
 use Rattle.overlay_tree.specs.Descents.{live_entries, alone, CanDescend, side_of, passed_on, end_above, Tells, IsParted}
 use Rattle.overlay_tree.specs.Descents.{IsExchanged, IsDropped, IsPassed, IsEndOf}
-use Rattle.overlay_tree.specs.Trees.{Tree, Leaf, Fork, root_of, items, height, fork_on, IsBalanced, AreDistinct, AreParts, IsIn, Stands}
-use Rattle.overlay_tree.specs.Trees.{IsTreeAt, IsSettled, IsReplaced}
-use Rattle.overlay_tree.proofs.Distinct.{AreApart, in_left, in_right, in_either, distinct_left, distinct_right, distinct_apart}
+use Rattle.overlay_tree.specs.Trees.{Tree, Leaf, Fork, root_of, items, height, fork_on, IsHeightBalanced, AreDistinct}
+use Rattle.overlay_tree.specs.Trees.{AreParts, IsIn, Stands}
+use Rattle.overlay_tree.specs.Trees.{IsTreeAt, IsRebalanced, IsReplaced}
+use Rattle.overlay_tree.proofs.Distinct.{AreApart, in_left, in_right, in_either, distinct_left, distinct_right}
+use Rattle.overlay_tree.proofs.Distinct.{distinct_apart}
 use Rattle.overlay_tree.proofs.Distinct.{distinct_joined}
 use Rattle.overlay_tree.proofs.Standing.{parts_apart, in_near, in_far, top_inside}
 use Rattle.overlay_tree.proofs.Replaced.{new_parts, new_replaced}
@@ -93,7 +96,7 @@ module _ (side : Side) (i : ℕ) (a b : Tree) (old between : List Links) (root p
   pub next_parts : AreParts 2 between side near i far below b
   next_parts = new_parts can.at ex.replaced far_is far_stands rest_apart inside new_distinct
 
-  pub exchanged_above : (new : List Links) (top : Option NodeIndex) → IsSettled between new top side below i b →
+  pub exchanged_above : (new : List Links) (top : Option NodeIndex) → IsRebalanced between new top side below i b →
       IsExchanged old new (fork_on side a i b) top out into (before_on side before i (items b))
       (after_on side after i (items b))
   exchanged_above new top settled = record {
@@ -220,7 +223,7 @@ module _ {I V : Type 0} (whole : I → ℤ) (post : List (IntPoint I) → Orderi
           (L (items b)) pass (all_before_pass passes (L (items b)) (plain_entry whole f) (L (items a)) front' pass))
 
       pub end_over : (e : End V) → IsEndOf whole post x es old between a put near e → (new : List Links)
-          (top : Option NodeIndex) → ((u : Tree) → AreParts 2 between side near i far u b → IsSettled between new top
+          (top : Option NodeIndex) → ((u : Tree) → AreParts 2 between side near i far u b → IsRebalanced between new top
           side u i b) →
           IsEndOf whole post x es old new (fork_on side a i b) put top (end_above side f.value e)
       end_over (Ended j) h new top settled = record {
@@ -284,7 +287,7 @@ root_alone : (put : Option NodeIndex) → put ≡ root_of (alone put)
 root_alone None = refl
 root_alone (Some i) = refl
 
-alone_balanced : (put : Option NodeIndex) → IsBalanced (alone put)
+alone_balanced : (put : Option NodeIndex) → IsHeightBalanced (alone put)
 alone_balanced None = tt
 alone_balanced (Some i) = (tt, tt, (omega arith, omega arith))
 

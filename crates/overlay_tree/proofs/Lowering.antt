@@ -5,7 +5,7 @@ use Rattle.overlay_tree.specs.declared.links.Links.{Links}
 use Rattle.overlay_tree.specs.declared.links.NodeIndex.{NodeIndex}
 use Rattle.overlay_tree.specs.declared.links.Side.{Side}
 use Rattle.overlay_tree.specs.Sides.{on, opposite}
-use Rattle.overlay_tree.specs.Trees.{Tree, root_of, items, height, fork_on, AreParts, IsRebuilt, IsSettled}
+use Rattle.overlay_tree.specs.Trees.{Tree, root_of, items, height, fork_on, AreParts, IsRebuilt, IsRebalanced}
 use Rattle.overlay_tree.specs.Trees.{IsTooHigh, IsIn}
 use Rattle.overlay_tree.proofs.Standing.{top_inside, all_inside, in_top}
 use Rattle.overlay_tree.proofs.Rotations.{IsOpened, opened, single_first, single_second, single_settled}
@@ -62,8 +62,8 @@ module _ {ls : List Links} {side : Side} {i j : NodeIndex} {top : Links} {high l
       pub settled_once : (l2 : List Links) → IsRebuilt (j.place ∷ []) l1 l2 (Some j)
           (items (fork_on side opening.near j.place (fork_on side opening.far i.place b)))
           (fork_on side opening.near j.place (fork_on side opening.far i.place b)) →
-          IsSettled ls l2 (Some j) side a i.place b
-      settled_once l2 second = subst (λ t. IsSettled ls l2 (Some j) side t i.place b) (sym opening.is)
+          IsRebalanced ls l2 (Some j) side a i.place b
+      settled_once l2 second = subst (λ t. IsRebalanced ls l2 (Some j) side t i.place b) (sym opening.is)
           (single_settled ls side i.place j.place high low outer inner opening.near opening.far b
           too_high_opened outer_root inner_root opening.near_stands opening.far_stands level l1
           (let same = first.kept.length_kept in let was = inside_top in omega arith) first l2 second)
@@ -127,8 +127,8 @@ module _ {ls : List Links} {side : Side} {i j : NodeIndex} {top : Links} {high l
             (fork_on side inner_opening.far i.place b)))
             (fork_on side (fork_on side opening.near j.place inner_opening.near) k.place
             (fork_on side inner_opening.far i.place b)) →
-            IsSettled ls l3 (Some k) side a i.place b
-        settled_twice l3 third = subst (λ t. IsSettled ls l3 (Some k) side t i.place b)
+            IsRebalanced ls l3 (Some k) side a i.place b
+        settled_twice l3 third = subst (λ t. IsRebalanced ls l3 (Some k) side t i.place b)
             (sym (opening.is ∙ ap (λ t. fork_on side opening.near j.place t) inner_opening.is))
             (double_settled ls side i.place j.place k.place high low outer near_k far_k opening.near
             inner_opening.near inner_opening.far b too_high_twice outer_root (v.near_k_is ∙ inner_opening.near_is)

@@ -7,12 +7,15 @@ use Rattle.overlay_tree.specs.declared.links.Links.{Links}
 use Rattle.overlay_tree.specs.declared.links.NodeIndex.{NodeIndex}
 use Rattle.overlay_tree.specs.declared.links.Side.{Side}
 use Rattle.overlay_tree.specs.declared.links.Side.TheVariants.{Left, Right}
-use Rattle.overlay_tree.specs.Trees.{Tree, Leaf, Fork, root_of, items, height, fork_on, AreDistinct, AreParts, IsIn, Stands}
-use Rattle.overlay_tree.specs.Trees.{DifferByAtMost, IsTreeAt, IsSettled, IsReplaced, IsFirstTaken}
+use Rattle.overlay_tree.specs.Trees.{Tree, Leaf, Fork, root_of, items, height, fork_on, AreDistinct, AreParts, IsIn}
+use Rattle.overlay_tree.specs.Trees.{Stands}
+use Rattle.overlay_tree.specs.Trees.{DifferByAtMost, IsTreeAt, IsRebalanced, IsReplaced, IsFirstTaken}
 use Rattle.overlay_tree.specs.Trees.{AreKeptBut, stored_height, height_in}
-use Rattle.overlay_tree.proofs.Distinct.{AreApart, in_left, in_right, in_either, distinct_left, distinct_right, distinct_apart}
+use Rattle.overlay_tree.proofs.Distinct.{AreApart, in_left, in_right, in_either, distinct_left, distinct_right}
+use Rattle.overlay_tree.proofs.Distinct.{distinct_apart}
 use Rattle.overlay_tree.proofs.Distinct.{distinct_joined}
-use Rattle.overlay_tree.proofs.Standing.{kept_more, kept_twice, still_stands, parts_apart, height_on, in_top, all_inside}
+use Rattle.overlay_tree.proofs.Standing.{kept_more, kept_twice, still_stands, parts_apart, height_on, in_top}
+use Rattle.overlay_tree.proofs.Standing.{all_inside}
 use Rattle.overlay_tree.proofs.Rotations.{IsOpened, opened, value_of, far_balanced, sides_differ}
 
 -- the top stores the height
@@ -56,7 +59,7 @@ module _ {side : Side} {i : ℕ} {a b : Tree} {old between : List Links} {root n
       }
 
   pub new_replaced : {after : List Links} {top : Option NodeIndex} (all : List ℕ) →
-      IsSettled between after top side new.tree i b → ((k : ℕ) → IsIn k changed → IsIn k all) →
+      IsRebalanced between after top side new.tree i b → ((k : ℕ) → IsIn k changed → IsIn k all) →
       ((k : ℕ) → IsIn k (items (fork_on side new.tree i b)) → IsIn k all) →
       IsReplaced all old after (fork_on side a i b) top (items (fork_on side new.tree i b))
   new_replaced all settled first second =
@@ -160,7 +163,7 @@ module _ {ls between : List Links} {i : ℕ} {l r : Tree} {root near far : Optio
   pub first_parts_left : AreParts 2 between Left near i far left r
   first_parts_left = new_parts {side = Left} at taken.replaced far_is at.stands.2 right_apart inside distinct_left_out
 
-  pub first_taken : {after : List Links} {top : Option NodeIndex} → IsSettled between after top Left left i r →
+  pub first_taken : {after : List Links} {top : Option NodeIndex} → IsRebalanced between after top Left left i r →
       IsFirstTaken ls after (Fork l i r) first top
   first_taken settled = record {
     others = items (Fork left i r);
@@ -218,7 +221,8 @@ module _ {ls between : List Links} {i : ℕ} {l r : Tree} {root left rest : Opti
           differ = (omega (arith, differ.0, differ.1, by.0, by.1), omega (arith, differ.0, differ.1, by.0, by.1));
         }
 
-    pub taken_out : {after : List Links} {top : Option NodeIndex} → IsSettled between after top Right others first l →
+    pub taken_out : {after : List Links} {top : Option NodeIndex} →
+        IsRebalanced between after top Right others first l →
         IsReplaced (items (Fork l i r)) ls after (Fork l i r) top (items l ++ items r)
     taken_out settled =
         let differ = at.balanced.2 in

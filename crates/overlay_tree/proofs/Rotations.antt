@@ -8,11 +8,13 @@ use Rattle.overlay_tree.specs.declared.links.NodeIndex.{NodeIndex}
 use Rattle.overlay_tree.specs.declared.links.Side.{Side}
 use Rattle.overlay_tree.specs.declared.links.Side.TheVariants.{Left, Right}
 use Rattle.overlay_tree.specs.Sides.{on, opposite}
-use Rattle.overlay_tree.specs.Trees.{Tree, Leaf, Fork, root_of, items, height, fork_on, DifferByAtMost, IsBalanced, IsIn}
-use Rattle.overlay_tree.specs.Trees.{AreDistinct, Stands, AreParts, IsRebuilt, IsSettled}
+use Rattle.overlay_tree.specs.Trees.{Tree, Leaf, Fork, root_of, items, height, fork_on, DifferByAtMost}
+use Rattle.overlay_tree.specs.Trees.{IsHeightBalanced, IsIn}
+use Rattle.overlay_tree.specs.Trees.{AreDistinct, Stands, AreParts, IsRebuilt, IsRebalanced}
 use Rattle.overlay_tree.specs.Trees.{IsTooHigh}
 use Rattle.overlay_tree.proofs.Distinct.{AreApart}
-use Rattle.overlay_tree.proofs.Standing.{kept_more, kept_twice, still_stands, in_near, in_far, in_top, parts_apart, height_on}
+use Rattle.overlay_tree.proofs.Standing.{kept_more, kept_twice, still_stands, in_near, in_far, in_top, parts_apart}
+use Rattle.overlay_tree.proofs.Standing.{height_on}
 
 -- ---- the top of a tree is read
 
@@ -67,15 +69,17 @@ opened ls side j top (Fork l i r) is at read =
     }
 
 -- the sides of a balanced tree are balanced
-pub near_balanced : (side : Side) (a : Tree) (i : ℕ) (b : Tree) → IsBalanced (fork_on side a i b) → IsBalanced a
+pub near_balanced : (side : Side) (a : Tree) (i : ℕ) (b : Tree) → IsHeightBalanced (fork_on side a i b) →
+    IsHeightBalanced a
 near_balanced Left a i b h = h.0
 near_balanced Right a i b h = h.1
 
-pub far_balanced : (side : Side) (a : Tree) (i : ℕ) (b : Tree) → IsBalanced (fork_on side a i b) → IsBalanced b
+pub far_balanced : (side : Side) (a : Tree) (i : ℕ) (b : Tree) → IsHeightBalanced (fork_on side a i b) →
+    IsHeightBalanced b
 far_balanced Left a i b h = h.1
 far_balanced Right a i b h = h.0
 
-pub sides_differ : (side : Side) (a : Tree) (i : ℕ) (b : Tree) → IsBalanced (fork_on side a i b) →
+pub sides_differ : (side : Side) (a : Tree) (i : ℕ) (b : Tree) → IsHeightBalanced (fork_on side a i b) →
     DifferByAtMost 1 (height a) (height b)
 sides_differ Left a i b h = h.2
 sides_differ Right a i b h = (h.2.1, h.2.0)
@@ -103,7 +107,7 @@ module _ (ls : List Links) (side : Side) (i j : ℕ) (high low outer inner : Opt
   abbrev whole : List ℕ
   whole = items (fork_on side (fork_on side c j d) i b)
 
-  abbrev bal : IsBalanced (fork_on side c j d)
+  abbrev bal : IsHeightBalanced (fork_on side c j d)
   bal = h.parts.near_balanced
 
   distinct_turned : AreDistinct (items (fork_on side c j (fork_on side d i b)))
@@ -154,7 +158,7 @@ module _ (ls : List Links) (side : Side) (i j : ℕ) (high low outer inner : Opt
       pub single_settled : (l2 : List Links) →
           IsRebuilt (j ∷ []) l1 l2 (Some (record { place = j })) (items (fork_on side c j (fork_on side d i b)))
           (fork_on side c j (fork_on side d i b)) →
-          IsSettled ls l2 (Some (record { place = j })) side (fork_on side c j d) i b
+          IsRebalanced ls l2 (Some (record { place = j })) side (fork_on side c j d) i b
       single_settled l2 second =
           let two = h.two_higher in
           let up = height_on side c j d in
@@ -200,10 +204,10 @@ module _ (ls : List Links) (side : Side) (i j k : ℕ) (high low outer near_k fa
   abbrev all : List ℕ
   all = items (fork_on side (fork_on side c j (fork_on side e k f)) i b)
 
-  abbrev bal_j : IsBalanced (fork_on side c j (fork_on side e k f))
+  abbrev bal_j : IsHeightBalanced (fork_on side c j (fork_on side e k f))
   bal_j = h.parts.near_balanced
 
-  abbrev bal_k : IsBalanced (fork_on side e k f)
+  abbrev bal_k : IsHeightBalanced (fork_on side e k f)
   bal_k = far_balanced side c j (fork_on side e k f) bal_j
 
   all_distinct : AreDistinct (items (fork_on side (fork_on side c j e) k (fork_on side f i b)))
@@ -286,7 +290,7 @@ module _ (ls : List Links) (side : Side) (i j k : ℕ) (high low outer near_k fa
           IsRebuilt (k ∷ []) l2 l3 (Some (record { place = k }))
           (items (fork_on side (fork_on side c j e) k (fork_on side f i b)))
           (fork_on side (fork_on side c j e) k (fork_on side f i b)) →
-          IsSettled ls l3 (Some (record { place = k })) side (fork_on side c j (fork_on side e k f)) i b
+          IsRebalanced ls l3 (Some (record { place = k })) side (fork_on side c j (fork_on side e k f)) i b
       double_settled l3 third =
           let two = h.two_higher in
           let up = height_on side c j (fork_on side e k f) in

@@ -8,7 +8,8 @@ use Rattle.overlay_tree.specs.declared.links.Links.{Links}
 use Rattle.overlay_tree.specs.declared.links.Side.{Side}
 use Rattle.overlay_tree.specs.declared.links.Side.TheVariants.{Left, Right}
 use Rattle.overlay_tree.specs.Sides.{linked}
-use Rattle.overlay_tree.specs.Trees.{Tree, Leaf, Fork, root_of, items, height, fork_on, DifferByAtMost, IsBalanced, IsIn}
+use Rattle.overlay_tree.specs.Trees.{Tree, Leaf, Fork, root_of, items, height, fork_on, DifferByAtMost}
+use Rattle.overlay_tree.specs.Trees.{IsHeightBalanced, IsIn}
 use Rattle.overlay_tree.specs.Trees.{AreDistinct, Stands, AreParts, AreKeptBut, IsRebuilt}
 use Rattle.overlay_tree.proofs.Distinct.{AreApart, in_left, in_right, in_either, distinct_left, distinct_right}
 use Rattle.overlay_tree.proofs.Distinct.{distinct_apart, at_most}
@@ -131,8 +132,8 @@ pub height_on : (side : Side) (a : Tree) (i : ℕ) (b : Tree) → height (fork_o
 height_on Left a i b = refl
 height_on Right a i b = omega arith
 
-pub balanced_on : (side : Side) (a : Tree) (i : ℕ) (b : Tree) → IsBalanced a → IsBalanced b →
-    DifferByAtMost 1 (height a) (height b) → IsBalanced (fork_on side a i b)
+pub balanced_on : (side : Side) (a : Tree) (i : ℕ) (b : Tree) → IsHeightBalanced a → IsHeightBalanced b →
+    DifferByAtMost 1 (height a) (height b) → IsHeightBalanced (fork_on side a i b)
 balanced_on Left a i b bal_a bal_b near = (bal_a, bal_b, near)
 balanced_on Right a i b bal_a bal_b near = (bal_b, bal_a, (near.1, near.0))
 

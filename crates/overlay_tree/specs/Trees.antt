@@ -1,5 +1,6 @@
 -- Binary trees of nodes, which are named by their places in a list, and how a tree stands there.
-use Rattle.std.specs.Prelude.{◌≡◌, ◌⊎◌, ℕ, ◌+◌, ◌≤◌, ◌<◌, max, List, [], ◌∷◌, ◌++◌, Option, Some, None, slice_get, length}
+use Rattle.std.specs.Prelude.{◌≡◌, ◌⊎◌, ℕ, ◌+◌, ◌≤◌, ◌<◌, max, List, [], ◌∷◌, ◌++◌, Option, Some, None, slice_get}
+use Rattle.std.specs.Prelude.{length}
 use Rattle.overlay_tree.specs.declared.links.Links.{Links}
 use Rattle.overlay_tree.specs.declared.links.NodeIndex.{NodeIndex}
 use Rattle.overlay_tree.specs.declared.links.Side.{Side}
@@ -33,9 +34,9 @@ abbrev pub DifferByAtMost : ℕ → ℕ → ℕ → Type 0
 DifferByAtMost by m n = (m ≤ n + by) × (n ≤ m + by)
 
 -- at each node the heights of the two sides differ by at most one
-abbrev pub IsBalanced : Tree → Type 0
-IsBalanced Leaf = Unit {0}
-IsBalanced (Fork l i r) = IsBalanced l × IsBalanced r × DifferByAtMost 1 (height l) (height r)
+abbrev pub IsHeightBalanced : Tree → Type 0
+IsHeightBalanced Leaf = Unit {0}
+IsHeightBalanced (Fork l i r) = IsHeightBalanced l × IsHeightBalanced r × DifferByAtMost 1 (height l) (height r)
 
 -- ---- nodes without repetition
 
@@ -64,7 +65,7 @@ pub record IsTreeAt (ls : List Links) (root : Option NodeIndex) (t : Tree) : Typ
   pub is_root : root ≡ root_of t
   pub stands : Stands ls t
   pub distinct : AreDistinct (items t)
-  pub balanced : IsBalanced t
+  pub balanced : IsHeightBalanced t
 
 -- two trees stand, which with one more node between them have no node twice; their heights differ by no more than this
 pub record AreParts (by : ℕ) (ls : List Links) (side : Side) (near : Option NodeIndex) (i : ℕ) (far : Option NodeIndex)
@@ -73,8 +74,8 @@ pub record AreParts (by : ℕ) (ls : List Links) (side : Side) (near : Option No
   pub far_is : far ≡ root_of b
   pub near_stands : Stands ls a
   pub far_stands : Stands ls b
-  pub near_balanced : IsBalanced a
-  pub far_balanced : IsBalanced b
+  pub near_balanced : IsHeightBalanced a
+  pub far_balanced : IsHeightBalanced b
   pub distinct : AreDistinct (items (fork_on side a i b))
   pub inside : i < length ls
   pub differ : DifferByAtMost by (height a) (height b)
@@ -103,7 +104,7 @@ pub record IsHeightAfter (m n h : ℕ) : Type 0 where
 
 -- in place of two trees and a node between them, another tree of the same nodes stands at the root, and no other links
 -- have changed
-pub record IsSettled (old new : List Links) (root : Option NodeIndex) (side : Side) (a : Tree) (i : ℕ)
+pub record IsRebalanced (old new : List Links) (root : Option NodeIndex) (side : Side) (a : Tree) (i : ℕ)
     (b : Tree) : Type 0 where
   pub tree : Tree
   pub rebuilt : IsRebuilt (items (fork_on side a i b)) old new root (items (fork_on side a i b)) tree

@@ -1,7 +1,7 @@
 //! How a tree is balanced again, by links and heights alone.
 
 ghost use Rattle.std.specs.Prelude.{◌≡◌};
-ghost use Rattle.overlay_tree.specs.Trees.{Tree, AreParts, HasParts, IsTooHigh, IsSettled};
+ghost use Rattle.overlay_tree.specs.Trees.{Tree, AreParts, HasParts, IsTooHigh, IsRebalanced};
 
 use crate::links::{NodeIndex, Side};
 use crate::nodes::ScanNodes;
@@ -20,7 +20,7 @@ impl<I: IntNumber, V: Copy, A: Allocator> ScanNodes<I, V, A> {
     ) -> Option<NodeIndex>
         requires { HasParts 2 self.old.links side near i.place far }
         ensures tree { (a b : _) → AreParts 2 self.old.links side near i.place far a b
-            → IsSettled self.old.links self.new.links result side a i.place b }
+            → IsRebalanced self.old.links self.new.links result side a i.place b }
         ensures entries { self.new.entries ≡ self.old.entries }
         ensures visits { self.new.visits ≡ self.old.visits }
     {
@@ -46,7 +46,7 @@ impl<I: IntNumber, V: Copy, A: Allocator> ScanNodes<I, V, A> {
     ) -> Option<NodeIndex>
         requires { (a : Tree) × (b : Tree) × IsTooHigh self.old.links side high i.place low a b }
         ensures tree { (a b : _) → IsTooHigh self.old.links side high i.place low a b
-            → IsSettled self.old.links self.new.links result side a i.place b }
+            → IsRebalanced self.old.links self.new.links result side a i.place b }
         ensures entries { self.new.entries ≡ self.old.entries }
         ensures visits { self.new.visits ≡ self.old.visits }
     {

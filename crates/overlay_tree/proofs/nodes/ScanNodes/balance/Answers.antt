@@ -1,7 +1,7 @@
 -- Turned where one side is too high by one, and else only linked.
 use Rattle.std.proofs.Common.{Some, sym, subst, arith}
 use Rattle.overlay_tree.specs.Sides.{opposite}
-use Rattle.overlay_tree.specs.Trees.{IsTooHigh, IsSettled}
+use Rattle.overlay_tree.specs.Trees.{IsTooHigh, IsRebalanced}
 use Rattle.overlay_tree.proofs.Balancing.{parts_exchanged, settled_exchanged, too_high, near_parts, settled_at_once}
 use Rattle.overlay_tree.proofs.Standing.{top_inside}
 use Rattle.overlay_tree.proofs.nodes.ScanNodes.balance.Goals as goal
@@ -23,8 +23,8 @@ returns-then-saturating_sub-gt1-2-clause-tree g c a b parts =
     (parts_exchanged 2 ls c.args.side c.args.near c.args.far i a b parts) (omega arith) (omega arith) in
     settled_exchanged ls c.lower-then-saturating_sub-gt1-2.new.self.links c.lower-then-saturating_sub-gt1-2.result
     c.args.side i a b
-    (subst (λ s. IsSettled ls c.lower-then-saturating_sub-gt1-2.new.self.links c.lower-then-saturating_sub-gt1-2.result
-    s b i a)
+    (subst (λ s. IsRebalanced ls c.lower-then-saturating_sub-gt1-2.new.self.links
+    c.lower-then-saturating_sub-gt1-2.result s b i a)
     c.other.ensures
     (c.lower-then-saturating_sub-gt1-2.ensures.tree b a
     (subst (λ s. IsTooHigh ls s c.args.far i c.args.near b a) (sym c.other.ensures) high)))
