@@ -1,5 +1,12 @@
 pub mod AscendingLists
+pub mod Axes
+pub mod Borders
 pub mod Boxes
+pub mod CoveredLines
 pub mod FrontPlaces
 pub mod LinesAcross
+pub mod LinesByChains
+pub mod LinesGoOn
 pub mod Multiples
+pub mod Strips
+pub mod TilesRefused
