@@ -1,30 +1,15 @@
 -- Each of the shapes to which contours of slices are bound is an outline with its holes.
-use Rattle.std.proofs.Common.{◌≡◌, ℕ, ◌<◌, Bool, true, false, ◌&&◌, List, [], ◌∷◌, ◌++◌, map, All, Contains, Option}
-use Rattle.std.proofs.Common.{Some, None, refl, sym, ap, ◌∙◌, subst, arith}
-use Rattle.std.specs.Prelude.{slice_index_or}
-use Rattle.std.specs.List.{filter, flat_map, slice_get}
-use Rattle.std.specs.List.Sorted.{IsPermutation}
+use Rattle.std.proofs.Common.{◌≡◌, ℕ, Bool, true, false, ◌&&◌, List, [], ◌∷◌, ◌++◌, All, Contains, refl, subst}
+use Rattle.std.specs.List.{filter, flat_map}
 use Rattle.std.proofs.lemmas.Bool.{and_parts, false≢true}
 use Rattle.std.proofs.lemmas.List.Elements.{All-nil, All-cons, All-map, All-append}
-use Rattle.std.proofs.lemmas.List.Folds.{flat_map-map}
-use Rattle.std.proofs.lemmas.Option.{none-some}
-use Rattle.overlay_geom.specs.Plane.{Point, Step, points_of}
+use Rattle.overlay_geom.specs.Plane.{Step}
 use Rattle.overlay_geom.proofs.Entries.{Contains-head, Contains-later}
-use Rattle.overlay_plane.specs.Binding.{is_number, walks_of}
-use Rattle.overlay_plane.specs.BoundContours.{BoundContour, walks_in, contours_bound, shapes_bound, own_holes}
-use Rattle.overlay_plane.specs.BoundContours.{found_holes, shape_begun_by, AreShapesFound, NoHoleIsLost}
-use Rattle.overlay_plane.specs.ContourNumbers.{AreNumbers, outline_count}
-use Rattle.overlay_plane.specs.RoledContours.{Role, outline, own_hole, free_hole, Contour, stands_in, is_outline}
-use Rattle.overlay_plane.specs.RoledContours.{is_own_hole_of, is_free_hole}
-use Rattle.overlay_plane.specs.Turn.{Hand}
-use Rattle.overlay_plane.proofs.BoundShapes.{number_by, is_lost, parts_split, parts_alike}
-use Rattle.overlay_plane.proofs.BoundSteps.{bound_again, bound_at}
-use Rattle.overlay_plane.proofs.ContourNumbers.{number_counted}
-use Rattle.overlay_plane.proofs.Entries.{all_of_entries, Contains-from_filter, Contains-map}
-use Rattle.overlay_plane.proofs.FoundNumbers.{number_found}
-use Rattle.overlay_plane.proofs.PlacesOfContours.{Contains-place}
-use Rattle.overlay_plane.proofs.RoledWalks.{some-same}
-use Rattle.overlay_plane.proofs.ShapeSteps.{single_parts}
+use Rattle.overlay_plane.specs.Binding.{is_number}
+use Rattle.overlay_plane.specs.BoundContours.{BoundContour, shapes_bound, own_holes, found_holes, shape_begun_by}
+use Rattle.overlay_plane.specs.RoledContours.{Role, outline, own_hole, free_hole, is_outline, is_own_hole_of}
+use Rattle.overlay_plane.specs.RoledContours.{is_free_hole}
+use Rattle.overlay_plane.proofs.Entries.{all_of_entries, Contains-from_filter}
 
 -- the first walk is an outline by what is said of outlines and holes, and the others are holes
 abbrev pub IsBegun : (Bool → List Step → Type 0) → List (List Step) → Type 0
