@@ -1,0 +1,323 @@
+#!/usr/bin/env python3
+"""Feeds the program polyover with inputs by families, and checks its answers by properties (`checks.py`).
+
+    fuzz.py --program PROGRAM --minutes N [--seed N] [--family NAME ..] [--findings FOLDER]
+
+Each case is a number: `--case N` runs the one alone. A run has SECONDS and MEMORY. What fails is printed with the
+number of its case, and its input is left in FOLDER. The status is 1 where anything failed.
+"""
+
+import argparse
+import resource
+import subprocess
+import sys
+import time
+from collections import Counter
+from pathlib import Path
+from random import Random
+
+from build import add_program_option, program_of
+from checks import (
+    Wrong,
+    area_in,
+    area_of,
+    begun_anew,
+    check_arrangement,
+    check_links,
+    check_pieces,
+    check_relations,
+    check_shapes,
+    check_simple,
+    contours_in,
+    fills_of,
+    first_bad_line,
+    first_unresolved,
+    locations_in,
+    must,
+    path_of,
+    shapes_of,
+    steps_in,
+)
+from families import GEOMETRY, Figures
+from plane import FILL_RULES, OVERLAY_RULES
+
+SECONDS = 20
+MEMORY = 2**30
+UNSETTLED = (1, b"refused E2\n")
+
+
+class Program:
+    """The program, which is run on inputs; it counts the runs and keeps the last input."""
+
+    def __init__(self, path):
+        self.path = path
+        self.runs = 0
+        self.slowest = 0.0
+        self.last = b""
+
+    def end_of(self, data):
+        """Status, output and words of a run, which ends in time and never by a signal."""
+        self.runs, self.last, begun = self.runs + 1, data, time.monotonic()
+        try:
+            ran = subprocess.run([self.path], input=data, capture_output=True, timeout=SECONDS, check=False)
+        except subprocess.TimeoutExpired as late:
+            raise Wrong(f"no end after {SECONDS} seconds") from late
+        self.slowest = max(self.slowest, time.monotonic() - begun)
+        must(ran.returncode in (0, 1, 2, 3), f"status {ran.returncode}")
+        must(ran.returncode == 0 or not ran.stdout, "output without an answer")
+        must(bool(ran.stderr) == bool(ran.returncode), f"words {ran.stderr[:80]!r} at status {ran.returncode}")
+        return ran.returncode, ran.stdout, ran.stderr
+
+    def answer(self, lines, query):
+        """The answer to a query; none where splitting does not settle."""
+        status, written, said = self.end_of("\n".join([*lines, f"run {query}", ""]).encode())
+        if (status, said) == UNSETTLED:
+            return None
+        must(status == 0, f"status {status}, {said[:80]!r}")
+        return written.decode()
+
+
+# ---- geometry
+
+
+def lines_of(shapes):
+    """A subject line for each contour."""
+    return Figures(contours_in(shapes)).texts()
+
+
+def shuffled(figures, random):
+    """The same contours in another order, begun elsewhere."""
+
+    def turned(path):
+        start = random.randrange(len(path)) if path else 0
+        return path[start:] + path[:start]
+
+    both = (figures.subject, figures.clip)
+    subject, clip = ([turned(it) for it in random.sample(paths, len(paths))] for paths in both)
+    return Figures(subject, clip, figures.lines, figures.points).texts()
+
+
+def check_overlays(program, lines, fills, fill_rule, random):
+    """Each overlay by its windings, and their areas by one another; answers the areas, doubled."""
+    areas = {}
+    for rule in OVERLAY_RULES:
+        text = program.answer(lines, f"overlay {rule} {fill_rule}")
+        shapes = shapes_of(text)
+        check_shapes(shapes, fills, rule, 1, random)
+        areas[rule] = area_in(shapes)
+    must(areas["Intersect"] + areas["Difference"] == areas["Subject"], "A and B, A minus B")
+    must(areas["Intersect"] + areas["InverseDifference"] == areas["Clip"], "A and B, B minus A")
+    must(areas["Union"] + areas["Intersect"] == areas["Subject"] + areas["Clip"], "A or B, A and B")
+    must(areas["Xor"] == areas["Difference"] + areas["InverseDifference"], "A xor B")
+    return areas
+
+
+def check_options(program, lines, fills, fill_rule, random):
+    """One overlay with its options, and the overlay of its own answer."""
+    rule, least = random.choice(OVERLAY_RULES), random.choice((0, 1, 2, 5, 2**100))
+    asked = f"{rule} {fill_rule}"
+    options = ("", " keep", " ogc", " clockwise ogc", f" min {least}")
+    plain, kept, grouped, turned, large = (program.answer(lines, f"overlay {asked}{it}") for it in options)
+    shapes = shapes_of(plain)
+    for text, sign in ((kept, 1), (grouped, 1), (turned, -1)):
+        check_shapes(shapes_of(text), fills, rule, sign, random)
+    check_simple(shapes_of(grouped))
+    check_simple(shapes_of(turned))
+    kept_contours = [it for it in contours_in(shapes_of(kept)) if abs(area_of(it)) // 2 >= least]
+    must(len(contours_in(shapes_of(large))) <= len(kept_contours), "a contour below the minimum")
+    for option in ("", " ogc"):
+        hierarchy = program.answer(lines, f"hierarchy {asked}{option}")
+        same = grouped if option else plain
+        links = hierarchy[len(same):].splitlines()
+        must(hierarchy.startswith(same) and all(it.startswith("link") for it in links), "other shapes")
+        if option:
+            check_links(hierarchy, shapes_of(hierarchy))
+    for again in ("EvenOdd", "NonZero", "Positive"):
+        anew = shapes_of(program.answer(lines_of(shapes), f"overlay Subject {again}"))
+        must(begun_anew(anew) == begun_anew(shapes), f"its own answer, {again}")
+
+
+def check_relate(program, figures, lines, fills, fill_rule, areas):
+    """The relations, told of the contours and of the exchanged ones."""
+    exchanged = Figures(figures.clip, figures.subject).texts()
+    told = [program.answer(it, f"relate {fill_rule}") for it in (lines, exchanged)]
+    if None not in told:
+        rows = [dict(line.split() for line in text.splitlines()) for text in told]
+        rows = [{name: word == "true" for name, word in row.items()} for row in rows]
+        check_relations(rows[0], rows[1], areas, fills)
+
+
+def check_strings(program, figures, lines, fill_rule, area, random):
+    """Clips by their pieces, and slices by their windings and their area."""
+    inside, outside = ("", " boundary"), (" invert", " invert boundary")
+    clips = [[program.answer(lines, f"clip {fill_rule}{it}") for it in pair] for pair in (inside, outside)]
+    if None not in clips[0] + clips[1]:
+        check_pieces(*([[path_of(line) for line in text.splitlines()] for text in pair] for pair in clips))
+    text = program.answer(lines, f"slice {fill_rule}")
+    if text is None:
+        return
+    shapes = shapes_of(text)
+    check_simple(shapes)
+    if figures.is_exact:
+        must(area_in(shapes) == area, "the area of the slices")
+    whole = program.answer(lines_of(shapes), "edges Positive")
+    if shapes and whole is not None:
+        check_shapes(shapes, fills_of(whole), "Subject", 1, random)
+
+
+def check_points(program, figures, lines):
+    """Where points lie, or the first subject that is not resolved."""
+    bad, located = first_unresolved(figures), locations_in(figures.subject, figures.points)
+    for query in ("contains", "locate"):
+        status, written, said = program.end_of("\n".join([*lines, f"run {query}", ""]).encode())
+        if bad:
+            must((status, said) == (2, f"line {bad}: bad input\n".encode()), f"line {bad} is not resolved")
+            continue
+        must(status == 0, f"status {status}, {said[:80]!r}")
+        told = written.decode().split()
+        if query == "locate":
+            must(told == located, f"located {told} and not {located}")
+        else:
+            pairs = [it for it in zip(told, located, strict=True) if it[1] != "boundary"]
+            must(all((one == "true") == (other == "inside") for one, other in pairs), f"contained {told}")
+
+
+def check_geometry(program, family, random):
+    """All commands on the figures of a family; whether splitting settled."""
+    figures = GEOMETRY[family](random)
+    lines, fill_rule = figures.texts(), random.choice(FILL_RULES)
+    check_points(program, figures, lines)
+    text = program.answer(lines, f"edges {fill_rule}")
+    if text is None:
+        must(not figures.is_exact, "edges that meet in whole points do not settle")
+        return False
+    fills = fills_of(text)
+    check_arrangement(text, fills, (steps_in(figures.subject), steps_in(figures.clip)), fill_rule, figures, random)
+    must(program.answer(shuffled(figures, random), f"edges {fill_rule}") == text, "other edges of shuffled contours")
+    areas = check_overlays(program, lines, fills, fill_rule, random)
+    check_options(program, lines, fills, fill_rule, random)
+    check_relate(program, figures, lines, fills, fill_rule, areas)
+    check_strings(program, figures, lines, fill_rule, areas["Subject"], random)
+    return True
+
+
+# ---- lines
+
+
+PUT_IN = (b" ", b"-", b"+1", b"\r", b"\n", b"\r\n", b"\xff", b"\t", b"0", b"run ", b"\x00", b"ogc ", b"min ")
+NUMBERS = (2**62 - 1, 2**62, -(2**62), 2**63, 2**64, 10**40, 2**127 - 1, 2**127)
+OPTIONS = ("", " ogc", " min 3 keep", " clockwise")
+OF_RULES = [f"{rule} {fill}{option}" for rule in OVERLAY_RULES for fill in FILL_RULES for option in OPTIONS]
+OF_FILLS = [f"{name} {fill}" for name in ("edges", "relate", "slice", "clip") for fill in FILL_RULES]
+QUERIES = [*(f"{name} {it}" for name in ("overlay", "hierarchy") for it in OF_RULES), *OF_FILLS, "contains", "locate"]
+
+
+def spoiled(data, random):
+    """The input with some bytes changed, lost, doubled or put in."""
+    data = bytearray(data)
+    for _ in range(random.randint(1, 3)):
+        place = random.randrange(len(data) + 1)
+        how = random.randrange(5)
+        if how == 0:
+            data[place:place] = random.choice(PUT_IN)
+        elif how == 1:
+            del data[place:place + random.randint(1, 4)]
+        elif how == 2:
+            data[place:place] = data[place:place + random.randint(1, 30)]
+        elif how == 3:
+            data[place:place + 1] = bytes([random.randrange(256)])
+        else:
+            data[place:place] = str(random.choice(NUMBERS)).encode()
+    return bytes(data)
+
+
+def check_malformed(program, random):
+    """Spoiled lines: the first bad one is named, and good ones are answered, whatever their spaces and ends."""
+    figures = GEOMETRY[random.choice(("small_grid", "ends"))](random)
+    query = random.choice(QUERIES)
+    data = spoiled("\n".join([*figures.texts(), f"run {query}", ""]).encode(), random)
+    status, _, said = program.end_of(data)
+    bad = first_bad_line(data)
+    if bad:
+        is_named = (status, said) == (2, f"line {bad}: bad input\n".encode())
+        must(is_named, f"line {bad} is bad, and not {status}, {said[:80]!r}")
+    else:
+        # (a subject of these two may not be resolved)
+        is_of_points = data.rstrip(b" \r\n").endswith((b"contains", b"locate"))
+        must(status in (0, 1) or is_of_points, f"status {status}, {said[:80]!r}")
+    return True
+
+
+def check_huge(program, random):
+    """Long lines, many lines and huge numbers; answers where the program gives them in time."""
+    size = random.choice((10**3, 10**5, 10**6, 10**7))
+    word = random.choice(("subject", "clip", "line"))
+    make = random.randrange(6)
+    if make == 0:
+        data, bad = word.encode() + b" 0 0 4 0 4 4 0 4" * (size // 16) + b"\nrun overlay Union NonZero\n", None
+    elif make == 1:
+        data, bad = b"point 1 1\n" * min(size // 10, 10**5) + b"subject 0 0 9 0 0 9\nrun locate\n", None
+    elif make == 2:
+        data, bad = b"subject " + b"9" * size + b" 0\nrun edges NonZero\n", 1
+    elif make == 3:
+        data, bad = b"subject " + b"0" * size + b" 0 1 0 0 1\nrun edges NonZero\n", None
+    elif make == 4:
+        data, bad = b" " * size + b"\n" * min(size, 10**5) + b"run edges NonZero", None
+    else:
+        lefts = range(0, 5 * min(size // 20, 10**5), 5)
+        squares = b"".join(b"subject %d 0 %d 0 %d 4 %d 4\n" % (x, x + 4, x + 4, x) for x in lefts)
+        data, bad = squares + b"run overlay Union EvenOdd\n", None
+    status, _, said = program.end_of(data)
+    must((status, said) == ((2, b"line 1: bad input\n") if bad else (0, b"")), f"status {status}, {said[:80]!r}")
+    return True
+
+
+# ---- runs
+
+LINES = {"malformed": check_malformed, "huge": check_huge}
+CASES = [*GEOMETRY] * 20 + ["malformed"] * 60 + ["huge"]
+
+
+def run_case(program, seed, number, families):
+    """Runs one case, and answers its family and whether it settled."""
+    random = Random(f"{seed}/{number}")
+    family = random.choice([it for it in CASES if it in families])
+    if family in LINES:
+        return family, LINES[family](program, random)
+    return family, check_geometry(program, family, random)
+
+
+def main():
+    """Runs cases until the time is up, and tells what failed."""
+    parser = argparse.ArgumentParser(description=__doc__, formatter_class=argparse.RawDescriptionHelpFormatter)
+    add_program_option(parser)
+    parser.add_argument("--minutes", type=float, default=1, help="how long")
+    parser.add_argument("--seed", type=int, default=1)
+    parser.add_argument("--family", nargs="+", default=sorted(set(CASES)), choices=sorted(set(CASES)))
+    parser.add_argument("--case", type=int, help="one case alone")
+    parser.add_argument("--findings", type=Path, default=Path("findings"), help="a folder for inputs that fail")
+    given = parser.parse_args()
+    sys.set_int_max_str_digits(0)
+    # (a limit on this process is one on each program that it runs)
+    resource.setrlimit(resource.RLIMIT_AS, (MEMORY, MEMORY))
+    program, counts, failed = Program(program_of(parser, given)), Counter(), 0
+    ends, number = time.monotonic() + 60 * given.minutes, given.case or 0
+    while time.monotonic() < ends:
+        try:
+            family, settled = run_case(program, given.seed, number, given.family)
+            counts[family if settled else f"{family} unsettled"] += 1
+        except Exception as error:
+            failed += 1
+            given.findings.mkdir(parents=True, exist_ok=True)
+            (given.findings / f"{given.seed}_{number}.txt").write_bytes(program.last)
+            print(f"case {number}: {type(error).__name__} {error}", flush=True)
+        if given.case is not None:
+            break
+        number += 1
+    print(f"{number} cases, {program.runs} runs, the slowest {program.slowest:.1f} seconds, {failed} failed")
+    print("\n".join(f"  {name}: {count}" for name, count in sorted(counts.items())))
+    return 1 if failed else 0
+
+
+if __name__ == "__main__":
+    sys.exit(main())
