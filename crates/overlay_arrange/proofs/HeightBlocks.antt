@@ -16,7 +16,7 @@ use Rattle.overlay_geom.specs.Edges.{CountedEdge}
 use Rattle.overlay_geom.proofs.Entries.{some_entry}
 use Rattle.overlay_geom.proofs.Comparisons.{Decides-int_lt}
 use Rattle.overlay_geom.proofs.Signs.{linear}
-use Rattle.overlay_arrange.specs.Heights.{Span, span_of, spans_of, is_apart, AreApartFrom, AreBlocks, Covers, IsApart}
+use Rattle.overlay_arrange.specs.Heights.{Span, span_of, spans_of, is_apart, AreApartFrom, AreBlocks, Encloses, IsApart}
 use Rattle.overlay_arrange.specs.Heights.{IsInBlock, IsNextNear}
 use Rattle.overlay_arrange.specs.Meetings.{IsAt}
 use Rattle.overlay_arrange.proofs.GatheredMeetings.{one_entry}
@@ -24,17 +24,17 @@ use Rattle.overlay_arrange.proofs.GatheredMeetings.{one_entry}
 -- ---- covering
 
 -- a span covers itself
-pub covers_itself : (s : Span) → Covers s s
+pub covers_itself : (s : Span) → Encloses s s
 covers_itself s = record { low = omega linear; high = omega linear }
 
 -- what covers a span that covers a third one covers that one
-pub covers_through : (s t u : Span) → Covers s t → Covers t u → Covers s u
+pub covers_through : (s t u : Span) → Encloses s t → Encloses t u → Encloses s u
 covers_through s t u first second =
     let a = first.low in let b = second.low in let c = first.high in let d = second.high in
     record { low = omega linear; high = omega linear }
 
 -- what lies apart from a span lies apart from each one that this covers
-pub apart_under : (s t u : Span) → Covers t u → IsApart s t → IsApart s u
+pub apart_under : (s t u : Span) → Encloses t u → IsApart s t → IsApart s u
 apart_under s t u covers apart =
     by ((Decides-or _ _ (Decides-int_lt s.high t.low) (Decides-int_lt t.high s.low)).0 apart)
   where
@@ -58,8 +58,8 @@ pub block_passed : (spans blocks : List Span) (s block : Span) (from to : ℕ) �
     block ≡ get_or blocks (from / 16) block → IsApart s block → AreApartFrom spans s from to
 block_passed spans blocks s block from to cover one is apart = λ k t past less at_t.
     let covers = (cover k t block at_t).1 in
-    apart_under s block t (subst (λ (u : Span). Covers u t) (ap (λ n. get_or blocks n block) (one k past less) ∙ sym is)
-    covers) apart
+    apart_under s block t
+    (subst (λ (u : Span). Encloses u t) (ap (λ n. get_or blocks n block) (one k past less) ∙ sym is) covers) apart
 
 -- those at the front of a part of the list lie apart
 pub front_passed : (spans part : List Span) (s : Span) (from to count : ℕ) → part ≡ slice_range spans from to →
@@ -111,7 +111,7 @@ pub record AreBlocksUpTo (spans blocks : List Span) (i : ℕ) : Type 0 where
   pub enough : i ≤ length blocks * 16
   pub few : length blocks * 16 < i + 16
   pub cover : (k : ℕ) (s d : Span) → k < i → IsAt spans k s →
-      (k / 16 < length blocks) × Covers (get_or blocks (k / 16) d) s
+      (k / 16 < length blocks) × Encloses (get_or blocks (k / 16) d) s
 
 -- at first there are none
 pub no_blocks : (spans : List Span) → AreBlocksUpTo spans [] 0
@@ -149,21 +149,21 @@ module _ (spans blocks : List Span) (i : ℕ) (some : AreBlocksUpTo spans blocks
       next = let whole = div-add-mod i 16 in omega (arith, whole, begins, e, f)
 
       cover : (k : ℕ) (t d : Span) → k < i + 1 → IsAt spans k t →
-          (k / 16 < length (blocks ++ s ∷ [])) × Covers (get_or (blocks ++ s ∷ []) (k / 16) d) t
+          (k / 16 < length (blocks ++ s ∷ [])) × Encloses (get_or (blocks ++ s ∷ []) (k / 16) d) t
       cover k t d lt at_t = ⊎_elim here before (or_before k lt)
         where
-          here : k ≡ i → (k / 16 < length (blocks ++ s ∷ [])) × Covers (get_or (blocks ++ s ∷ []) (k / 16) d) t
+          here : k ≡ i → (k / 16 < length (blocks ++ s ∷ [])) × Encloses (get_or (blocks ++ s ∷ []) (k / 16) d) t
           here same =
               let place : length blocks ≡ k / 16 = next ∙ ap (λ n. n / 16) (sym same) in (
                 omega (arith, place, count),
-                subst (λ (u : Span). Covers u t) (sym (get_or_push blocks s d (k / 16) place))
-                    (subst (Covers s) (sym (is_s k t same at_t)) (covers_itself s)),
+                subst (λ (u : Span). Encloses u t) (sym (get_or_push blocks s d (k / 16) place))
+                    (subst (Encloses s) (sym (is_s k t same at_t)) (covers_itself s)),
               )
 
-          before : k < i → (k / 16 < length (blocks ++ s ∷ [])) × Covers (get_or (blocks ++ s ∷ []) (k / 16) d) t
+          before : k < i → (k / 16 < length (blocks ++ s ∷ [])) × Encloses (get_or (blocks ++ s ∷ []) (k / 16) d) t
           before less = let found = some.cover k t d less at_t in (
             (let inside = found.0 in omega (arith, inside, count)),
-            subst (λ (u : Span). Covers u t) (sym (get_or-append blocks (s ∷ []) d (k / 16) found.0)) found.1,
+            subst (λ (u : Span). Encloses u t) (sym (get_or-append blocks (s ∷ []) d (k / 16) found.0)) found.1,
           )
 
   -- where none begins, the place's block is the last one
@@ -176,7 +176,7 @@ module _ (spans blocks : List Span) (i : ℕ) (some : AreBlocksUpTo spans blocks
   -- and grows
   pub block_grown : (old block : Span) (news : List Span) → ¬ (i % 16 ≡ 0) → news ≡ set blocks (i / 16) block →
       old ≡ get_or blocks (i / 16) old →
-      Covers block old → Covers block s → AreBlocksUpTo spans news (i + 1)
+      Encloses block old → Encloses block s → AreBlocksUpTo spans news (i + 1)
   block_grown old block news goes_on news_are old_is of_old of_s =
       record { enough = omega (arith, count, e, whole, rest, goes_on, f); few = omega (arith, count, f); cover = cover }
     where
@@ -196,31 +196,31 @@ module _ (spans blocks : List Span) (i : ℕ) (some : AreBlocksUpTo spans blocks
       rest = mod-lt i {m = 16} (omega arith)
 
       cover : (k : ℕ) (t d : Span) → k < i + 1 → IsAt spans k t →
-          (k / 16 < length news) × Covers (get_or news (k / 16) d) t
+          (k / 16 < length news) × Encloses (get_or news (k / 16) d) t
       cover k t d lt at_t = ⊎_elim here before (or_before k lt)
         where
           read : get_or news (i / 16) d ≡ block
           read = ap (λ xs. get_or xs (i / 16) d) news_are ∙ get_or-set_same blocks (i / 16) block d (last_block goes_on)
 
-          here : k ≡ i → (k / 16 < length news) × Covers (get_or news (k / 16) d) t
+          here : k ≡ i → (k / 16 < length news) × Encloses (get_or news (k / 16) d) t
           here same =
               let place : k / 16 ≡ i / 16 = ap (λ n. n / 16) same in
               let inside = last_block goes_on in (
                 omega (arith, place, count, inside),
-                subst (λ (u : Span). Covers u t) (sym (ap (λ n. get_or news n d) place ∙ read))
-                    (subst (Covers block) (sym (is_s k t same at_t)) of_s),
+                subst (λ (u : Span). Encloses u t) (sym (ap (λ n. get_or news n d) place ∙ read))
+                    (subst (Encloses block) (sym (is_s k t same at_t)) of_s),
               )
 
-          before : k < i → (k / 16 < length news) × Covers (get_or news (k / 16) d) t
+          before : k < i → (k / 16 < length news) × Encloses (get_or news (k / 16) d) t
           before less = let found = some.cover k t d less at_t in (
             (let inside = found.0 in omega (arith, inside, count)),
             ⊎_elim (λ (same : k / 16 ≡ i / 16).
-                subst (λ (u : Span). Covers u t) (sym (ap (λ n. get_or news n d) same ∙ read))
-                (covers_through block old t of_old (subst (λ (u : Span). Covers u t)
+                subst (λ (u : Span). Encloses u t) (sym (ap (λ n. get_or news n d) same ∙ read))
+                (covers_through block old t of_old (subst (λ (u : Span). Encloses u t)
                 (ap (λ n. get_or blocks n d) same ∙ get_or_default blocks (i / 16) d old (last_block goes_on)
                 ∙ sym old_is) found.1)))
                 (λ (other : k / 16 ≢ i / 16).
-                subst (λ (u : Span). Covers u t)
+                subst (λ (u : Span). Encloses u t)
                 (sym (ap (λ xs. get_or xs (k / 16) d) news_are
                 ∙ get_or-set_other blocks (i / 16) (k / 16) block d other)) found.1)
                 (cases_eq (k / 16) (i / 16)),

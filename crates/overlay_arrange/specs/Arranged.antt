@@ -11,6 +11,10 @@ use Rattle.overlay_plane.specs.DerivedData.{AreDerived}
 use Rattle.overlay_plane.specs.Meetings.{MeetInWholePoints}
 use Rattle.overlay_plane.specs.Rounds.{Round, MovingRounds}
 
+-- so many times edges are cut at most, before they are given up as not settled
+abbrev pub most_rounds : ℕ
+most_rounds = 64
+
 -- the list is an arrangement already
 abbrev pub WasArranged : List CountedEdge → Type 0
 WasArranged es = (before : List CountedEdge) × (earlier : List Round) × IsReachedBy earlier before es

@@ -36,14 +36,14 @@ abbrev pub IsApart : Span → Span → Type 0
 IsApart s t = is_apart s t ≡ true
 
 -- the heights of the second span are among those of the first one
-pub record Covers (s t : Span) : Type 0 where
+pub record Encloses (s t : Span) : Type 0 where
   pub low : s.low ≤ℤ t.low
   pub high : t.high ≤ℤ s.high
 
 -- each of the spans is covered by that of its block of 16
 abbrev pub AreBlocks : List Span → List Span → Type 0
 AreBlocks spans blocks = (k : ℕ) (s d : Span) → IsAt spans k s →
-    (k / 16 < length blocks) × Covers (slice_index_or blocks (k / 16) d) s
+    (k / 16 < length blocks) × Encloses (slice_index_or blocks (k / 16) d) s
 
 -- the spans are those of the edges, and covered by those of their blocks
 pub record AreHeightsOf (es : List CountedEdge) (spans blocks : List Span) : Type 0 where

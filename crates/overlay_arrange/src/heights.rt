@@ -3,7 +3,7 @@
 
 ghost use Rattle.std.specs.Prelude.{◌≡◌, ◌≤◌, ◌<◌, ◌/◌, int_lt, cond, All, take, length, IfOk, IsOkUnless};
 ghost use Rattle.overlay_arrange.specs.Content.{plain_edge, plain_edges};
-ghost use Rattle.overlay_arrange.specs.Heights.{Covers, span_of, spans_of, plain_span, plain_spans};
+ghost use Rattle.overlay_arrange.specs.Heights.{Encloses, span_of, spans_of, plain_span, plain_spans};
 ghost use Rattle.overlay_arrange.specs.Heights.{is_apart, AreBlocks, AreHeightsOf, IsApart, IsNextNear, IsInBlock};
 
 use crate::count::EdgeCount;
@@ -174,8 +174,8 @@ fn heights_of_blocks<I: IntNumber, A: Allocator>(
 
 /// The heights of all that has these heights or those.
 fn joined<I: IntNumber>(h: Heights<I>, k: Heights<I>) -> Heights<I>
-    ensures first { Covers (plain_span I.whole result) (plain_span I.whole h) }
-    ensures second { Covers (plain_span I.whole result) (plain_span I.whole k) }
+    ensures first { Encloses (plain_span I.whole result) (plain_span I.whole h) }
+    ensures second { Encloses (plain_span I.whole result) (plain_span I.whole k) }
 {
     Heights {
         low: ordered(h.low, k.low).0,

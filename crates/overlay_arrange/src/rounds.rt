@@ -2,7 +2,8 @@
 
 ghost use Rattle.std.specs.Prelude.{◌≡◌, ◌≢◌, ◌↔◌, ◌^◌, false, []};
 ghost use Rattle.std.specs.Prelude.{Err, IfOk, IfErr, OnOk, IsErrOf};
-ghost use Rattle.overlay_arrange.specs.Arranged.{IsArranged, IsArrangedCarrying, IsSplitCarrying, MayRefuseSplitting};
+ghost use Rattle.overlay_arrange.specs.Arranged.{most_rounds, IsArranged, IsArrangedCarrying, IsSplitCarrying};
+ghost use Rattle.overlay_arrange.specs.Arranged.{MayRefuseSplitting};
 ghost use Rattle.overlay_plane.specs.Carried.{edges_in};
 ghost use Rattle.overlay_plane.specs.Arrangements.{IsReachedBy, IsSplit, StaysUnsettled, WeighsTooMuch};
 
@@ -12,7 +13,7 @@ use overlay_geom::error::OverlayError;
 use overlay_geom::number::IntNumber;
 use std::alloc::Allocator;
 
-// How often edges are cut before they are given up as not settled.
+// How often edges are cut before they are given up as not settled: `most_rounds`.
 const ROUNDS: u32 = 64;
 
 impl<I: IntNumber, C: EdgeCount, A: Allocator + Clone> Content<I, C, A> {
@@ -32,11 +33,11 @@ impl<I: IntNumber, C: EdgeCount, A: Allocator + Clone> Content<I, C, A> {
     /// What was arranged before is refused for want of memory alone; `NotSettled` does not come
     /// where edges meet only in whole points or overlap.
     pub fn arrange(&mut self, store: &mut C::Store) -> Result<bool, OverlayError>
-        ensures arranged { OnOk result (IsArranged 64 (edges_in self.old) (edges_in self.new)) }
-        ensures carried { OnOk result (IsArrangedCarrying C.merges C.splits C.reverses 64 self.old self.new) }
+        ensures arranged { OnOk result (IsArranged most_rounds (edges_in self.old) (edges_in self.new)) }
+        ensures carried { OnOk result (IsArrangedCarrying C.merges C.splits C.reverses most_rounds self.old self.new) }
         ensures cut { IfOk result (λ is_cut. (is_cut ≡ false)
             ↔ IsReachedBy [] (edges_in self.old) (edges_in self.new)) }
-        ensures err { IfErr result (MayRefuseSplitting 64 (edges_in self.old)) }
+        ensures err { IfErr result (MayRefuseSplitting most_rounds (edges_in self.old)) }
     {
         // (its contract says that the edges are in range, and weigh less than 2^31)
         self.note_limits();
