@@ -1,9 +1,13 @@
 //! Each shape by itself: its windings round the whole points of its box, counted from its steps alone.
 
-use crate::contours::Points;
+use crate::contours::{Points, shapes_of};
 use crate::rows::{Row, check, check_ogc};
 use i_overlay::fill_rule::FillRule;
 use i_overlay::overlay_rule::OverlayRule;
+use overlay_geom::error::OverlayError;
+use overlay_geom::path::{IntContour, IntShape};
+use overlay_geom::point::IntPoint;
+use std::alloc::Global;
 use std::test::Fail;
 
 // A point, with room for products.
@@ -31,8 +35,8 @@ const FOUR: Row<'static> = Row {
     ],
 };
 
-fn place_of(point: (i16, i16)) -> Place {
-    (i64::from(point.0), i64::from(point.1))
+fn place_of(point: IntPoint<i16>) -> Place {
+    (i64::from(point.x), i64::from(point.y))
 }
 
 // Above 0 where p lies on the left of the way from a to b.
@@ -60,7 +64,7 @@ fn passing(a: Place, b: Place, p: Place) -> i64 {
 }
 
 // The winding of a shape at p; none where p lies on an edge.
-fn winding(shape: &[Points<'_>], p: Place) -> Option<i64> {
+fn winding(shape: &[IntContour<i16, Global>], p: Place) -> Option<i64> {
     let mut sum = 0;
     for contour in shape {
         for at in 0..contour.len() {
@@ -76,11 +80,11 @@ fn winding(shape: &[Points<'_>], p: Place) -> Option<i64> {
 }
 
 // The least and the greatest x and y of the points, one wider on each side; none where that box is too wide.
-fn box_of(shapes: &[&[Points<'_>]]) -> Option<(Place, Place)> {
+fn box_of(shapes: &[IntShape<i16, Global>]) -> Option<(Place, Place)> {
     let (mut least, mut greatest) = ((0, 0), (0, 0));
     for shape in shapes {
-        for contour in *shape {
-            for point in *contour {
+        for contour in shape {
+            for point in contour {
                 let at = place_of(*point);
                 least = (at.0.min(least.0), at.1.min(least.1));
                 greatest = (at.0.max(greatest.0), at.1.max(greatest.1));
@@ -94,7 +98,7 @@ fn box_of(shapes: &[&[Points<'_>]]) -> Option<(Place, Place)> {
 }
 
 // How many of the shapes wind round p, each once in the output direction; none where one winds otherwise.
-fn count_round(shapes: &[&[Points<'_>]], once: i64, p: Place) -> Option<usize> {
+fn count_round(shapes: &[IntShape<i16, Global>], once: i64, p: Place) -> Option<usize> {
     let mut count = 0;
     for shape in shapes {
         match winding(shape, p) {
@@ -108,7 +112,7 @@ fn count_round(shapes: &[&[Points<'_>]], once: i64, p: Place) -> Option<usize> {
 
 /// Whether each of the shapes winds once, in the output direction, or zero times round each whole point off its edges in
 /// the box of all, and no two of them round one point; a box that is too wide is not looked at.
-pub(crate) fn are_alone(shapes: &[&[Points<'_>]], once: i64) -> bool {
+pub(crate) fn are_alone(shapes: &[IntShape<i16, Global>], once: i64) -> bool {
     let Some((least, end)) = box_of(shapes) else {
         return true;
     };
@@ -123,6 +127,15 @@ pub(crate) fn are_alone(shapes: &[&[Points<'_>]], once: i64) -> bool {
     true
 }
 
+/// The same of shapes by the coordinates of their points.
+pub(crate) fn rows_are_alone(
+    alloc: Global,
+    shapes: &[&[Points<'_>]],
+    once: i64,
+) -> Result<bool, OverlayError> {
+    Ok(are_alone(&shapes_of(alloc, shapes)?, once))
+}
+
 #[test]
 fn four_squares_are_four_shapes(rt: HostRuntime) -> Result<(), Fail> {
     check::<i16>(&rt, rt.alloc(), &FOUR)?;
@@ -134,12 +147,13 @@ fn four_squares_are_four_shapes(rt: HostRuntime) -> Result<(), Fail> {
 }
 
 #[test]
-fn windings_are_told_apart(rt: HostRuntime) {
+fn windings_are_told_apart(rt: HostRuntime) -> Result<(), Fail> {
     let square: Points<'static> = &[(0, 0), (6, 0), (6, 6), (0, 6)];
     let hole: Points<'static> = &[(2, 2), (2, 4), (4, 4), (4, 2)];
     let corner: Points<'static> = &[(3, 3), (8, 3), (8, 8), (3, 8)];
-    assert!(rt; are_alone(&[&[square, hole]], 1));
-    assert!(rt; !are_alone(&[&[square, hole]], -1));
-    assert!(rt; !are_alone(&[&[square], &[hole]], 1));
-    assert!(rt; !are_alone(&[&[square], &[corner]], 1));
+    assert!(rt; rows_are_alone(rt.alloc(), &[&[square, hole]], 1)?);
+    assert!(rt; !rows_are_alone(rt.alloc(), &[&[square, hole]], -1)?);
+    assert!(rt; !rows_are_alone(rt.alloc(), &[&[square], &[hole]], 1)?);
+    assert!(rt; !rows_are_alone(rt.alloc(), &[&[square], &[corner]], 1)?);
+    Ok(())
 }

@@ -8,6 +8,7 @@ mod deprecated;
 mod edges;
 mod failed;
 mod hierarchy;
+mod made;
 mod many;
 mod minimum;
 mod names;

@@ -1,6 +1,6 @@
 //! What is asked of overlays and what they are to answer, row by row.
 
-use crate::alone::are_alone;
+use crate::alone::rows_are_alone;
 use crate::builders::check_fills;
 use crate::contours::{Points, add_contours, shapes_of};
 use crate::trees::gives_shapes;
@@ -75,7 +75,7 @@ pub(crate) fn check<I: OverlayInt + PartialEq + From<i16>>(
     row: &Row<'_>,
 ) -> Result<(), Fail> {
     assert!(rt; holds::<I>(rt, alloc, row, IntOverlayOptions::default())?);
-    assert!(rt; are_alone(row.wanted, 1));
+    assert!(rt; rows_are_alone(alloc, row.wanted, 1)?);
     Ok(())
 }
 
@@ -90,7 +90,7 @@ pub(crate) fn check_clockwise<I: OverlayInt + PartialEq + From<i16>>(
         ..IntOverlayOptions::default()
     };
     assert!(rt; holds::<I>(rt, alloc, row, clockwise)?);
-    assert!(rt; are_alone(row.wanted, -1));
+    assert!(rt; rows_are_alone(alloc, row.wanted, -1)?);
     Ok(())
 }
 
@@ -101,7 +101,7 @@ pub(crate) fn check_kept<I: OverlayInt + PartialEq + From<i16>>(
     row: &Row<'_>,
 ) -> Result<(), Fail> {
     assert!(rt; holds::<I>(rt, alloc, row, IntOverlayOptions::keep_all_points())?);
-    assert!(rt; are_alone(row.wanted, 1));
+    assert!(rt; rows_are_alone(alloc, row.wanted, 1)?);
     Ok(())
 }
 
@@ -112,7 +112,7 @@ pub(crate) fn check_ogc<I: OverlayInt + PartialEq + From<i16>>(
     row: &Row<'_>,
 ) -> Result<(), Fail> {
     assert!(rt; holds::<I>(rt, alloc, row, IntOverlayOptions::ogc())?);
-    assert!(rt; are_alone(row.wanted, 1));
+    assert!(rt; rows_are_alone(alloc, row.wanted, 1)?);
     Ok(())
 }
 
@@ -127,7 +127,7 @@ pub(crate) fn check_ogc_clockwise<I: OverlayInt + PartialEq + From<i16>>(
         ..IntOverlayOptions::ogc()
     };
     assert!(rt; holds::<I>(rt, alloc, row, clockwise)?);
-    assert!(rt; are_alone(row.wanted, -1));
+    assert!(rt; rows_are_alone(alloc, row.wanted, -1)?);
     Ok(())
 }
 
