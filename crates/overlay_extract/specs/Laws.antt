@@ -1,14 +1,17 @@
 -- What holds of the overlays of one arrangement.
-use Rattle.std.specs.Prelude.{◌≡◌, ℕ, neg_ℤ, List, map}
-use Rattle.overlay_geom.specs.Plane.{Point, PlanePoint, IsOff, winding}
+use Rattle.std.specs.Prelude.{◌≡◌, ◌⊎◌, ℕ, pos, neg_ℤ, List, map, AllPairs}
+use Rattle.std.specs.List.{flat_map}
+use Rattle.overlay_geom.specs.Plane.{Point, PlanePoint, IsOff, steps_of, winding}
 use Rattle.overlay_geom.specs.Edges.{CountedEdge, ends_of, subj_of, clip_of}
 use Rattle.overlay_plane.specs.Balance.{HasBalancedCounts}
 use Rattle.overlay_plane.specs.ContourWindings.{wanted_winding}
+use Rattle.overlay_plane.specs.Islands.{ChildLink}
 use Rattle.overlay_plane.specs.ShapeWindings.{steps_of_shapes}
 use Rattle.overlay_arrange.specs.Arranged.{IsArranged}
 use Rattle.overlay_arrange.specs.Content.{IsContent}
 use Rattle.overlay_arrange.specs.declared.options.ContourDirection.{ContourDirection}
 use Rattle.overlay_arrange.specs.declared.options.ContourDirection.TheVariants.{CounterClockwise, Clockwise}
+use Rattle.overlay_extract.specs.PlacedResults.{IsHierarchy}
 use Rattle.overlay_extract.specs.Results.{Asked, region_asked, filled_asked, selected_of, IsResult}
 
 -- of an arrangement of edges with balanced counts, the selected steps wind once, in the output direction, round each
@@ -44,3 +47,19 @@ abbrev pub SameRegionSameWindings : Type 0
 SameRegionSameWindings = (q r : Asked) (es : List CountedEdge) (left right : List (List (List Point))) → AskAlike q r →
     q.min_output_area ≡ 0 → r.min_output_area ≡ 0 → IsResult q es left → IsResult r es right →
     (p : PlanePoint) → IsOff (map ends_of es) p → winding (steps_of_shapes right) p ≡ winding (steps_of_shapes left) p
+
+-- of two different shapes one winds zero times round the point
+abbrev pub NoTwoWindRound : List (List (List Point)) → PlanePoint → Type 0
+NoTwoWindRound shapes p =
+    AllPairs (λ s t. (winding (flat_map steps_of s) p ≡ pos 0) ⊎ (winding (flat_map steps_of t) p ≡ pos 0)) shapes
+
+-- with minimum area zero no two different shapes of a result both wind round a point off the edges
+abbrev pub NoTwoShapesWindRoundOnePoint : Type 0
+NoTwoShapesWindRoundOnePoint = (q : Asked) (es : List CountedEdge) (result : List (List (List Point))) →
+    q.min_output_area ≡ 0 → IsResult q es result → (p : PlanePoint) → IsOff (map ends_of es) p → NoTwoWindRound result p
+
+-- nor do two of a hierarchy
+abbrev pub NoTwoOfHierarchyWindRoundOnePoint : Type 0
+NoTwoOfHierarchyWindRoundOnePoint = (q : Asked) (es : List CountedEdge) (result : List (List (List Point)))
+    (links : List ChildLink) → q.min_output_area ≡ 0 → IsHierarchy q es result links → (p : PlanePoint) →
+    IsOff (map ends_of es) p → NoTwoWindRound result p
