@@ -1,19 +1,22 @@
 -- The vector shapes of an overlay: what contours that are kept and placed in shapes, each step with what its edge has,
 -- are.
-use Rattle.std.proofs.Common.{◌≡◌, ℕ, Bool, true, false, ℤ, ◌+ℤ◌, List, [], ◌∷◌, ◌++◌, map, All, Option, refl}
+use Rattle.std.proofs.Common.{◌≡◌, ⊎_elim, inl, inr, ℕ, Bool, true, false, ℤ, ◌+ℤ◌, List, [], ◌∷◌, ◌++◌, map, All}
+use Rattle.std.proofs.Common.{Option, refl}
 use Rattle.std.proofs.Common.{sym, ap, ap₂}
 use Rattle.std.proofs.Common.{subst, ◌∙◌}
 use Rattle.std.specs.List.{AllZip, flat_map}
 use Rattle.std.specs.List.Sorted.{IsPermutation}
 use Rattle.std.proofs.lemmas.Bool.{false≢true}
-use Rattle.std.proofs.lemmas.List.Elements.{All-head, All-tail}
+use Rattle.std.proofs.lemmas.List.Elements.{All-nil, All-cons, All-head, All-tail}
 use Rattle.overlay_geom.specs.Plane.{Point, PlanePoint, Step, steps_of, points_of, total}
 use Rattle.overlay_plane.specs.BoundContours.{AreShapesFound, contours_bound, shapes_bound}
 use Rattle.overlay_plane.specs.Carried.{Carried, edges_in}
 use Rattle.overlay_plane.specs.Contours.{IsContour}
 use Rattle.overlay_plane.specs.PlacedContours.{ArePlaced, walks_at}
 use Rattle.overlay_plane.specs.RoledContours.{Contour}
+use Rattle.overlay_plane.specs.ShapesAlone.{WindsOnceOrNot, EachWindsOnceOrNot}
 use Rattle.overlay_plane.specs.ShapeWindings.{points_of_shapes, steps_of_shapes, AreKeptOrThinned}
+use Rattle.overlay_plane.specs.Turn.{Hand}
 use Rattle.overlay_plane.proofs.AlongLines.{winding_part}
 use Rattle.overlay_plane.proofs.JoinedLists.{total-append}
 use Rattle.overlay_arrange.specs.declared.data.CountWithData.{CountWithData}
@@ -24,7 +27,7 @@ use Rattle.overlay_extract.proofs.PlacedShapes.{placed_have}
 use Rattle.overlay_vector.specs.DataVectors.{DataVector}
 use Rattle.overlay_vector.specs.Joining.{IsKeptOrJoined}
 use Rattle.overlay_vector.specs.VectorShapes.{step_along, steps_along, IsVectorAlong, IsVectorContour, AreVectorContours}
-use Rattle.overlay_vector.specs.VectorShapes.{AreVectorShapes}
+use Rattle.overlay_vector.specs.VectorShapes.{EachWindsOnceOrNotAlong, AreVectorShapes}
 use Rattle.overlay_vector.proofs.JoinedWindings.{winding_along, becomes_winds}
 
 -- shapes are kept as they are
@@ -109,6 +112,23 @@ module _ {D : Type 0} (reverses : D → D → Type 0) (eq : D → D → Bool) (r
         ∙ sym (total-append (winding_part p) (flat_map steps_of (map points_of w))
         (steps_of_shapes (points_of_shapes ws)))
 
+  -- so each shape by itself winds as the one that it shows
+  pub each_winds : (keep : Bool) (filled : Hand) (shapes : List (List (List Step)))
+      (result : List (List (List (DataVector D)))) → AreVectorContours reverses eq rule keep xs shapes result →
+      All (All IsContour) shapes → EachWindsOnceOrNot filled (points_of_shapes shapes) →
+      EachWindsOnceOrNotAlong filled result
+  each_winds keep filled [] [] is of alone =
+      All-nil (λ (shape : List (List (DataVector D))). WindsOnceOrNot filled (flat_map (map step_along) shape))
+  each_winds keep filled [] (r ∷ rs) is of alone = absurd is
+  each_winds keep filled (w ∷ ws) [] is of alone = absurd is
+  each_winds keep filled (w ∷ ws) (r ∷ rs) is of alone =
+      All-cons (λ shape. WindsOnceOrNot filled (flat_map (map step_along) shape)) r rs
+      (λ p. let same = shape_winds keep p w r is.0 (All-head (All IsContour) w ws of) in
+      ⊎_elim (λ once. inl (same ∙ once)) (λ none. inr (same ∙ none))
+      (All-head (λ shape. WindsOnceOrNot filled (flat_map steps_of shape)) (map points_of w) (points_of_shapes ws) alone p))
+      (each_winds keep filled ws rs is.1 (All-tail (All IsContour) w ws of)
+      (All-tail (λ shape. WindsOnceOrNot filled (flat_map steps_of shape)) (map points_of w) (points_of_shapes ws) alone))
+
 -- what is asked for, without groups
 abbrev pub without_groups : Asked → Asked
 without_groups q = record q { ogc = false }
@@ -136,6 +156,9 @@ vector_shapes_shown {D} reverses eq q xs contours kept shapes found places place
   winds = λ all p off. shapes_wind reverses eq q.fill xs q.preserve_output_collinear p bound result in_shapes are_contours
       ∙ (kept.whole all shapes found).winds true (shapes_found contours shapes)
       (kept_shapes (shapes_found contours shapes)) p;
+  each_alone = λ all. each_winds reverses eq q.fill xs q.preserve_output_collinear (filled_asked q) bound result in_shapes
+      are_contours ((kept.whole all shapes found).each_alone true (shapes_found contours shapes)
+      (kept_shapes (shapes_found contours shapes)));
 }
   where
     bound : List (List (List Step))

@@ -1,5 +1,5 @@
 -- The contours of an overlay as edges with filled sides and data, bound to shapes.
-use Rattle.std.specs.Prelude.{◌≡◌, ℕ, Bool, true, cond, ℤ, List, map, Contains, MatchBool, Option}
+use Rattle.std.specs.Prelude.{◌≡◌, ℕ, Bool, true, cond, ℤ, List, map, All, Contains, MatchBool, Option}
 use Rattle.std.specs.Prelude.{Vec}
 use Rattle.std.specs.List.{AllZip, flat_map}
 use Rattle.std.specs.List.Sorted.{IsPermutation}
@@ -8,7 +8,9 @@ use Rattle.overlay_geom.specs.Plane.{Step, edge_of, is_forward}
 use Rattle.overlay_plane.specs.BoundContours.{AreShapesFound, NoHoleIsLost, contours_bound, shapes_bound}
 use Rattle.overlay_plane.specs.Carried.{Carried, edges_in}
 use Rattle.overlay_plane.specs.RoledContours.{Contour, IsCut}
+use Rattle.overlay_plane.specs.ShapesAlone.{WindsOnceOrNot}
 use Rattle.overlay_plane.specs.ShapeWindings.{steps_of_shapes}
+use Rattle.overlay_plane.specs.Turn.{Hand}
 use Rattle.overlay_arrange.specs.Rules.{fill_bits}
 use Rattle.overlay_arrange.specs.declared.data.CountWithData.{CountWithData}
 use Rattle.overlay_arrange.specs.declared.fill_rule.FillRule.{FillRule}
@@ -34,6 +36,10 @@ step_along v = record { from = v.a; to = v.b }
 
 abbrev pub steps_along : {D : Type 0} → List (List (List (DataVector D))) → List Step
 steps_along shapes = flat_map (flat_map (map step_along)) shapes
+
+-- the edges of each shape wind once round each point of the plane, with their filled side by the hand, or zero times
+abbrev pub EachWindsOnceOrNotAlong : {D : Type 0} → Hand → List (List (List (DataVector D))) → Type 0
+EachWindsOnceOrNotAlong filled shapes = All (λ shape. WindsOnceOrNot filled (flat_map (map step_along) shape)) shapes
 
 -- v is the step s with what the edge has on which it walks: the sides that are filled, and the data, both as they are
 -- where s leads from the smaller end to the larger one, else turned round
@@ -85,3 +91,5 @@ pub record AreVectorShapes {D : Type 0} (reverses : D → D → Type 0) (eq : D 
       IsPermutation (selected_of q (edges_in xs)) (steps_along result)
   -- and round each point off the edges the result winds as asked
   pub winds : q.min_output_area ≡ 0 → WindsRoundRegion q (edges_in xs) (steps_along result)
+  -- and each shape by itself winds once, in the output direction, round a point, or zero times
+  pub each_alone : q.min_output_area ≡ 0 → EachWindsOnceOrNotAlong (filled_asked q) result
