@@ -144,7 +144,7 @@ fn counts_at(
     Ok(are_alone(&shapes, once).then_some(counts))
 }
 
-// Checks all inputs, with groups or without. That there are so many shapes and holes keeps the test from saying nothing.
+// Checks all inputs, with groups or without: there are so many shapes and holes that this says something.
 fn check(rt: &impl Abort, alloc: Global, ogc: bool) -> Result<(), Fail> {
     let (mut shapes, mut holes) = (0, 0);
     for n in 0..INPUTS {

@@ -125,9 +125,11 @@ module _ {D : Type 0} (reverses : D → D → Type 0) (eq : D → D → Bool) (r
       All-cons (λ shape. WindsOnceOrNot filled (flat_map (map step_along) shape)) r rs
       (λ p. let same = shape_winds keep p w r is.0 (All-head (All IsContour) w ws of) in
       ⊎_elim (λ once. inl (same ∙ once)) (λ none. inr (same ∙ none))
-      (All-head (λ shape. WindsOnceOrNot filled (flat_map steps_of shape)) (map points_of w) (points_of_shapes ws) alone p))
+      (All-head (λ shape. WindsOnceOrNot filled (flat_map steps_of shape)) (map points_of w) (points_of_shapes ws)
+      alone p))
       (each_winds keep filled ws rs is.1 (All-tail (All IsContour) w ws of)
-      (All-tail (λ shape. WindsOnceOrNot filled (flat_map steps_of shape)) (map points_of w) (points_of_shapes ws) alone))
+      (All-tail (λ shape. WindsOnceOrNot filled (flat_map steps_of shape)) (map points_of w) (points_of_shapes ws)
+      alone))
 
 -- what is asked for, without groups
 abbrev pub without_groups : Asked → Asked
@@ -156,8 +158,8 @@ vector_shapes_shown {D} reverses eq q xs contours kept shapes found places place
   winds = λ all p off. shapes_wind reverses eq q.fill xs q.preserve_output_collinear p bound result in_shapes are_contours
       ∙ (kept.whole all shapes found).winds true (shapes_found contours shapes)
       (kept_shapes (shapes_found contours shapes)) p;
-  each_alone = λ all. each_winds reverses eq q.fill xs q.preserve_output_collinear (filled_asked q) bound result in_shapes
-      are_contours ((kept.whole all shapes found).each_alone true (shapes_found contours shapes)
+  each_alone = λ all. each_winds reverses eq q.fill xs q.preserve_output_collinear (filled_asked q) bound result
+      in_shapes are_contours ((kept.whole all shapes found).each_alone true (shapes_found contours shapes)
       (kept_shapes (shapes_found contours shapes)));
 }
   where
