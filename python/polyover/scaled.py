@@ -1,0 +1,103 @@
+"""Floats on a grid of whole numbers, with a scale that is stated."""
+
+import warnings
+from fractions import Fraction
+
+from . import calls
+from .errors import BadInput, NotSettled
+from .shapes import Paths, Shapes
+from .text import LIMIT
+
+FINER = 1024
+
+
+class Scaled:
+    """Coordinates that are floats, taken as whole numbers: each less the origin's, times the scale, and rounded.
+
+    So a coordinate is taken at most half a unit from where it is, which is `lost` in the floats' own unit; an answer is
+    given back as the floats nearest to its whole points. The calls are those of the module. Where splitting does not
+    settle, a call is tried again at a scale 1,024 times as fine, as long as coordinates are in range, with a warning.
+    """
+
+    def __init__(self, scale, origin=(0, 0)):
+        self.scale = Fraction(scale)
+        if self.scale <= 0:
+            raise BadInput(f"the scale {scale} is not above 0")
+        self.origin = tuple(map(Fraction, origin))
+
+    @classmethod
+    def of_digits(cls, digits, origin=(0, 0)):
+        """With so many digits behind the decimal point."""
+        return cls(Fraction(10) ** digits, origin)
+
+    @property
+    def lost(self):
+        """How far from where it is a coordinate may be taken."""
+        return float(1 / (2 * self.scale))
+
+    def whole_point(self, point):
+        """The whole point of a point of floats."""
+        try:
+            return tuple(round((Fraction(value) - start) * self.scale) for value, start in zip(point[:2], self.origin))
+        except (TypeError, ValueError, OverflowError):
+            raise BadInput(f"{point!r} is no point of two finite numbers") from None
+
+    def whole(self, paths):
+        """Paths with whole points."""
+        return [[self.whole_point(point) for point in path] for path in paths]
+
+    def point(self, whole):
+        """The point of floats at a whole one."""
+        return tuple(float(value / self.scale + start) for value, start in zip(whole, self.origin))
+
+    def paths(self, paths):
+        """Paths with points of floats."""
+        return Paths([[self.point(whole) for whole in path] for path in paths])
+
+    def shapes(self, shapes):
+        """Shapes with points of floats."""
+        return Shapes([self.paths(shape) for shape in shapes])
+
+    def finer(self):
+        """The same at a scale 1,024 times as fine."""
+        return Scaled(self.scale * FINER, self.origin)
+
+    def _fits(self, *groups):
+        points = (self.whole_point(point) for paths in groups for path in paths for point in path)
+        return all(abs(value) <= LIMIT for point in points for value in point)
+
+    def _settled(self, call, *groups):
+        """What the call answers of the groups of paths with whole points, at the first scale at which it settles."""
+        try:
+            return call(self, *map(self.whole, groups))
+        except NotSettled:
+            finer = self.finer()
+            if not finer._fits(*groups):
+                raise
+            told = f"splitting did not settle at the scale {self.scale}: tried again at {finer.scale}"
+            warnings.warn(told, stacklevel=3)
+        return finer._settled(call, *groups)
+
+    def overlay(self, subject, clip=(), rule="union", fill="nonzero", **options):
+        """As `polyover.overlay`."""
+        return self._settled(lambda at, s, c: at.shapes(calls.overlay(s, c, rule, fill, **options)), subject, clip)
+
+    def simplify(self, subject, fill="nonzero", **options):
+        """As `polyover.simplify`."""
+        return self.overlay(subject, (), "subject", fill, **options)
+
+    def relate(self, subject, clip, fill="nonzero"):
+        """As `polyover.relate`."""
+        return self._settled(lambda at, s, c: calls.relate(s, c, fill), subject, clip)
+
+    def clip(self, shape, lines, fill="nonzero", **options):
+        """As `polyover.clip`."""
+        return self._settled(lambda at, s, l: at.paths(calls.clip(s, l, fill, **options)), shape, lines)
+
+    def slice(self, shape, lines, fill="nonzero"):
+        """As `polyover.slice`."""
+        return self._settled(lambda at, s, l: at.shapes(calls.slice(s, l, fill)), shape, lines)
+
+    def locate(self, shape, points):
+        """As `polyover.locate`."""
+        return calls.locate(self.whole(shape), self.whole([points])[0])

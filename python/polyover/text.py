@@ -1,0 +1,72 @@
+"""Inputs and answers of the program as text."""
+
+from operator import index
+
+from .errors import BadInput
+
+LIMIT = 2**62 - 1
+RULES = {
+    "subject": "Subject",
+    "clip": "Clip",
+    "intersect": "Intersect",
+    "union": "Union",
+    "difference": "Difference",
+    "inverse_difference": "InverseDifference",
+    "xor": "Xor",
+}
+FILLS = {"evenodd": "EvenOdd", "nonzero": "NonZero", "positive": "Positive", "negative": "Negative"}
+RELATIONS = ("intersects", "interiors_intersect", "touches", "point_intersects", "within", "disjoint", "covers")
+
+
+def word(words, name, what):
+    """The program's word for a rule."""
+    if name not in words:
+        raise BadInput(f"unknown {what} {name!r}: one of {', '.join(words)}")
+    return words[name]
+
+
+def coordinate(value):
+    """A whole number in the coordinate range."""
+    try:
+        number = index(value)
+    except TypeError:
+        raise BadInput(f"{value!r} is no whole number: Scaled takes floats") from None
+    if abs(number) > LIMIT:
+        raise BadInput(f"{number} is out of range: at most {LIMIT} from 0")
+    return number
+
+
+def lines_of(kind, paths):
+    """A line of an input for each path."""
+    return "".join(f"{kind}{''.join(f' {coordinate(x)} {coordinate(y)}' for x, y in path)}\n" for path in paths)
+
+
+def points_in(line):
+    """The points of a line of numbers."""
+    numbers = [int(each) for each in line.split()]
+    return list(zip(numbers[0::2], numbers[1::2]))
+
+
+def paths_in(answer):
+    """The paths of an answer."""
+    return [points_in(line) for line in answer.splitlines()]
+
+
+def shapes_in(answer):
+    """The shapes of an answer, each a list of contours, and its links."""
+    shapes, links = [], []
+    for line in answer.splitlines():
+        first, _, rest = line.partition(" ")
+        if first == "shape":
+            shapes.append([])
+        elif first == "link":
+            links.append(tuple(int(each) for each in rest.split()))
+        else:
+            shapes[-1].append(points_in(line))
+    return shapes, links
+
+
+def edges_in(answer):
+    """The edges of an answer: two points, and the sum of the bits of the filled sides."""
+    numbers = [[int(each) for each in line.split()[1:]] for line in answer.splitlines()]
+    return [((ax, ay), (bx, by), fill) for ax, ay, bx, by, fill in numbers]

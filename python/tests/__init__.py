@@ -1,0 +1,1 @@
+"""Tests of the Python module, which ask the program (`.ci/python`)."""

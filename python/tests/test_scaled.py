@@ -1,0 +1,46 @@
+"""Floats on a grid of whole numbers."""
+
+import unittest
+import warnings
+
+import polyover
+
+from .rows import UNSETTLED
+
+
+class ScaledFloats(unittest.TestCase):
+    """What is taken, what is given back, and what is tried again."""
+
+    def test_half_a_unit_is_lost_at_most(self):
+        scaled = polyover.Scaled.of_digits(2, (10, -10))
+        self.assertEqual(scaled.lost, 0.005)
+        for value in (0.1, 1.005, 123.456, -7.7777):
+            whole = scaled.whole_point((value, value))
+            self.assertLessEqual(abs(scaled.point(whole)[0] - value), scaled.lost * 1.0000001)
+
+    def test_whole_numbers_come_back(self):
+        scaled = polyover.Scaled(1000)
+        square = [(0.0, 0.0), (0.25, 0.0), (0.25, 0.5), (0.0, 0.5)]
+        self.assertEqual(scaled.overlay([square]), [[[(0.0, 0.5), (0.0, 0.0), (0.25, 0.0), (0.25, 0.5)]]])
+        self.assertEqual(scaled.locate([square], [(0.1, 0.1), (0.25, 0.1)]), ["inside", "boundary"])
+
+    def test_finer_where_splitting_does_not_settle(self):
+        contours = [[(float(x), float(y)) for x, y in contour] for contour in UNSETTLED]
+        with warnings.catch_warnings(record=True) as told:
+            warnings.simplefilter("always")
+            shapes = polyover.Scaled(1).overlay(contours, fill="nonzero")
+        self.assertEqual(len(told), 1)
+        self.assertIn("tried again at 1024", str(told[0].message))
+        self.assertTrue(shapes)
+
+    def test_no_finer_scale_than_the_range_allows(self):
+        scaled = polyover.Scaled(2**53)
+        contours = [[(float(x), float(y)) for x, y in contour] for contour in UNSETTLED]
+        self.assertFalse(scaled.finer()._fits(contours))  # pylint: disable=protected-access
+
+    def test_what_is_no_number(self):
+        for value in (float("nan"), float("inf"), "one"):
+            with self.assertRaises(polyover.BadInput):
+                polyover.Scaled(1).overlay([[(value, 0), (1, 0), (1, 1)]])
+        with self.assertRaises(polyover.BadInput):
+            polyover.Scaled(0)

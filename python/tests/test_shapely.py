@@ -1,0 +1,117 @@
+"""Made inputs, compared with GEOS by way of shapely; skipped where that is not installed."""
+
+import random
+import unittest
+from math import cos, pi, sin
+
+import polyover
+
+try:
+    from shapely.geometry import MultiLineString, MultiPolygon, Polygon, shape as shapely_shape
+    from shapely.ops import unary_union
+except ImportError:
+    shapely_shape = None
+
+INPUTS = 2000
+RULES = {
+    "union": lambda a, b: a.union(b),
+    "intersect": lambda a, b: a.intersection(b),
+    "difference": lambda a, b: a.difference(b),
+    "xor": lambda a, b: a.symmetric_difference(b),
+}
+
+
+def star(chance, size):
+    """A contour that goes round a point once."""
+    x, y = (chance.randint(-size, size) for _ in range(2))
+    turns = sorted(chance.uniform(0, 2 * pi) for _ in range(chance.randint(3, 12)))
+    reach = [chance.uniform(size / 4, size) for _ in turns]
+    return [(round(x + r * cos(turn)), round(y + r * sin(turn))) for turn, r in zip(turns, reach)]
+
+
+def box(chance, size):
+    """A rectangle on a coarse grid, so that many edges of several overlap."""
+    left, low = chance.randint(0, size), chance.randint(0, size)
+    right, high = left + chance.randint(1, size), low + chance.randint(1, size)
+    return [(left, low), (right, low), (right, high), (left, high)]
+
+
+def region(contours):
+    """What contours fill, each by itself, joined by or."""
+    return unary_union([Polygon(contour).buffer(0) for contour in contours])
+
+
+def length(contours):
+    """The length of the edges of contours."""
+    return sum(Polygon(contour).exterior.length for contour in contours)
+
+
+@unittest.skipIf(shapely_shape is None, "skipped: shapely is not installed (Debian's python3-shapely)")
+class Compared(unittest.TestCase):
+    """Answers that are those of GEOS, as far as rounding allows."""
+
+    def compared(self, subject, clip, rule, lost):
+        """That an overlay is that of GEOS but for an area `lost`, and that its shapes are valid."""
+        shapes = polyover.overlay(subject, clip, rule)
+        expected = RULES[rule](region(subject), region(clip))
+        found = [Polygon(shape[0], shape[1:]) for shape in shapes]
+        for each in found:
+            self.assertTrue(each.is_valid, (rule, subject, clip))
+        self.assertLessEqual(abs(sum(each.area for each in found) - expected.area), lost, (rule, subject, clip))
+        self.assertLessEqual(unary_union(found).symmetric_difference(expected).area, lost, (rule, subject, clip))
+
+    def test_stars(self):
+        chance = random.Random(1)
+        for _ in range(INPUTS // 2):
+            size = chance.choice((10, 1000, 10**6))
+            contours = [self.resolved(star, chance, size) for _ in range(chance.randint(2, 4))]
+            # (each edge is bent by half a unit in x and y at most in each round that moves a point; rounds are few)
+            self.compared(contours[:1], contours[1:], chance.choice(list(RULES)), 2 * length(contours))
+
+    def test_boxes_exactly(self):
+        chance = random.Random(2)
+        for _ in range(INPUTS // 2):
+            contours = [box(chance, chance.choice((3, 12))) for _ in range(chance.randint(2, 6))]
+            self.compared(contours[:2], contours[2:], chance.choice(list(RULES)), 1e-9)
+
+    def resolved(self, made, chance, size):
+        """A contour that is valid by GEOS and runs counterclockwise."""
+        while True:
+            contour = made(chance, size)
+            polygon = Polygon(contour)
+            if polygon.is_valid and polygon.area > 0:
+                return contour if polygon.exterior.is_ccw else contour[::-1]
+
+    def test_relations_of_boxes(self):
+        chance = random.Random(3)
+        for _ in range(INPUTS // 10):
+            one, two = box(chance, 4), box(chance, 4)
+            a, b = Polygon(one), Polygon(two)
+            told = polyover.relate([one], [two])
+            expected = {
+                "intersects": a.intersects(b),
+                "interiors_intersect": a.intersection(b).area > 0,
+                "touches": a.touches(b),
+                "point_intersects": a.intersects(b) and a.intersection(b).geom_type in ("Point", "MultiPoint"),
+                "within": a.within(b),
+                "disjoint": a.disjoint(b),
+                "covers": a.covers(b),
+            }
+            self.assertEqual(told, expected, (one, two))
+
+    def test_lines_in_boxes(self):
+        chance = random.Random(4)
+        for _ in range(INPUTS // 10):
+            outline, line = box(chance, 9), [(chance.randint(-1, 19), 3), (chance.randint(-1, 19), 3)]
+            if line[0] == line[1] or 3 in (outline[0][1], outline[2][1]):
+                continue
+            paths = polyover.clip([outline], [line])
+            expected = Polygon(outline).intersection(MultiLineString([line]))
+            self.assertEqual(MultiLineString(list(paths)).length if paths else 0, expected.length, (outline, line))
+
+    def test_shapes_as_shapely_takes_them(self):
+        shapes = polyover.overlay([[(0, 0), (9, 0), (9, 9), (0, 9)], [(1, 1), (1, 2), (2, 2), (2, 1)]])
+        taken = shapely_shape(shapes)
+        self.assertIsInstance(taken, MultiPolygon)
+        self.assertEqual(taken.area, 80)
+        self.assertEqual(polyover.Scaled(1).overlay(polyover.contours_of(taken)), shapes)

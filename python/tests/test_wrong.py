@@ -1,0 +1,52 @@
+"""Wrong arguments, each a fault of its own."""
+
+import os
+import unittest
+from unittest import mock
+
+import polyover
+
+from .rows import SQUARE, UNSETTLED
+
+LIMIT = 4611686018427387903
+
+
+class Wrong(unittest.TestCase):
+    """What can't be asked."""
+
+    def test_unknown_words(self):
+        with self.assertRaisesRegex(polyover.BadInput, "unknown rule 'joined'"):
+            polyover.overlay([SQUARE], [], "joined")
+        with self.assertRaisesRegex(polyover.BadInput, "unknown fill rule 'odd'"):
+            polyover.overlay([SQUARE], fill="odd")
+
+    def test_coordinates(self):
+        with self.assertRaisesRegex(polyover.BadInput, "no whole number"):
+            polyover.overlay([[(0.5, 0), (1, 0), (1, 1)]])
+        with self.assertRaisesRegex(polyover.BadInput, "out of range"):
+            polyover.overlay([[(LIMIT + 1, 0), (1, 0), (1, 1)]])
+        self.assertEqual(len(polyover.overlay([[(LIMIT, -LIMIT), (-LIMIT, LIMIT), (-LIMIT, -LIMIT)]])), 1)
+
+    def test_points(self):
+        for contour in ([(0,)], [(0, 0, 0)], [3]):
+            with self.assertRaises((TypeError, ValueError)):
+                polyover.overlay([contour])
+
+    def test_minimum_area(self):
+        for area in (-1, 2**127):
+            with self.assertRaises(polyover.BadInput):
+                polyover.overlay([SQUARE], minimum_area=area)
+
+    def test_refusals(self):
+        with self.assertRaises(polyover.NotSettled):
+            polyover.overlay([UNSETTLED[0], UNSETTLED[1]], (), "clip")
+
+    def test_contour_that_meets_itself(self):
+        with self.assertRaises(polyover.NotResolved) as found:
+            polyover.locate([SQUARE, [(0, 0), (4, 4), (4, 0), (0, 4)]], [(1, 1)])
+        self.assertEqual(found.exception.contour, 1)
+
+    def test_no_program(self):
+        with mock.patch.dict(os.environ, {"POLYOVER_PROGRAM": "/nowhere/polyover"}):
+            with self.assertRaises(polyover.ProgramMissing):
+                polyover.overlay([SQUARE])
