@@ -3,6 +3,7 @@
 mod added;
 mod balance;
 mod colour;
+mod counted;
 mod edges;
 mod refused;
 mod rows;
