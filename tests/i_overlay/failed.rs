@@ -1,11 +1,15 @@
 //! A builder that refused a query, and what it answers until it is cleared.
 
-use crate::builders::{add, check_answered, check_fills, edge_count, is_refused};
+use crate::builders::{
+    add, check_answered, check_fills, edge_count, is_refused, reinit_with_subj,
+    reinit_with_subj_and_clip,
+};
 use crate::contours::{OF_SQUARE, Points, SQUARE, builder_of, contour_of};
 use i_overlay::fill_rule::FillRule;
 use i_overlay::i_float::int::point::IntPoint;
 use i_overlay::overlay::{Overlay, ShapeType};
 use overlay_geom::error::OverlayError;
+use overlay_geom::path::PathRef;
 use std::alloc::Global;
 use std::cell::Cell;
 use std::process::Abort;
@@ -69,5 +73,22 @@ fn a_failed_builder_does_not_ask_for_points(rt: HostRuntime) -> Result<(), Fail>
     assert!(rt; add_no_points(&mut overlay) == (Err(OverlayError::Failed), false));
     overlay.clear();
     assert!(rt; add_no_points(&mut overlay) == (Ok(()), true));
+    Ok(())
+}
+
+#[test]
+fn reinit_mends_a_failed_builder(rt: HostRuntime) -> Result<(), Fail> {
+    let contour = contour_of::<i32>(rt.alloc(), SQUARE)?;
+    let mut overlay = builder_of(&rt, rt.alloc(), NEEDLES, ShapeType::Subject)?;
+    assert!(rt; edge_count(&mut overlay, FillRule::NonZero) == Err(OverlayError::NotSettled));
+    check_answered(&rt, reinit_with_subj(&rt, &mut overlay, &contour));
+    check_fills(&rt, &mut overlay, FillRule::NonZero, &OF_SQUARE);
+    let mut overlay = builder_of(&rt, rt.alloc(), NEEDLES, ShapeType::Clip)?;
+    assert!(rt; edge_count(&mut overlay, FillRule::NonZero) == Err(OverlayError::NotSettled));
+    check_answered(
+        &rt,
+        reinit_with_subj_and_clip(&rt, &mut overlay, &contour, &PathRef::new(&[])),
+    );
+    check_fills(&rt, &mut overlay, FillRule::NonZero, &OF_SQUARE);
     Ok(())
 }

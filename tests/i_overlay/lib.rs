@@ -1,6 +1,18 @@
 //! Tests of `i_overlay`: the builder and its queries.
 
+// Makes a check at each coordinate type.
+macro_rules! each_wide {
+    ($rt:expr, $check:ident) => {{
+        $check::<i16>(&$rt, $rt.alloc())?;
+        $check::<i32>(&$rt, $rt.alloc())?;
+        $check::<i64>(&$rt, $rt.alloc())?;
+        Ok(())
+    }};
+}
+
 mod alone;
+mod awkward;
+mod bow;
 mod builder;
 mod builders;
 mod contours;
@@ -15,7 +27,6 @@ mod names;
 mod ogc;
 mod one_call;
 mod one_list;
-mod overlays;
 mod paths;
 mod reexports;
 mod relations;
@@ -26,7 +37,7 @@ mod shape_vectors;
 mod shapes;
 mod simplified;
 mod simplify;
-mod sources;
 mod squares;
 mod trees;
 mod views;
+mod wide;

@@ -1,17 +1,8 @@
-//! Builders whose memory may be refused, and squares to add to them.
+//! Squares, and their edges.
 
 use crate::builders::edge;
-use i_overlay::overlay::Overlay;
 use i_overlay::vector::edge::DataVectorEdge;
 use overlay_geom::point::IntPoint;
-use refusing_alloc::refusing::Refusing;
-use std::alloc::Global;
-
-/// More requests than a call on two squares makes.
-pub(crate) const PLENTY: u64 = 1000;
-
-/// A builder whose memory may be refused.
-pub(crate) type Refusable<'a> = Overlay<i32, &'a Refusing<Global>>;
 
 // A point by its coordinates.
 fn corner<I>(x: I, y: I) -> IntPoint<I> {

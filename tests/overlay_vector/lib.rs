@@ -5,7 +5,6 @@ mod balance;
 mod colour;
 mod counted;
 mod edges;
-mod refused;
 mod rows;
 mod shapes;
 mod sources;

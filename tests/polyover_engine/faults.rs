@@ -1,10 +1,8 @@
-//! Readers and writers that fail, and memory that is refused.
+//! Readers and writers that fail.
 
 use crate::runs::check_reader;
-use overlay_geom::error::OverlayError;
 use polyover_engine::engine::run;
 use polyover_engine::exit::Exit;
-use refusing_alloc::refusing::Refusing;
 use std::alloc::Allocator;
 use std::io;
 use std::io::{ErrorKind, Read, Write};
@@ -173,70 +171,4 @@ fn a_writer_that_fails(rt: HostRuntime) {
 #[test]
 fn a_writer_that_does_not_flush(rt: HostRuntime) {
     check_writer(&rt, SQUARE_EDGES.len() as u64, false, false, Exit::Io);
-}
-
-// Whether the engine answers where so many growths are granted; if not, memory is refused.
-fn is_answered(rt: &(impl Abort + Alloc), granted: u64, input: &[u8], wanted: &str) -> bool {
-    let memory = Refusing::new(rt.alloc(), granted);
-    let mut reader = input;
-    let mut written = Vec::new(rt.alloc());
-    let ended = run(&memory, &mut reader, &mut written);
-    if ended == Exit::Answered {
-        assert!(rt; granted > 0 && &written[..] == wanted.as_bytes());
-        return true;
-    }
-    assert!(rt; ended == Exit::Refused(OverlayError::Memory) && written.is_empty());
-    false
-}
-
-// Lets each growth fail in turn, until all that are needed are granted.
-fn refuse_each_growth(rt: &(impl Abort + Alloc), input: &[u8], wanted: &str) {
-    for granted in 0..1000 {
-        if is_answered(rt, granted, input, wanted) {
-            return;
-        }
-    }
-    assert!(rt; false, "never answered");
-}
-
-#[test]
-fn each_growth_refused_in_turn(rt: HostRuntime) {
-    refuse_each_growth(&rt, SQUARE, SQUARE_EDGES);
-}
-
-#[test]
-fn each_growth_of_an_overlay_refused_in_turn(rt: HostRuntime) {
-    refuse_each_growth(
-        &rt,
-        b"subject 0 0 9 0 9 9 0 9\nclip 3 3 6 3 6 6 3 6\nrun overlay Difference NonZero\n",
-        "shape\n0 9 0 0 9 0 9 9\n3 3 3 6 6 6 6 3\n",
-    );
-}
-
-#[test]
-fn each_growth_of_relations_refused_in_turn(rt: HostRuntime) {
-    refuse_each_growth(
-        &rt,
-        b"subject 1 1 3 1 3 3 1 3\nclip 0 0 4 0 4 4 0 4\nrun relate EvenOdd\n",
-        "intersects true\ninteriors_intersect true\ntouches false\npoint_intersects false\n\
-         within true\ndisjoint false\ncovers false\n",
-    );
-}
-
-#[test]
-fn each_growth_of_a_clip_refused_in_turn(rt: HostRuntime) {
-    refuse_each_growth(
-        &rt,
-        b"subject 0 0 9 0 9 9 0 9\nline -3 3 12 3\nline 3 -3 3 12\nrun clip NonZero\n",
-        "0 3 3 3 3 9\n3 0 3 3 9 3\n",
-    );
-}
-
-#[test]
-fn each_growth_of_slices_refused_in_turn(rt: HostRuntime) {
-    refuse_each_growth(
-        &rt,
-        b"subject 0 0 9 0 9 9 0 9\nsubject 3 3 3 6 6 6 6 3\nline 0 1 9 1\nrun slice NonZero\n",
-        "shape\n9 0 9 1 0 1 0 0\nshape\n9 1 9 9 0 9 0 1\n3 3 3 6 6 6 6 3\n",
-    );
 }

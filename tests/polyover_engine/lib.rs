@@ -4,6 +4,7 @@ mod bad_input;
 mod clips;
 mod edges;
 mod faults;
+mod growths;
 mod hierarchies;
 mod large;
 mod overlays;

@@ -1,0 +1,89 @@
+//! Flat buffers and hierarchies: a refusal changes nothing, or empties what is cleared first.
+
+use crate::figures::{PATHS, Width, flat_squares, lone_squares, square_at, squares};
+use crate::overlay_queries::{is_empty, overlapping};
+use crate::refusals::Trial;
+use i_overlay::fill_rule::FillRule;
+use i_overlay::i_shape::flat::buffer::{FlatContoursBuffer, FlatShapesBuffer};
+use i_overlay::overlay_rule::OverlayRule;
+use std::process::Abort;
+use std::test::Fail;
+
+fn check_contours<I: Width>(trial: &Trial<'_, impl Abort>) -> Result<(), Fail> {
+    let memory = trial.memory;
+    let (old, more) = (flat_squares::<I>(memory)?, square_at::<I>(0));
+    let copy = trial.refuse_call("FlatContoursBuffer::clone", || old.clone())?;
+    assert!(trial.rt; copy == old);
+    trial.refuse_each(
+        "FlatContoursBuffer::clear_and_reserve",
+        || flat_squares::<I>(memory),
+        |it| it.clear_and_reserve(100, 100),
+        |it| Ok(is_empty(it)),
+    )?;
+    trial.refuse_each(
+        "FlatContoursBuffer::add_contour",
+        || {
+            let mut buffer = FlatContoursBuffer::default(memory)?;
+            buffer.add_contour(&more)?;
+            Ok(buffer)
+        },
+        |it| {
+            for _ in 0..9 {
+                it.add_contour(&more)?;
+            }
+            Ok(())
+        },
+        |it| Ok(it.points.len() == 4 * it.ranges.len() && it.ranges.len() > 0),
+    )
+}
+
+#[test]
+fn flat_contours(rt: HostRuntime) -> Result<(), Fail> {
+    at_a_width!(rt, check_contours)
+}
+
+fn check_shapes<I: Width>(trial: &Trial<'_, impl Abort>) -> Result<(), Fail> {
+    let memory = trial.memory;
+    let (shapes, shape) = (lone_squares::<I>(memory)?, squares::<I>(memory, PATHS)?);
+    let old = FlatShapesBuffer::from_shapes(memory, &shapes)?;
+    trial.refuse_call("FlatShapesBuffer::with_capacity", || {
+        FlatShapesBuffer::<I, _>::with_capacity(memory, 4, 1, 1)
+    })?;
+    let made = trial.refuse_call("FlatShapesBuffer::from_shapes", || {
+        FlatShapesBuffer::from_shapes(memory, &shapes)
+    })?;
+    assert!(trial.rt; made == old);
+    let copy = trial.refuse_call("FlatShapesBuffer::clone", || old.clone())?;
+    assert!(trial.rt; copy == old);
+    let again = trial.refuse_call("FlatShapesBuffer::to_shapes", || old.to_shapes())?;
+    assert!(trial.rt; again == shapes);
+    trial.refuse_each(
+        "FlatShapesBuffer::add_shape",
+        || old.clone(),
+        |it| it.add_shape(&shape),
+        |it| {
+            let is_as_before = *it == old;
+            it.add_shape(&shape)?;
+            Ok(is_as_before && it.shape_ranges.len() == PATHS + 1)
+        },
+    )
+}
+
+#[test]
+fn flat_shapes(rt: HostRuntime) -> Result<(), Fail> {
+    at_a_width!(rt, check_shapes)
+}
+
+fn check_hierarchy<I: Width>(trial: &Trial<'_, impl Abort>) -> Result<(), Fail> {
+    let mut overlay = overlapping::<I>(trial.memory)?;
+    let old = overlay.overlay_hierarchy(OverlayRule::Subject, FillRule::EvenOdd)?;
+    assert!(trial.rt; old.links.len() == 1);
+    let copy = trial.refuse_call("FlatShapeHierarchy::clone", || old.clone())?;
+    assert!(trial.rt; copy == old);
+    Ok(())
+}
+
+#[test]
+fn hierarchies(rt: HostRuntime) -> Result<(), Fail> {
+    at_a_width!(rt, check_hierarchy)
+}

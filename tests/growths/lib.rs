@@ -1,0 +1,29 @@
+//! Each growth refused in turn, at every public call that answers a `Result`.
+
+// Makes a check at one coordinate type, in memory that may be refused: which type it is changes no request.
+macro_rules! at_a_width {
+    ($rt:expr, $check:ident) => {{
+        let memory = refusing_alloc::refusing::Refusing::new($rt.alloc(), crate::refusals::PLENTY);
+        let trial = crate::refusals::Trial {
+            rt: &$rt,
+            memory: &memory,
+        };
+        $check::<i64>(&trial)
+    }};
+}
+
+mod edges;
+mod figures;
+mod flat;
+mod one_call;
+mod overlay_adders;
+mod overlay_queries;
+mod overlay_simplify;
+mod overlay_views;
+mod predicates;
+mod refusals;
+mod scans;
+mod seen;
+mod string_queries;
+mod strings;
+mod without_memory;

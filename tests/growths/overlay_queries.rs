@@ -1,0 +1,152 @@
+//! Queries of `Overlay`, and its calls that simplify.
+
+use crate::figures::{PATHS, Width, flat_squares, lone_squares, square, square_at, squares};
+use crate::overlay_adders::builder;
+use crate::refusals::{Answer, Memory, Trial};
+use crate::seen::{Seen, is_failed};
+use i_overlay::fill_rule::FillRule;
+use i_overlay::i_shape::flat::buffer::FlatContoursBuffer;
+use i_overlay::i_shape::int::shape::{IntShape, IntShapes};
+use i_overlay::overlay::{Overlay, ShapeType};
+use i_overlay::overlay_rule::OverlayRule;
+use std::process::Abort;
+use std::test::Fail;
+
+const UNION: OverlayRule = OverlayRule::Union;
+
+const RULE: FillRule = FillRule::NonZero;
+
+const CLIP: ShapeType = ShapeType::Clip;
+
+// What calls on a failed builder are given.
+#[derive(Drop)]
+pub(crate) struct Figures<'m, I: Width> {
+    pub(crate) shape: IntShape<I, Memory<'m>>,
+    pub(crate) shapes: IntShapes<I, Memory<'m>>,
+    pub(crate) buffer: FlatContoursBuffer<I, Memory<'m>>,
+}
+
+pub(crate) fn figures_of<I: Width>(memory: Memory<'_>) -> Answer<Figures<'_, I>> {
+    Ok(Figures {
+        shape: squares(memory, PATHS)?,
+        shapes: lone_squares(memory)?,
+        buffer: flat_squares(memory)?,
+    })
+}
+
+// A builder with overlapping squares, a hole and an island in it.
+pub(crate) fn overlapping<I: Width>(memory: Memory<'_>) -> Answer<Overlay<I, Memory<'_>>> {
+    let mut overlay = Overlay::new(memory, 0)?;
+    for (low, high) in [(0, 20), (2, 18), (4, 16)] {
+        overlay.add_contour(&square(low, high), ShapeType::Subject)?;
+    }
+    overlay.add_contour(&square(17, 24), ShapeType::Clip)?;
+    Ok(overlay)
+}
+
+// Whether each adder answers that the builder has failed.
+fn adders_fail<I: Width>(it: &mut Overlay<I, Memory<'_>>, given: &Figures<'_, I>) -> bool {
+    let more = square_at(0);
+    is_failed(it.add_contour(&more, CLIP))
+        && is_failed(it.add_path_iter(more.iter().copied(), CLIP))
+        && is_failed(it.add_source(&given.shape, CLIP))
+        && is_failed(it.add_contours(&given.shape, CLIP))
+        && is_failed(it.add_shape(&given.shape, CLIP))
+        && is_failed(it.add_shapes(&given.shapes, CLIP))
+        && is_failed(it.add_flat_buffer(&given.buffer, CLIP))
+}
+
+// Whether each call that does not clear answers that the builder has failed.
+pub(crate) fn has_failed<I: Width>(
+    it: &mut Overlay<I, Memory<'_>>,
+    given: &Figures<'_, I>,
+) -> bool {
+    adders_fail(it, given)
+        && is_failed(it.overlay(UNION, RULE))
+        && is_failed(it.overlay_hierarchy(UNION, RULE))
+        && is_failed(it.build_shape_vectors(RULE, UNION))
+        && is_failed(it.build_separate_vectors(RULE))
+        && is_failed(it.build_graph_view(RULE))
+}
+
+pub(crate) fn is_empty<I: Width>(buffer: &FlatContoursBuffer<I, Memory<'_>>) -> bool {
+    buffer.points.len() == 0 && buffer.ranges.len() == 0
+}
+
+// Puts what `overlapping` has in the place of what the builder holds.
+fn mend<I: Width>(it: &mut Overlay<I, Memory<'_>>) -> Answer<()> {
+    it.clear();
+    for (low, high) in [(0, 20), (2, 18), (4, 16)] {
+        it.add_contour(&square(low, high), ShapeType::Subject)?;
+    }
+    it.add_contour(&square(17, 24), ShapeType::Clip)
+}
+
+// Refuses the growths of a query.
+fn refuses<
+    'm,
+    I: Width,
+    T: PartialEq + Drop,
+    Q: Fn(&mut Overlay<I, Memory<'m>>) -> Answer<T> + Drop,
+>(trial: &Trial<'m, impl Abort>, name: &str, query: Q) -> Result<(), Fail> {
+    let memory = trial.memory;
+    let given = figures_of::<I>(memory)?;
+    trial.answers_or_fails(
+        name,
+        || overlapping(memory),
+        query,
+        |it| has_failed(it, &given),
+        |it| mend(it),
+    )
+}
+
+fn check_queries<I: Width>(trial: &Trial<'_, impl Abort>) -> Result<(), Fail> {
+    refuses::<I, _, _>(trial, "Overlay::overlay", |it| it.overlay(UNION, RULE))?;
+    refuses::<I, _, _>(trial, "Overlay::overlay_hierarchy", |it| {
+        it.overlay_hierarchy(UNION, FillRule::EvenOdd)
+    })?;
+    refuses::<I, _, _>(trial, "Overlay::build_shape_vectors", |it| {
+        it.build_shape_vectors(RULE, UNION)
+    })?;
+    refuses::<I, _, _>(trial, "Overlay::build_separate_vectors", |it| {
+        it.build_separate_vectors(RULE)
+    })?;
+    refuses::<I, _, _>(trial, "Overlay::build_graph_view", |it| {
+        let view = it.build_graph_view(RULE)?;
+        Ok(view.is_some())
+    })
+}
+
+#[test]
+fn queries_of_overlay(rt: HostRuntime) -> Result<(), Fail> {
+    at_a_width!(rt, check_queries)
+}
+
+// Refuses the growths of a query that writes: the output is empty, and the builder has failed. What a failed builder is
+// asked for leaves the output empty, too.
+fn check_overlay_into<I: Width>(trial: &Trial<'_, impl Abort>) -> Result<(), Fail> {
+    let memory = trial.memory;
+    let given = figures_of::<I>(memory)?;
+    let new = || Ok((overlapping::<I>(memory)?, flat_squares::<I>(memory)?));
+    let (mut overlay, mut wanted) = new()?;
+    overlay.overlay_into(UNION, RULE, &mut wanted)?;
+    trial.refuse_each(
+        "Overlay::overlay_into",
+        new,
+        |it| it.0.overlay_into(UNION, RULE, &mut it.1),
+        |it| {
+            let is_emptied = is_empty(&it.1) && has_failed(&mut it.0, &given);
+            it.1.add_contour(&square(0, 2))?;
+            let is_failed = is_failed(it.0.overlay_into(UNION, RULE, &mut it.1));
+            let is_emptied_again = is_failed && is_empty(&it.1);
+            mend(&mut it.0)?;
+            it.0.overlay_into(UNION, RULE, &mut it.1)?;
+            Ok(is_emptied && is_emptied_again && it.1 == wanted)
+        },
+    )
+}
+
+#[test]
+fn overlay_into_a_buffer(rt: HostRuntime) -> Result<(), Fail> {
+    at_a_width!(rt, check_overlay_into)
+}

@@ -1,0 +1,221 @@
+//! `PredicateOverlay`.
+
+use crate::figures::{PATHS, Width, point, square};
+use crate::refusals::{Answer, Memory, Trial};
+use crate::seen::{Seen, is_failed};
+use i_overlay::fill_rule::FillRule;
+use i_overlay::i_float::int::point::IntPoint;
+use i_overlay::i_shape::int::shape::{IntShape, IntShapes};
+use i_overlay::overlay::ShapeType;
+use i_overlay::relate::PredicateOverlay;
+use i_overlay::solver::Solver;
+use std::process::Abort;
+use std::test::Fail;
+
+const CLIP: ShapeType = ShapeType::Clip;
+
+type Built<'m, I> = PredicateOverlay<I, Memory<'m>>;
+
+// What the predicates tell shows what is held: each clip below changes it.
+impl<'m, I: Width> Seen for PredicateOverlay<I, Memory<'m>> {
+    type Content = [bool; 5];
+
+    fn content(&mut self) -> Answer<[bool; 5]> {
+        Ok([
+            self.intersects()?,
+            self.interiors_intersect()?,
+            self.touches()?,
+            self.point_intersects()?,
+            self.within()?,
+        ])
+    }
+}
+
+// The square of the subject.
+fn subject<I: Width>() -> [IntPoint<I>; 4] {
+    square(0, 4)
+}
+
+// A clip that meets it in a point, one that runs along its border, and one inside it.
+fn clip_at<I: Width>(place: usize) -> [IntPoint<I>; 4] {
+    match place {
+        0 => square(4, 6),
+        1 => [point(4, 0), point(6, 0), point(6, 2), point(4, 2)],
+        _ => square(1, 2),
+    }
+}
+
+fn clips<I: Width>(memory: Memory<'_>) -> Answer<IntShape<I, Memory<'_>>> {
+    let mut shape = Vec::new(memory);
+    for place in 0..PATHS {
+        shape.push(Vec::from_array(memory, clip_at(place))?)?;
+    }
+    Ok(shape)
+}
+
+fn lone_clips<I: Width>(memory: Memory<'_>) -> Answer<IntShapes<I, Memory<'_>>> {
+    let mut shapes = Vec::new(memory);
+    for contour in clips(memory)? {
+        shapes.push(Vec::from_array(memory, [contour])?)?;
+    }
+    Ok(shapes)
+}
+
+// A builder with the subject and the first clips.
+fn builder<I: Width>(memory: Memory<'_>, count: usize) -> Answer<Built<'_, I>> {
+    let mut overlay = PredicateOverlay::new(memory, 0)?;
+    overlay.add_contour(&subject(), ShapeType::Subject)?;
+    for place in 0..count {
+        overlay.add_contour(&clip_at(place), CLIP)?;
+    }
+    Ok(overlay)
+}
+
+// A builder with the first ones of a subject and the clips.
+fn of_both<I: Width>(memory: Memory<'_>, count: usize) -> Answer<Built<'_, I>> {
+    if count == 0 {
+        return PredicateOverlay::new(memory, 0);
+    }
+    builder(memory, count - 1)
+}
+
+// Refuses the growths of an adder of all clips.
+fn adds_all<'m, I: Width, C: Fn(&mut Built<'m, I>) -> Answer<()> + Drop>(
+    trial: &Trial<'m, impl Abort>,
+    name: &str,
+    add: C,
+) -> Result<(), Fail> {
+    let first = |count| builder::<I>(trial.memory, count);
+    trial.adds_those_before(name, || first(0), add, PATHS, first)
+}
+
+// The subject as a shape.
+fn subjects<I: Width>(memory: Memory<'_>) -> Answer<IntShape<I, Memory<'_>>> {
+    Ok(Vec::from_array(memory, [Vec::from_array(memory, subject())?])?)
+}
+
+fn check_adders<I: Width>(trial: &Trial<'_, impl Abort>) -> Result<(), Fail> {
+    let memory = trial.memory;
+    let new = || builder::<I>(memory, 0);
+    let more = clip_at::<I>(0);
+    trial.adds_or_keeps("PredicateOverlay::add_contour", new, |it| {
+        it.add_contour(&more, CLIP)
+    })?;
+    trial.adds_or_keeps("PredicateOverlay::add_path_iter", new, |it| {
+        it.add_path_iter(more.iter().copied(), CLIP)
+    })?;
+    let (shape, shapes) = (clips::<I>(memory)?, lone_clips::<I>(memory)?);
+    adds_all::<I, _>(
+        trial,
+        "PredicateOverlay::add_source",
+        |it| it.add_source(&shape, CLIP),
+    )?;
+    adds_all::<I, _>(trial, "PredicateOverlay::add_contours", |it| {
+        it.add_contours(&shape, CLIP)
+    })?;
+    adds_all::<I, _>(
+        trial,
+        "PredicateOverlay::add_shape",
+        |it| it.add_shape(&shape, CLIP),
+    )?;
+    adds_all::<I, _>(
+        trial,
+        "PredicateOverlay::add_shapes",
+        |it| it.add_shapes(&shapes, CLIP),
+    )?;
+    let subj = subjects::<I>(memory)?;
+    trial.adds_those_before(
+        "PredicateOverlay::reinit_with_subj_and_clip",
+        new,
+        |it| it.reinit_with_subj_and_clip(&subj, &shape),
+        1 + PATHS,
+        |count| of_both(memory, count),
+    )
+}
+
+#[test]
+fn adders_of_predicate_overlay(rt: HostRuntime) -> Result<(), Fail> {
+    at_a_width!(rt, check_adders)
+}
+
+fn check_constructors<I: Width>(trial: &Trial<'_, impl Abort>) -> Result<(), Fail> {
+    let memory = trial.memory;
+    let subj = subjects::<I>(memory)?;
+    let clip = clips::<I>(memory)?;
+    let all = || builder::<I>(memory, PATHS);
+    trial.makes("PredicateOverlay::new", of_both::<I>(memory, 0), || {
+        PredicateOverlay::new(memory, 4)
+    })?;
+    trial.makes("PredicateOverlay::from_subj_and_clip", all(), || {
+        PredicateOverlay::from_subj_and_clip(memory, &subj, &clip)
+    })?;
+    trial.makes("PredicateOverlay::from_subj_and_clip_custom", all(), || {
+        let (rule, solver) = (FillRule::EvenOdd, Solver::ABSOLUTE);
+        PredicateOverlay::from_subj_and_clip_custom(memory, &subj, &clip, rule, solver)
+    })
+}
+
+#[test]
+fn constructors_of_predicate_overlay(rt: HostRuntime) -> Result<(), Fail> {
+    at_a_width!(rt, check_constructors)
+}
+
+// Whether each call that does not clear answers that the builder has failed.
+fn has_failed<I: Width>(
+    it: &mut Built<'_, I>,
+    shape: &IntShape<I, Memory<'_>>,
+    shapes: &IntShapes<I, Memory<'_>>,
+) -> bool {
+    let more = clip_at(0);
+    is_failed(it.add_contour(&more, CLIP))
+        && is_failed(it.add_path_iter(more.iter().copied(), CLIP))
+        && is_failed(it.add_source(shape, CLIP))
+        && is_failed(it.add_contours(shape, CLIP))
+        && is_failed(it.add_shape(shape, CLIP))
+        && is_failed(it.add_shapes(shapes, CLIP))
+        && is_failed(it.intersects())
+        && is_failed(it.interiors_intersect())
+        && is_failed(it.touches())
+        && is_failed(it.point_intersects())
+        && is_failed(it.within())
+}
+
+// Refuses the growths of a predicate.
+fn refuses<'m, I: Width, Q: Fn(&mut Built<'m, I>) -> Answer<bool> + Drop>(
+    trial: &Trial<'m, impl Abort>,
+    name: &str,
+    query: Q,
+) -> Result<(), Fail> {
+    let memory = trial.memory;
+    let (shape, shapes) = (clips::<I>(memory)?, lone_clips::<I>(memory)?);
+    trial.answers_or_fails(
+        name,
+        || builder(memory, PATHS),
+        query,
+        |it| has_failed(it, &shape, &shapes),
+        |it| {
+            it.clear();
+            it.add_contour(&subject(), ShapeType::Subject)?;
+            it.add_source(&shape, CLIP)
+        },
+    )
+}
+
+fn check_predicates<I: Width>(trial: &Trial<'_, impl Abort>) -> Result<(), Fail> {
+    refuses::<I, _>(trial, "PredicateOverlay::intersects", |it| it.intersects())?;
+    refuses::<I, _>(trial, "PredicateOverlay::interiors_intersect", |it| {
+        it.interiors_intersect()
+    })?;
+    refuses::<I, _>(trial, "PredicateOverlay::touches", |it| it.touches())?;
+    refuses::<I, _>(
+        trial,
+        "PredicateOverlay::point_intersects",
+        |it| it.point_intersects(),
+    )?;
+    refuses::<I, _>(trial, "PredicateOverlay::within", |it| it.within())
+}
+
+#[test]
+fn predicates_of_predicate_overlay(rt: HostRuntime) -> Result<(), Fail> {
+    at_a_width!(rt, check_predicates)
+}
