@@ -5,6 +5,7 @@ ghost use Rattle.overlay_geom.specs.Flat.{paths_in, shapes_in};
 ghost use Rattle.overlay_geom.specs.FlatShapes.{AreShapesPacked};
 ghost use Rattle.overlay_geom.specs.Packed.{IsPacked};
 ghost use Rattle.overlay_geom.specs.Paths.{plain_shapes};
+ghost use Rattle.overlay_arrange.specs.Stores.{IsStoreReached};
 ghost use Rattle.overlay_arrange.specs.Vectors.{plain_vector, vector_of};
 ghost use Rattle.overlay_extract.specs.ChildLinks.{plain_link};
 ghost use Rattle.overlay_extract.specs.PlacedResults.{IsHierarchy};
@@ -133,6 +134,7 @@ impl<I: OverlayInt, D: OverlayEdgeData, A: Allocator + Clone> OverlayGraph<'_, I
             (asked I.Wide.width I.WideUInt.natural self.now.viewed.now.graph.fill_rule overlay_rule
             self.now.viewed.now.options)
             self.now.viewed.now.graph.edges (plain_vector_shapes I.whole v.items)) }
+        ensures store { IsStoreReached D.writes store.old store.new }
         ensures err { IsOkUnless result OverlayError.Memory }
     {
         let options = self.viewed.options();

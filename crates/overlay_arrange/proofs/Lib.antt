@@ -32,6 +32,7 @@ pub mod RunEnds
 pub mod RunsAlike
 pub mod RunsLoop
 pub mod RunsMerged
+pub mod ReachedStores
 pub mod SettledLists
 pub mod SideBits
 pub mod Sweepable

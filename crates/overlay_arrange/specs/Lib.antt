@@ -13,4 +13,5 @@ pub mod Rules
 pub mod Runs
 pub mod Settle
 pub mod Starts
+pub mod Stores
 pub mod Vectors

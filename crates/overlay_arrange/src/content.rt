@@ -12,6 +12,7 @@ ghost use Rattle.overlay_arrange.specs.Content.{plain_edge, plain_edges};
 ghost use Rattle.overlay_arrange.specs.Content.{carried_edge, carried_edges};
 ghost use Rattle.overlay_arrange.specs.Content.{IsAscending, IsContent, IsHeld};
 ghost use Rattle.overlay_arrange.specs.EdgeData.{IsReversedBy};
+ghost use Rattle.overlay_arrange.specs.Stores.{IsStoreReached};
 
 use crate::count::EdgeCount;
 use crate::edge::CountedEdge;
@@ -117,6 +118,7 @@ impl<I: IntNumber, C: EdgeCount, A: Allocator> Content<I, C, A> {
         requires light { weight_of_counts (C.counts edge.count) < 2 ^ 31 }
         ensures ok { OnOk result ((turned : C) × IsReversedBy C.counts C.reverses edge.count turned
             × (self.new ≡ self.old ++ carried_edge I.whole C.counts (record edge { count = turned }) ∷ [])) }
+        ensures writes { OnOk result (C.writes store.old store.new) }
         ensures err { OnErr result (self.new ≡ self.old) }
         ensures untouched { OnErr result (store.new ≡ store.old) }
         ensures too_many { IsErrOf result OverlayError.TooManyEdges
@@ -144,6 +146,7 @@ impl<I: IntNumber, C: EdgeCount, A: Allocator> Content<I, C, A> {
         ensures ok { OnOk result (IsMerged (edges_in self.old) (edges_in self.new)) }
         ensures carried { OnOk result (CarriesMerged C.merges self.old self.new) }
         ensures content { IsContent I.limit (edges_in self.new) }
+        ensures store { IsStoreReached C.writes store.old store.new }
         ensures err { IsOkUnless result OverlayError.Memory }
     {
         let merged = merge(&mut self.edges, store);

@@ -14,6 +14,10 @@ pub trait EdgeCount: Copy {
     /// What the data needs beside the edges; nothing for counts alone.
     type Store;
 
+    // How one call of `merged`, `split` or `reversed` may leave the store: as it was, if a type says nothing
+    // else.
+    ghost writes: { Self.Store → Self.Store → Type 0 } = { λ s t. t ≡ s };
+
     // The counts as whole numbers.
     ghost counts: { Self → Counts };
 
@@ -48,18 +52,21 @@ pub trait EdgeCount: Copy {
     fn merged(self, other: Self, store: &mut Self::Store) -> Self
         requires { weight_of_counts (counts self) + weight_of_counts (counts other) < 2 ^ 31 }
         ensures counts { counts result ≡ joined_counts (counts self) (counts other) }
-        ensures merges { merges self other result };
+        ensures merges { merges self other result }
+        ensures writes { writes store.old store.new };
 
     /// Returns what a piece of an edge carries that is cut into several.
     fn split(self, store: &mut Self::Store) -> Self
         ensures counts { counts result ≡ counts self }
-        ensures splits { splits self result };
+        ensures splits { splits self result }
+        ensures writes { writes store.old store.new };
 
     /// Returns what a piece carries that runs against its edge. The counts weigh less than 2^31.
     fn reversed(self, store: &mut Self::Store) -> Self
         requires { weight_of_counts (counts self) < 2 ^ 31 }
         ensures counts { counts result ≡ reversed_counts (counts self) }
-        ensures reverses { reverses self result };
+        ensures reverses { reverses self result }
+        ensures writes { writes store.old store.new };
 }
 
 /// How often the subject, and the clip, pass an edge from its smaller to its larger end, less how

@@ -19,6 +19,7 @@ ghost use Rattle.overlay_arrange.specs.Content.{plain_edge, plain_edges, carried
 ghost use Rattle.overlay_arrange.specs.Content.{IsHeld, IsContent, IsAscending};
 ghost use Rattle.overlay_arrange.specs.Cut.{AddsGiven, IsOnLineOf, StaysWhole};
 ghost use Rattle.overlay_arrange.specs.Meetings.{plain_meetings, AreByPlace, ArePointsAt};
+ghost use Rattle.overlay_arrange.specs.Stores.{IsStoreReached};
 
 use crate::content::Content;
 use crate::count::EdgeCount;
@@ -35,6 +36,7 @@ impl<I: IntNumber, C: EdgeCount, A: Allocator> Content<I, C, A> {
     /// Cuts each edge into the pieces of the chain through the whole points in which the others
     /// meet it. Returns whether some point was rounded: if none was, the edges met only in whole points
     /// or overlapped. The edges ascend. If it is refused the content is left open.
+    #[tactic(auto, using(crate::proofs::ReachedStores::never_written))]
     pub fn cut(&mut self, store: &mut C::Store) -> Result<bool, OverlayError>
     where
         A: Clone,
@@ -44,6 +46,7 @@ impl<I: IntNumber, C: EdgeCount, A: Allocator> Content<I, C, A> {
             (computed_chain (edges_in self.old)) self.old self.new) }
         ensures rounded { IfOk result (λ is_rounded.
             (is_rounded ≡ false) ↔ MeetInWholePoints (edges_in self.old)) }
+        ensures store { IsStoreReached C.writes store.old store.new }
         ensures too_many { IsErrOf result OverlayError.TooManyEdges → 2 ^ 31 ≤ weight (cut_edges (edges_in self.old)) }
         ensures only { IfErr result (λ e. (e ≡ OverlayError.Memory) ⊎ (e ≡ OverlayError.TooManyEdges)) }
     {
@@ -55,6 +58,7 @@ impl<I: IntNumber, C: EdgeCount, A: Allocator> Content<I, C, A> {
 }
 
 /// The pieces of all edges, of each one along its chain, and whether some point of a chain was rounded.
+#[tactic(auto, using(crate::proofs::ReachedStores::never_written))]
 fn cut_edges<I: IntNumber, C: EdgeCount, A: Allocator + Clone>(
     alloc: A,
     edges: &[CountedEdge<I, C>],
@@ -67,6 +71,7 @@ fn cut_edges<I: IntNumber, C: EdgeCount, A: Allocator + Clone>(
         (computed_chain (plain_edges I.whole C.counts edges.now)) (carried_edges I.whole C.counts edges.now) cut.0) }
     ensures rounded { IfOk result (λ cut. (cut.1 ≡ false)
         ↔ MeetInWholePoints (plain_edges I.whole C.counts edges.now)) }
+    ensures store { IsStoreReached C.writes store.old store.new }
     ensures too_many { IsErrOf result OverlayError.TooManyEdges
         → 2 ^ 31 ≤ weight (cut_edges (plain_edges I.whole C.counts edges.now)) }
     ensures only { IfErr result (λ e. (e ≡ OverlayError.Memory) ⊎ (e ≡ OverlayError.TooManyEdges)) }
@@ -102,6 +107,7 @@ fn push_pieces<I: IntNumber, C: EdgeCount, A: Allocator>(
         OnOk result (AddsGiven (GivesPiece C.splits C.reverses
         (StaysWhole whole (plain_points I.whole points.now)) (carried_edge I.whole C.counts e.now))
         (steps_through whole.a (plain_points I.whole points.now ++ whole.b ∷ [])) pieces.old pieces.new) }
+    ensures store { IsStoreReached C.writes store.old store.new }
     ensures too_many { let whole = plain_edge I.whole C.counts e.now in
         IsErrOf result OverlayError.TooManyEdges → 2 ^ 31 ≤ weight (edges_in pieces.old
         ++ map (piece_along whole) (steps_through whole.a (plain_points I.whole points.now ++ whole.b ∷ []))) }
@@ -134,6 +140,7 @@ fn push_piece<I: IntNumber, C: EdgeCount, A: Allocator>(
     ensures carried { OnOk result (AddsGiven
         (GivesPiece C.splits C.reverses (IsTrue is_whole) (carried_edge I.whole C.counts e.now))
         (steps_between (plain_point I.whole from) (plain_point I.whole to)) pieces.old pieces.new) }
+    ensures store { IsStoreReached C.writes store.old store.new }
     ensures too_many { IsErrOf result OverlayError.TooManyEdges → 2 ^ 31 ≤ weight (edges_in pieces.old
         ++ map (piece_along (plain_edge I.whole C.counts e.now))
         (steps_between (plain_point I.whole from) (plain_point I.whole to))) }
@@ -161,6 +168,7 @@ fn piece<I: IntNumber, C: EdgeCount>(
     ensures carried { AreGiven (GivesPiece C.splits C.reverses (IsTrue is_whole) (carried_edge I.whole C.counts e.now))
         (steps_between (plain_point I.whole from) (plain_point I.whole to))
         (option_to_list (option_map (carried_edge I.whole C.counts) result)) }
+    ensures store { IsStoreReached C.writes store.old store.new }
 {
     match compare_points(from, to) {
         Ordering::Equal => None,
@@ -181,6 +189,7 @@ fn piece<I: IntNumber, C: EdgeCount>(
 fn part_of<C: EdgeCount>(count: C, is_whole: bool, store: &mut C::Store) -> C
     ensures counts { C.counts result ≡ C.counts count }
     ensures splits { MatchBool is_whole (result ≡ count) (C.splits count result) }
+    ensures writes { MatchBool is_whole (store.new ≡ store.old) (C.writes store.old store.new) }
 {
     if is_whole { count } else { count.split(store) }
 }

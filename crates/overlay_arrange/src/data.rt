@@ -25,11 +25,14 @@ pub struct EdgeDataMerge<C, D> {
 /// Where an edge with data is cut into two pieces or more, each piece has the `split` of its data,
 /// and a piece that runs against its edge the `reversed` of that; where equal edges are merged,
 /// `merge` gives the new data, of two at a time, in an order that is left open. An implementation
-/// says what each of the three may answer.
+/// says what each of the three may answer, and how it may leave the store.
 pub trait OverlayEdgeData: Copy + PartialEq {
     /// What the three need beside the data, as a table in which new data is entered; `()` if
     /// they need nothing.
     type Store: Default + Drop;
+
+    // How one call of the three may leave the store: as it was, if an implementation says nothing else.
+    ghost writes: { Self.Store → Self.Store → Type 0 } = { λ s t. t ≡ s };
 
     // What merging may make of the counts and data of two equal edges.
     ghost merges: { ShapeCountBoolean → Self → ShapeCountBoolean → Self → Self → Type 0 };
@@ -44,15 +47,18 @@ pub trait OverlayEdgeData: Copy + PartialEq {
     fn merge(merge: EdgeDataMerge<ShapeCountBoolean, Self>, store: &mut Self::Store) -> Self
         requires { weight_of_counts (boolean_counts merge.lhs_count)
             + weight_of_counts (boolean_counts merge.rhs_count) < 2 ^ 31 }
-        ensures { merges merge.lhs_count merge.lhs_data merge.rhs_count merge.rhs_data result };
+        ensures merges { merges merge.lhs_count merge.lhs_data merge.rhs_count merge.rhs_data result }
+        ensures writes { writes store.old store.new };
 
     /// Returns the data of a piece of an edge that is cut into several.
     fn split(self, store: &mut Self::Store) -> Self
-        ensures { splits self result };
+        ensures splits { splits self result }
+        ensures writes { writes store.old store.new };
 
     /// Returns the data of a piece that runs against its edge.
     fn reversed(self, store: &mut Self::Store) -> Self
-        ensures { reverses self result };
+        ensures reverses { reverses self result }
+        ensures writes { writes store.old store.new };
 }
 
 /// No data.
@@ -87,6 +93,8 @@ impl<D: OverlayEdgeData> EdgeCount for CountWithData<D> {
     ghost use Rattle.overlay_arrange.specs.EdgeData.{AreMerged, IsPiece, IsReversed};
 
     type Store = D::Store;
+
+    ghost writes = { D.writes };
 
     ghost counts = { λ c. boolean_counts c.count };
 

@@ -4,6 +4,7 @@ ghost use Rattle.std.specs.Prelude.{◌≡◌, ◌≢◌, ◌↔◌, ◌^◌, fa
 ghost use Rattle.std.specs.Prelude.{Err, IfOk, IfErr, OnOk, IsErrOf};
 ghost use Rattle.overlay_arrange.specs.Arranged.{most_rounds, IsArranged, IsArrangedCarrying, IsSplitCarrying};
 ghost use Rattle.overlay_arrange.specs.Arranged.{MayRefuseSplitting};
+ghost use Rattle.overlay_arrange.specs.Stores.{IsStoreReached};
 ghost use Rattle.overlay_plane.specs.Carried.{edges_in};
 ghost use Rattle.overlay_plane.specs.Arrangements.{IsReachedBy, IsSplit, StaysUnsettled, WeighsTooMuch};
 
@@ -28,7 +29,7 @@ impl<I: IntNumber, C: EdgeCount, A: Allocator + Clone> Content<I, C, A> {
     /// Returns whether some round cut the edges; if none did they met in ends alone, but for equal
     /// ones, before.
     ///
-    /// Refusals, after which content and store are left open: `NotSettled` where the edges are not
+    /// Refusals, after which the content is left open: `NotSettled` where the edges are not
     /// settled after 64 rounds, `TooManyEdges` where a round brings the weight to 2^31, `Memory`.
     /// What was arranged before is refused for want of memory alone; `NotSettled` does not come
     /// where edges meet only in whole points or overlap.
@@ -37,6 +38,7 @@ impl<I: IntNumber, C: EdgeCount, A: Allocator + Clone> Content<I, C, A> {
         ensures carried { OnOk result (IsArrangedCarrying C.merges C.splits C.reverses most_rounds self.old self.new) }
         ensures cut { IfOk result (λ is_cut. (is_cut ≡ false)
             ↔ IsReachedBy [] (edges_in self.old) (edges_in self.new)) }
+        ensures store { IsStoreReached C.writes store.old store.new }
         ensures err { IfErr result (MayRefuseSplitting most_rounds (edges_in self.old)) }
     {
         // (its contract says that the edges are in range, and weigh less than 2^31)
@@ -51,6 +53,7 @@ impl<I: IntNumber, C: EdgeCount, A: Allocator + Clone> Content<I, C, A> {
         ensures carried { OnOk result (IsSplitCarrying C.merges C.splits C.reverses rounds self.old self.new) }
         ensures cut { IfOk result (λ is_cut. (is_cut ≡ false)
             ↔ IsReachedBy [] (edges_in self.old) (edges_in self.new)) }
+        ensures store { IsStoreReached C.writes store.old store.new }
         ensures not_settled { IsErrOf result OverlayError.NotSettled → StaysUnsettled rounds (edges_in self.old) }
         ensures too_many { IsErrOf result OverlayError.TooManyEdges
             → WeighsTooMuch rounds (2 ^ 31) (edges_in self.old) }

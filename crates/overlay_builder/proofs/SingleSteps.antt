@@ -1,7 +1,9 @@
--- A single step along its edge, which is added as it is given.
-use Rattle.std.proofs.Common.{◌≡◌, true, cond, is_eq, is_lt, MatchBool, List, [], ◌∷◌, ◌++◌, map, refl, sym, ap, subst}
+-- A single step along its edge, which is added as it is given; what becomes of the store.
+use Rattle.std.proofs.Common.{◌≡◌, true, false, cond, is_eq, is_lt, MatchBool, List, [], ◌∷◌, ◌++◌, map, refl, sym, ap, subst}
 use Rattle.std.proofs.Common.{◌∙◌}
 use Rattle.std.specs.List.{All}
+use Rattle.std.specs.Ordering.{is_le}
+use Rattle.std.specs.declared.cmp.Ordering.{Ordering}
 use Rattle.std.specs.declared.cmp.Ordering.TheVariants.{Less}
 use Rattle.std.proofs.lemmas.List.Elements.{All-nil, All-cons}
 use Rattle.overlay_geom.specs.Counts.{Counts}
@@ -11,7 +13,7 @@ use Rattle.overlay_geom.proofs.PointComparisons.{point_cmp-is_tie, point_cmp-is_
 use Rattle.overlay_plane.specs.Carried.{Carried}
 use Rattle.overlay_arrange.specs.Content.{edge_with}
 use Rattle.overlay_arrange.specs.EdgeData.{IsReversedBy}
-use Rattle.overlay_builder.specs.AddedSteps.{AddsStep, edge_carrying}
+use Rattle.overlay_builder.specs.AddedSteps.{AddsStep, LeavesStore, edge_carrying}
 
 module _ {C : Type 0} (counts : C → Counts) (reverses : C → C → Type 0) (given : C) (p q : Point)
     (less : point_cmp p q ≡ Less) where
@@ -46,3 +48,12 @@ module _ {C : Type 0} (counts : C → Counts) (reverses : C → C → Type 0) (g
         ∙ ap (λ t. old ++ edge_from (cond t (record { a = p; b = q }) (record { a = q; b = p })) ∷ []) (sym runs_along)
         ∙ ap (λ ss. old ++ map (edge_carrying counts given) ss) (sym one_step);
   }
+
+module _ {S : Type 0} (writes : S → S → Type 0) (p q : Point) (o : Ordering) (is : point_cmp p q ≡ o) (s : S) where
+  -- the store stays where the first point is not the larger one
+  pub stays : is_le o ≡ true → LeavesStore writes p q s s
+  stays up = subst (λ t. MatchBool t (s ≡ s) (writes s s)) (sym (ap is_le is ∙ up)) refl
+
+  -- and one call writes into it where it is
+  pub is_written : is_le o ≡ false → (t : S) → writes s t → LeavesStore writes p q s t
+  is_written down t step = subst (λ b. MatchBool b (t ≡ s) (writes s t)) (sym (ap is_le is ∙ down)) step

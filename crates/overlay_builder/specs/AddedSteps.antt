@@ -1,9 +1,10 @@
 -- A single step that becomes a counted edge, and what it carries: it is reversed where the step runs back.
 use Rattle.std.specs.Prelude.{◌≡◌, ◌↔◌, ◌⊎◌, ◌^◌, ◌<◌, ◌≤◌, ◌++◌, true, MatchBool, List, [], map, All}
+use Rattle.std.specs.Ordering.{is_le}
 use Rattle.overlay_geom.specs.Counts.{Counts}
 use Rattle.overlay_geom.specs.Edges.{CountedEdge, weight}
 use Rattle.overlay_geom.specs.Plane.{Point, Step, edge_of, is_forward, steps_between}
-use Rattle.overlay_arrange.specs.Content.{edge_with}
+use Rattle.overlay_arrange.specs.Content.{edge_with, point_cmp}
 use Rattle.overlay_arrange.specs.EdgeData.{IsReversedBy}
 use Rattle.overlay_plane.specs.Carried.{Carried, edges_in}
 
@@ -19,6 +20,11 @@ pub record AddsStep {C : Type 0} (counts : C → Counts) (reverses : C → C →
   pub is_carried : All (λ s. MatchBool (is_forward s) (carried ≡ given) (IsReversedBy counts reverses given carried))
       (steps_between from to)
   pub content : new ≡ old ++ map (edge_carrying counts carried) (steps_between from to)
+
+-- the store once the step between two points is added: it stays as it was, but where the step runs from the larger to the
+-- smaller point, where one call may write into it
+abbrev pub LeavesStore : {S : Type 0} → (S → S → Type 0) → Point → Point → S → S → Type 0
+LeavesStore writes from to old new = MatchBool (is_le (point_cmp from to)) (new ≡ old) (writes old new)
 
 -- the edge that carries this, on which the step between the points runs, would bring the weight to 2^31
 abbrev pub StepWeighsTooMuch : {C : Type 0} → (C → Counts) → C → Point → Point → List (Carried C) → Type 0

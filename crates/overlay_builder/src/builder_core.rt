@@ -9,7 +9,8 @@ ghost use Rattle.overlay_plane.specs.Arrangements.{IsReachedBy};
 ghost use Rattle.overlay_plane.specs.Carried.{edges_in};
 ghost use Rattle.overlay_arrange.specs.Arranged.{IsArrangedCarrying};
 ghost use Rattle.overlay_arrange.specs.Content.{IsContent};
-ghost use Rattle.overlay_builder.specs.AddedSteps.{AddsStep, StepWeighsTooMuch};
+ghost use Rattle.overlay_arrange.specs.Stores.{IsStoreReached};
+ghost use Rattle.overlay_builder.specs.AddedSteps.{AddsStep, LeavesStore, StepWeighsTooMuch};
 ghost use Rattle.overlay_builder.specs.Held.{nothing_held, plain_held, AnswersQuery};
 ghost use Rattle.overlay_builder.specs.PathLists.{carried_weight, path_as, paths_as};
 ghost use Rattle.overlay_builder.specs.PathLists.{AddsAsAsked, WouldWeighTooMuch};
@@ -73,8 +74,8 @@ impl<I: IntNumber, C: EdgeCount, A: Allocator> BuilderCore<I, C, A> {
     }
 
     /// Adds the edge between two points, in the coordinate range, that carries `given`; where the first
-    /// point is the larger one, the reversed of that. Between equal points there is none. The counts of
-    /// `given` weigh less than 2^31.
+    /// point is the larger one, the reversed of that, and else the store stays. Between equal points there is
+    /// none. The counts of `given` weigh less than 2^31.
     ///
     /// Refusals, which leave the core and the store as they were: `Failed` before anything else,
     /// `TooManyEdges` where the weight would come to 2^31, `Memory`.
@@ -90,6 +91,8 @@ impl<I: IntNumber, C: EdgeCount, A: Allocator> BuilderCore<I, C, A> {
         requires to { InRange I.limit (plain_point I.whole to) }
         ensures ok { OnOk result (AddsStep C.counts C.reverses given (plain_point I.whole from)
             (plain_point I.whole to) self.old.edges self.new.edges) }
+        ensures store { OnOk result (LeavesStore C.writes (plain_point I.whole from) (plain_point I.whole to)
+            store.old store.new) }
         ensures kept { self.new ≡ record self.old { edges = self.new.edges } }
         ensures light { weight (edges_in self.new.edges) < 2 ^ 31 }
         ensures err { OnErr result (self.new ≡ self.old) }
@@ -188,6 +191,7 @@ impl<I: IntNumber, C: EdgeCount, A: Allocator + Clone> BuilderCore<I, C, A> {
         ensures query { AnswersQuery I.limit 64 (plain_held self.old) (plain_held self.new) result }
         ensures carried { OnOk result
             (IsArrangedCarrying C.merges C.splits C.reverses 64 self.old.edges self.new.edges) }
+        ensures store { IsStoreReached C.writes store.old store.new }
         ensures untouched { IsErrOf result OverlayError.Failed → self.new ≡ self.old }
         ensures cut { IfOk result (λ is_cut. (is_cut ≡ false)
             ↔ IsReachedBy [] (edges_in self.old.edges) (edges_in self.new.edges)) }

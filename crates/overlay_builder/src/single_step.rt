@@ -3,7 +3,7 @@
 ghost use Rattle.std.specs.Prelude.{◌≡◌, ◌^◌, ◌<◌, ◌⊎◌, IfErr, OnOk, OnErr, IsErrOf};
 ghost use Rattle.overlay_geom.specs.Counts.{weight_of_counts};
 ghost use Rattle.overlay_geom.specs.Points.{plain_point, InRange};
-ghost use Rattle.overlay_builder.specs.AddedSteps.{AddsStep, StepWeighsTooMuch};
+ghost use Rattle.overlay_builder.specs.AddedSteps.{AddsStep, LeavesStore, StepWeighsTooMuch};
 
 use overlay_arrange::content::Content;
 use overlay_arrange::count::EdgeCount;
@@ -15,7 +15,8 @@ use std::alloc::Allocator;
 use std::cmp::Ordering;
 
 /// Adds the edge of the step between two points, if they differ: it carries what is given, or, where the
-/// step runs back, the reversed of that. A refusal leaves the content and the store as they were.
+/// step runs back, the reversed of that, and else the store stays. A refusal leaves the content and the store as
+/// they were.
 pub(crate) fn push_step<I: IntNumber, C: EdgeCount, A: Allocator>(
     content: &mut Content<I, C, A>,
     from: IntPoint<I>,
@@ -28,6 +29,8 @@ pub(crate) fn push_step<I: IntNumber, C: EdgeCount, A: Allocator>(
     requires to { InRange I.limit (plain_point I.whole to) }
     ensures ok { OnOk result (AddsStep C.counts C.reverses given (plain_point I.whole from)
         (plain_point I.whole to) content.old content.new) }
+    ensures store { OnOk result (LeavesStore C.writes (plain_point I.whole from) (plain_point I.whole to)
+        store.old store.new) }
     ensures err { OnErr result (content.new ≡ content.old) }
     ensures untouched { OnErr result (store.new ≡ store.old) }
     ensures too_many { IsErrOf result OverlayError.TooManyEdges → StepWeighsTooMuch C.counts given

@@ -6,6 +6,7 @@ ghost use Rattle.overlay_geom.specs.Edges.{all_ends};
 ghost use Rattle.overlay_geom.specs.Plane.{is_forward};
 ghost use Rattle.overlay_plane.specs.PlacedContours.{walk_at, walks_at};
 ghost use Rattle.overlay_arrange.specs.Graphs.{graph_edges};
+ghost use Rattle.overlay_arrange.specs.Stores.{IsStoreReached};
 ghost use Rattle.overlay_extract.specs.Places.{place_lists, AreInside};
 ghost use Rattle.overlay_walk.specs.GroupedContours.{plain_contours};
 ghost use Rattle.overlay_walk.specs.Steps.{plain_step, plain_steps, RunsAlong};
@@ -44,6 +45,7 @@ pub(crate) fn assembled<I: IntNumber, D: OverlayEdgeData, A: Allocator + Clone>(
         AreVectorContours D.reverses D.eq graph.now.fill_rule keeps_edges graph.now.edges
         (walks_at (plain_contours I.whole contours.now) (place_lists places.now))
         (plain_vector_shapes I.whole v.items)) }
+    ensures store { IsStoreReached D.writes store.old store.new }
     ensures err { IsOkUnless result OverlayError.Memory }
 {
     let mut shapes = Vec::new(graph.allocator().clone()?);
@@ -66,6 +68,7 @@ fn shape_at<I: IntNumber, D: OverlayEdgeData, A: Allocator + Clone>(
     ensures shape { IfOk result (λ v.
         AllZip (IsVectorContour D.reverses D.eq graph.now.fill_rule keeps_edges graph.now.edges)
         (map (walk_at (plain_contours I.whole contours.now)) places.now) (plain_vector_shape I.whole v.items)) }
+    ensures store { IsStoreReached D.writes store.old store.new }
     ensures err { IsOkUnless result OverlayError.Memory }
 {
     let mut shape = Vec::new(graph.allocator().clone()?);
@@ -86,6 +89,7 @@ fn contour<I: IntNumber, D: OverlayEdgeData, A: Allocator + Clone>(
     requires { All (RunsAlong I.whole (all_ends (graph_edges graph.now))) walk.now }
     ensures ok { IfOk result (λ v. IsVectorContour D.reverses D.eq graph.now.fill_rule keeps_edges graph.now.edges
         (plain_steps I.whole walk.now) (plain_data_vectors I.whole v.items)) }
+    ensures store { IsStoreReached D.writes store.old store.new }
     ensures err { IsOkUnless result OverlayError.Memory }
 {
     let vectors = vectors_along(graph, walk, store)?;
@@ -105,6 +109,7 @@ fn vectors_along<I: IntNumber, D: OverlayEdgeData, A: Allocator + Clone>(
     ensures along { IfOk result (λ v. AllZip (IsVectorAlong D.reverses graph.now.fill_rule graph.now.edges)
         (plain_steps I.whole walk.now) (plain_data_vectors I.whole v.items)) }
     ensures in_range { IfOk result (λ v. All (IsInRange I.limit) (plain_data_vectors I.whole v.items)) }
+    ensures store { IsStoreReached D.writes store.old store.new }
     ensures err { IsOkUnless result OverlayError.Memory }
 {
     let mut vectors = Vec::with_capacity(graph.allocator().clone()?, walk.len())?;
@@ -124,6 +129,7 @@ fn vector_along<I: IntNumber, D: OverlayEdgeData, A: Allocator>(
     ensures along { IsVectorAlong D.reverses graph.now.fill_rule graph.now.edges
         (plain_step I.whole step) (plain_data_vector I.whole result) }
     ensures in_range { IsInRange I.limit (plain_data_vector I.whole result) }
+    ensures store { IsStoreReached D.writes store.old store.new }
 {
     let edges = graph.edges();
     let place = step.edge;
@@ -141,6 +147,8 @@ fn walked<I: IntNumber, D: OverlayEdgeData>(
     ensures fill { result.fill ≡ cond (is_forward (plain_step I.whole step)) edge.fill (turned_fill edge.fill) }
     ensures carried { MatchBool (is_forward (plain_step I.whole step))
         (result.edge_data ≡ edge.edge_data.edge_data) (D.reverses edge.edge_data.edge_data result.edge_data) }
+    ensures writes { MatchBool (is_forward (plain_step I.whole step))
+        (store.new ≡ store.old) (D.writes store.old store.new) }
 {
     let (a, b) = (step.from, step.to);
     let mut fill = edge.fill;

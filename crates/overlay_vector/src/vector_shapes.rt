@@ -6,6 +6,7 @@ ghost use Rattle.overlay_plane.specs.BoundContours.{walks_in, AreShapesFound};
 ghost use Rattle.overlay_plane.specs.KeptContours.{CanBeBound};
 ghost use Rattle.overlay_plane.specs.PlacedContours.{CanBePlaced};
 ghost use Rattle.overlay_arrange.specs.Graphs.{graph_edges};
+ghost use Rattle.overlay_arrange.specs.Stores.{IsStoreReached};
 ghost use Rattle.overlay_extract.specs.Places.{place_lists};
 ghost use Rattle.overlay_extract.specs.Results.{asked};
 ghost use Rattle.overlay_walk.specs.GroupedContours.{plain_contours};
@@ -54,6 +55,7 @@ pub fn vector_shapes<I: IntNumber, D: OverlayEdgeData, A: Allocator + Clone>(
     ensures shapes { IfOk result (λ v. AreVectorShapes D.reverses D.eq
         (asked I.Wide.width I.WideUInt.natural graph.now.fill_rule overlay_rule options)
         graph.now.edges (plain_vector_shapes I.whole v.items)) }
+    ensures store { IsStoreReached D.writes store.old store.new }
     ensures err { IsOkUnless result OverlayError.Memory }
 {
     vector_shapes_with_trees_from(
@@ -80,6 +82,7 @@ pub fn vector_shapes_with_trees_from<I: IntNumber, D: OverlayEdgeData, A: Alloca
     ensures shapes { IfOk result (λ v. AreVectorShapes D.reverses D.eq
         (asked I.Wide.width I.WideUInt.natural graph.now.fill_rule overlay_rule options)
         graph.now.edges (plain_vector_shapes I.whole v.items)) }
+    ensures store { IsStoreReached D.writes store.old store.new }
     ensures err { IsOkUnless result OverlayError.Memory }
 {
     graph.note_arrangement();

@@ -4,7 +4,10 @@ ghost use Rattle.std.specs.Prelude.{◌≡◌, ◌≢◌, ◌↔◌, ◌⊎◌, 
 ghost use Rattle.std.specs.Prelude.{Err, IfErr, OnOk, OnErr, IsErrOf};
 ghost use Rattle.std.specs.Iterator.{IsFinite, HoldsAlong};
 ghost use Rattle.overlay_geom.specs.Edges.{weight};
+ghost use Rattle.overlay_geom.specs.Points.{plain_point};
 ghost use Rattle.overlay_plane.specs.Carried.{edges_in};
+ghost use Rattle.overlay_arrange.specs.Stores.{IsStoreReached};
+ghost use Rattle.overlay_builder.specs.AddedSteps.{LeavesStore};
 ghost use Rattle.overlay_vector.specs.AddedEdges.{passed_once, AddsAllGiven, AddsEdge, EdgeWeighsTooMuch};
 ghost use Rattle.overlay_vector.specs.AddedEdges.{IsEdgeInRange, StopsAtEdge};
 
@@ -18,8 +21,8 @@ use std::alloc::Allocator;
 
 impl<I: OverlayInt, D: OverlayEdgeData, A: Allocator> EdgeOverlay<I, D, A> {
     /// Adds an edge of the subject, or of the clip, from a to b, with its data. It is held from its smaller
-    /// to its larger end; where these are exchanged, it holds the reversed of its data. An edge between
-    /// equal points is none. Both ends are in the coordinate range.
+    /// to its larger end; where these are exchanged, it holds the reversed of its data, and else the store
+    /// stays. An edge between equal points is none. Both ends are in the coordinate range.
     ///
     /// Refusals, which leave the builder and its store as they were: `Failed` before anything else,
     /// `TooManyEdges` where the weight would come to 2^31, `Memory`. Room is taken before the data is
@@ -32,6 +35,8 @@ impl<I: OverlayInt, D: OverlayEdgeData, A: Allocator> EdgeOverlay<I, D, A> {
         requires { IsEdgeInRange I.whole I.limit edge }
         ensures ok { OnOk result
             (AddsEdge I.whole shape_type D.reverses edge self.old.edges self.new.edges) }
+        ensures store { OnOk result (LeavesStore D.writes (plain_point I.whole edge.a) (plain_point I.whole edge.b)
+            self.old.store self.new.store) }
         ensures light { OnOk result (weight (edges_in self.new.edges) < 2 ^ 31) }
         ensures kept { self.new ≡ record self.old { edges = self.new.edges; store = self.new.store } }
         ensures err { OnErr result (self.new ≡ self.old) }
@@ -60,6 +65,7 @@ impl<I: OverlayInt, D: OverlayEdgeData, A: Allocator> EdgeOverlay<I, D, A> {
         requires in_range { HoldsAlong P.next_gives iter (All (IsEdgeInRange I.whole I.limit)) }
         ensures ok { OnOk result (AddsAllGiven I.whole shape_type D.reverses P.next_gives iter
             self.old.edges self.new.edges) }
+        ensures store { IsStoreReached D.writes self.old.store self.new.store }
         ensures light { OnOk result (weight (edges_in self.new.edges) < 2 ^ 31) }
         ensures kept { self.new ≡ record self.old { edges = self.new.edges; store = self.new.store } }
         ensures failed { IsErrOf result OverlayError.Failed ↔ (self.old.failed ≡ true) }

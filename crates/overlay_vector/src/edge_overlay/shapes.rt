@@ -5,6 +5,7 @@ ghost use Rattle.overlay_geom.specs.Settled.{IsSettled};
 ghost use Rattle.overlay_plane.specs.Balance.{HasBalancedCounts};
 ghost use Rattle.overlay_plane.specs.Carried.{edges_in};
 ghost use Rattle.overlay_arrange.specs.Content.{IsAscending};
+ghost use Rattle.overlay_arrange.specs.Stores.{IsStoreReached};
 ghost use Rattle.overlay_builder.specs.GivenPaths.{IsBalancedUnlessFailed};
 ghost use Rattle.overlay_builder.specs.Held.{AnswersQuery};
 ghost use Rattle.overlay_extract.specs.Results.{asked};
@@ -55,6 +56,7 @@ impl<I: OverlayInt, D: OverlayEdgeData, A: Allocator + Clone> EdgeOverlay<I, D, 
         ensures shapes { IfOk result (λ v. AreVectorShapes D.reverses D.eq
             (asked I.Wide.width I.WideUInt.natural fill_rule overlay_rule self.old.options)
             self.new.edges (plain_vector_shapes I.whole v.items)) }
+        ensures store { IsStoreReached D.writes self.old.store self.new.store }
         ensures kept { self.new ≡ record self.old {
           edges = self.new.edges;
           boolean_buffer = self.new.boolean_buffer;
@@ -83,6 +85,7 @@ impl<I: OverlayInt, D: OverlayEdgeData, A: Allocator + Clone> EdgeOverlay<I, D, 
         ensures shapes { IfOk result (λ v. AreVectorShapes D.reverses D.eq
             (asked I.Wide.width I.WideUInt.natural fill_rule overlay_rule self.old.options)
             self.old.edges (plain_vector_shapes I.whole v.items)) }
+        ensures store { IsStoreReached D.writes self.old.store self.new.store }
         ensures kept { self.new ≡ record self.old {
           boolean_buffer = self.new.boolean_buffer;
           store = self.new.store;

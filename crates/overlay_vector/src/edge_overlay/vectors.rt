@@ -4,6 +4,7 @@ ghost use Rattle.std.specs.Prelude.{◌≡◌, false, IfOk, OnOk, IsErrOf, IsOkU
 ghost use Rattle.overlay_geom.specs.Settled.{IsSettled};
 ghost use Rattle.overlay_plane.specs.Carried.{edges_in};
 ghost use Rattle.overlay_arrange.specs.Content.{IsAscending};
+ghost use Rattle.overlay_arrange.specs.Stores.{IsStoreReached};
 ghost use Rattle.overlay_builder.specs.Held.{AnswersQuery};
 ghost use Rattle.overlay_vector.specs.DataVectors.{plain_data_vectors, selected_vectors};
 ghost use Rattle.overlay_vector.specs.EdgeBuilder.{held_by, IsArrangedWithData};
@@ -32,8 +33,8 @@ impl<I: OverlayInt, D: OverlayEdgeData, A: Allocator + Clone> EdgeOverlay<I, D, 
     ///
     /// Refusals: `Failed` before anything else, and then nothing is changed; `NotSettled` where edges still
     /// meet in points that are no ends of both after 64 rounds; `TooManyEdges` where a round brings the
-    /// weight to 2^31; `Memory`. After these three the builder has failed, and what it holds and its store
-    /// are left open.
+    /// weight to 2^31; `Memory`. After these three the builder has failed, and what it holds is left
+    /// open.
     pub fn build_vectors(
         &mut self,
         overlay_rule: OverlayRule,
@@ -44,6 +45,7 @@ impl<I: OverlayInt, D: OverlayEdgeData, A: Allocator + Clone> EdgeOverlay<I, D, 
             (IsArrangedWithData D.merges D.splits D.reverses 64 self.old.edges self.new.edges) }
         ensures listed { IfOk result (λ v. plain_data_vectors I.whole v.items
             ≡ selected_vectors fill_rule overlay_rule self.new.edges) }
+        ensures store { IsStoreReached D.writes self.old.store self.new.store }
         ensures kept { self.new ≡ record self.old {
           edges = self.new.edges;
           store = self.new.store;

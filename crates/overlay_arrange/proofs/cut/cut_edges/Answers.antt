@@ -16,6 +16,7 @@ use Rattle.overlay_plane.specs.Cutting.{piece_along, pieces_through}
 use Rattle.overlay_plane.specs.DerivedData.{ArePieces, computed_chain}
 use Rattle.overlay_arrange.specs.Content.{carried_edge, carried_edges, plain_edge, plain_edges, IsHeld}
 use Rattle.overlay_arrange.specs.Cut.{AddsGiven, AreLedAlongLines}
+use Rattle.overlay_arrange.specs.Stores.IsStoreReached.{unwritten}
 use Rattle.overlay_arrange.specs.Meetings.{plain_meetings, AreMeetings, ArePointsAt}
 use Rattle.overlay_arrange.specs.declared.meetings.Meeting.{Meeting}
 use Rattle.overlay_arrange.proofs.Appended.{next_appended}
@@ -25,6 +26,7 @@ use Rattle.overlay_arrange.proofs.CutContents.{weight_of_entry}
 use Rattle.overlay_arrange.proofs.GatheredMeetings.{placed_in_mapped}
 use Rattle.overlay_arrange.proofs.LedThrough.{IsLedThrough, led_through}
 use Rattle.overlay_arrange.proofs.Pieces.{heavy_beginning}
+use Rattle.overlay_arrange.proofs.ReachedStores.{reached_on}
 use Rattle.overlay_arrange.proofs.WholeMeetings.{none_rounded, one_more_along, one_more_off, whole_meetings_on_lines}
 use Rattle.overlay_arrange.proofs.cut.cut_edges.Goals as goal
 use Rattle.overlay_arrange.proofs.cut.cut_edges.Goals.{then-not-are_on_line, else-not-are_on_line}
@@ -127,6 +129,7 @@ loop-i-preserved g c =
             c.loop-i.is_rounded c.if-not-are_on_line.is_rounded c.loop-i.invariant.2
             (tested.on_line.0 (w.if-not-are_on_line.ensures.0 refl)) w.is_rounded-is
       ],
+      reached_on g.C.EdgeCount.writes _ _ _ c.loop-i.invariant.3 c.in_ok-push_pieces.ensures.store,
     )
 
 pub returns-clause-ok : goal.returns-clause-ok
@@ -142,7 +145,7 @@ pub loop-i-init : goal.loop-i-init
 loop-i-init g c =
     let es = plain_edges g.I.IntNumber.whole g.C.EdgeCount.counts c.args.edges.now in
     let gives = ArePieces g.C.EdgeCount.splits g.C.EdgeCount.reverses (computed_chain es) in
-    rw (c.in_ok-pieces.ensures.empty) (refl, λ new adds. adds_all gives adds, none_rounded (AreLedAlongLines es))
+    rw (c.in_ok-pieces.ensures.empty) (refl, λ new adds. adds_all gives adds, none_rounded (AreLedAlongLines es), unwritten _)
 
 pub returns-clause-carried : goal.returns-clause-carried
 returns-clause-carried g c =
@@ -180,3 +183,7 @@ returns-clause-rounded g c =
       λ none. law.0 (subst (All (AreLedAlongLines es)) all (found.0 none)),
       λ whole. found.1 (subst (All (AreLedAlongLines es)) (sym all) (law.1 whole)),
     )
+
+pub returns-in_err-push_pieces-clause-store : goal.returns-in_err-push_pieces-clause-store
+returns-in_err-push_pieces-clause-store g c =
+    reached_on g.C.EdgeCount.writes _ _ _ c.loop-i.invariant.3 c.in_err-push_pieces.ensures.store

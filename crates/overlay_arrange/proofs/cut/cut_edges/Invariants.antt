@@ -8,6 +8,7 @@ use Rattle.overlay_plane.specs.Cutting.{pieces_through}
 use Rattle.overlay_plane.specs.DerivedData.{ArePieces, AreCutAlong, computed_chain}
 use Rattle.overlay_arrange.specs.Content.{plain_edges, carried_edges}
 use Rattle.overlay_arrange.specs.Cut.{AddsGiven, AreLedAlongLines}
+use Rattle.overlay_arrange.specs.Stores.{IsStoreReached}
 use Rattle.overlay_arrange.proofs.cut.cut_edges.Given as goal
 
 abbrev pub invariant-loop-i : goal.invariant-loop-i
@@ -22,3 +23,4 @@ invariant-loop-i g l =
     AddsGiven (ArePieces splits reverses (computed_chain (plain l.edges))) (carried (drop l.i l.edges)) l.pieces new →
     AreCutAlong splits reverses (computed_chain (plain l.edges)) (carried l.edges) new)
     × ((l.is_rounded ≡ false) ↔ All (AreLedAlongLines (plain l.edges)) (plain (take l.i l.edges)))
+    × IsStoreReached g.C.EdgeCount.writes l.initial.store l.store

@@ -6,6 +6,8 @@ use Rattle.overlay_geom.specs.Points.{plain_point}
 use Rattle.overlay_arrange.specs.Content.{carried_edge}
 use Rattle.overlay_arrange.proofs.CarriedPieces.{none_given, piece_given_along, piece_given_back}
 use Rattle.overlay_arrange.proofs.Pieces.{piece_back}
+use Rattle.overlay_arrange.proofs.ReachedStores.{reached_unless}
+use Rattle.overlay_arrange.specs.Stores.IsStoreReached.{unwritten, written}
 use Rattle.overlay_arrange.proofs.cut.piece.Goals as goal
 
 pub returns-in-Greater-clause-counts : goal.returns-in-Greater-clause-counts
@@ -43,3 +45,14 @@ returns-in-Greater-clause-carried g c =
     ∙ c.in-Greater.is)
     (c.reversed.ensures.counts ∙ ap reversed_counts c.part_of-in-Greater.ensures.counts)
     c.part_of-in-Greater.ensures.splits c.reversed.ensures.reverses
+
+pub returns-in-Equal-clause-store : goal.returns-in-Equal-clause-store
+returns-in-Equal-clause-store g c = unwritten _
+
+pub returns-in-Less-clause-store : goal.returns-in-Less-clause-store
+returns-in-Less-clause-store g c = reached_unless g.C.EdgeCount.writes c.args.is_whole _ _ c.part_of.ensures.writes
+
+pub returns-in-Greater-clause-store : goal.returns-in-Greater-clause-store
+returns-in-Greater-clause-store g c =
+    written _ _ _ (reached_unless g.C.EdgeCount.writes c.args.is_whole _ _ c.part_of-in-Greater.ensures.writes)
+    c.reversed.ensures.writes

@@ -13,9 +13,11 @@ use Rattle.overlay_plane.specs.Cutting.{piece_along}
 use Rattle.overlay_plane.specs.DerivedData.{GivesPiece}
 use Rattle.overlay_arrange.specs.Content.{plain_edge, carried_edge}
 use Rattle.overlay_arrange.specs.Cut.{AddsGiven, StaysWhole}
+use Rattle.overlay_arrange.specs.Stores.IsStoreReached.{unwritten}
 use Rattle.overlay_arrange.proofs.Adding.{push-next, push-last}
 use Rattle.overlay_arrange.proofs.CarriedPieces.{adds_alike, adds_both, adds_none}
 use Rattle.overlay_arrange.proofs.Pieces.{heavy_beginning}
+use Rattle.overlay_arrange.proofs.ReachedStores.{reached_on}
 use Rattle.overlay_arrange.proofs.cut.push_pieces.Goals as goal
 
 pub push_piece-requires-clause-to : goal.push_piece-requires-clause-to
@@ -38,6 +40,7 @@ loop-to-preserved g c =
           (adds_both (GivesPiece g.C.EdgeCount.splits g.C.EdgeCount.reverses (IsTrue c.stays_whole-is_whole.result)
           (carried_edge g.I.IntNumber.whole g.C.EdgeCount.counts c.args.e.now))
           c.in_ok-push_piece.ensures.carried adds),
+      reached_on g.C.EdgeCount.writes _ _ _ c.loop-to.invariant.3 c.in_ok-push_piece.ensures.store,
     )
 
 pub returns-in_err-push_piece-clause-too_many : goal.returns-in_err-push_piece-clause-too_many
@@ -102,3 +105,14 @@ returns-clause-carried g c =
     (subst (λ (ss : List Step). AddsGiven gives ss c.loop-to.pieces c.push_piece-2.new.pieces) (sym none)
     (adds_both gives adds (adds_none gives c.push_piece-2.new.pieces)))))
     c.push_piece-2.ensures.carried
+
+pub loop-to-init : goal.loop-to-init
+loop-to-init g c = (refl, c.requires.held.a_in_range, λ new adds. adds, unwritten _)
+
+pub returns-in_err-push_piece-clause-store : goal.returns-in_err-push_piece-clause-store
+returns-in_err-push_piece-clause-store g c =
+    reached_on g.C.EdgeCount.writes _ _ _ c.loop-to.invariant.3 c.in_err-push_piece.ensures.store
+
+pub returns-clause-store : goal.returns-clause-store
+returns-clause-store g c =
+    reached_on g.C.EdgeCount.writes _ _ _ c.loop-to.invariant.3 c.push_piece-2.ensures.store

@@ -9,6 +9,7 @@ use Rattle.overlay_plane.specs.Cutting.{piece_along}
 use Rattle.overlay_plane.specs.DerivedData.{GivesPiece}
 use Rattle.overlay_arrange.specs.Content.{plain_edge, carried_edge}
 use Rattle.overlay_arrange.specs.Cut.{AddsGiven}
+use Rattle.overlay_arrange.specs.Stores.{IsStoreReached}
 use Rattle.overlay_arrange.proofs.cut.push_pieces.Given as goal
 
 abbrev pub invariant-loop-to : goal.invariant-loop-to
@@ -27,3 +28,4 @@ invariant-loop-to g l =
     AddsGiven (GivesPiece g.C.EdgeCount.splits g.C.EdgeCount.reverses (IsTrue l.is_whole)
     (carried_edge g.I.IntNumber.whole g.C.EdgeCount.counts l.e))
     (steps_through e.a (plain_points g.I.IntNumber.whole l.points ++ e.b ∷ [])) l.initial.pieces new)
+    × IsStoreReached g.C.EdgeCount.writes l.initial.store l.store

@@ -1,11 +1,12 @@
 -- One contour more stands at one place more.
-use Rattle.std.proofs.Common.{◌≡◌, ◌∷◌, ◌++◌, [], ◌+◌, ◌<◌, map, take, length, get_or, All, sym, ap, ◌∙◌, subst, arith}
+use Rattle.std.proofs.Common.{◌≡◌, ◌∷◌, ◌++◌, [], ◌+◌, ◌<◌, map, take, length, get_or, All, sym, ap, ◌∙◌, subst, arith, rules}
 use Rattle.std.specs.List.{AllZip}
 use Rattle.std.proofs.lemmas.List.{length-map, map-append, take_all, take_more}
 use Rattle.overlay_geom.specs.Edges.{all_ends}
 use Rattle.overlay_geom.proofs.Mapped.{read_mapped}
 use Rattle.overlay_plane.specs.PlacedContours.{walk_at}
 use Rattle.overlay_arrange.specs.Graphs.{graph_edges}
+use Rattle.overlay_arrange.proofs.ReachedStores.{never_written, reached_on}
 use Rattle.overlay_walk.specs.GroupedContours.{plain_contour, plain_contours}
 use Rattle.overlay_walk.specs.Steps.{plain_steps, RunsAlong}
 use Rattle.overlay_extract.proofs.HolesPlaced.{walk_there}
@@ -53,7 +54,7 @@ loop-i-preserved g c =
     subst (λ w. is w (plain_data_vectors whole contour.items)) (sym walk)
     (subst (λ ss. is (plain_steps whole ss) (plain_data_vectors whole contour.items))
     (c.deref.ensures.value ∙ ap (λ (y : _). y.steps.items) (sym c.index-contours-place.is))
-    c.in_ok-contour.ensures.ok) in
+    c.in_ok-contour.ensures.ok) in (
     subst (AllZip is (map (walk_at cs) (take (i + 1) c.args.places.now)))
     (sym (ap (plain_vector_shape whole) c.in_ok-push.ensures.items
     ∙ map-append (λ (k : _). plain_data_vectors whole k.items) shape (contour ∷ [])))
@@ -61,7 +62,8 @@ loop-i-preserved g c =
     (sym (ap (map (walk_at cs)) (take_more c.args.places.now i 0 c.loop-i-test.true)
     ∙ map-append (walk_at cs) before (place ∷ [])))
     (zipped_more is (map (walk_at cs) before) (plain_vector_shape whole shape)
-    (walk_at cs place) (plain_data_vectors whole contour.items) c.loop-i.invariant taken))
+    (walk_at cs place) (plain_data_vectors whole contour.items) c.loop-i.invariant.0 taken)),
+    reached_on g.D.OverlayEdgeData.writes _ _ _ c.loop-i.invariant.1 c.in_ok-contour.ensures.store)
 
 pub returns-clause-shape : goal.returns-clause-shape
 returns-clause-shape g c =
@@ -69,4 +71,15 @@ returns-clause-shape g c =
     subst (λ ps. AllZip (IsVectorContour g.D.OverlayEdgeData.reverses g.D.PartialEq.eq c.args.graph.now.fill_rule
     c.args.keeps_edges c.args.graph.now.edges)
     (map (walk_at (plain_contours whole c.args.contours.now)) ps) (plain_vector_shape whole c.loop-i.shape.items))
-    (take_all c.loop-i.i c.args.places.now c.loop-i-test.false) c.loop-i.invariant
+    (take_all c.loop-i.i c.args.places.now c.loop-i-test.false) c.loop-i.invariant.0
+
+pub loop-i-init : goal.loop-i-init
+loop-i-init g c = (search rules, never_written g.D.OverlayEdgeData.writes c.args.store.now)
+
+pub returns-in_err-contour-clause-store : goal.returns-in_err-contour-clause-store
+returns-in_err-contour-clause-store g c =
+    reached_on g.D.OverlayEdgeData.writes _ _ _ c.loop-i.invariant.1 c.in_err-contour.ensures.store
+
+pub returns-in_err-push-clause-store : goal.returns-in_err-push-clause-store
+returns-in_err-push-clause-store g c =
+    reached_on g.D.OverlayEdgeData.writes _ _ _ c.loop-i.invariant.1 c.in_ok-contour.ensures.store

@@ -2,6 +2,7 @@
 use Rattle.std.proofs.Common.{◌≡◌, cond, MatchBool, ap, ap₂, subst, ◌∙◌}
 use Rattle.overlay_geom.specs.Plane.{is_forward}
 use Rattle.overlay_arrange.specs.Counts.{boolean_counts}
+use Rattle.overlay_arrange.proofs.ReachedStores.{reached_unless}
 use Rattle.overlay_walk.specs.Steps.{plain_step}
 use Rattle.overlay_vector.specs.DataVectors.{plain_data_vector}
 use Rattle.overlay_vector.specs.SideFills.{turned_fill}
@@ -58,3 +59,8 @@ returns-clause-in_range g c =
     c.requires.stands c.requires.along.above s c.requires.along.along)
     (plain_data_vector whole r)
     (ap₂ (step_between whole) c.walked.ensures.a c.walked.ensures.b)
+
+pub returns-clause-store : goal.returns-clause-store
+returns-clause-store g c =
+    reached_unless g.D.OverlayEdgeData.writes (is_forward (plain_step g.I.IntNumber.whole c.args.step)) c.args.store.now
+    c.walked.new.store c.walked.ensures.writes

@@ -6,6 +6,7 @@ use Rattle.std.proofs.lemmas.Result.{err_from_is_err_and}
 use Rattle.overlay_arrange.proofs.ArrangedLists.{forward_content, leaves_cut, carried_at_once, carried_on}
 use Rattle.overlay_arrange.proofs.RoundsTaken.{split_at_once, unsettled_at_once, split_on, unsettled_on, heavy_on}
 use Rattle.overlay_arrange.proofs.RoundsTaken.{heavy_at_once, uncut_where_settled, cut_where_unsettled}
+use Rattle.overlay_arrange.proofs.ReachedStores.{reached_on}
 use Rattle.overlay_arrange.proofs.WholeMeetings.{settled_where_whole}
 use Rattle.overlay_geom.specs.Settled.{IsSettled}
 use Rattle.overlay_plane.specs.Carried.{edges_in}
@@ -117,3 +118,32 @@ returns-in_ok-merge-2-clause-carried g n c =
     (carried_at_once g.C.EdgeCount.merges g.C.EdgeCount.splits g.C.EdgeCount.reverses (c.args.rounds - 1) c.cut.new.self
     c.merge-else-branch.new.self
     c.in_ok-merge-2.ensures.ok settled c.in_ok-merge-2.ensures.carried)
+
+-- the store is reached by merging, cutting and what follows
+pub returns-in_err-cut-clause-store : goal.returns-in_err-cut-clause-store
+returns-in_err-cut-clause-store g n c =
+    reached_on g.C.EdgeCount.writes _ _ _ c.in_ok-merge.ensures.store c.in_err-cut.ensures.store
+
+pub returns-in_ok-split-clause-store : goal.returns-in_ok-split-clause-store
+returns-in_ok-split-clause-store g n c =
+    let writes = g.C.EdgeCount.writes in
+    reached_on writes _ _ _ (reached_on writes _ _ _ c.in_ok-merge.ensures.store c.in_ok-cut.ensures.store)
+    c.in_ok-split.ensures.store
+
+pub returns-in_err-split-clause-store : goal.returns-in_err-split-clause-store
+returns-in_err-split-clause-store g n c =
+    let writes = g.C.EdgeCount.writes in
+    reached_on writes _ _ _ (reached_on writes _ _ _ c.in_ok-merge.ensures.store c.in_ok-cut.ensures.store)
+    c.in_err-split.ensures.store
+
+pub returns-in_ok-merge-2-clause-store : goal.returns-in_ok-merge-2-clause-store
+returns-in_ok-merge-2-clause-store g n c =
+    let writes = g.C.EdgeCount.writes in
+    reached_on writes _ _ _ (reached_on writes _ _ _ c.in_ok-merge.ensures.store c.in_ok-cut.ensures.store)
+    c.in_ok-merge-2.ensures.store
+
+pub returns-in_err-merge-2-clause-store : goal.returns-in_err-merge-2-clause-store
+returns-in_err-merge-2-clause-store g n c =
+    let writes = g.C.EdgeCount.writes in
+    reached_on writes _ _ _ (reached_on writes _ _ _ c.in_ok-merge.ensures.store c.in_ok-cut.ensures.store)
+    c.in_err-merge-2.ensures.store

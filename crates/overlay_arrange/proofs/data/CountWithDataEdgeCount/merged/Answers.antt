@@ -2,4 +2,4 @@
 use Rattle.overlay_arrange.proofs.data.CountWithDataEdgeCount.merged.Goals as goal
 
 pub returns-clause-merges : goal.returns-clause-merges
-returns-clause-merges g c = record { counts = c.merged.ensures.counts; edge_data = c.merge.ensures }
+returns-clause-merges g c = record { counts = c.merged.ensures.counts; edge_data = c.merge.ensures.merges }

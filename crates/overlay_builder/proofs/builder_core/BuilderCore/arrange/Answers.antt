@@ -3,6 +3,7 @@ use Rattle.std.proofs.Common.{◌≡◌, false, [], rules, subst, ap, ◌∙◌}
 use Rattle.std.specs.Prelude.{◌↔◌, IfOk}
 use Rattle.overlay_plane.specs.Arrangements.{IsReachedBy}
 use Rattle.overlay_plane.specs.Carried.{edges_in}
+use Rattle.overlay_arrange.proofs.ReachedStores.{never_written}
 use Rattle.overlay_builder.specs.Held.{AnswersQuery, plain_held}
 use Rattle.overlay_builder.proofs.Queries.{answers_arranged}
 use Rattle.overlay_builder.proofs.builder_core.BuilderCore.arrange.Goals as goal
@@ -23,3 +24,6 @@ returns-clause-query g c =
     (answers_arranged limit 64 (plain_held (record { edges = c.self.inside.content; failed = c.self.inside.is_failed }))
     (ap (λ h. h.failed) c.self.view_is ∙ ready) new r c.arrange-arranged.ensures.arranged c.note_limits.ensures
     c.arrange-arranged.ensures.err c.is_err-self-inside.ensures.value)
+
+pub returns-in_err-check_usable-clause-store : goal.returns-in_err-check_usable-clause-store
+returns-in_err-check_usable-clause-store g c = never_written g.C.EdgeCount.writes c.args.store.now

@@ -5,7 +5,7 @@ use Rattle.overlay_geom.specs.Points.{plain_point}
 use Rattle.overlay_geom.specs.declared.error.OverlayError.TheVariants.{TooManyEdges}
 use Rattle.overlay_arrange.specs.Counts.{boolean_counts}
 use Rattle.overlay_arrange.specs.EdgeData.{IsReversed}
-use Rattle.overlay_builder.specs.AddedSteps.{AddsStep, StepWeighsTooMuch}
+use Rattle.overlay_builder.specs.AddedSteps.{AddsStep, LeavesStore, StepWeighsTooMuch}
 use Rattle.overlay_vector.specs.AddedEdges.{passed_once, AddsEdge, EdgeWeighsTooMuch}
 use Rattle.overlay_vector.proofs.EdgesAdded.{light_once}
 use Rattle.overlay_vector.proofs.edge_overlay.EdgeOverlay.add_edge.Goals as goal
@@ -37,3 +37,10 @@ returns-clause-too_many g c =
     (subst (λ given. IsErrOf c.add_step.result TooManyEdges → StepWeighsTooMuch (λ k. boolean_counts k.count) given
     (at edge.a) (at edge.b) c.self.inside.core.edges) {y = passed_once c.args.shape_type edge.edge_data}
     c.passed_once-given.ensures c.add_step.ensures.too_many)
+
+pub returns-clause-store : goal.returns-clause-store
+returns-clause-store g c =
+    let at = plain_point g.I.IntNumber.whole in
+    subst (λ b. OnOk c.add_step.result (LeavesStore g.D.OverlayEdgeData.writes (at c.args.edge.a) (at c.args.edge.b)
+    b.store c.add_step.new.store))
+    c.self.view_is c.add_step.ensures.store

@@ -5,6 +5,11 @@ use Rattle.std.proofs.lemmas.List.Elements.{All-pop}
 use Rattle.std.proofs.lemmas.Result.{err_from_is_err_and}
 use Rattle.std.specs.Iterator.{Yields}
 use Rattle.std.specs.Prelude.{Some}
+use Rattle.std.specs.Ordering.{is_le}
+use Rattle.overlay_geom.specs.Points.{plain_point}
+use Rattle.overlay_geom.specs.Resolved.{point_cmp}
+use Rattle.overlay_arrange.specs.Stores.{IsStoreReached}
+use Rattle.overlay_arrange.proofs.ReachedStores.{never_written, reached_on, reached_unless}
 use Rattle.overlay_vector.specs.AddedEdges.{IsEdgeInRange, StopsAtEdge}
 use Rattle.overlay_vector.proofs.EdgesAdded.{none_added, one_more_added, stops_here}
 use Rattle.overlay_vector.proofs.edge_overlay.EdgeOverlay.add_edges.Goals as goal
@@ -17,6 +22,7 @@ loop-edge-init g c =
       search rules,
       none_added g.I.IntNumber.whole c.args.shape_type g.D.OverlayEdgeData.reverses c.args.self.now ready
           c.note_weight.ensures,
+      never_written g.D.OverlayEdgeData.writes c.args.self.now.store,
     )
 
 pub add_edge-requires : goal.add_edge-requires
@@ -33,11 +39,15 @@ add_edge-requires g c =
 
 pub loop-edge-preserved : goal.loop-edge-preserved
 loop-edge-preserved g c =
+    let writes = g.D.OverlayEdgeData.writes in
+    let at = plain_point g.I.IntNumber.whole in
     let e = c.in_ok-add_edge.ensures in (
       search rules,
       search rules,
       one_more_added g.I.IntNumber.whole c.args.shape_type g.D.OverlayEdgeData.reverses c.loop-edge.yielded
           c.in-Some.edge c.args.self.now c.loop-edge.self c.loop-edge.invariant.2 c.add_edge.new.self e.ok e.light e.kept,
+      reached_on writes _ _ _ c.loop-edge.invariant.3
+          (reached_unless writes (is_le (point_cmp (at c.in-Some.edge.a) (at c.in-Some.edge.b))) _ _ e.store),
     )
 
 pub returns-in_err-add_edge-clause-err : goal.returns-in_err-add_edge-clause-err
@@ -57,3 +67,11 @@ returns-in_err-add_edge-clause-err g c =
     c.args.self.now.edges es error) (ap (λ b. b.edges) (sym e.err))
     (subst (λ s. StopsAtEdge whole c.args.shape_type reverses steps s c.args.self.now.edges c.loop-edge.self.edges
     error) same stops)))
+
+pub returns-in_err-add_edge-clause-store : goal.returns-in_err-add_edge-clause-store
+returns-in_err-add_edge-clause-store g c =
+    subst (λ b. IsStoreReached g.D.OverlayEdgeData.writes c.args.self.now.store b.store)
+    (sym c.in_err-add_edge.ensures.err) c.loop-edge.invariant.3
+
+pub returns-in_err-check_usable-clause-store : goal.returns-in_err-check_usable-clause-store
+returns-in_err-check_usable-clause-store g c = never_written g.D.OverlayEdgeData.writes c.args.self.now.store
