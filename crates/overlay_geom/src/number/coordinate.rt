@@ -1,10 +1,14 @@
 //! The numbers that coordinates are made of.
 
 ghost use Rattle.std.proofs.Common.{lit≤};
+ghost use Rattle.overlay_geom.specs.Numbers.{greatest_of_64_bits};
 
 use crate::number::IntNumber;
 use crate::number::part_way::nearest_on_way;
 use std::cmp::Ordering;
+
+// The greatest coordinate of 64 bits, 2^62 - 1: `greatest_of_64_bits`.
+const GREATEST_OF_64_BITS: i64 = 4611686018427387903;
 
 impl IntNumber for i16 {
     type Wide = i32;
@@ -99,14 +103,14 @@ impl IntNumber for i64 {
 
     ghost whole = { λ z. z };
 
-    ghost limit = { 4611686018427387903 };
+    ghost limit = { greatest_of_64_bits };
 
     ghost same = { λ a b e. e };
 
     ghost small = { record { size_bound = lit≤ tt; align_bound = lit≤ tt } };
 
     fn is_in_range(self) -> bool {
-        -4611686018427387903 <= self && self <= 4611686018427387903
+        -GREATEST_OF_64_BITS <= self && self <= GREATEST_OF_64_BITS
     }
 
     fn compare(self, other: i64) -> Ordering {

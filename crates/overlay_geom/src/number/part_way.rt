@@ -3,14 +3,14 @@
 
 ghost use Rattle.std.specs.Prelude.{◌≡◌, ◌+◌, ◌*◌, ◌^◌, ◌<◌, ◌≤◌};
 ghost use Rattle.std.specs.Prelude.{pos, neg_ℤ, ◌+ℤ◌, ◌-ℤ◌, ◌*ℤ◌, ◌<ℤ◌, ◌≤ℤ◌};
-ghost use Rattle.overlay_geom.specs.Numbers.{Within};
+ghost use Rattle.overlay_geom.specs.Numbers.{Within, greatest_of_64_bits};
 ghost use Rattle.overlay_geom.specs.Rounding.{nearest};
 
 /// Returns the coordinate nearest the one that lies `t / d` of the way from one to another, the
 /// greater of two equally near ones.
 pub(crate) fn nearest_on_way(from: i64, to: i64, t: i128, d: i128) -> i64
-    requires from { Within 4611686018427387903 from }
-    requires to { Within 4611686018427387903 to }
+    requires from { Within greatest_of_64_bits from }
+    requires to { Within greatest_of_64_bits to }
     requires begun { pos 0 ≤ℤ t }
     requires part { t ≤ℤ d }
     requires divides { pos 0 <ℤ d }

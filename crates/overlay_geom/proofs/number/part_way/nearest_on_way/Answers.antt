@@ -2,7 +2,7 @@
 use Rattle.std.proofs.Common.{◌≡◌, pos, ◌+ℤ◌, ◌-ℤ◌, ◌≤ℤ◌, lit<, ap, ap₂, sym, subst, ◌∙◌, arith, FitsSigned, to_z, of_z}
 use Rattle.std.proofs.lemmas.Int.{ints, to_z-of_z, to_z_pos}
 use Rattle.std.specs.Int.RustNames.{unsigned_abs}
-use Rattle.overlay_geom.specs.Numbers.{Within}
+use Rattle.overlay_geom.specs.Numbers.{Within, greatest_of_64_bits}
 use Rattle.overlay_geom.proofs.Widths.{Within-fits}
 use Rattle.overlay_geom.proofs.OnWay.{place, Counted, rises, falls, part_way-within}
 use Rattle.overlay_geom.proofs.number.part_way.nearest_on_way.Goals as goal
@@ -35,15 +35,15 @@ counted_down c = record {
 }
 
 -- the place that is wanted is a coordinate in range, on the way up
-within_up : (c : goal.After-half_up) → Within 4611686018427387903 (place c.args.from c.args.to c.args.t c.args.d)
+within_up : (c : goal.After-half_up) → Within greatest_of_64_bits (place c.args.from c.args.to c.args.t c.args.d)
 within_up c =
-    part_way-within 4611686018427387903 c.args.from c.args.to c.args.t c.args.d
+    part_way-within greatest_of_64_bits c.args.from c.args.to c.args.t c.args.d
     c.requires.from c.requires.to c.requires.begun c.requires.part c.requires.divides
 
 -- and on the way down
-within_down : (c : goal.After-half_down) → Within 4611686018427387903 (place c.args.from c.args.to c.args.t c.args.d)
+within_down : (c : goal.After-half_down) → Within greatest_of_64_bits (place c.args.from c.args.to c.args.t c.args.d)
 within_down c =
-    part_way-within 4611686018427387903 c.args.from c.args.to c.args.t c.args.d
+    part_way-within greatest_of_64_bits c.args.from c.args.to c.args.t c.args.d
     c.requires.from c.requires.to c.requires.begun c.requires.part c.requires.divides
 
 -- it is the number from which the way begins with the rounded distance added, on the way up
@@ -113,11 +113,11 @@ overflow_cast-result-else-from-to c = Within-fits w64 9223372036854775806 _ (lit
 
 pub overflow_add-result : goal.overflow_add-result
 overflow_add-result c = subst (FitsSigned w64) (sym (computed_up c))
-    (Within-fits w64 4611686018427387903 _ (lit< tt) (within_up c))
+    (Within-fits w64 greatest_of_64_bits _ (lit< tt) (within_up c))
 
 pub overflow_sub-result : goal.overflow_sub-result
 overflow_sub-result c = subst (FitsSigned w64) (sym (computed_down c))
-    (Within-fits w64 4611686018427387903 _ (lit< tt) (within_down c))
+    (Within-fits w64 greatest_of_64_bits _ (lit< tt) (within_down c))
 
 pub returns-then-from-to : goal.returns-then-from-to
 returns-then-from-to c = to_z-of_z w64 _ (overflow_add-result c) ∙ computed_up c
