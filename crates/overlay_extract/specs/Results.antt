@@ -6,18 +6,14 @@ use Rattle.overlay_geom.specs.Plane.{Point, Step, PlanePoint, IsOff, steps_of, p
 use Rattle.overlay_geom.specs.Edges.{CountedEdge, ends_of, subj_of, clip_of}
 use Rattle.overlay_geom.specs.Thinned.{IsKeptOrThinned}
 use Rattle.overlay_plane.specs.Binding.{AreCutFrom}
-use Rattle.overlay_plane.specs.BoundContours.{AreShapesFound, NoHoleIsLost, walks_in, contours_bound, shapes_bound}
+use Rattle.overlay_plane.specs.BoundContours.{AreShapesFound, NoHoleIsLost, walks_in}
 use Rattle.overlay_plane.specs.ContourWindings.{wanted_winding}
 use Rattle.overlay_plane.specs.Groups.{HasEachPointOnce}
 use Rattle.overlay_plane.specs.RoledContours.{Contour, IsCut, IsCutBy}
 use Rattle.overlay_plane.specs.ShapesAlone.{EachWindsOnceOrNot}
-use Rattle.overlay_plane.specs.ShapeWindings.{points_of_shapes, steps_of_shapes, AreKeptOrThinned}
+use Rattle.overlay_plane.specs.ShapeWindings.{steps_of_shapes, AreKeptOrThinned}
 pub use Rattle.overlay_walk.specs.Asked.{Asked, asked, region_asked, filled_asked, selected_of, is_kept}
-
--- the contours that are bound to shapes, by their points: of each shape its outline, the holes of the outline's own
--- group, and then the holes for which the shape is found
-abbrev pub shapes_found : List Contour → List (Option ℕ) → List (List (List Point))
-shapes_found contours shapes = points_of_shapes (shapes_bound (contours_bound contours shapes))
+pub use Rattle.overlay_walk.specs.KeptResults.{shapes_found}
 
 -- the walks that the selected steps of the edges are cut into without groups, as far as they reach the minimum area
 pub record AreKeptWalks (q : Asked) (es : List CountedEdge) (kept : List (List Step)) : Type 0 where
@@ -33,6 +29,12 @@ WindsRoundRegion q es steps = (p : PlanePoint) → IsOff (map ends_of es) p →
 
 -- the result of an overlay over the edges of an arrangement
 pub record IsResult (q : Asked) (es : List CountedEdge) (result : List (List (List Point))) : Type 0 where
+  -- ---- the promise: the region, with the minimum area zero
+  -- round each point off the edges the result winds as asked
+  pub winds : q.min_output_area ≡ 0 → WindsRoundRegion q es (steps_of_shapes result)
+  -- and each shape by itself winds once, in the output direction, round a point, or zero times
+  pub each_alone : q.min_output_area ≡ 0 → EachWindsOnceOrNot (filled_asked q) result
+  -- ---- the promise: which contours there are, and where each stands
   -- the contours that the selected steps are cut into, as far as they reach the minimum area: while steps are left, the
   -- next walk is the orbit of the one of them that is along the top edge at their leftmost lowest point; with ogc, in
   -- groups
@@ -43,7 +45,8 @@ pub record IsResult (q : Asked) (es : List CountedEdge) (result : List (List (Li
   pub found : AreShapesFound (filled_asked q) contours shapes
   -- the result shows the contours, in their shapes and their order, each as it is, or thinned
   pub shown : AreKeptOrThinned q.preserve_output_collinear (shapes_found contours shapes) result
-  -- with the minimum area zero no hole is lost
+  -- ---- what follows, with the minimum area zero
+  -- no hole is lost
   pub none_lost : q.min_output_area ≡ 0 → NoHoleIsLost contours shapes
   -- the contours have each selected step exactly once
   pub each_once : q.min_output_area ≡ 0 →
@@ -51,26 +54,26 @@ pub record IsResult (q : Asked) (es : List CountedEdge) (result : List (List (Li
   -- and so has the result, where points on one line stay
   pub kept_each_once : q.min_output_area ≡ 0 → q.preserve_output_collinear ≡ true →
       IsPermutation (selected_of q es) (steps_of_shapes result)
-  -- and round each point off the edges the result winds as asked
-  pub winds : q.min_output_area ≡ 0 → WindsRoundRegion q es (steps_of_shapes result)
-  -- and each shape by itself winds once, in the output direction, round a point, or zero times
-  pub each_alone : q.min_output_area ≡ 0 → EachWindsOnceOrNot (filled_asked q) result
-  -- with ogc none of the contours visits a point twice, and none of the result
+  -- ---- what follows, with ogc
+  -- none of the contours visits a point twice, and none of the result
   pub points_once : q.ogc ≡ true → All (All HasEachPointOnce) (shapes_found contours shapes)
   pub shown_points_once : q.ogc ≡ true → All (All HasEachPointOnce) result
 
 -- the contours of an overlay over the edges of an arrangement, in one list in the order in which they are found: they
 -- are cut without groups, whatever is asked for
 pub record IsContoursResult (q : Asked) (es : List CountedEdge) (result : List (List Point)) : Type 0 where
+  -- ---- the promise: the region, with the minimum area zero
+  -- round each point off the edges the result winds as asked
+  pub winds : q.min_output_area ≡ 0 → WindsRoundRegion q es (flat_map steps_of result)
+  -- ---- the promise: which contours there are
   pub contours : List Contour
   pub cut : IsCut (filled_asked q) (is_kept q) (selected_of q es) contours
   -- the result shows them, each as it is, or thinned
   pub shown : AllZip (IsKeptOrThinned q.preserve_output_collinear) (map points_of (walks_in contours)) result
-  -- with the minimum area zero the contours have each selected step exactly once
+  -- ---- what follows, with the minimum area zero
+  -- the contours have each selected step exactly once
   pub each_once : q.min_output_area ≡ 0 →
       IsPermutation (selected_of q es) (flat_map steps_of (map points_of (walks_in contours)))
   -- and so has the result, where points on one line stay
   pub kept_each_once : q.min_output_area ≡ 0 → q.preserve_output_collinear ≡ true →
       IsPermutation (selected_of q es) (flat_map steps_of result)
-  -- and round each point off the edges the result winds as asked
-  pub winds : q.min_output_area ≡ 0 → WindsRoundRegion q es (flat_map steps_of result)

@@ -65,8 +65,10 @@ WindsRoundFilled fill direction es steps = (p : PlanePoint) → IsOff (map ends_
 -- type of this width, are left out
 pub record IsSliced (width : Width) (min : ℕ) (fill : FillRule) (direction : ContourDirection) (es : List CountedEdge)
     (result : List (List (List Point))) : Type 0 where
-  -- the edges lead forward and meet in ends alone, and the subject's counts are balanced, as laws of filled sides ask
-  pub balanced : IsBalancedArrangement subj_of es
+  -- ---- the promise: the region, with the minimum area zero
+  -- round each point off the edges the result winds as what is filled asks
+  pub winds : min ≡ 0 → WindsRoundFilled fill direction es (steps_of_shapes result)
+  -- ---- the promise: which contours there are, and where each stands
   -- the loops into which the filled sides are cut, as far as they reach the minimum area; of those that are holes, the
   -- shape: the parent, or the one shape that there is
   pub contours : List Contour
@@ -74,7 +76,8 @@ pub record IsSliced (width : Width) (min : ℕ) (fill : FillRule) (direction : C
   pub slices : AreSlices width min fill es contours shapes
   -- the result shows them, in their shapes and their order, with all of their points
   pub shown : result ≡ slices_shown direction contours shapes
-  -- its steps, with the filled side on the left, are filled sides, none of them twice
+  -- ---- what follows
+  -- the steps of the result, with the filled side on the left, are filled sides, none of them twice
   pub are_sides : All (Contains (sides_under fill es)) (left_steps_of_shapes direction result)
   pub at_most_once : HasEachOnce (left_steps_of_shapes direction result)
   -- those of a contour lie in one orbit
@@ -83,10 +86,12 @@ pub record IsSliced (width : Width) (min : ℕ) (fill : FillRule) (direction : C
   pub points_once : All (All HasEachPointOnce) result
   -- each shape is an outline and its holes
   pub roles : All (IsOutlineWithHoles direction) result
-  -- with the minimum area zero no hole is lost
+  -- ---- what follows, with the minimum area zero
+  -- no hole is lost
   pub none_lost : min ≡ 0 → NoHoleIsLost contours shapes
-  -- and a filled side is missing exactly where its reverse is a filled side too, and lies in the same orbit
+  -- a filled side is missing exactly where its reverse is a filled side too, and lies in the same orbit
   pub missing : min ≡ 0 → (s : Step) → Contains (sides_under fill es) s →
       ¬ (Contains (left_steps_of_shapes direction result) s) ↔ IsInOneOrbit (sides_under fill es) s (reversed_step s)
-  -- and round each point off the edges the result winds as what is filled asks
-  pub winds : min ≡ 0 → WindsRoundFilled fill direction es (steps_of_shapes result)
+  -- ---- what laws of filled sides ask of the edges
+  -- they lead forward and meet in ends alone, and the subject's counts are balanced
+  pub balanced : IsBalancedArrangement subj_of es

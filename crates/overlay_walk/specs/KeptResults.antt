@@ -14,22 +14,23 @@ use Rattle.overlay_plane.specs.ShapesAlone.{EachWindsOnceOrNot}
 use Rattle.overlay_plane.specs.ShapeWindings.{points_of_shapes, steps_of_shapes, AreKeptOrThinned}
 use Rattle.overlay_walk.specs.Asked.{Asked, region_asked, filled_asked, selected_of, is_kept}
 
--- contours to which these shapes are bound, by their steps
-abbrev pub shapes_of_kept : List Contour → List (Option ℕ) → List (List (List Point))
-shapes_of_kept contours shapes = points_of_shapes (shapes_bound (contours_bound contours shapes))
+-- the contours that are bound to shapes, by their points: of each shape its outline, the holes of the outline's own
+-- group, and then the holes for which the shape is found
+abbrev pub shapes_found : List Contour → List (Option ℕ) → List (List (List Point))
+shapes_found contours shapes = points_of_shapes (shapes_bound (contours_bound contours shapes))
 
 -- where the shapes are found, no hole is lost, and the shapes have each selected step exactly once; and, each contour
 -- as it is or thinned, they wind as asked, and each by itself once or zero times
 pub record AreWhole (q : Asked) (es : List CountedEdge) (contours : List Contour)
     (shapes : List (Option ℕ)) : Type 0 where
   pub none_lost : NoHoleIsLost contours shapes
-  pub each_once : IsPermutation (selected_of q es) (steps_of_shapes (shapes_of_kept contours shapes))
+  pub each_once : IsPermutation (selected_of q es) (steps_of_shapes (shapes_found contours shapes))
   pub winds : (as_given : Bool) (result : List (List (List Point))) →
-      AreKeptOrThinned as_given (shapes_of_kept contours shapes) result → (p : PlanePoint) →
+      AreKeptOrThinned as_given (shapes_found contours shapes) result → (p : PlanePoint) →
       winding (steps_of_shapes result) p ≡ wanted_winding (region_asked q) subj_of clip_of (filled_asked q) es p
   -- and each of them by itself winds once, or zero times
   pub each_alone : (as_given : Bool) (result : List (List (List Point))) →
-      AreKeptOrThinned as_given (shapes_of_kept contours shapes) result → EachWindsOnceOrNot (filled_asked q) result
+      AreKeptOrThinned as_given (shapes_found contours shapes) result → EachWindsOnceOrNot (filled_asked q) result
 
 -- the contours are those that the selected steps are cut into, in groups if that is asked for, as far as they reach the
 -- minimum area
