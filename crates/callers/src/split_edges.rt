@@ -2,7 +2,7 @@
 
 ghost use Rattle.std.specs.Prelude.{OnOk};
 ghost use Rattle.overlay_plane.specs.Carried.{edges_in};
-ghost use Rattle.overlay_arrange.specs.Arranged.{IsArranged};
+ghost use Rattle.overlay_arrange.specs.Arranged.{IsArranged, most_rounds};
 
 use overlay_arrange::content::Content;
 use overlay_arrange::count::ShapeCountBoolean;
@@ -13,7 +13,7 @@ use std::alloc::Global;
 pub fn split_edges(
     content: &mut Content<i32, ShapeCountBoolean, Global>,
 ) -> Result<usize, OverlayError>
-    ensures { OnOk result (IsArranged 64 (edges_in content.old) (edges_in content.new)) }
+    ensures { OnOk result (IsArranged most_rounds (edges_in content.old) (edges_in content.new)) }
 {
     content.arrange(&mut ())?;
     Ok(content.edges().len())

@@ -5,7 +5,7 @@ use Rattle.std.specs.Int.{Width}
 use Rattle.overlay_geom.specs.declared.error.OverlayError.{OverlayError}
 use Rattle.overlay_geom.specs.Edges.{CountedEdge}
 use Rattle.overlay_geom.specs.Plane.{Point}
-use Rattle.overlay_arrange.specs.Arranged.{IsArranged}
+use Rattle.overlay_arrange.specs.Arranged.{IsArranged, most_rounds}
 use Rattle.overlay_arrange.specs.Options.{AreOptions}
 use Rattle.overlay_arrange.specs.declared.fill_rule.FillRule.{FillRule}
 use Rattle.overlay_arrange.specs.declared.overlay_rule.OverlayRule.{OverlayRule}
@@ -15,7 +15,8 @@ use Rattle.overlay_arrange.specs.declared.options.IntOverlayOptions.{IntOverlayO
 use Rattle.overlay_builder.specs.Held.{Held, AnswersQuery}
 use Rattle.i_overlay.specs.OneShot.{asked_by_default, IsResultOfPaths, MayRefusePaths}
 use Rattle.overlay_extract.specs.Results.{Asked, asked, IsResult}
-use Rattle.overlay_builder.specs.GivenPaths.{GivenPath, HoldsPaths}
+use Rattle.overlay_builder.specs.GivenPaths.{GivenPath, added_paths}
+use Rattle.overlay_builder.specs.PathLists.{HoldsPaths}
 use Rattle.overlay_simplify.proofs.AddedAlone.{query_refused as refused_alone}
 
 -- what the default options ask for
@@ -41,7 +42,8 @@ asked_of_default area_width natural fill rule o are =
 -- the result of a query on a content that the paths give is one of the paths
 pub result_of_paths : {V E : Type 0} (r : Result V E) (shapes : V → List (List (List Point))) (q : Asked)
     (paths : List GivenPath)
-    (content edges : List CountedEdge) → HoldsPaths false paths content → OnOk r (IsArranged 64 content edges)
+    (content edges : List CountedEdge) → HoldsPaths (added_paths false paths) content
+    → OnOk r (IsArranged most_rounds content edges)
     → IfOk r (λ v. IsResult q edges (shapes v)) → IfOk r (λ v. IsResultOfPaths q paths (shapes v))
 result_of_paths (Ok v) shapes q paths content edges holds arranged is =
     record { content = content; edges = edges; holds = holds; arranged = arranged; is_result = is }
@@ -50,7 +52,7 @@ result_of_paths (Err e) shapes q paths content edges holds arranged is = tt
 -- the refusal of a query on the paths
 pub query_refused : {V : Type 0} (limit : ℕ) (paths : List GivenPath) (old new : Held CountedEdge)
     (r : Result V OverlayError)
-    → HoldsPaths false paths old.edges → old.failed ≡ false → AnswersQuery limit 64 old new r
+    → HoldsPaths (added_paths false paths) old.edges → old.failed ≡ false → AnswersQuery limit most_rounds old new r
     → IfErr r (MayRefusePaths paths)
 query_refused limit paths old new (Ok v) holds ready h = tt
 query_refused limit paths old new (Err e) holds ready h = refused_alone false paths limit old new e holds ready h

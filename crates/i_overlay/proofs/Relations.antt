@@ -5,16 +5,18 @@ use Rattle.std.specs.Prelude.{◌↔◌, Result, Ok, Err, IfOk, OnOk, IsTrue}
 use Rattle.overlay_geom.specs.declared.error.OverlayError.{OverlayError}
 use Rattle.overlay_geom.specs.Edges.{CountedEdge}
 use Rattle.overlay_plane.specs.Predicates.{Intersects, IsDisjoint, IsFillable}
-use Rattle.overlay_arrange.specs.Arranged.{IsArranged}
+use Rattle.overlay_arrange.specs.Arranged.{IsArranged, most_rounds}
 use Rattle.overlay_arrange.specs.Rules.{is_filled}
 use Rattle.overlay_arrange.specs.declared.fill_rule.FillRule.{FillRule}
-use Rattle.overlay_builder.specs.GivenPaths.{GivenPath, HoldsPaths}
+use Rattle.overlay_builder.specs.GivenPaths.{GivenPath, added_paths}
+use Rattle.overlay_builder.specs.PathLists.{HoldsPaths}
 use Rattle.i_overlay.specs.Relations.{TellsOfPaths}
 
 -- the answer of a query on a content that the paths give is one of the paths
 pub answer_of_paths : (r : Result Bool OverlayError) (relation : (ℤ → Bool) → List CountedEdge → Type 0)
     (fill : FillRule) (paths : List GivenPath)
-    (content edges : List CountedEdge) → HoldsPaths false paths content → OnOk r (IsArranged 64 content edges)
+    (content edges : List CountedEdge) → HoldsPaths (added_paths false paths) content
+    → OnOk r (IsArranged most_rounds content edges)
     → OnOk r (IsFillable (is_filled fill) edges)
     → IfOk r (λ b. IsTrue b ↔ relation (is_filled fill) edges) → IfOk r (TellsOfPaths relation fill paths)
 answer_of_paths (Ok b) relation fill paths content edges holds arranged fillable tells = record {

@@ -4,11 +4,12 @@ use Rattle.std.specs.Int.{Width}
 use Rattle.overlay_geom.specs.Plane.{Point}
 use Rattle.overlay_geom.specs.Edges.{CountedEdge}
 use Rattle.overlay_geom.specs.declared.error.OverlayError.{OverlayError}
-use Rattle.overlay_arrange.specs.Arranged.{IsArranged}
+use Rattle.overlay_arrange.specs.Arranged.{IsArranged, most_rounds}
 use Rattle.overlay_arrange.specs.declared.fill_rule.FillRule.{FillRule}
 use Rattle.overlay_arrange.specs.declared.overlay_rule.OverlayRule.{OverlayRule}
 use Rattle.overlay_arrange.specs.declared.options.ContourDirection.TheVariants.{CounterClockwise}
-use Rattle.overlay_builder.specs.GivenPaths.{GivenPath, HoldsPaths}
+use Rattle.overlay_builder.specs.GivenPaths.{GivenPath, added_paths}
+use Rattle.overlay_builder.specs.PathLists.{HoldsPaths}
 use Rattle.overlay_extract.specs.Results.{Asked, IsResult}
 use Rattle.overlay_simplify.specs.Alone.{MayRefuseAlone}
 
@@ -28,10 +29,10 @@ asked_by_default area_width fill rule = record {
 pub record IsResultOfPaths (q : Asked) (paths : List GivenPath) (result : List (List (List Point))) : Type 0 where
   pub content : List CountedEdge
   pub edges : List CountedEdge
-  pub holds : HoldsPaths false paths content
-  pub arranged : IsArranged 64 content edges
+  pub holds : HoldsPaths (added_paths false paths) content
+  pub arranged : IsArranged most_rounds content edges
   pub is_result : IsResult q edges result
 
 -- the paths may be refused so
 abbrev pub MayRefusePaths : List GivenPath → OverlayError → Type 0
-MayRefusePaths = MayRefuseAlone false 64
+MayRefusePaths = MayRefuseAlone false most_rounds

@@ -8,6 +8,7 @@ use Rattle.overlay_plane.specs.ShapeWindings.{steps_of_shapes}
 use Rattle.overlay_arrange.specs.declared.fill_rule.FillRule.{FillRule}
 use Rattle.overlay_arrange.specs.declared.options.ContourDirection.{ContourDirection}
 use Rattle.overlay_arrange.specs.declared.options.ShapeType.TheVariants.{Subject}
+use Rattle.overlay_arrange.specs.Arranged.{most_rounds}
 use Rattle.overlay_builder.specs.GivenPaths.{paths_for}
 use Rattle.overlay_extract.specs.Results.{Asked, filled_asked, IsResult, IsContoursResult, WindsRoundRegion}
 use Rattle.overlay_simplify.specs.Alone.{IsArrangedAlone}
@@ -68,7 +69,7 @@ pub record IsSimplifiedSource (q : Asked) (keep : Bool) (paths : List (List Poin
 pub record IsSimplifiedAlone (q : Asked) (keep : Bool) (paths : List (List Point))
     (shapes : List (List (List Point))) : Type 0 where
   pub edges : List CountedEdge
-  pub arranged : IsArrangedAlone keep 64 (paths_for Subject paths) edges
+  pub arranged : IsArrangedAlone keep most_rounds (paths_for Subject paths) edges
   pub simplified : IsSimplifiedSource q keep paths edges shapes
 
 -- ---- of contours in one list, where these edges are left of theirs

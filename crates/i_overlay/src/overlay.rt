@@ -1,17 +1,14 @@
 //! The overlay builder: contours are added, and queries are answered.
 
-ghost use Rattle.std.specs.Prelude.{◌≡◌, false, [], map, Some, IfOk, OnOk, OnErr, IsOkUnless, IsErrOf};
+ghost use Rattle.std.specs.Prelude.{◌≡◌, false, [], map, Some, IfOk, OnOk, OnErr, IsOkUnless};
 ghost use Rattle.overlay_arrange.specs.Content.{IsAscending};
 ghost use Rattle.overlay_arrange.specs.Graphs.{graph_edges};
 ghost use Rattle.overlay_arrange.specs.Vectors.{plain_vector, vector_of};
 ghost use Rattle.overlay_geom.specs.Flat.{paths_in};
-ghost use Rattle.overlay_geom.specs.Merged.{HaveSameWindings};
 ghost use Rattle.overlay_geom.specs.Packed.{IsPacked};
 ghost use Rattle.overlay_geom.specs.Paths.{plain_shapes};
 ghost use Rattle.overlay_geom.specs.Settled.{IsSettled};
-ghost use Rattle.overlay_plane.specs.Meetings.{MeetInWholePoints};
-ghost use Rattle.overlay_builder.specs.Held.{AnswersQuery};
-ghost use Rattle.i_overlay.specs.Builder.{held_by};
+ghost use Rattle.i_overlay.specs.Queries.{BuilderAnswers, BuilderExtracts};
 ghost use Rattle.overlay_extract.specs.Results.{asked, IsResult, IsContoursResult};
 
 use crate::solver::Solver;
@@ -98,11 +95,9 @@ impl<I: OverlayInt, A: Allocator + Clone> Overlay<I, A> {
         &mut self,
         fill_rule: FillRule,
     ) -> Result<Vec<DataVectorEdge<I, ()>, A>, OverlayError>
-        ensures query { AnswersQuery I.limit 64 (held_by self.old) (held_by self.new) result }
+        ensures answers { BuilderAnswers I.limit self.old self.new result }
         ensures listed { IfOk result (λ v.
             map (plain_vector I.whole) v.items ≡ map (vector_of fill_rule self.new.edges) self.new.edges) }
-        ensures kept { self.new ≡ record self.old { edges = self.new.edges; failed = self.new.failed } }
-        ensures untouched { IsErrOf result OverlayError.Failed → self.new ≡ self.old }
     {
         self.core.arrange(&mut ())?;
         let listed = self.list(fill_rule);
@@ -133,20 +128,11 @@ impl<I: OverlayInt, A: Allocator + Clone> Overlay<I, A> {
         overlay_rule: OverlayRule,
         fill_rule: FillRule,
     ) -> Result<IntShapes<I, A>, OverlayError>
-        ensures query { AnswersQuery I.limit 64 (held_by self.old) (held_by self.new) result }
+        ensures answers { BuilderExtracts I.limit self.old self.new result }
         ensures result { IfOk result (λ v. IsResult
             (asked I.Wide.width I.WideUInt.natural fill_rule overlay_rule self.old.options)
             self.new.edges (plain_shapes I.whole v.items)) }
         ensures empty { self.new.edges ≡ [] → IfOk result (λ v. v.items ≡ []) }
-        ensures exact { MeetInWholePoints self.old.edges
-            → OnOk result (HaveSameWindings self.old.edges self.new.edges) }
-        ensures kept { self.new ≡ record self.old {
-          edges = self.new.edges;
-          boolean_buffer = self.new.boolean_buffer;
-          failed = self.new.failed;
-        } }
-        ensures untouched { IsErrOf result OverlayError.Failed → self.new ≡ self.old }
-        ensures buffer { OnOk result (self.new.boolean_buffer ≡ Some tt) }
     {
         self.core.arrange(&mut ())?;
         let shapes = self.extract(overlay_rule, fill_rule);
@@ -169,22 +155,13 @@ impl<I: OverlayInt, A: Allocator + Clone> Overlay<I, A> {
         fill_rule: FillRule,
         output: &mut FlatContoursBuffer<I, B>,
     ) -> Result<(), OverlayError>
-        ensures query { AnswersQuery I.limit 64 (held_by self.old) (held_by self.new) result }
+        ensures answers { BuilderExtracts I.limit self.old self.new result }
         ensures result { OnOk result (IsContoursResult
             (asked I.Wide.width I.WideUInt.natural fill_rule overlay_rule self.old.options)
             self.new.edges (paths_in I.whole output.new.points.items output.new.ranges.items)) }
         ensures packed { OnOk result (IsPacked output.new.points.items output.new.ranges.items) }
         ensures no_points { OnErr result (output.new.points.items ≡ []) }
         ensures no_ranges { OnErr result (output.new.ranges.items ≡ []) }
-        ensures exact { MeetInWholePoints self.old.edges
-            → OnOk result (HaveSameWindings self.old.edges self.new.edges) }
-        ensures kept { self.new ≡ record self.old {
-          edges = self.new.edges;
-          boolean_buffer = self.new.boolean_buffer;
-          failed = self.new.failed;
-        } }
-        ensures untouched { IsErrOf result OverlayError.Failed → self.new ≡ self.old }
-        ensures buffer { OnOk result (self.new.boolean_buffer ≡ Some tt) }
     {
         emptied(output);
         self.core.arrange(&mut ())?;

@@ -2,6 +2,7 @@
 
 ghost use Rattle.std.specs.Prelude.{All, IfOk, IfErr};
 ghost use Rattle.overlay_arrange.specs.declared.options.ShapeType.TheVariants.{Subject};
+ghost use Rattle.overlay_arrange.specs.Arranged.{most_rounds};
 ghost use Rattle.overlay_builder.specs.GivenPaths.{paths_for};
 ghost use Rattle.overlay_extract.specs.Results.{asked};
 ghost use Rattle.overlay_geom.specs.Paths.{plain_shapes};
@@ -35,7 +36,7 @@ pub trait Simplify<I: OverlayInt>: IntShapeResource<I> {
         ensures result { IfOk result (λ v. IsSimplifiedAlone
             (asked I.Wide.width I.WideUInt.natural fill_rule OverlayRule.Subject options)
             options.preserve_input_collinear (Self.paths self.now) (plain_shapes I.whole v.items)) }
-        ensures err { IfErr result (MayRefuseAlone options.preserve_input_collinear 64
+        ensures err { IfErr result (MayRefuseAlone options.preserve_input_collinear most_rounds
             (paths_for Subject (Self.paths self.now))) };
 }
 
@@ -50,7 +51,7 @@ impl<I: OverlayInt, R0: IntShapeResource<I>> Simplify<I> for R0 {
         ensures result { IfOk result (λ v. IsSimplifiedAlone
             (asked I.Wide.width I.WideUInt.natural fill_rule OverlayRule.Subject options)
             options.preserve_input_collinear (R0.paths self.now) (plain_shapes I.whole v.items)) }
-        ensures err { IfErr result (MayRefuseAlone options.preserve_input_collinear 64
+        ensures err { IfErr result (MayRefuseAlone options.preserve_input_collinear most_rounds
             (paths_for Subject (R0.paths self.now))) }
     {
         let mut overlay = Overlay::new_custom(alloc, 0, options, Solver::ABSOLUTE)?;

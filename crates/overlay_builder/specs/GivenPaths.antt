@@ -1,14 +1,11 @@
--- Closed paths for the subject or for the clip, added to a builder one after another, and when that is refused.
-use Rattle.std.specs.Prelude.{◌≡◌, ◌^◌, ◌<◌, ◌++◌, Bool, false, List, [], map}
+-- Closed paths for the subject or for the clip, as a builder adds them.
+use Rattle.std.specs.Prelude.{◌≡◌, ◌++◌, Bool, false, List, map}
 use Rattle.overlay_geom.specs.Plane.{Point}
 use Rattle.overlay_geom.specs.Edges.{CountedEdge, weight}
-use Rattle.overlay_geom.specs.declared.error.OverlayError.{OverlayError}
-use Rattle.overlay_geom.specs.declared.error.OverlayError.TheVariants.{Memory, NotSettled, TooManyEdges, Failed}
 use Rattle.overlay_plane.specs.Balance.{HasBalancedCounts}
 use Rattle.overlay_arrange.specs.Content.{edge_for}
 pub use Rattle.overlay_arrange.specs.Paths.{GivenPath}
-use Rattle.overlay_builder.specs.PathLists.{AddedPath, AddsPaths, StopsAtPath, path_as}
-use Rattle.overlay_builder.specs.PathLists.{WouldWeighTooMuch as PathWouldWeighTooMuch}
+use Rattle.overlay_builder.specs.PathLists.{AddedPath, WouldWeighTooMuch, path_as}
 use Rattle.overlay_builder.specs.Paths.{contour_kind}
 use Rattle.overlay_arrange.specs.declared.options.ShapeType.{ShapeType}
 use Rattle.overlay_arrange.specs.declared.options.ShapeType.TheVariants.{Subject, Clip}
@@ -28,28 +25,11 @@ added_path keep p = path_as (contour_kind keep) (edge_for p.shape_type) p.points
 abbrev pub added_paths : Bool → List GivenPath → List (AddedPath CountedEdge)
 added_paths keep paths = map (added_path keep) paths
 
--- the content is what the paths add to no edges, and a builder may hold it
-pub record HoldsPaths (keep : Bool) (paths : List GivenPath) (es : List CountedEdge) : Type 0 where
-  pub added : AddsPaths (added_paths keep paths) [] es
-  pub light : weight es < 2 ^ 31
-
 -- what a builder holds that has not failed has balanced counts, since closed contours alone were added
 abbrev pub IsBalancedUnlessFailed : Bool → List CountedEdge → Type 0
 IsBalancedUnlessFailed failed es = failed ≡ false → HasBalancedCounts es
 
 -- adding the contour would bring the weight to 2^31
-abbrev pub WouldWeighTooMuch : Bool → ShapeType → List Point → List CountedEdge → Type 0
-WouldWeighTooMuch keep_points shape_type given old =
-    PathWouldWeighTooMuch weight (path_as (contour_kind keep_points) (edge_for shape_type) given) old
-
--- one of the paths would bring the weight to 2^31, added after those before it to no edges
-abbrev pub SomePathWeighsTooMuch : Bool → List GivenPath → Type 0
-SomePathWeighsTooMuch keep paths =
-    (reached : List CountedEdge) × StopsAtPath weight (added_paths keep paths) [] reached TooManyEdges
-
--- a builder with the paths may be refused so
-abbrev pub MayRefuseBuilder : Bool → List GivenPath → OverlayError → Type 0
-MayRefuseBuilder keep paths Memory = Unit {0}
-MayRefuseBuilder keep paths TooManyEdges = SomePathWeighsTooMuch keep paths
-MayRefuseBuilder keep paths NotSettled = ⊥
-MayRefuseBuilder keep paths Failed = ⊥
+abbrev pub ContourWeighsTooMuch : Bool → ShapeType → List Point → List CountedEdge → Type 0
+ContourWeighsTooMuch keep_points shape_type given old =
+    WouldWeighTooMuch weight (path_as (contour_kind keep_points) (edge_for shape_type) given) old

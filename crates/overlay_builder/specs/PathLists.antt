@@ -2,7 +2,7 @@
 use Rattle.std.specs.Prelude.{◌≡◌, ◌↔◌, ◌⊎◌, ◌^◌, ◌<◌, ◌≤◌, ◌++◌, ℕ, true, List, [], ◌∷◌, map, Result, IfErr, IsErrOf}
 use Rattle.std.specs.Prelude.{OnOk}
 use Rattle.overlay_geom.specs.Plane.{Point, Step}
-use Rattle.overlay_geom.specs.Edges.{weight}
+use Rattle.overlay_geom.specs.Edges.{CountedEdge, weight}
 use Rattle.overlay_geom.specs.declared.error.OverlayError.{OverlayError}
 use Rattle.overlay_geom.specs.declared.error.OverlayError.TheVariants.{Memory, NotSettled, TooManyEdges, Failed}
 use Rattle.overlay_plane.specs.Carried.{Carried, edges_in}
@@ -79,3 +79,21 @@ pub record AddsAsAsked {E V : Type 0} (weigh : List E → ℕ) (paths : List (Ad
   pub untouched : IsErrOf result Failed → new ≡ old
   -- any other refusal is one of some path, and exactly the paths before it stay added
   pub err : IfErr result (λ e. (e ≡ Failed) ⊎ StopsAtPath weigh paths old.edges new.edges e)
+
+-- ---- new builders
+
+-- the content is what the paths add to no edges, and a builder may hold it
+pub record HoldsPaths (paths : List (AddedPath CountedEdge)) (es : List CountedEdge) : Type 0 where
+  pub added : AddsPaths paths [] es
+  pub light : weight es < 2 ^ 31
+
+-- one of the paths would bring the weight to 2^31, added after those before it to no edges
+abbrev pub SomePathWeighsTooMuch : List (AddedPath CountedEdge) → Type 0
+SomePathWeighsTooMuch paths = (reached : List CountedEdge) × StopsAtPath weight paths [] reached TooManyEdges
+
+-- a builder with the paths may be refused so
+abbrev pub MayRefuseBuilder : List (AddedPath CountedEdge) → OverlayError → Type 0
+MayRefuseBuilder paths Memory = Unit {0}
+MayRefuseBuilder paths TooManyEdges = SomePathWeighsTooMuch paths
+MayRefuseBuilder paths NotSettled = ⊥
+MayRefuseBuilder paths Failed = ⊥

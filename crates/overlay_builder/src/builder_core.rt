@@ -7,7 +7,7 @@ ghost use Rattle.overlay_geom.specs.Counts.{weight_of_counts};
 ghost use Rattle.overlay_geom.specs.Points.{plain_point, plain_points, InRange, AllInRange};
 ghost use Rattle.overlay_plane.specs.Arrangements.{IsReachedBy};
 ghost use Rattle.overlay_plane.specs.Carried.{edges_in};
-ghost use Rattle.overlay_arrange.specs.Arranged.{IsArrangedCarrying};
+ghost use Rattle.overlay_arrange.specs.Arranged.{IsArrangedCarrying, most_rounds};
 ghost use Rattle.overlay_arrange.specs.Content.{IsContent};
 ghost use Rattle.overlay_arrange.specs.Stores.{IsStoreReached};
 ghost use Rattle.overlay_builder.specs.AddedSteps.{AddsStep, LeavesStore, StepWeighsTooMuch};
@@ -188,9 +188,9 @@ impl<I: IntNumber, C: EdgeCount, A: Allocator + Clone> BuilderCore<I, C, A> {
     /// Brings the edges into an arrangement, and returns whether some were cut. A refusal leaves the
     /// core failed.
     pub fn arrange(&mut self, store: &mut C::Store) -> Result<bool, OverlayError>
-        ensures query { AnswersQuery I.limit 64 (plain_held self.old) (plain_held self.new) result }
+        ensures query { AnswersQuery I.limit most_rounds (plain_held self.old) (plain_held self.new) result }
         ensures carried { OnOk result
-            (IsArrangedCarrying C.merges C.splits C.reverses 64 self.old.edges self.new.edges) }
+            (IsArrangedCarrying C.merges C.splits C.reverses most_rounds self.old.edges self.new.edges) }
         ensures store { IsStoreReached C.writes store.old store.new }
         ensures untouched { IsErrOf result OverlayError.Failed → self.new ≡ self.old }
         ensures cut { IfOk result (λ is_cut. (is_cut ≡ false)

@@ -13,12 +13,12 @@ use Rattle.overlay_geom.proofs.JoinedLists.{joined_more}
 use Rattle.overlay_arrange.specs.declared.options.ShapeType.{ShapeType}
 use Rattle.overlay_builder.specs.GivenPaths.{GivenPath, paths_for}
 use Rattle.overlay_builder.specs.PathLists.AddsPaths.{no_path}
-use Rattle.overlay_relate.specs.PredicateBuilder.{PredicateBuilder, AddsAsAsked}
+use Rattle.overlay_relate.specs.PredicateBuilder.{PredicateBuilder, PredicateBuilderAdds}
 use Rattle.overlay_relate.proofs.PredicateBuilders.{first_source_refused, both_sources}
 
 module _ (b : PredicateBuilder) where
   -- a builder that has not failed has no paths added
-  pub none_added : b.failed ≡ false → weight b.edges < 2 ^ 31 → AddsAsAsked {V = Unit {0}} [] b b (Ok tt)
+  pub none_added : b.failed ≡ false → weight b.edges < 2 ^ 31 → PredicateBuilderAdds {V = Unit {0}} [] b b (Ok tt)
   none_added ready light = record {
     added = record {
       ok = no_path;
@@ -33,7 +33,7 @@ module _ (b : PredicateBuilder) where
 
   -- one that has failed refuses them
   pub failed_refuses : (ps : List GivenPath) → b.failed ≡ true → weight b.edges < 2 ^ 31 →
-      AddsAsAsked {V = Unit {0}} ps b b (Err Failed)
+      PredicateBuilderAdds {V = Unit {0}} ps b b (Err Failed)
   failed_refuses ps had light = record {
     added = record {
       ok = tt;
@@ -70,18 +70,18 @@ module _ {X : Type 0} (paths_of : X → List (List Point)) (t : ShapeType) (xs :
       ∙ map-append _ (flat_map paths_of (take (i + 1) xs)) (flat_map paths_of (drop (i + 1) xs))
       ∙ ap (λ l. l ++ behind) up_to
 
-  module _ (before : AddsAsAsked {V = Unit {0}} so_far old now (Ok tt)) where
+  module _ (before : PredicateBuilderAdds {V = Unit {0}} so_far old now (Ok tt)) where
     -- one more shape is added
-    pub next_shape_added : AddsAsAsked {V = Unit {0}} here now new (Ok tt)
-        → AddsAsAsked {V = Unit {0}} (paths_for t (flat_map paths_of (take (i + 1) xs))) old new (Ok tt)
+    pub next_shape_added : PredicateBuilderAdds {V = Unit {0}} here now new (Ok tt)
+        → PredicateBuilderAdds {V = Unit {0}} (paths_for t (flat_map paths_of (take (i + 1) xs))) old new (Ok tt)
     next_shape_added h =
-        subst (λ l. AddsAsAsked {V = Unit {0}} l old new (Ok tt)) (sym up_to)
+        subst (λ l. PredicateBuilderAdds {V = Unit {0}} l old new (Ok tt)) (sym up_to)
         (both_sources so_far here old now new tt before (Ok tt) h)
 
     -- or refused
-    pub next_shape_refused : (e : OverlayError) → AddsAsAsked {V = Unit {0}} here now new (Err e)
-        → AddsAsAsked {V = Unit {0}} (paths_for t (flat_map paths_of xs)) old new (Err e)
+    pub next_shape_refused : (e : OverlayError) → PredicateBuilderAdds {V = Unit {0}} here now new (Err e)
+        → PredicateBuilderAdds {V = Unit {0}} (paths_for t (flat_map paths_of xs)) old new (Err e)
     next_shape_refused e h =
-        subst (λ l. AddsAsAsked {V = Unit {0}} l old new (Err e)) (sym all_paths)
+        subst (λ l. PredicateBuilderAdds {V = Unit {0}} l old new (Err e)) (sym all_paths)
         (first_source_refused (so_far ++ here) behind old new e
         (both_sources so_far here old now new tt before (Err e) h))

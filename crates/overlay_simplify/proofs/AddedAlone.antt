@@ -8,16 +8,17 @@ use Rattle.overlay_geom.specs.Plane.{Point, steps_of}
 use Rattle.overlay_geom.specs.Edges.{CountedEdge, subject_edge, weight}
 use Rattle.overlay_geom.specs.declared.error.OverlayError.{OverlayError}
 use Rattle.overlay_geom.specs.declared.error.OverlayError.TheVariants.{Memory, NotSettled, TooManyEdges, Failed}
-use Rattle.overlay_arrange.specs.Arranged.{MayRefuseSplitting}
+use Rattle.overlay_arrange.specs.Arranged.{MayRefuseSplitting, most_rounds}
 use Rattle.overlay_arrange.specs.Content.{IsContent, edge_for}
 use Rattle.overlay_arrange.specs.Counts.{boolean_counts}
 use Rattle.overlay_arrange.specs.declared.data.CountWithData.{CountWithData}
 use Rattle.overlay_arrange.specs.declared.options.ShapeType.TheVariants.{Subject}
 use Rattle.overlay_plane.specs.Carried.{Carried, edges_in}
-use Rattle.overlay_builder.specs.GivenPaths.{GivenPath, HoldsPaths, added_paths, paths_for, SomePathWeighsTooMuch}
+use Rattle.overlay_builder.specs.GivenPaths.{GivenPath, added_paths, paths_for}
 use Rattle.overlay_builder.specs.Held.{Held, AnswersQuery, nothing_held, plain_held}
 use Rattle.overlay_builder.specs.Passing.{passing_without_data}
-use Rattle.overlay_builder.specs.PathLists.{AddsAsAsked, StopsAtPath, carried_weight, path_as, paths_as, WouldWeighTooMuch}
+use Rattle.overlay_builder.specs.PathLists.{AddsAsAsked, StopsAtPath, carried_weight, path_as, paths_as}
+use Rattle.overlay_builder.specs.PathLists.{HoldsPaths, SomePathWeighsTooMuch, WouldWeighTooMuch}
 use Rattle.overlay_builder.specs.PathLists.AddsPaths.{no_path, path_and_others}
 use Rattle.overlay_builder.specs.Paths.{AddsPath, IsTakenAs, contour_kind, passed_edge}
 use Rattle.overlay_builder.specs.declared.path.PathKind.{PathKind}
@@ -37,7 +38,7 @@ counts_of k = boolean_counts k.count
 module _ (keep : Bool) (ps : List Point) (es : List CountedEdge)
     (adds : AddsPath (contour_kind keep) (edge_for Subject) ps [] es) where
   -- it is all that is held
-  pub held_alone : weight es < 2 ^ 31 → HoldsPaths keep (paths_for Subject (ps ∷ [])) es
+  pub held_alone : weight es < 2 ^ 31 → HoldsPaths (added_paths keep (paths_for Subject (ps ∷ []))) es
   held_alone light = record { added = path_and_others adds no_path; light = light }
 
 -- where it may be taken whole, it is
@@ -55,8 +56,8 @@ whole_content false ps es adds whole = adds.content
 
 module _ (keep : Bool) (paths : List GivenPath) where
   -- splitting the edges of the paths may be refused
-  pub refused_to_split : (content : List CountedEdge) (e : OverlayError) → HoldsPaths keep paths content →
-      MayRefuseSplitting 64 content e → MayRefuseAlone keep 64 paths e
+  pub refused_to_split : (content : List CountedEdge) (e : OverlayError) → HoldsPaths (added_paths keep paths) content →
+      MayRefuseSplitting most_rounds content e → MayRefuseAlone keep most_rounds paths e
   refused_to_split content Memory holds may = tt
   refused_to_split content NotSettled holds may = record { content = content; holds = holds; refused = may }
   refused_to_split content TooManyEdges holds may = inr (record { content = content; holds = holds; refused = may })
@@ -64,17 +65,18 @@ module _ (keep : Bool) (paths : List GivenPath) where
 
   -- of a builder that has not failed
   pub query_refused : {V : Type 0} (limit : ℕ) (old new : Held CountedEdge) (e : OverlayError) →
-      HoldsPaths keep paths old.edges → old.failed ≡ false → AnswersQuery {V = V} limit 64 old new (Err e) →
-      MayRefuseAlone keep 64 paths e
+      HoldsPaths (added_paths keep paths) old.edges → old.failed ≡ false →
+      AnswersQuery {V = V} limit most_rounds old new (Err e) →
+      MayRefuseAlone keep most_rounds paths e
   query_refused {V} limit old new e holds ready h = by h.err
     where
-      by : ((e ≡ Failed) ⊎ MayRefuseSplitting 64 old.edges e) → MayRefuseAlone keep 64 paths e
+      by : ((e ≡ Failed) ⊎ MayRefuseSplitting most_rounds old.edges e) → MayRefuseAlone keep most_rounds paths e
       by (inl same) = absurd (false≢true (sym ready ∙ h.failed.0 (ap {B = Result V OverlayError} (λ x. Err x) same)))
       by (inr may) = refused_to_split old.edges e holds may
 
   -- adding them may be
   pub adding_refused : (es : List CountedEdge) (e : OverlayError) →
-      StopsAtPath weight (added_paths keep paths) [] es e → MayRefuseAlone keep 64 paths e
+      StopsAtPath weight (added_paths keep paths) [] es e → MayRefuseAlone keep most_rounds paths e
   adding_refused es Memory stops = tt
   adding_refused es NotSettled stops = absurd stops.refused
   adding_refused es TooManyEdges stops = inl (es, stops)
@@ -82,8 +84,8 @@ module _ (keep : Bool) (paths : List GivenPath) where
 
 -- one path
 pub one_refused : (keep : Bool) (ps : List Point) (e : OverlayError) → ¬ (e ≡ Failed) → ¬ (e ≡ NotSettled) →
-    (e ≡ TooManyEdges → SomePathWeighsTooMuch keep (paths_for Subject (ps ∷ []))) →
-    MayRefuseAlone keep 64 (paths_for Subject (ps ∷ [])) e
+    (e ≡ TooManyEdges → SomePathWeighsTooMuch (added_paths keep (paths_for Subject (ps ∷ [])))) →
+    MayRefuseAlone keep most_rounds (paths_for Subject (ps ∷ [])) e
 one_refused keep ps Memory unfailed settled heavy = tt
 one_refused keep ps NotSettled unfailed settled heavy = absurd (settled refl)
 one_refused keep ps TooManyEdges unfailed settled heavy = inl (heavy refl)
@@ -92,12 +94,12 @@ one_refused keep ps Failed unfailed settled heavy = unfailed refl
 -- ---- and where it is remembered whether they were
 
 module _ {V : Type 0} (limit : ℕ) (keep : Bool) (paths : List GivenPath) (mid new : Held CountedEdge) where
-  pub answers_alone : (r : Result V OverlayError) → OnOk r (IsArrangedAlone keep 64 paths mid.edges) →
-      OnOk r (IsContent limit mid.edges) → IfErr r (MayRefuseAlone keep 64 paths) → new.edges ≡ mid.edges →
-      new.failed ≡ is_err r → AnswersAlone limit 64 keep paths new r
+  pub answers_alone : (r : Result V OverlayError) → OnOk r (IsArrangedAlone keep most_rounds paths mid.edges) →
+      OnOk r (IsContent limit mid.edges) → IfErr r (MayRefuseAlone keep most_rounds paths) → new.edges ≡ mid.edges →
+      new.failed ≡ is_err r → AnswersAlone limit most_rounds keep paths new r
   answers_alone (Ok v) arranged content refused edges failed = record {
     usable = failed;
-    arranged = subst (IsArrangedAlone keep 64 paths) (sym edges) arranged;
+    arranged = subst (IsArrangedAlone keep most_rounds paths) (sym edges) arranged;
     content = subst (IsContent limit) (sym edges) content;
     fails = tt;
     err = tt;
@@ -130,21 +132,21 @@ module _ (keep : Bool) (kind : PathKind) (kind_is : kind ≡ contour_kind keep)
     still_usable = plainly.kept
 
     -- after an answer it holds them
-    pub paths_held : OnOk r (HoldsPaths keep (paths_for Subject paths) (edges_in new.edges))
+    pub paths_held : OnOk r (HoldsPaths (added_paths keep (paths_for Subject paths)) (edges_in new.edges))
     paths_held = on_ok_weaker r (λ added. record { added = added; light = plainly.light }) plainly.ok
 
     -- and a refusal is one of them
-    pub paths_refused : IfErr r (MayRefuseAlone keep 64 (paths_for Subject paths))
+    pub paths_refused : IfErr r (MayRefuseAlone keep most_rounds (paths_for Subject paths))
     paths_refused = by r plainly
       where
         by : (r : Result V OverlayError) →
             AddsAsAsked weight (added_paths keep (paths_for Subject paths)) nothing_held (plain_held new) r →
-            IfErr r (MayRefuseAlone keep 64 (paths_for Subject paths))
+            IfErr r (MayRefuseAlone keep most_rounds (paths_for Subject paths))
         by (Ok v) h = tt
         by (Err e) h = either h.err
           where
             either : ((e ≡ Failed) ⊎ StopsAtPath weight (added_paths keep (paths_for Subject paths)) []
-                (edges_in new.edges) e) → MayRefuseAlone keep 64 (paths_for Subject paths) e
+                (edges_in new.edges) e) → MayRefuseAlone keep most_rounds (paths_for Subject paths) e
             either (inl same) = absurd (false≢true (h.failed.0 (ap {B = Result V OverlayError} (λ x. Err x) same)))
             either (inr stops) = adding_refused keep (paths_for Subject paths) (edges_in new.edges) e stops
 
@@ -159,7 +161,7 @@ module _ (keep : Bool) (kind : PathKind) (kind_is : kind ≡ contour_kind keep)
         new.edges adds)
 
     pub path_too_heavy : WouldWeighTooMuch carried_weight (path_as kind (passed_edge counts_of pass) ps) old.edges →
-        SomePathWeighsTooMuch keep (paths_for Subject (ps ∷ []))
+        SomePathWeighsTooMuch (added_paths keep (paths_for Subject (ps ∷ [])))
     path_too_heavy heavy =
         let too_heavy : WouldWeighTooMuch weight (path_as (contour_kind keep) (edge_for Subject) ps) [] =
         subst (λ h. WouldWeighTooMuch weight (path_as (contour_kind keep) (edge_for Subject) ps) (edges_in h.edges))

@@ -5,19 +5,20 @@ use Rattle.overlay_geom.specs.declared.error.OverlayError.{OverlayError}
 use Rattle.overlay_geom.specs.declared.error.OverlayError.TheVariants.{Memory, NotSettled, TooManyEdges, Failed}
 use Rattle.overlay_arrange.specs.Arranged.{IsArranged, MayRefuseSplitting}
 use Rattle.overlay_arrange.specs.Content.{IsContent}
-use Rattle.overlay_builder.specs.GivenPaths.{GivenPath, HoldsPaths, SomePathWeighsTooMuch}
+use Rattle.overlay_builder.specs.GivenPaths.{GivenPath, added_paths}
 use Rattle.overlay_builder.specs.Held.{Held}
+use Rattle.overlay_builder.specs.PathLists.{HoldsPaths, SomePathWeighsTooMuch}
 
 -- the edges are an arrangement of those that the paths give
 pub record IsArrangedAlone (keep : Bool) (most : ℕ) (paths : List GivenPath) (es : List CountedEdge) : Type 0 where
   pub content : List CountedEdge
-  pub holds : HoldsPaths keep paths content
+  pub holds : HoldsPaths (added_paths keep paths) content
   pub arranged : IsArranged most content es
 
 -- the edges that the paths give, brought into an arrangement, may be refused so
 pub record MayRefuseToSplit (keep : Bool) (most : ℕ) (paths : List GivenPath) (e : OverlayError) : Type 0 where
   pub content : List CountedEdge
-  pub holds : HoldsPaths keep paths content
+  pub holds : HoldsPaths (added_paths keep paths) content
   pub refused : MayRefuseSplitting most content e
 
 -- the paths may be refused so
@@ -25,7 +26,7 @@ abbrev pub MayRefuseAlone : Bool → ℕ → List GivenPath → OverlayError →
 MayRefuseAlone keep most paths Memory = Unit {0}
 MayRefuseAlone keep most paths NotSettled = MayRefuseToSplit keep most paths NotSettled
 MayRefuseAlone keep most paths TooManyEdges =
-    SomePathWeighsTooMuch keep paths ⊎ MayRefuseToSplit keep most paths TooManyEdges
+    SomePathWeighsTooMuch (added_paths keep paths) ⊎ MayRefuseToSplit keep most paths TooManyEdges
 MayRefuseAlone keep most paths Failed = ⊥
 
 -- a call that does so answers so, of what the builder holds afterwards; whether it had failed tells nothing

@@ -3,6 +3,7 @@
 ghost use Rattle.std.specs.Prelude.{◌≡◌, All, OnOk, IfErr};
 ghost use Rattle.overlay_arrange.specs.Content.{IsContent};
 ghost use Rattle.overlay_arrange.specs.declared.options.ShapeType.TheVariants.{Subject};
+ghost use Rattle.overlay_arrange.specs.Arranged.{most_rounds};
 ghost use Rattle.overlay_builder.specs.GivenPaths.{paths_for};
 ghost use Rattle.overlay_builder.specs.Held.{nothing_held, plain_held};
 ghost use Rattle.overlay_geom.specs.Points.{AllInRange};
@@ -30,7 +31,7 @@ pub fn arrange_alone<I: IntNumber, A: Allocator + Clone, R0: IntShapeResource<I>
     keeps_points: bool,
 ) -> Result<(), OverlayError>
     requires { All (AllInRange I.limit) (R0.paths resource.now) }
-    ensures { AnswersAlone I.limit 64 keeps_points (paths_for Subject (R0.paths resource.now))
+    ensures { AnswersAlone I.limit most_rounds keeps_points (paths_for Subject (R0.paths resource.now))
         (plain_held core.new) result }
 {
     core.clear();
@@ -47,10 +48,10 @@ fn add_and_arrange<I: IntNumber, A: Allocator + Clone, R0: IntShapeResource<I>>(
 ) -> Result<(), OverlayError>
     requires nothing { core.old ≡ nothing_held }
     requires points { All (AllInRange I.limit) (R0.paths resource.now) }
-    ensures arranged { OnOk result (IsArrangedAlone keeps_points 64 (paths_for Subject (R0.paths resource.now))
+    ensures arranged { OnOk result (IsArrangedAlone keeps_points most_rounds (paths_for Subject (R0.paths resource.now))
         (edges_in core.new.edges)) }
     ensures content { OnOk result (IsContent I.limit (edges_in core.new.edges)) }
-    ensures err { IfErr result (MayRefuseAlone keeps_points 64 (paths_for Subject (R0.paths resource.now))) }
+    ensures err { IfErr result (MayRefuseAlone keeps_points most_rounds (paths_for Subject (R0.paths resource.now))) }
 {
     let kind = contour_kind(keeps_points);
     core.add_paths(resource, kind, passing_without_data(ShapeType::Subject))?;

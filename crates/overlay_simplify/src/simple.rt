@@ -3,6 +3,7 @@
 ghost use Rattle.std.specs.Prelude.{◌≡◌, ◌≢◌, ◌↔◌, false, [], ◌∷◌, IsTrue, IfOk, OnOk, IfErr, IsOkUnless};
 ghost use Rattle.overlay_arrange.specs.Content.{IsContent};
 ghost use Rattle.overlay_arrange.specs.declared.options.ShapeType.TheVariants.{Subject};
+ghost use Rattle.overlay_arrange.specs.Arranged.{most_rounds};
 ghost use Rattle.overlay_builder.specs.GivenPaths.{paths_for};
 ghost use Rattle.overlay_builder.specs.Held.{nothing_held, plain_held};
 ghost use Rattle.overlay_geom.specs.Points.{plain_points, AllInRange};
@@ -41,7 +42,7 @@ pub fn outcome_of_contour<I: IntNumber, A: Allocator + Clone>(
     output_direction: ContourDirection,
 ) -> Result<Outcome, OverlayError>
     requires { AllInRange I.limit (plain_points I.whole contour.now) }
-    ensures alone { AnswersAlone I.limit 64 keeps_points (paths_for Subject (plain_points I.whole contour.now ∷ []))
+    ensures alone { AnswersAlone I.limit most_rounds keeps_points (paths_for Subject (plain_points I.whole contour.now ∷ []))
         (plain_held core.new) result }
     ensures outcome { IfOk result (IsOutcome keeps_points fill_rule output_direction
         (plain_points I.whole contour.now) (edges_in core.new.edges)) }
@@ -62,12 +63,12 @@ fn add_and_test<I: IntNumber, A: Allocator + Clone>(
 ) -> Result<Outcome, OverlayError>
     requires nothing { core.old ≡ nothing_held }
     requires points { AllInRange I.limit (plain_points I.whole contour.now) }
-    ensures arranged { OnOk result (IsArrangedAlone keeps_points 64
+    ensures arranged { OnOk result (IsArrangedAlone keeps_points most_rounds
         (paths_for Subject (plain_points I.whole contour.now ∷ [])) (edges_in core.new.edges)) }
     ensures content { OnOk result (IsContent I.limit (edges_in core.new.edges)) }
     ensures outcome { IfOk result (IsOutcome keeps_points fill_rule output_direction
         (plain_points I.whole contour.now) (edges_in core.new.edges)) }
-    ensures err { IfErr result (MayRefuseAlone keeps_points 64
+    ensures err { IfErr result (MayRefuseAlone keeps_points most_rounds
         (paths_for Subject (plain_points I.whole contour.now ∷ []))) }
 {
     let kind = contour_kind(keeps_points);

@@ -12,7 +12,7 @@ use Rattle.overlay_arrange.specs.declared.string_count.ShapeCountString.{ShapeCo
 use Rattle.overlay_builder.specs.Held.{Held}
 use Rattle.overlay_builder.specs.PathLists.{AddedPath, AddsOne, MayRefusePath, WouldWeighTooMuch}
 use Rattle.overlay_builder.proofs.SourcePaths.{error_of}
-use Rattle.overlay_string.specs.StringBuilder.{StringBuilder, AddsOneAsAsked}
+use Rattle.overlay_string.specs.StringBuilder.{StringBuilder, StringBuilderAddsOne}
 
 -- a builder with these options, as its core is seen
 abbrev pub seen_with : {U : Type 0} → IntOverlayOptions U → Held (Carried ShapeCountString) → StringBuilder U
@@ -31,7 +31,7 @@ module _ {U : Type 0} (options : IntOverlayOptions U) (path : AddedPath CountedE
   -- the path is added
   pub one_added : (leaves_out : Bool) → AddsOne path (edges_in old.edges) (edges_in new.edges)
       → (IsErrOf {T = Bool} (Ok leaves_out) Failed ↔ (old.failed ≡ true))
-      → AddsOneAsAsked {V = Unit {0}} path (seen_with options old) (seen_with options new) (Ok tt)
+      → StringBuilderAddsOne {V = Unit {0}} path (seen_with options old) (seen_with options new) (Ok tt)
   one_added leaves_out adds failed = record {
     ok = adds;
     light = light;
@@ -45,7 +45,7 @@ module _ {U : Type 0} (options : IntOverlayOptions U) (path : AddedPath CountedE
   pub one_refused : (e : OverlayError) → new ≡ old → (IsErrOf {T = Bool} (Err e) Failed ↔ (old.failed ≡ true))
       → (IsErrOf {T = Bool} (Err e) TooManyEdges → WouldWeighTooMuch weight path (edges_in old.edges))
       → ¬ (IsErrOf {T = Bool} (Err e) NotSettled)
-      → AddsOneAsAsked {V = Unit {0}} path (seen_with options old) (seen_with options new) (Err e)
+      → StringBuilderAddsOne {V = Unit {0}} path (seen_with options old) (seen_with options new) (Err e)
   one_refused e same failed heavy unsettled = record {
     ok = tt;
     light = light;

@@ -5,10 +5,9 @@ use Rattle.std.specs.Prelude.{◌↔◌, Result, Ok, Err, IfErr, IsErrOf}
 use Rattle.overlay_geom.specs.Edges.{CountedEdge}
 use Rattle.overlay_geom.specs.declared.error.OverlayError.{OverlayError}
 use Rattle.overlay_geom.specs.declared.error.OverlayError.TheVariants.{Memory, NotSettled, TooManyEdges, Failed}
-use Rattle.overlay_arrange.specs.Arranged.{MayRefuseSplitting}
-use Rattle.overlay_builder.specs.PathLists.{AddedPath}
+use Rattle.overlay_arrange.specs.Arranged.{MayRefuseSplitting, most_rounds}
+use Rattle.overlay_builder.specs.PathLists.{AddedPath, HoldsPaths, MayRefuseBuilder}
 use Rattle.overlay_string.specs.OneShot.{MayRefusePaths}
-use Rattle.overlay_string.specs.StringBuilder.{HoldsPaths, MayRefuseBuilder}
 
 module _ (paths : List (AddedPath CountedEdge)) where
   -- the builder is refused
@@ -20,7 +19,7 @@ module _ (paths : List (AddedPath CountedEdge)) where
 
   -- or its edges are, brought into an arrangement
   splitting_refused : (content : List CountedEdge) → HoldsPaths paths content → (e : OverlayError) →
-      MayRefuseSplitting 64 content e → MayRefusePaths paths e
+      MayRefuseSplitting most_rounds content e → MayRefusePaths paths e
   splitting_refused content holds Memory may = tt
   splitting_refused content holds NotSettled may = record { content = content; holds = holds; refused = may }
   splitting_refused content holds TooManyEdges may =
@@ -30,10 +29,10 @@ module _ (paths : List (AddedPath CountedEdge)) where
   -- so the refusal of a query is one of the paths, as the builder had not failed
   pub clip_refused : {V : Type 0} (content : List CountedEdge) (had_failed : Bool) → HoldsPaths paths content →
       had_failed ≡ false → (r : Result V OverlayError) → (IsErrOf r Failed ↔ (had_failed ≡ true))
-      → IfErr r (λ e. (e ≡ Failed) ⊎ MayRefuseSplitting 64 content e) → IfErr r (MayRefusePaths paths)
+      → IfErr r (λ e. (e ≡ Failed) ⊎ MayRefuseSplitting most_rounds content e) → IfErr r (MayRefusePaths paths)
   clip_refused content had_failed holds ready (Ok v) failed refused = tt
   clip_refused content had_failed holds ready (Err e) failed refused = either refused
     where
-      either : ((e ≡ Failed) ⊎ MayRefuseSplitting 64 content e) → MayRefusePaths paths e
+      either : ((e ≡ Failed) ⊎ MayRefuseSplitting most_rounds content e) → MayRefusePaths paths e
       either (inl same) = absurd (false≢true (sym ready ∙ failed.0 (ap Err same)))
       either (inr may) = splitting_refused content holds e may

@@ -5,9 +5,9 @@ use Rattle.std.specs.Prelude.{Ok, Err}
 use Rattle.overlay_geom.specs.Edges.{CountedEdge, weight}
 use Rattle.overlay_geom.specs.declared.error.OverlayError.{OverlayError}
 use Rattle.overlay_geom.specs.declared.error.OverlayError.TheVariants.{Memory, NotSettled, TooManyEdges, Failed}
-use Rattle.overlay_builder.specs.PathLists.{AddedPath, AddsPaths, StopsAtPath}
+use Rattle.overlay_builder.specs.PathLists.{AddedPath, AddsPaths, StopsAtPath, HoldsPaths, MayRefuseBuilder}
 use Rattle.overlay_builder.proofs.PathLists.{adds_both, stops_in_first, stops_after}
-use Rattle.overlay_string.specs.StringBuilder.{StringBuilder, AddsAsAsked, HoldsPaths, MayRefuseBuilder}
+use Rattle.overlay_string.specs.StringBuilder.{StringBuilder, StringBuilderAdds}
 
 module _ (ps qs : List (AddedPath CountedEdge)) where
   -- one of the first paths is refused
@@ -19,12 +19,12 @@ module _ (ps qs : List (AddedPath CountedEdge)) where
 
   module _ {U : Type 0} (old new : StringBuilder U) (held : AddsPaths ps [] old.edges) where
     -- the others are added after them
-    pub both_held : AddsAsAsked {V = Unit {0}} qs old new (Ok tt) → HoldsPaths (ps ++ qs) new.edges
+    pub both_held : StringBuilderAdds {V = Unit {0}} qs old new (Ok tt) → HoldsPaths (ps ++ qs) new.edges
     both_held h = record { added = adds_both ps qs [] old.edges new.edges held h.added.ok; light = h.added.light }
 
     -- or one of them is refused
-    pub second_paths_refused : old.failed ≡ false → (e : OverlayError) → AddsAsAsked {V = Unit {0}} qs old new (Err e)
-        → MayRefuseBuilder (ps ++ qs) e
+    pub second_paths_refused : old.failed ≡ false → (e : OverlayError)
+        → StringBuilderAdds {V = Unit {0}} qs old new (Err e) → MayRefuseBuilder (ps ++ qs) e
     second_paths_refused ready e h = either h.added.err
       where
         by : (e : OverlayError) → StopsAtPath weight qs old.edges new.edges e → MayRefuseBuilder (ps ++ qs) e

@@ -4,11 +4,10 @@ use Rattle.overlay_geom.specs.Plane.{Point}
 use Rattle.overlay_geom.specs.Edges.{CountedEdge}
 use Rattle.overlay_geom.specs.declared.error.OverlayError.{OverlayError}
 use Rattle.overlay_geom.specs.declared.error.OverlayError.TheVariants.{Memory, NotSettled, TooManyEdges, Failed}
-use Rattle.overlay_arrange.specs.Arranged.{MayRefuseSplitting}
+use Rattle.overlay_arrange.specs.Arranged.{MayRefuseSplitting, most_rounds}
 use Rattle.overlay_arrange.specs.declared.fill_rule.FillRule.{FillRule}
-use Rattle.overlay_builder.specs.PathLists.{AddedPath}
+use Rattle.overlay_builder.specs.PathLists.{AddedPath, HoldsPaths, SomePathWeighsTooMuch}
 use Rattle.overlay_string.specs.ClipPaths.{AreClipped}
-use Rattle.overlay_string.specs.StringBuilder.{HoldsPaths, SomePathWeighsTooMuch}
 use Rattle.overlay_string.specs.StringPaths.{shape_contours, open_strings}
 use Rattle.overlay_string.specs.declared.clip_rule.ClipRule.{ClipRule}
 
@@ -21,13 +20,13 @@ pub record AreClippedOfPaths (fill : FillRule) (rule : ClipRule) (paths : List (
     (left : List (List Point)) : Type 0 where
   pub content : List CountedEdge
   pub holds : HoldsPaths paths content
-  pub clipped : AreClipped 64 fill rule content left
+  pub clipped : AreClipped most_rounds fill rule content left
 
 -- the edges that the paths give, brought into an arrangement, may be refused so
 pub record MayRefuseSplittingPaths (paths : List (AddedPath CountedEdge)) (e : OverlayError) : Type 0 where
   pub content : List CountedEdge
   pub holds : HoldsPaths paths content
-  pub refused : MayRefuseSplitting 64 content e
+  pub refused : MayRefuseSplitting most_rounds content e
 
 -- the paths may be refused so
 abbrev pub MayRefusePaths : List (AddedPath CountedEdge) → OverlayError → Type 0

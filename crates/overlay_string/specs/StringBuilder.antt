@@ -3,12 +3,11 @@ use Rattle.std.specs.Prelude.{◌≡◌, ◌↔◌, ◌⊎◌, ◌^◌, ◌<◌,
 use Rattle.std.specs.Prelude.{Result, OnOk, OnErr, IfErr, IsErrOf}
 use Rattle.overlay_geom.specs.Edges.{CountedEdge, weight}
 use Rattle.overlay_geom.specs.declared.error.OverlayError.{OverlayError}
-use Rattle.overlay_geom.specs.declared.error.OverlayError.TheVariants.{Memory, NotSettled, TooManyEdges, Failed}
+use Rattle.overlay_geom.specs.declared.error.OverlayError.TheVariants.{Failed}
 use Rattle.overlay_arrange.specs.Options.{AreOptions}
 use Rattle.overlay_arrange.specs.declared.options.IntOverlayOptions.{IntOverlayOptions}
 use Rattle.overlay_builder.specs.Held.{Held}
-use Rattle.overlay_builder.specs.PathLists.{AddedPath, AddsOne, AddsPaths, StopsAtPath, MayRefusePath}
-use Rattle.overlay_builder.specs.PathLists.{AddsAsAsked as HeldAddsAsAsked}
+use Rattle.overlay_builder.specs.PathLists.{AddedPath, AddsOne, AddsAsAsked, MayRefusePath}
 
 -- a builder for strings: its options, the counted edges that it holds, and whether a query was refused
 pub record StringBuilder (U : Type 0) : Type 0 where
@@ -27,7 +26,7 @@ held_by b = record { edges = b.edges; failed = b.failed }
 -- ---- adding
 
 -- a call that adds the path answers so, of the builder before and of the one afterwards
-pub record AddsOneAsAsked {U V : Type 0} (path : AddedPath CountedEdge) (old new : StringBuilder U)
+pub record StringBuilderAddsOne {U V : Type 0} (path : AddedPath CountedEdge) (old new : StringBuilder U)
     (result : Result V OverlayError) : Type 0 where
   pub ok : OnOk result (AddsOne path old.edges new.edges)
   -- nothing but the edges changes, and their weight stays below 2^31, whatever is answered
@@ -39,9 +38,9 @@ pub record AddsOneAsAsked {U V : Type 0} (path : AddedPath CountedEdge) (old new
   pub err : IfErr result (λ e. (e ≡ Failed) ⊎ MayRefusePath weight path old.edges e)
 
 -- a call that adds the paths, one after another, does
-pub record AddsAsAsked {U V : Type 0} (paths : List (AddedPath CountedEdge)) (old new : StringBuilder U)
+pub record StringBuilderAdds {U V : Type 0} (paths : List (AddedPath CountedEdge)) (old new : StringBuilder U)
     (result : Result V OverlayError) : Type 0 where
-  pub added : HeldAddsAsAsked weight paths (held_by old) (held_by new) result
+  pub added : AddsAsAsked weight paths (held_by old) (held_by new) result
   -- nothing but the edges changes, whatever is answered
   pub kept : new ≡ record old { edges = new.edges }
 
@@ -52,19 +51,3 @@ pub record AddsAsAsked {U V : Type 0} (paths : List (AddedPath CountedEdge)) (ol
 pub record IsNewBuilder {U : Type 0} (natural : U → ℕ) (b : StringBuilder U) : Type 0 where
   pub ready : b.failed ≡ false
   pub options : AreOptions natural false false false b.options
-
--- the content is what the paths add to no edges, and a builder may hold it
-pub record HoldsPaths (paths : List (AddedPath CountedEdge)) (es : List CountedEdge) : Type 0 where
-  pub added : AddsPaths paths [] es
-  pub light : weight es < 2 ^ 31
-
--- one of the paths would bring the weight to 2^31, added after those before it to no edges
-abbrev pub SomePathWeighsTooMuch : List (AddedPath CountedEdge) → Type 0
-SomePathWeighsTooMuch paths = (reached : List CountedEdge) × StopsAtPath weight paths [] reached TooManyEdges
-
--- a builder with the paths may be refused so
-abbrev pub MayRefuseBuilder : List (AddedPath CountedEdge) → OverlayError → Type 0
-MayRefuseBuilder paths Memory = Unit {0}
-MayRefuseBuilder paths TooManyEdges = SomePathWeighsTooMuch paths
-MayRefuseBuilder paths NotSettled = ⊥
-MayRefuseBuilder paths Failed = ⊥

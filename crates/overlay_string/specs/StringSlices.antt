@@ -3,14 +3,13 @@ use Rattle.std.specs.Prelude.{ℕ, List}
 use Rattle.std.specs.Int.{Width}
 use Rattle.overlay_geom.specs.Plane.{Point}
 use Rattle.overlay_geom.specs.Edges.{CountedEdge}
-use Rattle.overlay_arrange.specs.Arranged.{IsArranged}
+use Rattle.overlay_arrange.specs.Arranged.{IsArranged, most_rounds}
 use Rattle.overlay_arrange.specs.Graphs.{Graph, graph_edges}
 use Rattle.overlay_arrange.specs.declared.fill_rule.FillRule.{FillRule}
 use Rattle.overlay_arrange.specs.declared.options.ContourDirection.TheVariants.{CounterClockwise}
 use Rattle.overlay_arrange.specs.declared.options.IntOverlayOptions.{IntOverlayOptions}
-use Rattle.overlay_builder.specs.PathLists.{AddedPath}
+use Rattle.overlay_builder.specs.PathLists.{AddedPath, HoldsPaths}
 use Rattle.overlay_slice.specs.Sliced.{IsSliced}
-use Rattle.overlay_string.specs.StringBuilder.{HoldsPaths}
 
 -- the shapes into which what the graph's shape fills is sliced along the graph's edges, strings too, as the options ask
 -- for: in their output direction, and without contours below their minimum area, in a type of this width
@@ -35,4 +34,4 @@ pub record AreSlicedOfPaths (width : Width) (fill : FillRule) (paths : List (Add
     (result : List (List (List Point))) : Type 0 where
   pub content : List CountedEdge
   pub holds : HoldsPaths paths content
-  pub sliced : AreSliced width 64 fill content result
+  pub sliced : AreSliced width most_rounds fill content result

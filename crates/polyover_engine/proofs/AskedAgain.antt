@@ -9,13 +9,14 @@ use Rattle.overlay_geom.specs.declared.error.OverlayError.{OverlayError}
 use Rattle.overlay_geom.specs.declared.error.OverlayError.TheVariants.{Memory, NotSettled, TooManyEdges, Failed}
 use Rattle.overlay_plane.specs.Arrangements.{IsReachedBy}
 use Rattle.overlay_plane.specs.Predicates.{IsFillable}
-use Rattle.overlay_arrange.specs.Arranged.{IsArranged, MayRefuseSplitting, WasArranged}
+use Rattle.overlay_arrange.specs.Arranged.{IsArranged, MayRefuseSplitting, WasArranged, most_rounds}
 use Rattle.overlay_arrange.specs.Rules.{is_filled}
 use Rattle.overlay_arrange.specs.declared.fill_rule.FillRule.{FillRule}
 use Rattle.overlay_arrange.specs.declared.options.ShapeType.{ShapeType}
 use Rattle.overlay_arrange.specs.declared.options.ShapeType.TheVariants.{Subject}
-use Rattle.overlay_builder.specs.GivenPaths.{GivenPath, HoldsPaths, MayRefuseBuilder}
+use Rattle.overlay_builder.specs.GivenPaths.{GivenPath, added_paths}
 use Rattle.overlay_builder.specs.Held.{AnswersQuery}
+use Rattle.overlay_builder.specs.PathLists.{HoldsPaths, MayRefuseBuilder}
 use Rattle.overlay_relate.specs.PredicateBuilder.{PredicateBuilder, held_by}
 use Rattle.i_overlay.proofs.OneShots.{query_refused}
 use Rattle.i_overlay.specs.OneShot.{MayRefusePaths}
@@ -41,17 +42,17 @@ taken_as_given cs = map-id cs
 
 -- where they can't be added, no relation is told
 pub adding_taken_refused : (cs : List GivenPath) (e : OverlayError) →
-    MayRefuseBuilder false (taken_paths Subject cs) e → MayRefuseRelations cs e
+    MayRefuseBuilder (added_paths false (taken_paths Subject cs)) e → MayRefuseRelations cs e
 adding_taken_refused cs e may = inl (adding_refused cs e
-    (subst (λ l. MayRefuseBuilder false l e) (taken_as_given cs) may))
+    (subst (λ l. MayRefuseBuilder (added_paths false l) e) (taken_as_given cs) may))
 
 -- ---- what is told
 
 -- a builder that was asked: it holds an arrangement of what the contours give, and can be asked again
 pub record WasAsked (cs : List GivenPath) (fill : FillRule) (content edges : List CountedEdge) (b : PredicateBuilder)
     : Type 0 where
-  pub holds : HoldsPaths false cs content
-  pub arranged : IsArranged 64 content edges
+  pub holds : HoldsPaths (added_paths false cs) content
+  pub arranged : IsArranged most_rounds content edges
   pub held : b.edges ≡ edges
   pub ready : b.failed ≡ false
   pub rule : b.fill_rule ≡ fill
@@ -63,7 +64,7 @@ KeepsSettings old new = new ≡ record old { edges = new.edges; failed = new.fai
 -- the first question arranges what the builder holds
 pub first_asked : (limit : ℕ) (cs : List GivenPath) (fill : FillRule) (old new : PredicateBuilder) (b : Bool) →
     HasAddedUnder fill cs old
-    → AnswersQuery limit 64 (held_by old) (held_by new) (Ok b) → KeepsSettings old new
+    → AnswersQuery limit most_rounds (held_by old) (held_by new) (Ok b) → KeepsSettings old new
     → WasAsked cs fill old.edges new.edges new
 first_asked limit cs fill old new b h query kept = record {
   holds = h.holds;
@@ -83,7 +84,7 @@ module _ (limit : ℕ) (cs : List GivenPath) (fill : FillRule) (content edges : 
   )
 
   -- each further one leaves the arrangement as it is
-  pub asked_again : (b : Bool) → AnswersQuery limit 64 (held_by old) (held_by new) (Ok b) → KeepsSettings old new →
+  pub asked_again : (b : Bool) → AnswersQuery limit most_rounds (held_by old) (held_by new) (Ok b) → KeepsSettings old new →
       WasAsked cs fill content edges new
   asked_again b query kept = record {
     holds = h.holds;
@@ -94,18 +95,18 @@ module _ (limit : ℕ) (cs : List GivenPath) (fill : FillRule) (content edges : 
   }
 
   -- and is refused for want of memory alone
-  pub refused_again : (e : OverlayError) → AnswersQuery {V = Bool} limit 64 (held_by old) (held_by new) (Err e) →
+  pub refused_again : (e : OverlayError) → AnswersQuery {V = Bool} limit most_rounds (held_by old) (held_by new) (Err e) →
       MayRefuseRelations cs e
   refused_again Memory query = inl tt
   refused_again NotSettled query = unsettled query.err
     where
-      unsettled : ((NotSettled ≡ Failed) ⊎ MayRefuseSplitting 64 old.edges NotSettled) →
+      unsettled : ((NotSettled ≡ Failed) ⊎ MayRefuseSplitting most_rounds old.edges NotSettled) →
           MayRefuseRelations cs NotSettled
       unsettled (inl same) = absurd (false≢true (sym h.ready ∙ query.failed.0 (ap Err same)))
       unsettled (inr may) = absurd (may.not_arranged was_arranged)
   refused_again TooManyEdges query = heavy query.err
     where
-      heavy : ((TooManyEdges ≡ Failed) ⊎ MayRefuseSplitting 64 old.edges TooManyEdges) →
+      heavy : ((TooManyEdges ≡ Failed) ⊎ MayRefuseSplitting most_rounds old.edges TooManyEdges) →
           MayRefuseRelations cs TooManyEdges
       heavy (inl same) = absurd (false≢true (sym h.ready ∙ query.failed.0 (ap Err same)))
       heavy (inr may) = absurd (may.not_arranged was_arranged)
@@ -123,7 +124,7 @@ told_of_arrangement relation cs fill content edges old new b rule h told =
 -- what a builder answers that is asked once
 pub told_or_refused : (r : Result Bool OverlayError) (relation : (ℤ → Bool) → List CountedEdge → Type 0) (limit : ℕ)
     (cs : List GivenPath) (fill : FillRule) (old new : PredicateBuilder) → HasAddedUnder fill cs old
-    → AnswersQuery limit 64 (held_by old) (held_by new) r
+    → AnswersQuery limit most_rounds (held_by old) (held_by new) r
     → OnOk r (IsFillable (is_filled old.fill_rule) new.edges)
     → IfOk r (λ b. IsTrue b ↔ relation (is_filled old.fill_rule) new.edges)
     → MatchResult r (λ b. TellsOfPaths relation fill cs b) (λ e. MayRefusePaths cs e)

@@ -6,11 +6,11 @@ use Rattle.overlay_geom.specs.Edges.{AddsContour, CountedEdge, weight}
 use Rattle.overlay_geom.specs.declared.error.OverlayError.{OverlayError}
 use Rattle.overlay_geom.specs.declared.error.OverlayError.TheVariants.{Memory, NotSettled, TooManyEdges, Failed}
 use Rattle.overlay_arrange.specs.Content.{edge_for}
-use Rattle.overlay_builder.specs.GivenPaths.{MayRefuseBuilder, WouldWeighTooMuch, GivenPath, HoldsPaths, added_path}
+use Rattle.overlay_builder.specs.GivenPaths.{ContourWeighsTooMuch, GivenPath, added_path}
 use Rattle.overlay_builder.specs.GivenPaths.{added_paths}
 use Rattle.i_overlay.specs.Builder.{Builder, IsNewBuilder}
 use Rattle.overlay_builder.proofs.AddedContours.{of_contour}
-use Rattle.overlay_builder.specs.PathLists.{AddsPaths}
+use Rattle.overlay_builder.specs.PathLists.{AddsPaths, HoldsPaths, MayRefuseBuilder}
 use Rattle.overlay_builder.specs.PathLists.AddsPaths.{no_path}
 use Rattle.overlay_builder.proofs.PathLists.{adds_last}
 use Rattle.polyover_text.specs.declared.figures.NumberedContour.{NumberedContour}
@@ -18,8 +18,9 @@ use Rattle.polyover_text.specs.Grammar.{contour_paths}
 use Rattle.polyover_text.specs.Statements.{path_at, contour_at, contours_at}
 use Rattle.polyover_engine.specs.Builders.{HasAdded}
 
-pub no_path_held : (es : List CountedEdge) → es ≡ [] → HoldsPaths false [] es
-no_path_held es empty = subst (HoldsPaths false []) (sym empty) (record { added = no_path; light = lit< tt })
+pub no_path_held : (es : List CountedEdge) → es ≡ [] → HoldsPaths (added_paths false []) es
+no_path_held es empty = subst (HoldsPaths (added_paths false [])) (sym empty)
+    (record { added = no_path; light = lit< tt })
 
 -- the contour at a place of the list that is held
 pub given_here : {A : Type 0} (cs items : List (NumberedContour A)) (k : ℕ) (c : NumberedContour A) → items ≡ cs →
@@ -44,12 +45,12 @@ contour_here cs items k c same within here =
 
 -- ---- the edges
 
-module _ (cs : List GivenPath) (k : ℕ) (c : GivenPath) (old : List CountedEdge) (h : HoldsPaths false (take k cs) old)
-    (within : k < length cs)
+module _ (cs : List GivenPath) (k : ℕ) (c : GivenPath) (old : List CountedEdge)
+    (h : HoldsPaths (added_paths false (take k cs)) old) (within : k < length cs)
     (here : c ≡ get_or cs k c) where
   -- the next contour of the list is added
   pub one_more_held : (new : List CountedEdge) → AddsContour false (edge_for c.shape_type) c.points old new →
-      weight new < 2 ^ 31 → HoldsPaths false (take (k + 1) cs) new
+      weight new < 2 ^ 31 → HoldsPaths (added_paths false (take (k + 1) cs)) new
   one_more_held new adds light = record {
     added = subst (λ l. AddsPaths (added_paths false l) [] new) (ap (λ x. take k cs ++ x ∷ []) here
         ∙ sym (take_more cs k c within))
@@ -66,9 +67,9 @@ module _ (cs : List GivenPath) (k : ℕ) (c : GivenPath) (old : List CountedEdge
 
   -- a refusal of the next contour
   pub contour_refused : (e : OverlayError) → (e ≡ Failed → ⊥)
-      → (e ≡ TooManyEdges → WouldWeighTooMuch false c.shape_type c.points old)
+      → (e ≡ TooManyEdges → ContourWeighsTooMuch false c.shape_type c.points old)
       → (e ≡ NotSettled → ⊥)
-      → MayRefuseBuilder false cs e
+      → MayRefuseBuilder (added_paths false cs) e
   contour_refused Memory failed heavy unsettled = tt
   contour_refused NotSettled failed heavy unsettled = absurd (unsettled refl)
   contour_refused TooManyEdges failed heavy unsettled = (

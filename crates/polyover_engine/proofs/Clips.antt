@@ -9,14 +9,14 @@ use Rattle.overlay_geom.specs.Edges.{CountedEdge, weight}
 use Rattle.overlay_geom.specs.Plane.{Point}
 use Rattle.overlay_geom.specs.declared.error.OverlayError.{OverlayError}
 use Rattle.overlay_geom.specs.declared.error.OverlayError.TheVariants.{Memory, NotSettled, TooManyEdges, Failed}
-use Rattle.overlay_arrange.specs.Arranged.{MayRefuseSplitting}
+use Rattle.overlay_arrange.specs.Arranged.{MayRefuseSplitting, most_rounds}
 use Rattle.overlay_arrange.specs.declared.fill_rule.FillRule.{FillRule}
-use Rattle.overlay_builder.specs.PathLists.{AddedPath, MayRefusePath}
+use Rattle.overlay_builder.specs.PathLists.{AddedPath, MayRefusePath, HoldsPaths, MayRefuseBuilder}
 use Rattle.overlay_builder.specs.PathLists.AddsPaths.{no_path}
 use Rattle.overlay_builder.proofs.PathLists.{adds_last}
 use Rattle.overlay_string.specs.ClipPaths.{AreClipped}
 use Rattle.overlay_string.specs.OneShot.{AreClippedOfPaths, MayRefusePaths}
-use Rattle.overlay_string.specs.StringBuilder.{StringBuilder, AddsOneAsAsked, HoldsPaths, MayRefuseBuilder}
+use Rattle.overlay_string.specs.StringBuilder.{StringBuilder, StringBuilderAddsOne}
 use Rattle.overlay_string.specs.StringPaths.{shape_contour, shape_contours}
 use Rattle.overlay_string.specs.declared.clip_rule.ClipRule.{ClipRule}
 use Rattle.overlay_string.proofs.OneShots.{clip_refused}
@@ -34,7 +34,7 @@ nothing_held b empty ready = record {
 }
 
 pub adds_path : {V : Type 0} (path : AddedPath CountedEdge) (old new : StringBuilder ℕ) (r : Result V OverlayError) →
-    AddsOneAsAsked path old new r → AddsToHeld (path ∷ []) old new r
+    StringBuilderAddsOne path old new r → AddsToHeld (path ∷ []) old new r
 adds_path path old new (Ok v) e = λ before h. record {
   holds = record { added = adds_last before path [] old.edges new.edges h.holds.added e.ok; light = e.light };
   ready = ap (λ b. b.failed) e.kept ∙ h.ready;
@@ -102,8 +102,8 @@ module _ (cs : List GivenContour) (k : ℕ) (c : GivenContour) (within : k < len
 -- what a clip answers of the paths that a builder holds
 pub clip_answered : {V : Type 0} (shown : V → List (List Point)) (fill : FillRule) (rule : ClipRule)
     (paths : List (AddedPath CountedEdge)) (b : StringBuilder ℕ) → HoldsJust paths b → (r : Result V OverlayError)
-    → IfOk r (λ v. AreClipped 64 fill rule b.edges (shown v)) → (IsErrOf r Failed ↔ (b.failed ≡ true))
-    → IfErr r (λ e. (e ≡ Failed) ⊎ MayRefuseSplitting 64 b.edges e)
+    → IfOk r (λ v. AreClipped most_rounds fill rule b.edges (shown v)) → (IsErrOf r Failed ↔ (b.failed ≡ true))
+    → IfErr r (λ e. (e ≡ Failed) ⊎ MayRefuseSplitting most_rounds b.edges e)
     → MatchResult r (λ v. AreClippedOfPaths fill rule paths (shown v)) (λ e. MayRefusePaths paths e)
 clip_answered shown fill rule paths b h (Ok v) clipped failed refused =
     record { content = b.edges; holds = h.holds; clipped = clipped }

@@ -8,12 +8,14 @@ use Rattle.overlay_geom.specs.Edges.{CountedEdge}
 use Rattle.overlay_geom.specs.Plane.{Point}
 use Rattle.overlay_arrange.specs.Vectors.{Vector, vector_of}
 use Rattle.overlay_arrange.specs.declared.fill_rule.FillRule.{FillRule}
+use Rattle.overlay_arrange.specs.Arranged.{most_rounds}
 use Rattle.overlay_builder.specs.Held.{Held, AnswersQuery}
 use Rattle.i_overlay.specs.Builder.{Builder, held_by}
 use Rattle.overlay_extract.specs.PlacedResults.{IsHierarchy}
 use Rattle.overlay_extract.specs.Results.{Asked, asked, IsResult}
 use Rattle.overlay_plane.specs.Islands.{ChildLink}
-use Rattle.overlay_builder.specs.GivenPaths.{MayRefuseBuilder, GivenPath, HoldsPaths}
+use Rattle.overlay_builder.specs.GivenPaths.{GivenPath, added_paths}
+use Rattle.overlay_builder.specs.PathLists.{MayRefuseBuilder}
 use Rattle.i_overlay.specs.OneShot.{IsResultOfPaths, MayRefusePaths}
 use Rattle.i_overlay.proofs.OneShots.{query_refused, result_of_paths}
 use Rattle.polyover_text.specs.declared.query.OverlayQuery.{OverlayQuery}
@@ -26,7 +28,7 @@ module _ (cs : List GivenPath) (b : Builder ℕ) (h : HasAdded cs b) where
   -- what a query for the edges answers
   pub edges_answered : {V : Type 0} (limit : ℕ) (vectors : V → List Vector) (fill : FillRule) (new : Held CountedEdge)
       (answer : Result V OverlayError)
-      → AnswersQuery limit 64 (held_by b) new answer
+      → AnswersQuery limit most_rounds (held_by b) new answer
       → IfOk answer (λ v. vectors v ≡ map (vector_of fill new.edges) new.edges)
       → MatchResult answer (λ v. AreEdges cs fill (vectors v)) (λ e. MayRefusePaths cs e)
   edges_answered limit vectors fill new (Ok v) query listed =
@@ -41,7 +43,7 @@ module _ (cs : List GivenPath) (query : OverlayQuery) (b : Builder ℕ) (h : IsA
 
   -- what an overlay answers
   pub shapes_answered : {V : Type 0} (limit : ℕ) (shapes : V → List (List (List Point))) (new : Held CountedEdge)
-      (answer : Result V OverlayError) → AnswersQuery limit 64 (held_by b) new answer →
+      (answer : Result V OverlayError) → AnswersQuery limit most_rounds (held_by b) new answer →
       IfOk answer (λ v. IsResult asked_of new.edges (shapes v)) →
       MatchResult answer (λ v. IsResultOfPaths (asked_by query) cs (shapes v)) (λ e. MayRefusePaths cs e)
   shapes_answered limit shapes new (Ok v) answers result =
@@ -53,7 +55,7 @@ module _ (cs : List GivenPath) (query : OverlayQuery) (b : Builder ℕ) (h : IsA
   -- and what it answers that tells of the links too
   pub hierarchy_answered : {V : Type 0} (limit : ℕ) (shapes : V → List (List (List Point)))
       (links : V → List ChildLink) (new : Held CountedEdge) (answer : Result V OverlayError) →
-      AnswersQuery limit 64 (held_by b) new answer →
+      AnswersQuery limit most_rounds (held_by b) new answer →
       IfOk answer (λ v. IsHierarchy asked_of new.edges (shapes v) (links v)) →
       MatchResult answer (λ v. IsHierarchyOfPaths (asked_by query) cs (shapes v) (links v)) (λ e. MayRefusePaths cs e)
   hierarchy_answered limit shapes links new (Ok v) answers result = record {
@@ -67,7 +69,8 @@ module _ (cs : List GivenPath) (query : OverlayQuery) (b : Builder ℕ) (h : IsA
       query_refused limit cs (held_by b) new (Err e) h.holds h.ready answers
 
 -- where the contours can't be added, there is no answer
-pub adding_refused : (cs : List GivenPath) (e : OverlayError) → MayRefuseBuilder false cs e → MayRefusePaths cs e
+pub adding_refused : (cs : List GivenPath) (e : OverlayError) → MayRefuseBuilder (added_paths false cs) e
+    → MayRefusePaths cs e
 adding_refused cs Memory may = tt
 adding_refused cs NotSettled may = absurd may
 adding_refused cs TooManyEdges may = inl may

@@ -7,6 +7,7 @@ use Rattle.overlay_geom.specs.Edges.{CountedEdge}
 use Rattle.overlay_geom.specs.Plane.{Point}
 use Rattle.overlay_geom.specs.Points.{AllInRange}
 use Rattle.overlay_geom.specs.declared.error.OverlayError.{OverlayError}
+use Rattle.overlay_geom.specs.Numbers.{greatest_of_64_bits}
 use Rattle.overlay_arrange.specs.Paths.{GivenPath}
 use Rattle.overlay_arrange.specs.declared.fill_rule.FillRule.{FillRule}
 use Rattle.overlay_arrange.specs.declared.options.ShapeType.{ShapeType}
@@ -17,22 +18,22 @@ use Rattle.overlay_string.specs.StringSlices.{AreSlicedOfPaths}
 use Rattle.polyover_text.specs.Grammar.{GivenContour, contour_paths}
 use Rattle.polyover_engine.specs.Subjects.{subject_part, subject_of}
 
-part_in_range : (shape_type : ShapeType) (ps : List Point) → AllInRange 4611686018427387903 ps
-    → All (AllInRange 4611686018427387903) (subject_part shape_type ps)
+part_in_range : (shape_type : ShapeType) (ps : List Point) → AllInRange greatest_of_64_bits ps
+    → All (AllInRange greatest_of_64_bits) (subject_part shape_type ps)
 part_in_range Subject ps h =
-    All-cons (AllInRange 4611686018427387903) ps [] h (All-nil (AllInRange 4611686018427387903))
-part_in_range Clip ps h = All-nil (AllInRange 4611686018427387903)
+    All-cons (AllInRange greatest_of_64_bits) ps [] h (All-nil (AllInRange greatest_of_64_bits))
+part_in_range Clip ps h = All-nil (AllInRange greatest_of_64_bits)
 
 -- where the contours are in the coordinate range, so is the subject
 pub subject_in_range : (cs : List GivenContour)
-    → All (λ (c : GivenPath). AllInRange 4611686018427387903 c.points) (contour_paths cs)
-    → All (AllInRange 4611686018427387903) (subject_of cs)
-subject_in_range [] h = All-nil (AllInRange 4611686018427387903)
+    → All (λ (c : GivenPath). AllInRange greatest_of_64_bits c.points) (contour_paths cs)
+    → All (AllInRange greatest_of_64_bits) (subject_of cs)
+subject_in_range [] h = All-nil (AllInRange greatest_of_64_bits)
 subject_in_range (c ∷ cs) h =
-    All-append (AllInRange 4611686018427387903) (subject_part c.path.shape_type c.path.points) (subject_of cs)
+    All-append (AllInRange greatest_of_64_bits) (subject_part c.path.shape_type c.path.points) (subject_of cs)
     (part_in_range c.path.shape_type c.path.points
-    (All-head (λ (d : GivenPath). AllInRange 4611686018427387903 d.points) c.path (contour_paths cs) h))
-    (subject_in_range cs (All-tail (λ (d : GivenPath). AllInRange 4611686018427387903 d.points) c.path
+    (All-head (λ (d : GivenPath). AllInRange greatest_of_64_bits d.points) c.path (contour_paths cs) h))
+    (subject_in_range cs (All-tail (λ (d : GivenPath). AllInRange greatest_of_64_bits d.points) c.path
     (contour_paths cs) h))
 
 -- what slicing answers of some paths, it answers of the same paths

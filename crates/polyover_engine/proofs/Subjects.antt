@@ -7,6 +7,7 @@ use Rattle.overlay_geom.specs.Plane.{Point}
 use Rattle.overlay_geom.specs.Points.{AllInRange}
 use Rattle.overlay_geom.specs.Resolved.{IsResolved}
 use Rattle.overlay_geom.specs.declared.point.IntPoint.{IntPoint}
+use Rattle.overlay_geom.specs.Numbers.{greatest_of_64_bits}
 use Rattle.overlay_arrange.specs.declared.options.ShapeType.TheVariants.{Subject}
 use Rattle.polyover_text.specs.Points.{points_at}
 use Rattle.polyover_text.specs.Grammar.{GivenContour}
@@ -32,8 +33,8 @@ module _ (cs : List GivenContour) (k : ℕ) (c : GivenContour) (old : List (List
     shown = subject_so_far cs k c within here old new h.shown adds.added;
     resolved = subst (All IsResolved) (sym adds.added)
         (All-append IsResolved old (subject_part c.path.shape_type c.path.points) h.resolved adds.resolved);
-    in_range = subst (All (AllInRange 4611686018427387903)) (sym adds.added)
-        (All-append (AllInRange 4611686018427387903) old (subject_part c.path.shape_type c.path.points) h.in_range
+    in_range = subst (All (AllInRange greatest_of_64_bits)) (sym adds.added)
+        (All-append (AllInRange greatest_of_64_bits) old (subject_part c.path.shape_type c.path.points) h.in_range
         adds.in_range);
   }
 
@@ -59,15 +60,15 @@ module _ (cs : List GivenContour) (k : ℕ) (c : GivenContour) (old : List (List
 module _ (c : GivenContour) (of_subject : c.path.shape_type ≡ Subject) where
   -- its points come last
   pub adds_pushed : (old new : List (List Point)) → new ≡ old ++ c.path.points ∷ [] → IsResolved c.path.points →
-      AllInRange 4611686018427387903 c.path.points
+      AllInRange greatest_of_64_bits c.path.points
       → AddsContour c old new
   adds_pushed old new pushed resolved in_range = record {
     added = pushed ∙ ap (λ t. old ++ subject_part t c.path.points) (sym of_subject);
     resolved = subst (λ t. All IsResolved (subject_part t c.path.points)) (sym of_subject)
         (All-cons IsResolved c.path.points [] resolved (All-nil IsResolved));
-    in_range = subst (λ t. All (AllInRange 4611686018427387903) (subject_part t c.path.points)) (sym of_subject)
-        (All-cons (AllInRange 4611686018427387903) c.path.points [] in_range
-        (All-nil (AllInRange 4611686018427387903)));
+    in_range = subst (λ t. All (AllInRange greatest_of_64_bits) (subject_part t c.path.points)) (sym of_subject)
+        (All-cons (AllInRange greatest_of_64_bits) c.path.points [] in_range
+        (All-nil (AllInRange greatest_of_64_bits)));
   }
 
 -- the points of a list of lists, when one more list is pushed that holds a copy

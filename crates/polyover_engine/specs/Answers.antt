@@ -13,14 +13,15 @@ use Rattle.overlay_relate.specs.declared.location.PointLocation.{PointLocation}
 use Rattle.overlay_geom.specs.Edges.{CountedEdge}
 use Rattle.overlay_geom.specs.Plane.{Point}
 use Rattle.overlay_arrange.specs.declared.fill_rule.FillRule.{FillRule}
-use Rattle.overlay_arrange.specs.Arranged.{IsArranged}
+use Rattle.overlay_arrange.specs.Arranged.{IsArranged, most_rounds}
 use Rattle.overlay_arrange.specs.Vectors.{Vector, vector_of}
 use Rattle.i_overlay.specs.OneShot.{IsResultOfPaths, MayRefusePaths}
 use Rattle.overlay_extract.specs.PlacedResults.{IsHierarchy}
 use Rattle.overlay_extract.specs.Results.{Asked}
 use Rattle.overlay_plane.specs.Islands.{ChildLink}
 use Rattle.polyover_engine.specs.Builders.{asked_by}
-use Rattle.overlay_builder.specs.GivenPaths.{GivenPath, HoldsPaths}
+use Rattle.overlay_builder.specs.GivenPaths.{GivenPath, added_paths}
+use Rattle.overlay_builder.specs.PathLists.{HoldsPaths}
 use Rattle.polyover_text.specs.declared.query.Query.{Query}
 use Rattle.polyover_text.specs.declared.query.Query.TheVariants.{Edges, Overlay, Hierarchy, Relate, ClipLines}
 use Rattle.polyover_text.specs.declared.query.Query.TheVariants.{Slice, Contains, Locate}
@@ -42,8 +43,8 @@ use Rattle.polyover_engine.specs.Subjects.{subject_of, IsFirstUnresolved}
 pub record AreEdges (cs : List GivenPath) (fill : FillRule) (vs : List Vector) : Type 0 where
   pub content : List CountedEdge
   pub edges : List CountedEdge
-  pub holds : HoldsPaths false cs content
-  pub arranged : IsArranged 64 content edges
+  pub holds : HoldsPaths (added_paths false cs) content
+  pub arranged : IsArranged most_rounds content edges
   pub listed : vs ≡ map (vector_of fill edges) edges
 
 -- ---- shapes and their links
@@ -53,8 +54,8 @@ pub record IsHierarchyOfPaths (q : Asked) (cs : List GivenPath) (shapes : List (
     (links : List ChildLink) : Type 0 where
   pub content : List CountedEdge
   pub edges : List CountedEdge
-  pub holds : HoldsPaths false cs content
-  pub arranged : IsArranged 64 content edges
+  pub holds : HoldsPaths (added_paths false cs) content
+  pub arranged : IsArranged most_rounds content edges
   pub is_hierarchy : IsHierarchy q edges shapes links
 
 -- a line for each link

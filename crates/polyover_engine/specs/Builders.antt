@@ -3,12 +3,13 @@ use Rattle.std.specs.Prelude.{◌≡◌, ℕ, false, List, unwrap_or}
 use Rattle.std.specs.Int.{w128}
 use Rattle.overlay_extract.specs.Results.{Asked, asked}
 use Rattle.i_overlay.specs.Builder.{Builder, IsNewBuilder}
-use Rattle.overlay_builder.specs.GivenPaths.{GivenPath, HoldsPaths}
+use Rattle.overlay_builder.specs.GivenPaths.{GivenPath, added_paths}
+use Rattle.overlay_builder.specs.PathLists.{HoldsPaths}
 use Rattle.polyover_text.specs.declared.query.OverlayQuery.{OverlayQuery}
 
 -- a builder as the constructors without settings make it holds just the contours
 pub record HasAdded (cs : List GivenPath) (b : Builder ℕ) : Type 0 where
-  pub holds : HoldsPaths false cs b.edges
+  pub holds : HoldsPaths (added_paths false cs) b.edges
   pub made : IsNewBuilder (λ n. n) b
 
 -- what the query asks of an overlay; areas at i64 are summed in i128
@@ -25,6 +26,6 @@ asked_by q = record {
 
 -- a builder that holds just the contours, and has the options that the query sets
 pub record IsAskedBuilder (cs : List GivenPath) (query : OverlayQuery) (b : Builder ℕ) : Type 0 where
-  pub holds : HoldsPaths false cs b.edges
+  pub holds : HoldsPaths (added_paths false cs) b.edges
   pub ready : b.failed ≡ false
   pub asked : asked w128 (λ n. n) query.fill_rule query.overlay_rule b.options ≡ asked_by query

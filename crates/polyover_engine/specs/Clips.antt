@@ -2,9 +2,9 @@
 use Rattle.std.specs.Prelude.{◌≡◌, ◌++◌, ℕ, false, List, Result, MatchResult}
 use Rattle.overlay_geom.specs.Edges.{CountedEdge}
 use Rattle.overlay_geom.specs.declared.error.OverlayError.{OverlayError}
-use Rattle.overlay_builder.specs.PathLists.{AddedPath}
+use Rattle.overlay_builder.specs.PathLists.{AddedPath, HoldsPaths, MayRefuseBuilder}
 use Rattle.overlay_string.specs.OneShot.{shape_and_strings}
-use Rattle.overlay_string.specs.StringBuilder.{StringBuilder, HoldsPaths, MayRefuseBuilder}
+use Rattle.overlay_string.specs.StringBuilder.{StringBuilder}
 use Rattle.overlay_string.specs.declared.clip_rule.ClipRule.{ClipRule}
 use Rattle.polyover_text.specs.declared.clip_options.ClipOptions.{ClipOptions}
 use Rattle.polyover_text.specs.Grammar.{GivenFigures}

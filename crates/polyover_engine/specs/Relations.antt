@@ -4,12 +4,13 @@ use Rattle.overlay_geom.specs.Edges.{CountedEdge}
 use Rattle.overlay_geom.specs.declared.error.OverlayError.{OverlayError}
 use Rattle.overlay_plane.specs.Predicates.{Intersects, InteriorsIntersect, Touches, PointIntersects, IsWithin}
 use Rattle.overlay_plane.specs.Predicates.{IsDisjoint, IsFillable}
-use Rattle.overlay_arrange.specs.Arranged.{IsArranged}
+use Rattle.overlay_arrange.specs.Arranged.{IsArranged, most_rounds}
 use Rattle.overlay_arrange.specs.Rules.{is_filled}
 use Rattle.overlay_arrange.specs.declared.fill_rule.FillRule.{FillRule}
 use Rattle.overlay_arrange.specs.declared.options.ShapeType.{ShapeType}
 use Rattle.overlay_arrange.specs.declared.options.ShapeType.TheVariants.{Subject, Clip}
-use Rattle.overlay_builder.specs.GivenPaths.{GivenPath, HoldsPaths}
+use Rattle.overlay_builder.specs.GivenPaths.{GivenPath, added_paths}
+use Rattle.overlay_builder.specs.PathLists.{HoldsPaths}
 use Rattle.overlay_relate.specs.PredicateBuilder.{PredicateBuilder}
 use Rattle.i_overlay.specs.OneShot.{MayRefusePaths}
 use Rattle.i_overlay.specs.Relations.{TellsOfPaths}
@@ -38,8 +39,8 @@ exchanged cs = taken_paths Clip cs
 pub record AreRelations (cs : List GivenPath) (fill : FillRule) (r : Relations) : Type 0 where
   pub content : List CountedEdge
   pub edges : List CountedEdge
-  pub holds : HoldsPaths false cs content
-  pub arranged : IsArranged 64 content edges
+  pub holds : HoldsPaths (added_paths false cs) content
+  pub arranged : IsArranged most_rounds content edges
   pub fillable : IsFillable (is_filled fill) edges
   pub intersects : IsTrue r.intersects ↔ Intersects (is_filled fill) edges
   pub interiors_intersect : IsTrue r.interiors_intersect ↔ InteriorsIntersect (is_filled fill) edges
@@ -55,6 +56,6 @@ MayRefuseRelations cs e = MayRefusePaths cs e ⊎ MayRefusePaths (exchanged cs) 
 
 -- a builder for predicates under the fill rule, which has not failed, holds just the contours
 pub record HasAddedUnder (fill : FillRule) (cs : List GivenPath) (b : PredicateBuilder) : Type 0 where
-  pub holds : HoldsPaths false cs b.edges
+  pub holds : HoldsPaths (added_paths false cs) b.edges
   pub ready : b.failed ≡ false
   pub rule : b.fill_rule ≡ fill

@@ -5,6 +5,7 @@ use Rattle.overlay_geom.specs.declared.error.OverlayError.TheVariants.{Memory}
 use Rattle.overlay_geom.specs.Plane.{Point}
 use Rattle.overlay_geom.specs.Points.{AllInRange}
 use Rattle.overlay_geom.specs.Resolved.{IsResolved}
+use Rattle.overlay_geom.specs.Numbers.{greatest_of_64_bits}
 use Rattle.overlay_arrange.specs.declared.options.ShapeType.{ShapeType}
 use Rattle.overlay_arrange.specs.declared.options.ShapeType.TheVariants.{Subject, Clip}
 use Rattle.polyover_text.specs.Grammar.{GivenContour}
@@ -35,7 +36,7 @@ pub record IsFirstUnresolved (cs : List GivenContour) (n : ℕ) : Type 0 where
 pub record IsSubject (cs : List GivenContour) (shape : List (List Point)) : Type 0 where
   pub shown : shape ≡ subject_of cs
   pub resolved : All IsResolved shape
-  pub in_range : All (AllInRange 4611686018427387903) shape
+  pub in_range : All (AllInRange greatest_of_64_bits) shape
 
 -- why there is no such shape: a contour is not resolved, or memory was refused
 abbrev pub HasNoSubject : List GivenContour → Exit → Type 0
@@ -50,7 +51,7 @@ HasNoSubject cs Io = ⊥
 pub record AddsContour (c : GivenContour) (old new : List (List Point)) : Type 0 where
   pub added : new ≡ old ++ subject_part c.path.shape_type c.path.points
   pub resolved : All IsResolved (subject_part c.path.shape_type c.path.points)
-  pub in_range : All (AllInRange 4611686018427387903) (subject_part c.path.shape_type c.path.points)
+  pub in_range : All (AllInRange greatest_of_64_bits) (subject_part c.path.shape_type c.path.points)
 
 -- it is a contour of the subject that is not resolved
 pub record IsUnresolved (c : GivenContour) (n : ℕ) : Type 0 where

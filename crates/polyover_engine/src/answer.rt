@@ -3,6 +3,7 @@
 ghost use Rattle.std.specs.Prelude.{MatchResult, All, map, string_bytes};
 ghost use Rattle.overlay_geom.specs.Points.{AllInRange};
 ghost use Rattle.overlay_geom.specs.Paths.{plain_shapes};
+ghost use Rattle.overlay_geom.specs.Numbers.{greatest_of_64_bits};
 ghost use Rattle.overlay_arrange.specs.Vectors.{plain_vector};
 ghost use Rattle.i_overlay.specs.OneShot.{IsResultOfPaths, MayRefusePaths};
 ghost use Rattle.polyover_engine.specs.Answers.{Answers, AreEdges, EndsUnanswered};
@@ -76,7 +77,7 @@ fn arranged_edges<A: Allocator + Clone>(
     contours: &[NumberedContour<A>],
     fill_rule: FillRule,
 ) -> Result<Vec<DataVectorEdge<i64, ()>, A>, OverlayError>
-    requires { All (λ c. AllInRange 4611686018427387903 c.points) (contour_paths (contours_at contours.now)) }
+    requires { All (λ c. AllInRange greatest_of_64_bits c.points) (contour_paths (contours_at contours.now)) }
     ensures { MatchResult result
         (λ v. AreEdges (contour_paths (contours_at contours.now)) fill_rule (map (plain_vector (λ z. z)) v.items))
         (λ e. MayRefusePaths (contour_paths (contours_at contours.now)) e) }
@@ -91,7 +92,7 @@ fn overlay_shapes<A: Allocator + Clone>(
     contours: &[NumberedContour<A>],
     query: OverlayQuery,
 ) -> Result<IntShapes<i64, A>, OverlayError>
-    requires { All (λ c. AllInRange 4611686018427387903 c.points) (contour_paths (contours_at contours.now)) }
+    requires { All (λ c. AllInRange greatest_of_64_bits c.points) (contour_paths (contours_at contours.now)) }
     ensures { MatchResult result
         (λ v. IsResultOfPaths (asked_by query) (contour_paths (contours_at contours.now))
         (plain_shapes (λ z. z) v.items))

@@ -2,10 +2,12 @@
 
 ghost use Rattle.std.specs.Prelude.{MatchResult, All, false};
 ghost use Rattle.overlay_geom.specs.Points.{AllInRange};
-ghost use Rattle.overlay_builder.specs.GivenPaths.{MayRefuseBuilder};
+ghost use Rattle.overlay_geom.specs.Numbers.{greatest_of_64_bits};
 ghost use Rattle.polyover_engine.specs.Builders.{HasAdded, IsAskedBuilder};
 ghost use Rattle.polyover_text.specs.Grammar.{contour_paths};
 ghost use Rattle.polyover_text.specs.Statements.{contours_at};
+ghost use Rattle.overlay_builder.specs.PathLists.{MayRefuseBuilder};
+ghost use Rattle.overlay_builder.specs.GivenPaths.{added_paths};
 
 use i_overlay::overlay::Overlay;
 use overlay_geom::error::OverlayError;
@@ -20,10 +22,10 @@ pub fn with_contours<A: Allocator + Clone>(
     alloc: A,
     contours: &[NumberedContour<A>],
 ) -> Result<Overlay<i64, A>, OverlayError>
-    requires { All (λ c. AllInRange 4611686018427387903 c.points) (contour_paths (contours_at contours.now)) }
+    requires { All (λ c. AllInRange greatest_of_64_bits c.points) (contour_paths (contours_at contours.now)) }
     ensures { MatchResult result
         (λ overlay. HasAdded (contour_paths (contours_at contours.now)) overlay)
-        (λ e. MayRefuseBuilder false (contour_paths (contours_at contours.now)) e) }
+        (λ e. MayRefuseBuilder (added_paths false (contour_paths (contours_at contours.now))) e) }
 {
     let mut overlay = Overlay::<i64, A>::new(alloc, 0)?;
     for given in contours {
@@ -39,10 +41,10 @@ pub fn asked_builder<A: Allocator + Clone>(
     contours: &[NumberedContour<A>],
     query: OverlayQuery,
 ) -> Result<Overlay<i64, A>, OverlayError>
-    requires { All (λ c. AllInRange 4611686018427387903 c.points) (contour_paths (contours_at contours.now)) }
+    requires { All (λ c. AllInRange greatest_of_64_bits c.points) (contour_paths (contours_at contours.now)) }
     ensures { MatchResult result
         (λ overlay. IsAskedBuilder (contour_paths (contours_at contours.now)) query overlay)
-        (λ e. MayRefuseBuilder false (contour_paths (contours_at contours.now)) e) }
+        (λ e. MayRefuseBuilder (added_paths false (contour_paths (contours_at contours.now))) e) }
 {
     let mut overlay = with_contours(alloc, contours)?;
     overlay.options.output_direction = query.output.output_direction;

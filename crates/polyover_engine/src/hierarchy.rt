@@ -3,6 +3,7 @@
 ghost use Rattle.std.specs.Prelude.{◌≡◌, ◌++◌, MatchResult, All, map, IfOk, OnOk, IsOkUnless, string_bytes};
 ghost use Rattle.overlay_geom.specs.Flat.{shapes_in};
 ghost use Rattle.overlay_geom.specs.Points.{AllInRange};
+ghost use Rattle.overlay_geom.specs.Numbers.{greatest_of_64_bits};
 ghost use Rattle.overlay_extract.specs.ChildLinks.{plain_link};
 ghost use Rattle.i_overlay.specs.OneShot.{MayRefusePaths};
 ghost use Rattle.polyover_engine.specs.Answers.{IsHierarchyOfPaths, link_lines};
@@ -26,7 +27,7 @@ pub(crate) fn overlay_hierarchy<A: Allocator + Clone>(
     contours: &[NumberedContour<A>],
     query: OverlayQuery,
 ) -> Result<FlatShapeHierarchy<i64, A>, OverlayError>
-    requires { All (λ c. AllInRange 4611686018427387903 c.points) (contour_paths (contours_at contours.now)) }
+    requires { All (λ c. AllInRange greatest_of_64_bits c.points) (contour_paths (contours_at contours.now)) }
     ensures { MatchResult result
         (λ h. IsHierarchyOfPaths (asked_by query) (contour_paths (contours_at contours.now))
         (shapes_in (λ z. z) h.shapes.points.items h.shapes.contour_ranges.items h.shapes.shape_ranges.items)

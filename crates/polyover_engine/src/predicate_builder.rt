@@ -2,10 +2,12 @@
 
 ghost use Rattle.std.specs.Prelude.{◌≡◌, MatchResult, All, false};
 ghost use Rattle.overlay_geom.specs.Points.{AllInRange};
-ghost use Rattle.overlay_builder.specs.GivenPaths.{MayRefuseBuilder};
+ghost use Rattle.overlay_geom.specs.Numbers.{greatest_of_64_bits};
 ghost use Rattle.polyover_engine.specs.Relations.{HasAddedUnder, taken, taken_paths};
 ghost use Rattle.polyover_text.specs.Grammar.{contour_paths};
 ghost use Rattle.polyover_text.specs.Statements.{contours_at};
+ghost use Rattle.overlay_builder.specs.PathLists.{MayRefuseBuilder};
+ghost use Rattle.overlay_builder.specs.GivenPaths.{added_paths};
 
 use i_overlay::fill_rule::FillRule;
 use i_overlay::overlay::ShapeType;
@@ -24,10 +26,10 @@ pub(crate) fn with_subject<A: Allocator + Clone>(
     subject: ShapeType,
     fill_rule: FillRule,
 ) -> Result<PredicateOverlay<i64, A>, OverlayError>
-    requires { All (λ c. AllInRange 4611686018427387903 c.points) (contour_paths (contours_at contours.now)) }
+    requires { All (λ c. AllInRange greatest_of_64_bits c.points) (contour_paths (contours_at contours.now)) }
     ensures { MatchResult result
         (λ overlay. HasAddedUnder fill_rule (taken_paths subject (contour_paths (contours_at contours.now))) overlay)
-        (λ e. MayRefuseBuilder false (taken_paths subject (contour_paths (contours_at contours.now))) e) }
+        (λ e. MayRefuseBuilder (added_paths false (taken_paths subject (contour_paths (contours_at contours.now)))) e) }
 {
     let mut overlay = PredicateOverlay::<i64, A>::new(alloc, 0)?;
     overlay.fill_rule = fill_rule;

@@ -2,6 +2,7 @@
 
 ghost use Rattle.std.specs.Prelude.{MatchResult, All};
 ghost use Rattle.overlay_geom.specs.Points.{AllInRange};
+ghost use Rattle.overlay_geom.specs.Numbers.{greatest_of_64_bits};
 ghost use Rattle.overlay_plane.specs.Predicates.{IsWithin};
 ghost use Rattle.i_overlay.specs.OneShot.{MayRefusePaths};
 ghost use Rattle.i_overlay.specs.Relations.{TellsOfPaths};
@@ -25,7 +26,7 @@ pub(crate) fn relations<A: Allocator + Copy>(
     contours: &[NumberedContour<A>],
     fill_rule: FillRule,
 ) -> Result<Relations, OverlayError>
-    requires { All (λ c. AllInRange 4611686018427387903 c.points) (contour_paths (contours_at contours.now)) }
+    requires { All (λ c. AllInRange greatest_of_64_bits c.points) (contour_paths (contours_at contours.now)) }
     ensures { MatchResult result
         (λ r. AreRelations (contour_paths (contours_at contours.now)) fill_rule r)
         (λ e. MayRefuseRelations (contour_paths (contours_at contours.now)) e) }
@@ -49,7 +50,7 @@ fn covers<A: Allocator + Copy>(
     contours: &[NumberedContour<A>],
     fill_rule: FillRule,
 ) -> Result<bool, OverlayError>
-    requires { All (λ c. AllInRange 4611686018427387903 c.points) (contour_paths (contours_at contours.now)) }
+    requires { All (λ c. AllInRange greatest_of_64_bits c.points) (contour_paths (contours_at contours.now)) }
     ensures { MatchResult result
         (λ b. TellsOfPaths IsWithin fill_rule (exchanged (contour_paths (contours_at contours.now))) b)
         (λ e. MayRefusePaths (exchanged (contour_paths (contours_at contours.now))) e) }

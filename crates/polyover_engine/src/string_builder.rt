@@ -2,12 +2,13 @@
 
 ghost use Rattle.std.specs.Prelude.{MatchResult, All};
 ghost use Rattle.overlay_geom.specs.Points.{AllInRange};
-ghost use Rattle.overlay_string.specs.StringBuilder.{MayRefuseBuilder};
+ghost use Rattle.overlay_geom.specs.Numbers.{greatest_of_64_bits};
 ghost use Rattle.overlay_string.specs.StringPaths.{shape_contours};
 ghost use Rattle.polyover_text.specs.Grammar.{contour_paths};
 ghost use Rattle.polyover_text.specs.Statements.{path_at, contours_at};
 ghost use Rattle.polyover_engine.specs.Clips.{HoldsJust, AddsToHeld};
 ghost use Rattle.polyover_engine.specs.Subjects.{subject_part, subject_of};
+ghost use Rattle.overlay_builder.specs.PathLists.{MayRefuseBuilder};
 
 use i_overlay::overlay::ShapeType;
 use i_overlay::string::overlay::StringOverlay;
@@ -23,7 +24,7 @@ pub(crate) fn with_subject_shape<A: Allocator + Clone>(
     alloc: A,
     contours: &[NumberedContour<A>],
 ) -> Result<StringOverlay<i64, A>, OverlayError>
-    requires { All (λ c. AllInRange 4611686018427387903 c.points) (contour_paths (contours_at contours.now)) }
+    requires { All (λ c. AllInRange greatest_of_64_bits c.points) (contour_paths (contours_at contours.now)) }
     ensures { MatchResult result
         (λ overlay. HoldsJust (shape_contours (subject_of (contours_at contours.now))) overlay)
         (λ e. MayRefuseBuilder (shape_contours (subject_of (contours_at contours.now))) e) }
@@ -40,7 +41,7 @@ fn add<A: Allocator + Clone>(
     overlay: &mut StringOverlay<i64, A>,
     contour: &Contour<A>,
 ) -> Result<(), OverlayError>
-    requires { AllInRange 4611686018427387903 (path_at contour.now).points }
+    requires { AllInRange greatest_of_64_bits (path_at contour.now).points }
     ensures { AddsToHeld (shape_contours (subject_part (path_at contour.now).shape_type (path_at contour.now).points))
         overlay.old overlay.new result }
 {

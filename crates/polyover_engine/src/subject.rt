@@ -3,6 +3,7 @@
 ghost use Rattle.std.specs.Prelude.{◌≡◌, [], ◌∷◌, ◌++◌, MatchResult, All, IfOk, OnOk, IsOkUnless};
 ghost use Rattle.overlay_geom.specs.Points.{AllInRange};
 ghost use Rattle.overlay_geom.specs.Paths.{paths_of_shape};
+ghost use Rattle.overlay_geom.specs.Numbers.{greatest_of_64_bits};
 ghost use Rattle.polyover_text.specs.Grammar.{contour_paths};
 ghost use Rattle.polyover_text.specs.Points.{points_at};
 ghost use Rattle.polyover_text.specs.Statements.{contour_at, contours_at};
@@ -23,7 +24,7 @@ pub(crate) fn subject<A: Allocator + Copy>(
     alloc: A,
     contours: &[NumberedContour<A>],
 ) -> Result<IntShape<i64, A>, Exit>
-    requires { All (λ c. AllInRange 4611686018427387903 c.points) (contour_paths (contours_at contours.now)) }
+    requires { All (λ c. AllInRange greatest_of_64_bits c.points) (contour_paths (contours_at contours.now)) }
     ensures { MatchResult result
         (λ shape. IsSubject (contours_at contours.now) (paths_of_shape (λ z. z) shape.items))
         (λ exit. HasNoSubject (contours_at contours.now) exit) }
@@ -41,7 +42,7 @@ fn add<A: Allocator + Copy>(
     shape: &mut IntShape<i64, A>,
     given: &NumberedContour<A>,
 ) -> Result<(), Exit>
-    requires { AllInRange 4611686018427387903 (contour_at given.now).path.points }
+    requires { AllInRange greatest_of_64_bits (contour_at given.now).path.points }
     ensures { MatchResult result
         (λ _. AddsContour (contour_at given.now) (paths_of_shape (λ z. z) shape.old.items)
         (paths_of_shape (λ z. z) shape.new.items))

@@ -6,9 +6,9 @@ ghost use Rattle.std.specs.Iterator.{Drains, IsFinite};
 ghost use Rattle.overlay_arrange.specs.Content.{edge_for};
 ghost use Rattle.overlay_geom.specs.Edges.{AddsContour, weight};
 ghost use Rattle.overlay_geom.specs.Points.{plain_points, AllInRange};
-ghost use Rattle.i_overlay.specs.Adding.{AddsAsAsked};
+ghost use Rattle.i_overlay.specs.Adding.{BuilderAdds, BuilderAddsContour};
 ghost use Rattle.i_overlay.specs.Builder.{cleared};
-ghost use Rattle.overlay_builder.specs.GivenPaths.{paths_for, subject_and_clip, WouldWeighTooMuch};
+ghost use Rattle.overlay_builder.specs.GivenPaths.{paths_for, subject_and_clip, ContourWeighsTooMuch};
 
 use crate::overlay::{Overlay, ShapeType};
 use overlay_builder::boolean::passing_without_data;
@@ -33,16 +33,7 @@ impl<I: OverlayInt, A: Allocator + Clone> Overlay<I, A> {
         shape_type: ShapeType,
     ) -> Result<(), OverlayError>
         requires { AllInRange I.limit (plain_points I.whole contour.now) }
-        ensures ok { OnOk result (AddsContour self.old.options.preserve_input_collinear (edge_for shape_type)
-            (plain_points I.whole contour.now) self.old.edges self.new.edges) }
-        ensures light { OnOk result (weight self.new.edges < 2 ^ 31) }
-        ensures kept { self.new ≡ record self.old { edges = self.new.edges } }
-        ensures err { OnErr result (self.new ≡ self.old) }
-        ensures failed { IsErrOf result OverlayError.Failed ↔ (self.old.failed ≡ true) }
-        ensures too_many { IsErrOf result OverlayError.TooManyEdges
-            → WouldWeighTooMuch self.old.options.preserve_input_collinear shape_type
-            (plain_points I.whole contour.now) self.old.edges }
-        ensures no_query { result ≢ Err OverlayError.NotSettled }
+        ensures { BuilderAddsContour shape_type (plain_points I.whole contour.now) self.old self.new result }
     {
         let kind = contour_kind(self.options.preserve_input_collinear);
         self.core
@@ -71,7 +62,7 @@ impl<I: OverlayInt, A: Allocator + Clone> Overlay<I, A> {
         ensures failed { IsErrOf result OverlayError.Failed ↔ (self.old.failed ≡ true) }
         ensures too_many { IsErrOf result OverlayError.TooManyEdges
             → (ps : List (IntPoint I)) × Drains P.next_gives iter ps
-            × WouldWeighTooMuch self.old.options.preserve_input_collinear shape_type
+            × ContourWeighsTooMuch self.old.options.preserve_input_collinear shape_type
             (plain_points I.whole ps) self.old.edges }
         ensures no_query { result ≢ Err OverlayError.NotSettled }
     {
@@ -92,7 +83,7 @@ impl<I: OverlayInt, A: Allocator + Clone> Overlay<I, A> {
         shape_type: ShapeType,
     ) -> Result<(), OverlayError>
         requires { All (AllInRange I.limit) (R0.paths resource.now) }
-        ensures { AddsAsAsked (paths_for shape_type (R0.paths resource.now)) self.old self.new result }
+        ensures { BuilderAdds (paths_for shape_type (R0.paths resource.now)) self.old self.new result }
     {
         let kind = contour_kind(self.options.preserve_input_collinear);
         self.core
@@ -121,7 +112,7 @@ impl<I: OverlayInt, A: Allocator + Clone> Overlay<I, A> {
     ) -> Result<(), OverlayError>
         requires subj_in_range { All (AllInRange I.limit) (R0.paths subj.now) }
         requires clip_in_range { All (AllInRange I.limit) (R1.paths clip.now) }
-        ensures { AddsAsAsked (subject_and_clip (R0.paths subj.now) (R1.paths clip.now))
+        ensures { BuilderAdds (subject_and_clip (R0.paths subj.now) (R1.paths clip.now))
             (cleared self.old) self.new result }
     {
         self.reinit_with_subj(subj)?;
@@ -138,7 +129,7 @@ impl<I: OverlayInt, A: Allocator + Clone> Overlay<I, A> {
         subj: &R0,
     ) -> Result<(), OverlayError>
         requires { All (AllInRange I.limit) (R0.paths subj.now) }
-        ensures { AddsAsAsked (paths_for ShapeType.Subject (R0.paths subj.now))
+        ensures { BuilderAdds (paths_for ShapeType.Subject (R0.paths subj.now))
             (cleared self.old) self.new result }
     {
         self.clear();

@@ -2,6 +2,7 @@
 
 ghost use Rattle.std.specs.Prelude.{◌≡◌, ◌∷◌, [], All, Some, IfOk, OnOk, IsOkUnless};
 ghost use Rattle.overlay_arrange.specs.declared.options.ShapeType.TheVariants.{Subject};
+ghost use Rattle.overlay_arrange.specs.Arranged.{most_rounds};
 ghost use Rattle.overlay_builder.specs.GivenPaths.{paths_for};
 ghost use Rattle.overlay_extract.specs.Results.{asked, IsResult};
 ghost use Rattle.overlay_geom.specs.Paths.{plain_shapes};
@@ -33,7 +34,7 @@ impl<I: OverlayInt, A: Allocator + Clone> Overlay<I, A> {
         fill_rule: FillRule,
     ) -> Result<IntShapes<I, A>, OverlayError>
         requires { All (AllInRange I.limit) (R0.paths resource.now) }
-        ensures alone { AnswersAlone I.limit 64 self.old.options.preserve_input_collinear
+        ensures alone { AnswersAlone I.limit most_rounds self.old.options.preserve_input_collinear
             (paths_for Subject (R0.paths resource.now)) (held_by self.new) result }
         ensures result { IfOk result (λ v. IsResult
             (asked I.Wide.width I.WideUInt.natural fill_rule OverlayRule.Subject self.old.options)
@@ -57,7 +58,7 @@ impl<I: OverlayInt, A: Allocator + Clone> Overlay<I, A> {
         resource: &R0,
     ) -> Result<(), OverlayError>
         requires { All (AllInRange I.limit) (R0.paths resource.now) }
-        ensures alone { AnswersAlone I.limit 64 self.old.options.preserve_input_collinear
+        ensures alone { AnswersAlone I.limit most_rounds self.old.options.preserve_input_collinear
             (paths_for Subject (R0.paths resource.now)) (held_by self.new) result }
         ensures kept { self.new ≡ record self.old { edges = self.new.edges; failed = self.new.failed } }
     {
@@ -73,7 +74,7 @@ impl<I: OverlayInt, A: Allocator + Clone> Overlay<I, A> {
         fill_rule: FillRule,
     ) -> Result<Outcome, OverlayError>
         requires { AllInRange I.limit (plain_points I.whole contour.now) }
-        ensures alone { AnswersAlone I.limit 64 self.old.options.preserve_input_collinear
+        ensures alone { AnswersAlone I.limit most_rounds self.old.options.preserve_input_collinear
             (paths_for Subject (plain_points I.whole contour.now ∷ [])) (held_by self.new) result }
         ensures outcome { IfOk result (IsOutcome self.old.options.preserve_input_collinear fill_rule
             self.old.options.output_direction (plain_points I.whole contour.now) self.new.edges) }

@@ -2,7 +2,8 @@
 
 ghost use Rattle.std.specs.Prelude.{◌≡◌, [], All, false, IfOk, IfErr, IsOkUnless};
 ghost use Rattle.overlay_geom.specs.Points.{AllInRange};
-ghost use Rattle.overlay_builder.specs.GivenPaths.{MayRefuseBuilder, paths_for, subject_and_clip, HoldsPaths};
+ghost use Rattle.overlay_builder.specs.GivenPaths.{paths_for, subject_and_clip, added_paths};
+ghost use Rattle.overlay_builder.specs.PathLists.{HoldsPaths, MayRefuseBuilder};
 ghost use Rattle.i_overlay.specs.Builder.{empty_builder, IsNewBuilder};
 
 use crate::overlay::{IntOverlayOptions, Overlay, ShapeType};
@@ -57,11 +58,11 @@ impl<I: OverlayInt, A: Allocator + Clone> Overlay<I, A> {
     ) -> Result<Self, OverlayError>
         requires subj_in_range { All (AllInRange I.limit) (R0.paths subj.now) }
         requires clip_in_range { All (AllInRange I.limit) (R1.paths clip.now) }
-        ensures ok { IfOk result (λ o. HoldsPaths false (subject_and_clip (R0.paths subj.now) (R1.paths clip.now))
-            o.edges) }
+        ensures ok { IfOk result (λ o. HoldsPaths (added_paths false
+            (subject_and_clip (R0.paths subj.now) (R1.paths clip.now))) o.edges) }
         ensures made { IfOk result (λ o. IsNewBuilder I.WideUInt.natural o) }
-        ensures err { IfErr result (MayRefuseBuilder false
-            (subject_and_clip (R0.paths subj.now) (R1.paths clip.now))) }
+        ensures err { IfErr result (MayRefuseBuilder (added_paths false
+            (subject_and_clip (R0.paths subj.now) (R1.paths clip.now)))) }
     {
         let options = IntOverlayOptions::default();
         Overlay::from_subj_and_clip_custom(alloc, subj, clip, options, Solver::ABSOLUTE)
@@ -80,11 +81,11 @@ impl<I: OverlayInt, A: Allocator + Clone> Overlay<I, A> {
     ) -> Result<Self, OverlayError>
         requires subj_in_range { All (AllInRange I.limit) (R0.paths subj.now) }
         requires clip_in_range { All (AllInRange I.limit) (R1.paths clip.now) }
-        ensures ok { IfOk result (λ o. HoldsPaths options.preserve_input_collinear
-            (subject_and_clip (R0.paths subj.now) (R1.paths clip.now)) o.edges) }
+        ensures ok { IfOk result (λ o. HoldsPaths (added_paths options.preserve_input_collinear
+            (subject_and_clip (R0.paths subj.now) (R1.paths clip.now))) o.edges) }
         ensures made { IfOk result (λ o. o ≡ record (empty_builder options solver) { edges = o.edges }) }
-        ensures err { IfErr result (MayRefuseBuilder options.preserve_input_collinear
-            (subject_and_clip (R0.paths subj.now) (R1.paths clip.now))) }
+        ensures err { IfErr result (MayRefuseBuilder (added_paths options.preserve_input_collinear
+            (subject_and_clip (R0.paths subj.now) (R1.paths clip.now)))) }
     {
         let mut overlay = Overlay::new_custom(alloc, 0, options, solver)?;
         overlay.reinit_with_subj_and_clip(subj, clip)?;
@@ -96,10 +97,11 @@ impl<I: OverlayInt, A: Allocator + Clone> Overlay<I, A> {
     /// where a path, added after those before it, would bring the weight to 2^31; `Memory`.
     pub fn from_subj<R0: IntShapeResource<I>>(alloc: A, subj: &R0) -> Result<Self, OverlayError>
         requires { All (AllInRange I.limit) (R0.paths subj.now) }
-        ensures ok { IfOk result (λ o. HoldsPaths false (paths_for ShapeType.Subject (R0.paths subj.now)) o.edges) }
+        ensures ok { IfOk result (λ o. HoldsPaths (added_paths false
+            (paths_for ShapeType.Subject (R0.paths subj.now))) o.edges) }
         ensures made { IfOk result (λ o. IsNewBuilder I.WideUInt.natural o) }
-        ensures err { IfErr result (MayRefuseBuilder false
-            (paths_for ShapeType.Subject (R0.paths subj.now))) }
+        ensures err { IfErr result (MayRefuseBuilder (added_paths false
+            (paths_for ShapeType.Subject (R0.paths subj.now)))) }
     {
         Overlay::from_subj_custom(alloc, subj, IntOverlayOptions::default(), Solver::ABSOLUTE)
     }
@@ -114,11 +116,11 @@ impl<I: OverlayInt, A: Allocator + Clone> Overlay<I, A> {
         solver: Solver,
     ) -> Result<Self, OverlayError>
         requires { All (AllInRange I.limit) (R0.paths subj.now) }
-        ensures ok { IfOk result (λ o. HoldsPaths options.preserve_input_collinear
-            (paths_for ShapeType.Subject (R0.paths subj.now)) o.edges) }
+        ensures ok { IfOk result (λ o. HoldsPaths (added_paths options.preserve_input_collinear
+            (paths_for ShapeType.Subject (R0.paths subj.now))) o.edges) }
         ensures made { IfOk result (λ o. o ≡ record (empty_builder options solver) { edges = o.edges }) }
-        ensures err { IfErr result (MayRefuseBuilder options.preserve_input_collinear
-            (paths_for ShapeType.Subject (R0.paths subj.now))) }
+        ensures err { IfErr result (MayRefuseBuilder (added_paths options.preserve_input_collinear
+            (paths_for ShapeType.Subject (R0.paths subj.now)))) }
     {
         let mut overlay = Overlay::new_custom(alloc, 0, options, solver)?;
         overlay.reinit_with_subj(subj)?;

@@ -4,12 +4,14 @@
 
 ghost use Rattle.std.specs.Prelude.{◌≡◌, ◌∷◌, [], All, false, Some, IfOk, IfErr, OnOk};
 ghost use Rattle.overlay_arrange.specs.declared.options.ShapeType.TheVariants.{Subject};
+ghost use Rattle.overlay_arrange.specs.Arranged.{most_rounds};
 ghost use Rattle.overlay_extract.specs.Results.{asked, IsResult};
 ghost use Rattle.overlay_geom.specs.Flat.{paths_in};
 ghost use Rattle.overlay_geom.specs.Paths.{paths_of_shape, paths_of_shapes, counted_paths, plain_shapes};
 ghost use Rattle.overlay_geom.specs.Points.{plain_points, AllInRange};
-ghost use Rattle.overlay_builder.specs.GivenPaths.{MayRefuseBuilder, paths_for, subject_and_clip, HoldsPaths};
-ghost use Rattle.i_overlay.specs.Adding.{AddsAsAsked};
+ghost use Rattle.overlay_builder.specs.GivenPaths.{paths_for, subject_and_clip, added_paths};
+ghost use Rattle.overlay_builder.specs.PathLists.{HoldsPaths, MayRefuseBuilder};
+ghost use Rattle.i_overlay.specs.Adding.{BuilderAdds};
 ghost use Rattle.overlay_simplify.specs.Alone.{AnswersAlone};
 ghost use Rattle.i_overlay.specs.Builder.{empty_builder, held_by, IsNewBuilder};
 
@@ -38,11 +40,11 @@ impl<I: OverlayInt, A: Allocator + Clone> Overlay<I, A> {
     ) -> Result<Self, OverlayError>
         requires subj_in_range { AllInRange I.limit (plain_points I.whole subj.now) }
         requires clip_in_range { AllInRange I.limit (plain_points I.whole clip.now) }
-        ensures ok { IfOk result (λ o. HoldsPaths false (subject_and_clip
-            (plain_points I.whole subj.now ∷ []) (plain_points I.whole clip.now ∷ [])) o.edges) }
+        ensures ok { IfOk result (λ o. HoldsPaths (added_paths false (subject_and_clip
+            (plain_points I.whole subj.now ∷ []) (plain_points I.whole clip.now ∷ []))) o.edges) }
         ensures made { IfOk result (λ o. IsNewBuilder I.WideUInt.natural o) }
-        ensures err { IfErr result (MayRefuseBuilder false (subject_and_clip
-            (plain_points I.whole subj.now ∷ []) (plain_points I.whole clip.now ∷ []))) }
+        ensures err { IfErr result (MayRefuseBuilder (added_paths false (subject_and_clip
+            (plain_points I.whole subj.now ∷ []) (plain_points I.whole clip.now ∷ [])))) }
     {
         let subj_path = PathRef { points: subj };
         let clip_path = PathRef { points: clip };
@@ -63,11 +65,11 @@ impl<I: OverlayInt, A: Allocator + Clone> Overlay<I, A> {
     ) -> Result<Self, OverlayError>
         requires subj_in_range { AllInRange I.limit (plain_points I.whole subj.now) }
         requires clip_in_range { AllInRange I.limit (plain_points I.whole clip.now) }
-        ensures ok { IfOk result (λ o. HoldsPaths options.preserve_input_collinear (subject_and_clip
-            (plain_points I.whole subj.now ∷ []) (plain_points I.whole clip.now ∷ [])) o.edges) }
+        ensures ok { IfOk result (λ o. HoldsPaths (added_paths options.preserve_input_collinear (subject_and_clip
+            (plain_points I.whole subj.now ∷ []) (plain_points I.whole clip.now ∷ []))) o.edges) }
         ensures made { IfOk result (λ o. o ≡ record (empty_builder options solver) { edges = o.edges }) }
-        ensures err { IfErr result (MayRefuseBuilder options.preserve_input_collinear (subject_and_clip
-            (plain_points I.whole subj.now ∷ []) (plain_points I.whole clip.now ∷ []))) }
+        ensures err { IfErr result (MayRefuseBuilder (added_paths options.preserve_input_collinear (subject_and_clip
+            (plain_points I.whole subj.now ∷ []) (plain_points I.whole clip.now ∷ [])))) }
     {
         let subj_path = PathRef { points: subj };
         let clip_path = PathRef { points: clip };
@@ -86,11 +88,11 @@ impl<I: OverlayInt, A: Allocator + Clone> Overlay<I, A> {
     ) -> Result<Self, OverlayError>
         requires subj_in_range { All (AllInRange I.limit) (paths_of_shape I.whole subj.now) }
         requires clip_in_range { All (AllInRange I.limit) (paths_of_shape I.whole clip.now) }
-        ensures ok { IfOk result (λ o. HoldsPaths false (subject_and_clip
-            (paths_of_shape I.whole subj.now) (paths_of_shape I.whole clip.now)) o.edges) }
+        ensures ok { IfOk result (λ o. HoldsPaths (added_paths false (subject_and_clip
+            (paths_of_shape I.whole subj.now) (paths_of_shape I.whole clip.now))) o.edges) }
         ensures made { IfOk result (λ o. IsNewBuilder I.WideUInt.natural o) }
-        ensures err { IfErr result (MayRefuseBuilder false (subject_and_clip
-            (paths_of_shape I.whole subj.now) (paths_of_shape I.whole clip.now))) }
+        ensures err { IfErr result (MayRefuseBuilder (added_paths false (subject_and_clip
+            (paths_of_shape I.whole subj.now) (paths_of_shape I.whole clip.now)))) }
     {
         let subj_contours = BorrowedContours { contours: subj };
         let clip_contours = BorrowedContours { contours: clip };
@@ -111,11 +113,11 @@ impl<I: OverlayInt, A: Allocator + Clone> Overlay<I, A> {
     ) -> Result<Self, OverlayError>
         requires subj_in_range { All (AllInRange I.limit) (paths_of_shape I.whole subj.now) }
         requires clip_in_range { All (AllInRange I.limit) (paths_of_shape I.whole clip.now) }
-        ensures ok { IfOk result (λ o. HoldsPaths options.preserve_input_collinear (subject_and_clip
-            (paths_of_shape I.whole subj.now) (paths_of_shape I.whole clip.now)) o.edges) }
+        ensures ok { IfOk result (λ o. HoldsPaths (added_paths options.preserve_input_collinear (subject_and_clip
+            (paths_of_shape I.whole subj.now) (paths_of_shape I.whole clip.now))) o.edges) }
         ensures made { IfOk result (λ o. o ≡ record (empty_builder options solver) { edges = o.edges }) }
-        ensures err { IfErr result (MayRefuseBuilder options.preserve_input_collinear (subject_and_clip
-            (paths_of_shape I.whole subj.now) (paths_of_shape I.whole clip.now))) }
+        ensures err { IfErr result (MayRefuseBuilder (added_paths options.preserve_input_collinear (subject_and_clip
+            (paths_of_shape I.whole subj.now) (paths_of_shape I.whole clip.now)))) }
     {
         let subj_contours = BorrowedContours { contours: subj };
         let clip_contours = BorrowedContours { contours: clip };
@@ -134,13 +136,13 @@ impl<I: OverlayInt, A: Allocator + Clone> Overlay<I, A> {
     ) -> Result<Self, OverlayError>
         requires subj_in_range { All (AllInRange I.limit) (counted_paths (paths_of_shapes I.whole subj.now)) }
         requires clip_in_range { All (AllInRange I.limit) (counted_paths (paths_of_shapes I.whole clip.now)) }
-        ensures ok { IfOk result (λ o. HoldsPaths false (subject_and_clip
+        ensures ok { IfOk result (λ o. HoldsPaths (added_paths false (subject_and_clip
             (counted_paths (paths_of_shapes I.whole subj.now))
-            (counted_paths (paths_of_shapes I.whole clip.now))) o.edges) }
+            (counted_paths (paths_of_shapes I.whole clip.now)))) o.edges) }
         ensures made { IfOk result (λ o. IsNewBuilder I.WideUInt.natural o) }
-        ensures err { IfErr result (MayRefuseBuilder false (subject_and_clip
+        ensures err { IfErr result (MayRefuseBuilder (added_paths false (subject_and_clip
             (counted_paths (paths_of_shapes I.whole subj.now))
-            (counted_paths (paths_of_shapes I.whole clip.now)))) }
+            (counted_paths (paths_of_shapes I.whole clip.now))))) }
     {
         let subj_shapes = BorrowedShapes { shapes: subj };
         let clip_shapes = BorrowedShapes { shapes: clip };
@@ -161,13 +163,13 @@ impl<I: OverlayInt, A: Allocator + Clone> Overlay<I, A> {
     ) -> Result<Self, OverlayError>
         requires subj_in_range { All (AllInRange I.limit) (counted_paths (paths_of_shapes I.whole subj.now)) }
         requires clip_in_range { All (AllInRange I.limit) (counted_paths (paths_of_shapes I.whole clip.now)) }
-        ensures ok { IfOk result (λ o. HoldsPaths options.preserve_input_collinear (subject_and_clip
+        ensures ok { IfOk result (λ o. HoldsPaths (added_paths options.preserve_input_collinear (subject_and_clip
             (counted_paths (paths_of_shapes I.whole subj.now))
-            (counted_paths (paths_of_shapes I.whole clip.now))) o.edges) }
+            (counted_paths (paths_of_shapes I.whole clip.now)))) o.edges) }
         ensures made { IfOk result (λ o. o ≡ record (empty_builder options solver) { edges = o.edges }) }
-        ensures err { IfErr result (MayRefuseBuilder options.preserve_input_collinear (subject_and_clip
+        ensures err { IfErr result (MayRefuseBuilder (added_paths options.preserve_input_collinear (subject_and_clip
             (counted_paths (paths_of_shapes I.whole subj.now))
-            (counted_paths (paths_of_shapes I.whole clip.now)))) }
+            (counted_paths (paths_of_shapes I.whole clip.now))))) }
     {
         let subj_shapes = BorrowedShapes { shapes: subj };
         let clip_shapes = BorrowedShapes { shapes: clip };
@@ -183,7 +185,7 @@ impl<I: OverlayInt, A: Allocator + Clone> Overlay<I, A> {
         shape_type: ShapeType,
     ) -> Result<(), OverlayError>
         requires { All (AllInRange I.limit) (paths_of_shape I.whole contours.now) }
-        ensures { AddsAsAsked (paths_for shape_type (paths_of_shape I.whole contours.now)) self.old self.new result }
+        ensures { BuilderAdds (paths_for shape_type (paths_of_shape I.whole contours.now)) self.old self.new result }
     {
         self.add_source(&BorrowedContours { contours }, shape_type)
     }
@@ -197,7 +199,7 @@ impl<I: OverlayInt, A: Allocator + Clone> Overlay<I, A> {
         shape_type: ShapeType,
     ) -> Result<(), OverlayError>
         requires { All (AllInRange I.limit) (paths_of_shape I.whole shape.now.items) }
-        ensures { AddsAsAsked (paths_for shape_type (paths_of_shape I.whole shape.now.items))
+        ensures { BuilderAdds (paths_for shape_type (paths_of_shape I.whole shape.now.items))
             self.old self.new result }
     {
         self.add_source(shape, shape_type)
@@ -212,7 +214,7 @@ impl<I: OverlayInt, A: Allocator + Clone> Overlay<I, A> {
         shape_type: ShapeType,
     ) -> Result<(), OverlayError>
         requires { All (AllInRange I.limit) (counted_paths (paths_of_shapes I.whole shapes.now)) }
-        ensures { AddsAsAsked (paths_for shape_type (counted_paths (paths_of_shapes I.whole shapes.now)))
+        ensures { BuilderAdds (paths_for shape_type (counted_paths (paths_of_shapes I.whole shapes.now)))
             self.old self.new result }
     {
         self.add_source(&BorrowedShapes { shapes }, shape_type)
@@ -228,7 +230,7 @@ impl<I: OverlayInt, A: Allocator + Clone> Overlay<I, A> {
         shape_type: ShapeType,
     ) -> Result<(), OverlayError>
         requires { All (AllInRange I.limit) (paths_in I.whole buffer.now.points.items buffer.now.ranges.items) }
-        ensures { AddsAsAsked (paths_for shape_type (paths_in I.whole buffer.now.points.items buffer.now.ranges.items))
+        ensures { BuilderAdds (paths_for shape_type (paths_in I.whole buffer.now.points.items buffer.now.ranges.items))
             self.old self.new result }
     {
         self.add_source(buffer, shape_type)
@@ -248,7 +250,7 @@ impl<I: OverlayInt, A: Allocator + Clone> Overlay<I, A> {
         fill_rule: FillRule,
     ) -> Result<IntShapes<I, A>, OverlayError>
         requires { All (AllInRange I.limit) (counted_paths (paths_of_shapes I.whole shapes.now)) }
-        ensures alone { AnswersAlone I.limit 64 self.old.options.preserve_input_collinear (paths_for Subject
+        ensures alone { AnswersAlone I.limit most_rounds self.old.options.preserve_input_collinear (paths_for Subject
             (counted_paths (paths_of_shapes I.whole shapes.now))) (held_by self.new) result }
         ensures result { IfOk result (λ v. IsResult
             (asked I.Wide.width I.WideUInt.natural fill_rule OverlayRule.Subject self.old.options)

@@ -1,17 +1,14 @@
 //! Overlays that tell which shape lies in which hole.
 
-ghost use Rattle.std.specs.Prelude.{◌≡◌, false, map, Some, IfOk, OnOk, IsOkUnless, IsErrOf};
+ghost use Rattle.std.specs.Prelude.{◌≡◌, false, map, Some, IfOk, OnOk, IsOkUnless};
 ghost use Rattle.overlay_arrange.specs.Content.{IsAscending};
-ghost use Rattle.overlay_builder.specs.Held.{AnswersQuery};
 ghost use Rattle.overlay_extract.specs.ChildLinks.{plain_link};
 ghost use Rattle.overlay_extract.specs.PlacedResults.{IsHierarchy};
 ghost use Rattle.overlay_extract.specs.Results.{asked};
 ghost use Rattle.overlay_geom.specs.Flat.{shapes_in};
 ghost use Rattle.overlay_geom.specs.FlatShapes.{AreShapesPacked};
-ghost use Rattle.overlay_geom.specs.Merged.{HaveSameWindings};
 ghost use Rattle.overlay_geom.specs.Settled.{IsSettled};
-ghost use Rattle.overlay_plane.specs.Meetings.{MeetInWholePoints};
-ghost use Rattle.i_overlay.specs.Builder.{held_by};
+ghost use Rattle.i_overlay.specs.Queries.{BuilderExtracts};
 
 use crate::overlay::Overlay;
 use overlay_arrange::fill_rule::FillRule;
@@ -38,22 +35,13 @@ impl<I: OverlayInt, A: Allocator + Clone> Overlay<I, A> {
         overlay_rule: OverlayRule,
         fill_rule: FillRule,
     ) -> Result<FlatShapeHierarchy<I, A>, OverlayError>
-        ensures query { AnswersQuery I.limit 64 (held_by self.old) (held_by self.new) result }
+        ensures answers { BuilderExtracts I.limit self.old self.new result }
         ensures hierarchy { IfOk result (λ h. IsHierarchy
             (asked I.Wide.width I.WideUInt.natural fill_rule overlay_rule self.old.options) self.new.edges
             (shapes_in I.whole h.shapes.points.items h.shapes.contour_ranges.items h.shapes.shape_ranges.items)
             (map plain_link h.links.items)) }
         ensures packed { IfOk result
             (λ h. AreShapesPacked h.shapes.points.items h.shapes.contour_ranges.items h.shapes.shape_ranges.items) }
-        ensures exact { MeetInWholePoints self.old.edges
-            → OnOk result (HaveSameWindings self.old.edges self.new.edges) }
-        ensures kept { self.new ≡ record self.old {
-          edges = self.new.edges;
-          boolean_buffer = self.new.boolean_buffer;
-          failed = self.new.failed;
-        } }
-        ensures untouched { IsErrOf result OverlayError.Failed → self.new ≡ self.old }
-        ensures buffer { OnOk result (self.new.boolean_buffer ≡ Some tt) }
     {
         self.core.arrange(&mut ())?;
         let hierarchy = self.extract_hierarchy(overlay_rule, fill_rule);

@@ -1,15 +1,12 @@
 //! The region of an overlay as shapes of edges with their filled sides.
 
-ghost use Rattle.std.specs.Prelude.{◌≡◌, false, Some, IfOk, OnOk, IsErrOf, IsOkUnless};
-ghost use Rattle.overlay_geom.specs.Merged.{HaveSameWindings};
+ghost use Rattle.std.specs.Prelude.{◌≡◌, false, Some, IfOk, OnOk, IsOkUnless};
 ghost use Rattle.overlay_geom.specs.Settled.{IsSettled};
-ghost use Rattle.overlay_plane.specs.Meetings.{MeetInWholePoints};
 ghost use Rattle.overlay_arrange.specs.Content.{IsAscending};
-ghost use Rattle.overlay_builder.specs.Held.{AnswersQuery};
 ghost use Rattle.overlay_extract.specs.Results.{asked};
 ghost use Rattle.overlay_vector.specs.VectorShapes.{plain_vector_shapes};
-ghost use Rattle.i_overlay.specs.Builder.{held_by};
 ghost use Rattle.i_overlay.specs.ShapeVectors.{AreShapeVectors};
+ghost use Rattle.i_overlay.specs.Queries.{BuilderExtracts};
 
 use crate::overlay::Overlay;
 use overlay_arrange::fill_rule::FillRule;
@@ -37,19 +34,10 @@ impl<I: OverlayInt, A: Allocator + Clone> Overlay<I, A> {
         fill_rule: FillRule,
         overlay_rule: OverlayRule,
     ) -> Result<Vec<VectorShape<I, A>, A>, OverlayError>
-        ensures query { AnswersQuery I.limit 64 (held_by self.old) (held_by self.new) result }
+        ensures answers { BuilderExtracts I.limit self.old self.new result }
         ensures result { IfOk result (λ v. AreShapeVectors
             (asked I.Wide.width I.WideUInt.natural fill_rule overlay_rule self.old.options)
             self.new.edges (plain_vector_shapes I.whole v.items)) }
-        ensures exact { MeetInWholePoints self.old.edges
-            → OnOk result (HaveSameWindings self.old.edges self.new.edges) }
-        ensures kept { self.new ≡ record self.old {
-          edges = self.new.edges;
-          boolean_buffer = self.new.boolean_buffer;
-          failed = self.new.failed;
-        } }
-        ensures untouched { IsErrOf result OverlayError.Failed → self.new ≡ self.old }
-        ensures buffer { OnOk result (self.new.boolean_buffer ≡ Some tt) }
     {
         self.core.arrange(&mut ())?;
         let shapes = self.extract_shape_vectors(fill_rule, overlay_rule);

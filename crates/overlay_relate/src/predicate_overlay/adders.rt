@@ -6,8 +6,8 @@ ghost use Rattle.std.specs.Iterator.{Drains, IsFinite};
 ghost use Rattle.overlay_arrange.specs.Content.{edge_for};
 ghost use Rattle.overlay_geom.specs.Edges.{AddsContour, weight};
 ghost use Rattle.overlay_geom.specs.Points.{plain_points, AllInRange};
-ghost use Rattle.overlay_builder.specs.GivenPaths.{paths_for, subject_and_clip, WouldWeighTooMuch};
-ghost use Rattle.overlay_relate.specs.PredicateBuilder.{cleared, AddsAsAsked};
+ghost use Rattle.overlay_builder.specs.GivenPaths.{paths_for, subject_and_clip, ContourWeighsTooMuch};
+ghost use Rattle.overlay_relate.specs.PredicateBuilder.{cleared, PredicateBuilderAdds, PredicateBuilderAddsContour};
 
 use crate::predicate_overlay::{PredicateOverlay, ShapeType};
 use overlay_builder::boolean::passing;
@@ -32,15 +32,7 @@ impl<I: OverlayInt, A: Allocator + Clone> PredicateOverlay<I, A> {
         shape_type: ShapeType,
     ) -> Result<(), OverlayError>
         requires { AllInRange I.limit (plain_points I.whole contour.now) }
-        ensures ok { OnOk result (AddsContour false (edge_for shape_type)
-            (plain_points I.whole contour.now) self.old.edges self.new.edges) }
-        ensures light { OnOk result (weight self.new.edges < 2 ^ 31) }
-        ensures kept { self.new ≡ record self.old { edges = self.new.edges } }
-        ensures err { OnErr result (self.new ≡ self.old) }
-        ensures failed { IsErrOf result OverlayError.Failed ↔ (self.old.failed ≡ true) }
-        ensures too_many { IsErrOf result OverlayError.TooManyEdges
-            → WouldWeighTooMuch false shape_type (plain_points I.whole contour.now) self.old.edges }
-        ensures no_query { result ≢ Err OverlayError.NotSettled }
+        ensures { PredicateBuilderAddsContour shape_type (plain_points I.whole contour.now) self.old self.new result }
     {
         self.core
             .add_path(contour, PathKind::Thinned, passing(shape_type))?;
@@ -68,7 +60,7 @@ impl<I: OverlayInt, A: Allocator + Clone> PredicateOverlay<I, A> {
         ensures failed { IsErrOf result OverlayError.Failed ↔ (self.old.failed ≡ true) }
         ensures too_many { IsErrOf result OverlayError.TooManyEdges
             → (ps : List (IntPoint I)) × Drains P.next_gives iter ps
-            × WouldWeighTooMuch false shape_type (plain_points I.whole ps) self.old.edges }
+            × ContourWeighsTooMuch false shape_type (plain_points I.whole ps) self.old.edges }
         ensures no_query { result ≢ Err OverlayError.NotSettled }
     {
         self.core.check_usable()?;
@@ -88,7 +80,7 @@ impl<I: OverlayInt, A: Allocator + Clone> PredicateOverlay<I, A> {
         shape_type: ShapeType,
     ) -> Result<(), OverlayError>
         requires { All (AllInRange I.limit) (R0.paths resource.now) }
-        ensures { AddsAsAsked (paths_for shape_type (R0.paths resource.now)) self.old self.new result }
+        ensures { PredicateBuilderAdds (paths_for shape_type (R0.paths resource.now)) self.old self.new result }
     {
         self.core
             .add_paths(resource, PathKind::Thinned, passing(shape_type))
@@ -114,7 +106,7 @@ impl<I: OverlayInt, A: Allocator + Clone> PredicateOverlay<I, A> {
     ) -> Result<(), OverlayError>
         requires subj_in_range { All (AllInRange I.limit) (R0.paths subj.now) }
         requires clip_in_range { All (AllInRange I.limit) (R1.paths clip.now) }
-        ensures { AddsAsAsked (subject_and_clip (R0.paths subj.now) (R1.paths clip.now))
+        ensures { PredicateBuilderAdds (subject_and_clip (R0.paths subj.now) (R1.paths clip.now))
             (cleared self.old) self.new result }
     {
         self.reinit_with_subj(subj)?;
@@ -124,7 +116,7 @@ impl<I: OverlayInt, A: Allocator + Clone> PredicateOverlay<I, A> {
     // Drops the edges and mends a failed builder, and then adds the paths of `subj` as the subject.
     fn reinit_with_subj<R0: IntShapeResource<I>>(&mut self, subj: &R0) -> Result<(), OverlayError>
         requires { All (AllInRange I.limit) (R0.paths subj.now) }
-        ensures { AddsAsAsked (paths_for ShapeType.Subject (R0.paths subj.now))
+        ensures { PredicateBuilderAdds (paths_for ShapeType.Subject (R0.paths subj.now))
             (cleared self.old) self.new result }
     {
         self.clear();

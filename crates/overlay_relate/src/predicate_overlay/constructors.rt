@@ -2,7 +2,8 @@
 
 ghost use Rattle.std.specs.Prelude.{◌≡◌, All, false, IfOk, IfErr, IsOkUnless};
 ghost use Rattle.overlay_geom.specs.Points.{AllInRange};
-ghost use Rattle.overlay_builder.specs.GivenPaths.{subject_and_clip, HoldsPaths, MayRefuseBuilder};
+ghost use Rattle.overlay_builder.specs.GivenPaths.{subject_and_clip, added_paths};
+ghost use Rattle.overlay_builder.specs.PathLists.{HoldsPaths, MayRefuseBuilder};
 ghost use Rattle.overlay_relate.specs.PredicateBuilder.{empty_builder};
 
 use crate::predicate_overlay::PredicateOverlay;
@@ -35,11 +36,11 @@ impl<I: OverlayInt, A: Allocator + Clone> PredicateOverlay<I, A> {
     ) -> Result<Self, OverlayError>
         requires subj_in_range { All (AllInRange I.limit) (R0.paths subj.now) }
         requires clip_in_range { All (AllInRange I.limit) (R1.paths clip.now) }
-        ensures ok { IfOk result (λ o. HoldsPaths false
-            (subject_and_clip (R0.paths subj.now) (R1.paths clip.now)) o.edges) }
+        ensures ok { IfOk result (λ o. HoldsPaths (added_paths false
+            (subject_and_clip (R0.paths subj.now) (R1.paths clip.now))) o.edges) }
         ensures made { IfOk result (λ o. o ≡ record (empty_builder FillRule.EvenOdd o.solver) { edges = o.edges }) }
-        ensures err { IfErr result (MayRefuseBuilder false
-            (subject_and_clip (R0.paths subj.now) (R1.paths clip.now))) }
+        ensures err { IfErr result (MayRefuseBuilder (added_paths false
+            (subject_and_clip (R0.paths subj.now) (R1.paths clip.now)))) }
     {
         let fill_rule = FillRule::EvenOdd;
         PredicateOverlay::from_subj_and_clip_custom(alloc, subj, clip, fill_rule, Solver::ABSOLUTE)
@@ -58,11 +59,11 @@ impl<I: OverlayInt, A: Allocator + Clone> PredicateOverlay<I, A> {
     ) -> Result<Self, OverlayError>
         requires subj_in_range { All (AllInRange I.limit) (R0.paths subj.now) }
         requires clip_in_range { All (AllInRange I.limit) (R1.paths clip.now) }
-        ensures ok { IfOk result (λ o. HoldsPaths false
-            (subject_and_clip (R0.paths subj.now) (R1.paths clip.now)) o.edges) }
+        ensures ok { IfOk result (λ o. HoldsPaths (added_paths false
+            (subject_and_clip (R0.paths subj.now) (R1.paths clip.now))) o.edges) }
         ensures made { IfOk result (λ o. o ≡ record (empty_builder fill_rule solver) { edges = o.edges }) }
-        ensures err { IfErr result (MayRefuseBuilder false
-            (subject_and_clip (R0.paths subj.now) (R1.paths clip.now))) }
+        ensures err { IfErr result (MayRefuseBuilder (added_paths false
+            (subject_and_clip (R0.paths subj.now) (R1.paths clip.now)))) }
     {
         let mut overlay = PredicateOverlay::with_settings(alloc, 0, fill_rule, solver)?;
         overlay.reinit_with_subj_and_clip(subj, clip)?;

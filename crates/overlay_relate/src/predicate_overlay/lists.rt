@@ -4,7 +4,7 @@ ghost use Rattle.std.specs.Prelude.{All};
 ghost use Rattle.overlay_geom.specs.Paths.{paths_of_shape, paths_of_shapes, plain_shapes};
 ghost use Rattle.overlay_geom.specs.Points.{AllInRange};
 ghost use Rattle.overlay_builder.specs.GivenPaths.{paths_for};
-ghost use Rattle.overlay_relate.specs.PredicateBuilder.{AddsAsAsked};
+ghost use Rattle.overlay_relate.specs.PredicateBuilder.{PredicateBuilderAdds};
 
 use crate::predicate_overlay::{PredicateOverlay, ShapeType};
 use overlay_geom::error::OverlayError;
@@ -23,7 +23,8 @@ impl<I: OverlayInt, A: Allocator + Clone> PredicateOverlay<I, A> {
         shape_type: ShapeType,
     ) -> Result<(), OverlayError>
         requires { All (AllInRange I.limit) (paths_of_shape I.whole contours.now) }
-        ensures { AddsAsAsked (paths_for shape_type (paths_of_shape I.whole contours.now)) self.old self.new result }
+        ensures { PredicateBuilderAdds (paths_for shape_type (paths_of_shape I.whole contours.now))
+            self.old self.new result }
     {
         self.add_source(&BorrowedContours { contours }, shape_type)
     }
@@ -37,7 +38,8 @@ impl<I: OverlayInt, A: Allocator + Clone> PredicateOverlay<I, A> {
         shape_type: ShapeType,
     ) -> Result<(), OverlayError>
         requires { All (AllInRange I.limit) (paths_of_shape I.whole shape.now.items) }
-        ensures { AddsAsAsked (paths_for shape_type (paths_of_shape I.whole shape.now.items)) self.old self.new result }
+        ensures { PredicateBuilderAdds (paths_for shape_type (paths_of_shape I.whole shape.now.items))
+            self.old self.new result }
     {
         self.add_source(shape, shape_type)
     }
@@ -51,7 +53,8 @@ impl<I: OverlayInt, A: Allocator + Clone> PredicateOverlay<I, A> {
         shape_type: ShapeType,
     ) -> Result<(), OverlayError>
         requires { All (All (AllInRange I.limit)) (plain_shapes I.whole shapes.now) }
-        ensures { AddsAsAsked (paths_for shape_type (paths_of_shapes I.whole shapes.now)) self.old self.new result }
+        ensures { PredicateBuilderAdds (paths_for shape_type (paths_of_shapes I.whole shapes.now))
+            self.old self.new result }
     {
         self.core.content().note_limits();
         self.core.check_usable()?;

@@ -1,15 +1,13 @@
 //! The predicates of a builder: how its subject and its clip lie to each other.
 
-ghost use Rattle.std.specs.Prelude.{◌≡◌, ◌↔◌, false, IsTrue, IfOk, OnOk, IsOkUnless, IsErrOf};
+ghost use Rattle.std.specs.Prelude.{◌≡◌, ◌↔◌, false, IsTrue, IfOk, OnOk, IsOkUnless};
 ghost use Rattle.overlay_geom.specs.Settled.{IsSettled};
 ghost use Rattle.overlay_plane.specs.Balance.{HasBalancedCounts};
 ghost use Rattle.overlay_plane.specs.Predicates.{Intersects, InteriorsIntersect, Touches, PointIntersects, IsWithin};
 ghost use Rattle.overlay_plane.specs.Predicates.{IsFillable};
 ghost use Rattle.overlay_arrange.specs.Content.{IsAscending};
 ghost use Rattle.overlay_arrange.specs.Rules.{is_filled};
-ghost use Rattle.overlay_builder.specs.Held.{AnswersQuery};
-ghost use Rattle.overlay_relate.specs.PredicateBuilder.{held_by};
-ghost use Rattle.overlay_relate.specs.PredicateQueries.{Holds};
+ghost use Rattle.overlay_relate.specs.PredicateQueries.{Holds, TellsRelation};
 
 use crate::edge_answers::answer;
 use crate::predicate::Predicate;
@@ -32,11 +30,7 @@ impl<I: OverlayInt, A: Allocator + Clone> PredicateOverlay<I, A> {
     /// round brings the weight to 2^31; `Memory`. After these three the builder has failed, and
     /// what it holds is left open.
     pub fn intersects(&mut self) -> Result<bool, OverlayError>
-        ensures query { AnswersQuery I.limit 64 (held_by self.old) (held_by self.new) result }
-        ensures answer { IfOk result (λ b. IsTrue b ↔ Intersects (is_filled self.old.fill_rule) self.new.edges) }
-        ensures kept { self.new ≡ record self.old { edges = self.new.edges; failed = self.new.failed } }
-        ensures fillable { OnOk result (IsFillable (is_filled self.old.fill_rule) self.new.edges) }
-        ensures untouched { IsErrOf result OverlayError.Failed → self.new ≡ self.old }
+        ensures { TellsRelation I.limit Intersects self.old self.new result }
     {
         self.ask(Predicate::Intersect)
     }
@@ -44,12 +38,7 @@ impl<I: OverlayInt, A: Allocator + Clone> PredicateOverlay<I, A> {
     /// Splits the edges where they meet, and tells whether both shapes fill some point off the edges.
     /// Splitting and refusals are those of `intersects`.
     pub fn interiors_intersect(&mut self) -> Result<bool, OverlayError>
-        ensures query { AnswersQuery I.limit 64 (held_by self.old) (held_by self.new) result }
-        ensures answer { IfOk result (λ b. IsTrue b
-            ↔ InteriorsIntersect (is_filled self.old.fill_rule) self.new.edges) }
-        ensures kept { self.new ≡ record self.old { edges = self.new.edges; failed = self.new.failed } }
-        ensures fillable { OnOk result (IsFillable (is_filled self.old.fill_rule) self.new.edges) }
-        ensures untouched { IsErrOf result OverlayError.Failed → self.new ≡ self.old }
+        ensures { TellsRelation I.limit InteriorsIntersect self.old self.new result }
     {
         self.ask(Predicate::InteriorsIntersect)
     }
@@ -57,11 +46,7 @@ impl<I: OverlayInt, A: Allocator + Clone> PredicateOverlay<I, A> {
     /// Splits the edges where they meet, and tells whether the shapes intersect, and their interiors do
     /// not. Splitting and refusals are those of `intersects`.
     pub fn touches(&mut self) -> Result<bool, OverlayError>
-        ensures query { AnswersQuery I.limit 64 (held_by self.old) (held_by self.new) result }
-        ensures answer { IfOk result (λ b. IsTrue b ↔ Touches (is_filled self.old.fill_rule) self.new.edges) }
-        ensures kept { self.new ≡ record self.old { edges = self.new.edges; failed = self.new.failed } }
-        ensures fillable { OnOk result (IsFillable (is_filled self.old.fill_rule) self.new.edges) }
-        ensures untouched { IsErrOf result OverlayError.Failed → self.new ≡ self.old }
+        ensures { TellsRelation I.limit Touches self.old self.new result }
     {
         self.ask(Predicate::Touch)
     }
@@ -70,12 +55,7 @@ impl<I: OverlayInt, A: Allocator + Clone> PredicateOverlay<I, A> {
     /// that the one fills and sides that the other fills: they meet in single points alone. Splitting and
     /// refusals are those of `intersects`.
     pub fn point_intersects(&mut self) -> Result<bool, OverlayError>
-        ensures query { AnswersQuery I.limit 64 (held_by self.old) (held_by self.new) result }
-        ensures answer { IfOk result (λ b. IsTrue b
-            ↔ PointIntersects (is_filled self.old.fill_rule) self.new.edges) }
-        ensures kept { self.new ≡ record self.old { edges = self.new.edges; failed = self.new.failed } }
-        ensures fillable { OnOk result (IsFillable (is_filled self.old.fill_rule) self.new.edges) }
-        ensures untouched { IsErrOf result OverlayError.Failed → self.new ≡ self.old }
+        ensures { TellsRelation I.limit PointIntersects self.old self.new result }
     {
         self.ask(Predicate::PointIntersect)
     }
@@ -84,23 +64,14 @@ impl<I: OverlayInt, A: Allocator + Clone> PredicateOverlay<I, A> {
     /// some point off the edges, and the clip fills each such point. Splitting and refusals are those of
     /// `intersects`.
     pub fn within(&mut self) -> Result<bool, OverlayError>
-        ensures query { AnswersQuery I.limit 64 (held_by self.old) (held_by self.new) result }
-        ensures answer { IfOk result (λ b. IsTrue b ↔ IsWithin (is_filled self.old.fill_rule) self.new.edges) }
-        ensures kept { self.new ≡ record self.old { edges = self.new.edges; failed = self.new.failed } }
-        ensures fillable { OnOk result (IsFillable (is_filled self.old.fill_rule) self.new.edges) }
-        ensures untouched { IsErrOf result OverlayError.Failed → self.new ≡ self.old }
+        ensures { TellsRelation I.limit IsWithin self.old self.new result }
     {
         self.ask(Predicate::Within)
     }
 
     // Splits the edges where they meet, and tells whether the predicate holds of them.
     fn ask(&mut self, predicate: Predicate) -> Result<bool, OverlayError>
-        ensures query { AnswersQuery I.limit 64 (held_by self.old) (held_by self.new) result }
-        ensures answer { IfOk result (λ b. IsTrue b
-            ↔ Holds predicate (is_filled self.old.fill_rule) self.new.edges) }
-        ensures kept { self.new ≡ record self.old { edges = self.new.edges; failed = self.new.failed } }
-        ensures fillable { OnOk result (IsFillable (is_filled self.old.fill_rule) self.new.edges) }
-        ensures untouched { IsErrOf result OverlayError.Failed → self.new ≡ self.old }
+        ensures { TellsRelation I.limit (Holds predicate) self.old self.new result }
     {
         self.core.arrange(&mut ())?;
         let told = self.tell(predicate);

@@ -6,7 +6,7 @@ ghost use Rattle.std.specs.Iterator.{Drains, IsFinite};
 ghost use Rattle.overlay_geom.specs.Edges.{weight};
 ghost use Rattle.overlay_geom.specs.Points.{plain_points, AllInRange};
 ghost use Rattle.overlay_builder.specs.PathLists.{AddsOne, WouldWeighTooMuch};
-ghost use Rattle.overlay_string.specs.StringBuilder.{AddsOneAsAsked, AddsAsAsked};
+ghost use Rattle.overlay_string.specs.StringBuilder.{StringBuilderAddsOne, StringBuilderAdds};
 ghost use Rattle.overlay_string.specs.StringPaths.{shape_contour, shape_contours, path_in, paths_in};
 
 use crate::role::{PathRole, kind_in, passing_in};
@@ -27,7 +27,7 @@ impl<I: OverlayInt, A: Allocator + Clone> StringOverlay<I, A> {
     /// would come to 2^31, `Memory`.
     pub fn add_shape_contour(&mut self, contour: &[IntPoint<I>]) -> Result<(), OverlayError>
         requires { AllInRange I.limit (plain_points I.whole contour.now) }
-        ensures { AddsOneAsAsked (shape_contour (plain_points I.whole contour.now)) self.old self.new result }
+        ensures { StringBuilderAddsOne (shape_contour (plain_points I.whole contour.now)) self.old self.new result }
     {
         self.add_one(contour, PathRole::Shape)
     }
@@ -70,7 +70,7 @@ impl<I: OverlayInt, A: Allocator + Clone> StringOverlay<I, A> {
         resource: &R0,
     ) -> Result<(), OverlayError>
         requires { All (AllInRange I.limit) (R0.paths resource.now) }
-        ensures { AddsAsAsked (shape_contours (R0.paths resource.now)) self.old self.new result }
+        ensures { StringBuilderAdds (shape_contours (R0.paths resource.now)) self.old self.new result }
     {
         self.add_all(resource, PathRole::Shape)
     }
@@ -82,7 +82,7 @@ impl<I: OverlayInt, A: Allocator + Clone> StringOverlay<I, A> {
         role: PathRole,
     ) -> Result<(), OverlayError>
         requires { AllInRange I.limit (plain_points I.whole points.now) }
-        ensures { AddsOneAsAsked (path_in role (plain_points I.whole points.now)) self.old self.new result }
+        ensures { StringBuilderAddsOne (path_in role (plain_points I.whole points.now)) self.old self.new result }
     {
         self.core.add_path(points, kind_in(role), passing_in(role))?;
         Ok(())
@@ -95,7 +95,7 @@ impl<I: OverlayInt, A: Allocator + Clone> StringOverlay<I, A> {
         role: PathRole,
     ) -> Result<(), OverlayError>
         requires { All (AllInRange I.limit) (R0.paths resource.now) }
-        ensures { AddsAsAsked (paths_in role (R0.paths resource.now)) self.old self.new result }
+        ensures { StringBuilderAdds (paths_in role (R0.paths resource.now)) self.old self.new result }
     {
         self.core
             .add_paths(resource, kind_in(role), passing_in(role))

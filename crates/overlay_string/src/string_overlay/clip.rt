@@ -2,7 +2,7 @@
 
 ghost use Rattle.std.specs.Prelude.{◌≡◌, ◌⊎◌, ◌↔◌, true, IfOk, IfErr, IsErrOf, IsOkUnless};
 ghost use Rattle.overlay_geom.specs.Paths.{paths_of_shape};
-ghost use Rattle.overlay_arrange.specs.Arranged.{MayRefuseSplitting};
+ghost use Rattle.overlay_arrange.specs.Arranged.{MayRefuseSplitting, most_rounds};
 ghost use Rattle.overlay_arrange.specs.Graphs.{graph_edges};
 ghost use Rattle.overlay_string.specs.ClipPaths.{ArePathsOf, AreClipped};
 ghost use Rattle.overlay_string.specs.ClipPieces.{clip_pieces};
@@ -40,9 +40,9 @@ impl<I: OverlayInt, A: Allocator + Clone> StringOverlay<I, A> {
         clip_rule: ClipRule,
     ) -> Result<Vec<IntPath<I, A>, A>, OverlayError>
         ensures clipped { IfOk result (λ v.
-            AreClipped 64 fill_rule clip_rule self.edges (paths_of_shape I.whole v.items)) }
+            AreClipped most_rounds fill_rule clip_rule self.edges (paths_of_shape I.whole v.items)) }
         ensures failed { IsErrOf result OverlayError.Failed ↔ (self.failed ≡ true) }
-        ensures err { IfErr result (λ e. (e ≡ OverlayError.Failed) ⊎ MayRefuseSplitting 64 self.edges e) }
+        ensures err { IfErr result (λ e. (e ≡ OverlayError.Failed) ⊎ MayRefuseSplitting most_rounds self.edges e) }
     {
         self.clip_string_lines_with_solver(fill_rule, clip_rule, Solver::ABSOLUTE)
     }
@@ -55,9 +55,9 @@ impl<I: OverlayInt, A: Allocator + Clone> StringOverlay<I, A> {
         solver: Solver,
     ) -> Result<Vec<IntPath<I, A>, A>, OverlayError>
         ensures clipped { IfOk result (λ v.
-            AreClipped 64 fill_rule clip_rule self.edges (paths_of_shape I.whole v.items)) }
+            AreClipped most_rounds fill_rule clip_rule self.edges (paths_of_shape I.whole v.items)) }
         ensures failed { IsErrOf result OverlayError.Failed ↔ (self.failed ≡ true) }
-        ensures err { IfErr result (λ e. (e ≡ OverlayError.Failed) ⊎ MayRefuseSplitting 64 self.edges e) }
+        ensures err { IfErr result (λ e. (e ≡ OverlayError.Failed) ⊎ MayRefuseSplitting most_rounds self.edges e) }
     {
         let _ = solver;
         self.core.arrange(&mut ())?;

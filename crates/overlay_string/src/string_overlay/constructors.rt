@@ -2,8 +2,9 @@
 
 ghost use Rattle.std.specs.Prelude.{◌≡◌, ◌++◌, [], All, IfOk, IfErr, IsOkUnless};
 ghost use Rattle.overlay_geom.specs.Points.{AllInRange};
-ghost use Rattle.overlay_string.specs.StringBuilder.{empty_builder, IsNewBuilder, HoldsPaths, MayRefuseBuilder};
+ghost use Rattle.overlay_string.specs.StringBuilder.{empty_builder, IsNewBuilder};
 ghost use Rattle.overlay_string.specs.StringPaths.{shape_contours, open_strings};
+ghost use Rattle.overlay_builder.specs.PathLists.{HoldsPaths, MayRefuseBuilder};
 
 use crate::string_overlay::{IntOverlayOptions, StringOverlay};
 use overlay_builder::builder_core::BuilderCore;

@@ -4,8 +4,9 @@
 ghost use Rattle.std.specs.Prelude.{◌∷◌, [], All, IfOk, IfErr};
 ghost use Rattle.overlay_geom.specs.Paths.{paths_of_shape, paths_of_shapes, counted_paths};
 ghost use Rattle.overlay_geom.specs.Points.{plain_points, AllInRange};
-ghost use Rattle.overlay_string.specs.StringBuilder.{AddsAsAsked, IsNewBuilder, HoldsPaths, MayRefuseBuilder};
+ghost use Rattle.overlay_string.specs.StringBuilder.{StringBuilderAdds, IsNewBuilder};
 ghost use Rattle.overlay_string.specs.StringPaths.{shape_contours, open_strings, closed_strings};
+ghost use Rattle.overlay_builder.specs.PathLists.{HoldsPaths, MayRefuseBuilder};
 
 use crate::string_overlay::StringOverlay;
 use overlay_geom::error::OverlayError;
@@ -88,7 +89,7 @@ impl<I: OverlayInt, A: Allocator + Clone> StringOverlay<I, A> {
         contours: &[IntContour<I, B>],
     ) -> Result<(), OverlayError>
         requires { All (AllInRange I.limit) (paths_of_shape I.whole contours.now) }
-        ensures { AddsAsAsked (shape_contours (paths_of_shape I.whole contours.now)) self.old self.new result }
+        ensures { StringBuilderAdds (shape_contours (paths_of_shape I.whole contours.now)) self.old self.new result }
     {
         self.add_shape_source(&BorrowedContours { contours })
     }
@@ -101,7 +102,7 @@ impl<I: OverlayInt, A: Allocator + Clone> StringOverlay<I, A> {
         shapes: &[IntShape<I, B>],
     ) -> Result<(), OverlayError>
         requires { All (AllInRange I.limit) (counted_paths (paths_of_shapes I.whole shapes.now)) }
-        ensures { AddsAsAsked (shape_contours (counted_paths (paths_of_shapes I.whole shapes.now)))
+        ensures { StringBuilderAdds (shape_contours (counted_paths (paths_of_shapes I.whole shapes.now)))
             self.old self.new result }
     {
         self.add_shape_source(&BorrowedShapes { shapes })
@@ -115,7 +116,7 @@ impl<I: OverlayInt, A: Allocator + Clone> StringOverlay<I, A> {
         paths: &[IntPath<I, B>],
     ) -> Result<(), OverlayError>
         requires { All (AllInRange I.limit) (paths_of_shape I.whole paths.now) }
-        ensures { AddsAsAsked (open_strings (paths_of_shape I.whole paths.now)) self.old self.new result }
+        ensures { StringBuilderAdds (open_strings (paths_of_shape I.whole paths.now)) self.old self.new result }
     {
         self.add_string_source(&BorrowedContours { contours: paths })
     }
@@ -128,7 +129,7 @@ impl<I: OverlayInt, A: Allocator + Clone> StringOverlay<I, A> {
         contours: &[IntContour<I, B>],
     ) -> Result<(), OverlayError>
         requires { All (AllInRange I.limit) (paths_of_shape I.whole contours.now) }
-        ensures { AddsAsAsked (closed_strings (paths_of_shape I.whole contours.now)) self.old self.new result }
+        ensures { StringBuilderAdds (closed_strings (paths_of_shape I.whole contours.now)) self.old self.new result }
     {
         self.add_string_contour_source(&BorrowedContours { contours })
     }

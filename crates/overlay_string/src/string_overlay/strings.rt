@@ -2,7 +2,7 @@
 
 ghost use Rattle.std.specs.Prelude.{All};
 ghost use Rattle.overlay_geom.specs.Points.{plain_points, AllInRange};
-ghost use Rattle.overlay_string.specs.StringBuilder.{AddsOneAsAsked, AddsAsAsked};
+ghost use Rattle.overlay_string.specs.StringBuilder.{StringBuilderAddsOne, StringBuilderAdds};
 ghost use Rattle.overlay_string.specs.StringPaths.{open_string, closed_string, open_strings, closed_strings};
 ghost use Rattle.overlay_string.specs.StringPaths.{paths_of_lines};
 
@@ -24,7 +24,7 @@ impl<I: OverlayInt, A: Allocator + Clone> StringOverlay<I, A> {
     /// would come to 2^31, `Memory`.
     pub fn add_string_path(&mut self, path: &[IntPoint<I>]) -> Result<(), OverlayError>
         requires { AllInRange I.limit (plain_points I.whole path.now) }
-        ensures { AddsOneAsAsked (open_string (plain_points I.whole path.now)) self.old self.new result }
+        ensures { StringBuilderAddsOne (open_string (plain_points I.whole path.now)) self.old self.new result }
     {
         self.add_one(path, PathRole::OpenString)
     }
@@ -33,7 +33,7 @@ impl<I: OverlayInt, A: Allocator + Clone> StringOverlay<I, A> {
     /// that call.
     pub fn add_string_contour(&mut self, contour: &[IntPoint<I>]) -> Result<(), OverlayError>
         requires { AllInRange I.limit (plain_points I.whole contour.now) }
-        ensures { AddsOneAsAsked (closed_string (plain_points I.whole contour.now)) self.old self.new result }
+        ensures { StringBuilderAddsOne (closed_string (plain_points I.whole contour.now)) self.old self.new result }
     {
         self.add_one(contour, PathRole::ClosedString)
     }
@@ -42,7 +42,7 @@ impl<I: OverlayInt, A: Allocator + Clone> StringOverlay<I, A> {
     /// those of that call.
     pub fn add_string_line(&mut self, line: IntLine<I>) -> Result<(), OverlayError>
         requires { AllInRange I.limit (plain_points I.whole line) }
-        ensures { AddsOneAsAsked (open_string (plain_points I.whole line)) self.old self.new result }
+        ensures { StringBuilderAddsOne (open_string (plain_points I.whole line)) self.old self.new result }
     {
         self.add_one(&line, PathRole::OpenString)
     }
@@ -54,7 +54,7 @@ impl<I: OverlayInt, A: Allocator + Clone> StringOverlay<I, A> {
     /// before that one are added.
     pub fn add_string_lines(&mut self, lines: &[IntLine<I>]) -> Result<(), OverlayError>
         requires { All (AllInRange I.limit) (paths_of_lines I.whole lines.now) }
-        ensures { AddsAsAsked (open_strings (paths_of_lines I.whole lines.now)) self.old self.new result }
+        ensures { StringBuilderAdds (open_strings (paths_of_lines I.whole lines.now)) self.old self.new result }
     {
         self.add_string_source(&BorrowedLines { lines })
     }
@@ -70,7 +70,7 @@ impl<I: OverlayInt, A: Allocator + Clone> StringOverlay<I, A> {
         resource: &R0,
     ) -> Result<(), OverlayError>
         requires { All (AllInRange I.limit) (R0.paths resource.now) }
-        ensures { AddsAsAsked (open_strings (R0.paths resource.now)) self.old self.new result }
+        ensures { StringBuilderAdds (open_strings (R0.paths resource.now)) self.old self.new result }
     {
         self.add_all(resource, PathRole::OpenString)
     }
@@ -82,7 +82,7 @@ impl<I: OverlayInt, A: Allocator + Clone> StringOverlay<I, A> {
         resource: &R0,
     ) -> Result<(), OverlayError>
         requires { All (AllInRange I.limit) (R0.paths resource.now) }
-        ensures { AddsAsAsked (closed_strings (R0.paths resource.now)) self.old self.new result }
+        ensures { StringBuilderAdds (closed_strings (R0.paths resource.now)) self.old self.new result }
     {
         self.add_all(resource, PathRole::ClosedString)
     }

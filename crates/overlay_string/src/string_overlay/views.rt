@@ -4,7 +4,7 @@ ghost use Rattle.std.specs.Prelude.{◌≡◌, ◌⊎◌, ◌↔◌, true, IfOk,
 ghost use Rattle.std.specs.Borrow.{sem};
 ghost use Rattle.std.specs.Io.BufRead.{Rests};
 ghost use Rattle.overlay_geom.specs.Paths.{plain_shapes};
-ghost use Rattle.overlay_arrange.specs.Arranged.{IsArranged, MayRefuseSplitting};
+ghost use Rattle.overlay_arrange.specs.Arranged.{IsArranged, MayRefuseSplitting, most_rounds};
 ghost use Rattle.overlay_arrange.specs.Graphs.{graph_edges};
 ghost use Rattle.overlay_builder.specs.Held.{AnswersQuery, shown_edges};
 ghost use Rattle.overlay_string.specs.StringBuilder.{held_by};
@@ -36,13 +36,13 @@ impl<I: OverlayInt, A: Allocator + Clone> StringOverlay<I, A> {
         fill_rule: FillRule,
     ) -> Result<Option<StringGraph<'_, I, A>>, OverlayError>
         ensures arranged { IfOk result
-            (λ o. IsArranged 64 self.old.edges (shown_edges (λ v. graph_edges v.graph.now) o)) }
+            (λ o. IsArranged most_rounds self.old.edges (shown_edges (λ v. graph_edges v.graph.now) o)) }
         ensures view { IfOk result (λ o. IfSome o
-            (λ v. IsStringView 64 fill_rule self.old.edges v.graph.now)) }
+            (λ v. IsStringView most_rounds fill_rule self.old.edges v.graph.now)) }
         ensures* after { sem 𝓛 (Rests
             (the_row I.row A.row I.Wide.row I.WideUInt.row I.IntNumber I.Wide.WideIntNumber I.WideUInt.UIntNumber
             A.Allocator)
-            self.entry (λ new. EndsStringView I.limit 64 (λ v. graph_edges v.graph.now) self.old new result)) }
+            self.entry (λ new. EndsStringView I.limit most_rounds (λ v. graph_edges v.graph.now) self.old new result)) }
     {
         self.build_graph_view_with_solver(fill_rule, Solver::ABSOLUTE)
     }
@@ -54,13 +54,13 @@ impl<I: OverlayInt, A: Allocator + Clone> StringOverlay<I, A> {
         solver: Solver,
     ) -> Result<Option<StringGraph<'_, I, A>>, OverlayError>
         ensures arranged { IfOk result
-            (λ o. IsArranged 64 self.old.edges (shown_edges (λ v. graph_edges v.graph.now) o)) }
+            (λ o. IsArranged most_rounds self.old.edges (shown_edges (λ v. graph_edges v.graph.now) o)) }
         ensures view { IfOk result (λ o. IfSome o
-            (λ v. IsStringView 64 fill_rule self.old.edges v.graph.now)) }
+            (λ v. IsStringView most_rounds fill_rule self.old.edges v.graph.now)) }
         ensures* after { sem 𝓛 (Rests
             (the_row I.row A.row I.Wide.row I.WideUInt.row I.IntNumber I.Wide.WideIntNumber I.WideUInt.UIntNumber
             A.Allocator)
-            self.entry (λ new. EndsStringView I.limit 64 (λ v. graph_edges v.graph.now) self.old new result)) }
+            self.entry (λ new. EndsStringView I.limit most_rounds (λ v. graph_edges v.graph.now) self.old new result)) }
     {
         let _ = solver;
         let arranged = self.arranged_graph(fill_rule)?;
@@ -77,10 +77,10 @@ impl<I: OverlayInt, A: Allocator + Clone> StringOverlay<I, A> {
         mut self,
         fill_rule: FillRule,
     ) -> Result<IntShapes<I, A>, OverlayError>
-        ensures sliced { IfOk result (λ v. AreSliced I.Wide.width 64 fill_rule self.edges
+        ensures sliced { IfOk result (λ v. AreSliced I.Wide.width most_rounds fill_rule self.edges
             (plain_shapes I.whole v.items)) }
         ensures failed { IsErrOf result OverlayError.Failed ↔ (self.failed ≡ true) }
-        ensures err { IfErr result (λ e. (e ≡ OverlayError.Failed) ⊎ MayRefuseSplitting 64 self.edges e) }
+        ensures err { IfErr result (λ e. (e ≡ OverlayError.Failed) ⊎ MayRefuseSplitting most_rounds self.edges e) }
     {
         let arranged = self.arranged_graph(fill_rule)?;
         StringGraph { graph: &arranged }.extract_shapes(StringRule::Slice)
@@ -88,7 +88,7 @@ impl<I: OverlayInt, A: Allocator + Clone> StringOverlay<I, A> {
 
     // What a view shows, once the edges are arranged. A refusal leaves the builder failed.
     fn arranged_graph(&mut self, fill_rule: FillRule) -> Result<BalancedGraph<I, A>, OverlayError>
-        ensures query { AnswersQuery I.limit 64 (held_by self.old) (held_by self.new) result }
+        ensures query { AnswersQuery I.limit most_rounds (held_by self.old) (held_by self.new) result }
         ensures edges { IfOk result (λ g. graph_edges g ≡ self.new.edges) }
         ensures rule { IfOk result (λ g. g.fill_rule ≡ fill_rule) }
         ensures kept { self.new ≡ record self.old { edges = self.new.edges; failed = self.new.failed } }

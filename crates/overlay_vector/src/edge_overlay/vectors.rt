@@ -4,6 +4,7 @@ ghost use Rattle.std.specs.Prelude.{◌≡◌, false, IfOk, OnOk, IsErrOf, IsOkU
 ghost use Rattle.overlay_geom.specs.Settled.{IsSettled};
 ghost use Rattle.overlay_plane.specs.Carried.{edges_in};
 ghost use Rattle.overlay_arrange.specs.Content.{IsAscending};
+ghost use Rattle.overlay_arrange.specs.Arranged.{most_rounds};
 ghost use Rattle.overlay_arrange.specs.Stores.{IsStoreReached};
 ghost use Rattle.overlay_builder.specs.Held.{AnswersQuery};
 ghost use Rattle.overlay_vector.specs.DataVectors.{plain_data_vectors, selected_vectors};
@@ -40,9 +41,9 @@ impl<I: OverlayInt, D: OverlayEdgeData, A: Allocator + Clone> EdgeOverlay<I, D, 
         overlay_rule: OverlayRule,
         fill_rule: FillRule,
     ) -> Result<Vec<DataVectorEdge<I, D>, A>, OverlayError>
-        ensures query { AnswersQuery I.limit 64 (held_by self.old) (held_by self.new) result }
+        ensures query { AnswersQuery I.limit most_rounds (held_by self.old) (held_by self.new) result }
         ensures carried { OnOk result
-            (IsArrangedWithData D.merges D.splits D.reverses 64 self.old.edges self.new.edges) }
+            (IsArrangedWithData D.merges D.splits D.reverses most_rounds self.old.edges self.new.edges) }
         ensures listed { IfOk result (λ v. plain_data_vectors I.whole v.items
             ≡ selected_vectors fill_rule overlay_rule self.new.edges) }
         ensures store { IsStoreReached D.writes self.old.store self.new.store }

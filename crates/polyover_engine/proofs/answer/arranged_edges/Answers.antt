@@ -10,7 +10,7 @@ pub returns : goal.returns
 returns g c =
     let e = c.build_separate_vectors.ensures in
     edges_answered (contour_paths (contours_at c.args.contours.now)) c.in_ok-builder.builder c.in_ok-builder.ensures
-    _ (λ v. map (plain_vector (λ z. z)) v.items) c.args.fill_rule _ _ e.query e.listed
+    _ (λ v. map (plain_vector (λ z. z)) v.items) c.args.fill_rule _ _ e.answers.query e.listed
 
 pub returns-in_err-builder : goal.returns-in_err-builder
 returns-in_err-builder g c =

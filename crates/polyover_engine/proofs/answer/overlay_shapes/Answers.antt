@@ -10,7 +10,7 @@ pub returns : goal.returns
 returns g c =
     let e = c.overlay.ensures in
     shapes_answered (contour_paths (contours_at c.args.contours.now)) c.args.query c.in_ok-builder.builder
-    c.in_ok-builder.ensures _ (λ v. plain_shapes (λ z. z) v.items) _ c.overlay.result e.query e.result
+    c.in_ok-builder.ensures _ (λ v. plain_shapes (λ z. z) v.items) _ c.overlay.result e.answers.query e.result
 
 pub returns-in_err-builder : goal.returns-in_err-builder
 returns-in_err-builder g c =

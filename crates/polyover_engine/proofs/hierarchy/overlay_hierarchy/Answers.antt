@@ -14,7 +14,7 @@ returns g c =
     hierarchy_answered (contour_paths (contours_at c.args.contours.now)) c.args.query c.in_ok-builder.builder
     c.in_ok-builder.ensures _
     (λ h. shapes_in (λ z. z) h.shapes.points.items h.shapes.contour_ranges.items h.shapes.shape_ranges.items)
-    (λ h. map plain_link h.links.items) _ c.overlay_hierarchy.result e.query e.hierarchy
+    (λ h. map plain_link h.links.items) _ c.overlay_hierarchy.result e.answers.query e.hierarchy
 
 pub returns-in_err-builder : goal.returns-in_err-builder
 returns-in_err-builder g c =

@@ -5,6 +5,7 @@ use Rattle.std.proofs.lemmas.List.Elements.{All-nil, All-cons}
 use Rattle.std.proofs.lemmas.Result.{err_from_is_err_and}
 use Rattle.overlay_geom.specs.Points.{AllInRange}
 use Rattle.overlay_geom.specs.Resolved.{IsResolved}
+use Rattle.overlay_geom.specs.Numbers.{greatest_of_64_bits}
 use Rattle.polyover_text.specs.Points.{points_at}
 use Rattle.polyover_text.specs.Printed.{location_line}
 use Rattle.polyover_text.specs.Statements.{contours_at, figures_at}
@@ -13,8 +14,8 @@ use Rattle.polyover_engine.proofs.points.locate_text.Goals as goal
 
 pub locate_points-requires-clause-self_in_range : goal.locate_points-requires-clause-self_in_range
 locate_points-requires-clause-self_in_range g c =
-    All-cons (All (AllInRange 4611686018427387903)) _ [] c.in_ok-shape.ensures.in_range
-    (All-nil (All (AllInRange 4611686018427387903)))
+    All-cons (All (AllInRange greatest_of_64_bits)) _ [] c.in_ok-shape.ensures.in_range
+    (All-nil (All (AllInRange greatest_of_64_bits)))
 
 pub locate_points-requires-clause-resolved : goal.locate_points-requires-clause-resolved
 locate_points-requires-clause-resolved g c = All-cons (All IsResolved) _ [] c.in_ok-shape.ensures.resolved
@@ -22,7 +23,7 @@ locate_points-requires-clause-resolved g c = All-cons (All IsResolved) _ [] c.in
 
 pub locate_points-requires-clause-points_in_range : goal.locate_points-requires-clause-points_in_range
 locate_points-requires-clause-points_in_range g c =
-    subst (λ l. AllInRange 4611686018427387903 (points_at l)) (sym c.deref-2.ensures.value) c.requires.points
+    subst (λ l. AllInRange greatest_of_64_bits (points_at l)) (sym c.deref-2.ensures.value) c.requires.points
 
 pub returns-in_err-shape : goal.returns-in_err-shape
 returns-in_err-shape g c =

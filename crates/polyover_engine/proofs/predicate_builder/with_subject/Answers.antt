@@ -4,8 +4,9 @@ use Rattle.std.proofs.lemmas.List.{length-map, take_all}
 use Rattle.std.proofs.lemmas.Result.{err_from_is_err_and}
 use Rattle.overlay_geom.specs.Edges.{AddsContour}
 use Rattle.overlay_geom.specs.Points.{AllInRange}
+use Rattle.overlay_geom.specs.Numbers.{greatest_of_64_bits}
 use Rattle.overlay_arrange.specs.Content.{edge_for}
-use Rattle.overlay_builder.specs.GivenPaths.{WouldWeighTooMuch}
+use Rattle.overlay_builder.specs.GivenPaths.{ContourWeighsTooMuch}
 use Rattle.polyover_text.specs.Grammar.{contour_paths}
 use Rattle.polyover_text.specs.Points.{points_at}
 use Rattle.polyover_text.specs.Statements.{path_at, contour_at, contours_at}
@@ -27,8 +28,8 @@ loop-given-init g c =
 pub add_contour-requires : goal.add_contour-requires
 add_contour-requires g c =
     let here = contour_here c.args.contours.now _ _ c.given-item.result refl c.loop-given-test.true c.given-item.is in
-    subst (λ ps. AllInRange 4611686018427387903 (points_at ps)) (sym c.deref.ensures.value)
-    (subst (λ x. AllInRange 4611686018427387903 x.points) (sym here.1)
+    subst (λ ps. AllInRange greatest_of_64_bits (points_at ps)) (sym c.deref.ensures.value)
+    (subst (λ x. AllInRange greatest_of_64_bits x.points) (sym here.1)
     (c.requires c.loop-given.given-index (path_at c.given-item.result.contour) here.0))
 
 pub returns-in_err-add_contour : goal.returns-in_err-add_contour
@@ -44,8 +45,8 @@ returns-in_err-add_contour g c =
     rw (p.1, p.2) (contour_refused _ c.loop-given.given-index (taken_path c.args.subject path) b.edges
     held.holds here.0 here.1 _
     (λ same. false≢true (sym held.ready ∙ e.failed.0 (ap Err same)))
-    (λ same. subst (λ t. WouldWeighTooMuch false t path.points b.edges) c.taken_for-shape_type.ensures
-    (subst (λ ps. WouldWeighTooMuch false c.taken_for-shape_type.result (points_at ps) b.edges)
+    (λ same. subst (λ t. ContourWeighsTooMuch false t path.points b.edges) c.taken_for-shape_type.ensures
+    (subst (λ ps. ContourWeighsTooMuch false c.taken_for-shape_type.result (points_at ps) b.edges)
     c.deref.ensures.value (e.too_many (ap Err same))))
     (λ same. e.no_query (ap Err same)))
 

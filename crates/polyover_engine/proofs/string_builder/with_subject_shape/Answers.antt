@@ -2,6 +2,7 @@ use Rattle.std.proofs.Common.{sym, subst, refl, arith}
 use Rattle.std.proofs.lemmas.List.{length-map, take_all}
 use Rattle.std.proofs.lemmas.Result.{err_from_is_err_and}
 use Rattle.overlay_geom.specs.Points.{AllInRange}
+use Rattle.overlay_geom.specs.Numbers.{greatest_of_64_bits}
 use Rattle.overlay_string.specs.StringPaths.{shape_contours}
 use Rattle.polyover_text.specs.Statements.{path_at, contour_at, contours_at}
 use Rattle.polyover_engine.specs.Clips.{HoldsJust}
@@ -16,7 +17,7 @@ loop-given-init g c = nothing_held _ c.in_ok-overlay.ensures.empty c.in_ok-overl
 pub add-requires : goal.add-requires
 add-requires g c =
     let here = contour_here c.args.contours.now _ _ c.given-item.result refl c.loop-given-test.true c.given-item.is in
-    subst (λ x. AllInRange 4611686018427387903 x.points) (sym here.1)
+    subst (λ x. AllInRange greatest_of_64_bits x.points) (sym here.1)
     (c.requires c.loop-given.given-index (path_at c.given-item.result.contour) here.0)
 
 pub returns-in_err-add : goal.returns-in_err-add

@@ -3,6 +3,7 @@ use Rattle.std.proofs.lemmas.List.{length-map, take_all}
 use Rattle.std.proofs.lemmas.Result.{err_from_is_err_and}
 use Rattle.overlay_geom.specs.Points.{AllInRange}
 use Rattle.overlay_geom.specs.Paths.{paths_of_shape}
+use Rattle.overlay_geom.specs.Numbers.{greatest_of_64_bits}
 use Rattle.polyover_text.specs.Statements.{path_at, contour_at, contours_at}
 use Rattle.polyover_engine.specs.Subjects.{IsSubject}
 use Rattle.polyover_engine.proofs.Builders.{given_here, contour_here}
@@ -12,7 +13,7 @@ use Rattle.polyover_engine.proofs.subject.subject.Goals as goal
 pub add-requires : goal.add-requires
 add-requires g c =
     let here = contour_here c.args.contours.now _ _ c.given-item.result refl c.loop-given-test.true c.given-item.is in
-    subst (λ x. AllInRange 4611686018427387903 x.points) (sym here.1)
+    subst (λ x. AllInRange greatest_of_64_bits x.points) (sym here.1)
     (c.requires c.loop-given.given-index (path_at c.given-item.result.contour) here.0)
 
 pub returns-in_err-add : goal.returns-in_err-add

@@ -1,12 +1,12 @@
 -- The paths are added to the cleared builder.
 use Rattle.std.proofs.Common.{subst}
 use Rattle.overlay_arrange.specs.declared.options.ShapeType.TheVariants.{Subject}
-use Rattle.i_overlay.specs.Adding.{AddsAsAsked}
+use Rattle.i_overlay.specs.Adding.{BuilderAdds}
 use Rattle.overlay_builder.specs.GivenPaths.{paths_for}
 use Rattle.i_overlay.proofs.overlay.Overlay.reinit_with_subj.Goals as goal
 
 pub returns : goal.returns
 returns g c =
-    subst (λ b. AddsAsAsked (paths_for Subject (g.R0.IntShapeResource.paths c.args.subj.now)) b c.add_source.new.self
+    subst (λ b. BuilderAdds (paths_for Subject (g.R0.IntShapeResource.paths c.args.subj.now)) b c.add_source.new.self
     c.add_source.result)
     c.clear.ensures c.add_source.ensures

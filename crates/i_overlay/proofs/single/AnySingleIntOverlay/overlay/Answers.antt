@@ -14,7 +14,7 @@ returns-clause-result g c =
     let new = c.overlay.new.self in
     result_of_paths c.overlay.result (λ v. plain_shapes g.I.IntNumber.whole v.items)
     (asked_by_default g.I.Wide.WideIntNumber.width c.args.fill_rule c.args.overlay_rule) _ _ new.edges made.ok
-    c.overlay.ensures.query.arranged
+    c.overlay.ensures.answers.query.arranged
     (subst (λ q. IfOk c.overlay.result (λ v. IsResult q new.edges (plain_shapes g.I.IntNumber.whole v.items)))
     (asked_of_default _ _ c.args.fill_rule c.args.overlay_rule c.in_ok-overlay.overlay.options made.made.options)
     c.overlay.ensures.result)
@@ -23,4 +23,4 @@ pub returns-clause-err : goal.returns-clause-err
 returns-clause-err g c =
     let made = c.in_ok-overlay.ensures in
     query_refused g.I.IntNumber.limit _ (held_by c.in_ok-overlay.overlay) (held_by c.overlay.new.self) c.overlay.result
-    made.ok made.made.ready c.overlay.ensures.query
+    made.ok made.made.ready c.overlay.ensures.answers.query

@@ -4,7 +4,7 @@ use Rattle.std.proofs.lemmas.Result.{on_ok_weaker}
 use Rattle.overlay_arrange.specs.Content.{edge_for}
 use Rattle.overlay_geom.specs.Edges.{AddsContour}
 use Rattle.overlay_geom.specs.Points.{plain_points}
-use Rattle.overlay_builder.specs.GivenPaths.{WouldWeighTooMuch}
+use Rattle.overlay_builder.specs.GivenPaths.{ContourWeighsTooMuch}
 use Rattle.overlay_relate.proofs.predicate_overlay.PredicateOverlay.add_path_iter.Goals as goal
 
 pub returns-clause-ok : goal.returns-clause-ok
@@ -23,7 +23,7 @@ pub returns-clause-too_many : goal.returns-clause-too_many
 returns-clause-too_many g c = λ same. (
   c.in_ok-points.points.items,
   c.in_ok-points.ensures.ok,
-  subst (λ ps. WouldWeighTooMuch false c.args.shape_type (plain_points g.I.IntNumber.whole ps) c.args.self.now.edges)
+  subst (λ ps. ContourWeighsTooMuch false c.args.shape_type (plain_points g.I.IntNumber.whole ps) c.args.self.now.edges)
       c.deref.ensures.value
       (c.add_contour.ensures.too_many same),
 )

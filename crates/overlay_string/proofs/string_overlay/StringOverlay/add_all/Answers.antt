@@ -4,7 +4,7 @@ use Rattle.overlay_geom.specs.Edges.{weight}
 use Rattle.overlay_builder.specs.Held.{plain_held}
 use Rattle.overlay_builder.specs.PathLists.{AddsAsAsked}
 use Rattle.overlay_builder.proofs.Balanced.{adding_balanced_paths}
-use Rattle.overlay_string.specs.StringBuilder.{held_by, AddsAsAsked as AddsToBuilder}
+use Rattle.overlay_string.specs.StringBuilder.{held_by, StringBuilderAdds}
 use Rattle.overlay_string.specs.StringPaths.{paths_in}
 use Rattle.overlay_string.proofs.AddedInRoles.{paths_added}
 use Rattle.overlay_string.proofs.AddedPaths.{seen_with, only_edges_new}
@@ -26,7 +26,7 @@ returns g c =
     let paths = g.R0.IntShapeResource.paths c.args.resource.now in
     let role = c.args.role in
     let options = c.self.inside.options in
-    subst (λ b. AddsToBuilder (paths_in role paths) b (seen_with options c.add_paths.new.self) c.add_paths.result)
+    subst (λ b. StringBuilderAdds (paths_in role paths) b (seen_with options c.add_paths.new.self) c.add_paths.result)
     c.self.view_is
     (record {
       added = paths_added role c.kind_in.result c.passing_in.result c.kind_in.ensures c.passing_in.ensures paths

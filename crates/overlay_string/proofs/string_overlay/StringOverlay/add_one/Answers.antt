@@ -4,7 +4,7 @@ use Rattle.std.proofs.lemmas.Result.{err_from_is_err_and}
 use Rattle.overlay_geom.specs.Points.{plain_points}
 use Rattle.overlay_plane.specs.Carried.{edges_in}
 use Rattle.overlay_builder.proofs.SourcePaths.{error_of}
-use Rattle.overlay_string.specs.StringBuilder.{AddsOneAsAsked}
+use Rattle.overlay_string.specs.StringBuilder.{StringBuilderAddsOne}
 use Rattle.overlay_string.specs.StringPaths.{path_in}
 use Rattle.overlay_string.proofs.AddedInRoles.{path_added, path_too_heavy}
 use Rattle.overlay_string.proofs.AddedPaths.{seen_with, one_added, one_refused}
@@ -20,7 +20,7 @@ returns-in_err-add_path g c =
     let e = c.in_err-add_path.ensures in
     let p = err_from_is_err_and c.from_residual.result c.from_residual.ensures.1 in
     rw (p.1, p.2)
-    (subst (λ b. AddsOneAsAsked {V = Unit {0}} (path_in role points) b (seen_with c.self.inside.options new)
+    (subst (λ b. StringBuilderAddsOne {V = Unit {0}} (path_in role points) b (seen_with c.self.inside.options new)
     (Err c.in_err-add_path.field-0.0)) c.self.view_is
     (one_refused c.self.inside.options (path_in role points) old new e.light e.kept c.in_err-add_path.field-0.0 e.err
     e.failed (λ same. path_too_heavy role c.kind_in.result c.passing_in.result c.kind_in.ensures c.passing_in.ensures
@@ -43,8 +43,8 @@ returns g c =
     let old = c.self.inside.core in
     let new = c.add_path.new.self in
     let e = c.in_ok-add_path.ensures in
-    subst (λ b. AddsOneAsAsked {V = Unit {0}} (path_in role points) b (seen_with c.self.inside.options new) (Ok tt))
-    c.self.view_is
+    subst (λ b. StringBuilderAddsOne {V = Unit {0}} (path_in role points) b (seen_with c.self.inside.options new)
+    (Ok tt)) c.self.view_is
     (one_added c.self.inside.options (path_in role points) old new e.light e.kept c.in_ok-add_path.field-0
     (path_added role c.kind_in.result c.passing_in.result c.kind_in.ensures c.passing_in.ensures points old.edges
     new.edges e.ok) e.failed)

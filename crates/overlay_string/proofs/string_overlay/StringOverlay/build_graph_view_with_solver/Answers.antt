@@ -1,7 +1,7 @@
 -- The view shows the edges that the builder holds, and ends as any query.
 use Rattle.std.proofs.Common.{◌≡◌, IfSome, true, [], refl, sym, ap, subst, ◌∙◌}
 use Rattle.overlay_plane.specs.Carried.{edges_in}
-use Rattle.overlay_arrange.specs.Arranged.{IsArranged}
+use Rattle.overlay_arrange.specs.Arranged.{IsArranged, most_rounds}
 use Rattle.overlay_arrange.specs.Graphs.{carried_vector, graph_edges}
 use Rattle.overlay_string.specs.StringViews.{IsStringView}
 use Rattle.overlay_string.proofs.StringViews.{some_read, none_read, is_view, ends_viewed}
@@ -15,7 +15,7 @@ returns-in-Some g c =
     let new = c.arranged_graph.new.self in
     let made = c.in_ok-arranged.ensures in
     let seen = c.in_ok-arranged.arranged in
-    let view = is_view limit 64 c.args.self.now new seen made.query made.edges c.args.fill_rule
+    let view = is_view limit most_rounds c.args.self.now new seen made.query made.edges c.args.fill_rule
     (some_read (carried_vector g.I.IntNumber.whole _) c.edges.result.now seen.edges
     (c.edges.ensures.carried ∙ ap (λ k. k.edges) c.graph.ensures.graph) (sym c.is_empty-has_edges.ensures
     ∙ c.if-has_edges.true))
@@ -24,13 +24,13 @@ returns-in-Some g c =
       (
         refl,
         (λ _. tt),
-        ends_viewed limit 64 c.args.self.now new seen made.query made.edges c.self.view_is
+        ends_viewed limit most_rounds c.args.self.now new seen made.query made.edges c.self.view_is
             seen_is made.kept,
       ),
       record {
-        arranged = subst (λ o. IfSome o (λ v. IsArranged 64 c.args.self.now.edges (graph_edges v))) c.in-Some.is
+        arranged = subst (λ o. IfSome o (λ v. IsArranged most_rounds c.args.self.now.edges (graph_edges v))) c.in-Some.is
             view.arranged;
-        view = subst (λ o. IfSome o (IsStringView 64 c.args.fill_rule c.args.self.now.edges)) c.in-Some.is view;
+        view = subst (λ o. IfSome o (IsStringView most_rounds c.args.fill_rule c.args.self.now.edges)) c.in-Some.is view;
         after = tt;
       },
     )
@@ -51,11 +51,11 @@ returns-in_default g c =
       (
         refl,
         (λ _. tt),
-        ends_viewed limit 64 c.args.self.now new seen made.query made.edges c.self.view_is
+        ends_viewed limit most_rounds c.args.self.now new seen made.query made.edges c.self.view_is
             (sym none) made.kept,
       ),
       record {
-        arranged = subst (IsArranged 64 c.args.self.now.edges) none made.query.arranged;
+        arranged = subst (IsArranged most_rounds c.args.self.now.edges) none made.query.arranged;
         view = tt;
         after = tt;
       },

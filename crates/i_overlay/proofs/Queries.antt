@@ -1,0 +1,49 @@
+-- What a query of a builder answers, once its edges are arranged.
+use Rattle.std.proofs.Common.{◌≡◌, ℕ, Bool, List, is_err, refl, sym, ap, subst, ◌∙◌}
+use Rattle.std.proofs.lemmas.Bool.{false≢true}
+use Rattle.std.proofs.lemmas.Result.{on_ok_weaker}
+use Rattle.std.specs.Prelude.{Result, Ok, Some, OnOk, IfErr}
+use Rattle.overlay_geom.specs.Edges.{CountedEdge}
+use Rattle.overlay_geom.specs.Merged.{HaveSameWindings}
+use Rattle.overlay_geom.specs.declared.error.OverlayError.{OverlayError}
+use Rattle.overlay_geom.specs.declared.error.OverlayError.TheVariants.{Memory}
+use Rattle.overlay_arrange.specs.Arranged.{most_rounds}
+use Rattle.overlay_builder.specs.Held.{Held, AnswersQuery}
+use Rattle.overlay_builder.proofs.Queries.{answers_after}
+use Rattle.i_overlay.specs.Builder.{Builder, held_by}
+use Rattle.i_overlay.specs.Queries.{BuilderAnswers, BuilderExtracts}
+
+module _ {U V W : Type 0} (limit : ℕ) {now old : Builder U} (view : old ≡ now) (mid : Held CountedEdge) (w : W)
+    (first : AnswersQuery limit most_rounds (held_by old) mid (Ok w)) (edges : List CountedEdge) (failed : Bool)
+    (r : Result V OverlayError) (flag : failed ≡ is_err r) (refused : IfErr r (λ e. e ≡ Memory)) where
+  query : edges ≡ mid.edges
+      → AnswersQuery limit most_rounds (held_by old) (record { edges = edges; failed = failed }) r
+  query same = answers_after limit most_rounds (held_by old) mid (record { edges = edges; failed = failed }) w first r
+      same flag refused
+
+  -- more is asked of the edges, which stay
+  pub answered : edges ≡ mid.edges → BuilderAnswers limit now (record old { edges = edges; failed = failed }) r
+  answered same = subst (λ b. BuilderAnswers limit b (record old { edges = edges; failed = failed }) r) view (record {
+    query = query same;
+    kept = refl;
+    untouched = λ is. absurd (false≢true (sym first.usable ∙ (query same).failed.0 is));
+  })
+
+  -- contours are extracted of them, with a buffer that is there afterwards
+  pub extracted : {again late : Builder U} → again ≡ late
+      → late ≡ record old { edges = mid.edges; boolean_buffer = late.boolean_buffer; failed = mid.failed }
+      → edges ≡ again.edges → OnOk r (late.boolean_buffer ≡ Some tt)
+      → BuilderExtracts limit now (record again { edges = edges; failed = failed }) r
+  extracted {again = again} {late = late} is_late kept same buffer =
+      subst (λ b. BuilderExtracts limit now (record b { edges = edges; failed = failed }) r) (sym is_late)
+      (subst (λ b. BuilderExtracts limit b (record late { edges = edges; failed = failed }) r) view (record {
+        query = query all_same;
+        exact = λ whole. on_ok_weaker r (λ there. subst (HaveSameWindings old.edges) (sym all_same)
+            (first.arranged.exact whole).windings) buffer;
+        kept = ap (λ (b : Builder U). record b { edges = edges; failed = failed }) kept;
+        untouched = λ is. absurd (false≢true (sym first.usable ∙ (query all_same).failed.0 is));
+        buffer = buffer;
+      }))
+    where
+      all_same : edges ≡ mid.edges
+      all_same = same ∙ ap (λ b. b.edges) is_late ∙ ap (λ b. b.edges) kept
