@@ -23,7 +23,8 @@ module _ (limit : ℕ) (keep : Bool) (paths : List GivenPath) where
   balanced_alone new (Err e) h = λ ready. absurd (false≢true (sym ready ∙ h.fails))
 
   -- more is asked, which may be refused for want of memory
-  pub alone_after : {U V : Type 0} (mid new : Held CountedEdge) (u : U) → AnswersAlone limit most_rounds keep paths mid (Ok u) →
+  pub alone_after : {U V : Type 0} (mid new : Held CountedEdge) (u : U) →
+      AnswersAlone limit most_rounds keep paths mid (Ok u) →
       (r : Result V OverlayError) → new.edges ≡ mid.edges → new.failed ≡ is_err r → IfErr r (λ e. e ≡ Memory) →
       AnswersAlone limit most_rounds keep paths new r
   alone_after {V = V} mid new u first r edges flag refused =

@@ -42,8 +42,8 @@ pub fn outcome_of_contour<I: IntNumber, A: Allocator + Clone>(
     output_direction: ContourDirection,
 ) -> Result<Outcome, OverlayError>
     requires { AllInRange I.limit (plain_points I.whole contour.now) }
-    ensures alone { AnswersAlone I.limit most_rounds keeps_points (paths_for Subject (plain_points I.whole contour.now ∷ []))
-        (plain_held core.new) result }
+    ensures alone { AnswersAlone I.limit most_rounds keeps_points
+        (paths_for Subject (plain_points I.whole contour.now ∷ [])) (plain_held core.new) result }
     ensures outcome { IfOk result (IsOutcome keeps_points fill_rule output_direction
         (plain_points I.whole contour.now) (edges_in core.new.edges)) }
 {

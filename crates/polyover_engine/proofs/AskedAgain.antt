@@ -84,7 +84,8 @@ module _ (limit : ℕ) (cs : List GivenPath) (fill : FillRule) (content edges : 
   )
 
   -- each further one leaves the arrangement as it is
-  pub asked_again : (b : Bool) → AnswersQuery limit most_rounds (held_by old) (held_by new) (Ok b) → KeepsSettings old new →
+  pub asked_again : (b : Bool) → AnswersQuery limit most_rounds (held_by old) (held_by new) (Ok b) →
+      KeepsSettings old new →
       WasAsked cs fill content edges new
   asked_again b query kept = record {
     holds = h.holds;
@@ -95,7 +96,8 @@ module _ (limit : ℕ) (cs : List GivenPath) (fill : FillRule) (content edges : 
   }
 
   -- and is refused for want of memory alone
-  pub refused_again : (e : OverlayError) → AnswersQuery {V = Bool} limit most_rounds (held_by old) (held_by new) (Err e) →
+  pub refused_again : (e : OverlayError) →
+      AnswersQuery {V = Bool} limit most_rounds (held_by old) (held_by new) (Err e) →
       MayRefuseRelations cs e
   refused_again Memory query = inl tt
   refused_again NotSettled query = unsettled query.err

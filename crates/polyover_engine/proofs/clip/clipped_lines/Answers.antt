@@ -44,7 +44,8 @@ returns-in_err-add_string_paths g c =
     (second_paths_refused (shape_contours (subject_of fs.contours)) (open_strings fs.lines) old
     c.add_string_paths.new.self held.holds.added held.ready c.in_err-add_string_paths.field-0.0
     (subst (λ l. StringBuilderAdds {V = Unit {0}} (open_strings (paths_of_shape (λ z. z) l)) old
-    c.add_string_paths.new.self (Err c.in_err-add_string_paths.field-0.0)) c.deref-2.ensures.value c.in_err-add_string_paths.ensures)))
+    c.add_string_paths.new.self (Err c.in_err-add_string_paths.field-0.0)) c.deref-2.ensures.value
+    c.in_err-add_string_paths.ensures)))
 
 pub returns : goal.returns
 returns g c =

@@ -17,7 +17,8 @@ returns-in-Some g c =
     let seen = c.in_ok-viewed.viewed in
     let width = g.I.Wide.WideIntNumber.width in
     let natural = g.I.WideUInt.UIntNumber.natural in
-    let view = is_view width natural limit most_rounds c.args.self.now new seen made.answers.query made.edges c.args.fill_rule
+    let view = is_view width natural limit most_rounds c.args.self.now new seen made.answers.query made.edges
+    c.args.fill_rule
     (some_read (carried_vector g.I.IntNumber.whole _) c.edges.result.now seen.graph.edges
     (c.edges.ensures.carried ∙ ap (λ k. k.edges) c.graph.ensures.graph) (sym c.is_empty-has_edges.ensures
     ∙ c.if-has_edges.true))
@@ -26,7 +27,8 @@ returns-in-Some g c =
       (
         refl,
         (λ _. tt),
-        ends_viewed g.I.Wide.WideIntNumber.width g.I.WideUInt.UIntNumber.natural limit most_rounds c.args.self.now new seen made.answers.query made.edges c.self.view_is
+        ends_viewed width natural limit most_rounds c.args.self.now new seen made.answers.query made.edges
+            c.self.view_is
             seen_is made.answers.kept,
       ),
       record {
@@ -41,6 +43,8 @@ returns-in-Some g c =
 
 pub returns-in_default : goal.returns-in_default
 returns-in_default g c =
+    let width = g.I.Wide.WideIntNumber.width in
+    let natural = g.I.WideUInt.UIntNumber.natural in
     let limit = g.I.IntNumber.limit in
     let new = c.arranged_graph.new.self in
     let made = c.in_ok-viewed.ensures in
@@ -55,7 +59,8 @@ returns-in_default g c =
       (
         refl,
         (λ _. tt),
-        ends_viewed g.I.Wide.WideIntNumber.width g.I.WideUInt.UIntNumber.natural limit most_rounds c.args.self.now new seen made.answers.query made.edges c.self.view_is
+        ends_viewed width natural limit most_rounds c.args.self.now new seen made.answers.query made.edges
+            c.self.view_is
             (sym none) made.answers.kept,
       ),
       record {

@@ -22,7 +22,8 @@ returns-clause-query g c =
     let ready : c.args.self.now.failed ≡ false = search rules in
     let new = plain_held (record { edges = c.arrange-arranged.new.self; failed = c.is_err-self-inside.result }) in
     subst (λ h. AnswersQuery limit most_rounds (plain_held h) new r) c.self.view_is
-    (answers_arranged limit most_rounds (plain_held (record { edges = c.self.inside.content; failed = c.self.inside.is_failed }))
+    (answers_arranged limit most_rounds
+    (plain_held (record { edges = c.self.inside.content; failed = c.self.inside.is_failed }))
     (ap (λ h. h.failed) c.self.view_is ∙ ready) new r c.arrange-arranged.ensures.arranged c.note_limits.ensures
     c.arrange-arranged.ensures.err c.is_err-self-inside.ensures.value)
 

@@ -28,9 +28,10 @@ returns-in-Some g c =
             seen_is made.kept,
       ),
       record {
-        arranged = subst (λ o. IfSome o (λ v. IsArranged most_rounds c.args.self.now.edges (graph_edges v))) c.in-Some.is
-            view.arranged;
-        view = subst (λ o. IfSome o (IsStringView most_rounds c.args.fill_rule c.args.self.now.edges)) c.in-Some.is view;
+        arranged = subst (λ o. IfSome o (λ v. IsArranged most_rounds c.args.self.now.edges (graph_edges v)))
+            c.in-Some.is view.arranged;
+        view = subst (λ o. IfSome o (IsStringView most_rounds c.args.fill_rule c.args.self.now.edges))
+            c.in-Some.is view;
         after = tt;
       },
     )
