@@ -56,6 +56,8 @@ module _ (q : Asked) (es : List CountedEdge) (contours : List Contour) (kept : A
       AreKeptOrThinned q.preserve_output_collinear (points_of_shapes (walks_at contours places)) result →
       IsResult q es result
   result_shown result shown = record {
+    winds = λ all p off. (kept.whole all shapes found).winds q.preserve_output_collinear result shown_found p;
+    each_alone = λ all. (kept.whole all shapes found).each_alone q.preserve_output_collinear result shown_found;
     contours = contours;
     cut = kept.cut;
     shapes = shapes;
@@ -67,8 +69,6 @@ module _ (q : Asked) (es : List CountedEdge) (contours : List Contour) (kept : A
         (sym (same_shapes (shapes_found contours shapes) result
         (subst (λ k. AreKeptOrThinned k (shapes_found contours shapes) result) keep shown_found)))
         (kept.whole all shapes found).each_once;
-    winds = λ all p off. (kept.whole all shapes found).winds q.preserve_output_collinear result shown_found p;
-    each_alone = λ all. (kept.whole all shapes found).each_alone q.preserve_output_collinear result shown_found;
     points_once = once;
     shown_points_once = λ grouped. shown_once q.preserve_output_collinear (shapes_found contours shapes) result
         shown_found (once grouped);
@@ -115,6 +115,8 @@ module _ (q : Asked) (es : List CountedEdge) (kept : List (List Step)) (are : Ar
       (map points_of kept) result →
       IsContoursResult q es result
   contours_shown result shown = record {
+    winds = λ all p off. results_wind (region_asked q) subj_of clip_of es are.cut.ruled (filled_asked q)
+        (outline_or_hole_hand (filled_asked q)) kept (cut_all all).cut q.preserve_output_collinear result shown p;
     contours = contours;
     cut = contours_cut;
     shown = subst (λ ps. AllZip (IsKeptOrThinned q.preserve_output_collinear) ps result) (sym same_points) shown;
@@ -123,6 +125,4 @@ module _ (q : Asked) (es : List CountedEdge) (kept : List (List Step)) (are : Ar
     kept_each_once = λ all keep. subst (λ ps. IsPermutation (selected_of q es) (flat_map steps_of ps))
         (sym (same_contours (map points_of kept) result
         (subst (λ k. AllZip (IsKeptOrThinned k) (map points_of kept) result) keep shown))) (each_in_list all);
-    winds = λ all p off. results_wind (region_asked q) subj_of clip_of es are.cut.ruled (filled_asked q)
-        (outline_or_hole_hand (filled_asked q)) kept (cut_all all).cut q.preserve_output_collinear result shown p;
   }

@@ -184,7 +184,11 @@ module _ (width : Width) (min : ℕ) (fill : FillRule) (direction : ContourDirec
 
   pub sliced : IsSliced width min fill direction es result
   sliced = record {
-    balanced = arranged;
+    winds = λ all p off. shown_winds p direction (shapes_bound bound) simple
+        ∙ ap (λ z. once_round (filled_hand direction) *ℤ z)
+        (total-IsPermutation (winding_part p) (all_steps (walks_in contours)) (all_steps walks) (all_walks all)
+        ∙ loops_wind (is_filled fill) subj_of es arranged (walks_in contours) (all_loops all) (zero_is_empty fill) p)
+        ∙ once_where direction (is_filled fill (winding_by subj_of es p));
     contours = contours;
     shapes = shapes;
     slices = slices;
@@ -210,9 +214,5 @@ module _ (width : Width) (min : ℕ) (fill : FillRule) (direction : ContourDirec
           (all_steps (walks_in contours)) s (IsPermutation-sym (all_steps (walks_in contours))
           (left_steps_of_shapes direction result) (all_moved all)) d)),
     );
-    winds = λ all p off. shown_winds p direction (shapes_bound bound) simple
-        ∙ ap (λ z. once_round (filled_hand direction) *ℤ z)
-        (total-IsPermutation (winding_part p) (all_steps (walks_in contours)) (all_steps walks) (all_walks all)
-        ∙ loops_wind (is_filled fill) subj_of es arranged (walks_in contours) (all_loops all) (zero_is_empty fill) p)
-        ∙ once_where direction (is_filled fill (winding_by subj_of es p));
+    balanced = arranged;
   }
