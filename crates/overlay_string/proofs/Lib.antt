@@ -2,11 +2,13 @@ pub mod AddedInRoles
 pub mod AddedPaths
 pub mod BalancedPaths
 pub mod ClippedOnce
+pub mod FirstPieces
 pub mod JoinedPaths
 pub mod KeptPieces
 pub mod OneShots
 pub mod OpenLists
 pub mod PartedPieces
+pub mod PieceOrder
 pub mod PiecesInPaths
 pub mod StringViews
 pub mod TakenPieces

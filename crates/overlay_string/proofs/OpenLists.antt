@@ -1,6 +1,6 @@
 -- The entries that are not marked, before a place and after it.
-use Rattle.std.proofs.Common.{◌≡◌, ℕ, zero, suc, ◌+◌, ◌<◌, Bool, true, false, cond, List, [], ◌∷◌, ◌++◌, length}
-use Rattle.std.proofs.Common.{take, drop, get_or, refl, sym, ap, ◌∙◌, subst, arith}
+use Rattle.std.proofs.Common.{◌≡◌, ℕ, zero, suc, ◌<◌, Bool, true, false, cond, List, [], ◌∷◌, ◌++◌, length}
+use Rattle.std.proofs.Common.{get_or, refl, ap, arith}
 use Rattle.std.proofs.lemmas.Bool.{both_ways}
 use Rattle.std.specs.Prelude.{set}
 use Rattle.overlay_string.specs.OpenPlaces.{open_before, open_behind}
@@ -51,3 +51,14 @@ all_open (y ∷ xs) (m ∷ ms) zero same past = absurd (past (omega arith))
 all_open (y ∷ xs) (true ∷ ms) (suc i) same past = all_open xs ms i (omega arith) (λ h. past (omega arith))
 all_open (y ∷ xs) (false ∷ ms) (suc i) same past =
     ap (λ zs. y ∷ zs) (all_open xs ms i (omega arith) (λ h. past (omega arith)))
+
+-- where none is open before a place, none is with a mark more
+pub none_still : {X : Type 0} (xs : List X) (ms : List Bool) (n i : ℕ) → open_before xs ms n ≡ [] →
+    open_before xs (set ms i true) n ≡ []
+none_still [] ms zero i none = refl
+none_still [] ms (suc n) i none = refl
+none_still (y ∷ xs) [] n i none = none
+none_still (y ∷ xs) (m ∷ ms) zero i none = refl
+none_still (y ∷ xs) (false ∷ ms) (suc n) i none = let some = ap length none in absurd (omega arith)
+none_still (y ∷ xs) (true ∷ ms) (suc n) zero none = none
+none_still (y ∷ xs) (true ∷ ms) (suc n) (suc i) none = none_still xs ms n i none

@@ -1,20 +1,18 @@
 -- The piece at a place is taken out of the open ones.
-use Rattle.std.proofs.Common.{◌≡◌, ◌≢◌, ℕ, suc, ◌+◌, ◌<◌, Bool, true, false, cond, List, [], ◌∷◌, ◌++◌, length, map}
-use Rattle.std.proofs.Common.{get_or}
+use Rattle.std.proofs.Common.{◌≡◌, ◌≢◌, ℕ, zero, suc, ◌+◌, ◌<◌, ◌≤◌, Bool, true, false, cond, List, [], ◌∷◌, ◌++◌}
+use Rattle.std.proofs.Common.{length, map, get_or}
 use Rattle.std.proofs.Common.{refl, sym, ap, ap₂, ◌∙◌, subst, arith}
 use Rattle.std.proofs.lemmas.List.{map-append, append-nil}
 use Rattle.std.proofs.lemmas.List.Elements.{All-nil, All-cons, All-append}
-use Rattle.std.proofs.lemmas.Bool.{false≢true}
-use Rattle.std.specs.Prelude.{Some, None, set, All, ◌&&◌}
-use Rattle.overlay_geom.specs.Plane.{Point, Step, point_eq}
-use Rattle.overlay_geom.proofs.Orders.{point_eq-of_same}
+use Rattle.std.specs.Prelude.{Option, Some, None, set, All}
+use Rattle.overlay_geom.specs.Plane.{Point, Step}
 use Rattle.overlay_plane.specs.Turn.{no_step}
 use Rattle.overlay_string.specs.OpenPlaces.{piece_at, open_before, open_behind, NoneBeginsAt, IsFirstOpen}
 use Rattle.overlay_string.specs.OpenPlaces.{IsFirstOpenAt}
 use Rattle.overlay_walk.specs.Steps.{unmarked}
-use Rattle.overlay_string.specs.Pieces.{turned, begins_at, IsTakenAt, IsTakenFirst}
+use Rattle.overlay_string.specs.Pieces.{turned, IsTakenAt, IsTakenFirst}
 use Rattle.overlay_string.specs.declared.piece.Way.{Way}
-use Rattle.overlay_string.proofs.OpenLists.{open_there, taken_there, one_more_open, all_open}
+use Rattle.overlay_string.proofs.OpenLists.{open_there, taken_there, one_more_open}
 
 -- the next place
 next_place : (k : ℕ) → k + 1 ≡ suc k
@@ -44,6 +42,12 @@ module _ (ss : List Step) (marks : List Bool) (same : length marks ≡ length ss
         leaves = h.begins;
         first = h.first;
       })
+
+  -- or none begins there
+  pub none_at_taken : (way : Way) (v : Point) → NoneBeginsAt way v (unmarked ss marks) → (found : Option Step) →
+      found ≡ None → IsTakenAt way v (unmarked ss marks) (unmarked ss marks) found
+  none_at_taken way v none found is = subst (IsTakenAt way v (unmarked ss marks) (unmarked ss marks)) (sym is)
+      (record { none = none; left = refl })
 
   -- a place that is not open adds nothing to the open ones before it
   pub shut_passed : (k : ℕ) → k < length ss → get_or marks k true ≡ true → open_before ss marks k ≡ []
@@ -75,8 +79,13 @@ module _ (ss : List Step) (marks : List Bool) (same : length marks ≡ length ss
             (turned way (piece_at ss k) ∷ []) none
             (All-cons (λ t. t.from ≢ v) (turned way (piece_at ss k)) [] (apart refl) (All-nil (λ t. t.from ≢ v))))
 
--- a piece that cannot go on at a point, though it is open, does not begin there
-pub cannot_go_on : (way : Way) (v : Point) (s : Step) (is_open : Bool) → (is_open && begins_at way v s) ≡ false →
-    is_open ≡ true → (turned way s).from ≢ v
-cannot_go_on way v s is_open cannot clear same =
-    false≢true (sym cannot ∙ ap (λ o. o && begins_at way v s) clear ∙ point_eq-of_same (turned way s).from v same)
+  -- where none of the open pieces at the first places begins at a point, none of the open ones before the next place
+  -- does
+  pub none_begins : (way : Way) (v : Point) (n : ℕ) → n ≤ length ss →
+      ((j : ℕ) → j < n → get_or marks j true ≡ false → (turned way (piece_at ss j)).from ≢ v) →
+      NoneBeginsAt way v (open_before ss marks n)
+  none_begins way v zero within apart = All-nil (λ t. t.from ≢ v)
+  none_begins way v (suc n) within apart =
+      subst (λ m. NoneBeginsAt way v (open_before ss marks m)) (next_place n)
+      (apart_passed way v n (omega arith) (none_begins way v n (omega arith) (λ j less. apart j (omega arith)))
+      (get_or marks n true) refl (apart n (omega arith)))

@@ -3,6 +3,7 @@ pub mod ClipPieces
 pub mod Laws
 pub mod OneShot
 pub mod OpenPlaces
+pub mod PieceOrder
 pub mod Pieces
 pub mod StringBuilder
 pub mod StringPaths

@@ -1,8 +1,7 @@
 -- Pieces of strings, as steps between whole points, and which of them are open.
-use Rattle.std.specs.Prelude.{◌≡◌, ◌≢◌, ℕ, Bool, cond, ℤ, List, [], ◌∷◌, ◌++◌, map, Option, Some, None, length, All}
-use Rattle.overlay_geom.specs.Plane.{Point, Step, point_eq, reversed_step}
-use Rattle.overlay_geom.specs.Points.{plain_point, plain_points}
-use Rattle.overlay_geom.specs.declared.point.IntPoint.{IntPoint}
+use Rattle.std.specs.Prelude.{◌≡◌, ◌≢◌, cond, ℤ, List, [], ◌∷◌, ◌++◌, map, Option, Some, None, All}
+use Rattle.overlay_geom.specs.Plane.{Point, Step, reversed_step}
+use Rattle.overlay_geom.specs.Points.{plain_point}
 use Rattle.overlay_string.specs.declared.piece.Piece.{Piece}
 use Rattle.overlay_string.specs.declared.piece.Way.{Way}
 use Rattle.overlay_string.specs.declared.piece.Way.TheVariants.{Onward, Back}
@@ -25,10 +24,6 @@ plain_pieces whole ps = map (plain_piece whole) ps
 abbrev pub turned : Way → Step → Step
 turned Onward s = s
 turned Back s = reversed_step s
-
--- the piece begins at v, seen on the way
-abbrev pub begins_at : Way → Point → Step → Bool
-begins_at way v s = point_eq (turned way s).from v
 
 -- none of the open pieces is taken, since none leaves v
 pub record TakesNone (v : Point) (old new : List Step) : Type 0 where

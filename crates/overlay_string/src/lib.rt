@@ -2,12 +2,14 @@
 #![tactic(auto)]
 
 mod balanced_graph;
+mod by_start;
 pub mod clip;
 pub mod clip_rule;
 mod joined_paths;
 mod kept_pieces;
 pub mod laws;
 pub mod lines;
+mod marks;
 mod open_pieces;
 mod piece;
 mod role;

@@ -1,15 +1,18 @@
 //! Pieces of strings, and which of them no path has taken yet.
 
-ghost use Rattle.std.specs.Prelude.{◌≡◌, ◌<◌, ◌&&◌, true, length, slice_index_or, IfOk, IsOkUnless, option_map};
+ghost use Rattle.std.specs.Prelude.{◌≡◌, ◌<◌, [], length, All, IfOk, IsOkUnless, option_map};
 ghost use Rattle.overlay_geom.specs.Points.{plain_point};
-ghost use Rattle.overlay_string.specs.OpenPlaces.{IsFirstPlace, IsFirstPlaceAt};
-ghost use Rattle.overlay_string.specs.Pieces.{plain_piece, plain_pieces, begins_at, IsTakenAt, IsTakenFirst};
+ghost use Rattle.overlay_string.specs.OpenPlaces.{open_before, IsFirstPlace};
+ghost use Rattle.overlay_string.specs.PieceOrder.{seen_on, AreInOrder, IsFirstFrom};
+ghost use Rattle.overlay_string.specs.Pieces.{plain_piece, plain_pieces, IsTakenAt, IsTakenFirst};
 
+use crate::by_start::{first_open_from, steps_by_start};
+use crate::marks::is_taken;
 use crate::piece::{Piece, Way};
-use overlay_arrange::edge::compare_points;
 use overlay_geom::error::OverlayError;
 use overlay_geom::number::IntNumber;
 use overlay_geom::point::IntPoint;
+use overlay_walk::step::Step;
 use std::alloc::Allocator;
 use std::marker::Model;
 
@@ -19,19 +22,27 @@ pub(crate) struct OpenPieces<I: IntNumber, A: Allocator> {
     pieces: Vec<Piece<I>, A>,
     // which of them a path has taken
     taken: Vec<bool, A>,
+    // a place before which none is open
+    passed: usize,
+    // the pieces by the points that they leave
+    onward: Vec<Step<I>, A>,
+    // the pieces turned back, by the points at which they arrive
+    back: Vec<Step<I>, A>,
 }
 
 impl<I: IntNumber, A: Allocator> Model for OpenPieces<I, A> {
-    ghost use Rattle.std.specs.Prelude.{◌≡◌, List, length};
+    ghost use Rattle.std.specs.Prelude.{List};
     ghost use Rattle.overlay_geom.specs.Plane.{Step};
     ghost use Rattle.overlay_walk.specs.Steps.{unmarked};
+    ghost use Rattle.overlay_string.specs.PieceOrder.{AreOpenPieces};
     ghost use Rattle.overlay_string.specs.Pieces.{plain_pieces};
 
     ghost Value = { List Step };
 
     ghost view = { λ o. unmarked (plain_pieces I.whole o.pieces.items) o.taken.items };
 
-    ghost invariant = { λ o. length o.taken.items ≡ length o.pieces.items };
+    ghost invariant = { λ o. AreOpenPieces I.whole (plain_pieces I.whole o.pieces.items) o.taken.items o.passed
+        o.onward.items o.back.items };
 }
 
 impl<I: IntNumber, A: Allocator> OpenPieces<I, A> {
@@ -39,8 +50,9 @@ impl<I: IntNumber, A: Allocator> OpenPieces<I, A> {
     pub(crate) fn take_first(&mut self) -> Option<Piece<I>>
         ensures { IsTakenFirst self.old self.new (option_map (plain_piece I.whole) result) }
     {
-        let place = first_open(&self.pieces, &self.taken)?;
+        let place = first_open(&self.pieces, &self.taken, self.passed)?;
         self.taken[place] = true;
+        self.passed = place;
         Some(self.pieces[place])
     }
 
@@ -49,7 +61,7 @@ impl<I: IntNumber, A: Allocator> OpenPieces<I, A> {
         ensures { IsTakenAt way (plain_point I.whole point) self.old self.new
             (option_map (plain_piece I.whole) result) }
     {
-        let place = first_open_at(&self.pieces, &self.taken, way, point)?;
+        let place = first_open_at(&self.onward, &self.back, &self.taken, way, point)?;
         self.taken[place] = true;
         Some(self.pieces[place])
     }
@@ -61,18 +73,27 @@ impl<I: IntNumber, A: Allocator + Clone> OpenPieces<I, A> {
         ensures ok { IfOk result (λ o. o ≡ plain_pieces I.whole pieces.items) }
         ensures err { IsOkUnless result OverlayError.Memory }
     {
+        let onward = steps_by_start(pieces.allocator().clone()?, &pieces, Way::Onward)?;
+        let back = steps_by_start(pieces.allocator().clone()?, &pieces, Way::Back)?;
         let mut taken = Vec::new(pieces.allocator().clone()?);
         taken.resize(pieces.len(), false)?;
-        Ok(OpenPieces { pieces, taken })
+        Ok(OpenPieces {
+            pieces,
+            taken,
+            passed: 0,
+            onward,
+            back,
+        })
     }
 }
 
-// The place of the first open piece.
-fn first_open<I: IntNumber>(pieces: &[Piece<I>], taken: &[bool]) -> Option<usize>
-    requires { length taken.now ≡ length pieces.now }
+// The place of the first open piece, where none before a place is open.
+fn first_open<I: IntNumber>(pieces: &[Piece<I>], taken: &[bool], passed: usize) -> Option<usize>
+    requires marks { length taken.now ≡ length pieces.now }
+    requires passed { open_before (plain_pieces I.whole pieces.now) taken.now passed ≡ [] }
     ensures { IsFirstPlace (plain_pieces I.whole pieces.now) taken.now result }
 {
-    for place in 0..pieces.len() {
+    for place in passed..pieces.len() {
         if !is_taken(taken, place) {
             return Some(place);
         }
@@ -82,34 +103,20 @@ fn first_open<I: IntNumber>(pieces: &[Piece<I>], taken: &[bool]) -> Option<usize
 
 // The place of the first open piece that begins at a point, seen on the way.
 fn first_open_at<I: IntNumber>(
-    pieces: &[Piece<I>],
+    onward: &[Step<I>],
+    back: &[Step<I>],
     taken: &[bool],
     way: Way,
     point: IntPoint<I>,
 ) -> Option<usize>
-    requires { length taken.now ≡ length pieces.now }
-    ensures { IsFirstPlaceAt way (plain_point I.whole point) (plain_pieces I.whole pieces.now) taken.now result }
+    requires onward { AreInOrder I.whole onward.now }
+    requires onward_within { All (λ s. s.edge < length taken.now) onward.now }
+    requires back { AreInOrder I.whole back.now }
+    requires back_within { All (λ s. s.edge < length taken.now) back.now }
+    ensures { IsFirstFrom I.whole (seen_on way onward.now back.now) taken.now (plain_point I.whole point) result }
 {
-    for place in 0..pieces.len() {
-        let is_open = !is_taken(taken, place);
-        if can_go_on(pieces[place], is_open, way, point) {
-            return Some(place);
-        }
+    match way {
+        Way::Onward => first_open_from(onward, taken, point),
+        Way::Back => first_open_from(back, taken, point),
     }
-    None
-}
-
-// Whether the piece at a place is taken.
-fn is_taken(taken: &[bool], place: usize) -> bool
-    requires { place < length taken.now }
-    ensures { result ≡ slice_index_or taken.now place true }
-{
-    taken[place]
-}
-
-// Whether a piece is open and begins at a point, seen on the way.
-fn can_go_on<I: IntNumber>(piece: Piece<I>, is_open: bool, way: Way, point: IntPoint<I>) -> bool
-    ensures { result ≡ (is_open && begins_at way (plain_point I.whole point) (plain_piece I.whole piece)) }
-{
-    is_open && compare_points(piece.start(way), point).is_eq()
 }

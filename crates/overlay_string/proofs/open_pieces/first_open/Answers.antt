@@ -1,5 +1,5 @@
 -- One more place is not open.
-use Rattle.std.proofs.Common.{length, sym, ◌∙◌, arith, rules}
+use Rattle.std.proofs.Common.{sym, ◌∙◌, arith, rules}
 use Rattle.std.proofs.lemmas.List.{length-map}
 use Rattle.overlay_string.specs.Pieces.{plain_piece, plain_pieces}
 use Rattle.overlay_string.proofs.TakenPieces.{shut_passed}
@@ -10,5 +10,8 @@ loop-place-preserved g c =
     let whole = g.I.IntNumber.whole in
     let many = length-map c.args.pieces.now (plain_piece whole) in
     let within = c.loop-place-test.true in
-    shut_passed (plain_pieces whole c.args.pieces.now) c.args.taken.now (c.requires ∙ sym many) c.loop-place.place
+    shut_passed (plain_pieces whole c.args.pieces.now) c.args.taken.now (c.requires.marks ∙ sym many) c.loop-place.place
     (omega (arith, within, many)) (search rules) c.loop-place.invariant
+
+pub loop-place-init : goal.loop-place-init
+loop-place-init g c = c.requires.passed

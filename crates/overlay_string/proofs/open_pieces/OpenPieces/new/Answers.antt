@@ -1,7 +1,20 @@
--- No mark is set.
+-- No mark is set, and none is passed.
+use Rattle.std.proofs.Common.{◌≡◌, length, refl, sym, ◌∙◌, rules}
+use Rattle.std.proofs.lemmas.List.{length-map}
 use Rattle.overlay_walk.proofs.OpenPlaces.{unmarked-cleared}
-use Rattle.overlay_string.specs.Pieces.{plain_pieces}
+use Rattle.overlay_string.specs.Pieces.{plain_piece, plain_pieces}
 use Rattle.overlay_string.proofs.open_pieces.OpenPieces.new.Goals as goal
+
+pub invariant_of-result : goal.invariant_of-result
+invariant_of-result g c =
+    let whole = g.I.IntNumber.whole in
+    let all : length c.resize.new.self.items ≡ length c.args.pieces.items = search rules in
+    record {
+      marked = all ∙ sym (length-map c.args.pieces.items (plain_piece whole));
+      passing = refl;
+      leaving = rw (c.deref.ensures.value) at c.in_ok-onward.ensures.ok;
+      arriving = rw (c.deref-2.ensures.value) at c.in_ok-back.ensures.ok;
+    }
 
 pub returns-clause-ok : goal.returns-clause-ok
 returns-clause-ok g c =

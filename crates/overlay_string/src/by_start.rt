@@ -1,0 +1,91 @@
+//! Pieces, seen on a way, by the points where they begin.
+
+ghost use Rattle.std.specs.Prelude.{◌≡◌, ◌<◌, length, All, IfOk, IsOkUnless};
+ghost use Rattle.overlay_geom.specs.Points.{plain_point};
+ghost use Rattle.overlay_string.specs.PieceOrder.{AreByStart, AreInOrder, AreNumbered, IsFirstFrom, IsRunStart};
+ghost use Rattle.overlay_string.specs.Pieces.{plain_piece, plain_pieces, turned};
+ghost use Rattle.overlay_walk.specs.Steps.{plain_step, plain_steps, IsByFrom};
+
+use crate::marks::is_taken;
+use crate::piece::{Piece, Way};
+use overlay_arrange::edge::compare_points;
+use overlay_geom::error::OverlayError;
+use overlay_geom::number::IntNumber;
+use overlay_geom::point::IntPoint;
+use overlay_walk::step::Step;
+use std::alloc::Allocator;
+
+/// The pieces, seen on the way, each with its place, by the points that they leave, and those from one point by their
+/// places. The only refusal is `Memory`.
+pub(crate) fn steps_by_start<I: IntNumber, A: Allocator>(
+    alloc: A,
+    pieces: &[Piece<I>],
+    way: Way,
+) -> Result<Vec<Step<I>, A>, OverlayError>
+    ensures ok { IfOk result (λ v. AreByStart I.whole way (plain_pieces I.whole pieces.now) v.items) }
+    ensures err { IsOkUnless result OverlayError.Memory }
+{
+    let mut steps = numbered_steps(alloc, pieces, way)?;
+    steps.sort_by(|s, t| compare_points(s.from, t.from))?;
+    Ok(steps)
+}
+
+// The pieces, seen on the way, each with its place, in their order.
+fn numbered_steps<I: IntNumber, A: Allocator>(
+    alloc: A,
+    pieces: &[Piece<I>],
+    way: Way,
+) -> Result<Vec<Step<I>, A>, OverlayError>
+    ensures ok { IfOk result (λ v.
+        AreNumbered I.whole way (plain_pieces I.whole pieces.now) (length pieces.now) v.items) }
+    ensures err { IsOkUnless result OverlayError.Memory }
+{
+    let mut steps = Vec::with_capacity(alloc, pieces.len())?;
+    for place in 0..pieces.len() {
+        steps.push(numbered_step(pieces[place], way, place))?;
+    }
+    Ok(steps)
+}
+
+// A piece, seen on the way, with a number.
+fn numbered_step<I: IntNumber>(piece: Piece<I>, way: Way, number: usize) -> Step<I>
+    ensures along { plain_step I.whole result ≡ turned way (plain_piece I.whole piece) }
+    ensures number { result.edge ≡ number }
+{
+    Step {
+        from: piece.start(way),
+        to: piece.end(way),
+        edge: number,
+    }
+}
+
+/// The smallest number of those of the steps from a point that are not taken.
+pub(crate) fn first_open_from<I: IntNumber>(
+    steps: &[Step<I>],
+    taken: &[bool],
+    point: IntPoint<I>,
+) -> Option<usize>
+    requires order { AreInOrder I.whole steps.now }
+    requires within { All (λ s. s.edge < length taken.now) steps.now }
+    ensures { IsFirstFrom I.whole steps.now taken.now (plain_point I.whole point) result }
+{
+    let low = run_start(steps, point);
+    for i in low..steps.len() {
+        let step = steps[i];
+        if !compare_points(step.from, point).is_eq() {
+            return None;
+        }
+        if !is_taken(taken, step.edge) {
+            return Some(step.edge);
+        }
+    }
+    None
+}
+
+// The place of the first step that leaves the point or a larger one, or how many steps there are.
+fn run_start<I: IntNumber>(steps: &[Step<I>], point: IntPoint<I>) -> usize
+    requires { IsByFrom (plain_steps I.whole steps.now) }
+    ensures { IsRunStart I.whole (plain_point I.whole point) steps.now result }
+{
+    steps.partition_point(|s| compare_points(s.from, point).is_lt())
+}
