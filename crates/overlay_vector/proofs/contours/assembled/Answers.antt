@@ -33,18 +33,19 @@ loop-shape-preserved g c =
     let shown : AllZip is (map (walk_at cs) ps.items) (plain_vector_shape whole shape.items) =
     subst (λ ns. AllZip is (map (walk_at cs) ns) (plain_vector_shape whole shape.items)) c.deref.ensures.value
     c.in_ok-shape_at.ensures.shape in (
-    subst (λ ss. AllZip (AllZip is) (walks_at cs (place_lists (take (k + 1) c.args.places.now))) ss)
-    (sym (ap (plain_vector_shapes whole) c.in_ok-push.ensures.items
-    ∙ map-append (λ (s : _). plain_vector_shape whole s.items) shapes (shape ∷ [])))
-    (subst (λ ls. AllZip (AllZip is) (walks_at cs ls)
-    (plain_vector_shapes whole shapes ++ plain_vector_shape whole shape.items ∷ []))
-    (sym (mapped_more (λ (ns : _). ns.items) c.args.places.now k ps c.loop-shape-test.true c.shape-item.is))
-    (subst (λ given. AllZip (AllZip is) given
-    (plain_vector_shapes whole shapes ++ plain_vector_shape whole shape.items ∷ []))
-    (sym (map-append (map (walk_at cs)) before (ps.items ∷ [])))
-    (zipped_more (AllZip is) (walks_at cs before) (plain_vector_shapes whole shapes) (map (walk_at cs) ps.items)
-    (plain_vector_shape whole shape.items) c.loop-shape.invariant.0 shown))),
-    reached_on g.D.OverlayEdgeData.writes _ _ _ c.loop-shape.invariant.1 c.in_ok-shape_at.ensures.store)
+      subst (λ ss. AllZip (AllZip is) (walks_at cs (place_lists (take (k + 1) c.args.places.now))) ss)
+          (sym (ap (plain_vector_shapes whole) c.in_ok-push.ensures.items
+          ∙ map-append (λ (s : _). plain_vector_shape whole s.items) shapes (shape ∷ [])))
+          (subst (λ ls. AllZip (AllZip is) (walks_at cs ls)
+          (plain_vector_shapes whole shapes ++ plain_vector_shape whole shape.items ∷ []))
+          (sym (mapped_more (λ (ns : _). ns.items) c.args.places.now k ps c.loop-shape-test.true c.shape-item.is))
+          (subst (λ given. AllZip (AllZip is) given
+          (plain_vector_shapes whole shapes ++ plain_vector_shape whole shape.items ∷ []))
+          (sym (map-append (map (walk_at cs)) before (ps.items ∷ [])))
+          (zipped_more (AllZip is) (walks_at cs before) (plain_vector_shapes whole shapes) (map (walk_at cs) ps.items)
+          (plain_vector_shape whole shape.items) c.loop-shape.invariant.0 shown))),
+      reached_on g.D.OverlayEdgeData.writes _ _ _ c.loop-shape.invariant.1 c.in_ok-shape_at.ensures.store,
+    )
 
 pub loop-shape-init : goal.loop-shape-init
 loop-shape-init g c = (search rules, never_written g.D.OverlayEdgeData.writes c.args.store.now)

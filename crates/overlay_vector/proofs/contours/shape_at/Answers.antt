@@ -1,5 +1,6 @@
 -- One contour more stands at one place more.
-use Rattle.std.proofs.Common.{◌≡◌, ◌∷◌, ◌++◌, [], ◌+◌, ◌<◌, map, take, length, get_or, All, sym, ap, ◌∙◌, subst, arith, rules}
+use Rattle.std.proofs.Common.{◌≡◌, ◌∷◌, ◌++◌, [], ◌+◌, ◌<◌, map, take, length, get_or, All, sym, ap, ◌∙◌, subst}
+use Rattle.std.proofs.Common.{arith, rules}
 use Rattle.std.specs.List.{AllZip}
 use Rattle.std.proofs.lemmas.List.{length-map, map-append, take_all, take_more}
 use Rattle.overlay_geom.specs.Edges.{all_ends}
@@ -55,15 +56,17 @@ loop-i-preserved g c =
     (subst (λ ss. is (plain_steps whole ss) (plain_data_vectors whole contour.items))
     (c.deref.ensures.value ∙ ap (λ (y : _). y.steps.items) (sym c.index-contours-place.is))
     c.in_ok-contour.ensures.ok) in (
-    subst (AllZip is (map (walk_at cs) (take (i + 1) c.args.places.now)))
-    (sym (ap (plain_vector_shape whole) c.in_ok-push.ensures.items
-    ∙ map-append (λ (k : _). plain_data_vectors whole k.items) shape (contour ∷ [])))
-    (subst (λ given. AllZip is given (plain_vector_shape whole shape ++ plain_data_vectors whole contour.items ∷ []))
-    (sym (ap (map (walk_at cs)) (take_more c.args.places.now i 0 c.loop-i-test.true)
-    ∙ map-append (walk_at cs) before (place ∷ [])))
-    (zipped_more is (map (walk_at cs) before) (plain_vector_shape whole shape)
-    (walk_at cs place) (plain_data_vectors whole contour.items) c.loop-i.invariant.0 taken)),
-    reached_on g.D.OverlayEdgeData.writes _ _ _ c.loop-i.invariant.1 c.in_ok-contour.ensures.store)
+      subst (AllZip is (map (walk_at cs) (take (i + 1) c.args.places.now)))
+          (sym (ap (plain_vector_shape whole) c.in_ok-push.ensures.items
+          ∙ map-append (λ (k : _). plain_data_vectors whole k.items) shape (contour ∷ [])))
+          (subst (λ given. AllZip is given
+          (plain_vector_shape whole shape ++ plain_data_vectors whole contour.items ∷ []))
+          (sym (ap (map (walk_at cs)) (take_more c.args.places.now i 0 c.loop-i-test.true)
+          ∙ map-append (walk_at cs) before (place ∷ [])))
+          (zipped_more is (map (walk_at cs) before) (plain_vector_shape whole shape)
+          (walk_at cs place) (plain_data_vectors whole contour.items) c.loop-i.invariant.0 taken)),
+      reached_on g.D.OverlayEdgeData.writes _ _ _ c.loop-i.invariant.1 c.in_ok-contour.ensures.store,
+    )
 
 pub returns-clause-shape : goal.returns-clause-shape
 returns-clause-shape g c =
