@@ -130,8 +130,7 @@ def check_options(program, lines, fills, fill_rule, random):
         same = grouped if option else plain
         links = hierarchy[len(same):].splitlines()
         must(hierarchy.startswith(same) and all(it.startswith("link") for it in links), "other shapes")
-        if option:
-            check_links(hierarchy, shapes_of(hierarchy))
+        check_links(hierarchy, shapes_of(hierarchy))
     for again in ("EvenOdd", "NonZero", "Positive"):
         anew = shapes_of(program.answer(lines_of(shapes), f"overlay Subject {again}"))
         must(begun_anew(anew) == begun_anew(shapes), f"its own answer, {again}")
