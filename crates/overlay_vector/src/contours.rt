@@ -32,6 +32,7 @@ use std::alloc::Allocator;
 /// The shapes of which the contours, along edges of the graph, stand at these places. Each step has the filled
 /// sides and the data of its edge, both turned round where it leads from the larger end; unless edges are to be
 /// kept, neighbours are joined. The only refusal is `Memory`.
+#[tactic(auto, using(overlay_arrange::proofs::ReachedStores::never_written))]
 pub(crate) fn assembled<I: IntNumber, D: OverlayEdgeData, A: Allocator + Clone>(
     graph: &Graph<I, CountWithData<D>, A>,
     contours: &[Contour<I, A>],
@@ -56,6 +57,7 @@ pub(crate) fn assembled<I: IntNumber, D: OverlayEdgeData, A: Allocator + Clone>(
 }
 
 // The shape of which the contours stand at these places.
+#[tactic(auto, using(overlay_arrange::proofs::ReachedStores::never_written))]
 fn shape_at<I: IntNumber, D: OverlayEdgeData, A: Allocator + Clone>(
     graph: &Graph<I, CountWithData<D>, A>,
     contours: &[Contour<I, A>],
@@ -100,6 +102,7 @@ fn contour<I: IntNumber, D: OverlayEdgeData, A: Allocator + Clone>(
 }
 
 // The steps of the walk with the filled sides and the data of their edges.
+#[tactic(auto, using(overlay_arrange::proofs::ReachedStores::never_written))]
 fn vectors_along<I: IntNumber, D: OverlayEdgeData, A: Allocator + Clone>(
     graph: &Graph<I, CountWithData<D>, A>,
     walk: &[Step<I>],

@@ -70,6 +70,7 @@ pub fn vector_shapes<I: IntNumber, D: OverlayEdgeData, A: Allocator + Clone>(
 
 /// The shapes that [`vector_shapes`] gives, for a limit of the caller's: where there are `tree_from` shapes or
 /// more their live edges are kept in a tree, and else in a list. The only refusal is `Memory`.
+#[tactic(auto, using(overlay_arrange::proofs::ReachedStores::never_written))]
 pub fn vector_shapes_with_trees_from<I: IntNumber, D: OverlayEdgeData, A: Allocator + Clone>(
     graph: &Graph<I, CountWithData<D>, A>,
     overlay_rule: OverlayRule,

@@ -45,6 +45,7 @@ impl<I: OverlayInt, D: OverlayEdgeData, A: Allocator + Clone> EdgeOverlay<I, D, 
     /// The edges are balanced, as `is_balanced` tells: as many steps of the subject, and of the clip, enter
     /// each point as leave it. A builder that has failed may be asked whatever it holds, and answers `Failed`.
     /// Refusals are those of `build_vectors`.
+    #[tactic(auto, using(overlay_arrange::proofs::ReachedStores::never_written))]
     pub fn build_vector_shapes(
         &mut self,
         overlay_rule: OverlayRule,
@@ -75,6 +76,7 @@ impl<I: OverlayInt, D: OverlayEdgeData, A: Allocator + Clone> EdgeOverlay<I, D, 
     }
 
     // The shapes round the region of the arranged edges. The buffer is there afterwards.
+    #[tactic(auto, using(overlay_arrange::proofs::ReachedStores::never_written))]
     fn extract(
         &mut self,
         overlay_rule: OverlayRule,

@@ -36,6 +36,7 @@ impl<I: OverlayInt, D: OverlayEdgeData, A: Allocator + Clone> EdgeOverlay<I, D, 
     /// meet in points that are no ends of both after 64 rounds; `TooManyEdges` where a round brings the
     /// weight to 2^31; `Memory`. After these three the builder has failed, and what it holds is left
     /// open.
+    #[tactic(auto, using(overlay_arrange::proofs::ReachedStores::never_written))]
     pub fn build_vectors(
         &mut self,
         overlay_rule: OverlayRule,

@@ -6,7 +6,6 @@ use Rattle.overlay_plane.specs.BoundContours.{walks_in, AreShapesFound}
 use Rattle.overlay_plane.specs.KeptContours.{CanBeBound}
 use Rattle.overlay_plane.specs.PlacedContours.{walks_at, CanBePlaced}
 use Rattle.overlay_arrange.specs.Graphs.{graph_edges}
-use Rattle.overlay_arrange.proofs.ReachedStores.{never_written}
 use Rattle.overlay_walk.specs.Asked.{Asked, asked, is_kept, selected_of}
 use Rattle.overlay_walk.specs.GroupedContours.{plain_contours}
 use Rattle.overlay_walk.specs.Steps.{filled_hand, IsLong, RunsAlong}
@@ -85,9 +84,3 @@ returns-clause-shapes g c =
     (walks_at (plain_contours whole ds) (place_lists c.deref-3.result.now)) (plain_vector_shapes whole v.items))
     c.deref-2.ensures.value shown)))
     c.assembled.ensures.shapes
-
-pub returns-in_err-kept_contours-clause-store : goal.returns-in_err-kept_contours-clause-store
-returns-in_err-kept_contours-clause-store g c = never_written g.D.OverlayEdgeData.writes c.args.store.now
-
-pub returns-in_err-places_in_shapes-clause-store : goal.returns-in_err-places_in_shapes-clause-store
-returns-in_err-places_in_shapes-clause-store g c = never_written g.D.OverlayEdgeData.writes c.args.store.now
