@@ -24,7 +24,7 @@ use Rattle.overlay_plane.proofs.Turning.{both_negative}
 use Rattle.overlay_tiles.proofs.Axes.{IsBehind, IsBeyond, of_uprights, of_levels, early_first}
 
 -- a sum of numbers that count only where a test passes is zero where it never does
-none_counted : (test : CountedEdge → Bool) (count : CountedEdge → ℤ) (es : List CountedEdge) →
+pub none_counted : (test : CountedEdge → Bool) (count : CountedEdge → ℤ) (es : List CountedEdge) →
     ((m : CountedEdge) → Contains es m → ¬ (test m ≡ true)) → total (λ m. cond (test m) (count m) (pos 0)) es ≡ pos 0
 none_counted test count es none = total-zero (λ m. cond (test m) (count m) (pos 0)) es
     (λ m at. ap (λ t. cond t (count m) (pos 0)) (false_from_ne_true (test m) (none m at)))

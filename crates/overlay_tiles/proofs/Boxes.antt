@@ -1,8 +1,6 @@
 -- The box of some points and of more of them, one after another; no other box is the box of the same points.
-use Rattle.std.proofs.Common.{◌≡◌, Bool, true, false, cond, ℕ, ℤ, ◌<ℤ◌, ◌≤ℤ◌, int_lt, List, [], ◌∷◌, ◌++◌, map, All, refl, sym}
-use Rattle.std.proofs.Common.{subst, subst₂, ap, ap₂, ◌∙◌, arith, length}
-use Rattle.std.specs.List.{Contains}
-use Rattle.std.specs.Prelude.{Option, Some, None}
+use Rattle.std.proofs.Common.{◌≡◌, Bool, true, false, cond, ℤ, ◌≤ℤ◌, int_lt, List, [], ◌∷◌, ◌++◌, map, All, refl, sym}
+use Rattle.std.proofs.Common.{subst₂, ap₂}
 use Rattle.std.proofs.lemmas.List.{map-append}
 use Rattle.std.proofs.lemmas.List.Elements.{All-nil, All-push, All-weaker, All-contains, Contains-push, Contains-append_left}
 use Rattle.overlay_geom.specs.Plane.{Point}

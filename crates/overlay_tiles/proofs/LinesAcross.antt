@@ -1,6 +1,6 @@
 -- The lines of a grid across a box: they are in the coordinate range where the box is, and which grids fit.
-use Rattle.std.proofs.Common.{◌≡◌, ◌↔◌, inl, inr, ℕ, ℤ, pos, ◌<ℤ◌, ◌≤ℤ◌, List, [], ◌∷◌, ◌++◌, map, All, refl, sym, subst}
-use Rattle.std.proofs.Common.{ap, ap₂, ◌∙◌, arith, flat_map}
+use Rattle.std.proofs.Common.{◌≡◌, ℕ, ℤ, List, [], ◌∷◌, ◌++◌, map, All, refl, subst}
+use Rattle.std.proofs.Common.{ap, ap₂, ◌∙◌, arith}
 use Rattle.std.specs.Prelude.{Option, Some, None, IfSome}
 use Rattle.std.proofs.lemmas.List.Elements.{All-nil, All-cons, All-append, All-head, All-tail, All-map, All-weaker}
 use Rattle.std.proofs.lemmas.List.Elements.{All-contains}
@@ -8,9 +8,9 @@ use Rattle.overlay_geom.specs.Numbers.{Within}
 use Rattle.overlay_geom.specs.Plane.{Point}
 use Rattle.overlay_geom.specs.Points.{InRange, AllInRange}
 use Rattle.overlay_geom.proofs.Signs.{linear}
-use Rattle.overlay_tiles.specs.Grids.{IsGridPlace, AreGridPlaces, AreFewPlaces, AreGridLines, upright, level}
+use Rattle.overlay_tiles.specs.Grids.{IsGridPlace, AreGridPlaces, AreFewPlaces, upright, level}
 use Rattle.overlay_tiles.specs.Grids.{IsGridStep, FitsGrid, HasFewLines}
-use Rattle.overlay_tiles.specs.Spans.{Span, Bounds, IsSpanOf, IsBoxOf, IsBoxFound, AreBoundsInRange, plain_bounds}
+use Rattle.overlay_tiles.specs.Spans.{Span, Bounds, IsBoxOf, IsBoxFound, AreBoundsInRange, plain_bounds}
 use Rattle.overlay_tiles.specs.Spans.{points_of_paths}
 use Rattle.overlay_tiles.specs.declared.span.IntBounds.{IntBounds}
 use Rattle.overlay_tiles.proofs.Boxes.{one_span}

@@ -1,12 +1,10 @@
 -- Multiples of a step: what they leave of a number, and which one is the next above it.
-use Rattle.std.proofs.Common.{◌≡◌, ℤ, pos, negsuc, neg_ℤ, ◌+ℤ◌, ◌-ℤ◌, ◌*ℤ◌, ◌<ℤ◌, ◌≤ℤ◌, sym, ◌∙◌, ap, subst, arith}
-use Rattle.std.proofs.lemmas.Int.{by_lt_z, ints}
+use Rattle.std.proofs.Common.{◌≡◌, ℤ, pos, neg_ℤ, ◌+ℤ◌, ◌-ℤ◌, ◌*ℤ◌, ◌<ℤ◌, ◌≤ℤ◌, ◌∙◌, ap}
+use Rattle.std.proofs.lemmas.Int.{by_lt_z}
 use Rattle.std.specs.Prelude.{Option, Some, None}
 use Rattle.overlay_geom.proofs.Identities.{solve, number, ◌⊕◌, ◌⊗◌, ◌⊖◌, ⊝◌, ◌≗◌}
-use Rattle.overlay_geom.proofs.Products.{mul-add}
 use Rattle.overlay_geom.proofs.Signs.{linear, mul-le, lt_of_mul-lt}
-use Rattle.overlay_tiles.specs.Grids.{IsGridPlace}
-use Rattle.overlay_tiles.specs.Multiples.{IsRemainder, IsWayToNext, IsPlaceAfter, IsLeastPlace, IsFirstPlace}
+use Rattle.overlay_tiles.specs.Multiples.{IsRemainder, IsWayToNext, IsPlaceAfter, IsFirstPlace}
 use Rattle.overlay_tiles.specs.Spans.{Span}
 
 -- ---- what is left of a number

@@ -57,22 +57,21 @@ module _ (w : ℤ) (some : pos 0 <ℤ w) where
   floor (negsuc n) = floor_below n
 
   -- each number lies on one side of each place, and within the span
-  module _ (s : Span) (z : ℤ) (zs : List ℤ) (within : All (IsIn s) (z ∷ zs))
-      (sides : (c : ℤ) → IsGridPlace w s c →
-      All (λ y. c ≤ℤ y) (z ∷ zs) ⊎ All (λ y. y ≤ℤ c) (z ∷ zs)) where
+  module _ {X : Type 0} (f : X → ℤ) (s : Span) (x : X) (xs : List X) (within : All (λ y. IsIn s (f y)) (x ∷ xs))
+      (sides : (c : ℤ) → IsGridPlace w s c → All (λ y. c ≤ℤ f y) (x ∷ xs) ⊎ All (λ y. f y ≤ℤ c) (x ∷ xs)) where
     -- so on one side of each multiple
-    side_of : (m : ℤ) → All (λ y. (m *ℤ w) ≤ℤ y) (z ∷ zs) ⊎ All (λ y. y ≤ℤ (m *ℤ w)) (z ∷ zs)
+    side_of : (m : ℤ) → All (λ y. (m *ℤ w) ≤ℤ f y) (x ∷ xs) ⊎ All (λ y. f y ≤ℤ (m *ℤ w)) (x ∷ xs)
     side_of m = by_lt_z s.least (m *ℤ w)
         (λ above. by_lt_z (m *ℤ w) s.greatest
         (λ below. sides (m *ℤ w) (record { multiple = m; is = refl; above = above; below = below }))
-        (λ ge. inr (All-weaker (IsIn s) (λ y. y ≤ℤ (m *ℤ w)) (λ y here. let high = here.high in omega linear)
-        (z ∷ zs) within)))
-        (λ le. inl (All-weaker (IsIn s) (λ y. (m *ℤ w) ≤ℤ y) (λ y here. let low = here.low in omega linear)
-        (z ∷ zs) within))
+        (λ ge. inr (All-weaker (λ y. IsIn s (f y)) (λ y. f y ≤ℤ (m *ℤ w)) (λ y here. let high = here.high in omega linear)
+        (x ∷ xs) within)))
+        (λ le. inl (All-weaker (λ y. IsIn s (f y)) (λ y. (m *ℤ w) ≤ℤ f y) (λ y here. let low = here.low in omega linear)
+        (x ∷ xs) within))
 
     -- all of them in the strip
-    in_strip : (m : ℤ) → All (λ y. (m *ℤ w) ≤ℤ y) (z ∷ zs) → All (λ y. y ≤ℤ ((m +ℤ pos 1) *ℤ w)) (z ∷ zs) →
-        All (λ y. IsInStrip w m y (pos 1)) (z ∷ zs)
+    in_strip : (m : ℤ) → All (λ y. (m *ℤ w) ≤ℤ f y) (x ∷ xs) → All (λ y. f y ≤ℤ ((m +ℤ pos 1) *ℤ w)) (x ∷ xs) →
+        All (λ y. IsInStrip w m (f y) (pos 1)) (x ∷ xs)
     in_strip m low high k d lt =
         let from = low k d lt in
         let to = high k d lt in
@@ -80,31 +79,31 @@ module _ (w : ℤ) (some : pos 0 <ℤ w) where
         let next = solve 2 (λ m w. (m ⊕ number (pos 1)) ⊗ w ⊗ number (pos 1) ≗ (m ⊕ number (pos 1)) ⊗ w) tt m w in
         record { low = omega linear; high = omega linear }
 
-    pub lie_in_one_strip : (m : ℤ) × All (λ y. IsInStrip w m y (pos 1)) (z ∷ zs)
+    pub lie_in_one_strip : (m : ℤ) × All (λ y. IsInStrip w m (f y) (pos 1)) (x ∷ xs)
     lie_in_one_strip = ⊎_elim
-        (λ above. absurd (let f = floor z in let high = f.high in
-        let here = All-head (λ y. ((f.multiple +ℤ pos 1) *ℤ w) ≤ℤ y) z zs above in omega linear))
-        upper (side_of ((floor z).multiple +ℤ pos 1))
+        (λ above. absurd (let last = floor (f x) in let high = last.high in
+        let here = All-head (λ y. ((last.multiple +ℤ pos 1) *ℤ w) ≤ℤ f y) x xs above in omega linear))
+        upper (side_of ((floor (f x)).multiple +ℤ pos 1))
       where
         m : ℤ
-        m = (floor z).multiple
+        m = (floor (f x)).multiple
 
         -- where all lie up to the next multiple
-        upper : All (λ y. y ≤ℤ ((m +ℤ pos 1) *ℤ w)) (z ∷ zs) → (m : ℤ) × All (λ y. IsInStrip w m y (pos 1)) (z ∷ zs)
+        upper : All (λ y. f y ≤ℤ ((m +ℤ pos 1) *ℤ w)) (x ∷ xs) → (m : ℤ) × All (λ y. IsInStrip w m (f y) (pos 1)) (x ∷ xs)
         upper below = ⊎_elim (λ above. (m, in_strip m above below)) (λ on_it. lower on_it (side_of (m -ℤ pos 1)))
             (side_of m)
           where
-            lower : All (λ y. y ≤ℤ (m *ℤ w)) (z ∷ zs) →
-                All (λ y. ((m -ℤ pos 1) *ℤ w) ≤ℤ y) (z ∷ zs) ⊎ All (λ y. y ≤ℤ ((m -ℤ pos 1) *ℤ w)) (z ∷ zs) →
-                (m : ℤ) × All (λ y. IsInStrip w m y (pos 1)) (z ∷ zs)
+            lower : All (λ y. f y ≤ℤ (m *ℤ w)) (x ∷ xs) →
+                All (λ y. ((m -ℤ pos 1) *ℤ w) ≤ℤ f y) (x ∷ xs) ⊎ All (λ y. f y ≤ℤ ((m -ℤ pos 1) *ℤ w)) (x ∷ xs) →
+                (m : ℤ) × All (λ y. IsInStrip w m (f y) (pos 1)) (x ∷ xs)
             lower on_it (inl above) = (
               m -ℤ pos 1,
               in_strip (m -ℤ pos 1) above
-                  (subst (λ (k : ℤ). All (λ y. y ≤ℤ (k *ℤ w)) (z ∷ zs)) (omega linear) on_it),
+                  (subst (λ (k : ℤ). All (λ y. f y ≤ℤ (k *ℤ w)) (x ∷ xs)) (omega linear) on_it),
             )
             lower on_it (inr under) =
-                let f = floor z in
-                let low = f.low in
+                let last = floor (f x) in
+                let low = last.low in
                 let before = before_is m in
-                let here = All-head (λ y. y ≤ℤ ((m -ℤ pos 1) *ℤ w)) z zs under in
+                let here = All-head (λ y. f y ≤ℤ ((m -ℤ pos 1) *ℤ w)) x xs under in
                 absurd (omega linear)
