@@ -6,7 +6,7 @@ from pathlib import Path
 
 CRATES = Path("crates.txt")
 PARTS = ("src", "specs")
-LINE = re.compile(r"(\w+):((?: +\w+)*) *")
+LINE = re.compile(r"(\w+)(?: staticlib)?:((?: +\w+)*) *")
 
 
 def lines_in(file: Path) -> dict[str, list[str]]:

@@ -1,0 +1,98 @@
+//! Contours and points from arrays.
+
+ghost use Rattle.std.specs.Prelude.{◌≡◌, All, IfOk, MatchResult, IsOkUnless};
+ghost use Rattle.overlay_geom.specs.Flat.{paths_in};
+ghost use Rattle.overlay_geom.specs.Points.{plain_points, AllInRange};
+ghost use Rattle.polyover_arrays.specs.Arrays.{points_of, ranges_from};
+ghost use Rattle.polyover_arrays.specs.Reading.{AreContours, ArePoints, contours_at, HaveFault, PointsHaveFault};
+
+use crate::fault::Fault;
+use crate::test::{are_ends, are_within};
+use overlay_geom::flat::contours::FlatContoursBuffer;
+use overlay_geom::number::IntNumber;
+use overlay_geom::point::IntPoint;
+use std::alloc::Allocator;
+use std::ops::Range;
+
+/// The contours of the coordinates, one up to each end. They are tested first: `Ends` comes exactly where they do not
+/// fit, `Range` exactly where they fit and a coordinate is out of range; `Memory` else.
+pub fn read_contours<I: IntNumber, A: Allocator + Copy>(
+    alloc: A,
+    coordinates: &[I],
+    ends: &[usize],
+) -> Result<FlatContoursBuffer<I, A>, Fault>
+    ensures read { MatchResult result
+        (λ b. AreContours I.whole I.limit coordinates.now ends.now)
+        (HaveFault I.whole I.limit coordinates.now ends.now) }
+    ensures contours { IfOk result (λ b. paths_in I.whole b.points.items b.ranges.items
+        ≡ contours_at I.whole coordinates.now ends.now) }
+    ensures in_range { IfOk result (λ b. All (AllInRange I.limit) (paths_in I.whole b.points.items b.ranges.items)) }
+{
+    if !are_ends(ends, coordinates.len()) {
+        return Err(Fault::Ends);
+    }
+    if !are_within(coordinates) {
+        return Err(Fault::Range);
+    }
+    let points = points_of(alloc, coordinates)?;
+    let ranges = ranges_of(alloc, ends)?;
+    Ok(FlatContoursBuffer { points, ranges })
+}
+
+/// The points of the coordinates. They are tested first: `Ends` comes exactly where they are an odd count, `Range`
+/// exactly where they are an even one and a coordinate is out of range; `Memory` else.
+pub fn read_points<I: IntNumber, A: Allocator>(
+    alloc: A,
+    coordinates: &[I],
+) -> Result<Vec<IntPoint<I>, A>, Fault>
+    ensures read { MatchResult result
+        (λ v. ArePoints I.whole I.limit coordinates.now)
+        (PointsHaveFault I.whole I.limit coordinates.now) }
+    ensures points { IfOk result (λ v. v.items ≡ points_of coordinates.now) }
+    ensures in_range { IfOk result (λ v. AllInRange I.limit (plain_points I.whole v.items)) }
+{
+    if coordinates.len() % 2 != 0 {
+        return Err(Fault::Ends);
+    }
+    if !are_within(coordinates) {
+        return Err(Fault::Range);
+    }
+    let points = points_of(alloc, coordinates)?;
+    Ok(points)
+}
+
+// The points of the coordinates, each x followed by its y.
+fn points_of<I: IntNumber, A: Allocator>(
+    alloc: A,
+    coordinates: &[I],
+) -> Result<Vec<IntPoint<I>, A>, Fault>
+    ensures points { IfOk result (λ v. v.items ≡ points_of coordinates.now) }
+    ensures only { IsOkUnless result Fault.Memory }
+{
+    let mut points = Vec::new(alloc);
+    let mut before = None;
+    for coordinate in coordinates {
+        match before {
+            None => before = Some(*coordinate),
+            Some(x) => {
+                points.push(IntPoint { x, y: *coordinate })?;
+                before = None;
+            }
+        }
+    }
+    Ok(points)
+}
+
+// The ranges of the contours, each from the end before it to its own.
+fn ranges_of<A: Allocator>(alloc: A, ends: &[usize]) -> Result<Vec<Range<usize>, A>, Fault>
+    ensures ranges { IfOk result (λ v. v.items ≡ ranges_from 0 ends.now) }
+    ensures only { IsOkUnless result Fault.Memory }
+{
+    let mut ranges = Vec::new(alloc);
+    let mut from = 0;
+    for end in ends {
+        ranges.push(from..*end)?;
+        from = *end;
+    }
+    Ok(ranges)
+}
