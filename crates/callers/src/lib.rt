@@ -11,6 +11,7 @@ pub mod contours_left;
 pub mod cut_shape;
 pub mod located_points;
 pub mod numbered_edges;
+pub mod parcels;
 pub mod roads;
 pub mod settled_contour;
 pub mod simple_contours;
