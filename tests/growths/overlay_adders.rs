@@ -18,12 +18,15 @@ impl<'m, I: Width> Seen for Overlay<I, Memory<'m>> {
     }
 }
 
+// Room for a square, and for two edges of another one: a growth is refused halfway.
+const ROOM: usize = 6;
+
 /// A builder with a square as subject, and the first ones of the resources as clips.
 pub(crate) fn builder<I: Width>(
     memory: Memory<'_>,
     count: usize,
 ) -> Answer<Overlay<I, Memory<'_>>> {
-    let mut overlay = Overlay::new(memory, 0)?;
+    let mut overlay = Overlay::new(memory, ROOM)?;
     overlay.add_contour(&square(0, 2), ShapeType::Subject)?;
     for place in 0..count {
         overlay.add_contour(&square_at(place), ShapeType::Clip)?;

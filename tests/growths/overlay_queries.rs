@@ -130,6 +130,7 @@ fn check_overlay_into<I: Width>(trial: &Trial<'_, impl Abort>) -> Result<(), Fai
     let new = || Ok((overlapping::<I>(memory)?, flat_squares::<I>(memory)?));
     let (mut overlay, mut wanted) = new()?;
     overlay.overlay_into(UNION, RULE, &mut wanted)?;
+    assert!(trial.rt; !is_empty(&wanted));
     trial.refuse_each(
         "Overlay::overlay_into",
         new,

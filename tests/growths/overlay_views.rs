@@ -58,6 +58,7 @@ fn check_contours_into<'m, I: Width>(
     let new = || Ok((used::<I>(memory)?, flat_squares::<I>(memory)?));
     let (mut buffer, mut wanted) = new()?;
     view.extract_contours_into(UNION, &mut buffer, &mut wanted)?;
+    assert!(trial.rt; !is_empty(&wanted));
     trial.refuse_each(
         "OverlayGraph::extract_contours_into",
         new,

@@ -61,9 +61,12 @@ fn lone_clips<I: Width>(memory: Memory<'_>) -> Answer<IntShapes<I, Memory<'_>>> 
     Ok(shapes)
 }
 
+// Room for the subject, and for two edges of a clip: a growth is refused halfway.
+const ROOM: usize = 6;
+
 // A builder with the subject and the first clips.
 fn builder<I: Width>(memory: Memory<'_>, count: usize) -> Answer<Built<'_, I>> {
-    let mut overlay = PredicateOverlay::new(memory, 0)?;
+    let mut overlay = PredicateOverlay::new(memory, ROOM)?;
     overlay.add_contour(&subject(), ShapeType::Subject)?;
     for place in 0..count {
         overlay.add_contour(&clip_at(place), CLIP)?;

@@ -96,7 +96,8 @@ fn adds_all<'m, I: Width, C: Fn(&mut Built<'m, I>) -> Answer<()> + Drop>(
 
 fn check_contours<I: Width>(trial: &Trial<'_, impl Abort>) -> Result<(), Fail> {
     let memory = trial.memory;
-    let new = || builder::<I>(memory, 0, 0);
+    // (there is room for two edges of a contour)
+    let new = || roomy::<I>(memory, 6);
     let more = square_at::<I>(0);
     trial.adds_or_keeps("StringOverlay::add_shape_contour", new, |it| {
         it.add_shape_contour(&more)
@@ -138,7 +139,9 @@ fn check_strings<I: Width>(trial: &Trial<'_, impl Abort>) -> Result<(), Fail> {
         new,
         |it| it.add_string_path(&line),
     )?;
-    trial.adds_or_keeps("StringOverlay::add_string_contour", new, |it| {
+    // (there is room for one of its two edges)
+    let half = || roomy::<I>(memory, 5);
+    trial.adds_or_keeps("StringOverlay::add_string_contour", half, |it| {
         it.add_string_contour(&line)
     })?;
     adds_all::<I, _>(trial, "StringOverlay::add_string_lines", true, |it| {
