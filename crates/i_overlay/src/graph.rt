@@ -12,7 +12,7 @@ ghost use Rattle.overlay_extract.specs.PlacedResults.{IsHierarchy};
 ghost use Rattle.overlay_extract.specs.Results.{IsResult, IsContoursResult};
 ghost use Rattle.overlay_vector.specs.DataVectors.{graph_vectors, plain_data_vectors};
 ghost use Rattle.overlay_vector.specs.VectorShapes.{plain_vector_shapes, AreVectorShapes};
-ghost use Rattle.i_overlay.specs.Views.{asked_of, view_edges};
+ghost use Rattle.i_overlay.specs.Views.{asked_of, viewed_edges};
 
 use crate::viewed_graph::ViewedGraph;
 use overlay_arrange::data::{CountWithData, OverlayEdgeData};
@@ -29,7 +29,6 @@ use overlay_vector::path::DataVectorShape;
 use overlay_vector::vector_shapes::vector_shapes;
 use overlay_walk::buffer::BooleanExtractionBuffer;
 use std::alloc::Allocator;
-use std::marker::Model;
 
 /// A view of what a builder holds: the edges of its arrangement, with their filled sides under one fill
 /// rule. It is made by `Overlay::build_graph_view`, and borrows the builder; it can be asked as often as
@@ -37,15 +36,6 @@ use std::marker::Model;
 #[derive(Drop)]
 pub struct OverlayGraph<'a, I: OverlayInt, D: OverlayEdgeData, A: Allocator> {
     pub(crate) viewed: &'a ViewedGraph<I, CountWithData<D>, A>,
-}
-
-impl<'a, I: OverlayInt, D: OverlayEdgeData, A: Allocator> Model for OverlayGraph<'a, I, D, A> {
-    ghost use Rattle.overlay_arrange.specs.declared.data.CountWithData.{CountWithData};
-    ghost use Rattle.i_overlay.specs.Views.{View, view_of};
-
-    ghost Value = { View (CountWithData D) };
-
-    ghost view = { λ g. view_of I.Wide.width I.WideUInt.natural g.viewed.now };
 }
 
 impl<I: OverlayInt, A: Allocator + Clone> OverlayGraph<'_, I, (), A> {
@@ -58,7 +48,8 @@ impl<I: OverlayInt, A: Allocator + Clone> OverlayGraph<'_, I, (), A> {
         buffer: &mut BooleanExtractionBuffer<I, A>,
     ) -> Result<IntShapes<I, A>, OverlayError>
         ensures result { IfOk result (λ v.
-            IsResult (asked_of self.now overlay_rule) (view_edges self.now) (plain_shapes I.whole v.items)) }
+            IsResult (asked_of I.Wide.width I.WideUInt.natural self.now.viewed.now overlay_rule)
+            (viewed_edges self.now.viewed.now) (plain_shapes I.whole v.items)) }
         ensures err { IsOkUnless result OverlayError.Memory }
     {
         let options = self.viewed.options();
@@ -73,7 +64,9 @@ impl<I: OverlayInt, A: Allocator + Clone> OverlayGraph<'_, I, (), A> {
         overlay_rule: OverlayRule,
         buffer: &mut BooleanExtractionBuffer<I, A>,
     ) -> Result<FlatShapeHierarchy<I, A>, OverlayError>
-        ensures hierarchy { IfOk result (λ h. IsHierarchy (asked_of self.now overlay_rule) (view_edges self.now)
+        ensures hierarchy { IfOk result (λ h. IsHierarchy
+            (asked_of I.Wide.width I.WideUInt.natural self.now.viewed.now overlay_rule)
+            (viewed_edges self.now.viewed.now)
             (shapes_in I.whole h.shapes.points.items h.shapes.contour_ranges.items h.shapes.shape_ranges.items)
             (map plain_link h.links.items)) }
         ensures packed { IfOk result
@@ -93,7 +86,9 @@ impl<I: OverlayInt, A: Allocator + Clone> OverlayGraph<'_, I, (), A> {
         buffer: &mut BooleanExtractionBuffer<I, A>,
         output: &mut FlatContoursBuffer<I, B>,
     ) -> Result<(), OverlayError>
-        ensures result { OnOk result (IsContoursResult (asked_of self.now overlay_rule) (view_edges self.now)
+        ensures result { OnOk result (IsContoursResult
+            (asked_of I.Wide.width I.WideUInt.natural self.now.viewed.now overlay_rule)
+            (viewed_edges self.now.viewed.now)
             (paths_in I.whole output.new.points.items output.new.ranges.items)) }
         ensures packed { OnOk result (IsPacked output.new.points.items output.new.ranges.items) }
         ensures no_points { OnErr result (output.new.points.items ≡ []) }
@@ -117,8 +112,9 @@ impl<I: OverlayInt, D: OverlayEdgeData, A: Allocator + Clone> OverlayGraph<'_, I
         overlay_rule: OverlayRule,
         buffer: &mut BooleanExtractionBuffer<I, A>,
     ) -> Result<Vec<DataVectorShape<I, D, A>, A>, OverlayError>
-        ensures shapes { IfOk result (λ v. AreVectorShapes D.reverses D.eq (asked_of self.now overlay_rule)
-            self.now.graph.edges (plain_vector_shapes I.whole v.items)) }
+        ensures shapes { IfOk result (λ v. AreVectorShapes D.reverses D.eq
+            (asked_of I.Wide.width I.WideUInt.natural self.now.viewed.now overlay_rule)
+            self.now.viewed.now.graph.edges (plain_vector_shapes I.whole v.items)) }
         ensures err { IsOkUnless result OverlayError.Memory }
     {
         self.extract_vector_shapes_with_store(overlay_rule, buffer, &mut D::Store::default())
@@ -132,8 +128,9 @@ impl<I: OverlayInt, D: OverlayEdgeData, A: Allocator + Clone> OverlayGraph<'_, I
         buffer: &mut BooleanExtractionBuffer<I, A>,
         store: &mut D::Store,
     ) -> Result<Vec<DataVectorShape<I, D, A>, A>, OverlayError>
-        ensures shapes { IfOk result (λ v. AreVectorShapes D.reverses D.eq (asked_of self.now overlay_rule)
-            self.now.graph.edges (plain_vector_shapes I.whole v.items)) }
+        ensures shapes { IfOk result (λ v. AreVectorShapes D.reverses D.eq
+            (asked_of I.Wide.width I.WideUInt.natural self.now.viewed.now overlay_rule)
+            self.now.viewed.now.graph.edges (plain_vector_shapes I.whole v.items)) }
         ensures store { IsStoreReached D.writes store.old store.new }
         ensures err { IsOkUnless result OverlayError.Memory }
     {
@@ -145,8 +142,8 @@ impl<I: OverlayInt, D: OverlayEdgeData, A: Allocator + Clone> OverlayGraph<'_, I
     /// `Overlay::build_separate_vectors` gives them. The only refusal is `Memory`.
     pub fn extract_separate_vectors(&self) -> Result<Vec<DataVectorEdge<I, ()>, A>, OverlayError>
         ensures listed { IfOk result (λ v. map (plain_vector I.whole) v.items
-            ≡ map (vector_of self.now.graph.fill_rule (view_edges self.now))
-            (view_edges self.now)) }
+            ≡ map (vector_of self.now.viewed.now.graph.fill_rule (viewed_edges self.now.viewed.now))
+            (viewed_edges self.now.viewed.now)) }
         ensures err { IsOkUnless result OverlayError.Memory }
     {
         self.viewed.graph().separate_vectors()
@@ -156,7 +153,7 @@ impl<I: OverlayInt, D: OverlayEdgeData, A: Allocator + Clone> OverlayGraph<'_, I
     /// only refusal is `Memory`.
     pub fn extract_vectors(&self) -> Result<Vec<DataVectorEdge<I, D>, A>, OverlayError>
         ensures listed { IfOk result (λ v. plain_data_vectors I.whole v.items
-            ≡ graph_vectors self.now.graph.fill_rule self.now.graph.edges) }
+            ≡ graph_vectors self.now.viewed.now.graph.fill_rule self.now.viewed.now.graph.edges) }
         ensures err { IsOkUnless result OverlayError.Memory }
     {
         self.extract_vectors_with_store(&mut D::Store::default())
@@ -170,7 +167,7 @@ impl<I: OverlayInt, D: OverlayEdgeData, A: Allocator + Clone> OverlayGraph<'_, I
         store: &mut D::Store,
     ) -> Result<Vec<DataVectorEdge<I, D>, A>, OverlayError>
         ensures listed { IfOk result (λ v. plain_data_vectors I.whole v.items
-            ≡ graph_vectors self.now.graph.fill_rule self.now.graph.edges) }
+            ≡ graph_vectors self.now.viewed.now.graph.fill_rule self.now.viewed.now.graph.edges) }
         ensures untouched { store.new ≡ store.old }
         ensures err { IsOkUnless result OverlayError.Memory }
     {

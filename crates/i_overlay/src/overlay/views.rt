@@ -4,9 +4,8 @@ ghost use Rattle.std.specs.Prelude.{◌≡◌, IfOk, IfSome};
 ghost use Rattle.std.specs.Borrow.{sem};
 ghost use Rattle.std.specs.Io.BufRead.{Rests};
 ghost use Rattle.overlay_arrange.specs.Arranged.{IsArranged, most_rounds};
-ghost use Rattle.overlay_arrange.specs.Graphs.{graph_edges};
 ghost use Rattle.overlay_builder.specs.Held.{shown_edges};
-ghost use Rattle.i_overlay.specs.Views.{IsView, EndsViewed, view_edges};
+ghost use Rattle.i_overlay.specs.Views.{IsView, EndsViewed, viewed_edges};
 ghost use Rattle.i_overlay.specs.contracts.overlay.Overlay.{the_row};
 ghost use Rattle.i_overlay.specs.Queries.{BuilderAnswers};
 
@@ -31,13 +30,13 @@ impl<I: OverlayInt, A: Allocator + Clone> Overlay<I, A> {
         fill_rule: FillRule,
     ) -> Result<Option<OverlayGraph<'_, I, (), A>>, OverlayError>
         ensures arranged { IfOk result
-            (λ o. IsArranged most_rounds self.old.edges (shown_edges view_edges o)) }
-        ensures view { IfOk result (λ o. IfSome o (IsView I.Wide.width I.WideUInt.natural most_rounds fill_rule
-            self.old.options self.old.edges)) }
+            (λ o. IsArranged most_rounds self.old.edges (shown_edges (λ v. viewed_edges v.viewed.now) o)) }
+        ensures view { IfOk result (λ o. IfSome o
+            (λ v. IsView most_rounds fill_rule self.old.options self.old.edges v.viewed.now)) }
         ensures* after { sem 𝓛 (Rests
             (the_row I.row A.row I.Wide.row I.WideUInt.row I.IntNumber I.Wide.WideIntNumber I.WideUInt.UIntNumber
             A.Allocator)
-            self.entry (λ new. EndsViewed I.limit most_rounds self.old new result)) }
+            self.entry (λ new. EndsViewed I.limit most_rounds (λ v. viewed_edges v.viewed.now) self.old new result)) }
     {
         let viewed = self.arranged_graph(fill_rule)?;
         let has_edges = !viewed.graph().edges().is_empty();
@@ -54,7 +53,7 @@ impl<I: OverlayInt, A: Allocator + Clone> Overlay<I, A> {
         fill_rule: FillRule,
     ) -> Result<ViewedGraph<I, CountWithData<()>, A>, OverlayError>
         ensures answers { BuilderAnswers I.limit self.old self.new result }
-        ensures edges { IfOk result (λ v. graph_edges v.graph ≡ self.new.edges) }
+        ensures edges { IfOk result (λ v. viewed_edges v ≡ self.new.edges) }
         ensures rule { IfOk result (λ v. v.graph.fill_rule ≡ fill_rule) }
         ensures options { IfOk result (λ v. v.options ≡ self.old.options) }
     {

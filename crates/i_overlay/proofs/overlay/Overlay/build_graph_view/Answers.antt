@@ -2,8 +2,8 @@
 use Rattle.std.proofs.Common.{◌≡◌, IfSome, true, [], refl, sym, ap, subst, ◌∙◌}
 use Rattle.overlay_plane.specs.Carried.{edges_in}
 use Rattle.overlay_arrange.specs.Arranged.{IsArranged, most_rounds}
-use Rattle.overlay_arrange.specs.Graphs.{carried_vector, graph_edges}
-use Rattle.i_overlay.specs.Views.{IsView, view_of, view_edges}
+use Rattle.overlay_arrange.specs.Graphs.{carried_vector}
+use Rattle.i_overlay.specs.Views.{IsView, viewed_edges}
 use Rattle.i_overlay.proofs.Views.{some_read, none_read, is_view, ends_viewed}
 use Rattle.i_overlay.proofs.overlay.Overlay.build_graph_view.Goals.{in_default-via-in-Some+else-has_edges}
 use Rattle.i_overlay.proofs.overlay.Overlay.build_graph_view.Goals.{in_default-via-in_default}
@@ -15,36 +15,29 @@ returns-in-Some g c =
     let new = c.arranged_graph.new.self in
     let made = c.in_ok-viewed.ensures in
     let seen = c.in_ok-viewed.viewed in
-    let width = g.I.Wide.WideIntNumber.width in
-    let natural = g.I.WideUInt.UIntNumber.natural in
-    let view = is_view width natural limit most_rounds c.args.self.now new seen made.answers.query made.edges
-    c.args.fill_rule
+    let view = is_view limit most_rounds c.args.self.now new seen made.answers.query made.edges c.args.fill_rule
     (some_read (carried_vector g.I.IntNumber.whole _) c.edges.result.now seen.graph.edges
     (c.edges.ensures.carried ∙ ap (λ k. k.edges) c.graph.ensures.graph) (sym c.is_empty-has_edges.ensures
     ∙ c.if-has_edges.true))
     made.rule made.options in
-    let seen_is = subst (λ o. IfSome o (λ v. graph_edges v.graph ≡ new.edges)) c.in-Some.is made.edges in (
+    let seen_is = subst (λ o. IfSome o (λ v. viewed_edges v ≡ new.edges)) c.in-Some.is made.edges in (
       (
         refl,
         (λ _. tt),
-        ends_viewed width natural limit most_rounds c.args.self.now new seen made.answers.query made.edges
-            c.self.view_is
+        ends_viewed limit most_rounds c.args.self.now new seen made.answers.query made.edges c.self.view_is
             seen_is made.answers.kept,
       ),
       record {
-        arranged = subst (λ o. IfSome o (λ v. IsArranged most_rounds c.args.self.now.edges
-            (graph_edges v.graph))) c.in-Some.is
+        arranged = subst (λ o. IfSome o (λ v. IsArranged most_rounds c.args.self.now.edges (viewed_edges v))) c.in-Some.is
             view.arranged;
-        view = subst (λ o. IfSome o (λ v. IsView width natural most_rounds c.args.fill_rule c.args.self.now.options
-            c.args.self.now.edges (view_of width natural v))) c.in-Some.is view;
+        view = subst (λ o. IfSome o (IsView most_rounds c.args.fill_rule c.args.self.now.options c.args.self.now.edges))
+            c.in-Some.is view;
         after = tt;
       },
     )
 
 pub returns-in_default : goal.returns-in_default
 returns-in_default g c =
-    let width = g.I.Wide.WideIntNumber.width in
-    let natural = g.I.WideUInt.UIntNumber.natural in
     let limit = g.I.IntNumber.limit in
     let new = c.arranged_graph.new.self in
     let made = c.in_ok-viewed.ensures in
@@ -59,8 +52,7 @@ returns-in_default g c =
       (
         refl,
         (λ _. tt),
-        ends_viewed width natural limit most_rounds c.args.self.now new seen made.answers.query made.edges
-            c.self.view_is
+        ends_viewed limit most_rounds c.args.self.now new seen made.answers.query made.edges c.self.view_is
             (sym none) made.answers.kept,
       ),
       record {
