@@ -2,9 +2,11 @@ pub mod AscendingLists
 pub mod Axes
 pub mod Borders
 pub mod Boxes
+pub mod ContentOfPaths
 pub mod CoveredByGrid
 pub mod CoveredLines
 pub mod FrontPlaces
+pub mod InBounds
 pub mod InOneCell
 pub mod LinesAcross
 pub mod LinesByChains
@@ -16,4 +18,5 @@ pub mod OneSideOfLines
 pub mod PointsOnSteps
 pub mod StaysBeyond
 pub mod Strips
+pub mod TilesInCells
 pub mod TilesRefused

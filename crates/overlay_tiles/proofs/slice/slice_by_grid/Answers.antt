@@ -14,11 +14,11 @@ use Rattle.overlay_tiles.proofs.TilesRefused.{tiles_refused}
 use Rattle.overlay_tiles.proofs.slice.slice_by_grid.Goals as goal
 
 pub slice_by_lines-requires : goal.slice_by_lines-requires
-slice_by_lines-requires g c = record {
-  self_in_range = c.requires.in_range;
-  lines_in_range = subst (λ ls. All (AllInRange g.I.IntNumber.limit) (paths_of_lines g.I.IntNumber.whole ls))
-      (sym c.deref.ensures.value) c.in_ok-lines.ensures.in_range;
-}
+slice_by_lines-requires g c = (
+  c.requires.in_range,
+  subst (λ ls. All (AllInRange g.I.IntNumber.limit) (paths_of_lines g.I.IntNumber.whole ls))
+      (sym c.deref.ensures.value) c.in_ok-lines.ensures.in_range,
+)
 
 pub returns-clause-sliced : goal.returns-clause-sliced
 returns-clause-sliced g c =
