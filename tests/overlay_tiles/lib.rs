@@ -1,5 +1,4 @@
-//! Tests of `overlay_tiles`: which grids fit, and into which tiles they cut shapes.
+//! Tests of `overlay_tiles`: which grids fit.
 
 mod fits;
 mod points;
-mod tiles;

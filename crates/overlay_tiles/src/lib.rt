@@ -1,8 +1,7 @@
-//! Grids, their lines across the box of a shape, and shapes sliced along them.
+//! Grids, and their lines across the box of a shape.
 #![tactic(auto)]
 
 pub mod grid;
 pub mod lines;
 pub mod places;
-pub mod slice;
 pub mod span;
