@@ -1,7 +1,8 @@
-//! Grids, and their lines across the box of a shape.
+//! Grids, their lines across the box of a shape, and shapes sliced along them.
 #![tactic(auto)]
 
 pub mod grid;
 pub mod lines;
 pub mod places;
+pub mod slice;
 pub mod span;
