@@ -1,4 +1,5 @@
-//! Tests of `overlay_tiles`: which grids fit.
+//! Tests of `overlay_tiles`: which grids fit, and into which tiles they cut shapes.
 
 mod fits;
 mod points;
+mod tiles;

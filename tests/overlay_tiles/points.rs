@@ -2,7 +2,7 @@
 
 use overlay_geom::error::OverlayError;
 use overlay_geom::integer::OverlayInt;
-use overlay_geom::path::IntContour;
+use overlay_geom::path::{IntContour, IntShapes};
 use overlay_geom::point::{IntPoint, in_range};
 use overlay_geom::resource::IntShapeResource;
 use overlay_tiles::grid::Grid;
@@ -25,6 +25,21 @@ pub(crate) fn contour_of<I: OverlayInt + From<i16>>(
         })?;
     }
     Ok(contour)
+}
+
+/// Whether these are the shapes, each of one contour.
+pub(crate) fn are_tiles<I: OverlayInt + PartialEq + From<i16>>(
+    alloc: Global,
+    shapes: &IntShapes<I, Global>,
+    wanted: &[Points<'_>],
+) -> Result<bool, OverlayError> {
+    let mut all = Vec::new(alloc);
+    for points in wanted {
+        let mut shape = Vec::new(alloc);
+        shape.push(contour_of(alloc, points)?)?;
+        all.push(shape)?;
+    }
+    Ok(*shapes == all)
 }
 
 /// The grid of cells of this width and height.
