@@ -125,7 +125,7 @@ def parsed(words):
     commands.choices["clip"].add_argument("--boundary", action="store_true", help="keep those along the boundary too")
     command = commands.add_parser("svg", help=run_svg.__doc__)
     command.set_defaults(run=run_svg)
-    command.add_argument("input", metavar="INPUT.txt", help="as README.md says; - for standard input")
+    command.add_argument("input", metavar="INPUT.txt", help="as docs/PROGRAM.md says; - for standard input")
     command.add_argument("--nodes", action="store_true", help="show the ends of the arrangement's edges")
     command.add_argument("--out", metavar="FILE", help="where the picture goes, if not to standard output")
     return parser.parse_args(words)

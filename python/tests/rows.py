@@ -1,4 +1,4 @@
-"""Inputs and answers of README.md, in Python's words and in the program's."""
+"""Inputs and answers of docs/PROGRAM.md, in Python's words and in the program's."""
 
 SQUARE = [(0, 0), (4, 0), (4, 4), (0, 4)]
 OTHER = [(2, 2), (6, 2), (6, 6), (2, 6)]

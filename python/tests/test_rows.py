@@ -1,4 +1,4 @@
-"""The rows of README.md through Python: what the program prints, once printed."""
+"""The rows of docs/PROGRAM.md through Python: what the program prints, once printed."""
 
 import unittest
 
