@@ -24,5 +24,6 @@ pub mod simplify;
 pub mod single;
 pub mod solver;
 pub mod string;
+pub mod tiles;
 pub mod vector;
 mod viewed_graph;
