@@ -12,4 +12,3 @@ mod points;
 mod relations;
 mod runs;
 mod slices;
-mod tiles;
