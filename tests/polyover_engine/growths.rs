@@ -39,6 +39,10 @@ const ROWS: &[(&[u8], &str)] = &[
         "shape\n9 0 9 1 0 1 0 0\nshape\n9 1 9 9 0 9 0 1\n3 3 3 6 6 6 6 3\n",
     ),
     (
+        b"subject 0 0 4 0 4 4 0 4\nrun tiles NonZero 2 9\n",
+        "shape\n2 0 2 4 0 4 0 0\nshape\n4 0 4 4 2 4 2 0\n",
+    ),
+    (
         b"subject 0 0 4 0 4 4 0 4\npoint 2 2\npoint 9 9\nrun contains\n",
         "true\nfalse\n",
     ),

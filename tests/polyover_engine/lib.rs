@@ -12,3 +12,4 @@ mod points;
 mod relations;
 mod runs;
 mod slices;
+mod tiles;

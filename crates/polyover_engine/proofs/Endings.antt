@@ -14,9 +14,9 @@ use Rattle.polyover_engine.specs.ReadAll.{ReadsAll, StopsReading}
 use Rattle.polyover_engine.specs.Reading.{IsRead, ReadsOn}
 use Rattle.polyover_engine.specs.WriteAll.{EndsWriting}
 use Rattle.polyover_engine.proofs.Queries.{answers_read}
-use Rattle.polyover_engine.proofs.Refusals.{never_failed, refused_read, unresolved_read}
+use Rattle.polyover_engine.proofs.Refusals.{never_failed, refused_read, bad_besides_read}
 use Rattle.polyover_engine.proofs.TurnsTaken.{done_goes_on}
-use Rattle.polyover_text.specs.Grammar.{GivenFigures, Asks, IsFirstBad, input_lines}
+use Rattle.polyover_text.specs.Grammar.{GivenFigures, AsksAt, IsFirstBad, input_lines}
 use Rattle.polyover_text.specs.Inputs.{IsNamedFault}
 use Rattle.polyover_text.specs.declared.input.InputError.{InputError}
 use Rattle.polyover_text.specs.declared.input.InputError.TheVariants.{Memory as InputMemory, BadLine}
@@ -61,39 +61,40 @@ module _ {R : Type 0} (remaining : R → Option (List ℕ)) (reads : R → ℕ �
     }
 
     -- so does one to which there is no answer
-    unanswered : (fs : GivenFigures) (query : Query) → Asks (input_lines text) fs query → (exit : Exit)
-        → EndsUnanswered fs query exit → EndsUnwritten exit
-    unanswered fs query asks Answered h = absurd h
-    unanswered fs query asks (Refused Memory) h = record { reader = read_well all.is_read; writer = tt; input = tt }
-    unanswered fs query asks (Refused NotSettled) h = record {
+    unanswered : (fs : GivenFigures) (line : ℕ) (query : Query) → AsksAt (input_lines text) fs line query →
+        (exit : Exit) → EndsUnanswered fs line query exit → EndsUnwritten exit
+    unanswered fs line query asks Answered h = absurd h
+    unanswered fs line query asks (Refused Memory) h =
+        record { reader = read_well all.is_read; writer = tt; input = tt }
+    unanswered fs line query asks (Refused NotSettled) h = record {
       reader = all.is_read;
       writer = tt;
-      input = refused_read (remaining r0) bytes text fs query NotSettled all.bytes same asks h;
+      input = refused_read (remaining r0) bytes text fs query NotSettled all.bytes same asks.asks h;
     }
-    unanswered fs query asks (Refused TooManyEdges) h = record {
+    unanswered fs line query asks (Refused TooManyEdges) h = record {
       reader = all.is_read;
       writer = tt;
-      input = refused_read (remaining r0) bytes text fs query TooManyEdges all.bytes same asks h;
+      input = refused_read (remaining r0) bytes text fs query TooManyEdges all.bytes same asks.asks h;
     }
-    unanswered fs query asks (Refused Failed) h = absurd (never_failed fs query h)
-    unanswered fs query asks (BadInput n) h = record {
+    unanswered fs line query asks (Refused Failed) h = absurd (never_failed fs query h)
+    unanswered fs line query asks (BadInput n) h = record {
       reader = all.is_read;
       writer = tt;
-      input = unresolved_read (remaining r0) bytes text fs query n all.bytes same asks h;
+      input = bad_besides_read (remaining r0) bytes text fs line query n all.bytes same asks h;
     }
-    unanswered fs query asks Io h = absurd h
+    unanswered fs line query asks Io h = absurd h
 
     -- an answer, or its want
-    pub answered_or_ended : {S : Type 0} (fs : GivenFigures) (query : Query) → Asks (input_lines text) fs query
-        → (written : S → List ℕ) (r : Result S Exit)
-        → MatchResult r (λ s. Answers fs query (written s)) (λ exit. EndsUnanswered fs query exit)
+    pub answered_or_ended : {S : Type 0} (fs : GivenFigures) (line : ℕ) (query : Query)
+        → AsksAt (input_lines text) fs line query → (written : S → List ℕ) (r : Result S Exit)
+        → MatchResult r (λ s. Answers fs query (written s)) (λ exit. EndsUnanswered fs line query exit)
         → MatchResult r (λ s. HasAnswer remaining reads r0 r1 (written s)) (λ exit. EndsUnwritten exit)
-    answered_or_ended fs query asks written (Ok s) h = record {
+    answered_or_ended fs line query asks written (Ok s) h = record {
       reader = all.is_read;
       writer = tt;
-      input = answers_read (remaining r0) bytes text (written s) fs query all.bytes same asks h;
+      input = answers_read (remaining r0) bytes text (written s) fs query all.bytes same asks.asks h;
     }
-    answered_or_ended fs query asks written (Err exit) h = unanswered fs query asks exit h
+    answered_or_ended fs line query asks written (Err exit) h = unanswered fs line query asks exit h
 
   module _ {W : Type 0} (contents : W → Option (List ℕ)) (writes : W → ℕ → Turn → W → Type 0)
       (flushes : W → Turn → W → Type 0) (w0 w1 : W) where

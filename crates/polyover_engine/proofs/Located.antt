@@ -1,5 +1,5 @@
 -- What is told of the points of an input, and why nothing is.
-use Rattle.std.proofs.Common.{◌≡◌, Bool, List, [], ◌∷◌, subst}
+use Rattle.std.proofs.Common.{◌≡◌, ℕ, Bool, List, [], ◌∷◌, Result, Ok, Err, MatchResult, inl, subst}
 use Rattle.overlay_geom.specs.Plane.{Point}
 use Rattle.overlay_geom.specs.Resolved.{IsResolved}
 use Rattle.overlay_relate.specs.Answers.{AnswersWhere, AnswersWhether}
@@ -9,7 +9,7 @@ use Rattle.std.specs.Prelude.{All}
 use Rattle.polyover_text.specs.Grammar.{GivenContour, GivenFigures}
 use Rattle.polyover_text.specs.declared.query.Query.TheVariants.{Contains, Locate}
 use Rattle.polyover_engine.specs.Answers.{TellInside, TellWhere, EndsUnanswered}
-use Rattle.polyover_engine.specs.Subjects.{subject_of, IsFirstUnresolved, IsSubject, HasNoSubject}
+use Rattle.polyover_engine.specs.Subjects.{subject_of, IsSubject, HasNoSubject}
 use Rattle.polyover_engine.specs.declared.exit.Exit.{Exit}
 use Rattle.polyover_engine.specs.declared.exit.Exit.TheVariants.{Answered, Refused, BadInput, Io}
 
@@ -36,15 +36,28 @@ module _ (fs : GivenFigures) (contours : List GivenContour) (points : List Point
         (subst (λ s. AnswersWhere (IsLocatedAmong (s ∷ [])) points answers) shown told);
   }
 
-module _ (fs : GivenFigures) (contours : List GivenContour) (same : contours ≡ fs.contours) where
-  pub nothing_inside : (exit : Exit) → HasNoSubject contours exit → EndsUnanswered fs Contains exit
+-- why nothing is told of them does not depend on where the command stands
+module _ (fs : GivenFigures) (line : ℕ) where
+  nothing_inside : (exit : Exit) → HasNoSubject fs.contours exit → EndsUnanswered fs line Contains exit
   nothing_inside Answered h = absurd h
   nothing_inside (Refused e) h = h
-  nothing_inside (BadInput n) h = (tt, subst (λ cs. IsFirstUnresolved cs n) same h)
+  nothing_inside (BadInput n) h = inl (tt, h)
   nothing_inside Io h = absurd h
 
-  pub nothing_located : (exit : Exit) → HasNoSubject contours exit → EndsUnanswered fs Locate exit
+  nothing_located : (exit : Exit) → HasNoSubject fs.contours exit → EndsUnanswered fs line Locate exit
   nothing_located Answered h = absurd h
   nothing_located (Refused e) h = h
-  nothing_located (BadInput n) h = (tt, subst (λ cs. IsFirstUnresolved cs n) same h)
+  nothing_located (BadInput n) h = inl (tt, h)
   nothing_located Io h = absurd h
+
+  pub inside_or_not : {S : Type 0} (told : S → Type 0) (r : Result S Exit)
+      → MatchResult r told (λ exit. HasNoSubject fs.contours exit)
+      → MatchResult r told (λ exit. EndsUnanswered fs line Contains exit)
+  inside_or_not told (Ok s) h = h
+  inside_or_not told (Err exit) h = nothing_inside exit h
+
+  pub located_or_not : {S : Type 0} (told : S → Type 0) (r : Result S Exit)
+      → MatchResult r told (λ exit. HasNoSubject fs.contours exit)
+      → MatchResult r told (λ exit. EndsUnanswered fs line Locate exit)
+  located_or_not told (Ok s) h = h
+  located_or_not told (Err exit) h = nothing_located exit h

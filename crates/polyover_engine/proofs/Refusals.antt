@@ -1,12 +1,12 @@
 -- A refusal of what an input asks for.
-use Rattle.std.proofs.Common.{◌≡◌, ℕ, List, Option, Some, None, IfSome, inl, inr, subst, ◌∙◌}
+use Rattle.std.proofs.Common.{◌≡◌, ◌⊎◌, ℕ, List, Option, Some, None, IfSome, inl, inr, sym, subst, ◌∙◌}
 use Rattle.overlay_geom.specs.declared.error.OverlayError.{OverlayError}
 use Rattle.overlay_geom.specs.declared.error.OverlayError.TheVariants.{Failed}
 use Rattle.polyover_text.specs.declared.query.Query.{Query}
-use Rattle.polyover_text.specs.Grammar.{GivenFigures, Asks, input_lines}
+use Rattle.polyover_text.specs.Grammar.{GivenFigures, Asks, AsksAt, input_lines}
 use Rattle.polyover_text.specs.declared.query.Query.TheVariants.{Edges, Overlay, Hierarchy, Relate, ClipLines}
-use Rattle.polyover_text.specs.declared.query.Query.TheVariants.{Slice, Contains, Locate}
-use Rattle.polyover_engine.specs.Answers.{MayRefuseQuery, AsksAboutPoints}
+use Rattle.polyover_text.specs.declared.query.Query.TheVariants.{Slice, Tiles, Contains, Locate}
+use Rattle.polyover_engine.specs.Answers.{MayRefuseQuery, AsksAboutPoints, AsksForMisfit}
 use Rattle.polyover_engine.specs.Engine.{IsRefused, IsBadInput}
 use Rattle.polyover_engine.specs.Subjects.{IsFirstUnresolved}
 
@@ -18,6 +18,7 @@ never_failed fs (Relate fill) (inl h) = h
 never_failed fs (Relate fill) (inr h) = h
 never_failed fs (ClipLines query) h = h
 never_failed fs (Slice fill) h = h
+never_failed fs (Tiles query) h = h
 never_failed fs Contains h = cc
 never_failed fs Locate h = cc
 
@@ -34,16 +35,23 @@ refused_read (Some b) bytes text fs query e read same asks refused = record {
   refused = refused;
 }
 
--- a contour that has to be resolved, and is not
-pub unresolved_read : (given : Option (List ℕ)) (bytes text : List ℕ) (fs : GivenFigures) (query : Query) (n : ℕ)
-    → IfSome given (λ b. bytes ≡ b) → text ≡ bytes → Asks (input_lines text) fs query
-    → AsksAboutPoints query × IsFirstUnresolved fs.contours n
+-- a contour that has to be resolved, and is not, or a grid that does not fit
+pub bad_besides_read : (given : Option (List ℕ)) (bytes text : List ℕ) (fs : GivenFigures) (line : ℕ) (query : Query)
+    (n : ℕ) → IfSome given (λ b. bytes ≡ b) → text ≡ bytes → AsksAt (input_lines text) fs line query
+    → (AsksAboutPoints query × IsFirstUnresolved fs.contours n) ⊎ (AsksForMisfit fs query × (n ≡ line))
     → IfSome given (λ b. IsBadInput b n)
-unresolved_read None bytes text fs query n read same asks h = tt
-unresolved_read (Some b) bytes text fs query n read same asks h = inr (record {
+bad_besides_read None bytes text fs line query n read same asks h = tt
+bad_besides_read (Some b) bytes text fs line query n read same asks (inl h) = inr (inl (record {
   figures = fs;
   query = query;
-  asks = subst (λ l. Asks (input_lines l) fs query) (same ∙ read) asks;
+  asks = subst (λ l. Asks (input_lines l) fs query) (same ∙ read) asks.asks;
   asks_about_points = h.0;
   unresolved = h.1;
-})
+}))
+bad_besides_read (Some b) bytes text fs line query n read same asks (inr h) = inr (inr (record {
+  figures = fs;
+  query = query;
+  asks = subst (λ k. AsksAt (input_lines b) fs k query) (sym h.1)
+      (subst (λ l. AsksAt (input_lines l) fs line query) (same ∙ read) asks);
+  misfit = h.0;
+}))

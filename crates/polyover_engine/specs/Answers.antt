@@ -1,9 +1,10 @@
 -- What the program answers: the edges of the arrangement, the shapes of an overlay, how the subject and the clip lie to
--- each other, what a clip leaves of open paths, what these slice the subject into, or where points lie; and the text
--- of it.
-use Rattle.std.specs.Prelude.{◌≡◌, ℕ, Bool, false, List, [], ◌∷◌, ◌++◌, map, All}
+-- each other, what a clip leaves of open paths, what these or a grid slice the subject into, or where points lie; and
+-- the text of it.
+use Rattle.std.specs.Prelude.{◌≡◌, ◌⊎◌, ℕ, Bool, false, List, [], ◌∷◌, ◌++◌, map, All}
 use Rattle.std.specs.Int.{w128}
 use Rattle.std.specs.List.{flat_map}
+use Rattle.overlay_geom.specs.Numbers.{greatest_of_64_bits}
 use Rattle.overlay_geom.specs.Resolved.{IsResolved}
 use Rattle.overlay_geom.specs.declared.error.OverlayError.{OverlayError}
 use Rattle.overlay_geom.specs.declared.error.OverlayError.TheVariants.{Memory}
@@ -24,7 +25,7 @@ use Rattle.overlay_builder.specs.GivenPaths.{GivenPath, added_paths}
 use Rattle.overlay_builder.specs.PathLists.{HoldsPaths}
 use Rattle.polyover_text.specs.declared.query.Query.{Query}
 use Rattle.polyover_text.specs.declared.query.Query.TheVariants.{Edges, Overlay, Hierarchy, Relate, ClipLines}
-use Rattle.polyover_text.specs.declared.query.Query.TheVariants.{Slice, Contains, Locate}
+use Rattle.polyover_text.specs.declared.query.Query.TheVariants.{Slice, Tiles, Contains, Locate}
 use Rattle.polyover_text.specs.Grammar.{GivenFigures, paths_of, Asks, input_lines}
 use Rattle.polyover_text.specs.Printed.{edge_lines, lines_of_shapes, link_line, relation_lines, truth_line}
 use Rattle.polyover_text.specs.Printed.{location_line, lines_of_paths}
@@ -33,6 +34,9 @@ use Rattle.polyover_engine.specs.declared.exit.Exit.{Exit}
 use Rattle.polyover_engine.specs.declared.exit.Exit.TheVariants.{Answered, Refused, BadInput, Io}
 use Rattle.overlay_string.specs.OneShot.{AreClippedOfPaths, MayRefusePaths as MayRefuseStrings}
 use Rattle.overlay_string.specs.StringSlices.{AreSlicedOfPaths}
+use Rattle.overlay_tiles.specs.Grids.{FitsGrid}
+use Rattle.overlay_tiles.specs.Spans.{points_of_paths}
+use Rattle.overlay_tiles.specs.Tiles.{AreTiles, MayRefuseTiles}
 use Rattle.polyover_engine.specs.Clips.{clip_rule_of, shape_and_lines}
 use Rattle.polyover_engine.specs.Relations.{AreRelations, MayRefuseRelations}
 use Rattle.polyover_engine.specs.Subjects.{subject_of, IsFirstUnresolved}
@@ -93,6 +97,9 @@ Answers fs (ClipLines query) text = (paths : List (List Point))
     × (text ≡ lines_of_paths paths)
 Answers fs (Slice fill) text = (shapes : List (List (List Point)))
     × AreSlicedOfPaths w128 fill (shape_and_lines fs) shapes × (text ≡ lines_of_shapes shapes)
+Answers fs (Tiles query) text = (shapes : List (List (List Point)))
+    × AreTiles w128 query.fill_rule query.width query.height (subject_of fs.contours) shapes
+    × (text ≡ lines_of_shapes shapes)
 Answers fs Contains text = (answers : List Bool) × TellInside fs answers × (text ≡ flat_map truth_line answers)
 Answers fs Locate text = (answers : List PointLocation) × TellWhere fs answers × (text ≡ flat_map location_line answers)
 
@@ -104,6 +111,7 @@ MayRefuseQuery fs (Hierarchy query) e = MayRefusePaths (paths_of fs) e
 MayRefuseQuery fs (Relate fill) e = MayRefuseRelations (paths_of fs) e
 MayRefuseQuery fs (ClipLines query) e = MayRefuseStrings (shape_and_lines fs) e
 MayRefuseQuery fs (Slice fill) e = MayRefuseStrings (shape_and_lines fs) e
+MayRefuseQuery fs (Tiles query) e = MayRefuseTiles query.width query.height (subject_of fs.contours) e
 MayRefuseQuery fs Contains e = e ≡ Memory
 MayRefuseQuery fs Locate e = e ≡ Memory
 
@@ -115,15 +123,30 @@ AsksAboutPoints (Hierarchy query) = ⊥
 AsksAboutPoints (Relate fill) = ⊥
 AsksAboutPoints (ClipLines query) = ⊥
 AsksAboutPoints (Slice fill) = ⊥
+AsksAboutPoints (Tiles query) = ⊥
 AsksAboutPoints Contains = Unit {0}
 AsksAboutPoints Locate = Unit {0}
 
--- why there is no answer
-abbrev pub EndsUnanswered : GivenFigures → Query → Exit → Type 0
-EndsUnanswered fs query Answered = ⊥
-EndsUnanswered fs query (Refused e) = MayRefuseQuery fs query e
-EndsUnanswered fs query (BadInput n) = AsksAboutPoints query × IsFirstUnresolved fs.contours n
-EndsUnanswered fs query Io = ⊥
+-- the query asks for tiles, of a grid that does not fit the subject
+abbrev pub AsksForMisfit : GivenFigures → Query → Type 0
+AsksForMisfit fs (Edges fill) = ⊥
+AsksForMisfit fs (Overlay query) = ⊥
+AsksForMisfit fs (Hierarchy query) = ⊥
+AsksForMisfit fs (Relate fill) = ⊥
+AsksForMisfit fs (ClipLines query) = ⊥
+AsksForMisfit fs (Slice fill) = ⊥
+AsksForMisfit fs (Tiles query) =
+    ¬ (FitsGrid greatest_of_64_bits query.width query.height (points_of_paths (subject_of fs.contours)))
+AsksForMisfit fs Contains = ⊥
+AsksForMisfit fs Locate = ⊥
+
+-- why there is no answer, where the command stands in this line
+abbrev pub EndsUnanswered : GivenFigures → ℕ → Query → Exit → Type 0
+EndsUnanswered fs line query Answered = ⊥
+EndsUnanswered fs line query (Refused e) = MayRefuseQuery fs query e
+EndsUnanswered fs line query (BadInput n) = (AsksAboutPoints query × IsFirstUnresolved fs.contours n)
+    ⊎ (AsksForMisfit fs query × (n ≡ line))
+EndsUnanswered fs line query Io = ⊥
 
 -- the text answers the input
 pub record IsAnswer (bytes text : List ℕ) : Type 0 where

@@ -6,8 +6,8 @@ use Rattle.polyover_engine.specs.declared.exit.Exit.{Exit}
 use Rattle.polyover_engine.specs.declared.exit.Exit.TheVariants.{Answered, Refused, BadInput, Io}
 use Rattle.polyover_engine.specs.declared.turn.Turn.{Turn}
 use Rattle.polyover_text.specs.declared.query.Query.{Query}
-use Rattle.polyover_text.specs.Grammar.{GivenFigures, Asks, IsFirstBad, input_lines}
-use Rattle.polyover_engine.specs.Answers.{IsAnswer, MayRefuseQuery, AsksAboutPoints}
+use Rattle.polyover_text.specs.Grammar.{GivenFigures, Asks, AsksAt, IsFirstBad, input_lines}
+use Rattle.polyover_engine.specs.Answers.{IsAnswer, MayRefuseQuery, AsksAboutPoints, AsksForMisfit}
 use Rattle.polyover_engine.specs.Reading.{IsRead, ReadsOn, FailsReading}
 use Rattle.polyover_engine.specs.Subjects.{IsFirstUnresolved}
 use Rattle.polyover_engine.specs.Writing.{IsWritten, FailsWriting}
@@ -28,9 +28,16 @@ pub record IsUnresolvedInput (bytes : List ℕ) (n : ℕ) : Type 0 where
   pub asks_about_points : AsksAboutPoints query
   pub unresolved : IsFirstUnresolved figures.contours n
 
--- the line is the first bad one; or none is, and it gives a contour that has to be resolved
+-- the input is good, and asks, in the line with this number, for tiles of a grid that does not fit the subject
+pub record IsMisfitInput (bytes : List ℕ) (n : ℕ) : Type 0 where
+  pub figures : GivenFigures
+  pub query : Query
+  pub asks : AsksAt (input_lines bytes) figures n query
+  pub misfit : AsksForMisfit figures query
+
+-- the line is the first bad one; or none is, and it gives a contour that has to be resolved, or a grid that has to fit
 abbrev pub IsBadInput : List ℕ → ℕ → Type 0
-IsBadInput bytes n = IsFirstBad (input_lines bytes) n ⊎ IsUnresolvedInput bytes n
+IsBadInput bytes n = IsFirstBad (input_lines bytes) n ⊎ IsUnresolvedInput bytes n ⊎ IsMisfitInput bytes n
 
 -- ---- how a run ends
 

@@ -19,6 +19,7 @@ use crate::hierarchy::{hierarchy_text, overlay_hierarchy};
 use crate::points::{contains_text, locate_text};
 use crate::relations::relations;
 use crate::slice::sliced_subject;
+use crate::tiles::tiles_text;
 use i_overlay::fill_rule::FillRule;
 use i_overlay::vector::edge::DataVectorEdge;
 use overlay_geom::error::OverlayError;
@@ -34,12 +35,13 @@ use std::alloc::Allocator;
 
 /// The text of the answer to an input, whose points are in the coordinate range. Refusals are those of the builder to
 /// which the contours (and the open paths that are clipped, or slice) are added, and of the query on it; where points
-/// are asked about, `Memory`, and `BadInput` at the line of the first contour of the subject that is not resolved.
+/// are asked about, `Memory`, and `BadInput` at the line of the first contour of the subject that is not resolved; and
+/// where tiles are, of a grid that does not fit the subject, `BadInput` at the line of the command.
 pub fn answer_text<A: Allocator + Copy>(alloc: A, input: &Input<A>) -> Result<String<A>, Exit>
     requires { FiguresInRange (figures_at input.now.figures) }
     ensures { MatchResult result
         (λ text. Answers (figures_at input.now.figures) input.now.query (string_bytes text))
-        (λ exit. EndsUnanswered (figures_at input.now.figures) input.now.query exit) }
+        (λ exit. EndsUnanswered (figures_at input.now.figures) input.now.line input.now.query exit) }
 {
     match input.query {
         Query::Edges(fill_rule) => {
@@ -66,6 +68,7 @@ pub fn answer_text<A: Allocator + Copy>(alloc: A, input: &Input<A>) -> Result<St
             let slices = sliced_subject(alloc, &input.figures, fill_rule)?;
             Ok(shapes_text(alloc, &slices)?)
         }
+        Query::Tiles(query) => tiles_text(alloc, &input.figures, query, input.line),
         Query::Contains => contains_text(alloc, &input.figures),
         Query::Locate => locate_text(alloc, &input.figures),
     }

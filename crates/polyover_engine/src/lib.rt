@@ -15,6 +15,7 @@ mod relations;
 mod slice;
 mod string_builder;
 mod subject;
+mod tiles;
 pub mod turn;
 mod write;
 pub mod write_turns;

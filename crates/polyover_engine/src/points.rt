@@ -1,7 +1,8 @@
 //! Where the points of an input lie in its subject.
 
 ghost use Rattle.std.specs.Prelude.{MatchResult, string_bytes};
-ghost use Rattle.polyover_engine.specs.Answers.{Answers, EndsUnanswered};
+ghost use Rattle.polyover_engine.specs.Answers.{Answers};
+ghost use Rattle.polyover_engine.specs.Subjects.{HasNoSubject};
 ghost use Rattle.polyover_text.specs.Points.{FiguresInRange};
 ghost use Rattle.polyover_text.specs.Statements.{figures_at};
 
@@ -21,7 +22,7 @@ pub(crate) fn contains_text<A: Allocator + Copy>(
     requires { FiguresInRange (figures_at figures.now) }
     ensures { MatchResult result
         (λ text. Answers (figures_at figures.now) Query.Contains (string_bytes text))
-        (λ exit. EndsUnanswered (figures_at figures.now) Query.Contains exit) }
+        (λ exit. HasNoSubject (figures_at figures.now).contours exit) }
 {
     let shape = subject(alloc, &figures.contours)?;
     let truths = shape.contains_points(alloc, &figures.points)?;
@@ -36,7 +37,7 @@ pub(crate) fn locate_text<A: Allocator + Copy>(
     requires { FiguresInRange (figures_at figures.now) }
     ensures { MatchResult result
         (λ text. Answers (figures_at figures.now) Query.Locate (string_bytes text))
-        (λ exit. EndsUnanswered (figures_at figures.now) Query.Locate exit) }
+        (λ exit. HasNoSubject (figures_at figures.now).contours exit) }
 {
     let shape = subject(alloc, &figures.contours)?;
     let locations = shape.locate_points(alloc, &figures.points)?;

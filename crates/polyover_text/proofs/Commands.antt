@@ -6,16 +6,23 @@ use Rattle.polyover_text.specs.declared.query.Query.{Query}
 use Rattle.overlay_arrange.specs.declared.fill_rule.FillRule.{FillRule}
 use Rattle.polyover_text.specs.declared.query.ClipQuery.{ClipQuery}
 use Rattle.polyover_text.specs.declared.query.OverlayQuery.{OverlayQuery}
+use Rattle.polyover_text.specs.declared.query.TilesQuery.{TilesQuery}
 use Rattle.polyover_text.specs.declared.query.Query.TheVariants.{Edges, Overlay, Hierarchy, Relate, ClipLines}
-use Rattle.polyover_text.specs.declared.query.Query.TheVariants.{Slice, Contains, Locate}
+use Rattle.polyover_text.specs.declared.query.Query.TheVariants.{Slice, Tiles, Contains, Locate}
 use Rattle.polyover_text.specs.Grammar.{Word, Line, IsCommand, edges, overlay, hierarchy, relate, clip_lines}
 use Rattle.polyover_text.specs.Grammar.{slice, contains, locate, AsksClip, asks_clip, default_clip, SetClipOptions}
-use Rattle.polyover_text.specs.Grammar.{fill_name, rule_name}
+use Rattle.polyover_text.specs.Grammar.{fill_name, rule_name, tiles, AsksTiles, asks_tiles, IsSide}
 use Rattle.polyover_text.specs.Grammar.{AsksOverlay, asks, default_output, SetOptions}
 
 -- their first letters differ
 relate_is_not_locate : ¬ (codes "relate" ≡ codes "locate")
 relate_is_not_locate e = false≢true (sym (ap (λ l. get_or l 0 0 == 114) e))
+
+tiles_is_not_edges : ¬ (codes "tiles" ≡ codes "edges")
+tiles_is_not_edges e = false≢true (sym (ap (λ l. get_or l 0 0 == 116) e))
+
+tiles_is_not_slice : ¬ (codes "tiles" ≡ codes "slice")
+tiles_is_not_slice e = false≢true (sym (ap (λ l. get_or l 0 0 == 116) e))
 
 -- after `run edges`, `run relate` and `run slice` stands the name of a fill rule, and no other word
 pub edges_asked : (ws rest : Line) (fill : FillRule) → ws ≡ codes "edges" ∷ rest → rest ≡ fill_name fill ∷ [] →
@@ -51,6 +58,9 @@ fill_named w rest query (clip_lines named) (inl e) = cc
 fill_named w rest query (clip_lines named) (inr (inl e)) = cc
 fill_named w rest query (clip_lines named) (inr (inr e)) = cc
 fill_named w rest query (slice {fill}) e = (fill, refl)
+fill_named w rest query (tiles named) (inl e) = absurd (tiles_is_not_edges e)
+fill_named w rest query (tiles named) (inr (inl e)) = cc
+fill_named w rest query (tiles named) (inr (inr e)) = absurd (tiles_is_not_slice e)
 fill_named w rest query contains (inl e) = cc
 fill_named w rest query contains (inr (inl e)) = cc
 fill_named w rest query contains (inr (inr e)) = cc
@@ -97,6 +107,8 @@ rules_named w rest query (clip_lines named) (inl e) = cc
 rules_named w rest query (clip_lines named) (inr e) = cc
 rules_named w rest query slice (inl e) = cc
 rules_named w rest query slice (inr e) = cc
+rules_named w rest query (tiles named) (inl e) = cc
+rules_named w rest query (tiles named) (inr e) = cc
 rules_named w rest query contains (inl e) = cc
 rules_named w rest query contains (inr e) = cc
 rules_named w rest query locate (inl e) = cc
@@ -131,6 +143,7 @@ clip_rule_named w rest query (hierarchy set) e = cc
 clip_rule_named w rest query relate e = cc
 clip_rule_named w rest query (clip_lines {query = asked} named) e = (asked, named)
 clip_rule_named w rest query slice e = cc
+clip_rule_named w rest query (tiles named) e = cc
 clip_rule_named w rest query contains e = cc
 clip_rule_named w rest query locate e = cc
 
@@ -140,6 +153,44 @@ pub no_clip_named : (ws rest : Line) → ws ≡ codes "clip" ∷ rest → ((aske
 no_clip_named ws rest words none query h =
     let named = clip_rule_named (codes "clip") rest query (subst (λ l. IsCommand (codes "run" ∷ l) query) words h)
     refl in
+    none named.0 named.1
+
+-- tiles are asked for by the name of a fill rule, and then the two sides of a cell
+pub tiles_named : (ws : Line) (f v w : Word) (rest more left : Line) (asked : TilesQuery) → ws ≡ f ∷ rest
+    → rest ≡ v ∷ more → more ≡ w ∷ left → left ≡ [] → f ≡ fill_name asked.fill_rule → IsSide v asked.width
+    → IsSide w asked.height → AsksTiles ws asked
+tiles_named ws f v w rest more left asked words after_rule after_width ended fill width height =
+    let all : ws ≡ fill_name asked.fill_rule ∷ v ∷ w ∷ [] = cc in
+    subst (λ l. AsksTiles l asked) (sym all) (asks_tiles width height)
+
+-- and after these stands no word
+pub words_after_sides : (ws : Line) (f v w x : Word) (rest more left others : Line) → ws ≡ f ∷ rest → rest ≡ v ∷ more
+    → more ≡ w ∷ left → left ≡ x ∷ others → (asked : TilesQuery) → ¬ (AsksTiles ws asked)
+words_after_sides ws f v w x rest more left others words after_rule after_width after_height asked (asks_tiles _ _) = cc
+
+-- so they are after `run tiles`
+pub tiles_asked : (ws rest : Line) (asked : TilesQuery) → ws ≡ codes "tiles" ∷ rest → AsksTiles rest asked →
+    IsCommand (codes "run" ∷ ws) (Tiles asked)
+tiles_asked ws rest asked words named =
+    subst (λ l. IsCommand (codes "run" ∷ l) (Tiles asked)) (sym words) (tiles named)
+
+sides_named : (w : Word) (rest : Line) (query : Query) → IsCommand (codes "run" ∷ w ∷ rest) query →
+    w ≡ codes "tiles" → (asked : TilesQuery) × AsksTiles rest asked
+sides_named w rest query edges e = absurd (tiles_is_not_edges (sym e))
+sides_named w rest query (overlay set) e = cc
+sides_named w rest query (hierarchy set) e = cc
+sides_named w rest query relate e = cc
+sides_named w rest query (clip_lines named) e = cc
+sides_named w rest query slice e = absurd (tiles_is_not_slice (sym e))
+sides_named w rest query (tiles {query = asked} named) e = (asked, named)
+sides_named w rest query contains e = cc
+sides_named w rest query locate e = cc
+
+-- where they are not, nothing is asked
+pub no_tiles_named : (ws rest : Line) → ws ≡ codes "tiles" ∷ rest → ((asked : TilesQuery) → ¬ (AsksTiles rest asked))
+    → (query : Query) → ¬ (IsCommand (codes "run" ∷ ws) query)
+no_tiles_named ws rest words none query h =
+    let named = sides_named (codes "tiles") rest query (subst (λ l. IsCommand (codes "run" ∷ l) query) words h) refl in
     none named.0 named.1
 
 -- after `run contains`, and after `run locate`, stands no word
@@ -157,6 +208,8 @@ last_word w rest query (clip_lines named) (inl e) = cc
 last_word w rest query (clip_lines named) (inr e) = cc
 last_word w rest query slice (inl e) = cc
 last_word w rest query slice (inr e) = cc
+last_word w rest query (tiles named) (inl e) = cc
+last_word w rest query (tiles named) (inr e) = cc
 last_word w rest query contains e = refl
 last_word w rest query locate e = refl
 

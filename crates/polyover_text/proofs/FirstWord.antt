@@ -7,7 +7,7 @@ use Rattle.overlay_geom.specs.Plane.{Point}
 use Rattle.polyover_text.specs.declared.query.Query.{Query}
 use Rattle.polyover_text.specs.Grammar.{Word, Line, shape_name, GivesContour, contour, GivesPoint, point, IsCommand}
 use Rattle.polyover_text.specs.Grammar.{GivesOpenPath, open_path}
-use Rattle.polyover_text.specs.Grammar.{edges, overlay, hierarchy, relate, clip_lines, slice, contains, locate}
+use Rattle.polyover_text.specs.Grammar.{edges, overlay, hierarchy, relate, clip_lines, slice, tiles, contains, locate}
 use Rattle.polyover_text.specs.Statements.{SaysNothing}
 
 first_of_contour : (f : Word) (ws : Line) (c : GivenPath) → GivesContour (f ∷ ws) c → f ≡ shape_name c.shape_type
@@ -20,6 +20,7 @@ first_of_command f ws query (hierarchy options) = refl
 first_of_command f ws query relate = refl
 first_of_command f ws query (clip_lines named) = refl
 first_of_command f ws query slice = refl
+first_of_command f ws query (tiles named) = refl
 first_of_command f ws query contains = refl
 first_of_command f ws query locate = refl
 

@@ -3,12 +3,13 @@
 use Rattle.std.proofs.Common.{◌≡◌, ℕ, suc, ◌+◌, List, [], ◌∷◌, ◌++◌, Option, Some, None, All, codes, length}
 use Rattle.std.proofs.Common.{length-append}
 use Rattle.std.proofs.Common.{get_or, refl, sym, ap, subst, ◌∙◌, ◌⊎◌, inl, inr, append_assoc, arith}
-use Rattle.std.proofs.lemmas.List.Elements.{All-push}
+use Rattle.std.proofs.lemmas.List.Elements.{All-nil, All-push}
 use Rattle.std.proofs.lemmas.List.{get_or_push, get_or-append-add, same_from_push}
 use Rattle.overlay_arrange.specs.Paths.{GivenPath}
+use Rattle.polyover_text.specs.declared.query.NumberedQuery.{NumberedQuery}
 use Rattle.polyover_text.specs.declared.query.Query.{Query}
 use Rattle.polyover_text.specs.Grammar.{Word, Line, shape_name, GivesContour, contour, GivesPoint, point, IsCommand}
-use Rattle.polyover_text.specs.Grammar.{GivesOpenPath, open_path, clip_lines, slice}
+use Rattle.polyover_text.specs.Grammar.{GivesOpenPath, open_path, clip_lines, slice, tiles, AsksAt}
 use Rattle.polyover_text.specs.Grammar.{edges, overlay, hierarchy, relate, contains, locate, Asks, IsGoodSoFar}
 use Rattle.polyover_text.specs.Grammar.{GivenFigures, no_figures, before_contours, AreFigures, none, blank}
 use Rattle.overlay_geom.specs.Plane.{Point}
@@ -73,17 +74,35 @@ one_more_point n ls fs l p (point first h) last = point first (one_more_point _ 
 all_blank : (ls : List Line) → All (λ l. l ≡ []) ls → All (λ l. l ≡ []) (ls ++ [] ∷ [])
 all_blank ls h = All-push (λ l. l ≡ []) ls [] h refl
 
-pub takes_blank : (ls : List Line) (fs : GivenFigures) (query : Option Query) (l : Line) → Give ls fs query → l ≡ [] →
-    Give (ls ++ l ∷ []) fs query
+pub takes_blank : (ls : List Line) (fs : GivenFigures) (command : Option NumberedQuery) (l : Line) →
+    Give ls fs command → l ≡ [] → Give (ls ++ l ∷ []) fs command
 takes_blank ls fs None l h e = subst (λ x. AreFigures 1 (ls ++ x ∷ []) fs) (sym e) (one_more_blank 1 ls fs h)
-takes_blank ls fs (Some query) l h e = record {
-  before = h.before;
-  line = h.line;
-  after = h.after ++ l ∷ [];
-  parts = ap (λ x. x ++ l ∷ []) h.parts ∙ append_assoc h.before (h.line ∷ h.after) (l ∷ []);
-  figures = h.figures;
-  command = h.command;
-  blank = subst (λ x. All (λ y. y ≡ []) (h.after ++ x ∷ [])) (sym e) (all_blank h.after h.blank);
+takes_blank ls fs (Some asked) l h e = record {
+  asks = record {
+    before = h.asks.before;
+    line = h.asks.line;
+    after = h.asks.after ++ l ∷ [];
+    parts = ap (λ x. x ++ l ∷ []) h.asks.parts ∙ append_assoc h.asks.before (h.asks.line ∷ h.asks.after) (l ∷ []);
+    figures = h.asks.figures;
+    command = h.asks.command;
+    blank = subst (λ x. All (λ y. y ≡ []) (h.asks.after ++ x ∷ [])) (sym e) (all_blank h.asks.after h.asks.blank);
+  };
+  number = h.number;
+}
+
+pub takes_command : (ls : List Line) (fs : GivenFigures) (l : Line) (n : ℕ) (query : Query) → AreFigures 1 ls fs →
+    IsCommand l query → n ≡ length ls + 1 → AsksAt (ls ++ l ∷ []) fs n query
+takes_command ls fs l n query h command next = record {
+  asks = record {
+    before = ls;
+    line = l;
+    after = [];
+    parts = refl;
+    figures = h;
+    command = command;
+    blank = All-nil (λ y. y ≡ []);
+  };
+  number = next;
 }
 
 pub takes_contour : (ls : List Line) (fs : GivenFigures) (l : Line) (c : GivenPath) (n : ℕ) → AreFigures 1 ls fs →
@@ -143,6 +162,7 @@ command_begins l query (hierarchy options) = (_, refl)
 command_begins l query relate = (_, refl)
 command_begins l query (clip_lines named) = (_, refl)
 command_begins l query slice = (_, refl)
+command_begins l query (tiles named) = (_, refl)
 command_begins l query contains = (_, refl)
 command_begins l query locate = (_, refl)
 

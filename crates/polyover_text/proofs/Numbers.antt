@@ -1,20 +1,20 @@
 -- Numbers of the grammar as `parse` reads them: without a plus sign, those whose bytes after any minus sign are digits.
-use Rattle.std.proofs.Common.{FitsSigned, w64, negsuc, ◌≡◌, ◌≢◌, ℕ, ◌≤◌, ◌==◌, true, false, ℤ, pos, List}
-use Rattle.std.proofs.Common.{[], ◌∷◌, get_or, refl, sym, ◌∙◌, subst, arith, inl, inr, lit<}
+use Rattle.std.proofs.Common.{FitsSigned, w64, negsuc, ◌≡◌, ◌≢◌, ℕ, ◌<◌, ◌≤◌, ◌==◌, Bool, true, false, not, ℤ, pos}
+use Rattle.std.proofs.Common.{List, [], ◌∷◌, length, get_or, refl, sym, ap, ◌∙◌, subst, arith, inl, inr, lit<}
 use Rattle.std.proofs.lemmas.Int.{ints}
-use Rattle.std.specs.Int.{w128}
-use Rattle.std.specs.Prelude.{Result, Ok, Err, MatchOption, OkIff, unsigned_abs, ◌≤ℤ◌}
+use Rattle.std.specs.Int.{w128, IsInRange, IsOutOfRange}
+use Rattle.std.specs.Prelude.{Result, Ok, Err, MatchOption, OkIff, unsigned_abs, neg_ℤ, ◌≤ℤ◌, ◌↔◌}
 use Rattle.std.specs.Result.{result_ok}
 use Rattle.overlay_geom.specs.Numbers.{Within}
 use Rattle.std.specs.Str.{IsUtf8}
-use Rattle.std.specs.Str.Parse.{IsNumeral, digits_value, without_leading_sign, signed_digits_value}
-use Rattle.std.proofs.lemmas.Bool.{cases_eq}
+use Rattle.std.specs.Str.Parse.{AllDigits, IsNumeral, digits_value, without_leading_sign, signed_digits_value}
+use Rattle.std.proofs.lemmas.Bool.{cases_eq, false≢true}
 use Rattle.std.proofs.lemmas.Bool.Decides.{nat_tests}
 use Rattle.std.proofs.lemmas.Fmt.{IsAscii-from_digits}
 use Rattle.std.proofs.lemmas.Str.{IsUtf8-from_ascii}
 use Rattle.std.proofs.lemmas.Str.Ascii.{IsAscii-cons}
-use Rattle.std.proofs.lemmas.Str.Parse.{digit_at}
-use Rattle.polyover_text.specs.Grammar.{Word, IsNumber, plain, negative, IsArea}
+use Rattle.std.proofs.lemmas.Str.Parse.{digit_at, tells_digits}
+use Rattle.polyover_text.specs.Grammar.{Word, IsNumber, plain, negative, IsArea, IsCoordinate, IsSide, within, beyond}
 
 -- a numeral begins with a digit
 first_of_numeral : (digits : List ℕ) → IsNumeral 10 digits → (48 ≤ get_or digits 0 0) × (get_or digits 0 0 ≤ 57)
@@ -121,3 +121,81 @@ pub no_area_read : (word text : List ℕ) → text ≡ word
 no_area_read word text same none n h =
     let numeral = text_of_number word text (pos n) same h.number in
     none (numeral.numeral, subst (FitsSigned w128) numeral.value (record { sfits = h.in_range }))
+
+-- ---- numbers of whatever size
+
+-- whether bytes are digits is told by those that are left
+abbrev pub TellsDigits : List ℕ → List ℕ → Type 0
+TellsDigits bytes left = AllDigits 10 bytes ↔ AllDigits 10 left
+
+-- the first of them is one, and the others are left
+pub digit_passed : (bytes left : List ℕ) (b : ℕ) (rest : List ℕ) → TellsDigits bytes left → left ≡ b ∷ rest
+    → IsInRange 48 57 b → TellsDigits bytes rest
+digit_passed bytes left b rest told parts digit = (
+  λ all. (tells_digits.parts b rest (subst (AllDigits 10) parts (told.0 all))).1,
+  λ all. told.1 (subst (AllDigits 10) (sym parts) (tells_digits.more b rest digit all)),
+)
+
+-- or it is none
+pub digit_lacks : (bytes left : List ℕ) (b : ℕ) (rest : List ℕ) → TellsDigits bytes left → left ≡ b ∷ rest
+    → IsOutOfRange 48 57 b → ¬ (IsNumeral 10 bytes)
+digit_lacks bytes left b rest told parts (inl low) h =
+    let digit = (tells_digits.parts b rest (subst (AllDigits 10) parts (told.0 h.1))).0 in
+    omega (arith, digit.0)
+digit_lacks bytes left b rest told parts (inr high) h =
+    let digit = (tells_digits.parts b rest (subst (AllDigits 10) parts (told.0 h.1))).0 in
+    omega (arith, digit.1)
+
+-- and where none is left they are digits
+digits_told : (bytes left : List ℕ) → TellsDigits bytes left → length left ≡ 0 → AllDigits 10 bytes
+digits_told bytes [] told ended = told.1 tt
+digits_told bytes (b ∷ left) told ended = absurd (omega (arith, ended))
+
+pub numeral_told : (bytes left : List ℕ) (empty : Bool) → TellsDigits bytes left → length left ≡ 0
+    → empty ≡ (length bytes == 0) → (not empty ≡ true) ↔ IsNumeral 10 bytes
+numeral_told bytes left true told ended tested =
+    let none : length bytes ≡ 0 = grind (arith, nat_tests) in
+    (λ no. absurd (false≢true no), λ h. absurd (omega (arith, none, h.0)))
+numeral_told bytes left false told ended tested =
+    let some : length bytes ≢ 0 = grind (arith, nat_tests) in
+    (λ _. (omega arith, digits_told bytes left told ended), λ _. refl)
+
+-- a number has a byte
+pub number_has_byte : (word : Word) (c : ℤ) → IsNumber word c → 0 < length word
+number_has_byte digits c (plain h) = h.0
+number_has_byte (b ∷ digits) c (negative h) = omega arith
+
+-- after a minus sign it is its digits, and without one it is digits
+pub after_minus : (word : Word) (b : ℕ) (digits : List ℕ) → word ≡ b ∷ digits → b ≡ 45
+    → ((c : ℤ) × IsNumber word c) ↔ IsNumeral 10 digits
+after_minus word b digits parts minus =
+    let whole : word ≡ 45 ∷ digits = parts ∙ ap (λ x. x ∷ digits) minus in (
+      λ h. (number_is_numeral (45 ∷ digits) h.0 (subst (λ w. IsNumber w h.0) whole h.1)).numeral,
+      λ h. (
+        neg_ℤ (pos (digits_value 10 digits)),
+        subst (λ w. IsNumber w (neg_ℤ (pos (digits_value 10 digits)))) (sym whole) (negative h),
+      ),
+    )
+
+pub without_minus : (word : Word) → get_or word 0 0 ≢ 45 → ((c : ℤ) × IsNumber word c) ↔ IsNumeral 10 word
+without_minus word no_minus = (
+  λ h. let numeral = number_is_numeral word h.0 h.1 in
+      subst (IsNumeral 10) (no_sign_dropped word no_minus numeral.no_plus) numeral.numeral,
+  λ h. (pos (digits_value 10 word), plain h),
+)
+
+-- a number that is no coordinate is out of range
+pub side_beyond : (word : Word) → ((c : ℤ) → ¬ (IsCoordinate word c)) → (c : ℤ) × IsNumber word c → IsSide word (pos 0)
+side_beyond word none number = beyond number.1
+    (λ inside. none number.0 (record { number = number.1; in_range = inside }))
+
+-- and a word that is neither writes no side
+pub no_side : (word : Word) → ((c : ℤ) → ¬ (IsCoordinate word c)) → ¬ ((c : ℤ) × IsNumber word c) → (side : ℤ)
+    → ¬ (IsSide word side)
+no_side word none no_number side (within h) = none side h
+no_side word none no_number side (beyond h outside) = no_number (_, h)
+
+-- a side fits 64 bits
+pub side_fits : (word : Word) (side : ℤ) → IsSide word side → FitsSigned w64 side
+side_fits word side (within h) = coordinate_fits side h.in_range
+side_fits word side (beyond h outside) = record { sfits = lit< tt }

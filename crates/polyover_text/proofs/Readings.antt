@@ -3,6 +3,7 @@ use Rattle.std.proofs.Common.{◌≡◌, ℕ, ◌+◌, ℤ, List, [], ◌∷◌,
 use Rattle.std.proofs.Common.{subst, ◌∙◌}
 use Rattle.std.specs.Prelude.{Vec}
 use Rattle.std.proofs.lemmas.List.{map_push}
+use Rattle.polyover_text.specs.declared.query.NumberedQuery.{NumberedQuery}
 use Rattle.polyover_text.specs.declared.query.Query.{Query}
 use Rattle.polyover_text.specs.declared.figures.Figures.{Figures}
 use Rattle.polyover_text.specs.declared.figures.NumberedContour.{NumberedContour}
@@ -10,7 +11,7 @@ use Rattle.polyover_text.specs.declared.input.Reading.{Reading}
 use Rattle.polyover_text.specs.declared.statement.Statement.{Statement}
 use Rattle.polyover_text.specs.declared.statement.Statement.TheVariants.{Blank, Contour, OpenPath, Point, Run}
 use Rattle.polyover_text.specs.Grammar.{Line, GivesContour, contour, GivesPoint, point, IsCommand, edges, overlay}
-use Rattle.polyover_text.specs.Grammar.{hierarchy, relate, clip_lines, slice, contains, locate, AreFigures}
+use Rattle.polyover_text.specs.Grammar.{hierarchy, relate, clip_lines, slice, tiles, contains, locate, AreFigures}
 use Rattle.polyover_text.specs.Grammar.{GivesOpenPath, open_path}
 use Rattle.overlay_geom.specs.Points.{plain_point}
 use Rattle.overlay_geom.specs.declared.point.IntPoint.{IntPoint}
@@ -29,6 +30,7 @@ command_has_word l query (hierarchy options) e = cc
 command_has_word l query relate e = cc
 command_has_word l query (clip_lines named) e = cc
 command_has_word l query slice e = cc
+command_has_word l query (tiles named) e = cc
 command_has_word l query contains e = cc
 command_has_word l query locate e = cc
 
@@ -47,21 +49,22 @@ has_word l (Point p) says other e = point_has_word l (plain_point (λ z. z) p) s
 has_word l (Run query) says other e = command_has_word l query says e
 
 -- after the command no word may come
-pub refuses_after_command : {A : Type 0} (l : Line) (r : Reading A) (s : Statement A) (query : Query) → Says l s →
-    (s ≡ Blank → ⊥)
-    → r.query ≡ Some query → RefusesLine l r
-refuses_after_command l r s query says other held = record {
-  refuses = λ ls h. refuses_word ls (figures_at r.figures) query l (subst (Give ls (figures_at r.figures)) held h)
-      (has_word l s says other);
+pub refuses_after_command : {A : Type 0} (l : Line) (r : Reading A) (s : Statement A) (q : NumberedQuery) →
+    Says l s → (s ≡ Blank → ⊥)
+    → r.command ≡ Some q → RefusesLine l r
+refuses_after_command l r s q says other held = record {
+  refuses = λ ls h. refuses_word ls (figures_at r.figures) q.query l
+      (subst (Give ls (figures_at r.figures)) held h).asks (has_word l s says other);
 }
 
 -- a contour is held last
 pub takes_pushed : {A : Type 0} (ls : List Line) (l : Line) (old new : Figures A) (c : NumberedContour A) (n : ℕ)
-    (query : Option Query) → query ≡ None
+    (command : Option NumberedQuery) → command ≡ None
     → new ≡ record old { contours = new.contours } → new.contours.items ≡ old.contours.items ++ c ∷ [] → c.line ≡ n
     → n ≡ length ls + 1
-    → GivesContour l (path_at c.contour) → Give ls (figures_at old) query → Give (ls ++ l ∷ []) (figures_at new) query
-takes_pushed ls l old new c n query none kept pushed numbered next says h =
+    → GivesContour l (path_at c.contour) → Give ls (figures_at old) command
+    → Give (ls ++ l ∷ []) (figures_at new) command
+takes_pushed ls l old new c n command none kept pushed numbered next says h =
     let held = sym (ap contours_at pushed ∙ map_push contour_at old.contours.items c) in
     subst (λ q. Give (ls ++ l ∷ []) (figures_at new) q) (sym none)
     (subst (λ fs. AreFigures 1 (ls ++ l ∷ []) (figures_at fs)) (sym kept)
@@ -71,11 +74,11 @@ takes_pushed ls l old new c n query none kept pushed numbered next says h =
 
 -- an open path is held last
 pub takes_path : {A : Type 0} (ls : List Line) (l : Line) (old new : Figures A) (path : Vec (IntPoint ℤ) A)
-    (query : Option Query) → query ≡ None
+    (command : Option NumberedQuery) → command ≡ None
     → new ≡ record old { lines = new.lines } → new.lines.items ≡ old.lines.items ++ path ∷ []
-    → GivesOpenPath l (points_at path.items) → Give ls (figures_at old) query
-    → Give (ls ++ l ∷ []) (figures_at new) query
-takes_path ls l old new path query none kept pushed says h =
+    → GivesOpenPath l (points_at path.items) → Give ls (figures_at old) command
+    → Give (ls ++ l ∷ []) (figures_at new) command
+takes_path ls l old new path command none kept pushed says h =
     let held = sym (ap (map (λ ps. points_at ps.items)) pushed
     ∙ map_push (λ ps. points_at ps.items) old.lines.items path) in
     subst (λ q. Give (ls ++ l ∷ []) (figures_at new) q) (sym none)
@@ -85,11 +88,11 @@ takes_path ls l old new path query none kept pushed says h =
 
 -- a point is held last
 pub takes_point : {A : Type 0} (ls : List Line) (l : Line) (old new : Figures A) (p : IntPoint ℤ)
-    (query : Option Query) → query ≡ None
+    (command : Option NumberedQuery) → command ≡ None
     → new ≡ record old { points = new.points } → new.points.items ≡ old.points.items ++ p ∷ []
-    → GivesPoint l (plain_point (λ z. z) p) → Give ls (figures_at old) query
-    → Give (ls ++ l ∷ []) (figures_at new) query
-takes_point ls l old new p query none kept pushed says h =
+    → GivesPoint l (plain_point (λ z. z) p) → Give ls (figures_at old) command
+    → Give (ls ++ l ∷ []) (figures_at new) command
+takes_point ls l old new p command none kept pushed says h =
     let held = sym (ap (map (plain_point (λ z. z))) pushed ∙ map_push (plain_point (λ z. z)) old.points.items p) in
     subst (λ q. Give (ls ++ l ∷ []) (figures_at new) q) (sym none)
     (subst (λ fs. AreFigures 1 (ls ++ l ∷ []) (figures_at fs)) (sym kept)

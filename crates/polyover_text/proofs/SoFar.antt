@@ -8,9 +8,9 @@ use Rattle.std.specs.Str.Lines.{lines, lines_of_parts}
 use Rattle.std.proofs.lemmas.List.{length-map, take_at}
 use Rattle.std.proofs.lemmas.List.Sums.{count_by-le-length}
 use Rattle.std.proofs.lemmas.List.Splits.{length-slice_split}
-use Rattle.polyover_text.specs.declared.query.Query.{Query}
+use Rattle.polyover_text.specs.declared.query.NumberedQuery.{NumberedQuery}
 use Rattle.polyover_text.specs.declared.input.Reading.{Reading}
-use Rattle.polyover_text.specs.Grammar.{Line, words, input_lines, GivenFigures, no_figures, AreFigures, none}
+use Rattle.polyover_text.specs.Grammar.{Line, words, input_lines, GivenFigures, no_figures, AreFigures, AsksAt, none}
 use Rattle.polyover_text.specs.Grammar.{IsGoodSoFar, IsFirstBad, bad, missing}
 use Rattle.polyover_text.specs.Inputs.{Give, HasRead, RefusesLine}
 use Rattle.polyover_text.specs.Statements.{figures_at}
@@ -24,7 +24,7 @@ pub record HasReadSoFar {A : Type 0} (all : List Line) (left : List (List ℕ)) 
 
 pub nothing_read : {A : Type 0} (all : List Line) (left : List (List ℕ)) (r : Reading A) → all ≡ map words left →
     figures_at r.figures ≡ no_figures
-    → r.query ≡ None → HasReadSoFar all left 0 r
+    → r.command ≡ None → HasReadSoFar all left 0 r
 nothing_read all left r parts empty no_command = record {
   done = [];
   parts = parts;
@@ -33,9 +33,10 @@ nothing_read all left r parts empty no_command = record {
 }
 
 -- what was read is good so far
-good_so_far : (ls : List Line) (fs : GivenFigures) (query : Option Query) → Give ls fs query → IsGoodSoFar ls
+good_so_far : (ls : List Line) (fs : GivenFigures) (command : Option NumberedQuery) → Give ls fs command
+    → IsGoodSoFar ls
 good_so_far ls fs None h = inl (fs, h)
-good_so_far ls fs (Some query) h = inr (fs, (query, h))
+good_so_far ls fs (Some asked) h = inr (fs, (asked.query, h.asks))
 
 -- the line that is refused is the first bad one
 pub first_bad : {A : Type 0} (all : List Line) (left rest : List (List ℕ)) (line : List ℕ) (n : ℕ) (r : Reading A)
@@ -49,7 +50,7 @@ first_bad all left rest line n r h next refused =
     let count : length more ≡ n + 1 = omega (arith, h.counted, length-append h.done (words line ∷ [])) in
     let after : take (n + 1) all ≡ more = ap (take (n + 1)) longer ∙ take_at more (map words rest) (n + 1) count in
     bad (omega (arith, count, ap length longer, length-append more (map words rest)))
-    (subst IsGoodSoFar (sym before) (good_so_far h.done (figures_at r.figures) r.query h.read))
+    (subst IsGoodSoFar (sym before) (good_so_far h.done (figures_at r.figures) r.command h.read))
     (λ good. refused.refuses h.done h.read (subst IsGoodSoFar after good))
 
 -- where no line is left, all are read
@@ -59,13 +60,22 @@ all_lines all left n r h ended = h.parts ∙ ap (λ l. h.done ++ map words l) en
 
 -- without a command the line after the last is bad
 pub command_missing : {A : Type 0} (all : List Line) (left : List (List ℕ)) (n : ℕ) (r : Reading A)
-    → HasReadSoFar all left n r → left ≡ [] → r.query ≡ None → IsFirstBad all (n + 1)
+    → HasReadSoFar all left n r → left ≡ [] → r.command ≡ None → IsFirstBad all (n + 1)
 command_missing all left n r h ended no_command =
     let whole = all_lines all left n r h ended in
     let count : length all ≡ n = ap length whole ∙ sym h.counted in
     subst (λ k. IsFirstBad all (k + 1)) count
     (missing (subst (λ l. AreFigures 1 l (figures_at r.figures)) (sym whole)
     (subst (Give h.done (figures_at r.figures)) no_command h.read)))
+
+-- and with one it is asked in its line
+pub command_found : {A : Type 0} (all : List Line) (left : List (List ℕ)) (n : ℕ) (r : Reading A)
+    (asked : NumberedQuery)
+    → HasReadSoFar all left n r → left ≡ [] → r.command ≡ Some asked
+    → AsksAt all (figures_at r.figures) asked.line asked.query
+command_found all left n r asked h ended found =
+    subst (λ ls. AsksAt ls (figures_at r.figures) asked.line asked.query) (sym (all_lines all left n r h ended))
+    (subst (Give h.done (figures_at r.figures)) found h.read)
 
 last_line_le : (x : List ℕ) (b : Bool) → length (cond b [] (x ∷ [])) ≤ 1
 last_line_le x true = omega arith

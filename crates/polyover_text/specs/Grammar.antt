@@ -20,9 +20,10 @@ use Rattle.polyover_text.specs.declared.clip_options.ClipOptions.{ClipOptions}
 use Rattle.polyover_text.specs.declared.options.OutputOptions.{OutputOptions}
 use Rattle.polyover_text.specs.declared.query.ClipQuery.{ClipQuery}
 use Rattle.polyover_text.specs.declared.query.OverlayQuery.{OverlayQuery}
+use Rattle.polyover_text.specs.declared.query.TilesQuery.{TilesQuery}
 use Rattle.polyover_text.specs.declared.query.Query.{Query}
 use Rattle.polyover_text.specs.declared.query.Query.TheVariants.{Edges, Overlay, Hierarchy, Relate, ClipLines}
-use Rattle.polyover_text.specs.declared.query.Query.TheVariants.{Slice, Contains, Locate}
+use Rattle.polyover_text.specs.declared.query.Query.TheVariants.{Slice, Tiles, Contains, Locate}
 
 -- ---- lines and words
 
@@ -62,6 +63,11 @@ pub record IsCoordinate (word : Word) (c : ℤ) : Type 0 where
 pub record IsArea (word : Word) (n : ℕ) : Type 0 where
   pub number : IsNumber word (pos n)
   pub in_range : n < 2 ^ 127
+
+-- the word is a number, and the side of a cell is this number, or 0 where it is out of the coordinate range
+pub data IsSide : Word → ℤ → Type 0 where
+  within : {word : Word} {c : ℤ} → IsCoordinate word c → IsSide word c
+  beyond : {word : Word} {c : ℤ} → IsNumber word c → ¬ (Within 4611686018427387903 c) → IsSide word (pos 0)
 
 -- the words are the points' coordinates, x before y
 pub data ArePoints : List Word → List Point → Type 0 where
@@ -158,11 +164,17 @@ pub data AsksClip : List Word → ClipQuery → Type 0 where
   asks_clip : {query : ClipQuery} {ws : List Word} → SetClipOptions default_clip ws query.options
       → AsksClip (fill_name query.fill_rule ∷ ws) query
 
+-- the words ask for tiles: they name a fill rule, and then write the width and the height of a cell
+pub data AsksTiles : List Word → TilesQuery → Type 0 where
+  asks_tiles : {query : TilesQuery} {v w : Word} → IsSide v query.width → IsSide w query.height
+      → AsksTiles (fill_name query.fill_rule ∷ v ∷ w ∷ []) query
+
 -- the line asks for this: `run edges FILL` for the edges under a fill rule, `run overlay RULE FILL OPT..` for the
 -- shapes of an overlay, `run hierarchy RULE FILL OPT..` for these and which of them lie in holes of which, `run relate
 -- FILL` for how subject and clip lie to each other, `run clip FILL OPT..` for the parts of the open paths that a clip by
--- the subject keeps, `run slice FILL` for the shapes into which the open paths cut the subject, `run contains` for
--- whether each point is inside the subject, `run locate` for where each point lies in it
+-- the subject keeps, `run slice FILL` for the shapes into which the open paths cut the subject, `run tiles FILL W H`
+-- for those into which a grid does, `run contains` for whether each point is inside the subject, `run locate` for where
+-- each point lies in it
 pub data IsCommand : Line → Query → Type 0 where
   edges : {fill : FillRule} → IsCommand (codes "run" ∷ codes "edges" ∷ fill_name fill ∷ []) (Edges fill)
   overlay : {query : OverlayQuery} {ws : List Word} → AsksOverlay ws query
@@ -173,6 +185,8 @@ pub data IsCommand : Line → Query → Type 0 where
   clip_lines : {query : ClipQuery} {ws : List Word} → AsksClip ws query
       → IsCommand (codes "run" ∷ codes "clip" ∷ ws) (ClipLines query)
   slice : {fill : FillRule} → IsCommand (codes "run" ∷ codes "slice" ∷ fill_name fill ∷ []) (Slice fill)
+  tiles : {query : TilesQuery} {ws : List Word} → AsksTiles ws query
+      → IsCommand (codes "run" ∷ codes "tiles" ∷ ws) (Tiles query)
   contains : IsCommand (codes "run" ∷ codes "contains" ∷ []) Contains
   locate : IsCommand (codes "run" ∷ codes "locate" ∷ []) Locate
 
@@ -234,6 +248,11 @@ pub record Asks (ls : List Line) (fs : GivenFigures) (query : Query) : Type 0 wh
   pub figures : AreFigures 1 before fs
   pub command : IsCommand line query
   pub blank : All (λ l. l ≡ []) after
+
+-- the same, and the command stands in the line with this number
+pub record AsksAt (ls : List Line) (fs : GivenFigures) (n : ℕ) (query : Query) : Type 0 where
+  pub asks : Asks ls fs query
+  pub number : n ≡ length asks.before + 1
 
 -- ---- bad lines
 

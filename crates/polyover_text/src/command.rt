@@ -5,13 +5,15 @@ ghost use Rattle.overlay_arrange.specs.declared.fill_rule.FillRule.{FillRule};
 ghost use Rattle.polyover_text.specs.declared.query.Query.{Query};
 ghost use Rattle.polyover_text.specs.declared.query.ClipQuery.{ClipQuery};
 ghost use Rattle.polyover_text.specs.declared.query.OverlayQuery.{OverlayQuery};
-ghost use Rattle.polyover_text.specs.Grammar.{IsCommand, AsksOverlay, AsksClip, fill_name};
+ghost use Rattle.polyover_text.specs.declared.query.TilesQuery.{TilesQuery};
+ghost use Rattle.polyover_text.specs.Grammar.{IsCommand, AsksOverlay, AsksClip, AsksTiles, fill_name};
 ghost use Rattle.polyover_text.specs.Words.{words_left};
 
 use crate::clip_options::parse_clip_options;
 use crate::fill::parse_fill_rule;
+use crate::number::parse_side;
 use crate::options::parse_options;
-use crate::query::{ClipQuery, OverlayQuery, Query};
+use crate::query::{ClipQuery, OverlayQuery, Query, TilesQuery};
 use crate::rule::parse_overlay_rule;
 use crate::words::Words;
 use overlay_arrange::fill_rule::FillRule;
@@ -29,6 +31,7 @@ pub fn parse_command(mut words: Words<'_>) -> Option<Query>
         b"relate" => Some(Query::Relate(last_fill_rule(words)?)),
         b"clip" => Some(Query::ClipLines(parse_clip(words)?)),
         b"slice" => Some(Query::Slice(last_fill_rule(words)?)),
+        b"tiles" => Some(Query::Tiles(parse_tiles(words)?)),
         b"contains" => if_last(words, Query::Contains),
         b"locate" => if_last(words, Query::Locate),
         _ => None,
@@ -84,4 +87,23 @@ fn parse_clip(mut words: Words<'_>) -> Option<ClipQuery>
     let fill_rule = parse_fill_rule(words.next()?)?;
     let options = parse_clip_options(words)?;
     Some(ClipQuery { fill_rule, options })
+}
+
+// The fill rule of tiles, and the sides of a cell.
+fn parse_tiles(mut words: Words<'_>) -> Option<TilesQuery>
+    ensures { MatchOption result
+        ((query : TilesQuery) → ¬ (AsksTiles (words_left words.entry) query))
+        (λ query. AsksTiles (words_left words.entry) query) }
+{
+    let fill_rule = parse_fill_rule(words.next()?)?;
+    let width = parse_side(words.next()?)?;
+    let height = parse_side(words.next()?)?;
+    match words.next() {
+        None => Some(TilesQuery {
+            fill_rule,
+            width,
+            height,
+        }),
+        Some(_) => None,
+    }
 }

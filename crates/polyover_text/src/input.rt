@@ -1,7 +1,7 @@
 //! What the whole input says.
 
 ghost use Rattle.std.specs.Prelude.{◌≡◌, MatchResult};
-ghost use Rattle.polyover_text.specs.Grammar.{words, input_lines, Asks};
+ghost use Rattle.polyover_text.specs.Grammar.{words, input_lines, AsksAt};
 ghost use Rattle.polyover_text.specs.Statements.{figures_at};
 ghost use Rattle.polyover_text.specs.Inputs.{TakesLine, RefusesLine, IsNamedFault};
 ghost use Rattle.polyover_text.specs.declared.input.InputError.TheVariants.{Memory};
@@ -9,7 +9,7 @@ ghost use Rattle.polyover_text.specs.declared.input.InputError.TheVariants.{Memo
 use crate::figures::{Figures, NumberedContour};
 use crate::line_error::LineError;
 use crate::lines::Lines;
-use crate::query::Query;
+use crate::query::{NumberedQuery, Query};
 use crate::statement::{Statement, parse_statement};
 use std::alloc::{AllocError, Allocator};
 
@@ -18,6 +18,8 @@ use std::alloc::{AllocError, Allocator};
 pub struct Input<A: Allocator> {
     /// What the lines before the command give.
     pub figures: Figures<A>,
+    /// The number of the command's line, counted from 1.
+    pub line: usize,
     /// What is asked for.
     pub query: Query,
 }
@@ -35,7 +37,7 @@ pub enum InputError {
 #[derive(Drop)]
 struct Reading<A: Allocator> {
     figures: Figures<A>,
-    query: Option<Query>,
+    command: Option<NumberedQuery>,
 }
 
 impl<A: Allocator + Copy> Reading<A> {
@@ -45,7 +47,7 @@ impl<A: Allocator + Copy> Reading<A> {
             (λ _. TakesLine number (words line.now) self.old self.new)
             (λ e. e ≡ LineError.Bad → RefusesLine (words line.now) self.old) }
     {
-        match (parse_statement(alloc, line)?, self.query) {
+        match (parse_statement(alloc, line)?, self.command) {
             (Statement::Blank, _) => {}
             (Statement::Contour(contour), None) => {
                 let line = number;
@@ -55,7 +57,12 @@ impl<A: Allocator + Copy> Reading<A> {
             }
             (Statement::OpenPath(points), None) => self.figures.lines.push(points)?,
             (Statement::Point(point), None) => self.figures.points.push(point)?,
-            (Statement::Run(query), None) => self.query = Some(query),
+            (Statement::Run(query), None) => {
+                self.command = Some(NumberedQuery {
+                    line: number,
+                    query,
+                });
+            }
             (_, Some(_)) => return Err(LineError::Bad),
         }
         Ok(())
@@ -65,12 +72,12 @@ impl<A: Allocator + Copy> Reading<A> {
 /// The figures and the command of an input, or its first bad line.
 pub fn parse_input<A: Allocator + Copy>(alloc: A, text: &[u8]) -> Result<Input<A>, InputError>
     ensures { MatchResult result
-        (λ c. Asks (input_lines text.now) (figures_at c.figures) c.query)
+        (λ c. AsksAt (input_lines text.now) (figures_at c.figures) c.line c.query)
         (λ e. IsNamedFault (input_lines text.now) e) }
 {
     let mut reading = Reading {
         figures: Figures::new(alloc),
-        query: None,
+        command: None,
     };
     let mut number = 0;
     for line in Lines::new(text) {
@@ -81,9 +88,13 @@ pub fn parse_input<A: Allocator + Copy>(alloc: A, text: &[u8]) -> Result<Input<A
             Err(LineError::Bad) => return Err(InputError::BadLine(number)),
         }
     }
-    let Reading { figures, query } = reading;
-    match query {
-        Some(query) => Ok(Input { figures, query }),
+    let Reading { figures, command } = reading;
+    match command {
+        Some(NumberedQuery { line, query }) => Ok(Input {
+            figures,
+            line,
+            query,
+        }),
         None => Err(InputError::BadLine(number + 1)),
     }
 }

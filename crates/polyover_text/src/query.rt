@@ -5,6 +5,15 @@ use crate::options::OutputOptions;
 use overlay_arrange::fill_rule::FillRule;
 use overlay_arrange::overlay_rule::OverlayRule;
 
+/// A query, and the number of the command's line.
+#[derive(Clone, Copy)]
+pub struct NumberedQuery {
+    /// The number of the line, counted from 1.
+    pub line: usize,
+    /// What is asked for.
+    pub query: Query,
+}
+
 /// What an input asks for.
 #[derive(Clone, Copy)]
 pub enum Query {
@@ -20,6 +29,8 @@ pub enum Query {
     ClipLines(ClipQuery),
     /// The shapes into which the lines cut the subject under this rule.
     Slice(FillRule),
+    /// The shapes into which a grid cuts the subject.
+    Tiles(TilesQuery),
     /// Whether each point is inside the subject.
     Contains,
     /// Where each point lies in the subject.
@@ -44,4 +55,16 @@ pub struct ClipQuery {
     pub fill_rule: FillRule,
     /// Which parts are kept.
     pub options: ClipOptions,
+}
+
+/// The rule of tiles, and the grid along which the subject is cut. A side of its cells that was given out of the
+/// coordinate range is 0: no grid has cells of either.
+#[derive(Clone, Copy)]
+pub struct TilesQuery {
+    /// Which windings are filled.
+    pub fill_rule: FillRule,
+    /// How wide a cell is.
+    pub width: i64,
+    /// How high a cell is.
+    pub height: i64,
 }

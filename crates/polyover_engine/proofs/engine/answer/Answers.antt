@@ -15,9 +15,9 @@ returns-in_err-input g c =
     rw (p.1, p.2) (parsing_failed _ _ _ _ _ _ c.in_ok-bytes.ensures c.deref.ensures.value _ c.in_err-input.ensures)
 
 pub answer_text-requires : goal.answer_text-requires
-answer_text-requires g c = asked_in_range _ _ _ c.in_ok-input.ensures
+answer_text-requires g c = asked_in_range _ _ _ c.in_ok-input.ensures.asks
 
 pub returns : goal.returns
 returns g c =
-    answered_or_ended _ _ _ _ _ _ c.in_ok-bytes.ensures c.deref.ensures.value _ _ c.in_ok-input.ensures string_bytes
+    answered_or_ended _ _ _ _ _ _ c.in_ok-bytes.ensures c.deref.ensures.value _ _ _ c.in_ok-input.ensures string_bytes
     c.answer_text.result c.answer_text.ensures

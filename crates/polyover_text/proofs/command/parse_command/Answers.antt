@@ -2,7 +2,7 @@ use Rattle.std.proofs.Common.{◌≡◌, ◌∷◌, None, codes, inl, inr, refl,
 use Rattle.std.proofs.lemmas.Slice.Eq.{text_from_reads}
 use Rattle.polyover_text.specs.Words.{words_left}
 use Rattle.polyover_text.proofs.Commands.{edges_asked, overlay_asked, hierarchy_asked, no_rules_named}
-use Rattle.polyover_text.proofs.Commands.{clip_asked, no_clip_named}
+use Rattle.polyover_text.proofs.Commands.{clip_asked, no_clip_named, tiles_asked, no_tiles_named}
 use Rattle.polyover_text.proofs.Commands.{relation_asked, slice_asked, no_fill_named, contains_asked, locate_asked}
 use Rattle.polyover_text.proofs.command.parse_command.Goals as goal
 
@@ -85,6 +85,21 @@ returns-in_err-parse_clip-in-clip c =
     rw none (no_clip_named _ (words_left c.next.new.self) (c.in_ok-next.ensures.steps
     ∙ ap (λ w. w ∷ words_left c.next.new.self) first)
     c.in_err-parse_clip-in-clip.ensures)
+
+pub returns-in_ok-parse_tiles-in-tiles : goal.returns-in_ok-parse_tiles-in-tiles
+returns-in_ok-parse_tiles-in-tiles c =
+    let first : c.in_ok-next.field-0.now ≡ codes "tiles" = search (rules, text_from_reads) in
+    tiles_asked _ (words_left c.next.new.self) _ (c.in_ok-next.ensures.steps
+    ∙ ap (λ w. w ∷ words_left c.next.new.self) first)
+    c.in_ok-parse_tiles-in-tiles.ensures
+
+pub returns-in_err-parse_tiles-in-tiles : goal.returns-in_err-parse_tiles-in-tiles
+returns-in_err-parse_tiles-in-tiles c =
+    let first : c.in_ok-next.field-0.now ≡ codes "tiles" = search (rules, text_from_reads) in
+    let none : c.from_residual-in_err-parse_tiles-in-tiles.result ≡ None = search rules in
+    rw none (no_tiles_named _ (words_left c.next.new.self) (c.in_ok-next.ensures.steps
+    ∙ ap (λ w. w ∷ words_left c.next.new.self) first)
+    c.in_err-parse_tiles-in-tiles.ensures)
 
 pub returns-in_err-last_fill_rule-in-edges : goal.returns-in_err-last_fill_rule-in-edges
 returns-in_err-last_fill_rule-in-edges c =

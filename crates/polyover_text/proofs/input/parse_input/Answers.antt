@@ -3,7 +3,7 @@ use Rattle.std.specs.Str.Lines.{lines}
 use Rattle.polyover_text.specs.Grammar.{words}
 use Rattle.polyover_text.specs.Lines.{lines_left}
 use Rattle.polyover_text.specs.declared.line_error.LineError.TheVariants.{Bad}
-use Rattle.polyover_text.proofs.SoFar.{nothing_read, first_bad, command_missing, count_read}
+use Rattle.polyover_text.proofs.SoFar.{nothing_read, first_bad, command_missing, command_found, count_read}
 use Rattle.polyover_text.proofs.input.parse_input.Goals as goal
 
 pub loop-line-init : goal.loop-line-init
@@ -33,6 +33,10 @@ overflow_add-result g c =
     c.loop-line.invariant.read in
     search rules
 
-pub returns-in-None-query : goal.returns-in-None-query
-returns-in-None-query g c = command_missing _ _ _ _ c.loop-line.invariant.read c.in-None.ensures.steps.0
-    c.in-None-query.is
+pub returns-in-None-command : goal.returns-in-None-command
+returns-in-None-command g c = command_missing _ _ _ _ c.loop-line.invariant.read c.in-None.ensures.steps.0
+    c.in-None-command.is
+
+pub returns-in-Some-command : goal.returns-in-Some-command
+returns-in-Some-command g c = command_found _ _ _ _ _ c.loop-line.invariant.read c.in-None.ensures.steps.0
+    c.in-Some-command.is

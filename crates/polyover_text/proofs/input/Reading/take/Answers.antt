@@ -1,7 +1,8 @@
 use Rattle.std.proofs.Common.{refl, subst}
 use Rattle.std.proofs.lemmas.Result.{err_from_is_err_and}
+use Rattle.polyover_text.specs.Inputs.{Give}
 use Rattle.polyover_text.specs.Statements.{figures_at, IsFaultOf}
-use Rattle.polyover_text.proofs.GoodLines.{takes_blank, refuses_nothing}
+use Rattle.polyover_text.proofs.GoodLines.{takes_blank, takes_command, refuses_nothing}
 use Rattle.polyover_text.proofs.Readings.{refuses_after_command, takes_pushed, takes_path, takes_point}
 use Rattle.polyover_text.proofs.input.Reading.take.Goals as goal
 use Rattle.polyover_text.proofs.input.Reading.take.Goals.{in_default-Some-via-in-Contour+in-Some}
@@ -36,7 +37,15 @@ returns-in_default-Some g c =
 pub returns-in-Blank-default : goal.returns-in-Blank-default
 returns-in-Blank-default g c =
     let says = rw c.in-Blank-default.is-0 at c.in_ok-parse_statement.ensures in
-    record { takes = λ ls e h. takes_blank ls (figures_at c.args.self.now.figures) c.args.self.now.query _ h says }
+    record { takes = λ ls e h. takes_blank ls (figures_at c.args.self.now.figures) c.args.self.now.command _ h says }
+
+pub returns-in-Run-None : goal.returns-in-Run-None
+returns-in-Run-None g c =
+    let says = rw c.in-Run-None.is-0 at c.in_ok-parse_statement.ensures in
+    let fs = figures_at c.args.self.now.figures in
+    record {
+      takes = λ ls e h. takes_command ls fs _ c.args.number _ (subst (Give ls fs) c.in-Run-None.is-1 h) says e;
+    }
 
 pub returns-in_ok-push-in-Contour-None : goal.returns-in_ok-push-in-Contour-None
 returns-in_ok-push-in-Contour-None g c =
