@@ -1,4 +1,3 @@
-//! Tests of `overlay_builder`: builders, and points that are left out.
+//! Tests of `overlay_builder`: builders.
 
 mod builder;
-mod thin;

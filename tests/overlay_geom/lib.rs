@@ -1,4 +1,4 @@
-//! Tests of `overlay_geom`: numbers, points, paths and resources.
+//! Tests of `overlay_geom`: numbers, points, paths, resources, and points that are left out.
 
 mod coordinate;
 mod error;
@@ -6,6 +6,7 @@ mod flat;
 mod path;
 mod point;
 mod resource;
+mod thin;
 mod unsigned;
 mod vector;
 mod wide;

@@ -1,15 +1,11 @@
 pub mod AddedContours
 pub mod Balanced
-pub mod BentPart
-pub mod BentStack
 pub mod FirstPoints
 pub mod Fronts
 pub mod LeftOut
 pub mod Mapped
-pub mod NarrowedLists
 pub mod PassedEdges
 pub mod PathLists
-pub mod PlainPoints
 pub mod Queries
 pub mod SingleSteps
 pub mod SourcePaths

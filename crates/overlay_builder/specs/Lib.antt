@@ -4,4 +4,3 @@ pub mod Held
 pub mod Passing
 pub mod PathLists
 pub mod Paths
-pub mod Thinning

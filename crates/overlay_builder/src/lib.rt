@@ -7,4 +7,3 @@ pub mod path;
 pub mod points;
 mod single_step;
 pub mod solver;
-pub mod thin;

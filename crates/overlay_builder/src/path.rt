@@ -11,13 +11,13 @@ ghost use Rattle.overlay_builder.specs.Paths.{passed_edge, path_steps_of, leads_
 ghost use Rattle.overlay_builder.specs.Paths.{IsTakenAs, AddsPath, contour_kind};
 ghost use Rattle.overlay_builder.specs.PathLists.{carried_weight, path_as, WouldWeighTooMuch};
 
-use crate::thin::thinned;
 use overlay_arrange::content::Content;
 use overlay_arrange::count::EdgeCount;
 use overlay_arrange::edge::{CountedEdge, compare_points};
 use overlay_geom::error::OverlayError;
 use overlay_geom::number::IntNumber;
 use overlay_geom::point::IntPoint;
+use overlay_geom::thin::thinned;
 use std::alloc::Allocator;
 use std::cmp::Ordering;
 

@@ -13,10 +13,10 @@ ghost use Rattle.overlay_walk.specs.GroupedContours.{plain_contours};
 ghost use Rattle.overlay_walk.specs.Steps.{plain_steps, IsLong};
 ghost use Rattle.overlay_extract.specs.Places.{place_lists, AreInside};
 
-use overlay_builder::thin::thinned;
 use overlay_geom::error::OverlayError;
 use overlay_geom::number::IntNumber;
 use overlay_geom::path::{IntContour, IntShape, IntShapes};
+use overlay_geom::thin::thinned;
 use overlay_walk::contour::Contour;
 use overlay_walk::step::Step;
 use std::alloc::Allocator;

@@ -1,4 +1,6 @@
 pub mod AlongEdge
+pub mod BentPart
+pub mod BentStack
 pub mod Beside
 pub mod Between
 pub mod Comparisons
@@ -19,12 +21,14 @@ pub mod MergedOnce
 pub mod MergedWindings
 pub mod Merging
 pub mod Midpoints
+pub mod NarrowedLists
 pub mod Numbered
 pub mod OnWay
 pub mod OneLine
 pub mod Orders
 pub mod PackedPaths
 pub mod Places
+pub mod PlainPoints
 pub mod PointComparisons
 pub mod PointOrder
 pub mod Products

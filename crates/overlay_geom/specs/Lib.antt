@@ -6,6 +6,7 @@ pub mod FlatLends
 pub mod FlatShapes
 pub mod Lines
 pub mod Merged
+pub mod Narrowed
 pub mod Numbered
 pub mod Numbers
 pub mod Packed

@@ -11,4 +11,5 @@ pub mod path;
 pub mod point;
 pub mod resolved;
 pub mod resource;
+pub mod thin;
 pub mod vector;

@@ -7,7 +7,7 @@ use Rattle.std.proofs.Math.Nat.{add-mod_right, mod-eq_of_lt, mod_self}
 use Rattle.overlay_geom.specs.Plane.{Point, cross_at}
 use Rattle.overlay_geom.specs.Thinned.{IsOnOneLine, point_round}
 use Rattle.overlay_geom.specs.Thinned.IsThinned.{drop_one}
-use Rattle.overlay_builder.specs.Thinning.{IsNarrowed, IsBentInside}
+use Rattle.overlay_geom.specs.Narrowed.{IsNarrowed, IsBentInside}
 
 -- the point at a place of a list
 abbrev pub point_at : List Point → ℕ → Point

@@ -10,9 +10,9 @@ use Rattle.overlay_geom.specs.Plane.{Point, cross_at}
 use Rattle.overlay_geom.specs.Thinned.{IsOnOneLine, IsThinned}
 use Rattle.overlay_geom.specs.Thinned.IsThinned.{thin, drop_one}
 use Rattle.overlay_geom.proofs.Cross.{cross_at_first}
-use Rattle.overlay_builder.specs.Thinning.{IsNarrowed, IsBentInside}
-use Rattle.overlay_builder.proofs.NarrowedLists.{point_at, turn_at, cross_along, turn_at-first, turn_at-last}
-use Rattle.overlay_builder.proofs.NarrowedLists.{remove_last, IsNarrowed-drop, IsBentInside-run}
+use Rattle.overlay_geom.specs.Narrowed.{IsNarrowed, IsBentInside}
+use Rattle.overlay_geom.proofs.NarrowedLists.{point_at, turn_at, cross_along, turn_at-first, turn_at-last}
+use Rattle.overlay_geom.proofs.NarrowedLists.{remove_last, IsNarrowed-drop, IsBentInside-run}
 
 -- nothing is left of a closed list of at most two points
 pub IsThinned-few : (ps : List Point) → length ps ≤ 2 → IsThinned ps []

@@ -5,12 +5,12 @@ use Rattle.std.proofs.lemmas.List.{length-map, take-map}
 use Rattle.std.proofs.lemmas.List.Elements.{All-take}
 use Rattle.overlay_geom.specs.Points.{plain_point, plain_points, InRange, AllInRange}
 use Rattle.overlay_geom.specs.Thinned.{IsOnOneLine}
-use Rattle.overlay_builder.specs.Thinning.{IsNarrowed, IsBentInside}
-use Rattle.overlay_builder.proofs.NarrowedLists.{point_at, IsNarrowed-trans, IsBentInside-run}
-use Rattle.overlay_builder.proofs.BentStack.{IsNarrowed-pop, IsBentInside-push}
-use Rattle.overlay_builder.proofs.PlainPoints.{cross-read_top}
+use Rattle.overlay_geom.specs.Narrowed.{IsNarrowed, IsBentInside}
+use Rattle.overlay_geom.proofs.NarrowedLists.{point_at, IsNarrowed-trans, IsBentInside-run}
+use Rattle.overlay_geom.proofs.BentStack.{IsNarrowed-pop, IsBentInside-push}
+use Rattle.overlay_geom.proofs.PlainPoints.{cross-read_top}
 use Rattle.overlay_geom.proofs.Mapped.{All-mapped_at}
-use Rattle.overlay_builder.proofs.thin.pop_straight.Goals as goal
+use Rattle.overlay_geom.proofs.thin.pop_straight.Goals as goal
 
 pub is_straight-requires-clause-first : goal.is_straight-requires-clause-first
 is_straight-requires-clause-first g c =

@@ -1,8 +1,8 @@
 //! Closed lists without the points that lie on one line with their neighbours.
 
-use overlay_builder::thin::thinned;
 use overlay_geom::error::OverlayError;
 use overlay_geom::point::{IntPoint, in_range};
+use overlay_geom::thin::thinned;
 use std::alloc::Global;
 use std::process::Abort;
 

@@ -7,9 +7,9 @@ use Rattle.std.proofs.lemmas.List.{get_or_append_left, get_or_at, length-append}
 use Rattle.std.proofs.lemmas.List.Edits.{remove-append_left}
 use Rattle.overlay_geom.specs.Plane.{Point, cross_at}
 use Rattle.overlay_geom.specs.Thinned.{IsOnOneLine}
-use Rattle.overlay_builder.specs.Thinning.{IsNarrowed, IsBentInside}
-use Rattle.overlay_builder.proofs.NarrowedLists.{point_at, turn_at, cross_along, turn_at-inside, remove_last}
-use Rattle.overlay_builder.proofs.NarrowedLists.{IsNarrowed-drop, IsBentInside-at, IsBentInside-by_places}
+use Rattle.overlay_geom.specs.Narrowed.{IsNarrowed, IsBentInside}
+use Rattle.overlay_geom.proofs.NarrowedLists.{point_at, turn_at, cross_along, turn_at-inside, remove_last}
+use Rattle.overlay_geom.proofs.NarrowedLists.{IsNarrowed-drop, IsBentInside-at, IsBentInside-by_places}
 
 -- the last two points of a stack and the next one stand in a row
 row_at_top : (ps : List Point) (w : Point) (rest : List Point) (k : ℕ) → length ps ≡ k + 2 →

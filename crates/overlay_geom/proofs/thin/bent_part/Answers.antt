@@ -9,12 +9,12 @@ use Rattle.std.proofs.Math.Nat.{sub_self}
 use Rattle.overlay_geom.specs.declared.point.IntPoint.{IntPoint}
 use Rattle.overlay_geom.specs.Points.{plain_point, plain_points, InRange}
 use Rattle.overlay_geom.specs.Thinned.{IsThinned}
-use Rattle.overlay_builder.specs.Thinning.{IsNarrowed}
-use Rattle.overlay_builder.proofs.NarrowedLists.{IsNarrowed-trans}
-use Rattle.overlay_builder.proofs.BentPart.{IsNarrowed-part_last, IsNarrowed-part_first, IsThinned-part, IsThinned-few}
-use Rattle.overlay_builder.proofs.PlainPoints.{cross-read}
+use Rattle.overlay_geom.specs.Narrowed.{IsNarrowed}
+use Rattle.overlay_geom.proofs.NarrowedLists.{IsNarrowed-trans}
+use Rattle.overlay_geom.proofs.BentPart.{IsNarrowed-part_last, IsNarrowed-part_first, IsThinned-part, IsThinned-few}
+use Rattle.overlay_geom.proofs.PlainPoints.{cross-read}
 use Rattle.overlay_geom.proofs.Mapped.{All-mapped_at, mapped_range}
-use Rattle.overlay_builder.proofs.thin.bent_part.Goals as goal
+use Rattle.overlay_geom.proofs.thin.bent_part.Goals as goal
 
 pub is_straight-requires-clause-first : goal.is_straight-requires-clause-first
 is_straight-requires-clause-first g c = All-mapped_at (InRange g.I.IntNumber.limit) (plain_point g.I.IntNumber.whole) _

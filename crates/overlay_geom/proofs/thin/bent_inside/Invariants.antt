@@ -1,8 +1,8 @@
 -- What is kept so far, followed by what is to come, thins as the points do.
 use Rattle.std.proofs.Common.{◌++◌, drop}
 use Rattle.overlay_geom.specs.Points.{plain_points, AllInRange}
-use Rattle.overlay_builder.specs.Thinning.{IsNarrowed, IsBentInside}
-use Rattle.overlay_builder.proofs.thin.bent_inside.Given as goal
+use Rattle.overlay_geom.specs.Narrowed.{IsNarrowed, IsBentInside}
+use Rattle.overlay_geom.proofs.thin.bent_inside.Given as goal
 
 abbrev pub invariant-loop-point : goal.invariant-loop-point
 invariant-loop-point g l = record {

@@ -2,7 +2,7 @@
 use Rattle.std.proofs.Common.{◌≡◌, slice_range, sym, subst, rules}
 use Rattle.overlay_geom.specs.Points.{plain_point, plain_points, InRange, AllInRange}
 use Rattle.overlay_geom.proofs.Mapped.{All-mapped_range}
-use Rattle.overlay_builder.proofs.thin.thinned.Goals as goal
+use Rattle.overlay_geom.proofs.thin.thinned.Goals as goal
 
 pub returns-clause-in_range : goal.returns-clause-in_range
 returns-clause-in_range g c =

@@ -1,8 +1,8 @@
 -- What is left thins alike before the next point, is bent inside and in range.
 use Rattle.std.proofs.Common.{vec_len}
 use Rattle.overlay_geom.specs.Points.{plain_point, plain_points, AllInRange}
-use Rattle.overlay_builder.specs.Thinning.{IsNarrowedBefore, IsBentInside}
-use Rattle.overlay_builder.proofs.thin.pop_straight.Given as goal
+use Rattle.overlay_geom.specs.Narrowed.{IsNarrowedBefore, IsBentInside}
+use Rattle.overlay_geom.proofs.thin.pop_straight.Given as goal
 
 abbrev pub invariant-loop-bent : goal.invariant-loop-bent
 invariant-loop-bent g l = record {

@@ -1,8 +1,8 @@
 -- The points thin as the part from one place to the other does, which gets shorter.
 use Rattle.std.proofs.Common.{◌-◌, ◌≤◌, length, slice_range}
 use Rattle.overlay_geom.specs.Points.{plain_points}
-use Rattle.overlay_builder.specs.Thinning.{IsNarrowed}
-use Rattle.overlay_builder.proofs.thin.bent_part.Given as goal
+use Rattle.overlay_geom.specs.Narrowed.{IsNarrowed}
+use Rattle.overlay_geom.proofs.thin.bent_part.Given as goal
 
 abbrev pub invariant-loop-to : goal.invariant-loop-to
 invariant-loop-to g l = record {

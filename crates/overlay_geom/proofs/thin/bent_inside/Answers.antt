@@ -3,10 +3,10 @@ use Rattle.std.proofs.Common.{[], ◌∷◌, ◌++◌, ◌≡◌, ◌+◌, drop,
 use Rattle.std.proofs.lemmas.List.{append_assoc, map_push}
 use Rattle.std.proofs.lemmas.List.Elements.{All-push}
 use Rattle.overlay_geom.specs.Points.{plain_point, plain_points, InRange, AllInRange}
-use Rattle.overlay_builder.specs.Thinning.{IsNarrowed, IsBentInside}
-use Rattle.overlay_builder.proofs.NarrowedLists.{IsNarrowed-trans}
+use Rattle.overlay_geom.specs.Narrowed.{IsNarrowed, IsBentInside}
+use Rattle.overlay_geom.proofs.NarrowedLists.{IsNarrowed-trans}
 use Rattle.overlay_geom.proofs.Mapped.{mapped_rest, All-mapped_at}
-use Rattle.overlay_builder.proofs.thin.bent_inside.Goals as goal
+use Rattle.overlay_geom.proofs.thin.bent_inside.Goals as goal
 
 pub pop_straight-requires-clause-next : goal.pop_straight-requires-clause-next
 pop_straight-requires-clause-next g c = All-mapped_at (InRange g.I.IntNumber.limit) (plain_point g.I.IntNumber.whole) _

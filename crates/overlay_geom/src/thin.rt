@@ -3,12 +3,12 @@
 ghost use Rattle.std.specs.Prelude.{◌↔◌, ◌≤◌, [], ◌∷◌, ◌++◌, length, slice_range, IfOk, IsOkUnless, IsTrue};
 ghost use Rattle.overlay_geom.specs.Points.{plain_point, plain_points, InRange, AllInRange};
 ghost use Rattle.overlay_geom.specs.Thinned.{IsOnOneLine, IsThinned};
-ghost use Rattle.overlay_builder.specs.Thinning.{IsNarrowed, IsNarrowedBefore, IsBentInside};
+ghost use Rattle.overlay_geom.specs.Narrowed.{IsNarrowed, IsNarrowedBefore, IsBentInside};
 
-use overlay_geom::error::OverlayError;
-use overlay_geom::number::{IntNumber, WideIntNumber};
-use overlay_geom::point::IntPoint;
-use overlay_geom::vector::cross_at;
+use crate::error::OverlayError;
+use crate::number::{IntNumber, WideIntNumber};
+use crate::point::IntPoint;
+use crate::vector::cross_at;
 use std::alloc::Allocator;
 
 /// The closed list without the points that lie on one line with their two neighbours: they are

@@ -5,7 +5,7 @@ use Rattle.overlay_geom.specs.declared.point.IntPoint.{IntPoint}
 use Rattle.overlay_geom.specs.Plane.{Point, cross_at}
 use Rattle.overlay_geom.specs.Points.{plain_point, plain_points}
 use Rattle.overlay_geom.proofs.Mapped.{read_mapped}
-use Rattle.overlay_builder.proofs.NarrowedLists.{point_at, cross_along}
+use Rattle.overlay_geom.proofs.NarrowedLists.{point_at, cross_along}
 
 module _ {I : Type 0} (whole : I → ℤ) (xs : List (IntPoint I)) where
   -- the point that was read at a place
