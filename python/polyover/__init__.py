@@ -1,6 +1,7 @@
 """Boolean operations on polygons with whole coordinates, by the proved program polyover."""
 
-from .calls import clip, edges, hierarchy, locate, overlay, relate, simplify, slice  # pylint: disable=redefined-builtin
+from .calls import clip, edges, hierarchy, locate, overlay, relate, simplify, tiles
+from .calls import slice  # pylint: disable=redefined-builtin
 from .errors import BadInput, NotResolved, NotSettled, OutOfMemory, PolyoverError, ProgramMissing, TooManyEdges
 from .geojson import contours_of, lines_of
 from .scaled import Scaled
@@ -27,4 +28,5 @@ __all__ = [
     "relate",
     "simplify",
     "slice",
+    "tiles",
 ]

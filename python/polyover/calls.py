@@ -3,7 +3,7 @@
 from .errors import BadInput, NotResolved
 from .program import BadLine, answer
 from .shapes import Paths, Shapes
-from .text import FILLS, RELATIONS, RULES, edges_in, lines_of, paths_in, shapes_in, word
+from .text import FILLS, RELATIONS, RULES, coordinate, edges_in, lines_of, paths_in, shapes_in, word
 
 AREA_LIMIT = 2**127 - 1
 
@@ -62,6 +62,16 @@ def slice(shape, lines, fill="nonzero"):  # pylint: disable=redefined-builtin
     """The shapes into which open paths cut a shape."""
     given = lines_of("subject", shape) + lines_of("line", lines)
     return Shapes(shapes_in(answer(f"{given}run slice {word(FILLS, fill, 'fill rule')}\n"))[0])
+
+
+def tiles(shape, width, height, fill="nonzero"):
+    """The shapes into which the cells of a grid, which has a node at (0, 0), cut a shape: each lies in one cell."""
+    given, grid = lines_of("subject", shape), f"{coordinate(width)} {coordinate(height)}"
+    try:
+        return Shapes(shapes_in(answer(f"{given}run tiles {word(FILLS, fill, 'fill rule')} {grid}\n"))[0])
+    except BadLine:
+        told = f"cells of {width} by {height} do not fit: at least 1 wide and high, at most 1,000 lines in a direction"
+        raise BadInput(told) from None
 
 
 def locate(shape, points):

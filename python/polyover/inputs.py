@@ -6,7 +6,7 @@ from .program import answer
 from .text import edges_in, lines_of, paths_in, points_in, shapes_in
 
 KINDS = ("subject", "clip", "line", "point")
-SHAPE_COMMANDS = ("overlay", "hierarchy", "slice")
+SHAPE_COMMANDS = ("overlay", "hierarchy", "slice", "tiles")
 STRENGTHS = (0.25, 0.5, 0.37)
 
 

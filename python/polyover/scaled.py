@@ -98,6 +98,14 @@ class Scaled:
         """As `polyover.slice`."""
         return self._settled(lambda at, s, l: at.shapes(calls.slice(s, l, fill)), shape, lines)
 
+    def tiles(self, shape, width, height, fill="nonzero"):
+        """As `polyover.tiles`: a cell's width and height, times the scale, are rounded, and a node is at the origin."""
+        return self._settled(lambda at, s: at.shapes(calls.tiles(s, *at.sides(width, height), fill)), shape)
+
+    def sides(self, width, height):
+        """The whole width and height of a cell."""
+        return Scaled(self.scale).whole_point((width, height))
+
     def locate(self, shape, points):
         """As `polyover.locate`."""
         return calls.locate(self.whole(shape), self.whole([points])[0])

@@ -65,6 +65,14 @@ class Rows(unittest.TestCase):
         )
         self.assertEqual(printed_shapes(polyover.slice(HALL, WALLS, "evenodd")), rooms)
 
+    def test_tiles(self):
+        bent = [[(0, 0), (3, 0), (3, 1), (1, 1), (1, 3), (0, 3)]]
+        cut = "shape\n2 0 2 1 1 1 1 3 0 3 0 0\nshape\n3 0 3 1 2 1 2 0\n"
+        self.assertEqual(printed_shapes(polyover.tiles(bent, 2, 5)), cut)
+        self.assertEqual(len(polyover.tiles([SQUARE], 2, 2, "evenodd")), 4)
+        self.assertEqual(polyover.tiles([SQUARE], 2, 2, "negative"), [])
+        self.assertEqual(polyover.tiles([], 1, 1), [])
+
     def test_locations(self):
         points = [(2, 2), (4, 1), (9, 9)]
         self.assertEqual(polyover.locate([SQUARE], points), ["inside", "boundary", "outside"])

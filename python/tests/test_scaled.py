@@ -24,6 +24,14 @@ class ScaledFloats(unittest.TestCase):
         self.assertEqual(scaled.overlay([square]), [[[(0.0, 0.5), (0.0, 0.0), (0.25, 0.0), (0.25, 0.5)]]])
         self.assertEqual(scaled.locate([square], [(0.1, 0.1), (0.25, 0.1)]), ["inside", "boundary"])
 
+    def test_cells_have_a_node_at_the_origin(self):
+        scaled = polyover.Scaled(100, (0.5, 0))
+        square = [(0.0, 0.0), (1.0, 0.0), (1.0, 0.5), (0.0, 0.5)]
+        left, right = scaled.tiles([square], 0.75, 0.5)
+        self.assertEqual({x for x, _ in left[0]} | {x for x, _ in right[0]}, {0.0, 0.5, 1.0})
+        with self.assertRaisesRegex(polyover.BadInput, "do not fit"):
+            scaled.tiles([square], 0.001, 0.5)
+
     def test_finer_where_splitting_does_not_settle(self):
         contours = [[(float(x), float(y)) for x, y in contour] for contour in UNSETTLED]
         with warnings.catch_warnings(record=True) as told:

@@ -37,6 +37,19 @@ class Wrong(unittest.TestCase):
             with self.assertRaises(polyover.BadInput):
                 polyover.overlay([SQUARE], minimum_area=area)
 
+    def test_grids(self):
+        for width, height in ((0, 1), (1, -1), (LIMIT, 0)):
+            with self.assertRaisesRegex(polyover.BadInput, "do not fit"):
+                polyover.tiles([SQUARE], width, height)
+        with self.assertRaisesRegex(polyover.BadInput, "do not fit"):
+            polyover.tiles([[(0, 0), (1002, 0), (0, 1)]], 1, 1)
+        with self.assertRaisesRegex(polyover.BadInput, "no whole number"):
+            polyover.tiles([SQUARE], 0.5, 1)
+        with self.assertRaisesRegex(polyover.BadInput, "out of range"):
+            polyover.tiles([SQUARE], 1, LIMIT + 1)
+        with self.assertRaisesRegex(polyover.BadInput, "unknown fill rule"):
+            polyover.tiles([SQUARE], 1, 1, "odd")
+
     def test_refusals(self):
         with self.assertRaises(polyover.NotSettled):
             polyover.overlay([UNSETTLED[0], UNSETTLED[1]], (), "clip")
