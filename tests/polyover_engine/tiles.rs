@@ -19,7 +19,8 @@ fn check_tiles(rt: &(impl Abort + Alloc), lines: &str, grid: &str, wanted: &str,
 
 #[test]
 fn a_square(rt: HostRuntime) {
-    let four = "shape\n2 0 2 2 0 2 0 0\nshape\n2 2 2 4 0 4 0 2\nshape\n4 0 4 2 2 2 2 0\nshape\n4 2 4 4 2 4 2 2\n";
+    let four =
+        "shape\n2 0 2 2 0 2 0 0\nshape\n2 2 2 4 0 4 0 2\nshape\n4 0 4 2 2 2 2 0\nshape\n4 2 4 4 2 4 2 2\n";
     check_tiles(&rt, SQUARE, "NonZero 2 2", four, Exit::Answered);
     check_tiles(&rt, SQUARE, "EvenOdd 2 2", four, Exit::Answered);
     check_tiles(&rt, SQUARE, "Negative 2 2", "", Exit::Answered);
@@ -31,7 +32,13 @@ fn a_square(rt: HostRuntime) {
 fn other_lines(rt: HostRuntime) {
     let others = "clip 1 1 3 1 3 3 1 3\nsubject 0 0 4 0 4 4 0 4\nline 1 -9 1 9\npoint 3 3\n";
     check_tiles(&rt, others, "NonZero 5 5", UNCUT, Exit::Answered);
-    check_tiles(&rt, "clip 0 0 4 0 4 4 0 4\n", "NonZero 2 2", "", Exit::Answered);
+    check_tiles(
+        &rt,
+        "clip 0 0 4 0 4 4 0 4\n",
+        "NonZero 2 2",
+        "",
+        Exit::Answered,
+    );
     check_tiles(&rt, "", "NonZero 1 1", "", Exit::Answered);
 }
 
@@ -57,10 +64,34 @@ fn a_bent_shape_and_a_triangle(rt: HostRuntime) {
 // At most 1,000 lines of a grid fit in each direction.
 #[test]
 fn a_thousand_lines(rt: HostRuntime) {
-    check_tiles(&rt, "subject 0 0 1001 0\n", "NonZero 1 1", "", Exit::Answered);
-    check_tiles(&rt, "subject 0 0 1002 0\n", "NonZero 1 1", "", Exit::BadInput(2));
-    check_tiles(&rt, "subject 0 0 0 1002\n", "NonZero 9 1", "", Exit::BadInput(2));
-    check_tiles(&rt, "subject 0 0 1002 0 0 1\n", "NonZero 1 1", "", Exit::BadInput(2));
+    check_tiles(
+        &rt,
+        "subject 0 0 1001 0\n",
+        "NonZero 1 1",
+        "",
+        Exit::Answered,
+    );
+    check_tiles(
+        &rt,
+        "subject 0 0 1002 0\n",
+        "NonZero 1 1",
+        "",
+        Exit::BadInput(2),
+    );
+    check_tiles(
+        &rt,
+        "subject 0 0 0 1002\n",
+        "NonZero 9 1",
+        "",
+        Exit::BadInput(2),
+    );
+    check_tiles(
+        &rt,
+        "subject 0 0 1002 0 0 1\n",
+        "NonZero 1 1",
+        "",
+        Exit::BadInput(2),
+    );
 }
 
 #[test]
@@ -78,7 +109,13 @@ fn numbers_that_are_no_sides_of_cells(rt: HostRuntime) {
         check_tiles(&rt, SQUARE, grid, "", Exit::BadInput(2));
         check_tiles(&rt, "\n", grid, "", Exit::BadInput(2));
     }
-    check_tiles(&rt, SQUARE, "NonZero 007 4611686018427387903", UNCUT, Exit::Answered);
+    check_tiles(
+        &rt,
+        SQUARE,
+        "NonZero 007 4611686018427387903",
+        UNCUT,
+        Exit::Answered,
+    );
 }
 
 #[test]
