@@ -36,7 +36,7 @@ def answer_of(program, text):
 
 def answers_by_parallel(given, texts):
     """The answers by GNU parallel, which runs so many programs at a time; inputs and answers are files."""
-    words = ["parallel", "--will-cite", "--jobs", str(given.workers), "--halt", "now,fail=1"]
+    words = ["parallel", "--will-cite", "--jobs", str(given.workers), "--halt", "now,fail=1", "--ungroup"]
     with tempfile.TemporaryDirectory() as folder:
         inputs = [Path(folder, str(place)) for place in range(len(texts))]
         for path, text in zip(inputs, texts):
