@@ -2,6 +2,7 @@
 
 from collections import Counter
 
+from families import grid_lines
 from plane import (FILL_RULES, FILLED, HOLDS, LARGEST, OVERLAY_RULES, area_of, is_off, is_on, is_resolved, meet_wrongly,
                    samples, sides_at, steps_along, steps_of, winding)
 
@@ -113,6 +114,13 @@ def check_simple(shapes):
     must(all(len(set(it)) == len(it) for it in contours_in(shapes)), "a contour visits a point twice")
 
 
+def check_in_cells(shapes, width, height):
+    """The points of each contour lie in one cell of the grid, with its border."""
+    for contour in contours_in(shapes):
+        for numbers, side in zip(zip(*contour), (width, height)):
+            must(max(numbers) <= (min(numbers) // side + 1) * side, "a contour that leaves its cell")
+
+
 def check_links(text, shapes):
     """Each shape is in a hole of another one at most once, and then inside that hole."""
     links = [[int(it) for it in line.split()[1:]] for line in text.splitlines() if line.startswith("link")]
@@ -199,6 +207,8 @@ def is_good_query(words):
         return not rest
     if name in ("edges", "relate", "slice"):
         return len(rest) == 1 and rest[0] in FILL_RULES
+    if name == "tiles":
+        return len(rest) == 3 and rest[0] in FILL_RULES and all(is_number(it) for it in rest[1:])
     if name == "clip":
         parts = set(rest[1:])
         return bool(rest) and rest[0] in FILL_RULES and len(parts) == len(rest) - 1 and parts <= {"invert", "boundary"}
@@ -234,16 +244,21 @@ def is_good_line(words):
     return name in ("subject", "clip", "line") and good and len(rest) % 2 == 0
 
 
-def first_bad_line(data):
-    """The first line of the input that is bad by the grammar; none where all are good."""
+def lines_of_words(data):
+    """The words of each line of the input."""
     lines = data.split(b"\n")
     if not lines[-1]:
         lines.pop()
-    has_run = False
     for number, line in enumerate(lines, 1):
         is_last = number == len(lines) and not data.endswith(b"\n")
         text = line[:-1] if line.endswith(b"\r") and not is_last else line
-        words = [it for it in text.split(b" ") if it]
+        yield [it for it in text.split(b" ") if it]
+
+
+def first_bad_line(data):
+    """The first line of the input that is bad by the grammar; none where all are good."""
+    has_run, number = False, 0
+    for number, words in enumerate(lines_of_words(data), 1):
         if not words:
             continue
         try:
@@ -252,4 +267,14 @@ def first_bad_line(data):
         except UnicodeDecodeError:
             return number
         has_run = words[0] == b"run"
-    return None if has_run else len(lines) + 1
+    return None if has_run else number + 1
+
+
+def line_of_misfit(data):
+    """The line of the command, all lines being good, where it is one for tiles of a grid that does not fit."""
+    rows = list(enumerate(lines_of_words(data), 1))
+    subject = [path_of(b" ".join(words[1:])) for _, words in rows if words and words[0] == b"subject"]
+    number, words = next(it for it in rows if it[1] and it[1][0] == b"run")
+    if words[1] != b"tiles" or grid_lines(subject, *(int(it) for it in words[3:])) is not None:
+        return None
+    return number

@@ -7,6 +7,7 @@ from random import Random
 from plane import LARGEST
 
 ENDS = (-LARGEST, 1 - LARGEST, -LARGEST // 2, -2, -1, 0, 1, 2, LARGEST // 2, LARGEST - 1, LARGEST)
+MOST_LINES = 1000
 EIGHT = ((1, 0), (1, 1), (0, 1), (-1, 1), (-1, 0), (-1, -1), (0, -1), (1, -1))
 
 
@@ -25,6 +26,32 @@ class Figures:
         points = [[it] for it in self.points]
         named = (("subject", self.subject), ("clip", self.clip), ("line", self.lines), ("point", points))
         return [" ".join([word, *(f"{x} {y}" for x, y in path)]) for word, paths in named for path in paths]
+
+
+def grid_lines(paths, width, height):
+    """The lines of a grid across the box of the paths' points; none at all where the grid does not fit."""
+    if not (1 <= width <= LARGEST and 1 <= height <= LARGEST):
+        return None
+    points = [it for path in paths for it in path]
+    if not points:
+        return []
+    (left, right), (low, high) = ((min(it), max(it)) for it in zip(*points))
+    spans = ((left, right, width), (low, high, height))
+    if any((last - 1) // side - first // side > MOST_LINES for first, last, side in spans):
+        return None
+    uprights, levels = (range((first // side + 1) * side, last, side) for first, last, side in spans)
+    return [*([(x, low), (x, high)] for x in uprights), *([(left, y), (right, y)] for y in levels)]
+
+
+def sides_of_cells(paths, random):
+    """The width and the height of cells: a few across the box of the paths' points, or any."""
+    sides = []
+    for numbers in zip(*(it for path in paths for it in path)) if any(paths) else ((0, 9), (0, 9)):
+        span = max(numbers) - min(numbers)
+        few = span // random.randint(1, 9) + random.randint(-1, 1)
+        any_side = random.choice((-1, 0, 1, span, span + 1, LARGEST, LARGEST + 1, 2**127))
+        sides.append(any_side if random.random() < 0.1 else min(max(few, 1), LARGEST))
+    return sides
 
 
 def many(random: Random, most, make):

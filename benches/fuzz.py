@@ -23,6 +23,7 @@ from checks import (
     area_of,
     begun_anew,
     check_arrangement,
+    check_in_cells,
     check_links,
     check_pieces,
     check_relations,
@@ -32,14 +33,15 @@ from checks import (
     fills_of,
     first_bad_line,
     first_unresolved,
+    line_of_misfit,
     locations_in,
     must,
     path_of,
     shapes_of,
     steps_in,
 )
-from families import GEOMETRY, Figures
-from plane import FILL_RULES, OVERLAY_RULES
+from families import GEOMETRY, Figures, grid_lines, sides_of_cells
+from plane import FILL_RULES, LARGEST, OVERLAY_RULES
 
 SECONDS = 20
 MEMORY = 2**30
@@ -153,15 +155,33 @@ def check_strings(program, figures, lines, fill_rule, area, random):
     if None not in clips[0] + clips[1]:
         check_pieces(*([[path_of(line) for line in text.splitlines()] for text in pair] for pair in clips))
     text = program.answer(lines, f"slice {fill_rule}")
-    if text is None:
-        return
-    shapes = shapes_of(text)
+    if text is not None:
+        check_slices(program, shapes_of(text), area if figures.is_exact else None, random)
+
+
+def check_slices(program, shapes, area, random):
+    """Slices by their windings, and by their area, doubled, where it is known."""
     check_simple(shapes)
-    if figures.is_exact:
-        must(area_in(shapes) == area, "the area of the slices")
+    must(area in (None, area_in(shapes)), "the area of the slices")
     whole = program.answer(lines_of(shapes), "edges Positive")
     if shapes and whole is not None:
         check_shapes(shapes, fills_of(whole), "Subject", 1, random)
+
+
+def check_tiles(program, figures, lines, fill_rule, area, random):
+    """Tiles are the slices along the lines of their grid, each contour in one cell; or the grid does not fit."""
+    sides = sides_of_cells(figures.subject, random)
+    query = f"tiles {fill_rule} {sides[0]} {sides[1]}"
+    cuts = grid_lines(figures.subject, *sides)
+    if cuts is None:
+        status, _, said = program.end_of("\n".join([*lines, f"run {query}", ""]).encode())
+        must((status, said) == (2, f"line {len(lines) + 1}: bad input\n".encode()), f"{query} fits")
+        return
+    text = program.answer(lines, query)
+    must(text == program.answer(Figures(figures.subject, lines=cuts).texts(), f"slice {fill_rule}"), f"{query}, slices")
+    if text is not None:
+        check_in_cells(shapes_of(text), *sides)
+        check_slices(program, shapes_of(text), area if figures.is_exact else None, random)
 
 
 def check_points(program, figures, lines):
@@ -197,6 +217,7 @@ def check_geometry(program, family, random):
     check_options(program, lines, fills, fill_rule, random)
     check_relate(program, figures, lines, fills, fill_rule, areas)
     check_strings(program, figures, lines, fill_rule, areas["Subject"], random)
+    check_tiles(program, figures, lines, fill_rule, areas["Subject"], random)
     return True
 
 
@@ -208,7 +229,9 @@ NUMBERS = (2**62 - 1, 2**62, -(2**62), 2**63, 2**64, 10**40, 2**127 - 1, 2**127)
 OPTIONS = ("", " ogc", " min 3 keep", " clockwise")
 OF_RULES = [f"{rule} {fill}{option}" for rule in OVERLAY_RULES for fill in FILL_RULES for option in OPTIONS]
 OF_FILLS = [f"{name} {fill}" for name in ("edges", "relate", "slice", "clip") for fill in FILL_RULES]
-QUERIES = [*(f"{name} {it}" for name in ("overlay", "hierarchy") for it in OF_RULES), *OF_FILLS, "contains", "locate"]
+OF_SIDES = [f"tiles {fill} {sides}" for fill in FILL_RULES for sides in ("2 3", "1 9", f"{LARGEST} {LARGEST // 3}")]
+OF_NONE = ["contains", "locate"]
+QUERIES = [*(f"{name} {it}" for name in ("overlay", "hierarchy") for it in OF_RULES), *OF_FILLS, *OF_SIDES, *OF_NONE]
 
 
 def spoiled(data, random):
@@ -236,7 +259,7 @@ def check_malformed(program, random):
     query = random.choice(QUERIES)
     data = spoiled("\n".join([*figures.texts(), f"run {query}", ""]).encode(), random)
     status, _, said = program.end_of(data)
-    bad = first_bad_line(data)
+    bad = first_bad_line(data) or line_of_misfit(data)
     if bad:
         is_named = (status, said) == (2, f"line {bad}: bad input\n".encode())
         must(is_named, f"line {bad} is bad, and not {status}, {said[:80]!r}")
