@@ -39,7 +39,7 @@ fn check_contours<I: Width>(trial: &Trial<'_, impl Abort>) -> Result<(), Fail> {
 
 #[test]
 fn flat_contours(rt: HostRuntime) -> Result<(), Fail> {
-    at_a_width!(rt, check_contours)
+    at_each_width!(rt, check_contours)
 }
 
 fn check_shapes<I: Width>(trial: &Trial<'_, impl Abort>) -> Result<(), Fail> {
@@ -71,7 +71,7 @@ fn check_shapes<I: Width>(trial: &Trial<'_, impl Abort>) -> Result<(), Fail> {
 
 #[test]
 fn flat_shapes(rt: HostRuntime) -> Result<(), Fail> {
-    at_a_width!(rt, check_shapes)
+    at_each_width!(rt, check_shapes)
 }
 
 fn check_hierarchy<I: Width>(trial: &Trial<'_, impl Abort>) -> Result<(), Fail> {

@@ -12,6 +12,20 @@ macro_rules! at_a_width {
     }};
 }
 
+// Makes a check at each coordinate type: what a refusal leaves there is kept and read by code of that type.
+macro_rules! at_each_width {
+    ($rt:expr, $check:ident) => {{
+        let memory = refusing_alloc::refusing::Refusing::new($rt.alloc(), crate::refusals::PLENTY);
+        let trial = crate::refusals::Trial {
+            rt: &$rt,
+            memory: &memory,
+        };
+        $check::<i16>(&trial)?;
+        $check::<i32>(&trial)?;
+        $check::<i64>(&trial)
+    }};
+}
+
 mod edges;
 mod figures;
 mod flat;

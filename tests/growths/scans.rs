@@ -82,5 +82,5 @@ fn check_insert<I: Width>(trial: &Trial<'_, impl Abort>) -> Result<(), Fail> {
 
 #[test]
 fn inserts_of_scans(rt: HostRuntime) -> Result<(), Fail> {
-    at_a_width!(rt, check_insert)
+    at_each_width!(rt, check_insert)
 }
