@@ -1,5 +1,5 @@
-/* The tests at one width: NUMBER is the type of coordinates, LIMIT the end of their range, and CONTOURS, NAME(call) and
- * TEST(what) the names at that width. */
+/* The tests at one width: NUMBER is the type of coordinates, LIMIT the end of their range, CONTOURS, OPTIONS, NAME(call)
+ * and TEST(what) the names at that width, and SMALLEST(area) options with a smallest area. */
 
 static polyover_status TEST(status)(const NUMBER *coordinates, size_t count, const size_t *ends, size_t end_count) {
     const CONTOURS contours = {coordinates, count, ends, end_count};
@@ -53,8 +53,152 @@ static void TEST(contours)(void) {
     CHECK(TEST(status)(beside, 16, one, 1) == POLYOVER_NOT_RESOLVED);
 }
 
+/* Room for an answer, filled before each call, so that what is written can be told. */
+typedef struct {
+    NUMBER coordinates[64];
+    size_t contour_ends[8];
+    size_t shape_ends[8];
+    polyover_counts counts;
+} TEST(room);
+
+static const NUMBER TEST(subject_at)[] = {0, 0, 4, 0, 4, 4, 0, 4};
+static const NUMBER TEST(clip_at)[] = {2, 2, 6, 2, 6, 6, 2, 6};
+static const NUMBER TEST(inside_at)[] = {1, 1, 2, 1, 2, 2, 1, 2};
+
+static void TEST(fill_room)(TEST(room) *room) {
+    for (size_t at = 0; at < 64; at++) {
+        room->coordinates[at] = 77;
+    }
+    for (size_t at = 0; at < 8; at++) {
+        room->contour_ends[at] = room->shape_ends[at] = 77;
+    }
+    room->counts = (polyover_counts){77, 77, 77};
+}
+
+static int TEST(is_untouched)(const TEST(room) *room) {
+    int same = 1;
+    for (size_t at = 0; at < 64; at++) {
+        same = same && room->coordinates[at] == 77;
+    }
+    for (size_t at = 0; at < 8; at++) {
+        same = same && room->contour_ends[at] == 77 && room->shape_ends[at] == 77;
+    }
+    return same;
+}
+
+static int TEST(has_counts)(const TEST(room) *room, size_t coordinates, size_t contours, size_t shapes) {
+    return room->counts.coordinates == coordinates && room->counts.contours == contours && room->counts.shapes == shapes;
+}
+
+/* The overlay of the first square and another one, with room for so many items. */
+static polyover_status TEST(squares)(TEST(room) *room, const NUMBER *other, polyover_rule rule, const OPTIONS *options,
+                                     size_t coordinates, size_t contours, size_t shapes) {
+    static const size_t four[] = {4};
+    const CONTOURS subject = {TEST(subject_at), 8, four, 1}, clip = {other, 8, four, 1};
+    TEST(fill_room)(room);
+    return NAME(polyover_overlay)(rule, POLYOVER_NON_ZERO, options, &subject, &clip, room->coordinates, coordinates,
+                                  room->contour_ends, contours, room->shape_ends, shapes, &room->counts);
+}
+
+static void TEST(overlays)(void) {
+    const OPTIONS by_default = {0}, clockwise = {.direction = 1};
+    const NUMBER both[] = {2, 4, 2, 2, 4, 2, 4, 4}, reversed[] = {2, 2, 2, 4, 4, 4, 4, 2};
+    TEST(room) room;
+    CHECK(TEST(squares)(&room, TEST(clip_at), POLYOVER_INTERSECT, &by_default, 64, 8, 8) == POLYOVER_OK);
+    CHECK(TEST(has_counts)(&room, 8, 1, 1));
+    CHECK(memcmp(room.coordinates, both, sizeof both) == 0 && room.coordinates[8] == 77);
+    CHECK(room.contour_ends[0] == 4 && room.contour_ends[1] == 77);
+    CHECK(room.shape_ends[0] == 1 && room.shape_ends[1] == 77);
+    CHECK(TEST(squares)(&room, TEST(clip_at), POLYOVER_INTERSECT, &clockwise, 64, 8, 8) == POLYOVER_OK);
+    CHECK(memcmp(room.coordinates, reversed, sizeof reversed) == 0);
+    CHECK(TEST(squares)(&room, TEST(clip_at), POLYOVER_UNION, &by_default, 64, 8, 8) == POLYOVER_OK);
+    CHECK(TEST(has_counts)(&room, 16, 1, 1));
+    /* (two shapes) */
+    CHECK(TEST(squares)(&room, TEST(clip_at), POLYOVER_XOR, &by_default, 64, 8, 8) == POLYOVER_OK);
+    CHECK(TEST(has_counts)(&room, 24, 2, 2));
+    CHECK(room.contour_ends[0] == 6 && room.contour_ends[1] == 12 && room.shape_ends[1] == 2);
+    /* (a shape with a hole) */
+    CHECK(TEST(squares)(&room, TEST(inside_at), POLYOVER_DIFFERENCE, &by_default, 64, 8, 8) == POLYOVER_OK);
+    CHECK(TEST(has_counts)(&room, 16, 2, 1));
+    CHECK(room.contour_ends[0] == 4 && room.contour_ends[1] == 8 && room.shape_ends[0] == 2);
+    CHECK(TEST(squares)(&room, TEST(inside_at), POLYOVER_INVERSE_DIFFERENCE, &by_default, 0, 0, 0) == POLYOVER_OK);
+    CHECK(TEST(has_counts)(&room, 0, 0, 0) && TEST(is_untouched)(&room));
+}
+
+static void TEST(too_small)(void) {
+    const OPTIONS by_default = {0};
+    TEST(room) room;
+    const size_t rooms[][3] = {{15, 2, 1}, {16, 1, 1}, {16, 2, 0}, {0, 0, 0}};
+    for (size_t at = 0; at < 4; at++) {
+        CHECK(TEST(squares)(&room, TEST(inside_at), POLYOVER_DIFFERENCE, &by_default, rooms[at][0], rooms[at][1],
+                            rooms[at][2]) == POLYOVER_TOO_SMALL);
+        CHECK(TEST(has_counts)(&room, 16, 2, 1) && TEST(is_untouched)(&room));
+    }
+    CHECK(TEST(squares)(&room, TEST(inside_at), POLYOVER_DIFFERENCE, &by_default, 16, 2, 1) == POLYOVER_OK);
+}
+
+static polyover_status TEST(asked)(TEST(room) *room, polyover_rule rule, polyover_fill fill, const OPTIONS *options,
+                                   const CONTOURS *subject, const CONTOURS *clip) {
+    TEST(fill_room)(room);
+    polyover_status status =
+        NAME(polyover_overlay)(rule, fill, options, subject, clip, room->coordinates, 64, room->contour_ends, 8,
+                               room->shape_ends, 8, &room->counts);
+    CHECK(status == POLYOVER_OK || (TEST(is_untouched)(room) && TEST(has_counts)(room, 77, 77, 77)));
+    return status;
+}
+
+static void TEST(refusals)(void) {
+    const OPTIONS by_default = {0}, direction = {.direction = 2}, keep = {.keep = 2}, ogc = {.ogc = UINT32_MAX};
+    const NUMBER beyond[] = {0, 0, LIMIT, 0, -LIMIT - 1, 4, 0, 4};
+    const size_t four[] = {4}, three[] = {3};
+    const CONTOURS square = {TEST(subject_at), 8, four, 1}, bad = {TEST(subject_at), 8, three, 1};
+    const CONTOURS far = {beyond, 8, four, 1}, none = {NULL, 0, NULL, 0};
+    TEST(room) room;
+    CHECK(TEST(asked)(&room, 7, 4, &ogc, &bad, &far) == POLYOVER_BAD_RULE);
+    CHECK(TEST(asked)(&room, UINT32_MAX, 0, &by_default, &square, &square) == POLYOVER_BAD_RULE);
+    CHECK(TEST(asked)(&room, 6, 4, &ogc, &bad, &far) == POLYOVER_BAD_FILL);
+    CHECK(TEST(asked)(&room, 6, 3, &direction, &bad, &far) == POLYOVER_BAD_OPTION);
+    CHECK(TEST(asked)(&room, 6, 3, &keep, &bad, &far) == POLYOVER_BAD_OPTION);
+    CHECK(TEST(asked)(&room, 6, 3, &ogc, &bad, &far) == POLYOVER_BAD_OPTION);
+    CHECK(TEST(asked)(&room, 6, 3, &by_default, &bad, &far) == POLYOVER_BAD_ENDS);
+    CHECK(TEST(asked)(&room, 6, 3, &by_default, &far, &bad) == POLYOVER_OUT_OF_RANGE);
+    CHECK(TEST(asked)(&room, 6, 3, &by_default, &square, &bad) == POLYOVER_BAD_ENDS);
+    CHECK(TEST(asked)(&room, 6, 3, &by_default, &none, &far) == POLYOVER_OUT_OF_RANGE);
+    CHECK(TEST(asked)(&room, 6, 3, &by_default, &none, &none) == POLYOVER_OK);
+    CHECK(TEST(has_counts)(&room, 0, 0, 0));
+    CHECK(TEST(asked)(&room, POLYOVER_UNION, POLYOVER_NEGATIVE, &by_default, &square, &none) == POLYOVER_OK);
+    CHECK(TEST(has_counts)(&room, 0, 0, 0));
+    CHECK(TEST(asked)(&room, POLYOVER_UNION, POLYOVER_POSITIVE, &by_default, &square, &none) == POLYOVER_OK);
+    CHECK(TEST(has_counts)(&room, 8, 1, 1));
+}
+
+static void TEST(options)(void) {
+    /* a square with a point on an edge, and two squares that touch in a corner of a hole */
+    const NUMBER longer[] = {0, 0, 2, 0, 4, 0, 4, 4, 0, 4};
+    const NUMBER holes[] = {0, 0, 9, 0, 9, 9, 0, 9, 2, 2, 2, 4, 4, 4, 4, 2, 4, 4, 4, 6, 6, 6, 6, 4};
+    const size_t five[] = {5}, three[] = {4, 8, 12};
+    const CONTOURS square = {longer, 10, five, 1}, none = {NULL, 0, NULL, 0}, touching = {holes, 24, three, 3};
+    const OPTIONS by_default = {0}, keep = {.keep = 1}, ogc = {.ogc = 1}, large = SMALLEST(17), equal = SMALLEST(16);
+    TEST(room) room;
+    CHECK(TEST(asked)(&room, POLYOVER_SUBJECT, POLYOVER_NON_ZERO, &by_default, &square, &none) == POLYOVER_OK);
+    CHECK(TEST(has_counts)(&room, 8, 1, 1));
+    CHECK(TEST(asked)(&room, POLYOVER_SUBJECT, POLYOVER_NON_ZERO, &equal, &square, &none) == POLYOVER_OK);
+    CHECK(TEST(has_counts)(&room, 8, 1, 1));
+    CHECK(TEST(asked)(&room, POLYOVER_SUBJECT, POLYOVER_NON_ZERO, &large, &square, &none) == POLYOVER_OK);
+    CHECK(TEST(has_counts)(&room, 0, 0, 0));
+    /* (input points on one line are dropped all the same) */
+    CHECK(TEST(asked)(&room, POLYOVER_SUBJECT, POLYOVER_NON_ZERO, &keep, &square, &none) == POLYOVER_OK);
+    CHECK(TEST(has_counts)(&room, 8, 1, 1));
+    CHECK(TEST(asked)(&room, POLYOVER_SUBJECT, POLYOVER_NON_ZERO, &ogc, &touching, &none) == POLYOVER_OK);
+    CHECK(TEST(has_counts)(&room, 24, 3, 1));
+}
+
 static void TEST(all)(void) {
     TEST(ranges)();
     TEST(ends)();
     TEST(contours)();
+    TEST(overlays)();
+    TEST(too_small)();
+    TEST(refusals)();
+    TEST(options)();
 }

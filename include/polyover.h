@@ -1,4 +1,4 @@
-/* polyover for C: tests of polygons with whole coordinates.
+/* polyover for C: boolean operations on polygons with whole coordinates, and tests of them.
  *
  * What each call promises is proved of the Rattle code behind it (crates/polyover_c); docs/C.md says how to build it.
  *
@@ -10,8 +10,9 @@
  * many points there are up to its end, those of the contours before it included: no item is below the one before it,
  * and the last one is half of `coordinate_count`. Without contours both counts are 0. A contour may have no points.
  *
- * All arrays and structs are the caller's and are only read; nothing is kept after a call, and nothing is to be freed.
- * An array of length 0 may be a null pointer.
+ * All arrays and structs are the caller's; nothing is kept after a call, and nothing is to be freed. Each array behind a
+ * `const` is only read. An array of length 0 may be a null pointer, a struct may not. What a call writes to lies apart
+ * from all else that it is given.
  *
  * No call keeps a state, so calls on several threads are safe, as long as nothing is written to what one of them reads.
  * Memory is taken by malloc, realloc and free, so no call is for a signal handler.
@@ -34,8 +35,63 @@ enum {
     /* the coordinates are an odd count, an end is below the one before it, or the last one is not the count of points */
     POLYOVER_BAD_ENDS = 2,
     POLYOVER_OUT_OF_RANGE = 3, /* a coordinate is out of the coordinate range */
-    POLYOVER_NOT_RESOLVED = 4  /* two steps of a contour share a point that is not an end of both */
+    POLYOVER_NOT_RESOLVED = 4, /* two steps of a contour share a point that is not an end of both */
+    POLYOVER_BAD_RULE = 5,     /* no overlay rule has the number */
+    POLYOVER_BAD_FILL = 6,     /* no fill rule has the number */
+    POLYOVER_BAD_OPTION = 7,   /* a direction, keep or ogc that is neither 0 nor 1 */
+    POLYOVER_NOT_SETTLED = 8,  /* edges still meet in points that are no ends of both after 64 rounds of splitting */
+    /* the edges weigh 2^31 or more: those of the contours, or the pieces that a round of splitting gives */
+    POLYOVER_TOO_MANY_EDGES = 9,
+    POLYOVER_TOO_SMALL = 10 /* an array for the answer is too small; the counts tell what it takes */
 };
+
+/* Of which points the result of an overlay consists. */
+typedef uint32_t polyover_rule;
+enum {
+    POLYOVER_SUBJECT = 0,            /* what the subject fills */
+    POLYOVER_CLIP = 1,               /* what the clip fills */
+    POLYOVER_INTERSECT = 2,          /* what both fill */
+    POLYOVER_UNION = 3,              /* what one of them fills, or both */
+    POLYOVER_DIFFERENCE = 4,         /* what the subject fills and the clip does not */
+    POLYOVER_INVERSE_DIFFERENCE = 5, /* what the clip fills and the subject does not */
+    POLYOVER_XOR = 6                 /* what exactly one of them fills */
+};
+
+/* Which windings count as filled. */
+typedef uint32_t polyover_fill;
+enum {
+    POLYOVER_EVEN_ODD = 0, /* odd windings */
+    POLYOVER_NON_ZERO = 1, /* windings other than 0 */
+    POLYOVER_POSITIVE = 2, /* windings above 0 */
+    POLYOVER_NEGATIVE = 3  /* windings below 0 */
+};
+
+/* How an answer looks. All zero is the default. */
+typedef struct {
+    uint32_t direction; /* of outlines: 0 counter-clockwise, 1 clockwise; holes run the other way */
+    uint32_t keep;      /* 1: points on one line with their two neighbours are kept; 0: dropped */
+    uint32_t ogc;       /* 1: no contour visits a point twice; 0: it may */
+    uint32_t reserved;  /* not read */
+    /* contours of a smaller area than min_area_high * 2^64 + min_area_low, in squared units, are left out; 0 keeps all */
+    uint64_t min_area_high;
+    uint64_t min_area_low;
+} polyover_options;
+
+/* The same for 32-bit coordinates. */
+typedef struct {
+    uint32_t direction;
+    uint32_t keep;
+    uint32_t ogc;
+    uint32_t reserved;
+    uint64_t min_area;
+} polyover_options_32;
+
+/* How much an answer has: what its arrays hold, or have to. */
+typedef struct {
+    size_t coordinates; /* two for each point */
+    size_t contours;
+    size_t shapes;
+} polyover_counts;
 
 /* Contours of 64-bit coordinates. */
 typedef struct {
@@ -63,6 +119,29 @@ uint32_t polyover_in_range_32(const int32_t *coordinates, size_t coordinate_coun
  * All pairs of steps of a contour are tested. */
 polyover_status polyover_resolved(const polyover_contours *contours);
 polyover_status polyover_resolved_32(const polyover_contours_32 *contours);
+
+/* The shapes round the region where the rules hold of what the contours of the subject and those of the clip fill. A
+ * shape is its outline and then its holes.
+ *
+ * On POLYOVER_OK the first counts->coordinates items of `coordinates` are the points, x before y, contour by contour and
+ * shape by shape; the first counts->contours items of `contour_ends` are how many points there are up to the end of each
+ * contour, and the first counts->shapes items of `shape_ends` how many contours up to the end of each shape. The items
+ * behind them stay. POLYOVER_TOO_SMALL comes exactly where one of the arrays has no room for that: they stay as they
+ * are, and counts tells what it takes. After any other status nothing is changed, counts neither.
+ *
+ * Tested first, in this order: POLYOVER_BAD_RULE, POLYOVER_BAD_FILL, POLYOVER_BAD_OPTION; then of the subject, and then
+ * of the clip, POLYOVER_BAD_ENDS and POLYOVER_OUT_OF_RANGE. Edges that meet in a point that is not whole are cut at a
+ * whole point at most 1/2 away in x and in y. POLYOVER_NOT_SETTLED, POLYOVER_TOO_MANY_EDGES and POLYOVER_MEMORY are left.
+ */
+polyover_status polyover_overlay(polyover_rule rule, polyover_fill fill, const polyover_options *options,
+                                 const polyover_contours *subject, const polyover_contours *clip,
+                                 int64_t *coordinates, size_t coordinate_room, size_t *contour_ends,
+                                 size_t contour_room, size_t *shape_ends, size_t shape_room, polyover_counts *counts);
+polyover_status polyover_overlay_32(polyover_rule rule, polyover_fill fill, const polyover_options_32 *options,
+                                    const polyover_contours_32 *subject, const polyover_contours_32 *clip,
+                                    int32_t *coordinates, size_t coordinate_room, size_t *contour_ends,
+                                    size_t contour_room, size_t *shape_ends, size_t shape_room,
+                                    polyover_counts *counts);
 
 #ifdef __cplusplus
 }

@@ -15,7 +15,8 @@ use Rattle.polyover_arrays.specs.declared.fault.Fault.TheVariants as fault
 use Rattle.polyover_c.specs.Statuses.{MakeNoShape, ReadsAs, status_of_fault}
 use Rattle.polyover_c.specs.declared.status.Status.{Status}
 use Rattle.polyover_c.specs.declared.status.Status.TheVariants.{Done, Memory, BadEnds, OutOfRange}
-use Rattle.polyover_c.specs.declared.status.Status.TheVariants.{NotResolved}
+use Rattle.polyover_c.specs.declared.status.Status.TheVariants.{NotResolved, BadRule, BadFill, BadOption}
+use Rattle.polyover_c.specs.declared.status.Status.TheVariants.{NotSettled, TooManyEdges, TooSmall}
 
 -- with a contour of the next path, a shape that has the paths so far has one more
 pub one_contour_more : {I A : Type 0} (whole : I → ℤ) (paths : List (List Point)) (i : ℕ)
@@ -44,3 +45,9 @@ no_shape_read whole limit cs ends paths BadEnds are same none = absurd none
 no_shape_read whole limit cs ends paths OutOfRange are same none = absurd none
 no_shape_read whole limit cs ends paths NotResolved are same none =
     (are, λ all. none (subst (All IsResolved) (sym same) all))
+no_shape_read whole limit cs ends paths BadRule are same none = absurd none
+no_shape_read whole limit cs ends paths BadFill are same none = absurd none
+no_shape_read whole limit cs ends paths BadOption are same none = absurd none
+no_shape_read whole limit cs ends paths NotSettled are same none = absurd none
+no_shape_read whole limit cs ends paths TooManyEdges are same none = absurd none
+no_shape_read whole limit cs ends paths TooSmall are same none = absurd none

@@ -1,1 +1,5 @@
+pub mod Asked
+pub mod Given
+pub mod Overlays
 pub mod Statuses
+pub mod Written

@@ -2,12 +2,15 @@
 use Rattle.std.specs.Prelude.{ℕ, ℤ, List, All}
 use Rattle.overlay_geom.specs.Plane.{Point}
 use Rattle.overlay_geom.specs.Resolved.{IsResolved}
+use Rattle.overlay_geom.specs.declared.error.OverlayError.{OverlayError}
+use Rattle.overlay_geom.specs.declared.error.OverlayError.TheVariants as error
 use Rattle.polyover_arrays.specs.Reading.{AreContours, contours_at, HaveFault}
 use Rattle.polyover_arrays.specs.declared.fault.Fault.{Fault}
 use Rattle.polyover_arrays.specs.declared.fault.Fault.TheVariants as fault
 use Rattle.polyover_c.specs.declared.status.Status.{Status}
 use Rattle.polyover_c.specs.declared.status.Status.TheVariants.{Done, Memory, BadEnds, OutOfRange}
-use Rattle.polyover_c.specs.declared.status.Status.TheVariants.{NotResolved}
+use Rattle.polyover_c.specs.declared.status.Status.TheVariants.{NotResolved, BadRule, BadFill, BadOption}
+use Rattle.polyover_c.specs.declared.status.Status.TheVariants.{NotSettled, TooManyEdges, TooSmall}
 
 -- the number that C knows a status by
 abbrev pub code_of : Status → ℕ
@@ -16,12 +19,25 @@ code_of Memory = 1
 code_of BadEnds = 2
 code_of OutOfRange = 3
 code_of NotResolved = 4
+code_of BadRule = 5
+code_of BadFill = 6
+code_of BadOption = 7
+code_of NotSettled = 8
+code_of TooManyEdges = 9
+code_of TooSmall = 10
 
 -- the status for a fault
 abbrev pub status_of_fault : Fault → Status
 status_of_fault fault.Memory = Memory
 status_of_fault fault.Ends = BadEnds
 status_of_fault fault.Range = OutOfRange
+
+-- the status for a refusal; no new builder answers `Failed`
+abbrev pub status_of_error : OverlayError → Status
+status_of_error error.Memory = Memory
+status_of_error error.NotSettled = NotSettled
+status_of_error error.TooManyEdges = TooManyEdges
+status_of_error error.Failed = Memory
 
 -- contours become no shape so: for want of memory, or where one of them is not resolved
 abbrev pub MakeNoShape : List (List Point) → Status → Type 0
@@ -30,6 +46,12 @@ MakeNoShape paths Memory = Unit {0}
 MakeNoShape paths BadEnds = ⊥
 MakeNoShape paths OutOfRange = ⊥
 MakeNoShape paths NotResolved = ¬ (All IsResolved paths)
+MakeNoShape paths BadRule = ⊥
+MakeNoShape paths BadFill = ⊥
+MakeNoShape paths BadOption = ⊥
+MakeNoShape paths NotSettled = ⊥
+MakeNoShape paths TooManyEdges = ⊥
+MakeNoShape paths TooSmall = ⊥
 
 -- arrays are read as a shape with this status: with `Done` their contours fit, are in range and resolved
 abbrev pub ReadsAs : {I : Type 0} → (I → ℤ) → ℕ → List I → List ℕ → Status → Type 0
@@ -39,3 +61,24 @@ ReadsAs whole limit cs ends BadEnds = HaveFault whole limit cs ends fault.Ends
 ReadsAs whole limit cs ends OutOfRange = HaveFault whole limit cs ends fault.Range
 ReadsAs whole limit cs ends NotResolved = AreContours whole limit cs ends
     × ¬ (All IsResolved (contours_at whole cs ends))
+ReadsAs whole limit cs ends BadRule = ⊥
+ReadsAs whole limit cs ends BadFill = ⊥
+ReadsAs whole limit cs ends BadOption = ⊥
+ReadsAs whole limit cs ends NotSettled = ⊥
+ReadsAs whole limit cs ends TooManyEdges = ⊥
+ReadsAs whole limit cs ends TooSmall = ⊥
+
+-- a call is refused with this status: a number that it is given stands for nothing, arrays have a fault, or the query
+-- is refused
+abbrev pub IsRefused : (Status → Type 0) → (Fault → Type 0) → (OverlayError → Type 0) → Status → Type 0
+IsRefused unknown faulty refused Done = ⊥
+IsRefused unknown faulty refused Memory = Unit {0}
+IsRefused unknown faulty refused BadEnds = faulty fault.Ends
+IsRefused unknown faulty refused OutOfRange = faulty fault.Range
+IsRefused unknown faulty refused NotResolved = ⊥
+IsRefused unknown faulty refused BadRule = unknown BadRule
+IsRefused unknown faulty refused BadFill = unknown BadFill
+IsRefused unknown faulty refused BadOption = unknown BadOption
+IsRefused unknown faulty refused NotSettled = refused error.NotSettled
+IsRefused unknown faulty refused TooManyEdges = refused error.TooManyEdges
+IsRefused unknown faulty refused TooSmall = ⊥

@@ -2,10 +2,17 @@
 
 ghost use Rattle.std.specs.Prelude.{◌≡◌, ◌↔◌, ◌≤◌};
 ghost use Rattle.polyover_arrays.specs.Reading.{AreWithin};
+ghost use Rattle.std.specs.Int.{w64};
+ghost use Rattle.polyover_c.specs.Overlays.{OverlayEnds};
 ghost use Rattle.polyover_c.specs.Statuses.{ReadsAs, code_of};
 ghost use Rattle.polyover_c.specs.declared.status.Status.{Status};
 
 use crate::arrays::Contours32;
+use crate::counts::Counts;
+use crate::given::Contours;
+use crate::numbers::OptionNumbers;
+use crate::options::Options32;
+use crate::overlay::overlay_arrays;
 use crate::shape::status_read;
 use polyover_arrays::test::are_within;
 use std::alloc::Global;
@@ -26,4 +33,67 @@ pub extern "C" fn polyover_resolved_32(alloc: Global, shape: &Contours32) -> u32
         × (result ≡ code_of s) }
 {
     status_read(alloc, shape.coordinates, shape.ends).code()
+}
+
+/// The shapes of the overlay that the rules and options ask for, put into the arrays, and their counts: the code of a
+/// status.
+#[unsafe(no_mangle)]
+pub extern "C" fn polyover_overlay_32(
+    alloc: Global,
+    rule: u32,
+    fill: u32,
+    options: &Options32,
+    subject: &Contours32,
+    clip: &Contours32,
+    coordinates: &mut [i32],
+    contour_ends: &mut [usize],
+    shape_ends: &mut [usize],
+    counts: &mut Counts,
+) -> u32
+    ensures { (s : Status) × OverlayEnds (λ z. z) 1073741823 w64 (λ n. n) rule fill
+        (record {
+          direction = options.now.direction;
+          keep = options.now.keep;
+          ogc = options.now.ogc;
+          min_area = options.now.min_area;
+        })
+        (record { coordinates = subject.now.coordinates.now; ends = subject.now.ends.now })
+        (record { coordinates = clip.now.coordinates.now; ends = clip.now.ends.now })
+        (record {
+          arrays = record { coordinates = coordinates.old; contour_ends = contour_ends.old; shape_ends = shape_ends.old };
+          counts = counts.old;
+        })
+        (record {
+          arrays = record { coordinates = coordinates.new; contour_ends = contour_ends.new; shape_ends = shape_ends.new };
+          counts = counts.new;
+        })
+        s × (result ≡ code_of s) }
+{
+    let numbers = OptionNumbers {
+        direction: options.direction,
+        keep: options.keep,
+        ogc: options.ogc,
+        min_area: options.min_area,
+    };
+    let subject = Contours {
+        coordinates: subject.coordinates,
+        ends: subject.ends,
+    };
+    let clip = Contours {
+        coordinates: clip.coordinates,
+        ends: clip.ends,
+    };
+    overlay_arrays(
+        alloc,
+        rule,
+        fill,
+        numbers,
+        &subject,
+        &clip,
+        coordinates,
+        contour_ends,
+        shape_ends,
+        counts,
+    )
+    .code()
 }

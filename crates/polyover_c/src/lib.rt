@@ -1,8 +1,14 @@
 //! The calls for C. `include/polyover.h` at the top of the repository says in C's words what each one does.
 #![tactic(auto)]
 
+mod answer;
 pub mod arrays;
+pub mod counts;
 pub mod exports_32;
 pub mod exports_64;
+mod given;
+mod numbers;
+pub mod options;
+mod overlay;
 mod shape;
 mod status;

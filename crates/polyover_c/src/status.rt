@@ -1,7 +1,7 @@
 //! How a call ends.
 
 ghost use Rattle.std.specs.Prelude.{◌≡◌};
-ghost use Rattle.polyover_c.specs.Statuses.{code_of, status_of_fault};
+ghost use Rattle.polyover_c.specs.Statuses.{code_of, status_of_error, status_of_fault};
 ghost use Rattle.polyover_c.specs.declared.status.Status.TheVariants.{Memory};
 
 use overlay_geom::error::OverlayError;
@@ -21,6 +21,18 @@ pub(crate) enum Status {
     OutOfRange,
     /// A contour is not resolved.
     NotResolved,
+    /// No overlay rule has the number.
+    BadRule,
+    /// No fill rule has the number.
+    BadFill,
+    /// An option has a number that stands for nothing.
+    BadOption,
+    /// Edges still meet after all rounds of splitting.
+    NotSettled,
+    /// The edges weigh 2^31 or more.
+    TooManyEdges,
+    /// The arrays for the answer are too small.
+    TooSmall,
 }
 
 impl Status {
@@ -34,6 +46,12 @@ impl Status {
             Status::BadEnds => 2,
             Status::OutOfRange => 3,
             Status::NotResolved => 4,
+            Status::BadRule => 5,
+            Status::BadFill => 6,
+            Status::BadOption => 7,
+            Status::NotSettled => 8,
+            Status::TooManyEdges => 9,
+            Status::TooSmall => 10,
         }
     }
 }
@@ -51,11 +69,16 @@ impl From<Fault> for Status {
 }
 
 impl From<OverlayError> for Status {
-    ghost from_gives = { λ _ s. s ≡ Memory };
+    ghost from_gives = { λ e s. s ≡ status_of_error e };
 
-    /// Returns `Memory`, the one refusal of what is called.
-    fn from(_error: OverlayError) -> Status {
-        Status::Memory
+    /// Returns the status for the refusal; `Memory` for `Failed`, which no new builder answers.
+    fn from(error: OverlayError) -> Status {
+        match error {
+            OverlayError::Memory => Status::Memory,
+            OverlayError::NotSettled => Status::NotSettled,
+            OverlayError::TooManyEdges => Status::TooManyEdges,
+            OverlayError::Failed => Status::Memory,
+        }
     }
 }
 

@@ -1,0 +1,36 @@
+-- How an overlay of arrays ends.
+use Rattle.std.specs.Prelude.{ℕ, ℤ, List}
+use Rattle.std.specs.Int.{Width}
+use Rattle.overlay_arrange.specs.declared.fill_rule.FillRule.{FillRule}
+use Rattle.overlay_extract.specs.Results.{asked}
+use Rattle.overlay_geom.specs.Plane.{Point}
+use Rattle.i_overlay.specs.OneShot.{IsResultOfPaths, MayRefusePaths}
+use Rattle.polyover_c.specs.Asked.{rule_of, fill_of, options_of, AreKnown, IsUnknown}
+use Rattle.polyover_c.specs.Given.{Contours, paths_given, AreGiven, IsOneFaulty}
+use Rattle.polyover_c.specs.Statuses.{IsRefused}
+use Rattle.polyover_c.specs.Written.{Room, EndsWithShapes}
+use Rattle.polyover_c.specs.declared.numbers.OptionNumbers.{OptionNumbers}
+use Rattle.polyover_c.specs.declared.status.Status.{Status}
+
+-- the shapes are the result that the numbers ask for, of the contours of both
+abbrev pub IsOverlay : {I U : Type 0} → (I → ℤ) → Width → (U → ℕ) → ℕ → ℕ → OptionNumbers U → Contours I →
+    Contours I → List (List (List Point)) → Type 0
+IsOverlay whole width natural rule fill options subject clip shapes =
+    IsResultOfPaths (asked width natural (fill_of fill) (rule_of rule) (options_of options))
+    (paths_given whole subject clip) shapes
+
+-- an overlay is refused so: a number stands for nothing; else the contours have a fault, those of the subject first;
+-- else the query is refused
+abbrev pub IsOverlayRefused : {I U : Type 0} → (I → ℤ) → ℕ → ℕ → ℕ → OptionNumbers U → Contours I → Contours I →
+    Status → Type 0
+IsOverlayRefused whole limit rule fill options subject clip = IsRefused (IsUnknown rule fill options)
+    (λ f. AreKnown rule fill options × IsOneFaulty whole limit subject clip f)
+    (λ e. AreKnown rule fill options × (AreGiven whole limit subject × (AreGiven whole limit clip
+    × MayRefusePaths (paths_given whole subject clip) e)))
+
+-- how it ends
+abbrev pub OverlayEnds : {I U : Type 0} → (I → ℤ) → ℕ → Width → (U → ℕ) → ℕ → ℕ → OptionNumbers U → Contours I →
+    Contours I → Room I → Room I → Status → Type 0
+OverlayEnds whole limit width natural rule fill options subject clip =
+    EndsWithShapes (IsOverlay whole width natural rule fill options subject clip)
+    (IsOverlayRefused whole limit rule fill options subject clip) whole

@@ -1,0 +1,86 @@
+//! Shapes as arrays, and these put into arrays of a caller.
+
+ghost use Rattle.std.specs.Prelude.{◌≡◌, IfOk, IsOkUnless};
+ghost use Rattle.overlay_geom.specs.Paths.{plain_shapes};
+ghost use Rattle.polyover_c.specs.Written.{AreFlattened, IsPut};
+
+use crate::counts::Counts;
+use crate::status::Status;
+use overlay_geom::flat::shapes::FlatShapesBuffer;
+use overlay_geom::number::IntNumber;
+use overlay_geom::path::IntShape;
+use polyover_arrays::flatten::{coordinates_of, ends_of};
+use polyover_arrays::write::write_over;
+use std::alloc::Global;
+
+/// Shapes as arrays: the coordinates, the ends of contours among the points, and those of shapes among the contours.
+#[derive(Drop)]
+pub(crate) struct Answer<I> {
+    pub(crate) coordinates: Vec<I, Global>,
+    pub(crate) contour_ends: Vec<usize, Global>,
+    pub(crate) shape_ends: Vec<usize, Global>,
+}
+
+/// The shapes, one behind the other. The only refusal is `Memory`.
+pub(crate) fn flattened<I: IntNumber>(
+    alloc: Global,
+    shapes: &[IntShape<I, Global>],
+) -> Result<Answer<I>, Status>
+    ensures flattened { IfOk result (λ a. AreFlattened I.whole (plain_shapes I.whole shapes.now) (record {
+      coordinates = a.coordinates.items;
+      contour_ends = a.contour_ends.items;
+      shape_ends = a.shape_ends.items;
+    })) }
+    ensures only { IsOkUnless result Status.Memory }
+{
+    let flat = FlatShapesBuffer::from_shapes(alloc, shapes)?;
+    let coordinates = coordinates_of(alloc, &flat.points)?;
+    let contour_ends = ends_of(alloc, &flat.contour_ranges)?;
+    let shape_ends = ends_of(alloc, &flat.shape_ranges)?;
+    Ok(Answer {
+        coordinates,
+        contour_ends,
+        shape_ends,
+    })
+}
+
+/// Puts the answer into the arrays, and its counts: `Done`; or `TooSmall`, and the arrays stay as they are.
+pub(crate) fn put<I: IntNumber>(
+    answer: &Answer<I>,
+    coordinates: &mut [I],
+    contour_ends: &mut [usize],
+    shape_ends: &mut [usize],
+    counts: &mut Counts,
+) -> Status
+    ensures { IsPut
+        (record {
+          coordinates = answer.now.coordinates.items;
+          contour_ends = answer.now.contour_ends.items;
+          shape_ends = answer.now.shape_ends.items;
+        })
+        (record {
+          arrays = record { coordinates = coordinates.old; contour_ends = contour_ends.old; shape_ends = shape_ends.old };
+          counts = counts.old;
+        })
+        (record {
+          arrays = record { coordinates = coordinates.new; contour_ends = contour_ends.new; shape_ends = shape_ends.new };
+          counts = counts.new;
+        })
+        result }
+{
+    *counts = Counts {
+        coordinates: answer.coordinates.len(),
+        contours: answer.contour_ends.len(),
+        shapes: answer.shape_ends.len(),
+    };
+    if counts.coordinates > coordinates.len()
+        || counts.contours > contour_ends.len()
+        || counts.shapes > shape_ends.len()
+    {
+        return Status::TooSmall;
+    }
+    write_over(coordinates, &answer.coordinates);
+    write_over(contour_ends, &answer.contour_ends);
+    write_over(shape_ends, &answer.shape_ends);
+    Status::Done
+}

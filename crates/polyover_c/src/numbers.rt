@@ -1,0 +1,74 @@
+//! Rules and options by the numbers that C knows them by.
+
+ghost use Rattle.std.specs.Prelude.{◌≡◌, ◌<◌, ◌≤◌, MatchResult};
+ghost use Rattle.polyover_c.specs.Asked.{rule_of, fill_of, options_of, AreChoices};
+ghost use Rattle.polyover_c.specs.declared.status.Status.TheVariants.{BadRule, BadFill, BadOption};
+
+use crate::status::Status;
+use i_overlay::fill_rule::FillRule;
+use i_overlay::overlay::{ContourDirection, IntOverlayOptions};
+use i_overlay::overlay_rule::OverlayRule;
+use overlay_geom::number::UIntNumber;
+
+/// Options as numbers: the direction of outlines, 0 for counter-clockwise and 1 for clockwise; whether points on one
+/// line are kept, and whether no contour may visit a point twice, 1 or 0; and the smallest area that is kept.
+#[derive(Clone, Copy)]
+pub(crate) struct OptionNumbers<U> {
+    pub(crate) direction: u32,
+    pub(crate) keep: u32,
+    pub(crate) ogc: u32,
+    pub(crate) min_area: U,
+}
+
+/// The overlay rule with the number; `BadRule` from 7 on.
+pub(crate) fn rule_of(number: u32) -> Result<OverlayRule, Status>
+    ensures { MatchResult result (λ r. (number < 7) × (r ≡ rule_of number)) (λ s. (s ≡ BadRule) × (7 ≤ number)) }
+{
+    match number {
+        0 => Ok(OverlayRule::Subject),
+        1 => Ok(OverlayRule::Clip),
+        2 => Ok(OverlayRule::Intersect),
+        3 => Ok(OverlayRule::Union),
+        4 => Ok(OverlayRule::Difference),
+        5 => Ok(OverlayRule::InverseDifference),
+        6 => Ok(OverlayRule::Xor),
+        _ => Err(Status::BadRule),
+    }
+}
+
+/// The fill rule with the number; `BadFill` from 4 on.
+pub(crate) fn fill_of(number: u32) -> Result<FillRule, Status>
+    ensures { MatchResult result (λ r. (number < 4) × (r ≡ fill_of number)) (λ s. (s ≡ BadFill) × (4 ≤ number)) }
+{
+    match number {
+        0 => Ok(FillRule::EvenOdd),
+        1 => Ok(FillRule::NonZero),
+        2 => Ok(FillRule::Positive),
+        3 => Ok(FillRule::Negative),
+        _ => Err(Status::BadFill),
+    }
+}
+
+/// The options with the numbers; `BadOption` where a choice has a number from 2 on.
+pub(crate) fn options_of<U: UIntNumber>(
+    numbers: OptionNumbers<U>,
+) -> Result<IntOverlayOptions<U>, Status>
+    ensures { MatchResult result (λ o. AreChoices numbers × (o ≡ options_of numbers))
+        (λ s. (s ≡ BadOption) × ¬ (AreChoices numbers)) }
+{
+    if numbers.direction > 1 || numbers.keep > 1 || numbers.ogc > 1 {
+        return Err(Status::BadOption);
+    }
+    let output_direction = if numbers.direction == 0 {
+        ContourDirection::CounterClockwise
+    } else {
+        ContourDirection::Clockwise
+    };
+    Ok(IntOverlayOptions {
+        preserve_input_collinear: false,
+        output_direction,
+        preserve_output_collinear: numbers.keep == 1,
+        min_output_area: numbers.min_area,
+        ogc: numbers.ogc == 1,
+    })
+}

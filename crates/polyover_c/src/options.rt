@@ -1,0 +1,44 @@
+//! What C passes: options.
+
+ghost use Rattle.std.specs.Prelude.{◌≡◌, ◌+◌, ◌*◌, ◌^◌};
+
+/// Options at 64 bits, by their numbers.
+#[repr(C)]
+#[derive(Clone, Copy)]
+pub struct Options64 {
+    /// The direction of outlines: 0 for counter-clockwise, 1 for clockwise. Holes run the other way.
+    pub direction: u32,
+    /// 1 where points on one line with their two neighbours are kept, else 0.
+    pub keep: u32,
+    /// 1 where no contour may visit a point twice, else 0.
+    pub ogc: u32,
+    /// 0; it is not read.
+    pub reserved: u32,
+    /// The smallest area of a contour that is kept, in units of 2^64; 0 in both keeps all.
+    pub min_area_high: u64,
+    /// What is left of that area.
+    pub min_area_low: u64,
+}
+
+/// The same at 32 bits.
+#[repr(C)]
+#[derive(Clone, Copy)]
+pub struct Options32 {
+    /// The direction of outlines: 0 for counter-clockwise, 1 for clockwise. Holes run the other way.
+    pub direction: u32,
+    /// 1 where points on one line with their two neighbours are kept, else 0.
+    pub keep: u32,
+    /// 1 where no contour may visit a point twice, else 0.
+    pub ogc: u32,
+    /// 0; it is not read.
+    pub reserved: u32,
+    /// The smallest area of a contour that is kept; 0 keeps all.
+    pub min_area: u64,
+}
+
+/// The area of these two parts.
+pub(crate) fn area_of(high: u64, low: u64) -> u128
+    ensures { result ≡ high * 2 ^ 64 + low }
+{
+    (high as u128) * (1 << 64) + (low as u128)
+}

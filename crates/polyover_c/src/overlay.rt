@@ -1,0 +1,122 @@
+//! The overlay of contours in arrays.
+
+ghost use Rattle.std.specs.Prelude.{◌≡◌, false, All, IfOk, IfErr, MatchResult};
+ghost use Rattle.overlay_builder.specs.GivenPaths.{subject_and_clip};
+ghost use Rattle.overlay_extract.specs.Results.{asked};
+ghost use Rattle.overlay_geom.specs.Flat.{paths_in};
+ghost use Rattle.overlay_geom.specs.Paths.{plain_shapes};
+ghost use Rattle.overlay_geom.specs.Points.{AllInRange};
+ghost use Rattle.i_overlay.specs.OneShot.{IsResultOfPaths, MayRefusePaths};
+ghost use Rattle.polyover_c.specs.Written.{IsFlat};
+ghost use Rattle.polyover_c.specs.Overlays.{IsOverlay, IsOverlayRefused, OverlayEnds};
+
+use crate::answer::{Answer, flattened, put};
+use crate::counts::Counts;
+use crate::given::Contours;
+use crate::numbers::{OptionNumbers, fill_of, options_of, rule_of};
+use crate::status::Status;
+use i_overlay::fill_rule::FillRule;
+use i_overlay::overlay::{IntOverlayOptions, Overlay};
+use i_overlay::overlay_rule::OverlayRule;
+use i_overlay::solver::Solver;
+use overlay_geom::error::OverlayError;
+use overlay_geom::flat::contours::FlatContoursBuffer;
+use overlay_geom::integer::OverlayInt;
+use overlay_geom::path::IntShapes;
+use polyover_arrays::read::read_contours;
+use std::alloc::Global;
+
+/// The overlay that the numbers ask for, put into the arrays.
+#[tactic(auto, using(crate::proofs::Endings::put_ends, crate::proofs::Endings::refused_ends))]
+pub(crate) fn overlay_arrays<I: OverlayInt>(
+    alloc: Global,
+    rule: u32,
+    fill: u32,
+    options: OptionNumbers<I::WideUInt>,
+    subject: &Contours<I>,
+    clip: &Contours<I>,
+    coordinates: &mut [I],
+    contour_ends: &mut [usize],
+    shape_ends: &mut [usize],
+    counts: &mut Counts,
+) -> Status
+    ensures { OverlayEnds I.whole I.limit I.Wide.width I.WideUInt.natural rule fill options
+        (record { coordinates = subject.now.coordinates.now; ends = subject.now.ends.now })
+        (record { coordinates = clip.now.coordinates.now; ends = clip.now.ends.now })
+        (record {
+          arrays = record { coordinates = coordinates.old; contour_ends = contour_ends.old; shape_ends = shape_ends.old };
+          counts = counts.old;
+        })
+        (record {
+          arrays = record { coordinates = coordinates.new; contour_ends = contour_ends.new; shape_ends = shape_ends.new };
+          counts = counts.new;
+        })
+        result }
+{
+    match overlay_answer(alloc, rule, fill, options, subject, clip) {
+        Ok(answer) => put(&answer, coordinates, contour_ends, shape_ends, counts),
+        Err(status) => status,
+    }
+}
+
+// The overlay that the numbers ask for, as arrays.
+#[tactic(auto, using(crate::proofs::Overlays::subject_refused, crate::proofs::Overlays::clip_refused, crate::proofs::Overlays::overlay_refused, crate::proofs::Overlays::overlay_answered))]
+fn overlay_answer<I: OverlayInt>(
+    alloc: Global,
+    rule: u32,
+    fill: u32,
+    options: OptionNumbers<I::WideUInt>,
+    subject: &Contours<I>,
+    clip: &Contours<I>,
+) -> Result<Answer<I>, Status>
+    ensures { MatchResult result
+        (λ a. IsFlat (IsOverlay I.whole I.Wide.width I.WideUInt.natural rule fill options
+        (record { coordinates = subject.now.coordinates.now; ends = subject.now.ends.now })
+        (record { coordinates = clip.now.coordinates.now; ends = clip.now.ends.now })) I.whole (record {
+          coordinates = a.coordinates.items;
+          contour_ends = a.contour_ends.items;
+          shape_ends = a.shape_ends.items;
+        }))
+        (IsOverlayRefused I.whole I.limit rule fill options
+        (record { coordinates = subject.now.coordinates.now; ends = subject.now.ends.now })
+        (record { coordinates = clip.now.coordinates.now; ends = clip.now.ends.now })) }
+{
+    let rule = rule_of(rule)?;
+    let fill = fill_of(fill)?;
+    let options = options_of(options)?;
+    let subject = read_contours(alloc, subject.coordinates, subject.ends)?;
+    let clip = read_contours(alloc, clip.coordinates, clip.ends)?;
+    let shapes = overlay_shapes(alloc, &subject, &clip, rule, fill, options)?;
+    let answer = flattened(alloc, &shapes)?;
+    Ok(answer)
+}
+
+// The shapes of the overlay. Input points on one line are not kept.
+fn overlay_shapes<I: OverlayInt>(
+    alloc: Global,
+    subject: &FlatContoursBuffer<I, Global>,
+    clip: &FlatContoursBuffer<I, Global>,
+    rule: OverlayRule,
+    fill: FillRule,
+    options: IntOverlayOptions<I::WideUInt>,
+) -> Result<IntShapes<I, Global>, OverlayError>
+    requires input { options.preserve_input_collinear ≡ false }
+    requires subject_in_range { All (AllInRange I.limit)
+        (paths_in I.whole subject.now.points.items subject.now.ranges.items) }
+    requires clip_in_range { All (AllInRange I.limit) (paths_in I.whole clip.now.points.items clip.now.ranges.items) }
+    ensures result { IfOk result (λ v. IsResultOfPaths (asked I.Wide.width I.WideUInt.natural fill rule options)
+        (subject_and_clip (paths_in I.whole subject.now.points.items subject.now.ranges.items)
+        (paths_in I.whole clip.now.points.items clip.now.ranges.items)) (plain_shapes I.whole v.items)) }
+    ensures err { IfErr result (MayRefusePaths
+        (subject_and_clip (paths_in I.whole subject.now.points.items subject.now.ranges.items)
+        (paths_in I.whole clip.now.points.items clip.now.ranges.items))) }
+{
+    let mut overlay = Overlay::from_subj_and_clip_custom(
+        alloc,
+        subject,
+        clip,
+        options,
+        Solver::ABSOLUTE,
+    )?;
+    overlay.overlay(rule, fill)
+}
