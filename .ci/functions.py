@@ -12,7 +12,7 @@ QUOTED = re.compile(r"//[^\n]*|\"(?:\\.|[^\"\\])*\"|'(?:\\[^']*|[^'\\])'")
 
 @dataclass(frozen=True)
 class Function:
-    """A function: its path below the crate, its file, the part of the file that is its item, and whether it calls itself."""
+    """A function: its path below the crate, its file, the part that is its item, and whether it calls itself."""
 
     path: str
     file: Path
@@ -100,7 +100,7 @@ def item_end(text, start, indent):
 
 
 def functions_of(crate):
-    """The functions of the crate in a folder that have a body or a proof, but for those that macros and derives write."""
+    """The functions of a crate that have a body or a proof, but for those that macros and derives write."""
     files = {it.relative_to(crate): it.read_text() for it in sorted((crate / "src").rglob("*.rt"))}
     homes = {name: module_of(file) for file, text in files.items() for name in TYPE.findall(blanked(text))}
     heads = [owner_of(it[2]) for text in files.values() for it in OWNER.finditer(blanked(text)) if it[1] == "impl"]

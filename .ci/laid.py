@@ -22,7 +22,7 @@ def lines_in(file: Path) -> dict[str, list[str]]:
 
 
 def lay_crates(root: Path, more: dict[str, list[str]]) -> None:
-    """Copies the source and the definitions of each crate; crates.txt has a line for each, and for those that are to come."""
+    """Copies the source and the definitions of each crate; crates.txt has a line for each, and for those to come."""
     crates = lines_in(CRATES)
     for name in crates:
         for part in PARTS:

@@ -1,9 +1,9 @@
 #!/usr/bin/env python3
-"""Times `run contains` and `run locate` of the program polyover on as many points as edges, and prints a table in Markdown.
+"""Times `run contains` and `run locate` of the program polyover on as many points as edges, and prints a table.
 
-The subject is a saw of about N edges above a trapezoid, or N / 4 squares side by side in a row; the points are random ones, and as
-many of the saw's own points. The fastest of three runs counts; of an input without points the time is taken as well, since that
-is what reading the contours and the test that they are resolved take.
+The subject is a saw of about N edges above a trapezoid, or N / 4 squares side by side in a row; the points are random
+ones, and as many of the saw's own points. The fastest of three runs counts; of an input without points the time is
+taken as well, since that is what reading the contours and the test that they are resolved take.
 """
 
 import argparse

@@ -3,8 +3,9 @@
 
     timed.py [--program PROGRAM] --time N --quiet < INPUT     prints `median SECONDS` on standard error
 
-The program reads no clock, so the time is taken from outside: the processor time of a run on the input, less that of a run on the same lines with
-one more that is bad, which reads and parses all lines and then stops. What is left is the query and printing its answer.
+The program reads no clock, so the time is taken from outside: the processor time of a run on the input, less that of a
+run on the same lines with one more that is bad, which reads and parses all lines and then stops. What is left is the
+query and printing its answer.
 """
 
 import argparse

@@ -1,7 +1,7 @@
 //! Calls that leave no builder, and calls on what is the caller's: nothing of it is changed.
 
 use crate::figures::{PATHS, Width, lone_squares, point, square, square_at, squares};
-use crate::refusals::{Memory, Trial};
+use crate::refusals::{Answer, Memory, Trial};
 use crate::strings::{bar_at, bars, lines, plate};
 use i_overlay::fill_rule::FillRule;
 use i_overlay::i_float::int::point::IntPoint;
@@ -21,6 +21,7 @@ use overlay_tiles::lines::grid_lines;
 use overlay_tiles::places::grid_places;
 use overlay_tiles::slice::slice_by_grid;
 use overlay_tiles::span::IntSpan;
+use std::alloc::Allocator;
 use std::process::Abort;
 use std::test::Fail;
 
@@ -81,37 +82,36 @@ fn overlays_in_one_call(rt: HostRuntime) -> Result<(), Fail> {
     at_a_width!(rt, check_overlays)
 }
 
+// How many paths or shapes a call gives whose growths are refused.
+fn count_of<T: Drop, A: Allocator, C: Fn() -> Answer<Vec<T, A>> + Drop>(
+    trial: &Trial<'_, impl Abort>,
+    name: &str,
+    call: C,
+) -> Result<usize, Fail> {
+    Ok(trial.refuse_call(name, call)?.len())
+}
+
 fn check_clips<I: Width>(trial: &Trial<'_, impl Abort>) -> Result<(), Fail> {
     let memory = trial.memory;
     let (points, paths, lines) = (plate::<I>(), bars::<I>(memory)?, lines::<I>());
     let (shape, line) = (PathRef::new(&points), bar_at::<I>(0));
     let path: IntContour<I, Memory<'_>> = Vec::from_array(memory, line)?;
     let counts = [
-        trial
-            .refuse_call("IntClip::clip_line", || {
-                shape.clip_line(memory, line, RULE, INSIDE)
-            })?
-            .len(),
-        trial
-            .refuse_call("IntClip::clip_path", || {
-                shape.clip_path(memory, &path, RULE, INSIDE)
-            })?
-            .len(),
-        trial
-            .refuse_call("IntClip::clip_lines", || {
-                shape.clip_lines(memory, &lines, RULE, INSIDE)
-            })?
-            .len(),
-        trial
-            .refuse_call("IntClip::clip_paths", || {
-                shape.clip_paths(memory, &paths, RULE, INSIDE)
-            })?
-            .len(),
-        trial
-            .refuse_call("IntClip::clip_source", || {
-                shape.clip_source(memory, &paths, RULE, INSIDE)
-            })?
-            .len(),
+        count_of(trial, "IntClip::clip_line", || {
+            shape.clip_line(memory, line, RULE, INSIDE)
+        })?,
+        count_of(trial, "IntClip::clip_path", || {
+            shape.clip_path(memory, &path, RULE, INSIDE)
+        })?,
+        count_of(trial, "IntClip::clip_lines", || {
+            shape.clip_lines(memory, &lines, RULE, INSIDE)
+        })?,
+        count_of(trial, "IntClip::clip_paths", || {
+            shape.clip_paths(memory, &paths, RULE, INSIDE)
+        })?,
+        count_of(trial, "IntClip::clip_source", || {
+            shape.clip_source(memory, &paths, RULE, INSIDE)
+        })?,
     ];
     assert!(trial.rt; counts == [1, 1, PATHS, PATHS, PATHS]);
     Ok(())
@@ -128,31 +128,21 @@ fn check_slices<I: Width>(trial: &Trial<'_, impl Abort>) -> Result<(), Fail> {
     let (shape, line) = (PathRef::new(&points), bar_at::<I>(0));
     let path: IntContour<I, Memory<'_>> = Vec::from_array(memory, line)?;
     let counts = [
-        trial
-            .refuse_call("IntSlice::slice_by_line", || {
-                shape.slice_by_line(memory, line, RULE)
-            })?
-            .len(),
-        trial
-            .refuse_call("IntSlice::slice_by_path", || {
-                shape.slice_by_path(memory, &path, RULE)
-            })?
-            .len(),
-        trial
-            .refuse_call("IntSlice::slice_by_lines", || {
-                shape.slice_by_lines(memory, &lines, RULE)
-            })?
-            .len(),
-        trial
-            .refuse_call("IntSlice::slice_by_paths", || {
-                shape.slice_by_paths(memory, &paths, RULE)
-            })?
-            .len(),
-        trial
-            .refuse_call("IntSlice::slice_by_source", || {
-                shape.slice_by_source(memory, &paths, RULE)
-            })?
-            .len(),
+        count_of(trial, "IntSlice::slice_by_line", || {
+            shape.slice_by_line(memory, line, RULE)
+        })?,
+        count_of(trial, "IntSlice::slice_by_path", || {
+            shape.slice_by_path(memory, &path, RULE)
+        })?,
+        count_of(trial, "IntSlice::slice_by_lines", || {
+            shape.slice_by_lines(memory, &lines, RULE)
+        })?,
+        count_of(trial, "IntSlice::slice_by_paths", || {
+            shape.slice_by_paths(memory, &paths, RULE)
+        })?,
+        count_of(trial, "IntSlice::slice_by_source", || {
+            shape.slice_by_source(memory, &paths, RULE)
+        })?,
     ];
     assert!(trial.rt; counts == [2, 2, PATHS + 1, PATHS + 1, PATHS + 1]);
     Ok(())
@@ -232,22 +222,18 @@ fn check_grid<I: Width>(trial: &Trial<'_, impl Abort>) -> Result<(), Fail> {
         height: I::from(4),
     };
     let counts = [
-        trial
-            .refuse_call("overlay_tiles::grid_places", || {
-                grid_places(memory, I::from(3), span)
-            })?
-            .len(),
+        count_of(trial, "overlay_tiles::grid_places", || {
+            grid_places(memory, I::from(3), span)
+        })?,
         trial
             .refuse_call(
                 "overlay_tiles::grid_lines",
                 || grid_lines(memory, &shape, grid),
             )?
             .len(),
-        trial
-            .refuse_call("overlay_tiles::slice_by_grid", || {
-                slice_by_grid(memory, &shape, grid, RULE)
-            })?
-            .len(),
+        count_of(trial, "overlay_tiles::slice_by_grid", || {
+            slice_by_grid(memory, &shape, grid, RULE)
+        })?,
     ];
     assert!(trial.rt; trial.without_memory(|| grid_fits(&shape, grid)));
     assert!(trial.rt; counts == [33, 3 + 1, 4 * 2]);

@@ -85,21 +85,15 @@ fn check_needles<I: Wide>(rt: &impl Abort, alloc: Global) -> Result<(), OverlayE
     let clip: Places<'_> = &[(-m, 1), (-m, 0), (m, 0), (0, 1)];
     let common: Places<'_> = &[(0, 1), (-m, 0), (m, 0)];
     let box_round: Places<'_> = &[(-m, 1), (-m, 0), (m, 0), (m, 1)];
-    let fill = FillRule::NonZero;
-    check_lone::<I>(rt, alloc, both, OverlayRule::Subject, fill, &[subject])?;
-    check_lone::<I>(rt, alloc, both, OverlayRule::Clip, fill, &[clip])?;
-    check_lone::<I>(rt, alloc, both, OverlayRule::Intersect, fill, &[common])?;
-    check_lone::<I>(rt, alloc, both, OverlayRule::Union, fill, &[box_round])?;
-    check_lone::<I>(rt, alloc, both, OverlayRule::Difference, fill, &[right])?;
-    check_lone::<I>(
-        rt,
-        alloc,
-        both,
-        OverlayRule::InverseDifference,
-        fill,
-        &[left],
-    )?;
-    check_lone::<I>(rt, alloc, both, OverlayRule::Xor, fill, &[left, right])
+    let one = |rule, contour| check_lone::<I>(rt, alloc, both, rule, FillRule::NonZero, &[contour]);
+    one(OverlayRule::Subject, subject)?;
+    one(OverlayRule::Clip, clip)?;
+    one(OverlayRule::Intersect, common)?;
+    one(OverlayRule::Union, box_round)?;
+    one(OverlayRule::Difference, right)?;
+    one(OverlayRule::InverseDifference, left)?;
+    let (rule, fill) = (OverlayRule::Xor, FillRule::NonZero);
+    check_lone::<I>(rt, alloc, both, rule, fill, &[left, right])
 }
 
 #[test]

@@ -30,31 +30,19 @@ fn check_overlays<I: Wide>(rt: &impl Abort, alloc: Global) -> Result<(), Overlay
     let left: Places<'_> = &[(-m, m), (-m, -m), (0, 0)];
     let right: Places<'_> = &[(m, m), (0, 0), (m, -m)];
     let subject = OverlayRule::Subject;
-    check_lone::<I>(rt, alloc, [&[&bow], none], subject, RULE, &[left, right])?;
-    check_lone::<I>(
-        rt,
-        alloc,
-        [&[&bow], none],
-        subject,
-        FillRule::EvenOdd,
+    let (halves, one, other): (&[Places<'_>], &[Places<'_>], &[Places<'_>]) = (
         &[left, right],
-    )?;
-    check_lone::<I>(
-        rt,
-        alloc,
-        [&[&bow], none],
-        subject,
-        FillRule::Positive,
         &[left],
-    )?;
-    check_lone::<I>(
-        rt,
-        alloc,
-        [&[&bow], none],
-        subject,
-        FillRule::Negative,
         &[right],
-    )?;
+    );
+    for (fill, wanted) in [
+        (RULE, halves),
+        (FillRule::EvenOdd, halves),
+        (FillRule::Positive, one),
+        (FillRule::Negative, other),
+    ] {
+        check_lone::<I>(rt, alloc, [&[&bow], none], subject, fill, wanted)?;
+    }
     let mut overlay = wide_builder::<I>(rt, alloc, &[&bow], none, IntOverlayOptions::default())?;
     let hierarchy = overlay.overlay_hierarchy(subject, RULE)?;
     let shapes = wide_shapes::<I>(rt, alloc, &[&[left], &[right]])?;

@@ -1,4 +1,5 @@
-//! The shapes of contours that are simplified, extracted with trees alone and with lists alone, at each coordinate type.
+//! The shapes of contours that are simplified, extracted with trees alone and with lists alone, at each coordinate
+//! type.
 
 use overlay_arrange::balance::is_balanced;
 use overlay_arrange::content::Content;

@@ -1,8 +1,7 @@
 //! Which grids fit, at each coordinate type.
 
-use crate::points::{Points, assert_in_range, contour_of, grid_of};
+use crate::points::{Points, assert_in_range, contour_of, corners_of, grid_of};
 use overlay_geom::integer::OverlayInt;
-use overlay_geom::point::IntPoint;
 use overlay_tiles::grid::{Grid, grid_fits};
 use std::alloc::Global;
 use std::process::Abort;
@@ -51,48 +50,15 @@ fn ends_of_range<I: OverlayInt>(
     greatest: I,
     beyond: I,
 ) -> Result<(), Fail> {
-    let mut corners = Vec::new(alloc);
-    corners.push(IntPoint { x: least, y: least })?;
-    corners.push(IntPoint {
-        x: greatest,
-        y: least,
-    })?;
-    corners.push(IntPoint {
-        x: greatest,
-        y: greatest,
-    })?;
-    corners.push(IntPoint {
-        x: least,
-        y: greatest,
-    })?;
+    let corners = corners_of(alloc, least, greatest)?;
     assert_in_range(rt, &corners);
-    assert!(rt;
-        grid_fits(
-            &corners,
-            Grid {
-                width: greatest,
-                height: greatest
-            }
-        )
-    );
-    assert!(rt;
-        !grid_fits(
-            &corners,
-            Grid {
-                width: beyond,
-                height: greatest
-            }
-        )
-    );
-    assert!(rt;
-        !grid_fits(
-            &corners,
-            Grid {
-                width: greatest,
-                height: least
-            }
-        )
-    );
+    for (width, height, wanted) in [
+        (greatest, greatest, true),
+        (beyond, greatest, false),
+        (greatest, least, false),
+    ] {
+        assert!(rt; grid_fits(&corners, Grid { width, height }) == wanted);
+    }
     Ok(())
 }
 

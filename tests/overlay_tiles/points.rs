@@ -27,6 +27,24 @@ pub(crate) fn contour_of<I: OverlayInt + From<i16>>(
     Ok(contour)
 }
 
+/// The corners of the square between two points on the diagonal, from the lower one on, counterclockwise.
+pub(crate) fn corners_of<I: OverlayInt>(
+    alloc: Global,
+    least: I,
+    greatest: I,
+) -> Result<IntContour<I, Global>, OverlayError> {
+    let mut corners = Vec::new(alloc);
+    for (x, y) in [
+        (least, least),
+        (greatest, least),
+        (greatest, greatest),
+        (least, greatest),
+    ] {
+        corners.push(IntPoint { x, y })?;
+    }
+    Ok(corners)
+}
+
 /// Whether these are the shapes, each of one contour.
 pub(crate) fn are_tiles<I: OverlayInt + PartialEq + From<i16>>(
     alloc: Global,

@@ -1,9 +1,8 @@
 //! Shapes sliced by grids, on worked rows, at each coordinate type.
 
-use crate::points::{Points, are_tiles, assert_in_range, contour_of, grid_of};
+use crate::points::{Points, are_tiles, assert_in_range, contour_of, corners_of, grid_of};
 use overlay_arrange::fill_rule::FillRule;
 use overlay_geom::integer::OverlayInt;
-use overlay_geom::point::IntPoint;
 use overlay_tiles::grid::{Grid, grid_fits};
 use overlay_tiles::slice::slice_by_grid;
 use std::alloc::Global;
@@ -44,7 +43,8 @@ fn square<I: OverlayInt + PartialEq + From<i16>>(
     Ok(())
 }
 
-// An L of which the grid's upright line cuts the foot, and a triangle whose hypotenuse is cut in points that are rounded.
+// An L of which the grid's upright line cuts the foot, and a triangle whose hypotenuse is cut in points that are
+// rounded.
 fn others<I: OverlayInt + PartialEq + From<i16>>(
     rt: &impl Abort,
     alloc: Global,
@@ -75,20 +75,7 @@ fn ends_of_range<I: OverlayInt>(
     middle: I,
     greatest: I,
 ) -> Result<(), Fail> {
-    let mut corners = Vec::new(alloc);
-    corners.push(IntPoint { x: least, y: least })?;
-    corners.push(IntPoint {
-        x: greatest,
-        y: least,
-    })?;
-    corners.push(IntPoint {
-        x: greatest,
-        y: greatest,
-    })?;
-    corners.push(IntPoint {
-        x: least,
-        y: greatest,
-    })?;
+    let corners = corners_of(alloc, least, greatest)?;
     assert_in_range(rt, &corners);
     let grid = Grid {
         width: greatest,

@@ -23,8 +23,8 @@ pub fn contours<I: IntNumber>(
 ) -> Result<Vec<Vec<Step<I>, Global>, Global>, OverlayError>
     requires cuttable { CanBeCut (outline_or_hole_hand (filled_hand direction)) (plain_steps I.whole steps.old) }
     requires once { HasEachOnce (plain_steps I.whole steps.old) }
-    ensures { IfOk result (λ ws. IsCutInto (outline_or_hole_hand (filled_hand direction)) (plain_steps I.whole steps.old)
-        (plain_walks I.whole ws.items)) }
+    ensures { IfOk result (λ ws. IsCutInto (outline_or_hole_hand (filled_hand direction))
+        (plain_steps I.whole steps.old) (plain_walks I.whole ws.items)) }
 {
     cut_into_contours(alloc, steps, HandRule::OutlineOrHole(direction))
 }

@@ -24,7 +24,8 @@ pub fn locate<I: OverlayInt, A: Allocator + Clone>(
     requires shapes { All (All (AllInRange I.limit)) (plain_shapes I.whole shapes.now.items) }
     requires resolved { All (All IsResolved) (plain_shapes I.whole shapes.now.items) }
     requires points { AllInRange I.limit (plain_points I.whole points.now) }
-    ensures { IfOk result (λ v. AnswersWhere (IsLocatedAmong (plain_shapes I.whole shapes.now.items)) (plain_points I.whole points.now) v.items) }
+    ensures { IfOk result (λ v. AnswersWhere (IsLocatedAmong (plain_shapes I.whole shapes.now.items))
+        (plain_points I.whole points.now) v.items) }
 {
     let locations = shapes.locate_points(alloc, points)?;
     Ok(locations)

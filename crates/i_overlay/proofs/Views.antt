@@ -12,21 +12,6 @@ use Rattle.overlay_builder.proofs.Queries.{answers_after}
 use Rattle.i_overlay.specs.Builder.{Builder, held_by}
 use Rattle.i_overlay.specs.Views.{Viewed, IsView, EndsViewed, viewed_edges}
 
--- a list of edges that have been read has one exactly where as many were read
-pub some_read : {X C : Type 0} (carried : X → Carried C) (read : List X) (es : List (Carried C)) → map carried read ≡ es
-    → (length read == 0) ≡ false → edges_in es ≢ []
-some_read carried [] es are none = λ _. false≢true (sym none)
-some_read carried (x ∷ read) es are some = λ none. false≢true (ap is_none (sym (ap edges_in are ∙ none)))
-  where
-    is_none : List CountedEdge → Bool
-    is_none [] = false
-    is_none (e ∷ es) = true
-
-pub none_read : {X C : Type 0} (carried : X → Carried C) (read : List X) (es : List (Carried C)) → map carried read ≡ es
-    → (length read == 0) ≡ true → edges_in es ≡ []
-none_read carried [] es are none = sym (ap edges_in are)
-none_read carried (x ∷ read) es are some = absurd (false≢true (sym (eqb-suc-zero (length read)) ∙ some))
-
 module _ {C U : Type 0} (limit most : ℕ) (old new : Builder U) (seen : Viewed C U)
     (first : AnswersQuery limit most (held_by old) (held_by new) (Ok seen)) (same : viewed_edges seen ≡ new.edges) where
   -- what is shown is a view of what the builder held

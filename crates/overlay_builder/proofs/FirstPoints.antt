@@ -1,15 +1,11 @@
 -- A path's steps, begun at its first point.
-use Rattle.std.proofs.Common.{◌≡◌, ◌++◌, Bool, true, false, cond, List, [], ◌∷◌, Option, Some, None, map, slice_get}
+use Rattle.std.proofs.Common.{◌≡◌, ◌++◌, Bool, true, false, cond, List, [], ◌∷◌, Some, map, slice_get}
 use Rattle.std.proofs.Common.{refl, sym, ap, subst, ◌∙◌}
 use Rattle.std.proofs.lemmas.List.{append-nil}
-use Rattle.overlay_geom.specs.Plane.{Point, Step, point_eq, steps_between, steps_through}
+use Rattle.overlay_geom.specs.Plane.{Point, Step, steps_between, steps_through}
 use Rattle.overlay_geom.proofs.Orders.{point_eq-of_same}
 use Rattle.overlay_builder.specs.Paths.{path_steps_of}
-
--- what is in an option, or else d
-abbrev value_or : {X : Type 0} → X → Option X → X
-value_or d None = d
-value_or d (Some x) = x
+use Rattle.std.proofs.lemmas.Option.{same_Some}
 
 -- no step leads from a point to itself
 none_between : (p : Point) (ss : List Step) → steps_between p p ++ ss ≡ ss
@@ -28,4 +24,4 @@ steps_from_the_first see is_closed [] x first = absurd (cc)
 steps_from_the_first see is_closed (y ∷ ys) x first =
     subst (λ z. steps_through (see z) ((see y ∷ map see ys) ++ cond is_closed (see z ∷ []) []) ≡ path_steps_of is_closed
     (see y ∷ map see ys))
-    (sym (ap (value_or y) first)) (from_itself is_closed (see y) (map see ys))
+    (sym (same_Some x y first)) (from_itself is_closed (see y) (map see ys))

@@ -1,7 +1,7 @@
 -- Whether thinning left out a point: the list is shorter, or it is the one given.
 use Rattle.std.specs.Prelude.{◌↔◌, false}
-use Rattle.std.proofs.Common.{nat_lt, ◌≡◌, ℕ, ◌+◌, ◌<◌, ◌≤◌, ◌⊎◌, inl, inr, List, length, remove, refl, sym, ap, subst}
-use Rattle.std.proofs.Common.{arith, ◌∙◌}
+use Rattle.std.proofs.Common.{nat_lt, ◌≡◌, ℕ, ◌+◌, ◌<◌, ◌≤◌, ◌⊎◌, inl, inr, List, length, remove, refl, ap, subst}
+use Rattle.std.proofs.Common.{arith}
 use Rattle.std.proofs.lemmas.Bool.{ltb-false, le-ltb}
 use Rattle.std.proofs.lemmas.List.Edits.{length-remove}
 use Rattle.overlay_geom.specs.Plane.{Point}

@@ -7,6 +7,7 @@ pub mod Mapped
 pub mod PassedEdges
 pub mod PathLists
 pub mod Queries
+pub mod ReadEdges
 pub mod SingleSteps
 pub mod SourcePaths
 pub mod TakenPaths

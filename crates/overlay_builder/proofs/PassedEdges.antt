@@ -1,7 +1,6 @@
 -- The edge of a step of a path: what a program makes of it, and that a builder may hold it.
-use Rattle.std.proofs.Common.{◌≡◌, ℕ, ◌<◌, ◌^◌, Bool, true, false, cond, List, [], ◌∷◌, map, refl, sym, ap, subst, ◌∙◌}
+use Rattle.std.proofs.Common.{◌≡◌, ℕ, ◌<◌, ◌^◌, Bool, true, false, cond, [], ◌∷◌, map, refl, sym, subst}
 use Rattle.std.specs.List.{All}
-use Rattle.std.specs.declared.cmp.Ordering.TheVariants.{Less, Greater}
 use Rattle.std.proofs.lemmas.List.Elements.{All-nil, All-cons, All-head}
 use Rattle.overlay_geom.specs.Plane.{Point, Edge, point_eq, point_lt, steps_between}
 use Rattle.overlay_geom.specs.Points.{InRange}

@@ -1,5 +1,6 @@
 -- A single step along its edge, which is added as it is given; what becomes of the store.
-use Rattle.std.proofs.Common.{◌≡◌, true, false, cond, is_eq, is_lt, MatchBool, List, [], ◌∷◌, ◌++◌, map, refl, sym, ap, subst}
+use Rattle.std.proofs.Common.{◌≡◌, true, false, cond, is_eq, is_lt, MatchBool, List, [], ◌∷◌, ◌++◌, map, refl, sym, ap}
+use Rattle.std.proofs.Common.{subst}
 use Rattle.std.proofs.Common.{◌∙◌}
 use Rattle.std.specs.List.{All}
 use Rattle.std.specs.Ordering.{is_le}

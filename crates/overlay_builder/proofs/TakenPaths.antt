@@ -1,5 +1,5 @@
 -- Paths whose points are taken as they are.
-use Rattle.std.proofs.Common.{◌≡◌, ℕ, ◌^◌, ◌≤◌, ◌++◌, Bool, map, List, refl, sym, subst}
+use Rattle.std.proofs.Common.{◌≡◌, ℕ, ◌^◌, ◌≤◌, ◌++◌, map, List, refl, sym, subst}
 use Rattle.overlay_geom.specs.Plane.{Point, Step}
 use Rattle.overlay_builder.specs.Paths.{AddsPath, IsTakenAs, leads_back, path_steps_of}
 use Rattle.overlay_builder.specs.PathLists.{WouldWeighTooMuch, path_as}

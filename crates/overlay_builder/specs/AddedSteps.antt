@@ -1,8 +1,8 @@
 -- A single step that becomes a counted edge, and what it carries: it is reversed where the step runs back.
-use Rattle.std.specs.Prelude.{◌≡◌, ◌↔◌, ◌⊎◌, ◌^◌, ◌<◌, ◌≤◌, ◌++◌, true, MatchBool, List, [], map, All}
+use Rattle.std.specs.Prelude.{◌≡◌, ◌^◌, ◌≤◌, ◌++◌, MatchBool, List, map, All}
 use Rattle.std.specs.Ordering.{is_le}
 use Rattle.overlay_geom.specs.Counts.{Counts}
-use Rattle.overlay_geom.specs.Edges.{CountedEdge, weight}
+use Rattle.overlay_geom.specs.Edges.{weight}
 use Rattle.overlay_geom.specs.Plane.{Point, Step, edge_of, is_forward, steps_between}
 use Rattle.overlay_arrange.specs.Content.{edge_with, point_cmp}
 use Rattle.overlay_arrange.specs.EdgeData.{IsReversedBy}
@@ -13,7 +13,8 @@ abbrev pub edge_carrying : {C : Type 0} → (C → Counts) → C → Step → Ca
 edge_carrying counts c s = record { edge = edge_with (edge_of s).a (edge_of s).b (counts c); carries = c }
 
 -- the second list is the first one, followed by the edge of the step between two points, which carries what is given,
--- or, where the step runs from the larger to the smaller point, the reversed of it; between equal points there is no step
+-- or, where the step runs from the larger to the smaller point, the reversed of it; between equal points there is no
+-- step
 pub record AddsStep {C : Type 0} (counts : C → Counts) (reverses : C → C → Type 0) (given : C) (from to : Point)
     (old new : List (Carried C)) : Type 0 where
   pub carried : C
@@ -21,8 +22,8 @@ pub record AddsStep {C : Type 0} (counts : C → Counts) (reverses : C → C →
       (steps_between from to)
   pub content : new ≡ old ++ map (edge_carrying counts carried) (steps_between from to)
 
--- the store once the step between two points is added: it stays as it was, but where the step runs from the larger to the
--- smaller point, where one call may write into it
+-- the store once the step between two points is added: it stays as it was, but where the step runs from the larger to
+-- the smaller point, where one call may write into it
 abbrev pub LeavesStore : {S : Type 0} → (S → S → Type 0) → Point → Point → S → S → Type 0
 LeavesStore writes from to old new = MatchBool (is_le (point_cmp from to)) (new ≡ old) (writes old new)
 

@@ -1,6 +1,7 @@
 //! What builders share: closed and open paths become counted edges, and the core that holds them.
 #![tactic(auto)]
 
+pub mod balanced_graph;
 pub mod boolean;
 pub mod builder_core;
 pub mod path;

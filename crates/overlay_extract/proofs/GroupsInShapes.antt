@@ -22,7 +22,7 @@ use Rattle.overlay_plane.proofs.GroupedWalks.{grouped_walks}
 use Rattle.overlay_plane.proofs.Entries.{Contains-from_map}
 use Rattle.overlay_plane.proofs.LaterEntries.{Contains-cases}
 use Rattle.overlay_plane.proofs.PlacesOfContours.{Contains-place}
-use Rattle.overlay_plane.proofs.RoledWalks.{some-same}
+use Rattle.std.proofs.lemmas.Option.{same_Some}
 use Rattle.overlay_plane.proofs.ShapeLinks.{outlines_before}
 use Rattle.overlay_plane.proofs.SplitLists.{filter-all}
 use Rattle.overlay_walk.specs.GroupedContours.{contours_of_group}
@@ -33,7 +33,7 @@ number_at : (n : ℕ) (cs : List Contour) → AreNumbers n cs → (i m : ℕ) (c
     c.role ≡ outline m → m ≡ n + outlines_before cs i
 number_at n [] are i m c at is = absurd (none-some c at)
 number_at n (d ∷ ds) are zero m c at is =
-    let here : m ≡ n = subst (IsNumber n) (ap (λ (k : Contour). k.role) (some-same d c at) ∙ is) are.0 in
+    let here : m ≡ n = subst (IsNumber n) (ap (λ (k : Contour). k.role) (same_Some d c at) ∙ is) are.0 in
     omega (arith, here)
 number_at n (d ∷ ds) are (suc i) m c at is = by d.role (number_at (after n d.role) ds are.1 i m c at is)
   where

@@ -20,7 +20,7 @@ use Rattle.overlay_plane.proofs.Entries.{all_of_entries}
 use Rattle.overlay_plane.proofs.LaterEntries.{Each, AllPairs-from_each, Contains-cases}
 use Rattle.overlay_plane.proofs.OneHoleRound.{one_hole_round, hole_and_none}
 use Rattle.overlay_plane.proofs.PlacesOfContours.{known_at}
-use Rattle.overlay_plane.proofs.RoledWalks.{some-same}
+use Rattle.std.proofs.lemmas.Option.{same_Some}
 use Rattle.overlay_plane.proofs.ShapeLinks.{outline_of_number, number_of, hole_stands, place_of_child}
 use Rattle.overlay_plane.proofs.ShuffledPairs.{pairs_shuffled}
 use Rattle.overlay_plane.proofs.Totals.{Contains-head}
@@ -36,7 +36,7 @@ module _ {A B : Type 0} (R : A → B → Type 0) where
       (y : B) × (slice_get ys j ≡ Some y) × R x y
   second_at [] ys each j x at = absurd (none-some x at)
   second_at (w ∷ ws) [] each j x at = absurd each
-  second_at (w ∷ ws) (z ∷ zs) each zero x at = (z, refl, subst (λ v. R v z) (some-same w x at) each.0)
+  second_at (w ∷ ws) (z ∷ zs) each zero x at = (z, refl, subst (λ v. R v z) (same_Some w x at) each.0)
   second_at (w ∷ ws) (z ∷ zs) each (suc j) x at = second_at ws zs each.1 j x at
 
   -- and in the first at a place of the second
@@ -45,7 +45,7 @@ module _ {A B : Type 0} (R : A → B → Type 0) where
   first_at [] [] each j y at = absurd (none-some y at)
   first_at [] (z ∷ zs) each j y at = absurd each
   first_at (w ∷ ws) [] each j y at = absurd each
-  first_at (w ∷ ws) (z ∷ zs) each zero y at = (w, refl, subst (R w) (some-same z y at) each.0)
+  first_at (w ∷ ws) (z ∷ zs) each zero y at = (w, refl, subst (R w) (same_Some z y at) each.0)
   first_at (w ∷ ws) (z ∷ zs) each (suc j) y at = first_at ws zs each.1 j y at
 
 -- ---- links and the holes of which they are read
@@ -109,7 +109,7 @@ module _ (cs : List Contour) where
           let here : n ≡ l.child_shape = omega (arith, child) in
           Contains-append_left (one_or_none (link_at cs n hole)) (links_from cs (suc n) holes) l
           (subst (λ (o : Option ChildLink). Contains (one_or_none o) l)
-          (sym (ap (link_at cs n) (some-same hole (Some l.parent_contour) at)
+          (sym (ap (link_at cs n) (same_Some hole (Some l.parent_contour) at)
           ∙ ap (link_to n l.parent_contour) read.parent
           ∙ ap (λ k. link_to k l.parent_contour (Some l.parent_shape)) here))
           (Contains-head l []))
@@ -129,7 +129,7 @@ module _ (cs : List Contour) where
     where
       by : (shape : Option ℕ) → link_to n k shape ≡ Some l → l.child_shape ≡ n
       by None at = absurd (none-some l at)
-      by (Some m) at = ap (λ (x : ChildLink). x.child_shape) (sym (some-same _ l at))
+      by (Some m) at = ap (λ (x : ChildLink). x.child_shape) (sym (same_Some _ l at))
 
   -- no two of them
   children_differ : (n : ℕ) (holes : List (Option ℕ)) → Each AreApart (links_from cs n holes)
@@ -178,7 +178,7 @@ holes_inside filled cs holes round j d inside =
 -- a hole that stands in a shape is one of its outline's group
 hole_of_shape : (r : Role) (m : ℕ) → is_outline r ≡ false → stands_in r ≡ Some m → r ≡ own_hole m
 hole_of_shape (outline n) m is stands = absurd (false≢true (sym is))
-hole_of_shape (own_hole n) m is stands = ap own_hole (some-same n m stands)
+hole_of_shape (own_hole n) m is stands = ap own_hole (same_Some n m stands)
 hole_of_shape free_hole m is stands = absurd (none-some m stands)
 
 module _ (filled : Hand) (cs : List Contour) (can : CanBeBound filled (walks_in cs)) (stand : AreInShapes cs)

@@ -1,10 +1,10 @@
 -- A mapped list, as a loop over the list that is mapped finds it: its front, the element at a place, what is left, and
 -- what a test keeps of it.
 use Rattle.std.proofs.Common.{◌≡◌, Bool, true, false, cond, ℕ, ◌+◌, ◌-◌, ◌<◌, ◌≤◌, List, [], ◌∷◌, ◌++◌, map, All}
-use Rattle.std.proofs.Common.{length, take, drop, slice_range, get_or, refl, sym, ◌∙◌, ap, subst, arith}
-use Rattle.std.specs.List.{AllPairs, Contains, filter}
+use Rattle.std.proofs.Common.{length, reverse, take, drop, slice_range, get_or, refl, sym, ◌∙◌, ap, subst, arith}
+use Rattle.std.specs.List.{AllPairs, AllZip, Contains, filter}
 use Rattle.std.proofs.lemmas.List.{map_more, get_or-map, length-map, length-drop, take_all, take-map, drop-map}
-use Rattle.std.proofs.lemmas.List.{drop_more}
+use Rattle.std.proofs.lemmas.List.{drop_more, map-append, reverse-append}
 use Rattle.std.proofs.lemmas.List.Elements.{All-push, All-take, All-drop}
 
 -- the mapped list, with one more element
@@ -84,3 +84,24 @@ pub mapped_from : {X Y : Type 0} (f : X → Y) (xs : List X) (i : ℕ) →
 mapped_from f xs i =
     let short : length (drop i xs) ≤ length xs - i = omega (arith, length-drop i xs) in
     ap (map f) (take_all (length xs - i) (drop i xs) short)
+
+-- a list in the opposite order is mapped to that of the mapped one
+pub map-reverse : {X Y : Type 0} (f : X → Y) (xs : List X) → map f (reverse xs) ≡ reverse (map f xs)
+map-reverse f [] = refl
+map-reverse f (x ∷ xs) = ap (map f) (reverse-append (x ∷ []) xs) ∙ map-append f (reverse xs) (x ∷ [])
+    ∙ ap (λ ys. ys ++ f x ∷ []) (map-reverse f xs) ∙ sym (reverse-append (f x ∷ []) (map f xs))
+
+-- what holds of any two of what items are mapped to holds so of the items
+pub AllPairs-unmap : {X Y : Type 0} (R : Y → Y → Type 0) (f : X → Y) (xs : List X) → AllPairs R (map f xs) →
+    AllPairs (λ x y. R (f x) (f y)) xs
+AllPairs-unmap R f xs h i j d l m =
+    subst (λ y. R y (f (get_or xs j d))) (get_or-map f xs i d (f d) (omega (arith, l, m)))
+    (subst (λ y. R (get_or (map f xs) i (f d)) y) (get_or-map f xs j d (f d) m) (h i j (f d) l (rw length-map m)))
+
+-- one more item of each of two lists, where theirs are related one by one
+pub AllZip-more : {X Y : Type 0} (R : X → Y → Type 0) (xs : List X) (ys : List Y) (x : X) (y : Y) → AllZip R xs ys →
+    R x y → AllZip R (xs ++ x ∷ []) (ys ++ y ∷ [])
+AllZip-more R [] [] x y each more = (more, tt)
+AllZip-more R [] (w ∷ ws) x y each more = absurd each
+AllZip-more R (v ∷ vs) [] x y each more = absurd each
+AllZip-more R (v ∷ vs) (w ∷ ws) x y each more = (each.0, AllZip-more R vs ws x y each.1 more)

@@ -6,7 +6,7 @@ use Rattle.std.specs.Ordering.{is_lt, is_eq, int_cmp, int_eq, ordering_then, ord
 use Rattle.std.specs.Prelude.{int_lt}
 use Rattle.std.specs.declared.cmp.Ordering.{Ordering}
 use Rattle.std.specs.declared.cmp.Ordering.TheVariants.{Less, Equal, Greater}
-use Rattle.std.proofs.lemmas.Bool.{cases_Bool}
+use Rattle.std.proofs.lemmas.Bool.{cases_Bool, both_ways}
 use Rattle.std.proofs.lemmas.Bool.Decides.{Decides-int_eq, Decides-and, Decides-like, not_from_Decides}
 use Rattle.std.proofs.lemmas.Cmp.{on_total, then_total, int_cmp_total, tied_itself}
 use Rattle.std.proofs.lemmas.List.Sorted.{ranks_by}
@@ -100,6 +100,14 @@ point_lt-back p q differ back =
     by_cases Less r h e l = cc
     by_cases Equal r h e l = cc
     by_cases Greater r h e l = ap is_lt h
+
+-- points of which neither is smaller than the other are one
+pub neither_smaller : (p q : Point) → point_lt p q ≡ false → point_lt q p ≡ false → p ≡ q
+neither_smaller p q one other = by (point_eq p q) refl
+  where
+    by : (t : Bool) → point_eq p q ≡ t → p ≡ q
+    by true same = point_eq-same p q same
+    by false apart = absurd (both_ways (point_lt q p) other (point_lt-back p q apart one))
 
 -- the points' test is an order in which any two points compare
 pub point_lt-order : IsStrictWeakOrder point_lt

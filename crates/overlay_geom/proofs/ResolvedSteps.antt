@@ -1,6 +1,6 @@
 -- Steps one by one: what holds of the edges through points, and which of them are apart, where one step more is looked
 -- at.
-use Rattle.std.proofs.Common.{◌≡◌, ◌↔◌, Bool, true, false, cond, List, [], ◌∷◌, ◌++◌, map, All, Option, Some, None}
+use Rattle.std.proofs.Common.{◌≡◌, ◌↔◌, Bool, true, false, cond, List, [], ◌∷◌, ◌++◌, map, All, Some}
 use Rattle.std.proofs.Common.{refl, sym, ap, ◌∙◌, subst, arith}
 use Rattle.std.specs.List.{Contains, slice_get}
 use Rattle.std.proofs.lemmas.List.{map-append}
@@ -8,17 +8,13 @@ use Rattle.std.proofs.lemmas.List.Elements.{All-nil, All-cons, All-head, All-app
 use Rattle.std.proofs.lemmas.List.Elements.{All-contains_itself}
 use Rattle.std.proofs.lemmas.List.Elements.{Contains-append_left, Contains-append_right}
 use Rattle.std.proofs.lemmas.List.Kept.{AllPairs-cons}
+use Rattle.std.proofs.lemmas.Option.{same_Some}
 use Rattle.overlay_geom.specs.Plane.{Point, Step, Edge, edge_of, point_eq, steps_between, steps_through}
 use Rattle.overlay_geom.specs.Settled.{MeetInEnds}
 use Rattle.overlay_geom.specs.Resolved.{edges_between, edges_through, edges_of, AreApart}
 use Rattle.overlay_geom.proofs.Entries.{Contains-head}
 use Rattle.overlay_geom.proofs.Merging.{AllPairs-head, AllPairs-tail}
 use Rattle.overlay_geom.proofs.Orders.{point_eq-of_same}
-
--- what is in an option, or else d
-abbrev value_or : {X : Type 0} → X → Option X → X
-value_or d None = d
-value_or d (Some x) = x
 
 -- what holds of an item holds of the list of it alone, and back
 pub All-one : {X : Type 0} (P : X → Type 0) (x : X) → P x ↔ All P (x ∷ [])
@@ -115,8 +111,8 @@ pub edges_round : {X : Type 0} (f : X → Point) (xs : List X) (x : X) → Some 
     edges_through (f x) (map f xs ++ f x ∷ []) ≡ edges_of (map f xs)
 edges_round f [] x first = absurd (cc)
 edges_round f (y ∷ ys) x first =
-    let same : x ≡ y = ap (value_or y) first in
-    subst (λ z. edges_through (f z) (map f (y ∷ ys) ++ f z ∷ []) ≡ edges_of (map f (y ∷ ys))) (sym same)
+    subst (λ z. edges_through (f z) (map f (y ∷ ys) ++ f z ∷ []) ≡ edges_of (map f (y ∷ ys)))
+    (sym (same_Some x y first))
     (edges_through-more (f y) (f y) (map f ys ++ f y ∷ []) ∙ ap (λ es. es ++ edges_through (f y) (map f ys ++ f y ∷ []))
     (no_edge (f y)))
 
@@ -124,5 +120,5 @@ edges_round f (y ∷ ys) x first =
 pub first_mapped : {X Y : Type 0} (f : X → Y) (xs : List X) (x : X) → Some x ≡ slice_get xs 0 →
     Contains (map f xs) (f x)
 first_mapped f [] x first = absurd (cc)
-first_mapped f (y ∷ ys) x first = subst (λ z. Contains (f y ∷ map f ys) (f z)) (sym (ap (value_or y) first))
+first_mapped f (y ∷ ys) x first = subst (λ z. Contains (f y ∷ map f ys) (f z)) (sym (same_Some x y first))
     (Contains-head (f y) (map f ys))

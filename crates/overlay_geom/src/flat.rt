@@ -31,8 +31,8 @@ fn part_in<'a, T>(items: &'a [T], range: &Range<usize>) -> &'a [T]
     &items[within.start..within.end]
 }
 
-// The items of the list in a list of their own.
-fn copied<T: Copy, A: Allocator>(alloc: A, items: &[T]) -> Result<Vec<T, A>, OverlayError>
+/// The items of the list in a list of their own. The only refusal is `Memory`.
+pub fn copied<T: Copy, A: Allocator>(alloc: A, items: &[T]) -> Result<Vec<T, A>, OverlayError>
     ensures ok { IfOk result (λ v. v.items ≡ items.now) }
     ensures only { IsOkUnless result OverlayError.Memory }
 {

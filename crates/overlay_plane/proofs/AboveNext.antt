@@ -1,7 +1,7 @@
--- Between the anchor of a hole and the next filled-above edge below it no step is selected, so some of the selected steps
--- wind alike below the anchor and above that edge.
+-- Between the anchor of a hole and the next filled-above edge below it no step is selected, so some of the selected
+-- steps wind alike below the anchor and above that edge.
 use Rattle.std.proofs.Common.{◌≡◌, ⊎_elim, Bool, true, false, cond, not, ◌&&◌, ℤ, pos, ◌+ℤ◌, ◌-ℤ◌, ◌<ℤ◌, ◌≤ℤ◌, List}
-use Rattle.std.proofs.Common.{Contains, refl, sym, ap, ap₂, ◌∙◌, subst}
+use Rattle.std.proofs.Common.{Contains, refl, sym, ap, ◌∙◌, subst}
 use Rattle.std.specs.List.{filter}
 use Rattle.std.proofs.lemmas.Bool.{both_ways, and_parts, and_from, false_from_ne_true, not-true}
 use Rattle.std.proofs.lemmas.Int.{by_lt_z}
@@ -15,11 +15,11 @@ use Rattle.overlay_plane.specs.Windings.{total_under}
 use Rattle.overlay_plane.specs.SelectedSteps.{selected_steps, selected_step, IsSelectedStep}
 use Rattle.overlay_plane.specs.BesideOrbits.{count_on, winding_under, winding_over, IsBalancedPart}
 use Rattle.overlay_plane.specs.Contours.{is_filled_above}
-use Rattle.overlay_plane.specs.Anchors.{is_below_anchor, is_lower_at}
-use Rattle.overlay_plane.specs.Binding.{all_filled_above, filled_above_edges, IsNextWalk}
+use Rattle.overlay_plane.specs.Anchors.{is_below_anchor}
+use Rattle.overlay_plane.specs.Binding.{all_filled_above, IsNextWalk}
 use Rattle.overlay_plane.specs.Turn.{Hand}
-use Rattle.overlay_plane.proofs.BelowHoles.{anchor_of_list, anchor_covers, below_is}
-use Rattle.overlay_plane.proofs.BetweenEdges.{is_there_under, is_between, under_parted, below_is_above, each_zero}
+use Rattle.overlay_plane.proofs.BelowHoles.{anchor_covers, below_is}
+use Rattle.overlay_plane.proofs.BetweenEdges.{under_parted, below_is_above, each_zero}
 use Rattle.overlay_plane.proofs.Entries.{Contains-from_map, Contains-from_filter}
 use Rattle.overlay_plane.proofs.FilledEdges.{HaveSelected, step_selected, edge_is, filled_is, filled_kept}
 use Rattle.overlay_plane.proofs.FilledEdges.{filled_of_list, one_or_meet}
@@ -51,7 +51,8 @@ at_most_taken false z h = omega linear
 
 module _ (holds : ℤ → ℤ → Bool) (subj clip : CountedEdge → ℤ) (es : List CountedEdge) (filled : Hand)
     (walks : List (List Step)) (have : HaveSelected holds subj clip es filled walks) (hole next : List Step)
-    (at : Contains walks hole) (n : IsNextWalk filled walks hole next) (empty : HasEmptyAbove filled hole n.anchor) where
+    (at : Contains walks hole) (n : IsNextWalk filled walks hole next)
+    (empty : HasEmptyAbove filled hole n.anchor) where
   abbrev steps : List Step
   steps = selected_steps holds subj clip filled es
 

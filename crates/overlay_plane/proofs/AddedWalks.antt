@@ -1,7 +1,8 @@
 -- Walks taken together wind as their windings summed, so along a walk along which each of them has one winding they
 -- have one together; and they have balanced counts.
-use Rattle.std.proofs.Common.{◌≡◌, Bool, true, false, cond, ℤ, pos, ◌+ℤ◌, ◌-ℤ◌, ◌*ℤ◌, List, [], ◌∷◌, ◌++◌, Contains, refl, sym}
-use Rattle.std.proofs.Common.{ap, ap₂, ◌∙◌, subst}
+use Rattle.std.proofs.Common.{◌≡◌, Bool, true, false, cond, ℤ, pos, ◌+ℤ◌, List, [], ◌∷◌, ◌++◌, Contains}
+use Rattle.std.proofs.Common.{refl, sym}
+use Rattle.std.proofs.Common.{ap, ap₂, ◌∙◌}
 use Rattle.std.proofs.lemmas.List.Elements.{Contains-append_left, Contains-append_right}
 use Rattle.overlay_geom.specs.Plane.{Point, Step, edge_of, edge_eq, sign_of, is_forward, midpoint, points_of}
 use Rattle.overlay_geom.specs.Plane.{total, winding}
@@ -9,7 +10,7 @@ use Rattle.overlay_geom.specs.Edges.{CountedEdge}
 use Rattle.overlay_geom.proofs.Signs.{linear}
 use Rattle.overlay_plane.specs.Turn.{Hand}
 use Rattle.overlay_plane.specs.Turn.Hand.{left, right}
-use Rattle.overlay_plane.specs.BesideOrbits.{count_along, winding_under, winding_beside, WalksAlong, IsBalancedPart}
+use Rattle.overlay_plane.specs.BesideOrbits.{count_along, winding_beside, WalksAlong, IsBalancedPart}
 use Rattle.overlay_plane.specs.Contours.{all_steps, IsContour}
 use Rattle.overlay_plane.specs.ShapesAlone.{HasOneWinding}
 use Rattle.overlay_plane.proofs.AlongLines.{winding_part}

@@ -152,13 +152,13 @@ winding_across_a_step es taken s long = across s long taken es
 -- ---- where no step is taken twice
 
 -- a step that is not taken is held 0 times
-none_held : (taken : List Step) (s : Step) → ¬ (Contains taken s) → times_held taken s ≡ pos 0
+pub none_held : (taken : List Step) (s : Step) → ¬ (Contains taken s) → times_held taken s ≡ pos 0
 none_held taken s none = total-zero (λ t. one_if (step_eq t s)) taken
     (λ t c. ap one_if (false_from_ne_true (step_eq t s)
     (λ same. none (subst (λ u. Contains taken u) (same_steps t s same) c))))
 
 -- a step that is taken once is held once
-one_held : (taken : List Step) → HasEachOnce taken → (s : Step) → Contains taken s → times_held taken s ≡ pos 1
+pub one_held : (taken : List Step) → HasEachOnce taken → (s : Step) → Contains taken s → times_held taken s ≡ pos 1
 one_held taken once s c = single_step_total taken once (λ t. pos 1) s c
 
 -- in a set that alternates, a step is taken or not, and not taken back

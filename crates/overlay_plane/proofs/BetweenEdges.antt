@@ -1,6 +1,6 @@
 -- What is under an edge at an abscissa: what is under a lower one, that one, and what lies between the two. Where
 -- nothing between counts, the winding below the one edge is that above the other one.
-use Rattle.std.proofs.Common.{◌≡◌, Bool, true, false, cond, not, ◌&&◌, ℤ, pos, ◌+ℤ◌, ◌<ℤ◌, ◌≤ℤ◌, List, [], ◌∷◌}
+use Rattle.std.proofs.Common.{◌≡◌, Bool, true, false, cond, not, ◌&&◌, ℤ, pos, ◌+ℤ◌, ◌≤ℤ◌, List, [], ◌∷◌}
 use Rattle.std.proofs.Common.{Contains, refl, sym, ap, ap₂, ◌∙◌, subst, ⊎_elim}
 use Rattle.std.proofs.lemmas.Bool.{both_ways, and_parts, and_from, false_from_ne_true}
 use lib.IntN.{+ℤ_idr}
@@ -20,7 +20,8 @@ use Rattle.overlay_plane.proofs.Under.{under_irreflexive, under_transitive}
 
 -- ---- sums of numbers that are not above 0
 
-pub at_most_zero : {X : Type 0} (f : X → ℤ) (xs : List X) → ((x : X) → Contains xs x → f x ≤ℤ pos 0) → total f xs ≤ℤ pos 0
+pub at_most_zero : {X : Type 0} (f : X → ℤ) (xs : List X) → ((x : X) → Contains xs x → f x ≤ℤ pos 0) →
+    total f xs ≤ℤ pos 0
 at_most_zero f [] h = omega linear
 at_most_zero f (x ∷ xs) h =
     let first = h x (Contains-head x xs) in

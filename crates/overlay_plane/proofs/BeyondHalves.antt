@@ -1,23 +1,22 @@
--- Beyond a half plane that has all edges none of them is strictly below a point, or each is that covers its abscissa; so
--- balanced counts sum to 0 there.
-use Rattle.std.proofs.Common.{◌≡◌, Bool, true, false, cond, not, ◌&&◌, ℤ, pos, ◌+ℤ◌, ◌-ℤ◌, ◌*ℤ◌, ◌<ℤ◌, ◌≤ℤ◌, int_lt, int_le}
-use Rattle.std.proofs.Common.{List, Contains, refl, sym, ap, ap₂, subst, ◌∙◌}
-use Rattle.std.specs.List.{All}
+-- Beyond a half plane that has all edges none of them is strictly below a point, or each is that covers its abscissa;
+-- so balanced counts sum to 0 there.
+use Rattle.std.proofs.Common.{◌≡◌, Bool, true, false, cond, not, ◌&&◌, ℤ, pos, ◌+ℤ◌, ◌-ℤ◌, ◌*ℤ◌, ◌<ℤ◌, ◌≤ℤ◌, int_lt}
+use Rattle.std.proofs.Common.{int_le}
+use Rattle.std.proofs.Common.{List, Contains, refl, sym, ap, subst, ◌∙◌}
 use Rattle.std.proofs.lemmas.Bool.{both_ways}
 use Rattle.std.proofs.lemmas.List.Elements.{All-contains}
-use lib.IntN.{*ℤ_comm}
-use Rattle.overlay_geom.specs.Plane.{Point, PlanePoint, Edge, point_lt, side, is_strictly_below, total}
+use Rattle.overlay_geom.specs.Plane.{Point, PlanePoint, Edge, point_lt, side, is_strictly_below}
 use Rattle.overlay_geom.specs.Edges.{CountedEdge, ends_of, winding_by}
 use Rattle.overlay_geom.proofs.Identities.{solve, number, ◌⊕◌, ◌⊗◌, ◌⊖◌, ◌≗◌}
-use Rattle.overlay_geom.proofs.Signs.{linear, mul-le, mul-pos, mul-neg, mul-nonneg, mul-nonpos, pos_of_mul-pos}
+use Rattle.overlay_geom.proofs.Signs.{linear, mul-pos, mul-neg, mul-nonneg, mul-nonpos, pos_of_mul-pos}
 use Rattle.overlay_geom.proofs.Signs.{neg_of_mul-neg}
 use Rattle.overlay_plane.specs.EdgeLists.{IsBalanced, IsForwardBy}
-use Rattle.overlay_plane.specs.HalfPlanes.{HalfPlane, IsInHalf, IsEdgeInHalf, IsBeyond, NothingWindsBeyond}
+use Rattle.overlay_plane.specs.HalfPlanes.{IsEdgeInHalf, NothingWindsBeyond}
 use Rattle.overlay_plane.specs.HalfPlanes.HalfPlane.{left_of, right_of, below, above}
 use Rattle.overlay_plane.specs.Heights.{covers}
 use Rattle.overlay_plane.proofs.RoundedHalves.{le_times}
 use Rattle.overlay_plane.proofs.Strip.{starts_first}
-use Rattle.overlay_plane.proofs.Tests.{lt_from_test, le_from_test, test_from_lt, test_from_ge, test_from_gt, int_le-not}
+use Rattle.overlay_plane.proofs.Tests.{lt_from_test, test_from_lt, test_from_ge, test_from_gt, int_le-not}
 use Rattle.overlay_plane.proofs.Totals.{total-same, total-zero}
 use Rattle.overlay_plane.proofs.Under.{covers_from, covers_to}
 

@@ -20,6 +20,7 @@ use Rattle.overlay_plane.specs.ContourNumbers.{IsNumber, after, AreNumbers, outl
 use Rattle.overlay_plane.proofs.ShapeNumbers.{is_from, from_start, number_split, not_below}
 use Rattle.overlay_plane.proofs.SplitLists.{IsPermutation-past, IsSplit, flat_map-split, filter-same, filter-all}
 use Rattle.overlay_plane.proofs.SplitLists.{filter-none}
+use Rattle.std.proofs.lemmas.Bool.{not-true}
 
 -- ---- numbers of holes
 
@@ -119,13 +120,9 @@ module _ {Y : Type 0} (f : List Step → List Y) (bound : List BoundContour) whe
   none_from n below = filter-same (is_hole_from n) (λ b. false) bound
       (λ b c. false_from_ne_true (is_hole_from n b) (λ is.
       let both = and_parts (is_hole_role b.contour.role) (is_from n (number_by b.contour.role b.shape)) is in
-      against (number_by b.contour.role b.shape) both.1 (below b c (no_outline (is_outline b.contour.role) both.0))))
+      against (number_by b.contour.role b.shape) both.1 (below b c (not-true (is_outline b.contour.role) both.0))))
       ∙ filter-none bound
     where
-      no_outline : (t : Bool) → not t ≡ true → t ≡ false
-      no_outline true e = absurd (both_ways false refl e)
-      no_outline false e = refl
-
       against : (shape : Option ℕ) → is_from n shape ≡ true → ¬ ((m : ℕ) → shape ≡ Some m → m < n)
       against None is h = both_ways false refl is
       against (Some m) is h = not_below n m is (h m refl)

@@ -17,7 +17,7 @@ use Rattle.overlay_plane.specs.BoundContours.{IsParent}
 use Rattle.overlay_plane.specs.ContourNumbers.{IsNumber, after, AreNumbers, outline_count}
 use Rattle.overlay_plane.proofs.LaterEntries.{Contains-cases}
 use Rattle.overlay_plane.proofs.PlacesOfContours.{known_of}
-use Rattle.overlay_plane.proofs.RoledWalks.{some-same}
+use Rattle.std.proofs.lemmas.Option.{same_Some}
 
 -- ---- each number is that of an outline
 
@@ -35,8 +35,8 @@ counted_after n c cs = by c.role
 
 -- the number of a role is below that of the next outline
 number_before : (n m k : ℕ) (r : Role) → IsNumber n r → stands_in r ≡ Some m → m < after n r + k
-number_before n m k (outline l) is stands = let same = some-same l m stands in omega (arith, is, same)
-number_before n m k (own_hole l) is stands = let same = some-same l m stands in omega (arith, is, same)
+number_before n m k (outline l) is stands = let same = same_Some l m stands in omega (arith, is, same)
+number_before n m k (own_hole l) is stands = let same = same_Some l m stands in omega (arith, is, same)
 number_before n m k free_hole is stands = absurd (none-some m stands)
 
 pub number_counted : (n : ℕ) (cs : List Contour) → AreNumbers n cs → (c : Contour) → Contains cs c → (m : ℕ) →

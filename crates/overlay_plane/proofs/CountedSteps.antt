@@ -1,6 +1,6 @@
 -- Steps counted on the edges of a list: a number that each edge has, times how often the steps walk along it, sums to
 -- the numbers of the steps' edges, times the steps' signs.
-use Rattle.std.proofs.Common.{◌≡◌, Bool, true, false, cond, ℤ, pos, ◌*ℤ◌, List, Contains, refl, sym, ap, ◌∙◌}
+use Rattle.std.proofs.Common.{◌≡◌, Bool, true, false, cond, ℤ, pos, ◌*ℤ◌, List, Contains, sym, ap, ◌∙◌}
 use lib.IntN.{*ℤ_comm, *ℤ-zero}
 use Rattle.overlay_geom.specs.Plane.{PlanePoint, Step, Edge, edge_eq, edge_of, sign_of, is_strictly_below, total}
 use Rattle.overlay_geom.specs.Plane.{winding}
@@ -50,7 +50,8 @@ module _ (es : List CountedEdge) (steps : List Step) (walks : WalksAlong es step
     numbers_counted =
         total-same (λ e. count_on taken e *ℤ number (ends_of e)) (λ e. total (λ s. added_on e s) taken) es
         (λ e at. *ℤ_comm (count_on taken e) (number (ends_of e))
-        ∙ sym (total-times (number (ends_of e)) (λ s. cond (edge_eq (edge_of s) (ends_of e)) (sign_of s) (pos 0)) taken))
+        ∙ sym (total-times (number (ends_of e)) (λ s. cond (edge_eq (edge_of s) (ends_of e)) (sign_of s) (pos 0))
+        taken))
         ∙ total-exchange added_on es taken
         ∙ total-same (λ s. total (λ e. added_on e s) es) (λ s. sign_of s *ℤ number (edge_of s)) taken added_by
 

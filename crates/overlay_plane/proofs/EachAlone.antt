@@ -50,7 +50,7 @@ use Rattle.overlay_plane.proofs.OnceOrNot.{winds_once_or_not}
 use Rattle.overlay_plane.proofs.OwnContours.{HaveOwn, walks_have_own}
 use Rattle.overlay_plane.proofs.OwnGroups.{groups_have_own}
 use Rattle.overlay_plane.proofs.PlacesOfContours.{Contains-place, place_of_walk}
-use Rattle.overlay_plane.proofs.RoledWalks.{some-same}
+use Rattle.std.proofs.lemmas.Option.{same_Some}
 use Rattle.overlay_plane.proofs.StartWindings.{filled_under, once_from_none, once_not_none}
 use Rattle.overlay_plane.proofs.Totals.{Contains-head, Contains-later}
 use Rattle.overlay_plane.proofs.WalksOfCuts.{selected_along}
@@ -190,7 +190,8 @@ module _ (holds : ℤ → ℤ → Bool) (subj clip : CountedEdge → ℤ) (es : 
         }))
         (λ of_found. let d = Contains-from_map (λ (e : BoundContour). e.contour.steps)
         (filter (λ (e : BoundContour). is_free_hole e.contour.role && is_number n e.shape) bound) w of_found in
-        let passed = Contains-from_filter (λ (e : BoundContour). is_free_hole e.contour.role && is_number n e.shape) bound
+        let passed = Contains-from_filter (λ (e : BoundContour). is_free_hole e.contour.role && is_number n e.shape)
+        bound
         d.0 d.1 in
         let tests = and_parts (is_free_hole d.0.contour.role) (is_number n d.0.shape) passed.1 in
         let place = contour_at_place d.0 passed.0 in
@@ -228,13 +229,13 @@ module _ (holds : ℤ → ℤ → Bool) (subj clip : CountedEdge → ℤ) (es : 
 
         by : (r : Role) → c.role ≡ r → Contains ws c.steps
         by (outline m) is =
-            let same : m ≡ n = some-same m n (sym (ap stands_in is) ∙ stands) in
+            let same : m ≡ n = same_Some m n (sym (ap stands_in is) ∙ stands) in
             let one = one_outline 0 contours (cut_numbered in_groups filled keeps steps contours kept.cut) c o at at_o n
             (is ∙ ap outline same) is_b in
             subst (λ (d : Contour). Contains ws d.steps) (sym one)
             (Contains-head o.steps (own_holes bound n ++ found_holes bound n))
         by (own_hole m) is =
-            let same : m ≡ n = some-same m n (sym (ap stands_in is) ∙ stands) in
+            let same : m ≡ n = same_Some m n (sym (ap stands_in is) ∙ stands) in
             let passes : is_own_hole_of n bound_one.0.contour.role ≡ true =
             ap (λ (d : Contour). is_own_hole_of n d.role) bound_one.2 ∙ ap (is_own_hole_of n) is
             ∙ eq-eqb m n same in
@@ -344,12 +345,14 @@ module _ (holds : ℤ → ℤ → Bool) (subj clip : CountedEdge → ℤ) (es : 
       where
         there : winding_beside filled es taken lowest ≡ once_round filled
         there = once_from_none filled es taken lowest
-            ((winding_across_alternating_steps es steps taken alternates inside).rises once lowest leftmost.lowest_taken)
+            ((winding_across_alternating_steps es steps taken alternates inside).rises once lowest
+            leftmost.lowest_taken)
             (empty_below filled es taken lowest filled_there ∙ none_below)
 
         own_once : (d : Contour) → Contains contours d → stands_in d.role ≡ Some n → (t : Step) → Contains d.steps t →
             winding_beside filled es taken t ≡ once_round filled
-        own_once d at stands t e = own_contours.alike taken part alike d lowest_own.0 at lowest_own.1 stands lowest_own.2
+        own_once d at stands t e = own_contours.alike taken part alike d lowest_own.0 at lowest_own.1 stands
+            lowest_own.2
             t lowest e lowest_own.3 ∙ there
 
     -- and it winds once or zero times round each point

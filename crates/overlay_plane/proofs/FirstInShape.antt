@@ -1,12 +1,12 @@
 -- The lowest edge at the leftmost lowest point of a shape is not one of a hole that is found for it: a contour that
 -- stands in the shape from the start is anchored before each such hole.
-use Rattle.std.proofs.Common.{◌≡◌, ⊎_elim, ℕ, Bool, true, false, ◌&&◌, List, Contains, Some, refl, sym, ap}
+use Rattle.std.proofs.Common.{◌≡◌, ⊎_elim, ℕ, true, false, ◌&&◌, List, Contains, Some, sym, ap}
 use Rattle.std.proofs.Common.{◌∙◌, subst}
 use Rattle.std.specs.List.{slice_get}
 use Rattle.std.proofs.lemmas.Bool.{both_ways, and_parts, or_cases, false_from_ne_true}
 use Rattle.std.proofs.lemmas.List.Elements.{All-contains}
 use Rattle.overlay_geom.specs.Plane.{Point, Step, Edge, point_lt, point_eq, edge_of}
-use Rattle.overlay_geom.proofs.Orders.{point_eq-same, point_lt-back}
+use Rattle.overlay_geom.proofs.Orders.{point_eq-same}
 use Rattle.overlay_plane.specs.Nodes.{turns_left}
 use Rattle.overlay_plane.specs.LeftmostSteps.{HasLeftmost}
 use Rattle.overlay_plane.specs.Contours.{IsContour}
@@ -24,15 +24,8 @@ use Rattle.overlay_plane.proofs.Entries.{Contains-from_map}
 use Rattle.overlay_plane.proofs.LongSteps.{long_leads_forward}
 use Rattle.overlay_plane.proofs.NextAnchors.{next_is_anchored_before, end_before}
 use Rattle.overlay_plane.proofs.PlacesOfContours.{Contains-place, contour_at, known_at}
-use Rattle.overlay_plane.proofs.RoledWalks.{some-same}
-
--- a point that is neither before nor after another one is that
-same_place : (p q : Point) → point_lt p q ≡ false → point_lt q p ≡ false → p ≡ q
-same_place p q not_before not_after = by (point_eq p q) refl
-  where
-    by : (t : Bool) → point_eq p q ≡ t → p ≡ q
-    by true same = point_eq-same p q same
-    by false apart = absurd (both_ways (point_lt q p) not_after (point_lt-back p q apart not_before))
+use Rattle.std.proofs.lemmas.Option.{same_Some}
+use Rattle.overlay_geom.proofs.Orders.{neither_smaller}
 
 module _ (filled : Hand) (contours : List Contour) (bindable : CanBeBound filled (walks_in contours)) (n : ℕ) where
   -- a contour that stands in the shape from the start is anchored before the anchor
@@ -58,7 +51,7 @@ module _ (filled : Hand) (contours : List Contour) (bindable : CanBeBound filled
       let own_contour = contour_there j has.next has.next_at in
       let first = anchors_exist has.next own_contour in (
         has.is_next.anchor,
-        subst (λ v. IsAnchor v has.is_next.anchor) (some-same has.walk w (sym has.at ∙ at)) has.is_next.anchored,
+        subst (λ v. IsAnchor v has.is_next.anchor) (same_Some has.walk w (sym has.at ∙ at)) has.is_next.anchored,
         record {
           own = own.0;
           among = Contains-place contours j own.0 own.1;
@@ -74,7 +67,7 @@ module _ (filled : Hand) (contours : List Contour) (bindable : CanBeBound filled
       let earlier = after_own j rest has.next has.next_at in
       let after = earlier.2 in (
         has.is_next.anchor,
-        subst (λ v. IsAnchor v has.is_next.anchor) (some-same has.walk w (sym has.at ∙ at)) has.is_next.anchored,
+        subst (λ v. IsAnchor v has.is_next.anchor) (same_Some has.walk w (sym has.at ∙ at)) has.is_next.anchored,
         record {
           own = after.own;
           among = after.among;
@@ -108,7 +101,7 @@ module _ (filled : Hand) (contours : List Contour) (bindable : CanBeBound filled
 
       -- the hole's anchor is at the leftmost point
       at_point : a.a ≡ h.point
-      at_point = same_place a.a h.point
+      at_point = neither_smaller a.a h.point
           (false_from_ne_true (point_lt a.a h.point) (λ less. h.none_before u.0 (inside u.0 u.1)
           (end_before u.0 h.point (ap (λ (e : Edge). point_lt e.a h.point) u.2 ∙ less))))
           (false_from_ne_true (point_lt h.point a.a) (λ less. anchored.leftmost h.lowest c

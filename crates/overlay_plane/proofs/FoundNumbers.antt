@@ -8,7 +8,7 @@ use Rattle.overlay_plane.specs.RoledContours.{Contour, free_hole}
 use Rattle.overlay_plane.specs.BoundContours.{IsParent, has_one_shape, AreShapesFound}
 use Rattle.overlay_plane.specs.ContourNumbers.{AreNumbers, outline_count}
 use Rattle.overlay_plane.proofs.ContourNumbers.{found_counted}
-use Rattle.overlay_plane.proofs.RoledWalks.{some-same}
+use Rattle.std.proofs.lemmas.Option.{same_Some}
 
 module _ (filled : Hand) (contours : List Contour) (numbered : AreNumbers 0 contours)
     (shapes : List (Option ℕ)) (found : AreShapesFound filled contours shapes) where
@@ -17,7 +17,7 @@ module _ (filled : Hand) (contours : List Contour) (numbered : AreNumbers 0 cont
       shape ≡ Some m → m < outline_count contours
   found_by true one i shape is m same =
       let lone = eqb-true (outline_count contours) 1 one in
-      let first = some-same m 0 (sym same ∙ is) in omega (arith, lone, first)
+      let first = same_Some m 0 (sym same ∙ is) in omega (arith, lone, first)
   found_by false one i shape is m same = found_counted filled contours numbered i m
       (subst (IsParent filled contours i) same is)
 

@@ -20,7 +20,7 @@ use Rattle.overlay_plane.proofs.Entries.{Contains-from_map, Contains-from_filter
 use Rattle.overlay_plane.proofs.FilledEdges.{HaveSelected}
 use Rattle.overlay_plane.proofs.HoleWindings.{HasEmptyAbove, filled_over}
 use Rattle.overlay_plane.proofs.PlacesOfContours.{Contains-place, contour_at, known_at, free_from_none}
-use Rattle.overlay_plane.proofs.RoledWalks.{some-same}
+use Rattle.std.proofs.lemmas.Option.{same_Some}
 use Rattle.overlay_plane.proofs.StartWindings.{filled_under}
 
 module _ (holds : ℤ → ℤ → Bool) (subj clip : CountedEdge → ℤ) (es : List CountedEdge) (filled : Hand)
@@ -35,7 +35,8 @@ module _ (holds : ℤ → ℤ → Bool) (subj clip : CountedEdge → ℤ) (es : 
     IsOnceAlong w = (s : Step) → Contains w s → winding_beside filled es taken s ≡ once_round filled
 
     -- it goes over from the next walk
-    from_next : (i j : ℕ) (has : HasNextAt filled (walks_in contours) i j) (c : Contour) → slice_get contours i ≡ Some c →
+    from_next : (i j : ℕ) (has : HasNextAt filled (walks_in contours) i j) (c : Contour) →
+        slice_get contours i ≡ Some c →
         c.role ≡ free_hole → IsOnceAlong has.next → IsOnceAlong has.walk
     from_next i j has c at free once s in_walk =
         alike has.walk in_walks s own.step in_walk own.among
@@ -60,7 +61,7 @@ module _ (holds : ℤ → ℤ → Bool) (subj clip : CountedEdge → ℤ) (es : 
         -- the step along the anchor
         own : HasEmptyAbove filled has.walk has.is_next.anchor
         own = let there = contour_at contours i has.walk has.at in
-            let same : c.steps ≡ has.walk = ap (λ (d : Contour). d.steps) (some-same c there.0 (sym at ∙ there.1))
+            let same : c.steps ≡ has.walk = ap (λ (d : Contour). d.steps) (same_Some c there.0 (sym at ∙ there.1))
             ∙ there.2 in
             subst (λ w. HasEmptyAbove filled w has.is_next.anchor) same (empty i c at free has.is_next.anchor
             (subst (λ w. IsAnchor w has.is_next.anchor) (sym same) has.is_next.anchored))
@@ -73,14 +74,14 @@ module _ (holds : ℤ → ℤ → Bool) (subj clip : CountedEdge → ℤ) (es : 
         found_once i (direct {j} has known) c at free =
             let there = contour_at contours i has.walk has.at in
             let next = contour_at contours j has.next has.next_at in
-            subst IsOnceAlong (sym (ap (λ (d : Contour). d.steps) (some-same c there.0 (sym at ∙ there.1)) ∙ there.2))
+            subst IsOnceAlong (sym (ap (λ (d : Contour). d.steps) (same_Some c there.0 (sym at ∙ there.1)) ∙ there.2))
             (from_next i j has c at free (subst IsOnceAlong next.2
             (own_once next.0 (Contains-place contours j next.0 next.1)
             (sym (known_at contours j next.0 next.1) ∙ known))))
         found_once i (through {j} has unknown rest) c at free =
             let there = contour_at contours i has.walk has.at in
             let next = contour_at contours j has.next has.next_at in
-            subst IsOnceAlong (sym (ap (λ (d : Contour). d.steps) (some-same c there.0 (sym at ∙ there.1)) ∙ there.2))
+            subst IsOnceAlong (sym (ap (λ (d : Contour). d.steps) (same_Some c there.0 (sym at ∙ there.1)) ∙ there.2))
             (from_next i j has c at free (subst IsOnceAlong next.2
             (found_once j rest next.0 next.1
             (free_from_none next.0.role (sym (known_at contours j next.0 next.1) ∙ unknown)))))

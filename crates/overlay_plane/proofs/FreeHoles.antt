@@ -38,7 +38,8 @@ use Rattle.overlay_plane.proofs.KeptContours.{can_be_bound, each_taken_once}
 use Rattle.overlay_plane.proofs.LaterEntries.{Contains-cases}
 use Rattle.overlay_plane.proofs.NextSteps.{alternating_steps_lead_on}
 use Rattle.overlay_plane.proofs.PlacesOfContours.{Contains-place, contour_at, known_at, free_from_none}
-use Rattle.overlay_plane.proofs.RoledWalks.{free_hole_at, some-same}
+use Rattle.overlay_plane.proofs.RoledWalks.{free_hole_at}
+use Rattle.std.proofs.lemmas.Option.{same_Some}
 use Rattle.overlay_plane.proofs.WalksOfCuts.{selected_along, walk_of_a_cut}
 
 -- no contour of an outline's group is such a hole
@@ -128,7 +129,7 @@ module _ (holds : ℤ → ℤ → Bool) (subj clip : CountedEdge → ℤ) (es : 
         slice_get contours i ≡ Some c → ¬ (c.role ≡ free_hole)
     never_lost i (nothing walk at_walk below) c at free =
         let own = contour_at contours i walk at_walk in
-        let same : c.steps ≡ walk = ap (λ (d : Contour). d.steps) (some-same c own.0 (sym at ∙ own.1)) ∙ own.2 in
+        let same : c.steps ≡ walk = ap (λ (d : Contour). d.steps) (same_Some c own.0 (sym at ∙ own.1)) ∙ own.2 in
         let anchored = subst (λ w. IsAnchor w below.anchor) (sym same) below.anchored in
         let some = some_below holds subj clip es filled (walks_in contours) have_all c.steps
         (Contains-map (λ (d : Contour). d.steps) contours c (Contains-place contours i c at)) below.anchor anchored
@@ -152,7 +153,8 @@ module _ (holds : ℤ → ℤ → Bool) (subj clip : CountedEdge → ℤ) (es : 
     parent_by true one i None parent c at free = absurd (never_lost i parent c at free)
     parent_by true one i (Some m) parent c at free = ap Some
         (let lone = eqb-true (outline_count contours) 1 one in
-        let low = found_counted filled contours (cut_numbered in_groups filled keeps steps contours kept.cut) i m parent in
+        let low = found_counted filled contours (cut_numbered in_groups filled keeps steps contours kept.cut) i m
+        parent in
         omega (arith, lone, low))
     parent_by false one i shape parent c at free = parent
 

@@ -1,20 +1,20 @@
 -- Edges in a half plane with a whole border stay in it, round by round: their chains, and what the rounds leave.
-use Rattle.std.proofs.Common.{◌≡◌, Bool, true, false, List, [], ◌∷◌, ◌++◌, Contains, sym, subst}
+use Rattle.std.proofs.Common.{Bool, true, false, List, [], ◌∷◌, ◌++◌, Contains, sym, subst}
 use Rattle.std.specs.List.{All}
 use Rattle.std.specs.Prelude.{flat_map}
 use Rattle.std.proofs.lemmas.List.Elements.{All-nil, All-cons, All-append, All-map, All-contains, All-contains_itself}
 use Rattle.std.proofs.lemmas.List.Elements.{All-weaker}
-use Rattle.overlay_geom.specs.Plane.{Point, PlanePoint, Step, Edge, is_forward, edge_of, reversed_step, steps_through}
+use Rattle.overlay_geom.specs.Plane.{PlanePoint, Step, Edge, is_forward, edge_of, steps_through}
 use Rattle.overlay_geom.specs.Edges.{CountedEdge, ends_of}
 use Rattle.overlay_geom.specs.Merged.{IsMerged}
-use Rattle.overlay_plane.specs.Arrangements.{IsReachedBy}
-use Rattle.overlay_plane.specs.ChainLinks.{ChainLink, links_after, links_through, step_of, step_along, chain_through}
+use Rattle.overlay_plane.specs.ChainLinks.{ChainLink, links_after, links_through, step_of, step_along}
 use Rattle.overlay_plane.specs.ChainLinks.ChainLink.{held}
 use Rattle.overlay_plane.specs.Cutting.{piece_along, pieces_through}
 use Rattle.overlay_plane.specs.HalfPlanes.{HalfPlane, IsInHalf, IsStepInHalf, IsEdgeInHalf, ChainsStayInHalfPlanes}
 use Rattle.overlay_plane.specs.HalfPlanes.{ArrangementsStayInHalfPlanes}
 use Rattle.overlay_plane.specs.Meetings.{MeetsAnother}
-use Rattle.overlay_plane.specs.Rounds.{Round, IsRound, IsCutAt, AreRounds, pieces_of, after_rounds, chain_of, whole_cuts}
+use Rattle.overlay_plane.specs.Rounds.{Round, IsRound, IsCutAt, AreRounds, pieces_of, after_rounds, chain_of}
+use Rattle.overlay_plane.specs.Rounds.{whole_cuts}
 use Rattle.overlay_plane.proofs.EdgesOfSteps.{edge_by}
 use Rattle.overlay_plane.proofs.Entries.{Contains-from_map, Contains-from_flat_map}
 use Rattle.overlay_plane.proofs.LinksKept.{IsBetweenGood, good_through, AllLinks, links_kept}

@@ -24,7 +24,7 @@ use Rattle.overlay_plane.proofs.ShuffledCuts.{alternate_alike}
 use Rattle.overlay_plane.proofs.Tests.{same_tests}
 
 -- a step is one of a walk's, where it is not none of them
-not_none : (walk : List Step) (s : Step) → ¬ (¬ (Contains walk s)) → Contains walk s
+pub not_none : (walk : List Step) (s : Step) → ¬ (¬ (Contains walk s)) → Contains walk s
 not_none walk s against = by (is_step_of walk s) refl
   where
     by : (t : Bool) → is_step_of walk s ≡ t → Contains walk s

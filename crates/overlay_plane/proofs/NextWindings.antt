@@ -6,7 +6,7 @@ use Rattle.std.proofs.lemmas.List.Elements.{All-contains}
 use Rattle.overlay_geom.specs.Plane.{Point, Step, edge_eq}
 use Rattle.overlay_geom.specs.Edges.{CountedEdge, ends_of, winding_below, winding_above}
 use Rattle.overlay_geom.proofs.Orders.{point_eq-of_same}
-use Rattle.overlay_plane.specs.Turn.{Hand, is_met_before, IsMetBefore}
+use Rattle.overlay_plane.specs.Turn.{Hand, other_hand, is_met_before, IsMetBefore}
 use Rattle.overlay_plane.specs.Turn.Hand.{left, right}
 use Rattle.overlay_plane.specs.Nodes.{IsBalancedArrangement}
 use Rattle.overlay_plane.specs.Spokes.{IsSpoke, far_end, winding_before, winding_after}
@@ -106,10 +106,10 @@ module _ (count : CountedEdge → ℤ) (es : List CountedEdge) (arranged : IsBal
 
   module _ (v : Point) (e m f : CountedEdge) (spoke_e : IsSpoke es v e) (spoke_m : IsSpoke es v m)
       (spoke_f : IsSpoke es v f) where
-    -- what is between f and e counterclockwise is met from e before f by the left hand
-    from_other_side : IsMetBefore right v (far_end v f) (far_end v m) (far_end v e) →
-        IsMetBefore left v (far_end v e) (far_end v m) (far_end v f)
-    from_other_side h = by (edge_eq (ends_of m) (ends_of f)) refl (edge_eq (ends_of m) (ends_of e)) refl
+    -- what a hand meets from f before e the other hand meets from e before f
+    pub turned_back : (hand : Hand) → IsMetBefore hand v (far_end v f) (far_end v m) (far_end v e) →
+        IsMetBefore (other_hand hand) v (far_end v e) (far_end v m) (far_end v f)
+    turned_back hand h = by (edge_eq (ends_of m) (ends_of f)) refl (edge_eq (ends_of m) (ends_of e)) refl
         (edge_eq (ends_of e) (ends_of f)) refl
       where
         one : (x y : CountedEdge) → IsSpoke es v x → IsSpoke es v y → edge_eq (ends_of x) (ends_of y) ≡ true → x ≡ y
@@ -117,31 +117,32 @@ module _ (count : CountedEdge → ℤ) (es : List CountedEdge) (arranged : IsBal
 
         by : (i : Bool) → edge_eq (ends_of m) (ends_of f) ≡ i → (j : Bool) → edge_eq (ends_of m) (ends_of e) ≡ j →
             (k : Bool) → edge_eq (ends_of e) (ends_of f) ≡ k →
-            IsMetBefore left v (far_end v e) (far_end v m) (far_end v f)
-        by true mf j me k ef = absurd (false≢true (sym (start_is_last right v (far_end v f) (far_end v e))
-            ∙ subst (λ (x : CountedEdge). IsMetBefore right v (far_end v f) (far_end v x) (far_end v e))
+            IsMetBefore (other_hand hand) v (far_end v e) (far_end v m) (far_end v f)
+        by true mf j me k ef = absurd (false≢true (sym (start_is_last hand v (far_end v f) (far_end v e))
+            ∙ subst (λ (x : CountedEdge). IsMetBefore hand v (far_end v f) (far_end v x) (far_end v e))
             (one m f spoke_m spoke_f mf) h))
         by false mf true me k ef = absurd
-            (false≢true (sym (met_irreflexive right v (far_end v f) (far_end v e))
-            ∙ subst (λ (x : CountedEdge). IsMetBefore right v (far_end v f) (far_end v x) (far_end v e))
+            (false≢true (sym (met_irreflexive hand v (far_end v f) (far_end v e))
+            ∙ subst (λ (x : CountedEdge). IsMetBefore hand v (far_end v f) (far_end v x) (far_end v e))
             (one m e spoke_m spoke_e me) h))
-        by false mf false me true ef = subst (λ (x : CountedEdge). IsMetBefore left v (far_end v e) (far_end v m)
-            (far_end v x)) (one e f spoke_e spoke_f ef)
-            (met_after left v (far_end v e) (far_end v e) (far_end v m) (far_apart count es arranged v e spoke_e)
+        by false mf false me true ef = subst (λ (x : CountedEdge). IsMetBefore (other_hand hand) v (far_end v e)
+            (far_end v m) (far_end v x)) (one e f spoke_e spoke_f ef)
+            (met_after (other_hand hand) v (far_end v e) (far_end v e) (far_end v m)
+            (far_apart count es arranged v e spoke_e)
             (apart_exchanged v (far_end v m) (far_end v e)
             (spokes_apart count es arranged v m e spoke_m spoke_e me))
-            (start_is_last left v (far_end v e) (far_end v m)))
+            (start_is_last (other_hand hand) v (far_end v e) (far_end v m)))
         by false mf false me false ef =
             let m_f = spokes_apart count es arranged v m f spoke_m spoke_f mf in
             let m_e = spokes_apart count es arranged v m e spoke_m spoke_e me in
             let e_f = spokes_apart count es arranged v e f spoke_e spoke_f ef in
-            met_shifted left v (far_end v f) (far_end v e) (far_end v m)
+            met_shifted (other_hand hand) v (far_end v f) (far_end v e) (far_end v m)
             (record {
               one = apart_exchanged v (far_end v e) (far_end v f) e_f;
               two = apart_exchanged v (far_end v m) (far_end v e) m_e;
               three = m_f;
             })
-            (met_by_other right v (far_end v f) (far_end v m) (far_end v e)
+            (met_by_other hand v (far_end v f) (far_end v m) (far_end v e)
             (record { one = apart_exchanged v (far_end v m) (far_end v f) m_f; two = m_e; three = e_f }) h)
 
   module _ (v : Point) (e f : CountedEdge) (s t : Step) (arriving : Arrives v e s) (leaving : Leaves v f t) where
@@ -151,7 +152,7 @@ module _ (count : CountedEdge → ℤ) (es : List CountedEdge) (arranged : IsBal
         winding_on_side hand count es e s ≡ winding_on_side hand count es f t
     by_hand left nothing = arriving.on_left
         ∙ sym (one_winding_between_spokes count es arranged v f e leaving.spoke arriving.spoke
-        (λ m spoke h. nothing m spoke (from_other_side v e m f arriving.spoke spoke leaving.spoke h)))
+        (λ m spoke h. nothing m spoke (turned_back v e m f arriving.spoke spoke leaving.spoke right h)))
         ∙ sym leaving.on_left
     by_hand right nothing = arriving.on_right ∙ one_winding_between_spokes count es arranged v e f arriving.spoke
         leaving.spoke nothing ∙ sym leaving.on_right

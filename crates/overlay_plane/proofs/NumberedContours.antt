@@ -1,6 +1,7 @@
 -- Contours that are numbered in order: one outline has a number; without groups a number is that of an outline alone,
 -- and with groups those with one number are walks of one group.
-use Rattle.std.proofs.Common.{◌≡◌, ◌⊎◌, inl, inr, ⊎_elim, ℕ, suc, ◌<◌, ◌≤◌, Bool, true, false, cond, List, [], ◌∷◌, ◌++◌}
+use Rattle.std.proofs.Common.{◌≡◌, ◌⊎◌, inl, inr, ⊎_elim, ℕ, suc, ◌≤◌, Bool, true, false, cond, List, [], ◌∷◌}
+use Rattle.std.proofs.Common.{◌++◌}
 use Rattle.std.proofs.Common.{map, Contains, Some, refl, sym, ap, ◌∙◌, subst, arith}
 use Rattle.std.proofs.lemmas.Bool.{false≢true, cases_order}
 use Rattle.std.proofs.lemmas.List.Elements.{Contains-append_cases}
@@ -9,11 +10,12 @@ use Rattle.overlay_geom.specs.Plane.{Step}
 use Rattle.overlay_plane.specs.Turn.{Hand}
 use Rattle.overlay_plane.specs.Binding.{is_hole}
 use Rattle.overlay_plane.specs.RoledContours.{Role, outline, own_hole, free_hole, Contour, stands_in, is_outline}
-use Rattle.overlay_plane.specs.RoledContours.{outline_of, hole_to_bind, hole_of_group, contours_from, group_contours_from}
+use Rattle.overlay_plane.specs.RoledContours.{outline_of, hole_to_bind, hole_of_group, contours_from}
+use Rattle.overlay_plane.specs.RoledContours.{group_contours_from}
 use Rattle.overlay_plane.specs.ContourNumbers.{IsNumber, after, AreNumbers}
 use Rattle.overlay_plane.proofs.Entries.{Contains-from_map}
 use Rattle.overlay_plane.proofs.LaterEntries.{Contains-cases}
-use Rattle.overlay_plane.proofs.RoledWalks.{some-same}
+use Rattle.std.proofs.lemmas.Option.{same_Some}
 use Rattle.overlay_plane.proofs.Totals.{Contains-head, Contains-later}
 
 -- ---- one outline has a number
@@ -77,7 +79,8 @@ from_walks filled k (w ∷ ws) c at = by (is_hole filled w) refl at (λ j later.
     }
 
     by : (t : Bool) → is_hole filled w ≡ t →
-        Contains (cond t (hole_to_bind w ∷ contours_from filled k ws) (outline_of k w ∷ contours_from filled (suc k) ws))
+        Contains (cond t (hole_to_bind w ∷ contours_from filled k ws)
+        (outline_of k w ∷ contours_from filled (suc k) ws))
         c → ((j : ℕ) → Contains (contours_from filled j ws) c → IsFromWalks filled ws c) →
         IsFromWalks filled (w ∷ ws) c
     by true is here rest = ⊎_elim
@@ -91,7 +94,7 @@ from_walks filled k (w ∷ ws) c at = by (is_hole filled w) refl at (λ j later.
     by false is here rest = ⊎_elim
         (λ same. subst (λ d. IsFromWalks filled (w ∷ ws) d) same (record {
           among = Contains-head w ws;
-          is_outline = λ m stands. ap outline (some-same k m stands);
+          is_outline = λ m stands. ap outline (same_Some k m stands);
           no_hole = λ m stands. is;
         }))
         (λ later. further (rest (suc k) later))
@@ -115,9 +118,9 @@ numbers_from : (k : ℕ) (gs : List (List (List Step))) (c : Contour) → Contai
 numbers_from k [] c at m stands = absurd (elim at.1 [ ])
 numbers_from k ([] ∷ gs) c at m stands = numbers_from k gs c at m stands
 numbers_from k ((o ∷ hs) ∷ gs) c at m stands = ⊎_elim
-    (λ same. let here : k ≡ m = some-same k m (ap (λ (d : Contour). stands_in d.role) same ∙ stands) in omega arith)
+    (λ same. let here : k ≡ m = same_Some k m (ap (λ (d : Contour). stands_in d.role) same ∙ stands) in omega arith)
     (λ later. ⊎_elim
-    (λ hole. let here : k ≡ m = some-same k m (ap (λ (d : Contour). stands_in d.role) hole.2 ∙ stands) in omega arith)
+    (λ hole. let here : k ≡ m = same_Some k m (ap (λ (d : Contour). stands_in d.role) hole.2 ∙ stands) in omega arith)
     (λ rest. let more = numbers_from (suc k) gs c rest m stands in omega arith) later)
     (group_cases k o hs gs c at)
 
@@ -174,8 +177,8 @@ group_of_number k ((v ∷ hs) ∷ gs) n o at is = ⊎_elim here
         later_one : (c : Contour) → Contains (group_contours_from k ((v ∷ hs) ∷ gs)) c → stands_in c.role ≡ Some n →
             Contains (group_contours_from (suc k) gs) c
         later_one c in_c stands = ⊎_elim
-            (λ first. absurd (differ (some-same k n (ap (λ (d : Contour). stands_in d.role) first ∙ stands))))
+            (λ first. absurd (differ (same_Some k n (ap (λ (d : Contour). stands_in d.role) first ∙ stands))))
             (λ later. ⊎_elim
-            (λ hole. absurd (differ (some-same k n (ap (λ (d : Contour). stands_in d.role) hole.2 ∙ stands))))
+            (λ hole. absurd (differ (same_Some k n (ap (λ (d : Contour). stands_in d.role) hole.2 ∙ stands))))
             (λ rest. rest) later)
             (group_cases k v hs gs c in_c)

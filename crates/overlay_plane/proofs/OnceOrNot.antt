@@ -4,7 +4,7 @@ use Rattle.std.proofs.Common.{◌≡◌, ◌⊎◌, inl, inr, ⊎_elim, Bool, tr
 use Rattle.std.proofs.Common.{List, Contains, refl, sym, ap, ap₂, ◌∙◌, subst}
 use Rattle.std.specs.Ordering.{int_eq}
 use lib.IntN.{*ℤ-zero}
-use Rattle.overlay_geom.specs.Plane.{PlanePoint, Step, edge_of, is_forward, is_strictly_below, winding, total}
+use Rattle.overlay_geom.specs.Plane.{Step, edge_of, is_forward, is_strictly_below, winding}
 use Rattle.overlay_geom.specs.Edges.{CountedEdge, ends_of, winding_by}
 use Rattle.overlay_geom.proofs.Identities.{solve, number, ◌⊗◌, ◌≗◌}
 use Rattle.overlay_geom.proofs.Signs.{linear}

@@ -1,6 +1,7 @@
 -- What is found below a walk is one thing: its anchor, the next edge below it and the walk that has this edge are
 -- determined. So round an island is one hole alone, or none.
-use Rattle.std.proofs.Common.{◌≡◌, ℕ, zero, suc, true, false, List, [], ◌∷◌, All, AllPairs, Contains, Option, refl, sym, ◌∙◌, ap}
+use Rattle.std.proofs.Common.{◌≡◌, ℕ, zero, suc, true, false, List, [], ◌∷◌, All, AllPairs, Contains, Option, refl, sym}
+use Rattle.std.proofs.Common.{◌∙◌, ap}
 use Rattle.std.proofs.Common.{subst}
 use Rattle.std.specs.Prelude.{Some, None, slice_index_or}
 use Rattle.std.specs.List.{slice_get, flat_map}
@@ -22,7 +23,7 @@ use Rattle.overlay_plane.proofs.Entries.{Contains-flat_map}
 use Rattle.overlay_plane.proofs.KeptWalks.{Each-second, Each-across}
 use Rattle.overlay_plane.proofs.LaterEntries.{Each, Each-from_all_pairs}
 use Rattle.overlay_plane.proofs.PlacesOfContours.{Contains-place}
-use Rattle.overlay_plane.proofs.RoledWalks.{some-same}
+use Rattle.std.proofs.lemmas.Option.{same_Some}
 use Rattle.overlay_plane.proofs.WalkedEdges.{one_anchor, one_next_edge}
 
 -- what stands at a place is one
@@ -37,10 +38,10 @@ one_place : {X Y : Type 0} (R : Y → Y → Type 0) (f : X → List Y) (xs : Lis
 one_place R f [] each v apart j k x y at_x at_y c d = absurd (none-some x at_x)
 one_place R f (z ∷ zs) each v apart zero zero x y at_x at_y c d = refl
 one_place R f (z ∷ zs) each v apart zero (suc k) x y at_x at_y c d = absurd (apart
-    (Each-across R (f z) (flat_map f zs) each v v (subst (λ w. Contains (f w) v) (sym (some-same z x at_x)) c)
+    (Each-across R (f z) (flat_map f zs) each v v (subst (λ w. Contains (f w) v) (sym (same_Some z x at_x)) c)
     (Contains-flat_map f zs y v (Contains-place zs k y at_y) d)))
 one_place R f (z ∷ zs) each v apart (suc j) zero x y at_x at_y c d = absurd (apart
-    (Each-across R (f z) (flat_map f zs) each v v (subst (λ w. Contains (f w) v) (sym (some-same z y at_y)) d)
+    (Each-across R (f z) (flat_map f zs) each v v (subst (λ w. Contains (f w) v) (sym (same_Some z y at_y)) d)
     (Contains-flat_map f zs x v (Contains-place zs j x at_x) c)))
 one_place R f (z ∷ zs) each v apart (suc j) (suc k) x y at_x at_y c d = ap suc
     (one_place R f zs (Each-second R (f z) (flat_map f zs) each) v apart j k x y at_x at_y c d)
@@ -117,7 +118,7 @@ module _ (filled : Hand) (cs : List Contour) (can : CanBeBound filled (walks_in 
 
   -- at most one hole is round an island
   pub one_hole_round : (i k m : ℕ) → IsHoleRound filled cs i (Some k) → IsHoleRound filled cs i (Some m) → k ≡ m
-  one_hole_round i k m first second = some-same k m (one_round i (Some k) (Some m) first second)
+  one_hole_round i k m first second = same_Some k m (one_round i (Some k) (Some m) first second)
 
   -- and not one and none
   pub hole_and_none : (i k : ℕ) → IsHoleRound filled cs i (Some k) → ¬ (IsHoleRound filled cs i None)

@@ -1,8 +1,9 @@
 -- The contours that stand in a shape from the start: beside each of them the outline winds once on the filled side, and
 -- steps that wind alike along each contour wind alike beside all of them.
-use Rattle.std.proofs.Common.{◌≡◌, ℕ, ◌<◌, Bool, true, false, cond, ℤ, List, [], ◌∷◌, length, Contains, Some, refl, sym, ap}
-use Rattle.std.proofs.Common.{◌∙◌, subst, filter, arith}
-use Rattle.overlay_geom.specs.Plane.{Step, edge_of}
+use Rattle.std.proofs.Common.{◌≡◌, ℕ, ◌<◌, Bool, false, cond, ℤ, List, [], ◌∷◌, length, Contains, Some, sym}
+use Rattle.std.proofs.Common.{ap}
+use Rattle.std.proofs.Common.{◌∙◌, subst, filter}
+use Rattle.overlay_geom.specs.Plane.{Step}
 use Rattle.overlay_geom.specs.Edges.{CountedEdge}
 use Rattle.overlay_plane.specs.Turn.{Hand, other_hand, IsOrbit, step_round, no_step}
 use Rattle.overlay_plane.specs.Regions.{IsRuled}
@@ -86,14 +87,16 @@ module _ (holds : ℤ → ℤ → Bool) (subj clip : CountedEdge → ℤ) (es : 
   -- and winds once along its filled side
   once_along : (s : Step) → Contains o.steps s → winding_beside filled es o.steps s ≡ once_round filled
   once_along s c =
-      one_winding_along_orbits es own.remaining o.steps own.along own.first.alternate part filled o.steps orbit s start c
+      one_winding_along_orbits es own.remaining o.steps own.along own.first.alternate part filled o.steps orbit s start
+      c
       first.among
       ∙ once_beside_start es own.remaining o.steps own.along own.first.alternate filled part start first
       own.contour.once below
 
   pub walks_have_own : HaveOwn filled es steps contours n o.steps
   walks_have_own = record {
-    once = λ c at stands s in_c. once_along s (subst (λ (d : Contour). Contains d.steps s) (is_outline c at stands) in_c);
+    once = λ c at stands s in_c. once_along s
+        (subst (λ (d : Contour). Contains d.steps s) (is_outline c at stands) in_c);
     alike = λ taken part_taken one c d at_c at_d stands_c stands_d s t in_c in_d.
         one o.steps (Contains-map (λ (k : Contour). k.steps) contours o at_o) s t
         (subst (λ (k : Contour). Contains k.steps s) (is_outline c at_c stands_c) in_c)

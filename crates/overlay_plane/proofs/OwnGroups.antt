@@ -1,16 +1,17 @@
 -- With groups the contours that stand in a shape from the start are walks of its outline's group: along the group any
 -- of the steps have one winding on the filled sides, and the outline winds once there.
-use Rattle.std.proofs.Common.{◌≡◌, ⊎_elim, ℕ, Bool, true, false, not, ℤ, List, [], ◌∷◌, ◌++◌, map, length, Contains, Some}
+use Rattle.std.proofs.Common.{◌≡◌, ⊎_elim, ℕ, Bool, true, false, not, List, [], ◌∷◌, map, length, Contains}
+use Rattle.std.proofs.Common.{Some}
 use Rattle.std.proofs.Common.{filter, cond, refl, sym, ap, ◌∙◌, subst, arith}
 use Rattle.std.specs.List.{flat_map}
 use Rattle.std.proofs.lemmas.Bool.{false_from_ne_true, not-true}
 use Rattle.std.proofs.lemmas.List.Elements.{Contains-append_cases}
 use Rattle.std.proofs.lemmas.Option.{none-some}
-use Rattle.overlay_geom.specs.Plane.{Step, edge_of}
+use Rattle.overlay_geom.specs.Plane.{Step}
 use Rattle.overlay_geom.specs.Edges.{CountedEdge}
 use Rattle.overlay_plane.specs.Turn.{Hand, other_hand, IsOrbit, step_round}
 use Rattle.overlay_plane.specs.Alternates.{Alternates}
-use Rattle.overlay_plane.specs.BesideOrbits.{winding_beside, WalksAlong, IsBalancedPart, HasEachOnce}
+use Rattle.overlay_plane.specs.BesideOrbits.{winding_beside, WalksAlong, IsBalancedPart}
 use Rattle.overlay_plane.specs.Contours.{is_filled_above, IsStart, IsCutInto, done, next}
 use Rattle.overlay_plane.specs.ContourWindings.{once_round}
 use Rattle.overlay_plane.specs.Binding.{is_hole}
@@ -56,7 +57,8 @@ first_has_start hand steps walks (next {s} {ss} {rest} start orbit cut) u us is 
 -- ---- one group
 
 module _ (es : List CountedEdge) (steps : List Step) (along : WalksAlong es steps) (alternates : Alternates steps)
-    (filled : Hand) (group : List Step) (own : IsFromStart steps filled group) (outer : is_hole filled group ≡ false) where
+    (filled : Hand) (group : List Step) (own : IsFromStart steps filled group)
+    (outer : is_hole filled group ≡ false) where
   abbrev start : Step
   start = step_round group 0
 

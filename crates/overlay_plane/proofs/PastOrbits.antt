@@ -1,23 +1,23 @@
 -- An orbit winds alike beside two steps that it leaves and that meet: between these two spokes of their node it has
 -- with each step that arrives the one that leaves next, or neither.
-use Rattle.std.proofs.Common.{◌≡◌, ⊎_elim, ℕ, suc, Bool, true, false, cond, ◌&&◌, ℤ, pos, negsuc, ◌+ℤ◌, ◌-ℤ◌, ◌*ℤ◌, neg_ℤ}
-use Rattle.std.proofs.Common.{List, Contains, refl, sym, ap, ap₂, ◌∙◌, subst}
+use Rattle.std.proofs.Common.{◌≡◌, ⊎_elim, ℕ, suc, Bool, true, false, cond, ◌&&◌, ℤ, pos, negsuc, ◌+ℤ◌, ◌-ℤ◌, ◌*ℤ◌}
+use Rattle.std.proofs.Common.{neg_ℤ}
+use Rattle.std.proofs.Common.{List, Contains, refl, sym, ap, ◌∙◌, subst}
 use Rattle.std.proofs.lemmas.Bool.{false≢true, and_parts, false_from_ne_true}
 use Rattle.std.proofs.lemmas.List.Elements.{All-contains}
 use lib.IntN.{*ℤ-zero, +ℤ_idr}
-use Rattle.overlay_geom.specs.Plane.{Point, Step, Edge, point_eq, edge_eq, is_forward, edge_of, sign_of, total}
-use Rattle.overlay_geom.specs.Plane.{reversed_step}
+use Rattle.overlay_geom.specs.Plane.{Point, Step, Edge, point_eq, edge_eq, is_forward, edge_of, sign_of}
 use Rattle.overlay_geom.specs.Edges.{CountedEdge, ends_of}
 use Rattle.overlay_geom.proofs.Identities.{solve, number, ◌⊗◌, ◌⊖◌, ◌≗◌}
 use Rattle.overlay_geom.proofs.Signs.{linear}
-use Rattle.overlay_geom.proofs.Orders.{point_eq-same, point_eq-of_same, edge_eq-same}
+use Rattle.overlay_geom.proofs.Orders.{point_eq-same, edge_eq-same}
 use Rattle.overlay_plane.specs.Turn.{Hand, IsNextStep, IsOrbit, step_round, no_step, is_met_before}
 use Rattle.overlay_plane.specs.Turn.Hand.{left, right}
 use Rattle.overlay_plane.specs.Alternates.{Alternates}
 use Rattle.overlay_plane.specs.Nodes.{IsBalancedArrangement}
 use Rattle.overlay_plane.specs.Regions.{one_if}
 use Rattle.overlay_plane.specs.Rays.{Apart}
-use Rattle.overlay_plane.specs.Spokes.{IsSpoke, far_end, spoke_count, total_between, winding_after, winding_before}
+use Rattle.overlay_plane.specs.Spokes.{IsSpoke, far_end, spoke_count, total_between, winding_after}
 use Rattle.overlay_plane.specs.BesideOrbits.{count_on, winding_beside, WalksAlong, IsBalancedPart}
 use Rattle.overlay_plane.specs.ShapesAlone.{OneWindingPastOrbits}
 use Rattle.overlay_plane.specs.WindingsBeside.{IsStepAlong}
@@ -29,7 +29,7 @@ use Rattle.overlay_plane.proofs.EdgesOfSteps.{along_or_back, one_side, edge_by}
 use Rattle.overlay_plane.proofs.ItemsRound.{Contains-item_round}
 use Rattle.overlay_plane.proofs.NextSteps.{next_is_one_to_one}
 use Rattle.overlay_plane.proofs.NextWindings.{Arrives, Leaves, arrives, leaves}
-use Rattle.overlay_plane.proofs.OrbitSteps.{goes_on_round, step_inside}
+use Rattle.overlay_plane.proofs.OrbitSteps.{goes_on_round}
 use Rattle.overlay_plane.proofs.RoundNodes.{winding_round_a_node}
 use Rattle.overlay_plane.proofs.RoundWalks.{total_round}
 use Rattle.overlay_plane.proofs.SameSector.{FourApart, neighbours_alike}
@@ -234,7 +234,8 @@ module _ (es : List CountedEdge) (steps : List Step) (along : WalksAlong es step
 
     -- each step of the walk ends with what the next one begins with
     linked : (k : ℕ) → begins v e g (step_round walk (suc k)) ≡ ends v e g (step_round walk k)
-    linked k = ap (λ z. cond (point_eq z v) (one_if (passes v e g b.to)) (pos 0)) next.leaves ∙ by (point_eq a.to v) refl
+    linked k = ap (λ z. cond (point_eq z v) (one_if (passes v e g b.to)) (pos 0)) next.leaves
+        ∙ by (point_eq a.to v) refl
       where
         a : Step
         a = step_round walk k

@@ -1,16 +1,17 @@
 -- Shapes that outlines begin, to which holes are added: of each its outline, the holes of the outline's own group, and
 -- those for which it is found, are the shapes to which the contours are bound.
-use Rattle.std.proofs.Common.{◌≡◌, ℕ, zero, suc, ◌+◌, ◌<◌, Bool, true, false, cond, List, [], ◌∷◌, ◌++◌, map, length}
-use Rattle.std.proofs.Common.{get_or, refl, sym, ap, ap₂, ◌∙◌, subst, arith}
+use Rattle.std.proofs.Common.{◌≡◌, ℕ, suc, ◌+◌, ◌<◌, cond, List, [], ◌∷◌, ◌++◌, map, length}
+use Rattle.std.proofs.Common.{get_or, refl, sym, ap₂, subst, arith}
 use Rattle.std.specs.List.{filter, flat_map}
 use Rattle.overlay_geom.specs.Plane.{Step}
-use Rattle.overlay_plane.specs.RoledContours.{Role, outline, own_hole, free_hole, Contour, is_outline}
+use Rattle.overlay_plane.specs.RoledContours.{Role, outline, own_hole, free_hole, is_outline}
 use Rattle.overlay_plane.specs.BoundContours.{BoundContour, own_holes, found_holes, shape_begun_by, shapes_bound}
 use Rattle.overlay_plane.specs.ContourNumbers.{IsNumber, after, AreNumbers}
 
 -- the outlines of bound contours
 abbrev pub outline_walks : List BoundContour → List (List Step)
-outline_walks bs = map (λ (b : BoundContour). b.contour.steps) (filter (λ (b : BoundContour). is_outline b.contour.role) bs)
+outline_walks bs = map (λ (b : BoundContour). b.contour.steps)
+    (filter (λ (b : BoundContour). is_outline b.contour.role) bs)
 
 -- shapes that outlines begin, the first of which is the n-th, each with its holes
 abbrev pub begun : (ℕ → List (List Step)) → ℕ → List (List Step) → List (List (List Step))

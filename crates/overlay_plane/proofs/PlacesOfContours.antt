@@ -8,7 +8,7 @@ use Rattle.std.proofs.lemmas.Option.{none-some, slice_get_within, get_or_from_sl
 use Rattle.overlay_geom.specs.Plane.{Step}
 use Rattle.overlay_plane.specs.RoledContours.{Role, outline, own_hole, free_hole, Contour, stands_in}
 use Rattle.overlay_plane.specs.BoundContours.{walks_in, known_in}
-use Rattle.overlay_plane.proofs.RoledWalks.{some-same}
+use Rattle.std.proofs.lemmas.Option.{same_Some}
 
 -- what stands at a place is an entry
 pub Contains-place : {X : Type 0} (xs : List X) (i : ℕ) (x : X) → slice_get xs i ≡ Some x → Contains xs x
@@ -18,7 +18,7 @@ Contains-place xs i x at = (i, slice_get_within xs i x at, get_or_from_slice_get
 pub place_mapped : {X Y : Type 0} (f : X → Y) (xs : List X) (i : ℕ) (y : Y) → slice_get (map f xs) i ≡ Some y →
     (x : X) × (slice_get xs i ≡ Some x) × (f x ≡ y)
 place_mapped f [] i y at = absurd (none-some y at)
-place_mapped f (x ∷ xs) zero y at = (x, refl, some-same (f x) y at)
+place_mapped f (x ∷ xs) zero y at = (x, refl, same_Some (f x) y at)
 place_mapped f (x ∷ xs) (suc i) y at = place_mapped f xs i y at
 
 -- a walk at a place is that of the contour there
@@ -30,14 +30,14 @@ contour_at contours i w at = place_mapped (λ (c : Contour). c.steps) contours i
 pub place_of_walk : (contours : List Contour) (i : ℕ) (c : Contour) → slice_get contours i ≡ Some c →
     slice_get (walks_in contours) i ≡ Some c.steps
 place_of_walk [] i c at = absurd (none-some c at)
-place_of_walk (d ∷ ds) zero c at = ap (λ (k : Contour). Some k.steps) (some-same d c at)
+place_of_walk (d ∷ ds) zero c at = ap (λ (k : Contour). Some k.steps) (same_Some d c at)
 place_of_walk (d ∷ ds) (suc i) c at = place_of_walk ds i c at
 
 -- the number known at a place is that of the contour there
 pub known_at : (contours : List Contour) (i : ℕ) (c : Contour) → slice_get contours i ≡ Some c →
     slice_index_or (known_in contours) i None ≡ stands_in c.role
 known_at [] i c at = absurd (none-some c at)
-known_at (d ∷ ds) zero c at = ap (λ (k : Contour). stands_in k.role) (some-same d c at)
+known_at (d ∷ ds) zero c at = ap (λ (k : Contour). stands_in k.role) (same_Some d c at)
 known_at (d ∷ ds) (suc i) c at = known_at ds i c at
 
 -- where a number is known, a contour has it

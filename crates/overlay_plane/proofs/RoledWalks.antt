@@ -1,5 +1,5 @@
 -- What stands at a place of walks, and of the contours that they are without groups.
-use Rattle.std.proofs.Common.{◌≡◌, ℕ, zero, suc, Bool, true, false, cond, List, [], ◌∷◌, Option, Some, None}
+use Rattle.std.proofs.Common.{◌≡◌, ℕ, zero, suc, Bool, true, false, cond, List, [], ◌∷◌, Some, None}
 use Rattle.std.proofs.Common.{refl, sym, ap, ◌∙◌, subst}
 use Rattle.std.specs.Prelude.{slice_index_or}
 use Rattle.std.specs.List.{slice_get}
@@ -10,15 +10,7 @@ use Rattle.overlay_plane.specs.Binding.{is_hole}
 use Rattle.overlay_plane.specs.RoledContours.{free_hole, Contour, contours_from, is_free_hole, hole_to_bind, outline_of}
 use Rattle.overlay_plane.specs.BoundContours.{known_in}
 use Rattle.overlay_plane.specs.Turn.{Hand}
-
--- what is one thing, where there is some, is one
-value_of : {X : Type 0} → X → Option X → X
-value_of x None = x
-value_of x (Some z) = z
-
-pub some-same : {X : Type 0} (x y : X) → Some x ≡ Some y → x ≡ y
-unfolding value_of
-some-same x y same = ap (value_of x) same
+use Rattle.std.proofs.lemmas.Option.{same_Some}
 
 module _ (filled : Hand) where
   -- the contours, by whether the first walk is a hole
@@ -33,7 +25,7 @@ module _ (filled : Hand) where
   number_at n (v ∷ ws) zero w at is = (
     n,
     ap (λ t. slice_index_or (known_in (contours_by t n v ws)) 0 None)
-        (ap (is_hole filled) (some-same v w at) ∙ is),
+        (ap (is_hole filled) (same_Some v w at) ∙ is),
   )
   number_at n (v ∷ ws) (suc i) w at is = by (is_hole filled v) (λ k. number_at k ws i w at is)
     where
@@ -48,7 +40,7 @@ module _ (filled : Hand) where
       slice_get (contours_from filled n walks) i ≡ Some (hole_to_bind w)
   hole_at n [] i w at is = absurd (none-some w at)
   hole_at n (v ∷ ws) zero w at is =
-      subst (λ u. slice_get (contours_by (is_hole filled u) n u ws) 0 ≡ Some (hole_to_bind w)) (sym (some-same v w at))
+      subst (λ u. slice_get (contours_by (is_hole filled u) n u ws) 0 ≡ Some (hole_to_bind w)) (sym (same_Some v w at))
       (ap (λ t. slice_get (contours_by t n w ws) 0) is)
   hole_at n (v ∷ ws) (suc i) w at is = by (is_hole filled v) (λ k. hole_at k ws i w at is)
     where
@@ -66,10 +58,10 @@ module _ (filled : Hand) where
     where
       by : (t : Bool) → is_hole filled v ≡ t → slice_get (contours_by t n v ws) 0 ≡ Some c →
           (Some v ≡ Some c.steps) × (is_hole filled c.steps ≡ true)
-      by true is here = let same = some-same (hole_to_bind v) c here in
+      by true is here = let same = same_Some (hole_to_bind v) c here in
           (ap (λ (d : Contour). Some d.steps) same, subst (λ (d : Contour). is_hole filled d.steps ≡ true) same is)
       by false is here = absurd (false≢true
-          (ap (λ r. is_free_hole r) (ap (λ (d : Contour). d.role) (some-same (outline_of n v) c here) ∙ free)))
+          (ap (λ r. is_free_hole r) (ap (λ (d : Contour). d.role) (same_Some (outline_of n v) c here) ∙ free)))
   free_hole_at n (v ∷ ws) (suc i) c at free = by (is_hole filled v) (λ k here. free_hole_at k ws i c here free) at
     where
       by : (t : Bool) → ((k : ℕ) → slice_get (contours_from filled k ws) i ≡ Some c →

@@ -14,7 +14,7 @@ use Rattle.overlay_plane.specs.Turn.{Hand}
 use Rattle.overlay_plane.proofs.HolePlaces.{place_at, hole_from}
 use Rattle.overlay_plane.proofs.OneHoleRound.{same_at, one_hole_round}
 use Rattle.overlay_plane.proofs.PlacesOfContours.{contour_at}
-use Rattle.overlay_plane.proofs.RoledWalks.{some-same}
+use Rattle.std.proofs.lemmas.Option.{same_Some}
 
 -- how many outlines come before a place
 abbrev pub outlines_before : List Contour → ℕ → ℕ
@@ -25,7 +25,7 @@ pub place_of_number : (m : ℕ) (cs : List Contour) (i : ℕ) (c : Contour) → 
     is_outline c.role ≡ true → slice_get (outlines_from m cs) (outlines_before cs i) ≡ Some (m + i)
 place_of_number m [] i c at is = absurd (none-some c at)
 place_of_number m (d ∷ ds) zero c at is =
-    by (is_outline d.role) (ap (λ (k : Contour). is_outline k.role) (some-same d c at) ∙ is)
+    by (is_outline d.role) (ap (λ (k : Contour). is_outline k.role) (same_Some d c at) ∙ is)
   where
     by : (t : Bool) → t ≡ true →
         slice_get (cond t (m ∷ outlines_from (suc m) ds) (outlines_from (suc m) ds)) 0 ≡ Some (m + 0)
@@ -77,7 +77,7 @@ outline_of_number m (d ∷ ds) n p at = by (is_outline d.role) refl n at (λ k. 
         slice_get (cond t (m ∷ outlines_from (suc m) ds) (outlines_from (suc m) ds)) k ≡ Some p →
         ((j : ℕ) → slice_get (outlines_from (suc m) ds) j ≡ Some p → IsOutlineOf (suc m) ds j p) →
         IsOutlineOf m (d ∷ ds) k p
-    by true is zero h later = let here = some-same m p h in
+    by true is zero h later = let here = same_Some m p h in
         (0, omega (arith, here), record { contour = d; at = refl; is = is; before = refl })
     by true is (suc k) h later = let rest = later k h in
         let place = rest.1 in (
@@ -118,7 +118,8 @@ pub outline_is : (role : Role) (n : ℕ) → role ≡ outline n → is_outline r
 outline_is role n e = ap is_outline e
 
 -- a link's island stands at the place of its number
-pub place_of_child : (filled : Hand) (cs : List Contour) → AreInShapes cs → (l : ChildLink) (link : IsLink filled cs l) →
+pub place_of_child : (filled : Hand) (cs : List Contour) → AreInShapes cs →
+    (l : ChildLink) (link : IsLink filled cs l) →
     slice_get (outlines_from 0 cs) l.child_shape ≡ Some link.place
 place_of_child filled cs stand l link =
     ap (slice_get (outlines_from 0 cs)) (stand.numbered link.place l.child_shape link.island link.at link.child)
@@ -126,7 +127,7 @@ place_of_child filled cs stand l link =
     ∙ (let same : 0 + link.place ≡ link.place = omega arith in ap Some same)
 
 own_same : (m n : ℕ) → own_hole m ≡ own_hole n → m ≡ n
-own_same m n e = some-same m n (ap stands_in e)
+own_same m n e = same_Some m n (ap stands_in e)
 
 -- so a link is told by its child
 pub child_once : (filled : Hand) (cs : List Contour) → CanBeBound filled (walks_in cs) → AreInShapes cs →
@@ -135,7 +136,7 @@ child_once filled cs can stand k l of_k of_l same =
     λ i. record { parent_shape = shapes i; parent_contour = contours i; child_shape = same i }
   where
     places : of_k.place ≡ of_l.place
-    places = some-same of_k.place of_l.place (sym (place_of_child filled cs stand k of_k)
+    places = same_Some of_k.place of_l.place (sym (place_of_child filled cs stand k of_k)
         ∙ ap (slice_get (outlines_from 0 cs)) same ∙ place_of_child filled cs stand l of_l)
 
     contours : k.parent_contour ≡ l.parent_contour

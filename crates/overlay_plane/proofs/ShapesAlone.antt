@@ -1,14 +1,14 @@
 -- The shapes to which all contours are bound, each contour as it is or thinned, each wind once or zero times round each
 -- point: where there is one shape alone it winds as the selected steps.
-use Rattle.std.proofs.Common.{◌≡◌, ◌⊎◌, inl, inr, ⊎_elim, ℕ, suc, Bool, true, false, cond, ℤ, pos, List, [], ◌∷◌, ◌++◌, map}
+use Rattle.std.proofs.Common.{◌≡◌, ◌⊎◌, inl, inr, ⊎_elim, ℕ, suc, Bool, true, false, cond, ℤ, pos, List, [], ◌∷◌, ◌++◌}
+use Rattle.std.proofs.Common.{map}
 use Rattle.std.proofs.Common.{length, filter, Contains, Option, All, refl, sym, ap, ◌∙◌, subst, arith, append-nil}
-use Rattle.std.specs.List.{AllZip, flat_map}
+use Rattle.std.specs.List.{flat_map}
 use Rattle.std.specs.List.Sorted.{IsPermutation}
 use Rattle.std.proofs.lemmas.Bool.{eqb-true}
 use Rattle.std.proofs.lemmas.List.Elements.{All-contains, All-nil, All-cons, All-head, All-tail}
-use Rattle.overlay_geom.specs.Plane.{Point, PlanePoint, Step, steps_of, points_of, winding}
+use Rattle.overlay_geom.specs.Plane.{Point, Step, steps_of, points_of, winding}
 use Rattle.overlay_geom.specs.Edges.{CountedEdge, winding_by}
-use Rattle.overlay_geom.specs.Thinned.{IsKeptOrThinned}
 use Rattle.overlay_geom.proofs.Totals.{total-IsPermutation}
 use Rattle.overlay_plane.specs.Turn.{Hand}
 use Rattle.overlay_plane.specs.SelectedSteps.{selected_steps}
@@ -36,7 +36,6 @@ use Rattle.overlay_plane.proofs.SelectedWindings.{selected_steps_wind, selected_
 use Rattle.overlay_plane.proofs.ShapeSteps.{steps_of_all}
 use Rattle.overlay_plane.proofs.ShuffledPairs.{once_shuffled}
 use Rattle.overlay_plane.proofs.ShuffledSteps.{Differ}
-use Rattle.overlay_plane.proofs.Totals.{Contains-head, Contains-later}
 
 -- ---- lists
 
@@ -150,7 +149,8 @@ module _ (holds : ℤ → ℤ → Bool) (subj clip : CountedEdge → ℤ) (es : 
   each false many shape c = by b.0.contour.role refl b.2
     where
       b : (d : BoundContour) × Contains bound d × Contains (shape_begun_by bound d.contour.role d.contour.steps) shape
-      b = Contains-from_flat_map (λ (d : BoundContour). shape_begun_by bound d.contour.role d.contour.steps) bound shape c
+      b = Contains-from_flat_map (λ (d : BoundContour). shape_begun_by bound d.contour.role d.contour.steps) bound shape
+          c
 
       by : (r : Role) → b.0.contour.role ≡ r → Contains (shape_begun_by bound r b.0.contour.steps) shape →
           WindsOnceOrNot filled (all_steps shape)

@@ -1,8 +1,6 @@
 -- The shapes to which kept contours are bound can be bound again: their walks are some of the contours, in another
 -- order.
-use Rattle.std.proofs.Common.{◌≡◌, ℕ, false, Bool, ℤ, List, [], ◌∷◌, ◌++◌, All, AllPairs, Contains, Option, subst}
-use Rattle.std.specs.List.{flat_map}
-use Rattle.std.specs.List.Sorted.{IsPermutation}
+use Rattle.std.proofs.Common.{◌≡◌, ℕ, false, Bool, ℤ, List, ◌++◌, All, AllPairs, Contains, Option}
 use Rattle.std.proofs.lemmas.List.Elements.{Contains-append_left}
 use Rattle.std.proofs.lemmas.List.Sorted.{All-permutation, Contains-permutation, IsPermutation-sym}
 use Rattle.overlay_geom.specs.Plane.{Step, edge_eq}

@@ -1,6 +1,7 @@
--- Steps that have their top edge at their leftmost lowest point filled below have their winding once on its filled side.
-use Rattle.std.proofs.Common.{◌≡◌, Bool, true, false, cond, not, ℤ, pos, negsuc, ◌+ℤ◌, List, Contains, refl, sym, ap, ◌∙◌}
-use Rattle.std.proofs.Common.{subst}
+-- Steps that have their top edge at their leftmost lowest point filled below have their winding once on its filled
+-- side.
+use Rattle.std.proofs.Common.{◌≡◌, false, cond, ℤ, pos, negsuc, ◌+ℤ◌, List, refl, ap}
+use Rattle.std.proofs.Common.{◌∙◌}
 use Rattle.std.proofs.lemmas.Bool.{not-false}
 use Rattle.overlay_geom.specs.Plane.{Step, is_forward, edge_of}
 use Rattle.overlay_geom.specs.Edges.{CountedEdge}

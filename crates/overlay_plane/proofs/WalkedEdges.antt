@@ -9,7 +9,7 @@ use Rattle.overlay_geom.specs.Settled.{IsSettledBy, MeetInEnds}
 use Rattle.overlay_geom.proofs.Orders.{edge_eq-same, edge_eq-flip, point_eq-same, point_lt-back}
 use Rattle.overlay_plane.specs.Heights.{covers, is_under}
 use Rattle.overlay_plane.specs.Contours.{is_filled_above, IsContour, all_steps}
-use Rattle.overlay_plane.specs.Anchors.{IsAnchor, HasEachEdgeOnce, is_below_anchor, is_anchored_before, is_lower_at}
+use Rattle.overlay_plane.specs.Anchors.{IsAnchor, HasEachEdgeOnce, is_below_anchor, is_anchored_before}
 use Rattle.overlay_plane.specs.Anchors.{IsNextBelow}
 use Rattle.overlay_plane.specs.Binding.{filled_above_edges, all_filled_above}
 use Rattle.overlay_plane.specs.Turn.{Hand}
@@ -89,7 +89,8 @@ module _ (walks : List (List Step)) (contours : All IsContour walks) (single : A
     none_below : (e : Edge) → IsAnchor w e → (s : Step) → Contains w s → is_below_anchor e (edge_of s) ≡ false
     none_below e anchor s c = false_from_ne_true (is_below_anchor e (edge_of s)) (λ below.
         both_ways (is_anchored_before e e) (anchored_before-itself e (of_anchor e anchor).forward)
-        (anchored_before w (All-contains IsContour walks w contours at) e anchor s c e (of_anchor e anchor).forward below))
+        (anchored_before w (All-contains IsContour walks w contours at) e anchor s c e (of_anchor e anchor).forward
+        below))
 
     -- nor does one start before it
     not_before : (e : Edge) → IsAnchor w e → (s : Step) → Contains w s → point_lt (edge_of s).a e.a ≡ false

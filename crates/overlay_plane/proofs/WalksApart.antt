@@ -26,7 +26,7 @@ use Rattle.overlay_plane.proofs.WalksOfCuts.{IsWalkOfCut, walk_of_a_cut, selecte
 use Rattle.overlay_plane.proofs.WalksOfCuts.{different_edges}
 
 -- the filled-above edges of walks are those of all their steps
-filled_above_of_all : (filled : Hand) (walks : List (List Step)) →
+pub filled_above_of_all : (filled : Hand) (walks : List (List Step)) →
     all_filled_above filled walks ≡ filled_above_edges filled (all_steps walks)
 filled_above_of_all filled [] = refl
 filled_above_of_all filled (w ∷ ws) =

@@ -1,7 +1,7 @@
 -- What is found below walks, each by the walk that has the next edge below its anchor. Which shape a hole belongs to is
--- found so, by the edges filled above: it is the one whose outline has that edge, or the one of the hole that has it. And
--- so is the hole round an island, by the edges filled below: these are filled above where the filled side of each step is
--- on the other hand.
+-- found so, by the edges filled above: it is the one whose outline has that edge, or the one of the hole that has it.
+-- And so is the hole round an island, by the edges filled below: these are filled above where the filled side of each
+-- step is on the other hand.
 use Rattle.std.specs.Prelude.{◌≡◌, ℕ, ◌==◌, Bool, true, false, ℤ}
 use Rattle.std.specs.Prelude.{List, [], ◌∷◌, map, filter, All, Contains, slice_get, slice_index_or, Option, Some, None}
 use Rattle.std.specs.List.{flat_map}
@@ -50,8 +50,9 @@ pub record HasNextAt (filled : Hand) (walks : List (List Step)) (i j : ℕ) : Ty
   pub next_at : slice_get walks j ≡ Some next
   pub is_next : IsNextWalk filled walks walk next
 
--- where some walks have numbers from the start, and each other one has the number of its next walk: this number is found
--- for the walk at place i by its next walk, or none is, where no edge is below it, or none is found for its next walk
+-- where some walks have numbers from the start, and each other one has the number of its next walk: this number is
+-- found for the walk at place i by its next walk, or none is, where no edge is below it, or none is found for its next
+-- walk
 pub data IsFoundBelow (filled : Hand) (walks : List (List Step)) (known : List (Option ℕ)) : ℕ → Option ℕ → Type 0 where
   nothing : {i : ℕ} (walk : List Step) → slice_get walks i ≡ Some walk → HasNoneBelow filled walks walk →
       IsFoundBelow filled walks known i None

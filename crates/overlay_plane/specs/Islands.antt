@@ -19,8 +19,8 @@ hole_places n [] = []
 hole_places n (c ∷ cs) = place_if (is_outline c.role) n ∷ hole_places (suc n) cs
 
 -- the hole round the contour at place i, by the hole's place: the hole that has the next filled-below edge, or the hole
--- round the outline that has it; or that no hole is round it. What is filled below, with the filled side by one hand, is
--- filled above with it by the other
+-- round the outline that has it; or that no hole is round it. What is filled below, with the filled side by one hand,
+-- is filled above with it by the other
 abbrev pub IsHoleRound : Hand → List Contour → ℕ → Option ℕ → Type 0
 IsHoleRound filled contours i hole =
     IsFoundBelow (other_hand filled) (walks_in contours) (hole_places 0 contours) i hole

@@ -1,5 +1,5 @@
 -- Each shape by itself: its contours wind once round a point of the plane, or zero times.
-use Rattle.std.specs.Prelude.{◌≡◌, ◌⊎◌, Bool, true, ℕ, ℤ, pos, List, Contains, All, AllPairs, Option}
+use Rattle.std.specs.Prelude.{◌≡◌, ◌⊎◌, Bool, ℕ, ℤ, pos, List, Contains, All, AllPairs, Option}
 use Rattle.std.specs.List.{flat_map}
 use Rattle.overlay_geom.specs.Plane.{Point, PlanePoint, Step, steps_of, winding}
 use Rattle.overlay_geom.specs.Edges.{CountedEdge}
@@ -8,7 +8,7 @@ use Rattle.overlay_plane.specs.Alternates.{Alternates}
 use Rattle.overlay_plane.specs.BesideOrbits.{WalksAlong, winding_beside}
 use Rattle.overlay_plane.specs.ContourWindings.{once_round}
 use Rattle.overlay_plane.specs.RoledContours.{Contour}
-use Rattle.overlay_plane.specs.BoundContours.{AreShapesFound, walks_in, contours_bound, shapes_bound}
+use Rattle.overlay_plane.specs.BoundContours.{AreShapesFound, contours_bound, shapes_bound}
 use Rattle.overlay_plane.specs.KeptContours.{AreKeptContours, KeepsAll}
 use Rattle.overlay_plane.specs.ShapeWindings.{points_of_shapes, AreKeptOrThinned, steps_of_shapes}
 

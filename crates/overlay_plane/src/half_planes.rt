@@ -1,6 +1,7 @@
 //! Half planes with whole borders: what cutting rounds do not take out of them.
 
-ghost use Rattle.overlay_plane.specs.HalfPlanes.{ArrangementsStayInHalfPlanes, ChainsStayInHalfPlanes, NothingWindsBeyond};
+ghost use Rattle.overlay_plane.specs.HalfPlanes.{ArrangementsStayInHalfPlanes, ChainsStayInHalfPlanes};
+ghost use Rattle.overlay_plane.specs.HalfPlanes.{NothingWindsBeyond};
 
 /// The chain of an edge in a half plane with an upright or a level border at a whole number stays in it. So that of an
 /// upright or a level edge stays on its line.

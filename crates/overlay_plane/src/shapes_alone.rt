@@ -1,6 +1,7 @@
 //! Each shape by itself: round each point of the plane its contours wind once, or zero times.
 
-ghost use Rattle.overlay_plane.specs.ShapesAlone.{OneWindingPastOrbits, EachShapeWindsOnceOrNot, NoTwoWindRoundOnePoint};
+ghost use Rattle.overlay_plane.specs.ShapesAlone.{OneWindingPastOrbits, EachShapeWindsOnceOrNot};
+ghost use Rattle.overlay_plane.specs.ShapesAlone.{NoTwoWindRoundOnePoint};
 
 /// Beside steps that an orbit leaves, and that meet, the orbit winds alike.
 pub fn one_winding_past_orbits()

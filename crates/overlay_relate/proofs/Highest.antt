@@ -28,8 +28,9 @@ use Rattle.overlay_scan.specs.Scan.{Entry, Sweep, live_at, MayMoveTo, IsOver, Ar
 use Rattle.overlay_scan.specs.Scan.{last_entry, value_or, value_up_to}
 use Rattle.overlay_scan.proofs.LastEntries.{last_is, no_last}
 use Rattle.overlay_relate.specs.Sweeps.{IsSwept, IsFound, side_answer}
-use Rattle.overlay_relate.proofs.OnEdges.{side-whole, false_where_not}
+use Rattle.overlay_relate.proofs.OnEdges.{side-whole}
 use Rattle.overlay_relate.proofs.Swept.{live_are}
+use Rattle.std.proofs.lemmas.Bool.{not-true}
 
 -- an edge that is under another one just right of an abscissa is not above it there
 pub weakly_under : (f e : Edge) (x d : ℤ) → pos 0 <ℤ d → MeetInEnds e f → covers f x d ≡ true → covers e x d ≡ true →
@@ -102,7 +103,7 @@ less_told Greater t = absurd (false≢true t)
 -- what is not answered by Greater is not above the point
 up_to_told : (p : Point) (e : Edge) → not (is_gt (side_answer p e)) ≡ true → pos 0 ≤ℤ side e (in_plane p)
 up_to_told p e t = ge_from_test (side e (in_plane p)) (pos 0) (sym (above_answer p e)
-    ∙ false_where_not (is_gt (side_answer p e)) t)
+    ∙ not-true (is_gt (side_answer p e)) t)
 
 up_to_tested : (p : Point) (e : Edge) → pos 0 ≤ℤ side e (in_plane p) → not (is_gt (side_answer p e)) ≡ true
 up_to_tested p e up = ap not (above_answer p e ∙ test_from_ge (side e (in_plane p)) (pos 0) up)

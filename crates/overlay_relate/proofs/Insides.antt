@@ -5,7 +5,7 @@ use Rattle.std.proofs.Common.{List, [], ◌∷◌, map, get_or, Contains, refl, 
 use Rattle.std.specs.List.{AllPairs}
 use Rattle.std.proofs.lemmas.Bool.{cases_lt, both_ways, false_from_ne_true}
 use Rattle.std.proofs.lemmas.Int.{ints}
-use Rattle.std.proofs.lemmas.List.{length-map, get_or-map, get_or_default}
+use Rattle.std.proofs.lemmas.List.{get_or_default}
 use Rattle.std.proofs.lemmas.List.Elements.{All-contains}
 use Rattle.std.proofs.Math.Nat.{eq-or-lt_of_le}
 use Rattle.overlay_geom.specs.Plane.{PlanePoint, Step, Edge, edge_eq, edge_of, steps_of, is_strictly_below, is_forward}
@@ -29,18 +29,12 @@ use Rattle.overlay_plane.proofs.SingleEntries.{one_entry}
 use Rattle.overlay_relate.specs.Locations.{is_odd, odd_below}
 use Rattle.overlay_relate.specs.Sweeps.{AreOfContour, inside_above}
 use Rattle.overlay_relate.proofs.Parities.{odd_winding}
+use Rattle.overlay_geom.proofs.Mapped.{AllPairs-unmap}
 
 -- the edges of steps, as they are counted
 ends_are : (ss : List Step) → map ends_of (map subject_edge ss) ≡ map edge_of ss
 ends_are [] = refl
 ends_are (s ∷ ss) = ap (λ es. edge_of s ∷ es) (ends_are ss)
-
--- what holds of any two of what items are mapped to holds so of the items
-AllPairs-unmap : {X Y : Type 0} (R : Y → Y → Type 0) (f : X → Y) (xs : List X) → AllPairs R (map f xs) →
-    AllPairs (λ x y. R (f x) (f y)) xs
-AllPairs-unmap R f xs h i j d l m =
-    subst (λ y. R y (f (get_or xs j d))) (get_or-map f xs i d (f d) (omega (arith, l, m)))
-    (subst (λ y. R (get_or (map f xs) i (f d)) y) (get_or-map f xs j d (f d) m) (h i j (f d) l (rw length-map m)))
 
 -- 1 more, or 1 less, turns the parity
 odd_turned : (forward : Bool) (w : ℤ) → is_odd (w +ℤ cond forward (pos 1) (negsuc 0)) ≡ not (is_odd w)

@@ -1,11 +1,9 @@
 -- Where a whole point lies by an edge: on it, or above it.
-use Rattle.std.proofs.Common.{◌≡◌, ◌↔◌, Bool, true, false, not, cond, ℤ, pos, refl, sym, ap, ◌∙◌, arith}
-use Rattle.std.specs.Ordering.{is_lt, is_eq, int_cmp}
-use Rattle.std.specs.declared.cmp.Ordering.TheVariants.{Less, Equal, Greater}
+use Rattle.std.proofs.Common.{◌≡◌, ◌↔◌, true, false, ℤ, pos, sym, ap, ◌∙◌, arith}
+use Rattle.std.specs.Ordering.{is_eq, int_cmp}
 use Rattle.std.proofs.lemmas.Bool.{false_from_ne_true, both_ways}
 use Rattle.std.proofs.lemmas.Int.{ints}
 use Rattle.overlay_geom.specs.Plane.{Point, Edge, point_lt, cross_at, side, in_plane, IsOn}
-use Rattle.overlay_geom.specs.Resolved.{point_cmp}
 use Rattle.overlay_geom.proofs.AlongEdge.{over, place_of, sideE, on_of_order, order_of_on}
 use Rattle.overlay_geom.proofs.Cross.{crossE}
 use Rattle.overlay_geom.proofs.Identities.{solve, number, ◌≗◌}
@@ -15,15 +13,6 @@ use Rattle.overlay_geom.proofs.PointOrder.{IsUpTo, Decides-point_lt, by_order, n
 pub side-whole : (e : Edge) (v : Point) → side e (in_plane v) ≡ cross_at e.a e.b v
 side-whole e v = solve 6 (λ ax ay bx by x y. sideE ax ay bx by x y (number (pos 1)) ≗ crossE ax ay bx by x y) tt e.a.x
     e.a.y e.b.x e.b.y v.x v.y
-
--- a point compares as less where it is smaller
-pub is_lt-point_cmp : (p q : Point) → is_lt (point_cmp p q) ≡ point_lt p q
-is_lt-point_cmp p q = by (point_lt p q) (point_lt q p)
-  where
-    by : (s t : Bool) → is_lt (cond s Less (cond t Greater Equal)) ≡ s
-    by true t = refl
-    by false true = refl
-    by false false = refl
 
 -- where one point is not smaller, the other is up to it
 pub up_to_where_not_less : (p q : Point) → point_lt q p ≡ false → IsUpTo p q
@@ -82,11 +71,6 @@ module _ (e : Edge) (v : Point) (forward : point_lt e.a e.b ≡ true) where
   pub to_where_on : IsOn e (in_plane v) → point_lt e.b v ≡ false
   to_where_on on = not_less_where_up_to v e.b
       ((whole_from v e.b).1 (order_of_on e (in_plane v) ((Decides-point_lt e.a e.b).0 forward) on).1)
-
--- what is not true is false
-pub false_where_not : (t : Bool) → not t ≡ true → t ≡ false
-false_where_not true h = sym h
-false_where_not false h = refl
 
 -- a number compares as equal to 0 where it is 0
 pub level_from_test : (z : ℤ) → is_eq (int_cmp z (pos 0)) ≡ true → z ≡ pos 0

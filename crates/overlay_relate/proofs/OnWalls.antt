@@ -20,7 +20,8 @@ use Rattle.overlay_plane.proofs.Tests.{ge_from_test}
 use Rattle.overlay_relate.specs.Sweeps.{is_wide}
 use Rattle.overlay_relate.specs.Walls.{wall_of, AreContourWalls, starts_up_to, IsOnSomeWall}
 use Rattle.overlay_relate.proofs.Insides.{settled}
-use Rattle.overlay_relate.proofs.OnEdges.{on_where_tested, up_to_where_not_less, false_where_not}
+use Rattle.overlay_relate.proofs.OnEdges.{on_where_tested, up_to_where_not_less}
+use Rattle.std.proofs.lemmas.Bool.{not-true}
 
 -- what comes no later than what comes no later
 pub no_later : (p q r : Point) → point_lt q p ≡ false → point_lt r q ≡ false → point_lt r p ≡ false
@@ -123,7 +124,7 @@ module _ (ws : List Edge) (walls : AreContourWalls ws) where
   -- walls that start no later than a point stand before the others
   pub up_to_before : (v : Point) (u w : Edge) → edge_lt w u ≡ false → starts_up_to v w ≡ true → starts_up_to v u ≡ true
   up_to_before v u w later up = ap not
-      (no_later u.a w.a v (starts_later u w later) (false_where_not (point_lt v w.a) up))
+      (no_later u.a w.a v (starts_later u w later) (not-true (point_lt v w.a) up))
 
   module _ (p : Point) (u w : Edge) (at_u : Contains ws u) (at_w : Contains ws w) (later : edge_lt w u ≡ false)
       (up : point_lt p w.a ≡ false)
@@ -219,7 +220,7 @@ module _ {X : Type 0} (f : X → Edge) (xs : List X) (walls : AreContourWalls (m
         (point_lt (f w).b p ≡ false) ↔ IsOnSomeWall (map f xs) p
     on_last_wall w some le is = (
       λ to. any_of_entry (λ u. (point_lt p u.a ≡ false) × (point_lt u.b p ≡ false)) (map f xs) (f w) held (
-        false_where_not (point_lt p (f w).a)
+        not-true (point_lt p (f w).a)
             (subst (λ x. starts_up_to p (f x) ≡ true) (sym is)
             (point.0 (n - 1) w (omega arith) (omega (arith, some)))),
         to,
@@ -234,7 +235,7 @@ module _ {X : Type 0} (f : X → Edge) (xs : List X) (walls : AreContourWalls (m
         held = Contains-map f xs w (n - 1, omega (arith, some, le), sym is)
 
         up : point_lt p (f w).a ≡ false
-        up = false_where_not (point_lt p (f w).a)
+        up = not-true (point_lt p (f w).a)
             (subst (λ x. starts_up_to p (f x) ≡ true) (sym is) (point.0 (n - 1) w (omega arith) (omega (arith, some))))
 
         by : (u : Edge) → Contains (map f xs) u → (x : X) (c : Contains xs x) → f x ≡ u → point_lt p u.a ≡ false →

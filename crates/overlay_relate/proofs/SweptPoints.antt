@@ -24,7 +24,7 @@ use Rattle.overlay_relate.proofs.Insides.{settled, even_where_none, odd_where_ne
 use Rattle.overlay_relate.proofs.OnEdges.{side-whole, from_where_on, to_where_on, level_where_on, up_to_where_not_less}
 use Rattle.overlay_relate.proofs.OnEdges.{not_less_where_up_to, on_where_tested}
 use Rattle.overlay_relate.proofs.OnWalls.{by_wide, wide_wall, upright_wall, on_wall_on}
-use Rattle.overlay_relate.proofs.Told.{covering_wide}
+use Rattle.overlay_scan.proofs.AtStarts.{reaches}
 
 -- what was found is the edge at its place
 pub is_at : (fs : List Edge) (p : Point) (n i : ℕ) → IsFound fs p n i → i < n → (e : Edge) → i < length fs →
@@ -121,10 +121,10 @@ module _ (es fs : List Edge) (of : AreOfContour es) (by : AreByStart es fs) (p :
     outside_where_none none = (
       all_of_entries (λ e. ¬ (IsOn e (in_plane p))) es (λ f c on.
           let over = covered ws walls off f c on in
-          let above = none f (by.all f c (covering_wide f p.x over)) over in let zero = on.on_line in omega linear),
+          let above = none f (by.all f c (reaches f p.x over)) over in let zero = on.on_line in omega linear),
       even_where_none es of (in_plane p) (λ f c. false_from_ne_true (is_strictly_below f (in_plane p)) (λ below.
           let both = parts f below in let low = both.1 in
-          let above = none f (by.all f c (covering_wide f p.x both.0)) both.0 in omega linear)),
+          let above = none f (by.all f c (reaches f p.x both.0)) both.0 in omega linear)),
     )
 
     module _ (e : Edge) (high : IsHighestUpTo fs p e) where
@@ -172,11 +172,11 @@ module _ (es fs : List Edge) (of : AreOfContour es) (by : AreByStart es fs) (p :
           all_of_entries (λ f. ¬ (IsOn f (in_plane p))) es (λ f c on.
               let over = covered ws walls off f c on in
               let zero = on.on_line in
-              let above = below_or_at f c over (high.highest f (by.all f c (covering_wide f p.x over)) over
+              let above = below_or_at f c over (high.highest f (by.all f c (reaches f p.x over)) over
               (omega linear)) in omega linear),
           odd_where_next es of (in_plane p) e own
               (and_from (covers e p.x (pos 1)) (int_lt (pos 0) (side e (in_plane p))) high.over
               (test_from_lt (pos 0) (side e (in_plane p)) low))
               (λ f c below. let both = parts f below in let up = both.1 in
-              high.highest f (by.all f c (covering_wide f p.x both.0)) both.0 (omega linear)),
+              high.highest f (by.all f c (reaches f p.x both.0)) both.0 (omega linear)),
         )

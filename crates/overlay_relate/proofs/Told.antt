@@ -1,5 +1,5 @@
 -- It is inside above the next edge where it is not inside above the highest live edge under it.
-use Rattle.std.proofs.Common.{◌≡◌, ◌⊎◌, ⊎_elim, inl, inr, ℕ, ◌<◌, Bool, true, false, not, ◌&&◌, ℤ, pos, ◌<ℤ◌, List, []}
+use Rattle.std.proofs.Common.{◌≡◌, ◌⊎◌, ⊎_elim, inl, inr, ℕ, ◌<◌, Bool, true, false, not, ◌&&◌, pos, List, []}
 use Rattle.std.proofs.Common.{◌∷◌, ◌++◌, length, take, get_or, Contains, Option, None, Some, refl, sym, ap, ◌∙◌, subst}
 use Rattle.std.proofs.Common.{arith}
 use Rattle.std.specs.List.{filter}
@@ -13,7 +13,6 @@ use Rattle.overlay_plane.specs.Anchors.{is_below_anchor}
 use Rattle.overlay_plane.specs.Heights.{covers, is_under}
 use Rattle.overlay_plane.proofs.BelowAnchors.{below_an_anchor_is_under}
 use Rattle.overlay_plane.proofs.Entries.{Contains-filter}
-use Rattle.overlay_plane.proofs.Under.{covers_from, covers_to}
 use Rattle.overlay_scan.specs.Laws.{IsGreatestBelow}
 use Rattle.overlay_scan.specs.Scan.{Entry, Sweep, live_at, IsOver, AreLive, entry_below, value_or, value_below}
 use Rattle.overlay_scan.proofs.LastEntries.{no_last, look_up_gives_the_greatest}
@@ -22,11 +21,7 @@ use Rattle.overlay_relate.specs.Sweeps.{AreOfContour, AreByStart, AreTold, IsSwe
 use Rattle.overlay_relate.proofs.Answered.{answers_more}
 use Rattle.overlay_relate.proofs.Insides.{inside_above_none, inside_above_next}
 use Rattle.overlay_relate.proofs.Swept.{own, over, may_move, live_are, live_from, under_live}
-
--- an edge that covers an abscissa is not vertical
-pub covering_wide : (e : Edge) (x : ℤ) → covers e x (pos 1) ≡ true → e.a.x <ℤ e.b.x
-covering_wide e x over = let from = covers_from e x (pos 1) over in let to = covers_to e x (pos 1) over in
-    omega (arith, ints)
+use Rattle.overlay_scan.proofs.AtStarts.{reaches}
 
 -- what is told at a place
 pub told_at : (es fs : List Edge) (inside : List Bool) → AreTold es fs inside → (i : ℕ) (g : Edge) (t : Bool) →
@@ -73,7 +68,7 @@ module _ (es fs : List Edge) (of : AreOfContour es) (by : AreByStart es fs) (n :
   entry_under : (f : Edge) → Contains es f → covers f e.a.x (pos 1) ≡ true → is_under f e e.a.x (pos 1) ≡ true →
       (k : Entry ℕ) × Contains live k × (k.edge ≡ f)
   entry_under f c over_f under = under_live fs by.sweepable n e lt is limit s swept f
-      (by.all f c (covering_wide f e.a.x over_f)) (leads e own_edge) (leads f c) over_f under
+      (by.all f c (reaches f e.a.x over_f)) (leads e own_edge) (leads f c) over_f under
 
   module _ (inside : List Bool) (counted : length inside ≡ n) (told : AreTold es fs inside) where
     next_by : (o : Option (Entry ℕ)) → entry_below e live ≡ o →

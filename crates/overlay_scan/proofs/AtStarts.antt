@@ -97,7 +97,8 @@ covers_before e x y over from to = and_from (int_le (e.a.x *ℤ pos 1) y) (int_l
 pub starts_before : (e : Edge) (x : ℤ) → covers e x (pos 1) ≡ true → e.a.x ≤ℤ x
 starts_before e x over = let from = covers_from e x (pos 1) over in omega (arith, ints)
 
-reaches : (e : Edge) (x : ℤ) → covers e x (pos 1) ≡ true → e.a.x <ℤ e.b.x
+-- an edge over x is wide
+pub reaches : (e : Edge) (x : ℤ) → covers e x (pos 1) ≡ true → e.a.x <ℤ e.b.x
 reaches e x over = let from = covers_from e x (pos 1) over in let to = covers_to e x (pos 1) over in omega (arith, ints)
 
 -- of two edges over x that meet in ends alone, one is not under the other exactly where that one is under it

@@ -14,6 +14,7 @@ use Rattle.overlay_plane.specs.Anchors.{is_below_anchor}
 use Rattle.overlay_plane.specs.Heights.{is_under}
 use Rattle.overlay_scan.specs.Scan.{Entry}
 use Rattle.overlay_scan.specs.Laws.{LookUpGivesTheGreatest}
+use Rattle.std.proofs.lemmas.Option.{same_Some}
 
 last_pushed : {X : Type 0} (o : Option X) (xs : List X) (x : X) → last_or o (xs ++ x ∷ []) ≡ Some x
 last_pushed o [] x = refl
@@ -31,17 +32,12 @@ last_of_first h xs n x some le is = ap (last_or None)
     ∙ mapped_more h xs (n - 1) x (omega arith) is)
     ∙ last_pushed None (map h (take (n - 1) xs)) (h x)
 
--- what is in an option, or else d
-abbrev value_of : {X : Type 0} → X → Option X → X
-value_of d None = d
-value_of d (Some x) = x
-
 -- the last of several items is one of them, and R leads to it from each other one
 pub last_is : {X : Type 0} (R : X → X → Type 0) (xs : List X) → AllPairs R xs → (f : X) → last_or None xs ≡ Some f →
     Contains xs f × ((g : X) → Contains xs g → (g ≡ f) ⊎ R g f)
 last_is R [] pairs f e = absurd (subst (λ o. IfSome o (λ _. ⊥)) e tt)
 last_is R (x ∷ []) pairs f e =
-    let one : x ≡ f = ap (value_of x) e in (
+    let one : x ≡ f = same_Some x f e in (
       subst (Contains (x ∷ [])) one (Contains-head x []),
       λ g at. elim (Contains-cases x [] g at)
           [ inl same ↦ inl (sym same ∙ one) | inr later ↦ absurd (omega (arith, later)) ],

@@ -1,5 +1,5 @@
 -- What an x before which no edge ends tells of edges.
-use Rattle.std.proofs.Common.{◌≡◌, Bool, true, false, not, cond}
+use Rattle.std.proofs.Common.{◌≡◌, Bool, true, false, cond}
 use Rattle.std.proofs.Common.{ℕ, ◌+◌, ◌<◌, ◌≤◌, ℤ, ◌≤ℤ◌, int_lt, List, [], ◌∷◌, ◌++◌, length, take, drop, get_or, sym}
 use Rattle.std.proofs.Common.{ap, ◌∙◌, subst, arith}
 use Rattle.std.specs.List.{All, filter, insert}
@@ -12,6 +12,7 @@ use Rattle.overlay_plane.proofs.Tests.{lt_from_test, test_from_lt}
 use Rattle.overlay_scan.specs.Ends.{has_passed, NoneEndsBefore}
 use Rattle.overlay_scan.specs.declared.list.LiveEdge.{LiveEdge}
 use Rattle.overlay_scan.proofs.PutIn.{All-with}
+use Rattle.std.proofs.lemmas.Bool.{not-false}
 
 -- where all pass a test nothing is left out
 filter_keeps : {X : Type 0} (test : X → Bool) (xs : List X) → All (λ x. test x ≡ true) xs → filter test xs ≡ xs
@@ -19,11 +20,6 @@ filter_keeps test [] all = λ i. []
 filter_keeps test (x ∷ xs) all =
     ap (λ b. cond b (x ∷ filter test xs) (filter test xs)) (All-head (λ x. test x ≡ true) x xs all)
     ∙ ap (λ ys. x ∷ ys) (filter_keeps test xs (All-tail (λ x. test x ≡ true) x xs all))
-
--- what is not passed by is to come
-passed_not : (b : Bool) → not b ≡ false → b ≡ true
-passed_not true e = λ i. true
-passed_not false e = sym e
 
 module _ {I V : Type 0} (whole : I → ℤ) where
   -- the edge ends at x or after it
@@ -37,7 +33,7 @@ module _ {I V : Type 0} (whole : I → ℤ) where
   none_ended None fs x none before = subst (λ gs. filter (λ f. int_lt (whole x) (whole f.b.x)) gs ≡ gs)
       (sym none) (λ i. [])
   none_ended (Some end) fs x all before =
-      let earlier = lt_from_test (whole x) (whole end) (passed_not (int_lt (whole x) (whole end)) before) in
+      let earlier = lt_from_test (whole x) (whole end) (not-false (int_lt (whole x) (whole end)) before) in
       filter_keeps (λ f. int_lt (whole x) (whole f.b.x)) fs
       (All-weaker (EndsFrom end) (λ f. int_lt (whole x) (whole f.b.x) ≡ true)
       (λ f from. test_from_lt (whole x) (whole f.b.x) (omega (arith, ints))) fs all)

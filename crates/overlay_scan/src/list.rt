@@ -124,8 +124,8 @@ impl<I: IntNumber, V: Copy, A: Allocator> Scan<I, V> for ScanList<I, V, A> {
     }
 }
 
-// The line as an edge of the list.
-fn live_edge<I: IntNumber, V: Copy>(line: IntLine<I>, value: V) -> LiveEdge<I, V>
+/// The line as an edge of a list, with what is inserted with it.
+pub fn live_edge<I: IntNumber, V: Copy>(line: IntLine<I>, value: V) -> LiveEdge<I, V>
     ensures { plain_entry I.whole result ≡ record { edge = plain_line I.whole line; value = value } }
 {
     let [a, b] = line;

@@ -1,13 +1,14 @@
 -- The direction of a contour of different points, read at its smallest point from its two neighbours.
-use Rattle.std.proofs.Common.{◌≡◌, ◌≢◌, ◌⊎◌, inl, inr, ⊎_elim, ℕ, suc, ◌+◌, ◌-◌, ◌<◌, ◌≤◌, Bool, true, false, cond, ℤ, pos, ◌<ℤ◌, ◌≤ℤ◌}
-use Rattle.std.proofs.Common.{List, length, get_or, Contains, int_lt, refl, sym, ap, ap₂, subst, ◌∙◌, arith}
+use Rattle.std.proofs.Common.{◌≡◌, ◌≢◌, ◌⊎◌, inl, inr, ⊎_elim, ℕ, suc, ◌+◌, ◌-◌, ◌<◌, ◌≤◌, Bool, true, false, cond, ℤ}
+use Rattle.std.proofs.Common.{pos, ◌<ℤ◌, ◌≤ℤ◌}
+use Rattle.std.proofs.Common.{List, length, get_or, Contains, sym, ap, ap₂, subst, ◌∙◌, arith}
 use Rattle.std.proofs.lemmas.Bool.{both_ways, cases_lt, false_from_ne_true}
 use Rattle.std.proofs.lemmas.List.Elements.{Contains-get_or}
 use Rattle.overlay_geom.specs.Plane.{Point, Step, Edge, point_lt, cross_at, is_forward, edge_of, steps_of}
 use Rattle.overlay_geom.proofs.Orders.{point_eq-same, point_lt-back}
 use Rattle.overlay_geom.proofs.Signs.{linear}
 use Rattle.overlay_plane.specs.Groups.{HasEachPointOnce}
-use Rattle.overlay_plane.specs.LeftmostSteps.{StepHasEndBefore, NoneHasEndBefore, NoneTakenBelow}
+use Rattle.overlay_plane.specs.LeftmostSteps.{NoneHasEndBefore, NoneTakenBelow}
 use Rattle.overlay_plane.specs.Nodes.{edge_turn, turns_left}
 use Rattle.overlay_plane.specs.Turn.{no_step}
 use Rattle.overlay_plane.proofs.EdgeTurns.{edge_turn_exchanged, edge_turn_same}
@@ -15,8 +16,9 @@ use Rattle.overlay_plane.proofs.EdgesOfSteps.{edge_by}
 use Rattle.overlay_plane.proofs.Tests.{lt_from_test}
 use Rattle.overlay_arrange.specs.declared.options.ContourDirection.TheVariants.{CounterClockwise, Clockwise}
 use Rattle.overlay_simplify.specs.Points.{IsLeast}
-use Rattle.overlay_simplify.specs.Simple.{IsLowestStep, RunsIn}
-use Rattle.overlay_simplify.proofs.ClosedPoints.{step_at, among, begins, stops_in_next, stops_in_first, place_of, one_begins}
+use Rattle.overlay_simplify.specs.Simple.{RunsIn}
+use Rattle.overlay_simplify.proofs.ClosedPoints.{step_at, among, begins, stops_in_next, stops_in_first, place_of}
+use Rattle.overlay_simplify.proofs.ClosedPoints.{one_begins}
 use Rattle.overlay_simplify.proofs.ClosedPoints.{one_ends, all_long}
 
 -- the place j comes after i in a closed list

@@ -1,6 +1,7 @@
 -- In points that are sorted no two are one exactly where no two that follow one another are.
-use Rattle.std.proofs.Common.{◌≡◌, ⊎_elim, Bool, true, false, not, ◌&&◌, List, [], ◌∷◌, Contains, ℤ, refl, sym, ap, subst}
-use Rattle.std.proofs.Common.{◌∙◌, arith}
+use Rattle.std.proofs.Common.{◌≡◌, ⊎_elim, Bool, true, false, not, List, [], ◌∷◌, Contains, ℤ, refl, sym, ap}
+use Rattle.std.proofs.Common.{subst}
+use Rattle.std.proofs.Common.{arith}
 use Rattle.std.specs.Cmp.{IsStrictWeakOrder}
 use Rattle.std.specs.List.{AllPairs}
 use Rattle.std.specs.List.Sorted.{IsSortedBy, IsPermutation}
@@ -19,6 +20,7 @@ use Rattle.overlay_plane.proofs.LaterEntries.{Each, Each-from_all_pairs, AllPair
 use Rattle.overlay_plane.proofs.ShuffledPairs.{pairs_shuffled}
 use Rattle.overlay_simplify.specs.Points.{differ_along, all_next_differ}
 use Rattle.overlay_simplify.proofs.ClosedPoints.{Differ, differ_back}
+use Rattle.std.proofs.lemmas.Bool.{not-true}
 
 -- the second point is not smaller
 abbrev pub InOrder : Point → Point → Type 0
@@ -41,12 +43,8 @@ all_differ p (q ∷ qs) order next = (first, all_differ q qs order.1 parts.1)
     parts : (not (point_eq p q) ≡ true) × (differ_along q qs ≡ true)
     parts = and_parts (not (point_eq p q)) (differ_along q qs) next
 
-    isnt : (t : Bool) → not t ≡ true → t ≡ false
-    isnt true is = sym is
-    isnt false is = refl
-
     differ : Differ p q
-    differ = isnt (point_eq p q) parts.0
+    differ = not-true (point_eq p q) parts.0
 
     first : (z : Point) → Contains (q ∷ qs) z → Differ p z
     first z c = ⊎_elim (λ here. subst (Differ p) here differ)

@@ -1,8 +1,8 @@
 -- A contour reversed winds round each point as often back as it winds given.
 use Rattle.std.proofs.Common.{◌≡◌, Bool, true, false, cond, not, ℤ, pos, negsuc, ◌+ℤ◌, neg_ℤ, List, [], ◌∷◌, ◌++◌}
-use Rattle.std.proofs.Common.{append_assoc, map, refl, sym, ap, ap₂, ◌∙◌}
+use Rattle.std.proofs.Common.{append_assoc, refl, sym, ap, ◌∙◌}
 use lib.IntN.{+ℤ_idr}
-use Rattle.std.proofs.lemmas.List.{map-append, reverse-append}
+use Rattle.std.proofs.lemmas.List.{reverse-append}
 use Rattle.std.specs.Prelude.{reverse}
 use Rattle.overlay_geom.specs.Plane.{Point, PlanePoint, Step, point_eq, is_forward, is_strictly_below, reversed_step}
 use Rattle.overlay_geom.specs.Plane.{steps_of, total, winding}
@@ -14,12 +14,6 @@ use Rattle.overlay_plane.proofs.StepsAlong.{turns_round}
 use Rattle.overlay_plane.proofs.StraightOn.{part_between, winding-around}
 use Rattle.overlay_plane.proofs.Walks.{along, around, along-parts, around-rotated}
 use Rattle.overlay_simplify.proofs.ClosedPoints.{differ_back}
-
--- what each item of a list is mapped to, in the list reversed
-pub mapped_reverse : {X Y : Type 0} (f : X → Y) (xs : List X) → map f (reverse xs) ≡ reverse (map f xs)
-mapped_reverse f [] = refl
-mapped_reverse f (x ∷ xs) = ap (map f) (reverse-append (x ∷ []) xs) ∙ map-append f (reverse xs) (x ∷ [])
-    ∙ ap (λ l. l ++ f x ∷ []) (mapped_reverse f xs) ∙ sym (reverse-append (f x ∷ []) (map f xs))
 
 module _ (f : Point → Point → ℤ) (back : (u v : Point) → f v u ≡ neg_ℤ (f u v)) where
   -- a walk back through points

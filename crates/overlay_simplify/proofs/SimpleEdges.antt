@@ -1,6 +1,6 @@
 -- The edges of a simple contour's steps are the edges that are left of them when they are merged: none is dropped, and
 -- no two are made one.
-use Rattle.std.proofs.Common.{◌≡◌, ◌⊎◌, inl, inr, ⊎_elim, ◌≤◌, Bool, true, false, cond, not, pos, negsuc, List, [], ◌∷◌}
+use Rattle.std.proofs.Common.{◌≡◌, ◌⊎◌, ⊎_elim, ◌≤◌, Bool, true, false, cond, not, pos, negsuc, List, [], ◌∷◌}
 use Rattle.std.proofs.Common.{◌++◌, length, map, Contains, refl, sym, ap, subst, ◌∙◌, arith}
 use Rattle.std.proofs.lemmas.Bool.{both_ways, false_from_ne_true}
 use Rattle.std.specs.List.{All}
@@ -20,7 +20,7 @@ use Rattle.overlay_plane.proofs.Entries.{all_of_entries, Contains-map, Contains-
 use Rattle.overlay_plane.proofs.LaterEntries.{Each, Each-from_all_pairs, Each-map}
 use Rattle.overlay_plane.proofs.StepsAlong.{edge_eq-either, turns_round}
 use Rattle.overlay_plane.proofs.WholeCuts.{ends_of_merged, same_merged}
-use Rattle.overlay_simplify.proofs.ClosedPoints.{Differ, differ_apart, differ_back, starts, one_begins, none_back}
+use Rattle.overlay_simplify.proofs.ClosedPoints.{Differ, differ_apart, differ_back, starts, none_back}
 
 -- ---- merging edges with different ends
 

@@ -1,12 +1,12 @@
 -- A simple contour winds round each point of the plane zero times or once, in its direction.
 use Rattle.std.proofs.Common.{◌≡◌, ◌⊎◌, inl, inr, ⊎_elim, ℕ, zero, suc, ◌+◌, ◌<◌, ◌≤◌, Bool, true, false, cond, not}
-use Rattle.std.proofs.Common.{◌&&◌, ℤ, pos, negsuc, ◌+ℤ◌, List, [], length, map, Contains, refl, sym, ap, ap₂, subst}
+use Rattle.std.proofs.Common.{◌&&◌, ℤ, pos, negsuc, ◌+ℤ◌, List, length, map, Contains, refl, sym, ap, ap₂, subst}
 use Rattle.std.proofs.Common.{◌∙◌, arith}
 use Rattle.std.proofs.lemmas.Bool.{both_ways, false_from_ne_true}
 use Rattle.std.proofs.lemmas.Bool.Decides.{Decides-int_eq}
-use Rattle.std.proofs.lemmas.List.Elements.{All-contains}
 use Rattle.std.specs.Ordering.{int_eq}
-use Rattle.overlay_geom.specs.Plane.{Point, PlanePoint, Step, point_eq, point_lt, is_forward, edge_of, steps_of, winding}
+use Rattle.overlay_geom.specs.Plane.{Point, PlanePoint, Step, point_eq, point_lt, is_forward, edge_of, steps_of}
+use Rattle.overlay_geom.specs.Plane.{winding}
 use Rattle.overlay_geom.specs.Plane.{is_strictly_below}
 use Rattle.overlay_geom.specs.Edges.{CountedEdge, ends_of, subj_of, clip_of, subject_edge, winding_by}
 use Rattle.overlay_geom.specs.Edges.{winding_below, winding_above}
@@ -17,12 +17,10 @@ use Rattle.overlay_geom.proofs.Signs.{linear}
 use Rattle.overlay_plane.specs.Alternates.{IsMetBetween}
 use Rattle.overlay_plane.specs.EdgeLists.{IsForwardBy}
 use Rattle.overlay_plane.specs.Leftmost.{CountsNothingBefore, CountsNothingBelow}
-use Rattle.overlay_plane.specs.LeftmostSteps.{StepHasEndBefore}
 use Rattle.overlay_plane.specs.Nodes.{IsBalancedArrangement, turns_left}
 use Rattle.overlay_plane.specs.Regions.{IsRuled}
 use Rattle.overlay_plane.specs.Spokes.{IsSpoke, far_end, winding_before, winding_after}
 use Rattle.overlay_plane.specs.Turn.Hand.{right}
-use Rattle.overlay_plane.specs.Turn.{no_step}
 use Rattle.overlay_plane.proofs.BeforeTheSteps.{end_before}
 use Rattle.overlay_plane.proofs.EdgeOrder.{distinct_from_ascending}
 use Rattle.overlay_plane.proofs.EdgesOfSteps.{edge_by}
@@ -36,8 +34,8 @@ use Rattle.overlay_plane.proofs.TurnOrder.{met_irreflexive, start_is_last}
 use Rattle.overlay_arrange.specs.declared.options.ContourDirection.{ContourDirection}
 use Rattle.overlay_arrange.specs.declared.options.ContourDirection.TheVariants.{CounterClockwise, Clockwise}
 use Rattle.overlay_simplify.specs.Laws.{once_in}
-use Rattle.overlay_simplify.specs.Simple.{IsSimple, IsLowestStep, RunsIn, subject_edges}
-use Rattle.overlay_simplify.proofs.ClosedPoints.{as_many, among, begins, stops_in_next, step_at, place_of, one_begins}
+use Rattle.overlay_simplify.specs.Simple.{IsSimple, IsLowestStep, RunsIn}
+use Rattle.overlay_simplify.proofs.ClosedPoints.{among, begins, stops_in_next, step_at, place_of, one_begins}
 use Rattle.overlay_simplify.proofs.ClosedPoints.{one_ends, all_long}
 use Rattle.overlay_simplify.proofs.SimpleEdges.{three_points, edge_left, step_along}
 

@@ -1,8 +1,9 @@
 -- A contour that was added to nothing and arranged is simple exactly where the tests say so.
-use Rattle.std.proofs.Common.{◌≡◌, ◌≢◌, ◌<◌, ◌≤◌, Bool, true, false, cond, not, ◌&&◌, List, [], ◌∷◌, length, map, refl, sym, ap}
+use Rattle.std.proofs.Common.{◌≡◌, ◌≢◌, ◌≤◌, Bool, true, false, cond, not, ◌&&◌, List, [], ◌∷◌, length, refl}
+use Rattle.std.proofs.Common.{sym, ap}
 use Rattle.std.proofs.Common.{subst, ◌∙◌, arith}
 use Rattle.std.proofs.lemmas.Bool.{false≢true, and_parts}
-use Rattle.std.specs.Prelude.{◌↔◌, IsTrue}
+use Rattle.std.specs.Prelude.{◌↔◌}
 use Rattle.overlay_geom.specs.Plane.{Point}
 use Rattle.overlay_geom.specs.Edges.{CountedEdge}
 use Rattle.overlay_plane.specs.Arrangements.{IsReachedBy}
@@ -21,6 +22,7 @@ use Rattle.overlay_simplify.specs.declared.outcome.Outcome.{Outcome}
 use Rattle.overlay_simplify.specs.declared.outcome.Outcome.TheVariants.{NotSimple, Empty, AsGiven, Reversed}
 use Rattle.overlay_simplify.proofs.AddedAlone.{whole_content}
 use Rattle.overlay_simplify.proofs.SimpleEdges.{three_points}
+use Rattle.std.proofs.lemmas.Bool.{not-true}
 
 -- a list of edges that is not empty has an edge
 pub some_held : {C : Type 0} (es : List (Carried C)) → length es ≢ 0 → edges_in es ≢ []
@@ -31,23 +33,19 @@ module _ (keep : Bool) (kind : PathKind) (kind_is : kind ≡ contour_kind keep) 
     (held es : List CountedEdge) (adds : AddsPath (contour_kind keep) (edge_for Subject) ps [] held)
     (leaves_out is_cut : Bool) (left_out : (leaves_out ≡ false) ↔ IsTakenAs kind ps ps)
     (cut : (is_cut ≡ false) ↔ IsReachedBy [] held es) where
-  isnt : (t : Bool) → not t ≡ true → t ≡ false
-  isnt true is = sym is
-  isnt false is = refl
-
   -- where all tests pass
   pub simple_where_whole : (not leaves_out && not is_cut) ≡ true → es ≢ [] → HasEachPointOnce ps →
       IsSimpleAsAdded keep ps es
   simple_where_whole whole some once =
       let parts = and_parts (not leaves_out) (not is_cut) whole in
       let taken : IsTakenAs (contour_kind keep) ps ps =
-      subst (λ k. IsTakenAs k ps ps) kind_is (left_out.0 (isnt leaves_out parts.0)) in
+      subst (λ k. IsTakenAs k ps ps) kind_is (left_out.0 (not-true leaves_out parts.0)) in
       record {
         none_left_out = taken;
         simple = record {
           points_once = once;
           none_cut = subst (λ fs. IsReachedBy [] fs es) (whole_content keep ps held adds taken)
-              (cut.0 (isnt is_cut parts.1));
+              (cut.0 (not-true is_cut parts.1));
           some_edge = some;
         };
       }

@@ -10,7 +10,7 @@ use Rattle.std.proofs.lemmas.List.{drop_all, drop-append-le, take-append-le, tak
 use Rattle.overlay_geom.specs.declared.point.IntPoint.{IntPoint}
 use Rattle.overlay_geom.specs.Points.{plain_point, plain_points}
 use Rattle.overlay_geom.specs.Flat.{no_range, range_within, part_in, paths_in, first_range, IsInside}
-use Rattle.overlay_simplify.proofs.ReversedContours.{mapped_reverse}
+use Rattle.overlay_geom.proofs.Mapped.{map-reverse}
 
 module _ {X : Type 0} where
   -- a list with others written over its items from one on
@@ -75,4 +75,4 @@ module _ {I A : Type 0} (whole : I → ℤ) (points : Vec (IntPoint I) A) where
       (with_items_is points new (long ∙ sym points.ok.0))
       ∙ ap (λ n. plain_points whole (slice_range new (range_within n r).start (range_within n r).end) ∷ []) long
       ∙ ap (λ xs. plain_points whole xs ∷ []) (read_back points.items ws w.start w.end begins size ∙ is)
-      ∙ ap (λ ps. ps ∷ []) (mapped_reverse (plain_point whole) part)
+      ∙ ap (λ ps. ps ∷ []) (map-reverse (plain_point whole) part)

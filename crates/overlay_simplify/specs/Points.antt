@@ -1,5 +1,5 @@
 -- Points of a contour that follow one another, and its leftmost lowest point.
-use Rattle.std.specs.Prelude.{◌≡◌, ℕ, Bool, true, false, not, ◌&&◌, List, [], ◌∷◌, Contains}
+use Rattle.std.specs.Prelude.{◌≡◌, Bool, true, false, not, ◌&&◌, List, [], ◌∷◌, Contains}
 use Rattle.overlay_geom.specs.Plane.{Point, point_eq, point_lt}
 
 -- each point of the list differs from the one before it, the first one from p

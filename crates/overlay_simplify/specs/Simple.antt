@@ -1,5 +1,5 @@
 -- Contours that are simple as they are added, and the direction in which they run.
-use Rattle.std.specs.Prelude.{◌≡◌, ◌≢◌, Bool, cond, List, [], map, Contains}
+use Rattle.std.specs.Prelude.{◌≡◌, ◌≢◌, cond, List, [], map, Contains}
 use Rattle.overlay_geom.specs.Plane.{Point, Step, is_forward, edge_of, steps_of}
 use Rattle.overlay_geom.specs.Edges.{CountedEdge, subject_edge}
 use Rattle.overlay_plane.specs.Arrangements.{IsReachedBy}

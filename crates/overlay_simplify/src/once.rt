@@ -7,6 +7,7 @@ ghost use Rattle.overlay_simplify.specs.Points.{all_next_differ};
 
 use overlay_geom::edge::compare_points;
 use overlay_geom::error::OverlayError;
+use overlay_geom::flat::copied;
 use overlay_geom::number::IntNumber;
 use overlay_geom::point::IntPoint;
 use std::alloc::Allocator;
@@ -22,19 +23,6 @@ pub fn has_each_point_once<I: IntNumber, A: Allocator>(
     let mut sorted = copied(alloc, points)?;
     sorted.sort_by(|p, q| compare_points(*p, *q))?;
     Ok(all_next_differ(&sorted))
-}
-
-// The points in a list of their own.
-pub(crate) fn copied<I: IntNumber, A: Allocator>(
-    alloc: A,
-    points: &[IntPoint<I>],
-) -> Result<Vec<IntPoint<I>, A>, OverlayError>
-    ensures ok { IfOk result (λ v. v.items ≡ points.now) }
-    ensures err { IsOkUnless result OverlayError.Memory }
-{
-    let mut copy = Vec::new(alloc);
-    copy.extend_from_slice(points)?;
-    Ok(copy)
 }
 
 // Whether each point differs from the one before it.

@@ -5,9 +5,9 @@ ghost use Rattle.overlay_geom.specs.Paths.{plain_shapes};
 ghost use Rattle.overlay_geom.specs.Points.{plain_points};
 ghost use Rattle.overlay_simplify.specs.Outcome.{shapes_left};
 
-use crate::once::copied;
 use crate::outcome::Outcome;
 use overlay_geom::error::OverlayError;
+use overlay_geom::flat::copied;
 use overlay_geom::number::IntNumber;
 use overlay_geom::path::{IntContour, IntShapes};
 use overlay_geom::point::IntPoint;

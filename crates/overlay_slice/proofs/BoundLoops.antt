@@ -28,6 +28,8 @@ use Rattle.overlay_slice.specs.FilledSides.{filled_sides}
 use Rattle.overlay_slice.specs.Loops.{AreLoops}
 use Rattle.overlay_slice.proofs.SideLists.{sides_listed, sides_walk_along}
 use Rattle.overlay_slice.proofs.SimpleLoops.{no_step_back}
+use Rattle.overlay_geom.proofs.Orders.{edge_eq-same}
+use Rattle.overlay_plane.proofs.WalksApart.{filled_above_of_all}
 
 -- ---- steps along one edge
 
@@ -57,14 +59,6 @@ one_way s t true p q same = let e = sym (by_edge s true p) ∙ same ∙ by_edge 
 one_way s t false p q same = let e = sym (by_edge s false p) ∙ same ∙ by_edge t false q in
     λ i. record { from = (e i).b; to = (e i).a }
 
--- edges with the same ends are one
-one_edge : (e f : Edge) → edge_eq e f ≡ true → e ≡ f
-one_edge e f same =
-    let both = and_parts (point_eq e.a f.a) (point_eq e.b f.b) same in
-    let first = point_eq-same e.a f.a both.0 in
-    let second = point_eq-same e.b f.b both.1 in
-    λ i. record { a = first i; b = second i }
-
 -- what is filled above goes one way
 one_side_up : (filled : Hand) (s t : Step) → is_filled_above filled s ≡ true → is_filled_above filled t ≡ true →
     is_forward s ≡ is_forward t
@@ -78,15 +72,6 @@ one_side_up right s t p q = by (is_forward s) (is_forward t) (p ∙ sym q)
     by false false e = refl
 
 -- ---- edges that are filled above
-
--- those of walks are those of all their steps
-filled_above_of_all : (filled : Hand) (walks : List (List Step)) →
-    all_filled_above filled walks ≡ filled_above_edges filled (all_steps walks)
-filled_above_of_all filled [] = refl
-filled_above_of_all filled (w ∷ ws) =
-    ap (λ es. filled_above_edges filled w ++ es) (filled_above_of_all filled ws)
-    ∙ sym (map-append edge_of (filter (is_filled_above filled) w) (filter (is_filled_above filled) (all_steps ws)))
-    ∙ ap (map edge_of) (sym (filter-append (is_filled_above filled) w (all_steps ws)))
 
 -- no two are equal where no step stands twice
 distinct_above_once : (filled : Hand) (walks : List (List Step)) → Each Differ (all_steps walks) →
@@ -105,7 +90,7 @@ distinct_above_once filled walks once = subst (AllPairs (λ e f. edge_eq e f ≡
         (equal_steps s t (one_way s t (is_forward t)
         (one_side_up filled s t (Contains-from_filter (is_filled_above filled) (all_steps walks) s c).1
         (Contains-from_filter (is_filled_above filled) (all_steps walks) t d).1) refl
-        (one_edge (edge_of s) (edge_of t) same))))
+        (edge_eq-same (edge_of s) (edge_of t) same))))
 
 -- ---- loops
 
@@ -119,7 +104,7 @@ each_edge_once loop simple = AllPairs-from_each (λ s t. edge_eq (edge_of s) (ed
     become s t c d differ = false_from_ne_true (edge_eq (edge_of s) (edge_of t)) (λ same. ⊎_elim
         (λ one. both_ways (step_eq s t) differ (equal_steps s t one))
         (λ back. no_step_back loop simple s c (subst (Contains loop) back d))
-        (one_or_back s t (one_edge (edge_of s) (edge_of t) same)))
+        (one_or_back s t (edge_eq-same (edge_of s) (edge_of t) same)))
 
 module _ (fills : ℤ → Bool) (count : CountedEdge → ℤ) (es : List CountedEdge)
     (arranged : IsBalancedArrangement count es) (loops : List (List Step))

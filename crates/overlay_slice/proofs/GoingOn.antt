@@ -10,7 +10,7 @@ use Rattle.overlay_plane.proofs.ItemsRound.{item_round-here}
 use Rattle.overlay_plane.proofs.OrbitSteps.{last_to_first}
 use Rattle.overlay_slice.specs.SlicingWalks.{GoesOnBy}
 use Rattle.overlay_slice.specs.TourOrder.{last_step, IsPartRound}
-use Rattle.overlay_slice.proofs.TurnedLoops.{backward-cons}
+use Rattle.overlay_plane.proofs.ChainWalks.{backward-first}
 
 -- ---- lists of steps
 
@@ -116,14 +116,14 @@ module _ (steps : List Step) (hand : Hand) where
 pub back_in_two : (s : Step) (ss : List Step) →
     backward (s ∷ ss) ≡ reversed_step (last_step s ss) ∷ backward (first_steps s ss)
 back_in_two s [] = refl
-back_in_two s (t ∷ ts) = backward-cons s (t ∷ ts) ∙ ap (λ zs. zs ++ reversed_step s ∷ []) (back_in_two t ts)
-    ∙ ap (λ zs. reversed_step (last_step t ts) ∷ zs) (sym (backward-cons s (first_steps t ts)))
+back_in_two s (t ∷ ts) = backward-first s (t ∷ ts) ∙ ap (λ zs. zs ++ reversed_step s ∷ []) (back_in_two t ts)
+    ∙ ap (λ zs. reversed_step (last_step t ts) ∷ zs) (sym (backward-first s (first_steps t ts)))
 
 -- and ends with the first one
 last_back : (s : Step) (ss : List Step) →
     last_step (reversed_step (last_step s ss)) (backward (first_steps s ss)) ≡ reversed_step s
 last_back s [] = refl
-last_back s (t ∷ ts) = ap (last_step (reversed_step (last_step t ts))) (backward-cons s (first_steps t ts))
+last_back s (t ∷ ts) = ap (last_step (reversed_step (last_step t ts))) (backward-first s (first_steps t ts))
     ∙ last_step-push (reversed_step (last_step t ts)) (backward (first_steps t ts)) (reversed_step s)
 
 module _ (steps backs : List Step) (hand other : Hand) (back : (s t : Step) → Contains steps s →
@@ -133,7 +133,7 @@ module _ (steps backs : List Step) (hand other : Hand) (back : (s t : Step) → 
       GoesOnBy backs other (reversed_step (last_step s ss)) (backward (first_steps s ss))
   goes_back s [] c h = tt
   goes_back s (t ∷ ts) c h = subst (GoesOnBy backs other (reversed_step (last_step t ts)))
-      (sym (backward-cons s (first_steps t ts)))
+      (sym (backward-first s (first_steps t ts)))
       (pushed backs other (reversed_step (last_step t ts)) (backward (first_steps t ts)) (reversed_step s)
       (goes_back t ts h.0.among h.1)
       (subst (λ u. IsNextStep backs other u (reversed_step s)) (sym (last_back t ts)) (back s t c h.0)))

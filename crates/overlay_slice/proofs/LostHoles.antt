@@ -33,7 +33,7 @@ use Rattle.overlay_plane.proofs.LongSteps.{long_leads_forward}
 use Rattle.overlay_plane.proofs.PlacesOfContours.{Contains-place, contour_at, known_at, free_from_none}
 use Rattle.overlay_plane.proofs.RegionBelow.{region_below_an_edge}
 use Rattle.overlay_plane.proofs.RisesRound.{some_positive}
-use Rattle.overlay_plane.proofs.RoledWalks.{some-same}
+use Rattle.std.proofs.lemmas.Option.{same_Some}
 use Rattle.overlay_plane.proofs.SelectedAlternate.{one_if_rises}
 use Rattle.overlay_plane.proofs.SelectedWindings.{along_edge, forward_above}
 use Rattle.overlay_plane.proofs.SplitLists.{filter-all}
@@ -195,7 +195,7 @@ module _ (fills : ℤ → Bool) (count : CountedEdge → ℤ) (es : List Counted
         slice_get contours i ≡ Some c → ¬ (c.role ≡ free_hole)
     never_lost i (nothing walk at_walk below) c at free =
         let own = contour_at contours i walk at_walk in
-        let same : c.steps ≡ walk = ap (λ (d : Contour). d.steps) (some-same c own.0 (sym at ∙ own.1)) ∙ own.2 in
+        let same : c.steps ≡ walk = ap (λ (d : Contour). d.steps) (same_Some c own.0 (sym at ∙ own.1)) ∙ own.2 in
         let anchored = subst (λ w. IsAnchor w below.anchor) (sym same) below.anchored in
         let here = Contains-place contours i c at in
         let some = some_below (walks_in contours) are c.steps (Contains-map (λ (d : Contour). d.steps) contours c here)

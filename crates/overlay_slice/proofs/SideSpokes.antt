@@ -17,96 +17,14 @@ use Rattle.overlay_plane.proofs.SingleEntries.{one_entry}
 use Rattle.overlay_plane.proofs.SpokeWindings.{not_start, forward_entry}
 use Rattle.overlay_plane.proofs.SpokeRays.{far_apart, spokes_apart}
 use Rattle.overlay_plane.proofs.RoundNodes.{one_winding_between_spokes}
+pub use Rattle.overlay_plane.proofs.NextWindings.{Arrives, Leaves, arrives, leaves, turned_back}
 
 module _ (count : CountedEdge → ℤ) (es : List CountedEdge) (arranged : IsBalancedArrangement count es) where
-  -- a step that arrives in v, as a spoke there
-  pub record Arrives (v : Point) (e : CountedEdge) (s : Step) : Type 0 where
-    pub spoke : IsSpoke es v e
-    pub far : far_end v e ≡ s.from
-    pub on_left : winding_on_side left count es e s ≡ winding_before count es v e
-    pub on_right : winding_on_side right count es e s ≡ winding_after count es v e
-
-  -- and one that leaves
-  pub record Leaves (v : Point) (e : CountedEdge) (s : Step) : Type 0 where
-    pub spoke : IsSpoke es v e
-    pub far : far_end v e ≡ s.to
-    pub on_left : winding_on_side left count es e s ≡ winding_after count es v e
-    pub on_right : winding_on_side right count es e s ≡ winding_before count es v e
-
-  -- two tests with one answer choose the same
-  choose : {b c : Bool} (x y : ℤ) (t : Bool) → b ≡ t → c ≡ t → cond b x y ≡ cond c x y
-  choose x y t p q = ap (λ z. cond z x y) (p ∙ sym q)
-
-  -- two with opposite answers choose the other way round
-  opposite : {b c : Bool} (x y : ℤ) → b ≡ true → c ≡ false → cond b x y ≡ cond c y x
-  opposite x y p q = ap (λ z. cond z x y) p ∙ sym (ap (λ z. cond z y x) q)
-
-  -- and likewise with the answers exchanged
-  opposite_too : {b c : Bool} (x y : ℤ) → b ≡ false → c ≡ true → cond b x y ≡ cond c y x
-  opposite_too x y p q = ap (λ z. cond z x y) p ∙ sym (ap (λ z. cond z y x) q)
-
   -- the ends of an entry are different points
   pub ends_apart : (e : CountedEdge) → Contains es e → ¬ (e.a ≡ e.b)
   ends_apart e at = ends_differ (ends_of e) (forward_entry count es arranged e at)
 
   module _ (v : Point) (e : CountedEdge) (s : Step) (along : IsStepAlong es e s) where
-    -- a step that arrives in v is a spoke there
-    pub arrives : s.to ≡ v → Arrives v e s
-    arrives ends = ⊎_elim forth back along.walks
-      where
-        forth : s ≡ record { from = e.a; to = e.b } → Arrives v e s
-        forth walk =
-            let same = sym (ap (λ (q : Step). q.to) walk) ∙ ends in
-            let first = point_eq-of_same e.a s.from (sym (ap (λ (q : Step). q.from) walk)) in
-            let other = not_start count es arranged v e along.entry same in record {
-              spoke = record { entry = along.entry; at = inr same };
-              far = ap (λ t. cond t e.b e.a) other ∙ sym (ap (λ (q : Step). q.from) walk);
-              on_left = opposite (winding_above count es e) (winding_below count es e) first other;
-              on_right = opposite (winding_below count es e) (winding_above count es e) first other;
-            }
-
-        back : s ≡ record { from = e.b; to = e.a } → Arrives v e s
-        back walk =
-            let same = sym (ap (λ (q : Step). q.to) walk) ∙ ends in
-            let first = point_eq-of_same e.a v same in
-            let other = not_start count es arranged s.from e along.entry (sym (ap (λ (q : Step). q.from) walk)) in
-            record {
-              spoke = record { entry = along.entry; at = inl same };
-              far = ap (λ t. cond t e.b e.a) first ∙ sym (ap (λ (q : Step). q.from) walk);
-              on_left = opposite_too (winding_above count es e) (winding_below count es e) other first;
-              on_right = opposite_too (winding_below count es e) (winding_above count es e) other first;
-            }
-
-    -- and so is one that leaves
-    pub leaves : s.from ≡ v → Leaves v e s
-    leaves starts = ⊎_elim forth back along.walks
-      where
-        forth : s ≡ record { from = e.a; to = e.b } → Leaves v e s
-        forth walk =
-            let at_from = sym (ap (λ (q : Step). q.from) walk) in
-            let same = at_from ∙ starts in
-            let first = point_eq-of_same e.a v same in record {
-              spoke = record { entry = along.entry; at = inl same };
-              far = ap (λ t. cond t e.b e.a) first ∙ sym (ap (λ (q : Step). q.to) walk);
-              on_left = choose (winding_above count es e) (winding_below count es e) true
-                  (point_eq-of_same e.a s.from at_from) first;
-              on_right = choose (winding_below count es e) (winding_above count es e) true
-                  (point_eq-of_same e.a s.from at_from) first;
-            }
-
-        back : s ≡ record { from = e.b; to = e.a } → Leaves v e s
-        back walk =
-            let at_from = sym (ap (λ (q : Step). q.from) walk) in
-            let same = at_from ∙ starts in
-            let other = not_start count es arranged v e along.entry same in record {
-              spoke = record { entry = along.entry; at = inr same };
-              far = ap (λ t. cond t e.b e.a) other ∙ sym (ap (λ (q : Step). q.to) walk);
-              on_left = choose (winding_above count es e) (winding_below count es e) false
-                  (not_start count es arranged s.from e along.entry at_from) other;
-              on_right = choose (winding_below count es e) (winding_above count es e) false
-                  (not_start count es arranged s.from e along.entry at_from) other;
-            }
-
     -- the step has a length
     pub long : ¬ (s.from ≡ s.to)
     long same = ⊎_elim (λ walk. ends_apart e along.entry (sym (ap (λ (q : Step). q.from) walk) ∙ same
@@ -124,10 +42,12 @@ module _ (count : CountedEdge → ℤ) (es : List CountedEdge) (arranged : IsBal
   -- the step back has by the other hand the side that the step has by the hand
   pub side_of_back : (e : CountedEdge) (s : Step) → IsStepAlong es e s → (hand : Hand) →
       winding_on_side (other_hand hand) count es e (reversed_step s) ≡ winding_on_side hand count es e s
-  side_of_back e s along left = (arrives s.from e (reversed_step s) (along_back s.from e s along) refl).on_right
-      ∙ sym (leaves s.from e s along refl).on_left
-  side_of_back e s along right = (arrives s.from e (reversed_step s) (along_back s.from e s along) refl).on_left
-      ∙ sym (leaves s.from e s along refl).on_right
+  side_of_back e s along left = (arrives count es arranged s.from e (reversed_step s) (along_back s.from e s along)
+      refl).on_right
+      ∙ sym (leaves count es arranged s.from e s along refl).on_left
+  side_of_back e s along right = (arrives count es arranged s.from e (reversed_step s) (along_back s.from e s along)
+      refl).on_left
+      ∙ sym (leaves count es arranged s.from e s along refl).on_right
 
   -- along a spoke there is a step that leaves
   pub step_leaving : (v : Point) (e : CountedEdge) → IsSpoke es v e →
@@ -147,48 +67,8 @@ module _ (count : CountedEdge → ℤ) (es : List CountedEdge) (arranged : IsBal
       ∙ ap (λ (q : Step). q.from) forth))))
       (λ back'. back ∙ sym back') along_t.walks) along_s.walks
 
-  module _ (v : Point) (e m f : CountedEdge) (spoke_e : IsSpoke es v e) (spoke_m : IsSpoke es v m)
-      (spoke_f : IsSpoke es v f) where
-    -- what a hand meets from f before e the other hand meets from e before f
-    pub turned_back : (hand : Hand) → IsMetBefore hand v (far_end v f) (far_end v m) (far_end v e) →
-        IsMetBefore (other_hand hand) v (far_end v e) (far_end v m) (far_end v f)
-    turned_back hand h = by (edge_eq (ends_of m) (ends_of f)) refl (edge_eq (ends_of m) (ends_of e)) refl
-        (edge_eq (ends_of e) (ends_of f)) refl
-      where
-        one : (x y : CountedEdge) → IsSpoke es v x → IsSpoke es v y → edge_eq (ends_of x) (ends_of y) ≡ true → x ≡ y
-        one x y sx sy same = one_entry es arranged.planar.distinct x y sx.entry sy.entry same
-
-        by : (i : Bool) → edge_eq (ends_of m) (ends_of f) ≡ i → (j : Bool) → edge_eq (ends_of m) (ends_of e) ≡ j →
-            (k : Bool) → edge_eq (ends_of e) (ends_of f) ≡ k →
-            IsMetBefore (other_hand hand) v (far_end v e) (far_end v m) (far_end v f)
-        by true mf j me k ef = absurd (false≢true (sym (start_is_last hand v (far_end v f) (far_end v e))
-            ∙ subst (λ (x : CountedEdge). IsMetBefore hand v (far_end v f) (far_end v x) (far_end v e))
-            (one m f spoke_m spoke_f mf) h))
-        by false mf true me k ef = absurd
-            (false≢true (sym (met_irreflexive hand v (far_end v f) (far_end v e))
-            ∙ subst (λ (x : CountedEdge). IsMetBefore hand v (far_end v f) (far_end v x) (far_end v e))
-            (one m e spoke_m spoke_e me) h))
-        by false mf false me true ef = subst (λ (x : CountedEdge). IsMetBefore (other_hand hand) v (far_end v e)
-            (far_end v m) (far_end v x)) (one e f spoke_e spoke_f ef)
-            (met_after (other_hand hand) v (far_end v e) (far_end v e) (far_end v m)
-            (far_apart count es arranged v e spoke_e)
-            (apart_exchanged v (far_end v m) (far_end v e)
-            (spokes_apart count es arranged v m e spoke_m spoke_e me))
-            (start_is_last (other_hand hand) v (far_end v e) (far_end v m)))
-        by false mf false me false ef =
-            let m_f = spokes_apart count es arranged v m f spoke_m spoke_f mf in
-            let m_e = spokes_apart count es arranged v m e spoke_m spoke_e me in
-            let e_f = spokes_apart count es arranged v e f spoke_e spoke_f ef in
-            met_shifted (other_hand hand) v (far_end v f) (far_end v e) (far_end v m)
-            (record {
-              one = apart_exchanged v (far_end v e) (far_end v f) e_f;
-              two = apart_exchanged v (far_end v m) (far_end v e) m_e;
-              three = m_f;
-            })
-            (met_by_other hand v (far_end v f) (far_end v m) (far_end v e)
-            (record { one = apart_exchanged v (far_end v m) (far_end v f) m_f; two = m_e; three = e_f }) h)
-
-  module _ (v : Point) (e f : CountedEdge) (s t : Step) (arriving : Arrives v e s) (leaving : Leaves v f t) where
+  module _ (v : Point) (e f : CountedEdge) (s t : Step) (arriving : Arrives count es arranged v e s)
+      (leaving : Leaves count es arranged v f t) where
     -- where the hand meets no spoke between them, the winding on its side is the same
     pub beside_both : (hand : Hand) → ((m : CountedEdge) → IsSpoke es v m →
         ¬ (IsMetBefore hand v (far_end v e) (far_end v m) (far_end v f))) →
@@ -196,7 +76,7 @@ module _ (count : CountedEdge → ℤ) (es : List CountedEdge) (arranged : IsBal
     beside_both left nothing = arriving.on_left
         ∙ sym (one_winding_between_spokes count es arranged v f e leaving.spoke arriving.spoke
         (λ m spoke h. absurd (nothing m spoke
-        (turned_back v e m f arriving.spoke spoke leaving.spoke right h))))
+        (turned_back count es arranged v e m f arriving.spoke spoke leaving.spoke right h))))
         ∙ sym leaving.on_left
     beside_both right nothing = arriving.on_right ∙ one_winding_between_spokes count es arranged v e f arriving.spoke
         leaving.spoke (λ m spoke h. absurd (nothing m spoke h)) ∙ sym leaving.on_right

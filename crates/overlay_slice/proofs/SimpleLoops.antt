@@ -33,6 +33,8 @@ use Rattle.overlay_slice.specs.Loops.{LoopsPassNoSideBothWays}
 use Rattle.overlay_slice.proofs.AlongSides.{along_an_orbit}
 use Rattle.overlay_slice.proofs.SideLists.{sides_listed, sides_walk_along, edge_of_along}
 use Rattle.overlay_slice.proofs.SideSpokes.{long, along_back, side_of_back}
+use Rattle.overlay_plane.proofs.BesideAcross.{one_held, none_held}
+use Rattle.overlay_plane.proofs.InsideOneGroup.{not_none}
 
 -- ---- a simple contour
 
@@ -94,23 +96,6 @@ pub contour_rises : (loop : List Step) → IsContour loop → (g : Point → ℤ
 contour_rises loop contour g = subst (λ ss. total (signed_rise g) ss ≡ pos 0) contour.whole
     (signed_rise-around g (points_of loop))
 
--- a step that stands once in a list is held once, and one that does not stand there is held 0 times
-pub held_once : (taken : List Step) → HasEachOnce taken → (s : Step) → Contains taken s → times_held taken s ≡ pos 1
-held_once taken once s c = single_step_total taken once (λ t. pos 1) s c
-
-pub held_nowhere : (taken : List Step) (s : Step) → ¬ (Contains taken s) → times_held taken s ≡ pos 0
-held_nowhere taken s none = total-zero (λ t. one_if (step_eq t s)) taken
-    (λ t c. ap one_if (false_from_ne_true (step_eq t s)
-    (λ same. none (subst (λ u. Contains taken u) (same_steps t s same) c))))
-
--- what is not none of a list stands in it
-not_none : (walk : List Step) (s : Step) → ¬ (¬ (Contains walk s)) → Contains walk s
-not_none walk s against = by (is_step_of walk s) refl
-  where
-    by : (t : Bool) → is_step_of walk s ≡ t → Contains walk s
-    by true e = (is_step_of_decides walk s).0 e
-    by false e = absurd (against (λ c. both_ways (is_step_of walk s) e ((is_step_of_decides walk s).1 c)))
-
 one_is_none : pos 1 ≡ pos 0 → ⊥
 one_is_none e = omega linear
 
@@ -171,4 +156,4 @@ loops_pass_no_side_both_ways fills count es arranged loop inside simple s both c
 
     held_there : times_held loop s ≡ times_held loop (reversed_step s) → Contains loop (reversed_step s)
     held_there same = not_none loop (reversed_step s) (λ none. one_is_none
-        (sym (held_once loop simple.contour.once s c) ∙ same ∙ held_nowhere loop (reversed_step s) none))
+        (sym (one_held loop simple.contour.once s c) ∙ same ∙ none_held loop (reversed_step s) none))

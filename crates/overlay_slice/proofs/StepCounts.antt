@@ -15,7 +15,7 @@ use Rattle.overlay_plane.specs.Regions.{one_if}
 use Rattle.overlay_plane.proofs.AtNodes.{equal_steps}
 use Rattle.overlay_plane.proofs.OrbitsApart.{is_step_of_decides}
 use Rattle.overlay_plane.proofs.ShuffledSteps.{parts_round}
-use Rattle.overlay_slice.proofs.SimpleLoops.{held_nowhere}
+use Rattle.overlay_plane.proofs.BesideAcross.{none_held}
 
 -- a step is held no negative number of times
 not_negative : (t : Bool) (n : ℤ) → pos 0 ≤ℤ n → pos 0 ≤ℤ (one_if t +ℤ n)
@@ -35,7 +35,7 @@ held_stands xs s more = by (is_step_of xs s) refl
 
     by : (t : Bool) → is_step_of xs s ≡ t → Contains xs s
     by true e = (is_step_of_decides xs s).0 e
-    by false e = none (held_nowhere xs s (λ c. both_ways (is_step_of xs s) e ((is_step_of_decides xs s).1 c)))
+    by false e = none (none_held xs s (λ c. both_ways (is_step_of xs s) e ((is_step_of_decides xs s).1 c)))
 
 -- the first step of a list is held once, and as often as in the rest
 first_held : (x : Step) (xs : List Step) → times_held (x ∷ xs) x ≡ pos 1 +ℤ times_held xs x

@@ -19,17 +19,14 @@ use Rattle.overlay_slice.specs.ClosedWalks.{LeadsTo, IsClosedWalk, HasLength, Is
 use Rattle.overlay_slice.specs.ClosedWalks.{turned_loop}
 use Rattle.overlay_slice.proofs.ClosedWalks.{leads-append, leads-parts, leads-push, closed_is_simple}
 use Rattle.overlay_slice.proofs.OrbitTours.{contour_closed}
+use Rattle.overlay_plane.proofs.ChainWalks.{backward-first}
 
 -- ---- the walk back
-
--- the walk back begins with the way back of the last step
-pub backward-cons : (s : Step) (ss : List Step) → backward (s ∷ ss) ≡ backward ss ++ reversed_step s ∷ []
-backward-cons s ss = reverse-append (reversed_step s ∷ []) (map reversed_step ss)
 
 -- it leads back
 pub leads_back : (p q : Point) (ss : List Step) → LeadsTo p ss q → LeadsTo q (backward ss) p
 leads_back p q [] h = sym h
-leads_back p q (s ∷ ss) h = subst (λ ts. LeadsTo q ts p) (sym (backward-cons s ss))
+leads_back p q (s ∷ ss) h = subst (λ ts. LeadsTo q ts p) (sym (backward-first s ss))
     (subst (LeadsTo q (backward ss ++ reversed_step s ∷ [])) h.0
     (leads-push q (backward ss) (reversed_step s) (leads_back s.to q ss h.1)))
 

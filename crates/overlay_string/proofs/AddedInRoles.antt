@@ -67,7 +67,8 @@ module _ (role : PathRole) (kind : PathKind) (pass : StepCounts ShapeCountString
       subst (λ p. (λ (s : Step). alone (carried p s)) ≡ edge_in role) (sym pass_is) (λ i s. edge_of_role role s i)
 
   -- a path that was added
-  pub path_added : (ps : List Point) (old new : List (Carried ShapeCountString)) → AddsPath kind (carried pass) ps old new
+  pub path_added : (ps : List Point) (old new : List (Carried ShapeCountString)) → AddsPath kind (carried pass) ps old
+      new
       → AddsOne (path_in role ps) (edges_in old) (edges_in new)
   path_added ps old new h =
       subst (λ f. AddsPath (kind_in role) f ps (edges_in old) (edges_in new)) edges_alone

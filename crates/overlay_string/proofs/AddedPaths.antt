@@ -1,9 +1,8 @@
 -- One path that is added to a builder for strings, or refused, and what several leave of it.
-use Rattle.std.proofs.Common.{◌≡◌, ◌↔◌, ◌^◌, ◌<◌, ◌⊎◌, inl, inr, Bool, true, List, refl, ap, is_err, ◌∙◌}
+use Rattle.std.proofs.Common.{◌≡◌, ◌↔◌, ◌^◌, ◌<◌, ◌⊎◌, inl, inr, Bool, true, refl, ap, is_err}
 use Rattle.std.proofs.lemmas.Bool.{false≢true}
-use Rattle.std.specs.Prelude.{Result, Ok, Err, OnOk, OnErr, IsErrOf}
+use Rattle.std.specs.Prelude.{Ok, Err, IsErrOf}
 use Rattle.overlay_geom.specs.Edges.{CountedEdge, weight}
-use Rattle.overlay_geom.specs.Plane.{Point}
 use Rattle.overlay_geom.specs.declared.error.OverlayError.{OverlayError}
 use Rattle.overlay_geom.specs.declared.error.OverlayError.TheVariants.{Memory, NotSettled, TooManyEdges, Failed}
 use Rattle.overlay_plane.specs.Carried.{Carried, edges_in}

@@ -35,7 +35,8 @@ piece_is_long : (e : CountedEdge) → point_lt e.a e.b ≡ true → (s : Step) �
     ¬ (s.from ≡ s.to)
 piece_is_long e forward s c =
     elim (Contains-append_cases (cond (goes_along e) (along ∷ []) []) (cond (goes_against e) (against ∷ []) []) s c) [
-      | inl here ↦ λ same. apart (ap (λ (t : Step). t.from) (alone_in along s (kept_in (goes_along e) (along ∷ []) s here))
+      | inl here ↦ λ same. apart (ap (λ (t : Step). t.from)
+          (alone_in along s (kept_in (goes_along e) (along ∷ []) s here))
           ∙ same ∙ sym (ap (λ (t : Step). t.to) (alone_in along s (kept_in (goes_along e) (along ∷ []) s here))))
       | inr there ↦ λ same. apart (ap (λ (t : Step). t.to)
           (alone_in against s (kept_in (goes_against e) (against ∷ []) s there))
@@ -71,7 +72,8 @@ each_piece_is_clipped_once fill es inside outside forward in_paths out_paths =
     IsPermutation-trans (string_pieces es) (kept_inside ++ (kept_outside ++ boundary))
     (steps_of_paths inside ++ (steps_of_paths outside ++ boundary))
     (pieces_parted fill es)
-    (IsPermutation-trans (kept_inside ++ (kept_outside ++ boundary)) (steps_of_paths inside ++ (kept_outside ++ boundary))
+    (IsPermutation-trans (kept_inside ++ (kept_outside ++ boundary))
+    (steps_of_paths inside ++ (kept_outside ++ boundary))
     (steps_of_paths inside ++ (steps_of_paths outside ++ boundary))
     (IsPermutation-append_left (kept_outside ++ boundary) kept_inside (steps_of_paths inside)
     (paths_take_each_piece_once fill inside_alone es inside forward in_paths))

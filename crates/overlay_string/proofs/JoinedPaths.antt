@@ -1,5 +1,5 @@
 -- The paths that walks along open pieces make.
-use Rattle.std.proofs.Common.{◌≡◌, ◌+◌, ◌<◌, Bool, true, false, List, [], ◌∷◌, ◌++◌, length, map, refl, sym, ap, ap₂}
+use Rattle.std.proofs.Common.{◌≡◌, ◌+◌, ◌<◌, true, false, List, [], ◌∷◌, ◌++◌, length, map, refl, sym, ap, ap₂}
 use Rattle.std.proofs.Common.{◌∙◌}
 use Rattle.std.proofs.Common.{subst, arith, ◌≤◌}
 use Rattle.std.specs.Prelude.{reverse}
@@ -13,13 +13,6 @@ use Rattle.overlay_string.specs.ClipPaths.AreClipPaths.{done, next}
 use Rattle.overlay_string.specs.Pieces.{GoesOn, IsShownPath, IsTakenFirst}
 use Rattle.overlay_string.specs.declared.piece.Way.TheVariants.{Onward, Back}
 use Rattle.overlay_string.proofs.WalksOn.{arrivals, no_more_left}
-
--- what each item of a list is mapped to, in the list reversed
-pub reversed_map : {X Y : Type 0} (f : X → Y) (xs : List X) → map f (reverse xs) ≡ reverse (map f xs)
-reversed_map f [] = refl
-reversed_map f (x ∷ xs) = ap (map f) (reverse-append (x ∷ []) xs) ∙ map-append f (reverse xs) (x ∷ [])
-    ∙ ap (λ ys. ys ++ f x ∷ []) (reversed_map f xs)
-    ∙ sym (reverse-append (f x ∷ []) (map f xs))
 
 -- a list reversed behind its first item
 last_first : {X : Type 0} (x : X) (xs ys : List X) → reverse (x ∷ xs) ++ ys ≡ reverse xs ++ x ∷ ys

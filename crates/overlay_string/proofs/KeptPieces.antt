@@ -1,13 +1,13 @@
 -- The pieces that the bits of filled sides tell of are those that the clip keeps.
-use Rattle.std.proofs.Common.{◌≡◌, ℤ, Bool, cond, List, [], ◌∷◌, ◌++◌, map, refl, sym, ap, ap₂, ◌∙◌, subst}
+use Rattle.std.proofs.Common.{◌≡◌, ℤ, cond, List, [], ◌∷◌, ◌++◌, map, refl, sym, ap, ap₂, ◌∙◌}
 use Rattle.std.specs.List.{flat_map}
 use Rattle.overlay_geom.specs.Edges.{CountedEdge}
 use Rattle.overlay_geom.specs.Plane.{Step}
-use Rattle.overlay_plane.specs.Carried.{Carried, edges_in}
+use Rattle.overlay_plane.specs.Carried.{edges_in}
 use Rattle.overlay_plane.proofs.Entries.{flat_map-same}
 use Rattle.overlay_arrange.specs.Counts.{has_bit, string_counts}
 use Rattle.overlay_arrange.specs.Graphs.{carried_vector, carried_vectors}
-use Rattle.overlay_arrange.specs.Rules.{fills_of, fill_bits}
+use Rattle.overlay_arrange.specs.Rules.{fills_of}
 use Rattle.overlay_arrange.specs.Vectors.{Vector, plain_vector, vector_of}
 use Rattle.overlay_arrange.specs.declared.fill_rule.FillRule.{FillRule}
 use Rattle.overlay_arrange.specs.declared.string_count.ShapeCountString.{ShapeCountString}

@@ -4,7 +4,8 @@ use Rattle.std.proofs.Common.{subst, ◌∙◌}
 use Rattle.std.specs.List.Sorted.{IsPermutation}
 use Rattle.std.proofs.lemmas.List.{append_assoc, map-append}
 use Rattle.std.proofs.lemmas.List.Elements.{Contains-append_left, Contains-append_right}
-use Rattle.std.proofs.lemmas.List.Sorted.{IsPermutation-refl, IsPermutation-trans, IsPermutation-sym, IsPermutation-cons}
+use Rattle.std.proofs.lemmas.List.Sorted.{IsPermutation-refl, IsPermutation-trans, IsPermutation-sym}
+use Rattle.std.proofs.lemmas.List.Sorted.{IsPermutation-cons}
 use Rattle.std.proofs.lemmas.List.Sorted.{IsPermutation-append_left, IsPermutation-append_right, IsPermutation-middle}
 use Rattle.std.proofs.lemmas.List.Sorted.{IsPermutation-map, IsPermutation-reverse, Contains-permutation}
 use Rattle.overlay_geom.specs.Plane.{Point, Step, point_eq, reversed_step, backward, steps_between, steps_through}
@@ -18,6 +19,7 @@ use Rattle.overlay_string.specs.ClipPaths.IsWalkFrom.{stop, go}
 use Rattle.overlay_string.specs.ClipPaths.IsPathOf.{begun, ended}
 use Rattle.overlay_string.specs.ClipPaths.AreClipPaths.{done, next}
 use Rattle.overlay_string.specs.Laws.{steps_of_paths}
+use Rattle.overlay_slice.proofs.TurnedLoops.{again}
 
 -- ---- each piece once
 
@@ -36,21 +38,16 @@ walked_once v open_pieces walk rest (go {left} {walk = ws} {s} taken h) =
     IsPermutation-trans open_pieces (s ∷ left) (s ∷ (ws ++ rest)) (taken_once v open_pieces s left taken)
     (IsPermutation-cons s left (ws ++ rest) (walked_once s.to left ws rest h))
 
--- steps turned back twice
-turned_twice : (ss : List Step) → map reversed_step (map reversed_step ss) ≡ ss
-turned_twice [] = refl
-turned_twice (s ∷ ss) = ap (λ ts. s ∷ ts) (turned_twice ss)
-
 -- a walk among the pieces turned back, and what it leaves
 walked_back_once : (v : Point) (open_pieces walk rest : List Step) →
     IsWalkFrom v (map reversed_step open_pieces) walk (map reversed_step rest) →
     IsPermutation open_pieces (backward walk ++ rest)
 walked_back_once v open_pieces walk rest h =
     IsPermutation-trans open_pieces (map reversed_step walk ++ rest) (backward walk ++ rest)
-    (subst (λ l. IsPermutation l (map reversed_step walk ++ rest)) (turned_twice open_pieces)
+    (subst (λ l. IsPermutation l (map reversed_step walk ++ rest)) (again open_pieces)
     (subst (λ l. IsPermutation (map reversed_step (map reversed_step open_pieces)) l)
     (map-append reversed_step walk (map reversed_step rest)
-    ∙ ap (λ l. map reversed_step walk ++ l) (turned_twice rest))
+    ∙ ap (λ l. map reversed_step walk ++ l) (again rest))
     (IsPermutation-map reversed_step (map reversed_step open_pieces) (walk ++ map reversed_step rest)
     (walked_once v (map reversed_step open_pieces) walk (map reversed_step rest) h))))
     (IsPermutation-append_left rest (map reversed_step walk) (backward walk)

@@ -1,10 +1,8 @@
 -- A view shows the edges that its builder holds; there is none exactly where there is no edge.
-use Rattle.std.proofs.Common.{◌≡◌, ℕ, Bool, true, false, ◌==◌, List, [], ◌∷◌, length, map, is_err, sym, ap, subst, ◌∙◌}
-use Rattle.std.proofs.Math.Dec.{eqb-suc-zero}
+use Rattle.std.proofs.Common.{◌≡◌, ℕ, true, false, List, [], is_err, sym, ap, subst}
 use Rattle.std.proofs.lemmas.Bool.{false≢true}
 use Rattle.std.specs.Prelude.{◌≢◌, Ok, Option}
 use Rattle.overlay_geom.specs.Edges.{CountedEdge}
-use Rattle.overlay_plane.specs.Carried.{Carried, edges_in}
 use Rattle.overlay_arrange.specs.Arranged.{IsArranged}
 use Rattle.overlay_arrange.specs.Graphs.{Graph, graph_edges}
 use Rattle.overlay_arrange.specs.declared.fill_rule.FillRule.{FillRule}
@@ -12,21 +10,6 @@ use Rattle.overlay_builder.specs.Held.{AnswersQuery, shown_edges}
 use Rattle.overlay_builder.proofs.Queries.{answers_after}
 use Rattle.overlay_string.specs.StringBuilder.{StringBuilder, held_by}
 use Rattle.overlay_string.specs.StringViews.{IsStringView, EndsStringView}
-
--- a list of edges that have been read has one exactly where as many were read
-pub some_read : {X C : Type 0} (carried : X → Carried C) (read : List X) (es : List (Carried C)) → map carried read ≡ es
-    → (length read == 0) ≡ false → edges_in es ≢ []
-some_read carried [] es are none = λ _. false≢true (sym none)
-some_read carried (x ∷ read) es are some = λ none. false≢true (ap is_none (sym (ap edges_in are ∙ none)))
-  where
-    is_none : List CountedEdge → Bool
-    is_none [] = false
-    is_none (e ∷ es) = true
-
-pub none_read : {X C : Type 0} (carried : X → Carried C) (read : List X) (es : List (Carried C)) → map carried read ≡ es
-    → (length read == 0) ≡ true → edges_in es ≡ []
-none_read carried [] es are none = sym (ap edges_in are)
-none_read carried (x ∷ read) es are some = absurd (false≢true (sym (eqb-suc-zero (length read)) ∙ some))
 
 module _ {C U : Type 0} (limit most : ℕ) (old new : StringBuilder U) (seen : Graph C)
     (first : AnswersQuery limit most (held_by old) (held_by new) (Ok seen)) (same : graph_edges seen ≡ new.edges) where

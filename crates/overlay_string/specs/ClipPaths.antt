@@ -1,6 +1,6 @@
 -- The paths that pieces of strings are joined to. The pieces stand in the order of their edges, of one edge the piece
 -- from its smaller end first.
-use Rattle.std.specs.Prelude.{◌≡◌, ◌≢◌, ℕ, true, false, List, [], ◌∷◌, ◌++◌, map, All, Result, OnOk, IfOk, IfErr}
+use Rattle.std.specs.Prelude.{◌≡◌, ◌≢◌, ℕ, true, false, List, [], ◌∷◌, ◌++◌, map, All}
 use Rattle.overlay_geom.specs.Edges.{CountedEdge, ends_of}
 use Rattle.overlay_geom.specs.Plane.{Point, Step, is_forward, reversed_step, backward}
 use Rattle.overlay_plane.specs.EdgeLists.{IsForwardBy}

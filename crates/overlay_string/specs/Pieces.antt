@@ -49,7 +49,8 @@ pub record GoesOn (way : Way) (v : Point) (old new : List Step) (path longer : L
 -- the pieces along a graph's edge, if the bits of its filled sides are those of an edge that the rule keeps
 abbrev pub pieces_by_bits : {I : Type 0} → (I → ℤ) → ClipRule → DataVectorEdge I ShapeCountString → List Step
 pieces_by_bits whole rule v =
-    cond (keeps_sides rule (has_bit v.fill 0) (has_bit v.fill 1)) (string_steps (carried_vector whole string_counts v).edge)
+    cond (keeps_sides rule (has_bit v.fill 0) (has_bit v.fill 1))
+    (string_steps (carried_vector whole string_counts v).edge)
     []
 
 -- the points are those of the path of the first open piece; what was open behind it before, and what is afterwards

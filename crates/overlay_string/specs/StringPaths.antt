@@ -6,7 +6,7 @@ use Rattle.overlay_geom.specs.Points.{plain_points}
 use Rattle.overlay_geom.specs.declared.point.IntPoint.{IntPoint}
 use Rattle.overlay_arrange.specs.Content.{edge_with}
 use Rattle.overlay_arrange.specs.declared.string_count.ShapeCountString.{ShapeCountString}
-use Rattle.overlay_builder.specs.PathLists.{AddedPath, path_as, paths_as}
+use Rattle.overlay_builder.specs.PathLists.{AddedPath, path_as}
 use Rattle.overlay_builder.specs.declared.path.PathKind.{PathKind}
 use Rattle.overlay_builder.specs.declared.path.PathKind.TheVariants.{Open, Closed, Thinned}
 use Rattle.overlay_builder.specs.declared.path.StepCounts.{StepCounts}

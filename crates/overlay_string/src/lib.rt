@@ -1,7 +1,6 @@
 //! Strings, which are open or closed lines, over a shape.
 #![tactic(auto)]
 
-mod balanced_graph;
 mod by_start;
 pub mod clip;
 pub mod clip_rule;

@@ -5,9 +5,10 @@ ghost use Rattle.overlay_geom.specs.Paths.{plain_shapes};
 ghost use Rattle.overlay_arrange.specs.Graphs.{graph_edges};
 ghost use Rattle.overlay_string.specs.StringSlices.{IsSlicedBy, IsSlicedWhole};
 
-use crate::balanced_graph::BalancedGraph;
 use crate::string_rule::StringRule;
 use overlay_arrange::options::IntOverlayOptions;
+use overlay_arrange::string_count::ShapeCountString;
+use overlay_builder::balanced_graph::BalancedGraph;
 use overlay_geom::error::OverlayError;
 use overlay_geom::integer::OverlayInt;
 use overlay_geom::path::IntShapes;
@@ -19,7 +20,7 @@ use std::alloc::Allocator;
 /// wanted. An extraction that is refused leaves it as it was.
 #[derive(Drop)]
 pub struct StringGraph<'a, I: OverlayInt, A: Allocator> {
-    pub(crate) graph: &'a BalancedGraph<I, A>,
+    pub(crate) graph: &'a BalancedGraph<I, ShapeCountString, A>,
 }
 
 impl<I: OverlayInt, A: Allocator + Clone> StringGraph<'_, I, A> {

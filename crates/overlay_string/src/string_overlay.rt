@@ -1,7 +1,7 @@
 //! The builder for strings: it holds a shape, and strings that lie over it.
 
-use crate::balanced_graph::BalancedGraph;
 use overlay_arrange::string_count::ShapeCountString;
+use overlay_builder::balanced_graph::BalancedGraph;
 use overlay_builder::builder_core::BuilderCore;
 use overlay_geom::integer::OverlayInt;
 use std::alloc::Allocator;
@@ -27,7 +27,7 @@ pub struct StringOverlay<I: OverlayInt, A: Allocator> {
     // the edges, and whether a query was refused
     core: BuilderCore<I, ShapeCountString, A>,
     // what the last view shows; no answer reads it
-    viewed: Option<BalancedGraph<I, A>>,
+    viewed: Option<BalancedGraph<I, ShapeCountString, A>>,
 }
 
 impl<I: OverlayInt, A: Allocator> Model for StringOverlay<I, A> {

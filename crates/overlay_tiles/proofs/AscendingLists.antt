@@ -28,7 +28,8 @@ push_ascending zs z up below i j d lt within = by (cases_lt j (length zs))
         (sym (get_or_push zs z d j last)) (below i d (omega arith))
 
 -- what stands at two places of an ascending list is in order where the places are
-in_order : (zs : List ℤ) → IsAscending zs → (i j : ℕ) (y z : ℤ) → i < length zs → get_or zs i y ≡ y → get_or zs j z ≡ z →
+in_order : (zs : List ℤ) → IsAscending zs → (i j : ℕ) (y z : ℤ) → i < length zs → get_or zs i y ≡ y →
+    get_or zs j z ≡ z →
     y <ℤ z → i < j
 in_order zs up i j y z within at_y at_z less = by (cases_lt i j)
   where
@@ -54,7 +55,8 @@ module _ (xs ys : List ℤ) (xs_up : IsAscending xs) (ys_up : IsAscending ys) (w
   no_earlier (suc i) lt = on (no_earlier i (omega arith))
     where
       on : ((k : ℕ) × (k < length ys) × (get_or ys k (get_or xs i (pos 0)) ≡ get_or xs i (pos 0)) × (i ≤ k)) →
-          (k : ℕ) × (k < length ys) × (get_or ys k (get_or xs (suc i) (pos 0)) ≡ get_or xs (suc i) (pos 0)) × (suc i ≤ k)
+          (k : ℕ) × (k < length ys) × (get_or ys k (get_or xs (suc i) (pos 0)) ≡ get_or xs (suc i) (pos 0)) × (suc
+          i ≤ k)
       on (k, inside, at, so_far) = further (within (suc i) (pos 0) lt)
         where
           further : Contains ys (get_or xs (suc i) (pos 0)) →

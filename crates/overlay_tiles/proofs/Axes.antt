@@ -91,7 +91,8 @@ module _ (v u m t : Point) where
       (λ level_t again e. first_by_part (part_of_turn left v u m) (part_of_turn left v u t)
       (turn left v m t) (omega arith))
 
-module _ (axis : Axis) (v u m t : Point) (on_line : across axis m ≡ across axis v) (ahead : along axis v <ℤ along axis m)
+module _ (axis : Axis) (v u m t : Point) (on_line : across axis m ≡ across axis v)
+    (ahead : along axis v <ℤ along axis m)
     (beyond : IsBeyond axis v u) (behind : IsBehind axis v t) where
   -- there is no way across to m
   none_across : far axis v m ≡ pos 0

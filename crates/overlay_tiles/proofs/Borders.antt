@@ -1,5 +1,5 @@
--- Where a line ends at the border of all edges, nothing winds between a side that lies beyond the line, or behind on it,
--- and the first one behind the line that a ray meets from there, turning by the left hand.
+-- Where a line ends at the border of all edges, nothing winds between a side that lies beyond the line, or behind on
+-- it, and the first one behind the line that a ray meets from there, turning by the left hand.
 use lib.IntN.{*ℤ_comm}
 use Rattle.std.proofs.Common.{◌≡◌, inl, inr, ⊎_elim, Bool, true, false, cond, ◌&&◌, ℤ, pos, ◌+ℤ◌, ◌-ℤ◌, ◌*ℤ◌}
 use Rattle.std.proofs.Common.{◌<ℤ◌, ◌≤ℤ◌, int_lt, int_le, List, Contains, sym, ap, ap₂, ◌∙◌, subst, arith}

@@ -2,7 +2,8 @@
 use Rattle.std.proofs.Common.{◌≡◌, Bool, true, false, cond, ℤ, ◌≤ℤ◌, int_lt, List, [], ◌∷◌, ◌++◌, map, All, refl, sym}
 use Rattle.std.proofs.Common.{subst₂, ap₂}
 use Rattle.std.proofs.lemmas.List.{map-append}
-use Rattle.std.proofs.lemmas.List.Elements.{All-nil, All-push, All-weaker, All-contains, Contains-push, Contains-append_left}
+use Rattle.std.proofs.lemmas.List.Elements.{All-nil, All-push, All-weaker, All-contains, Contains-push}
+use Rattle.std.proofs.lemmas.List.Elements.{Contains-append_left}
 use Rattle.overlay_geom.specs.Plane.{Point}
 use Rattle.overlay_geom.proofs.Signs.{linear}
 use Rattle.overlay_plane.proofs.Tests.{lt_from_test, ge_from_test}

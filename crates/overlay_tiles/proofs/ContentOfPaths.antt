@@ -1,12 +1,13 @@
 -- The edges that the paths of a shape and open strings give: what all points have both ends of each have, it leads
 -- forward, and a line between two points gives one with a mark.
-use Rattle.std.proofs.Common.{◌≡◌, ◌⊎◌, inl, inr, ⊎_elim, Bool, true, false, cond, List, [], ◌∷◌, ◌++◌, Contains, map, refl}
-use Rattle.std.proofs.Common.{sym, ap, ◌∙◌, subst}
+use Rattle.std.proofs.Common.{◌≡◌, ◌⊎◌, ⊎_elim, true, false, cond, List, [], ◌∷◌, Contains, map}
+use Rattle.std.proofs.Common.{sym, ap, subst}
 use Rattle.std.specs.List.{All}
 use Rattle.std.proofs.lemmas.Bool.{both_ways, false_from_ne_true}
-use Rattle.std.proofs.lemmas.List.Elements.{All-nil, All-cons, All-head, All-tail, All-append, All-map, All-weaker}
+use Rattle.std.proofs.lemmas.List.Elements.{All-nil, All-head, All-tail, All-append, All-map, All-weaker}
 use Rattle.std.proofs.lemmas.List.Elements.{Contains-append_left, Contains-append_right}
-use Rattle.overlay_geom.specs.Plane.{Point, Step, Edge, point_lt, point_eq, edge_of, is_forward, steps_of, path_steps, steps_between}
+use Rattle.overlay_geom.specs.Plane.{Point, Step, point_lt, point_eq, steps_of, path_steps}
+use Rattle.overlay_geom.specs.Plane.{steps_between}
 use Rattle.overlay_geom.specs.Edges.{CountedEdge, ends_of, subject_edge}
 use Rattle.overlay_geom.proofs.Orders.{point_eq-same, point_lt-itself}
 use Rattle.overlay_plane.proofs.EdgesOfSteps.{edge_by}
@@ -49,7 +50,8 @@ module _ (P : Point → Type 0) where
   }
 
   contours_keep : (paths : List (List Point)) → All (All P) paths → All KeepsGood (shape_contours paths)
-  contours_keep paths all = All-map KeepsGood shape_contour paths (All-weaker (All P) (λ ps. KeepsGood (shape_contour ps))
+  contours_keep paths all = All-map KeepsGood shape_contour paths
+      (All-weaker (All P) (λ ps. KeepsGood (shape_contour ps))
       contour_keeps paths all)
 
   strings_keep : (paths : List (List Point)) → All (All P) paths → All KeepsGood (open_strings paths)

@@ -1,5 +1,5 @@
 -- The points of paths, and lines across their box, lie in the box, and so do the edges that they give.
-use Rattle.std.proofs.Common.{ℤ, ◌<ℤ◌, ◌≤ℤ◌, List, [], ◌∷◌, ◌++◌, map, sym, subst}
+use Rattle.std.proofs.Common.{ℤ, ◌≤ℤ◌, List, [], ◌∷◌, map, sym, subst}
 use Rattle.std.specs.List.{All}
 use Rattle.std.proofs.lemmas.List.Elements.{All-nil, All-cons, All-head, All-tail, All-append, All-map, All-weaker}
 use Rattle.overlay_geom.specs.Plane.{Point}
@@ -38,9 +38,17 @@ module _ (wide high : ℤ) (b : Bounds) (lines : List (List Point)) (across : Ar
       let low = at.above in
       let high = at.below in
       All-cons (IsInBounds b) (record { x = x; y = b.y.least }) (record { x = x; y = b.y.greatest } ∷ [])
-      (record { x = record { low = omega linear; high = omega linear }; y = record { low = omega linear; high = y_order } })
+      (record {
+        x = record { low = omega linear; high = omega linear };
+        y =
+            record { low = omega linear; high = y_order };
+      })
       (All-cons (IsInBounds b) (record { x = x; y = b.y.greatest }) []
-      (record { x = record { low = omega linear; high = omega linear }; y = record { low = y_order; high = omega linear } })
+      (record {
+        x = record { low = omega linear; high = omega linear };
+        y =
+            record { low = y_order; high = omega linear };
+      })
       (All-nil (IsInBounds b)))
 
   level_in_bounds : (y : ℤ) → IsGridPlace high b.y y → All (IsInBounds b) (level b y)
@@ -48,9 +56,17 @@ module _ (wide high : ℤ) (b : Bounds) (lines : List (List Point)) (across : Ar
       let low = at.above in
       let high = at.below in
       All-cons (IsInBounds b) (record { x = b.x.least; y = y }) (record { x = b.x.greatest; y = y } ∷ [])
-      (record { x = record { low = omega linear; high = x_order }; y = record { low = omega linear; high = omega linear } })
+      (record {
+        x = record { low = omega linear; high = x_order };
+        y =
+            record { low = omega linear; high = omega linear };
+      })
       (All-cons (IsInBounds b) (record { x = b.x.greatest; y = y }) []
-      (record { x = record { low = x_order; high = omega linear }; y = record { low = omega linear; high = omega linear } })
+      (record {
+        x = record { low = x_order; high = omega linear };
+        y =
+            record { low = omega linear; high = omega linear };
+      })
       (All-nil (IsInBounds b)))
 
   pub lines_in_bounds : All (All (IsInBounds b)) lines
@@ -64,7 +80,8 @@ module _ (wide high : ℤ) (b : Bounds) (lines : List (List Point)) (across : Ar
       across.at_ys.each)))
 
 -- edges whose ends lie in the box
-pub good_in_box : (b : Bounds) (es : List CountedEdge) → All (λ e. IsGoodEdge (IsInBounds b) (ends_of e)) es → AreInBox b es
+pub good_in_box : (b : Bounds) (es : List CountedEdge) → All (λ e. IsGoodEdge (IsInBounds b) (ends_of e)) es →
+    AreInBox b es
 good_in_box b es good = record {
   low_x = All-weaker (λ e. IsGoodEdge (IsInBounds b) (ends_of e)) (IsEdgeInHalf (right_of b.x.least))
       (λ e h. (h.start.x.low, h.end.x.low)) es good;

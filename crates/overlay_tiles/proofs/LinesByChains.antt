@@ -76,10 +76,11 @@ begun axis z d p r (s ∷ ss) (on_to {q = q} rest) apart at = record {
   over = by_lt_z z (along axis q *ℤ d) (λ less. inl (omega linear, omega linear)) (λ ge. inr (ge, omega linear));
 }
 
--- where an edge along the line, from one place to another, has become a chain of which each step runs along an edge, these
--- cover what lies between the places
+-- where an edge along the line, from one place to another, has become a chain of which each step runs along an edge,
+-- these cover what lies between the places
 module _ (axis : Axis) (c : ℤ) (old new : List CountedEdge) (rounds : List Round) (are : AreRounds old rounds)
-    (e : CountedEdge) (from : across axis e.a ≡ c) (to : across axis e.b ≡ c) (apart : ¬ (along axis e.a ≡ along axis e.b))
+    (e : CountedEdge) (from : across axis e.a ≡ c) (to : across axis e.b ≡ c)
+    (apart : ¬ (along axis e.a ≡ along axis e.b))
     (leads : Leads e.a (chain_through rounds e) e.b)
     (marked : (t : Step) → Contains (chain_through rounds e) t → IsMarkedStep new e t) where
   abbrev chain : List Step
@@ -138,6 +139,8 @@ module _ (axis : Axis) (c : ℤ) (old new : List CountedEdge) (rounds : List Rou
           between false = ⊎_elim (λ up. inr up) (λ down. inl down) found.over
 
   -- so edges are over each place between the first and the last one
-  pub over_each : (z d : ℤ) → pos 0 <ℤ d → IsBetween z (along axis e.a *ℤ d) (along axis e.b *ℤ d) → IsOver axis c new z d
-  over_each z d some between = ⊎_elim (λ at. over_step z d (begun axis z d e.a e.b chain leads apart at)) (over_step z d)
+  pub over_each : (z d : ℤ) → pos 0 <ℤ d → IsBetween z (along axis e.a *ℤ d) (along axis e.b *ℤ d) →
+      IsOver axis c new z d
+  over_each z d some between = ⊎_elim (λ at. over_step z d (begun axis z d e.a e.b chain leads apart at))
+      (over_step z d)
       (passed axis z d e.a e.b chain leads between)

@@ -51,8 +51,10 @@ module _ (axis : Axis) (c : ℤ) (es : List CountedEdge) (settled : IsSettled es
         ¬ (along axis v ≡ along axis g.b) → ⊥
     not_inside g at from to over not_a not_b =
         ⊎_elim (λ here. not_a (whole_along axis g.a v here)) (λ here. not_b (whole_along axis g.b v here))
-        (settled g e at is_spoke.entry (false_from_ne_true (edge_eq (ends_of g) (ends_of e)) other) (in_plane v)
-        (on_along axis c (ends_of g) (in_plane v) from to (whole_across axis v c level) (placed axis (in_units over)), on_its_edge)).0
+        (settled g e at is_spoke.entry (false_from_ne_true (edge_eq (ends_of g) (ends_of e)) other) (in_plane v) (
+          on_along axis c (ends_of g) (in_plane v) from to (whole_across axis v c level) (placed axis (in_units over)),
+          on_its_edge,
+        )).0
       where
         placed : (x : Axis) → IsBetween (along x v) (along x g.a *ℤ pos 1) (along x g.b *ℤ pos 1) →
             IsBetween (plane_along x (in_plane v)) (along x g.a *ℤ pos 1) (along x g.b *ℤ pos 1)

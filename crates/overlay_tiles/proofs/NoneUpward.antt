@@ -6,7 +6,8 @@ use Rattle.std.proofs.lemmas.Bool.{and_parts}
 use Rattle.overlay_geom.specs.Plane.{Point, Step, midpoint, is_strictly_below, side}
 use Rattle.overlay_geom.specs.Edges.{CountedEdge, ends_of, winding_below}
 use Rattle.overlay_geom.proofs.Identities.{solve, number, ◌⊕◌, ◌⊗◌, ◌⊖◌, ◌≗◌}
-use Rattle.overlay_geom.proofs.PointOrder.{IsBefore, IsUpTo, by_order, before_after_up_to, before_up_to, up_to_itself, not_before_up_to}
+use Rattle.overlay_geom.proofs.PointOrder.{IsBefore, IsUpTo, by_order, before_after_up_to, before_up_to, up_to_itself}
+use Rattle.overlay_geom.proofs.PointOrder.{not_before_up_to}
 use Rattle.overlay_geom.proofs.PointOrder.{before_unless_same}
 use Rattle.overlay_geom.proofs.Signs.{linear}
 use Rattle.overlay_plane.specs.Nodes.{IsBalancedArrangement}
@@ -33,7 +34,8 @@ module _ (fills : ℤ → Bool) (none_filled : fills (pos 0) ≡ false) (count :
         (filled : (s : Step) → Contains steps s → IsFilled fills none_filled count es arranged s) where
       -- so each step of an orbit ends beyond where the orbit begins
       ends_beyond : (k : ℕ) → IsBefore (step_round walk 0).from (step_round walk k).to
-      ends_beyond zero = leads_forward (step_round walk 0) (filled (step_round walk 0) (step_inside steps left walk orbit 0))
+      ends_beyond zero = leads_forward (step_round walk 0)
+          (filled (step_round walk 0) (step_inside steps left walk orbit 0))
       ends_beyond (suc k) =
           let next = goes_on_round steps left walk orbit k in
           before_after_up_to (step_round walk 0).from (step_round walk k).to (step_round walk (suc k)).to
@@ -50,7 +52,8 @@ module _ (fills : ℤ → Bool) (none_filled : fills (pos 0) ≡ false) (count :
           by zero e = let some = orbit.some in omega arith
           by (suc k) e =
               let next = goes_on_round steps left walk orbit k in
-              let again : step_round walk (suc k) ≡ step_round walk 0 = subst (λ n. step_round walk n ≡ step_round walk 0) e
+              let again : step_round walk (suc k) ≡ step_round walk 0 =
+              subst (λ n. step_round walk n ≡ step_round walk 0) e
               (item_round-whole walk no_step) in
               let ends = ends_beyond k in
               let same : (step_round walk 0).from ≡ (step_round walk k).to = ap (λ (s : Step). s.from) (sym again)
@@ -69,7 +72,8 @@ module _ (fills : ℤ → Bool) (none_filled : fills (pos 0) ≡ false) (count :
           let over = lt_from_test (pos 0) (side (ends_of m) (midpoint (ends_of e))) parts.1 in
           let at_m = level m in_es in
           let at_e = level e at in
-          let flat : side (ends_of m) (midpoint (ends_of e)) ≡ pos 0 = flat_side m.a.x m.b.x (e.a.x +ℤ e.b.x) h m.a.y m.b.y
+          let flat : side (ends_of m) (midpoint (ends_of e)) ≡ pos 0 = flat_side m.a.x m.b.x (e.a.x +ℤ e.b.x) h m.a.y
+          m.b.y
           e.a.y e.b.y at_m.0 at_m.1 at_e.0 at_e.1 in
           absurd (omega linear)
         where

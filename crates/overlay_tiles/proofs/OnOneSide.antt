@@ -35,11 +35,14 @@ module _ (axis : Axis) (c : ℤ) where
         (λ more. absurd (not (record { from = from; to = to; ahead = λ a b. absurd (omega linear) }))) (λ le. le),
   )
 
-  -- along an orbit of steps from each of which that stays beyond the line the hand leads to another one, all do, or none
+  -- along an orbit of steps from each of which that stays beyond the line the hand leads to another one, all do, or
+  -- none
   module _ (steps : List Step) (hand : Hand)
       (next : (s t : Step) → Contains steps s → IsNextStep steps hand s t → StaysBeyond axis c s → StaysBeyond axis c t)
     where
-      pub along_orbit : (walk : List Step) → IsOrbit steps hand walk → (s t : Step) → Contains walk s → Contains walk t →
+      pub along_orbit : (walk : List Step) → IsOrbit steps hand walk → (s t : Step) → Contains walk s →
+          Contains walk t →
           StaysBeyond axis c s → StaysBeyond axis c t
-      along_orbit walk orbit s t at_s at_t stays = all_round steps hand walk orbit (StaysBeyond axis c) next s t at_s at_t
+      along_orbit walk orbit s t at_s at_t stays = all_round steps hand walk orbit (StaysBeyond axis c) next s t at_s
+          at_t
           stays

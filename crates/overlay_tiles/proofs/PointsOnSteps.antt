@@ -1,5 +1,6 @@
 -- What holds of the points of a list holds of the steps through them, and the other way round.
-use Rattle.std.proofs.Common.{◌≡◌, suc, take, drop, Bool, true, false, cond, List, [], ◌∷◌, ◌++◌, Contains, refl, sym, ◌∙◌, subst}
+use Rattle.std.proofs.Common.{◌≡◌, suc, take, drop, Bool, true, false, cond, List, [], ◌∷◌, ◌++◌, Contains, refl, sym}
+use Rattle.std.proofs.Common.{◌∙◌, subst}
 use Rattle.std.specs.List.{All}
 use Rattle.std.proofs.lemmas.Bool.{false≢true}
 use Rattle.std.proofs.lemmas.List.Elements.{All-nil, All-cons, All-head, All-tail, All-append, All-take, All-drop}

@@ -64,7 +64,8 @@ module _ (w : ℤ) (some : pos 0 <ℤ w) where
     side_of m = by_lt_z s.least (m *ℤ w)
         (λ above. by_lt_z (m *ℤ w) s.greatest
         (λ below. sides (m *ℤ w) (record { multiple = m; is = refl; above = above; below = below }))
-        (λ ge. inr (All-weaker (λ y. IsIn s (f y)) (λ y. f y ≤ℤ (m *ℤ w)) (λ y here. let high = here.high in omega linear)
+        (λ ge. inr (All-weaker (λ y. IsIn s (f y)) (λ y. f y ≤ℤ (m *ℤ w))
+        (λ y here. let high = here.high in omega linear)
         (x ∷ xs) within)))
         (λ le. inl (All-weaker (λ y. IsIn s (f y)) (λ y. (m *ℤ w) ≤ℤ f y) (λ y here. let low = here.low in omega linear)
         (x ∷ xs) within))
@@ -89,7 +90,8 @@ module _ (w : ℤ) (some : pos 0 <ℤ w) where
         m = (floor (f x)).multiple
 
         -- where all lie up to the next multiple
-        upper : All (λ y. f y ≤ℤ ((m +ℤ pos 1) *ℤ w)) (x ∷ xs) → (m : ℤ) × All (λ y. IsInStrip w m (f y) (pos 1)) (x ∷ xs)
+        upper : All (λ y. f y ≤ℤ ((m +ℤ pos 1) *ℤ w)) (x ∷ xs) → (m : ℤ) × All (λ y. IsInStrip w m (f y) (pos 1))
+            (x ∷ xs)
         upper below = ⊎_elim (λ above. (m, in_strip m above below)) (λ on_it. lower on_it (side_of (m -ℤ pos 1)))
             (side_of m)
           where

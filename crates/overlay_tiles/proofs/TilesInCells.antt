@@ -1,21 +1,22 @@
 -- Tiles: each contour lies in one cell, and no filled side along a line of the grid is missing.
-use Rattle.std.proofs.Common.{◌≡◌, ◌⊎◌, inl, inr, ⊎_elim, Bool, true, false, cond, ℤ, pos, neg_ℤ, ◌<ℤ◌, ◌≤ℤ◌, List, [], ◌∷◌, ◌++◌}
-use Rattle.std.proofs.Common.{Contains, map, flat_map, refl, sym, ap, ◌∙◌, subst}
+use Rattle.std.proofs.Common.{◌≡◌, ◌⊎◌, inl, inr, ⊎_elim, Bool, true, false, ℤ, pos, neg_ℤ, ◌<ℤ◌, ◌≤ℤ◌, List, []}
+use Rattle.std.proofs.Common.{◌∷◌}
+use Rattle.std.proofs.Common.{Contains, map, flat_map, refl, sym, ◌∙◌, subst}
 use Rattle.std.specs.List.{All}
 use Rattle.std.specs.Int.{Width}
 use Rattle.std.proofs.lemmas.Bool.{false≢true}
 use Rattle.std.proofs.lemmas.Int.{by_lt_z}
-use Rattle.std.proofs.lemmas.List.Elements.{All-nil, All-cons, All-head, All-tail, All-append, All-map, All-weaker}
+use Rattle.std.proofs.lemmas.List.Elements.{All-nil, All-weaker}
 use Rattle.std.proofs.lemmas.List.Elements.{All-contains, Contains-append_left, Contains-append_right}
-use Rattle.overlay_geom.specs.Plane.{Point, Edge, Step, point_lt, reversed_step, steps_of}
-use Rattle.overlay_geom.specs.Edges.{CountedEdge, ends_of, subj_of}
+use Rattle.overlay_geom.specs.Plane.{Point, Step, point_lt, reversed_step, steps_of}
+use Rattle.overlay_geom.specs.Edges.{CountedEdge, subj_of}
 use Rattle.overlay_geom.proofs.PointOrder.{Decides-point_lt}
 use Rattle.overlay_geom.proofs.Signs.{linear}
 use Rattle.overlay_plane.specs.HalfPlanes.{IsEdgeInHalf}
 use Rattle.overlay_plane.specs.HalfPlanes.HalfPlane.{left_of, right_of, below, above}
 use Rattle.overlay_plane.specs.Turn.{IsNextStep, IsOrbit}
 use Rattle.overlay_plane.specs.Turn.Hand.{left}
-use Rattle.overlay_plane.proofs.Entries.{all_of_entries, All-first, All-rest, Contains-map, Contains-flat_map}
+use Rattle.overlay_plane.proofs.Entries.{all_of_entries, Contains-map, Contains-flat_map}
 use Rattle.overlay_plane.proofs.LaterEntries.{Contains-cases}
 use Rattle.overlay_plane.proofs.OrbitsApart.{is_step_of_decides}
 use Rattle.overlay_plane.specs.Orbits.{is_step_of}
@@ -32,10 +33,10 @@ use Rattle.overlay_slice.proofs.SideLists.{filled_sides_of_edges}
 use Rattle.overlay_string.specs.OneShot.{shape_and_strings}
 use Rattle.overlay_string.specs.StringSlices.{AreSlicedOfPaths, IsSlicedWhole}
 use Rattle.overlay_tiles.specs.Cells.{LieInOneCell, RunsAlongGrid}
-use Rattle.overlay_tiles.specs.Grids.{IsGridPlace, AreGridPlaces, AreLinesAcross, AreGridLines, upright, level}
-use Rattle.overlay_tiles.specs.Spans.{Span, Bounds, IsIn, IsSpanOf, IsBoxOf, points_of_paths}
+use Rattle.overlay_tiles.specs.Grids.{IsGridPlace, AreLinesAcross, AreGridLines, upright, level}
+use Rattle.overlay_tiles.specs.Spans.{Span, Bounds, IsIn, IsBoxOf, points_of_paths}
 use Rattle.overlay_tiles.specs.Tiles.{AreTiles}
-use Rattle.overlay_tiles.proofs.Axes.{Axis, of_uprights, of_levels}
+use Rattle.overlay_tiles.proofs.Axes.{of_uprights, of_levels}
 use Rattle.overlay_tiles.proofs.Boxes.{one_span}
 use Rattle.overlay_tiles.proofs.ContentOfPaths.{IsGood, content_good, line_edge}
 use Rattle.overlay_tiles.proofs.CoveredByGrid.{AreInBox, stay_in_box, upright_covered, level_covered}
@@ -106,7 +107,8 @@ module _ (width : Width) (fill : FillRule) (wide high : ℤ) (some_wide : pos 0 
       in_shape in record {
         step = some.0;
         among = some.1;
-        are_sides = λ s c. All-contains (Contains sides) (left_steps_of_shapes CounterClockwise result) s sliced.are_sides
+        are_sides = λ s c. All-contains (Contains sides) (left_steps_of_shapes CounterClockwise result) s
+            sliced.are_sides
             (Contains-flat_map (flat_map (left_steps CounterClockwise)) result shape s at
             (Contains-flat_map (left_steps CounterClockwise) shape ps s in_shape c));
         share = λ s t c d. let is = one s t c d in
@@ -115,7 +117,8 @@ module _ (width : Width) (fill : FillRule) (wide high : ℤ) (some_wide : pos 0 
 
   -- ---- the box
 
-  module _ (b : Bounds) (in_paths : All (IsInBounds b) (points_of_paths paths)) (in_lines : All (All (IsInBounds b)) lines)
+  module _ (b : Bounds) (in_paths : All (IsInBounds b) (points_of_paths paths))
+      (in_lines : All (All (IsInBounds b)) lines)
     where
       good : All (IsGood (IsInBounds b)) are.content
       good = content_good (IsInBounds b) paths lines are.content are.holds (of_each_path (IsInBounds b) paths in_paths)
@@ -155,7 +158,8 @@ module _ (width : Width) (fill : FillRule) (wide high : ℤ) (some_wide : pos 0 
           let f = filled s c in
           let low = All-contains (IsEdgeInHalf (right_of b.x.least)) es f.edge in_box.low_x f.along_it.entry in
           let high = All-contains (IsEdgeInHalf (left_of b.x.greatest)) es f.edge in_box.high_x f.along_it.entry in
-          ⊎_elim (λ both. both) (λ both. both) (of_both (is_filled fill) (none_filled fill) subj_of es sliced.balanced s f
+          ⊎_elim (λ both. both) (λ both. both)
+          (of_both (is_filled fill) (none_filled fill) subj_of es sliced.balanced s f
           (λ p. IsIn b.x p.x) (λ p. IsIn b.x p.x)
           (inl (record { low = low.0; high = high.0 }, record { low = low.1; high = high.1 })))
 
@@ -164,7 +168,8 @@ module _ (width : Width) (fill : FillRule) (wide high : ℤ) (some_wide : pos 0 
           let f = filled s c in
           let low = All-contains (IsEdgeInHalf (above b.y.least)) es f.edge in_box.low_y f.along_it.entry in
           let high = All-contains (IsEdgeInHalf (below b.y.greatest)) es f.edge in_box.high_y f.along_it.entry in
-          ⊎_elim (λ both. both) (λ both. both) (of_both (is_filled fill) (none_filled fill) subj_of es sliced.balanced s f
+          ⊎_elim (λ both. both) (λ both. both)
+          (of_both (is_filled fill) (none_filled fill) subj_of es sliced.balanced s f
           (λ p. IsIn b.y p.y) (λ p. IsIn b.y p.y)
           (inl (record { low = low.0; high = high.0 }, record { low = low.1; high = high.1 })))
 
@@ -184,7 +189,8 @@ module _ (width : Width) (fill : FillRule) (wide high : ℤ) (some_wide : pos 0 
         covered_upright : (c : ℤ) → IsGridPlace wide b.x c → b.y.least <ℤ b.y.greatest →
             IsCovered of_uprights c es (neg_ℤ b.y.greatest) (neg_ℤ b.y.least)
         covered_upright c at some = upright_covered b are.sliced.arranged.rounds are.content es
-            are.sliced.arranged.reached forward are.sliced.arranged.chains.keep_ends (good_in_box b are.content good) c some
+            are.sliced.arranged.reached forward are.sliced.arranged.chains.keep_ends (good_in_box b are.content good) c
+            some
             (line_edge paths lines are.content are.holds (record { x = c; y = b.y.least })
             (record { x = c; y = b.y.greatest }) (upright_line c at)
             ((Decides-point_lt (record { x = c; y = b.y.least }) (record { x = c; y = b.y.greatest })).1
@@ -193,7 +199,8 @@ module _ (width : Width) (fill : FillRule) (wide high : ℤ) (some_wide : pos 0 
         covered_level : (c : ℤ) → IsGridPlace high b.y c → b.x.least <ℤ b.x.greatest →
             IsCovered of_levels c es b.x.least b.x.greatest
         covered_level c at some = level_covered b are.sliced.arranged.rounds are.content es
-            are.sliced.arranged.reached forward are.sliced.arranged.chains.keep_ends (good_in_box b are.content good) c some
+            are.sliced.arranged.reached forward are.sliced.arranged.chains.keep_ends (good_in_box b are.content good) c
+            some
             (line_edge paths lines are.content are.holds (record { x = b.x.least; y = c })
             (record { x = b.x.greatest; y = c }) (level_line c at)
             ((Decides-point_lt (record { x = b.x.least; y = c }) (record { x = b.x.greatest; y = c })).1
@@ -205,8 +212,10 @@ module _ (width : Width) (fill : FillRule) (wide high : ℤ) (some_wide : pos 0 
         beside_upright ps tile c at = by_lt_z b.y.least b.y.greatest
             (λ some. ⊎_elim (λ beyond. inl (of_points (λ q. c ≤ℤ q.x) ps tile.step tile.among beyond))
             (λ before. inr (of_points (λ q. q.x ≤ℤ c) ps tile.step tile.among before))
-            (on_one_side (is_filled fill) (none_filled fill) subj_of es sliced.balanced sides filled first_met of_uprights
-            c (neg_ℤ b.y.greatest) (neg_ℤ b.y.least) (covered_upright c at some) (steps_of ps) tile.are_sides tile.share))
+            (on_one_side (is_filled fill) (none_filled fill) subj_of es sliced.balanced sides filled first_met
+            of_uprights
+            c (neg_ℤ b.y.greatest) (neg_ℤ b.y.least) (covered_upright c at some) (steps_of ps) tile.are_sides
+            tile.share))
             (λ flat. let shared = tile.share tile.step tile.step tile.among tile.among in
             absurd (no_orbit_level flat shared.walk shared.orbit))
 
@@ -236,12 +245,14 @@ module _ (width : Width) (fill : FillRule) (wide high : ℤ) (some_wide : pos 0 
         not_both_ways : (s : Step) → Contains sides s → RunsAlongGrid wide high b s →
             ¬ (IsInOneOrbit sides s (reversed_step s))
         not_both_ways s c (inl (at, to)) is = by_lt_z b.y.least b.y.greatest
-            (λ some. parted (is_filled fill) (none_filled fill) subj_of es sliced.balanced sides filled first_met of_uprights
+            (λ some. parted (is_filled fill) (none_filled fill) subj_of es sliced.balanced sides filled first_met
+            of_uprights
             s.from.x (neg_ℤ b.y.greatest) (neg_ℤ b.y.least) (covered_upright s.from.x at some) s c refl to
             (record { walk = is.walk; orbit = is.orbit; has_one = is.has_one; has_other = is.has_other }))
             (λ flat. no_orbit_level flat is.walk is.orbit)
         not_both_ways s c (inr (at, to)) is = by_lt_z b.x.least b.x.greatest
-            (λ some. parted (is_filled fill) (none_filled fill) subj_of es sliced.balanced sides filled first_met of_levels
+            (λ some. parted (is_filled fill) (none_filled fill) subj_of es sliced.balanced sides filled first_met
+            of_levels
             s.from.y b.x.least b.x.greatest (covered_level s.from.y at some) s c refl to
             (record { walk = is.walk; orbit = is.orbit; has_one = is.has_one; has_other = is.has_other }))
             (λ flat. no_orbit_upright flat is.walk is.orbit)

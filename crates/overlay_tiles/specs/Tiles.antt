@@ -15,7 +15,8 @@ use Rattle.overlay_tiles.specs.Cells.{LieInOneCell, RunsAlongGrid}
 use Rattle.overlay_tiles.specs.Grids.{AreGridLines}
 use Rattle.overlay_tiles.specs.Spans.{Bounds, IsBoxOf, points_of_paths}
 
--- the shapes are those into which the lines of a grid, of cells of this width and height, slice the shape of these paths
+-- the shapes are those into which the lines of a grid, of cells of this width and height, slice the shape of these
+-- paths
 pub record AreTiles (width : Width) (fill : FillRule) (wide high : ℤ) (paths : List (List Point))
     (result : List (List (List Point))) : Type 0 where
   pub lines : List (List Point)

@@ -11,7 +11,8 @@ use Rattle.overlay_geom.specs.Plane.{Edge}
 use Rattle.overlay_geom.specs.declared.point.IntPoint.{IntPoint}
 use Rattle.overlay_scan.specs.Lists.{plain_entries, PassBefore, IsInRange, is_lower}
 use Rattle.overlay_scan.specs.Scan.{Entry, live_at, moved_to, MayMoveTo, IsOver, IsAsked, AreLive, IsSweep, IsPutIn}
-use Rattle.overlay_scan.specs.Scan.{MeetsOthers, IsNewAmong, value_or, value_below, value_up_to, AnswersRise, IsAnsweredBy, IsCallableOn}
+use Rattle.overlay_scan.specs.Scan.{MeetsOthers, IsNewAmong, value_or, value_below, value_up_to, AnswersRise}
+use Rattle.overlay_scan.specs.Scan.{IsAnsweredBy, IsCallableOn}
 use Rattle.overlay_scan.proofs.Answered.{pass_before}
 use Rattle.overlay_scan.proofs.Moving.{sweep_after_move, live_in_range}
 use Rattle.overlay_scan.proofs.Prefixes.{filter_is_prefix}

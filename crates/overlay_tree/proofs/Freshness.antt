@@ -11,9 +11,10 @@ use Rattle.overlay_tree.specs.Descents.{alone}
 use Rattle.overlay_tree.specs.Forests.{first_of, IsChain, IsForest, IsFresh}
 use Rattle.overlay_tree.specs.Trees.{Tree, Leaf, Fork, items, AreDistinct, AreKeptBut, IsIn, Stands, IsTreeAt}
 use Rattle.overlay_tree.proofs.Distinct.{AreApart}
-use Rattle.overlay_tree.proofs.Rotations.{place_of, value_of}
+use Rattle.overlay_tree.proofs.Rotations.{place_of}
 use Rattle.overlay_tree.proofs.Settling.{still_chained}
 use Rattle.overlay_tree.proofs.Standing.{get_set_same, get_set_other, set_one, still_stands, all_inside}
+use Rattle.std.proofs.lemmas.Option.{same_Some}
 
 -- ---- one more element
 
@@ -103,7 +104,8 @@ module _ {I V : Type 0} (es : List (LiveEdge I V)) (ls : List Links) (root free 
         by [] e chain = absurd (subst (λ o. MatchOption o ⊥ (λ _. Unit {0})) e tt)
         by (k ∷ us) e chain =
             let same : i.place ≡ k = ap place_of e in
-            let links_is : links ≡ chain.0.0 = ap (value_of links) (sym read ∙ ap (slice_get ls) same ∙ chain.0.1) in
+            let links_is : links ≡ chain.0.0 = same_Some links chain.0.0
+            (sym read ∙ ap (slice_get ls) same ∙ chain.0.1) in
             (us, ap (λ n. n ∷ us) (sym same), ap (λ n. n.left) links_is ∙ chain.0.2)
 
     abbrev rest : List ℕ

@@ -1,5 +1,6 @@
 -- The top of a tree is read on the way down, and the way goes on on one of its sides.
-use Rattle.std.proofs.Common.{◌≡◌, Bool, true, false, not, ◌+◌, ◌<◌, ◌≤◌, ℤ, int_lt, List, length, slice_get, Option, Some}
+use Rattle.std.proofs.Common.{◌≡◌, true, ◌+◌, ◌<◌, ◌≤◌, ℤ, int_lt, List, length, slice_get, Option}
+use Rattle.std.proofs.Common.{Some}
 use Rattle.std.proofs.Common.{refl, sym, ap, subst, ◌∙◌, arith}
 use Rattle.overlay_geom.specs.declared.point.IntPoint.{IntPoint}
 use Rattle.overlay_scan.specs.Scan.{IsCallableOn}
@@ -15,14 +16,6 @@ use Rattle.overlay_tree.proofs.Replaced.{stored}
 use Rattle.overlay_tree.proofs.Rotations.{IsOpened, opened}
 use Rattle.overlay_tree.proofs.Settling.{tree_at_is}
 use Rattle.overlay_tree.proofs.Standing.{height_on}
-
-pub false_if_not : (b : Bool) → not b ≡ true → b ≡ false
-false_if_not true is = sym is
-false_if_not false is = refl
-
-pub true_if_not : (b : Bool) → not b ≡ false → b ≡ true
-true_if_not true is = refl
-true_if_not false is = sym is
 
 -- a tree may be gone down from links that are the same
 pub same_links : (ls new : List Links) (root put : Option NodeIndex) (i : NodeIndex) (t : Tree) → new ≡ ls → root ≡

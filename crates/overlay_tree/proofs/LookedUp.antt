@@ -42,7 +42,8 @@ entries_of xs (i ∷ is) inside =
 as_many_entries : {X : Type 0} (xs : List X) (ls : List Links) (root : Option NodeIndex) (t : Tree) →
     IsTreeAt ls root t → length xs ≡ length ls →
     length (filter_map (slice_get xs) (items (tree_at ls root))) ≡ length (items t)
-as_many_entries xs ls root t at enough = ap (λ u. length (filter_map (slice_get xs) (items u))) (tree_at_is ls t root at)
+as_many_entries xs ls root t at enough = ap (λ u. length (filter_map (slice_get xs) (items u)))
+    (tree_at_is ls t root at)
     ∙ entries_of xs (items t) (λ k in_t. let inside = all_inside ls t at.stands k in_t in omega arith)
 
 -- a look-up puts in no node

@@ -5,7 +5,8 @@ use Rattle.std.specs.List.{All, filter_map, cons_option, last_or}
 use Rattle.std.specs.Option.{option_map}
 use Rattle.std.proofs.lemmas.Bool.{false_from_ne_true, false≢true}
 use Rattle.std.proofs.lemmas.List.{map-append}
-use Rattle.std.proofs.lemmas.List.Elements.{All-append, All-cons, All-head, All-weaker, filter-append, filter_map-append}
+use Rattle.std.proofs.lemmas.List.Elements.{All-append, All-cons, All-head, All-weaker, filter-append}
+use Rattle.std.proofs.lemmas.List.Elements.{filter_map-append}
 use Rattle.std.proofs.lemmas.List.Elements.{All-nil}
 use Rattle.std.proofs.lemmas.List.Kept.{AllPairs-cons}
 use Rattle.overlay_geom.proofs.Merging.{AllPairs-head, AllPairs-tail}

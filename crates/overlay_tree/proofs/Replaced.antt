@@ -16,7 +16,8 @@ use Rattle.overlay_tree.proofs.Distinct.{distinct_apart}
 use Rattle.overlay_tree.proofs.Distinct.{distinct_joined}
 use Rattle.overlay_tree.proofs.Standing.{kept_more, kept_twice, still_stands, parts_apart, height_on, in_top}
 use Rattle.overlay_tree.proofs.Standing.{all_inside}
-use Rattle.overlay_tree.proofs.Rotations.{IsOpened, opened, value_of, far_balanced, sides_differ}
+use Rattle.overlay_tree.proofs.Rotations.{IsOpened, opened, far_balanced, sides_differ}
+use Rattle.std.proofs.lemmas.Option.{same_Some}
 
 -- the top stores the height
 pub stored : (ls : List Links) (t : Tree) (root : Option NodeIndex) → root ≡ root_of t → Stands ls t →
@@ -243,7 +244,8 @@ module _ {ls between : List Links} {i : ℕ} {l r : Tree} {root left rest : Opti
                 (λ in_r. in_right k (items l) (i ∷ items r) (inr in_r))
                 (in_either k (items l) (items r) (subst (IsIn k) (sym joined_same) there))));
           };
-          near = settled_near (height r) (height l) (height others) (height settled.tree) (max (height l) (height r) + 1)
+          near = settled_near (height r) (height l) (height others) (height settled.tree)
+              (max (height l) (height r) + 1)
               (differ.1, differ.0) by (omega arith) low high level;
         }
 
@@ -252,7 +254,7 @@ module _ {ls between : List Links} {i : ℕ} {l r : Tree} {root left rest : Opti
 module _ {ls : List Links} {i : NodeIndex} {l r : Tree} {links : Links} (at : IsTreeAt ls (Some i) (Fork l i.place r))
     (read : slice_get ls i.place ≡ Some links) where
   links_are : links ≡ record { left = root_of l; right = root_of r; height = height (Fork l i.place r) }
-  links_are = ap (value_of links) (sym read ∙ at.stands.0)
+  links_are = same_Some links _ (sym read ∙ at.stands.0)
 
   pub left_is : links.left ≡ root_of l
   left_is = ap (λ n. n.left) links_are

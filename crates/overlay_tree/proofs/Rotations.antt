@@ -15,12 +15,9 @@ use Rattle.overlay_tree.specs.Trees.{IsTooHigh}
 use Rattle.overlay_tree.proofs.Distinct.{AreApart}
 use Rattle.overlay_tree.proofs.Standing.{kept_more, kept_twice, still_stands, in_near, in_far, in_top, parts_apart}
 use Rattle.overlay_tree.proofs.Standing.{height_on}
+use Rattle.std.proofs.lemmas.Option.{same_Some}
 
 -- ---- the top of a tree is read
-
-abbrev pub value_of : {X : Type 0} → X → Option X → X
-value_of x None = x
-value_of x (Some y) = y
 
 abbrev pub place_of : Option NodeIndex → ℕ
 place_of None = 0
@@ -42,7 +39,7 @@ pub opened : (ls : List Links) (side : Side) (j : NodeIndex) (top : Links) (t : 
 opened ls side j top Leaf is at read = absurd (subst (λ o. MatchOption o ⊥ (λ _. Unit {0})) is tt)
 opened ls side j top (Fork l i r) is at read =
     let same : j.place ≡ i = ap place_of is in
-    let links = ap (value_of top) (sym read ∙ ap (slice_get ls) same ∙ at.0) in
+    let links = same_Some top _ (sym read ∙ ap (slice_get ls) same ∙ at.0) in
     by side links (ap (λ k. Fork l k r) (sym same))
   where
     by : (side : Side) → top ≡ record { left = root_of l; right = root_of r; height = height (Fork l i r) } →

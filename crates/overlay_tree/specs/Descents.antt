@@ -1,5 +1,6 @@
 -- What a way down through a tree finds, and what it leaves.
-use Rattle.std.specs.Prelude.{◌≡◌, Bool, true, false, cond, not, ℕ, ℤ, int_lt, List, [], ◌∷◌, ◌++◌, All, Option, Some, None}
+use Rattle.std.specs.Prelude.{◌≡◌, Bool, true, false, cond, not, ℕ, ℤ, int_lt, List, [], ◌∷◌, ◌++◌, All, Option, Some}
+use Rattle.std.specs.Prelude.{None}
 use Rattle.std.specs.Prelude.{slice_get, filter_map, option_map}
 use Rattle.std.specs.List.{last_or}
 use Rattle.std.specs.Ordering.{is_gt}

@@ -21,7 +21,8 @@ abbrev pub tree_visits : {I V A W U : Type 0} → EitherScan I V A W U → ℕ
 tree_visits (List s) = 0
 tree_visits (Tree s) = s.visits
 
--- what was a list still is one; what was a tree still is one, and makes few visits for a call that puts in so many edges
+-- what was a list still is one; what was a tree still is one, and makes few visits for a call that puts in so many
+-- edges
 abbrev pub IsQuickAsTree : {I V A W U : Type 0} → EitherScan I V A W U → EitherScan I V A W U → ℕ → Type 0
 IsQuickAsTree (List s) (List t) put = Unit {0}
 IsQuickAsTree (List s) (Tree t) put = ⊥

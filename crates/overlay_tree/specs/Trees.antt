@@ -116,8 +116,8 @@ pub record IsTooHigh (ls : List Links) (side : Side) (near : Option NodeIndex) (
   pub parts : AreParts 2 ls side near i far a b
   pub two_higher : height a ≡ height b + 2
 
--- in place of the tree t one of these nodes stands at the root; of the links only those of the first nodes have changed,
--- and the height by at most one
+-- in place of the tree t one of these nodes stands at the root; of the links only those of the first nodes have
+-- changed, and the height by at most one
 pub record IsReplaced (changed : List ℕ) (old new : List Links) (t : Tree) (root : Option NodeIndex)
     (is : List ℕ) : Type 0 where
   pub tree : Tree

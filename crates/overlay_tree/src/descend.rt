@@ -50,7 +50,8 @@ pub struct Descent<V> {
 
 impl<I: IntNumber, V: Copy, A: Allocator> ScanNodes<I, V, A> {
     /// Goes down to the place between the live entries that the order does not answer `Greater` and those above them,
-    /// and puts a node in there, if one is given. An entry that has ended at x and is met on the way is taken out instead.
+    /// and puts a node in there, if one is given. An entry that has ended at x and is met on the way is taken out
+    /// instead.
     pub fn descend<F: Fn(IntLine<I>) -> Ordering>(
         &mut self,
         root: Option<NodeIndex>,

@@ -21,8 +21,8 @@ pub struct Fresh {
 }
 
 impl<I: IntNumber, V: Copy, A: Allocator> ScanNodes<I, V, A> {
-    /// A node for an entry: the first one that may be used again, or one more. The only refusal is `Memory`, after which
-    /// the nodes are as they were.
+    /// A node for an entry: the first one that may be used again, or one more. The only refusal is `Memory`, after
+    /// which the nodes are as they were.
     pub fn fresh(
         &mut self,
         free: Option<NodeIndex>,

@@ -1,6 +1,7 @@
 //! The nodes of a tree in a list, each with an entry, and with links to the nodes below it.
 
-ghost use Rattle.std.specs.Prelude.{◌≡◌, ◌+◌, ◌<◌, [], ◌++◌, ◌∷◌, Some, IfSome, IfOk, OnOk, OnErr, IsOkUnless, length, slice_get, slice_set};
+ghost use Rattle.std.specs.Prelude.{◌≡◌, ◌+◌, ◌<◌, [], ◌++◌, ◌∷◌, Some, IfSome, IfOk, OnOk, OnErr, IsOkUnless, length};
+ghost use Rattle.std.specs.Prelude.{slice_get, slice_set};
 ghost use Rattle.overlay_tree.specs.Sides.{unused_before};
 ghost use Rattle.overlay_tree.specs.Store.{IsEntryAt};
 ghost use Rattle.overlay_tree.specs.Trees.{root_of, items, height, fork_on, Stands, AreParts, HasParts, IsRebuilt};

@@ -26,9 +26,9 @@ pub struct Settled<V> {
 }
 
 impl<I: IntNumber, V: Copy, A: Allocator> ScanNodes<I, V, A> {
-    /// Goes down as often as an entry that has ended at x is met, and once more. The last time a node is put in, if one is
-    /// given: above the live entries that the order does not answer `Greater`. The nodes of the entries that have ended may
-    /// then be used again.
+    /// Goes down as often as an entry that has ended at x is met, and once more. The last time a node is put in, if one
+    /// is given: above the live entries that the order does not answer `Greater`. The nodes of the entries that have
+    /// ended may then be used again.
     pub fn settle<F: Fn(IntLine<I>) -> Ordering>(
         &mut self,
         root: Option<NodeIndex>,

@@ -15,7 +15,7 @@ use crate::nodes::ScanNodes;
 use overlay_geom::error::OverlayError;
 use overlay_geom::number::IntNumber;
 use overlay_geom::path::IntLine;
-use overlay_scan::list::{LiveEdge, is_under};
+use overlay_scan::list::{LiveEdge, is_under, live_edge};
 use overlay_scan::scan::Scan;
 use std::alloc::Allocator;
 use std::cmp::Ordering;
@@ -133,10 +133,10 @@ impl<I: IntNumber, V: Copy, A: Allocator> Scan<I, V> for ScanTree<I, V, A> {
     {
         let entry = live_edge(edge, value);
         let asked = entry;
-        let order = |line: IntLine<I>| -> Ordering
-            requires { IsInRange I.limit (plain_line I.whole line) × IsInRange I.limit (plain_entry I.whole asked).edge }
-            ensures { not (is_gt result) ≡ is_lower (plain_line I.whole line) (plain_entry I.whole asked).edge }
-        { order_to(line, &asked) };
+        let order = |f: IntLine<I>| -> Ordering
+            requires { IsInRange I.limit (plain_line I.whole f) × IsInRange I.limit (plain_entry I.whole asked).edge }
+            ensures { not (is_gt result) ≡ is_lower (plain_line I.whole f) (plain_entry I.whole asked).edge }
+        { order_to(f, &asked) };
         self.put_in(x, entry, &order)?;
         Ok(())
     }
@@ -154,10 +154,10 @@ impl<I: IntNumber, V: Copy, A: Allocator> Scan<I, V> for ScanTree<I, V, A> {
         ensures quick { IsQuick self.old self.new 0 }
     {
         let asked = live_edge(edge, default);
-        let order = |line: IntLine<I>| -> Ordering
-            requires { IsInRange I.limit (plain_line I.whole line) × IsInRange I.limit (plain_entry I.whole asked).edge }
-            ensures { not (is_gt result) ≡ is_lower (plain_line I.whole line) (plain_entry I.whole asked).edge }
-        { order_to(line, &asked) };
+        let order = |f: IntLine<I>| -> Ordering
+            requires { IsInRange I.limit (plain_line I.whole f) × IsInRange I.limit (plain_entry I.whole asked).edge }
+            ensures { not (is_gt result) ≡ is_lower (plain_line I.whole f) (plain_entry I.whole asked).edge }
+        { order_to(f, &asked) };
         let found = self.look_up(x, &order);
         found.unwrap_or(default)
     }
@@ -193,14 +193,6 @@ impl<I: IntNumber, V: Copy, A: Allocator> Scan<I, V> for ScanTree<I, V, A> {
         self.free = None;
         self.reached = None;
     }
-}
-
-// The line as an edge that is held.
-fn live_edge<I: IntNumber, V: Copy>(line: IntLine<I>, value: V) -> LiveEdge<I, V>
-    ensures { plain_entry I.whole result ≡ record { edge = plain_line I.whole line; value = value } }
-{
-    let [a, b] = line;
-    LiveEdge { a, b, value }
 }
 
 // `Less` for a line that is under the edge, and `Greater` for another.

@@ -12,11 +12,12 @@ ghost use Rattle.overlay_string.specs.StringSlices.{AreSliced};
 ghost use Rattle.overlay_string.specs.StringViews.{IsStringView, EndsStringView};
 ghost use Rattle.overlay_string.specs.contracts.string_overlay.StringOverlay.{the_row};
 
-use crate::balanced_graph::BalancedGraph;
 use crate::string_graph::StringGraph;
 use crate::string_overlay::StringOverlay;
 use crate::string_rule::StringRule;
 use overlay_arrange::fill_rule::FillRule;
+use overlay_arrange::string_count::ShapeCountString;
+use overlay_builder::balanced_graph::BalancedGraph;
 use overlay_builder::solver::Solver;
 use overlay_geom::error::OverlayError;
 use overlay_geom::integer::OverlayInt;
@@ -87,7 +88,10 @@ impl<I: OverlayInt, A: Allocator + Clone> StringOverlay<I, A> {
     }
 
     // What a view shows, once the edges are arranged. A refusal leaves the builder failed.
-    fn arranged_graph(&mut self, fill_rule: FillRule) -> Result<BalancedGraph<I, A>, OverlayError>
+    fn arranged_graph(
+        &mut self,
+        fill_rule: FillRule,
+    ) -> Result<BalancedGraph<I, ShapeCountString, A>, OverlayError>
         ensures query { AnswersQuery I.limit most_rounds (held_by self.old) (held_by self.new) result }
         ensures edges { IfOk result (λ g. graph_edges g ≡ self.new.edges) }
         ensures rule { IfOk result (λ g. g.fill_rule ≡ fill_rule) }

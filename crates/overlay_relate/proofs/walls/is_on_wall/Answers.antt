@@ -7,9 +7,10 @@ use Rattle.overlay_geom.specs.Plane.{point_lt}
 use Rattle.overlay_geom.specs.Points.{plain_point}
 use Rattle.overlay_geom.specs.Resolved.{plain_edge}
 use Rattle.overlay_relate.specs.Walls.{starts_up_to}
-use Rattle.overlay_relate.proofs.OnEdges.{is_lt-point_cmp, false_where_not}
 use Rattle.overlay_relate.proofs.OnWalls.{on_last_wall, on_no_wall, walls_partitioned}
 use Rattle.overlay_relate.proofs.walls.is_on_wall.Goals as goal
+use Rattle.std.proofs.lemmas.Bool.{not-true}
+use Rattle.overlay_geom.proofs.PointComparisons.{point_cmp-is_less}
 
 pub returns-then-n-eq0 : goal.returns-then-n-eq0
 returns-then-n-eq0 g c =
@@ -36,5 +37,5 @@ returns g c =
     let both = on_last_wall plain c.args.walls.now c.requires p n point w some c.partition_point-n.ensures.bound
     c.index-walls-n.is in
     let told : c.is_lt.result ≡ point_lt (plain w).b p = c.is_lt.ensures ∙ ap is_lt c.compare_points.ensures
-    ∙ is_lt-point_cmp (plain w).b p in
-    (λ t. both.0 (sym told ∙ false_where_not c.is_lt.result t), λ on. ap not (told ∙ both.1 on))
+    ∙ point_cmp-is_less (plain w).b p in
+    (λ t. both.0 (sym told ∙ not-true c.is_lt.result t), λ on. ap not (told ∙ both.1 on))

@@ -1,10 +1,11 @@
 -- The contour is read at its smallest point, from the points before and after it.
-use Rattle.std.proofs.Common.{◌≡◌, inl, inr, ◌<◌, ◌≤◌, ◌<ℤ◌, ◌≤ℤ◌, ℤ, pos, true, false, List, length, sym, ap, ap₂, ◌∙◌, subst}
+use Rattle.std.proofs.Common.{◌≡◌, inl, inr, ◌<◌, ◌≤◌, ◌<ℤ◌, ◌≤ℤ◌, ℤ, pos, true, false, length, sym, ap, ap₂, ◌∙◌}
+use Rattle.std.proofs.Common.{subst}
 use Rattle.std.proofs.Common.{arith}
 use Rattle.std.proofs.lemmas.List.{length-map}
 use Rattle.std.specs.Prelude.{int_lt}
 use Rattle.overlay_geom.proofs.Comparisons.{is_lt-int_cmp}
-use Rattle.overlay_geom.specs.Plane.{Point, cross_at}
+use Rattle.overlay_geom.specs.Plane.{cross_at}
 use Rattle.overlay_geom.specs.Points.{plain_point, plain_points, InRange}
 use Rattle.overlay_geom.proofs.Mapped.{All-mapped_at, read_mapped}
 use Rattle.overlay_plane.proofs.Tests.{lt_from_test, ge_from_test}

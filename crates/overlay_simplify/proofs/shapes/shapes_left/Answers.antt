@@ -1,11 +1,10 @@
 -- The one contour of the shape is the one given, or reversed.
-use Rattle.std.proofs.Common.{◌≡◌, [], ◌∷◌, List, sym, ap, ◌∙◌}
+use Rattle.std.proofs.Common.{[], ◌∷◌, sym, ap, ◌∙◌}
 use Rattle.std.proofs.lemmas.Result.{IfOk-weaker}
 use Rattle.std.specs.Prelude.{reverse}
-use Rattle.overlay_geom.specs.Plane.{Point}
 use Rattle.overlay_geom.specs.Points.{plain_point, plain_points}
 use Rattle.overlay_simplify.specs.Outcome.{shapes_left}
-use Rattle.overlay_simplify.proofs.ReversedContours.{mapped_reverse}
+use Rattle.overlay_geom.proofs.Mapped.{map-reverse}
 use Rattle.overlay_simplify.proofs.shapes.shapes_left.Goals as goal
 
 pub returns-in_ok-points-in-AsGiven-clause-ok : goal.returns-in_ok-points-in-AsGiven-clause-ok
@@ -21,6 +20,6 @@ returns-in_ok-points-in-Reversed-clause-ok g c =
     IfOk-weaker c.one_shape-in-Reversed.result _ _ (λ v is. is
     ∙ ap (λ items. (plain_points whole items ∷ []) ∷ []) (c.reverse.ensures.items
     ∙ ap reverse c.in_ok-points-in-Reversed.ensures.ok)
-    ∙ ap (λ ps. (ps ∷ []) ∷ []) (mapped_reverse (plain_point whole) c.args.contour.now)
+    ∙ ap (λ ps. (ps ∷ []) ∷ []) (map-reverse (plain_point whole) c.args.contour.now)
     ∙ ap (λ o. shapes_left o (plain_points whole c.args.contour.now)) (sym c.in-Reversed.is))
     c.one_shape-in-Reversed.ensures.ok

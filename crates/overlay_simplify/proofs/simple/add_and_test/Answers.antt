@@ -1,5 +1,5 @@
 -- The contour is all that is held, and then arranged; the tests tell whether it is simple.
-use Rattle.std.proofs.Common.{◌≡◌, ◌≤◌, true, false, not, ◌&&◌, [], ◌∷◌, length, Err, sym, ap, subst, ◌∙◌, arith}
+use Rattle.std.proofs.Common.{◌≡◌, ◌≤◌, true, false, not, ◌&&◌, [], ◌∷◌, length, Err, sym, ap, subst, ◌∙◌}
 use Rattle.std.proofs.lemmas.Bool.{false≢true}
 use Rattle.std.proofs.lemmas.List.{length-map}
 use Rattle.std.proofs.lemmas.Result.{err_from_is_err_and}
@@ -8,7 +8,7 @@ use Rattle.overlay_arrange.specs.declared.options.ShapeType.TheVariants.{Subject
 use Rattle.overlay_builder.specs.GivenPaths.{paths_for}
 use Rattle.overlay_builder.specs.Held.{plain_held}
 use Rattle.overlay_plane.specs.Carried.{edges_in}
-use Rattle.overlay_simplify.specs.Outcome.{IsOutcome, IsSimpleAsAdded}
+use Rattle.overlay_simplify.specs.Outcome.{IsOutcome}
 use Rattle.overlay_simplify.proofs.AddedAlone.{held_alone, one_refused, path_added, path_too_heavy, query_refused}
 use Rattle.overlay_simplify.proofs.TestedContours.{has_outcome, simple_where_whole, two_or_more, whole_where_simple}
 use Rattle.overlay_simplify.proofs.simple.add_and_test.Goals.{then-not-leaves_out, else-not-leaves_out}

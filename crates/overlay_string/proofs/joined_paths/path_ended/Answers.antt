@@ -3,7 +3,8 @@ use Rattle.std.proofs.Common.{[], ◌∷◌, ◌++◌, ap, ◌∙◌, subst}
 use Rattle.overlay_geom.specs.Points.{plain_point, plain_points}
 use Rattle.overlay_string.specs.Pieces.{plain_piece, GoesOn}
 use Rattle.overlay_string.specs.declared.piece.Way.TheVariants.{Back}
-use Rattle.overlay_string.proofs.JoinedPaths.{path_ended, reversed_map}
+use Rattle.overlay_geom.proofs.Mapped.{map-reverse}
+use Rattle.overlay_string.proofs.JoinedPaths.{path_ended}
 use Rattle.overlay_string.proofs.joined_paths.path_ended.Goals as goal
 
 pub returns-clause-ok : goal.returns-clause-ok
@@ -16,6 +17,7 @@ returns-clause-ok g c =
     (c.in_ok-push.ensures.items ∙ ap (λ l. l ++ c.args.piece.to ∷ []) c.new-path.ensures.items)) in
     path_ended s c.args.pieces.now new (plain_points whole c.reverse.new.self.items) c.requires
     (plain_points whole found)
-    (subst (λ l. GoesOn Back (plain_point whole c.args.piece.from) c.args.pieces.now new l (plain_points whole found)) two
+    (subst (λ l. GoesOn Back (plain_point whole c.args.piece.from) c.args.pieces.now new l (plain_points whole found))
+    two
     c.in_ok-go_on.ensures.ok)
-    (ap (plain_points whole) c.reverse.ensures.items ∙ reversed_map (plain_point whole) found)
+    (ap (plain_points whole) c.reverse.ensures.items ∙ map-reverse (plain_point whole) found)

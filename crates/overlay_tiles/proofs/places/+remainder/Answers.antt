@@ -1,5 +1,5 @@
 -- What is left is below the step in each case.
-use Rattle.std.proofs.Common.{◌-ℤ◌, ◌<ℤ◌, sym, subst, ◌∙◌}
+use Rattle.std.proofs.Common.{◌<ℤ◌, sym, subst, ◌∙◌}
 use Rattle.overlay_plane.proofs.Tests.{lt_from_test, ge_from_test}
 use Rattle.overlay_tiles.specs.Multiples.{IsRemainder}
 use Rattle.overlay_tiles.proofs.Multiples.{remainder_below, remainder_once, remainder_of_two, remainder_of_two_less}

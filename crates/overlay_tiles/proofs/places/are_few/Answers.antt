@@ -1,5 +1,5 @@
 -- The places are counted up to the most that there may be.
-use Rattle.std.proofs.Common.{pos, ◌<ℤ◌, ◌+◌, ◌∷◌, ◌++◌, [], refl, ap, subst, ◌∙◌, arith}
+use Rattle.std.proofs.Common.{◌+◌, ◌∷◌, ◌++◌, [], refl, ap, subst, ◌∙◌, arith}
 use Rattle.std.proofs.lemmas.Bool.{false≢true}
 use Rattle.std.proofs.lemmas.List.{length_push}
 use Rattle.overlay_geom.proofs.Signs.{linear}

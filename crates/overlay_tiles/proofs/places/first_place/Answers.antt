@@ -1,5 +1,4 @@
 -- The way from the least number leads to the first place.
-use Rattle.std.proofs.Common.{pos, ◌<ℤ◌}
 use Rattle.overlay_geom.proofs.Signs.{linear}
 use Rattle.overlay_tiles.specs.Spans.{plain_span}
 use Rattle.overlay_tiles.proofs.Multiples.{first_place_found}

@@ -1,5 +1,5 @@
 -- Each place that is pushed is the next one.
-use Rattle.std.proofs.Common.{pos, ◌<ℤ◌, ◌++◌, ◌∷◌, [], map, sym, subst, ap, ◌∙◌}
+use Rattle.std.proofs.Common.{◌∷◌, [], map, sym, subst, ap, ◌∙◌}
 use Rattle.std.proofs.lemmas.List.{map-append}
 use Rattle.overlay_geom.proofs.Signs.{linear}
 use Rattle.overlay_tiles.specs.Spans.{plain_span}

@@ -1,6 +1,5 @@
 -- The places so far are those before the next one.
-use Rattle.std.proofs.Common.{nat_abs, ◌-ℤ◌, map, ℕ}
-use Rattle.std.specs.Prelude.{Option, Some, None}
+use Rattle.std.proofs.Common.{map}
 use Rattle.overlay_tiles.specs.Spans.{plain_span}
 use Rattle.overlay_tiles.proofs.FrontPlaces.{AreFirst, way_left}
 use Rattle.overlay_tiles.proofs.places.grid_places.Given as goal

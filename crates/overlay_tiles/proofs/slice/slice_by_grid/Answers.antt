@@ -1,11 +1,9 @@
 -- The shape is sliced along the lines that were found, and so into tiles.
-use Rattle.std.proofs.Common.{sym, subst, All, pos, ◌<ℤ◌}
+use Rattle.std.proofs.Common.{sym, subst, All}
 use Rattle.std.proofs.lemmas.Result.{IfOk-weaker}
-use Rattle.std.specs.Prelude.{IfErr}
 use Rattle.overlay_geom.specs.Paths.{plain_shapes}
 use Rattle.overlay_geom.specs.Points.{AllInRange}
 use Rattle.overlay_geom.proofs.Signs.{linear}
-use Rattle.overlay_string.specs.OneShot.{shape_and_strings, MayRefusePaths}
 use Rattle.overlay_string.specs.StringPaths.{paths_of_lines}
 use Rattle.overlay_tiles.specs.Grids.{AreGridLines}
 use Rattle.overlay_tiles.specs.Spans.{points_of_paths}

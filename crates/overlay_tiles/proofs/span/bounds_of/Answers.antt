@@ -24,4 +24,5 @@ returns-clause-in_range g c =
     (points_in_range g.I.IntNumber.limit paths c.requires)
     (subst (λ ps. IsBoxFound whole (points_of_paths ps) c.loop-index.bounds)
     (take_all c.loop-index.index paths
-    (subst (λ n. n ≤ c.loop-index.index) c.path_count-index-end.ensures c.loop-index-test.false)) c.loop-index.invariant)
+    (subst (λ n. n ≤ c.loop-index.index) c.path_count-index-end.ensures c.loop-index-test.false))
+    c.loop-index.invariant)

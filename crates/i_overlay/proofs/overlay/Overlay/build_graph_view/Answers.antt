@@ -4,7 +4,8 @@ use Rattle.overlay_plane.specs.Carried.{edges_in}
 use Rattle.overlay_arrange.specs.Arranged.{IsArranged, most_rounds}
 use Rattle.overlay_arrange.specs.Graphs.{carried_vector}
 use Rattle.i_overlay.specs.Views.{IsView, viewed_edges}
-use Rattle.i_overlay.proofs.Views.{some_read, none_read, is_view, ends_viewed}
+use Rattle.overlay_builder.proofs.ReadEdges.{some_read, none_read}
+use Rattle.i_overlay.proofs.Views.{is_view, ends_viewed}
 use Rattle.i_overlay.proofs.overlay.Overlay.build_graph_view.Goals.{in_default-via-in-Some+else-has_edges}
 use Rattle.i_overlay.proofs.overlay.Overlay.build_graph_view.Goals.{in_default-via-in_default}
 use Rattle.i_overlay.proofs.overlay.Overlay.build_graph_view.Goals as goal
@@ -28,7 +29,8 @@ returns-in-Some g c =
             seen_is made.answers.kept,
       ),
       record {
-        arranged = subst (λ o. IfSome o (λ v. IsArranged most_rounds c.args.self.now.edges (viewed_edges v))) c.in-Some.is
+        arranged = subst (λ o. IfSome o (λ v. IsArranged most_rounds c.args.self.now.edges (viewed_edges v)))
+            c.in-Some.is
             view.arranged;
         view = subst (λ o. IfSome o (IsView most_rounds c.args.fill_rule c.args.self.now.options c.args.self.now.edges))
             c.in-Some.is view;

@@ -53,5 +53,6 @@ returns-clause-as_given g c =
       (λ stay. absurd (none_stay (asked g.I.Wide.WideIntNumber.width g.I.WideUInt.UIntNumber.natural c.args.fill_rule
           OfSubject old.options) old.options.preserve_input_collinear c.overlay_alone.new.self.edges
           (paths_of_shape whole c.args.shape.now)
-          (λ one. c.if-shape-eq1.false (sym (length-map c.args.shape.now (λ k. plain_points whole k.items)) ∙ one)) stay)),
+          (λ one. c.if-shape-eq1.false (sym (length-map c.args.shape.now (λ k. plain_points whole k.items)) ∙ one))
+          stay)),
     )

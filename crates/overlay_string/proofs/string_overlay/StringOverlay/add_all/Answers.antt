@@ -1,10 +1,8 @@
 -- The paths are added by the core, in their role, and keep the counts balanced.
 use Rattle.std.proofs.Common.{sym, subst, ◌∙◌}
-use Rattle.overlay_geom.specs.Edges.{weight}
 use Rattle.overlay_builder.specs.Held.{plain_held}
-use Rattle.overlay_builder.specs.PathLists.{AddsAsAsked}
 use Rattle.overlay_builder.proofs.Balanced.{adding_balanced_paths}
-use Rattle.overlay_string.specs.StringBuilder.{held_by, StringBuilderAdds}
+use Rattle.overlay_string.specs.StringBuilder.{StringBuilderAdds}
 use Rattle.overlay_string.specs.StringPaths.{paths_in}
 use Rattle.overlay_string.proofs.AddedInRoles.{paths_added}
 use Rattle.overlay_string.proofs.AddedPaths.{seen_with, only_edges_new}

@@ -3,7 +3,6 @@ use Rattle.std.proofs.Common.{Ok, Err, sym, ap, subst, ◌∙◌}
 use Rattle.std.proofs.lemmas.Result.{err_from_is_err_and}
 use Rattle.overlay_geom.specs.Points.{plain_points}
 use Rattle.overlay_plane.specs.Carried.{edges_in}
-use Rattle.overlay_builder.proofs.SourcePaths.{error_of}
 use Rattle.overlay_string.specs.StringBuilder.{StringBuilderAddsOne}
 use Rattle.overlay_string.specs.StringPaths.{path_in}
 use Rattle.overlay_string.proofs.AddedInRoles.{path_added, path_too_heavy}

@@ -4,7 +4,8 @@ use Rattle.overlay_plane.specs.Carried.{edges_in}
 use Rattle.overlay_arrange.specs.Arranged.{IsArranged, most_rounds}
 use Rattle.overlay_arrange.specs.Graphs.{carried_vector, graph_edges}
 use Rattle.overlay_string.specs.StringViews.{IsStringView}
-use Rattle.overlay_string.proofs.StringViews.{some_read, none_read, is_view, ends_viewed}
+use Rattle.overlay_builder.proofs.ReadEdges.{some_read, none_read}
+use Rattle.overlay_string.proofs.StringViews.{is_view, ends_viewed}
 use Rattle.overlay_string.proofs.string_overlay.StringOverlay.build_graph_view_with_solver.Goals.{in_default-via-in-Some+else-has_edges}
 use Rattle.overlay_string.proofs.string_overlay.StringOverlay.build_graph_view_with_solver.Goals.{in_default-via-in_default}
 use Rattle.overlay_string.proofs.string_overlay.StringOverlay.build_graph_view_with_solver.Goals as goal

@@ -1,5 +1,5 @@
 -- The edges are arranged, and their graph has the pieces.
-use Rattle.std.proofs.Common.{inr, sym, ap, subst, ◌∙◌}
+use Rattle.std.proofs.Common.{inr, sym, subst}
 use Rattle.std.proofs.lemmas.Result.{IfOk-weaker, IfErr-weaker}
 use Rattle.overlay_geom.specs.Paths.{paths_of_shape}
 use Rattle.overlay_geom.specs.Settled.{IsSettled}
@@ -27,7 +27,8 @@ returns-clause-clipped g c =
       arranged = subst (λ b. IsArranged most_rounds b.edges arrangement) c.self.view_is
           c.in_ok-arrange.ensures.query.arranged;
       forward = λ k d lt. (c.in_ok-arrange.ensures.query.content.held k d lt).forward;
-      paths_of = subst (λ es. ArePathsOf (clip_pieces c.args.fill_rule rule (edges_in es)) (paths_of_shape whole v.items))
+      paths_of = subst (λ es. ArePathsOf (clip_pieces c.args.fill_rule rule (edges_in es))
+          (paths_of_shape whole v.items))
           c.content.ensures.edges
           (subst (λ (h : Graph ShapeCountString). ArePathsOf (clip_pieces h.fill_rule rule (graph_edges h))
           (paths_of_shape whole v.items)) c.in_ok-graph.ensures.ok are);

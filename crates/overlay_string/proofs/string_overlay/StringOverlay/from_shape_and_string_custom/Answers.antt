@@ -1,7 +1,6 @@
 -- The strings are added after the shape.
-use Rattle.std.proofs.Common.{sym, ap, subst}
+use Rattle.std.proofs.Common.{ap}
 use Rattle.std.proofs.lemmas.Result.{err_from_is_err_and}
-use Rattle.overlay_builder.specs.PathLists.{AddsPaths}
 use Rattle.overlay_string.specs.StringPaths.{shape_contours, open_strings}
 use Rattle.overlay_string.proofs.TwoSources.{first_paths_refused, second_paths_refused, both_held}
 use Rattle.overlay_string.proofs.string_overlay.StringOverlay.from_shape_and_string_custom.Goals as goal

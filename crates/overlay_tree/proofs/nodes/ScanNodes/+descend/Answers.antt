@@ -7,11 +7,12 @@ use Rattle.overlay_tree.specs.Descents.{live_entries, CanDescend, IsEndOf, end_a
 use Rattle.overlay_tree.specs.Trees.{Tree, Fork, items, height, IsTreeAt, IsReplaced, stored_height}
 use Rattle.overlay_tree.proofs.Descending.{nothing_there, split_top, top_ended, top_place, callable_here, parts_of_end}
 use Rattle.overlay_tree.proofs.Descending.{end_over}
-use Rattle.overlay_tree.proofs.GoingDown.{false_if_not, true_if_not, same_links, way, can_fork, inside_way, can_near}
+use Rattle.overlay_tree.proofs.GoingDown.{same_links, way, can_fork, inside_way, can_near}
 use Rattle.overlay_tree.proofs.GoingDown.{lower_near, higher, may_on}
 use Rattle.overlay_tree.proofs.Replaced.{no_top}
 use Rattle.overlay_tree.proofs.Settling.{tree_at_is}
 use Rattle.overlay_tree.proofs.nodes.ScanNodes.+descend.Goals as goal
+use Rattle.std.proofs.lemmas.Bool.{not-true, not-false}
 
 pub returns-in_default-clause-end : goal.returns-in_default-clause-end
 returns-in_default-clause-end g t c u can =
@@ -41,7 +42,7 @@ returns-then-has_ended-clause-end g t c u given =
     top_ended g.I.IntNumber.whole (goal.F-post g c.args.order.now) (g.I.IntNumber.whole c.args.x)
     c.args.self.now.entries
     ls c.take_out.new.self.links c.args.put c.take_out.result c.in-Some.i.place split.0 split.1 u c.visit-f.result
-    split.2 c.visit-f.ensures.entry (false_if_not _ (sym c.has_ended.ensures ∙ c.if-has_ended.true))
+    split.2 c.visit-f.ensures.entry (not-true _ (sym c.has_ended.ensures ∙ c.if-has_ended.true))
     (subst (λ n. IsReplaced (items (Fork split.0 c.in-Some.i.place split.1)) n c.take_out.new.self.links
     (Fork split.0 c.in-Some.i.place split.1) c.take_out.result (items split.0 ++ items split.1)) c.visit-f.ensures.links
     (c.take_out.ensures.tree split.0 split.1 at))
@@ -59,7 +60,7 @@ side_for-side-requires g t c =
     let x = whole c.args.x in
     let split = split_top c.args.self.now.links c.in-Some.i c.requires.tree.0
     (subst (λ o. IsTreeAt c.args.self.now.links o c.requires.tree.0) c.in-Some.is c.requires.tree.1.at) in
-    let live = true_if_not _ (sym c.has_ended.ensures ∙ c.if-has_ended.false) in
+    let live = not-false _ (sym c.has_ended.ensures ∙ c.if-has_ended.false) in
     callable_here whole x c.args.self.now.entries (goal.F-pre g c.args.order.now) c.in-Some.i.place c.visit-f.result
     c.visit-f.ensures.entry live Left split.0 split.1
     (subst (λ u. IsCallableOn whole (goal.F-pre g c.args.order.now)
@@ -79,7 +80,7 @@ descend-below-requires g t c =
     c.requires.tree.1 in
     let side = c.side_for-side.result in
     let links = c.links-links.result in
-    let live = true_if_not _ (sym c.has_ended.ensures ∙ c.if-has_ended.false) in
+    let live = not-false _ (sym c.has_ended.ensures ∙ c.if-has_ended.false) in
     let there : slice_get es1 c.in-Some.i.place ≡ Some c.visit-f.result =
     ap (λ e. slice_get e c.in-Some.i.place) c.visit-f.ensures.entries ∙ c.visit-f.ensures.entry in
     let smaller : stored_height l1 c.on.result < stored_height ls c.args.root =
@@ -130,7 +131,7 @@ returns-clause-end g t c u given =
     let side = c.side_for-side.result in
     let read = c.links-links.ensures in
     let o = way l1 c.args.put c.in-Some.i side c.links-links.result u can read in
-    let live = true_if_not _ (sym c.has_ended.ensures ∙ c.if-has_ended.false) in
+    let live = not-false _ (sym c.has_ended.ensures ∙ c.if-has_ended.false) in
     let there : slice_get es1 c.in-Some.i.place ≡ Some c.visit-f.result =
     ap (λ e. slice_get e c.in-Some.i.place) c.visit-f.ensures.entries ∙ c.visit-f.ensures.entry in
     let below = c.descend-below.ensures.end o.near

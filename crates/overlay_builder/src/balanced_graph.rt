@@ -1,37 +1,36 @@
-//! The graph of a shape and strings, in which the counts of the shape are balanced.
+//! The graph of an arrangement in which the counts are balanced.
 
 ghost use Rattle.std.specs.Prelude.{◌≡◌};
 ghost use Rattle.overlay_plane.specs.Balance.{HasBalancedCounts};
 ghost use Rattle.overlay_arrange.specs.Graphs.{graph_edges};
 
+use overlay_arrange::count::EdgeCount;
 use overlay_arrange::graph::Graph;
-use overlay_arrange::string_count::ShapeCountString;
 use overlay_geom::integer::OverlayInt;
 use std::alloc::Allocator;
 use std::marker::Model;
 
-/// The graph of an arrangement at every point of which as many steps of the shape enter as leave. The marks of strings,
-/// closed ones too, are no counts of the shape.
+/// The graph of an arrangement at every point of which as many counted steps enter as leave, of the subject and of the
+/// clip. What else an edge carries, as the marks of strings, is no count.
 #[derive(Drop)]
-pub struct BalancedGraph<I: OverlayInt, A: Allocator> {
-    graph: Graph<I, ShapeCountString, A>,
+pub struct BalancedGraph<I: OverlayInt, C: EdgeCount, A: Allocator> {
+    graph: Graph<I, C, A>,
 }
 
-impl<I: OverlayInt, A: Allocator> Model for BalancedGraph<I, A> {
+impl<I: OverlayInt, C: EdgeCount, A: Allocator> Model for BalancedGraph<I, C, A> {
     ghost use Rattle.overlay_plane.specs.Balance.{HasBalancedCounts};
     ghost use Rattle.overlay_arrange.specs.Graphs.{Graph, graph_edges};
-    ghost use Rattle.overlay_arrange.specs.declared.string_count.ShapeCountString.{ShapeCountString};
 
-    ghost Value = { Graph ShapeCountString };
+    ghost Value = { Graph C };
 
     ghost view = { λ b. b.graph };
 
     ghost invariant = { λ b. HasBalancedCounts (graph_edges b.graph) };
 }
 
-impl<I: OverlayInt, A: Allocator> BalancedGraph<I, A> {
+impl<I: OverlayInt, C: EdgeCount, A: Allocator> BalancedGraph<I, C, A> {
     /// The graph, whose counts are balanced.
-    pub(crate) fn new(graph: Graph<I, ShapeCountString, A>) -> Self
+    pub fn new(graph: Graph<I, C, A>) -> Self
         requires { HasBalancedCounts (graph_edges graph) }
         ensures { result ≡ graph }
     {
@@ -39,7 +38,7 @@ impl<I: OverlayInt, A: Allocator> BalancedGraph<I, A> {
     }
 
     /// The graph.
-    pub(crate) fn graph(&self) -> &Graph<I, ShapeCountString, A>
+    pub fn graph(&self) -> &Graph<I, C, A>
         ensures graph { result.now ≡ self.now }
         ensures balanced { HasBalancedCounts (graph_edges self.now) }
     {
