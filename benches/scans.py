@@ -37,7 +37,10 @@ EDGES_OF_A_RUN = 100_000
 SMALL = [str(word) for kind in KINDS for limit in LIMITS.values() for word in (kind, 80, limit, 1)]
 
 NAME = "timed_scans"
-USES = ["overlay_geom", "overlay_scan", "overlay_tree", "overlay_arrange", "overlay_walk", "overlay_relate", "anyhow"]
+USES = [
+    "overlay_geom", "overlay_scan", "overlay_tree", "overlay_arrange", "overlay_walk", "overlay_bind", "overlay_relate",
+    "anyhow",
+]
 DRIVER = """\
 //! Times sweeps: KIND EDGES TREE_FROM ROUNDS, as often as is wanted.
 #![tactic(auto)]
@@ -48,11 +51,11 @@ use overlay_arrange::edge::{CountedEdge, compare_edges, compare_points};
 use overlay_arrange::fill::fills_with_trees_from;
 use overlay_arrange::fill_rule::FillRule;
 use overlay_arrange::options::ContourDirection;
+use overlay_bind::bind::bind_contours;
 use overlay_geom::point::IntPoint;
 use overlay_relate::contour::locate_in_contour;
 use overlay_relate::location::PointLocation;
 use overlay_tree::either::EitherScan;
-use overlay_walk::bind::bind_contours;
 use overlay_walk::contour::{Contour, Role};
 use overlay_walk::step::Step;
 use std::alloc::Global;

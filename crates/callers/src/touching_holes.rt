@@ -12,10 +12,10 @@ ghost use Rattle.overlay_walk.specs.GroupedContours.{plain_contours};
 ghost use Rattle.overlay_walk.specs.Steps.{plain_step, IsLong};
 
 use overlay_arrange::options::ContourDirection;
+use overlay_bind::bind::bind_contours;
 use overlay_geom::error::OverlayError;
 use overlay_geom::point::IntPoint;
 use overlay_scan::list::ScanList;
-use overlay_walk::bind::bind_contours;
 use overlay_walk::contour::{Contour, Role};
 use overlay_walk::step::Step;
 use std::alloc::Global;

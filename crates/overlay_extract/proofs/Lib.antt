@@ -1,10 +1,8 @@
 pub mod ContoursAdded
 pub mod GroupsInShapes
 pub mod Hierarchies
-pub mod HolesPlaced
 pub mod LinkOrder
 pub mod LinksFound
 pub mod NoShapes
-pub mod PlacedShapes
 pub mod PointsOnce
 pub mod Results

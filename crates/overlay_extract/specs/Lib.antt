@@ -3,5 +3,4 @@ pub mod InShapes
 pub mod Laws
 pub mod Links
 pub mod PlacedResults
-pub mod Places
 pub mod Results

@@ -1,22 +1,12 @@
--- The contours that an overlay keeps, placed in the shapes that are found for them; and the links of these shapes.
+-- The links of the shapes of an overlay.
 use Rattle.std.specs.Prelude.{ℕ, List, Option}
 use Rattle.overlay_geom.specs.Plane.{Point}
 use Rattle.overlay_geom.specs.Edges.{CountedEdge}
-use Rattle.overlay_plane.specs.BoundContours.{AreShapesFound, contours_bound, shapes_bound}
+use Rattle.overlay_plane.specs.BoundContours.{contours_bound, shapes_bound}
 use Rattle.overlay_plane.specs.Islands.{ChildLink, AreLinks}
-use Rattle.overlay_plane.specs.PlacedContours.{ArePlaced}
 use Rattle.overlay_plane.specs.RoledContours.{Contour, group_contours_from}
-use Rattle.overlay_walk.specs.KeptResults.{AreKeptResults}
 use Rattle.overlay_extract.specs.ChildLinks.{HaveOtherChildren}
 use Rattle.overlay_extract.specs.Results.{Asked, filled_asked, IsResult}
-
--- the contours are kept, and stand at these places in the shapes that are found for them
-pub record ArePlacedResults (q : Asked) (es : List CountedEdge) (contours : List Contour)
-    (places : List (List ℕ)) : Type 0 where
-  pub kept : AreKeptResults q es contours
-  pub shapes : List (Option ℕ)
-  pub found : AreShapesFound (filled_asked q) contours shapes
-  pub placed : ArePlaced contours shapes places
 
 -- the contours of the shapes to which contours are bound, shape by shape, as they are before points on one line are
 -- dropped

@@ -1,6 +1,7 @@
 //! Laws of what overlays answer.
 
-ghost use Rattle.overlay_extract.specs.Laws.{DirectionTurnsWindings, SameRegionSameWindings, SelectedStepsWindRoundRegion};
+ghost use Rattle.overlay_extract.specs.Laws.{DirectionTurnsWindings, SameRegionSameWindings};
+ghost use Rattle.overlay_extract.specs.Laws.{SelectedStepsWindRoundRegion};
 ghost use Rattle.overlay_extract.specs.Laws.{NoTwoOfHierarchyWindRoundOnePoint, NoTwoShapesWindRoundOnePoint};
 
 /// Of an arrangement of edges with balanced counts, the selected steps wind once, in the output

@@ -9,6 +9,3 @@ pub mod hierarchy;
 mod in_shapes;
 pub mod laws;
 mod links;
-mod placed;
-pub mod places;
-pub mod scans;

@@ -10,12 +10,12 @@ ghost use Rattle.overlay_extract.specs.ChildLinks.{plain_link, HaveOtherChildren
 ghost use Rattle.overlay_extract.specs.Links.{link_at, links_from};
 
 use crate::child_link::{ChildLink, sort_links};
-use crate::scans::scan_for_islands;
 use overlay_arrange::options::ContourDirection;
+use overlay_bind::islands::holes_round;
+use overlay_bind::scans::scan_for_islands;
 use overlay_geom::error::OverlayError;
 use overlay_geom::number::IntNumber;
 use overlay_walk::contour::Contour;
-use overlay_walk::islands::holes_round;
 use std::alloc::Allocator;
 
 /// The links of contours that all stand in shapes, shape by shape, in order: for each shape in a hole of

@@ -1,14 +1,9 @@
 -- The lowest step of a loop passes its anchor, and tells where its filled side is there.
-use Rattle.std.proofs.Common.{◌≡◌, Bool, true, false, cond, List, Contains, All, refl, sym, subst}
-use Rattle.std.proofs.lemmas.List.Elements.{All-contains}
+use Rattle.std.proofs.Common.{◌≡◌, Bool, true, false, cond, List, Contains, refl, sym, subst}
 use Rattle.overlay_geom.specs.Plane.{Step, edge_of, is_forward}
-use Rattle.overlay_plane.specs.Anchors.{IsAnchor, is_anchored_before}
+use Rattle.overlay_plane.specs.Anchors.{IsAnchor}
 use Rattle.overlay_plane.specs.SelectedSteps.{step_with_left}
-use Rattle.overlay_plane.proofs.AnchorOrder.{anchored_before-itself}
-use Rattle.overlay_plane.proofs.EdgeTurns.{IsForward}
-use Rattle.overlay_plane.proofs.LongSteps.{long_leads_forward}
 use Rattle.overlay_slice.specs.Bound.{PassesAnchor}
-use Rattle.overlay_walk.specs.Steps.{IsLong}
 
 -- a step leads along its edge, or back
 along_own : (s : Step) → step_with_left (is_forward s) (edge_of s) ≡ s
@@ -27,13 +22,3 @@ lowest_passes loop s c anchor = record {
   is_anchor = anchor;
   passes = subst (Contains loop) (sym (along_own s)) c;
 }
-
--- the edge of a step of a walk leads forward
-pub step_forward : (limit : _) (walk : List Step) → All (IsLong limit) walk → (s : Step) → Contains walk s →
-    IsForward (edge_of s)
-step_forward limit walk long s c = long_leads_forward s (All-contains (IsLong limit) walk s long c).apart
-
--- and is not anchored before itself
-pub not_before_itself : (limit : _) (walk : List Step) → All (IsLong limit) walk → (s : Step) → Contains walk s →
-    is_anchored_before (edge_of s) (edge_of s) ≡ false
-not_before_itself limit walk long s c = anchored_before-itself (edge_of s) (step_forward limit walk long s c)

@@ -1,5 +1,5 @@
--- What is walked so far, cut into loops: a loop is cut off where the walk comes back to a point, and what is left at the
--- end is the last one.
+-- What is walked so far, cut into loops: a loop is cut off where the walk comes back to a point, and what is left at
+-- the end is the last one.
 use Rattle.std.proofs.Common.{◌≡◌, ℕ, ◌+◌, ◌<◌, ◌≤◌, false}
 use Rattle.std.proofs.Common.{List, [], ◌∷◌, ◌++◌, length, take, drop, All, Contains, refl, sym, ap, ◌∙◌, subst, arith}
 use Rattle.std.specs.List.Sorted.{IsPermutation}

@@ -1,12 +1,15 @@
 -- The edge by which a tour is found is the first one of all on which it has a step, and the tour leads along its lower
 -- side alone where it comes back along it.
-use Rattle.std.proofs.Common.{◌≡◌, ⊎_elim, ◌⊎◌, inl, inr, ◌&&◌, ◌||◌, Bool, true, false, cond, not, List, [], ◌∷◌, ◌++◌, map, All}
+use Rattle.std.proofs.Common.{◌≡◌, ⊎_elim, ◌⊎◌, inl, inr, ◌&&◌, ◌||◌, Bool, true, false, cond, not, List, [], ◌∷◌, ◌++◌}
+use Rattle.std.proofs.Common.{map, All}
 use Rattle.std.proofs.Common.{Contains, refl, sym, ap, ap₂, ◌∙◌, subst}
 use Rattle.std.proofs.lemmas.Bool.{cases_Bool, both_ways, true≢false, not-true, not-false, or_from, and_left, and_right}
 use Rattle.std.proofs.lemmas.Bool.{not_from_false, false_from_ne_true, or_parts, and_parts, and_cases}
-use Rattle.std.proofs.lemmas.List.Elements.{All-head, All-tail, All-map, All-contains, Contains-append_cases, Contains-push_cases}
+use Rattle.std.proofs.lemmas.List.Elements.{All-head, All-tail, All-map, All-contains, Contains-append_cases}
+use Rattle.std.proofs.lemmas.List.Elements.{Contains-push_cases}
 use Rattle.std.proofs.lemmas.List.Sorted.{All-permutation}
-use Rattle.overlay_geom.specs.Plane.{Point, Step, Edge, edge_of, edge_eq, edge_lt, is_forward, point_eq, point_lt, points_of}
+use Rattle.overlay_geom.specs.Plane.{Point, Step, Edge, edge_of, edge_eq, edge_lt, is_forward, point_eq, point_lt}
+use Rattle.overlay_geom.specs.Plane.{points_of}
 use Rattle.overlay_geom.specs.Plane.{reversed_step}
 use Rattle.overlay_geom.proofs.Entries.{Contains-head, Contains-later}
 use Rattle.overlay_geom.proofs.Orders.{point_eq-same, point_eq-of_same, point_lt-itself, point_lt-back, point_lt-order}

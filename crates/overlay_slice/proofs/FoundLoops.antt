@@ -1,12 +1,14 @@
 -- The loops of the tours of orbits, tour by tour, are those that slicing finds on the sides, in the order in which it
 -- finds them.
-use Rattle.std.proofs.Common.{◌≡◌, ⊎_elim, ◌&&◌, ◌||◌, Bool, true, false, cond, not, ℤ, List, [], ◌∷◌, ◌++◌, map, take, drop}
+use Rattle.std.proofs.Common.{◌≡◌, ⊎_elim, ◌&&◌, ◌||◌, Bool, true, false, cond, not, ℤ, List, [], ◌∷◌, ◌++◌, map, take}
+use Rattle.std.proofs.Common.{drop}
 use Rattle.std.proofs.Common.{All, Contains, refl, sym, ap, ◌∙◌, subst, arith}
 use Rattle.std.specs.List.Sorted.{IsPermutation}
 use Rattle.std.proofs.lemmas.Bool.{both_ways, or_parts, and_cases, not_from_false}
 use Rattle.std.proofs.lemmas.List.Elements.{All-head, All-tail, All-contains}
 use Rattle.std.proofs.lemmas.List.Elements.{Contains-append_left, Contains-append_right, Contains-append_cases}
-use Rattle.std.proofs.lemmas.List.Sorted.{IsPermutation-refl, IsPermutation-sym, IsPermutation-trans, IsPermutation-append_left}
+use Rattle.std.proofs.lemmas.List.Sorted.{IsPermutation-refl, IsPermutation-sym, IsPermutation-trans}
+use Rattle.std.proofs.lemmas.List.Sorted.{IsPermutation-append_left}
 use Rattle.std.proofs.lemmas.List.Sorted.{Contains-permutation, length_permutation}
 use Rattle.overlay_geom.specs.Plane.{Point, Step, Edge, edge_of, edge_eq, edge_lt, point_eq, point_lt, reversed_step}
 use Rattle.overlay_geom.specs.Plane.{backward}
@@ -23,7 +25,8 @@ use Rattle.overlay_plane.proofs.LaterEntries.{Each, Each-from_all_pairs}
 use Rattle.overlay_slice.specs.ClosedWalks.{LeadsTo, HasLength, NoneLeaves}
 use Rattle.overlay_slice.specs.FilledSides.{filled_sides, IsFilledSide, AreFilledSides}
 use Rattle.overlay_slice.specs.Repeats.{IsCutAtRepeats}
-use Rattle.overlay_slice.specs.SlicingWalks.{loop_by_hand, IsSlicingWalk, BeginsAtFirst, AreLoopsOfWalks, AreFoundInOrder}
+use Rattle.overlay_slice.specs.SlicingWalks.{loop_by_hand, IsSlicingWalk, BeginsAtFirst, AreLoopsOfWalks}
+use Rattle.overlay_slice.specs.SlicingWalks.{AreFoundInOrder}
 use Rattle.overlay_slice.specs.SlicingWalks.AreLoopsOfWalks.{none_open, walked}
 use Rattle.overlay_slice.specs.TourOrder.{IsTourFrom, last_step, leaves_along_first, found_edge, is_tour_before}
 use Rattle.overlay_slice.specs.TourOrder.{IsTourOfOne, AreToursInOrder, AreLoopsOfTour, AreLoopsOfTours}

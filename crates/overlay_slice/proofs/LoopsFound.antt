@@ -1,5 +1,5 @@
--- What the steps of filled loops rest on: orbits are closed, the steps of tours have a length, and a loop turned round has
--- as many steps.
+-- What the steps of filled loops rest on: orbits are closed, the steps of tours have a length, and a loop turned round
+-- has as many steps.
 use Rattle.std.proofs.Common.{◌≡◌, ◌≤◌, ℤ, List, [], ◌∷◌, ◌++◌, length, map, reverse, All, refl, sym, ap, ◌∙◌}
 use Rattle.std.proofs.Common.{arith}
 use Rattle.std.proofs.lemmas.List.{length-map, length-reverse, map-append, reverse-append}

@@ -1,6 +1,7 @@
 -- The next one of a filled side by its hand is along the next edge of all at the node, or back along the same edge; so
 -- by this hand filled sides lead on, and the next one leads back.
-use Rattle.std.proofs.Common.{◌≡◌, inl, inr, ⊎_elim, ◌||◌, Bool, true, false, ℤ, List, Contains, refl, sym, ap, ◌∙◌, subst}
+use Rattle.std.proofs.Common.{◌≡◌, inl, inr, ⊎_elim, ◌||◌, Bool, true, false, ℤ, List, Contains, refl, sym, ap, ◌∙◌}
+use Rattle.std.proofs.Common.{subst}
 use Rattle.std.proofs.lemmas.Bool.{both_ways, false_from_ne_true, or_cases, or_left, or_right}
 use Rattle.overlay_geom.specs.Plane.{Point, Step, edge_eq, point_eq, reversed_step}
 use Rattle.overlay_geom.specs.Edges.{CountedEdge, ends_of}

@@ -1,5 +1,5 @@
--- The steps that the fill bits tell of are the filled sides; they lead between different points in range, along the edges
--- of an arrangement.
+-- The steps that the fill bits tell of are the filled sides; they lead between different points in range, along the
+-- edges of an arrangement.
 use Rattle.std.proofs.Common.{◌≡◌, ⊎_elim, ℕ, true, false, List, ◌++◌, map, All, sym, ap, ap₂}
 use Rattle.std.proofs.Common.{◌∙◌, subst}
 use Rattle.std.specs.List.{flat_map}

@@ -1,7 +1,8 @@
 -- The shapes to which loops of filled sides are bound, by the points of the loops in the output direction: what their
 -- steps are, and how they wind.
 use Rattle.std.proofs.Common.{◌≡◌, ⊎_elim, ℕ, ◌<◌, Bool, true, false, cond, not, ◌&&◌, ℤ, pos, negsuc, ◌*ℤ◌, List, []}
-use Rattle.std.proofs.Common.{◌∷◌, ◌++◌, map, reverse, All, Contains, Option, Some, None, refl, sym, ap, ap₂, ◌∙◌, subst}
+use Rattle.std.proofs.Common.{◌∷◌, ◌++◌, map, reverse, All, Contains, Option, Some, None, refl, sym, ap, ap₂, ◌∙◌}
+use Rattle.std.proofs.Common.{subst}
 use Rattle.std.specs.Prelude.{slice_index_or}
 use Rattle.std.specs.List.{filter, flat_map, slice_get}
 use Rattle.std.specs.List.Sorted.{IsPermutation}

@@ -1,6 +1,7 @@
 -- What shows the contours of slices in the output direction, in the shapes to which they are bound, is what slicing
 -- answers.
-use Rattle.std.proofs.Common.{◌≡◌, ⊎_elim, ℕ, Bool, true, false, cond, pos, ◌*ℤ◌, List, [], ◌∷◌, ◌++◌, map, All, Contains}
+use Rattle.std.proofs.Common.{◌≡◌, ⊎_elim, ℕ, Bool, true, false, cond, pos, ◌*ℤ◌, List, [], ◌∷◌, ◌++◌, map, All}
+use Rattle.std.proofs.Common.{Contains}
 use Rattle.std.proofs.Common.{Option, refl, sym, ap, ◌∙◌, subst}
 use Rattle.std.specs.Int.{Width}
 use Rattle.std.specs.List.{filter}

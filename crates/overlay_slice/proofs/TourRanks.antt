@@ -1,5 +1,7 @@
--- Any two tours compare, and in one way: by the edges by which they are found, and then by whether they leave along them.
-use Rattle.std.proofs.Common.{◌≡◌, ◌&&◌, ◌||◌, Bool, true, false, not, cond, ℕ, ◌-◌, ◌<◌, ℤ, List, [], ◌∷◌, length, get_or}
+-- Any two tours compare, and in one way: by the edges by which they are found, and then by whether they leave along
+-- them.
+use Rattle.std.proofs.Common.{◌≡◌, ◌&&◌, ◌||◌, Bool, true, false, not, cond, ℕ, ◌-◌, ◌<◌, ℤ, List, [], ◌∷◌, length}
+use Rattle.std.proofs.Common.{get_or}
 use Rattle.std.proofs.Common.{AllPairs, refl, sym, ap, ap₂, ◌∙◌, subst, arith}
 use Rattle.std.specs.Cmp.{IsTotalOrder, IsStrictWeakOrder, bool_cmp_total}
 use Rattle.std.specs.List.Sorted.{IsSortedBy}
@@ -15,9 +17,11 @@ use Rattle.overlay_geom.specs.Plane.{Point, Step, Edge, edge_eq, edge_lt, point_
 use Rattle.overlay_geom.specs.Points.{plain_point}
 use Rattle.overlay_geom.specs.Resolved.{point_cmp}
 use Rattle.overlay_geom.proofs.Mapped.{AllPairs-map}
-use Rattle.overlay_geom.proofs.Orders.{edge_order, edge_order-total, edge_lt-is_less, edge_eq-is_tie, less_in_turn, point_lt-order}
+use Rattle.overlay_geom.proofs.Orders.{edge_order, edge_order-total, edge_lt-is_less, edge_eq-is_tie, less_in_turn}
+use Rattle.overlay_geom.proofs.Orders.{point_lt-order}
 use Rattle.overlay_geom.proofs.PointComparisons.{point_cmp-is_less, point_cmp-is_tie}
-use Rattle.overlay_slice.specs.TourOrder.{found_edge, leaves_along_first, last_step, is_tour_before, is_walked_along, edge_between}
+use Rattle.overlay_slice.specs.TourOrder.{found_edge, leaves_along_first, last_step, is_tour_before, is_walked_along}
+use Rattle.overlay_slice.specs.TourOrder.{edge_between}
 use Rattle.overlay_walk.specs.Steps.{plain_step, plain_steps}
 use Rattle.overlay_walk.specs.Walks.{plain_walks}
 use Rattle.overlay_walk.specs.declared.step.Step.{Step as StepTaken}

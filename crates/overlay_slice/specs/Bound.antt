@@ -11,7 +11,8 @@ use Rattle.overlay_plane.specs.Turn.Hand.{left}
 use Rattle.overlay_slice.specs.FilledSides.{filled_sides}
 use Rattle.overlay_slice.specs.Loops.{AreLoops}
 
--- the loop, of steps with the filled side on the left, passes the edge of its anchor with the filled side above, or below
+-- the loop, of steps with the filled side on the left, passes the edge of its anchor with the filled side above, or
+-- below
 pub record PassesAnchor (above : Bool) (loop : List Step) : Type 0 where
   pub anchor : Edge
   pub is_anchor : IsAnchor loop anchor

@@ -7,7 +7,8 @@ use Rattle.overlay_plane.specs.Contours.{all_steps}
 use Rattle.overlay_plane.specs.Groups.{HasEachPointOnce, IsSimpleContour}
 use Rattle.overlay_walk.specs.Places.{step_at}
 
--- the steps lead from p to q: the first one begins in p, each other where the one before it ends, and the last ends in q
+-- the steps lead from p to q: the first one begins in p, each other where the one before it ends, and the last ends in
+-- q
 abbrev pub LeadsTo : Point → List Step → Point → Type 0
 LeadsTo p [] q = p ≡ q
 LeadsTo p (s ∷ ss) q = (s.from ≡ p) × LeadsTo s.to ss q
@@ -33,8 +34,8 @@ pub record IsCutIntoLoops (walk : List Step) (loops : List (List Step)) : Type 0
   pub both_ways : HasEachBothWays dropped
   pub simple : All IsSimpleContour loops
 
--- the same loop passed back, begun a step later: the point at which it begins is the last one that it visited, and so the
--- points are the same in the opposite order
+-- the same loop passed back, begun a step later: the point at which it begins is the last one that it visited, and so
+-- the points are the same in the opposite order
 abbrev pub turned_loop : List Step → List Step
 turned_loop loop = drop 1 (backward loop) ++ take 1 (backward loop)
 

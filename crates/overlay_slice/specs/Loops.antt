@@ -1,5 +1,5 @@
--- The loops into which the filled sides of edges are cut: each is a contour that visits no point twice; a side stands in
--- one of them, but for those whose reverse is a filled side of the same orbit.
+-- The loops into which the filled sides of edges are cut: each is a contour that visits no point twice; a side stands
+-- in one of them, but for those whose reverse is a filled side of the same orbit.
 use Rattle.std.specs.Prelude.{◌⊎◌, Bool, ℤ, List, All, Contains}
 use Rattle.overlay_geom.specs.Plane.{Step, reversed_step}
 use Rattle.overlay_geom.specs.Edges.{CountedEdge}

@@ -1,5 +1,5 @@
--- The walks by which slicing passes the filled sides of edges, each side once, and the loops that it finds on them: which
--- loops there are, where each begins, and in what order they stand.
+-- The walks by which slicing passes the filled sides of edges, each side once, and the loops that it finds on them:
+-- which loops there are, where each begins, and in what order they stand.
 use Rattle.std.specs.Prelude.{◌≡◌, false, true, List, [], ◌∷◌, ◌++◌, map, All, Contains}
 use Rattle.std.specs.Bool.{⊤}
 use Rattle.std.specs.List.Sorted.{IsPermutation}

@@ -23,7 +23,8 @@ abbrev pub last_step : Step → List Step → Step
 last_step s [] = s
 last_step s (t ∷ ts) = last_step t ts
 
--- the tour that begins with s leaves along the first edge in order of the two at its start, or comes back along no other
+-- the tour that begins with s leaves along the first edge in order of the two at its start, or comes back along no
+-- other
 abbrev pub leaves_along_first : Step → List Step → Bool
 leaves_along_first s ss = not (point_lt (last_step s ss).from s.to)
 
@@ -55,7 +56,8 @@ pub record IsSplitAtStart (walk : List Step) (tours : List (List Step)) : Type 0
   pub passed : all_steps tours ≡ walk
   pub are : All (IsTourFrom (step_at walk 0).from) tours
 
--- the walk, begun at some place, is what the tours pass one after the other; each leads from its smallest point back to it
+-- the walk, begun at some place, is what the tours pass one after the other; each leads from its smallest point back to
+-- it
 pub record IsSplitAtLeast (walk : List Step) (tours : List (List Step)) : Type 0 where
   pub place : ℕ
   pub passed : all_steps tours ≡ drop place walk ++ take place walk
@@ -86,8 +88,8 @@ pub record AreToursInOrder (walks tours : List (List Step)) : Type 0 where
 
 -- ---- their loops
 
--- the hand of the filled side where the tour, which has it on the left, is walked from its start along the edge by which
--- it is found
+-- the hand of the filled side where the tour, which has it on the left, is walked from its start along the edge by
+-- which it is found
 abbrev pub hand_of_tour : List Step → Hand
 hand_of_tour tour = cond (is_walked_along tour) left right
 

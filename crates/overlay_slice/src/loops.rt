@@ -33,8 +33,8 @@ use std::alloc::Allocator;
 /// orbit by the left hand; each other side stands in one loop.
 ///
 /// They are found tour by tour. A tour is walked from its start along the first edge in order of the two that it has
-/// there, also where it comes back along this edge, and so is walked back; a loop of a tour that is walked back is turned
-/// round at the end. The counts of the edges are balanced. The only refusal is `Memory`.
+/// there, also where it comes back along this edge, and so is walked back; a loop of a tour that is walked back is
+/// turned round at the end. The counts of the edges are balanced. The only refusal is `Memory`.
 pub fn filled_loops<I: IntNumber, C: EdgeCount, A: Allocator + Clone>(
     graph: &Graph<I, C, A>,
 ) -> Result<Vec<Vec<Step<I>, A>, A>, OverlayError>

@@ -13,11 +13,11 @@ use crate::roles::contours_of_loops;
 use overlay_arrange::count::EdgeCount;
 use overlay_arrange::graph::Graph;
 use overlay_arrange::options::ContourDirection;
-use overlay_extract::scans::{TREE_FROM_PARENTS, scan_for_holes};
+use overlay_bind::bind::bind_contours;
+use overlay_bind::scans::{TREE_FROM_PARENTS, scan_for_holes};
 use overlay_geom::error::OverlayError;
 use overlay_geom::number::{IntNumber, UIntNumber, WideIntNumber};
 use overlay_walk::area::large_walks;
-use overlay_walk::bind::bind_contours;
 use overlay_walk::contour::Contour;
 use std::alloc::Allocator;
 

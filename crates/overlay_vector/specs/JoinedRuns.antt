@@ -26,7 +26,8 @@ pub data IsBegunElsewhere {X : Type 0} : List X → List X → Type 0 where
   here : {xs : List X} → IsBegunElsewhere xs xs
   later : {x : X} {xs ys : List X} → IsBegunElsewhere (xs ++ x ∷ []) ys → IsBegunElsewhere (x ∷ xs) ys
 
--- each edge of the second list replaces a run of the first, closed list; the runs lie one behind another and are all of it
+-- each edge of the second list replaces a run of the first, closed list; the runs lie one behind another and are all of
+-- it
 pub record IsMadeOfRuns {D : Type 0} (eq : D → D → Bool) (vs ws : List (DataVector D)) : Type 0 where
   pub runs : List (List (DataVector D))
   pub replaced : AllZip (Replaces eq) runs ws

@@ -50,8 +50,8 @@ pub record IsInRange {D : Type 0} (limit : ℕ) (v : DataVector D) : Type 0 wher
   pub a : InRange limit v.a
   pub b : InRange limit v.b
 
--- the second list is what the first one becomes with the edge behind it, whatever follows; it has no neighbours that can
--- be joined, is in range, and has no more than one edge more
+-- the second list is what the first one becomes with the edge behind it, whatever follows; it has no neighbours that
+-- can be joined, is in range, and has no more than one edge more
 pub record IsAppended {D : Type 0} (eq : D → D → Bool) (limit : ℕ) (vs : List (DataVector D)) (v : DataVector D)
     (ws : List (DataVector D)) : Type 0 where
   pub becomes : (rest : List (DataVector D)) → Becomes eq (vs ++ v ∷ rest) (ws ++ rest)

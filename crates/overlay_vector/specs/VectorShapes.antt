@@ -67,8 +67,8 @@ abbrev pub AreVectorContours : {D : Type 0} → (D → D → Type 0) → (D → 
 AreVectorContours reverses eq rule keep xs shapes result =
     AllZip (AllZip (IsVectorContour reverses eq rule keep xs)) shapes result
 
--- the answer of an overlay over the edges of an arrangement as shapes of edges with data; `reverses` tells what the data
--- of an edge may be on the way back, and `eq` which data is equal
+-- the answer of an overlay over the edges of an arrangement as shapes of edges with data; `reverses` tells what the
+-- data of an edge may be on the way back, and `eq` which data is equal
 pub record AreVectorShapes {D : Type 0} (reverses : D → D → Type 0) (eq : D → D → Bool) (q : Asked)
     (xs : List (Carried (CountWithData D))) (result : List (List (List (DataVector D)))) : Type 0 where
   -- the contours that the selected steps are cut into, as far as they reach the minimum area: without groups, whatever

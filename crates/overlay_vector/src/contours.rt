@@ -7,7 +7,7 @@ ghost use Rattle.overlay_geom.specs.Plane.{is_forward};
 ghost use Rattle.overlay_plane.specs.PlacedContours.{walk_at, walks_at};
 ghost use Rattle.overlay_arrange.specs.Graphs.{graph_edges};
 ghost use Rattle.overlay_arrange.specs.Stores.{IsStoreReached};
-ghost use Rattle.overlay_extract.specs.Places.{place_lists, AreInside};
+ghost use Rattle.overlay_bind.specs.Places.{place_lists, AreInside};
 ghost use Rattle.overlay_walk.specs.GroupedContours.{plain_contours};
 ghost use Rattle.overlay_walk.specs.Steps.{plain_step, plain_steps, RunsAlong};
 ghost use Rattle.overlay_vector.specs.DataVectors.{plain_data_vector, plain_data_vectors};
@@ -20,13 +20,12 @@ use crate::joining::joined;
 use crate::path::{DataVectorPath, DataVectorShape};
 use crate::side_fill::Reverse;
 use overlay_arrange::data::{CountWithData, OverlayEdgeData};
-use overlay_arrange::edge::compare_points;
 use overlay_arrange::graph::Graph;
 use overlay_arrange::vector::DataVectorEdge;
 use overlay_geom::error::OverlayError;
 use overlay_geom::number::IntNumber;
 use overlay_walk::contour::Contour;
-use overlay_walk::step::Step;
+use overlay_walk::step::{Step, is_forward};
 use std::alloc::Allocator;
 
 /// The shapes of which the contours, along edges of the graph, stand at these places. Each step has the filled
@@ -156,7 +155,7 @@ fn walked<I: IntNumber, D: OverlayEdgeData>(
     let (a, b) = (step.from, step.to);
     let mut fill = edge.fill;
     let mut edge_data = edge.edge_data.edge_data;
-    if !compare_points(a, b).is_lt() {
+    if !is_forward(&step) {
         fill = fill.reverse();
         edge_data = edge_data.reversed(store);
     }

@@ -1,33 +1,23 @@
 //! The contours round the region where rules hold, as edges with filled sides and data, bound to shapes.
 
-ghost use Rattle.std.specs.Prelude.{All, IfOk, IsOkUnless};
+ghost use Rattle.std.specs.Prelude.{IfOk, IsOkUnless};
 ghost use Rattle.overlay_plane.specs.Balance.{HasBalancedCounts};
-ghost use Rattle.overlay_plane.specs.BoundContours.{walks_in, AreShapesFound};
-ghost use Rattle.overlay_plane.specs.KeptContours.{CanBeBound};
-ghost use Rattle.overlay_plane.specs.PlacedContours.{CanBePlaced};
 ghost use Rattle.overlay_arrange.specs.Graphs.{graph_edges};
 ghost use Rattle.overlay_arrange.specs.Stores.{IsStoreReached};
-ghost use Rattle.overlay_extract.specs.Places.{place_lists};
 ghost use Rattle.overlay_extract.specs.Results.{asked};
-ghost use Rattle.overlay_walk.specs.GroupedContours.{plain_contours};
-ghost use Rattle.overlay_walk.specs.Steps.{filled_hand, IsLong};
-ghost use Rattle.overlay_vector.specs.VectorContours.{ArePlacedSomehow};
 ghost use Rattle.overlay_vector.specs.VectorShapes.{plain_vector_shapes, AreVectorShapes};
 
 use crate::contours::assembled;
 use crate::path::DataVectorShape;
-use overlay_arrange::count::EdgeCount;
 use overlay_arrange::data::{CountWithData, OverlayEdgeData};
 use overlay_arrange::graph::Graph;
-use overlay_arrange::options::{ContourDirection, IntOverlayOptions};
+use overlay_arrange::options::IntOverlayOptions;
 use overlay_arrange::overlay_rule::OverlayRule;
-use overlay_extract::places::shape_places;
-use overlay_extract::scans::{TREE_FROM_PARENTS, scan_for_holes};
+use overlay_bind::placed::bound_places;
+use overlay_bind::scans::TREE_FROM_PARENTS;
 use overlay_geom::error::OverlayError;
 use overlay_geom::number::IntNumber;
-use overlay_walk::bind::bind_contours;
 use overlay_walk::buffer::BooleanExtractionBuffer;
-use overlay_walk::contour::Contour;
 use overlay_walk::kept::kept_contours;
 use std::alloc::Allocator;
 
@@ -92,7 +82,7 @@ pub fn vector_shapes_with_trees_from<I: IntNumber, D: OverlayEdgeData, A: Alloca
         ..options
     };
     let contours = kept_contours(graph, overlay_rule, without_groups, buffer)?;
-    let places = places_in_shapes(graph, &contours, options.output_direction, tree_from)?;
+    let places = bound_places(graph, &contours, options.output_direction, tree_from)?;
     assembled(
         graph,
         &contours,
@@ -100,25 +90,4 @@ pub fn vector_shapes_with_trees_from<I: IntNumber, D: OverlayEdgeData, A: Alloca
         options.preserve_output_collinear,
         store,
     )
-}
-
-// The places of the contours in the shapes that are found for them.
-fn places_in_shapes<I: IntNumber, C: EdgeCount, A: Allocator + Clone>(
-    graph: &Graph<I, C, A>,
-    contours: &[Contour<I, A>],
-    direction: ContourDirection,
-    tree_from: usize,
-) -> Result<Vec<Vec<usize, A>, A>, OverlayError>
-    requires long { All (All (IsLong I.limit)) (walks_in (plain_contours I.whole contours.now)) }
-    requires bindable { CanBeBound (filled_hand direction) (walks_in (plain_contours I.whole contours.now)) }
-    requires placeable { (shapes : _) → AreShapesFound (filled_hand direction) (plain_contours I.whole contours.now) shapes
-        → CanBePlaced (plain_contours I.whole contours.now) shapes }
-    ensures placed { IfOk result (λ v.
-        ArePlacedSomehow (filled_hand direction) (plain_contours I.whole contours.now) (place_lists v.items)) }
-    ensures err { IsOkUnless result OverlayError.Memory }
-{
-    let alloc = graph.allocator().clone()?;
-    let mut scan = scan_for_holes(alloc.clone()?, contours, tree_from);
-    let found = bind_contours(alloc.clone()?, &mut scan, contours, direction)?;
-    shape_places(alloc, contours, &found)
 }

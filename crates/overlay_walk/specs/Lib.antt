@@ -1,10 +1,8 @@
 pub mod Asked
 pub mod GroupedContours
-pub mod HolePlaces
 pub mod Kept
 pub mod KeptResults
 pub mod Nearest
-pub mod Parents
 pub mod Places
 pub mod Selection
 pub mod Starts

@@ -3,7 +3,7 @@ use Rattle.std.specs.Prelude.{◌≡◌, ℕ, Bool, false, cond, ℤ, List, [], 
 use Rattle.overlay_geom.specs.Plane.{Step, Edge, point_lt}
 use Rattle.overlay_geom.specs.Points.{plain_point, InRange}
 use Rattle.overlay_plane.specs.SelectedSteps.{step_with_left}
-use Rattle.overlay_plane.specs.Turn.{Hand, left, right, other_hand}
+use Rattle.overlay_plane.specs.Turn.{Hand, left, right}
 use Rattle.overlay_arrange.specs.declared.options.ContourDirection.{ContourDirection}
 use Rattle.overlay_arrange.specs.declared.options.ContourDirection.TheVariants.{CounterClockwise, Clockwise}
 use Rattle.overlay_plane.specs.Contours.{outline_or_hole_hand}
@@ -11,8 +11,6 @@ use Rattle.overlay_walk.specs.declared.hand.Hand.{Hand as HandTaken}
 use Rattle.overlay_walk.specs.declared.hand.Hand.TheVariants.{Left, Right}
 use Rattle.overlay_walk.specs.declared.hand.HandRule.{HandRule}
 use Rattle.overlay_walk.specs.declared.hand.HandRule.TheVariants.{OutlineOrHole, Always}
-use Rattle.overlay_walk.specs.declared.side.Side.{Side}
-use Rattle.overlay_walk.specs.declared.side.Side.TheVariants.{Above, Below}
 use Rattle.overlay_walk.specs.declared.step.Step.{Step as StepTaken}
 
 -- the hand
@@ -54,11 +52,6 @@ pub record IsLong (limit : ℕ) (s : Step) : Type 0 where
   pub from_in_range : InRange limit s.from
   pub to_in_range : InRange limit s.to
   pub apart : ¬ (s.from ≡ s.to)
-
--- where the filled side of each step is by this hand: the hand by which the edges filled on a side are filled above
-abbrev pub hand_on_side : Side → Hand → Hand
-hand_on_side Above filled = filled
-hand_on_side Below filled = other_hand filled
 
 -- no step leaves a smaller point than a step before it
 abbrev pub IsByFrom : List Step → Type 0

@@ -34,7 +34,7 @@ pub fn is_hole<I: IntNumber>(walk: &[Step<I>], direction: ContourDirection) -> b
 }
 
 /// The edge along which a step leads, with a number.
-pub(crate) fn edge_along<I: IntNumber>(step: &Step<I>, number: usize) -> NumberedEdge<I>
+pub fn edge_along<I: IntNumber>(step: &Step<I>, number: usize) -> NumberedEdge<I>
     requires { IsLong I.limit (plain_step I.whole step.now) }
     ensures { numbered_entry I.whole result ≡ record { edge = edge_of (plain_step I.whole step.now); value = number } }
 {

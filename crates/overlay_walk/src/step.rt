@@ -21,7 +21,7 @@ pub struct Step<I> {
 }
 
 /// Whether the step leads from its edge's smaller end to the larger one.
-pub(crate) fn is_forward<I: IntNumber>(step: &Step<I>) -> bool
+pub fn is_forward<I: IntNumber>(step: &Step<I>) -> bool
     ensures { result ≡ is_forward (plain_step I.whole step.now) }
 {
     compare_points(step.from, step.to).is_lt()

@@ -4,7 +4,8 @@ use Rattle.std.proofs.lemmas.List.{length-map, map-set}
 use Rattle.overlay_geom.proofs.Mapped.{read_mapped}
 use Rattle.overlay_geom.specs.Paths.{paths_of_shape}
 use Rattle.overlay_geom.specs.Points.{plain_point, plain_points}
-use Rattle.overlay_slice.proofs.ChangedLists.{map-reverse, changed, changed_all, changed_more, length-changed, read_changed}
+use Rattle.overlay_slice.proofs.ChangedLists.{map-reverse, changed, changed_all, changed_more, length-changed}
+use Rattle.overlay_slice.proofs.ChangedLists.{read_changed}
 use Rattle.overlay_slice.proofs.direction.turn_shape.Goals as goal
 
 pub index_mut-requires : goal.index_mut-requires

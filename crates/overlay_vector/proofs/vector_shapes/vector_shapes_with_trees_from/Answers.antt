@@ -9,26 +9,26 @@ use Rattle.overlay_arrange.specs.Graphs.{graph_edges}
 use Rattle.overlay_walk.specs.Asked.{Asked, asked, is_kept, selected_of}
 use Rattle.overlay_walk.specs.GroupedContours.{plain_contours}
 use Rattle.overlay_walk.specs.Steps.{filled_hand, IsLong, RunsAlong}
-use Rattle.overlay_extract.specs.Places.{place_lists, AreInside}
-use Rattle.overlay_extract.proofs.PlacedShapes.{can_be_placed}
-use Rattle.overlay_vector.specs.VectorContours.{ArePlacedSomehow}
+use Rattle.overlay_bind.specs.Places.{place_lists, AreInside}
+use Rattle.overlay_bind.proofs.PlacedShapes.{can_be_placed}
+use Rattle.overlay_bind.specs.Placed.{ArePlacedSomehow}
 use Rattle.overlay_vector.specs.VectorShapes.{plain_vector_shapes, AreVectorContours, AreVectorShapes}
 use Rattle.overlay_vector.proofs.VectorShapes.{vector_shapes_shown, without_groups}
 use Rattle.overlay_vector.proofs.vector_shapes.vector_shapes_with_trees_from.Goals as goal
 
-pub places_in_shapes-requires-clause-long : goal.places_in_shapes-requires-clause-long
-places_in_shapes-requires-clause-long g c =
+pub bound_places-requires-clause-long : goal.bound_places-requires-clause-long
+bound_places-requires-clause-long g c =
     subst (λ cs. All (All (IsLong g.I.IntNumber.limit)) (walks_in (plain_contours g.I.IntNumber.whole cs)))
     (sym c.deref.ensures.value) c.in_ok-contours.ensures.long
 
-pub places_in_shapes-requires-clause-bindable : goal.places_in_shapes-requires-clause-bindable
-places_in_shapes-requires-clause-bindable g c =
+pub bound_places-requires-clause-bindable : goal.bound_places-requires-clause-bindable
+bound_places-requires-clause-bindable g c =
     subst (λ cs. CanBeBound (filled_hand c.args.options.output_direction)
     (walks_in (plain_contours g.I.IntNumber.whole cs))) (sym c.deref.ensures.value)
     c.in_ok-contours.ensures.kept.bindable
 
-pub places_in_shapes-requires-clause-placeable : goal.places_in_shapes-requires-clause-placeable
-places_in_shapes-requires-clause-placeable g c =
+pub bound_places-requires-clause-placeable : goal.bound_places-requires-clause-placeable
+bound_places-requires-clause-placeable g c =
     let whole = g.I.IntNumber.whole in
     let filled = filled_hand c.args.options.output_direction in
     let q = without_groups (asked g.I.Wide.WideIntNumber.width g.I.WideUInt.UIntNumber.natural

@@ -7,7 +7,7 @@ use Rattle.overlay_plane.specs.RoledContours.{contours_from, outline_of}
 use Rattle.overlay_walk.specs.GroupedContours.{plain_contour, plain_contours}
 use Rattle.overlay_walk.specs.Steps.{plain_steps, filled_hand}
 use Rattle.overlay_walk.specs.Walks.{plain_walks}
-use Rattle.overlay_walk.proofs.RolesRead.{outline_first}
+use Rattle.overlay_walk.proofs.RoledWalks.{outline_first}
 use Rattle.overlay_walk.proofs.kept.roled.Goals as goal
 
 pub loop-steps-preserved : goal.loop-steps-preserved

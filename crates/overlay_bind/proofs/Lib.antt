@@ -1,0 +1,11 @@
+pub mod AnchorsFound
+pub mod BoundRoles
+pub mod FilledEntries
+pub mod HoleEntries
+pub mod HoleNumbers
+pub mod HolesPlaced
+pub mod HolesRound
+pub mod NextBelow
+pub mod PlacedShapes
+pub mod RolesRead
+pub mod Sweeping

@@ -1,0 +1,116 @@
+//! Binding: the shape in which each hole stands.
+
+ghost use Rattle.std.specs.Prelude.{◌≡◌, false, length, map, All, AllPairs, Some, IfOk, IsOkUnless};
+ghost use Rattle.overlay_geom.specs.Plane.{edge_of, edge_eq};
+ghost use Rattle.overlay_geom.specs.Settled.{IsSettledBy};
+ghost use Rattle.overlay_plane.specs.Anchors.{HasEachEdgeOnce};
+ghost use Rattle.overlay_plane.specs.Binding.{all_filled_above};
+ghost use Rattle.overlay_plane.specs.BoundContours.{walks_in, AreShapesFound};
+ghost use Rattle.overlay_plane.specs.Contours.{IsContour, all_steps};
+ghost use Rattle.overlay_plane.specs.KeptContours.{CanBeBound};
+ghost use Rattle.overlay_scan.specs.Scan.{empty_sweep};
+ghost use Rattle.overlay_walk.specs.GroupedContours.{plain_contours, walk_of};
+ghost use Rattle.overlay_bind.specs.Parents.{HasShapeNumber};
+ghost use Rattle.overlay_walk.specs.Steps.{filled_hand, IsLong};
+ghost use Rattle.overlay_bind.specs.Sides.{hand_on_side};
+
+use crate::roles::{shape_count, shapes_known};
+use crate::side::Side;
+use crate::sweep::parents_by_sweep;
+use overlay_arrange::options::ContourDirection;
+use overlay_geom::error::OverlayError;
+use overlay_geom::number::IntNumber;
+use overlay_scan::scan::Scan;
+use overlay_walk::contour::Contour;
+use std::alloc::Allocator;
+
+/// The number of the first shape, so often.
+fn all_in_first<A: Allocator>(alloc: A, count: usize) -> Result<Vec<Option<usize>, A>, OverlayError>
+    ensures ok { IfOk result (λ v. (length v.items ≡ count) × All (λ s. s ≡ Some 0) v.items) }
+    ensures err { IsOkUnless result OverlayError.Memory }
+{
+    let mut numbers = Vec::new(alloc);
+    numbers.resize(count, Some(0))?;
+    Ok(numbers)
+}
+
+/// A list as long as that of the contours. At a hole whose shape is to be found stands the number of the
+/// shape in which it stands. Where there is one outline alone that is its shape. Else it is the one to which
+/// the contour with the next filled-above edge below the hole's anchor belongs: an outline or a hole of its
+/// group to its own shape, another hole to the one that is found for it. It is None for a hole with no such
+/// edge, or with that of a hole for which none is found. What stands at the others is left open.
+///
+/// The contours' edges meet in ends alone; none walks along an edge twice, and no two edges that are filled
+/// above are equal, nor two that are filled below. The scan is empty at first; what it holds afterwards is
+/// left open. The only refusal is `Memory`.
+pub fn bind_contours<I: IntNumber, A: Allocator + Clone, S: Scan<I, usize>>(
+    alloc: A,
+    scan: &mut S,
+    contours: &[Contour<I, A>],
+    direction: ContourDirection,
+) -> Result<Vec<Option<usize>, A>, OverlayError>
+    requires long { All (All (IsLong I.limit)) (walks_in (plain_contours I.whole contours.now)) }
+    requires bindable { CanBeBound (filled_hand direction) (walks_in (plain_contours I.whole contours.now)) }
+    requires empty { S.content scan.old ≡ empty_sweep }
+    ensures found { IfOk result
+        (λ v. AreShapesFound (filled_hand direction) (plain_contours I.whole contours.now) v.items) }
+    ensures err { IsOkUnless result OverlayError.Memory }
+{
+    if shape_count(contours) == 1 {
+        return all_in_first(alloc, contours.len());
+    }
+    let known = shapes_known(alloc.clone()?, contours)?;
+    let shapes = find_shapes(alloc, scan, contours, &known, direction, Side::Above)?;
+    Ok(shapes)
+}
+
+/// A list as long as that of the contours, of which some stand in shapes from the start: those have the
+/// shape's number in `known`. At each other one, where `known` has None, stands the number that is found for
+/// it by the contour that has the next edge, among the edges that are filled on the side, below its anchor:
+/// the one that is known of that contour, or the one that is found for it. It is None where there is no such
+/// edge, or where none is found for that contour. What stands at the others is left open.
+///
+/// So by `Side::Above` holes find their parents, and by `Side::Below`, with the holes' numbers as known,
+/// an island the hole round it. The contours are as for [`bind_contours`]. The only refusal is `Memory`.
+pub fn find_shapes<I: IntNumber, A: Allocator + Clone, S: Scan<I, usize>>(
+    alloc: A,
+    scan: &mut S,
+    contours: &[Contour<I, A>],
+    known: &[Option<usize>],
+    direction: ContourDirection,
+    side: Side,
+) -> Result<Vec<Option<usize>, A>, OverlayError>
+    requires long { All (All (IsLong I.limit)) (map (walk_of I.whole) contours.now) }
+    requires contours { All IsContour (map (walk_of I.whole) contours.now) }
+    requires single { All HasEachEdgeOnce (map (walk_of I.whole) contours.now) }
+    requires distinct { AllPairs (λ e f. edge_eq e f ≡ false) (all_filled_above
+        (hand_on_side side (filled_hand direction)) (map (walk_of I.whole) contours.now)) }
+    requires settled { IsSettledBy edge_of (all_steps (map (walk_of I.whole) contours.now)) }
+    requires known { length known.now ≡ length contours.now }
+    requires empty { S.content scan.old ≡ empty_sweep }
+    ensures counted { IfOk result (λ v. length v.items ≡ length contours.now) }
+    ensures numbers { IfOk result (λ v. (n : _) → HasShapeNumber
+        (hand_on_side side (filled_hand direction))
+        (map (walk_of I.whole) contours.now) known.now v.items n) }
+    ensures err { IsOkUnless result OverlayError.Memory }
+{
+    parents_by_sweep(
+        alloc,
+        scan,
+        contours,
+        known,
+        filled_above_as(direction, side),
+    )
+}
+
+/// The direction in which contours run whose filled-above edges are those that are filled on the side
+/// where contours run in this one.
+fn filled_above_as(direction: ContourDirection, side: Side) -> ContourDirection
+    ensures { filled_hand result ≡ hand_on_side side (filled_hand direction) }
+{
+    match (side, direction) {
+        (Side::Above, direction) => direction,
+        (Side::Below, ContourDirection::CounterClockwise) => ContourDirection::Clockwise,
+        (Side::Below, ContourDirection::Clockwise) => ContourDirection::CounterClockwise,
+    }
+}

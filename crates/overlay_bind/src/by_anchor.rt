@@ -1,0 +1,41 @@
+//! The order of anchors.
+
+ghost use Rattle.std.specs.Prelude.{◌≡◌, OnOk, IsOkUnless};
+ghost use Rattle.std.specs.List.Sorted.{IsPermutation};
+ghost use Rattle.std.specs.Ordering.{is_lt};
+ghost use Rattle.overlay_plane.specs.Anchors.{is_anchored_before};
+ghost use Rattle.overlay_scan.specs.Sweeps.{IsByStart};
+ghost use Rattle.overlay_walk.specs.WalkEdges.{numbered_entry, numbered_entries};
+
+use overlay_arrange::edge::compare_points;
+use overlay_geom::error::OverlayError;
+use overlay_geom::number::{IntNumber, WideIntNumber};
+use overlay_geom::vector::cross_at;
+use overlay_walk::numbered_edge::NumberedEdge;
+use std::alloc::Allocator;
+use std::cmp::Ordering;
+
+/// Sorts the edges by their smaller ends, and those from one point from the lower slope to the higher
+/// one. The only refusal is `Memory`.
+pub fn sort_by_anchor<I: IntNumber, A: Allocator>(
+    edges: &mut Vec<NumberedEdge<I>, A>,
+) -> Result<(), OverlayError>
+    ensures permutation { IsPermutation edges.old.items edges.new.items }
+    ensures order { OnOk result (IsByStart (numbered_entries I.whole edges.new.items)) }
+    ensures err { IsOkUnless result OverlayError.Memory }
+{
+    edges.sort_by(|e, f| compare_anchors(e, f))?;
+    Ok(())
+}
+
+/// `Less` exactly where the first edge is anchored before the second: by their smaller ends, and from one
+/// point by their slopes.
+pub fn compare_anchors<I: IntNumber>(e: &NumberedEdge<I>, f: &NumberedEdge<I>) -> Ordering
+    ensures { is_lt result ≡ is_anchored_before (numbered_entry I.whole e.now).edge
+        (numbered_entry I.whole f.now).edge }
+{
+    match compare_points(e.a, f.a) {
+        Ordering::Equal => cross_at(e.a, f.b, e.b).sign(),
+        other => other,
+    }
+}

@@ -1,0 +1,14 @@
+//! Binding: the shapes in which holes stand, the holes round islands, and the places of contours in their shapes.
+#![tactic(auto)]
+
+pub mod anchor;
+pub mod bind;
+mod by_anchor;
+mod filled_above_edges;
+pub mod islands;
+pub mod placed;
+pub mod places;
+mod roles;
+pub mod scans;
+mod side;
+mod sweep;

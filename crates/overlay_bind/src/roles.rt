@@ -1,0 +1,40 @@
+//! The shapes in which contours stand from the start, and how many shapes there are.
+
+ghost use Rattle.std.specs.Prelude.{◌≡◌, length, filter, IfOk, IsOkUnless};
+ghost use Rattle.overlay_plane.specs.BoundContours.{known_in};
+ghost use Rattle.overlay_plane.specs.RoledContours.{is_outline};
+ghost use Rattle.overlay_walk.specs.GroupedContours.{plain_contours};
+
+use overlay_geom::error::OverlayError;
+use overlay_geom::number::IntNumber;
+use overlay_walk::contour::Contour;
+use std::alloc::Allocator;
+
+/// For each contour the number of the shape in which it stands from the start, or None for a hole whose
+/// shape is to be found. The only refusal is `Memory`.
+pub fn shapes_known<I: IntNumber, A: Allocator>(
+    alloc: A,
+    contours: &[Contour<I, A>],
+) -> Result<Vec<Option<usize>, A>, OverlayError>
+    ensures ok { IfOk result (λ v. v.items ≡ known_in (plain_contours I.whole contours.now)) }
+    ensures err { IsOkUnless result OverlayError.Memory }
+{
+    let mut known = Vec::new(alloc);
+    for i in 0..contours.len() {
+        known.push(contours[i].role.shape())?;
+    }
+    Ok(known)
+}
+
+/// How many of the contours are outlines.
+pub fn shape_count<I: IntNumber, A: Allocator>(contours: &[Contour<I, A>]) -> usize
+    ensures { result ≡ length (filter (λ c. is_outline c.role) (plain_contours I.whole contours.now)) }
+{
+    let mut count = 0;
+    for i in 0..contours.len() {
+        if contours[i].role.is_outline() {
+            count += 1;
+        }
+    }
+    count
+}

@@ -1,0 +1,44 @@
+//! The scans in which holes and islands are bound: a list or a tree, by the number of parents.
+
+ghost use Rattle.std.specs.Prelude.{◌≡◌, ◌≤◌, ◌↔◌, true, not, length, filter};
+ghost use Rattle.overlay_plane.specs.RoledContours.{is_outline};
+ghost use Rattle.overlay_scan.specs.Scan.{empty_sweep};
+ghost use Rattle.overlay_tree.specs.EitherScans.{either_sweep, is_tree};
+ghost use Rattle.overlay_walk.specs.GroupedContours.{plain_contours};
+
+use crate::roles::shape_count;
+use overlay_geom::number::IntNumber;
+use overlay_tree::either::EitherScan;
+use overlay_walk::contour::Contour;
+use std::alloc::Allocator;
+
+/// The number of parents from which on their live edges are kept in a tree: shapes for holes, and holes for
+/// islands. From there on the bound on visits counts; of fewer parents a list is short.
+pub const TREE_FROM_PARENTS: usize = 32;
+
+/// No live edges yet, in a tree where the contours have `tree_from` outlines or more, and else in a list.
+pub fn scan_for_holes<I: IntNumber, A: Allocator>(
+    alloc: A,
+    contours: &[Contour<I, A>],
+    tree_from: usize,
+) -> EitherScan<I, usize, A>
+    ensures empty { either_sweep I.whole result ≡ empty_sweep }
+    ensures tree { (is_tree result ≡ true)
+        ↔ (tree_from ≤ length (filter (λ c. is_outline c.role) (plain_contours I.whole contours.now))) }
+{
+    EitherScan::for_count(alloc, shape_count(contours), tree_from)
+}
+
+/// No live edges yet, in a tree where the contours have `tree_from` holes or more, and else in a list.
+pub fn scan_for_islands<I: IntNumber, A: Allocator>(
+    alloc: A,
+    contours: &[Contour<I, A>],
+    tree_from: usize,
+) -> EitherScan<I, usize, A>
+    ensures empty { either_sweep I.whole result ≡ empty_sweep }
+    ensures tree { (is_tree result ≡ true)
+        ↔ (tree_from ≤ length (filter (λ c. not (is_outline c.role)) (plain_contours I.whole contours.now))) }
+{
+    let holes = contours.len() - shape_count(contours);
+    EitherScan::for_count(alloc, holes, tree_from)
+}
