@@ -19,6 +19,7 @@ pub mod overlay;
 pub mod overlay_rule;
 pub mod point_location;
 pub mod relate;
+pub mod scan;
 pub mod segm;
 pub mod simplify;
 pub mod single;
