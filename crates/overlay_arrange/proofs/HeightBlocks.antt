@@ -17,7 +17,7 @@ use Rattle.overlay_geom.proofs.Entries.{some_entry}
 use Rattle.overlay_geom.proofs.Comparisons.{Decides-int_lt}
 use Rattle.overlay_geom.proofs.Signs.{linear}
 use Rattle.overlay_arrange.specs.Heights.{Span, span_of, spans_of, is_apart, AreApartFrom, AreBlocks, Encloses, IsApart}
-use Rattle.overlay_arrange.specs.Heights.{IsInBlock, IsNextNear}
+use Rattle.overlay_arrange.specs.Heights.{IsInBlock, IsInBlockOfBlocks, IsNextNear}
 use Rattle.overlay_arrange.specs.Meetings.{IsAt}
 use Rattle.overlay_arrange.proofs.GatheredMeetings.{one_entry}
 
@@ -61,6 +61,18 @@ block_passed spans blocks s block from to cover one is apart = λ k t past less 
     apart_under s block t
     (subst (λ (u : Span). Encloses u t) (ap (λ n. get_or blocks n block) (one k past less) ∙ sym is) covers) apart
 
+-- those of one block of blocks lie apart where that does
+pub over_passed : (spans blocks overs : List Span) (s over : Span) (from to : ℕ) → AreBlocks spans blocks →
+    AreBlocks blocks overs → IsInBlockOfBlocks from to →
+    over ≡ get_or overs (from / 16 / 16) over → IsApart s over → AreApartFrom spans s from to
+over_passed spans blocks overs s over from to cover cover_over one is apart = λ k t past less at_t.
+    let first = cover k t t at_t in
+    let block : Span = get_or blocks (k / 16) t in
+    let second = (cover_over (k / 16) block over (first.0, get_or_default blocks (k / 16) block t first.0)).1 in
+    let whole = subst (λ (u : Span). Encloses u block)
+    (ap (λ n. get_or overs n over) (one k past less) ∙ sym is) second in
+    apart_under s over t (covers_through over block t whole first.1) apart
+
 -- those at the front of a part of the list lie apart
 pub front_passed : (spans part : List Span) (s : Span) (from to count : ℕ) → part ≡ slice_range spans from to →
     to ≤ length spans →
@@ -102,6 +114,16 @@ same_block at k past less =
 -- so do those up to a place among them
 pub in_block : (at to : ℕ) → to ≤ at + (16 - at % 16) → IsInBlock at to
 in_block at to short = λ k past less. same_block at k past (omega arith)
+
+-- and the blocks of those up to the end of the stretch of 16 blocks, in one block of blocks
+pub in_block_of_blocks : (at to : ℕ) → to ≤ at + ((16 - at / 16 % 16) * 16 - at % 16) → IsInBlockOfBlocks at to
+in_block_of_blocks at to short = λ k past less.
+    let whole = div-add-mod at 16 in
+    let rest = mod-lt at {m = 16} (omega arith) in
+    let left = mod-lt (at / 16) {m = 16} (omega arith) in
+    let other = div-add-mod k 16 in
+    let other_rest = mod-lt k {m = 16} (omega arith) in
+    same_block (at / 16) (k / 16) (omega arith) (omega arith)
 
 -- ---- making blocks
 

@@ -45,14 +45,19 @@ abbrev pub AreBlocks : List Span → List Span → Type 0
 AreBlocks spans blocks = (k : ℕ) (s d : Span) → IsAt spans k s →
     (k / 16 < length blocks) × Encloses (slice_index_or blocks (k / 16) d) s
 
--- the spans are those of the edges, and covered by those of their blocks
-pub record AreHeightsOf (es : List CountedEdge) (spans blocks : List Span) : Type 0 where
+-- the spans are those of the edges, and covered by those of their blocks, and these by those of their blocks
+pub record AreHeightsOf (es : List CountedEdge) (spans blocks over : List Span) : Type 0 where
   pub are : spans ≡ spans_of es
   pub covered : AreBlocks spans blocks
+  pub covered_over : AreBlocks blocks over
 
 -- the places from the one up to the other one lie in one block of 16
 abbrev pub IsInBlock : ℕ → ℕ → Type 0
 IsInBlock from to = (k : ℕ) → from ≤ k → k < to → k / 16 ≡ from / 16
+
+-- the blocks of the places from the one up to the other one lie in one block of blocks
+abbrev pub IsInBlockOfBlocks : ℕ → ℕ → Type 0
+IsInBlockOfBlocks from to = (k : ℕ) → from ≤ k → k < to → k / 16 / 16 ≡ from / 16 / 16
 
 -- the spans from one place up to another one lie apart from s
 abbrev pub AreApartFrom : List Span → Span → ℕ → ℕ → Type 0

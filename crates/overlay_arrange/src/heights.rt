@@ -4,7 +4,8 @@
 ghost use Rattle.std.specs.Prelude.{◌≡◌, ◌≤◌, ◌<◌, ◌/◌, int_lt, cond, All, take, length, IfOk, IsOkUnless};
 ghost use Rattle.overlay_arrange.specs.Content.{plain_edge, plain_edges};
 ghost use Rattle.overlay_arrange.specs.Heights.{Encloses, span_of, spans_of, plain_span, plain_spans};
-ghost use Rattle.overlay_arrange.specs.Heights.{is_apart, AreBlocks, AreHeightsOf, IsApart, IsNextNear, IsInBlock};
+ghost use Rattle.overlay_arrange.specs.Heights.{is_apart, AreBlocks, AreHeightsOf, IsApart, IsNextNear};
+ghost use Rattle.overlay_arrange.specs.Heights.{IsInBlock, IsInBlockOfBlocks};
 
 use crate::count::EdgeCount;
 use crate::edge::CountedEdge;
@@ -24,13 +25,15 @@ pub(crate) struct Heights<I> {
     pub high: I,
 }
 
-/// The heights of the edges of a list, and those of each block of 16 of them.
+/// The heights of the edges of a list, those of each block of 16 of them, and of each 16 blocks.
 #[derive(Drop)]
 pub(crate) struct HeightLists<I: Copy, A: Allocator> {
     /// Those of each edge.
     pub edges: Vec<Heights<I>, A>,
     /// Those of each block: of the edges at the places 0 to 15, 16 to 31, and so on.
     pub blocks: Vec<Heights<I>, A>,
+    /// Those of each block of blocks: of the blocks at the places 0 to 15, 16 to 31, and so on.
+    pub over: Vec<Heights<I>, A>,
 }
 
 /// The heights of the edges. The only refusal is `Memory`.
@@ -39,20 +42,72 @@ pub(crate) fn height_lists<I: IntNumber, C: EdgeCount, A: Allocator + Clone>(
     edges: &[CountedEdge<I, C>],
 ) -> Result<HeightLists<I, A>, OverlayError>
     ensures ok { IfOk result (λ heights. AreHeightsOf (plain_edges I.whole C.counts edges.now)
-        (plain_spans I.whole heights.edges.items) (plain_spans I.whole heights.blocks.items)) }
+        (plain_spans I.whole heights.edges.items) (plain_spans I.whole heights.blocks.items)
+        (plain_spans I.whole heights.over.items)) }
     ensures err { IsOkUnless result OverlayError.Memory }
 {
     let heights = heights_of_edges(alloc.clone()?, edges)?;
-    let blocks = heights_of_blocks(alloc, &heights)?;
+    let blocks = heights_of_blocks(alloc.clone()?, &heights)?;
+    let over = heights_of_blocks(alloc, &blocks)?;
     Ok(HeightLists {
         edges: heights,
         blocks,
+        over,
     })
 }
 
 /// The first place, from one place up to another, of an edge that does not lie at heights apart from the
 /// given ones; the place up to which it looks where there is none.
 pub(crate) fn next_near<I: IntNumber, A: Allocator>(
+    heights: &HeightLists<I, A>,
+    of: Heights<I>,
+    from: usize,
+    to: usize,
+) -> usize
+    requires blocks { AreBlocks (plain_spans I.whole heights.now.edges.items)
+        (plain_spans I.whole heights.now.blocks.items) }
+    requires over { AreBlocks (plain_spans I.whole heights.now.blocks.items)
+        (plain_spans I.whole heights.now.over.items) }
+    requires ordered { from ≤ to }
+    requires within { to ≤ length heights.now.edges.items }
+    ensures { IsNextNear (plain_spans I.whole heights.now.edges.items) (plain_span I.whole of) from to result }
+{
+    let mut at = from;
+    while at < to {
+        let end = over_end(at, to);
+        at = next_over(heights, of, at, end);
+        if at < end {
+            return at;
+        }
+    }
+    at
+}
+
+/// The same where the places from the one up to the other one lie in one block of blocks.
+fn next_over<I: IntNumber, A: Allocator>(
+    heights: &HeightLists<I, A>,
+    of: Heights<I>,
+    from: usize,
+    to: usize,
+) -> usize
+    requires blocks { AreBlocks (plain_spans I.whole heights.now.edges.items)
+        (plain_spans I.whole heights.now.blocks.items) }
+    requires over { AreBlocks (plain_spans I.whole heights.now.blocks.items)
+        (plain_spans I.whole heights.now.over.items) }
+    requires some { from < to }
+    requires within { to ≤ length heights.now.edges.items }
+    requires one { IsInBlockOfBlocks from to }
+    ensures { IsNextNear (plain_spans I.whole heights.now.edges.items) (plain_span I.whole of) from to result }
+{
+    if is_apart(of, heights.over[from / BLOCK / BLOCK]) {
+        to
+    } else {
+        next_by_blocks(heights, of, from, to)
+    }
+}
+
+/// The same, block by block.
+fn next_by_blocks<I: IntNumber, A: Allocator>(
     heights: &HeightLists<I, A>,
     of: Heights<I>,
     from: usize,
@@ -73,6 +128,17 @@ pub(crate) fn next_near<I: IntNumber, A: Allocator>(
         }
     }
     at
+}
+
+/// Up to where the places from `at` on lie in one block of blocks, at most up to `to`.
+fn over_end(at: usize, to: usize) -> usize
+    requires { at < to }
+    ensures some { at < result }
+    ensures within { result ≤ to }
+    ensures one { IsInBlockOfBlocks at result }
+{
+    let left = (BLOCK - at / BLOCK % BLOCK) * BLOCK - at % BLOCK;
+    if to - at < left { to } else { at + left }
 }
 
 /// The same where the places from the one up to the other one lie in one block.

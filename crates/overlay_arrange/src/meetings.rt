@@ -60,7 +60,8 @@ fn gather_from<I: IntNumber, C: EdgeCount, A: Allocator>(
     requires held { All (IsHeld I.limit) (plain_edges I.whole C.counts edges.now) }
     requires ascending { IsAscending (plain_edges I.whole C.counts edges.now) }
     requires heights { AreHeightsOf (plain_edges I.whole C.counts edges.now)
-        (plain_spans I.whole heights.now.edges.items) (plain_spans I.whole heights.now.blocks.items) }
+        (plain_spans I.whole heights.now.edges.items) (plain_spans I.whole heights.now.blocks.items)
+        (plain_spans I.whole heights.now.over.items) }
     requires within { i < length edges.now }
     requires gathered { AreGathered (plain_edges I.whole C.counts edges.now)
         (HasBefore i) (plain_meetings I.whole meetings.old.items) }

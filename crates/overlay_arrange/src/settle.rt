@@ -51,7 +51,8 @@ fn is_settled_from<I: IntNumber, C: EdgeCount, A: Allocator>(
     requires held { All (IsHeld I.limit) (plain_edges I.whole C.counts edges.now) }
     requires ascending { IsAscending (plain_edges I.whole C.counts edges.now) }
     requires heights { AreHeightsOf (plain_edges I.whole C.counts edges.now)
-        (plain_spans I.whole heights.now.edges.items) (plain_spans I.whole heights.now.blocks.items) }
+        (plain_spans I.whole heights.now.edges.items) (plain_spans I.whole heights.now.blocks.items)
+        (plain_spans I.whole heights.now.over.items) }
     requires within { i < length edges.now }
     ensures { IsTrue result ↔ AreSettledUpTo (plain_edges I.whole C.counts edges.now) i (length edges.now) }
 {
