@@ -77,7 +77,8 @@ steps_more p bs b t is =
     ++ map (λ (d : BoundContour). d.contour.steps) (cond s (b ∷ []) [])) is
     ∙ ap (λ ws. map (λ (d : BoundContour). d.contour.steps) (filter p bs) ++ ws) (one t)
   where
-    one : (s : Bool) → map (λ (d : BoundContour). d.contour.steps) (cond s (b ∷ []) []) ≡ cond s (b.contour.steps ∷ []) []
+    one : (s : Bool) → map (λ (d : BoundContour). d.contour.steps) (cond s (b ∷ []) [])
+        ≡ cond s (b.contour.steps ∷ []) []
     one true = refl
     one false = refl
 

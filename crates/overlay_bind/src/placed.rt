@@ -68,7 +68,8 @@ pub fn bound_places<I: IntNumber, C: EdgeCount, A: Allocator + Clone>(
 ) -> Result<Vec<Vec<usize, A>, A>, OverlayError>
     requires long { All (All (IsLong I.limit)) (walks_in (plain_contours I.whole contours.now)) }
     requires bindable { CanBeBound (filled_hand direction) (walks_in (plain_contours I.whole contours.now)) }
-    requires placeable { (shapes : _) → AreShapesFound (filled_hand direction) (plain_contours I.whole contours.now) shapes
+    requires placeable { (shapes : _)
+        → AreShapesFound (filled_hand direction) (plain_contours I.whole contours.now) shapes
         → CanBePlaced (plain_contours I.whole contours.now) shapes }
     ensures placed { IfOk result (λ v.
         ArePlacedSomehow (filled_hand direction) (plain_contours I.whole contours.now) (place_lists v.items)) }

@@ -113,7 +113,8 @@ module _ (cs : List Contour) where
           ∙ ap (link_to n l.parent_contour) read.parent
           ∙ ap (λ k. link_to k l.parent_contour (Some l.parent_shape)) here))
           (Contains-head l []))
-      by (suc j) at child later = Contains-append_right (one_or_none (link_at cs n hole)) (links_from cs (suc n) holes) l
+      by (suc j) at child later = Contains-append_right (one_or_none (link_at cs n hole))
+          (links_from cs (suc n) holes) l
           (later (record { place = j; hole = at; child = omega (arith, child); parent = read.parent }))
 
   -- ---- children

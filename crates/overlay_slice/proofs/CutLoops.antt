@@ -42,7 +42,8 @@ points_once_rest xs ys once = AllPairs-from_each (λ p q. point_eq p q ≡ false
     (Each-second (λ p q. point_eq p q ≡ false) (points_of xs) (points_of ys) (points_in_parts xs ys once))
 
 -- the steps of one more loop
-pub all_steps-push : (loops : List (List Step)) (loop : List Step) → all_steps (loops ++ loop ∷ []) ≡ all_steps loops ++ loop
+pub all_steps-push : (loops : List (List Step)) (loop : List Step) →
+    all_steps (loops ++ loop ∷ []) ≡ all_steps loops ++ loop
 all_steps-push loops loop = flat_map-append (λ (l : List Step). l) loops (loop ∷ [])
     ∙ ap (λ ss. all_steps loops ++ ss) (append-nil loop)
 

@@ -71,7 +71,8 @@ way_begun walk closed = record {
 }
 
 -- the next step goes on from the point reached
-pub way_goes_on : (walked : List Step) (s : Step) (rest path new_path : List Step) (loops new_loops : List (List Step)) →
+pub way_goes_on : (walked : List Step) (s : Step) (rest path new_path : List Step)
+    (loops new_loops : List (List Step)) →
     IsOnItsWay walked (s ∷ rest) path loops →
     ((start : Point) (walked : List Step) → IsCutSoFar start s.from walked path loops →
     IsCutSoFar start s.to (walked ++ s ∷ []) new_path new_loops) →
@@ -79,13 +80,15 @@ pub way_goes_on : (walked : List Step) (s : Step) (rest path new_path : List Ste
 way_goes_on walked s rest path new_path loops new_loops way on = record {
   start = way.start;
   reached = s.to;
-  so_far = on way.start walked (subst (λ p. IsCutSoFar way.start p walked path loops) (sym way.leads_back.0) way.so_far);
+  so_far = on way.start walked
+      (subst (λ p. IsCutSoFar way.start p walked path loops) (sym way.leads_back.0) way.so_far);
   leads_back = way.leads_back.1;
 }
 
 -- after its last step
 pub way_ended : (walk path : List Step) (loops new_loops : List (List Step)) → IsOnItsWay walk [] path loops →
-    ((start : Point) (walked : List Step) → IsCutSoFar start start walked path loops → IsCutIntoLoops walked new_loops) →
+    ((start : Point) (walked : List Step) → IsCutSoFar start start walked path loops →
+    IsCutIntoLoops walked new_loops) →
     IsCutIntoLoops walk new_loops
 way_ended walk path loops new_loops way ends = ends way.start walk
     (subst (λ p. IsCutSoFar way.start p walk path loops) way.leads_back way.so_far)

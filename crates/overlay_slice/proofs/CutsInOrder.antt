@@ -123,7 +123,8 @@ module _ {I : Type 0} (whole : I → ℤ) (walk rest : List Step) (path : List (
       ≡ plain_steps whole (drop 1 (drop k path) ++ take 1 (drop k path))
   loop_is = ap (λ (p : List Step). drop 1 p ++ take 1 p)
       (sym (drop_more (plain_steps whole path) k no_step inside) ∙ drop-map (plain_step whole) k path)
-      ∙ ap₂ (λ xs ys. xs ++ ys) (drop-map (plain_step whole) 1 (drop k path)) (take-map (plain_step whole) 1 (drop k path))
+      ∙ ap₂ (λ xs ys. xs ++ ys) (drop-map (plain_step whole) 1 (drop k path))
+      (take-map (plain_step whole) 1 (drop k path))
       ∙ sym (map-append (plain_step whole) (drop 1 (drop k path)) (take 1 (drop k path)))
 
   loop_length : length (plain_steps whole (drop 1 (drop k path) ++ take 1 (drop k path))) ≡ length (drop k path)

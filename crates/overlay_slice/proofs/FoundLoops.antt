@@ -145,7 +145,8 @@ module _ (fills : ℤ → Bool) (count : CountedEdge → ℤ) (es : List Counted
       where
         of_tour : (t : List Step) → Contains tours t → Contains t u → ⊥
         of_tour [] at d = elim d.1 [ ]
-        of_tour (t ∷ ts) at d = not_along_upper its.start t ts its.is.0 its.is.1 its.least (long (t ∷ ts) its) comes_back u
+        of_tour (t ∷ ts) at d = not_along_upper its.start t ts its.is.0 its.is.1 its.least (long (t ∷ ts) its)
+            comes_back u
             (start ∙ ap (λ (e : Edge). e.a) (sym same)) (end ∙ ap (λ (e : Edge). e.b) (sym same)) d
           where
             its : Fits (t ∷ ts)
@@ -264,7 +265,8 @@ module _ (fills : ℤ → Bool) (count : CountedEdge → ℤ) (es : List Counted
     first_walked loops others of_tour rest = subst (λ ls. AreLoopsOfWalks sides open_sides (ls ++ others)) of_tour.are
         (by (leaves_along_first s ss) refl of_tour.is_cut)
       where
-        by : (t : Bool) → leaves_along_first s ss ≡ t → IsCutAtRepeats (cond t (s ∷ ss) (backward (s ∷ ss))) of_tour.cut →
+        by : (t : Bool) → leaves_along_first s ss ≡ t →
+            IsCutAtRepeats (cond t (s ∷ ss) (backward (s ∷ ss))) of_tour.cut →
             AreLoopsOfWalks sides open_sides (map (loop_by_hand (cond t left right)) of_tour.cut ++ others)
         by true along now = walked (begins_along along) walk_along moved now rest
         by false back now = walked (begins_back back) walk_back passed_back
@@ -277,9 +279,11 @@ module _ (fills : ℤ → Bool) (count : CountedEdge → ℤ) (es : List Counted
       (open_sides : List Step) → IsPermutation open_sides (all_steps tours) → AreLoopsOfWalks sides open_sides loops
   all_walked _ _ none fit order [] moved = none_open
   all_walked _ _ none fit order (u ∷ us) moved = absurd (let same = length_permutation (u ∷ us) [] moved in omega arith)
-  all_walked _ _ (more {tour = []} {tours = tours} {loops = loops} {others = others} of_tour rest) fit order open_sides moved =
+  all_walked _ _ (more {tour = []} {tours = tours} {loops = loops} {others = others} of_tour rest) fit order
+      open_sides moved =
       absurd ((fit [] (Contains-head [] tours)).is)
-  all_walked _ _ (more {tour = s ∷ ss} {tours = tours} {loops = loops} {others = others} of_tour rest) fit order open_sides moved =
+  all_walked _ _ (more {tour = s ∷ ss} {tours = tours} {loops = loops} {others = others} of_tour rest) fit order
+      open_sides moved =
       first_walked s ss (fit (s ∷ ss) (Contains-head (s ∷ ss) tours)) tours
       (λ t c. fit t (Contains-later (s ∷ ss) tours t c)) order.0 open_sides moved loops others of_tour
       (all_walked tours others rest (λ t c. fit t (Contains-later (s ∷ ss) tours t c)) order.1 (all_steps tours)

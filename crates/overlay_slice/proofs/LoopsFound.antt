@@ -26,7 +26,8 @@ pub tours_long : (sides : List Step) (tours : List (List Step)) → AreTours sid
     All (All HasLength) tours
 tours_long sides tours are long = all_of_entries (All HasLength) tours (λ t c. all_of_entries HasLength t (λ s d.
     All-contains HasLength sides s long (Contains-permutation (all_steps tours) sides s
-    (IsPermutation-sym sides (all_steps tours) are.each_once) (Contains-flat_map (λ (m : List Step). m) tours t s c d))))
+    (IsPermutation-sym sides (all_steps tours) are.each_once)
+    (Contains-flat_map (λ (m : List Step). m) tours t s c d))))
 
 -- a loop passed back has steps
 pub some_back : {I : Type 0} (whole : I → ℤ) (loop : List Step) → IsSimpleContour loop → (back : List (StepTaken I)) →

@@ -262,7 +262,8 @@ module _ (fills : ℤ → Bool) (count : CountedEdge → ℤ) (es : List Counted
         not_before : (u : Step) → Contains backs u → u.from ≡ t.from →
             is_met_before (other_hand hand) t.from t.to u.to s.from ≡ false
         not_before u d starts = false_from_ne_true (is_met_before (other_hand hand) t.from t.to u.to s.from)
-            (λ h. both_ways (is_met_before hand s.to s.from (far_end s.to own.edge) t.to) (near.none own.edge at_u.spoke)
+            (λ h. both_ways (is_met_before hand s.to s.from (far_end s.to own.edge) t.to)
+            (near.none own.edge at_u.spoke)
             (subst (λ (p : Point). IsMetBefore hand s.to p (far_end s.to own.edge) t.to) at_s.far
             (subst (λ (r : Point). IsMetBefore hand s.to (far_end s.to side.edge) (far_end s.to own.edge) r) at_t.far
             (back_again hand s.to (far_end s.to side.edge) (far_end s.to own.edge) (far_end s.to (near.side).edge)

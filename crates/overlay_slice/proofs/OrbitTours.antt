@@ -85,7 +85,8 @@ walk_split walks tours so_far walk added each_once closed = record {
       (IsPermutation-append (all_steps walks) (all_steps tours) walk (all_steps added) so_far.each_once each_once));
   closed = All-append IsClosedWalk tours added so_far.closed closed;
   of_one = All-append (ArePassedByOne (walks ++ walk ∷ [])) tours added
-      (All-weaker (ArePassedByOne walks) (ArePassedByOne (walks ++ walk ∷ [])) (more_walks walks walk) tours so_far.of_one)
+      (All-weaker (ArePassedByOne walks) (ArePassedByOne (walks ++ walk ∷ [])) (more_walks walks walk) tours
+      so_far.of_one)
       (all_of_entries (ArePassedByOne (walks ++ walk ∷ [])) added of_this);
 }
   where

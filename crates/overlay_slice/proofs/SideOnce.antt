@@ -34,7 +34,8 @@ module _ (fills : ℤ → Bool) (count : CountedEdge → ℤ) (es : List Counted
     (arranged : IsBalancedArrangement count es) where
   -- the two sides of one edge
   two_sides : (e : CountedEdge) → Contains es e → (a b : Bool) →
-      Each Differ (cond a (step_with_left true (ends_of e) ∷ []) [] ++ cond b (step_with_left false (ends_of e) ∷ []) [])
+      Each Differ (cond a (step_with_left true (ends_of e) ∷ []) []
+      ++ cond b (step_with_left false (ends_of e) ∷ []) [])
   two_sides e at false false = tt
   two_sides e at false true = ((λ z c. absurd (elim c.1 [ ])), tt)
   two_sides e at true false = ((λ z c. absurd (elim c.1 [ ])), tt)

@@ -49,7 +49,8 @@ balanced_arrangement limit es arranged balanced = record {
 -- the filled sides of an arrangement
 pub sides_are_long : (limit : ℕ) (fill : FillRule) (es : List CountedEdge) → IsArrangement limit es →
     HasBalancedCounts es → All (IsLong limit) (filled_sides (is_filled fill) subj_of es)
-sides_are_long limit fill es arranged balanced = all_of_entries (IsLong limit) (filled_sides (is_filled fill) subj_of es)
+sides_are_long limit fill es arranged balanced = all_of_entries (IsLong limit)
+    (filled_sides (is_filled fill) subj_of es)
     (λ s c.
     let side = (sides_listed (is_filled fill) subj_of es (balanced_arrangement limit es arranged balanced)).sides s c in
     let held = All-contains (IsHeld limit) es side.edge arranged.content.held side.along.entry in

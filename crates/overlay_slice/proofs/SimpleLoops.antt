@@ -90,7 +90,8 @@ module _ (loop : List Step) (simple : IsSimpleContour loop) where
           let three = simple.contour.three in
           ⊎_elim (λ on. ⊎_elim (λ on'. omega arith) (λ round'. let e = round'.0 in let f = round'.1 in omega arith)
           after_back.3)
-          (λ round. let e' = round.0 in let f' = round.1 in ⊎_elim (λ on'. omega arith) (λ round'. let e = round'.0 in let f = round'.1 in omega arith) after_back.3) after_s.3
+          (λ round. let e' = round.0 in let f' = round.1 in ⊎_elim (λ on'. omega arith)
+          (λ round'. let e = round'.0 in let f = round'.1 in omega arith) after_back.3) after_s.3
 
 -- a contour has balanced counts
 pub contour_rises : (loop : List Step) → IsContour loop → (g : Point → ℤ) → total (signed_rise g) loop ≡ pos 0

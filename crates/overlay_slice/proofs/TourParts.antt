@@ -173,7 +173,8 @@ AreFoundSoFar tours rest loops = (others : List (List Step)) → AreLoopsOfTours
     AreLoopsOfTours tours (loops ++ others)
 
 -- one tour more
-pub tour_found : (tours rest loops added : List (List Step)) (tour : List Step) → AreFoundSoFar tours (tour ∷ rest) loops →
+pub tour_found : (tours rest loops added : List (List Step)) (tour : List Step) →
+    AreFoundSoFar tours (tour ∷ rest) loops →
     AreLoopsOfTour tour added → AreFoundSoFar tours rest (loops ++ added)
 tour_found tours rest loops added tour so_far of_tour others are = subst (AreLoopsOfTours tours)
     (sym (append_assoc loops added others)) (so_far (added ++ others) (more of_tour are))

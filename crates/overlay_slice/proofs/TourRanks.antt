@@ -127,7 +127,8 @@ before-one_way (s ∷ ss) (t ∷ ts) h = rank_lt-order.one_way
     (record { edge = found_edge s ss; along = leaves_along_first s ss })
     (record { edge = found_edge t ts; along = leaves_along_first t ts }) h
 
-before-chain : (s t u : List Step) → is_tour_before s t ≡ false → is_tour_before t u ≡ false → is_tour_before s u ≡ false
+before-chain : (s t u : List Step) → is_tour_before s t ≡ false → is_tour_before t u ≡ false →
+    is_tour_before s u ≡ false
 before-chain [] [] u h k = k
 before-chain [] (t ∷ ts) u h k = absurd (true≢false h)
 before-chain (s ∷ ss) t [] h k = refl
@@ -157,7 +158,8 @@ module _ {I : Type 0} (whole : I → ℤ) where
       y ≡ get_or tour (length tour - 1) y →
       is_walked_along (plain_steps whole tour) ≡ not (point_lt (plain_point whole y.from) (plain_point whole x.to))
   along_read [] x y some is_first is_last = absurd (omega arith)
-  along_read (s ∷ ss) x y some is_first is_last = ap₂ (λ (l f : Step). not (point_lt l.from f.to)) (last_read s ss y is_last)
+  along_read (s ∷ ss) x y some is_first is_last = ap₂ (λ (l f : Step). not (point_lt l.from f.to))
+      (last_read s ss y is_last)
       (ap (plain_step whole) (sym is_first))
 
   -- the edge by which a tour is found

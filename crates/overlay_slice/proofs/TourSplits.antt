@@ -82,7 +82,8 @@ reached_here start walked s rest tour tours way =
     subst (λ p. IsSplitSoFar start p walked tour tours) (sym way.leads_back.0) way.so_far
 
 -- after the last one
-pub way_ended : (start : Point) (walk tour : List Step) (tours : List (List Step)) → IsOnItsWay start walk [] tour tours →
+pub way_ended : (start : Point) (walk tour : List Step) (tours : List (List Step)) →
+    IsOnItsWay start walk [] tour tours →
     IsSplitInto walk tours
 way_ended start walk tour tours way = record {
   each_once = subst (λ ws. IsPermutation ws (all_steps tours)) whole (IsPermutation-refl (all_steps tours));

@@ -61,7 +61,8 @@ more_both_ways walks walk s by = record {
 
 -- the parts of two lists, put together by what they are
 interleaved : (ks ls ms ns : List Step) → IsPermutation ((ks ++ ls) ++ (ms ++ ns)) ((ks ++ ms) ++ (ls ++ ns))
-interleaved ks ls ms ns = subst (λ zs. IsPermutation zs ((ks ++ ms) ++ (ls ++ ns))) (sym (append_assoc ks ls (ms ++ ns)))
+interleaved ks ls ms ns = subst (λ zs. IsPermutation zs ((ks ++ ms) ++ (ls ++ ns)))
+    (sym (append_assoc ks ls (ms ++ ns)))
     (subst (IsPermutation (ks ++ (ls ++ (ms ++ ns)))) (sym (append_assoc ks ms (ls ++ ns)))
     (IsPermutation-append_right ks (ls ++ (ms ++ ns)) (ms ++ (ls ++ ns)) (IsPermutation-past ls ms ns)))
 

@@ -20,7 +20,8 @@ use Rattle.overlay_vector.specs.EdgeBuilder.{EdgeBuilder}
 use Rattle.overlay_vector.specs.declared.input_edge.InputEdge.{InputEdge}
 
 -- an edge that is passed once weighs 1
-pub light_once : {D : Type 0} (t : ShapeType) (d : D) → weight_of_counts (boolean_counts (passed_once t d).count) < 2 ^ 31
+pub light_once : {D : Type 0} (t : ShapeType) (d : D) →
+    weight_of_counts (boolean_counts (passed_once t d).count) < 2 ^ 31
 light_once Subject d = lit< tt
 light_once Clip d = lit< tt
 

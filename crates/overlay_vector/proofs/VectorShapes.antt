@@ -72,7 +72,8 @@ module _ {D : Type 0} (reverses : D → D → Type 0) (eq : D → D → Bool) (r
   shapes_kept [] (r ∷ rs) is of = absurd is
   shapes_kept (w ∷ ws) [] is of = absurd is
   shapes_kept (w ∷ ws) (r ∷ rs) is of = ap₂ (λ t ts. t ++ ts)
-      (shape_kept w r is.0 (All-head (All IsContour) w ws of)) (shapes_kept ws rs is.1 (All-tail (All IsContour) w ws of))
+      (shape_kept w r is.0 (All-head (All IsContour) w ws of))
+      (shapes_kept ws rs is.1 (All-tail (All IsContour) w ws of))
 
   -- ---- and contours that are joined
 
@@ -156,7 +157,8 @@ vector_shapes_shown {D} reverses eq q xs contours kept shapes found places place
       (sym (shapes_kept reverses eq q.fill xs bound result
       (subst (λ k. AreVectorContours reverses eq q.fill k xs bound result) keep in_shapes) are_contours))
       (kept.whole all shapes found).each_once;
-  winds = λ all p off. shapes_wind reverses eq q.fill xs q.preserve_output_collinear p bound result in_shapes are_contours
+  winds = λ all p off. shapes_wind reverses eq q.fill xs q.preserve_output_collinear p bound result in_shapes
+      are_contours
       ∙ (kept.whole all shapes found).winds true (shapes_found contours shapes)
       (kept_shapes (shapes_found contours shapes)) p;
   each_alone = λ all. each_winds reverses eq q.fill xs q.preserve_output_collinear (filled_asked q) bound result

@@ -75,7 +75,8 @@ module _ {I D : Type 0} (whole : I → ℤ) (counts : CountWithData D → Counts
         ∙ ap (λ (y : Carried (CountWithData D)). y.edge) x_at
 
     within_edges : k < length (edges_in xs)
-    within_edges = let long = length-map xs (λ (y : Carried (CountWithData D)). y.edge) in omega (arith, within_seen, long)
+    within_edges = let long = length-map xs (λ (y : Carried (CountWithData D)). y.edge) in omega
+        (arith, within_seen, long)
 
     fill_at : v.fill ≡ fill_bits rule (edges_in xs) x.edge
     fill_at = ap (λ (w : Vector). w.fill) (sym (get_or-map (plain_vector whole) vs k d (plain_vector whole d) within)
@@ -84,7 +85,8 @@ module _ {I D : Type 0} (whole : I → ℤ) (counts : CountWithData D → Counts
         ∙ ap (vector_of rule (edges_in xs)) edge_at)
 
     held : IsHeld limit x.edge
-    held = subst (IsHeld limit) edge_at (All-get_or (IsHeld limit) (edges_in xs) k x.edge within_edges arranged.content.held)
+    held = subst (IsHeld limit) edge_at
+        (All-get_or (IsHeld limit) (edges_in xs) k x.edge within_edges arranged.content.held)
 
     -- a step along the edge with this number among the graph's leads along it
     pub leads_along : (e : Edge) → slice_get (all_ends (edges_in xs)) k ≡ Some e → (above : Bool) (s : Step) →
@@ -115,7 +117,8 @@ module _ {I D : Type 0} (whole : I → ℤ) (counts : CountWithData D → Counts
       pub ends_in_range : IsInRange limit r
       ends_in_range = by (is_forward s) ends
         where
-          by : (t : Bool) → ends_of x.edge ≡ cond t (record { a = s.from; b = s.to }) (record { a = s.to; b = s.from }) →
+          by : (t : Bool) → ends_of x.edge ≡ cond t (record { a = s.from; b = s.to })
+              (record { a = s.to; b = s.from }) →
               IsInRange limit r
           by true same = record {
             a = subst (InRange limit) (ap (λ (e : Edge). e.a) same ∙ sym (ap (λ (t : Step). t.from) walks))

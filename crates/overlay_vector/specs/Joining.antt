@@ -20,7 +20,8 @@ joined v w = record { a = v.a; b = w.b; fill = v.fill; data_of = v.data_of }
 -- the closed list becomes the other, up to where it begins, by joining neighbours, one pair after another
 pub data Becomes {D : Type 0} (eq : D → D → Bool) : List (DataVector D) → List (DataVector D) → Type 0 where
   stays : {vs : List (DataVector D)} → Becomes eq vs vs
-  begins_later : {v : DataVector D} {vs ws : List (DataVector D)} → Becomes eq (vs ++ v ∷ []) ws → Becomes eq (v ∷ vs) ws
+  begins_later : {v : DataVector D} {vs ws : List (DataVector D)} → Becomes eq (vs ++ v ∷ []) ws →
+      Becomes eq (v ∷ vs) ws
   joins : {v w : DataVector D} {vs ws : List (DataVector D)} → AreJoinable eq v w →
       Becomes eq (joined v w ∷ vs) ws → Becomes eq (v ∷ w ∷ vs) ws
 

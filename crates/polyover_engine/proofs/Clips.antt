@@ -1,5 +1,6 @@
 -- Paths added to a builder for strings, and what a clip answers of them.
-use Rattle.std.proofs.Common.{◌≡◌, ◌⊎◌, inl, inr, ℕ, ◌+◌, ◌<◌, lit<, true, false, List, [], ◌∷◌, ◌++◌, length, get_or, take, drop}
+use Rattle.std.proofs.Common.{◌≡◌, ◌⊎◌, inl, inr, ℕ, ◌+◌, ◌<◌, lit<, true, false, List, [], ◌∷◌, ◌++◌, length}
+use Rattle.std.proofs.Common.{get_or, take, drop}
 use Rattle.std.proofs.Common.{take-append-drop, append-nil, refl, sym, ap, subst, ◌∙◌}
 use Rattle.std.proofs.lemmas.Bool.{false≢true}
 use Rattle.std.proofs.lemmas.Grind.{flat_map-append}
@@ -78,7 +79,8 @@ module _ (cs : List GivenContour) (k : ℕ) (c : GivenContour) (within : k < len
       ∙ ap subject_of (ap (λ x. take k cs ++ x ∷ []) here ∙ sym (take_more cs k c within)))
 
   -- the next contour is added
-  pub one_more_shape : (b : StringBuilder ℕ) → HoldsJust (shape_contours (subject_of (take k cs)) ++ shape_contours part_of) b
+  pub one_more_shape : (b : StringBuilder ℕ) →
+      HoldsJust (shape_contours (subject_of (take k cs)) ++ shape_contours part_of) b
       → HoldsJust (shape_contours (subject_of (take (k + 1) cs))) b
   one_more_shape b h = subst (λ paths. HoldsJust paths b) so_far h
 
@@ -89,7 +91,8 @@ module _ (cs : List GivenContour) (k : ℕ) (c : GivenContour) (within : k < len
   shape_refused e may =
       let before = take (k + 1) cs in
       let after = drop (k + 1) cs in
-      let all : shape_contours (subject_of before) ++ shape_contours (subject_of after) ≡ shape_contours (subject_of cs) =
+      let all : shape_contours (subject_of before) ++ shape_contours (subject_of after)
+      ≡ shape_contours (subject_of cs) =
       sym (map-append shape_contour (subject_of before) (subject_of after))
       ∙ ap shape_contours (sym (flat_map-append (λ d. subject_part d.path.shape_type d.path.points) before after)
       ∙ ap subject_of (take-append-drop (k + 1) cs)) in

@@ -1,5 +1,6 @@
 -- The options of a clip in a list of words, set one by one.
-use Rattle.std.proofs.Common.{◌≡◌, ◌≢◌, ◌↔◌, true, false, [], ◌∷◌, codes, refl, sym, subst, Option, Some, None, MatchOption}
+use Rattle.std.proofs.Common.{◌≡◌, ◌≢◌, ◌↔◌, true, false, [], ◌∷◌, codes, refl, sym, subst, Option, Some, None}
+use Rattle.std.proofs.Common.{MatchOption}
 use Rattle.polyover_text.specs.declared.clip_options.ClipOptions.{ClipOptions}
 use Rattle.polyover_text.specs.Grammar.{Word, Line, default_clip, SetClipOptions, none, invert, boundary}
 use Rattle.polyover_text.specs.ClipOptions.{SetsClipOption, SetsNoClipOption}
@@ -40,7 +41,8 @@ after_boundary old o ws (boundary e h) = (e, h)
 
 pub inverted : (old : ClipOptions) (w : Word) (o : Option ClipOptions) → w ≡ codes "invert"
     → MatchOption o (old.invert ≡ true) (λ new. (old.invert ≡ false) × (new ≡ record old { invert = true }))
-    → MatchOption o ((ws : Line) → SetsNoClipOption old (w ∷ ws)) (λ new. (ws : Line) → SetsClipOption old (w ∷ ws) new ws)
+    → MatchOption o ((ws : Line) → SetsNoClipOption old (w ∷ ws))
+    (λ new. (ws : Line) → SetsClipOption old (w ∷ ws) new ws)
 inverted old w None named set =
     λ ws. subst (λ v. SetsNoClipOption old (v ∷ ws)) (sym named) (λ o h. let e = (after_invert old o ws h).0 in cc)
 inverted old w (Some new) named h =
@@ -51,7 +53,8 @@ inverted old w (Some new) named h =
 pub boundary_kept : (old : ClipOptions) (w : Word) (o : Option ClipOptions) → w ≡ codes "boundary"
     → MatchOption o (old.boundary_included ≡ true)
     (λ new. (old.boundary_included ≡ false) × (new ≡ record old { boundary_included = true }))
-    → MatchOption o ((ws : Line) → SetsNoClipOption old (w ∷ ws)) (λ new. (ws : Line) → SetsClipOption old (w ∷ ws) new ws)
+    → MatchOption o ((ws : Line) → SetsNoClipOption old (w ∷ ws))
+    (λ new. (ws : Line) → SetsClipOption old (w ∷ ws) new ws)
 boundary_kept old w None named set =
     λ ws. subst (λ v. SetsNoClipOption old (v ∷ ws)) (sym named) (λ o h. let e = (after_boundary old o ws h).0 in cc)
 boundary_kept old w (Some new) named h =

@@ -171,10 +171,10 @@ pub data AsksTiles : List Word → TilesQuery → Type 0 where
 
 -- the line asks for this: `run edges FILL` for the edges under a fill rule, `run overlay RULE FILL OPT..` for the
 -- shapes of an overlay, `run hierarchy RULE FILL OPT..` for these and which of them lie in holes of which, `run relate
--- FILL` for how subject and clip lie to each other, `run clip FILL OPT..` for the parts of the open paths that a clip by
--- the subject keeps, `run slice FILL` for the shapes into which the open paths cut the subject, `run tiles FILL W H`
--- for those into which a grid does, `run contains` for whether each point is inside the subject, `run locate` for where
--- each point lies in it
+-- FILL` for how subject and clip lie to each other, `run clip FILL OPT..` for the parts of the open paths that a
+-- clip by the subject keeps, `run slice FILL` for the shapes into which the open paths cut the subject, `run tiles FILL
+-- W H` for those into which a grid does, `run contains` for whether each point is inside the subject, `run locate` for
+-- where each point lies in it
 pub data IsCommand : Line → Query → Type 0 where
   edges : {fill : FillRule} → IsCommand (codes "run" ∷ codes "edges" ∷ fill_name fill ∷ []) (Edges fill)
   overlay : {query : OverlayQuery} {ws : List Word} → AsksOverlay ws query

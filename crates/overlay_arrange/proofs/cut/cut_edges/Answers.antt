@@ -145,7 +145,12 @@ pub loop-i-init : goal.loop-i-init
 loop-i-init g c =
     let es = plain_edges g.I.IntNumber.whole g.C.EdgeCount.counts c.args.edges.now in
     let gives = ArePieces g.C.EdgeCount.splits g.C.EdgeCount.reverses (computed_chain es) in
-    rw (c.in_ok-pieces.ensures.empty) (refl, λ new adds. adds_all gives adds, none_rounded (AreLedAlongLines es), unwritten _)
+    rw (c.in_ok-pieces.ensures.empty) (
+      refl,
+      λ new adds. adds_all gives adds,
+      none_rounded (AreLedAlongLines es),
+      unwritten _,
+    )
 
 pub returns-clause-carried : goal.returns-clause-carried
 returns-clause-carried g c =

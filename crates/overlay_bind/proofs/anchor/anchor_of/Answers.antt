@@ -9,7 +9,8 @@ use Rattle.overlay_bind.proofs.anchor.anchor_of.Goals as goal
 pub edge_along-requires : goal.edge_along-requires
 edge_along-requires g c =
     let whole = g.I.IntNumber.whole in
-    All-contains (IsLong g.I.IntNumber.limit) (plain_steps whole c.args.walk.now) (plain_step whole c.lowest_step.result)
+    All-contains (IsLong g.I.IntNumber.limit) (plain_steps whole c.args.walk.now)
+    (plain_step whole c.lowest_step.result)
     c.requires.long c.lowest_step.ensures.among
 
 pub returns-clause-index : goal.returns-clause-index

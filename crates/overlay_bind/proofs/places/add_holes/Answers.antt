@@ -55,7 +55,8 @@ loop-i-preserved g c =
     (contours_bound cs c.args.found.now) i (plain x) s more.1 more.2 c.loop-i.invariant.counted
     c.requires.numbered in
     subst (λ bs. HasHolesAdded c.args.holes cs bs old (place_lists c.push_place.new.places.items)) (sym more.0)
-    (subst (HasHolesAdded c.args.holes cs (take i (contours_bound cs c.args.found.now) ++ with_shape (plain x) s ∷ []) old)
+    (subst (HasHolesAdded c.args.holes cs
+    (take i (contours_bound cs c.args.found.now) ++ with_shape (plain x) s ∷ []) old)
     (sym (c.in_ok-push_place.ensures.ok
     ∙ ap (λ number. with_place number i lists) (c.number_as-number.ensures
     ∙ ap (λ (y : _). number_as c.args.holes (plain_role y.role) s) (sym c.index-contours-i.is))))

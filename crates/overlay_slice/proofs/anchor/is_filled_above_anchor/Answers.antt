@@ -10,4 +10,5 @@ returns g c =
     let whole = g.I.IntNumber.whole in
     let walk = plain_steps whole c.args.walk.now in
     subst (λ t. PassesAnchor t walk) (sym c.is_forward.ensures)
-    (lowest_passes walk (plain_step whole c.lowest_step.result) c.lowest_step.ensures.among c.lowest_step.ensures.anchor)
+    (lowest_passes walk (plain_step whole c.lowest_step.result) c.lowest_step.ensures.among
+    c.lowest_step.ensures.anchor)

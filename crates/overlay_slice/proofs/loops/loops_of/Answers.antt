@@ -16,7 +16,8 @@ loop-i-init g c = rw c.new-loops.ensures.items (none_cut, λ others are. are)
 pub loops_of_tour-requires-clause-closed : goal.loops_of_tour-requires-clause-closed
 loops_of_tour-requires-clause-closed g c =
     let whole = g.I.IntNumber.whole in
-    rw c.deref.ensures.value (All-mapped_at IsClosedWalk (λ (w : _). plain_steps whole w.items) c.args.tours.now c.loop-i.i
+    rw c.deref.ensures.value
+    (All-mapped_at IsClosedWalk (λ (w : _). plain_steps whole w.items) c.args.tours.now c.loop-i.i
     c.index-tours-i.result c.loop-i-test.true c.index-tours-i.is c.requires.closed)
 
 pub loops_of_tour-requires-clause-long : goal.loops_of_tour-requires-clause-long

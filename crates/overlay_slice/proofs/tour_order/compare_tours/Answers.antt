@@ -18,7 +18,8 @@ returns-in-Equal g c =
     let f = edge_between (plain_point whole other.0) (plain_point whole other.1) in
     ap is_lt c.cmp-in-Equal.ensures
     ∙ ap₂ (λ l k. is_lt (bool_cmp l k)) c.is_walked_along.ensures c.is_walked_along-in-Equal.ensures
-    ∙ less_along e f (is_walked_along (plain_steps whole s)) (is_walked_along (plain_steps whole t)) c.compare_ends.result
+    ∙ less_along e f (is_walked_along (plain_steps whole s)) (is_walked_along (plain_steps whole t))
+    c.compare_ends.result
     c.compare_ends.ensures.less c.compare_ends.ensures.tied c.in-Equal.is
     ∙ sym (some_before whole s t (search rules) (search rules) e f c.found_at.ensures c.found_at-2.ensures)
 
@@ -31,6 +32,7 @@ returns-in_default g c =
     let other = c.found_at-2.result in
     let e = edge_between (plain_point whole one.0) (plain_point whole one.1) in
     let f = edge_between (plain_point whole other.0) (plain_point whole other.1) in
-    less_by_edges e f (is_walked_along (plain_steps whole s)) (is_walked_along (plain_steps whole t)) c.compare_ends.result
+    less_by_edges e f (is_walked_along (plain_steps whole s)) (is_walked_along (plain_steps whole t))
+    c.compare_ends.result
     c.compare_ends.ensures.less c.compare_ends.ensures.tied c.in_default.not-Equal
     ∙ sym (some_before whole s t (search rules) (search rules) e f c.found_at.ensures c.found_at-2.ensures)

@@ -48,7 +48,8 @@ loop-place-preserved g c =
             (All-weaker (λ s. point_lt s.from q ≡ false) (λ s. point_lt s.from p ≡ false)
             (λ s h. point_lt-order.chain s.from q p h (point_lt-order.one_way p q (found ∙ w.if-is_lt.true)))
             (plain_steps whole (take l.place orbit)) before)
-            (subst (λ s. point_lt (plain_point whole s.from) p ≡ false) (sym c.index-orbit-place.is) (point_lt-itself p))),
+            (subst (λ s. point_lt (plain_point whole s.from) p ≡ false) (sym c.index-orbit-place.is)
+            (point_lt-itself p))),
       )
       | else-is_lt w ↦ rw w.least-is (
         omega arith,

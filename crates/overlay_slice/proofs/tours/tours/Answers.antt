@@ -21,7 +21,8 @@ loop-i-init g c = rw c.new-tours.ensures.items (none_split, All-nil (IsTourOfOne
 pub tours_of-requires : goal.tours_of-requires
 tours_of-requires g c =
     let whole = g.I.IntNumber.whole in
-    rw c.deref.ensures.value (All-mapped_at IsClosedWalk (λ (w : _). plain_steps whole w.items) c.args.orbits.now c.loop-i.i
+    rw c.deref.ensures.value
+    (All-mapped_at IsClosedWalk (λ (w : _). plain_steps whole w.items) c.args.orbits.now c.loop-i.i
     c.index-orbits-i.result c.loop-i-test.true c.index-orbits-i.is c.requires)
 
 pub loop-i-preserved : goal.loop-i-preserved

@@ -8,7 +8,8 @@ abbrev pub invariant-loop-path : goal.invariant-loop-path
 invariant-loop-path g l =
     let whole = g.I.IntNumber.whole in
     AreBack g.D.PartialEq.eq g.I.IntNumber.limit (plain_data_vectors whole l.initial.path.items)
-    (plain_data_vector whole l.initial.vector) (plain_data_vectors whole l.path.items) (plain_data_vector whole l.vector)
+    (plain_data_vector whole l.initial.vector) (plain_data_vectors whole l.path.items)
+    (plain_data_vector whole l.vector)
 
 abbrev pub decreases-loop-path : goal.decreases-loop-path
 decreases-loop-path g l = vec_len l.path

@@ -14,8 +14,10 @@ loop-vector-init g c =
     (sym c.new-path.ensures.items) (gathered_none g.D.PartialEq.eq g.I.IntNumber.limit)
 
 pub append-requires-clause-vector : goal.append-requires-clause-vector
-append-requires-clause-vector g c = All-mapped_at (IsInRange g.I.IntNumber.limit) (plain_data_vector g.I.IntNumber.whole)
-    c.args.vectors.now c.loop-vector.vector-index c.vector-item.result c.loop-vector-test.true c.vector-item.is c.requires
+append-requires-clause-vector g c = All-mapped_at (IsInRange g.I.IntNumber.limit)
+    (plain_data_vector g.I.IntNumber.whole)
+    c.args.vectors.now c.loop-vector.vector-index c.vector-item.result c.loop-vector-test.true c.vector-item.is
+    c.requires
 
 pub loop-vector-preserved : goal.loop-vector-preserved
 loop-vector-preserved g c =

@@ -61,7 +61,8 @@ returns g c =
     subst (λ rule. MatchResult c.clip_string_lines.result
     (λ v. AreClippedOfPaths c.args.query.fill_rule rule (shape_and_lines fs) (paths_of_shape (λ z. z) v.items))
     (λ e. MayRefusePaths (shape_and_lines fs) e)) c.clip_rule.ensures
-    (clip_answered (λ v. paths_of_shape (λ z. z) v.items) c.args.query.fill_rule c.clip_rule.result (shape_and_lines fs) new
+    (clip_answered (λ v. paths_of_shape (λ z. z) v.items) c.args.query.fill_rule c.clip_rule.result
+    (shape_and_lines fs) new
     (record {
       holds = both_held shape strings old new held.holds.added added;
       ready = ap (λ b. b.failed) added.kept ∙ held.ready;

@@ -14,7 +14,8 @@ loop-given-preserved g c =
     let old = paths_of_shape (λ z. z) c.loop-given.shape.items in
     let new = paths_of_shape (λ z. z) c.match-contour.shape.items in
     let given = c.given-item.result.contour in
-    let added : new ≡ old ++ subject_part given.shape_type (points_at given.points.items) = elim c.match-contour.branch [
+    let added : new ≡ old ++ subject_part given.shape_type (points_at given.points.items) =
+    elim c.match-contour.branch [
       | in-Subject+in_ok-push_copy-in-Subject w ↦
           ap (λ s. paths_of_shape (λ z. z) s.items) w.shape-is ∙ w.in_ok-push_copy-in-Subject.ensures.ok
           ∙ ap (λ l. old ++ points_at l ∷ []) w.deref.ensures.value

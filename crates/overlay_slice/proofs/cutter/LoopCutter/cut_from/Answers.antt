@@ -22,7 +22,13 @@ returns-clause-cut g c start walked so_far =
     let many = c.if-len-lt3.false in
     let long = c.len.ensures in
     let same = ap length c.in_ok-tail.ensures.tail in
-    rw (c.in_ok-tail.ensures.items, c.in_ok-push.ensures.items, map-append, c.rotate_left.ensures.items, c.in_ok-tail.ensures.tail)
+    rw (
+      c.in_ok-tail.ensures.items,
+      c.in_ok-push.ensures.items,
+      map-append,
+      c.rotate_left.ensures.items,
+      c.in_ok-tail.ensures.tail,
+    )
     (loop_cut whole start walked c.args.self.now.path.items (plain_walks whole c.args.self.now.loops.items)
     c.args.place c.requires so_far (omega (arith, many, long, same)))
 
@@ -41,6 +47,12 @@ returns-clause-order g c walk t rest repeated way =
     let many = c.if-len-lt3.false in
     let long = c.len.ensures in
     let same = ap length c.in_ok-tail.ensures.tail in
-    rw (c.in_ok-tail.ensures.items, c.in_ok-push.ensures.items, map-append, c.rotate_left.ensures.items, c.in_ok-tail.ensures.tail)
+    rw (
+      c.in_ok-tail.ensures.items,
+      c.in_ok-push.ensures.items,
+      map-append,
+      c.rotate_left.ensures.items,
+      c.in_ok-tail.ensures.tail,
+    )
     (long_cut whole walk rest c.args.self.now.path.items (plain_walks whole c.args.self.now.loops.items) t
     c.args.place c.requires repeated way (omega (arith, many, long, same)))

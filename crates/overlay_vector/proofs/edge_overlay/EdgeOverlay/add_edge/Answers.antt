@@ -20,7 +20,8 @@ returns-clause-ok g c =
     let at = plain_point g.I.IntNumber.whole in
     let edge = c.args.edge in
     subst (λ b. OnOk c.add_step.result
-    (AddsEdge g.I.IntNumber.whole c.args.shape_type g.D.OverlayEdgeData.reverses edge b.edges c.add_step.new.self.edges))
+    (AddsEdge g.I.IntNumber.whole c.args.shape_type g.D.OverlayEdgeData.reverses edge b.edges
+    c.add_step.new.self.edges))
     c.self.view_is
     (subst (λ given. OnOk c.add_step.result (AddsStep (λ k. boolean_counts k.count)
     (IsReversed g.D.OverlayEdgeData.reverses) given (at edge.a) (at edge.b) c.self.inside.core.edges

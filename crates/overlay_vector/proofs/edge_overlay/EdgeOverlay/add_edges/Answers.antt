@@ -45,7 +45,8 @@ loop-edge-preserved g c =
       search rules,
       search rules,
       one_more_added g.I.IntNumber.whole c.args.shape_type g.D.OverlayEdgeData.reverses c.loop-edge.yielded
-          c.in-Some.edge c.args.self.now c.loop-edge.self c.loop-edge.invariant.2 c.add_edge.new.self e.ok e.light e.kept,
+          c.in-Some.edge c.args.self.now c.loop-edge.self c.loop-edge.invariant.2 c.add_edge.new.self e.ok e.light
+          e.kept,
       reached_on writes _ _ _ c.loop-edge.invariant.3
           (reached_unless writes (is_le (point_cmp (at c.in-Some.edge.a) (at c.in-Some.edge.b))) _ _ e.store),
     )
