@@ -193,6 +193,44 @@ static void TEST(options)(void) {
     CHECK(TEST(has_counts)(&room, 24, 3, 1));
 }
 
+static polyover_status TEST(simplified)(TEST(room) *room, polyover_fill fill, const OPTIONS *options,
+                                        const CONTOURS *contours, size_t coordinates) {
+    TEST(fill_room)(room);
+    polyover_status status = NAME(polyover_simplify)(fill, options, contours, room->coordinates, coordinates,
+                                                     room->contour_ends, 8, room->shape_ends, 8, &room->counts);
+    CHECK(status == POLYOVER_OK || TEST(is_untouched)(room));
+    CHECK(status == POLYOVER_OK || status == POLYOVER_TOO_SMALL || TEST(has_counts)(room, 77, 77, 77));
+    return status;
+}
+
+static void TEST(simplifying)(void) {
+    const NUMBER crossing[] = {0, 0, 4, 4, 4, 0, 0, 4}, beyond[] = {LIMIT, 0, 0, LIMIT, -LIMIT - 1, 0};
+    const size_t four[] = {4}, three[] = {3};
+    const CONTOURS square = {TEST(subject_at), 8, four, 1}, cross = {crossing, 8, four, 1}, far = {beyond, 6, three, 1};
+    const CONTOURS bad = {crossing, 8, three, 1};
+    const OPTIONS by_default = {0}, clockwise = {.direction = 1}, unknown = {.direction = 2}, large = SMALLEST(17);
+    TEST(room) room;
+    CHECK(TEST(simplified)(&room, POLYOVER_NON_ZERO, &by_default, &square, 64) == POLYOVER_OK);
+    CHECK(TEST(has_counts)(&room, 8, 1, 1));
+    CHECK(memcmp(room.coordinates, TEST(subject_at), 8 * sizeof(NUMBER)) == 0);
+    CHECK(room.contour_ends[0] == 4 && room.shape_ends[0] == 1);
+    CHECK(TEST(simplified)(&room, POLYOVER_NON_ZERO, &clockwise, &square, 64) == POLYOVER_OK);
+    CHECK(TEST(has_counts)(&room, 8, 1, 1));
+    CHECK(memcmp(room.coordinates, TEST(subject_at), 8 * sizeof(NUMBER)) != 0);
+    CHECK(TEST(simplified)(&room, POLYOVER_NEGATIVE, &by_default, &square, 64) == POLYOVER_OK);
+    CHECK(TEST(has_counts)(&room, 0, 0, 0));
+    CHECK(TEST(simplified)(&room, POLYOVER_NON_ZERO, &large, &square, 64) == POLYOVER_OK);
+    CHECK(TEST(has_counts)(&room, 0, 0, 0));
+    CHECK(TEST(simplified)(&room, POLYOVER_NON_ZERO, &by_default, &cross, 64) == POLYOVER_OK);
+    CHECK(TEST(has_counts)(&room, 12, 2, 2));
+    CHECK(TEST(simplified)(&room, POLYOVER_NON_ZERO, &by_default, &cross, 11) == POLYOVER_TOO_SMALL);
+    CHECK(TEST(has_counts)(&room, 12, 2, 2));
+    CHECK(TEST(simplified)(&room, 4, &unknown, &bad, 64) == POLYOVER_BAD_FILL);
+    CHECK(TEST(simplified)(&room, 3, &unknown, &bad, 64) == POLYOVER_BAD_OPTION);
+    CHECK(TEST(simplified)(&room, 3, &by_default, &bad, 64) == POLYOVER_BAD_ENDS);
+    CHECK(TEST(simplified)(&room, 3, &by_default, &far, 64) == POLYOVER_OUT_OF_RANGE);
+}
+
 static void TEST(all)(void) {
     TEST(ranges)();
     TEST(ends)();
@@ -201,4 +239,5 @@ static void TEST(all)(void) {
     TEST(too_small)();
     TEST(refusals)();
     TEST(options)();
+    TEST(simplifying)();
 }

@@ -143,6 +143,19 @@ polyover_status polyover_overlay_32(polyover_rule rule, polyover_fill fill, cons
                                     size_t contour_room, size_t *shape_ends, size_t shape_room,
                                     polyover_counts *counts);
 
+/* The shapes that the contours are simplified to. One contour that is simple, filled and in the output direction is
+ * answered as it is given, one that is simple and not so reversed or by no shape; this is asked only where the smallest
+ * area is 0. Else the answer is that of `polyover_overlay` with the rule POLYOVER_SUBJECT and no clip. Arrays, counts
+ * and statuses are as there, but for POLYOVER_BAD_RULE, which does not come. */
+polyover_status polyover_simplify(polyover_fill fill, const polyover_options *options,
+                                  const polyover_contours *contours, int64_t *coordinates, size_t coordinate_room,
+                                  size_t *contour_ends, size_t contour_room, size_t *shape_ends, size_t shape_room,
+                                  polyover_counts *counts);
+polyover_status polyover_simplify_32(polyover_fill fill, const polyover_options_32 *options,
+                                     const polyover_contours_32 *contours, int32_t *coordinates,
+                                     size_t coordinate_room, size_t *contour_ends, size_t contour_room,
+                                     size_t *shape_ends, size_t shape_room, polyover_counts *counts);
+
 #ifdef __cplusplus
 }
 #endif

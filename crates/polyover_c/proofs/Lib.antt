@@ -1,3 +1,4 @@
 pub mod Endings
 pub mod Overlays
 pub mod ShapesRead
+pub mod Simplified

@@ -4,6 +4,7 @@ ghost use Rattle.std.specs.Prelude.{◌≡◌, ◌↔◌, ◌≤◌, ◌+◌, �
 ghost use Rattle.polyover_arrays.specs.Reading.{AreWithin};
 ghost use Rattle.std.specs.Int.{w128};
 ghost use Rattle.polyover_c.specs.Overlays.{OverlayEnds};
+ghost use Rattle.polyover_c.specs.Simplified.{SimplifyingEnds};
 ghost use Rattle.polyover_c.specs.Statuses.{ReadsAs, code_of};
 ghost use Rattle.polyover_c.specs.declared.status.Status.{Status};
 
@@ -14,6 +15,7 @@ use crate::numbers::OptionNumbers;
 use crate::options::{Options64, area_of};
 use crate::overlay::overlay_arrays;
 use crate::shape::status_read;
+use crate::simplify::simplify_arrays;
 use polyover_arrays::test::are_within;
 use std::alloc::Global;
 
@@ -90,6 +92,60 @@ pub extern "C" fn polyover_overlay(
         numbers,
         &subject,
         &clip,
+        coordinates,
+        contour_ends,
+        shape_ends,
+        counts,
+    )
+    .code()
+}
+
+/// The shapes that the contours are simplified to, as the fill rule and options ask, put into the arrays, and their
+/// counts: the code of a status.
+#[unsafe(no_mangle)]
+pub extern "C" fn polyover_simplify(
+    alloc: Global,
+    fill: u32,
+    options: &Options64,
+    contours: &Contours64,
+    coordinates: &mut [i64],
+    contour_ends: &mut [usize],
+    shape_ends: &mut [usize],
+    counts: &mut Counts,
+) -> u32
+    ensures { (s : Status) × SimplifyingEnds (λ z. z) 4611686018427387903 w128 (λ n. n) fill
+        (record {
+          direction = options.now.direction;
+          keep = options.now.keep;
+          ogc = options.now.ogc;
+          min_area = options.now.min_area_high * 2 ^ 64 + options.now.min_area_low;
+        })
+        (record { coordinates = contours.now.coordinates.now; ends = contours.now.ends.now })
+        (record {
+          arrays = record { coordinates = coordinates.old; contour_ends = contour_ends.old; shape_ends = shape_ends.old };
+          counts = counts.old;
+        })
+        (record {
+          arrays = record { coordinates = coordinates.new; contour_ends = contour_ends.new; shape_ends = shape_ends.new };
+          counts = counts.new;
+        })
+        s × (result ≡ code_of s) }
+{
+    let numbers = OptionNumbers {
+        direction: options.direction,
+        keep: options.keep,
+        ogc: options.ogc,
+        min_area: area_of(options.min_area_high, options.min_area_low),
+    };
+    let given = Contours {
+        coordinates: contours.coordinates,
+        ends: contours.ends,
+    };
+    simplify_arrays(
+        alloc,
+        fill,
+        numbers,
+        &given,
         coordinates,
         contour_ends,
         shape_ends,

@@ -11,4 +11,5 @@ mod numbers;
 pub mod options;
 mod overlay;
 mod shape;
+mod simplify;
 mod status;
