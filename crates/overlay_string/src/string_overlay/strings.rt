@@ -51,7 +51,9 @@ impl<I: OverlayInt, A: Allocator + Clone> StringOverlay<I, A> {
     ///
     /// Refusals: `Failed` before anything else, and then nothing is changed; `TooManyEdges` at a line that would
     /// bring the weight to 2^31; `Memory` at some line, it is not said which. After these two exactly the lines
-    /// before that one are added.
+    /// before that one are added, and the builder has not failed: what it holds answers for these. To go on after
+    /// `Memory`, make a new one, since none of them is taken out again and those that are in would count twice; or
+    /// add line by line with `add_string_line`, where a refusal adds nothing, and go on at the refused one.
     pub fn add_string_lines(&mut self, lines: &[IntLine<I>]) -> Result<(), OverlayError>
         requires { All (AllInRange I.limit) (paths_of_lines I.whole lines.now) }
         ensures { StringBuilderAdds (open_strings (paths_of_lines I.whole lines.now)) self.old self.new result }
@@ -64,7 +66,9 @@ impl<I: OverlayInt, A: Allocator + Clone> StringOverlay<I, A> {
     ///
     /// Refusals: `Failed` before anything else, and then nothing is changed; `TooManyEdges` at a path that would
     /// bring the weight to 2^31; `Memory` at some path, it is not said which. After these two exactly the paths
-    /// before that one are added.
+    /// before that one are added, and the builder has not failed: what it holds answers for these. To go on after
+    /// `Memory`, make a new one, since none of them is taken out again and those that are in would count twice; or
+    /// add path by path with `add_string_path`, where a refusal adds nothing, and go on at the refused one.
     pub fn add_string_source<R0: IntShapeResource<I>>(
         &mut self,
         resource: &R0,
