@@ -110,11 +110,21 @@ impl<I: OverlayInt, A: Allocator + Clone> Overlay<I, A> {
     /// then its holes. Shapes and holes stand in the order in which they are found, from left to
     /// right.
     ///
-    /// Outlines run in the direction `options.output_direction`, and holes against it. A hole that
-    /// touches its outline is a part of the outline; with `options.ogc` it is a hole of its shape, and no
-    /// contour visits a point twice. Unless `options.preserve_output_collinear`, points on one line with
-    /// their two neighbours are dropped. Where no edge is left there is no shape. After an answer there
-    /// is a buffer, `boolean_buffer`.
+    /// Outlines run in the direction `options.output_direction`, and holes against it. Unless
+    /// `options.preserve_output_collinear`, points on one line with their two neighbours are dropped.
+    /// Where no edge is left there is no shape. After an answer there is a buffer, `boolean_buffer`.
+    ///
+    /// A contour is found along the top edge at the leftmost lowest point of what is left, and begins
+    /// with the step along that edge. Where outlines run counterclockwise each step has the region on its
+    /// left. Of an outline the edge is filled below, so the step ends at the leftmost lowest point, which
+    /// is the second of the outline; of a hole it is filled above, so the step leaves that point, and the
+    /// hole begins there. Where outlines run clockwise it is the other way round. Where points are
+    /// dropped a contour begins at the first one that is kept.
+    ///
+    /// A hole that touches its outline in a point is a part of the outline, which visits that point
+    /// twice, and an island that touches the border of its hole is a part of the hole. With
+    /// `options.ogc` no contour visits a point twice: such a hole stands in its outline's shape, before
+    /// the other holes of it, and such an island is a shape of its own.
     ///
     /// A contour is left out where its double area before points are dropped, wrapped to the wide
     /// type, without its sign and halved downwards, is below `options.min_output_area`. Of the holes

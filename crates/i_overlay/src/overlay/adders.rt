@@ -76,7 +76,11 @@ impl<I: OverlayInt, A: Allocator + Clone> Overlay<I, A> {
     ///
     /// Refusals: `Failed` before anything else, and then nothing is changed; `TooManyEdges` at a
     /// path that would bring the weight to 2^31; `Memory` at some path, it is not said which. After
-    /// these two exactly the paths before that one are added.
+    /// these two exactly the paths before that one are added, and the builder has not failed: a query
+    /// answers for what it held and these paths. To go on after `Memory`, `clear` it, or call `reinit_..`,
+    /// and add all that it is to hold anew: were the same resource added again, the paths that are in
+    /// would count twice. Or add path by path with `add_contour`, where a refusal adds nothing of its path,
+    /// and go on at the refused one.
     pub fn add_source<R0: IntShapeResource<I>>(
         &mut self,
         resource: &R0,
@@ -104,7 +108,8 @@ impl<I: OverlayInt, A: Allocator + Clone> Overlay<I, A> {
     /// are in the coordinate range.
     ///
     /// Refusals are `TooManyEdges` and `Memory`, as those of `add_source`: exactly the paths before
-    /// the refused one are added then.
+    /// the refused one are added then, of `clip` none before `subj` is whole. After `Memory` the same call
+    /// can be made again, since it drops these first.
     pub fn reinit_with_subj_and_clip<R0: IntShapeResource<I>, R1: IntShapeResource<I>>(
         &mut self,
         subj: &R0,
@@ -123,7 +128,8 @@ impl<I: OverlayInt, A: Allocator + Clone> Overlay<I, A> {
     /// `solver`, `options` and `boolean_buffer` stay. The points are in the coordinate range.
     ///
     /// Refusals are `TooManyEdges` and `Memory`, as those of `add_source`: exactly the paths before
-    /// the refused one are added then.
+    /// the refused one are added then. After `Memory` the same call can be made again, since it drops
+    /// these first.
     pub fn reinit_with_subj<R0: IntShapeResource<I>>(
         &mut self,
         subj: &R0,
