@@ -22,7 +22,8 @@ IsSimplification whole width natural fill options given shapes =
     IsSimplifiedAlone (asked width natural (fill_of fill) (rule_of 0) (options_of options)) false (paths_of whole given)
     shapes
 
--- a simplification is refused so: a number stands for nothing; else the contours have a fault; else the query is refused
+-- a simplification is refused so: a number stands for nothing; else the contours have a fault; else the query is
+-- refused
 abbrev pub IsSimplifyingRefused : {I U : Type 0} → (I → ℤ) → ℕ → ℕ → OptionNumbers U → Contours I → Status → Type 0
 IsSimplifyingRefused whole limit fill options given = IsRefused (IsUnknown 0 fill options)
     (λ f. AreKnown 0 fill options × IsFaulty whole limit given f)

@@ -70,7 +70,8 @@ IsPut flat old new BadFill = ⊥
 IsPut flat old new BadOption = ⊥
 IsPut flat old new NotSettled = ⊥
 IsPut flat old new TooManyEdges = ⊥
-IsPut flat old new TooSmall = ¬ (HasRoom flat old.arrays) × (new ≡ record { arrays = old.arrays; counts = counts_of flat })
+IsPut flat old new TooSmall = ¬ (HasRoom flat old.arrays)
+    × (new ≡ record { arrays = old.arrays; counts = counts_of flat })
 
 -- such shapes stand in the arrays
 pub record IsFlat {I : Type 0} (IsAnswer : List (List (List Point)) → Type 0) (whole : I → ℤ)

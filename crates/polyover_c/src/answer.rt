@@ -59,11 +59,19 @@ pub(crate) fn put<I: IntNumber>(
           shape_ends = answer.now.shape_ends.items;
         })
         (record {
-          arrays = record { coordinates = coordinates.old; contour_ends = contour_ends.old; shape_ends = shape_ends.old };
+          arrays = record {
+            coordinates = coordinates.old;
+            contour_ends = contour_ends.old;
+            shape_ends = shape_ends.old;
+          };
           counts = counts.old;
         })
         (record {
-          arrays = record { coordinates = coordinates.new; contour_ends = contour_ends.new; shape_ends = shape_ends.new };
+          arrays = record {
+            coordinates = coordinates.new;
+            contour_ends = contour_ends.new;
+            shape_ends = shape_ends.new;
+          };
           counts = counts.new;
         })
         result }

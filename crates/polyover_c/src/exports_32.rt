@@ -62,11 +62,19 @@ pub extern "C" fn polyover_overlay_32(
         (record { coordinates = subject.now.coordinates.now; ends = subject.now.ends.now })
         (record { coordinates = clip.now.coordinates.now; ends = clip.now.ends.now })
         (record {
-          arrays = record { coordinates = coordinates.old; contour_ends = contour_ends.old; shape_ends = shape_ends.old };
+          arrays = record {
+            coordinates = coordinates.old;
+            contour_ends = contour_ends.old;
+            shape_ends = shape_ends.old;
+          };
           counts = counts.old;
         })
         (record {
-          arrays = record { coordinates = coordinates.new; contour_ends = contour_ends.new; shape_ends = shape_ends.new };
+          arrays = record {
+            coordinates = coordinates.new;
+            contour_ends = contour_ends.new;
+            shape_ends = shape_ends.new;
+          };
           counts = counts.new;
         })
         s × (result ≡ code_of s) }
@@ -122,11 +130,19 @@ pub extern "C" fn polyover_simplify_32(
         })
         (record { coordinates = contours.now.coordinates.now; ends = contours.now.ends.now })
         (record {
-          arrays = record { coordinates = coordinates.old; contour_ends = contour_ends.old; shape_ends = shape_ends.old };
+          arrays = record {
+            coordinates = coordinates.old;
+            contour_ends = contour_ends.old;
+            shape_ends = shape_ends.old;
+          };
           counts = counts.old;
         })
         (record {
-          arrays = record { coordinates = coordinates.new; contour_ends = contour_ends.new; shape_ends = shape_ends.new };
+          arrays = record {
+            coordinates = coordinates.new;
+            contour_ends = contour_ends.new;
+            shape_ends = shape_ends.new;
+          };
           counts = counts.new;
         })
         s × (result ≡ code_of s) }

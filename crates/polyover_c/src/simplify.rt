@@ -29,11 +29,19 @@ pub(crate) fn simplify_arrays<I: OverlayInt>(
     ensures { SimplifyingEnds I.whole I.limit I.Wide.width I.WideUInt.natural fill options
         (record { coordinates = given.now.coordinates.now; ends = given.now.ends.now })
         (record {
-          arrays = record { coordinates = coordinates.old; contour_ends = contour_ends.old; shape_ends = shape_ends.old };
+          arrays = record {
+            coordinates = coordinates.old;
+            contour_ends = contour_ends.old;
+            shape_ends = shape_ends.old;
+          };
           counts = counts.old;
         })
         (record {
-          arrays = record { coordinates = coordinates.new; contour_ends = contour_ends.new; shape_ends = shape_ends.new };
+          arrays = record {
+            coordinates = coordinates.new;
+            contour_ends = contour_ends.new;
+            shape_ends = shape_ends.new;
+          };
           counts = counts.new;
         })
         result }
