@@ -3,7 +3,7 @@
 use crate::graphs::{Points, graph_of, shapes_of};
 use overlay_arrange::options::ContourDirection;
 use overlay_geom::number::IntNumber;
-use overlay_slice::sliced::sliced_shapes;
+use overlay_slice::sliced_shapes::sliced_shapes;
 use overlay_slice::slices::{SliceContours, slice_contours, slice_contours_with_trees_from};
 use overlay_walk::contour::Role;
 use std::alloc::Global;

@@ -3,7 +3,7 @@
 use crate::graphs::{Points, graph_of, shapes_of};
 use overlay_arrange::options::ContourDirection;
 use overlay_geom::number::{IntNumber, UIntNumber};
-use overlay_slice::sliced::{sliced_shapes, sliced_shapes_with_trees_from};
+use overlay_slice::sliced_shapes::{sliced_shapes, sliced_shapes_with_trees_from};
 use std::alloc::Global;
 use std::process::Abort;
 use std::test::Fail;

@@ -7,7 +7,7 @@ use overlay_geom::error::OverlayError;
 use overlay_geom::number::{IntNumber, UIntNumber};
 use overlay_walk::buffer::BooleanExtractionBuffer;
 use overlay_walk::contour::Role;
-use overlay_walk::selected::selected_contours;
+use overlay_walk::selected_walks::selected_contours;
 use std::alloc::Global;
 use std::process::Abort;
 use std::test::Fail;

@@ -12,7 +12,7 @@ use overlay_geom::number::IntNumber;
 use overlay_scan::list::ScanList;
 use overlay_walk::buffer::BooleanExtractionBuffer;
 use overlay_walk::contour::{Contour, Role};
-use overlay_walk::kept::kept_contours;
+use overlay_walk::kept_contours::kept_contours;
 use std::alloc::Global;
 use std::process::Abort;
 use std::test::Fail;

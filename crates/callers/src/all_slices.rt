@@ -12,7 +12,7 @@ use overlay_arrange::options::ContourDirection;
 use overlay_geom::error::OverlayError;
 use overlay_geom::number::{IntNumber, UIntNumber};
 use overlay_geom::path::IntShapes;
-use overlay_slice::sliced::sliced_shapes;
+use overlay_slice::sliced_shapes::sliced_shapes;
 use std::alloc::Allocator;
 
 /// The shapes of the slices, however small: of each its outline, counterclockwise, and then its holes, clockwise.

@@ -9,7 +9,7 @@ ghost use Rattle.overlay_walk.specs.Walks.{plain_walks};
 use overlay_arrange::options::ContourDirection;
 use overlay_geom::error::OverlayError;
 use overlay_geom::number::IntNumber;
-use overlay_walk::contours::cut_into_contours;
+use overlay_walk::contour_cut::cut_into_contours;
 use overlay_walk::hand::HandRule;
 use overlay_walk::open_steps::OpenSteps;
 use overlay_walk::step::Step;

@@ -14,7 +14,7 @@ use crate::by_anchor::{compare_anchors, sort_by_anchor};
 use overlay_geom::error::OverlayError;
 use overlay_geom::number::IntNumber;
 use overlay_walk::contour::Contour;
-use overlay_walk::filled::edge_along;
+use overlay_walk::filled_side::edge_along;
 use overlay_walk::numbered_edge::NumberedEdge;
 use overlay_walk::step::Step;
 use std::alloc::Allocator;

@@ -15,7 +15,7 @@ use overlay_arrange::options::ContourDirection;
 use overlay_geom::error::OverlayError;
 use overlay_geom::number::IntNumber;
 use overlay_walk::contour::Contour;
-use overlay_walk::filled::{edge_along, is_filled_above};
+use overlay_walk::filled_side::{edge_along, is_filled_above};
 use overlay_walk::numbered_edge::NumberedEdge;
 use overlay_walk::step::Step;
 use std::alloc::Allocator;

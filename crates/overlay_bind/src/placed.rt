@@ -23,7 +23,7 @@ use overlay_geom::error::OverlayError;
 use overlay_geom::number::IntNumber;
 use overlay_walk::buffer::BooleanExtractionBuffer;
 use overlay_walk::contour::Contour;
-use overlay_walk::kept::kept_contours;
+use overlay_walk::kept_contours::kept_contours;
 use std::alloc::Allocator;
 
 /// Contours, and their places in shapes.

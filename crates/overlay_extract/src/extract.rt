@@ -26,7 +26,7 @@ use overlay_geom::number::IntNumber;
 use overlay_geom::path::IntShapes;
 use overlay_walk::area::large_walks;
 use overlay_walk::buffer::BooleanExtractionBuffer;
-use overlay_walk::selected::selected_walks;
+use overlay_walk::selected_walks::selected_walks;
 use overlay_walk::step::Step;
 use std::alloc::Allocator;
 

@@ -10,9 +10,9 @@ ghost use Rattle.overlay_relate.specs.Locations.{shapes_edges};
 ghost use Rattle.overlay_relate.specs.Locations.{is_in_shapes, is_inside};
 ghost use Rattle.overlay_relate.specs.Locations.{IsLocatedAmong};
 
-use crate::contour::locate_in_contour;
+use crate::in_contour::locate_in_contour;
+use crate::in_shapes::{locate_in_shape, locate_in_shapes};
 use crate::location::PointLocation;
-use crate::shapes::{locate_in_shape, locate_in_shapes};
 use overlay_geom::error::OverlayError;
 use overlay_geom::integer::OverlayInt;
 use overlay_geom::path::{IntContour, IntShape, IntShapes};

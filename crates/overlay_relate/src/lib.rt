@@ -3,9 +3,10 @@
 
 mod border_end;
 pub mod containment;
-pub mod contour;
 mod edge_answers;
 mod edge_test;
+pub mod in_contour;
+pub mod in_shapes;
 mod joined;
 pub mod laws;
 pub mod location;
@@ -13,7 +14,6 @@ mod predicate;
 pub mod predicate_laws;
 pub mod predicate_overlay;
 mod queries;
-pub mod shapes;
 mod shared_end;
 mod starts;
 mod sweep;

@@ -13,8 +13,8 @@ ghost use Rattle.overlay_simplify.specs.Alone.{AnswersAlone, IsArrangedAlone, Ma
 ghost use Rattle.overlay_simplify.specs.Outcome.{IsOutcome};
 
 use crate::direction::direction_of;
-use crate::once::has_each_point_once;
 use crate::outcome::{Outcome, outcome_of};
+use crate::points_once::has_each_point_once;
 use overlay_arrange::data::CountWithData;
 use overlay_arrange::fill_rule::FillRule;
 use overlay_arrange::options::{ContourDirection, ShapeType};

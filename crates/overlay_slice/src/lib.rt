@@ -11,7 +11,7 @@ pub mod loops;
 pub mod orbits;
 pub mod roles;
 mod sides;
-pub mod sliced;
+pub mod sliced_shapes;
 pub mod slices;
 mod tour_order;
 pub mod tours;

@@ -16,7 +16,7 @@ use overlay_arrange::count::EdgeCount;
 use overlay_arrange::graph::Graph;
 use overlay_geom::error::OverlayError;
 use overlay_geom::number::IntNumber;
-use overlay_walk::contours::cut_into_contours;
+use overlay_walk::contour_cut::cut_into_contours;
 use overlay_walk::hand::{Hand, HandRule};
 use overlay_walk::open_steps::OpenSteps;
 use overlay_walk::step::Step;

@@ -6,8 +6,8 @@ ghost use Rattle.overlay_string.specs.PieceOrder.{AreByStart, AreInOrder, AreNum
 ghost use Rattle.overlay_string.specs.Pieces.{plain_piece, plain_pieces, turned};
 ghost use Rattle.overlay_walk.specs.Steps.{plain_step, plain_steps, IsByFrom};
 
-use crate::marks::is_taken;
 use crate::piece::{Piece, Way};
+use crate::taken_pieces::is_taken;
 use overlay_arrange::edge::compare_points;
 use overlay_geom::error::OverlayError;
 use overlay_geom::number::IntNumber;

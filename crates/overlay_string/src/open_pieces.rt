@@ -7,8 +7,8 @@ ghost use Rattle.overlay_string.specs.PieceOrder.{seen_on, AreInOrder, IsFirstFr
 ghost use Rattle.overlay_string.specs.Pieces.{plain_piece, plain_pieces, IsTakenAt, IsTakenFirst};
 
 use crate::by_start::{first_open_from, steps_by_start};
-use crate::marks::is_taken;
 use crate::piece::{Piece, Way};
+use crate::taken_pieces::is_taken;
 use overlay_geom::error::OverlayError;
 use overlay_geom::number::IntNumber;
 use overlay_geom::point::IntPoint;

@@ -12,7 +12,7 @@ use overlay_builder::balanced_graph::BalancedGraph;
 use overlay_geom::error::OverlayError;
 use overlay_geom::integer::OverlayInt;
 use overlay_geom::path::IntShapes;
-use overlay_slice::sliced::sliced_shapes;
+use overlay_slice::sliced_shapes::sliced_shapes;
 use std::alloc::Allocator;
 
 /// A view of what a builder for strings holds: the edges of its arrangement, with the sides that the shape fills under

@@ -2,7 +2,6 @@
 #![tactic(auto)]
 
 mod balance;
-mod contours;
 pub mod edge_overlay;
 pub mod edges;
 pub mod graph_vectors;
@@ -12,4 +11,5 @@ pub mod laws;
 pub mod path;
 pub mod selected_vectors;
 pub mod side_fill;
+mod vector_contours;
 pub mod vector_shapes;

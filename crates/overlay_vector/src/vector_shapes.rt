@@ -7,8 +7,8 @@ ghost use Rattle.overlay_arrange.specs.Stores.{IsStoreReached};
 ghost use Rattle.overlay_extract.specs.Results.{asked};
 ghost use Rattle.overlay_vector.specs.VectorShapes.{plain_vector_shapes, AreVectorShapes};
 
-use crate::contours::assembled;
 use crate::path::DataVectorShape;
+use crate::vector_contours::assembled;
 use overlay_arrange::data::{CountWithData, OverlayEdgeData};
 use overlay_arrange::graph::Graph;
 use overlay_arrange::options::IntOverlayOptions;
@@ -18,7 +18,7 @@ use overlay_bind::scans::TREE_FROM_PARENTS;
 use overlay_geom::error::OverlayError;
 use overlay_geom::number::IntNumber;
 use overlay_walk::buffer::BooleanExtractionBuffer;
-use overlay_walk::kept::kept_contours;
+use overlay_walk::kept_contours::kept_contours;
 use std::alloc::Allocator;
 
 /// The shapes round the region where the rules hold, that of the graph and the overlay rule, of the

@@ -15,8 +15,8 @@ ghost use Rattle.overlay_walk.specs.GroupedContours.{plain_contours};
 
 use crate::area::large_walks;
 use crate::contour::Contour;
-use crate::contours::{cut_into_contours, empty_hand, filled_hand};
-use crate::filled::is_hole;
+use crate::contour_cut::{cut_into_contours, empty_hand, filled_hand};
+use crate::filled_side::is_hole;
 use crate::group_contours::{group_contours, push_free_holes};
 use crate::hand::{Hand, HandRule};
 use crate::open_steps::OpenSteps;

@@ -7,9 +7,9 @@ ghost use Rattle.overlay_walk.specs.Steps.{plain_steps, IsLong};
 ghost use Rattle.overlay_walk.specs.WalkEdges.{numbered_entries};
 
 use crate::by_start::sort_by_start;
-use crate::filled::edge_along;
-use crate::marks::is_open;
+use crate::filled_side::edge_along;
 use crate::numbered_edge::NumberedEdge;
+use crate::open_places::is_open;
 use crate::step::Step;
 use overlay_geom::error::OverlayError;
 use overlay_geom::number::IntNumber;

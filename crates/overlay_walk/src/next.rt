@@ -7,8 +7,8 @@ ghost use Rattle.overlay_walk.specs.Steps.{plain_hand, plain_step, plain_steps};
 ghost use Rattle.overlay_walk.specs.Steps.{IsByFrom, IsLong};
 
 use crate::hand::Hand;
-use crate::marks::is_open;
 use crate::nearest::{NearestVector, Ray};
+use crate::open_places::is_open;
 use crate::step::Step;
 use overlay_arrange::edge::compare_points;
 use overlay_geom::number::IntNumber;

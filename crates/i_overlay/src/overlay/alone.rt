@@ -19,7 +19,7 @@ use overlay_geom::integer::OverlayInt;
 use overlay_geom::path::IntShapes;
 use overlay_geom::point::IntPoint;
 use overlay_geom::resource::IntShapeResource;
-use overlay_simplify::alone::arrange_alone;
+use overlay_simplify::arranged_alone::arrange_alone;
 use overlay_simplify::outcome::Outcome;
 use overlay_simplify::simple::outcome_of_contour;
 use overlay_walk::buffer::BooleanExtractionBuffer;

@@ -1,0 +1,84 @@
+//! The cut of steps into contours.
+
+ghost use Rattle.std.specs.Prelude.{◌≡◌, [], All, Contains, IfOk, OnOk, IsOkUnless};
+ghost use Rattle.overlay_plane.specs.BesideOrbits.{HasEachOnce};
+ghost use Rattle.overlay_plane.specs.Contours.{outline_or_hole_hand};
+ghost use Rattle.overlay_plane.specs.Contours.{CanBeCut, IsCutInto};
+ghost use Rattle.overlay_plane.specs.Turn.{other_hand};
+ghost use Rattle.overlay_walk.specs.Steps.{plain_hand, plain_step, plain_steps, filled_hand, hand_by};
+ghost use Rattle.overlay_walk.specs.Walks.{plain_walks};
+
+use crate::filled_side::is_filled_above;
+use crate::hand::{Hand, HandRule};
+use crate::open_steps::OpenSteps;
+use crate::step::Step;
+use overlay_arrange::options::ContourDirection;
+use overlay_geom::error::OverlayError;
+use overlay_geom::number::IntNumber;
+use std::alloc::Allocator;
+
+/// Walks all steps left: while there are any, the orbit of the step along the top edge at their leftmost
+/// lowest point, by the hand that the rule tells of this step. The steps alternate round every node, or
+/// the rule tells one hand, by which they lead on. At the end no step is left. The only refusal is
+/// `Memory`, after which the steps left are open.
+pub fn cut_into_contours<I: IntNumber, A: Allocator + Clone>(
+    alloc: A,
+    steps: &mut OpenSteps<I, A>,
+    rule: HandRule,
+) -> Result<Vec<Vec<Step<I>, A>, A>, OverlayError>
+    requires cuttable { CanBeCut (hand_by rule) (plain_steps I.whole steps.old) }
+    requires once { HasEachOnce (plain_steps I.whole steps.old) }
+    ensures cut { IfOk result (λ ws. IsCutInto (hand_by rule) (plain_steps I.whole steps.old)
+        (plain_walks I.whole ws.items)) }
+    ensures among { IfOk result (λ ws. All (λ w. All (Contains steps.old) w.items) ws.items) }
+    ensures none_left { OnOk result (steps.new ≡ []) }
+    ensures err { IsOkUnless result OverlayError.Memory }
+{
+    let mut contours = Vec::new(alloc);
+    while let Some(start) = steps.start() {
+        let hand = hand_by(rule, start);
+        contours.push(steps.walk(start, hand)?)?;
+    }
+    Ok(contours)
+}
+
+/// The hand that the rule tells of a step.
+fn hand_by<I: IntNumber>(rule: HandRule, start: Step<I>) -> Hand
+    ensures { plain_hand result ≡ hand_by rule (plain_step I.whole start) }
+{
+    match rule {
+        HandRule::OutlineOrHole(direction) => hand_of(start, direction),
+        HandRule::Always(hand) => hand,
+    }
+}
+
+/// The hand by which the contour that starts with a step turns.
+fn hand_of<I: IntNumber>(start: Step<I>, direction: ContourDirection) -> Hand
+    ensures { plain_hand result ≡ outline_or_hole_hand (filled_hand direction) (plain_step I.whole start) }
+{
+    if is_filled_above(&start, direction) {
+        empty_hand(direction)
+    } else {
+        filled_hand(direction)
+    }
+}
+
+/// The hand of the filled side of each step, where contours run in a direction.
+pub(crate) fn filled_hand(direction: ContourDirection) -> Hand
+    ensures { plain_hand result ≡ filled_hand direction }
+{
+    match direction {
+        ContourDirection::CounterClockwise => Hand::Left,
+        ContourDirection::Clockwise => Hand::Right,
+    }
+}
+
+/// The hand of its empty side.
+pub(crate) fn empty_hand(direction: ContourDirection) -> Hand
+    ensures { plain_hand result ≡ other_hand (filled_hand direction) }
+{
+    match direction {
+        ContourDirection::CounterClockwise => Hand::Right,
+        ContourDirection::Clockwise => Hand::Left,
+    }
+}

@@ -1,0 +1,90 @@
+//! The contours that the selected steps of a graph are cut into, in groups or without, as far as they are kept.
+
+ghost use Rattle.std.specs.Prelude.{◌≡◌, false, map, All, IfOk, IsOkUnless};
+ghost use Rattle.overlay_geom.specs.Edges.{all_ends};
+ghost use Rattle.overlay_plane.specs.Balance.{HasBalancedCounts};
+ghost use Rattle.overlay_plane.specs.BoundContours.{walks_in};
+ghost use Rattle.overlay_plane.specs.RoledContours.{contours_from};
+ghost use Rattle.overlay_arrange.specs.Graphs.{graph_edges};
+ghost use Rattle.overlay_walk.specs.Asked.{asked};
+ghost use Rattle.overlay_walk.specs.GroupedContours.{plain_contours};
+ghost use Rattle.overlay_walk.specs.KeptResults.{AreKeptResults};
+ghost use Rattle.overlay_walk.specs.Steps.{filled_hand, IsLong, RunsAlong};
+ghost use Rattle.overlay_walk.specs.Walks.{plain_walks};
+
+use crate::area::large_walks;
+use crate::buffer::BooleanExtractionBuffer;
+use crate::contour::{Contour, Role};
+use crate::filled_side::is_hole;
+use crate::selected_walks::{selected_contours, selected_walks};
+use crate::step::Step;
+use overlay_arrange::count::EdgeCount;
+use overlay_arrange::graph::Graph;
+use overlay_arrange::options::{ContourDirection, IntOverlayOptions};
+use overlay_arrange::overlay_rule::OverlayRule;
+use overlay_geom::error::OverlayError;
+use overlay_geom::number::{IntNumber, UIntNumber, WideIntNumber};
+use std::alloc::Allocator;
+
+/// The contours that the selected steps of the graph are cut into: those along the edges on exactly one
+/// side of which the rules hold, that of the graph and the overlay rule, with this side on the left where
+/// the output direction is counterclockwise, else on the right. With `ogc` they are cut in groups, as
+/// [`cut_in_groups`](crate::groups::cut_in_groups) tells; without it each walk is an outline, which turns
+/// through its filled side, or a hole whose shape is to be found, which turns through its empty one. Those
+/// are given that have three points or more and reach the minimum area of the options, a hole of an
+/// outline's group only with its outline. The counts of the edges are balanced. Without `ogc` each step has
+/// the number of its edge in the graph.
+///
+/// The buffer lends its room. The only refusal is `Memory`, after which the buffer may be left without
+/// room.
+pub fn kept_contours<I: IntNumber, C: EdgeCount, A: Allocator + Clone>(
+    graph: &Graph<I, C, A>,
+    overlay_rule: OverlayRule,
+    options: IntOverlayOptions<I::WideUInt>,
+    buffer: &mut BooleanExtractionBuffer<I, A>,
+) -> Result<Vec<Contour<I, A>, A>, OverlayError>
+    requires { HasBalancedCounts (graph_edges graph.now) }
+    ensures kept { IfOk result (λ cs. AreKeptResults
+        (asked I.Wide.width I.WideUInt.natural graph.now.fill_rule overlay_rule options)
+        (graph_edges graph.now) (plain_contours I.whole cs.items)) }
+    ensures long { IfOk result (λ cs. All (All (IsLong I.limit)) (walks_in (plain_contours I.whole cs.items))) }
+    ensures along { IfOk result (λ cs. options.ogc ≡ false →
+        All (λ c. All (RunsAlong I.whole (all_ends (graph_edges graph.now))) c.steps.items) cs.items) }
+    ensures err { IsOkUnless result OverlayError.Memory }
+{
+    graph.note_arrangement();
+    let direction = options.output_direction;
+    let least = options.min_output_area;
+    if options.ogc {
+        return selected_contours(graph, overlay_rule, direction, least, buffer);
+    }
+    let walks = selected_walks(graph, overlay_rule, direction, buffer)?;
+    let large = large_walks(graph.allocator().clone()?, walks, least)?;
+    roled(graph.allocator().clone()?, large, direction)
+}
+
+// The walks as contours: the outlines, numbered from 0, and the holes, whose shape is to be found.
+fn roled<I: IntNumber, A: Allocator>(
+    alloc: A,
+    walks: Vec<Vec<Step<I>, A>, A>,
+    direction: ContourDirection,
+) -> Result<Vec<Contour<I, A>, A>, OverlayError>
+    ensures ok { IfOk result (λ cs. plain_contours I.whole cs.items
+        ≡ contours_from (filled_hand direction) 0 (plain_walks I.whole walks.items)) }
+    ensures steps { IfOk result (λ cs. map (λ c. c.steps) cs.items ≡ walks.items) }
+    ensures err { IsOkUnless result OverlayError.Memory }
+{
+    let mut contours = Vec::new(alloc);
+    let mut number = 0;
+    for steps in walks {
+        if is_hole(&steps, direction) {
+            let role = Role::FreeHole;
+            contours.push(Contour { role, steps })?;
+        } else {
+            let role = Role::Outline(number);
+            contours.push(Contour { role, steps })?;
+            number += 1;
+        }
+    }
+    Ok(contours)
+}

@@ -1,0 +1,112 @@
+//! The walks that the selected steps of a graph are cut into, and the contours with groups.
+
+ghost use Rattle.std.specs.Prelude.{◌≡◌, [], All, IfOk, IsOkUnless};
+ghost use Rattle.std.specs.List.Sorted.{IsPermutation};
+ghost use Rattle.overlay_geom.specs.Edges.{all_ends, subj_of, clip_of};
+ghost use Rattle.overlay_plane.specs.Balance.{HasBalancedCounts};
+ghost use Rattle.overlay_plane.specs.Binding.{AreCutFrom};
+ghost use Rattle.overlay_plane.specs.Groups.{IsSimpleContour};
+ghost use Rattle.overlay_plane.specs.MinimumArea.{reaches};
+ghost use Rattle.overlay_plane.specs.RoledContours.{IsCutInGroups};
+ghost use Rattle.overlay_plane.specs.SelectedSteps.{selected_steps};
+ghost use Rattle.overlay_arrange.specs.Graphs.{graph_edges};
+ghost use Rattle.overlay_arrange.specs.Rules.{rules_hold};
+ghost use Rattle.overlay_walk.specs.GroupedContours.{plain_contours};
+ghost use Rattle.overlay_walk.specs.Steps.{filled_hand, plain_steps, IsLong, RunsAlong};
+ghost use Rattle.overlay_walk.specs.Walks.{plain_walks};
+
+use crate::buffer::BooleanExtractionBuffer;
+use crate::contour::Contour;
+use crate::contour_cut::cut_into_contours;
+use crate::groups::cut_in_groups;
+use crate::hand::HandRule;
+use crate::open_steps::OpenSteps;
+use crate::selected_steps::push_selected;
+use crate::step::Step;
+use overlay_arrange::count::EdgeCount;
+use overlay_arrange::graph::Graph;
+use overlay_arrange::options::ContourDirection;
+use overlay_arrange::overlay_rule::OverlayRule;
+use overlay_geom::error::OverlayError;
+use overlay_geom::number::{IntNumber, UIntNumber, WideIntNumber};
+use std::alloc::Allocator;
+
+/// The walks that the selected steps of the graph are cut into: those along the edges on exactly one
+/// side of which the rules hold, that of the graph and the overlay rule, with this side on the left
+/// where the direction is counterclockwise, else on the right. Outlines turn through their filled side,
+/// holes through their empty one. Each step has the number of its edge in the graph. The counts of the
+/// edges are balanced.
+///
+/// The buffer lends its room. The only refusal is `Memory`, after which the buffer may be left without
+/// room.
+pub fn selected_walks<I: IntNumber, C: EdgeCount, A: Allocator + Clone>(
+    graph: &Graph<I, C, A>,
+    overlay_rule: OverlayRule,
+    direction: ContourDirection,
+    buffer: &mut BooleanExtractionBuffer<I, A>,
+) -> Result<Vec<Vec<Step<I>, A>, A>, OverlayError>
+    requires { HasBalancedCounts (graph_edges graph.now) }
+    ensures cut { IfOk result (λ ws. AreCutFrom (rules_hold graph.now.fill_rule overlay_rule) subj_of clip_of
+        (graph_edges graph.now) (filled_hand direction) (plain_walks I.whole ws.items)) }
+    ensures along { IfOk result (λ ws.
+        All (λ w. All (RunsAlong I.whole (all_ends (graph_edges graph.now))) w.items) ws.items) }
+    ensures long { IfOk result (λ ws. All (All (IsLong I.limit)) (plain_walks I.whole ws.items)) }
+    ensures err { IsOkUnless result OverlayError.Memory }
+{
+    graph.note_arrangement();
+    let room = buffer.take_room(graph.allocator().clone()?);
+    let rule = HandRule::OutlineOrHole(direction);
+    let mut open = open_selected(graph, overlay_rule, direction, room)?;
+    let walks = cut_into_contours(graph.allocator().clone()?, &mut open, rule)?;
+    buffer.put_room(open.into_room());
+    Ok(walks)
+}
+
+/// The contours that the selected steps of the graph are cut into with groups, of which those are given that
+/// reach the minimum area, as [`cut_in_groups`] tells; the steps are those of [`selected_walks`]. No contour
+/// visits a point twice. The counts of the edges are balanced.
+///
+/// The buffer lends its room. The only refusal is `Memory`, after which the buffer may be left without
+/// room.
+pub fn selected_contours<I: IntNumber, C: EdgeCount, A: Allocator + Clone>(
+    graph: &Graph<I, C, A>,
+    overlay_rule: OverlayRule,
+    direction: ContourDirection,
+    min_output_area: I::WideUInt,
+    buffer: &mut BooleanExtractionBuffer<I, A>,
+) -> Result<Vec<Contour<I, A>, A>, OverlayError>
+    requires { HasBalancedCounts (graph_edges graph.now) }
+    ensures cut { IfOk result (λ cs. IsCutInGroups (filled_hand direction)
+        (λ w. reaches I.Wide.width (I.WideUInt.natural min_output_area) w)
+        (selected_steps (rules_hold graph.now.fill_rule overlay_rule) subj_of clip_of (filled_hand direction)
+        (graph_edges graph.now)) (plain_contours I.whole cs.items)) }
+    ensures simple { IfOk result (λ cs. All (λ c. IsSimpleContour c.steps) (plain_contours I.whole cs.items)) }
+    ensures err { IsOkUnless result OverlayError.Memory }
+{
+    graph.note_arrangement();
+    let room = buffer.take_room(graph.allocator().clone()?);
+    let mut open = open_selected(graph, overlay_rule, direction, room)?;
+    let alloc = graph.allocator().clone()?;
+    let contours = cut_in_groups(alloc, &mut open, direction, min_output_area)?;
+    buffer.put_room(open.into_room());
+    Ok(contours)
+}
+
+// The selected steps of the graph, none of them walked, in the room of a list; each with its edge's
+// number.
+fn open_selected<I: IntNumber, C: EdgeCount, A: Allocator + Clone>(
+    graph: &Graph<I, C, A>,
+    overlay_rule: OverlayRule,
+    direction: ContourDirection,
+    mut steps: Vec<Step<I>, A>,
+) -> Result<OpenSteps<I, A>, OverlayError>
+    requires { steps.items ≡ [] }
+    ensures selected { IfOk result (λ o. IsPermutation (selected_steps (rules_hold graph.now.fill_rule overlay_rule)
+        subj_of clip_of (filled_hand direction) (graph_edges graph.now)) (plain_steps I.whole o)) }
+    ensures along { IfOk result (All (RunsAlong I.whole (all_ends (graph_edges graph.now)))) }
+    ensures err { IsOkUnless result OverlayError.Memory }
+{
+    let edges = graph.edges();
+    push_selected(&mut steps, edges, overlay_rule, direction)?;
+    OpenSteps::new(steps)
+}
