@@ -21,7 +21,7 @@ mod merge;
 pub mod options;
 pub mod overlay_rule;
 mod rounds;
-mod settle;
+pub mod settle;
 mod spans;
 mod starting_edge;
 mod starts;
