@@ -2,14 +2,14 @@
 -- are those of the shapes to which the contours are bound.
 use Rattle.std.proofs.Common.{◌≡◌, ℕ, ◌+◌, ◌<◌, Bool, true, false, cond, List, [], ◌∷◌, ◌++◌, map, length, get_or, All}
 use Rattle.std.proofs.Common.{Option, Some, None, refl}
-use Rattle.std.proofs.Common.{sym, ap, ap₂, ◌∙◌, subst, arith}
+use Rattle.std.proofs.Common.{sym, ap, ◌∙◌, subst, arith}
 use Rattle.std.specs.List.{filter, slice_get}
 use Rattle.std.specs.Prelude.{slice_index_or, IfSome}
 use Rattle.std.proofs.lemmas.List.{append-nil, length-map, get_or-map, get_or_default, map-append}
 use Rattle.std.proofs.lemmas.List.Elements.{All-cons, All-map, All-nil, All-push, filter-append}
 use Rattle.overlay_geom.specs.Plane.{Step}
 use Rattle.overlay_geom.proofs.Mapped.{map-filter}
-use Rattle.overlay_plane.specs.BoundContours.{BoundContour, walks_in, contours_bound, shapes_bound, own_holes}
+use Rattle.overlay_plane.specs.BoundContours.{BoundContour, walks_in, contours_bound, own_holes}
 use Rattle.overlay_plane.specs.BoundContours.{found_holes, AreShapesFound}
 use Rattle.overlay_plane.specs.ContourNumbers.{AreNumbers, outline_count}
 use Rattle.overlay_plane.specs.PlacedContours.{CanBePlaced, ArePlaced, walk_at, walks_at}

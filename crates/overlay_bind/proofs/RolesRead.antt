@@ -2,7 +2,6 @@
 use Rattle.std.proofs.Common.{◌≡◌, ℕ, suc, ◌+◌, Bool, true, false, cond, ℤ, List, [], ◌∷◌, ◌++◌, map, length}
 use Rattle.std.proofs.Common.{refl}
 use Rattle.std.proofs.Common.{filter, Option, ap, ◌∙◌, arith}
-use Rattle.overlay_geom.specs.Plane.{Step}
 use Rattle.overlay_plane.specs.RoledContours.{Contour, stands_in, is_outline}
 use Rattle.overlay_plane.specs.BoundContours.{walks_in, known_in}
 use Rattle.overlay_walk.specs.declared.contour.Contour.{Contour as ContourTaken}

@@ -4,7 +4,7 @@ use Rattle.std.proofs.lemmas.List.Elements.{All-contains}
 use Rattle.overlay_geom.specs.Edges.{CountedEdge}
 use Rattle.overlay_geom.specs.Plane.{Point, Step}
 use Rattle.overlay_plane.specs.Binding.{walks_of}
-use Rattle.overlay_plane.specs.BoundContours.{walks_in, contours_bound, shapes_bound}
+use Rattle.overlay_plane.specs.BoundContours.{walks_in, contours_bound}
 use Rattle.overlay_plane.specs.Islands.{ChildLink, AreLinks}
 use Rattle.overlay_plane.specs.KeptContours.{CanBeBound}
 use Rattle.overlay_plane.specs.PlacedContours.{walks_at}

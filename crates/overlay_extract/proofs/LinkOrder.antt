@@ -1,12 +1,12 @@
 -- Any two links compare, by their fields in order, and in one way; so the test of two links is an order, and of two
 -- with different children one comes first.
-use Rattle.std.proofs.Common.{◌≡◌, ℕ, arith, ◌==◌, ◌&&◌, ◌||◌, ◌↔◌, Bool, true, false, refl, sym, ap, ◌∙◌}
+use Rattle.std.proofs.Common.{◌≡◌, ℕ, arith, ◌==◌, ◌&&◌, ◌||◌, ◌↔◌, Bool, true, false, sym, ap, ◌∙◌}
 use Rattle.std.specs.Cmp.{IsTotalOrder, IsStrictWeakOrder}
-use Rattle.std.specs.Ordering.{is_lt, is_eq, nat_cmp, ordering_then, ordering_reverse, then_cmp, on}
+use Rattle.std.specs.Ordering.{is_lt, is_eq, nat_cmp, ordering_reverse, then_cmp, on}
 use Rattle.std.specs.Prelude.{nat_lt}
 use Rattle.std.specs.declared.cmp.Ordering.{Ordering}
 use Rattle.std.specs.declared.cmp.Ordering.TheVariants.{Less, Equal, Greater}
-use Rattle.std.proofs.lemmas.Bool.{eqb-true, eq-eqb, and_parts, false_from_ne_true}
+use Rattle.std.proofs.lemmas.Bool.{eqb-true, and_parts, false_from_ne_true}
 use Rattle.std.proofs.lemmas.Cmp.{on_total, then_total, nat_cmp_total, tied_itself}
 use Rattle.std.proofs.lemmas.List.MinMax.{ranks_by}
 use Rattle.overlay_geom.proofs.Orders.{less_in_turn, tied_in_turn}

@@ -1,5 +1,5 @@
 -- The links read off the holes round outlines are exactly the links of the contours, and no two have one child.
-use Rattle.std.proofs.Common.{◌≡◌, ⊎_elim, ℕ, zero, suc, ◌+◌, ◌<◌, ◌==◌, Bool, true, false, List, [], ◌∷◌, ◌++◌, All}
+use Rattle.std.proofs.Common.{◌≡◌, ⊎_elim, ℕ, zero, suc, ◌+◌, ◌<◌, ◌==◌, true, false, List, [], ◌∷◌, ◌++◌, All}
 use Rattle.std.proofs.Common.{AllPairs}
 use Rattle.std.proofs.Common.{Contains, Option, Some, None, get_or, length, refl, sym, ap, ◌∙◌, subst, arith}
 use Rattle.std.proofs.Common.{append_assoc, append-nil}

@@ -10,7 +10,7 @@ use Rattle.overlay_geom.specs.Edges.{CountedEdge, subj_of, clip_of}
 use Rattle.overlay_plane.specs.Binding.{AreCutFrom}
 use Rattle.overlay_plane.specs.BoundContours.{AreShapesFound, walks_in}
 use Rattle.overlay_plane.specs.Contours.{outline_or_hole_hand}
-use Rattle.overlay_plane.specs.Groups.{HasEachPointOnce, IsSimpleContour}
+use Rattle.overlay_plane.specs.Groups.{HasEachPointOnce}
 use Rattle.overlay_plane.specs.MinimumArea.{reaches}
 use Rattle.overlay_plane.specs.PlacedContours.{ArePlaced, walks_at}
 use Rattle.overlay_plane.specs.RoledContours.{Contour, contours_from, IsCut}

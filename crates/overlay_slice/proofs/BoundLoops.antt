@@ -1,16 +1,14 @@
 -- Loops of filled sides can be bound: none passes an edge twice, and no two pass one edge on one side of it.
-use Rattle.std.proofs.Common.{◌≡◌, ◌⊎◌, inl, inr, ⊎_elim, Bool, true, false, not, cond, ℤ, List, [], ◌∷◌, ◌++◌, map}
+use Rattle.std.proofs.Common.{◌≡◌, ◌⊎◌, inl, inr, ⊎_elim, Bool, true, false, not, cond, ℤ, List, map}
 use Rattle.std.proofs.Common.{All}
 use Rattle.std.proofs.Common.{Contains, AllPairs, refl, sym, ap, ◌∙◌, subst}
 use Rattle.std.specs.List.{filter}
-use Rattle.std.proofs.lemmas.Bool.{both_ways, false_from_ne_true, and_parts}
-use Rattle.std.proofs.lemmas.List.{map-append}
-use Rattle.std.proofs.lemmas.List.Elements.{filter-append, All-filter, All-weaker, All-contains}
-use Rattle.overlay_geom.specs.Plane.{Step, Edge, point_eq, edge_of, edge_eq, step_eq, is_forward, reversed_step}
+use Rattle.std.proofs.lemmas.Bool.{both_ways, false_from_ne_true}
+use Rattle.std.proofs.lemmas.List.Elements.{All-filter, All-weaker, All-contains}
+use Rattle.overlay_geom.specs.Plane.{Step, edge_of, edge_eq, step_eq, is_forward, reversed_step}
 use Rattle.overlay_geom.specs.Edges.{CountedEdge}
-use Rattle.overlay_geom.proofs.Orders.{point_eq-same}
 use Rattle.overlay_plane.specs.Anchors.{HasEachEdgeOnce}
-use Rattle.overlay_plane.specs.Binding.{all_filled_above, filled_above_edges}
+use Rattle.overlay_plane.specs.Binding.{all_filled_above}
 use Rattle.overlay_plane.specs.Contours.{all_steps, is_filled_above, IsContour}
 use Rattle.overlay_plane.specs.Groups.{IsSimpleContour}
 use Rattle.overlay_plane.specs.KeptContours.{CanBeBound}

@@ -1,7 +1,6 @@
 -- Lists whose entries are changed in place, one after another, and mapped lists in the opposite order.
-use Rattle.std.proofs.Common.{◌≡◌, ◌≤◌, ◌<◌, ℕ, zero, suc, List, [], ◌∷◌, ◌++◌, map, reverse, take, drop}
-use Rattle.std.proofs.Common.{length, set, get_or, refl, sym, ap, ◌∙◌, arith}
-use Rattle.std.proofs.lemmas.List.{map-append, reverse-append}
+use Rattle.std.proofs.Common.{◌≡◌, ◌≤◌, ◌<◌, ℕ, zero, suc, List, [], ◌∷◌, ◌++◌, map, take, drop}
+use Rattle.std.proofs.Common.{length, set, get_or, refl, ap, arith}
 pub use Rattle.overlay_geom.proofs.Mapped.{map-reverse}
 
 module _ {X : Type 0} (f : X → X) where

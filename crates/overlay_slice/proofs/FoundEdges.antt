@@ -1,19 +1,19 @@
 -- The edge by which a tour is found is the first one of all on which it has a step, and the tour leads along its lower
 -- side alone where it comes back along it.
-use Rattle.std.proofs.Common.{◌≡◌, ⊎_elim, ◌⊎◌, inl, inr, ◌&&◌, ◌||◌, Bool, true, false, cond, not, List, [], ◌∷◌, ◌++◌}
+use Rattle.std.proofs.Common.{◌≡◌, ⊎_elim, ◌⊎◌, ◌&&◌, Bool, true, false, cond, not, List, [], ◌∷◌}
 use Rattle.std.proofs.Common.{map, All}
-use Rattle.std.proofs.Common.{Contains, refl, sym, ap, ap₂, ◌∙◌, subst}
-use Rattle.std.proofs.lemmas.Bool.{cases_Bool, both_ways, true≢false, not-true, not-false, or_from, and_left, and_right}
-use Rattle.std.proofs.lemmas.Bool.{not_from_false, false_from_ne_true, or_parts, and_parts, and_cases}
-use Rattle.std.proofs.lemmas.List.Elements.{All-head, All-tail, All-map, All-contains, Contains-append_cases}
+use Rattle.std.proofs.Common.{Contains, refl, sym, ap, ◌∙◌, subst}
+use Rattle.std.proofs.lemmas.Bool.{both_ways, or_from, and_left, and_right}
+use Rattle.std.proofs.lemmas.Bool.{not_from_false, false_from_ne_true}
+use Rattle.std.proofs.lemmas.List.Elements.{All-head, All-tail, All-map, All-contains}
 use Rattle.std.proofs.lemmas.List.Elements.{Contains-push_cases}
 use Rattle.std.proofs.lemmas.List.Sorted.{All-permutation}
-use Rattle.overlay_geom.specs.Plane.{Point, Step, Edge, edge_of, edge_eq, edge_lt, is_forward, point_eq, point_lt}
+use Rattle.overlay_geom.specs.Plane.{Point, Step, Edge, edge_of, edge_lt, is_forward, point_eq, point_lt}
 use Rattle.overlay_geom.specs.Plane.{points_of}
 use Rattle.overlay_geom.specs.Plane.{reversed_step}
 use Rattle.overlay_geom.proofs.Entries.{Contains-head, Contains-later}
 use Rattle.overlay_geom.proofs.Orders.{point_eq-same, point_eq-of_same, point_lt-itself, point_lt-back, point_lt-order}
-use Rattle.overlay_plane.proofs.Entries.{all_of_entries, Contains-map}
+use Rattle.overlay_plane.proofs.Entries.{Contains-map}
 use Rattle.overlay_plane.proofs.LaterEntries.{Contains-cases}
 use Rattle.overlay_slice.specs.ClosedWalks.{LeadsTo, HasLength, NoneLeaves}
 use Rattle.overlay_slice.specs.TourOrder.{last_step, leaves_along_first, found_edge}

@@ -1,11 +1,11 @@
 -- The loops of the tours of orbits, tour by tour, are those that slicing finds on the sides, in the order in which it
 -- finds them.
-use Rattle.std.proofs.Common.{◌≡◌, ⊎_elim, ◌&&◌, ◌||◌, Bool, true, false, cond, not, ℤ, List, [], ◌∷◌, ◌++◌, map, take}
+use Rattle.std.proofs.Common.{◌≡◌, ⊎_elim, ◌&&◌, Bool, true, false, cond, not, ℤ, List, [], ◌∷◌, ◌++◌, map, take}
 use Rattle.std.proofs.Common.{drop}
 use Rattle.std.proofs.Common.{All, Contains, refl, sym, ap, ◌∙◌, subst, arith}
 use Rattle.std.specs.List.Sorted.{IsPermutation}
 use Rattle.std.proofs.lemmas.Bool.{both_ways, or_parts, and_cases, not_from_false}
-use Rattle.std.proofs.lemmas.List.Elements.{All-head, All-tail, All-contains}
+use Rattle.std.proofs.lemmas.List.Elements.{All-head, All-contains}
 use Rattle.std.proofs.lemmas.List.Elements.{Contains-append_left, Contains-append_right, Contains-append_cases}
 use Rattle.std.proofs.lemmas.List.Sorted.{IsPermutation-refl, IsPermutation-sym, IsPermutation-trans}
 use Rattle.std.proofs.lemmas.List.Sorted.{IsPermutation-append_left}
@@ -17,7 +17,7 @@ use Rattle.overlay_geom.proofs.Entries.{Contains-head, Contains-later}
 use Rattle.overlay_geom.proofs.Orders.{edge_eq-same, edge_lt-order, lt_or_eq}
 use Rattle.overlay_plane.specs.Contours.{all_steps}
 use Rattle.overlay_plane.specs.Nodes.{IsBalancedArrangement}
-use Rattle.overlay_plane.specs.Turn.{IsOrbit, IsNextStep}
+use Rattle.overlay_plane.specs.Turn.{IsOrbit}
 use Rattle.overlay_plane.specs.Turn.Hand.{left, right}
 use Rattle.overlay_plane.proofs.Entries.{all_of_entries, Contains-map, Contains-from_map, Contains-flat_map}
 use Rattle.overlay_plane.proofs.Entries.{Contains-from_flat_map}

@@ -7,7 +7,7 @@ use Rattle.std.specs.List.{filter, slice_get}
 use Rattle.std.proofs.lemmas.Bool.{both_ways}
 use Rattle.std.proofs.lemmas.List.Elements.{All-contains}
 use Rattle.std.proofs.lemmas.Option.{none-some}
-use Rattle.overlay_geom.specs.Plane.{Step, Edge, edge_of, edge_eq, is_forward, midpoint, point_lt, reversed_step}
+use Rattle.overlay_geom.specs.Plane.{Step, Edge, edge_of, edge_eq, midpoint, point_lt}
 use Rattle.overlay_geom.specs.Edges.{CountedEdge, ends_of, winding_by, winding_below, winding_above}
 use Rattle.overlay_geom.specs.Settled.{MeetInEnds}
 use Rattle.overlay_plane.specs.Anchors.{IsAnchor, HasEachEdgeOnce, is_below_anchor}

@@ -1,6 +1,6 @@
 -- Loops as contours with roles: the outlines are numbered in order, so the contours can be placed in the shapes that
 -- are found for them.
-use Rattle.std.proofs.Common.{◌≡◌, ⊎_elim, ℕ, suc, ◌<◌, true, false, List, [], ◌∷◌, Contains, Option, Some, None, refl}
+use Rattle.std.proofs.Common.{◌≡◌, ⊎_elim, ℕ, suc, ◌<◌, List, Contains, Option, Some, None, refl}
 use Rattle.std.proofs.Common.{subst}
 use Rattle.std.specs.Prelude.{slice_index_or, IfSome}
 use Rattle.overlay_plane.specs.BoundContours.{AreShapesFound}

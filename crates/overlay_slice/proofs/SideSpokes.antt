@@ -1,21 +1,15 @@
 -- Steps along edges as spokes of the nodes where they arrive and leave, and the windings on their sides.
-use Rattle.std.proofs.Common.{◌≡◌, inl, inr, ⊎_elim, Bool, true, false, cond, ℤ, List, Contains, refl, sym}
-use Rattle.std.proofs.Common.{ap, ◌∙◌, subst}
-use Rattle.std.proofs.lemmas.Bool.{false≢true}
-use Rattle.overlay_geom.specs.Plane.{Point, Step, edge_eq, reversed_step}
-use Rattle.overlay_geom.specs.Edges.{CountedEdge, ends_of, winding_below, winding_above}
-use Rattle.overlay_geom.proofs.Orders.{point_eq-of_same}
+use Rattle.std.proofs.Common.{◌≡◌, inl, inr, ⊎_elim, ℤ, List, Contains, refl, sym}
+use Rattle.std.proofs.Common.{ap, ◌∙◌}
+use Rattle.overlay_geom.specs.Plane.{Point, Step, reversed_step}
+use Rattle.overlay_geom.specs.Edges.{CountedEdge, ends_of}
 use Rattle.overlay_plane.specs.Turn.{Hand, other_hand, IsMetBefore}
 use Rattle.overlay_plane.specs.Turn.Hand.{left, right}
 use Rattle.overlay_plane.specs.Nodes.{IsBalancedArrangement}
-use Rattle.overlay_plane.specs.Spokes.{IsSpoke, far_end, winding_before, winding_after}
+use Rattle.overlay_plane.specs.Spokes.{IsSpoke, far_end}
 use Rattle.overlay_plane.specs.WindingsBeside.{IsStepAlong, winding_on_side}
 use Rattle.overlay_plane.proofs.SameWay.{ends_differ}
-use Rattle.overlay_plane.proofs.TurnOrder.{apart_exchanged, met_irreflexive, start_is_last}
-use Rattle.overlay_plane.proofs.CyclicOrder.{met_shifted, met_by_other, met_after}
-use Rattle.overlay_plane.proofs.SingleEntries.{one_entry}
-use Rattle.overlay_plane.proofs.SpokeWindings.{not_start, forward_entry}
-use Rattle.overlay_plane.proofs.SpokeRays.{far_apart, spokes_apart}
+use Rattle.overlay_plane.proofs.SpokeWindings.{forward_entry}
 use Rattle.overlay_plane.proofs.RoundNodes.{one_winding_between_spokes}
 pub use Rattle.overlay_plane.proofs.NextWindings.{Arrives, Leaves, arrives, leaves, turned_back}
 

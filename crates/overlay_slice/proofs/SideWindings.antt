@@ -1,9 +1,9 @@
 -- Filled sides wind once round each point where the winding is filled, and zero times elsewhere; and a step back counts
 -- as the opposite of the step.
 use Rattle.std.proofs.Common.{◌≡◌, Bool, true, false, cond, not, ◌++◌, ℤ, pos, negsuc, ◌-ℤ◌, ◌*ℤ◌, List, [], ◌∷◌}
-use Rattle.std.proofs.Common.{All, Contains, refl, sym, ap, ap₂, ◌∙◌}
+use Rattle.std.proofs.Common.{Contains, refl, sym, ap, ap₂, ◌∙◌}
 use Rattle.std.proofs.lemmas.Bool.{false_from_ne_true}
-use Rattle.overlay_geom.specs.Plane.{Point, PlanePoint, Step, point_eq, edge_of, is_forward, is_strictly_below}
+use Rattle.overlay_geom.specs.Plane.{PlanePoint, Step, point_eq, is_forward, is_strictly_below}
 use Rattle.overlay_geom.specs.Plane.{reversed_step, total, winding}
 use Rattle.overlay_geom.specs.Edges.{CountedEdge, ends_of, winding_by, winding_below, winding_above}
 use Rattle.overlay_geom.proofs.Orders.{point_eq-same}

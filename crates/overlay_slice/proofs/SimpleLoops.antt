@@ -1,34 +1,28 @@
 -- A contour that visits no point twice has no step with its reverse; so, where its steps are filled sides, it passes no
 -- side whose reverse lies in the same orbit: what it winds on the left of the one it winds on the left of the other.
-use Rattle.std.proofs.Common.{◌≡◌, ◌⊎◌, inl, inr, ⊎_elim, ℕ, suc, ◌+◌, ◌<◌, Bool, true, false, ℤ, pos, ◌+ℤ◌, ◌-ℤ◌, List}
+use Rattle.std.proofs.Common.{◌≡◌, ◌⊎◌, inl, inr, ⊎_elim, ℕ, suc, ◌+◌, ◌<◌, Bool, ℤ, pos, ◌+ℤ◌, ◌-ℤ◌, List}
 use Rattle.std.proofs.Common.{length}
 use Rattle.std.proofs.Common.{get_or, Contains, refl, sym, ap, ◌∙◌, subst, arith}
-use Rattle.std.proofs.lemmas.Bool.{cases_lt, cases_order, both_ways, false_from_ne_true}
+use Rattle.std.proofs.lemmas.Bool.{cases_lt, cases_order, both_ways}
 use Rattle.std.proofs.lemmas.List.{get_or-map, length-map}
 use Rattle.std.proofs.lemmas.List.Elements.{All-contains}
-use Rattle.overlay_geom.specs.Plane.{Point, Step, point_eq, step_eq, reversed_step, points_of, total}
+use Rattle.overlay_geom.specs.Plane.{Point, Step, point_eq, reversed_step, points_of, total}
 use Rattle.overlay_geom.specs.Edges.{CountedEdge}
 use Rattle.overlay_geom.proofs.Signs.{linear}
 use Rattle.overlay_geom.proofs.Orders.{point_eq-of_same}
 use Rattle.overlay_plane.specs.Turn.{step_round, no_step}
 use Rattle.overlay_plane.specs.Turn.Hand.{left, right}
-use Rattle.overlay_plane.specs.Regions.{one_if}
-use Rattle.overlay_plane.specs.BesideOrbits.{count_on, winding_beside, times_held, HasEachOnce}
+use Rattle.overlay_plane.specs.BesideOrbits.{count_on, winding_beside, times_held}
 use Rattle.overlay_plane.specs.BesideOrbits.{IsBalancedPart}
 use Rattle.overlay_plane.specs.Contours.{IsContour}
 use Rattle.overlay_plane.specs.Groups.{IsSimpleContour}
 use Rattle.overlay_plane.specs.Nodes.{IsBalancedArrangement}
-use Rattle.overlay_plane.proofs.AtNodes.{same_steps}
 use Rattle.overlay_plane.proofs.BalancedSteps.{balanced_from_rises}
 use Rattle.overlay_plane.proofs.BesideAcross.{across}
 use Rattle.overlay_plane.proofs.EdgesOfSteps.{one_side}
 use Rattle.overlay_plane.proofs.OrbitSteps.{step_inside}
-use Rattle.overlay_plane.proofs.OrbitsApart.{is_step_of_decides}
-use Rattle.overlay_plane.specs.Orbits.{is_step_of}
 use Rattle.overlay_plane.proofs.ItemsRound.{item_round-here, item_round-round, place_of}
-use Rattle.overlay_plane.proofs.StepTotals.{single_step_total}
 use Rattle.overlay_plane.proofs.Telescopes.{signed_rise, signed_rise-around}
-use Rattle.overlay_plane.proofs.Totals.{total-zero}
 use Rattle.overlay_slice.specs.FilledSides.{filled_sides, IsFilledSide, AreFilledSides, IsInOneOrbit}
 use Rattle.overlay_slice.specs.Loops.{LoopsPassNoSideBothWays}
 use Rattle.overlay_slice.proofs.AlongSides.{along_an_orbit}

@@ -1,18 +1,15 @@
 -- The shapes to which loops of filled sides are bound, by the points of the loops in the output direction: what their
 -- steps are, and how they wind.
-use Rattle.std.proofs.Common.{◌≡◌, ⊎_elim, ℕ, ◌<◌, Bool, true, false, cond, not, ◌&&◌, ℤ, pos, negsuc, ◌*ℤ◌, List, []}
-use Rattle.std.proofs.Common.{◌∷◌, ◌++◌, map, reverse, All, Contains, Option, Some, None, refl, sym, ap, ap₂, ◌∙◌}
+use Rattle.std.proofs.Common.{◌≡◌, Bool, true, false, cond, not, ℤ, pos, negsuc, ◌*ℤ◌, List, []}
+use Rattle.std.proofs.Common.{◌∷◌, ◌++◌, map, All, Contains, refl, sym, ap, ap₂, ◌∙◌}
 use Rattle.std.proofs.Common.{subst}
-use Rattle.std.specs.Prelude.{slice_index_or}
-use Rattle.std.specs.List.{filter, flat_map, slice_get}
+use Rattle.std.specs.List.{flat_map}
 use Rattle.std.specs.List.Sorted.{IsPermutation}
-use Rattle.std.proofs.lemmas.Bool.{and_parts, false≢true}
 use Rattle.std.proofs.lemmas.Grind.{flat_map-append}
-use Rattle.std.proofs.lemmas.List.Elements.{All-head, All-tail, All-nil, All-cons, All-map, All-weaker, All-append}
+use Rattle.std.proofs.lemmas.List.Elements.{All-nil, All-cons, All-map, All-weaker}
 use Rattle.std.proofs.lemmas.List.Elements.{All-contains}
 use Rattle.std.proofs.lemmas.List.Folds.{flat_map-map}
-use Rattle.std.proofs.lemmas.List.Sorted.{IsPermutation-refl, IsPermutation-append, IsPermutation-sym}
-use Rattle.std.proofs.lemmas.List.Sorted.{All-permutation, Contains-permutation}
+use Rattle.std.proofs.lemmas.List.Sorted.{IsPermutation-refl, IsPermutation-append}
 use Rattle.overlay_geom.specs.Plane.{Point, PlanePoint, Step, steps_of, points_of, reversed_step, total, winding}
 use Rattle.overlay_plane.specs.Contours.{all_steps}
 use Rattle.overlay_plane.specs.ContourWindings.{once_round}

@@ -1,6 +1,6 @@
 -- What shows the contours of slices in the output direction, in the shapes to which they are bound, is what slicing
 -- answers.
-use Rattle.std.proofs.Common.{◌≡◌, ⊎_elim, ℕ, Bool, true, false, cond, pos, ◌*ℤ◌, List, [], ◌∷◌, ◌++◌, map, All}
+use Rattle.std.proofs.Common.{◌≡◌, ⊎_elim, ℕ, Bool, false, ◌*ℤ◌, List, [], ◌∷◌, ◌++◌, map, All}
 use Rattle.std.proofs.Common.{Contains}
 use Rattle.std.proofs.Common.{Option, refl, sym, ap, ◌∙◌, subst}
 use Rattle.std.specs.Int.{Width}
@@ -10,7 +10,7 @@ use Rattle.std.proofs.lemmas.Grind.{flat_map-append}
 use Rattle.std.proofs.lemmas.List.Elements.{All-map, All-weaker, All-contains, All-filter}
 use Rattle.std.proofs.lemmas.List.Sorted.{IsPermutation-sym, IsPermutation-trans}
 use Rattle.std.proofs.lemmas.List.Sorted.{All-permutation, Contains-permutation}
-use Rattle.overlay_geom.specs.Plane.{Point, PlanePoint, Step, points_of}
+use Rattle.overlay_geom.specs.Plane.{Point, Step, points_of}
 use Rattle.overlay_geom.specs.Edges.{CountedEdge, subj_of, winding_by}
 use Rattle.overlay_geom.proofs.Totals.{total-IsPermutation}
 use Rattle.overlay_plane.specs.BesideOrbits.{HasEachOnce}

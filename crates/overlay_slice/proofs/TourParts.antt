@@ -1,8 +1,8 @@
 -- Tours from a start: a tour under way goes on or is ended; an orbit begun at its least point is what its tours pass;
 -- and the loops of tours, one tour after the other.
-use Rattle.std.proofs.Common.{◌≡◌, ⊎_elim, ℕ, zero, suc, ◌+◌, ◌<◌, Bool, true, false, cond, List, [], ◌∷◌, ◌++◌, length}
+use Rattle.std.proofs.Common.{◌≡◌, ⊎_elim, ℕ, zero, suc, ◌+◌, ◌<◌, true, false, cond, List, [], ◌∷◌, ◌++◌, length}
 use Rattle.std.proofs.Common.{map}
-use Rattle.std.proofs.Common.{take, drop, get_or, All, Contains, refl, sym, ap, ap₂, ◌∙◌, subst, arith}
+use Rattle.std.proofs.Common.{take, drop, get_or, All, Contains, refl, sym, ap, ◌∙◌, subst, arith}
 use Rattle.std.proofs.lemmas.Bool.{false_from_ne_true}
 use Rattle.std.proofs.lemmas.List.{append_assoc, append-nil, drop_more}
 use Rattle.std.proofs.lemmas.List.Elements.{All-nil, All-push, All-append, All-weaker, All-contains}
@@ -13,13 +13,13 @@ use Rattle.overlay_plane.specs.Contours.{all_steps}
 use Rattle.overlay_plane.specs.Turn.{no_step}
 use Rattle.overlay_plane.proofs.Entries.{all_of_entries}
 use Rattle.overlay_plane.proofs.LaterEntries.{Contains-cases}
-use Rattle.overlay_slice.specs.ClosedWalks.{LeadsTo, NoneLeaves, turned_loop}
+use Rattle.overlay_slice.specs.ClosedWalks.{LeadsTo, turned_loop}
 use Rattle.overlay_slice.specs.Repeats.{IsCutAtRepeats}
 use Rattle.overlay_slice.specs.SlicingWalks.{loop_by_hand}
 use Rattle.overlay_plane.specs.Turn.Hand.{left, right}
 use Rattle.overlay_slice.specs.TourOrder.{IsTourFrom, IsSplitAtStart, IsSplitAtLeast, IsTourOfOne, LeavesAtFirst}
 use Rattle.overlay_slice.specs.TourOrder.{AreFromStart}
-use Rattle.overlay_slice.specs.TourOrder.{is_walked_along, walk_of_tour, AreLoopsOfTour, AreLoopsOfTours}
+use Rattle.overlay_slice.specs.TourOrder.{is_walked_along, AreLoopsOfTour, AreLoopsOfTours}
 use Rattle.overlay_slice.specs.TourOrder.AreLoopsOfTours.{none, more}
 use Rattle.overlay_slice.specs.Tours.{IsSplitSoFar}
 use Rattle.overlay_slice.proofs.ClosedWalks.{leads-push}

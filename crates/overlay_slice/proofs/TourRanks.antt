@@ -1,8 +1,8 @@
 -- Any two tours compare, and in one way: by the edges by which they are found, and then by whether they leave along
 -- them.
-use Rattle.std.proofs.Common.{◌≡◌, ◌&&◌, ◌||◌, Bool, true, false, not, cond, ℕ, ◌-◌, ◌<◌, ℤ, List, [], ◌∷◌, length}
+use Rattle.std.proofs.Common.{◌≡◌, ◌&&◌, ◌||◌, Bool, true, false, not, cond, ◌-◌, ◌<◌, ℤ, List, [], ◌∷◌, length}
 use Rattle.std.proofs.Common.{get_or}
-use Rattle.std.proofs.Common.{AllPairs, refl, sym, ap, ap₂, ◌∙◌, subst, arith}
+use Rattle.std.proofs.Common.{AllPairs, refl, sym, ap, ap₂, ◌∙◌, arith}
 use Rattle.std.specs.Cmp.{IsTotalOrder, IsStrictWeakOrder, bool_cmp_total}
 use Rattle.std.specs.List.Sorted.{IsSortedBy}
 use Rattle.std.specs.Ordering.{is_lt, is_le, is_eq, bool_cmp, then_cmp, on, flip_args}

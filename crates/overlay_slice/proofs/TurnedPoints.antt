@@ -1,6 +1,6 @@
 -- The points of a loop in the opposite order are those of the loop turned round, so in either output direction they
 -- have the steps of the loop, with the filled side on the left.
-use Rattle.std.proofs.Common.{◌≡◌, Bool, List, [], ◌∷◌, ◌++◌, map, reverse, take, drop, Contains, refl, sym, ap, ap₂}
+use Rattle.std.proofs.Common.{◌≡◌, Bool, List, [], ◌∷◌, ◌++◌, map, reverse, take, drop, refl, sym, ap, ap₂}
 use Rattle.std.proofs.Common.{◌∙◌, subst}
 use Rattle.std.specs.List.Sorted.{IsPermutation}
 use Rattle.std.proofs.lemmas.List.{map-append, reverse-append}

@@ -1,6 +1,6 @@
 -- What slicing answers: the loops of filled sides that reach the minimum area, in the shapes to which the holes among
 -- them are bound, by the points at which their steps begin.
-use Rattle.std.specs.Prelude.{◌≡◌, ◌↔◌, ℕ, Bool, true, false, List, [], ◌∷◌, All, Contains, map, reverse, Option}
+use Rattle.std.specs.Prelude.{◌≡◌, ◌↔◌, ℕ, true, false, List, [], ◌∷◌, All, Contains, map, reverse, Option}
 use Rattle.std.specs.Int.{Width}
 use Rattle.std.specs.List.{flat_map}
 use Rattle.overlay_geom.specs.Plane.{Point, PlanePoint, Step, IsOff, reversed_step, backward, steps_of, winding}

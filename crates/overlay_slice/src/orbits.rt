@@ -1,6 +1,6 @@
 //! The orbits of the filled sides of a graph.
 
-ghost use Rattle.std.specs.Prelude.{◌≡◌, All, IfOk, IsOkUnless};
+ghost use Rattle.std.specs.Prelude.{IfOk, IsOkUnless};
 ghost use Rattle.std.specs.List.Sorted.{IsPermutation};
 ghost use Rattle.overlay_geom.specs.Edges.{subj_of};
 ghost use Rattle.overlay_plane.specs.Balance.{HasBalancedCounts};
@@ -8,7 +8,7 @@ ghost use Rattle.overlay_arrange.specs.Graphs.{graph_edges};
 ghost use Rattle.overlay_arrange.specs.Rules.{is_filled};
 ghost use Rattle.overlay_slice.specs.FilledSides.{filled_sides};
 ghost use Rattle.overlay_slice.specs.Tours.{AreOrbits};
-ghost use Rattle.overlay_walk.specs.Steps.{plain_steps, IsLong};
+ghost use Rattle.overlay_walk.specs.Steps.{plain_steps};
 ghost use Rattle.overlay_walk.specs.Walks.{plain_walks};
 
 use crate::sides::push_sides;

@@ -1,9 +1,8 @@
 -- Closed contours in which neighbours are joined one pair after another.
-use Rattle.std.proofs.Common.{◌≡◌, ℕ, suc, ◌≤◌, Bool, true, List, [], ◌∷◌, ◌++◌, length, All, sym, ap, ◌∙◌, subst}
+use Rattle.std.proofs.Common.{ℕ, ◌≤◌, Bool, List, [], ◌∷◌, ◌++◌, length, All, sym, subst}
 use Rattle.std.proofs.Common.{arith}
 use Rattle.std.proofs.lemmas.List.{append-nil, append_assoc, length-append}
 use Rattle.std.proofs.lemmas.List.Elements.{All-push}
-use Rattle.overlay_geom.proofs.Mapped.{All-mapped_at}
 use Rattle.overlay_plane.proofs.Entries.{All-first, All-rest}
 use Rattle.overlay_vector.specs.DataVectors.{DataVector}
 use Rattle.overlay_vector.specs.Joining.{AreJoinable, joined, Becomes, stays, begins_later, joins, NoneJoinable}

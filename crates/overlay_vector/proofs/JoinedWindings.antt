@@ -4,8 +4,8 @@ use Rattle.std.proofs.Common.{ap}
 use Rattle.std.proofs.Common.{◌∙◌, subst}
 use Rattle.std.proofs.lemmas.List.{map-append}
 use lib.IntN.{+ℤ_idr}
-use Rattle.overlay_geom.specs.Plane.{Point, PlanePoint, Step, point_eq, point_lt, edge_of, sign_of, is_strictly_below}
-use Rattle.overlay_geom.specs.Plane.{steps_between, total}
+use Rattle.overlay_geom.specs.Plane.{Point, PlanePoint, point_eq, point_lt, is_strictly_below}
+use Rattle.overlay_geom.specs.Plane.{total}
 use Rattle.overlay_geom.proofs.Orders.{point_eq-same}
 use Rattle.overlay_geom.proofs.Signs.{linear}
 use Rattle.overlay_plane.proofs.AlongLines.{winding_part, vertical_below}

@@ -6,7 +6,6 @@ use Rattle.std.proofs.Common.{sym, ap, ap₂}
 use Rattle.std.proofs.Common.{subst, ◌∙◌}
 use Rattle.std.specs.List.{AllZip, flat_map}
 use Rattle.std.specs.List.Sorted.{IsPermutation}
-use Rattle.std.proofs.lemmas.Bool.{false≢true}
 use Rattle.std.proofs.lemmas.List.Elements.{All-nil, All-cons, All-head, All-tail}
 use Rattle.overlay_geom.specs.Plane.{Point, PlanePoint, Step, steps_of, points_of, total}
 use Rattle.overlay_plane.specs.BoundContours.{AreShapesFound, contours_bound, shapes_bound}
@@ -29,7 +28,7 @@ use Rattle.overlay_vector.specs.Joining.{IsKeptOrJoined}
 use Rattle.overlay_vector.specs.VectorShapes.{step_along, steps_along, IsVectorAlong, IsVectorContour}
 use Rattle.overlay_vector.specs.VectorShapes.{AreVectorContours}
 use Rattle.overlay_vector.specs.VectorShapes.{EachWindsOnceOrNotAlong, AreVectorShapes}
-use Rattle.overlay_vector.proofs.JoinedWindings.{winding_along, becomes_winds}
+use Rattle.overlay_vector.proofs.JoinedWindings.{becomes_winds}
 
 -- shapes are kept as they are
 kept_contours : (given : List (List Point)) → AllZip (λ g t. t ≡ g) given given

@@ -6,7 +6,7 @@ use Rattle.std.proofs.lemmas.List.{length-map, get_or-map}
 use Rattle.std.proofs.lemmas.List.Elements.{Contains-get_or, All-get_or}
 use Rattle.std.proofs.lemmas.Option.{get_or_from_slice_get, slice_get_within}
 use Rattle.overlay_geom.specs.Counts.{Counts}
-use Rattle.overlay_geom.specs.Edges.{CountedEdge, ends_of, all_ends}
+use Rattle.overlay_geom.specs.Edges.{ends_of, all_ends}
 use Rattle.overlay_geom.specs.Plane.{Step, Edge, edge_of, is_forward, point_lt}
 use Rattle.overlay_geom.specs.Points.{plain_point, InRange}
 use Rattle.overlay_geom.specs.declared.point.IntPoint.{IntPoint}
@@ -20,7 +20,7 @@ use Rattle.overlay_arrange.specs.Vectors.{Vector, plain_vector, vector_of}
 use Rattle.overlay_arrange.specs.declared.data.CountWithData.{CountWithData}
 use Rattle.overlay_arrange.specs.declared.fill_rule.FillRule.{FillRule}
 use Rattle.overlay_arrange.specs.declared.vector.DataVectorEdge.{DataVectorEdge}
-use Rattle.overlay_vector.specs.DataVectors.{DataVector, plain_data_vector}
+use Rattle.overlay_vector.specs.DataVectors.{DataVector}
 use Rattle.overlay_vector.specs.Joining.{IsInRange}
 use Rattle.overlay_vector.specs.SideFills.{turned_fill}
 use Rattle.overlay_vector.specs.VectorContours.{plain_ends}

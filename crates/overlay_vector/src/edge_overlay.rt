@@ -1,6 +1,6 @@
 //! The builder for edges with data.
 
-ghost use Rattle.std.specs.Prelude.{◌≡◌, IfOk, IsOkUnless};
+ghost use Rattle.std.specs.Prelude.{IfOk, IsOkUnless};
 ghost use Rattle.overlay_vector.specs.EdgeBuilder.{IsNewEdgeBuilder};
 
 use overlay_arrange::data::{CountWithData, OverlayEdgeData};

@@ -1,8 +1,8 @@
 //! Closed contours of edges with data, in which edges that go straight on are joined.
 
-ghost use Rattle.std.specs.Prelude.{◌≡◌, ◌↔◌, ◌∷◌, ◌++◌, ◌≤◌, [], length, All, IfOk, OnOk, IsOkUnless, IsTrue};
+ghost use Rattle.std.specs.Prelude.{◌≡◌, ◌↔◌, ◌∷◌, ◌++◌, [], All, IfOk, OnOk, IsOkUnless, IsTrue};
 ghost use Rattle.overlay_vector.specs.DataVectors.{plain_data_vector, plain_data_vectors};
-ghost use Rattle.overlay_vector.specs.Joining.{joined, AreJoinable, IsJoined, Becomes, NoneJoinable};
+ghost use Rattle.overlay_vector.specs.Joining.{joined, AreJoinable, IsJoined, NoneJoinable};
 ghost use Rattle.overlay_vector.specs.Joining.{IsInRange, IsAppended};
 
 use crate::path::DataVectorPath;

@@ -1,9 +1,9 @@
 //! The selected edges of a graph, with their filled sides and data.
 
-ghost use Rattle.std.specs.Prelude.{◌≡◌, ◌++◌, map, OnOk, IfOk, IsOkUnless};
+ghost use Rattle.std.specs.Prelude.{◌≡◌, ◌++◌, OnOk, IfOk, IsOkUnless};
 ghost use Rattle.std.specs.List.{flat_map};
 ghost use Rattle.overlay_walk.specs.Selection.{bits_select};
-ghost use Rattle.overlay_vector.specs.DataVectors.{plain_data_vector, plain_data_vectors, selected_vectors};
+ghost use Rattle.overlay_vector.specs.DataVectors.{plain_data_vectors, selected_vectors};
 ghost use Rattle.overlay_vector.specs.ListedVectors.{vectors_by_bits};
 
 use overlay_arrange::data::{CountWithData, OverlayEdgeData};

@@ -1,5 +1,5 @@
 -- One contour more is one place more, if it is a hole of this kind.
-use Rattle.std.proofs.Common.{◌≡◌, ◌∷◌, ◌++◌, ◌<◌, [], refl, take, length, get_or, sym, ap, ◌∙◌, subst, arith}
+use Rattle.std.proofs.Common.{◌∷◌, ◌++◌, ◌<◌, [], take, length, get_or, sym, ap, ◌∙◌, subst, arith}
 use Rattle.std.specs.Prelude.{IfSome, None}
 use Rattle.std.proofs.lemmas.List.{get_or_default, length-map}
 use Rattle.overlay_geom.proofs.Mapped.{read_mapped}

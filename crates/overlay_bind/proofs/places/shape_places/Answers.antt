@@ -1,10 +1,8 @@
 -- The holes of groups are placed, and then those that are found.
-use Rattle.std.proofs.Common.{◌≡◌, ◌<◌, All, length, sym, ap, ◌∙◌, subst}
+use Rattle.std.proofs.Common.{◌<◌, All, sym, ◌∙◌, subst}
 use Rattle.std.specs.Prelude.{IfSome}
 use Rattle.std.proofs.lemmas.List.{length-map}
 use Rattle.overlay_plane.specs.BoundContours.{BoundContour, contours_bound}
-use Rattle.overlay_plane.specs.ContourNumbers.{outline_count}
-use Rattle.overlay_plane.specs.RoledContours.{Contour}
 use Rattle.overlay_walk.specs.GroupedContours.{plain_contour, plain_contours}
 use Rattle.overlay_bind.specs.Places.{place_lists, number_as}
 use Rattle.overlay_bind.specs.declared.places.Holes.TheVariants.{OfGroups, Found}

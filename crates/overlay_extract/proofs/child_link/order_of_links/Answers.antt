@@ -1,8 +1,8 @@
 -- The derived order goes by the fields, and ties where all of them are equal.
 use Rattle.std.proofs.Common.{ap, sym, ◌∙◌}
-use Rattle.std.specs.Ordering.{is_eq, is_lt}
+use Rattle.std.specs.Ordering.{is_lt}
 use Rattle.overlay_extract.specs.ChildLinks.{plain_link}
-use Rattle.overlay_extract.proofs.LinkOrder.{link_lt-is_less, link_tie, tie_is_same}
+use Rattle.overlay_extract.proofs.LinkOrder.{link_lt-is_less, tie_is_same}
 use Rattle.overlay_extract.proofs.child_link.order_of_links.Goals as goal
 
 pub returns-clause-before : goal.returns-clause-before

@@ -1,6 +1,5 @@
 -- At first nothing is shown; each contour shows one walk more.
 use Rattle.std.proofs.Common.{◌++◌, [], ◌∷◌, All, take, sym, subst}
-use Rattle.overlay_geom.specs.Flat.{range_behind}
 use Rattle.overlay_geom.specs.Plane.{points_of}
 use Rattle.overlay_geom.specs.Points.{plain_points}
 use Rattle.overlay_geom.specs.Thinned.{IsKeptOrThinned}

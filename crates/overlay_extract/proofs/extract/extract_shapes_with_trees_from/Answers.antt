@@ -1,5 +1,5 @@
 -- What shows the shapes of the contours at their places is the result.
-use Rattle.std.proofs.Common.{All, length, sym, subst, ◌∙◌}
+use Rattle.std.proofs.Common.{All, length, sym, subst}
 use Rattle.std.proofs.lemmas.Result.{IfOk-weaker}
 use Rattle.std.specs.Prelude.{IfOk}
 use Rattle.overlay_geom.specs.Paths.{plain_shapes}

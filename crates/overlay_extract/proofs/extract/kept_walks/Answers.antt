@@ -1,15 +1,13 @@
 -- The walks that reach the minimum area are those of the selected walks that pass its test.
 use Rattle.std.proofs.Common.{◌≡◌, List, All, filter, sym, ap, ◌∙◌, subst}
-use Rattle.std.specs.Prelude.{Bool, Vec}
+use Rattle.std.specs.Prelude.{Bool}
 use Rattle.std.proofs.lemmas.List.Elements.{All-filter}
 use Rattle.std.proofs.lemmas.Result.{IfOk-weaker}
 use Rattle.overlay_geom.proofs.Mapped.{map-filter}
 use Rattle.overlay_geom.specs.Plane.{Step}
 use Rattle.overlay_plane.specs.MinimumArea.{reaches}
-use Rattle.overlay_arrange.specs.Graphs.{graph_edges}
 use Rattle.overlay_walk.specs.Steps.{plain_steps, IsLong}
 use Rattle.overlay_walk.specs.Walks.{plain_walks}
-use Rattle.overlay_extract.specs.Results.{asked, AreKeptWalks}
 use Rattle.overlay_extract.proofs.extract.kept_walks.Goals as goal
 
 pub returns-clause-kept : goal.returns-clause-kept

@@ -1,6 +1,5 @@
 -- The contours in the order of their shapes have the links.
 use Rattle.std.proofs.Common.{◌≡◌, All, length, map, sym, ap, ◌∙◌, subst}
-use Rattle.overlay_geom.specs.Flat.{shapes_in}
 use Rattle.overlay_geom.specs.Paths.{plain_shapes}
 use Rattle.overlay_plane.specs.BoundContours.{walks_in}
 use Rattle.overlay_plane.specs.Islands.{AreInShapes, AreLinks}
@@ -15,7 +14,7 @@ use Rattle.overlay_extract.specs.ChildLinks.{plain_link}
 use Rattle.overlay_extract.specs.InShapes.{AreBegun}
 use Rattle.overlay_extract.specs.PlacedResults.{IsHierarchy}
 use Rattle.overlay_bind.specs.Places.{place_lists, AreInside}
-use Rattle.overlay_extract.specs.Results.{Asked, asked}
+use Rattle.overlay_extract.specs.Results.{asked}
 use Rattle.overlay_extract.proofs.GroupsInShapes.{groups_in_shapes}
 use Rattle.overlay_extract.proofs.Hierarchies.{places_begun, ordered, ordered_have, ordered_bindable}
 use Rattle.overlay_extract.proofs.Hierarchies.{hierarchy_shown}

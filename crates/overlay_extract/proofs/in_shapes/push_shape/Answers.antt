@@ -5,7 +5,7 @@ use Rattle.std.proofs.lemmas.List.{length-map, map-append, take_all, take_more}
 use Rattle.overlay_geom.specs.Plane.{Step}
 use Rattle.overlay_geom.proofs.Mapped.{read_mapped}
 use Rattle.overlay_plane.specs.PlacedContours.{walk_at}
-use Rattle.overlay_plane.specs.RoledContours.{Role, Contour}
+use Rattle.overlay_plane.specs.RoledContours.{Role}
 use Rattle.overlay_walk.specs.GroupedContours.{plain_contour, plain_contours, plain_role, contours_of_group}
 use Rattle.overlay_walk.specs.Steps.{plain_steps}
 use Rattle.overlay_extract.proofs.GroupsInShapes.{group_longer, role_next, role_of_next}

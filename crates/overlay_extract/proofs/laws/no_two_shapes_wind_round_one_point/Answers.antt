@@ -1,7 +1,5 @@
 -- Each shape by itself winds once or zero times, and so do all together off the edges.
-use Rattle.std.proofs.Common.{◌≡◌, ◌⊎◌, inl, inr, Bool, true, false, cond, ℕ, ℤ, pos, List, map}
-use Rattle.overlay_geom.specs.Edges.{CountedEdge, ends_of, subj_of, clip_of}
-use Rattle.overlay_geom.specs.Plane.{Point, PlanePoint, IsOff}
+use Rattle.std.proofs.Common.{◌≡◌, ◌⊎◌, inl, inr, Bool, true, false, cond, ℤ, pos}
 use Rattle.overlay_plane.proofs.NoTwoShapes.{no_two_wind_round_one_point}
 use Rattle.overlay_extract.specs.Laws.{NoTwoShapesWindRoundOnePoint}
 use Rattle.overlay_extract.specs.Results.{filled_asked}

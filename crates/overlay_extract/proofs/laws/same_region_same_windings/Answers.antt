@@ -1,5 +1,5 @@
 -- Both wind round the region that is asked for.
-use Rattle.std.proofs.Common.{◌≡◌, Bool, ℤ, sym, ap₂, ◌∙◌}
+use Rattle.std.proofs.Common.{Bool, ℤ, sym, ap₂, ◌∙◌}
 use Rattle.overlay_geom.specs.Edges.{subj_of, clip_of}
 use Rattle.overlay_plane.specs.ContourWindings.{wanted_winding}
 use Rattle.overlay_arrange.specs.Rules.{rules_hold}

@@ -1,11 +1,11 @@
 -- What is found is sorted, and told by the laws of islands.
-use Rattle.std.proofs.Common.{◌≡◌, ◌<◌, false, All, AllPairs, List, ℕ, Option, map, length, sym, ap, ◌∙◌, subst}
+use Rattle.std.proofs.Common.{◌≡◌, ◌<◌, false, All, ℕ, Option, map, length, sym, ap, ◌∙◌, subst}
 use Rattle.std.specs.Prelude.{IfSome}
 use Rattle.std.specs.List.Sorted.{IsPermutation}
 use Rattle.std.proofs.lemmas.List.{length-map}
 use Rattle.std.proofs.lemmas.List.Sorted.{IsPermutation-map}
 use Rattle.overlay_geom.proofs.Mapped.{AllPairs-map}
-use Rattle.overlay_plane.specs.Islands.{ChildLink, link_lt, AreHolesRound}
+use Rattle.overlay_plane.specs.Islands.{ChildLink, link_lt}
 use Rattle.overlay_walk.specs.GroupedContours.{plain_contour, plain_contours}
 use Rattle.overlay_walk.specs.Steps.{filled_hand}
 use Rattle.overlay_extract.specs.ChildLinks.{plain_link}

@@ -1,10 +1,9 @@
 -- One hole more is one link more, or none.
-use Rattle.std.proofs.Common.{◌≡◌, ◌∷◌, ◌++◌, [], ◌+◌, ◌<◌, map, take, length, get_or, Option, Some, None, rules, sym}
+use Rattle.std.proofs.Common.{◌≡◌, ◌∷◌, ◌++◌, [], ◌+◌, map, take, length, get_or, Option, None, rules, sym}
 use Rattle.std.proofs.Common.{ap, ◌∙◌}
 use Rattle.std.proofs.Common.{append-nil, arith}
 use Rattle.std.specs.Prelude.{option_map}
 use Rattle.std.proofs.lemmas.List.{map-append, length-take-le, take_all, take_more}
-use Rattle.overlay_plane.specs.Islands.{ChildLink}
 use Rattle.overlay_walk.specs.GroupedContours.{plain_contours}
 use Rattle.overlay_extract.specs.ChildLinks.{plain_link}
 use Rattle.overlay_extract.specs.declared.child_link.ChildLink.{ChildLink as LinkTaken}

@@ -1,5 +1,5 @@
 -- One shape more is turned.
-use Rattle.std.proofs.Common.{◌≡◌, ◌+◌, ◌<◌, suc, [], map, reverse, length, set, get_or, sym, ap, ◌∙◌, subst, arith}
+use Rattle.std.proofs.Common.{◌≡◌, ◌+◌, suc, [], map, reverse, length, set, get_or, sym, ap, ◌∙◌, arith}
 use Rattle.std.proofs.lemmas.List.{length-map, map-set}
 use Rattle.overlay_geom.proofs.Mapped.{read_mapped}
 use Rattle.overlay_geom.specs.Paths.{paths_of_shape, plain_shapes}

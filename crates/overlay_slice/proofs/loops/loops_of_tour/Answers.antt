@@ -2,7 +2,6 @@
 use Rattle.std.proofs.Common.{sym, ◌∙◌, subst}
 use Rattle.std.proofs.lemmas.Result.{IfOk-weaker}
 use Rattle.overlay_slice.specs.ClosedWalks.{IsCutIntoLoops}
-use Rattle.overlay_slice.specs.TourOrder.{AreLoopsOfTour}
 use Rattle.overlay_slice.proofs.TourParts.{along_loops, back_loops}
 use Rattle.overlay_slice.proofs.TurnedLoops.{cut_turned, backward_closed, backward_long}
 use Rattle.overlay_walk.specs.Steps.{plain_steps}

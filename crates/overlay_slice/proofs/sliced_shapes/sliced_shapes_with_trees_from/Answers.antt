@@ -1,6 +1,5 @@
 -- The contours of slices can be placed, and what shows them in the direction is the answer.
-use Rattle.std.proofs.Common.{All, length, true, map, sym, ap, subst, ◌∙◌}
-use Rattle.overlay_geom.specs.Edges.{subj_of}
+use Rattle.std.proofs.Common.{All, length, map, sym, ap, subst, ◌∙◌}
 use Rattle.overlay_geom.specs.Paths.{plain_shapes}
 use Rattle.overlay_plane.specs.BoundContours.{walks_in}
 use Rattle.overlay_plane.specs.PlacedContours.{CanBePlaced, ArePlaced, walks_at}

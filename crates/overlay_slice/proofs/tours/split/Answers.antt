@@ -4,8 +4,8 @@ use Rattle.std.proofs.lemmas.List.{drop_all, get_or-map}
 use Rattle.overlay_geom.specs.Points.{plain_point}
 use Rattle.overlay_geom.proofs.Mapped.{mapped_more, mapped_rest, mapped_whole}
 use Rattle.overlay_plane.specs.Turn.{no_step}
-use Rattle.overlay_slice.proofs.TourParts.{split_at_start, start_begun, none_at_start}
-use Rattle.overlay_slice.proofs.TourSplits.{IsOnItsWay, reached_here, way_begun, way_goes_on, way_ended}
+use Rattle.overlay_slice.proofs.TourParts.{split_at_start}
+use Rattle.overlay_slice.proofs.TourSplits.{IsOnItsWay, reached_here, way_goes_on, way_ended}
 use Rattle.overlay_walk.specs.Steps.{plain_step, plain_steps}
 use Rattle.overlay_walk.specs.Walks.{plain_walks}
 use Rattle.overlay_slice.proofs.tours.split.Goals as goal

@@ -4,7 +4,7 @@ use Rattle.std.specs.List.{remove}
 use Rattle.std.proofs.lemmas.Bool.{false≢true}
 use Rattle.std.proofs.lemmas.List.{length-map}
 use Rattle.overlay_geom.proofs.Mapped.{All-mapped_at}
-use Rattle.overlay_vector.specs.DataVectors.{plain_data_vector, plain_data_vectors}
+use Rattle.overlay_vector.specs.DataVectors.{plain_data_vector}
 use Rattle.overlay_vector.specs.Joining.{joined, stays, IsInRange, IsAppended, NoneJoinable, NoneLeft}
 use Rattle.overlay_vector.proofs.EndsOff.{last_off, first_off}
 use Rattle.overlay_vector.proofs.JoinedContours.{AreNarrowed, narrowed_round, none_in_middle, range_in_middle}

@@ -1,5 +1,5 @@
 -- Edge by edge is added behind the others, and then the ends are joined.
-use Rattle.std.proofs.Common.{[], ◌∷◌, ◌++◌, ◌+◌, take, sym, ap, subst, ◌∙◌}
+use Rattle.std.proofs.Common.{[], take, sym, subst}
 use Rattle.std.proofs.lemmas.List.{take_all}
 use Rattle.overlay_geom.proofs.Mapped.{mapped_more, All-mapped_at}
 use Rattle.overlay_vector.specs.DataVectors.{plain_data_vector, plain_data_vectors}

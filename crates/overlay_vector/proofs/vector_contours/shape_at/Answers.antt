@@ -1,5 +1,5 @@
 -- One contour more stands at one place more.
-use Rattle.std.proofs.Common.{◌≡◌, ◌∷◌, ◌++◌, [], ◌+◌, ◌<◌, map, take, length, get_or, All, sym, ap, ◌∙◌, subst}
+use Rattle.std.proofs.Common.{◌∷◌, ◌++◌, [], ◌+◌, ◌<◌, map, take, length, get_or, All, sym, ap, ◌∙◌, subst}
 use Rattle.std.proofs.Common.{arith, rules}
 use Rattle.std.specs.List.{AllZip}
 use Rattle.std.proofs.lemmas.List.{length-map, map-append, take_all, take_more}

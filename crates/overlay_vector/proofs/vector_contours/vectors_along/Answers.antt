@@ -1,5 +1,5 @@
 -- One edge more along one step more.
-use Rattle.std.proofs.Common.{◌∷◌, ◌++◌, [], ◌+◌, take, All, get_or, sym, ap, ◌∙◌, subst, rules}
+use Rattle.std.proofs.Common.{◌∷◌, ◌++◌, [], ◌+◌, take, All, sym, ap, ◌∙◌, subst, rules}
 use Rattle.std.specs.List.{AllZip}
 use Rattle.std.proofs.lemmas.List.{map-append, take_all}
 use Rattle.std.proofs.lemmas.List.Elements.{All-push}

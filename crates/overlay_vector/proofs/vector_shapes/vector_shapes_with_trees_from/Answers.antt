@@ -6,7 +6,7 @@ use Rattle.overlay_plane.specs.BoundContours.{walks_in, AreShapesFound}
 use Rattle.overlay_plane.specs.KeptContours.{CanBeBound}
 use Rattle.overlay_plane.specs.PlacedContours.{walks_at, CanBePlaced}
 use Rattle.overlay_arrange.specs.Graphs.{graph_edges}
-use Rattle.overlay_walk.specs.Asked.{Asked, asked, is_kept, selected_of}
+use Rattle.overlay_walk.specs.Asked.{asked, is_kept, selected_of}
 use Rattle.overlay_walk.specs.GroupedContours.{plain_contours}
 use Rattle.overlay_walk.specs.Steps.{filled_hand, IsLong, RunsAlong}
 use Rattle.overlay_bind.specs.Places.{place_lists, AreInside}
