@@ -4,6 +4,7 @@ use crate::asked::points;
 use overlay_geom::integer::OverlayInt;
 use overlay_geom::point::{IntPoint, in_range};
 use overlay_geom::resolved::is_resolved;
+use overlay_relate::resolved::is_resolved_in;
 use std::alloc::Global;
 use std::process::Abort;
 use std::test::Fail;
@@ -16,7 +17,9 @@ fn resolved<I: OverlayInt + From<i16>>(
 ) -> Result<bool, Fail> {
     let contour = points::<I>(alloc, coordinates)?;
     assert!(rt; in_range(&contour));
-    Ok(is_resolved(&contour))
+    let is_resolved = is_resolved(&contour);
+    assert!(rt; is_resolved_in(alloc, &contour)? == is_resolved);
+    Ok(is_resolved)
 }
 
 fn rows<I: OverlayInt + From<i16>>(rt: &impl Abort, alloc: Global) -> Result<(), Fail> {

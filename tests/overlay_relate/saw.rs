@@ -5,7 +5,7 @@ use overlay_geom::error::OverlayError;
 use overlay_geom::integer::OverlayInt;
 use overlay_geom::path::IntContour;
 use overlay_geom::point::IntPoint;
-use overlay_geom::resolved::is_resolved;
+use overlay_relate::resolved::is_resolved_in;
 use std::alloc::Global;
 use std::process::Abort;
 use std::test::Fail;
@@ -24,10 +24,9 @@ fn saw_of<I: OverlayInt + From<i16>>(
     Ok(contour)
 }
 
-// That a saw is resolved is tested of a short one, since all pairs of edges are looked at.
 fn saw<I: OverlayInt + From<i16>>(rt: &impl Abort, alloc: Global) -> Result<(), Fail> {
-    assert!(rt; is_resolved(&saw_of::<I>(alloc, 100)?));
     let contour = saw_of::<I>(alloc, 8000)?;
+    assert!(rt; is_resolved_in(alloc, &contour)?);
     let asked = [[1, 0], [1, 2], [2, 1], [3, 0], [4000, -5], [8001, -5]];
     let asked = points::<I>(alloc, &asked)?;
     let answers = ask_resolved(rt, alloc, &contour, &asked)?;

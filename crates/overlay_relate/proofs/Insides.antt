@@ -1,21 +1,16 @@
 -- Whether it is inside above an edge of a resolved contour, from the greatest edge under it, and at a point, from the
 -- greatest edge below it.
-use Rattle.std.proofs.Common.{◌≡◌, ◌⊎◌, ⊎_elim, inl, inr, ◌<◌, Bool, true, false, not, cond, ℤ, pos, negsuc, ◌+ℤ◌, ◌<ℤ◌}
-use Rattle.std.proofs.Common.{List, [], ◌∷◌, map, get_or, Contains, refl, sym, ap, ap₂, ◌∙◌, subst, arith}
+use Rattle.std.proofs.Common.{◌≡◌, ◌⊎◌, ⊎_elim, inl, inr, Bool, true, false, not, cond, ℤ, pos, negsuc, ◌+ℤ◌, ◌<ℤ◌}
+use Rattle.std.proofs.Common.{List, [], ◌∷◌, map, Contains, refl, sym, ap, ap₂, ◌∙◌, subst, arith}
 use Rattle.std.specs.List.{AllPairs}
-use Rattle.std.proofs.lemmas.Bool.{cases_lt, both_ways, false_from_ne_true}
 use Rattle.std.proofs.lemmas.Int.{ints}
-use Rattle.std.proofs.lemmas.List.{get_or_default}
 use Rattle.std.proofs.lemmas.List.Elements.{All-contains}
-use Rattle.std.proofs.Math.Nat.{eq-or-lt_of_le}
 use Rattle.overlay_geom.specs.Plane.{PlanePoint, Step, Edge, edge_eq, edge_of, steps_of, is_strictly_below, is_forward}
 use Rattle.overlay_geom.specs.Plane.{midpoint, point_lt}
 use Rattle.overlay_geom.specs.Edges.{CountedEdge, ends_of, subj_of, subject_edge, winding_by, winding_below}
 use Rattle.overlay_geom.specs.Edges.{winding_above}
 use Rattle.overlay_geom.specs.Settled.{MeetInEnds, IsSettledBy}
-use Rattle.overlay_geom.proofs.OneLine.{meet_in_ends_exchanged, overlapping_do_not_meet_in_ends, holds_start, holds_end}
-use Rattle.overlay_geom.proofs.Orders.{edge_eq-same, edge_eq-itself}
-use Rattle.overlay_geom.proofs.PointOrder.{Decides-point_lt}
+use Rattle.overlay_geom.proofs.Orders.{edge_eq-itself}
 use Rattle.overlay_plane.specs.GreatestBelow.{IsGreatestBelow}
 use Rattle.overlay_plane.specs.Heights.{covers, is_under}
 use Rattle.overlay_plane.specs.Nodes.{IsBalancedArrangement}
@@ -28,6 +23,7 @@ use Rattle.overlay_plane.proofs.NextUnder.{IsGreatestUnderIn, above_the_greatest
 use Rattle.overlay_plane.proofs.SingleEntries.{one_entry}
 use Rattle.overlay_relate.specs.Locations.{is_odd, odd_below}
 use Rattle.overlay_relate.specs.Sweeps.{AreOfContour, inside_above}
+use Rattle.overlay_relate.proofs.ApartEdges.{StandOnce, stand_once, settled_apart}
 use Rattle.overlay_relate.proofs.Parities.{odd_winding}
 use Rattle.overlay_geom.proofs.Mapped.{AllPairs-unmap}
 
@@ -41,39 +37,18 @@ odd_turned : (forward : Bool) (w : ℤ) → is_odd (w +ℤ cond forward (pos 1) 
 odd_turned true w = grind (arith, ints)
 odd_turned false w = grind (arith, ints)
 
--- an edge that leads forward does not meet itself in ends alone
-not_with_itself : (e : Edge) → point_lt e.a e.b ≡ true → ¬ (MeetInEnds e e)
-not_with_itself e forward =
-    let before = (Decides-point_lt e.a e.b).0 forward in
-    overlapping_do_not_meet_in_ends e e before before ((holds_start e before).on_line, (holds_end e before).on_line)
-    before before
-
 module _ (es : List Edge) (of : AreOfContour es) where
   -- any two edges meet in ends alone
   apart : AllPairs MeetInEnds es
   apart = subst (AllPairs MeetInEnds) (sym of.is) of.resolved
 
   -- no edge stands twice
-  pub distinct : AllPairs (λ e f. edge_eq e f ≡ false) es
-  distinct i j d l m = false_from_ne_true (edge_eq (get_or es i d) (get_or es j d)) (λ same.
-      not_with_itself (get_or es j d) (of.forward j d m)
-      (subst (λ (e : Edge). MeetInEnds e (get_or es j d)) (edge_eq-same (get_or es i d) (get_or es j d) same)
-      (apart i j d l m)))
+  pub distinct : StandOnce es
+  distinct = stand_once es of.forward apart
 
   -- two different edges meet in ends alone
   pub settled : IsSettledBy (λ e. e) es
-  settled e f c d differ = ⊎_elim
-      (λ before. ordered e f c d before)
-      (λ after. ⊎_elim
-      (λ same. absurd (let here : e ≡ f = sym c.2 ∙ get_or_default es c.0 e f c.1 ∙ ap (λ n. get_or es n f) (sym same)
-      ∙ d.2 in
-      both_ways (edge_eq e f) differ (subst (λ (g : Edge). edge_eq e g ≡ true) here (edge_eq-itself e))))
-      (λ before. meet_in_ends_exchanged e f (ordered f e d c before)) (eq-or-lt_of_le after))
-      (cases_lt c.0 d.0)
-    where
-      ordered : (e f : Edge) (c : Contains es e) (d : Contains es f) → c.0 < d.0 → MeetInEnds e f
-      ordered e f c d before = subst (λ (g : Edge). MeetInEnds g f) (get_or_default es c.0 f e c.1 ∙ c.2)
-          (subst (λ (g : Edge). MeetInEnds (get_or es c.0 f) g) d.2 (apart c.0 d.0 f before d.1))
+  settled = settled_apart es of.forward apart
 
   -- the edges as they are counted
   abbrev counted : List CountedEdge

@@ -1,5 +1,7 @@
 pub mod AddedShapes
 pub mod Answered
+pub mod ApartEdges
+pub mod ApartInOrder
 pub mod Asked
 pub mod BitsTell
 pub mod ByStart

@@ -7,5 +7,6 @@ pub mod PredicateBuilder
 pub mod PredicateLaws
 pub mod PredicateQueries
 pub mod Queries
+pub mod Resolved
 pub mod Sweeps
 pub mod Walls

@@ -3,6 +3,7 @@
 
 mod border_end;
 pub mod containment;
+mod contour_edges;
 mod edge_answers;
 mod edge_test;
 pub mod in_contour;
@@ -14,6 +15,7 @@ mod predicate;
 pub mod predicate_laws;
 pub mod predicate_overlay;
 mod queries;
+pub mod resolved;
 mod shared_end;
 mod starts;
 mod sweep;

@@ -2,7 +2,7 @@
 use Rattle.std.proofs.Common.{◌≡◌, ◌++◌, [], ◌∷◌, All, drop}
 use Rattle.overlay_geom.specs.Points.{plain_point, plain_points, InRange}
 use Rattle.overlay_geom.specs.Resolved.{plain_edges, edges_through, IsLongEdge}
-use Rattle.overlay_relate.proofs.in_contour.push_round.Given as goal
+use Rattle.overlay_relate.proofs.contour_edges.push_round.Given as goal
 
 abbrev pub invariant-loop-to : goal.invariant-loop-to
 invariant-loop-to g l =

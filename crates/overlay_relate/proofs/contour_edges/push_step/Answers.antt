@@ -2,7 +2,7 @@
 use Rattle.std.proofs.Common.{All, map, subst, sym}
 use Rattle.overlay_geom.specs.Resolved.{plain_edge, IsLongEdge}
 use Rattle.overlay_relate.proofs.Pushed.{All-map_pushed}
-use Rattle.overlay_relate.proofs.in_contour.push_step.Goals as goal
+use Rattle.overlay_relate.proofs.contour_edges.push_step.Goals as goal
 
 pub returns-in_ok-push-clause-long : goal.returns-in_ok-push-clause-long
 returns-in_ok-push-clause-long g c =

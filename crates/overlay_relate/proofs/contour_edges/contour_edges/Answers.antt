@@ -4,7 +4,7 @@ use Rattle.std.proofs.lemmas.List.Elements.{All-contains}
 use Rattle.overlay_geom.specs.Points.{plain_point, plain_points, InRange}
 use Rattle.overlay_geom.specs.Resolved.{plain_edges, edges_through}
 use Rattle.overlay_geom.proofs.ResolvedSteps.{edges_round, first_mapped}
-use Rattle.overlay_relate.proofs.in_contour.contour_edges.Goals as goal
+use Rattle.overlay_relate.proofs.contour_edges.contour_edges.Goals as goal
 
 pub push_round-requires-clause-first : goal.push_round-requires-clause-first
 push_round-requires-clause-first g c =

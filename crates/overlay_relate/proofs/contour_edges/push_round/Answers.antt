@@ -6,7 +6,7 @@ use Rattle.overlay_geom.specs.Points.{plain_point, plain_points, InRange}
 use Rattle.overlay_geom.specs.Resolved.{plain_edges, edges_through}
 use Rattle.overlay_geom.proofs.Mapped.{All-mapped_at, mapped_rest}
 use Rattle.overlay_relate.proofs.Pushed.{edges_next}
-use Rattle.overlay_relate.proofs.in_contour.push_round.Goals as goal
+use Rattle.overlay_relate.proofs.contour_edges.push_round.Goals as goal
 
 pub push_step-requires-clause-from : goal.push_step-requires-clause-from
 push_step-requires-clause-from g c = c.loop-to.invariant.0
