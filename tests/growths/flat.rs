@@ -1,6 +1,6 @@
 //! Flat buffers and hierarchies: a refusal changes nothing, or empties what is cleared first.
 
-use crate::figures::{PATHS, Width, flat_squares, lone_squares, square_at, squares};
+use crate::figures::{Width, flat_squares, lone_squares, square_at};
 use crate::overlay_queries::{is_empty, overlapping};
 use crate::refusals::Trial;
 use i_overlay::fill_rule::FillRule;
@@ -44,7 +44,7 @@ fn flat_contours(rt: HostRuntime) -> Result<(), Fail> {
 
 fn check_shapes<I: Width>(trial: &Trial<'_, impl Abort>) -> Result<(), Fail> {
     let memory = trial.memory;
-    let (shapes, shape) = (lone_squares::<I>(memory)?, squares::<I>(memory, PATHS)?);
+    let shapes = lone_squares::<I>(memory)?;
     let old = FlatShapesBuffer::from_shapes(memory, &shapes)?;
     trial.refuse_call("FlatShapesBuffer::with_capacity", || {
         FlatShapesBuffer::<I, _>::with_capacity(memory, 4, 1, 1)
@@ -57,16 +57,7 @@ fn check_shapes<I: Width>(trial: &Trial<'_, impl Abort>) -> Result<(), Fail> {
     assert!(trial.rt; copy == old);
     let again = trial.refuse_call("FlatShapesBuffer::to_shapes", || old.to_shapes())?;
     assert!(trial.rt; again == shapes);
-    trial.refuse_each(
-        "FlatShapesBuffer::add_shape",
-        || old.clone(),
-        |it| it.add_shape(&shape),
-        |it| {
-            let is_as_before = *it == old;
-            it.add_shape(&shape)?;
-            Ok(is_as_before && it.shape_ranges.len() == PATHS + 1)
-        },
-    )
+    Ok(())
 }
 
 #[test]

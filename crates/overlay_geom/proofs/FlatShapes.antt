@@ -1,39 +1,24 @@
--- Shapes in lists that grow: paths are added one by one; the shapes that were inside their lists keep their paths, and
--- the range of the paths that were added is one shape more.
-use Rattle.std.proofs.Common.{◌≡◌, ℕ, ℤ, ◌+◌, ◌-◌, ◌<◌, ◌≤◌, List, [], ◌∷◌, ◌++◌, length, get_or, take, min, refl, Vec}
+-- Shapes in lists that grow: paths are added one by one; the shapes of packed lists keep their paths, and the range of
+-- the paths that were added is one shape more.
+use Rattle.std.proofs.Common.{◌≡◌, ℕ, ℤ, ◌+◌, ◌-◌, ◌<◌, ◌≤◌, List, [], ◌∷◌, ◌++◌, length, get_or, take, refl, Vec}
 use Rattle.std.proofs.Common.{sym, ◌∙◌, ap, ap₂, subst, subst₂, arith}
 use Rattle.std.specs.declared.ops.Range.{Range}
-use Rattle.std.proofs.lemmas.List.{map-append, length-append, length-take, take-take, take-append-le, take_all}
+use Rattle.std.proofs.lemmas.List.{map-append, length-append}
 use Rattle.std.proofs.lemmas.List.{append-nil, append_assoc}
-use Rattle.std.proofs.lemmas.List.Elements.{All-head, All-tail, All-push, All-take, All-drop, All-append}
+use Rattle.std.proofs.lemmas.List.Elements.{All-head, All-tail, All-take, All-drop}
 use Rattle.overlay_geom.specs.declared.point.IntPoint.{IntPoint}
 use Rattle.overlay_geom.specs.Flat.{range_within, part_in, range_behind, paths_in, shapes_in, IsInside, AreInside}
-use Rattle.overlay_geom.specs.FlatShapes.{ArePathsAdded, AreShapesInside, AreShapesPacked}
+use Rattle.overlay_geom.specs.FlatShapes.{ArePathsAdded, AreShapesPacked}
 use Rattle.overlay_geom.specs.Packed.{AreBehind, IsPacked}
 use Rattle.overlay_geom.specs.Packed.AreBehind.{no_range}
 use Rattle.overlay_geom.specs.Paths.{paths_of_shape, plain_shapes}
 use Rattle.overlay_geom.specs.Plane.{Point}
 use Rattle.overlay_geom.specs.Points.{plain_points}
-use Rattle.overlay_geom.proofs.FlatPaths.{inside_longer, part_longer, inside_behind, part_behind, paths_longer}
+use Rattle.overlay_geom.proofs.FlatPaths.{inside_longer, part_longer, part_behind, paths_longer}
 use Rattle.overlay_geom.proofs.FlatPaths.{paths_added}
 use Rattle.overlay_geom.proofs.Mapped.{mapped_more}
 use Rattle.overlay_geom.proofs.PackedPaths.{behind_inside, behind_more, behind_joined, packed_none}
 use Rattle.overlay_geom.proofs.PackedPaths.{packed_inside, packed_more}
-
--- what stands before a longer list stands before a still longer one
-pub front_stays : {X : Type 0} (xs ys zs : List X) → take (length xs) ys ≡ xs → take (length ys) zs ≡ ys →
-    take (length xs) zs ≡ xs
-front_stays xs ys zs first second =
-    let long = length-take (length xs) ys in
-    let same : length (take (length xs) ys) ≡ length xs = ap length first in
-    let shorter : min (length xs) (length ys) ≡ length xs = omega (arith, long, same) in
-    let fits : length xs ≤ length ys = omega (arith, shorter) in
-    sym (take-take (length xs) (length ys) zs fits) ∙ ap (take (length xs)) second ∙ first
-
--- a list that is longer begins with the one before
-pub front_of : {X : Type 0} (xs ys zs : List X) → zs ≡ xs ++ ys → take (length xs) zs ≡ xs
-front_of xs ys zs longer = ap (take (length xs)) longer ∙ take-append-le (length xs) xs ys (omega arith)
-    ∙ take_all (length xs) xs (omega arith)
 
 module _ {I : Type 0} (whole : I → ℤ) (ps : List (IntPoint I)) (rs : List (Range ℕ)) where
   -- no path is added
@@ -104,12 +89,13 @@ module _ {I : Type 0} (whole : I → ℤ) (ps points : List (IntPoint I)) (rs ra
       (shapes_stay all hs (All-tail (IsInside (length rs)) s hs inside))
 
   -- and the range of the new ones is one shape more
-  shapes_joined : (hs : List (Range ℕ)) → AreShapesInside ps rs hs →
+  shapes_joined : (hs : List (Range ℕ)) → AreShapesPacked ps rs hs →
       shapes_in whole (ps ++ points) (rs ++ ranges) (hs ++ range_behind rs ranges ∷ [])
       ≡ shapes_in whole ps rs hs ++ paths_in whole (ps ++ points) ranges ∷ []
-  shapes_joined hs inside =
+  shapes_joined hs packed =
       map-append (λ s. paths_in whole (ps ++ points) (part_in (rs ++ ranges) s)) hs (range_behind rs ranges ∷ [])
-      ∙ ap₂ (λ a b. a ++ b ∷ []) (shapes_stay inside.paths_inside hs inside.shapes_inside)
+      ∙ ap₂ (λ a b. a ++ b ∷ []) (shapes_stay (packed_inside ps rs packed.paths_packed) hs
+      (packed_inside rs hs packed.shapes_packed))
       (ap (paths_in whole (ps ++ points)) (part_behind rs ranges))
 
 module _ {I : Type 0} (whole : I → ℤ) (ps qs : List (IntPoint I)) (rs ss hs : List (Range ℕ))
@@ -122,24 +108,13 @@ module _ {I : Type 0} (whole : I → ℤ) (ps qs : List (IntPoint I)) (rs ss hs 
   range_is = ap (λ n. record { start = length rs; end = n }) (ap length h.more ∙ length-append rs h.ranges)
 
   -- with the paths that were added as a shape there is one shape more
-  pub shapes_added : AreShapesInside ps rs hs →
+  pub shapes_added : AreShapesPacked ps rs hs →
       shapes_in whole qs ss (hs ++ new_range ∷ []) ≡ shapes_in whole ps rs hs ++ added ∷ []
-  shapes_added inside =
+  shapes_added packed =
       ap₂ (λ xs r. shapes_in whole qs xs (hs ++ r ∷ [])) h.more range_is
       ∙ ap (λ xs. shapes_in whole xs (rs ++ h.ranges) (hs ++ range_behind rs h.ranges ∷ [])) h.longer
-      ∙ shapes_joined whole ps h.points rs h.ranges hs inside
+      ∙ shapes_joined whole ps h.points rs h.ranges hs packed
       ∙ ap (λ p. shapes_in whole ps rs hs ++ p ∷ []) (ap (λ xs. paths_in whole xs h.ranges) (sym h.longer) ∙ h.paths)
-
-  -- all ranges are inside again
-  pub inside_added : AreShapesInside ps rs hs → AreShapesInside qs ss (hs ++ new_range ∷ [])
-  inside_added inside = record {
-    paths_inside = subst (AreInside (length qs)) (sym h.more) (All-append (IsInside (length qs)) rs h.ranges
-        (subst (λ xs. AreInside (length xs) rs) (sym h.longer) (all_inside_longer ps h.points rs inside.paths_inside))
-        (behind_inside (length ps) h.ranges (length qs) h.behind));
-    shapes_inside = subst₂ (λ xs r. AreInside (length xs) (hs ++ r ∷ [])) (sym h.more) (sym range_is)
-        (All-push (IsInside (length (rs ++ h.ranges))) hs (range_behind rs h.ranges)
-        (all_inside_longer rs h.ranges hs inside.shapes_inside) (inside_behind rs h.ranges));
-  }
 
   -- and packed
   pub packed_added : AreShapesPacked ps rs hs → AreShapesPacked qs ss (hs ++ new_range ∷ [])
@@ -158,14 +133,6 @@ pub no_shapes_packed : {I : Type 0} (ps : List (IntPoint I)) (rs hs : List (Rang
 no_shapes_packed ps rs hs no_points no_paths no_shapes = record {
   paths_packed = packed_none ps rs no_points no_paths;
   shapes_packed = packed_none rs hs no_paths no_shapes;
-}
-
--- and what is packed is inside
-pub shapes_packed_inside : {I : Type 0} (ps : List (IntPoint I)) (rs hs : List (Range ℕ)) → AreShapesPacked ps rs hs →
-    AreShapesInside ps rs hs
-shapes_packed_inside ps rs hs packed = record {
-  paths_inside = packed_inside ps rs packed.paths_packed;
-  shapes_inside = packed_inside rs hs packed.shapes_packed;
 }
 
 -- one more shape of a list, as a loop over it finds it

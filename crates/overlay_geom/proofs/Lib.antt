@@ -8,7 +8,6 @@ pub mod Cross
 pub mod Crossing
 pub mod Divided
 pub mod Entries
-pub mod FlatAdded
 pub mod FlatPaths
 pub mod FlatShapes
 pub mod Identities

@@ -1,7 +1,7 @@
 -- The signs of products of whole numbers, and what the sign of one factor says of the other.
 use lib.IntN.{*ℤ-zero}
 use borrow.Author.Differences.{same_out, Apart-out, lt_out, le_out, same_in, below_in, at_most_in, sum_is_lem, neg_is}
-use Rattle.std.proofs.Common.{◌≡◌, zero, suc, ◌+◌, ◌*◌, ℤ, pos, negsuc, ◌+ℤ◌, ◌-ℤ◌, ◌*ℤ◌, neg_ℤ, ◌<ℤ◌, ◌≤ℤ◌, ap, ◌∙◌}
+use Rattle.std.proofs.Common.{◌≡◌, zero, suc, ◌*◌, ℤ, pos, negsuc, ◌-ℤ◌, ◌*ℤ◌, neg_ℤ, ◌<ℤ◌, ◌≤ℤ◌, ap, ◌∙◌}
 use Rattle.std.proofs.Common.{arith}
 use Rattle.std.proofs.lemmas.Int.{ints, by_lt_z}
 use Rattle.overlay_geom.proofs.Products.{mul-add, mul-neg_ℤ}
@@ -107,7 +107,3 @@ nonneg_of_mul-nonneg a b p q = let zero_product = *ℤ-zero a in le_of_mul-le a 
 -- or not positive
 pub nonpos_of_mul-nonpos : (a b : ℤ) → pos 0 <ℤ a → (a *ℤ b) ≤ℤ pos 0 → b ≤ℤ pos 0
 nonpos_of_mul-nonpos a b p q = let zero_product = *ℤ-zero a in le_of_mul-le a b (pos 0) p (omega linear)
-
--- e is f where they differ by a multiple of what is 0
-pub since : (e f k s : ℤ) → s ≡ pos 0 → e ≡ f +ℤ k *ℤ s → e ≡ f
-since e f k s z d = let none_left = mul-zero k s z in omega linear

@@ -1,8 +1,7 @@
--- Paths that are added behind those of a list of points, and shapes whose ranges are inside their lists, or stand one
--- behind the other.
+-- Paths that are added behind those of a list of points, and shapes whose ranges stand one behind the other.
 use Rattle.std.specs.Prelude.{◌≡◌, ℕ, ℤ, List, ◌++◌, length}
 use Rattle.std.specs.declared.ops.Range.{Range}
-use Rattle.overlay_geom.specs.Flat.{paths_in, AreInside}
+use Rattle.overlay_geom.specs.Flat.{paths_in}
 use Rattle.overlay_geom.specs.Packed.{AreBehind, IsPacked}
 use Rattle.overlay_geom.specs.Plane.{Point}
 use Rattle.overlay_geom.specs.declared.point.IntPoint.{IntPoint}
@@ -17,11 +16,6 @@ pub record ArePathsAdded {I : Type 0} (whole : I → ℤ) (old : List (IntPoint 
   pub more : new_ranges ≡ old_ranges ++ ranges
   pub behind : AreBehind (length old) ranges (length new)
   pub paths : paths_in whole new ranges ≡ added
-
--- each range of points is inside the points, and each range of paths among these ranges
-pub record AreShapesInside {I : Type 0} (points : List (IntPoint I)) (paths shapes : List (Range ℕ)) : Type 0 where
-  pub paths_inside : AreInside (length points) paths
-  pub shapes_inside : AreInside (length paths) shapes
 
 -- each point stands in one range of points, and each of these in one range of paths, in their order
 pub record AreShapesPacked {I : Type 0} (points : List (IntPoint I)) (paths shapes : List (Range ℕ)) : Type 0 where

@@ -1,7 +1,6 @@
 pub mod Counts
 pub mod Edges
 pub mod Flat
-pub mod FlatAdded
 pub mod FlatLends
 pub mod FlatShapes
 pub mod Lines

@@ -1,6 +1,6 @@
 //! Contours and shapes whose points stand in one list.
 
-ghost use Rattle.std.specs.Prelude.{◌≡◌, ◌≤◌, length, IfOk, IsOkUnless};
+ghost use Rattle.std.specs.Prelude.{◌≡◌, ◌≤◌, IfOk, IsOkUnless};
 ghost use Rattle.overlay_geom.specs.Flat.{range_within, part_in};
 
 pub mod contours;

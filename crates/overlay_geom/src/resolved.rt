@@ -1,6 +1,6 @@
 //! Whether a contour is resolved.
 
-ghost use Rattle.std.specs.Prelude.{◌≡◌, ◌↔◌, ◌++◌, [], ◌∷◌, All, IsTrue};
+ghost use Rattle.std.specs.Prelude.{◌↔◌, ◌++◌, [], ◌∷◌, All, IsTrue};
 ghost use Rattle.overlay_geom.specs.Points.{plain_point, plain_points, InRange, AllInRange};
 ghost use Rattle.overlay_geom.specs.Resolved.{plain_edge, IsLongEdge};
 ghost use Rattle.overlay_geom.specs.Resolved.{edges_between, edges_through, AreApart, IsResolved};

@@ -1,10 +1,9 @@
 //! Shapes whose points stand in one list.
 
-ghost use Rattle.std.specs.Prelude.{◌≡◌, ◌+◌, ◌≤◌, ◌++◌, ◌∷◌, [], length, take, vec_capacity};
-ghost use Rattle.std.specs.Prelude.{IfOk, IsOk, OnOk, OnErr, IsOkUnless};
+ghost use Rattle.std.specs.Prelude.{◌≡◌, ◌≤◌, ◌++◌, ◌∷◌, [], length, vec_capacity};
+ghost use Rattle.std.specs.Prelude.{IfOk, IsOk, OnOk, IsOkUnless};
 ghost use Rattle.overlay_geom.specs.Flat.{range_behind, paths_in, shapes_in};
-ghost use Rattle.overlay_geom.specs.FlatAdded.{joined_items, ranges_from};
-ghost use Rattle.overlay_geom.specs.FlatShapes.{ArePathsAdded, AreShapesInside, AreShapesPacked};
+ghost use Rattle.overlay_geom.specs.FlatShapes.{ArePathsAdded, AreShapesPacked};
 ghost use Rattle.overlay_geom.specs.Paths.{paths_of_shape, plain_shapes};
 
 use crate::error::OverlayError;
@@ -86,7 +85,7 @@ impl<I: IntNumber, A: Allocator + Clone> FlatShapesBuffer<I, A> {
     {
         let mut buffer = Self::default(alloc)?;
         for shape in shapes {
-            buffer.add_shape(shape)?;
+            buffer.push_shape(shape)?;
         }
         Ok(buffer)
     }
@@ -126,60 +125,12 @@ impl<I: IntNumber, A: Allocator + Clone> FlatShapesBuffer<I, A> {
 }
 
 impl<I: IntNumber, A: Allocator> FlatShapesBuffer<I, A> {
-    /// Adds these contours as the last shape: their points behind the points that are there, and their
-    /// ranges behind the ranges, of which the shape has the new ones. If all ranges were inside their lists,
-    /// they are so again, and the shapes are those before and this one. If it is refused, the buffer stays
-    /// as it is. The only refusal is `Memory`.
-    pub fn add_shape<B: Allocator>(
-        &mut self,
-        shape: &[IntContour<I, B>],
-    ) -> Result<(), OverlayError>
-        ensures points { OnOk result (self.new.points.items ≡ self.old.points.items ++ joined_items shape.now) }
-        ensures contour_ranges { OnOk result (self.new.contour_ranges.items
-            ≡ self.old.contour_ranges.items ++ ranges_from (length self.old.points.items) shape.now) }
-        ensures shape_ranges { OnOk result (self.new.shape_ranges.items ≡ self.old.shape_ranges.items ++ record {
-          start = length self.old.contour_ranges.items;
-          end = length self.old.contour_ranges.items + length shape.now;
-        } ∷ []) }
-        ensures inside { OnOk result
-            (AreShapesInside self.old.points.items self.old.contour_ranges.items self.old.shape_ranges.items
-            → AreShapesInside self.new.points.items self.new.contour_ranges.items self.new.shape_ranges.items) }
-        ensures packed { OnOk result
-            (AreShapesPacked self.old.points.items self.old.contour_ranges.items self.old.shape_ranges.items
-            → AreShapesPacked self.new.points.items self.new.contour_ranges.items self.new.shape_ranges.items) }
-        ensures shapes { OnOk result
-            (AreShapesInside self.old.points.items self.old.contour_ranges.items self.old.shape_ranges.items
-            → shapes_in I.whole self.new.points.items self.new.contour_ranges.items self.new.shape_ranges.items
-            ≡ shapes_in I.whole self.old.points.items self.old.contour_ranges.items self.old.shape_ranges.items
-            ++ paths_of_shape I.whole shape.now ∷ []) }
-        ensures same_points { OnErr result (self.new.points.items ≡ self.old.points.items) }
-        ensures same_contours { OnErr result (self.new.contour_ranges.items ≡ self.old.contour_ranges.items) }
-        ensures same_shapes { OnErr result (self.new.shape_ranges.items ≡ self.old.shape_ranges.items) }
-        ensures only { IsOkUnless result OverlayError.Memory }
-    {
-        let points = self.points.len();
-        let contours = self.contour_ranges.len();
-        if let Err(refused) = self.push_shape(shape) {
-            self.points.truncate(points);
-            self.contour_ranges.truncate(contours);
-            return Err(refused);
-        }
-        Ok(())
-    }
-
-    // The same; if it is refused, some of the contours may stand behind those that were there.
+    // Adds these contours as the last shape. If it is refused, some of them may stand behind those that were there.
     fn push_shape<B: Allocator>(&mut self, shape: &[IntContour<I, B>]) -> Result<(), OverlayError>
         ensures contours { OnOk result (ArePathsAdded I.whole self.old.points.items self.old.contour_ranges.items
             (paths_of_shape I.whole shape.now) self.new.points.items self.new.contour_ranges.items) }
-        ensures points { OnOk result (self.new.points.items ≡ self.old.points.items ++ joined_items shape.now) }
-        ensures ranges { OnOk result (self.new.contour_ranges.items
-            ≡ self.old.contour_ranges.items ++ ranges_from (length self.old.points.items) shape.now) }
         ensures shape { OnOk result (self.new.shape_ranges.items ≡ self.old.shape_ranges.items ++ record
             { start = length self.old.contour_ranges.items; end = length self.new.contour_ranges.items } ∷ []) }
-        ensures points_before { take (length self.old.points.items) self.new.points.items ≡ self.old.points.items }
-        ensures contours_before { take (length self.old.contour_ranges.items) self.new.contour_ranges.items
-            ≡ self.old.contour_ranges.items }
-        ensures same_shapes { OnErr result (self.new.shape_ranges.items ≡ self.old.shape_ranges.items) }
         ensures only { IsOkUnless result OverlayError.Memory }
     {
         let start = self.contour_ranges.len();
@@ -198,11 +149,6 @@ fn push_contours<I: IntNumber, A: Allocator, B: Allocator>(
 ) -> Result<(), OverlayError>
     ensures added { OnOk result (ArePathsAdded I.whole points.old.items ranges.old.items
         (paths_of_shape I.whole contours.now) points.new.items ranges.new.items) }
-    ensures points { OnOk result (points.new.items ≡ points.old.items ++ joined_items contours.now) }
-    ensures ranges { OnOk result (ranges.new.items
-        ≡ ranges.old.items ++ ranges_from (length points.old.items) contours.now) }
-    ensures points_before { take (length points.old.items) points.new.items ≡ points.old.items }
-    ensures ranges_before { take (length ranges.old.items) ranges.new.items ≡ ranges.old.items }
     ensures only { IsOkUnless result OverlayError.Memory }
 {
     for contour in contours {
@@ -221,8 +167,6 @@ fn push_contour<I: IntNumber, A: Allocator>(
     ensures points { OnOk result (points.new.items ≡ points.old.items ++ contour.now) }
     ensures ranges { OnOk result (ranges.new.items
         ≡ ranges.old.items ++ range_behind points.old.items contour.now ∷ []) }
-    ensures points_before { take (length points.old.items) points.new.items ≡ points.old.items }
-    ensures same_ranges { OnErr result (ranges.new.items ≡ ranges.old.items) }
     ensures only { IsOkUnless result OverlayError.Memory }
 {
     let start = points.len();

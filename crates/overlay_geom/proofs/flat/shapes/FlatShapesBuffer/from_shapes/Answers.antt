@@ -1,7 +1,9 @@
 -- At first there is no shape, and each shape that is added is one more.
-use Rattle.std.proofs.Common.{ap, ◌∙◌}
+use Rattle.std.proofs.Common.{ap, sym, subst, ◌∙◌}
 use Rattle.overlay_geom.specs.Flat.{shapes_in}
-use Rattle.overlay_geom.proofs.FlatShapes.{no_shapes_packed, shapes_packed_inside, shape_more}
+use Rattle.overlay_geom.specs.FlatShapes.{AreShapesPacked}
+use Rattle.overlay_geom.specs.Paths.{paths_of_shape}
+use Rattle.overlay_geom.proofs.FlatShapes.{no_shapes_packed, shape_more, shapes_added, packed_added}
 use Rattle.overlay_geom.proofs.flat.shapes.FlatShapesBuffer.from_shapes.Goals as goal
 
 pub loop-shape-init : goal.loop-shape-init
@@ -17,10 +19,16 @@ pub loop-shape-preserved : goal.loop-shape-preserved
 loop-shape-preserved g c =
     let whole = g.I.IntNumber.whole in
     let b = c.loop-shape.buffer in
+    let new = c.push_shape.new.self in
+    let is = c.in_ok-push_shape.ensures in
     let packed = c.loop-shape.invariant.1 in
-    let inside = shapes_packed_inside b.points.items b.contour_ranges.items b.shape_ranges.items packed in (
-      c.in_ok-add_shape.ensures.shapes inside
+    let shape = paths_of_shape whole c.deref.result.now in (
+      ap (shapes_in whole new.points.items new.contour_ranges.items) is.shape
+          ∙ shapes_added whole b.points.items new.points.items b.contour_ranges.items new.contour_ranges.items
+          b.shape_ranges.items shape is.contours packed
           ∙ shape_more whole c.args.shapes.now c.loop-shape.shape-index c.shape-item.result c.loop-shape-test.true
           c.shape-item.is c.deref.result.now c.deref.ensures.value _ c.loop-shape.invariant.0,
-      c.in_ok-add_shape.ensures.packed packed,
+      subst (AreShapesPacked new.points.items new.contour_ranges.items) (sym is.shape)
+          (packed_added whole b.points.items new.points.items b.contour_ranges.items new.contour_ranges.items
+          b.shape_ranges.items shape is.contours packed),
     )
