@@ -1,14 +1,15 @@
 -- The filled-above edges of the first walks.
 use Rattle.std.proofs.Common.{◌≡◌, ℕ, ◌+◌, ◌<◌, true, false, List, [], ◌∷◌, ◌++◌, cond, length, map, take, get_or}
-use Rattle.std.proofs.Common.{Contains, refl, sym, ap, ap₂, ◌∙◌, subst, append-nil, arith}
+use Rattle.std.proofs.Common.{Contains, refl, sym, ap, ap₂, ◌∙◌, subst, append-nil}
 use Rattle.std.specs.List.{All, AllPairs, filter, slice_get}
 use Rattle.std.specs.Prelude.{Some}
 use Rattle.std.specs.List.Sorted.{IsPermutation}
 use Rattle.std.proofs.lemmas.Grind.{flat_map-append}
-use Rattle.std.proofs.lemmas.List.{map-append, take_more, get_or-map, length-map}
+use Rattle.std.proofs.lemmas.List.{map-append, take_more}
 use Rattle.std.proofs.lemmas.List.Elements.{All-append, filter-append}
 use Rattle.std.proofs.lemmas.List.Sorted.{All-permutation, Contains-permutation, IsPermutation-map}
 use Rattle.overlay_geom.specs.Plane.{Step, Edge, edge_of, edge_eq}
+use Rattle.overlay_geom.proofs.Mapped.{AllPairs-unmap}
 use Rattle.overlay_geom.proofs.Orders.{edge_eq-exchanged}
 use Rattle.overlay_plane.specs.Contours.{is_filled_above}
 use Rattle.overlay_plane.specs.Binding.{filled_above_edges, all_filled_above}
@@ -44,13 +45,6 @@ edges_of_entries : (n : ℕ) (es : List Edge) →
     map (λ (f : Entry ℕ). f.edge) (map (λ e. record { edge = e; value = n }) es) ≡ es
 edges_of_entries n [] = refl
 edges_of_entries n (e ∷ es) = ap (λ fs. e ∷ fs) (edges_of_entries n es)
-
--- what holds of any two of what items are mapped to holds so of the items
-AllPairs-unmap : {X Y : Type 0} (R : Y → Y → Type 0) (f : X → Y) (xs : List X) → AllPairs R (map f xs) →
-    AllPairs (λ x y. R (f x) (f y)) xs
-AllPairs-unmap R f xs h i j d l m =
-    subst (λ y. R y (f (get_or xs j d))) (get_or-map f xs i d (f d) (omega (arith, l, m)))
-    (subst (λ y. R (get_or (map f xs) i (f d)) y) (get_or-map f xs j d (f d) m) (h i j (f d) l (rw length-map m)))
 
 module _ (filled : Hand) (walks : List (List Step)) where
   -- the entries are those of the first i walks

@@ -1,7 +1,7 @@
 -- Walks of groups that become contours, one group and one walk at a time.
 use Rattle.std.proofs.Common.{◌≡◌, ℕ, suc, ◌≤◌, Bool, true, cond, ℤ, List, [], ◌∷◌, ◌++◌, map, length, get_or}
 use Rattle.std.proofs.Common.{filter, All, Contains, Vec, refl, sym, ap, ◌∙◌, subst, arith}
-use Rattle.std.specs.List.{AllZip, flat_map}
+use Rattle.std.specs.List.{flat_map}
 use Rattle.std.proofs.lemmas.Bool.{false≢true}
 use Rattle.std.proofs.lemmas.List.{map-append}
 use Rattle.std.proofs.lemmas.List.Elements.{All-contains, All-head}
@@ -15,14 +15,6 @@ use Rattle.overlay_walk.specs.declared.step.Step.{Step as StepTaken}
 use Rattle.overlay_walk.specs.GroupedContours.{plain_contours, first_reaches, contours_of_group}
 use Rattle.overlay_walk.specs.Steps.{plain_step, plain_steps, IsLong}
 use Rattle.overlay_walk.specs.Walks.{plain_walks}
-
--- one more pair in relation
-pub zip_push : {X Y : Type 0} (R : X → Y → Type 0) (xs : List X) (ys : List Y) (x : X) (y : Y) → AllZip R xs ys →
-    R x y → AllZip R (xs ++ x ∷ []) (ys ++ y ∷ [])
-zip_push R [] [] x y each r = (r, tt)
-zip_push R [] (z ∷ ys) x y each r = absurd each
-zip_push R (w ∷ xs) [] x y each r = absurd each
-zip_push R (w ∷ xs) (z ∷ ys) x y each r = (each.0, zip_push R xs ys x y each.1 r)
 
 -- a list without entries
 pub none_left : {X : Type 0} (xs : List X) → length xs ≡ 0 → xs ≡ []

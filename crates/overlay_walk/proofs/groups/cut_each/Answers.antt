@@ -2,12 +2,12 @@
 use Rattle.std.proofs.Common.{◌++◌, [], ◌∷◌, All, sym, ap, ◌∙◌}
 use Rattle.std.proofs.lemmas.List.{append_assoc}
 use Rattle.std.proofs.lemmas.List.Elements.{All-push}
+use Rattle.overlay_geom.proofs.Mapped.{AllZip-more}
 use Rattle.overlay_plane.specs.Alternates.{Alternates}
 use Rattle.overlay_plane.specs.BesideOrbits.{HasEachOnce}
 use Rattle.overlay_plane.specs.Contours.{IsCutInto}
 use Rattle.overlay_walk.specs.Steps.{plain_hand, plain_steps, IsLong}
 use Rattle.overlay_walk.specs.Walks.{plain_walks}
-use Rattle.overlay_walk.proofs.GroupContours.{zip_push}
 use Rattle.overlay_walk.proofs.WalksRead.{walk_among}
 use Rattle.overlay_walk.proofs.groups.cut_each.Goals as goal
 
@@ -38,7 +38,7 @@ loop-group-preserved g c =
       tt,
       tt,
       l.invariant.2 ∙ ap (λ ws. l.yielded ++ ws) c.in-Some.ensures.steps.0 ∙ sym (append_assoc l.yielded (w ∷ []) _),
-      zip_push (λ (v : _) (ws : _). IsCutInto (λ s. plain_hand c.args.hand) (plain_steps whole v.items)
+      AllZip-more (λ (v : _) (ws : _). IsCutInto (λ s. plain_hand c.args.hand) (plain_steps whole v.items)
           (plain_walks whole ws.items)) l.yielded l.cut.items w
           c.in_ok-cut_again.field-0 l.invariant.3 c.in_ok-cut_again.ensures.cut,
       All-push (λ (ws : _). All (All (IsLong g.I.IntNumber.limit)) (plain_walks whole ws.items)) l.cut.items
