@@ -1,6 +1,6 @@
 //! The sweep over walks that finds the shapes of those that stand in none from the start.
 
-ghost use Rattle.std.specs.Prelude.{◌≡◌, ◌<◌, ◌≤◌, length, map, take, drop, slice_index_or, None};
+ghost use Rattle.std.specs.Prelude.{◌≡◌, ◌≤◌, length, map, take, drop, slice_index_or, None};
 ghost use Rattle.std.specs.Prelude.{◌<ℤ◌, false, cond, nat_lt, All, AllPairs, IfOk, IsOkUnless};
 ghost use Rattle.std.specs.Option.{is_some};
 ghost use Rattle.overlay_geom.specs.Plane.{edge_of, edge_eq};

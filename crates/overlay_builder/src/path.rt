@@ -7,7 +7,7 @@ ghost use Rattle.overlay_geom.specs.Plane.{steps_between, steps_through};
 ghost use Rattle.overlay_geom.specs.Points.{plain_point, plain_points, InRange, AllInRange};
 ghost use Rattle.overlay_arrange.specs.Content.{carried_edge};
 ghost use Rattle.overlay_plane.specs.Carried.{edges_in};
-ghost use Rattle.overlay_builder.specs.Paths.{passed_edge, path_steps_of, leads_back, AreLight};
+ghost use Rattle.overlay_builder.specs.Paths.{passed_edge, path_steps_of, AreLight};
 ghost use Rattle.overlay_builder.specs.Paths.{IsTakenAs, AddsPath, contour_kind};
 ghost use Rattle.overlay_builder.specs.PathLists.{carried_weight, path_as, WouldWeighTooMuch};
 

@@ -1,5 +1,5 @@
 -- The steps of a closed list of different points: where each of them begins and ends.
-use Rattle.std.proofs.Common.{◌≡◌, ◌⊎◌, inl, inr, nat_lt, Bool, ℕ, zero, suc, ◌+◌, ◌-◌, ◌<◌, ◌≤◌, true, false, cond}
+use Rattle.std.proofs.Common.{◌≡◌, ◌⊎◌, inl, inr, nat_lt, Bool, ℕ, zero, suc, ◌+◌, ◌<◌, ◌≤◌, true, false, cond}
 use Rattle.std.proofs.Common.{List, [], ◌∷◌, ◌++◌, length}
 use Rattle.std.proofs.Common.{map, get_or, Contains, refl, sym, ap, ◌∙◌, arith}
 use Rattle.std.proofs.lemmas.Bool.{both_ways, false_from_ne_true, ltb-false, ltb-true}

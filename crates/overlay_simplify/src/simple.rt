@@ -1,6 +1,6 @@
 //! Whether a contour is simple as it was added, and what becomes of it.
 
-ghost use Rattle.std.specs.Prelude.{◌≡◌, ◌≢◌, ◌↔◌, false, [], ◌∷◌, IsTrue, IfOk, OnOk, IfErr, IsOkUnless};
+ghost use Rattle.std.specs.Prelude.{◌≡◌, ◌≢◌, ◌↔◌, [], ◌∷◌, IsTrue, IfOk, OnOk, IfErr, IsOkUnless};
 ghost use Rattle.overlay_arrange.specs.Content.{IsContent};
 ghost use Rattle.overlay_arrange.specs.declared.options.ShapeType.TheVariants.{Subject};
 ghost use Rattle.overlay_arrange.specs.Arranged.{most_rounds};
