@@ -120,7 +120,7 @@ impl<I: OverlayInt, R0: IntShapeResource<I>> IntClip<I> for R0 {
         ensures err { IfErr result (MayRefusePaths
             (shape_and_strings (R0.paths self.now) (plain_points I.whole line ∷ []))) }
     {
-        self.clip_source(alloc, &PathRef { points: &line }, fill_rule, clip_rule)
+        self.clip_source(alloc, &PathRef::new(&line), fill_rule, clip_rule)
     }
 
     fn clip_lines<A: Allocator + Clone>(

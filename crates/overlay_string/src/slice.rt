@@ -113,7 +113,7 @@ impl<I: OverlayInt, R0: IntShapeResource<I>> IntSlice<I> for R0 {
         ensures err { IfErr result (MayRefusePaths
             (shape_and_strings (R0.paths self.now) (plain_points I.whole line ∷ []))) }
     {
-        self.slice_by_source(alloc, &PathRef { points: &line }, fill_rule)
+        self.slice_by_source(alloc, &PathRef::new(&line), fill_rule)
     }
 
     fn slice_by_lines<A: Allocator + Clone>(

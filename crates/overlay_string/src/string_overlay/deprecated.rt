@@ -28,7 +28,7 @@ impl<I: OverlayInt, A: Allocator + Clone> StringOverlay<I, A> {
         ensures made { IfOk result (λ o. IsNewBuilder I.WideUInt.natural o) }
         ensures err { IfErr result (MayRefuseBuilder (shape_contours (plain_points I.whole contour.now ∷ []))) }
     {
-        StringOverlay::from_shape(alloc, &PathRef { points: contour })
+        StringOverlay::from_shape(alloc, &PathRef::new(contour))
     }
 
     /// A builder with the contours of the shape, as `from_shape` makes it. The points are in the coordinate range, and

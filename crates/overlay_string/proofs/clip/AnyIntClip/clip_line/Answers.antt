@@ -1,8 +1,0 @@
--- What is passed on has these paths.
-use Rattle.overlay_string.proofs.clip.AnyIntClip.clip_line.Goals as goal
-
-pub returns-clause-clipped : goal.returns-clause-clipped
-returns-clause-clipped g c = c.clip_source.ensures.clipped
-
-pub returns-clause-err : goal.returns-clause-err
-returns-clause-err g c = c.clip_source.ensures.err
