@@ -1,14 +1,16 @@
-"""Boolean operations on polygons with whole coordinates, by the proved program polyover."""
+"""Boolean operations on polygons with whole coordinates, by the proved library for C, or the proved program."""
 
-from .calls import clip, edges, hierarchy, locate, overlay, relate, simplify, tiles
+from .calls import backend, clip, edges, hierarchy, locate, overlay, relate, simplify, tiles
 from .calls import slice  # pylint: disable=redefined-builtin
-from .errors import BadInput, NotResolved, NotSettled, OutOfMemory, PolyoverError, ProgramMissing, TooManyEdges
+from .errors import BadInput, LibraryMissing, NotResolved, NotSettled, OutOfMemory, PolyoverError, ProgramMissing
+from .errors import TooManyEdges
 from .geojson import contours_of, lines_of
 from .scaled import Scaled
 from .shapes import Paths, Shapes
 
 __all__ = [
     "BadInput",
+    "LibraryMissing",
     "NotResolved",
     "NotSettled",
     "OutOfMemory",
@@ -18,6 +20,7 @@ __all__ = [
     "Scaled",
     "Shapes",
     "TooManyEdges",
+    "backend",
     "clip",
     "contours_of",
     "edges",

@@ -31,3 +31,7 @@ class BadInput(PolyoverError, ValueError):
 
 class ProgramMissing(PolyoverError):
     """There is no program to ask."""
+
+
+class LibraryMissing(PolyoverError):
+    """There is no library where one is named, or it can't be loaded."""

@@ -18,19 +18,24 @@ FILLS = {"evenodd": "EvenOdd", "nonzero": "NonZero", "positive": "Positive", "ne
 RELATIONS = ("intersects", "interiors_intersect", "touches", "point_intersects", "within", "disjoint", "covers")
 
 
-def word(words, name, what):
-    """The program's word for a rule."""
+def known(words, name, what):
+    """The name of a rule, which is one of those that have a word."""
     if name not in words:
         raise BadInput(f"unknown {what} {name!r}: one of {', '.join(words)}")
-    return words[name]
+    return name
+
+
+def whole(value):
+    """A whole number."""
+    try:
+        return index(value)
+    except TypeError:
+        raise BadInput(f"{value!r} is no whole number: Scaled takes floats") from None
 
 
 def coordinate(value):
     """A whole number in the coordinate range."""
-    try:
-        number = index(value)
-    except TypeError:
-        raise BadInput(f"{value!r} is no whole number: Scaled takes floats") from None
+    number = whole(value)
     if abs(number) > LIMIT:
         raise BadInput(f"{number} is out of range: at most {LIMIT} from 0")
     return number

@@ -1,8 +1,11 @@
 """The rows of docs/PROGRAM.md through Python: what the program prints, once printed."""
 
+import os
 import unittest
+from unittest import mock
 
 import polyover
+from polyover.program import program
 
 from .rows import BAR, FRAME, HALL, NESTED, OTHER, SQUARE, WALLS, numbers, printed_shapes
 
@@ -82,3 +85,13 @@ class Rows(unittest.TestCase):
         self.assertEqual(polyover.overlay([[]], [[(1, 1)]]), [])
         self.assertEqual(polyover.locate([SQUARE], []), [])
         self.assertEqual(polyover.clip([SQUARE], []), [])
+
+
+class RowsOfTheProgram(Rows):
+    """The same, where the program is asked, which the library takes the place of."""
+
+    def setUp(self):
+        chosen = mock.patch.dict(os.environ, {"POLYOVER_LIBRARY": "", "POLYOVER_PROGRAM": str(program())})
+        chosen.start()
+        self.addCleanup(chosen.stop)
+        self.assertEqual(polyover.backend(), "program")

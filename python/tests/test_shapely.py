@@ -46,7 +46,7 @@ def length(contours):
     return sum(Polygon(contour).exterior.length for contour in contours)
 
 
-@unittest.skipIf(shapely_shape is None, "skipped: shapely is not installed (Debian's python3-shapely)")
+@unittest.skipIf(shapely_shape is None, "no python3 here has shapely (Debian's python3-shapely)")
 class Compared(unittest.TestCase):
     """Answers that are those of GEOS, as far as rounding allows."""
 

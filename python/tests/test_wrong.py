@@ -33,7 +33,7 @@ class Wrong(unittest.TestCase):
                 polyover.overlay([contour])
 
     def test_minimum_area(self):
-        for area in (-1, 2**127):
+        for area in (-1, 2**127, 0.5):
             with self.assertRaises(polyover.BadInput):
                 polyover.overlay([SQUARE], minimum_area=area)
 
@@ -60,6 +60,6 @@ class Wrong(unittest.TestCase):
         self.assertEqual(found.exception.contour, 1)
 
     def test_no_program(self):
-        with mock.patch.dict(os.environ, {"POLYOVER_PROGRAM": "/nowhere/polyover"}):
+        with mock.patch.dict(os.environ, {"POLYOVER_LIBRARY": "", "POLYOVER_PROGRAM": "/nowhere/polyover"}):
             with self.assertRaises(polyover.ProgramMissing):
                 polyover.overlay([SQUARE])

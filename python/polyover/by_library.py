@@ -1,0 +1,160 @@
+"""Each call as the library for C answers it."""
+
+from ctypes import c_size_t, c_uint32
+
+from .errors import NotResolved
+from .grid import grid_lines
+from .library import BYTES, COORDINATES, SIZES, ClipOptions, Counts, Options, PathCounts, Room, Status, check, library
+from .text import FILLS, RELATIONS, RULES
+
+NAME = "library"
+RULE_NUMBERS = {name: number for number, name in enumerate(RULES)}
+FILL_NUMBERS = {name: number for number, name in enumerate(FILLS)}
+LOCATIONS = ("outside", "inside", "boundary")
+# of the other calls each takes the function of its own name
+TAKES = {"tiles": "slice"}
+
+
+def can(call):
+    """Whether there is a library, and it has the function that the call takes."""
+    found = library()
+    return found is not None and f"polyover_{TAKES.get(call, call)}" in found.names
+
+
+def options(look):
+    """The options of an overlay."""
+    high, low = divmod(look.minimum_area, 2**64)
+    return Options(bool(look.clockwise), bool(look.keep), bool(look.ogc), 0, high, low)
+
+
+# ---- answers in arrays
+
+
+def expected(*given):
+    """How much an answer of shapes most often has at most: twice the points, and three points in a contour."""
+    numbers = sum(each.coordinate_count for each in given)
+    return Counts(2 * numbers + 60, numbers // 3 + 10, numbers // 3 + 10)
+
+
+def shape_rooms(counts):
+    """The arrays for shapes."""
+    sizes = Room(SIZES, counts.contours), Room(SIZES, counts.shapes)
+    return [Room(COORDINATES, counts.coordinates), *sizes]
+
+
+def linked_rooms(counts, link_count):
+    """The arrays for shapes and links, each of which has three numbers."""
+    return [*shape_rooms(counts), Room(SIZES, link_count.value, 3)]
+
+
+def path_rooms(counts):
+    """The arrays for paths."""
+    return [Room(COORDINATES, counts.coordinates), Room(SIZES, counts.paths)]
+
+
+def edge_rooms(count):
+    """The arrays for edges, each of two points."""
+    return [Room(COORDINATES, 4 * count.value), Room(BYTES, count.value)]
+
+
+def points_in(numbers):
+    """The points of an array of coordinates."""
+    return list(zip(numbers[0::2], numbers[1::2]))
+
+
+def parted(items, ends):
+    """The parts of a list, of which each end is known."""
+    return [items[start:end] for start, end in zip([0, *ends[:-1]], ends)]
+
+
+def shapes_in(coordinates, contour_ends, shape_ends, counts):
+    """The shapes in arrays."""
+    contours = parted(points_in(coordinates[: counts.coordinates]), contour_ends[: counts.contours])
+    return parted(contours, shape_ends[: counts.shapes])
+
+
+# ---- the calls
+
+
+def overlay(subject, clip, rule, fill, look):
+    """The shapes of an overlay."""
+    asked = library()
+    both = asked.contours(subject), asked.contours(clip)
+    given, counts = (RULE_NUMBERS[rule], FILL_NUMBERS[fill], options(look), *both), expected(*both)
+    return shapes_in(*asked.answer("polyover_overlay", given, shape_rooms, counts), counts)
+
+
+def hierarchy(subject, clip, rule, fill, look):
+    """The shapes of an overlay, and its links."""
+    asked = library()
+    both = asked.contours(subject), asked.contours(clip)
+    given, counts = (RULE_NUMBERS[rule], FILL_NUMBERS[fill], options(look), *both), expected(*both)
+    link_count = c_size_t(counts.shapes)
+    *arrays, links = asked.answer("polyover_hierarchy", given, linked_rooms, counts, link_count)
+    told = links[: 3 * link_count.value]
+    return shapes_in(*arrays, counts), list(zip(told[0::3], told[1::3], told[2::3]))
+
+
+def edges(subject, clip, fill):
+    """The edges of the arrangement."""
+    asked = library()
+    both = asked.contours(subject), asked.contours(clip)
+    count = c_size_t(30 + sum(each.coordinate_count for each in both))
+    coordinates, fills = asked.answer("polyover_edges", (FILL_NUMBERS[fill], *both), edge_rooms, count)
+    points = points_in(coordinates[: 4 * count.value])
+    return list(zip(points[0::2], points[1::2], fills))
+
+
+def relate(subject, clip, fill):
+    """The truth of each relation."""
+    asked, relations = library(), c_uint32()
+    both = asked.contours(subject), asked.contours(clip)
+    check(asked.call("polyover_relate", FILL_NUMBERS[fill], *both, relations))
+    return {name: bool(relations.value >> at & 1) for at, name in enumerate(RELATIONS)}
+
+
+def clip(shape, lines, fill, invert, boundary):
+    """The parts of open paths that are kept."""
+    asked = library()
+    both = asked.contours(shape), asked.contours(lines)
+    given = (FILL_NUMBERS[fill], ClipOptions(bool(invert), bool(boundary)), *both)
+    numbers = both[1].coordinate_count
+    counts = PathCounts(2 * numbers + 60, numbers // 2 + 15)
+    coordinates, ends = asked.answer("polyover_clip", given, path_rooms, counts)
+    return parted(points_in(coordinates[: counts.coordinates]), ends[: counts.paths])
+
+
+def sliced(asked, contours, lines, fill):
+    """The shapes into which open paths cut contours."""
+    paths = asked.contours(lines)
+    # (each line has two sides)
+    counts = expected(contours, paths, paths)
+    return shapes_in(*asked.answer("polyover_slice", (FILL_NUMBERS[fill], contours, paths), shape_rooms, counts), counts)
+
+
+def slice(shape, lines, fill):  # pylint: disable=redefined-builtin
+    """The shapes into which open paths cut a shape."""
+    asked = library()
+    return sliced(asked, asked.contours(shape), lines, fill)
+
+
+def tiles(shape, width, height, fill):
+    """The shapes into which the cells of a grid cut a shape: it is sliced along the lines of the grid."""
+    asked = library()
+    contours = asked.contours(shape)
+    numbers = contours.numbers
+    xs, ys = zip(*points_in(numbers)) if numbers else ((), ())
+    return sliced(asked, contours, grid_lines(width, height, xs, ys), fill)
+
+
+def locate(shape, points):
+    """Where each point lies."""
+    asked, unresolved = library(), c_size_t()
+    contours, queries = asked.contours(shape), asked.contours([points])
+    found = Room(BYTES, queries.coordinate_count // 2)
+    given = queries.coordinates or 0, queries.coordinate_count
+    status = asked.call("polyover_locate", contours, *given, found, unresolved)
+    if status == Status.NOT_RESOLVED:
+        raise NotResolved(unresolved.value)
+    check(status)
+    return [LOCATIONS[number] for number in found.items]

@@ -1,0 +1,74 @@
+"""Each call as the program answers it."""
+
+from .errors import BadInput, NotResolved
+from .program import BadLine, answer
+from .text import FILLS, RELATIONS, RULES, edges_in, lines_of, paths_in, shapes_in
+
+NAME = "program"
+
+
+def asked_of_two(command, subject, clip):
+    """The answer to a command over contours of a subject and a clip."""
+    return answer(f"{lines_of('subject', subject)}{lines_of('clip', clip)}run {command}\n")
+
+
+def asked_of_lines(command, shape, lines):
+    """The answer to a command over the contours of a shape and open paths."""
+    return answer(f"{lines_of('subject', shape)}{lines_of('line', lines)}run {command}\n")
+
+
+def options(look):
+    """The words of the options of an overlay."""
+    chosen = [("ogc", look.ogc), ("clockwise", look.clockwise), ("keep", look.keep)]
+    chosen.append((f"min {look.minimum_area}", look.minimum_area))
+    return "".join(f" {name}" for name, is_set in chosen if is_set)
+
+
+def overlay(subject, clip, rule, fill, look):
+    """The shapes of an overlay."""
+    return shapes_in(asked_of_two(f"overlay {RULES[rule]} {FILLS[fill]}{options(look)}", subject, clip))[0]
+
+
+def hierarchy(subject, clip, rule, fill, look):
+    """The shapes of an overlay, and its links."""
+    return shapes_in(asked_of_two(f"hierarchy {RULES[rule]} {FILLS[fill]}{options(look)}", subject, clip))
+
+
+def edges(subject, clip, fill):
+    """The edges of the arrangement."""
+    return edges_in(asked_of_two(f"edges {FILLS[fill]}", subject, clip))
+
+
+def relate(subject, clip, fill):
+    """The truth of each relation."""
+    told = asked_of_two(f"relate {FILLS[fill]}", subject, clip).split()
+    return {name: told[2 * at + 1] == "true" for at, name in enumerate(RELATIONS)}
+
+
+def clip(shape, lines, fill, invert, boundary):
+    """The parts of open paths that are kept."""
+    chosen = " invert" * bool(invert) + " boundary" * bool(boundary)
+    return paths_in(asked_of_lines(f"clip {FILLS[fill]}{chosen}", shape, lines))
+
+
+def slice(shape, lines, fill):  # pylint: disable=redefined-builtin
+    """The shapes into which open paths cut a shape."""
+    return shapes_in(asked_of_lines(f"slice {FILLS[fill]}", shape, lines))[0]
+
+
+def tiles(shape, width, height, fill):
+    """The shapes into which the cells of a grid cut a shape."""
+    try:
+        return shapes_in(asked_of_lines(f"tiles {FILLS[fill]} {width} {height}", shape, []))[0]
+    except BadLine:
+        told = f"cells of {width} by {height} do not fit: at least 1 wide and high, at most 1,000 lines in a direction"
+        raise BadInput(told) from None
+
+
+def locate(shape, points):
+    """Where each point lies."""
+    given = lines_of("subject", shape) + "".join(lines_of("point", [[point]]) for point in points)
+    try:
+        return answer(f"{given}run locate\n").split()
+    except BadLine as bad:
+        raise NotResolved(bad.line - 1) from None

@@ -1,0 +1,196 @@
+"""The library for C, whose calls are proved (include/polyover.h): where it is, and what it takes and answers."""
+
+import os
+from array import array
+from ctypes import CDLL, POINTER, Structure, byref, c_size_t, c_uint32, c_uint64, c_void_p, sizeof
+from enum import IntEnum
+from functools import lru_cache
+from pathlib import Path
+from struct import error as StructError
+from struct import pack
+
+from . import program
+from .errors import BadInput, LibraryMissing, NotSettled, OutOfMemory, PolyoverError, TooManyEdges
+from .text import coordinate
+
+VARIABLE = "POLYOVER_LIBRARY"
+BUILT = str(Path(__file__).resolve().parents[2] / "c" / "out" / "libpolyover.so")
+COORDINATES, SIZES, BYTES = "q", "Q" if sizeof(c_size_t) == 8 else "I", "B"
+
+
+class Status(IntEnum):
+    """How a call ends."""
+
+    OK = 0
+    MEMORY = 1
+    BAD_ENDS = 2
+    OUT_OF_RANGE = 3
+    NOT_RESOLVED = 4
+    BAD_RULE = 5
+    BAD_FILL = 6
+    BAD_OPTION = 7
+    NOT_SETTLED = 8
+    TOO_MANY_EDGES = 9
+    TOO_SMALL = 10
+
+
+FAULTS = {Status.MEMORY: OutOfMemory, Status.NOT_SETTLED: NotSettled, Status.TOO_MANY_EDGES: TooManyEdges}
+# (none of these comes, since all that they tell of is tested before a call)
+WRONG = {Status.BAD_ENDS, Status.OUT_OF_RANGE, Status.BAD_RULE, Status.BAD_FILL, Status.BAD_OPTION}
+
+
+class Options(Structure):
+    """How the answer of an overlay looks."""
+
+    _fields_ = [
+        ("direction", c_uint32),
+        ("keep", c_uint32),
+        ("ogc", c_uint32),
+        ("reserved", c_uint32),
+        ("min_area_high", c_uint64),
+        ("min_area_low", c_uint64),
+    ]
+
+
+class ClipOptions(Structure):
+    """Which parts of lines a clip keeps."""
+
+    _fields_ = [("invert", c_uint32), ("boundary", c_uint32)]
+
+
+class Counts(Structure):
+    """How much an answer of shapes has."""
+
+    _fields_ = [("coordinates", c_size_t), ("contours", c_size_t), ("shapes", c_size_t)]
+
+
+class PathCounts(Structure):
+    """How much an answer of paths has."""
+
+    _fields_ = [("coordinates", c_size_t), ("paths", c_size_t)]
+
+
+class Contours(Structure):
+    """Contours, or open paths."""
+
+    _fields_ = [
+        ("coordinates", c_void_p),
+        ("coordinate_count", c_size_t),
+        ("ends", c_void_p),
+        ("end_count", c_size_t),
+    ]
+
+    def __init__(self, numbers, ends):
+        # (the fields hold no more than addresses: the arrays have to stay as long)
+        self.numbers, self.ends_of_each = numbers, ends
+        super().__init__(address(numbers), len(numbers), address(ends), len(ends))
+
+
+class Room:
+    """An array for an answer: so many items, each of some numbers."""
+
+    def __init__(self, kind, count, numbers=1):
+        self.items = array(kind, bytes(count * numbers * array(kind).itemsize))
+        self.arguments = address(self.items), count
+
+
+ARRAY = (c_void_p, c_size_t)
+CONTOURS, COUNT = POINTER(Contours), POINTER(c_size_t)
+TWO = (c_uint32, CONTOURS, CONTOURS)
+OVERLAY = (c_uint32, c_uint32, POINTER(Options), CONTOURS, CONTOURS)
+SHAPES = ARRAY * 3
+FUNCTIONS = {
+    "polyover_in_range": ARRAY,
+    "polyover_overlay": (*OVERLAY, *SHAPES, POINTER(Counts)),
+    "polyover_hierarchy": (*OVERLAY, *SHAPES, *ARRAY, POINTER(Counts), COUNT),
+    "polyover_edges": (*TWO, *ARRAY, *ARRAY, COUNT),
+    "polyover_relate": (*TWO, POINTER(c_uint32)),
+    "polyover_clip": (c_uint32, POINTER(ClipOptions), CONTOURS, CONTOURS, *ARRAY, *ARRAY, POINTER(PathCounts)),
+    "polyover_slice": (*TWO, *SHAPES, POINTER(Counts)),
+    "polyover_locate": (CONTOURS, *ARRAY, *ARRAY, COUNT),
+}
+
+
+def address(items):
+    """Where the items of an array are."""
+    return items.buffer_info()[0]
+
+
+def passed(argument):
+    """An argument as C takes it."""
+    if isinstance(argument, Room):
+        return argument.arguments
+    return (argument if isinstance(argument, int) else byref(argument),)
+
+
+def check(status):
+    """Raises what a status stands for, if it is not OK."""
+    if status in FAULTS:
+        raise FAULTS[status](FAULTS[status].__doc__)
+    if status in WRONG:
+        raise BadInput(f"the library answers {Status(status).name}")
+    if status != Status.OK:
+        raise PolyoverError(f"the library answers the status {status}")
+
+
+class Library:
+    """A library that is loaded; `names` are those of its functions that are declared here."""
+
+    def __init__(self, path):
+        try:
+            self.functions = CDLL(path)
+        except OSError as fault:
+            raise LibraryMissing(f"{path} can't be loaded: {fault}") from None
+        self.names = {name for name in FUNCTIONS if hasattr(self.functions, name)}
+        for name in self.names:
+            function = getattr(self.functions, name)
+            function.argtypes, function.restype = FUNCTIONS[name], c_uint32
+
+    def numbers(self, given):
+        """An array of coordinates, which are whole numbers in the coordinate range."""
+        try:
+            numbers = array(COORDINATES, pack(f"{len(given)}q", *given))
+            is_good = self.functions.polyover_in_range(address(numbers), len(numbers))
+        except StructError:
+            is_good = False
+        # (of bad ones this names the first)
+        return numbers if is_good else array(COORDINATES, map(coordinate, given))
+
+    def contours(self, paths):
+        """Contours, or open paths, as the library takes them."""
+        numbers, ends = [], []
+        for path in paths:
+            numbers += [number for x, y in path for number in (x, y)]
+            ends.append(len(numbers) // 2)
+        return Contours(self.numbers(numbers), array(SIZES, ends))
+
+    def call(self, name, *arguments):
+        """The status with which a function ends."""
+        return getattr(self.functions, name)(*(part for each in arguments for part in passed(each)))
+
+    def answer(self, name, given, rooms_for, *counts):
+        """The arrays that a function fills, and their counts after it; where the room for the counts given is too small,
+        it is asked again with what it takes."""
+        for _ in range(2):
+            rooms = rooms_for(*counts)
+            status = self.call(name, *given, *rooms, *counts)
+            if status != Status.TOO_SMALL:
+                break
+        check(status)
+        return [room.items for room in rooms]
+
+
+@lru_cache(maxsize=None)
+def loaded(path):
+    """The library at a path."""
+    return Library(path)
+
+
+def library():
+    """The library that POLYOVER_LIBRARY names; or else, if POLYOVER_PROGRAM names no program, the one that `make -C c`
+    built, or none if it did not."""
+    named = os.environ.get(VARIABLE)
+    if named:
+        return loaded(named)
+    is_wanted = not os.environ.get(program.VARIABLE)
+    return loaded(BUILT) if is_wanted and os.path.isfile(BUILT) else None
