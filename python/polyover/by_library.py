@@ -128,8 +128,8 @@ def sliced(asked, contours, lines, fill):
     """The shapes into which open paths cut contours."""
     paths = asked.contours(lines)
     # (each line has two sides)
-    counts = expected(contours, paths, paths)
-    return shapes_in(*asked.answer("polyover_slice", (FILL_NUMBERS[fill], contours, paths), shape_rooms, counts), counts)
+    given, counts = (FILL_NUMBERS[fill], contours, paths), expected(contours, paths, paths)
+    return shapes_in(*asked.answer("polyover_slice", given, shape_rooms, counts), counts)
 
 
 def slice(shape, lines, fill):  # pylint: disable=redefined-builtin

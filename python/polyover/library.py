@@ -169,7 +169,7 @@ class Library:
         return getattr(self.functions, name)(*(part for each in arguments for part in passed(each)))
 
     def answer(self, name, given, rooms_for, *counts):
-        """The arrays that a function fills, and their counts after it; where the room for the counts given is too small,
+        """The arrays that a function fills, which has set the counts; where the room for the counts given is too small,
         it is asked again with what it takes."""
         for _ in range(2):
             rooms = rooms_for(*counts)
@@ -187,8 +187,8 @@ def loaded(path):
 
 
 def library():
-    """The library that POLYOVER_LIBRARY names; or else, if POLYOVER_PROGRAM names no program, the one that `make -C c`
-    built, or none if it did not."""
+    """The library that POLYOVER_LIBRARY names; or else, if POLYOVER_PROGRAM names no program, the one that is built by
+    `make -C c`, or none where none is."""
     named = os.environ.get(VARIABLE)
     if named:
         return loaded(named)

@@ -11,6 +11,34 @@ from .text import LIMIT
 FINER = 1024
 
 
+class Axis:
+    """Numbers taken as whole ones: each less a start, times a scale, and rounded; by whole numbers alone, exactly."""
+
+    def __init__(self, start, scale):
+        (top, bottom), (up, down) = start.as_integer_ratio(), scale.as_integer_ratio()
+        self.times, self.less, self.over = bottom * up, top * up, bottom * down
+
+    def whole(self, value):
+        """The whole number nearest to a number; of two equally near ones the even one."""
+        top, bottom = ratio_of(value)
+        # (of the number and a half, which is a whole number just where two are equally near)
+        distance = bottom * self.over
+        nearest, rest = divmod(2 * (top * self.times - bottom * self.less) + distance, 2 * distance)
+        return nearest - 1 if rest == 0 and nearest % 2 else nearest
+
+    def number(self, whole):
+        """The float nearest to the number that a whole one stands for."""
+        return (whole * self.over + self.less) / self.times
+
+
+def ratio_of(value):
+    """A finite number as a ratio of whole numbers, the second one above 0."""
+    if isinstance(value, (int, float)):
+        return value.as_integer_ratio()
+    exact = Fraction(value)
+    return int(exact.numerator), int(exact.denominator)
+
+
 class Scaled:
     """Coordinates that are floats, taken as whole numbers: each less the origin's, times the scale, and rounded.
 
@@ -24,6 +52,7 @@ class Scaled:
         if self.scale <= 0:
             raise BadInput(f"the scale {scale} is not above 0")
         self.origin = tuple(map(Fraction, origin))
+        self.axes = [Axis(start, self.scale) for start in self.origin]
 
     @classmethod
     def of_digits(cls, digits, origin=(0, 0)):
@@ -38,7 +67,7 @@ class Scaled:
     def whole_point(self, point):
         """The whole point of a point of floats."""
         try:
-            return tuple(round((Fraction(value) - start) * self.scale) for value, start in zip(point[:2], self.origin))
+            return tuple(axis.whole(value) for value, axis in zip(point[:2], self.axes))
         except (TypeError, ValueError, OverflowError):
             raise BadInput(f"{point!r} is no point of two finite numbers") from None
 
@@ -48,7 +77,7 @@ class Scaled:
 
     def point(self, whole):
         """The point of floats at a whole one."""
-        return tuple(float(value / self.scale + start) for value, start in zip(whole, self.origin))
+        return tuple(axis.number(value) for value, axis in zip(whole, self.axes))
 
     def paths(self, paths):
         """Paths with points of floats."""

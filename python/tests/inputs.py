@@ -59,7 +59,7 @@ def figures_of(texts):
 
 
 def inputs_of(command):
-    """Inputs with a command: all contours in a file of tests, with all paths or points, and all that follows the command."""
+    """Inputs with a command: all contours in its file of tests, with all paths or points, and all its options there."""
     name, pattern = COMMANDS[command]
     texts = literals(TESTS / f"{name}.rs")
     figures = figures_of(texts)

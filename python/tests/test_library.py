@@ -140,8 +140,8 @@ def fault_or(call, *given):
 
 def contours(chance, size, most):
     """Some contours of few points."""
-    count = chance.randint(0, most)
-    return [[(chance.randint(0, size), chance.randint(0, size)) for _ in range(chance.randint(0, 9))] for _ in range(count)]
+    counts = [chance.randint(0, 9) for _ in range(chance.randint(0, most))]
+    return [[(chance.randint(0, size), chance.randint(0, size)) for _ in range(count)] for count in counts]
 
 
 def made(chance):

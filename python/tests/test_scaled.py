@@ -1,9 +1,14 @@
 """Floats on a grid of whole numbers."""
 
+import random
 import unittest
 import warnings
+from decimal import Decimal
+from fractions import Fraction
+from itertools import product
 
 import polyover
+from polyover.text import LIMIT
 
 from .rows import UNSETTLED
 
@@ -17,6 +22,20 @@ class ScaledFloats(unittest.TestCase):
         for value in (0.1, 1.005, 123.456, -7.7777):
             whole = scaled.whole_point((value, value))
             self.assertLessEqual(abs(scaled.point(whole)[0] - value), scaled.lost * 1.0000001)
+
+    def test_exactly_as_by_fractions(self):
+        chance = random.Random(6)
+        starts = (0, Fraction(1, 3), -0.1, 10**9 + 0.5)
+        scales = (1, 10**7, Fraction(1, 7), 0.3, 2.0**40, Fraction(1, 10**9))
+        for start, scale in product(starts, scales):
+            scaled = polyover.Scaled(scale, (start, 0))
+            values = [chance.uniform(-1000, 1000) for _ in range(20)] + [chance.randint(-9, 9) / 2 for _ in range(20)]
+            for value in [*values, 5e-324, -1e300, 7, Fraction(5, 3), Decimal("0.5"), "0.1", True]:
+                whole = round((Fraction(value) - Fraction(start)) * Fraction(scale))
+                self.assertEqual(scaled.whole_point((value, 0))[0], whole)
+            for whole in (0, 1, -1, 3, LIMIT, -LIMIT, *(chance.randint(-(10**12), 10**12) for _ in range(20))):
+                value = float(whole / Fraction(scale) + Fraction(start))
+                self.assertEqual(scaled.point((whole, 0))[0], value)
 
     def test_whole_numbers_come_back(self):
         scaled = polyover.Scaled(1000)
