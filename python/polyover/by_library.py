@@ -31,9 +31,9 @@ def options(look):
 
 
 def expected(*given):
-    """How much an answer of shapes most often has at most: twice the points, and three points in a contour."""
+    """How much an answer of shapes most often has at most: six times the points, and three points in a contour."""
     numbers = sum(each.coordinate_count for each in given)
-    return Counts(2 * numbers + 60, numbers // 3 + 10, numbers // 3 + 10)
+    return Counts(6 * numbers + 60, numbers + 10, numbers + 10)
 
 
 def shape_rooms(counts):
@@ -99,7 +99,7 @@ def edges(subject, clip, fill):
     """The edges of the arrangement."""
     asked = library()
     both = asked.contours(subject), asked.contours(clip)
-    count = c_size_t(30 + sum(each.coordinate_count for each in both))
+    count = c_size_t(30 + 2 * sum(each.coordinate_count for each in both))
     coordinates, fills = asked.answer("polyover_edges", (FILL_NUMBERS[fill], *both), edge_rooms, count)
     points = points_in(coordinates[: 4 * count.value])
     return list(zip(points[0::2], points[1::2], fills))
@@ -119,7 +119,7 @@ def clip(shape, lines, fill, invert, boundary):
     both = asked.contours(shape), asked.contours(lines)
     given = (FILL_NUMBERS[fill], ClipOptions(bool(invert), bool(boundary)), *both)
     numbers = both[1].coordinate_count
-    counts = PathCounts(2 * numbers + 60, numbers // 2 + 15)
+    counts = PathCounts(6 * numbers + 60, 3 * numbers // 2 + 15)
     coordinates, ends = asked.answer("polyover_clip", given, path_rooms, counts)
     return parted(points_in(coordinates[: counts.coordinates]), ends[: counts.paths])
 
@@ -127,8 +127,7 @@ def clip(shape, lines, fill, invert, boundary):
 def sliced(asked, contours, lines, fill):
     """The shapes into which open paths cut contours."""
     paths = asked.contours(lines)
-    # (each line has two sides)
-    given, counts = (FILL_NUMBERS[fill], contours, paths), expected(contours, paths, paths)
+    given, counts = (FILL_NUMBERS[fill], contours, paths), expected(contours, paths)
     return shapes_in(*asked.answer("polyover_slice", given, shape_rooms, counts), counts)
 
 
