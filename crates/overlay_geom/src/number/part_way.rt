@@ -1,5 +1,5 @@
 //! The coordinate that lies a part of the way from one to another. The product of a difference of
-//! coordinates and a cross product has up to 190 bits, so it is divided as it is built up.
+//! coordinates and a cross product has up to 190 bits; where it has more than 128, it is divided as it is built up.
 
 ghost use Rattle.std.specs.Prelude.{◌≡◌, ◌+◌, ◌*◌, ◌^◌, ◌<◌, ◌≤◌};
 ghost use Rattle.std.specs.Prelude.{pos, neg_ℤ, ◌+ℤ◌, ◌-ℤ◌, ◌*ℤ◌, ◌<ℤ◌, ◌≤ℤ◌};
@@ -45,8 +45,24 @@ fn half_down(q: u64, r: u128, d: u128) -> u64
     if 2 * r > d { q + 1 } else { q }
 }
 
-// The quotient and the remainder of `n * t` by `d`, one bit of `n` at a time.
+// The quotient and the remainder of `n * t` by `d`, by one division where the product is a number of 128 bits.
 fn times_quotient(n: u64, t: u128, d: u128) -> (u64, u128)
+    requires count { n < 2 ^ 63 }
+    requires fits { d < 2 ^ 127 }
+    requires part { t ≤ d }
+    requires divides { 0 < d }
+    ensures value { n * t ≡ result.0 * d + result.1 }
+    ensures rest { result.1 < d }
+    ensures most { result.0 ≤ n }
+{
+    match u128::from(n).checked_mul(t) {
+        Some(product) => ((product / d) as u64, product % d),
+        None => doubled_quotient(n, t, d),
+    }
+}
+
+// The same, one bit of `n` at a time.
+fn doubled_quotient(n: u64, t: u128, d: u128) -> (u64, u128)
     requires count { n < 2 ^ 63 }
     requires fits { d < 2 ^ 127 }
     requires part { t ≤ d }
@@ -58,7 +74,7 @@ fn times_quotient(n: u64, t: u128, d: u128) -> (u64, u128)
     if n == 0 {
         return (0, 0);
     }
-    let (q, r) = times_quotient(n / 2, t, d);
+    let (q, r) = doubled_quotient(n / 2, t, d);
     let (q, r) = carried(2 * q, 2 * r, d);
     if n % 2 == 1 {
         carried(q, r + t, d)
