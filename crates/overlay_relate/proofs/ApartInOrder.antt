@@ -52,7 +52,8 @@ module _ (ks : List CountedEdge) (i : ℕ) (e f : CountedEdge) (some : 0 < i) (w
     (at_e : (d : CountedEdge) → get_or ks (i - 1) d ≡ e) (at_f : (d : CountedEdge) → get_or ks i d ≡ f) where
   -- one more may come after those so far
   pub ascending_more : edge_lt (ends_of e) (ends_of f) ≡ true → IsAscending (take i ks) → IsAscending (take (i + 1) ks)
-  ascending_more less ascending = subst IsAscending (sym (take_more ks i f within ∙ ap (λ k. take i ks ++ k ∷ []) (at_f f)))
+  ascending_more less ascending = subst IsAscending
+      (sym (take_more ks i f within ∙ ap (λ k. take i ks ++ k ∷ []) (at_f f)))
       (all_pairs_push (λ (k l : CountedEdge). edge_lt (ends_of k) (ends_of l) ≡ true) (take i ks) f ascending
       (λ j d lt. by j d (omega (arith, lt, taken))))
     where

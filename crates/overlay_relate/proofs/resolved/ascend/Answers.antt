@@ -24,7 +24,8 @@ returns-then-not-is_lt g c =
     c.is_lt.ensures ∙ ap is_lt c.compare_edges.ensures ∙ edge_cmp-is_less (plain e) (plain f) in
     let some = c.loop-i.auto.i in (
       λ t. absurd (false≢true t),
-      λ ascending. absurd (not_ascending (edges_once g.I.IntNumber.whole edges) i (plain e) (plain f) (omega (arith, some))
+      λ ascending. absurd (not_ascending (edges_once g.I.IntNumber.whole edges) i (plain e) (plain f)
+          (omega (arith, some))
           (rw length-map c.loop-i-test.true)
           (λ d. read_mapped plain edges (i - 1) e d (omega (arith, c.loop-i-test.true)) c.index-edges-i.is)
           (λ d. read_mapped plain edges i f d c.loop-i-test.true c.index-edges-i-in-loop-i.is)

@@ -17,7 +17,8 @@ loop-e-preserved g c =
     ∙ ap (map ends_of) (map-append (plain_edge whole boolean_counts) c.loop-e.counted.items (_ ∷ []))
     ∙ map-append ends_of (edges_once whole c.loop-e.counted.items) (_ ∷ [])
     ∙ ap (λ es. es ++ here ∷ []) c.loop-e.invariant
-    ∙ sym (mapped_more (plain_ends whole) c.args.edges.now c.loop-e.e-index c.e-item.result c.loop-e-test.true c.e-item.is)
+    ∙ sym (mapped_more (plain_ends whole) c.args.edges.now c.loop-e.e-index c.e-item.result c.loop-e-test.true
+    c.e-item.is)
 
 pub returns-clause-ok : goal.returns-clause-ok
 returns-clause-ok g c =

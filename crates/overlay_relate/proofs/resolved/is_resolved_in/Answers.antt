@@ -34,7 +34,8 @@ returns-clause-ok g c =
     let es = plain_edges whole c.in_ok-edges.edges.items in
     let contour = plain_points whole c.args.contour.now in
     let alike : AreApart (ends_once whole c.deref-2.result.now) ↔ AreApart es =
-    apart_alike es (ends_once whole c.deref-2.result.now) (long_forward g.I.IntNumber.limit es c.in_ok-edges.ensures.long)
+    apart_alike es (ends_once whole c.deref-2.result.now)
+    (long_forward g.I.IntNumber.limit es c.in_ok-edges.ensures.long)
     (subst (λ ks. IsPermutation es (ends_once whole ks)) (sym c.deref-2.ensures.value)
     (subst (λ ds. IsPermutation (plain_edges whole ds) (ends_once whole c.in_ok-sorted.sorted.items))
     c.deref.ensures.value c.in_ok-sorted.ensures.same)) in
