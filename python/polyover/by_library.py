@@ -11,6 +11,8 @@ NAME = "library"
 RULE_NUMBERS = {name: number for number, name in enumerate(RULES)}
 FILL_NUMBERS = {name: number for number, name in enumerate(FILLS)}
 LOCATIONS = ("outside", "inside", "boundary")
+# (how much an answer takes is known once it is there, so to ask again costs as much as to ask)
+TIMES = 24
 # of the other calls each takes the function of its own name
 TAKES = {"tiles": "slice"}
 
@@ -31,9 +33,9 @@ def options(look):
 
 
 def expected(*given):
-    """How much an answer of shapes most often has at most: six times the points, and three points in a contour."""
-    numbers = sum(each.coordinate_count for each in given)
-    return Counts(6 * numbers + 60, numbers + 10, numbers + 10)
+    """How much an answer of shapes most often has at most: some times the points, and three points in a contour."""
+    contours = TIMES // 6 * sum(each.coordinate_count for each in given) + 10
+    return Counts(6 * contours, contours, contours)
 
 
 def shape_rooms(counts):
@@ -69,8 +71,8 @@ def parted(items, ends):
 
 def shapes_in(coordinates, contour_ends, shape_ends, counts):
     """The shapes in arrays."""
-    contours = parted(points_in(coordinates[: counts.coordinates]), contour_ends[: counts.contours])
-    return parted(contours, shape_ends[: counts.shapes])
+    contours = parted(points_in(coordinates.first(counts.coordinates)), contour_ends.first(counts.contours))
+    return parted(contours, shape_ends.first(counts.shapes))
 
 
 # ---- the calls
@@ -91,7 +93,7 @@ def hierarchy(subject, clip, rule, fill, look):
     given, counts = (RULE_NUMBERS[rule], FILL_NUMBERS[fill], options(look), *both), expected(*both)
     link_count = c_size_t(counts.shapes)
     *arrays, links = asked.answer("polyover_hierarchy", given, linked_rooms, counts, link_count)
-    told = links[: 3 * link_count.value]
+    told = links.first(3 * link_count.value)
     return shapes_in(*arrays, counts), list(zip(told[0::3], told[1::3], told[2::3]))
 
 
@@ -99,10 +101,10 @@ def edges(subject, clip, fill):
     """The edges of the arrangement."""
     asked = library()
     both = asked.contours(subject), asked.contours(clip)
-    count = c_size_t(30 + 2 * sum(each.coordinate_count for each in both))
+    count = c_size_t(TIMES // 2 * sum(each.coordinate_count for each in both) + 30)
     coordinates, fills = asked.answer("polyover_edges", (FILL_NUMBERS[fill], *both), edge_rooms, count)
-    points = points_in(coordinates[: 4 * count.value])
-    return list(zip(points[0::2], points[1::2], fills))
+    points = points_in(coordinates.first(4 * count.value))
+    return list(zip(points[0::2], points[1::2], fills.first(count.value)))
 
 
 def relate(subject, clip, fill):
@@ -118,10 +120,10 @@ def clip(shape, lines, fill, invert, boundary):
     asked = library()
     both = asked.contours(shape), asked.contours(lines)
     given = (FILL_NUMBERS[fill], ClipOptions(bool(invert), bool(boundary)), *both)
-    numbers = both[1].coordinate_count
-    counts = PathCounts(6 * numbers + 60, 3 * numbers // 2 + 15)
+    paths = TIMES // 4 * both[1].coordinate_count + 15
+    counts = PathCounts(4 * paths, paths)
     coordinates, ends = asked.answer("polyover_clip", given, path_rooms, counts)
-    return parted(points_in(coordinates[: counts.coordinates]), ends[: counts.paths])
+    return parted(points_in(coordinates.first(counts.coordinates)), ends.first(counts.paths))
 
 
 def sliced(asked, contours, lines, fill):
@@ -156,4 +158,4 @@ def locate(shape, points):
     if status == Status.NOT_RESOLVED:
         raise NotResolved(unresolved.value)
     check(status)
-    return [LOCATIONS[number] for number in found.items]
+    return [LOCATIONS[number] for number in found.first(len(queries.numbers) // 2)]

@@ -2,9 +2,10 @@
 
 import os
 from array import array
-from ctypes import CDLL, POINTER, Structure, byref, c_size_t, c_uint32, c_uint64, c_void_p, sizeof
+from ctypes import CDLL, POINTER, Structure, addressof, byref, c_char, c_size_t, c_uint32, c_uint64, c_void_p, sizeof
 from enum import IntEnum
 from functools import lru_cache
+from mmap import MAP_ANONYMOUS, MAP_PRIVATE, mmap
 from pathlib import Path
 from struct import error as StructError
 from struct import pack
@@ -16,6 +17,7 @@ from .text import coordinate
 VARIABLE = "POLYOVER_LIBRARY"
 BUILT = str(Path(__file__).resolve().parents[2] / "c" / "out" / "libpolyover.so")
 COORDINATES, SIZES, BYTES = "q", "Q" if sizeof(c_size_t) == 8 else "I", "B"
+MUCH = 2**17
 
 
 class Status(IntEnum):
@@ -87,11 +89,22 @@ class Contours(Structure):
 
 
 class Room:
-    """An array for an answer: so many items, each of some numbers."""
+    """An array for an answer: so many items, each of some numbers. Of many only those written to take memory."""
 
     def __init__(self, kind, count, numbers=1):
-        self.items = array(kind, bytes(count * numbers * array(kind).itemsize))
-        self.arguments = address(self.items), count
+        self.kind = kind
+        size = max(1, count * numbers * array(kind).itemsize)
+        try:
+            self.space = bytearray(size) if size < MUCH else mmap(-1, size, flags=MAP_PRIVATE | MAP_ANONYMOUS)
+        except OSError:
+            raise OutOfMemory(OutOfMemory.__doc__) from None
+        self.arguments = addressof(c_char.from_buffer(self.space)), count
+
+    def first(self, count):
+        """The first numbers, so many."""
+        numbers = array(self.kind)
+        numbers.frombytes(memoryview(self.space)[: count * numbers.itemsize])
+        return numbers
 
 
 ARRAY = (c_void_p, c_size_t)
@@ -169,15 +182,15 @@ class Library:
         return getattr(self.functions, name)(*(part for each in arguments for part in passed(each)))
 
     def answer(self, name, given, rooms_for, *counts):
-        """The arrays that a function fills, which has set the counts; where the room for the counts given is too small,
-        it is asked again with what it takes."""
+        """The room that a function has written to; it has set the counts. Where the room for those given is too small, it
+        is asked again with what it takes."""
         for _ in range(2):
             rooms = rooms_for(*counts)
             status = self.call(name, *given, *rooms, *counts)
             if status != Status.TOO_SMALL:
                 break
         check(status)
-        return [room.items for room in rooms]
+        return rooms
 
 
 @lru_cache(maxsize=None)

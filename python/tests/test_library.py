@@ -104,12 +104,13 @@ class Asked(unittest.TestCase):
     """What the library alone answers."""
 
     def test_more_room_where_an_answer_takes_it(self):
-        count = 40
-        rows = [[(0, 2 * at), (99, 2 * at), (99, 2 * at + 1), (0, 2 * at + 1)] for at in range(count)]
+        count = 120
+        rows = [[(0, 2 * at), (999, 2 * at), (999, 2 * at + 1), (0, 2 * at + 1)] for at in range(count)]
         columns = [[(y, x) for x, y in reversed(row)] for row in rows]
         shapes = by_library.overlay(rows, columns, "intersect", "nonzero", PLAIN)
         self.assertEqual(len(shapes), count * count)
-        self.assertEqual(shapes[-1], [[(78, 79), (78, 78), (79, 78), (79, 79)]])
+        end = 2 * count - 2
+        self.assertEqual(shapes[-1], [[(end, end + 1), (end, end), (end + 1, end), (end + 1, end + 1)]])
 
     def test_wrong_coordinates(self):
         whole, out = "no whole number", "out of range"
