@@ -182,8 +182,8 @@ class Library:
         return getattr(self.functions, name)(*(part for each in arguments for part in passed(each)))
 
     def answer(self, name, given, rooms_for, *counts):
-        """The room that a function has written to; it has set the counts. Where the room for those given is too small, it
-        is asked again with what it takes."""
+        """The room that a function has written to; it has set the counts. Where the room for those given is too small,
+        it is asked again with what it takes."""
         for _ in range(2):
             rooms = rooms_for(*counts)
             status = self.call(name, *given, *rooms, *counts)
