@@ -1,11 +1,11 @@
 """The library for C, whose calls are proved (include/polyover.h): where it is, and what it takes and answers."""
 
+import mmap
 import os
 from array import array
 from ctypes import CDLL, POINTER, Structure, addressof, byref, c_char, c_size_t, c_uint32, c_uint64, c_void_p, sizeof
 from enum import IntEnum
 from functools import lru_cache
-from mmap import MAP_ANONYMOUS, MAP_PRIVATE, mmap
 from pathlib import Path
 from struct import error as StructError
 from struct import pack
@@ -95,7 +95,7 @@ class Room:
         self.kind = kind
         size = max(1, count * numbers * array(kind).itemsize)
         try:
-            self.space = bytearray(size) if size < MUCH else mmap(-1, size, flags=MAP_PRIVATE | MAP_ANONYMOUS)
+            self.space = bytearray(size) if size < MUCH else reserved(size)
         except OSError:
             raise OutOfMemory(OutOfMemory.__doc__) from None
         self.arguments = addressof(c_char.from_buffer(self.space)), count
@@ -122,6 +122,11 @@ FUNCTIONS = {
     "polyover_slice": (*TWO, *SHAPES, POINTER(Counts)),
     "polyover_locate": (CONTOURS, *ARRAY, *ARRAY, COUNT),
 }
+
+
+def reserved(size):
+    """So many bytes, each of which takes memory once it is written to."""
+    return mmap.mmap(-1, size, flags=mmap.MAP_PRIVATE | mmap.MAP_ANONYMOUS)
 
 
 def address(items):
