@@ -53,7 +53,7 @@ use overlay_arrange::fill_rule::FillRule;
 use overlay_arrange::options::ContourDirection;
 use overlay_bind::bind::bind_contours;
 use overlay_geom::point::IntPoint;
-use overlay_relate::contour::locate_in_contour;
+use overlay_relate::in_contour::locate_in_contour;
 use overlay_relate::location::PointLocation;
 use overlay_tree::either::EitherScan;
 use overlay_walk::contour::{Contour, Role};
