@@ -11,7 +11,7 @@ use crate::line_error::LineError;
 use crate::lines::Lines;
 use crate::query::{NumberedQuery, Query};
 use crate::statement::{Statement, parse_statement};
-use std::alloc::{AllocError, Allocator};
+use std::alloc::Allocator;
 
 /// Figures, and what is asked for.
 #[derive(Drop)]

@@ -8,6 +8,7 @@ pub mod contour;
 pub mod edge_text;
 pub mod figures;
 mod fill;
+pub mod flat_shape_text;
 pub mod input;
 mod line_error;
 mod lines;

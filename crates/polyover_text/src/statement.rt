@@ -1,6 +1,6 @@
 //! What a line says.
 
-ghost use Rattle.std.specs.Prelude.{◌≡◌, ◌∷◌, MatchResult, codes};
+ghost use Rattle.std.specs.Prelude.{◌∷◌, MatchResult, codes};
 ghost use Rattle.polyover_text.specs.Grammar.{words, shape_name};
 ghost use Rattle.polyover_text.specs.Statements.{Says, IsFaultOf};
 ghost use Rattle.polyover_text.specs.Words.{words_left};
