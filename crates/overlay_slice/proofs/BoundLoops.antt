@@ -52,7 +52,7 @@ one_or_back s t same = by (is_forward s) refl (is_forward t) refl
         inr (λ i. record { from = (e i).a; to = (e i).b })
 
 -- steps along one edge in one way are one
-one_way : (s t : Step) (b : Bool) → is_forward s ≡ b → is_forward t ≡ b → edge_of s ≡ edge_of t → s ≡ t
+pub one_way : (s t : Step) (b : Bool) → is_forward s ≡ b → is_forward t ≡ b → edge_of s ≡ edge_of t → s ≡ t
 one_way s t true p q same = let e = sym (by_edge s true p) ∙ same ∙ by_edge t true q in
     λ i. record { from = (e i).a; to = (e i).b }
 one_way s t false p q same = let e = sym (by_edge s false p) ∙ same ∙ by_edge t false q in

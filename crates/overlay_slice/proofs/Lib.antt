@@ -1,5 +1,6 @@
 pub mod AlongSides
 pub mod AnchorSteps
+pub mod BelowLoops
 pub mod BoundLoops
 pub mod BoundSlices
 pub mod ChangedLists
@@ -7,6 +8,7 @@ pub mod ClosedWalks
 pub mod CutLoops
 pub mod CutPlaces
 pub mod CutsInOrder
+pub mod EachSlice
 pub mod FoundEdges
 pub mod FoundLoops
 pub mod GoingOn
@@ -15,6 +17,7 @@ pub mod LoopsFound
 pub mod LoopWindings
 pub mod LostHoles
 pub mod NextSides
+pub mod OnceBySides
 pub mod OrbitTours
 pub mod RoledLoops
 pub mod SideLists
@@ -25,6 +28,7 @@ pub mod SideSpokes
 pub mod SideWindings
 pub mod SimpleLoops
 pub mod SlicedShapes
+pub mod SlicesAlone
 pub mod SlicesShown
 pub mod StepCounts
 pub mod TourParts

@@ -55,13 +55,13 @@ module _ (fills : ℤ → Bool) (count : CountedEdge → ℤ) (es : List Counted
   sides = filled_sides fills count es
 
   -- an edge along which a step back is a filled side
-  record IsFilledBelow (e : Edge) : Type 0 where
-    entry : CountedEdge
-    among : Contains es entry
-    ends : ends_of entry ≡ e
-    filled : fills (winding_below count es entry) ≡ true
+  pub record IsFilledBelow (e : Edge) : Type 0 where
+    pub entry : CountedEdge
+    pub among : Contains es entry
+    pub ends : ends_of entry ≡ e
+    pub filled : fills (winding_below count es entry) ≡ true
 
-  filled_below : (e : Edge) → point_lt e.a e.b ≡ true → Contains sides (step_with_left false e) → IsFilledBelow e
+  pub filled_below : (e : Edge) → point_lt e.a e.b ≡ true → Contains sides (step_with_left false e) → IsFilledBelow e
   filled_below e forward c = record {
     entry = side.edge;
     among = side.along.entry;
@@ -78,7 +78,7 @@ module _ (fills : ℤ → Bool) (count : CountedEdge → ℤ) (es : List Counted
           ∙ along_edge e forward false
 
   -- a step along an edge above which alone the sides are filled, which is left out by no loops
-  taken_above : (loops : List (List Step)) → AreLoops sides loops → (g : CountedEdge) → Contains es g →
+  pub taken_above : (loops : List (List Step)) → AreLoops sides loops → (g : CountedEdge) → Contains es g →
       fills (winding_above count es g) ≡ true → fills (winding_below count es g) ≡ false →
       Contains (all_steps loops) (step_with_left true (ends_of g))
   taken_above loops are g at above below = ⊎_elim (λ c. c)
@@ -98,27 +98,27 @@ module _ (fills : ℤ → Bool) (count : CountedEdge → ℤ) (es : List Counted
           (ap (λ k. fills (winding_by count es (midpoint k))) (sym own.ends) ∙ own.filled)
 
   module _ (loops : List (List Step)) (are : AreLoops sides loops) where
-    can : CanBeBound left loops
+    pub can : CanBeBound left loops
     can = subst (CanBeBound left) (filter-all loops) (loops_can_be_bound fills count es arranged loops are (λ w. true))
 
     module _ (hole : List Step) (at : Contains loops hole) (e : Edge) (anchored : IsAnchor hole e)
         (passes : Contains hole (step_with_left false e)) where
       -- the anchor leads forward
-      e_forward : point_lt e.a e.b ≡ true
+      pub e_forward : point_lt e.a e.b ≡ true
       e_forward =
           let own = anchor_step hole e anchored in
           subst (λ (f : Edge). point_lt f.a f.b ≡ true) own.2
           (long_leads_forward own.0 (contour_long hole (All-contains IsContour loops hole can.contours at) own.0 own.1))
 
       -- and covers the abscissa of its point
-      e_covers : covers e e.a.x (pos 1) ≡ true
+      pub e_covers : covers e e.a.x (pos 1) ≡ true
       e_covers = anchors_lead_on hole (All-contains IsContour loops hole can.contours at)
           (All-contains HasEachEdgeOnce loops hole can.single at)
           (λ s t c d. can.settled s t (Contains-flat_map (λ (w : List Step). w) loops hole s at c)
           (Contains-flat_map (λ (w : List Step). w) loops hole t at d)) e anchored
 
       -- it is filled below
-      own : IsFilledBelow e
+      pub own : IsFilledBelow e
       own = filled_below e e_forward (All-contains (Contains sides) (all_steps loops) (step_with_left false e)
           are.are_sides (Contains-flat_map (λ (w : List Step). w) loops hole (step_with_left false e) at passes))
 
@@ -182,7 +182,7 @@ module _ (fills : ℤ → Bool) (count : CountedEdge → ℤ) (es : List Counted
 
   module _ (contours : List Contour) (roles : HaveRoles 0 contours) (are : AreLoops sides (walks_in contours)) where
     -- a hole passes each anchor with the filled side below
-    hole_passes : (c : Contour) → Contains contours c → c.role ≡ free_hole → (e : Edge) → IsAnchor c.steps e →
+    pub hole_passes : (c : Contour) → Contains contours c → c.role ≡ free_hole → (e : Edge) → IsAnchor c.steps e →
         Contains c.steps (step_with_left false e)
     hole_passes c at free e anchored =
         let passes = subst (λ t. PassesAnchor t c.steps) (ap is_outline free) (role_passes 0 contours roles c at) in

@@ -1,8 +1,7 @@
 -- The shapes to which loops of filled sides are bound, by the points of the loops in the output direction: what their
 -- steps are, and how they wind.
-use Rattle.std.proofs.Common.{◌≡◌, Bool, true, false, cond, not, ℤ, pos, negsuc, ◌*ℤ◌, List, []}
-use Rattle.std.proofs.Common.{◌∷◌, ◌++◌, map, All, Contains, refl, sym, ap, ap₂, ◌∙◌}
-use Rattle.std.proofs.Common.{subst}
+use Rattle.std.proofs.Common.{◌≡◌, inl, inr, ⊎_elim, Bool, true, false, cond, not, ℤ, pos, negsuc, ◌*ℤ◌, List, []}
+use Rattle.std.proofs.Common.{◌∷◌, ◌++◌, map, All, Contains, refl, sym, ap, ap₂, ◌∙◌, subst, append-nil}
 use Rattle.std.specs.List.{flat_map}
 use Rattle.std.specs.List.Sorted.{IsPermutation}
 use Rattle.std.proofs.lemmas.Grind.{flat_map-append}
@@ -15,10 +14,12 @@ use Rattle.overlay_plane.specs.Contours.{all_steps}
 use Rattle.overlay_plane.specs.ContourWindings.{once_round}
 use Rattle.overlay_plane.specs.Groups.{IsSimpleContour}
 use Rattle.overlay_plane.specs.Binding.{walks_of}
+use Rattle.overlay_plane.specs.ShapesAlone.{WindsOnceOrNot, EachWindsOnceOrNot}
 use Rattle.overlay_plane.specs.ShapeWindings.{points_of_shapes, steps_of_shapes}
+use Rattle.overlay_plane.specs.Turn.Hand.{left}
 use Rattle.overlay_plane.proofs.AlongLines.{winding_part}
 use Rattle.overlay_plane.proofs.ContourSteps.{contour_long}
-use Rattle.overlay_plane.proofs.Entries.{All-first, All-rest}
+use Rattle.overlay_plane.proofs.Entries.{all_of_entries, All-first, All-rest}
 use Rattle.overlay_plane.proofs.JoinedLists.{total-flat_map, total-map, total-times}
 use Rattle.overlay_plane.proofs.Totals.{total-same}
 use Rattle.overlay_geom.proofs.Entries.{Contains-head, Contains-later}
@@ -129,3 +130,39 @@ once_where CounterClockwise true = refl
 once_where CounterClockwise false = refl
 once_where Clockwise true = refl
 once_where Clockwise false = refl
+
+-- ---- each shape by itself
+
+module _ (direction : ContourDirection) where
+  -- a shape winds once in the output direction, or zero times, where its loops do so with the filled side on the left
+  slice_shown_winds : (shape : List (List Step)) → All IsSimpleContour shape →
+      WindsOnceOrNot left (all_steps shape) →
+      WindsOnceOrNot (filled_hand direction) (flat_map steps_of (map (in_direction direction) (map points_of shape)))
+  slice_shown_winds shape simple once p = ⊎_elim
+      (λ is. inl (winds ∙ ap (λ z. once_round (filled_hand direction) *ℤ z) is ∙ once_where direction true))
+      (λ is. inr (winds ∙ ap (λ z. once_round (filled_hand direction) *ℤ z) is ∙ once_where direction false))
+      (once p)
+    where
+      alone : walks_of (shape ∷ []) ≡ shape
+      alone = append-nil shape
+
+      winds : winding (flat_map steps_of (map (in_direction direction) (map points_of shape))) p ≡
+          once_round (filled_hand direction) *ℤ winding (all_steps shape) p
+      winds = ap (λ ss. winding ss p)
+          (sym (append-nil (flat_map steps_of (map (in_direction direction) (map points_of shape)))))
+          ∙ shown_winds p direction (shape ∷ []) (subst (All IsSimpleContour) (sym alone) simple)
+          ∙ ap (λ ws. once_round (filled_hand direction) *ℤ winding (all_steps ws) p) alone
+
+  -- so it is with all shapes shown
+  pub each_shown_winds : (shapes : List (List (List Step))) → All IsSimpleContour (walks_of shapes) →
+      ((shape : List (List Step)) → Contains shapes shape → WindsOnceOrNot left (all_steps shape)) →
+      EachWindsOnceOrNot (filled_hand direction) (shown direction shapes)
+  each_shown_winds shapes simple once =
+      All-map (λ ps. WindsOnceOrNot (filled_hand direction) (flat_map steps_of ps)) (map (in_direction direction))
+      (points_of_shapes shapes)
+      (All-map (λ ps. WindsOnceOrNot (filled_hand direction) (flat_map steps_of (map (in_direction direction) ps)))
+      (map points_of) shapes
+      (all_of_entries (λ s. WindsOnceOrNot (filled_hand direction)
+      (flat_map steps_of (map (in_direction direction) (map points_of s)))) shapes
+      (λ s c. slice_shown_winds s (All-contains (All IsSimpleContour) shapes s
+      (in_each_shape IsSimpleContour shapes simple) c) (once s c))))

@@ -46,10 +46,11 @@ use Rattle.overlay_slice.specs.Sliced.{in_direction, slices_shown, left_steps, l
 use Rattle.overlay_slice.specs.Sliced.{IsOutlineWithHoles, IsSliced}
 use Rattle.overlay_slice.specs.Tours.{LiesInOneOrbit}
 use Rattle.overlay_slice.proofs.BoundSlices.{IsBegun, shapes_begun}
+use Rattle.overlay_slice.proofs.EachSlice.{each_slice_winds}
 use Rattle.overlay_slice.proofs.LoopWindings.{loops_wind}
 use Rattle.overlay_slice.proofs.LostHoles.{no_hole_lost}
 use Rattle.overlay_slice.proofs.RoledLoops.{roles_numbered, role_passes}
-use Rattle.overlay_slice.proofs.SlicedShapes.{shown_each, left_shown, shown_winds, once_where}
+use Rattle.overlay_slice.proofs.SlicedShapes.{shown_each, left_shown, shown_winds, once_where, each_shown_winds}
 use Rattle.overlay_slice.proofs.StepCounts.{all_steps_shuffled}
 use Rattle.overlay_slice.proofs.TurnedPoints.{left_again, points_once_in, passes_shuffled, orbit_shuffled}
 
@@ -190,6 +191,9 @@ module _ (width : Width) (min : ℕ) (fill : FillRule) (direction : ContourDirec
         (total-IsPermutation (winding_part p) (all_steps (walks_in contours)) (all_steps walks) (all_walks all)
         ∙ loops_wind (is_filled fill) subj_of es arranged (walks_in contours) (all_loops all) (zero_is_empty fill) p)
         ∙ once_where direction (is_filled fill (winding_by subj_of es p));
+    each_alone = λ all. each_shown_winds direction (shapes_bound bound) simple
+        (each_slice_winds (is_filled fill) subj_of es arranged (zero_is_empty fill) contours slices.contours_are.roles
+        (all_loops all) shapes slices.bound (all_walks all));
     contours = contours;
     shapes = shapes;
     slices = slices;

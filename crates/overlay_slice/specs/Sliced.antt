@@ -11,6 +11,7 @@ use Rattle.overlay_plane.specs.ContourWindings.{wanted_winding}
 use Rattle.overlay_plane.specs.Groups.{HasEachPointOnce}
 use Rattle.overlay_plane.specs.Nodes.{IsBalancedArrangement}
 use Rattle.overlay_plane.specs.RoledContours.{Contour}
+use Rattle.overlay_plane.specs.ShapesAlone.{EachWindsOnceOrNot}
 use Rattle.overlay_plane.specs.ShapeWindings.{steps_of_shapes}
 use Rattle.overlay_arrange.specs.Rules.{is_filled, rules_hold}
 use Rattle.overlay_arrange.specs.declared.fill_rule.FillRule.{FillRule}
@@ -68,6 +69,8 @@ pub record IsSliced (width : Width) (min : ℕ) (fill : FillRule) (direction : C
   -- ---- the promise: the region, with the minimum area zero
   -- round each point off the edges the result winds as what is filled asks
   pub winds : min ≡ 0 → WindsRoundFilled fill direction es (steps_of_shapes result)
+  -- and each shape by itself winds once, in the output direction, round a point, or zero times
+  pub each_alone : min ≡ 0 → EachWindsOnceOrNot (filled_hand direction) result
   -- ---- the promise: which contours there are, and where each stands
   -- the loops into which the filled sides are cut, as far as they reach the minimum area; of those that are holes, the
   -- shape: the parent, or the one shape that there is
