@@ -96,7 +96,8 @@ module _ (fills : ℤ → Bool) (count : CountedEdge → ℤ) (es : List Counted
       ∙ sym (total-IsPermutation (winding_part p) (all_steps (walks_in contours))
       (all_steps (walks_of (shapes_bound bound))) all)
       ∙ ap (λ ws. winding (all_steps ws) p) (only_shape (shapes_bound bound) (begun_counted bound bound
-      ∙ ap outline_count (bound_again contours shapes found.counted) ∙ eqb-true (outline_count contours) 1 one) shape c))
+      ∙ ap outline_count (bound_again contours shapes found.counted) ∙ eqb-true (outline_count contours) 1 one)
+      shape c))
       (filled_or_not (fills (winding_by count es p)))
 
   pub each_slice_winds : (shape : List (List Step)) → Contains (shapes_bound bound) shape →

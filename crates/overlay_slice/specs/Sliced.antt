@@ -19,6 +19,7 @@ use Rattle.overlay_arrange.specs.declared.options.ContourDirection.{ContourDirec
 use Rattle.overlay_arrange.specs.declared.options.ContourDirection.TheVariants.{CounterClockwise, Clockwise}
 use Rattle.overlay_arrange.specs.declared.overlay_rule.OverlayRule.TheVariants.{Subject}
 use Rattle.overlay_walk.specs.Steps.{filled_hand}
+use Rattle.overlay_extract.specs.Laws.{NoTwoWindRound}
 use Rattle.overlay_extract.specs.Results.{shapes_found}
 use Rattle.overlay_slice.specs.Bound.{PassesAnchor}
 use Rattle.overlay_slice.specs.FilledSides.{filled_sides, IsInOneOrbit}
@@ -98,3 +99,11 @@ pub record IsSliced (width : Width) (min : ℕ) (fill : FillRule) (direction : C
   -- ---- what laws of filled sides ask of the edges
   -- they lead forward and meet in ends alone, and the subject's counts are balanced
   pub balanced : IsBalancedArrangement subj_of es
+
+-- ---- laws
+
+-- with the minimum area zero no two different shapes of a result both wind round a point off the edges
+abbrev pub NoTwoSlicesWindRoundOnePoint : Type 0
+NoTwoSlicesWindRoundOnePoint = (width : Width) (min : ℕ) (fill : FillRule) (direction : ContourDirection)
+    (es : List CountedEdge) (result : List (List (List Point))) → min ≡ 0 →
+    IsSliced width min fill direction es result → (p : PlanePoint) → IsOff (map ends_of es) p → NoTwoWindRound result p

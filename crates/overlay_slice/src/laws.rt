@@ -1,6 +1,7 @@
-//! Laws of orbits of filled sides, their tours, and the loops into which these are cut.
+//! Laws of orbits of filled sides, their tours, the loops into which these are cut, and the slices of loops.
 
 ghost use Rattle.overlay_slice.specs.Bound.{LoopsCanBeBound};
+ghost use Rattle.overlay_slice.specs.Sliced.{NoTwoSlicesWindRoundOnePoint};
 ghost use Rattle.overlay_slice.specs.Tours.{OrbitsMakeTours, ToursMakeLoops};
 
 /// The tours into which the orbits of sides are split are tours of the sides.
@@ -16,4 +17,9 @@ pub fn tours_make_loops()
 /// Loops of filled sides, as far as they pass a test, can be bound to shapes.
 pub fn loops_can_be_bound()
     ensures { LoopsCanBeBound }
+{}
+
+/// With minimum area zero no two different slices both wind round a point off the edges.
+pub fn no_two_slices_wind_round_one_point()
+    ensures { NoTwoSlicesWindRoundOnePoint }
 {}
