@@ -1,6 +1,6 @@
 -- The edge by which a tour is found is the first one of all on which it has a step, and the tour leads along its lower
 -- side alone where it comes back along it.
-use Rattle.std.proofs.Common.{◌≡◌, ⊎_elim, ◌⊎◌, ◌&&◌, Bool, true, false, cond, not, List, [], ◌∷◌}
+use Rattle.std.proofs.Common.{◌≡◌, ⊎_elim, ◌&&◌, Bool, true, false, cond, not, List, [], ◌∷◌}
 use Rattle.std.proofs.Common.{map, All}
 use Rattle.std.proofs.Common.{Contains, refl, sym, ap, ◌∙◌, subst}
 use Rattle.std.proofs.lemmas.Bool.{both_ways, or_from, and_left, and_right}

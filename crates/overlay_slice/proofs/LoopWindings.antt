@@ -1,5 +1,5 @@
 -- The loops into which the filled sides are cut wind as the filled sides: what they leave out is passed there and back.
-use Rattle.std.proofs.Common.{◌≡◌, ◌⊎◌, ⊎_elim, Bool, false, not, ℤ, pos, negsuc, ◌+ℤ◌, ◌*ℤ◌, List, map}
+use Rattle.std.proofs.Common.{◌≡◌, ⊎_elim, Bool, false, not, ℤ, pos, negsuc, ◌+ℤ◌, ◌*ℤ◌, List, map}
 use Rattle.std.proofs.Common.{Contains, sym, ap, ◌∙◌, subst}
 use Rattle.std.specs.List.{filter}
 use Rattle.std.specs.List.Sorted.{IsPermutation}

@@ -1,10 +1,10 @@
 -- Steps that have their winding once on their left sides, none of them twice, wind once or zero times round each point,
 -- also where some are passed there and back: as the region of the rule that the winding is once.
-use Rattle.std.proofs.Common.{◌≡◌, ◌⊎◌, inl, inr, Bool, true, false, cond, ℤ, pos, negsuc, ◌+ℤ◌, ◌-ℤ◌, List, Contains}
+use Rattle.std.proofs.Common.{◌≡◌, ◌⊎◌, inl, inr, Bool, true, false, cond, ℤ, pos, ◌+ℤ◌, ◌-ℤ◌, List, Contains}
 use Rattle.std.proofs.Common.{refl, sym, ap, ap₂, ◌∙◌, subst}
 use Rattle.std.specs.Ordering.{int_eq}
 use Rattle.std.proofs.lemmas.Bool.{both_ways}
-use Rattle.overlay_geom.specs.Plane.{PlanePoint, Step, point_lt, edge_of, is_strictly_below, winding}
+use Rattle.overlay_geom.specs.Plane.{Step, point_lt, is_strictly_below, winding}
 use Rattle.overlay_geom.specs.Edges.{CountedEdge, ends_of, winding_by}
 use Rattle.overlay_geom.proofs.Signs.{linear}
 use Rattle.overlay_plane.specs.Turn.Hand.{left, right}
@@ -12,7 +12,7 @@ use Rattle.overlay_plane.specs.Orbits.{is_step_of}
 use Rattle.overlay_plane.specs.Nodes.{IsBalancedArrangement}
 use Rattle.overlay_plane.specs.Regions.{one_if, selected_sign, IsRuled}
 use Rattle.overlay_plane.specs.SelectedSteps.{step_with_left}
-use Rattle.overlay_plane.specs.BesideOrbits.{count_on, count_along, winding_under, winding_over, winding_beside}
+use Rattle.overlay_plane.specs.BesideOrbits.{count_on, winding_under, winding_over, winding_beside}
 use Rattle.overlay_plane.specs.BesideOrbits.{times_held, WalksAlong, IsBalancedPart, HasEachOnce}
 use Rattle.overlay_plane.specs.ShapesAlone.{WindsOnceOrNot}
 use Rattle.overlay_plane.proofs.BesideAcross.{winding_across_a_step, none_held, one_held}

@@ -1,6 +1,6 @@
 -- The shapes to which loops of filled sides are bound, by the points of the loops in the output direction: what their
 -- steps are, and how they wind.
-use Rattle.std.proofs.Common.{◌≡◌, inl, inr, ⊎_elim, Bool, true, false, cond, not, ℤ, pos, negsuc, ◌*ℤ◌, List, []}
+use Rattle.std.proofs.Common.{◌≡◌, inl, inr, ⊎_elim, Bool, true, false, cond, ℤ, pos, negsuc, ◌*ℤ◌, List, []}
 use Rattle.std.proofs.Common.{◌∷◌, ◌++◌, map, All, Contains, refl, sym, ap, ap₂, ◌∙◌, subst, append-nil}
 use Rattle.std.specs.List.{flat_map}
 use Rattle.std.specs.List.Sorted.{IsPermutation}

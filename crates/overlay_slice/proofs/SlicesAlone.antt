@@ -1,24 +1,23 @@
 -- Each of the shapes to which loops of filled sides are bound winds once or zero times round each point: beside its
 -- lowest edge at its leftmost lowest point, which is the anchor of its outline, it winds once; so it does along its
 -- outline, and along its holes, each from the next one below.
-use Rattle.std.proofs.Common.{◌≡◌, ◌⊎◌, inl, inr, ⊎_elim, ℕ, suc, Bool, true, false, cond, ◌&&◌, ℤ, pos, ◌+ℤ◌, ◌-ℤ◌}
-use Rattle.std.proofs.Common.{List, [], ◌∷◌, ◌++◌, map, length, Contains, Option, Some, None, refl, sym, ap, ap₂, ◌∙◌}
-use Rattle.std.proofs.Common.{subst, arith}
+use Rattle.std.proofs.Common.{◌≡◌, ◌⊎◌, inl, inr, ⊎_elim, ℕ, Bool, true, false, ◌&&◌, ℤ, pos, ◌+ℤ◌, ◌-ℤ◌}
+use Rattle.std.proofs.Common.{List, ◌∷◌, ◌++◌, Contains, Option, Some, None, refl, sym, ap, ap₂, ◌∙◌}
+use Rattle.std.proofs.Common.{subst}
 use Rattle.std.specs.Prelude.{slice_index_or, MatchBool}
-use Rattle.std.specs.List.{filter, flat_map, slice_get}
+use Rattle.std.specs.List.{filter, slice_get}
 use Rattle.std.proofs.lemmas.Bool.{and_parts, eqb-true, false≢true}
-use Rattle.std.proofs.lemmas.Grind.{flat_map-append}
 use Rattle.std.proofs.lemmas.List.Elements.{All-contains, Contains-append_cases}
-use Rattle.std.proofs.lemmas.Option.{none-some, same_Some}
+use Rattle.std.proofs.lemmas.Option.{same_Some}
 use Rattle.overlay_geom.specs.Plane.{Point, Step, Edge, edge_of, point_lt, reversed_step}
 use Rattle.overlay_geom.specs.Edges.{CountedEdge}
 use Rattle.overlay_plane.specs.Anchors.{IsAnchor}
 use Rattle.overlay_plane.specs.BesideOrbits.{winding_under, winding_over, winding_beside, WalksAlong, IsBalancedPart}
 use Rattle.overlay_plane.specs.BesideOrbits.{HasEachOnce}
-use Rattle.overlay_plane.specs.Binding.{HasNextAt, is_number, walks_of}
+use Rattle.overlay_plane.specs.Binding.{HasNextAt, is_number}
 use Rattle.overlay_plane.specs.Binding.IsFoundBelow.{direct, through}
 use Rattle.overlay_plane.specs.BoundContours.{BoundContour, IsParent, walks_in, has_one_shape, AreShapesFound}
-use Rattle.overlay_plane.specs.BoundContours.{contours_bound, own_holes, found_holes, shape_begun_by, shapes_bound}
+use Rattle.overlay_plane.specs.BoundContours.{contours_bound, own_holes, found_holes}
 use Rattle.overlay_plane.specs.Contours.{all_steps, is_filled_above, IsContour}
 use Rattle.overlay_plane.specs.Groups.{IsSimpleContour}
 use Rattle.overlay_plane.specs.KeptContours.{CanBeBound}
@@ -45,7 +44,7 @@ use Rattle.overlay_plane.proofs.NumberedContours.{one_outline}
 use Rattle.overlay_plane.proofs.PlacesOfContours.{Contains-place, contour_at, known_at, free_from_none, place_of_walk}
 use Rattle.overlay_plane.proofs.SelectedWindings.{along_edge, forward_above}
 use Rattle.overlay_plane.proofs.StartWindings.{filled_under}
-use Rattle.overlay_plane.proofs.Totals.{Contains-head, Contains-later}
+use Rattle.overlay_plane.proofs.Totals.{Contains-head}
 use Rattle.overlay_plane.proofs.WalkedEdges.{one_anchor}
 use Rattle.overlay_slice.specs.Bound.{PassesAnchor, HaveRoles}
 use Rattle.overlay_slice.specs.FilledSides.{filled_sides, IsInOneOrbit}
