@@ -7,6 +7,7 @@ use Rattle.std.specs.List.{All, AllPairs}
 use Rattle.std.specs.List.Sorted.{IsPermutation, IsSortedBy}
 use Rattle.std.proofs.lemmas.Int.{ints}
 use Rattle.std.proofs.lemmas.List.{length-drop, get_or-drop, get_or_default}
+use Rattle.std.proofs.lemmas.List.Elements.{All-contains, All-map, All-weaker}
 use Rattle.std.proofs.lemmas.List.Sorted.{sorted_far}
 use Rattle.overlay_geom.specs.Numbered.{Numbered, numbered, AreNumbered}
 use Rattle.overlay_geom.specs.Plane.{Point}
@@ -14,8 +15,10 @@ use Rattle.overlay_geom.proofs.Mapped.{AllPairs-map}
 use Rattle.overlay_geom.proofs.Numbered.{numbered_shuffled, all_told}
 use Rattle.overlay_plane.proofs.Tests.{ge_from_test, test_from_ge, lt_from_test}
 use Rattle.overlay_relate.specs.Answers.{AnswersEach}
-use Rattle.overlay_relate.specs.Queries.{plain_query, plain_queries, AreQueries}
+use Rattle.overlay_relate.specs.Queries.{plain_query, plain_queries, points_asked, AreQueries, IsAnswered}
+use Rattle.overlay_relate.specs.Runs.{AreByX}
 use Rattle.overlay_relate.specs.declared.queries.Query.{Query}
+use Rattle.overlay_relate.proofs.Answered.{answers_weaker}
 
 -- sorted, they are the queries
 pub queries_sorted : (points : List Point) (qs rs : List (Numbered Point)) → qs ≡ numbered 0 points →
@@ -56,6 +59,13 @@ later_queries qs order i q lt is k d h =
     (subst (λ (t : Numbered Point). t.item.x ≤ℤ (get_or qs (i + 1 + k) d).item.x) (get_or_default qs i d q lt ∙ is)
     (order i (i + 1 + k) d (omega arith) (omega arith)))
 
+-- a query's place is one of the points
+pub stands_within : (points : List Point) (qs : List (Numbered Point)) → AreNumbered points qs →
+    (i : ℕ) (q : Numbered Point) → i < length qs → get_or qs i q ≡ q → q.place < length points
+stands_within points qs are i q lt is =
+    (All-contains (λ t. (t.place < length points) × (get_or points t.place t.item ≡ t.item)) qs q are.from
+    (i, lt, is)).0
+
 -- where all queries are answered, so are the points in their order
 pub all_answered : {Y : Type 0} (P : Point → Y → Type 0) (d : Y) (points : List Point) (qs : List (Numbered Point)) →
     AreNumbered points qs →
@@ -66,3 +76,20 @@ all_answered P d points qs asked answers counted i past told = record {
   counted = counted;
   each = λ n e f lt. all_told P d points qs asked answers counted i past told n e f lt;
 }
+
+-- what is asked for are the points by their abscissas
+pub asked_by_x : (points : List Point) (qs : List (Numbered Point)) → AreQueries points qs → AreByX (points_asked qs)
+asked_by_x points qs are = AllPairs-map (λ (p q : Point). p.x ≤ℤ q.x) (λ (n : Numbered Point). n.item) qs are.order
+
+pub All-asked : (P : Point → Type 0) (points : List Point) (qs : List (Numbered Point)) → AreQueries points qs →
+    All P points → All P (points_asked qs)
+All-asked P points qs are all = All-map P (λ (n : Numbered Point). n.item) qs
+    (All-weaker (λ t. (t.place < length points) × (get_or points t.place t.item ≡ t.item)) (λ n. P n.item)
+    (λ n at. subst P at.1 (all n.place n.item at.0)) qs are.numbered.from)
+
+-- answers to what is asked for are answers to the points
+pub answers_ordered : {Y : Type 0} (R : Point → Y → Type 0) (points asked : List Point) (ys zs : List Y) →
+    AnswersEach R asked ys → AnswersEach (IsAnswered asked ys) points zs → AnswersEach R points zs
+answers_ordered R points asked ys zs right placed = answers_weaker (IsAnswered asked ys) R
+    (λ x y at. subst (R x) at.answer (subst (λ z. R z (get_or ys at.place y)) at.item
+    (right.each at.place x y at.within))) points zs placed

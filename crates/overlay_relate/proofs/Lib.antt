@@ -3,10 +3,13 @@ pub mod Answered
 pub mod ApartEdges
 pub mod ApartInOrder
 pub mod Asked
+pub mod Beside
 pub mod BitsTell
 pub mod ByStart
 pub mod Highest
 pub mod Insides
+pub mod JoinedParts
+pub mod JoinedRuns
 pub mod Located
 pub mod NextEnds
 pub mod OnEdges
@@ -15,6 +18,7 @@ pub mod Parities
 pub mod PredicateBuilders
 pub mod PredicatesTogether
 pub mod Pushed
+pub mod RunsOver
 pub mod SharedBorders
 pub mod SortedEdges
 pub mod Swept

@@ -61,17 +61,16 @@ in_shapes_joined [] ds p = refl
 in_shapes_joined (c ∷ cs) ds p = ap (differ (is_in_contour c p)) (in_shapes_joined cs ds p)
     ∙ differ-assoc (is_in_contour c p) (is_in_shape cs p) (is_in_shape ds p)
 
--- with one contour more
-pub one_contour_more : (cs : List (List Point)) (c : List Point) (p : PlanePoint) (l m : PointLocation) →
-    IsLocatedIn cs p l → IsLocatedIn (c ∷ []) p m →
-    IsLocatedIn (cs ++ c ∷ []) p (joined_contours l m)
-one_contour_more cs c p l m at_l at_m =
-    subst (λ es. IsLocated es (is_in_shape (cs ++ c ∷ []) p) p (joined_contours l m))
-    (sym (flat_map-append edges_of cs (c ∷ [])))
-    (subst (λ t. IsLocated (shape_edges cs ++ shape_edges (c ∷ [])) t p (joined_contours l m))
-    (sym (in_shapes_joined cs (c ∷ []) p))
-    (located_joined (shape_edges cs) (shape_edges (c ∷ [])) (is_in_shape cs p) (is_in_shape (c ∷ []) p) p l
-    m at_l at_m))
+-- with more contours
+pub more_contours : (cs ds : List (List Point)) (p : PlanePoint) (l m : PointLocation) →
+    IsLocatedIn cs p l → IsLocatedIn ds p m →
+    IsLocatedIn (cs ++ ds) p (joined_contours l m)
+more_contours cs ds p l m at_l at_m =
+    subst (λ es. IsLocated es (is_in_shape (cs ++ ds) p) p (joined_contours l m))
+    (sym (flat_map-append edges_of cs ds))
+    (subst (λ t. IsLocated (shape_edges cs ++ shape_edges ds) t p (joined_contours l m))
+    (sym (in_shapes_joined cs ds p))
+    (located_joined (shape_edges cs) (shape_edges ds) (is_in_shape cs p) (is_in_shape ds p) p l m at_l at_m))
 
 -- a point that lies so by a contour's edges lies so in the contour
 pub located_by_edges : (c : List Point) (es : List Edge) → es ≡ edges_of c → (p : PlanePoint) (l : PointLocation) →

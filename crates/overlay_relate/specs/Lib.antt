@@ -8,5 +8,6 @@ pub mod PredicateLaws
 pub mod PredicateQueries
 pub mod Queries
 pub mod Resolved
+pub mod Runs
 pub mod Sweeps
 pub mod Walls

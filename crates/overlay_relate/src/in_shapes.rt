@@ -1,15 +1,18 @@
 //! Where points lie in shapes.
 
-ghost use Rattle.std.specs.Prelude.{◌≡◌, All, IfOk, IsOkUnless};
+ghost use Rattle.std.specs.Prelude.{◌≡◌, ◌++◌, [], ◌∷◌, length, All, IfOk, OnOk, IsOkUnless};
 ghost use Rattle.overlay_geom.specs.Points.{plain_points, AllInRange};
 ghost use Rattle.overlay_geom.specs.Paths.{paths_of_shape, plain_shapes};
 ghost use Rattle.overlay_geom.specs.Resolved.{IsResolved};
 ghost use Rattle.overlay_relate.specs.Answers.{AnswersWhere};
 ghost use Rattle.overlay_relate.specs.Locations.{IsLocatedIn, IsLocatedAmong};
+ghost use Rattle.overlay_relate.specs.Runs.{AreByX};
 
 use crate::in_contour::locate_in_contour;
-use crate::joined::{Parts, join_all};
+use crate::joined::{Parts, join_from};
 use crate::location::PointLocation;
+use crate::queries::{in_given_order, points_asked, queries_by_x};
+use crate::runs::{run_over, run_over_all};
 use overlay_geom::error::OverlayError;
 use overlay_geom::number::IntNumber;
 use overlay_geom::path::{IntContour, IntShape};
@@ -31,12 +34,10 @@ pub fn locate_in_shape<I: IntNumber, A: Allocator, B: Allocator + Clone>(
         (plain_points I.whole points.now) v.items) }
     ensures err { IsOkUnless result OverlayError.Memory }
 {
-    let mut answers = outside(alloc.clone()?, points)?;
-    for contour in contours {
-        let here = locate_in_contour(alloc.clone()?, contour, points, tree_from)?;
-        answers = join_all(alloc.clone()?, Parts::Contours, &answers, &here)?;
-    }
-    Ok(answers)
+    let queries = queries_by_x(alloc.clone()?, points)?;
+    let asked = points_asked(alloc.clone()?, &queries)?;
+    let located = located_in_shape(alloc.clone()?, contours, &asked, tree_from)?;
+    in_given_order(alloc, points, &queries, &located)
 }
 
 /// Where each of the points lies among the shapes, in their order, with trees for contours of `tree_from` edges or
@@ -54,12 +55,114 @@ pub fn locate_in_shapes<I: IntNumber, A: Allocator, B: Allocator + Clone>(
         (plain_points I.whole points.now) v.items) }
     ensures err { IsOkUnless result OverlayError.Memory }
 {
-    let mut answers = outside(alloc.clone()?, points)?;
+    let queries = queries_by_x(alloc.clone()?, points)?;
+    let asked = points_asked(alloc.clone()?, &queries)?;
+    let located = located_in_shapes(alloc.clone()?, shapes, &asked, tree_from)?;
+    in_given_order(alloc, points, &queries, &located)
+}
+
+/// Where each of the points, which stand by their abscissas, lies among the shapes. The only refusal is `Memory`.
+fn located_in_shapes<I: IntNumber, A: Allocator, B: Allocator + Clone>(
+    alloc: B,
+    shapes: &[IntShape<I, A>],
+    points: &[IntPoint<I>],
+    tree_from: usize,
+) -> Result<Vec<PointLocation, B>, OverlayError>
+    requires shapes { All (All (AllInRange I.limit)) (plain_shapes I.whole shapes.now) }
+    requires resolved { All (All IsResolved) (plain_shapes I.whole shapes.now) }
+    requires points { AllInRange I.limit (plain_points I.whole points.now) }
+    requires order { AreByX (plain_points I.whole points.now) }
+    ensures located { IfOk result (λ v. AnswersWhere (IsLocatedAmong (plain_shapes I.whole shapes.now))
+        (plain_points I.whole points.now) v.items) }
+    ensures err { IsOkUnless result OverlayError.Memory }
+{
+    let mut located = outside(alloc.clone()?, points)?;
     for shape in shapes {
-        let here = locate_in_shape(alloc.clone()?, shape, points, tree_from)?;
-        answers = join_all(alloc.clone()?, Parts::Shapes, &answers, &here)?;
+        join_shape(alloc.clone()?, &mut located, shape, points, tree_from)?;
     }
-    Ok(answers)
+    Ok(located)
+}
+
+/// Joins to where the points, which stand by their abscissas, lie among some shapes, where they lie in one more. Only
+/// those are asked that do not lie beside it. The only refusal is `Memory`.
+fn join_shape<I: IntNumber, A: Allocator, B: Allocator + Clone>(
+    alloc: B,
+    located: &mut Vec<PointLocation, B>,
+    shape: &[IntContour<I, A>],
+    points: &[IntPoint<I>],
+    tree_from: usize,
+) -> Result<(), OverlayError>
+    requires contours { All (AllInRange I.limit) (paths_of_shape I.whole shape.now) }
+    requires resolved { All IsResolved (paths_of_shape I.whole shape.now) }
+    requires points { AllInRange I.limit (plain_points I.whole points.now) }
+    requires order { AreByX (plain_points I.whole points.now) }
+    requires counted { length located.old.items ≡ length points.now }
+    ensures joined { OnOk result ((seen : _)
+        → AnswersWhere (IsLocatedAmong seen) (plain_points I.whole points.now) located.old.items
+        → AnswersWhere (IsLocatedAmong (seen ++ paths_of_shape I.whole shape.now ∷ []))
+        (plain_points I.whole points.now) located.new.items) }
+    ensures counted { OnOk result (length located.new.items ≡ length points.now) }
+    ensures err { IsOkUnless result OverlayError.Memory }
+{
+    let (start, end) = run_over_all(shape, points);
+    if start == end {
+        return Ok(());
+    }
+    let here = located_in_shape(alloc, shape, &points[start..end], tree_from)?;
+    join_from(Parts::Shapes, located, start, &here);
+    Ok(())
+}
+
+/// Where each of the points, which stand by their abscissas, lies in the shape. The only refusal is `Memory`.
+fn located_in_shape<I: IntNumber, A: Allocator, B: Allocator + Clone>(
+    alloc: B,
+    contours: &[IntContour<I, A>],
+    points: &[IntPoint<I>],
+    tree_from: usize,
+) -> Result<Vec<PointLocation, B>, OverlayError>
+    requires contours { All (AllInRange I.limit) (paths_of_shape I.whole contours.now) }
+    requires resolved { All IsResolved (paths_of_shape I.whole contours.now) }
+    requires points { AllInRange I.limit (plain_points I.whole points.now) }
+    requires order { AreByX (plain_points I.whole points.now) }
+    ensures located { IfOk result (λ v. AnswersWhere (IsLocatedIn (paths_of_shape I.whole contours.now))
+        (plain_points I.whole points.now) v.items) }
+    ensures err { IsOkUnless result OverlayError.Memory }
+{
+    let mut located = outside(alloc.clone()?, points)?;
+    for contour in contours {
+        join_contour(alloc.clone()?, &mut located, contour, points, tree_from)?;
+    }
+    Ok(located)
+}
+
+/// Joins to where the points, which stand by their abscissas, lie in some contours of a shape, where they lie in one
+/// more. Only those are asked that do not lie beside it. The only refusal is `Memory`.
+fn join_contour<I: IntNumber, B: Allocator + Clone>(
+    alloc: B,
+    located: &mut Vec<PointLocation, B>,
+    contour: &[IntPoint<I>],
+    points: &[IntPoint<I>],
+    tree_from: usize,
+) -> Result<(), OverlayError>
+    requires contour { AllInRange I.limit (plain_points I.whole contour.now) }
+    requires resolved { IsResolved (plain_points I.whole contour.now) }
+    requires points { AllInRange I.limit (plain_points I.whole points.now) }
+    requires order { AreByX (plain_points I.whole points.now) }
+    requires counted { length located.old.items ≡ length points.now }
+    ensures joined { OnOk result ((seen : _)
+        → AnswersWhere (IsLocatedIn seen) (plain_points I.whole points.now) located.old.items
+        → AnswersWhere (IsLocatedIn (seen ++ plain_points I.whole contour.now ∷ []))
+        (plain_points I.whole points.now) located.new.items) }
+    ensures counted { OnOk result (length located.new.items ≡ length points.now) }
+    ensures err { IsOkUnless result OverlayError.Memory }
+{
+    let (start, end) = run_over(contour, points);
+    if start == end {
+        return Ok(());
+    }
+    let here = locate_in_contour(alloc, contour, &points[start..end], tree_from)?;
+    join_from(Parts::Contours, located, start, &here);
+    Ok(())
 }
 
 /// `Outside` for each of the points, where there is no contour.

@@ -1,10 +1,9 @@
 //! Locations in parts, joined to those in the whole.
 
-ghost use Rattle.std.specs.Prelude.{◌≡◌, IfOk, IsOkUnless, length};
-ghost use Rattle.overlay_relate.specs.Joined.{zip_with, joined_by};
+ghost use Rattle.std.specs.Prelude.{◌≡◌, ◌+◌, ◌≤◌, length};
+ghost use Rattle.overlay_relate.specs.Joined.{joined_by, AreJoined};
 
 use crate::location::PointLocation;
-use overlay_geom::error::OverlayError;
 use std::alloc::Allocator;
 
 /// How the parts make the whole.
@@ -35,20 +34,18 @@ fn join(parts: Parts, l: PointLocation, m: PointLocation) -> PointLocation
     }
 }
 
-/// Where each of the points lies in the whole. The only refusal is `Memory`.
-pub(crate) fn join_all<A: Allocator>(
-    alloc: A,
+/// Joins to the locations in some parts, from a place on, those in one part more.
+pub(crate) fn join_from<A: Allocator>(
     parts: Parts,
-    first: &[PointLocation],
-    second: &[PointLocation],
-) -> Result<Vec<PointLocation, A>, OverlayError>
-    requires { length second.now ≡ length first.now }
-    ensures joined { IfOk result (λ v. v.items ≡ zip_with (joined_by parts) first.now second.now) }
-    ensures err { IsOkUnless result OverlayError.Memory }
+    locations: &mut Vec<PointLocation, A>,
+    start: usize,
+    more: &[PointLocation],
+)
+    requires { start + length more.now ≤ length locations.old.items }
+    ensures { AreJoined (joined_by parts) start (length more.now) more.now
+        locations.old.items locations.new.items }
 {
-    let mut joined = Vec::with_capacity(alloc, first.len())?;
-    for (i, l) in first.iter().enumerate() {
-        joined.push(join(parts, *l, second[i]))?;
+    for (i, l) in more.iter().enumerate() {
+        locations[start + i] = join(parts, locations[start + i], *l);
     }
-    Ok(joined)
 }

@@ -16,6 +16,7 @@ pub mod predicate_laws;
 pub mod predicate_overlay;
 mod queries;
 pub mod resolved;
+mod runs;
 mod shared_end;
 mod starts;
 mod sweep;

@@ -3,8 +3,10 @@
 ghost use Rattle.std.specs.Prelude.{◌≡◌, length, IfOk, IsOkUnless};
 ghost use Rattle.overlay_geom.specs.Numbered.{numbered};
 ghost use Rattle.overlay_geom.specs.Points.{plain_points};
-ghost use Rattle.overlay_relate.specs.Queries.{plain_queries, AreQueries};
+ghost use Rattle.overlay_relate.specs.Answers.{AnswersEach};
+ghost use Rattle.overlay_relate.specs.Queries.{plain_queries, points_asked, AreQueries, IsAnswered};
 
+use crate::location::PointLocation;
 use overlay_geom::error::OverlayError;
 use overlay_geom::number::IntNumber;
 use overlay_geom::point::IntPoint;
@@ -48,4 +50,41 @@ fn queries_in_order<I: IntNumber, A: Allocator>(
         })?;
     }
     Ok(queries)
+}
+
+/// The points of the queries, in their order. The only refusal is `Memory`.
+pub(crate) fn points_asked<I: IntNumber, A: Allocator>(
+    alloc: A,
+    queries: &[Query<I>],
+) -> Result<Vec<IntPoint<I>, A>, OverlayError>
+    ensures ok { IfOk result (λ v. plain_points I.whole v.items ≡ points_asked (plain_queries I.whole queries.now)) }
+    ensures err { IsOkUnless result OverlayError.Memory }
+{
+    let mut points = Vec::with_capacity(alloc, queries.len())?;
+    for query in queries {
+        points.push(query.point)?;
+    }
+    Ok(points)
+}
+
+/// The answers to queries, in the order of the points. The only refusal is `Memory`.
+pub(crate) fn in_given_order<I: IntNumber, A: Allocator>(
+    alloc: A,
+    points: &[IntPoint<I>],
+    queries: &[Query<I>],
+    answers: &[PointLocation],
+) -> Result<Vec<PointLocation, A>, OverlayError>
+    requires queries { AreQueries (plain_points I.whole points.now) (plain_queries I.whole queries.now) }
+    requires counted { length answers.now ≡ length queries.now }
+    ensures ok { IfOk result (λ v. AnswersEach
+        (IsAnswered (points_asked (plain_queries I.whole queries.now)) answers.now)
+        (plain_points I.whole points.now) v.items) }
+    ensures err { IsOkUnless result OverlayError.Memory }
+{
+    let mut ordered = Vec::new(alloc);
+    ordered.resize(points.len(), PointLocation::Outside)?;
+    for (i, query) in queries.iter().enumerate() {
+        ordered[query.place] = answers[i];
+    }
+    Ok(ordered)
 }

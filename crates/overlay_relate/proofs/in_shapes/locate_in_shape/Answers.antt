@@ -1,74 +1,65 @@
--- One contour more is joined to those so far.
-use Rattle.std.proofs.Common.{◌≡◌, ◌++◌, ◌∷◌, [], take, length, sym, ap, ◌∙◌, subst}
+-- The points by their abscissas are asked, and the answers put into the order of the points.
+use Rattle.std.proofs.Common.{◌≡◌, length, sym, ap, ◌∙◌, subst}
+use Rattle.std.proofs.lemmas.List.{length-map}
+use Rattle.std.proofs.lemmas.Result.{IfOk-weaker}
+use Rattle.overlay_geom.specs.Numbered.{Numbered}
 use Rattle.overlay_geom.specs.Paths.{paths_of_shape}
 use Rattle.overlay_geom.specs.Plane.{Point, in_plane}
-use Rattle.overlay_geom.specs.Points.{plain_points, AllInRange}
-use Rattle.overlay_geom.specs.Resolved.{IsResolved}
-use Rattle.overlay_geom.proofs.Mapped.{All-mapped_at, mapped_more, mapped_whole}
-use Rattle.overlay_relate.specs.Answers.{AnswersEach, AnswersWhere}
-use Rattle.overlay_relate.specs.Joined.{joined_by}
+use Rattle.overlay_geom.specs.Points.{plain_points, InRange, AllInRange}
+use Rattle.overlay_relate.specs.Answers.{AnswersEach}
 use Rattle.overlay_relate.specs.Locations.{IsLocatedIn}
-use Rattle.overlay_relate.specs.declared.joined.Parts.TheVariants.{Contours}
+use Rattle.overlay_relate.specs.Queries.{plain_query, plain_queries, points_asked, AreQueries, IsAnswered}
+use Rattle.overlay_relate.specs.Runs.{AreByX}
 use Rattle.overlay_relate.specs.declared.location.PointLocation.{PointLocation}
-use Rattle.overlay_relate.specs.declared.location.PointLocation.TheVariants.{Outside}
-use Rattle.overlay_relate.proofs.Answered.{answers_weaker, answers_joined}
-use Rattle.overlay_relate.proofs.Located.{outside_none, one_contour_more}
+use Rattle.overlay_relate.proofs.Asked.{asked_by_x, All-asked, answers_ordered}
 use Rattle.overlay_relate.proofs.in_shapes.locate_in_shape.Goals as goal
 
-pub loop-contour-init : goal.loop-contour-init
-loop-contour-init g c =
-    answers_weaker (λ (q : Point) (l : PointLocation). l ≡ Outside)
-    (λ (q : Point) (l : PointLocation). IsLocatedIn [] (in_plane q) l)
-    (λ q l is. subst (IsLocatedIn [] (in_plane q)) (sym is) (outside_none (in_plane q)))
-    (plain_points g.I.IntNumber.whole c.args.points.now) c.in_ok-answers.answers.items (c.in_ok-answers.ensures).value
-
-pub locate_in_contour-requires-clause-contour : goal.locate_in_contour-requires-clause-contour
-locate_in_contour-requires-clause-contour g c =
+pub located_in_shape-requires-clause-points : goal.located_in_shape-requires-clause-points
+located_in_shape-requires-clause-points g c =
     let whole = g.I.IntNumber.whole in
-    subst (λ xs. AllInRange g.I.IntNumber.limit (plain_points whole xs)) (sym c.deref.ensures.value)
-    (All-mapped_at (AllInRange g.I.IntNumber.limit) (λ x. plain_points g.I.IntNumber.whole x.items) c.args.contours.now
-    c.loop-contour.contour-index c.contour-item.result
-    c.loop-contour-test.true c.contour-item.is c.requires.contours)
+    let limit = g.I.IntNumber.limit in
+    let qs = plain_queries whole c.in_ok-queries.queries.items in
+    let is : plain_points whole c.deref-2.result.now ≡ points_asked qs = ap (plain_points whole) c.deref-2.ensures.value
+    ∙ c.in_ok-asked.ensures.ok ∙ ap (λ ds. points_asked (plain_queries whole ds)) c.deref.ensures.value in
+    subst (AllInRange limit) (sym is) (All-asked (InRange limit) (plain_points whole c.args.points.now) qs
+    c.in_ok-queries.ensures.queries c.requires.points)
 
-pub locate_in_contour-requires-clause-resolved : goal.locate_in_contour-requires-clause-resolved
-locate_in_contour-requires-clause-resolved g c =
+pub located_in_shape-requires-clause-order : goal.located_in_shape-requires-clause-order
+located_in_shape-requires-clause-order g c =
     let whole = g.I.IntNumber.whole in
-    subst (λ xs. IsResolved (plain_points whole xs)) (sym c.deref.ensures.value)
-    (All-mapped_at IsResolved (λ x. plain_points g.I.IntNumber.whole x.items) c.args.contours.now
-    c.loop-contour.contour-index c.contour-item.result
-    c.loop-contour-test.true c.contour-item.is c.requires.resolved)
+    let qs = plain_queries whole c.in_ok-queries.queries.items in
+    let is : plain_points whole c.deref-2.result.now ≡ points_asked qs = ap (plain_points whole) c.deref-2.ensures.value
+    ∙ c.in_ok-asked.ensures.ok ∙ ap (λ ds. points_asked (plain_queries whole ds)) c.deref.ensures.value in
+    subst AreByX (sym is) (asked_by_x (plain_points whole c.args.points.now) qs c.in_ok-queries.ensures.queries)
 
-pub join_all-requires : goal.join_all-requires
-join_all-requires g c =
-    ap length c.deref-in-loop-contour-2.ensures.value ∙ (c.in_ok-here.ensures).located.counted
-    ∙ sym c.loop-contour.invariant.counted ∙ sym (ap length c.deref-in-loop-contour.ensures.value)
-
-pub loop-contour-preserved : goal.loop-contour-preserved
-loop-contour-preserved g c =
+pub in_given_order-requires-clause-queries : goal.in_given_order-requires-clause-queries
+in_given_order-requires-clause-queries g c =
     let whole = g.I.IntNumber.whole in
-    let qs = plain_points whole c.args.points.now in
-    let seen = paths_of_shape whole (take c.loop-contour.contour-index c.args.contours.now) in
-    let here = plain_points whole c.contour-item.result.items in
-    let R = λ (q : Point) (l : PointLocation). IsLocatedIn seen (in_plane q) l in
-    let S = λ (q : Point) (l : PointLocation). IsLocatedIn (here ∷ []) (in_plane q) l in
-    let T = λ (q : Point) (l : PointLocation). IsLocatedIn (seen ++ here ∷ []) (in_plane q) l in
-    let first : AnswersEach R qs c.deref-in-loop-contour.result.now
-    = subst (AnswersEach R qs) (sym c.deref-in-loop-contour.ensures.value) c.loop-contour.invariant in
-    let told : AnswersEach S qs c.in_ok-here.here.items
-    = subst (λ xs. AnswersWhere (λ p l. IsLocatedIn ((plain_points whole xs) ∷ []) p l) qs c.in_ok-here.here.items)
-    c.deref.ensures.value (c.in_ok-here.ensures).located in
-    let second : AnswersEach S qs c.deref-in-loop-contour-2.result.now
-    = subst (AnswersEach S qs) (sym c.deref-in-loop-contour-2.ensures.value) told in
-    subst (λ ss. AnswersWhere (IsLocatedIn ss) qs c.in_ok-answers-2.answers.items)
-    (sym (mapped_more (λ x. plain_points g.I.IntNumber.whole x.items) c.args.contours.now c.loop-contour.contour-index
-    c.contour-item.result c.loop-contour-test.true c.contour-item.is))
-    (subst (AnswersEach T qs) (sym (c.in_ok-answers-2.ensures).joined)
-    (answers_joined R S T (joined_by Contours) (λ q l m. one_contour_more seen here (in_plane q) l m) qs
-    c.deref-in-loop-contour.result.now c.deref-in-loop-contour-2.result.now first second))
+    subst (λ ds. AreQueries (plain_points whole c.args.points.now) (plain_queries whole ds))
+    (sym c.deref-3.ensures.value)
+    c.in_ok-queries.ensures.queries
+
+pub in_given_order-requires-clause-counted : goal.in_given_order-requires-clause-counted
+in_given_order-requires-clause-counted g c =
+    let whole = g.I.IntNumber.whole in
+    let qs = plain_queries whole c.in_ok-queries.queries.items in
+    let is : plain_points whole c.deref-2.result.now ≡ points_asked qs = ap (plain_points whole) c.deref-2.ensures.value
+    ∙ c.in_ok-asked.ensures.ok ∙ ap (λ ds. points_asked (plain_queries whole ds)) c.deref.ensures.value in
+    ap length c.deref-4.ensures.value ∙ c.in_ok-located.ensures.located.counted ∙ ap length is
+    ∙ length-map qs (λ (n : Numbered Point). n.item) ∙ length-map c.in_ok-queries.queries.items (plain_query whole)
+    ∙ sym (ap length c.deref-3.ensures.value)
 
 pub returns-clause-located : goal.returns-clause-located
 returns-clause-located g c =
     let whole = g.I.IntNumber.whole in
-    subst (λ ss. AnswersWhere (IsLocatedIn ss) (plain_points whole c.args.points.now) c.loop-contour.answers.items)
-    (mapped_whole (λ x. plain_points g.I.IntNumber.whole x.items) c.args.contours.now c.loop-contour.contour-index
-    c.loop-contour-test.false) c.loop-contour.invariant
+    let points = plain_points whole c.args.points.now in
+    let R = λ (q : Point) (l : PointLocation). IsLocatedIn (paths_of_shape whole c.args.contours.now) (in_plane q) l in
+    let asked = points_asked (plain_queries whole c.deref-3.result.now) in
+    let is : plain_points whole c.deref-2.result.now ≡ asked = ap (plain_points whole) c.deref-2.ensures.value
+    ∙ c.in_ok-asked.ensures.ok ∙ ap (λ ds. points_asked (plain_queries whole ds)) c.deref.ensures.value
+    ∙ sym (ap (λ ds. points_asked (plain_queries whole ds)) c.deref-3.ensures.value) in
+    let right : AnswersEach R asked c.deref-4.result.now = subst (AnswersEach R asked) (sym c.deref-4.ensures.value)
+    (subst (λ qs. AnswersEach R qs c.in_ok-located.located.items) is c.in_ok-located.ensures.located) in
+    IfOk-weaker c.in_given_order.result (λ v. AnswersEach (IsAnswered asked c.deref-4.result.now) points v.items)
+    (λ v. AnswersEach R points v.items)
+    (λ v placed. answers_ordered R points asked c.deref-4.result.now v.items right placed) c.in_given_order.ensures.ok
