@@ -1,5 +1,5 @@
 -- What is told of the points of an input, and why nothing is.
-use Rattle.std.proofs.Common.{◌≡◌, ℕ, Bool, List, [], ◌∷◌, Result, Ok, Err, MatchResult, inl, subst}
+use Rattle.std.proofs.Common.{◌≡◌, ℕ, Bool, List, [], ◌∷◌, inl, subst}
 use Rattle.overlay_geom.specs.Plane.{Point}
 use Rattle.overlay_geom.specs.Resolved.{IsResolved}
 use Rattle.overlay_relate.specs.Answers.{AnswersWhere, AnswersWhether}
@@ -38,26 +38,14 @@ module _ (fs : GivenFigures) (contours : List GivenContour) (points : List Point
 
 -- why nothing is told of them does not depend on where the command stands
 module _ (fs : GivenFigures) (line : ℕ) where
-  nothing_inside : (exit : Exit) → HasNoSubject fs.contours exit → EndsUnanswered fs line Contains exit
+  pub nothing_inside : (exit : Exit) → HasNoSubject fs.contours exit → EndsUnanswered fs line Contains exit
   nothing_inside Answered h = absurd h
   nothing_inside (Refused e) h = h
   nothing_inside (BadInput n) h = inl (tt, h)
   nothing_inside Io h = absurd h
 
-  nothing_located : (exit : Exit) → HasNoSubject fs.contours exit → EndsUnanswered fs line Locate exit
+  pub nothing_located : (exit : Exit) → HasNoSubject fs.contours exit → EndsUnanswered fs line Locate exit
   nothing_located Answered h = absurd h
   nothing_located (Refused e) h = h
   nothing_located (BadInput n) h = inl (tt, h)
   nothing_located Io h = absurd h
-
-  pub inside_or_not : {S : Type 0} (told : S → Type 0) (r : Result S Exit)
-      → MatchResult r told (λ exit. HasNoSubject fs.contours exit)
-      → MatchResult r told (λ exit. EndsUnanswered fs line Contains exit)
-  inside_or_not told (Ok s) h = h
-  inside_or_not told (Err exit) h = nothing_inside exit h
-
-  pub located_or_not : {S : Type 0} (told : S → Type 0) (r : Result S Exit)
-      → MatchResult r told (λ exit. HasNoSubject fs.contours exit)
-      → MatchResult r told (λ exit. EndsUnanswered fs line Locate exit)
-  located_or_not told (Ok s) h = h
-  located_or_not told (Err exit) h = nothing_located exit h

@@ -1,5 +1,5 @@
 -- What a query on a builder, to which all contours were added, says of the contours; and the text of its answer.
-use Rattle.std.proofs.Common.{◌≡◌, inl, ℕ, false, List, map, Option, Some, None, IfSome, sym, subst, ◌∙◌}
+use Rattle.std.proofs.Common.{◌≡◌, inl, ℕ, false, List, map, Option, Some, None, IfSome, subst, ◌∙◌}
 use Rattle.std.specs.Prelude.{Result, Ok, Err, IfOk, MatchResult}
 use Rattle.std.specs.Int.{w128}
 use Rattle.overlay_geom.specs.declared.error.OverlayError.{OverlayError}

@@ -1,4 +1,5 @@
 pub mod Answers
+pub mod Borrowed
 pub mod Builders
 pub mod Clips
 pub mod Engine

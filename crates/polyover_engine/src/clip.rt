@@ -1,23 +1,42 @@
 //! The open paths of an input, clipped by its subject.
 
-ghost use Rattle.std.specs.Prelude.{◌≡◌, MatchResult};
+ghost use Rattle.std.specs.Prelude.{◌≡◌, MatchResult, string_bytes};
 ghost use Rattle.overlay_geom.specs.Paths.{paths_of_shape};
 ghost use Rattle.overlay_string.specs.OneShot.{AreClippedOfPaths, MayRefusePaths};
 ghost use Rattle.polyover_text.specs.Points.{FiguresInRange};
 ghost use Rattle.polyover_text.specs.Statements.{figures_at};
+ghost use Rattle.polyover_engine.specs.Answers.{Answers, EndsUnanswered};
 ghost use Rattle.polyover_engine.specs.Clips.{clip_rule_of, shape_and_lines};
 
+use crate::exit::Exit;
 use crate::string_builder::with_subject_shape;
 use i_overlay::string::clip::ClipRule;
 use overlay_geom::error::OverlayError;
 use overlay_geom::path::IntPath;
 use polyover_text::clip_options::ClipOptions;
 use polyover_text::figures::Figures;
-use polyover_text::query::ClipQuery;
+use polyover_text::input::Input;
+use polyover_text::path_text::paths_text;
+use polyover_text::query::{ClipQuery, Query};
 use std::alloc::Allocator;
 
-/// The parts of the open paths that a clip by the subject keeps, as paths.
-pub(crate) fn clipped_lines<A: Allocator + Clone>(
+/// The answer to a query for a clip: the text of the paths that it leaves.
+pub(crate) fn clip_text<A: Allocator + Copy>(
+    alloc: A,
+    input: &Input<A>,
+    query: ClipQuery,
+) -> Result<String<A>, Exit>
+    requires { FiguresInRange (figures_at input.now.figures) }
+    ensures { MatchResult result
+        (λ text. Answers (figures_at input.now.figures) (Query.ClipLines query) (string_bytes text))
+        (λ exit. EndsUnanswered (figures_at input.now.figures) input.now.line (Query.ClipLines query) exit) }
+{
+    let paths = clipped_lines(alloc, &input.figures, query)?;
+    Ok(paths_text(alloc, &paths)?)
+}
+
+// The parts of the open paths that a clip by the subject keeps, as paths.
+fn clipped_lines<A: Allocator + Clone>(
     alloc: A,
     figures: &Figures<A>,
     query: ClipQuery,

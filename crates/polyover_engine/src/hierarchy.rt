@@ -1,28 +1,46 @@
 //! The shapes of an overlay, and which of them lie in holes of which.
 
-ghost use Rattle.std.specs.Prelude.{◌≡◌, ◌++◌, MatchResult, All, map, IfOk, OnOk, IsOkUnless, string_bytes};
+ghost use Rattle.std.specs.Prelude.{◌≡◌, ◌++◌, MatchResult, All, map, IfOk, OnOk, string_bytes};
 ghost use Rattle.overlay_geom.specs.Flat.{shapes_in};
 ghost use Rattle.overlay_geom.specs.Points.{AllInRange};
 ghost use Rattle.overlay_geom.specs.Numbers.{greatest_of_64_bits};
 ghost use Rattle.overlay_extract.specs.ChildLinks.{plain_link};
 ghost use Rattle.i_overlay.specs.OneShot.{MayRefusePaths};
-ghost use Rattle.polyover_engine.specs.Answers.{IsHierarchyOfPaths, link_lines};
+ghost use Rattle.polyover_engine.specs.Answers.{Answers, EndsUnanswered, IsHierarchyOfPaths, link_lines};
 ghost use Rattle.polyover_engine.specs.Builders.{asked_by};
 ghost use Rattle.polyover_text.specs.Grammar.{contour_paths};
+ghost use Rattle.polyover_text.specs.Points.{FiguresInRange};
 ghost use Rattle.polyover_text.specs.Printed.{lines_of_shapes};
-ghost use Rattle.polyover_text.specs.Statements.{contours_at};
+ghost use Rattle.polyover_text.specs.Statements.{contours_at, figures_at};
 
 use crate::builder::asked_builder;
+use crate::exit::Exit;
 use i_overlay::hierarchy::{ChildLink, FlatShapeHierarchy};
 use overlay_geom::error::OverlayError;
 use polyover_text::figures::NumberedContour;
+use polyover_text::flat_shape_text::flat_shapes_text;
+use polyover_text::input::Input;
 use polyover_text::link_text::push_link;
-use polyover_text::query::OverlayQuery;
-use polyover_text::shape_text::shapes_text;
+use polyover_text::query::{OverlayQuery, Query};
 use std::alloc::{AllocError, Allocator};
 
-/// The shapes of an overlay over the contours' arrangement, and their links.
-pub(crate) fn overlay_hierarchy<A: Allocator + Clone>(
+/// The answer to a query for a hierarchy: the text of its shapes and links.
+pub(crate) fn hierarchy_text<A: Allocator + Copy>(
+    alloc: A,
+    input: &Input<A>,
+    query: OverlayQuery,
+) -> Result<String<A>, Exit>
+    requires { FiguresInRange (figures_at input.now.figures) }
+    ensures { MatchResult result
+        (λ text. Answers (figures_at input.now.figures) (Query.Hierarchy query) (string_bytes text))
+        (λ exit. EndsUnanswered (figures_at input.now.figures) input.now.line (Query.Hierarchy query) exit) }
+{
+    let hierarchy = overlay_hierarchy(alloc, &input.figures.contours, query)?;
+    Ok(shapes_and_links_text(alloc, &hierarchy)?)
+}
+
+// The shapes of an overlay over the contours' arrangement, and their links.
+fn overlay_hierarchy<A: Allocator + Clone>(
     alloc: A,
     contours: &[NumberedContour<A>],
     query: OverlayQuery,
@@ -38,18 +56,16 @@ pub(crate) fn overlay_hierarchy<A: Allocator + Clone>(
     builder.overlay_hierarchy(query.overlay_rule, query.fill_rule)
 }
 
-/// The text of the shapes, and then a line for each link. The only refusal is `Memory`.
-pub(crate) fn hierarchy_text<A: Allocator + Clone>(
+// The text of the shapes, and then a line for each link.
+fn shapes_and_links_text<A: Allocator>(
     alloc: A,
     hierarchy: &FlatShapeHierarchy<i64, A>,
-) -> Result<String<A>, OverlayError>
-    ensures ok { IfOk result (λ text. string_bytes text ≡ lines_of_shapes (shapes_in (λ z. z)
+) -> Result<String<A>, AllocError>
+    ensures { IfOk result (λ text. string_bytes text ≡ lines_of_shapes (shapes_in (λ z. z)
         hierarchy.now.shapes.points.items hierarchy.now.shapes.contour_ranges.items
         hierarchy.now.shapes.shape_ranges.items) ++ link_lines (map plain_link hierarchy.now.links.items)) }
-    ensures err { IsOkUnless result OverlayError.Memory }
 {
-    let shapes = hierarchy.shapes.to_shapes()?;
-    let mut text = shapes_text(alloc, &shapes)?;
+    let mut text = flat_shapes_text(alloc, &hierarchy.shapes)?;
     push_links(&mut text, &hierarchy.links)?;
     Ok(text)
 }

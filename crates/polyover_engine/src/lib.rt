@@ -2,11 +2,14 @@
 #![tactic(auto)]
 
 mod answer;
+mod borrowed_subject;
 mod builder;
 mod clip;
+mod edges;
 pub mod engine;
 pub mod exit;
 mod hierarchy;
+mod overlay;
 mod points;
 mod predicate_builder;
 mod read;

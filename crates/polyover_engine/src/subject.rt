@@ -1,13 +1,13 @@
-//! The subject of an input as one shape, with each contour resolved, or whatever they are.
+//! The subject of an input as one shape, with each contour resolved.
 
-ghost use Rattle.std.specs.Prelude.{◌≡◌, [], ◌∷◌, ◌++◌, MatchResult, All, IfOk, OnOk, IsOkUnless};
+ghost use Rattle.std.specs.Prelude.{◌≡◌, [], ◌∷◌, ◌++◌, MatchResult, All, OnOk, IsOkUnless};
 ghost use Rattle.overlay_geom.specs.Points.{AllInRange};
 ghost use Rattle.overlay_geom.specs.Paths.{paths_of_shape};
 ghost use Rattle.overlay_geom.specs.Numbers.{greatest_of_64_bits};
 ghost use Rattle.polyover_text.specs.Grammar.{contour_paths};
 ghost use Rattle.polyover_text.specs.Points.{points_at};
 ghost use Rattle.polyover_text.specs.Statements.{contour_at, contours_at};
-ghost use Rattle.polyover_engine.specs.Subjects.{IsSubject, HasNoSubject, AddsContour, IsNotAdded, subject_of};
+ghost use Rattle.polyover_engine.specs.Subjects.{IsSubject, HasNoSubject, AddsContour, IsNotAdded};
 
 use crate::exit::Exit;
 use i_overlay::overlay::ShapeType;
@@ -59,26 +59,6 @@ fn add<A: Allocator + Copy>(
             Ok(())
         }
     }
-}
-
-/// The contours of the subject, in order, as one shape, resolved or not. The only refusal is `Memory`.
-pub(crate) fn subject_contours<A: Allocator + Copy>(
-    alloc: A,
-    contours: &[NumberedContour<A>],
-) -> Result<IntShape<i64, A>, OverlayError>
-    ensures ok { IfOk result
-        (λ shape. paths_of_shape (λ z. z) shape.items ≡ subject_of (contours_at contours.now)) }
-    ensures err { IsOkUnless result OverlayError.Memory }
-{
-    let mut shape = Vec::new(alloc);
-    for given in contours {
-        let contour = &given.contour;
-        match contour.shape_type {
-            ShapeType::Subject => push_copy(alloc, &mut shape, &contour.points)?,
-            ShapeType::Clip => {}
-        }
-    }
-    Ok(shape)
 }
 
 // Adds a contour with these points to the shape. The only refusal is `Memory`.

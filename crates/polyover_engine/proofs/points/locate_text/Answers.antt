@@ -10,7 +10,7 @@ use Rattle.polyover_text.specs.Points.{points_at}
 use Rattle.polyover_text.specs.Printed.{location_line}
 use Rattle.polyover_text.specs.Statements.{contours_at, figures_at}
 use Rattle.polyover_engine.specs.Subjects.{HasNoSubject}
-use Rattle.polyover_engine.proofs.Located.{tells_where}
+use Rattle.polyover_engine.proofs.Located.{tells_where, nothing_located}
 use Rattle.polyover_engine.proofs.points.locate_text.Goals as goal
 
 pub locate_points-requires-clause-self_in_range : goal.locate_points-requires-clause-self_in_range
@@ -29,13 +29,14 @@ locate_points-requires-clause-points_in_range g c =
 pub returns-in_err-shape : goal.returns-in_err-shape
 returns-in_err-shape g c =
     let p = err_from_is_err_and c.from_residual.result c.from_residual.ensures.1 in
-    rw (p.1, p.2) (subst (λ cs. HasNoSubject (contours_at cs) c.in_err-shape.field-0.0) c.deref.ensures.value
-    c.in_err-shape.ensures)
+    rw (p.1, p.2) (nothing_located (figures_at c.args.input.now.figures) c.args.input.now.line _
+    (subst (λ cs. HasNoSubject (contours_at cs) c.in_err-shape.field-0.0) c.deref.ensures.value
+    c.in_err-shape.ensures))
 
 pub returns : goal.returns
 returns g c = (
   c.in_ok-locations.locations.items,
-  tells_where (figures_at c.args.figures.now) _ _ _ (ap contours_at c.deref.ensures.value)
+  tells_where (figures_at c.args.input.now.figures) _ _ _ (ap contours_at c.deref.ensures.value)
       (ap points_at c.deref-2.ensures.value) c.in_ok-shape.ensures
       _ c.in_ok-locations.ensures.located,
   c.in_ok-locations_text.ensures ∙ ap (flat_map location_line) c.deref-3.ensures.value,

@@ -4,7 +4,7 @@ use Rattle.overlay_arrange.specs.Vectors.{plain_vector}
 use Rattle.polyover_text.specs.Grammar.{contour_paths}
 use Rattle.polyover_text.specs.Statements.{contours_at}
 use Rattle.polyover_engine.proofs.Queries.{edges_answered, adding_refused}
-use Rattle.polyover_engine.proofs.answer.arranged_edges.Goals as goal
+use Rattle.polyover_engine.proofs.edges.arranged_edges.Goals as goal
 
 pub returns : goal.returns
 returns g c =

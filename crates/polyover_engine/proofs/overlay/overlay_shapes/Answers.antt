@@ -4,7 +4,7 @@ use Rattle.overlay_geom.specs.Paths.{plain_shapes}
 use Rattle.polyover_text.specs.Grammar.{contour_paths}
 use Rattle.polyover_text.specs.Statements.{contours_at}
 use Rattle.polyover_engine.proofs.Queries.{shapes_answered, adding_refused}
-use Rattle.polyover_engine.proofs.answer.overlay_shapes.Goals as goal
+use Rattle.polyover_engine.proofs.overlay.overlay_shapes.Goals as goal
 
 pub returns : goal.returns
 returns g c =
