@@ -10,7 +10,7 @@ use i_overlay::i_float::int::number::wide_int::WideIntNumber;
 use i_overlay::i_float::int::point::IntPoint;
 use i_overlay::i_float::int::vector::IntVector;
 use i_overlay::i_shape::flat::buffer::{FlatContoursBuffer, FlatShapesBuffer};
-use i_overlay::integer::{OverlayInt, in_range, is_resolved};
+use i_overlay::integer::{OverlayInt, in_range, is_resolved, is_resolved_in};
 use i_overlay::overlay::{ContourDirection, IntOverlayOptions, ShapeType};
 use i_overlay::overlay_rule::OverlayRule;
 use i_overlay::point_location::{IntPointContainment, PointLocation};
@@ -89,9 +89,11 @@ fn tests_of_contours(rt: HostRuntime) {
         IntPoint::new(0, 10),
     ];
     assert!(&rt; is_clean(&rt, &triangle));
+    assert_eq!(&rt; is_resolved_in(rt.alloc(), &triangle), Ok(true));
     let (low, high) = (IntPoint::new(0i32, 0), IntPoint::new(10, 10));
     let bow = [low, high, IntPoint::new(10, 0), IntPoint::new(0, 10)];
     assert!(&rt; !is_clean(&rt, &bow));
+    assert_eq!(&rt; is_resolved_in(rt.alloc(), &bow), Ok(false));
 }
 
 #[test]

@@ -3,3 +3,4 @@
 pub use overlay_geom::integer::OverlayInt;
 pub use overlay_geom::point::in_range;
 pub use overlay_geom::resolved::is_resolved;
+pub use overlay_relate::resolved::is_resolved_in;

@@ -14,7 +14,7 @@ use i_overlay::overlay::ShapeType;
 use overlay_geom::error::OverlayError;
 use overlay_geom::path::IntShape;
 use overlay_geom::point::IntPoint;
-use overlay_geom::resolved::is_resolved;
+use overlay_relate::resolved::is_resolved_in;
 use polyover_text::figures::NumberedContour;
 use std::alloc::Allocator;
 
@@ -52,7 +52,8 @@ fn add<A: Allocator + Copy>(
     match contour.shape_type {
         ShapeType::Clip => Ok(()),
         ShapeType::Subject => {
-            if !is_resolved(&contour.points) {
+            let is_resolved = is_resolved_in(alloc, &contour.points)?;
+            if !is_resolved {
                 return Err(Exit::BadInput(given.line));
             }
             push_copy(alloc, shape, &contour.points)?;
