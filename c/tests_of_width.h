@@ -231,6 +231,12 @@ static void TEST(simplifying)(void) {
     CHECK(TEST(simplified)(&room, 3, &by_default, &far, 64) == POLYOVER_OUT_OF_RANGE);
 }
 
+#include "tests_of_relations.h"
+
+#include "tests_of_points.h"
+
+#include "tests_of_edges.h"
+
 static void TEST(all)(void) {
     TEST(ranges)();
     TEST(ends)();
@@ -240,4 +246,10 @@ static void TEST(all)(void) {
     TEST(refusals)();
     TEST(options)();
     TEST(simplifying)();
+    TEST(relations)();
+    TEST(relating_refused)();
+    TEST(locations)();
+    TEST(locating_refused)();
+    TEST(edges)();
+    TEST(listing_refused)();
 }

@@ -66,6 +66,37 @@ enum {
     POLYOVER_NEGATIVE = 3  /* windings below 0 */
 };
 
+/* How a subject and a clip lie to each other: a bit for each relation. The closed region of one is what it fills, with
+ * the edges on a side of which it does. */
+typedef uint32_t polyover_relations;
+enum {
+    POLYOVER_INTERSECTS = 1,          /* some point is in both closed regions */
+    POLYOVER_INTERIORS_INTERSECT = 2, /* some point off the edges is filled by both */
+    POLYOVER_TOUCHES = 4,             /* they intersect, and no point off the edges is filled by both */
+    /* they intersect, and no edge has sides that the one fills and sides that the other fills: they meet in single
+     * points alone */
+    POLYOVER_POINT_INTERSECTS = 8,
+    /* the subject fills some point off the edges, and the clip fills each such point */
+    POLYOVER_WITHIN = 16,
+    POLYOVER_DISJOINT = 32, /* they do not intersect */
+    POLYOVER_COVERS = 64    /* the clip lies within the subject: POLYOVER_WITHIN of the two exchanged */
+};
+
+/* Where a point lies. */
+enum {
+    POLYOVER_OUTSIDE = 0, /* on no edge, and outside */
+    POLYOVER_INSIDE = 1,  /* on no edge, and inside */
+    POLYOVER_BOUNDARY = 2 /* on an edge, an end included */
+};
+
+/* Which sides of an edge are filled: the sum of the bits of those that are, seen on the way from its first end. */
+enum {
+    POLYOVER_SUBJECT_LEFT = 1,
+    POLYOVER_SUBJECT_RIGHT = 2,
+    POLYOVER_CLIP_LEFT = 4,
+    POLYOVER_CLIP_RIGHT = 8
+};
+
 /* How an answer looks. All zero is the default. */
 typedef struct {
     uint32_t direction; /* of outlines: 0 counter-clockwise, 1 clockwise; holes run the other way */
@@ -155,6 +186,52 @@ polyover_status polyover_simplify_32(polyover_fill fill, const polyover_options_
                                      const polyover_contours_32 *contours, int32_t *coordinates,
                                      size_t coordinate_room, size_t *contour_ends, size_t contour_room,
                                      size_t *shape_ends, size_t shape_room, polyover_counts *counts);
+
+/* How the subject and the clip lie to each other under the fill rule. On POLYOVER_OK *relations is the sum of the bits of
+ * the relations that hold; after any other status it stays.
+ *
+ * All but POLYOVER_COVERS are told of one arrangement of the contours, in which edges that meet are cut as by
+ * `polyover_overlay`. Tested first, in this order: POLYOVER_BAD_FILL; then of the subject, and then of the clip,
+ * POLYOVER_BAD_ENDS and POLYOVER_OUT_OF_RANGE. POLYOVER_NOT_SETTLED, POLYOVER_TOO_MANY_EDGES and POLYOVER_MEMORY are
+ * left. */
+polyover_status polyover_relate(polyover_fill fill, const polyover_contours *subject, const polyover_contours *clip,
+                                polyover_relations *relations);
+polyover_status polyover_relate_32(polyover_fill fill, const polyover_contours_32 *subject,
+                                   const polyover_contours_32 *clip, polyover_relations *relations);
+
+/* Where each of the points, x before y in `coordinates`, lies in the contours, which are one shape: a point is inside it
+ * that is inside an odd number of them, and inside a contour that winds an odd number of times round it.
+ *
+ * On POLYOVER_OK the first items of `locations`, one for each point in order, are POLYOVER_OUTSIDE, POLYOVER_INSIDE or
+ * POLYOVER_BOUNDARY; the items behind them stay. After any other status `locations` stays. On POLYOVER_NOT_RESOLVED
+ * *unresolved is the number, from 0 on, of the first contour that is not resolved (see `polyover_resolved`); after any
+ * other status it stays.
+ *
+ * Tested in this order: of the contours POLYOVER_BAD_ENDS and POLYOVER_OUT_OF_RANGE; then of the points, where
+ * POLYOVER_BAD_ENDS says that they are an odd count of coordinates, the same two; POLYOVER_TOO_SMALL exactly where there
+ * are more points than `location_room`; POLYOVER_NOT_RESOLVED. POLYOVER_MEMORY is left. */
+polyover_status polyover_locate(const polyover_contours *shape, const int64_t *coordinates, size_t coordinate_count,
+                                uint8_t *locations, size_t location_room, size_t *unresolved);
+polyover_status polyover_locate_32(const polyover_contours_32 *shape, const int32_t *coordinates,
+                                   size_t coordinate_count, uint8_t *locations, size_t location_room,
+                                   size_t *unresolved);
+
+/* The edges of the arrangement of the subject and the clip: all edges of both, cut where they meet (as by
+ * `polyover_overlay`), of equal ones one, in order by their first and then by their second end. The first end is the
+ * smaller one, by x and then by y. Edges are left out whose counts are zero: steps there and back.
+ *
+ * On POLYOVER_OK *count is the number of edges; the first 4 * *count items of `coordinates` are x and y of the first and
+ * of the second end of each, and the first *count items of `fills` the sums of its bits POLYOVER_SUBJECT_LEFT to
+ * POLYOVER_CLIP_RIGHT under the fill rule, none where it fills no side. The items behind them stay. POLYOVER_TOO_SMALL
+ * comes exactly where one of the arrays has no room for that: they stay as they are, and *count tells what it takes.
+ * After any other status nothing is changed, *count neither. What is tested first, and what is left, is as of
+ * `polyover_relate`. */
+polyover_status polyover_edges(polyover_fill fill, const polyover_contours *subject, const polyover_contours *clip,
+                               int64_t *coordinates, size_t coordinate_room, uint8_t *fills, size_t fill_room,
+                               size_t *count);
+polyover_status polyover_edges_32(polyover_fill fill, const polyover_contours_32 *subject,
+                                  const polyover_contours_32 *clip, int32_t *coordinates, size_t coordinate_room,
+                                  uint8_t *fills, size_t fill_room, size_t *count);
 
 #ifdef __cplusplus
 }

@@ -1,4 +1,9 @@
+pub mod AskedAgain
 pub mod Endings
+pub mod Filled
+pub mod Listed
+pub mod Located
 pub mod Overlays
+pub mod Related
 pub mod ShapesRead
 pub mod Simplified

@@ -3,7 +3,7 @@ use Rattle.std.proofs.Common.{◌≡◌, ℕ, ◌+◌, ℤ, List, [], ◌∷◌,
 use Rattle.std.proofs.Common.{sym, ◌∙◌, ap, ap₂, subst}
 use Rattle.std.specs.List.{slice_get}
 use Rattle.std.proofs.lemmas.List.{map-append}
-use Rattle.overlay_geom.proofs.ReadInOrder.{take_read}
+use Rattle.overlay_geom.proofs.ReadInOrder.{All-read, take_read}
 use Rattle.overlay_geom.specs.Paths.{paths_of_shape}
 use Rattle.overlay_geom.specs.Plane.{Point}
 use Rattle.overlay_geom.specs.Points.{plain_points}
@@ -12,11 +12,9 @@ use Rattle.overlay_geom.specs.declared.point.IntPoint.{IntPoint}
 use Rattle.polyover_arrays.specs.Reading.{AreContours, contours_at, HaveFault}
 use Rattle.polyover_arrays.specs.declared.fault.Fault.{Fault}
 use Rattle.polyover_arrays.specs.declared.fault.Fault.TheVariants as fault
-use Rattle.polyover_c.specs.Statuses.{MakeNoShape, ReadsAs, status_of_fault}
-use Rattle.polyover_c.specs.declared.status.Status.{Status}
-use Rattle.polyover_c.specs.declared.status.Status.TheVariants.{Done, Memory, BadEnds, OutOfRange}
-use Rattle.polyover_c.specs.declared.status.Status.TheVariants.{NotResolved, BadRule, BadFill, BadOption}
-use Rattle.polyover_c.specs.declared.status.Status.TheVariants.{NotSettled, TooManyEdges, TooSmall}
+use Rattle.polyover_c.specs.Located.{IsFirstUnresolved}
+use Rattle.polyover_c.specs.Statuses.{ReadsAs, status_of_fault}
+use Rattle.polyover_c.specs.declared.status.Status.TheVariants.{Done, NotResolved}
 
 -- with a contour of the next path, a shape that has the paths so far has one more
 pub one_contour_more : {I A : Type 0} (whole : I → ℤ) (paths : List (List Point)) (i : ℕ)
@@ -35,19 +33,17 @@ fault_read whole limit cs ends fault.Memory faulty = faulty
 fault_read whole limit cs ends fault.Ends faulty = faulty
 fault_read whole limit cs ends fault.Range faulty = faulty
 
--- and contours that are read, and make no shape, are not read as one
-pub no_shape_read : {I : Type 0} (whole : I → ℤ) (limit : ℕ) (cs : List I) (ends : List ℕ) (paths : List (List Point))
-    (s : Status) → AreContours whole limit cs ends → paths ≡ contours_at whole cs ends → MakeNoShape paths s →
-    ReadsAs whole limit cs ends s
-no_shape_read whole limit cs ends paths Done are same none = absurd none
-no_shape_read whole limit cs ends paths Memory are same none = are
-no_shape_read whole limit cs ends paths BadEnds are same none = absurd none
-no_shape_read whole limit cs ends paths OutOfRange are same none = absurd none
-no_shape_read whole limit cs ends paths NotResolved are same none =
-    (are, λ all. none (subst (All IsResolved) (sym same) all))
-no_shape_read whole limit cs ends paths BadRule are same none = absurd none
-no_shape_read whole limit cs ends paths BadFill are same none = absurd none
-no_shape_read whole limit cs ends paths BadOption are same none = absurd none
-no_shape_read whole limit cs ends paths NotSettled are same none = absurd none
-no_shape_read whole limit cs ends paths TooManyEdges are same none = absurd none
-no_shape_read whole limit cs ends paths TooSmall are same none = absurd none
+-- contours that are read, of which one is not resolved
+pub unresolved_read : {I : Type 0} (whole : I → ℤ) (limit : ℕ) (cs : List I) (ends : List ℕ)
+    (paths : List (List Point)) (n : ℕ) → AreContours whole limit cs ends → paths ≡ contours_at whole cs ends →
+    IsFirstUnresolved paths n → ReadsAs whole limit cs ends NotResolved
+unresolved_read whole limit cs ends paths n are same first = (
+  are,
+  λ all. first.unresolved (All-read paths n first.path first.here IsResolved (subst (All IsResolved) (sym same) all)),
+)
+
+-- and contours that are read, each of which is
+pub shape_read : {I : Type 0} (whole : I → ℤ) (limit : ℕ) (cs : List I) (ends : List ℕ) (paths : List (List Point)) →
+    AreContours whole limit cs ends → paths ≡ contours_at whole cs ends → All IsResolved paths →
+    ReadsAs whole limit cs ends Done
+shape_read whole limit cs ends paths are same all = (are, subst (All IsResolved) same all)

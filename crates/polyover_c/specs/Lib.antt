@@ -1,6 +1,11 @@
 pub mod Asked
+pub mod Filled
 pub mod Given
+pub mod Listed
+pub mod Located
 pub mod Overlays
+pub mod Related
+pub mod Relations
 pub mod Simplified
 pub mod Statuses
 pub mod Written

@@ -39,20 +39,6 @@ status_of_error error.NotSettled = NotSettled
 status_of_error error.TooManyEdges = TooManyEdges
 status_of_error error.Failed = Memory
 
--- contours become no shape so: for want of memory, or where one of them is not resolved
-abbrev pub MakeNoShape : List (List Point) → Status → Type 0
-MakeNoShape paths Done = ⊥
-MakeNoShape paths Memory = Unit {0}
-MakeNoShape paths BadEnds = ⊥
-MakeNoShape paths OutOfRange = ⊥
-MakeNoShape paths NotResolved = ¬ (All IsResolved paths)
-MakeNoShape paths BadRule = ⊥
-MakeNoShape paths BadFill = ⊥
-MakeNoShape paths BadOption = ⊥
-MakeNoShape paths NotSettled = ⊥
-MakeNoShape paths TooManyEdges = ⊥
-MakeNoShape paths TooSmall = ⊥
-
 -- arrays are read as a shape with this status: with `Done` their contours fit, are in range and resolved
 abbrev pub ReadsAs : {I : Type 0} → (I → ℤ) → ℕ → List I → List ℕ → Status → Type 0
 ReadsAs whole limit cs ends Done = AreContours whole limit cs ends × All IsResolved (contours_at whole cs ends)

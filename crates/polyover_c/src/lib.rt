@@ -4,12 +4,16 @@
 mod answer;
 pub mod arrays;
 pub mod counts;
+mod edges;
+pub mod exports;
 pub mod exports_32;
 pub mod exports_64;
 mod given;
+mod locate;
 mod numbers;
 pub mod options;
 mod overlay;
+mod relate;
 mod shape;
 mod simplify;
 mod status;

@@ -1,0 +1,52 @@
+/* Tests at one width of how shapes lie to each other; the names are those of tests_of_width.h. */
+
+/* The relations of two squares, told by their lower left and upper right corners. */
+static polyover_relations TEST(related)(const NUMBER *subject, const NUMBER *clip, polyover_fill fill) {
+    static const size_t four[] = {4};
+    const NUMBER first[] = {subject[0], subject[1], subject[2], subject[1], subject[2], subject[3], subject[0], subject[3]};
+    const NUMBER second[] = {clip[0], clip[1], clip[2], clip[1], clip[2], clip[3], clip[0], clip[3]};
+    const CONTOURS given = {first, 8, four, 1}, other = {second, 8, four, 1};
+    polyover_relations relations = 77;
+    CHECK(NAME(polyover_relate)(fill, &given, &other, &relations) == POLYOVER_OK);
+    return relations;
+}
+
+static void TEST(relations)(void) {
+    const NUMBER square[] = {0, 0, 2, 2}, corner[] = {2, 2, 4, 4}, beside[] = {2, 0, 4, 2}, far[] = {9, 9, 10, 10};
+    const NUMBER around[] = {-1, -1, 3, 3}, across[] = {1, 1, 3, 3};
+    const NUMBER all[] = {-LIMIT, -LIMIT, LIMIT, LIMIT};
+    const polyover_relations touches = POLYOVER_INTERSECTS | POLYOVER_TOUCHES;
+    const polyover_relations overlaps = POLYOVER_INTERSECTS | POLYOVER_INTERIORS_INTERSECT;
+    CHECK(TEST(related)(square, corner, POLYOVER_EVEN_ODD) == (touches | POLYOVER_POINT_INTERSECTS));
+    CHECK(TEST(related)(square, beside, POLYOVER_EVEN_ODD) == touches);
+    CHECK(TEST(related)(square, square, POLYOVER_EVEN_ODD) == (overlaps | POLYOVER_WITHIN | POLYOVER_COVERS));
+    CHECK(TEST(related)(square, far, POLYOVER_EVEN_ODD) == POLYOVER_DISJOINT);
+    CHECK(TEST(related)(square, across, POLYOVER_POSITIVE) == overlaps);
+    CHECK(TEST(related)(square, around, POLYOVER_NON_ZERO) == (overlaps | POLYOVER_WITHIN));
+    CHECK(TEST(related)(around, square, POLYOVER_NON_ZERO) == (overlaps | POLYOVER_COVERS));
+    CHECK(TEST(related)(square, around, POLYOVER_NEGATIVE) == POLYOVER_DISJOINT);
+    CHECK(TEST(related)(all, all, POLYOVER_NON_ZERO) == (overlaps | POLYOVER_WITHIN | POLYOVER_COVERS));
+}
+
+static polyover_status TEST(not_related)(polyover_fill fill, const CONTOURS *subject, const CONTOURS *clip) {
+    polyover_relations relations = 77;
+    polyover_status status = NAME(polyover_relate)(fill, subject, clip, &relations);
+    CHECK(status == POLYOVER_OK || relations == 77);
+    CHECK(status != POLYOVER_OK || relations == POLYOVER_DISJOINT);
+    return status;
+}
+
+static void TEST(relating_refused)(void) {
+    const NUMBER beyond[] = {0, 0, LIMIT, 0, -LIMIT - 1, 4, 0, 4};
+    const size_t four[] = {4}, falling[] = {4, 3};
+    const CONTOURS square = {TEST(subject_at), 8, four, 1}, bad = {TEST(subject_at), 8, falling, 2};
+    const CONTOURS far = {beyond, 8, four, 1}, none = {NULL, 0, NULL, 0};
+    CHECK(TEST(not_related)(4, &bad, &far) == POLYOVER_BAD_FILL);
+    CHECK(TEST(not_related)(UINT32_MAX, &square, &square) == POLYOVER_BAD_FILL);
+    CHECK(TEST(not_related)(3, &bad, &far) == POLYOVER_BAD_ENDS);
+    CHECK(TEST(not_related)(3, &far, &bad) == POLYOVER_OUT_OF_RANGE);
+    CHECK(TEST(not_related)(3, &square, &bad) == POLYOVER_BAD_ENDS);
+    CHECK(TEST(not_related)(3, &none, &far) == POLYOVER_OUT_OF_RANGE);
+    CHECK(TEST(not_related)(0, &none, &none) == POLYOVER_OK);
+    CHECK(TEST(not_related)(0, &square, &none) == POLYOVER_OK);
+}

@@ -1,0 +1,104 @@
+-- What edges in arrays tell, and why there are none.
+use Rattle.std.proofs.Common.{◌≡◌, ◌<◌, ℕ, ◌+◌, ℤ, List, [], ◌∷◌, ◌++◌, length, get_or, take, map, inl, inr, refl, sym}
+use Rattle.std.proofs.Common.{ap, ap₂, subst, ◌∙◌}
+use Rattle.std.specs.List.{flat_map}
+use Rattle.std.proofs.lemmas.List.{map-append}
+use Rattle.std.specs.Prelude.{false, Result, Ok, Err, IfOk, OnOk}
+use Rattle.overlay_arrange.specs.Arranged.{IsArranged, most_rounds}
+use Rattle.overlay_arrange.specs.Vectors.{Vector, plain_vector, vector_of}
+use Rattle.overlay_arrange.specs.declared.vector.DataVectorEdge.{DataVectorEdge}
+use Rattle.overlay_arrange.specs.declared.fill_rule.FillRule.{FillRule}
+use Rattle.overlay_builder.specs.GivenPaths.{GivenPath, added_paths, subject_and_clip}
+use Rattle.overlay_builder.specs.PathLists.{HoldsPaths}
+use Rattle.overlay_geom.specs.Edges.{CountedEdge}
+use Rattle.overlay_geom.proofs.JoinedLists.{joined_push}
+use Rattle.overlay_geom.proofs.Mapped.{mapped_more}
+use Rattle.overlay_geom.specs.Plane.{Point}
+use Rattle.overlay_geom.specs.declared.error.OverlayError.{OverlayError}
+use Rattle.i_overlay.specs.OneShot.{MayRefusePaths}
+use Rattle.polyover_arrays.specs.declared.fault.Fault.{Fault}
+use Rattle.polyover_c.proofs.Filled.{subject_unread, clip_unread, unanswered}
+use Rattle.polyover_c.specs.Asked.{fill_of}
+use Rattle.polyover_c.specs.Given.{Contours, paths_of, paths_given, AreGiven, IsFaulty}
+use Rattle.polyover_c.specs.Listed.{EdgeArrays, EdgeRoom, AreListed, AreEdgesIn, AreEdgesPut, IsListingRefused}
+use Rattle.polyover_c.specs.Listed.{AreEdgesOfPaths, ListingEnds, ends_of_vector}
+use Rattle.polyover_c.specs.Statuses.{status_of_fault, status_of_error}
+use Rattle.polyover_c.specs.declared.status.Status.{Status}
+
+module _ {I : Type 0} (whole : I → ℤ) (limit fill : ℕ) (subject clip : Contours I) where
+  pub edges_written_end : (arrays : EdgeArrays I) (old new : EdgeRoom I) (s : Status) →
+      AreEdgesIn whole fill subject clip arrays → AreEdgesPut arrays old new s →
+      ListingEnds whole limit fill subject clip old new s
+  edges_written_end arrays old new s are put = inl (record { arrays = arrays; edges = are; put = put })
+
+  pub edges_refused_end : (old : EdgeRoom I) (s : Status) → IsListingRefused whole limit fill subject clip s →
+      ListingEnds whole limit fill subject clip old old s
+  edges_refused_end old s refused = inr (refl, refused)
+
+  abbrev may : OverlayError → Type 0
+  may = MayRefusePaths (paths_given whole subject clip)
+
+  pub subject_unlisted : (f : Fault) → fill < 4 → IsFaulty whole limit subject f →
+      IsListingRefused whole limit fill subject clip (status_of_fault f)
+  subject_unlisted = subject_unread whole limit fill subject clip may
+
+  pub clip_unlisted : (f : Fault) → fill < 4 → AreGiven whole limit subject → IsFaulty whole limit clip f →
+      IsListingRefused whole limit fill subject clip (status_of_fault f)
+  clip_unlisted = clip_unread whole limit fill subject clip may
+
+  pub listing_refused : (e : OverlayError) (p q : List (List Point)) → fill < 4 → AreGiven whole limit subject →
+      AreGiven whole limit clip → p ≡ paths_of whole subject → q ≡ paths_of whole clip →
+      MayRefusePaths (subject_and_clip p q) e →
+      IsListingRefused whole limit fill subject clip (status_of_error e)
+  listing_refused e p q known s c same_p same_q refused = unanswered whole limit fill subject clip may e known s c
+      (subst (λ paths. MayRefusePaths paths e) (ap₂ subject_and_clip same_p same_q) refused)
+
+  pub edges_answered : (f : FillRule) (p q : List (List Point)) (vectors : List Vector) (arrays : EdgeArrays I) →
+      f ≡ fill_of fill → p ≡ paths_of whole subject → q ≡ paths_of whole clip →
+      AreEdgesOfPaths f (subject_and_clip p q) vectors → AreListed whole vectors arrays →
+      AreEdgesIn whole fill subject clip arrays
+  edges_answered f p q vectors arrays same_f same_p same_q are listed = record {
+    vectors = vectors;
+    answer = subst (λ y. AreEdgesOfPaths y (paths_given whole subject clip) vectors) same_f
+        (subst (λ paths. AreEdgesOfPaths f paths vectors) (ap₂ subject_and_clip same_p same_q) are);
+    listed = listed;
+  }
+
+-- ---- the edges of a query
+
+-- those of a query on a content that the paths give are those of the paths
+pub edges_of_paths : {V E : Type 0} (r : Result V E) (vectors : V → List Vector) (fill : FillRule)
+    (paths : List GivenPath) (content edges : List CountedEdge) → HoldsPaths (added_paths false paths) content
+    → OnOk r (IsArranged most_rounds content edges)
+    → IfOk r (λ v. vectors v ≡ map (vector_of fill edges) edges)
+    → IfOk r (λ v. AreEdgesOfPaths fill paths (vectors v))
+edges_of_paths (Ok v) vectors fill paths content edges holds arranged listed =
+    record { content = content; edges = edges; holds = holds; arranged = arranged; listed = listed }
+edges_of_paths (Err e) vectors fill paths content edges holds arranged listed = tt
+
+-- ---- one edge more
+
+-- items that are pushed one by one
+four_pushed : {X : Type 0} (xs : List X) (a b c d : X) →
+    (((xs ++ a ∷ []) ++ b ∷ []) ++ c ∷ []) ++ d ∷ [] ≡ xs ++ a ∷ b ∷ c ∷ d ∷ []
+four_pushed [] a b c d = refl
+four_pushed (x ∷ xs) a b c d = ap (λ l. x ∷ l) (four_pushed xs a b c d)
+
+pub one_edge_more : {I D : Type 0} (whole : I → ℤ) (edges : List (DataVectorEdge I D)) (i : ℕ)
+    (e : DataVectorEdge I D) (old new : EdgeArrays I) → i < length edges → e ≡ get_or edges i e →
+    AreListed whole (map (plain_vector whole) (take i edges)) old →
+    new.coordinates ≡ (((old.coordinates ++ e.a.x ∷ []) ++ e.a.y ∷ []) ++ e.b.x ∷ []) ++ e.b.y ∷ [] →
+    new.fills ≡ old.fills ++ e.fill ∷ [] →
+    AreListed whole (map (plain_vector whole) (take (i + 1) edges)) new
+one_edge_more whole edges i e old new within here h coordinates fills =
+    let before = map (plain_vector whole) (take i edges) in
+    let v = plain_vector whole e in
+    let more = mapped_more (plain_vector whole) edges i e within here in
+    record {
+      coordinates = ap (map whole) (coordinates ∙ four_pushed old.coordinates e.a.x e.a.y e.b.x e.b.y)
+          ∙ map-append whole old.coordinates (e.a.x ∷ e.a.y ∷ e.b.x ∷ e.b.y ∷ [])
+          ∙ ap (λ xs. xs ++ ends_of_vector v) h.coordinates
+          ∙ sym (ap (flat_map ends_of_vector) more ∙ joined_push ends_of_vector before v);
+      fills = fills ∙ ap (λ xs. xs ++ e.fill ∷ []) h.fills
+          ∙ sym (ap (map (λ (w : Vector). w.fill)) more ∙ map-append (λ (w : Vector). w.fill) before (v ∷ []));
+    }

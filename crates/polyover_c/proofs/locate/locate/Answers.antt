@@ -1,0 +1,23 @@
+-- The first places have the numbers.
+use Rattle.std.proofs.Common.{ap, subst, ◌∙◌, arith}
+use Rattle.overlay_geom.specs.Flat.{paths_in}
+use Rattle.overlay_geom.specs.Points.{plain_points}
+use Rattle.polyover_arrays.specs.Arrays.{written_over}
+use Rattle.polyover_c.proofs.Located.{located_ends}
+use Rattle.polyover_c.specs.Located.{AreNumbers}
+use Rattle.polyover_c.proofs.locate.locate.Goals as goal
+
+pub returns : goal.returns
+returns g c =
+    let whole = g.I.IntNumber.whole in
+    let paths = paths_in whole c.in_ok-contours.contours.points.items c.in_ok-contours.contours.ranges.items in
+    let numbers = c.in_ok-numbers.numbers.items in
+    located_ends whole g.I.IntNumber.limit
+    (record { coordinates = c.args.shape.now.coordinates.now; ends = c.args.shape.now.ends.now }) c.args.points.now
+    (record { locations = c.args.locations.now; unresolved = c.args.unresolved.now })
+    c.in_ok-contours.ensures.read c.in_ok-points.ensures.read paths c.in_ok-points.points.items
+    c.in_ok-contours.ensures.contours c.in_ok-points.ensures.points numbers c.write_over.new.room
+    (omega (arith, c.if-locations-len.false, c.len.ensures)) c.in_default.ensures.none
+    (subst (λ ps. AreNumbers paths (plain_points whole ps) numbers) c.deref.ensures.value
+    c.in_ok-numbers.ensures.numbers)
+    (c.write_over.ensures ∙ ap (λ ns. written_over ns c.args.locations.now) c.deref-2.ensures.value)

@@ -1,0 +1,100 @@
+-- The edges of an arrangement in arrays of a caller.
+use Rattle.std.specs.Prelude.{◌≡◌, ◌≤◌, ◌⊎◌, ℕ, ℤ, false, List, [], ◌∷◌, length, map}
+use Rattle.std.specs.List.{flat_map}
+use Rattle.overlay_geom.specs.Edges.{CountedEdge}
+use Rattle.overlay_arrange.specs.Arranged.{IsArranged, most_rounds}
+use Rattle.overlay_arrange.specs.Vectors.{Vector, vector_of}
+use Rattle.overlay_arrange.specs.declared.fill_rule.FillRule.{FillRule}
+use Rattle.overlay_builder.specs.GivenPaths.{GivenPath, added_paths}
+use Rattle.overlay_builder.specs.PathLists.{HoldsPaths}
+use Rattle.i_overlay.specs.OneShot.{MayRefusePaths}
+use Rattle.polyover_arrays.specs.Arrays.{written_over}
+use Rattle.polyover_c.specs.Asked.{fill_of}
+use Rattle.polyover_c.specs.Filled.{IsQueryRefused}
+use Rattle.polyover_c.specs.Given.{Contours, paths_given}
+use Rattle.polyover_c.specs.declared.status.Status.{Status}
+use Rattle.polyover_c.specs.declared.status.Status.TheVariants.{Done, Memory, BadEnds, OutOfRange}
+use Rattle.polyover_c.specs.declared.status.Status.TheVariants.{NotResolved, BadRule, BadFill, BadOption}
+use Rattle.polyover_c.specs.declared.status.Status.TheVariants.{NotSettled, TooManyEdges, TooSmall}
+
+-- the edges in order of some arrangement of those that the paths give, with the sides that are filled
+pub record AreEdgesOfPaths (fill : FillRule) (paths : List GivenPath) (vectors : List Vector) : Type 0 where
+  pub content : List CountedEdge
+  pub edges : List CountedEdge
+  pub holds : HoldsPaths (added_paths false paths) content
+  pub arranged : IsArranged most_rounds content edges
+  pub listed : vectors ≡ map (vector_of fill edges) edges
+
+-- edges in arrays: of each the coordinates of both ends, and its fill bits
+pub record EdgeArrays (I : Type 0) : Type 0 where
+  pub coordinates : List I
+  pub fills : List ℕ
+
+-- the arrays that a caller has for edges, and where their number goes
+pub record EdgeRoom (I : Type 0) : Type 0 where
+  pub arrays : EdgeArrays I
+  pub count : ℕ
+
+-- x and y of where the edge begins, and of where it ends
+abbrev pub ends_of_vector : Vector → List ℤ
+ends_of_vector v = v.a.x ∷ v.a.y ∷ v.b.x ∷ v.b.y ∷ []
+
+-- the edges stand in the arrays, one behind the other
+pub record AreListed {I : Type 0} (whole : I → ℤ) (vectors : List Vector) (arrays : EdgeArrays I) : Type 0 where
+  pub coordinates : map whole arrays.coordinates ≡ flat_map ends_of_vector vectors
+  pub fills : arrays.fills ≡ map (λ v. v.fill) vectors
+
+-- each array has a place for each item
+pub record HasEdgeRoom {I : Type 0} (arrays room : EdgeArrays I) : Type 0 where
+  pub coordinates : length arrays.coordinates ≤ length room.coordinates
+  pub fills : length arrays.fills ≤ length room.fills
+
+-- the arrays with the items in their first places
+abbrev pub edges_written : {I : Type 0} → EdgeArrays I → EdgeArrays I → EdgeArrays I
+edges_written arrays room = record {
+  coordinates = written_over arrays.coordinates room.coordinates;
+  fills = written_over arrays.fills room.fills;
+}
+
+-- what becomes of the arrays where an answer is there: it is written, or they are too small and stay; the count is that
+-- of the answer
+abbrev pub AreEdgesPut : {I : Type 0} → EdgeArrays I → EdgeRoom I → EdgeRoom I → Status → Type 0
+AreEdgesPut arrays old new Done = HasEdgeRoom arrays old.arrays
+    × (new ≡ record { arrays = edges_written arrays old.arrays; count = length arrays.fills })
+AreEdgesPut arrays old new Memory = ⊥
+AreEdgesPut arrays old new BadEnds = ⊥
+AreEdgesPut arrays old new OutOfRange = ⊥
+AreEdgesPut arrays old new NotResolved = ⊥
+AreEdgesPut arrays old new BadRule = ⊥
+AreEdgesPut arrays old new BadFill = ⊥
+AreEdgesPut arrays old new BadOption = ⊥
+AreEdgesPut arrays old new NotSettled = ⊥
+AreEdgesPut arrays old new TooManyEdges = ⊥
+AreEdgesPut arrays old new TooSmall = ¬ (HasEdgeRoom arrays old.arrays)
+    × (new ≡ record { arrays = old.arrays; count = length arrays.fills })
+
+-- the edges of some arrangement of the contours of both stand in the arrays, with the sides that are filled under the
+-- fill rule with the number
+pub record AreEdgesIn {I : Type 0} (whole : I → ℤ) (fill : ℕ) (subject clip : Contours I)
+    (arrays : EdgeArrays I) : Type 0 where
+  pub vectors : List Vector
+  pub answer : AreEdgesOfPaths (fill_of fill) (paths_given whole subject clip) vectors
+  pub listed : AreListed whole vectors arrays
+
+-- there are none so
+abbrev pub IsListingRefused : {I : Type 0} → (I → ℤ) → ℕ → ℕ → Contours I → Contours I → Status → Type 0
+IsListingRefused whole limit fill subject clip =
+    IsQueryRefused whole limit fill subject clip (MayRefusePaths (paths_given whole subject clip))
+
+-- arrays in which they stand are put into those of the caller
+pub record AreEdgesWritten {I : Type 0} (whole : I → ℤ) (fill : ℕ) (subject clip : Contours I) (old new : EdgeRoom I)
+    (s : Status) : Type 0 where
+  pub arrays : EdgeArrays I
+  pub edges : AreEdgesIn whole fill subject clip arrays
+  pub put : AreEdgesPut arrays old new s
+
+-- how it ends: with edges that are put into the arrays, or it is refused, and nothing changes
+abbrev pub ListingEnds : {I : Type 0} → (I → ℤ) → ℕ → ℕ → Contours I → Contours I → EdgeRoom I → EdgeRoom I →
+    Status → Type 0
+ListingEnds whole limit fill subject clip old new s = AreEdgesWritten whole fill subject clip old new s
+    ⊎ ((new ≡ old) × IsListingRefused whole limit fill subject clip s)

@@ -1,0 +1,157 @@
+//! The edges of the arrangement of contours in arrays.
+
+ghost use Rattle.std.specs.Prelude.{◌≡◌, All, IfOk, IfErr, IsOkUnless, MatchResult, map};
+ghost use Rattle.overlay_arrange.specs.Vectors.{plain_vector};
+ghost use Rattle.overlay_builder.specs.GivenPaths.{subject_and_clip};
+ghost use Rattle.overlay_geom.specs.Flat.{paths_in};
+ghost use Rattle.overlay_geom.specs.Points.{AllInRange};
+ghost use Rattle.i_overlay.specs.OneShot.{MayRefusePaths};
+ghost use Rattle.polyover_c.specs.Listed.{AreEdgesIn, AreEdgesOfPaths, AreEdgesPut, AreListed};
+ghost use Rattle.polyover_c.specs.Listed.{IsListingRefused, ListingEnds};
+
+use crate::given::Contours;
+use crate::numbers::fill_of;
+use crate::status::Status;
+use i_overlay::fill_rule::FillRule;
+use i_overlay::overlay::Overlay;
+use i_overlay::vector::edge::DataVectorEdge;
+use overlay_geom::error::OverlayError;
+use overlay_geom::flat::contours::FlatContoursBuffer;
+use overlay_geom::integer::OverlayInt;
+use overlay_geom::number::IntNumber;
+use polyover_arrays::read::read_contours;
+use polyover_arrays::write::write_over;
+use std::alloc::Global;
+
+// Edges as arrays: of each the coordinates of both ends, and its fill bits.
+#[derive(Drop)]
+struct ListedEdges<I> {
+    coordinates: Vec<I, Global>,
+    fills: Vec<u8, Global>,
+}
+
+/// The edges of the arrangement of both shapes, with the sides that are filled under the fill rule with the number, put
+/// into the arrays.
+#[tactic(auto, using(crate::proofs::Listed::edges_written_end, crate::proofs::Listed::edges_refused_end))]
+pub(crate) fn edges_arrays<I: OverlayInt>(
+    alloc: Global,
+    fill: u32,
+    subject: &Contours<I>,
+    clip: &Contours<I>,
+    coordinates: &mut [I],
+    fills: &mut [u8],
+    count: &mut usize,
+) -> Status
+    ensures { ListingEnds I.whole I.limit fill
+        (record { coordinates = subject.now.coordinates.now; ends = subject.now.ends.now })
+        (record { coordinates = clip.now.coordinates.now; ends = clip.now.ends.now })
+        (record {
+          arrays = record { coordinates = coordinates.old; fills = fills.old };
+          count = count.old;
+        })
+        (record {
+          arrays = record { coordinates = coordinates.new; fills = fills.new };
+          count = count.new;
+        })
+        result }
+{
+    match edges_listed(alloc, fill, subject, clip) {
+        Ok(listed) => put(&listed, coordinates, fills, count),
+        Err(status) => status,
+    }
+}
+
+// Puts the edges into the arrays, and their number: `Done`; or `TooSmall`, and the arrays stay as they are.
+fn put<I: IntNumber>(
+    listed: &ListedEdges<I>,
+    coordinates: &mut [I],
+    fills: &mut [u8],
+    count: &mut usize,
+) -> Status
+    ensures { AreEdgesPut
+        (record { coordinates = listed.now.coordinates.items; fills = listed.now.fills.items })
+        (record {
+          arrays = record { coordinates = coordinates.old; fills = fills.old };
+          count = count.old;
+        })
+        (record {
+          arrays = record { coordinates = coordinates.new; fills = fills.new };
+          count = count.new;
+        })
+        result }
+{
+    *count = listed.fills.len();
+    if listed.coordinates.len() > coordinates.len() || listed.fills.len() > fills.len() {
+        return Status::TooSmall;
+    }
+    write_over(coordinates, &listed.coordinates);
+    write_over(fills, &listed.fills);
+    Status::Done
+}
+
+// The edges as arrays, or why there are none.
+#[tactic(auto, using(crate::proofs::Listed::subject_unlisted, crate::proofs::Listed::clip_unlisted, crate::proofs::Listed::listing_refused, crate::proofs::Listed::edges_answered))]
+fn edges_listed<I: OverlayInt>(
+    alloc: Global,
+    fill: u32,
+    subject: &Contours<I>,
+    clip: &Contours<I>,
+) -> Result<ListedEdges<I>, Status>
+    ensures { MatchResult result
+        (λ l. AreEdgesIn I.whole fill
+        (record { coordinates = subject.now.coordinates.now; ends = subject.now.ends.now })
+        (record { coordinates = clip.now.coordinates.now; ends = clip.now.ends.now })
+        (record { coordinates = l.coordinates.items; fills = l.fills.items }))
+        (IsListingRefused I.whole I.limit fill
+        (record { coordinates = subject.now.coordinates.now; ends = subject.now.ends.now })
+        (record { coordinates = clip.now.coordinates.now; ends = clip.now.ends.now })) }
+{
+    let fill = fill_of(fill)?;
+    let subject = read_contours(alloc, subject.coordinates, subject.ends)?;
+    let clip = read_contours(alloc, clip.coordinates, clip.ends)?;
+    let edges = arranged_edges(alloc, &subject, &clip, fill)?;
+    let listed = listed(alloc, &edges)?;
+    Ok(listed)
+}
+
+// The edges of the arrangement, with the sides that are filled.
+fn arranged_edges<I: OverlayInt>(
+    alloc: Global,
+    subject: &FlatContoursBuffer<I, Global>,
+    clip: &FlatContoursBuffer<I, Global>,
+    fill: FillRule,
+) -> Result<Vec<DataVectorEdge<I, ()>, Global>, OverlayError>
+    requires subject_in_range { All (AllInRange I.limit)
+        (paths_in I.whole subject.now.points.items subject.now.ranges.items) }
+    requires clip_in_range { All (AllInRange I.limit) (paths_in I.whole clip.now.points.items clip.now.ranges.items) }
+    ensures edges { IfOk result (λ v. AreEdgesOfPaths fill
+        (subject_and_clip (paths_in I.whole subject.now.points.items subject.now.ranges.items)
+        (paths_in I.whole clip.now.points.items clip.now.ranges.items)) (map (plain_vector I.whole) v.items)) }
+    ensures err { IfErr result (MayRefusePaths
+        (subject_and_clip (paths_in I.whole subject.now.points.items subject.now.ranges.items)
+        (paths_in I.whole clip.now.points.items clip.now.ranges.items))) }
+{
+    let mut overlay = Overlay::from_subj_and_clip(alloc, subject, clip)?;
+    overlay.build_separate_vectors(fill)
+}
+
+// The edges as arrays. The only refusal is `Memory`.
+fn listed<I: IntNumber>(
+    alloc: Global,
+    edges: &[DataVectorEdge<I, ()>],
+) -> Result<ListedEdges<I>, OverlayError>
+    ensures listed { IfOk result (λ l. AreListed I.whole (map (plain_vector I.whole) edges.now)
+        (record { coordinates = l.coordinates.items; fills = l.fills.items })) }
+    ensures only { IsOkUnless result OverlayError.Memory }
+{
+    let mut coordinates = Vec::new(alloc);
+    let mut fills = Vec::new(alloc);
+    for edge in edges {
+        coordinates.push(edge.a.x)?;
+        coordinates.push(edge.a.y)?;
+        coordinates.push(edge.b.x)?;
+        coordinates.push(edge.b.y)?;
+        fills.push(edge.fill)?;
+    }
+    Ok(ListedEdges { coordinates, fills })
+}

@@ -1,0 +1,82 @@
+//! The edges of an arrangement.
+
+ghost use Rattle.std.specs.Prelude.{◌≡◌};
+ghost use Rattle.polyover_c.specs.Listed.{ListingEnds};
+ghost use Rattle.polyover_c.specs.Statuses.{code_of};
+ghost use Rattle.polyover_c.specs.declared.status.Status.{Status};
+
+use crate::arrays::{Contours32, Contours64};
+use crate::edges::edges_arrays;
+use crate::given::Contours;
+use std::alloc::Global;
+
+/// The edges of the arrangement of the subject and the clip, with the sides that are filled under the fill rule, put
+/// into the arrays, and their number: the code of a status.
+#[unsafe(no_mangle)]
+pub extern "C" fn polyover_edges(
+    alloc: Global,
+    fill: u32,
+    subject: &Contours64,
+    clip: &Contours64,
+    coordinates: &mut [i64],
+    fills: &mut [u8],
+    count: &mut usize,
+) -> u32
+    ensures { (s : Status) × ListingEnds (λ z. z) 4611686018427387903 fill
+        (record { coordinates = subject.now.coordinates.now; ends = subject.now.ends.now })
+        (record { coordinates = clip.now.coordinates.now; ends = clip.now.ends.now })
+        (record {
+          arrays = record { coordinates = coordinates.old; fills = fills.old };
+          count = count.old;
+        })
+        (record {
+          arrays = record { coordinates = coordinates.new; fills = fills.new };
+          count = count.new;
+        })
+        s × (result ≡ code_of s) }
+{
+    let subject = Contours {
+        coordinates: subject.coordinates,
+        ends: subject.ends,
+    };
+    let clip = Contours {
+        coordinates: clip.coordinates,
+        ends: clip.ends,
+    };
+    edges_arrays(alloc, fill, &subject, &clip, coordinates, fills, count).code()
+}
+
+/// The same of 32-bit coordinates.
+#[unsafe(no_mangle)]
+pub extern "C" fn polyover_edges_32(
+    alloc: Global,
+    fill: u32,
+    subject: &Contours32,
+    clip: &Contours32,
+    coordinates: &mut [i32],
+    fills: &mut [u8],
+    count: &mut usize,
+) -> u32
+    ensures { (s : Status) × ListingEnds (λ z. z) 1073741823 fill
+        (record { coordinates = subject.now.coordinates.now; ends = subject.now.ends.now })
+        (record { coordinates = clip.now.coordinates.now; ends = clip.now.ends.now })
+        (record {
+          arrays = record { coordinates = coordinates.old; fills = fills.old };
+          count = count.old;
+        })
+        (record {
+          arrays = record { coordinates = coordinates.new; fills = fills.new };
+          count = count.new;
+        })
+        s × (result ≡ code_of s) }
+{
+    let subject = Contours {
+        coordinates: subject.coordinates,
+        ends: subject.ends,
+    };
+    let clip = Contours {
+        coordinates: clip.coordinates,
+        ends: clip.ends,
+    };
+    edges_arrays(alloc, fill, &subject, &clip, coordinates, fills, count).code()
+}

@@ -1,0 +1,62 @@
+//! How a subject and a clip lie to each other.
+
+ghost use Rattle.std.specs.Prelude.{◌≡◌};
+ghost use Rattle.polyover_c.specs.Related.{RelatingEnds};
+ghost use Rattle.polyover_c.specs.Statuses.{code_of};
+ghost use Rattle.polyover_c.specs.declared.status.Status.{Status};
+
+use crate::arrays::{Contours32, Contours64};
+use crate::given::Contours;
+use crate::relate::relate_arrays;
+use std::alloc::Global;
+
+/// How the subject and the clip lie to each other under the fill rule, written as a bit for each relation that holds:
+/// the code of a status.
+#[unsafe(no_mangle)]
+pub extern "C" fn polyover_relate(
+    alloc: Global,
+    fill: u32,
+    subject: &Contours64,
+    clip: &Contours64,
+    relations: &mut u32,
+) -> u32
+    ensures { (s : Status) × RelatingEnds (λ z. z) 4611686018427387903 fill
+        (record { coordinates = subject.now.coordinates.now; ends = subject.now.ends.now })
+        (record { coordinates = clip.now.coordinates.now; ends = clip.now.ends.now })
+        relations.old relations.new s × (result ≡ code_of s) }
+{
+    let subject = Contours {
+        coordinates: subject.coordinates,
+        ends: subject.ends,
+    };
+    let clip = Contours {
+        coordinates: clip.coordinates,
+        ends: clip.ends,
+    };
+    relate_arrays(alloc, fill, &subject, &clip, relations).code()
+}
+
+/// The same of 32-bit coordinates.
+#[unsafe(no_mangle)]
+pub extern "C" fn polyover_relate_32(
+    alloc: Global,
+    fill: u32,
+    subject: &Contours32,
+    clip: &Contours32,
+    relations: &mut u32,
+) -> u32
+    ensures { (s : Status) × RelatingEnds (λ z. z) 1073741823 fill
+        (record { coordinates = subject.now.coordinates.now; ends = subject.now.ends.now })
+        (record { coordinates = clip.now.coordinates.now; ends = clip.now.ends.now })
+        relations.old relations.new s × (result ≡ code_of s) }
+{
+    let subject = Contours {
+        coordinates: subject.coordinates,
+        ends: subject.ends,
+    };
+    let clip = Contours {
+        coordinates: clip.coordinates,
+        ends: clip.ends,
+    };
+    relate_arrays(alloc, fill, &subject, &clip, relations).code()
+}
