@@ -237,6 +237,10 @@ static void TEST(simplifying)(void) {
 
 #include "tests_of_edges.h"
 
+#include "tests_of_lines.h"
+
+#include "tests_of_links.h"
+
 static void TEST(all)(void) {
     TEST(ranges)();
     TEST(ends)();
@@ -252,4 +256,11 @@ static void TEST(all)(void) {
     TEST(locating_refused)();
     TEST(edges)();
     TEST(listing_refused)();
+    TEST(slices)();
+    TEST(slice_statuses)();
+    TEST(clips)();
+    TEST(clipped_path)();
+    TEST(clip_statuses)();
+    TEST(hierarchies)();
+    TEST(hierarchy_statuses)();
 }

@@ -38,9 +38,9 @@ enum {
     POLYOVER_NOT_RESOLVED = 4, /* two steps of a contour share a point that is not an end of both */
     POLYOVER_BAD_RULE = 5,     /* no overlay rule has the number */
     POLYOVER_BAD_FILL = 6,     /* no fill rule has the number */
-    POLYOVER_BAD_OPTION = 7,   /* a direction, keep or ogc that is neither 0 nor 1 */
+    POLYOVER_BAD_OPTION = 7,   /* a direction, keep, ogc, invert or boundary that is neither 0 nor 1 */
     POLYOVER_NOT_SETTLED = 8,  /* edges still meet in points that are no ends of both after 64 rounds of splitting */
-    /* the edges weigh 2^31 or more: those of the contours, or the pieces that a round of splitting gives */
+    /* the edges weigh 2^31 or more: those of contours and lines, or the pieces that a round of splitting gives */
     POLYOVER_TOO_MANY_EDGES = 9,
     POLYOVER_TOO_SMALL = 10 /* an array for the answer is too small; the counts tell what it takes */
 };
@@ -140,6 +140,30 @@ typedef struct {
     size_t end_count;
 } polyover_contours_32;
 
+/* Open paths, by the same fields: each runs from point to point, and not from its last point back to its first. A line
+ * that is closed has its first point once more at the end. */
+typedef polyover_contours polyover_paths;
+typedef polyover_contours_32 polyover_paths_32;
+
+/* Which parts of lines a clip keeps. All zero keeps those that lie inside the shape, which it fills on both sides. */
+typedef struct {
+    uint32_t invert;   /* 1: those outside, which it fills on no side; 0: those inside */
+    uint32_t boundary; /* 1: also those on the boundary, which it fills on one side; 0: not these */
+} polyover_clip_options;
+
+/* How much a clip leaves: what its arrays hold, or have to. */
+typedef struct {
+    size_t coordinates; /* two for each point */
+    size_t paths;
+} polyover_path_counts;
+
+/* A shape that lies in a hole of another one. Shapes and contours are counted from 0 in the order of the answer. */
+typedef struct {
+    size_t parent_shape;   /* the shape to which the hole belongs */
+    size_t parent_contour; /* the hole: its place among the contours of all shapes */
+    size_t child_shape;    /* the shape that lies in it */
+} polyover_link;
+
 /* 1 if each coordinate is in the coordinate range, else 0. It takes no memory. */
 uint32_t polyover_in_range(const int64_t *coordinates, size_t coordinate_count);
 uint32_t polyover_in_range_32(const int32_t *coordinates, size_t coordinate_count);
@@ -232,6 +256,65 @@ polyover_status polyover_edges(polyover_fill fill, const polyover_contours *subj
 polyover_status polyover_edges_32(polyover_fill fill, const polyover_contours_32 *subject,
                                   const polyover_contours_32 *clip, int32_t *coordinates, size_t coordinate_room,
                                   uint8_t *fills, size_t fill_room, size_t *count);
+
+/* The shapes of `polyover_overlay`, and beside them in `links` one link for each shape that lies in a hole of another
+ * one. A shape lies in a hole where the next edge below its outline's leftmost lowest point that is filled below is one
+ * of the hole, or of the outline of another shape that lies in it. No shape is the child of two links. They are in order:
+ * by parent_shape, then by parent_contour, then by child_shape.
+ *
+ * On POLYOVER_OK the first *link_count items of `links` are these. `links` and `link_count` are what an array for the
+ * answer and counts are there: POLYOVER_TOO_SMALL comes exactly where one of the four arrays has no room, and then all
+ * four stay as they are, and counts and *link_count tell what it takes; after any other status nothing is changed.
+ * Statuses are those of `polyover_overlay`, tested in the same order. */
+polyover_status polyover_hierarchy(polyover_rule rule, polyover_fill fill, const polyover_options *options,
+                                   const polyover_contours *subject, const polyover_contours *clip,
+                                   int64_t *coordinates, size_t coordinate_room, size_t *contour_ends,
+                                   size_t contour_room, size_t *shape_ends, size_t shape_room, polyover_link *links,
+                                   size_t link_room, polyover_counts *counts, size_t *link_count);
+polyover_status polyover_hierarchy_32(polyover_rule rule, polyover_fill fill, const polyover_options_32 *options,
+                                      const polyover_contours_32 *subject, const polyover_contours_32 *clip,
+                                      int32_t *coordinates, size_t coordinate_room, size_t *contour_ends,
+                                      size_t contour_room, size_t *shape_ends, size_t shape_room,
+                                      polyover_link *links, size_t link_room, polyover_counts *counts,
+                                      size_t *link_count);
+
+/* The shapes into which open paths, `lines`, cut what the contours of the subject fill. A shape is its outline,
+ * counter-clockwise, and then its holes, clockwise. Points of contours on one line with their two neighbours are dropped
+ * before they are cut, and no point after that. A part of a line that ends inside cuts nothing: it goes, and the point
+ * in which it meets an edge stays. A path of one point or none is none.
+ *
+ * Arrays, counts and statuses are as in `polyover_overlay`. Tested first, in this order: POLYOVER_BAD_FILL; then of the
+ * subject, and then of the lines, POLYOVER_BAD_ENDS and POLYOVER_OUT_OF_RANGE. POLYOVER_NOT_SETTLED,
+ * POLYOVER_TOO_MANY_EDGES, which counts the steps of lines too, POLYOVER_TOO_SMALL and POLYOVER_MEMORY are left. */
+polyover_status polyover_slice(polyover_fill fill, const polyover_contours *subject, const polyover_paths *lines,
+                               int64_t *coordinates, size_t coordinate_room, size_t *contour_ends,
+                               size_t contour_room, size_t *shape_ends, size_t shape_room, polyover_counts *counts);
+polyover_status polyover_slice_32(polyover_fill fill, const polyover_contours_32 *subject,
+                                  const polyover_paths_32 *lines, int32_t *coordinates, size_t coordinate_room,
+                                  size_t *contour_ends, size_t contour_room, size_t *shape_ends, size_t shape_room,
+                                  polyover_counts *counts);
+
+/* The parts of open paths, `lines`, that a clip by the shape keeps, as paths: of what the contours of the shape fill
+ * those inside, or as the options say. A part that several lines run over comes once in each direction in which one
+ * does. A path begins with the first part in order, by the smaller and then the larger end of its edge, that no path
+ * has, and goes on by the first such part that leaves its last point, until there is none; where that part runs to its
+ * smaller end the path ends with it, and is made backwards in the same way.
+ *
+ * On POLYOVER_OK the first counts->coordinates items of `coordinates` are the points, x before y, path by path, and the
+ * first counts->paths items of `path_ends` are how many points there are up to the end of each path. The items behind
+ * them stay. POLYOVER_TOO_SMALL comes exactly where one of the arrays has no room for that: they stay as they are, and
+ * counts tells what it takes. After any other status nothing is changed, counts neither.
+ *
+ * Tested first, in this order: POLYOVER_BAD_FILL; POLYOVER_BAD_OPTION, for an invert or boundary that is neither 0 nor 1;
+ * then of the shape, and then of the lines, POLYOVER_BAD_ENDS and POLYOVER_OUT_OF_RANGE. POLYOVER_NOT_SETTLED,
+ * POLYOVER_TOO_MANY_EDGES, which counts the steps of lines too, and POLYOVER_MEMORY are left. */
+polyover_status polyover_clip(polyover_fill fill, const polyover_clip_options *options, const polyover_contours *shape,
+                              const polyover_paths *lines, int64_t *coordinates, size_t coordinate_room,
+                              size_t *path_ends, size_t path_room, polyover_path_counts *counts);
+polyover_status polyover_clip_32(polyover_fill fill, const polyover_clip_options *options,
+                                 const polyover_contours_32 *shape, const polyover_paths_32 *lines,
+                                 int32_t *coordinates, size_t coordinate_room, size_t *path_ends, size_t path_room,
+                                 polyover_path_counts *counts);
 
 #ifdef __cplusplus
 }

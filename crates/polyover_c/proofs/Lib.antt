@@ -1,9 +1,15 @@
 pub mod AskedAgain
+pub mod Clipped
 pub mod Endings
 pub mod Filled
+pub mod Hierarchies
+pub mod Lines
+pub mod LinkedEndings
 pub mod Listed
 pub mod Located
 pub mod Overlays
+pub mod PathEndings
 pub mod Related
 pub mod ShapesRead
 pub mod Simplified
+pub mod Sliced

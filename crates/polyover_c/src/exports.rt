@@ -1,5 +1,8 @@
-//! Further calls of C, each at 64 and at 32 bits.
+//! Calls of C, each with both widths in a module of its own.
 
+pub mod clip;
 pub mod edges;
+pub mod hierarchy;
 pub mod locate;
 pub mod relate;
+pub mod slice;

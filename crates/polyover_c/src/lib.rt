@@ -3,17 +3,25 @@
 
 mod answer;
 pub mod arrays;
+mod clip;
+pub mod clip_options;
 pub mod counts;
 mod edges;
 pub mod exports;
 pub mod exports_32;
 pub mod exports_64;
 mod given;
+mod hierarchy;
+mod linked_answer;
+pub mod links;
 mod locate;
 mod numbers;
 pub mod options;
 mod overlay;
+mod path_answer;
+pub mod path_counts;
 mod relate;
 mod shape;
 mod simplify;
+mod slice;
 mod status;

@@ -1,0 +1,61 @@
+-- What the answer of an overlay says of the arrays that tells of the links between its shapes.
+use Rattle.std.proofs.Common.{◌≡◌, ℕ, ℤ, false, List, [], ◌∷◌, map, refl, sym, ap, ap₂, subst, ◌∙◌}
+use Rattle.std.specs.Int.{Width}
+use Rattle.std.specs.Prelude.{Result, Ok, Err, IfOk, OnOk}
+use Rattle.overlay_arrange.specs.Arranged.{IsArranged, most_rounds}
+use Rattle.overlay_arrange.specs.declared.fill_rule.FillRule.{FillRule}
+use Rattle.overlay_arrange.specs.declared.options.IntOverlayOptions.{IntOverlayOptions}
+use Rattle.overlay_arrange.specs.declared.overlay_rule.OverlayRule.{OverlayRule}
+use Rattle.overlay_builder.specs.GivenPaths.{GivenPath, added_paths, subject_and_clip}
+use Rattle.overlay_builder.specs.PathLists.{HoldsPaths}
+use Rattle.overlay_extract.specs.ChildLinks.{plain_link}
+use Rattle.overlay_extract.specs.PlacedResults.{IsHierarchy}
+use Rattle.overlay_extract.specs.Results.{Asked, asked}
+use Rattle.overlay_extract.specs.declared.child_link.ChildLink.{ChildLink as LinkTaken}
+use Rattle.overlay_geom.specs.Edges.{CountedEdge}
+use Rattle.overlay_geom.specs.Plane.{Point}
+use Rattle.overlay_plane.specs.Islands.{ChildLink}
+use Rattle.polyover_c.specs.Asked.{rule_of, fill_of, options_of}
+use Rattle.polyover_c.specs.Given.{Contours, paths_of}
+use Rattle.polyover_c.specs.Hierarchies.{IsHierarchyOfPaths, IsLinkedOverlay}
+use Rattle.polyover_c.specs.Linked.{link_of, link_at, LinkedFlat, AreFlatLinked}
+use Rattle.polyover_c.specs.Written.{AreFlattened}
+use Rattle.polyover_c.specs.declared.numbers.OptionNumbers.{OptionNumbers}
+
+-- a hierarchy over the edges that a builder holds is one of the paths that it was given
+pub hierarchy_of_paths : {V E : Type 0} (r : Result V E) (shapes : V → List (List (List Point)))
+    (links : V → List ChildLink) (q : Asked) (paths : List GivenPath) (content edges : List CountedEdge) →
+    HoldsPaths (added_paths false paths) content → OnOk r (IsArranged most_rounds content edges) →
+    IfOk r (λ v. IsHierarchy q edges (shapes v) (links v)) →
+    IfOk r (λ v. IsHierarchyOfPaths q paths (shapes v) (links v))
+hierarchy_of_paths (Ok v) shapes links q paths content edges holds arranged is =
+    record { content = content; edges = edges; holds = holds; arranged = arranged; is_hierarchy = is }
+hierarchy_of_paths (Err e) shapes links q paths content edges holds arranged is = tt
+
+-- the links as C has them are those that are answered
+links_at : (links : List LinkTaken) → map link_at (map link_of links) ≡ map plain_link links
+links_at [] = refl
+links_at (l ∷ ls) = ap (λ rest. plain_link l ∷ rest) (links_at ls)
+
+pub hierarchy_answered : {I U : Type 0} (whole : I → ℤ) (rule fill : ℕ) (options : OptionNumbers U)
+    (subject clip : Contours I) (width : Width) (natural : U → ℕ) (r : OverlayRule) (f : FillRule)
+    (o : IntOverlayOptions U) (p q : List (List Point)) (shapes : List (List (List Point))) (links : List LinkTaken)
+    (flat : LinkedFlat I) → r ≡ rule_of rule → f ≡ fill_of fill → o ≡ options_of options → p ≡ paths_of whole subject →
+    q ≡ paths_of whole clip →
+    IsHierarchyOfPaths (asked width natural f r o) (subject_and_clip p q) shapes (map plain_link links) →
+    AreFlattened whole shapes flat.shapes → flat.links ≡ map link_of links →
+    AreFlatLinked (IsLinkedOverlay whole width natural rule fill options subject clip) whole flat
+hierarchy_answered whole rule fill options subject clip width natural r f o p q shapes links flat same_r same_f same_o
+    same_p same_q is flattened same_links =
+    let wanted = asked width natural (fill_of fill) (rule_of rule) (options_of options) in
+    record {
+      shapes = shapes;
+      answer = subst (IsLinkedOverlay whole width natural rule fill options subject clip shapes)
+          (sym (ap (map link_at) same_links ∙ links_at links))
+          (subst (λ paths. IsHierarchyOfPaths wanted paths shapes (map plain_link links))
+          (ap₂ subject_and_clip same_p same_q)
+          (subst (λ a. IsHierarchyOfPaths a (subject_and_clip p q) shapes (map plain_link links))
+          (ap₂ (λ x y. asked width natural x y o) same_f same_r
+          ∙ ap (asked width natural (fill_of fill) (rule_of rule)) same_o) is));
+      flattened = flattened;
+    }

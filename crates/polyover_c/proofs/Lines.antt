@@ -1,0 +1,42 @@
+-- The refusals of a call on lines over a shape.
+use Rattle.std.proofs.Common.{◌≡◌, ℕ, ℤ, List, inl, inr, ap₂, subst}
+use Rattle.overlay_geom.specs.Plane.{Point}
+use Rattle.overlay_geom.specs.declared.error.OverlayError.{OverlayError}
+use Rattle.overlay_geom.specs.declared.error.OverlayError.TheVariants as error
+use Rattle.overlay_string.specs.OneShot.{shape_and_strings, MayRefusePaths}
+use Rattle.polyover_arrays.specs.declared.fault.Fault.{Fault}
+use Rattle.polyover_arrays.specs.declared.fault.Fault.TheVariants as fault
+use Rattle.polyover_c.specs.Given.{Contours, paths_of, AreGiven, IsFaulty}
+use Rattle.polyover_c.specs.Lines.{shape_and_lines, AreLinesRefused}
+use Rattle.polyover_c.specs.Statuses.{status_of_fault, status_of_error}
+
+module _ {I : Type 0} (whole : I → ℤ) (limit : ℕ) (fill option known : Type 0)
+    (shape lines : Contours I) where
+  pub shape_refused : (f : Fault) → known → IsFaulty whole limit shape f →
+      AreLinesRefused whole limit fill option known shape lines (status_of_fault f)
+  shape_refused fault.Memory are_known given = (are_known, given)
+  shape_refused fault.Ends are_known faulty = (are_known, inl faulty)
+  shape_refused fault.Range are_known faulty = (are_known, inl faulty)
+
+  pub lines_refused : (f : Fault) → known → AreGiven whole limit shape → IsFaulty whole limit lines f →
+      AreLinesRefused whole limit fill option known shape lines (status_of_fault f)
+  lines_refused fault.Memory are_known given faulty = (are_known, given)
+  lines_refused fault.Ends are_known given faulty = (are_known, inr (given, faulty))
+  lines_refused fault.Range are_known given faulty = (are_known, inr (given, faulty))
+
+  -- what the query refuses, of what is read
+  read_refused : (e : OverlayError) (p q : List (List Point)) → p ≡ paths_of whole shape → q ≡ paths_of whole lines →
+      MayRefusePaths (shape_and_strings p q) e → MayRefusePaths (shape_and_lines whole shape lines) e
+  read_refused e p q same_p same_q may =
+      subst (λ paths. MayRefusePaths paths e) (ap₂ shape_and_strings same_p same_q) may
+
+  pub query_refused : (e : OverlayError) (p q : List (List Point)) → known → AreGiven whole limit shape →
+      AreGiven whole limit lines → p ≡ paths_of whole shape → q ≡ paths_of whole lines →
+      MayRefusePaths (shape_and_strings p q) e →
+      AreLinesRefused whole limit fill option known shape lines (status_of_error e)
+  query_refused error.Memory p q are_known s l same_p same_q may = (are_known, s)
+  query_refused error.NotSettled p q are_known s l same_p same_q may =
+      (are_known, (s, (l, read_refused error.NotSettled p q same_p same_q may)))
+  query_refused error.TooManyEdges p q are_known s l same_p same_q may =
+      (are_known, (s, (l, read_refused error.TooManyEdges p q same_p same_q may)))
+  query_refused error.Failed p q are_known s l same_p same_q may = (are_known, s)

@@ -1,0 +1,38 @@
+-- How a clip of arrays ends.
+use Rattle.std.specs.Prelude.{◌==◌, ◌<◌, ◌≤◌, ℕ, ℤ, List}
+use Rattle.overlay_geom.specs.Plane.{Point}
+use Rattle.overlay_string.specs.OneShot.{AreClippedOfPaths}
+use Rattle.overlay_string.specs.declared.clip_rule.ClipRule.{ClipRule}
+use Rattle.polyover_c.specs.Asked.{fill_of}
+use Rattle.polyover_c.specs.Given.{Contours}
+use Rattle.polyover_c.specs.Lines.{shape_and_lines, AreLinesRefused}
+use Rattle.polyover_c.specs.WrittenPaths.{PathRoom, EndsWithPaths}
+use Rattle.polyover_c.specs.declared.clip_options.ClipOptions.{ClipOptions}
+use Rattle.polyover_c.specs.declared.status.Status.{Status}
+
+-- the clip rule with the numbers, where they are below 2
+abbrev pub clip_rule_of : ClipOptions → ClipRule
+clip_rule_of o = record { invert = o.invert == 1; boundary_included = o.boundary == 1 }
+
+-- each of them is below 2
+pub record AreClipChoices (o : ClipOptions) : Type 0 where
+  pub invert : o.invert < 2
+  pub boundary : o.boundary < 2
+
+-- the paths are those that a clip of the lines by the shape leaves, as the numbers ask
+abbrev pub AreClips : {I : Type 0} → (I → ℤ) → ℕ → ClipOptions → Contours I → Contours I → List (List Point) → Type 0
+AreClips whole fill options shape lines paths =
+    AreClippedOfPaths (fill_of fill) (clip_rule_of options) (shape_and_lines whole shape lines) paths
+
+-- a clip is refused so: a number stands for nothing, the fill rule's first; else the arrays have a fault, those of the
+-- shape first; else the query is refused
+abbrev pub IsClipRefused : {I : Type 0} → (I → ℤ) → ℕ → ℕ → ClipOptions → Contours I → Contours I → Status → Type 0
+IsClipRefused whole limit fill options =
+    AreLinesRefused whole limit (4 ≤ fill) ((fill < 4) × ¬ (AreClipChoices options))
+    ((fill < 4) × AreClipChoices options)
+
+-- how it ends
+abbrev pub ClipEnds : {I : Type 0} → (I → ℤ) → ℕ → ℕ → ClipOptions → Contours I → Contours I → PathRoom I →
+    PathRoom I → Status → Type 0
+ClipEnds whole limit fill options shape lines = EndsWithPaths (AreClips whole fill options shape lines)
+    (IsClipRefused whole limit fill options shape lines) whole

@@ -1,0 +1,77 @@
+-- Shapes and the links between them in arrays of a caller.
+use Rattle.std.specs.Prelude.{◌≡◌, ◌≤◌, ◌⊎◌, ℕ, ℤ, List, map, length}
+use Rattle.overlay_extract.specs.declared.child_link.ChildLink.{ChildLink as LinkTaken}
+use Rattle.overlay_geom.specs.Plane.{Point}
+use Rattle.overlay_plane.specs.Islands.{ChildLink}
+use Rattle.polyover_arrays.specs.Arrays.{written_over}
+use Rattle.polyover_c.specs.Put.{IsPutSo}
+use Rattle.polyover_c.specs.Written.{Flat, Room, AreFlattened, HasRoom, counts_of, written_into}
+use Rattle.polyover_c.specs.declared.links.Link.{Link}
+use Rattle.polyover_c.specs.declared.status.Status.{Status}
+
+-- a link as C has it, of one as it is answered, and the link that it is
+abbrev pub link_of : LinkTaken → Link
+link_of l = record {
+  parent_shape = l.parent_shape_index;
+  parent_contour = l.parent_contour_index;
+  child_shape = l.child_shape_index;
+}
+
+abbrev pub link_at : Link → ChildLink
+link_at l = record {
+  parent_shape = l.parent_shape;
+  parent_contour = l.parent_contour;
+  child_shape = l.child_shape;
+}
+
+-- shapes in arrays, and their links in another one
+pub record LinkedFlat (I : Type 0) : Type 0 where
+  pub shapes : Flat I
+  pub links : List Link
+
+-- the arrays that a caller has for them, and where their counts go
+pub record LinkedRoom (I : Type 0) : Type 0 where
+  pub shapes : Room I
+  pub links : List Link
+  pub link_count : ℕ
+
+-- each array has a place for each item
+pub record HasLinkedRoom {I : Type 0} (flat : LinkedFlat I) (room : LinkedRoom I) : Type 0 where
+  pub shapes : HasRoom flat.shapes room.shapes.arrays
+  pub links : length flat.links ≤ length room.links
+
+-- what becomes of the arrays where shapes and links are there: these are written, or one of the arrays is too small,
+-- and all stay; the counts are those of the shapes and the links
+abbrev pub ArePutLinked : {I : Type 0} → LinkedFlat I → LinkedRoom I → LinkedRoom I → Status → Type 0
+ArePutLinked flat old new = IsPutSo (HasLinkedRoom flat old)
+    (record {
+      shapes = record { arrays = written_into flat.shapes old.shapes.arrays; counts = counts_of flat.shapes };
+      links = written_over flat.links old.links;
+      link_count = length flat.links;
+    })
+    (record {
+      shapes = record { arrays = old.shapes.arrays; counts = counts_of flat.shapes };
+      links = old.links;
+      link_count = length flat.links;
+    })
+    new
+
+-- such shapes and links stand in the arrays
+pub record AreFlatLinked {I : Type 0} (IsAnswer : List (List (List Point)) → List ChildLink → Type 0) (whole : I → ℤ)
+    (flat : LinkedFlat I) : Type 0 where
+  pub shapes : List (List (List Point))
+  pub answer : IsAnswer shapes (map link_at flat.links)
+  pub flattened : AreFlattened whole shapes flat.shapes
+
+-- arrays in which such shapes and links stand are put into those of the caller
+pub record AreSuchLinkedPut {I : Type 0} (IsAnswer : List (List (List Point)) → List ChildLink → Type 0)
+    (whole : I → ℤ) (old new : LinkedRoom I) (s : Status) : Type 0 where
+  pub flat : LinkedFlat I
+  pub answers : AreFlatLinked IsAnswer whole flat
+  pub put : ArePutLinked flat old new s
+
+-- so a call ends: such shapes and links are put into the arrays, or it is refused, and nothing of them changes
+abbrev pub EndsWithLinked : {I : Type 0} → (List (List (List Point)) → List ChildLink → Type 0) → (Status → Type 0) →
+    (I → ℤ) → LinkedRoom I → LinkedRoom I → Status → Type 0
+EndsWithLinked IsAnswer refused whole old new s =
+    AreSuchLinkedPut IsAnswer whole old new s ⊎ ((new ≡ old) × refused s)

@@ -1,0 +1,94 @@
+//! Clips from C, at 64 and at 32 bits.
+
+ghost use Rattle.std.specs.Prelude.{◌≡◌};
+ghost use Rattle.polyover_c.specs.Clipped.{ClipEnds};
+ghost use Rattle.polyover_c.specs.Statuses.{code_of};
+ghost use Rattle.polyover_c.specs.declared.status.Status.{Status};
+
+use crate::arrays::{Contours32, Contours64};
+use crate::clip::clip_arrays;
+use crate::clip_options::ClipOptions;
+use crate::given::Contours;
+use crate::path_counts::PathCounts;
+use std::alloc::Global;
+
+/// The parts of the lines, which are open paths, that a clip by what the contours of the shape fill under the fill rule
+/// keeps, as the options ask, put into the arrays, and their counts: the code of a status.
+#[unsafe(no_mangle)]
+pub extern "C" fn polyover_clip(
+    alloc: Global,
+    fill: u32,
+    options: &ClipOptions,
+    shape: &Contours64,
+    lines: &Contours64,
+    coordinates: &mut [i64],
+    ends: &mut [usize],
+    counts: &mut PathCounts,
+) -> u32
+    ensures { (s : Status) × ClipEnds (λ z. z) 4611686018427387903 fill options.now
+        (record { coordinates = shape.now.coordinates.now; ends = shape.now.ends.now })
+        (record { coordinates = lines.now.coordinates.now; ends = lines.now.ends.now })
+        (record { arrays = record { coordinates = coordinates.old; ends = ends.old }; counts = counts.old })
+        (record { arrays = record { coordinates = coordinates.new; ends = ends.new }; counts = counts.new })
+        s × (result ≡ code_of s) }
+{
+    let shape = Contours {
+        coordinates: shape.coordinates,
+        ends: shape.ends,
+    };
+    let lines = Contours {
+        coordinates: lines.coordinates,
+        ends: lines.ends,
+    };
+    clip_arrays(
+        alloc,
+        fill,
+        *options,
+        &shape,
+        &lines,
+        coordinates,
+        ends,
+        counts,
+    )
+    .code()
+}
+
+/// The same at 32 bits.
+#[unsafe(no_mangle)]
+pub extern "C" fn polyover_clip_32(
+    alloc: Global,
+    fill: u32,
+    options: &ClipOptions,
+    shape: &Contours32,
+    lines: &Contours32,
+    coordinates: &mut [i32],
+    ends: &mut [usize],
+    counts: &mut PathCounts,
+) -> u32
+    ensures { (s : Status) × ClipEnds (λ z. z) 1073741823 fill options.now
+        (record { coordinates = shape.now.coordinates.now; ends = shape.now.ends.now })
+        (record { coordinates = lines.now.coordinates.now; ends = lines.now.ends.now })
+        (record { arrays = record { coordinates = coordinates.old; ends = ends.old }; counts = counts.old })
+        (record { arrays = record { coordinates = coordinates.new; ends = ends.new }; counts = counts.new })
+        s × (result ≡ code_of s) }
+{
+    let shape = Contours {
+        coordinates: shape.coordinates,
+        ends: shape.ends,
+    };
+    let lines = Contours {
+        coordinates: lines.coordinates,
+        ends: lines.ends,
+    };
+    clip_arrays(
+        alloc,
+        fill,
+        *options,
+        &shape,
+        &lines,
+        coordinates,
+        ends,
+        counts,
+    )
+    .code()
+}

@@ -1,0 +1,181 @@
+//! Overlays with the links between their shapes from C, at 64 and at 32 bits.
+
+ghost use Rattle.std.specs.Prelude.{◌≡◌, ◌+◌, ◌*◌, ◌^◌};
+ghost use Rattle.std.specs.Int.{w64, w128};
+ghost use Rattle.polyover_c.specs.Hierarchies.{HierarchyEnds};
+ghost use Rattle.polyover_c.specs.Statuses.{code_of};
+ghost use Rattle.polyover_c.specs.declared.status.Status.{Status};
+
+use crate::arrays::{Contours32, Contours64};
+use crate::counts::Counts;
+use crate::given::Contours;
+use crate::hierarchy::hierarchy_arrays;
+use crate::links::Link;
+use crate::numbers::OptionNumbers;
+use crate::options::{Options32, Options64, area_of};
+use std::alloc::Global;
+
+/// The shapes of the overlay that the rules and options ask for, and for each of them that lies in a hole of another
+/// one the link that tells of it, put into the arrays, and their counts: the code of a status.
+#[unsafe(no_mangle)]
+pub extern "C" fn polyover_hierarchy(
+    alloc: Global,
+    rule: u32,
+    fill: u32,
+    options: &Options64,
+    subject: &Contours64,
+    clip: &Contours64,
+    coordinates: &mut [i64],
+    contour_ends: &mut [usize],
+    shape_ends: &mut [usize],
+    links: &mut [Link],
+    counts: &mut Counts,
+    link_count: &mut usize,
+) -> u32
+    ensures { (s : Status) × HierarchyEnds (λ z. z) 4611686018427387903 w128 (λ n. n) rule fill
+        (record {
+          direction = options.now.direction;
+          keep = options.now.keep;
+          ogc = options.now.ogc;
+          min_area = options.now.min_area_high * 2 ^ 64 + options.now.min_area_low;
+        })
+        (record { coordinates = subject.now.coordinates.now; ends = subject.now.ends.now })
+        (record { coordinates = clip.now.coordinates.now; ends = clip.now.ends.now })
+        (record {
+          shapes = record {
+            arrays = record {
+              coordinates = coordinates.old;
+              contour_ends = contour_ends.old;
+              shape_ends = shape_ends.old;
+            };
+            counts = counts.old;
+          };
+          links = links.old;
+          link_count = link_count.old;
+        })
+        (record {
+          shapes = record {
+            arrays = record {
+              coordinates = coordinates.new;
+              contour_ends = contour_ends.new;
+              shape_ends = shape_ends.new;
+            };
+            counts = counts.new;
+          };
+          links = links.new;
+          link_count = link_count.new;
+        })
+        s × (result ≡ code_of s) }
+{
+    let numbers = OptionNumbers {
+        direction: options.direction,
+        keep: options.keep,
+        ogc: options.ogc,
+        min_area: area_of(options.min_area_high, options.min_area_low),
+    };
+    let subject = Contours {
+        coordinates: subject.coordinates,
+        ends: subject.ends,
+    };
+    let clip = Contours {
+        coordinates: clip.coordinates,
+        ends: clip.ends,
+    };
+    hierarchy_arrays(
+        alloc,
+        rule,
+        fill,
+        numbers,
+        &subject,
+        &clip,
+        coordinates,
+        contour_ends,
+        shape_ends,
+        links,
+        counts,
+        link_count,
+    )
+    .code()
+}
+
+/// The same at 32 bits.
+#[unsafe(no_mangle)]
+pub extern "C" fn polyover_hierarchy_32(
+    alloc: Global,
+    rule: u32,
+    fill: u32,
+    options: &Options32,
+    subject: &Contours32,
+    clip: &Contours32,
+    coordinates: &mut [i32],
+    contour_ends: &mut [usize],
+    shape_ends: &mut [usize],
+    links: &mut [Link],
+    counts: &mut Counts,
+    link_count: &mut usize,
+) -> u32
+    ensures { (s : Status) × HierarchyEnds (λ z. z) 1073741823 w64 (λ n. n) rule fill
+        (record {
+          direction = options.now.direction;
+          keep = options.now.keep;
+          ogc = options.now.ogc;
+          min_area = options.now.min_area;
+        })
+        (record { coordinates = subject.now.coordinates.now; ends = subject.now.ends.now })
+        (record { coordinates = clip.now.coordinates.now; ends = clip.now.ends.now })
+        (record {
+          shapes = record {
+            arrays = record {
+              coordinates = coordinates.old;
+              contour_ends = contour_ends.old;
+              shape_ends = shape_ends.old;
+            };
+            counts = counts.old;
+          };
+          links = links.old;
+          link_count = link_count.old;
+        })
+        (record {
+          shapes = record {
+            arrays = record {
+              coordinates = coordinates.new;
+              contour_ends = contour_ends.new;
+              shape_ends = shape_ends.new;
+            };
+            counts = counts.new;
+          };
+          links = links.new;
+          link_count = link_count.new;
+        })
+        s × (result ≡ code_of s) }
+{
+    let numbers = OptionNumbers {
+        direction: options.direction,
+        keep: options.keep,
+        ogc: options.ogc,
+        min_area: options.min_area,
+    };
+    let subject = Contours {
+        coordinates: subject.coordinates,
+        ends: subject.ends,
+    };
+    let clip = Contours {
+        coordinates: clip.coordinates,
+        ends: clip.ends,
+    };
+    hierarchy_arrays(
+        alloc,
+        rule,
+        fill,
+        numbers,
+        &subject,
+        &clip,
+        coordinates,
+        contour_ends,
+        shape_ends,
+        links,
+        counts,
+        link_count,
+    )
+    .code()
+}

@@ -1,0 +1,122 @@
+//! Slicing from C, at 64 and at 32 bits.
+
+ghost use Rattle.std.specs.Prelude.{◌≡◌};
+ghost use Rattle.std.specs.Int.{w64, w128};
+ghost use Rattle.polyover_c.specs.Sliced.{SlicingEnds};
+ghost use Rattle.polyover_c.specs.Statuses.{code_of};
+ghost use Rattle.polyover_c.specs.declared.status.Status.{Status};
+
+use crate::arrays::{Contours32, Contours64};
+use crate::counts::Counts;
+use crate::given::Contours;
+use crate::slice::slice_arrays;
+use std::alloc::Global;
+
+/// The shapes into which the lines, which are open paths, slice what the contours of the subject fill under the fill
+/// rule, put into the arrays, and their counts: the code of a status.
+#[unsafe(no_mangle)]
+pub extern "C" fn polyover_slice(
+    alloc: Global,
+    fill: u32,
+    subject: &Contours64,
+    lines: &Contours64,
+    coordinates: &mut [i64],
+    contour_ends: &mut [usize],
+    shape_ends: &mut [usize],
+    counts: &mut Counts,
+) -> u32
+    ensures { (s : Status) × SlicingEnds (λ z. z) 4611686018427387903 w128 fill
+        (record { coordinates = subject.now.coordinates.now; ends = subject.now.ends.now })
+        (record { coordinates = lines.now.coordinates.now; ends = lines.now.ends.now })
+        (record {
+          arrays = record {
+            coordinates = coordinates.old;
+            contour_ends = contour_ends.old;
+            shape_ends = shape_ends.old;
+          };
+          counts = counts.old;
+        })
+        (record {
+          arrays = record {
+            coordinates = coordinates.new;
+            contour_ends = contour_ends.new;
+            shape_ends = shape_ends.new;
+          };
+          counts = counts.new;
+        })
+        s × (result ≡ code_of s) }
+{
+    let subject = Contours {
+        coordinates: subject.coordinates,
+        ends: subject.ends,
+    };
+    let lines = Contours {
+        coordinates: lines.coordinates,
+        ends: lines.ends,
+    };
+    slice_arrays(
+        alloc,
+        fill,
+        &subject,
+        &lines,
+        coordinates,
+        contour_ends,
+        shape_ends,
+        counts,
+    )
+    .code()
+}
+
+/// The same at 32 bits.
+#[unsafe(no_mangle)]
+pub extern "C" fn polyover_slice_32(
+    alloc: Global,
+    fill: u32,
+    subject: &Contours32,
+    lines: &Contours32,
+    coordinates: &mut [i32],
+    contour_ends: &mut [usize],
+    shape_ends: &mut [usize],
+    counts: &mut Counts,
+) -> u32
+    ensures { (s : Status) × SlicingEnds (λ z. z) 1073741823 w64 fill
+        (record { coordinates = subject.now.coordinates.now; ends = subject.now.ends.now })
+        (record { coordinates = lines.now.coordinates.now; ends = lines.now.ends.now })
+        (record {
+          arrays = record {
+            coordinates = coordinates.old;
+            contour_ends = contour_ends.old;
+            shape_ends = shape_ends.old;
+          };
+          counts = counts.old;
+        })
+        (record {
+          arrays = record {
+            coordinates = coordinates.new;
+            contour_ends = contour_ends.new;
+            shape_ends = shape_ends.new;
+          };
+          counts = counts.new;
+        })
+        s × (result ≡ code_of s) }
+{
+    let subject = Contours {
+        coordinates: subject.coordinates,
+        ends: subject.ends,
+    };
+    let lines = Contours {
+        coordinates: lines.coordinates,
+        ends: lines.ends,
+    };
+    slice_arrays(
+        alloc,
+        fill,
+        &subject,
+        &lines,
+        coordinates,
+        contour_ends,
+        shape_ends,
+        counts,
+    )
+    .code()
+}

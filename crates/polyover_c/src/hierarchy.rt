@@ -1,0 +1,158 @@
+//! The overlay of contours in arrays, with the links between its shapes.
+
+ghost use Rattle.std.specs.Prelude.{◌≡◌, false, map, All, IfOk, IfErr, MatchResult};
+ghost use Rattle.overlay_builder.specs.GivenPaths.{subject_and_clip};
+ghost use Rattle.overlay_extract.specs.ChildLinks.{plain_link};
+ghost use Rattle.overlay_extract.specs.Results.{asked};
+ghost use Rattle.overlay_geom.specs.Flat.{paths_in, shapes_in};
+ghost use Rattle.overlay_geom.specs.FlatShapes.{AreShapesPacked};
+ghost use Rattle.overlay_geom.specs.Points.{AllInRange};
+ghost use Rattle.i_overlay.specs.OneShot.{MayRefusePaths};
+ghost use Rattle.polyover_c.specs.Hierarchies.{IsHierarchyOfPaths, IsLinkedOverlay, HierarchyEnds};
+ghost use Rattle.polyover_c.specs.Linked.{AreFlatLinked};
+ghost use Rattle.polyover_c.specs.Overlays.{IsOverlayRefused};
+
+use crate::counts::Counts;
+use crate::given::Contours;
+use crate::linked_answer::{LinkedAnswer, flattened_hierarchy, put_linked};
+use crate::links::Link;
+use crate::numbers::{OptionNumbers, fill_of, options_of, rule_of};
+use crate::status::Status;
+use i_overlay::fill_rule::FillRule;
+use i_overlay::hierarchy::FlatShapeHierarchy;
+use i_overlay::overlay::{IntOverlayOptions, Overlay};
+use i_overlay::overlay_rule::OverlayRule;
+use i_overlay::solver::Solver;
+use overlay_geom::error::OverlayError;
+use overlay_geom::flat::contours::FlatContoursBuffer;
+use overlay_geom::integer::OverlayInt;
+use polyover_arrays::read::read_contours;
+use std::alloc::Global;
+
+/// The overlay that the numbers ask for, with the links between its shapes, put into the arrays.
+#[tactic(auto, using(crate::proofs::LinkedEndings::linked_put, crate::proofs::LinkedEndings::linked_refused))]
+pub(crate) fn hierarchy_arrays<I: OverlayInt>(
+    alloc: Global,
+    rule: u32,
+    fill: u32,
+    options: OptionNumbers<I::WideUInt>,
+    subject: &Contours<I>,
+    clip: &Contours<I>,
+    coordinates: &mut [I],
+    contour_ends: &mut [usize],
+    shape_ends: &mut [usize],
+    links: &mut [Link],
+    counts: &mut Counts,
+    link_count: &mut usize,
+) -> Status
+    ensures { HierarchyEnds I.whole I.limit I.Wide.width I.WideUInt.natural rule fill options
+        (record { coordinates = subject.now.coordinates.now; ends = subject.now.ends.now })
+        (record { coordinates = clip.now.coordinates.now; ends = clip.now.ends.now })
+        (record {
+          shapes = record {
+            arrays = record {
+              coordinates = coordinates.old;
+              contour_ends = contour_ends.old;
+              shape_ends = shape_ends.old;
+            };
+            counts = counts.old;
+          };
+          links = links.old;
+          link_count = link_count.old;
+        })
+        (record {
+          shapes = record {
+            arrays = record {
+              coordinates = coordinates.new;
+              contour_ends = contour_ends.new;
+              shape_ends = shape_ends.new;
+            };
+            counts = counts.new;
+          };
+          links = links.new;
+          link_count = link_count.new;
+        })
+        result }
+{
+    match hierarchy_answer(alloc, rule, fill, options, subject, clip) {
+        Ok(answer) => put_linked(
+            &answer,
+            coordinates,
+            contour_ends,
+            shape_ends,
+            links,
+            counts,
+            link_count,
+        ),
+        Err(status) => status,
+    }
+}
+
+// The overlay that the numbers ask for, with the links between its shapes, as arrays.
+#[tactic(auto, using(crate::proofs::Overlays::subject_refused, crate::proofs::Overlays::clip_refused, crate::proofs::Overlays::overlay_refused, crate::proofs::Hierarchies::hierarchy_answered))]
+fn hierarchy_answer<I: OverlayInt>(
+    alloc: Global,
+    rule: u32,
+    fill: u32,
+    options: OptionNumbers<I::WideUInt>,
+    subject: &Contours<I>,
+    clip: &Contours<I>,
+) -> Result<LinkedAnswer<I>, Status>
+    ensures { MatchResult result
+        (λ a. AreFlatLinked (IsLinkedOverlay I.whole I.Wide.width I.WideUInt.natural rule fill options
+        (record { coordinates = subject.now.coordinates.now; ends = subject.now.ends.now })
+        (record { coordinates = clip.now.coordinates.now; ends = clip.now.ends.now })) I.whole (record {
+          shapes = record {
+            coordinates = a.shapes.coordinates.items;
+            contour_ends = a.shapes.contour_ends.items;
+            shape_ends = a.shapes.shape_ends.items;
+          };
+          links = a.links.items;
+        }))
+        (IsOverlayRefused I.whole I.limit rule fill options
+        (record { coordinates = subject.now.coordinates.now; ends = subject.now.ends.now })
+        (record { coordinates = clip.now.coordinates.now; ends = clip.now.ends.now })) }
+{
+    let rule = rule_of(rule)?;
+    let fill = fill_of(fill)?;
+    let options = options_of(options)?;
+    let subject = read_contours(alloc, subject.coordinates, subject.ends)?;
+    let clip = read_contours(alloc, clip.coordinates, clip.ends)?;
+    let hierarchy = hierarchy_shapes(alloc, &subject, &clip, rule, fill, options)?;
+    let answer = flattened_hierarchy(alloc, &hierarchy)?;
+    Ok(answer)
+}
+
+// The shapes of the overlay, and their links. Input points on one line are not kept.
+fn hierarchy_shapes<I: OverlayInt>(
+    alloc: Global,
+    subject: &FlatContoursBuffer<I, Global>,
+    clip: &FlatContoursBuffer<I, Global>,
+    rule: OverlayRule,
+    fill: FillRule,
+    options: IntOverlayOptions<I::WideUInt>,
+) -> Result<FlatShapeHierarchy<I, Global>, OverlayError>
+    requires input { options.preserve_input_collinear ≡ false }
+    requires subject_in_range { All (AllInRange I.limit)
+        (paths_in I.whole subject.now.points.items subject.now.ranges.items) }
+    requires clip_in_range { All (AllInRange I.limit) (paths_in I.whole clip.now.points.items clip.now.ranges.items) }
+    ensures result { IfOk result (λ h. IsHierarchyOfPaths (asked I.Wide.width I.WideUInt.natural fill rule options)
+        (subject_and_clip (paths_in I.whole subject.now.points.items subject.now.ranges.items)
+        (paths_in I.whole clip.now.points.items clip.now.ranges.items))
+        (shapes_in I.whole h.shapes.points.items h.shapes.contour_ranges.items h.shapes.shape_ranges.items)
+        (map plain_link h.links.items)) }
+    ensures packed { IfOk result
+        (λ h. AreShapesPacked h.shapes.points.items h.shapes.contour_ranges.items h.shapes.shape_ranges.items) }
+    ensures err { IfErr result (MayRefusePaths
+        (subject_and_clip (paths_in I.whole subject.now.points.items subject.now.ranges.items)
+        (paths_in I.whole clip.now.points.items clip.now.ranges.items))) }
+{
+    let mut overlay = Overlay::from_subj_and_clip_custom(
+        alloc,
+        subject,
+        clip,
+        options,
+        Solver::ABSOLUTE,
+    )?;
+    overlay.overlay_hierarchy(rule, fill)
+}

@@ -1,0 +1,66 @@
+//! Paths as arrays, and these put into arrays of a caller.
+
+ghost use Rattle.std.specs.Prelude.{IfOk, IsOkUnless};
+ghost use Rattle.overlay_geom.specs.Paths.{paths_of_shape};
+ghost use Rattle.polyover_c.specs.WrittenPaths.{ArePathsFlattened, ArePathsPut};
+
+use crate::path_counts::PathCounts;
+use crate::status::Status;
+use overlay_geom::flat::contours::FlatContoursBuffer;
+use overlay_geom::number::IntNumber;
+use overlay_geom::path::IntPath;
+use polyover_arrays::flatten::{coordinates_of, ends_of};
+use polyover_arrays::write::write_over;
+use std::alloc::Global;
+
+/// Paths as arrays: the coordinates, and the ends of paths among the points.
+#[derive(Drop)]
+pub(crate) struct PathAnswer<I> {
+    pub(crate) coordinates: Vec<I, Global>,
+    pub(crate) ends: Vec<usize, Global>,
+}
+
+/// The paths, one behind the other. The only refusal is `Memory`.
+pub(crate) fn flattened_paths<I: IntNumber>(
+    alloc: Global,
+    paths: &[IntPath<I, Global>],
+) -> Result<PathAnswer<I>, Status>
+    ensures flattened { IfOk result (λ a. ArePathsFlattened I.whole (paths_of_shape I.whole paths.now) (record {
+      coordinates = a.coordinates.items;
+      ends = a.ends.items;
+    })) }
+    ensures only { IsOkUnless result Status.Memory }
+{
+    let mut flat = FlatContoursBuffer::<I, Global>::default(alloc)?;
+    for path in paths {
+        flat.add_contour(path)?;
+    }
+    let coordinates = coordinates_of(alloc, &flat.points)?;
+    let ends = ends_of(alloc, &flat.ranges)?;
+    Ok(PathAnswer { coordinates, ends })
+}
+
+/// Puts the paths into the arrays, and their counts: `Done`; or `TooSmall`, and the arrays stay as they are.
+pub(crate) fn put_paths<I: IntNumber>(
+    answer: &PathAnswer<I>,
+    coordinates: &mut [I],
+    ends: &mut [usize],
+    counts: &mut PathCounts,
+) -> Status
+    ensures { ArePathsPut
+        (record { coordinates = answer.now.coordinates.items; ends = answer.now.ends.items })
+        (record { arrays = record { coordinates = coordinates.old; ends = ends.old }; counts = counts.old })
+        (record { arrays = record { coordinates = coordinates.new; ends = ends.new }; counts = counts.new })
+        result }
+{
+    *counts = PathCounts {
+        coordinates: answer.coordinates.len(),
+        paths: answer.ends.len(),
+    };
+    if counts.coordinates > coordinates.len() || counts.paths > ends.len() {
+        return Status::TooSmall;
+    }
+    write_over(coordinates, &answer.coordinates);
+    write_over(ends, &answer.ends);
+    Status::Done
+}
