@@ -10,7 +10,7 @@ use Rattle.polyover_engine.proofs.subject.add.Goals as goal
 pub returns-then-not-is_resolved : goal.returns-then-not-is_resolved
 returns-then-not-is_resolved g c = record {
   of_subject = c.in-Subject.is;
-  unresolved = λ h. false≢true (sym c.if-not-is_resolved.true ∙ c.in_ok-is_resolved.ensures.ok.1
+  unresolved = λ h. false≢true (sym c.if-not-is_resolved.true ∙ c.in_ok-is_resolved-in-Subject.ensures.ok.1
       (subst (λ ps. IsResolved (points_at ps)) (sym c.deref.ensures.value) h));
   number = refl;
 }
@@ -21,5 +21,5 @@ returns-in_ok-push_copy-in-Subject g c =
     adds_pushed (contour_at c.args.given.now) c.in-Subject.is _ _
     (c.in_ok-push_copy-in-Subject.ensures.ok ∙ ap (λ l. old ++ points_at l ∷ []) c.deref-in-Subject.ensures.value)
     (subst (λ ps. IsResolved (points_at ps)) c.deref.ensures.value
-    (c.in_ok-is_resolved.ensures.ok.0 c.if-not-is_resolved.false))
+    (c.in_ok-is_resolved-in-Subject.ensures.ok.0 c.if-not-is_resolved.false))
     c.requires
