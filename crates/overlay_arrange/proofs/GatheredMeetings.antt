@@ -1,27 +1,26 @@
 -- A loop over pairs of ascending edges that gathers the points through which they lead one another: what a pair adds,
 -- and which pairs may be left out.
-use Rattle.std.proofs.Common.{◌≡◌, ◌⊎◌, ⊎_elim, inl, inr, ℕ, ◌+◌, ◌<◌, ◌≤◌, ◌<ℤ◌, List, [], All, Contains, length, map}
+use Rattle.std.proofs.Common.{◌≡◌, ◌⊎◌, ⊎_elim, inl, inr, ℕ, ◌+◌, ◌<◌, ◌≤◌, List, [], ◌∷◌, ◌++◌, All, Contains, length}
+use Rattle.std.proofs.Common.{map}
 use Rattle.std.proofs.Common.{get_or, sym, ◌∙◌, subst, arith}
 use Rattle.std.specs.List.{flat_map}
 use Rattle.std.proofs.lemmas.Bool.{cases_lt}
 use Rattle.std.proofs.lemmas.List.{get_or_default, length-map}
+use Rattle.std.proofs.lemmas.List.Elements.{Contains-push_cases}
 use Rattle.std.proofs.Math.Nat.{eq-or-lt_of_le}
 use Rattle.overlay_geom.specs.Plane.{Point}
 use Rattle.overlay_geom.specs.Edges.{CountedEdge, ends_of}
 use Rattle.overlay_geom.proofs.Mapped.{read_mapped}
-use Rattle.overlay_geom.proofs.PointOrder.{IsBefore, Decides-point_lt}
 use Rattle.overlay_plane.specs.CutPoints.{comes_first, cut_points, met_at}
 use Rattle.overlay_plane.proofs.CutChains.{met_at_itself}
 use Rattle.overlay_plane.proofs.Entries.{Contains-flat_map}
 use Rattle.overlay_plane.proofs.InOrderLists.{Contains-put_in_order}
-use Rattle.overlay_plane.proofs.MetInBox.{apart_meet_nowhere}
-use Rattle.overlay_arrange.specs.Content.{IsAscending, IsHeld}
+use Rattle.overlay_arrange.specs.Content.{IsHeld}
 use Rattle.overlay_arrange.specs.Cut.{IsEndOf}
-use Rattle.overlay_arrange.specs.Heights.{span_of, IsApart}
-use Rattle.overlay_arrange.specs.Meetings.{AddsBoth, AreGathered, AreMeetings, HasBefore, IsAt, IsEndOrMet, IsRunEnd}
+use Rattle.overlay_arrange.specs.Meetings.{AddsBoth, AreGathered, AreMeetings, HasBefore, IsAt, IsEndOrMet}
 use Rattle.overlay_arrange.specs.Meetings.{Meeting}
-use Rattle.overlay_arrange.proofs.ApartInY.{apart_exchanged, nowhere_where_apart}
-use Rattle.overlay_arrange.proofs.SettledLists.{right_from}
+use Rattle.overlay_arrange.specs.Near.{AreNear}
+use Rattle.overlay_arrange.proofs.FarEdges.{nowhere_where_far}
 
 -- at one place stands one entry
 pub one_entry : {X : Type 0} (xs : List X) (i : ℕ) (x y : X) → IsAt xs i x → IsAt xs i y → x ≡ y
@@ -40,9 +39,9 @@ placed_in_mapped f xs i x within is = (
 at_or_before : (k i : ℕ) → k < i + 1 → (k ≡ i) ⊎ (k < i)
 at_or_before k i lt = eq-or-lt_of_le (let le : k ≤ i = omega (arith, lt) in le)
 
--- one of the two places comes before place i; or the one is i, and the other one comes before place j
-abbrev pub IsLookedAt : ℕ → ℕ → ℕ → ℕ → Type 0
-IsLookedAt i j k l = HasBefore i k l ⊎ (((k ≡ i) × (l < j)) ⊎ ((l ≡ i) × (k < j)))
+-- one of the two places comes before place i; or the one is i, and the other one is among the places js
+abbrev pub IsLookedAt : ℕ → List ℕ → ℕ → ℕ → Type 0
+IsLookedAt i js k l = HasBefore i k l ⊎ (((k ≡ i) × Contains js l) ⊎ ((l ≡ i) × Contains js k))
 
 -- h leads g through v
 abbrev IsLedBy : CountedEdge → CountedEdge → Point → Type 0
@@ -73,29 +72,18 @@ module _ (es : List CountedEdge) where
   }
 
   module _ (i : ℕ) (e : CountedEdge) (at_e : IsAt es i e) where
-    -- an edge leads itself through its ends alone
-    pub itself_looked_at : {ms : List Meeting} → AreGathered es (HasBefore i) ms →
-        AreGathered es (IsLookedAt i (i + 1)) ms
-    itself_looked_at gathered = gathered_of_more gathered (λ k l g h at_g at_h pair. by k l g h at_g at_h pair)
+    -- at first the pairs with e have not been looked at
+    pub begun : {ms : List Meeting} → AreGathered es (HasBefore i) ms → AreGathered es (IsLookedAt i []) ms
+    begun gathered = gathered_of_more gathered (λ k l g h at_g at_h pair. inl (by k l pair))
       where
-        own : (k l : ℕ) (g h : CountedEdge) → IsAt es k g → IsAt es l h → k ≡ l → LeadsNowhere g h
-        own k l g h at_g at_h same v at =
-            let is : h ≡ g = one_entry es k h g (subst (λ n. IsAt es n h) (sym same) at_h) at_g in
-            met_at_itself (ends_of g) v (subst (λ u. Contains (met_at (ends_of g) (ends_of u)) v) is at)
-
-        by : (k l : ℕ) (g h : CountedEdge) → IsAt es k g → IsAt es l h → IsLookedAt i (i + 1) k l →
-            HasBefore i k l ⊎ LeadsNowhere g h
-        by k l g h at_g at_h (inl before) = inl before
-        by k l g h at_g at_h (inr (inl (k_is, lt))) = ⊎_elim
-            (λ (l_is : l ≡ i). inr (own k l g h at_g at_h (k_is ∙ sym l_is))) (λ (less : l < i). inl (inr less))
-            (at_or_before l i lt)
-        by k l g h at_g at_h (inr (inr (l_is, lt))) = ⊎_elim
-            (λ (k_is : k ≡ i). inr (own k l g h at_g at_h (k_is ∙ sym l_is))) (λ (less : k < i). inl (inl less))
-            (at_or_before k i lt)
+        by : (k l : ℕ) → IsLookedAt i [] k l → HasBefore i k l
+        by k l (inl before) = before
+        by k l (inr (inl (_, at))) = absurd (omega (arith, at.1))
+        by k l (inr (inr (_, at))) = absurd (omega (arith, at.1))
 
     -- the pair of e and the edge at place j is looked at
-    module _ (j : ℕ) (f : CountedEdge) (at_f : IsAt es j f) {old new : List Meeting}
-        (gathered : AreGathered es (IsLookedAt i j) old) (adds : AddsBoth i e j f old new) where
+    module _ (js : List ℕ) (j : ℕ) (f : CountedEdge) (at_f : IsAt es j f) {old new : List Meeting}
+        (gathered : AreGathered es (IsLookedAt i js) old) (adds : AddsBoth i e j f old new) where
       -- a point through which the second edge leads the first one is one of its computed points
       computed : (k l : ℕ) (g h : CountedEdge) → IsAt es k g → IsAt es l h → (m : Meeting) → m.place ≡ k →
           Contains (met_at (ends_of g) (ends_of h)) m.point →
@@ -133,7 +121,7 @@ module _ (es : List CountedEdge) where
           (λ there. inr (subst (λ n. Contains new (record { place = n; point = v })) (sym k_is) there))
           (adds.other.all v (rw (g_is, h_is) at))
 
-      pub pair_gathered : AreGathered es (IsLookedAt i (j + 1)) new
+      pub pair_gathered : AreGathered es (IsLookedAt i (js ++ j ∷ [])) new
       pair_gathered = record {
         led = λ m at. ⊎_elim
             (λ before. ⊎_elim (λ there. gathered.led m there) (λ led. computed i j e f at_e at_f m led.0 led.1)
@@ -142,127 +130,62 @@ module _ (es : List CountedEdge) where
         all = λ k l g h at_g at_h pair v at. by k l g h at_g at_h pair v at;
       }
         where
-          earlier : (k l : ℕ) (g h : CountedEdge) → IsAt es k g → IsAt es l h → IsLookedAt i j k l → (v : Point) →
+          earlier : (k l : ℕ) (g h : CountedEdge) → IsAt es k g → IsAt es l h → IsLookedAt i js k l → (v : Point) →
               IsLedBy g h v →
               IsEndOrMet new k g v
           earlier k l g h at_g at_h pair v at = ⊎_elim (λ end. inl end) (λ there. inr (kept k v there))
               (gathered.all k l g h at_g at_h pair v at)
 
-          by : (k l : ℕ) (g h : CountedEdge) → IsAt es k g → IsAt es l h → IsLookedAt i (j + 1) k l → (v : Point) →
-              IsLedBy g h v →
+          by : (k l : ℕ) (g h : CountedEdge) → IsAt es k g → IsAt es l h → IsLookedAt i (js ++ j ∷ []) k l →
+              (v : Point) → IsLedBy g h v →
               IsEndOrMet new k g v
           by k l g h at_g at_h (inl before) v at = earlier k l g h at_g at_h (inl before) v at
-          by k l g h at_g at_h (inr (inl (k_is, lt))) v at = ⊎_elim
-              (λ (l_is : l ≡ j). forth k l g h at_g at_h k_is l_is v at)
-              (λ (less : l < j). earlier k l g h at_g at_h (inr (inl (k_is, less))) v at) (at_or_before l j lt)
-          by k l g h at_g at_h (inr (inr (l_is, lt))) v at = ⊎_elim
-              (λ (k_is : k ≡ j). back k l g h at_g at_h k_is l_is v at)
-              (λ (less : k < j). earlier k l g h at_g at_h (inr (inr (l_is, less))) v at) (at_or_before k j lt)
+          by k l g h at_g at_h (inr (inl (k_is, has))) v at = ⊎_elim
+              (λ (so_far : Contains js l). earlier k l g h at_g at_h (inr (inl (k_is, so_far))) v at)
+              (λ (is : j ≡ l). forth k l g h at_g at_h k_is (sym is) v at) (Contains-push_cases js j l has)
+          by k l g h at_g at_h (inr (inr (l_is, has))) v at = ⊎_elim
+              (λ (so_far : Contains js k). earlier k l g h at_g at_h (inr (inr (l_is, so_far))) v at)
+              (λ (is : j ≡ k). back k l g h at_g at_h (sym is) l_is v at) (Contains-push_cases js j k has)
 
-    -- where all later edges have been looked at, the pairs with e have
-    pub all_looked_at : (j : ℕ) {ms : List Meeting} → length es ≤ j → AreGathered es (IsLookedAt i j) ms →
-        AreGathered es (HasBefore (i + 1)) ms
-    all_looked_at j past gathered = gathered_of_more gathered
-        (λ k l g h at_g at_h pair. inl (by k l at_g.0 at_h.0 pair))
-      where
-        by : (k l : ℕ) → k < length es → l < length es → HasBefore (i + 1) k l → IsLookedAt i j k l
-        by k l k_in l_in (inl lt) = ⊎_elim (λ (is : k ≡ i). inr (inl (is, omega (arith, l_in, past))))
-            (λ (less : k < i). inl (inl less)) (at_or_before k i lt)
-        by k l k_in l_in (inr lt) = ⊎_elim (λ (is : l ≡ i). inr (inr (is, omega (arith, k_in, past))))
-            (λ (less : l < i). inl (inr less)) (at_or_before l i lt)
-
-    -- so they have where the edge at place j starts right of e's end: it and those after it lead e nowhere, and e them
-    pub rest_passed_over : (limit : ℕ) (j : ℕ) (f : CountedEdge) {ms : List Meeting} → All (IsHeld limit) es →
-        IsAscending es → IsAt es j f → e.b.x <ℤ f.a.x →
-        AreGathered es (IsLookedAt i j) ms → AreGathered es (HasBefore (i + 1)) ms
-    rest_passed_over limit j f held up at_f right gathered = gathered_of_more gathered
+    -- where all edges near e have been looked at, the pairs with e have: the other later ones lead it nowhere, and it
+    -- them; and an edge leads itself through its ends alone
+    pub near_looked_at : (limit : ℕ) (js : List ℕ) {ms : List Meeting} → All (IsHeld limit) es → AreNear es i js →
+        AreGathered es (IsLookedAt i js) ms → AreGathered es (HasBefore (i + 1)) ms
+    near_looked_at limit js held near gathered = gathered_of_more gathered
         (λ k l g h at_g at_h pair. by k l g h at_g at_h pair)
       where
         holds : (k : ℕ) (g : CountedEdge) → IsAt es k g → IsHeld limit g
         holds k g at = subst (IsHeld limit) at.1 (held k g at.0)
 
-        starts_right : (l : ℕ) (h : CountedEdge) → IsAt es l h → j ≤ l → e.b.x <ℤ h.a.x
-        starts_right l h at later =
-            subst (λ (u : CountedEdge). e.b.x <ℤ u.a.x) at.1
-            (right_from e es j l h up later at.0
-            (subst (λ (u : CountedEdge). e.b.x <ℤ u.a.x) (sym at_f.1 ∙ get_or_default es j f h at_f.0) right))
-
-        nowhere : (k l : ℕ) (g h : CountedEdge) → IsAt es k g → IsAt es l h → k ≡ i → j ≤ l →
-            met_at (ends_of g) (ends_of h) ≡ []
-        nowhere k l g h at_g at_h is later =
-            let g_is : e ≡ g = one_entry es k e g (subst (λ n. IsAt es n e) (sym is) at_e) at_g in
-            apart_meet_nowhere (ends_of g) (ends_of h) ((Decides-point_lt g.a g.b).0 (holds k g at_g).forward)
-            ((Decides-point_lt h.a h.b).0 (holds l h at_h).forward)
-            (inl (subst (λ (u : CountedEdge). u.b.x <ℤ h.a.x) g_is (starts_right l h at_h later)))
-
-        nowhere_back : (k l : ℕ) (g h : CountedEdge) → IsAt es k g → IsAt es l h → l ≡ i → j ≤ k →
-            met_at (ends_of g) (ends_of h) ≡ []
-        nowhere_back k l g h at_g at_h is later =
-            let h_is : e ≡ h = one_entry es l e h (subst (λ n. IsAt es n e) (sym is) at_e) at_h in
-            apart_meet_nowhere (ends_of g) (ends_of h) ((Decides-point_lt g.a g.b).0 (holds k g at_g).forward)
-            ((Decides-point_lt h.a h.b).0 (holds l h at_h).forward)
-            (inr (subst (λ (u : CountedEdge). u.b.x <ℤ g.a.x) h_is (starts_right k g at_g later)))
+        own : (k l : ℕ) (g h : CountedEdge) → IsAt es k g → IsAt es l h → k ≡ l → LeadsNowhere g h
+        own k l g h at_g at_h same v at =
+            let is : h ≡ g = one_entry es k h g (subst (λ n. IsAt es n h) (sym same) at_h) at_g in
+            met_at_itself (ends_of g) v (subst (λ u. Contains (met_at (ends_of g) (ends_of u)) v) is at)
 
         no_end : (g h : CountedEdge) → met_at (ends_of g) (ends_of h) ≡ [] → LeadsNowhere g h
         no_end g h none v at = let empty = subst (λ (vs : List Point). Contains vs v) none at in absurd
             (omega (arith, empty.1))
 
+        later : (k l : ℕ) (g h : CountedEdge) → IsAt es k g → IsAt es l h → k ≡ i → i < l →
+            Contains js l ⊎ ((met_at (ends_of g) (ends_of h) ≡ []) × (met_at (ends_of h) (ends_of g) ≡ []))
+        later k l g h at_g at_h is less = ⊎_elim (λ has. inl has)
+            (λ far. inr (nowhere_where_far limit g h (holds k g at_g) (holds l h at_h) far))
+            (near.all l g h less (subst (λ n. IsAt es n g) is at_g) at_h)
+
         by : (k l : ℕ) (g h : CountedEdge) → IsAt es k g → IsAt es l h → HasBefore (i + 1) k l →
-            IsLookedAt i j k l ⊎ LeadsNowhere g h
+            IsLookedAt i js k l ⊎ LeadsNowhere g h
         by k l g h at_g at_h (inl lt) = ⊎_elim
-            (λ (is : k ≡ i). ⊎_elim (λ (less : l < j). inl (inr (inl (is, less))))
-            (λ (later : j ≤ l). inr (no_end g h (nowhere k l g h at_g at_h is later))) (cases_lt l j))
+            (λ (is : k ≡ i). ⊎_elim (λ (less : l < i). inl (inl (inr less)))
+            (λ (from : i ≤ l). ⊎_elim (λ (same : i ≡ l). inr (own k l g h at_g at_h (is ∙ same)))
+            (λ (less : i < l). ⊎_elim (λ has. inl (inr (inl (is, has)))) (λ none. inr (no_end g h none.0))
+            (later k l g h at_g at_h is less)) (eq-or-lt_of_le from)) (cases_lt l i))
             (λ (less : k < i). inl (inl (inl less))) (at_or_before k i lt)
         by k l g h at_g at_h (inr lt) = ⊎_elim
-            (λ (is : l ≡ i). ⊎_elim (λ (less : k < j). inl (inr (inr (is, less))))
-            (λ (later : j ≤ k). inr (no_end g h (nowhere_back k l g h at_g at_h is later))) (cases_lt k j))
+            (λ (is : l ≡ i). ⊎_elim (λ (less : k < i). inl (inl (inl less)))
+            (λ (from : i ≤ k). ⊎_elim (λ (same : i ≡ k). inr (own k l g h at_g at_h (sym same ∙ sym is)))
+            (λ (less : i < k). ⊎_elim (λ has. inl (inr (inr (is, has)))) (λ none. inr (no_end g h none.1))
+            (later l k h g at_h at_g is less)) (eq-or-lt_of_le from)) (cases_lt k i))
             (λ (less : l < i). inl (inl (inr less))) (at_or_before l i lt)
-
-    -- those from place j up to a later one at heights apart from e's may be passed over
-    pub apart_passed_over : (limit j to : ℕ) {ms : List Meeting} → All (IsHeld limit) es →
-        ((k : ℕ) (f : CountedEdge) → j ≤ k → k < to → IsAt es k f → IsApart (span_of e) (span_of f)) →
-        AreGathered es (IsLookedAt i j) ms → AreGathered es (IsLookedAt i to) ms
-    apart_passed_over limit j to held apart gathered = gathered_of_more gathered
-        (λ k l g h at_g at_h pair. by k l g h at_g at_h pair)
-      where
-        leads : (k : ℕ) (g : CountedEdge) → IsAt es k g → IsBefore g.a g.b
-        leads k g at = (Decides-point_lt g.a g.b).0 (subst (IsHeld limit) at.1 (held k g at.0)).forward
-
-        nowhere : (k l : ℕ) (g h : CountedEdge) → IsAt es k g → IsAt es l h → k ≡ i → j ≤ l → l < to → LeadsNowhere g h
-        nowhere k l g h at_g at_h is later less v at =
-            let g_is : e ≡ g = one_entry es k e g (subst (λ n. IsAt es n e) (sym is) at_e) at_g in
-            let test = subst (λ (u : CountedEdge). IsApart (span_of u) (span_of h)) g_is (apart l h later less at_h) in
-            let empty = subst (λ (vs : List Point). Contains vs v)
-            (nowhere_where_apart g h (leads k g at_g) (leads l h at_h) test) at in
-            absurd (omega (arith, empty.1))
-
-        nowhere_back : (k l : ℕ) (g h : CountedEdge) → IsAt es k g → IsAt es l h → l ≡ i → j ≤ k → k < to →
-            LeadsNowhere g h
-        nowhere_back k l g h at_g at_h is later less v at =
-            let h_is : e ≡ h = one_entry es l e h (subst (λ n. IsAt es n e) (sym is) at_e) at_h in
-            let test = subst (λ (u : CountedEdge). IsApart (span_of u) (span_of g)) h_is (apart k g later less at_g) in
-            let empty = subst (λ (vs : List Point). Contains vs v)
-            (nowhere_where_apart g h (leads k g at_g) (leads l h at_h)
-            (apart_exchanged (span_of h) (span_of g) test)) at in
-            absurd (omega (arith, empty.1))
-
-        by : (k l : ℕ) (g h : CountedEdge) → IsAt es k g → IsAt es l h → IsLookedAt i to k l →
-            IsLookedAt i j k l ⊎ LeadsNowhere g h
-        by k l g h at_g at_h (inl before) = inl (inl before)
-        by k l g h at_g at_h (inr (inl (k_is, lt))) = ⊎_elim (λ (less : l < j). inl (inr (inl (k_is, less))))
-            (λ (later : j ≤ l). inr (nowhere k l g h at_g at_h k_is later lt)) (cases_lt l j)
-        by k l g h at_g at_h (inr (inr (l_is, lt))) = ⊎_elim (λ (less : k < j). inl (inr (inr (l_is, less))))
-            (λ (later : j ≤ k). inr (nowhere_back k l g h at_g at_h l_is later lt)) (cases_lt k j)
-
-    -- where those up to the end of e's run have been looked at, the pairs with e have
-    pub run_looked_at : (limit end : ℕ) {ms : List Meeting} → All (IsHeld limit) es → IsAscending es →
-        IsRunEnd es i end →
-        AreGathered es (IsLookedAt i end) ms → AreGathered es (HasBefore (i + 1)) ms
-    run_looked_at limit end held up run gathered = ⊎_elim
-        (λ (inside : end < length es). let f = get_or es end e in
-        let at_f : IsAt es end f = (inside, get_or_default es end f e inside) in
-        rest_passed_over limit end f held up at_f (run.right e f at_e at_f) gathered)
-        (λ (past : length es ≤ end). all_looked_at end past gathered) (cases_lt end (length es))
 
   -- where all places have been looked at, the meetings are those of all edges
   pub all_gathered : (n : ℕ) {ms : List Meeting} → length es ≤ n → AreGathered es (HasBefore n) ms → AreMeetings es ms

@@ -1,11 +1,12 @@
 -- The edges up to the end of an edge's run: ascending edges part where they start right of its end; and the edge meets
 -- all later ones in ends alone where it meets those of its run so.
 use Rattle.std.proofs.Common.{◌≡◌, ⊎_elim, ℕ, ◌+◌, ◌-◌, ◌<◌, ◌≤◌, Bool, true, false, not, ℤ, ◌<ℤ◌, ◌≤ℤ◌, int_lt, List}
-use Rattle.std.proofs.Common.{All, length, drop, get_or, refl, sym, ap, ◌∙◌, subst, arith}
+use Rattle.std.proofs.Common.{[], ◌∷◌, ◌++◌, All, Contains, length, drop, get_or, refl, sym, ap, ◌∙◌, subst, arith}
 use Rattle.std.specs.List.Sorted.{IsPartitionedBy, IsPartitionPoint}
 use Rattle.std.proofs.lemmas.Bool.{both_ways, cases_lt, false≢true}
 use Rattle.std.specs.Bool.{Decides}
 use Rattle.std.proofs.lemmas.List.{get_or_default, get_or-drop, get_or-map, length-drop, length-map}
+use Rattle.std.proofs.lemmas.List.Elements.{Contains-push_cases}
 use Rattle.std.proofs.Math.Nat.{eq-or-lt_of_le}
 use Rattle.overlay_geom.specs.Edges.{CountedEdge, ends_of}
 use Rattle.overlay_geom.proofs.Comparisons.{Decides-int_lt}
@@ -13,13 +14,13 @@ use Rattle.overlay_geom.proofs.PointOrder.{Decides-point_lt}
 use Rattle.overlay_geom.proofs.Signs.{linear}
 use Rattle.overlay_geom.specs.Counts.{Counts}
 use Rattle.overlay_arrange.specs.Content.{IsAscending, IsHeld, plain_edge, plain_edges}
-use Rattle.overlay_arrange.specs.Heights.{span_of, IsApart}
+use Rattle.overlay_arrange.specs.Near.{AreNear}
 use Rattle.overlay_arrange.specs.Meetings.{AreSettledUpTo, IsAt, IsRunEnd}
 use Rattle.overlay_arrange.specs.Settle.{AreSettled}
 use Rattle.overlay_arrange.specs.declared.edge.CountedEdge.{CountedEdge as HeldEdge}
-use Rattle.overlay_arrange.proofs.ApartInY.{meet_in_ends_where_apart}
+use Rattle.overlay_arrange.proofs.FarEdges.{settled_where_far}
 use Rattle.overlay_arrange.proofs.GatheredMeetings.{one_entry}
-use Rattle.overlay_arrange.proofs.SettledLists.{right_from, starting_right, starts_no_further_left}
+use Rattle.overlay_arrange.proofs.SettledLists.{starts_no_further_left}
 
 -- ---- where the run ends
 
@@ -130,44 +131,33 @@ module _ {I C : Type 0} (whole : I → ℤ) (counts : C → Counts) where
 
 -- ---- edges that meet in ends alone
 
+-- the edge at place i meets those at the places js in ends alone
+abbrev pub AreSettledWith : List CountedEdge → ℕ → List ℕ → Type 0
+AreSettledWith es i js = (k : ℕ) (e f : CountedEdge) → Contains js k → IsAt es i e → IsAt es k f → AreSettled e f
+
 module _ (es : List CountedEdge) (i : ℕ) where
   -- at first there is none to look at
-  pub none_settled : AreSettledUpTo es i (i + 1)
-  none_settled k e f past less = absurd (omega (arith, past, less))
+  pub none_settled : AreSettledWith es i []
+  none_settled k e f has = absurd (omega (arith, has.1))
+
+  -- where it meets those so that are not far from it, it meets all later ones so
+  pub settled_with_near : (limit : ℕ) (js : List ℕ) → All (IsHeld limit) es → AreNear es i js →
+      AreSettledWith es i js → AreSettledUpTo es i (length es)
+  settled_with_near limit js held near with_near k g f past less at_g at_f =
+      ⊎_elim (λ has. with_near k g f has at_g at_f)
+      (λ far. settled_where_far limit g f (subst (IsHeld limit) at_g.1 (held i g at_g.0))
+      (subst (IsHeld limit) at_f.1 (held k f at_f.0)) far)
+      (near.all k g f past at_g at_f)
 
   module _ (e : CountedEdge) (at_e : IsAt es i e) where
-    -- those at heights apart may be passed over
-    pub settled_over : (j to : ℕ) →
-        ((k : ℕ) (f : CountedEdge) → j ≤ k → k < to → IsAt es k f → IsApart (span_of e) (span_of f)) →
-        AreSettledUpTo es i j → AreSettledUpTo es i to
-    settled_over j to apart so_far k g f past less at_g at_f = ⊎_elim (λ before. so_far k g f past before at_g at_f)
-        (λ later. subst (λ (h : CountedEdge). AreSettled h f) (one_entry es i e g at_e at_g)
-        (meet_in_ends_where_apart e f (apart k f later less at_f))) (cases_lt k j)
-
     -- one more may meet it so
-    pub settled_more : (j : ℕ) (f : CountedEdge) → IsAt es j f → AreSettled e f → AreSettledUpTo es i j →
-        AreSettledUpTo es i (j + 1)
-    settled_more j f at_f meets so_far k g h past less at_g at_h = ⊎_elim
-        (λ (same : k ≡ j). subst (λ (u : CountedEdge). AreSettled u h) (one_entry es i e g at_e at_g)
-        (subst (AreSettled e) (one_entry es j f h at_f (subst (λ n. IsAt es n h) same at_h)) meets))
-        (λ before. so_far k g h past before at_g at_h) (eq-or-lt_of_le (let le : k ≤ j = omega (arith, less) in le))
-
-    -- and those from the end of its run on do
-    pub settled_past : (limit end : ℕ) → All (IsHeld limit) es → IsAscending es → IsRunEnd es i end →
-        AreSettledUpTo es i end →
-        AreSettledUpTo es i (length es)
-    settled_past limit end held up run so_far k g f past less at_g at_f = ⊎_elim
-        (λ before. so_far k g f past before at_g at_f)
-        (λ (later : end ≤ k).
-        let first = get_or es end e in
-        let inside : end < length es = omega (arith, later, less) in
-        let right = run.right e first at_e (inside, get_or_default es end first e inside) in
-        let further = right_from e es end k e up later less right in
-        let f_is : get_or es k e ≡ f = get_or_default es k e f less ∙ at_f.1 in
-        subst (λ (h : CountedEdge). AreSettled h f) (one_entry es i e g at_e at_g)
-        (starting_right limit e f (subst (IsHeld limit) at_e.1 (held i e at_e.0))
-        (subst (IsHeld limit) at_f.1 (held k f at_f.0))
-        (subst (λ (h : CountedEdge). e.b.x <ℤ h.a.x) f_is further))) (cases_lt k end)
+    pub settled_more : (js : List ℕ) (j : ℕ) (f : CountedEdge) → IsAt es j f → AreSettled e f →
+        AreSettledWith es i js → AreSettledWith es i (js ++ j ∷ [])
+    settled_more js j f at_f meets so_far k g h has at_g at_h = ⊎_elim
+        (λ before. so_far k g h before at_g at_h)
+        (λ (same : j ≡ k). subst (λ (u : CountedEdge). AreSettled u h) (one_entry es i e g at_e at_g)
+        (subst (AreSettled e) (one_entry es j f h at_f (subst (λ n. IsAt es n h) (sym same) at_h)) meets))
+        (Contains-push_cases js j k has)
 
     -- that is to meet all edges that are left so
     pub settled_with_rest : AreSettledUpTo es i (length es) → All (AreSettled e) (drop (i + 1) es)

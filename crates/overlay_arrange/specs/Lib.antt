@@ -4,9 +4,10 @@ pub mod Counts
 pub mod Cut
 pub mod EdgeData
 pub mod Ends
+pub mod Extents
 pub mod Graphs
-pub mod Heights
 pub mod Meetings
+pub mod Near
 pub mod Options
 pub mod Paths
 pub mod Rules

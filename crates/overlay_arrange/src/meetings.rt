@@ -3,15 +3,15 @@
 ghost use Rattle.std.specs.Prelude.{◌≡◌, ◌+◌, ◌<◌, length, All, IfOk, OnOk, OnErr, IsOkUnless};
 ghost use Rattle.std.specs.List.Sorted.{IsPermutation};
 ghost use Rattle.overlay_arrange.specs.Content.{plain_edges, IsHeld, IsAscending};
-ghost use Rattle.overlay_arrange.specs.Heights.{plain_spans, AreHeightsOf};
 ghost use Rattle.overlay_arrange.specs.Meetings.{plain_meetings, AreByPlace, AreGathered, AreMeetings};
 ghost use Rattle.overlay_arrange.specs.Meetings.{HasBefore, IsRunAt};
+ghost use Rattle.overlay_arrange.specs.Near.{AreNear};
 
 use crate::count::EdgeCount;
 use crate::crossing::push_meetings;
 use crate::edge::CountedEdge;
-use crate::heights::{HeightLists, height_lists, heights_of, next_near};
-use crate::spans::run_end;
+use crate::near::find_near;
+use crate::strips::strips_of;
 use overlay_geom::error::OverlayError;
 use overlay_geom::number::IntNumber;
 use overlay_geom::point::IntPoint;
@@ -39,30 +39,29 @@ pub(crate) fn gather<I: IntNumber, C: EdgeCount, A: Allocator + Clone>(
     ensures order { IfOk result (λ meetings. AreByPlace (plain_meetings I.whole meetings.items)) }
     ensures err { IsOkUnless result OverlayError.Memory }
 {
-    let heights = height_lists(alloc.clone()?, edges)?;
+    let strips = strips_of(alloc.clone()?, edges)?;
+    let mut near = Vec::new(alloc.clone()?);
     let mut meetings = Vec::new(alloc);
     for i in 0..edges.len() {
-        gather_from(&mut meetings, edges, &heights, i)?;
+        find_near(&mut near, edges, &strips, i)?;
+        gather_from(&mut meetings, edges, i, &near)?;
     }
     sort_by_place(&mut meetings)?;
     Ok(meetings)
 }
 
-/// Adds the points through which the edge at place i and the later ones lead one another. These are
-/// looked at up to the first one that starts right of the edge's end, and those at heights apart from
-/// the edge's are passed over.
+/// Adds the points through which the edge at place i and the later ones lead one another. Among these it
+/// may meet those at the places `near` alone.
 fn gather_from<I: IntNumber, C: EdgeCount, A: Allocator>(
     meetings: &mut Vec<Meeting<I>, A>,
     edges: &[CountedEdge<I, C>],
-    heights: &HeightLists<I, A>,
     i: usize,
+    near: &[usize],
 ) -> Result<(), OverlayError>
     requires held { All (IsHeld I.limit) (plain_edges I.whole C.counts edges.now) }
     requires ascending { IsAscending (plain_edges I.whole C.counts edges.now) }
-    requires heights { AreHeightsOf (plain_edges I.whole C.counts edges.now)
-        (plain_spans I.whole heights.now.edges.items) (plain_spans I.whole heights.now.blocks.items)
-        (plain_spans I.whole heights.now.over.items) }
     requires within { i < length edges.now }
+    requires near { AreNear (plain_edges I.whole C.counts edges.now) i near.now }
     requires gathered { AreGathered (plain_edges I.whole C.counts edges.now)
         (HasBefore i) (plain_meetings I.whole meetings.old.items) }
     ensures ok { OnOk result (AreGathered (plain_edges I.whole C.counts edges.now)
@@ -70,12 +69,9 @@ fn gather_from<I: IntNumber, C: EdgeCount, A: Allocator>(
     ensures err { IsOkUnless result OverlayError.Memory }
 {
     let e = &edges[i];
-    let of = heights_of(e);
-    let end = run_end(edges, i);
-    let mut j = next_near(heights, of, i + 1, end);
-    while j < end {
+    for k in 0..near.len() {
+        let j = near[k];
         push_meetings(meetings, i, e, j, &edges[j])?;
-        j = next_near(heights, of, j + 1, end);
     }
     Ok(())
 }

@@ -5,13 +5,13 @@ ghost use Rattle.overlay_geom.specs.Edges.{ends_of};
 ghost use Rattle.overlay_geom.specs.Resolved.{IsPlaced};
 ghost use Rattle.overlay_geom.specs.Settled.{MeetInEnds, IsSettled};
 ghost use Rattle.overlay_arrange.specs.Content.{plain_edge, plain_edges, IsHeld, IsAscending};
-ghost use Rattle.overlay_arrange.specs.Heights.{plain_spans, AreHeightsOf};
 ghost use Rattle.overlay_arrange.specs.Meetings.{AreSettledUpTo};
+ghost use Rattle.overlay_arrange.specs.Near.{AreNear};
 
 use crate::count::EdgeCount;
 use crate::edge::CountedEdge;
-use crate::heights::{HeightLists, height_lists, heights_of, next_near};
-use crate::spans::run_end;
+use crate::near::find_near;
+use crate::strips::strips_of;
 use overlay_geom::edge::IntEdge;
 use overlay_geom::edge_pair;
 use overlay_geom::edge_pair::Place;
@@ -31,40 +31,35 @@ pub fn is_settled<I: IntNumber, C: EdgeCount, A: Allocator + Clone>(
         IsTrue is_settled ↔ IsSettled (plain_edges I.whole C.counts edges.now)) }
     ensures err { IsOkUnless result OverlayError.Memory }
 {
-    let heights = height_lists(alloc, edges)?;
+    let strips = strips_of(alloc.clone()?, edges)?;
+    let mut near = Vec::new(alloc);
     for i in 0..edges.len() {
-        if !is_settled_from(edges, &heights, i) {
+        find_near(&mut near, edges, &strips, i)?;
+        if !is_settled_from(edges, i, &near) {
             return Ok(false);
         }
     }
     Ok(true)
 }
 
-/// Whether the edge at place i meets each of the later ones in ends alone. They ascend, and are looked at
-/// up to the first one that starts right of the edge's end; those at heights apart from the edge's are
-/// passed over.
-fn is_settled_from<I: IntNumber, C: EdgeCount, A: Allocator>(
+/// Whether the edge at place i meets each of the later ones in ends alone. Among these it may meet those at
+/// the places `near` alone.
+fn is_settled_from<I: IntNumber, C: EdgeCount>(
     edges: &[CountedEdge<I, C>],
-    heights: &HeightLists<I, A>,
     i: usize,
+    near: &[usize],
 ) -> bool
     requires held { All (IsHeld I.limit) (plain_edges I.whole C.counts edges.now) }
-    requires ascending { IsAscending (plain_edges I.whole C.counts edges.now) }
-    requires heights { AreHeightsOf (plain_edges I.whole C.counts edges.now)
-        (plain_spans I.whole heights.now.edges.items) (plain_spans I.whole heights.now.blocks.items)
-        (plain_spans I.whole heights.now.over.items) }
     requires within { i < length edges.now }
+    requires near { AreNear (plain_edges I.whole C.counts edges.now) i near.now }
     ensures { IsTrue result ↔ AreSettledUpTo (plain_edges I.whole C.counts edges.now) i (length edges.now) }
 {
     let e = &edges[i];
-    let of = heights_of(e);
-    let end = run_end(edges, i);
-    let mut j = next_near(heights, of, i + 1, end);
-    while j < end {
+    for k in 0..near.len() {
+        let j = near[k];
         if !meet_in_ends(e, &edges[j]) {
             return false;
         }
-        j = next_near(heights, of, j + 1, end);
     }
     true
 }

@@ -4,6 +4,7 @@ use Rattle.std.proofs.lemmas.List.{length-map}
 use Rattle.std.proofs.lemmas.List.Sorted.{Contains-permutation, IsPermutation-map, IsPermutation-sym}
 use Rattle.overlay_arrange.specs.Content.{plain_edge, plain_edges}
 use Rattle.overlay_arrange.specs.Meetings.{plain_meeting, plain_meetings, AreGathered, HasBefore}
+use Rattle.overlay_arrange.specs.Near.{AreNear}
 use Rattle.overlay_arrange.specs.declared.meetings.Meeting.{Meeting}
 use Rattle.overlay_arrange.proofs.GatheredMeetings.{all_gathered, gathered_moved, none_gathered}
 use Rattle.overlay_arrange.proofs.meetings.gather.Goals as goal
@@ -16,6 +17,11 @@ loop-i-init g c =
 
 pub gather_from-requires-clause-gathered : goal.gather_from-requires-clause-gathered
 gather_from-requires-clause-gathered g c = c.loop-i.invariant
+
+pub gather_from-requires-clause-near : goal.gather_from-requires-clause-near
+gather_from-requires-clause-near g c =
+    subst (AreNear (plain_edges g.I.IntNumber.whole g.C.EdgeCount.counts c.args.edges.now) c.loop-i.i)
+    (sym c.deref.ensures.value) c.in_ok-find_near.ensures.ok
 
 pub loop-i-preserved : goal.loop-i-preserved
 loop-i-preserved g c = c.in_ok-gather_from.ensures.ok

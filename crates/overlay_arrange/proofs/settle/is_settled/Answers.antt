@@ -4,6 +4,7 @@ use Rattle.std.proofs.lemmas.List.{drop-map, drop_all, get_or_default, length-ma
 use Rattle.overlay_geom.specs.Settled.{IsSettled}
 use Rattle.overlay_arrange.specs.Content.{plain_edge, plain_edges}
 use Rattle.overlay_arrange.specs.Meetings.{AreSettledUpTo, IsAt}
+use Rattle.overlay_arrange.specs.Near.{AreNear}
 use Rattle.overlay_arrange.specs.Settle.{AreSettled}
 use Rattle.overlay_geom.proofs.Entries.{some_entry}
 use Rattle.overlay_geom.proofs.Mapped.{mapped_rest}
@@ -22,6 +23,11 @@ module _ {X Y : Type 0} (f : X → Y) (xs : List X) (i : ℕ) (within : i < leng
 
   at_entry : IsAt (map f xs) i (f entry)
   at_entry = placed_in_mapped f xs i entry within entry_is
+
+pub is_settled_from-requires-clause-near : goal.is_settled_from-requires-clause-near
+is_settled_from-requires-clause-near g c =
+    subst (AreNear (plain_edges g.I.IntNumber.whole g.C.EdgeCount.counts c.args.edges.now) c.loop-i.i)
+    (sym c.deref.ensures.value) c.in_ok-find_near.ensures.ok
 
 pub returns-then-not-is_settled_from-clause-ok : goal.returns-then-not-is_settled_from-clause-ok
 returns-then-not-is_settled_from-clause-ok g c =

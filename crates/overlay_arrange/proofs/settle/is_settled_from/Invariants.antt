@@ -1,13 +1,9 @@
--- The edge meets those looked at or passed over in ends alone, and the place looked at comes nearer to the end of its
--- run.
-use Rattle.std.proofs.Common.{◌-◌, ◌<◌, ◌≤◌}
+-- The edge meets those at the places so far in ends alone.
+use Rattle.std.proofs.Common.{take}
 use Rattle.overlay_arrange.specs.Content.{plain_edges}
-use Rattle.overlay_arrange.specs.Meetings.{AreSettledUpTo}
+use Rattle.overlay_arrange.proofs.RunEnds.{AreSettledWith}
 use Rattle.overlay_arrange.proofs.settle.is_settled_from.Given as goal
 
-abbrev pub invariant-loop-j : goal.invariant-loop-j
-invariant-loop-j g l =
-    (l.i < l.j) × (l.j ≤ l.end) × AreSettledUpTo (plain_edges g.I.IntNumber.whole g.C.EdgeCount.counts l.edges) l.i l.j
-
-abbrev pub decreases-loop-j : goal.decreases-loop-j
-decreases-loop-j g l = l.end - l.j
+abbrev pub invariant-loop-k : goal.invariant-loop-k
+invariant-loop-k g l =
+    AreSettledWith (plain_edges g.I.IntNumber.whole g.C.EdgeCount.counts l.edges) l.i (take l.k l.near)

@@ -1,0 +1,42 @@
+-- The whole run is taken, or searched.
+use Rattle.std.proofs.Common.{◌<◌, length, get_or, sym, subst, arith}
+use Rattle.std.proofs.lemmas.List.{get_or_default, length-map}
+use Rattle.std.proofs.lemmas.Result.{on_ok_weaker}
+use Rattle.overlay_geom.proofs.Entries.{some_entry}
+use Rattle.overlay_arrange.specs.Content.{plain_edge, plain_edges}
+use Rattle.overlay_arrange.specs.Extents.{plain_extent, plain_extents}
+use Rattle.overlay_arrange.specs.Near.{run_of, IsSearchedTo}
+use Rattle.overlay_arrange.proofs.GatheredMeetings.{placed_in_mapped}
+use Rattle.overlay_arrange.proofs.NearEdges.{run_near, searched_near}
+use Rattle.overlay_arrange.proofs.near.find_near.Goals as goal
+
+pub returns-then-end-i-le-FEW-clause-ok : goal.returns-then-end-i-le-FEW-clause-ok
+returns-then-end-i-le-FEW-clause-ok g c =
+    let es = plain_edges g.I.IntNumber.whole g.C.EdgeCount.counts c.args.edges.now in
+    let i = c.args.i in
+    let inside : i < length es =
+    (let l = length-map c.args.edges.now (plain_edge g.I.IntNumber.whole g.C.EdgeCount.counts) in
+    let within = c.requires.within in omega (arith, l, within)) in
+    let d = some_entry es i inside in
+    let e = get_or es i d in
+    on_ok_weaker c.take_run.result
+    (run_near es i c.run_end-end.result e c.requires.ascending (inside, get_or_default es i e d inside)
+    c.run_end-end.ensures c.take_run.new.near.items) c.take_run.ensures.ok
+
+pub returns-else-end-i-le-FEW-clause-ok : goal.returns-else-end-i-le-FEW-clause-ok
+returns-else-end-i-le-FEW-clause-ok g c =
+    let whole = g.I.IntNumber.whole in
+    let plain = plain_edge whole g.C.EdgeCount.counts in
+    let es = plain_edges whole g.C.EdgeCount.counts c.args.edges.now in
+    let i = c.args.i in
+    let e = c.index-edges-i.result in
+    let extents = c.args.strips.now.edges.items in
+    let ss = plain_extents whole extents in
+    let js = c.find_by_blocks.new.near.items in
+    let at_e = placed_in_mapped plain c.args.edges.now i e c.requires.within c.index-edges-i.is in
+    on_ok_weaker c.find_by_blocks.result
+    (λ searched. searched_near es i c.run_end-end.result (plain e) c.requires.ascending at_e c.run_end-end.ensures ss js
+    c.requires.strips.permutation
+    (subst (λ n. IsSearchedTo ss (run_of (plain e) i c.run_end-end.result) n js)
+    (sym (length-map extents (plain_extent whole)))
+    (subst (λ s. IsSearchedTo ss s (length extents) js) c.run_of.ensures searched))) c.find_by_blocks.ensures.ok

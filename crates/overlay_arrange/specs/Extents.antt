@@ -1,0 +1,66 @@
+-- Between which heights and which places edges lie, and blocks of so many of these extents.
+use Rattle.std.specs.Prelude.{◌⊎◌, ℕ, ◌<◌, ◌≤◌, ◌/◌, cond, ℤ, ◌<ℤ◌, ◌≤ℤ◌, int_lt, List, map, length}
+use Rattle.std.specs.Prelude.{slice_index_or}
+use Rattle.std.specs.List.Sorted.{IsPermutation}
+use Rattle.overlay_geom.specs.Edges.{CountedEdge}
+use Rattle.overlay_geom.specs.Numbered.{Numbered, numbered}
+use Rattle.overlay_arrange.specs.Meetings.{IsAt}
+use Rattle.overlay_arrange.specs.declared.extents.Extent.{Extent as HeldExtent}
+
+-- the least and the greatest height of edges, and the first and the last one of their places
+pub record Extent : Type 0 where
+  pub low : ℤ
+  pub high : ℤ
+  pub first : ℕ
+  pub last : ℕ
+
+-- that of the edge at a place: the lesser and the greater one of the heights of its ends
+abbrev pub extent_of : CountedEdge → ℕ → Extent
+extent_of e place = record {
+  low = cond (int_lt e.a.y e.b.y) e.a.y e.b.y;
+  high = cond (int_lt e.a.y e.b.y) e.b.y e.a.y;
+  first = place;
+  last = place;
+}
+
+abbrev pub extent_at : Numbered CountedEdge → Extent
+extent_at n = extent_of n.item n.place
+
+-- those of the edges of a list, each at its place
+abbrev pub extents_of : List CountedEdge → List Extent
+extents_of es = map extent_at (numbered 0 es)
+
+-- the extent at a program's numbers, and each one of a list
+abbrev pub plain_extent : {I : Type 0} → (I → ℤ) → HeldExtent I → Extent
+plain_extent whole s = record { low = whole s.low; high = whole s.high; first = s.first; last = s.last }
+
+abbrev pub plain_extents : {I : Type 0} → (I → ℤ) → List (HeldExtent I) → List Extent
+plain_extents whole ss = map (plain_extent whole) ss
+
+-- the heights of the one lie wholly below those of the other one, or its places wholly before
+abbrev pub IsApart : Extent → Extent → Type 0
+IsApart s t = (s.high <ℤ t.low) ⊎ ((t.high <ℤ s.low) ⊎ ((s.last < t.first) ⊎ (t.last < s.first)))
+
+-- the heights and the places of the second extent are among those of the first one
+pub record Encloses (s t : Extent) : Type 0 where
+  pub low : s.low ≤ℤ t.low
+  pub high : t.high ≤ℤ s.high
+  pub first : s.first ≤ t.first
+  pub last : t.last ≤ s.last
+
+-- each extent is enclosed by that of its block of n
+abbrev pub AreBlocks : ℕ → List Extent → List Extent → Type 0
+AreBlocks n ss blocks = (k : ℕ) (s d : Extent) → IsAt ss k s →
+    (k / n < length blocks) × Encloses (slice_index_or blocks (k / n) d) s
+
+-- the extents are enclosed by those of their blocks
+pub record AreInBlocks (ss of_16 of_256 of_4096 of_65536 : List Extent) : Type 0 where
+  pub by_16 : AreBlocks 16 ss of_16
+  pub by_256 : AreBlocks 256 ss of_256
+  pub by_4096 : AreBlocks 4096 ss of_4096
+  pub by_65536 : AreBlocks 65536 ss of_65536
+
+-- they are those of the edges, in any order
+pub record AreStripsOf (es : List CountedEdge) (ss of_16 of_256 of_4096 of_65536 : List Extent) : Type 0 where
+  pub permutation : IsPermutation (extents_of es) ss
+  pub blocks : AreInBlocks ss of_16 of_256 of_4096 of_65536

@@ -1,0 +1,50 @@
+-- The later edges that an edge may meet, and a search for them by extents.
+use Rattle.std.specs.Prelude.{◌≡◌, ◌⊎◌, ℕ, ◌+◌, ◌-◌, ◌/◌, ◌%◌, ◌<◌, ◌≤◌, ◌<ℤ◌, List, Contains, length, slice_index_or}
+use Rattle.overlay_geom.specs.Edges.{CountedEdge}
+use Rattle.overlay_arrange.specs.Extents.{Extent, extent_of, IsApart}
+use Rattle.overlay_arrange.specs.Meetings.{IsAt}
+
+-- the heights of the edge e at place i, and the places after it up to the end of its run
+abbrev pub run_of : CountedEdge → ℕ → ℕ → Extent
+run_of e i end =
+    record { low = (extent_of e i).low; high = (extent_of e i).high; first = i + 1; last = end - 1 }
+
+-- the heights of the edge e are less than those of f
+abbrev pub IsUnder : CountedEdge → CountedEdge → Type 0
+IsUnder e f = (extent_of e 0).high <ℤ (extent_of f 0).low
+
+-- the edge f starts right of the end of e, or their heights are apart
+abbrev pub IsFar : CountedEdge → CountedEdge → Type 0
+IsFar e f = (e.b.x <ℤ f.a.x) ⊎ (IsUnder e f ⊎ IsUnder f e)
+
+-- places of edges after the one at place i, with each one that is not far from it
+pub record AreNear (es : List CountedEdge) (i : ℕ) (js : List ℕ) : Type 0 where
+  pub later : (j : ℕ) → Contains js j → (i < j) × (j < length es)
+  pub all : (j : ℕ) (e f : CountedEdge) → i < j → IsAt es i e → IsAt es j f → Contains js j ⊎ IsFar e f
+
+-- the extents from one place up to another one lie apart from s
+abbrev pub AreApartFrom : List Extent → Extent → ℕ → ℕ → Type 0
+AreApartFrom ss s from to = (k : ℕ) (t : Extent) → from ≤ k → k < to → IsAt ss k t → IsApart s t
+
+-- the extent does not lie apart from s, and j is its place
+pub record IsNearAt (ss : List Extent) (s : Extent) (j : ℕ) : Type 0 where
+  pub place : ℕ
+  pub extent : Extent
+  pub at : IsAt ss place extent
+  pub is : extent.first ≡ j
+  pub near : ¬ (IsApart s extent)
+
+-- the places of those of the extents before the one at place `at` that do not lie apart from s
+pub record IsSearchedTo (ss : List Extent) (s : Extent) (at : ℕ) (js : List ℕ) : Type 0 where
+  pub from : (j : ℕ) → Contains js j → IsNearAt ss s j
+  pub all : (k : ℕ) (t : Extent) → k < at → IsAt ss k t → IsApart s t ⊎ Contains js t.first
+
+-- all places from the one up to the other one
+pub record AreBetween (from to : ℕ) (js : List ℕ) : Type 0 where
+  pub within : (j : ℕ) → Contains js j → (from ≤ j) × (j < to)
+  pub all : (j : ℕ) → from ≤ j → j < to → Contains js j
+
+-- at a place a block of so many extents begins, and lies apart from s
+pub record BeginsApart (blocks : List Extent) (size : ℕ) (s : Extent) (at : ℕ) : Type 0 where
+  pub begins : at % size ≡ 0
+  pub apart : (d : Extent) → IsApart s (slice_index_or blocks (at / size) d)

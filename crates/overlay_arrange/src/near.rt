@@ -1,0 +1,178 @@
+//! The later edges of a list that an edge may meet.
+
+ghost use Rattle.std.specs.Prelude.{◌≡◌, ◌+◌, ◌≤◌, ◌<◌, ◌/◌, [], All, length, IsTrue, OnOk, IsOkUnless};
+ghost use Rattle.overlay_arrange.specs.Content.{plain_edge, plain_edges, IsAscending, IsHeld};
+ghost use Rattle.overlay_arrange.specs.Extents.{plain_extent, plain_extents, AreInBlocks, AreStripsOf};
+ghost use Rattle.overlay_arrange.specs.Near.{run_of, AreApartFrom, AreBetween, AreNear, BeginsApart, IsSearchedTo};
+
+use crate::count::EdgeCount;
+use crate::edge::CountedEdge;
+use crate::extents::{Extent, extent_of, is_apart};
+use crate::spans::run_end;
+use crate::strips::Strips;
+use overlay_geom::error::OverlayError;
+use overlay_geom::number::IntNumber;
+use std::alloc::Allocator;
+
+// A run of so few edges is taken whole.
+const FEW: usize = 8;
+// So many extents are looked through at a time.
+const BLOCK: usize = 16;
+
+/// Finds the places of the later edges that the edge at place i may meet: all of its run, or those of it that do not
+/// lie at heights apart from its own. The edges ascend.
+pub(crate) fn find_near<I: IntNumber, C: EdgeCount, A: Allocator>(
+    near: &mut Vec<usize, A>,
+    edges: &[CountedEdge<I, C>],
+    strips: &Strips<I, A>,
+    i: usize,
+) -> Result<(), OverlayError>
+    requires held { All (IsHeld I.limit) (plain_edges I.whole C.counts edges.now) }
+    requires ascending { IsAscending (plain_edges I.whole C.counts edges.now) }
+    requires strips { AreStripsOf (plain_edges I.whole C.counts edges.now)
+        (plain_extents I.whole strips.now.edges.items) (plain_extents I.whole strips.now.of_16.items)
+        (plain_extents I.whole strips.now.of_256.items) (plain_extents I.whole strips.now.of_4096.items)
+        (plain_extents I.whole strips.now.of_65536.items) }
+    requires within { i < length edges.now }
+    ensures ok { OnOk result (AreNear (plain_edges I.whole C.counts edges.now) i near.new.items) }
+    ensures err { IsOkUnless result OverlayError.Memory }
+{
+    let end = run_end(edges, i);
+    near.clear();
+    if end - i <= FEW {
+        take_run(near, i + 1, end)
+    } else {
+        find_by_blocks(near, strips, run_of(&edges[i], i, end))
+    }
+}
+
+/// Takes all places from the one up to the other one.
+fn take_run<A: Allocator>(
+    near: &mut Vec<usize, A>,
+    from: usize,
+    to: usize,
+) -> Result<(), OverlayError>
+    requires empty { near.old.items ≡ [] }
+    requires ordered { from ≤ to }
+    ensures ok { OnOk result (AreBetween from to near.new.items) }
+    ensures err { IsOkUnless result OverlayError.Memory }
+{
+    for j in from..to {
+        near.push(j)?;
+    }
+    Ok(())
+}
+
+/// Finds the places of the edges that do not lie apart from an extent.
+fn find_by_blocks<I: IntNumber, A: Allocator>(
+    near: &mut Vec<usize, A>,
+    strips: &Strips<I, A>,
+    of: Extent<I>,
+) -> Result<(), OverlayError>
+    requires strips { AreInBlocks
+        (plain_extents I.whole strips.now.edges.items) (plain_extents I.whole strips.now.of_16.items)
+        (plain_extents I.whole strips.now.of_256.items) (plain_extents I.whole strips.now.of_4096.items)
+        (plain_extents I.whole strips.now.of_65536.items) }
+    requires empty { near.old.items ≡ [] }
+    ensures ok { OnOk result (IsSearchedTo (plain_extents I.whole strips.now.edges.items) (plain_extent I.whole of)
+        (length strips.now.edges.items) near.new.items) }
+    ensures err { IsOkUnless result OverlayError.Memory }
+{
+    let mut at = 0;
+    while at < strips.edges.len() {
+        let next = on_by(at, count_passed(strips, of, at), strips.edges.len());
+        if at < next {
+            at = next;
+        } else {
+            let end = on_by(at, BLOCK, strips.edges.len());
+            push_near(near, of, &strips.edges, at, end)?;
+            at = end;
+        }
+    }
+    Ok(())
+}
+
+/// The place so far on, or the last one where that is less.
+fn on_by(at: usize, count: usize, last: usize) -> usize
+    requires { at ≤ last }
+    ensures from { at ≤ result }
+    ensures up_to { result ≤ last }
+    ensures no_further { result ≤ at + count }
+    ensures on { at < last → 0 < count → at < result }
+{
+    if last - at < count { last } else { at + count }
+}
+
+/// Of so many extents, from the one at a place on, a block tells that they lie apart from another one.
+fn count_passed<I: IntNumber, A: Allocator>(
+    strips: &Strips<I, A>,
+    of: Extent<I>,
+    at: usize,
+) -> usize
+    requires strips { AreInBlocks
+        (plain_extents I.whole strips.now.edges.items) (plain_extents I.whole strips.now.of_16.items)
+        (plain_extents I.whole strips.now.of_256.items) (plain_extents I.whole strips.now.of_4096.items)
+        (plain_extents I.whole strips.now.of_65536.items) }
+    requires within { at < length strips.now.edges.items }
+    ensures { AreApartFrom (plain_extents I.whole strips.now.edges.items) (plain_extent I.whole of)
+        at (at + result) }
+{
+    if begins_apart(&strips.of_65536, 65536, of, at) {
+        65536
+    } else if begins_apart(&strips.of_4096, 4096, of, at) {
+        4096
+    } else if begins_apart(&strips.of_256, 256, of, at) {
+        256
+    } else if begins_apart(&strips.of_16, 16, of, at) {
+        16
+    } else {
+        0
+    }
+}
+
+/// Whether at a place a block of so many extents begins, and lies apart from another one.
+fn begins_apart<I: IntNumber>(blocks: &[Extent<I>], size: usize, of: Extent<I>, at: usize) -> bool
+    requires some { 0 < size }
+    requires within { at / size < length blocks.now }
+    ensures { IsTrue result → BeginsApart (plain_extents I.whole blocks.now) size (plain_extent I.whole of) at }
+{
+    at % size == 0 && is_apart(of, blocks[at / size])
+}
+
+/// Adds the places of those of the extents from one place up to another one that do not lie apart from an extent.
+fn push_near<I: IntNumber, A: Allocator>(
+    near: &mut Vec<usize, A>,
+    of: Extent<I>,
+    extents: &[Extent<I>],
+    from: usize,
+    to: usize,
+) -> Result<(), OverlayError>
+    requires ordered { from ≤ to }
+    requires within { to ≤ length extents.now }
+    requires so_far { IsSearchedTo (plain_extents I.whole extents.now) (plain_extent I.whole of) from near.old.items }
+    ensures ok { OnOk result (IsSearchedTo (plain_extents I.whole extents.now) (plain_extent I.whole of)
+        to near.new.items) }
+    ensures err { IsOkUnless result OverlayError.Memory }
+{
+    for k in from..to {
+        let extent = extents[k];
+        if !is_apart(of, extent) {
+            near.push(extent.first)?;
+        }
+    }
+    Ok(())
+}
+
+/// The heights of the edge at place i, and the places after it up to the end of its run.
+fn run_of<I: IntNumber, C: EdgeCount>(e: &CountedEdge<I, C>, i: usize, end: usize) -> Extent<I>
+    requires { i < end }
+    ensures { plain_extent I.whole result ≡ run_of (plain_edge I.whole C.counts e.now) i end }
+{
+    let own = extent_of(e, i);
+    Extent {
+        low: own.low,
+        high: own.high,
+        first: i + 1,
+        last: end - 1,
+    }
+}
