@@ -41,15 +41,15 @@ next_listed k plain old new z ws i w within at is maps before =
     ∙ ap (λ zs. zs ++ k (plain w) ∷ []) before
     ∙ sym (ap (map k) (mapped_more plain ws i w within at) ∙ map-append k (map plain (take i ws)) (plain w ∷ []))
 
--- with the two items pushed that one more item gives, a list is still what the items read so far give
-pub next_two_joined : {W X Y Z : Type 0} (f : X → Z) (k : Y → List Z) (plain : W → Y) (old more new : List X) (x y : X)
-    (ws : List W) (i : ℕ) (w : W)
-    → i < length ws → w ≡ get_or ws i w → more ≡ old ++ x ∷ [] → new ≡ more ++ y ∷ [] → f x ∷ f y ∷ [] ≡ k (plain w)
-    → map f old ≡ flat_map k (map plain (take i ws)) → map f new ≡ flat_map k (map plain (take (i + 1) ws))
-next_two_joined f k plain old more new x y ws i w within at first second gives before =
-    mapped_pushed f more new y (f y) second refl
-    ∙ ap (λ zs. zs ++ f y ∷ []) (mapped_pushed f old more x (f x) first refl)
-    ∙ append_assoc (map f old) (f x ∷ []) (f y ∷ [])
-    ∙ ap (λ zs. zs ++ f x ∷ f y ∷ []) before
-    ∙ ap (λ zs. flat_map k (map plain (take i ws)) ++ zs) gives
-    ∙ sym (ap (flat_map k) (mapped_more plain ws i w within at) ∙ joined_push k (map plain (take i ws)) (plain w))
+-- so it is behind what stood in the list before the first of them
+pub next_mapped_behind : {W X Y Z : Type 0} (before : List Z) (f : X → Z) (k : Y → Z) (plain : W → Y) (old new : List X)
+    (x : X) (ws : List W) (i : ℕ) (w : W)
+    → i < length ws → w ≡ get_or ws i w → new ≡ old ++ x ∷ [] → f x ≡ k (plain w)
+    → map f old ≡ before ++ map k (map plain (take i ws))
+    → map f new ≡ before ++ map k (map plain (take (i + 1) ws))
+next_mapped_behind before f k plain old new x ws i w within at is maps so_far =
+    mapped_pushed f old new x (k (plain w)) is maps
+    ∙ ap (λ zs. zs ++ k (plain w) ∷ []) so_far
+    ∙ append_assoc before (map k (map plain (take i ws))) (k (plain w) ∷ [])
+    ∙ ap (λ zs. before ++ zs)
+    (sym (ap (map k) (mapped_more plain ws i w within at) ∙ map-append k (map plain (take i ws)) (plain w ∷ [])))

@@ -1,10 +1,11 @@
 -- The ends of edges with their counts cancel out where the edges' counts are balanced.
 use Rattle.std.proofs.Common.{◌≡◌, ◌*◌, ◌^◌, ◌<◌, ◌≤◌, Bool, false, ℤ, pos, neg_ℤ, ◌+ℤ◌, ◌-ℤ◌, ◌*ℤ◌, List}
-use Rattle.std.proofs.Common.{[], ◌∷◌, sym, ◌∙◌, arith}
+use Rattle.std.proofs.Common.{[], ◌∷◌, ◌++◌, map, sym, ◌∙◌, arith}
 use Rattle.std.specs.Prelude.{sum_by}
 use Rattle.std.specs.Cmp.{IsStrictWeakOrder}
 use Rattle.std.specs.List.Sorted.{IsPermutation, IsSortedBy}
-use Rattle.std.proofs.lemmas.List.Sorted.{sorted_far, sum_by-IsPermutation}
+use Rattle.std.proofs.lemmas.List.Sorted.{sorted_far, sum_by-IsPermutation, IsPermutation-refl, IsPermutation-sym}
+use Rattle.std.proofs.lemmas.List.Sorted.{IsPermutation-trans, IsPermutation-cons, IsPermutation-middle}
 use Rattle.std.proofs.lemmas.List.Sums.{sum_by-append}
 use Rattle.overlay_geom.specs.Edges.{CountedEdge, weight}
 use Rattle.overlay_geom.specs.Plane.{Point, point_lt, total}
@@ -19,7 +20,7 @@ use Rattle.overlay_plane.proofs.JoinedLists.{total-flat_map}
 use Rattle.overlay_plane.proofs.PieceCounts.{weight_reversed}
 use Rattle.overlay_plane.proofs.Totals.{total-same}
 use Rattle.overlay_arrange.specs.Ends.{CountedEnd, plain_end, plain_ends, counted_ends, all_counted_ends, end_weight}
-use Rattle.overlay_arrange.specs.Ends.{AreSummable, CancelOut}
+use Rattle.overlay_arrange.specs.Ends.{counted_start, counted_stop, starts_and_stops, AreSummable, CancelOut}
 use Rattle.overlay_arrange.specs.declared.counted_end.CountedEnd.{CountedEnd as HeldEnd}
 use Rattle.overlay_arrange.proofs.EndSums.{AreByPoint}
 
@@ -51,7 +52,23 @@ ends_light (e ∷ es) =
     let c = weight_reversed e.counts.clip in
     omega arith
 
-module _ (es : List CountedEdge) (ns : List CountedEnd) (moved : IsPermutation (all_counted_ends es) ns) where
+-- first the smaller ends and then the larger ones are the ends of the edges
+apart : (es : List CountedEdge) → IsPermutation (all_counted_ends es) (starts_and_stops es)
+apart [] = IsPermutation-refl []
+apart (e ∷ es) =
+    let starts = map counted_start es in
+    let stops = map counted_stop es in
+    IsPermutation-cons (counted_start e) (counted_stop e ∷ all_counted_ends es) (starts ++ counted_stop e ∷ stops)
+    (IsPermutation-trans (counted_stop e ∷ all_counted_ends es) (counted_stop e ∷ starts ++ stops)
+    (starts ++ counted_stop e ∷ stops)
+    (IsPermutation-cons (counted_stop e) (all_counted_ends es) (starts ++ stops) (apart es))
+    (IsPermutation-sym (starts ++ counted_stop e ∷ stops) (counted_stop e ∷ starts ++ stops)
+    (IsPermutation-middle starts (counted_stop e) stops)))
+
+module _ (es : List CountedEdge) (ns : List CountedEnd) (sorted : IsPermutation (starts_and_stops es) ns) where
+  moved : IsPermutation (all_counted_ends es) ns
+  moved = IsPermutation-trans (all_counted_ends es) (starts_and_stops es) ns (apart es) sorted
+
   -- in any order of the ends
   pub balanced_where_cancelled : CancelOut ns → HasBalancedCounts es
   balanced_where_cancelled cancel = record {

@@ -1,6 +1,6 @@
 -- The ends of edges with their counts, and what it is for them to cancel out at each point.
-use Rattle.std.specs.Prelude.{◌≡◌, ℕ, ◌+◌, ◌^◌, ◌<◌, false, ℤ, pos, neg_ℤ, nat_abs, ◌*ℤ◌, List, [], ◌∷◌, map, AllPairs}
-use Rattle.std.specs.Prelude.{sum_by}
+use Rattle.std.specs.Prelude.{◌≡◌, ℕ, ◌+◌, ◌^◌, ◌<◌, false, ℤ, pos, neg_ℤ, nat_abs, ◌*ℤ◌, List, [], ◌∷◌, ◌++◌, map}
+use Rattle.std.specs.Prelude.{AllPairs, sum_by}
 use Rattle.std.specs.List.{flat_map}
 use Rattle.overlay_geom.specs.Edges.{CountedEdge}
 use Rattle.overlay_geom.specs.Plane.{Point, point_lt, total}
@@ -20,15 +20,22 @@ abbrev pub plain_ends : {I : Type 0} → (I → ℤ) → List (HeldEnd I) → Li
 plain_ends whole ns = map (plain_end whole) ns
 
 -- the two ends of an edge
+abbrev pub counted_start : CountedEdge → CountedEnd
+counted_start e = record { point = e.a; subj = neg_ℤ e.counts.subj; clip = neg_ℤ e.counts.clip }
+
+abbrev pub counted_stop : CountedEdge → CountedEnd
+counted_stop e = record { point = e.b; subj = e.counts.subj; clip = e.counts.clip }
+
 abbrev pub counted_ends : CountedEdge → List CountedEnd
-counted_ends e =
-    record { point = e.a; subj = neg_ℤ e.counts.subj; clip = neg_ℤ e.counts.clip }
-    ∷ record { point = e.b; subj = e.counts.subj; clip = e.counts.clip }
-    ∷ []
+counted_ends e = counted_start e ∷ counted_stop e ∷ []
 
 -- those of each edge of a list
 abbrev pub all_counted_ends : List CountedEdge → List CountedEnd
 all_counted_ends es = flat_map counted_ends es
+
+-- the same, the smaller ends first
+abbrev pub starts_and_stops : List CountedEdge → List CountedEnd
+starts_and_stops es = map counted_start es ++ map counted_stop es
 
 -- how much an end weighs: its counts without sign, summed
 abbrev pub end_weight : CountedEnd → ℕ

@@ -1,11 +1,12 @@
 //! Whether as many steps of the subject, and of the clip, enter each point as leave it.
 
-ghost use Rattle.std.specs.Prelude.{◌≡◌, ◌^◌, ◌↔◌, ◌+ℤ◌, ◌*ℤ◌, pos, neg_ℤ, IsTrue, IfOk, OnOk, IsOkUnless};
+ghost use Rattle.std.specs.Prelude.{◌≡◌, ◌^◌, ◌↔◌, ◌+ℤ◌, ◌++◌, pos, map, IsTrue, IfOk, OnOk, IsOkUnless};
 ghost use Rattle.std.specs.List.Sorted.{IsPermutation};
 ghost use Rattle.overlay_geom.specs.Numbers.{Within};
 ghost use Rattle.overlay_plane.specs.Balance.{HasBalancedCounts};
 ghost use Rattle.overlay_arrange.specs.Content.{plain_edges, IsContent};
-ghost use Rattle.overlay_arrange.specs.Ends.{plain_ends, all_counted_ends, AreSummable, CancelOut};
+ghost use Rattle.overlay_arrange.specs.Ends.{plain_ends, counted_start, counted_stop, starts_and_stops};
+ghost use Rattle.overlay_arrange.specs.Ends.{AreSummable, CancelOut};
 
 use crate::count::EdgeCount;
 use crate::counted_end::CountedEnd;
@@ -30,16 +31,30 @@ pub fn is_balanced<I: IntNumber, C: EdgeCount, A: Allocator>(
     Ok(cancel_out(&ends))
 }
 
-/// The ends of all edges with their counts.
+/// The ends of all edges with their counts: first the smaller ones, which a sort finds in order where the edges are.
 fn counted_ends<I: IntNumber, C: EdgeCount, A: Allocator>(
     alloc: A,
     edges: &[CountedEdge<I, C>],
 ) -> Result<Vec<CountedEnd<I>, A>, OverlayError>
     ensures ok { IfOk result (λ v.
-        plain_ends I.whole v.items ≡ all_counted_ends (plain_edges I.whole C.counts edges.now)) }
+        plain_ends I.whole v.items ≡ starts_and_stops (plain_edges I.whole C.counts edges.now)) }
     ensures err { IsOkUnless result OverlayError.Memory }
 {
-    let mut ends = Vec::new(alloc);
+    let mut ends = Vec::with_capacity(alloc, edges.len())?;
+    push_starts(&mut ends, edges)?;
+    push_stops(&mut ends, edges)?;
+    Ok(ends)
+}
+
+/// Adds the smaller ends of the edges.
+fn push_starts<I: IntNumber, C: EdgeCount, A: Allocator>(
+    ends: &mut Vec<CountedEnd<I>, A>,
+    edges: &[CountedEdge<I, C>],
+) -> Result<(), OverlayError>
+    ensures ok { OnOk result (plain_ends I.whole ends.new.items
+        ≡ plain_ends I.whole ends.old.items ++ map counted_start (plain_edges I.whole C.counts edges.now)) }
+    ensures err { IsOkUnless result OverlayError.Memory }
+{
     for edge in edges {
         let subj = i64::from(edge.count.subj());
         let clip = i64::from(edge.count.clip());
@@ -48,13 +63,29 @@ fn counted_ends<I: IntNumber, C: EdgeCount, A: Allocator>(
             subj: -subj,
             clip: -clip,
         })?;
+    }
+    Ok(())
+}
+
+/// Adds the larger ends of the edges.
+fn push_stops<I: IntNumber, C: EdgeCount, A: Allocator>(
+    ends: &mut Vec<CountedEnd<I>, A>,
+    edges: &[CountedEdge<I, C>],
+) -> Result<(), OverlayError>
+    ensures ok { OnOk result (plain_ends I.whole ends.new.items
+        ≡ plain_ends I.whole ends.old.items ++ map counted_stop (plain_edges I.whole C.counts edges.now)) }
+    ensures err { IsOkUnless result OverlayError.Memory }
+{
+    for edge in edges {
+        let subj = i64::from(edge.count.subj());
+        let clip = i64::from(edge.count.clip());
         ends.push(CountedEnd {
             point: edge.b,
             subj,
             clip,
         })?;
     }
-    Ok(ends)
+    Ok(())
 }
 
 /// Whether the counts of the ends at each point add up to 0.

@@ -23,6 +23,7 @@ pub mod options;
 pub mod overlay_rule;
 mod rounds;
 pub mod settle;
+pub mod sort_runs;
 mod spans;
 mod starting_edge;
 mod starts;

@@ -9,6 +9,7 @@ ghost use Rattle.overlay_arrange.specs.Starts.{starting_ends, numbered_starts, A
 
 use crate::count::EdgeCount;
 use crate::edge::{CountedEdge, compare_points};
+use crate::sort_runs::order_neighbours;
 use crate::starting_edge::StartingEdge;
 use overlay_geom::error::OverlayError;
 use overlay_geom::number::{IntNumber, WideIntNumber};
@@ -28,6 +29,7 @@ pub(crate) fn edges_by_start<I: IntNumber, C: EdgeCount, A: Allocator>(
     ensures err { IsOkUnless result OverlayError.Memory }
 {
     let mut starting = edges_with_places(alloc, edges)?;
+    order_neighbours(&mut starting, |e, f| compare_starts(e, f));
     starting.sort_by(|e, f| compare_starts(e, f))?;
     Ok(starting)
 }

@@ -6,11 +6,12 @@ ghost use Rattle.overlay_walk.specs.Starts.{HaveEdges};
 ghost use Rattle.overlay_walk.specs.Steps.{plain_steps, IsLong};
 ghost use Rattle.overlay_walk.specs.WalkEdges.{numbered_entries};
 
-use crate::by_start::sort_by_start;
+use crate::by_start::{compare_starts, sort_by_start};
 use crate::filled_side::edge_along;
 use crate::numbered_edge::NumberedEdge;
 use crate::open_places::is_open;
-use crate::step::Step;
+use crate::step::{Step, is_forward};
+use overlay_arrange::sort_runs::{bring_forward, order_neighbours};
 use overlay_geom::error::OverlayError;
 use overlay_geom::number::IntNumber;
 use std::alloc::Allocator;
@@ -26,8 +27,18 @@ pub fn places_by_start<I: IntNumber, A: Allocator + Clone>(
     ensures err { IsOkUnless result OverlayError.Memory }
 {
     let mut edges = edges_along(alloc.clone()?, steps)?;
+    bring_forward(&mut edges, |e| runs_forward(steps, e.number));
+    order_neighbours(&mut edges, |e, f| compare_starts(e, f));
     sort_by_start(&mut edges)?;
     numbers_of(alloc, &edges)
+}
+
+/// Whether the step at a place runs forward; there need not be one.
+fn runs_forward<I: IntNumber>(steps: &[Step<I>], place: usize) -> bool {
+    match steps.get(place) {
+        Some(step) => is_forward(step),
+        None => false,
+    }
 }
 
 /// The edges of the steps, each with its step's place.

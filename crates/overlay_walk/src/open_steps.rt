@@ -14,8 +14,9 @@ ghost use Rattle.overlay_walk.specs.Steps.{IsByFrom, IsLong};
 use crate::hand::Hand;
 use crate::leftmost::{first_open, places_by_start};
 use crate::next::place_of_next;
-use crate::step::Step;
+use crate::step::{Step, is_forward};
 use overlay_arrange::edge::compare_points;
+use overlay_arrange::sort_runs::bring_forward;
 use overlay_geom::error::OverlayError;
 use overlay_geom::number::IntNumber;
 use std::alloc::Allocator;
@@ -142,12 +143,14 @@ impl<I: IntNumber, A: Allocator + Clone> OpenSteps<I, A> {
     }
 }
 
-/// Puts the steps into the order of the points that they leave.
+/// Puts the steps into the order of the points that they leave. Those that run forward come first before they are
+/// sorted: the steps along edges in order leave points in order then.
 fn sort_steps<I: IntNumber, A: Allocator>(steps: &mut Vec<Step<I>, A>) -> Result<(), OverlayError>
     ensures permutation { IsPermutation steps.old.items steps.new.items }
     ensures order { OnOk result (IsByFrom (plain_steps I.whole steps.new.items)) }
     ensures err { IsOkUnless result OverlayError.Memory }
 {
+    bring_forward(steps, |s| is_forward(s));
     steps.sort_by(|s, t| compare_points(s.from, t.from))?;
     Ok(())
 }

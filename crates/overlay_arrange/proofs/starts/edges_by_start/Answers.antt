@@ -2,7 +2,7 @@
 use Rattle.std.proofs.Common.{◌≡◌, false, subst, rules}
 use Rattle.std.specs.List.Sorted.{IsPermutation}
 use Rattle.std.specs.Ordering.{is_lt}
-use Rattle.std.proofs.lemmas.List.Sorted.{answers_always, IsPermutation-map}
+use Rattle.std.proofs.lemmas.List.Sorted.{answers_always, IsPermutation-map, IsPermutation-trans}
 use Rattle.overlay_geom.specs.Edges.{ends_of}
 use Rattle.overlay_geom.proofs.Mapped.{AllPairs-map}
 use Rattle.overlay_plane.specs.Anchors.{is_anchored_before}
@@ -17,7 +17,8 @@ returns-clause-ok g c =
     let sorted = c.sort_by.new.self.items in record {
       permutation = subst (λ ns. IsPermutation ns (numbered_starts whole counts sorted)) c.in_ok-starting.ensures.ok
           (IsPermutation-map (numbered_start whole counts) c.in_ok-starting.starting.items sorted
-          c.in_ok-sort_by.ensures.permutation);
+          (IsPermutation-trans c.in_ok-starting.starting.items c.order_neighbours.new.items.items sorted
+          c.order_neighbours.ensures c.in_ok-sort_by.ensures.permutation));
       order = AllPairs-map (λ m n. is_anchored_before (ends_of n.item) (ends_of m.item) ≡ false)
           (numbered_start whole counts) sorted
           (by_start-from_sorted (starting_ends whole) (λ s. s.forward) sorted

@@ -1,7 +1,7 @@
 -- The sorted edges of all steps tell their places.
 use Rattle.std.proofs.Common.{map, sym, ap, ◌∙◌, subst}
 use Rattle.std.proofs.lemmas.List.{length-map}
-use Rattle.std.proofs.lemmas.List.Sorted.{IsPermutation-map}
+use Rattle.std.proofs.lemmas.List.Sorted.{IsPermutation-map, IsPermutation-trans}
 use Rattle.std.proofs.lemmas.Result.{IfOk-weaker}
 use Rattle.overlay_walk.specs.Places.{ArePlacesByStart}
 use Rattle.overlay_walk.specs.Starts.{HaveEdges}
@@ -16,10 +16,14 @@ returns-clause-ok g c =
     let ss = plain_steps whole c.args.steps.now in
     let edges = c.in_ok-edges.edges.items in
     let sorted = c.sort_by_start.new.edges.items in
+    let forward = c.bring_forward.new.items.items in
+    let near = c.order_neighbours.new.items.items in
+    let moved = IsPermutation-trans edges forward sorted c.bring_forward.ensures
+    (IsPermutation-trans forward near sorted c.order_neighbours.ensures c.in_ok-sort_by_start.ensures.permutation) in
     let have = subst (λ n. HaveEdges ss n (numbered_entries whole edges))
     (sym (length-map c.args.steps.now (plain_step whole))) c.in_ok-edges.ensures.ok in
     let places = places_sorted ss (numbered_entries whole edges) (numbered_entries whole sorted) have
-    (IsPermutation-map (numbered_entry whole) edges sorted c.in_ok-sort_by_start.ensures.permutation)
+    (IsPermutation-map (numbered_entry whole) edges sorted moved)
     c.in_ok-sort_by_start.ensures.order in
     IfOk-weaker c.numbers_of.result _ (λ v. ArePlacesByStart ss v.items)
     (λ v are. subst (ArePlacesByStart ss)

@@ -1,7 +1,7 @@
 -- The comparison is an order, so the sort puts the steps into it.
 use Rattle.std.proofs.Common.{◌≡◌, ap, ◌∙◌, rules}
 use Rattle.std.specs.Ordering.{is_lt}
-use Rattle.std.proofs.lemmas.List.Sorted.{answers_always}
+use Rattle.std.proofs.lemmas.List.Sorted.{answers_always, IsPermutation-trans}
 use Rattle.overlay_arrange.specs.Content.{point_cmp}
 use Rattle.overlay_walk.specs.Steps.{plain_step}
 use Rattle.overlay_walk.proofs.Runs.{point_cmp-is_less, leaves_smaller, leaves_smaller-order, IsByFrom-from_sorted}
@@ -15,3 +15,8 @@ returns-clause-order g c =
     (answers_always _ _ _ (λ f a r h k.
     let answer : r ≡ point_cmp (plain_step whole a.0.now).from (plain_step whole a.1.0.now).from = search rules in
     ap is_lt answer ∙ point_cmp-is_less (plain_step whole a.0.now).from (plain_step whole a.1.0.now).from)))
+
+pub returns-clause-permutation : goal.returns-clause-permutation
+returns-clause-permutation g c =
+    IsPermutation-trans c.args.steps.now.items c.bring_forward.new.items.items c.sort_by.new.self.items
+    c.bring_forward.ensures c.in_ok-sort_by.ensures.permutation
