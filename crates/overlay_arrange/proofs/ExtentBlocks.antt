@@ -55,7 +55,7 @@ block_held plain n at xs blocks cover inside =
     (block_at n (map plain xs) (map plain blocks) at cover there)
 
 -- places of one stretch from a multiple of n on lie in one block
-same_block : (n at k : ℕ) → 0 < n → at % n ≡ 0 → at ≤ k → k < at + n → k / n ≡ at / n
+pub same_block : (n at k : ℕ) → 0 < n → at % n ≡ 0 → at ≤ k → k < at + n → k / n ≡ at / n
 same_block n at k some begins past less =
     let whole = div-add-mod at n in
     let start : n * (at / n) ≡ at = omega (arith, whole, begins) in

@@ -39,5 +39,6 @@ pub mod Searches
 pub mod SettledLists
 pub mod SideBits
 pub mod Sweepable
-pub mod SweptFills
+pub mod StripOrder
+mod SweptFills
 pub mod WholeMeetings

@@ -1,5 +1,5 @@
 -- Between which heights and which places edges lie, and blocks of so many of these extents.
-use Rattle.std.specs.Prelude.{◌⊎◌, ℕ, ◌<◌, ◌≤◌, ◌/◌, cond, ℤ, ◌<ℤ◌, ◌≤ℤ◌, int_lt, List, map, length}
+use Rattle.std.specs.Prelude.{◌≡◌, ◌⊎◌, ℕ, ◌<◌, ◌≤◌, ◌/◌, cond, ℤ, ◌<ℤ◌, ◌≤ℤ◌, int_lt, List, map, length}
 use Rattle.std.specs.Prelude.{slice_index_or}
 use Rattle.std.specs.List.Sorted.{IsPermutation}
 use Rattle.overlay_geom.specs.Edges.{CountedEdge}
@@ -60,7 +60,12 @@ pub record AreInBlocks (ss of_16 of_256 of_4096 of_65536 : List Extent) : Type 0
   pub by_4096 : AreBlocks 4096 ss of_4096
   pub by_65536 : AreBlocks 65536 ss of_65536
 
--- they are those of the edges, in any order
+-- each extent is that of an edge, and stands in the strip of 512 in which its edge does
+abbrev pub AreInStrips : List Extent → Type 0
+AreInStrips ss = (k : ℕ) (s : Extent) → IsAt ss k s → (s.first / 512 ≡ k / 512) × (s.last ≡ s.first)
+
+-- they are those of the edges, strip by strip
 pub record AreStripsOf (es : List CountedEdge) (ss of_16 of_256 of_4096 of_65536 : List Extent) : Type 0 where
   pub permutation : IsPermutation (extents_of es) ss
+  pub strips : AreInStrips ss
   pub blocks : AreInBlocks ss of_16 of_256 of_4096 of_65536

@@ -2,14 +2,15 @@
 
 ghost use Rattle.std.specs.Prelude.{◌≡◌, ◌+◌, ◌≤◌, ◌<◌, ◌/◌, [], All, length, IsTrue, OnOk, IsOkUnless};
 ghost use Rattle.overlay_arrange.specs.Content.{plain_edge, plain_edges, IsAscending, IsHeld};
-ghost use Rattle.overlay_arrange.specs.Extents.{plain_extent, plain_extents, AreInBlocks, AreStripsOf};
+ghost use Rattle.overlay_arrange.specs.Extents.{plain_extent, plain_extents, AreInBlocks, AreInStrips};
+ghost use Rattle.overlay_arrange.specs.Extents.{AreStripsOf};
 ghost use Rattle.overlay_arrange.specs.Near.{run_of, AreApartFrom, AreBetween, AreNear, BeginsApart, IsSearchedTo};
 
 use crate::count::EdgeCount;
 use crate::edge::CountedEdge;
-use crate::extents::{Extent, extent_of, is_apart};
+use crate::extents::{Extent, extent_of, is_apart, on_by};
 use crate::spans::run_end;
-use crate::strips::Strips;
+use crate::strips::{STRIP, Strips};
 use overlay_geom::error::OverlayError;
 use overlay_geom::number::IntNumber;
 use std::alloc::Allocator;
@@ -63,13 +64,16 @@ fn take_run<A: Allocator>(
     Ok(())
 }
 
-/// Finds the places of the edges that do not lie apart from an extent.
+/// Finds the places of the edges that do not lie apart from an extent. They are in the strips in which its places lie.
 fn find_by_blocks<I: IntNumber, A: Allocator>(
     near: &mut Vec<usize, A>,
     strips: &Strips<I, A>,
     of: Extent<I>,
 ) -> Result<(), OverlayError>
-    requires strips { AreInBlocks
+    requires ordered { of.first ≤ of.last }
+    requires within { of.last < length strips.now.edges.items }
+    requires strips { AreInStrips (plain_extents I.whole strips.now.edges.items) }
+    requires blocks { AreInBlocks
         (plain_extents I.whole strips.now.edges.items) (plain_extents I.whole strips.now.of_16.items)
         (plain_extents I.whole strips.now.of_256.items) (plain_extents I.whole strips.now.of_4096.items)
         (plain_extents I.whole strips.now.of_65536.items) }
@@ -78,29 +82,19 @@ fn find_by_blocks<I: IntNumber, A: Allocator>(
         (length strips.now.edges.items) near.new.items) }
     ensures err { IsOkUnless result OverlayError.Memory }
 {
-    let mut at = 0;
-    while at < strips.edges.len() {
-        let next = on_by(at, count_passed(strips, of, at), strips.edges.len());
+    let mut at = of.first / STRIP * STRIP;
+    let stop = on_by(of.last / STRIP * STRIP, STRIP, strips.edges.len());
+    while at < stop {
+        let next = on_by(at, count_passed(strips, of, at), stop);
         if at < next {
             at = next;
         } else {
-            let end = on_by(at, BLOCK, strips.edges.len());
+            let end = on_by(at, BLOCK, stop);
             push_near(near, of, &strips.edges, at, end)?;
             at = end;
         }
     }
     Ok(())
-}
-
-/// The place so far on, or the last one where that is less.
-fn on_by(at: usize, count: usize, last: usize) -> usize
-    requires { at ≤ last }
-    ensures from { at ≤ result }
-    ensures up_to { result ≤ last }
-    ensures no_further { result ≤ at + count }
-    ensures on { at < last → 0 < count → at < result }
-{
-    if last - at < count { last } else { at + count }
 }
 
 /// Of so many extents, from the one at a place on, a block tells that they lie apart from another one.

@@ -1,8 +1,10 @@
 //! The extents of the edges of a list in strips of neighbours, and of blocks of them.
 
-ghost use Rattle.std.specs.Prelude.{◌≡◌, IfOk, IsOkUnless};
+ghost use Rattle.std.specs.Prelude.{◌≡◌, List, [], ◌++◌, IfOk, OnOk, IsOkUnless};
+ghost use Rattle.std.specs.List.Sorted.{IsPermutation};
 ghost use Rattle.overlay_arrange.specs.Content.{plain_edges};
-ghost use Rattle.overlay_arrange.specs.Extents.{extents_of, plain_extents, AreBlocks, AreStripsOf};
+ghost use Rattle.overlay_arrange.specs.Extents.{extents_of, plain_extents, AreBlocks, AreInStrips, AreStripsOf};
+ghost use Rattle.overlay_arrange.specs.declared.extents.Extent.{Extent};
 
 use crate::count::EdgeCount;
 use crate::edge::CountedEdge;
@@ -10,10 +12,9 @@ use crate::extents::{Extent, extent_of, joined};
 use overlay_geom::error::OverlayError;
 use overlay_geom::number::IntNumber;
 use std::alloc::Allocator;
-use std::cmp::Ordering;
 
 // So many neighbours are a strip.
-const STRIP: usize = 512;
+pub(crate) const STRIP: usize = 512;
 // So many extents are a block.
 const BLOCK: usize = 16;
 
@@ -44,8 +45,7 @@ pub(crate) fn strips_of<I: IntNumber, C: EdgeCount, A: Allocator + Clone>(
         (plain_extents I.whole strips.of_65536.items)) }
     ensures err { IsOkUnless result OverlayError.Memory }
 {
-    let mut extents = extents_of(alloc.clone()?, edges)?;
-    extents.sort_by(|s, t| compare_in_strips(s, t))?;
+    let extents = extents_by_strips(alloc.clone()?, edges)?;
     let of_16 = extents_of_blocks(alloc.clone()?, &extents)?;
     let of_256 = extents_of_blocks(alloc.clone()?, &of_16)?;
     let of_4096 = extents_of_blocks(alloc.clone()?, &of_256)?;
@@ -59,28 +59,41 @@ pub(crate) fn strips_of<I: IntNumber, C: EdgeCount, A: Allocator + Clone>(
     })
 }
 
-/// The extents of the edges, in their order.
-fn extents_of<I: IntNumber, C: EdgeCount, A: Allocator>(
+/// The extents of the edges, strip by strip, and in each strip by their least heights.
+fn extents_by_strips<I: IntNumber, C: EdgeCount, A: Allocator + Clone>(
     alloc: A,
     edges: &[CountedEdge<I, C>],
 ) -> Result<Vec<Extent<I>, A>, OverlayError>
-    ensures ok { IfOk result (λ extents.
-        plain_extents I.whole extents.items ≡ extents_of (plain_edges I.whole C.counts edges.now)) }
+    ensures permutation { IfOk result (λ extents. IsPermutation
+        (extents_of (plain_edges I.whole C.counts edges.now)) (plain_extents I.whole extents.items)) }
+    ensures strips { IfOk result (λ extents. AreInStrips (plain_extents I.whole extents.items)) }
     ensures err { IsOkUnless result OverlayError.Memory }
 {
-    let mut extents = Vec::with_capacity(alloc, edges.len())?;
+    let mut extents = Vec::with_capacity(alloc.clone()?, edges.len())?;
+    let mut strip = Vec::with_capacity(alloc, STRIP.min(edges.len()))?;
     for (place, e) in edges.iter().enumerate() {
-        extents.push(extent_of(e, place))?;
+        strip.push(extent_of(e, place))?;
+        if strip.len() == STRIP {
+            close_strip(&mut extents, &mut strip)?;
+        }
     }
+    close_strip(&mut extents, &mut strip)?;
     Ok(extents)
 }
 
-/// How two edges compare: by their strips, and in a strip by their least heights.
-fn compare_in_strips<I: IntNumber>(s: &Extent<I>, t: &Extent<I>) -> Ordering {
-    match (s.first / STRIP).cmp(&(t.first / STRIP)) {
-        Ordering::Equal => s.low.compare(t.low),
-        other => other,
-    }
+/// Moves the extents of a strip behind the others, by their least heights.
+fn close_strip<I: IntNumber, A: Allocator>(
+    extents: &mut Vec<Extent<I>, A>,
+    strip: &mut Vec<Extent<I>, A>,
+) -> Result<(), OverlayError>
+    ensures ok { OnOk result ((sorted : List (Extent I)) × IsPermutation strip.old.items sorted
+        × (extents.new.items ≡ extents.old.items ++ sorted)) }
+    ensures emptied { OnOk result (strip.new.items ≡ []) }
+    ensures err { IsOkUnless result OverlayError.Memory }
+{
+    strip.sort_by(|s, t| s.low.compare(t.low))?;
+    extents.append(strip)?;
+    Ok(())
 }
 
 /// The extents of each block.

@@ -1,13 +1,14 @@
 -- The whole run is taken, or searched.
-use Rattle.std.proofs.Common.{◌<◌, length, get_or, sym, subst, arith}
+use Rattle.std.proofs.Common.{◌<◌, length, get_or, sym, ap, subst, arith}
 use Rattle.std.proofs.lemmas.List.{get_or_default, length-map}
 use Rattle.std.proofs.lemmas.Result.{on_ok_weaker}
 use Rattle.overlay_geom.proofs.Entries.{some_entry}
 use Rattle.overlay_arrange.specs.Content.{plain_edge, plain_edges}
-use Rattle.overlay_arrange.specs.Extents.{plain_extent, plain_extents}
+use Rattle.overlay_arrange.specs.Extents.{Extent, plain_extent, plain_extents}
 use Rattle.overlay_arrange.specs.Near.{run_of, IsSearchedTo}
 use Rattle.overlay_arrange.proofs.GatheredMeetings.{placed_in_mapped}
 use Rattle.overlay_arrange.proofs.NearEdges.{run_near, searched_near}
+use Rattle.overlay_arrange.proofs.StripOrder.{as_many}
 use Rattle.overlay_arrange.proofs.near.find_near.Goals as goal
 
 pub returns-then-end-i-le-FEW-clause-ok : goal.returns-then-end-i-le-FEW-clause-ok
@@ -22,6 +23,20 @@ returns-then-end-i-le-FEW-clause-ok g c =
     on_ok_weaker c.take_run.result
     (run_near es i c.run_end-end.result e c.requires.ascending (inside, get_or_default es i e d inside)
     c.run_end-end.ensures c.take_run.new.near.items) c.take_run.ensures.ok
+
+pub find_by_blocks-requires-clause-within : goal.find_by_blocks-requires-clause-within
+find_by_blocks-requires-clause-within g c =
+    let whole = g.I.IntNumber.whole in
+    let plain = plain_edge whole g.C.EdgeCount.counts in
+    let extents = c.args.strips.now.edges.items in
+    let last = ap (λ (s : Extent). s.last) c.run_of.ensures in
+    let count = as_many (plain_edges whole g.C.EdgeCount.counts c.args.edges.now) (plain_extents whole extents)
+    c.requires.strips.permutation in
+    let l = length-map extents (plain_extent whole) in
+    let m = length-map c.args.edges.now plain in
+    let after = c.run_end-end.ensures.after in
+    let up_to = c.run_end-end.ensures.within in
+    omega (arith, last, count, l, m, after, up_to)
 
 pub returns-else-end-i-le-FEW-clause-ok : goal.returns-else-end-i-le-FEW-clause-ok
 returns-else-end-i-le-FEW-clause-ok g c =

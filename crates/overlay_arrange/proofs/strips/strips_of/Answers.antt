@@ -1,4 +1,4 @@
--- The sort moves the extents, and the lists of blocks belong together.
+-- The lists of blocks belong together.
 use Rattle.std.proofs.Common.{List, subst}
 use Rattle.std.specs.List.Sorted.{IsPermutation}
 use Rattle.std.proofs.lemmas.List.Sorted.{IsPermutation-map}
@@ -10,7 +10,7 @@ pub returns-clause-ok : goal.returns-clause-ok
 returns-clause-ok g c =
     let whole = g.I.IntNumber.whole in
     let plain = plain_extents whole in
-    let sorted = c.sort_by.new.self.items in
+    let sorted = c.in_ok-extents.extents.items in
     let of_16 = plain c.in_ok-of_16.of_16.items in
     let of_256 = plain c.in_ok-of_256.of_256.items in
     let of_4096 = plain c.in_ok-of_4096.of_4096.items in
@@ -23,8 +23,7 @@ returns-clause-ok g c =
     let by_65536 = blocks_of_blocks 4096 16 (plain sorted) of_4096 of_65536 by_4096
     (subst (λ ss. AreBlocks 16 (plain ss) of_65536) c.deref-4.ensures.value c.in_ok-of_65536.ensures.ok) in
     record {
-      permutation = subst (λ (ss : List Extent). IsPermutation ss (plain sorted)) c.in_ok-extents.ensures.ok
-          (IsPermutation-map (plain_extent whole) c.in_ok-extents.extents.items sorted
-          c.in_ok-sort_by.ensures.permutation);
+      permutation = c.in_ok-extents.ensures.permutation;
+      strips = c.in_ok-extents.ensures.strips;
       blocks = record { by_16 = by_16; by_256 = by_256; by_4096 = by_4096; by_65536 = by_65536 };
     }
