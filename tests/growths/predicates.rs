@@ -82,6 +82,13 @@ fn of_both<I: Width>(memory: Memory<'_>, count: usize) -> Answer<Built<'_, I>> {
     builder(memory, count - 1)
 }
 
+// A builder of which each predicate was asked.
+fn asked<I: Width>(memory: Memory<'_>, count: usize) -> Answer<Built<'_, I>> {
+    let mut overlay = builder(memory, count)?;
+    overlay.content()?;
+    Ok(overlay)
+}
+
 // Refuses the growths of an adder of all clips.
 fn adds_all<'m, I: Width, C: Fn(&mut Built<'m, I>) -> Answer<()> + Drop>(
     trial: &Trial<'m, impl Abort>,
@@ -106,6 +113,10 @@ fn check_adders<I: Width>(trial: &Trial<'_, impl Abort>) -> Result<(), Fail> {
     })?;
     trial.adds_or_keeps("PredicateOverlay::add_path_iter", new, |it| {
         it.add_path_iter(more.iter().copied(), CLIP)
+    })?;
+    let was_asked = || asked::<I>(memory, 0);
+    trial.adds_or_keeps("PredicateOverlay::add_contour", was_asked, |it| {
+        it.add_contour(&more, CLIP)
     })?;
     let (shape, shapes) = (clips::<I>(memory)?, lone_clips::<I>(memory)?);
     adds_all::<I, _>(
@@ -184,16 +195,17 @@ fn has_failed<I: Width>(
 }
 
 // Refuses the growths of a predicate.
-fn refuses<'m, I: Width, Q: Fn(&mut Built<'m, I>) -> Answer<bool> + Drop>(
-    trial: &Trial<'m, impl Abort>,
-    name: &str,
-    query: Q,
-) -> Result<(), Fail> {
+fn refuses<
+    'm,
+    I: Width,
+    P: Fn() -> Answer<Built<'m, I>> + Drop,
+    Q: Fn(&mut Built<'m, I>) -> Answer<bool> + Drop,
+>(trial: &Trial<'m, impl Abort>, name: &str, prepare: P, query: Q) -> Result<(), Fail> {
     let memory = trial.memory;
     let (shape, shapes) = (clips::<I>(memory)?, lone_clips::<I>(memory)?);
     trial.answers_or_fails(
         name,
-        || builder(memory, PATHS),
+        prepare,
         query,
         |it| has_failed(it, &shape, &shapes),
         |it| {
@@ -204,21 +216,49 @@ fn refuses<'m, I: Width, Q: Fn(&mut Built<'m, I>) -> Answer<bool> + Drop>(
     )
 }
 
-fn check_predicates<I: Width>(trial: &Trial<'_, impl Abort>) -> Result<(), Fail> {
-    refuses::<I, _>(trial, "PredicateOverlay::intersects", |it| it.intersects())?;
-    refuses::<I, _>(trial, "PredicateOverlay::interiors_intersect", |it| {
+fn check_predicates<'m, I: Width>(trial: &Trial<'m, impl Abort>) -> Result<(), Fail> {
+    let memory = trial.memory;
+    let new = || builder::<I>(memory, PATHS);
+    refuses::<I, _, _>(trial, "PredicateOverlay::intersects", new, |it| {
+        it.intersects()
+    })?;
+    refuses::<I, _, _>(trial, "PredicateOverlay::interiors_intersect", new, |it| {
         it.interiors_intersect()
     })?;
-    refuses::<I, _>(trial, "PredicateOverlay::touches", |it| it.touches())?;
-    refuses::<I, _>(
-        trial,
-        "PredicateOverlay::point_intersects",
-        |it| it.point_intersects(),
-    )?;
-    refuses::<I, _>(trial, "PredicateOverlay::within", |it| it.within())
+    refuses::<I, _, _>(trial, "PredicateOverlay::touches", new, |it| it.touches())?;
+    refuses::<I, _, _>(trial, "PredicateOverlay::point_intersects", new, |it| {
+        it.point_intersects()
+    })?;
+    refuses::<I, _, _>(trial, "PredicateOverlay::within", new, |it| it.within())
 }
 
 #[test]
 fn predicates_of_predicate_overlay(rt: HostRuntime) -> Result<(), Fail> {
     at_a_width!(rt, check_predicates)
+}
+
+// What was found once answers each predicate without memory, and under another rule none.
+fn check_asked_again<'m, I: Width>(trial: &Trial<'m, impl Abort>) -> Result<(), Fail> {
+    let memory = trial.memory;
+    let mut overlay = builder::<I>(memory, PATHS)?;
+    overlay.within()?;
+    let again = trial.needs_none("PredicateOverlay, asked again", || overlay.content())?;
+    let mut wanted = builder::<I>(memory, PATHS)?;
+    assert!(trial.rt; again == wanted.content()?);
+    let under_another_rule = || {
+        let mut overlay = asked::<I>(memory, PATHS)?;
+        overlay.fill_rule = FillRule::Negative;
+        Ok(overlay)
+    };
+    refuses::<I, _, _>(
+        trial,
+        "PredicateOverlay::interiors_intersect, under another rule",
+        under_another_rule,
+        |it| it.interiors_intersect(),
+    )
+}
+
+#[test]
+fn predicates_asked_again(rt: HostRuntime) -> Result<(), Fail> {
+    at_a_width!(rt, check_asked_again)
 }

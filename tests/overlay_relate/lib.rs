@@ -1,5 +1,6 @@
 //! Tests of `overlay_relate`: where points lie in contours and shapes, and builders for predicates.
 
+mod again;
 mod asked;
 mod borders;
 mod built;

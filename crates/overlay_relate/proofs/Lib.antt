@@ -10,6 +10,7 @@ pub mod Highest
 pub mod Insides
 pub mod JoinedParts
 pub mod JoinedRuns
+pub mod KeptFindings
 pub mod Located
 pub mod NextEnds
 pub mod OnEdges

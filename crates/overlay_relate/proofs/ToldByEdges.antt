@@ -1,13 +1,12 @@
 -- What the edges of an arrangement tell of its two shapes.
-use Rattle.std.proofs.Common.{◌≡◌, ◌⊎◌, ℕ, ℤ, Bool, true, false, List}
-use Rattle.std.proofs.lemmas.Bool.{false≢true, both_ways}
+use Rattle.std.proofs.Common.{◌⊎◌, ⊎_elim, inr, ℕ, ℤ, Bool, not, ◌&&◌, List}
+use Rattle.std.proofs.lemmas.Bool.{and_parts, and_from, both_ways, false_from_ne_true, not_from_false, not-true}
 use Rattle.std.specs.Prelude.{◌↔◌, IsTrue}
 use Rattle.overlay_geom.specs.Edges.{CountedEdge, subj_of}
 use Rattle.overlay_geom.specs.Settled.{IsSettled}
 use Rattle.overlay_plane.specs.Balance.{HasBalancedCounts}
 use Rattle.overlay_plane.specs.EdgePredicates.{SomeEdge, HasSharedEnd, has_both, has_common_side, pokes_out, EdgesTell}
-use Rattle.overlay_plane.specs.Predicates.{fills_a_side, Intersects, InteriorsIntersect, Touches, PointIntersects}
-use Rattle.overlay_plane.specs.Predicates.{IsWithin, IsFillable}
+use Rattle.overlay_plane.specs.Predicates.{fills_a_side, IsFillable}
 use Rattle.overlay_plane.specs.Regions.{IsPlanar}
 use Rattle.overlay_plane.proofs.EdgesTell.{edges_tell_predicates}
 use Rattle.overlay_arrange.specs.Content.{IsContent, IsAscending}
@@ -15,6 +14,12 @@ use Rattle.overlay_arrange.specs.Graphs.{IsArrangement}
 use Rattle.overlay_arrange.specs.Rules.{is_filled}
 use Rattle.overlay_arrange.specs.declared.fill_rule.FillRule.{FillRule}
 use Rattle.overlay_arrange.proofs.RuledContents.{zero_is_empty, planar_content}
+use Rattle.overlay_relate.specs.Found.{IsFoundUnder, answer_by}
+use Rattle.overlay_relate.specs.PredicateQueries.{Holds}
+use Rattle.overlay_relate.specs.declared.found.Found.{Found}
+use Rattle.overlay_relate.specs.declared.predicate.Predicate.{Predicate}
+use Rattle.overlay_relate.specs.declared.predicate.Predicate.TheVariants.{Intersect, InteriorsIntersect as Interiors}
+use Rattle.overlay_relate.specs.declared.predicate.Predicate.TheVariants.{Touch, PointIntersect, Within}
 
 -- predicates may be asked of a planar list with balanced counts
 pub fillable : (rule : FillRule) (es : List CountedEdge) → IsPlanar es → HasBalancedCounts es →
@@ -26,6 +31,14 @@ pub fillable_content : (limit : ℕ) (rule : FillRule) (es : List CountedEdge) �
     IsSettled es → HasBalancedCounts es → IsFillable (is_filled rule) es
 fillable_content limit rule es content ascending settled balanced =
     fillable rule es (planar_content limit es content ascending settled) balanced
+
+-- the one test tells P and the other one Q: then the one without the other tells P without Q
+one_alone : {P Q : Type 0} (t u : Bool) → (IsTrue t ↔ P) → (IsTrue u ↔ Q) → IsTrue (t && not u) ↔ (P × (¬ Q))
+one_alone t u tells also = (
+  λ e. let both = and_parts t (not u) e in
+      (tells.0 both.0, λ q. both_ways u (not-true u both.1) (also.1 q)),
+  λ of. and_from t (not u) (tells.1 of.0) (not_from_false u (false_from_ne_true u (λ e. of.1 (also.0 e)))),
+)
 
 module _ (limit : ℕ) (es : List CountedEdge) (arranged : IsArrangement limit es) (balanced : HasBalancedCounts es)
     (rule : FillRule) where
@@ -40,67 +53,37 @@ module _ (limit : ℕ) (es : List CountedEdge) (arranged : IsArrangement limit e
   abbrev filled : ℤ → Bool
   filled = is_filled rule
 
-  -- ---- answers
+  -- ---- what is found of them
 
-  -- a test that passed tells of some edge, and one that failed of none
-  none_passed : (test : CountedEdge → Bool) (t : Bool) → (IsTrue t ↔ SomeEdge test es) → t ≡ false →
-      ¬ (SomeEdge test es)
-  none_passed test t tells is some = both_ways t is (tells.1 some)
+  module _ (f : Found)
+      (meet : IsTrue f.meet ↔ (SomeEdge (has_both filled es) es ⊎ HasSharedEnd filled es))
+      (both : IsTrue f.has_both ↔ SomeEdge (has_both filled es) es)
+      (common : IsTrue f.has_common_side ↔ SomeEdge (has_common_side filled es) es)
+      (subject : IsTrue f.has_subject ↔ SomeEdge (fills_a_side filled es subj_of) es)
+      (outside : IsTrue f.pokes_out ↔ SomeEdge (pokes_out filled es) es) where
+    -- it answers each predicate
+    answers : (p : Predicate) → IsTrue (answer_by f p) ↔ Holds p filled es
+    answers Intersect = (λ t. told_by_edges.intersects.1 (meet.0 t), λ meets. meet.1 (told_by_edges.intersects.0 meets))
+    answers Interiors = (
+      λ t. told_by_edges.interiors_intersect.1 (common.0 t),
+      λ inside. common.1 (told_by_edges.interiors_intersect.0 inside),
+    )
+    answers Touch =
+        let it = one_alone f.meet f.has_common_side meet common in (
+          λ t. told_by_edges.touches.1 (it.0 t),
+          λ touch. it.1 (told_by_edges.touches.0 touch),
+        )
+    answers PointIntersect =
+        let it = one_alone f.meet f.has_both meet both in (
+          λ t. let of = it.0 t in
+              told_by_edges.point_intersects.1 (⊎_elim (λ some. absurd (of.1 some)) (λ shared. shared) of.0, of.1),
+          λ meets. let of = told_by_edges.point_intersects.0 meets in it.1 (inr of.0, of.1),
+        )
+    answers Within =
+        let it = one_alone f.has_subject f.pokes_out subject outside in (
+          λ t. told_by_edges.within.1 (it.0 t),
+          λ lies. it.1 (told_by_edges.within.0 lies),
+        )
 
-  pub meets_told : (b : Bool) → (IsTrue b ↔ (SomeEdge (has_both filled es) es ⊎ HasSharedEnd filled es)) →
-      IsTrue b ↔ Intersects filled es
-  meets_told b h = (λ t. told_by_edges.intersects.1 (h.0 t), λ meets. h.1 (told_by_edges.intersects.0 meets))
-
-  pub interiors_told : (b : Bool) → (IsTrue b ↔ SomeEdge (has_common_side filled es) es) →
-      IsTrue b ↔ InteriorsIntersect filled es
-  interiors_told b h = (
-    λ t. told_by_edges.interiors_intersect.1 (h.0 t),
-    λ inside. h.1
-        (told_by_edges.interiors_intersect.0 inside),
-  )
-
-  pub touch_refused : (t : Bool) → (IsTrue t ↔ SomeEdge (has_common_side filled es) es) → t ≡ true →
-      IsTrue false ↔ Touches filled es
-  touch_refused t tells is = (
-    λ e. absurd (false≢true e),
-    λ touch. absurd
-        ((told_by_edges.touches.0 touch).1 (tells.0 is)),
-  )
-
-  pub touch_told : (t : Bool) → (IsTrue t ↔ SomeEdge (has_common_side filled es) es) → t ≡ false →
-      (b : Bool) → (IsTrue b ↔ (SomeEdge (has_both filled es) es ⊎ HasSharedEnd filled es)) →
-      IsTrue b ↔ Touches filled es
-  touch_told t tells is b h = (
-    λ e. told_by_edges.touches.1 (h.0 e, none_passed (has_common_side filled es) t tells is),
-    λ touch. h.1 (told_by_edges.touches.0 touch).0,
-  )
-
-  pub point_refused : (t : Bool) → (IsTrue t ↔ SomeEdge (has_both filled es) es) → t ≡ true →
-      IsTrue false ↔ PointIntersects filled es
-  point_refused t tells is = (
-    λ e. absurd (false≢true e),
-    λ meets. absurd
-        ((told_by_edges.point_intersects.0 meets).1 (tells.0 is)),
-  )
-
-  pub point_told : (t : Bool) → (IsTrue t ↔ SomeEdge (has_both filled es) es) → t ≡ false →
-      (b : Bool) → (IsTrue b ↔ HasSharedEnd filled es) → IsTrue b ↔ PointIntersects filled es
-  point_told t tells is b h = (
-    λ e. told_by_edges.point_intersects.1 (h.0 e, none_passed (has_both filled es) t tells is),
-    λ meets. h.1 (told_by_edges.point_intersects.0 meets).0,
-  )
-
-  pub within_refused : (t : Bool) → (IsTrue t ↔ SomeEdge (pokes_out filled es) es) → t ≡ true →
-      IsTrue false ↔ IsWithin filled es
-  within_refused t tells is = (
-    λ e. absurd (false≢true e),
-    λ lies. absurd
-        ((told_by_edges.within.0 lies).1 (tells.0 is)),
-  )
-
-  pub within_told : (t : Bool) → (IsTrue t ↔ SomeEdge (pokes_out filled es) es) → t ≡ false →
-      (b : Bool) → (IsTrue b ↔ SomeEdge (fills_a_side filled es subj_of) es) → IsTrue b ↔ IsWithin filled es
-  within_told t tells is b h = (
-    λ e. told_by_edges.within.1 (h.0 e, none_passed (pokes_out filled es) t tells is),
-    λ lies. h.1 (told_by_edges.within.0 lies).0,
-  )
+    pub is_found : IsFoundUnder rule es f
+    is_found = record { fillable = fillable_arrangement; answers = answers }

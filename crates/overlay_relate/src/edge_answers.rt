@@ -1,55 +1,44 @@
-//! Predicates answered from the filled sides of the edges of an arrangement.
+//! What answers predicates, found from the filled sides of the edges of an arrangement.
 
-ghost use Rattle.std.specs.Prelude.{◌↔◌, ◌⊎◌, IsTrue, IfOk, IsOkUnless};
+ghost use Rattle.std.specs.Prelude.{◌≡◌, ◌↔◌, ◌⊎◌, IsTrue, IfOk, IsOkUnless};
 ghost use Rattle.overlay_arrange.specs.Graphs.{graph_edges};
 ghost use Rattle.overlay_arrange.specs.Rules.{is_filled};
 ghost use Rattle.overlay_plane.specs.Balance.{HasBalancedCounts};
 ghost use Rattle.overlay_plane.specs.EdgePredicates.{SomeEdge, HasSharedEnd, has_both};
 ghost use Rattle.overlay_relate.specs.EdgeTests.{edge_passes};
-ghost use Rattle.overlay_relate.specs.PredicateQueries.{Holds};
+ghost use Rattle.overlay_relate.specs.Found.{IsFoundUnder};
 
 use crate::edge_test::{EdgeTest, some_passes};
-use crate::predicate::Predicate;
+use crate::found::Found;
 use crate::shared_end::has_shared_end;
 use overlay_arrange::count::EdgeCount;
+use overlay_arrange::fill_rule::FillRule;
 use overlay_arrange::graph::Graph;
 use overlay_geom::error::OverlayError;
 use overlay_geom::number::IntNumber;
 use std::alloc::Allocator;
 
-/// Whether the predicate holds of the subject and the clip. The only refusal is `Memory`.
-pub(crate) fn answer<I: IntNumber, C: EdgeCount, A: Allocator + Clone>(
+/// What is found of the edges with the sides that the subject and the clip fill, under the graph's rule.
+/// The only refusal is `Memory`.
+pub(crate) fn found_in<I: IntNumber, C: EdgeCount, A: Allocator + Clone>(
     graph: &Graph<I, C, A>,
-    predicate: Predicate,
-) -> Result<bool, OverlayError>
-    requires { HasBalancedCounts (graph_edges graph.now) }
-    ensures ok { IfOk result (λ b. IsTrue b
-        ↔ Holds predicate (is_filled graph.now.fill_rule) (graph_edges graph.now)) }
+    fill_rule: FillRule,
+) -> Result<Found, OverlayError>
+    requires balanced { HasBalancedCounts (graph_edges graph.now) }
+    requires rule { graph.now.fill_rule ≡ fill_rule }
+    ensures ok { IfOk result (IsFoundUnder fill_rule (graph_edges graph.now)) }
+    ensures rule { IfOk result (λ f. f.fill_rule ≡ fill_rule) }
     ensures err { IsOkUnless result OverlayError.Memory }
 {
     graph.note_arrangement();
-    match predicate {
-        Predicate::Intersect => meet(graph),
-        Predicate::InteriorsIntersect => Ok(some_edge(graph, EdgeTest::CommonSide)),
-        Predicate::Touch => {
-            if some_edge(graph, EdgeTest::CommonSide) {
-                return Ok(false);
-            }
-            meet(graph)
-        }
-        Predicate::PointIntersect => {
-            if some_edge(graph, EdgeTest::BothShapes) {
-                return Ok(false);
-            }
-            has_shared_end(graph)
-        }
-        Predicate::Within => {
-            if some_edge(graph, EdgeTest::SubjectOutside) {
-                return Ok(false);
-            }
-            Ok(some_edge(graph, EdgeTest::SubjectSide))
-        }
-    }
+    Ok(Found {
+        fill_rule,
+        meet: meet(graph)?,
+        has_both: some_edge(graph, EdgeTest::BothShapes),
+        has_common_side: some_edge(graph, EdgeTest::CommonSide),
+        has_subject: some_edge(graph, EdgeTest::SubjectSide),
+        pokes_out: some_edge(graph, EdgeTest::SubjectOutside),
+    })
 }
 
 // Whether some edge has sides of both shapes, or their borders share an end.

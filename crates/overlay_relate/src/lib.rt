@@ -6,6 +6,7 @@ pub mod containment;
 mod contour_edges;
 mod edge_answers;
 mod edge_test;
+mod found;
 pub mod in_contour;
 pub mod in_shapes;
 mod joined;

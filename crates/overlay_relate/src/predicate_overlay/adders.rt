@@ -34,8 +34,9 @@ impl<I: OverlayInt, A: Allocator + Clone> PredicateOverlay<I, A> {
         requires { AllInRange I.limit (plain_points I.whole contour.now) }
         ensures { PredicateBuilderAddsContour shape_type (plain_points I.whole contour.now) self.old self.new result }
     {
-        self.core
-            .add_path(contour, PathKind::Thinned, passing(shape_type))?;
+        let kind = PathKind::Thinned;
+        self.found = None;
+        self.core.add_path(contour, kind, passing(shape_type))?;
         Ok(())
     }
 
@@ -82,6 +83,7 @@ impl<I: OverlayInt, A: Allocator + Clone> PredicateOverlay<I, A> {
         requires { All (AllInRange I.limit) (R0.paths resource.now) }
         ensures { PredicateBuilderAdds (paths_for shape_type (R0.paths resource.now)) self.old self.new result }
     {
+        self.found = None;
         self.core
             .add_paths(resource, PathKind::Thinned, passing(shape_type))
     }
@@ -90,6 +92,7 @@ impl<I: OverlayInt, A: Allocator + Clone> PredicateOverlay<I, A> {
     pub fn clear(&mut self)
         ensures { self.new ≡ cleared self.old }
     {
+        self.found = None;
         self.core.clear();
     }
 

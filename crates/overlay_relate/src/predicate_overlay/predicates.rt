@@ -1,15 +1,15 @@
 //! The predicates of a builder: how its subject and its clip lie to each other.
 
-ghost use Rattle.std.specs.Prelude.{◌≡◌, ◌↔◌, false, IsTrue, IfOk, OnOk, IsOkUnless};
-ghost use Rattle.overlay_geom.specs.Settled.{IsSettled};
-ghost use Rattle.overlay_plane.specs.Balance.{HasBalancedCounts};
+ghost use Rattle.std.specs.Prelude.{◌≡◌, false, IfOk, IfSome, IsErrOf, IsOkUnless, is_err};
 ghost use Rattle.overlay_plane.specs.Predicates.{Intersects, InteriorsIntersect, Touches, PointIntersects, IsWithin};
-ghost use Rattle.overlay_plane.specs.Predicates.{IsFillable};
-ghost use Rattle.overlay_arrange.specs.Content.{IsAscending};
-ghost use Rattle.overlay_arrange.specs.Rules.{is_filled};
+ghost use Rattle.overlay_arrange.specs.Arranged.{WasArranged, most_rounds};
+ghost use Rattle.overlay_builder.specs.Held.{AnswersQuery};
+ghost use Rattle.overlay_relate.specs.Found.{IsFoundUnder};
+ghost use Rattle.overlay_relate.specs.PredicateBuilder.{held_by};
 ghost use Rattle.overlay_relate.specs.PredicateQueries.{Holds, TellsRelation};
 
-use crate::edge_answers::answer;
+use crate::edge_answers::found_in;
+use crate::found::Found;
 use crate::predicate::Predicate;
 use crate::predicate_overlay::PredicateOverlay;
 use overlay_geom::error::OverlayError;
@@ -24,6 +24,10 @@ impl<I: OverlayInt, A: Allocator + Clone> PredicateOverlay<I, A> {
     /// point that is not whole is rounded to one whole point, at most 1/2 away in x and in y. What was
     /// arranged before stays as it is. The answer is that of the edges which are held afterwards, which
     /// lead forward, meet in ends alone and have balanced counts; where there are none it is `false`.
+    ///
+    /// The first query finds what answers all five predicates. Until something is added a further one under
+    /// the same rule looks at no edge and takes no memory; under another rule it looks at the sides that
+    /// shapes fill once more, and splits nothing.
     ///
     /// Refusals: `Failed` before anything else, and then nothing is changed; `NotSettled` where
     /// edges still meet in points that are no ends of both after 64 rounds; `TooManyEdges` where a
@@ -73,22 +77,68 @@ impl<I: OverlayInt, A: Allocator + Clone> PredicateOverlay<I, A> {
     fn ask(&mut self, predicate: Predicate) -> Result<bool, OverlayError>
         ensures { TellsRelation I.limit (Holds predicate) self.old self.new result }
     {
-        self.core.arrange(&mut ())?;
-        let told = self.tell(predicate);
-        self.core.set_failed(told.is_err());
-        told
+        self.arrange()?;
+        let found = self.find()?;
+        Ok(found.answer(predicate))
     }
 
-    // Whether the predicate holds of the arranged edges.
-    fn tell(&self, predicate: Predicate) -> Result<bool, OverlayError>
+    // Splits the edges where they meet. Where something was found of them they are an arrangement.
+    fn arrange(&mut self) -> Result<(), OverlayError>
+        ensures query { AnswersQuery I.limit most_rounds (held_by self.old) (held_by self.new) result }
+        ensures kept { self.new ≡ record self.old { edges = self.new.edges; failed = self.new.failed } }
+        ensures untouched { IsErrOf result OverlayError.Failed → self.new ≡ self.old }
+    {
+        self.core.content().note_limits();
+        if self.found.is_some() {
+            return Ok(());
+        }
+        self.core.arrange(&mut ())?;
+        Ok(())
+    }
+
+    // What is found of the arranged edges, before or now, when it is kept.
+    fn find(&mut self) -> Result<Found, OverlayError>
+        requires usable { self.old.failed ≡ false }
+        requires arranged { WasArranged self.old.edges }
+        ensures ok { IfOk result (IsFoundUnder self.old.fill_rule self.old.edges) }
+        ensures err { IsOkUnless result OverlayError.Memory }
+        ensures kept { self.new ≡ record self.old { failed = is_err result } }
+    {
+        if let Some(found) = self.found_before() {
+            return Ok(found);
+        }
+        match self.find_anew() {
+            Ok(found) => {
+                self.found = Some(found);
+                Ok(found)
+            }
+            Err(error) => {
+                self.found = None;
+                self.core.set_failed(true);
+                Err(error)
+            }
+        }
+    }
+
+    // What was found before under the fill rule.
+    fn found_before(&self) -> Option<Found>
+        ensures { IfSome result (IsFoundUnder self.now.fill_rule self.now.edges) }
+    {
+        match self.found {
+            Some(found) if found.fill_rule == self.fill_rule => Some(found),
+            _ => None,
+        }
+    }
+
+    // What is found of the arranged edges, by the sides that the shapes fill.
+    fn find_anew(&self) -> Result<Found, OverlayError>
         requires usable { self.now.failed ≡ false }
-        requires ascending { IsAscending self.now.edges }
-        requires settled { IsSettled self.now.edges }
-        ensures answer { IfOk result (λ b. IsTrue b ↔ Holds predicate (is_filled self.now.fill_rule) self.now.edges) }
-        ensures fillable { OnOk result (IsFillable (is_filled self.now.fill_rule) self.now.edges) }
+        requires arranged { WasArranged self.now.edges }
+        ensures ok { IfOk result (IsFoundUnder self.now.fill_rule self.now.edges) }
+        ensures rule { IfOk result (λ f. f.fill_rule ≡ self.now.fill_rule) }
         ensures err { IsOkUnless result OverlayError.Memory }
     {
         let graph = self.core.content().graph(self.fill_rule)?;
-        answer(&graph, predicate)
+        found_in(&graph, self.fill_rule)
     }
 }

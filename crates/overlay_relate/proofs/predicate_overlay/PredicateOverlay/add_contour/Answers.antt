@@ -31,15 +31,17 @@ returns-in_err-add_path g c =
     })
 
 pub invariant_of-self-2 : goal.invariant_of-self-2
-invariant_of-self-2 g c = λ ready.
+invariant_of-self-2 g c =
     let points = plain_points g.I.IntNumber.whole c.args.contour.now in
-    let e = c.in_ok-add_path.ensures in
-    contour_keeps_balance false c.args.shape_type points (edges_in c.self.inside.core.edges)
-    (edges_in c.add_path.new.self.edges)
-    (contour_added false c.args.shape_type boolean_counts Thinned c.passing.result refl
-    (counts_pass_once c.args.shape_type c.passing.result c.passing.ensures) points
-    c.self.inside.core.edges c.add_path.new.self.edges e.ok)
-    (c.self.invariant (sym (ap (λ h. h.failed) e.kept) ∙ ready))
+    let e = c.in_ok-add_path.ensures in record {
+      balanced = λ ready. contour_keeps_balance false c.args.shape_type points (edges_in c.self.inside.core.edges)
+          (edges_in c.add_path.new.self.edges)
+          (contour_added false c.args.shape_type boolean_counts Thinned c.passing.result refl
+          (counts_pass_once c.args.shape_type c.passing.result c.passing.ensures) points
+          c.self.inside.core.edges c.add_path.new.self.edges e.ok)
+          (c.self.invariant.balanced (sym (ap (λ h. h.failed) e.kept) ∙ ready));
+      right = tt;
+    }
 
 pub returns : goal.returns
 returns g c =

@@ -13,14 +13,16 @@ use Rattle.overlay_builder.specs.declared.path.PathKind.TheVariants.{Thinned}
 use Rattle.overlay_relate.proofs.predicate_overlay.PredicateOverlay.add_source.Goals as goal
 
 pub invariant_of-self : goal.invariant_of-self
-invariant_of-self g c = λ ready.
-    let paths = g.R0.IntShapeResource.paths c.args.resource.now in
-    adding_keeps_balance false (paths_for c.args.shape_type paths) (plain_held c.self.inside.core)
-    (plain_held c.add_paths.new.self) c.add_paths.result
-    (contours_added false c.args.shape_type boolean_counts Thinned c.passing.result refl
-    (counts_pass_once c.args.shape_type c.passing.result c.passing.ensures) paths
-    c.self.inside.core c.add_paths.new.self c.add_paths.result c.add_paths.ensures)
-    (c.self.invariant (sym c.add_paths.ensures.kept ∙ ready))
+invariant_of-self g c =
+    let paths = g.R0.IntShapeResource.paths c.args.resource.now in record {
+      balanced = λ ready. adding_keeps_balance false (paths_for c.args.shape_type paths)
+          (plain_held c.self.inside.core) (plain_held c.add_paths.new.self) c.add_paths.result
+          (contours_added false c.args.shape_type boolean_counts Thinned c.passing.result refl
+          (counts_pass_once c.args.shape_type c.passing.result c.passing.ensures) paths
+          c.self.inside.core c.add_paths.new.self c.add_paths.result c.add_paths.ensures)
+          (c.self.invariant.balanced (sym c.add_paths.ensures.kept ∙ ready));
+      right = tt;
+    }
 
 pub returns : goal.returns
 returns g c =

@@ -1,0 +1,75 @@
+-- A query of a builder for predicates that keeps what was found, and the answer of one that has found it.
+use Rattle.std.proofs.Common.{◌≡◌, ℕ, Bool, true, false, List, [], Option, None, Some, is_err, sym, ap, subst, ◌∙◌}
+use Rattle.std.proofs.Common.{arith}
+use Rattle.std.proofs.lemmas.Bool.{false≢true}
+use Rattle.std.specs.Prelude.{◌↔◌, Ok, IfSome, IsTrue, is_some}
+use Rattle.overlay_geom.specs.Edges.{CountedEdge}
+use Rattle.overlay_geom.proofs.Merging.{IsMerged-again}
+use Rattle.overlay_plane.specs.Predicates.{IsFillable}
+use Rattle.overlay_plane.specs.Rounds.{after_rounds}
+use Rattle.overlay_arrange.specs.Arranged.{IsArranged, WasArranged, most_rounds}
+use Rattle.overlay_arrange.specs.Content.{IsContent}
+use Rattle.overlay_arrange.specs.Rules.{is_filled}
+use Rattle.overlay_arrange.proofs.ArrangedLists.{arranged_of_split}
+use Rattle.overlay_builder.specs.Held.{Held, AnswersQuery}
+use Rattle.overlay_builder.proofs.Queries.{answers_arranged, answers_after}
+use Rattle.overlay_relate.specs.Found.{IsFoundUnder, IsKept, answer_by}
+use Rattle.overlay_relate.specs.PredicateBuilder.{PredicateBuilder, held_by}
+use Rattle.overlay_relate.specs.PredicateQueries.{Holds, TellsRelation}
+use Rattle.overlay_relate.specs.declared.found.Found.{Found}
+use Rattle.overlay_relate.specs.declared.predicate.Predicate.{Predicate}
+
+-- an arrangement is one of itself, reached by no round
+arranged_of_itself : (limit most : ℕ) (es : List CountedEdge) → IsContent limit es → WasArranged es →
+    IsArranged most es es
+arranged_of_itself limit most es content was = arranged_of_split limit most es es content (record {
+  rounds = [];
+  few = omega arith;
+  reached = record {
+    cut = tt;
+    merged = IsMerged-again (after_rounds was.0 was.1) es was.2.merged;
+    settled = was.2.settled;
+  };
+})
+
+-- so a builder that keeps something answers a query as it is
+pub answers_as_it_is : (limit : ℕ) (b : Held CountedEdge) (kept : Option Found) → is_some kept ≡ true →
+    IfSome kept (IsKept b.failed b.edges) → IsContent limit b.edges →
+    AnswersQuery {V = Unit {0}} limit most_rounds b b (Ok tt)
+answers_as_it_is limit b None some right content = absurd (false≢true some)
+answers_as_it_is limit b (Some f) some right content =
+    answers_arranged limit most_rounds b right.usable b (Ok tt)
+    (arranged_of_itself limit most_rounds b.edges content right.arranged) content tt right.usable
+
+module _ {U : Type 0} (limit : ℕ) (old mid new : PredicateBuilder) (u : U)
+    (first : AnswersQuery limit most_rounds (held_by old) (held_by mid) (Ok u))
+    (kept : mid ≡ record old { edges = mid.edges; failed = mid.failed })
+    (stays : new ≡ record mid { failed = false }) where
+  edges : new.edges ≡ mid.edges
+  edges = ap (λ b. b.edges) stays
+
+  usable : new.failed ≡ false
+  usable = ap (λ b. b.failed) stays
+
+  rule : mid.fill_rule ≡ old.fill_rule
+  rule = ap (λ b. b.fill_rule) kept
+
+  all_else : new ≡ record old { edges = new.edges; failed = new.failed }
+  all_else = stays
+      ∙ ap {A = PredicateBuilder} (λ b. record b { failed = false }) kept
+      ∙ ap {B = PredicateBuilder} (λ es. record old { edges = es; failed = false }) (sym edges)
+      ∙ ap {B = PredicateBuilder} (λ t. record old { edges = new.edges; failed = t }) (sym usable)
+
+  -- what is found of the arranged edges answers a query of a predicate
+  pub told_as_found : (p : Predicate) (f : Found) → IsFoundUnder mid.fill_rule mid.edges f → (b : Bool) →
+      b ≡ answer_by f p → TellsRelation limit (Holds p) old new (Ok b)
+  told_as_found p f found b is = record {
+    query = answers_after limit most_rounds (held_by old) (held_by mid) (held_by new) u first (Ok b) edges usable tt;
+    answer = subst (λ es. IsTrue b ↔ Holds p (is_filled old.fill_rule) es) (sym edges)
+        (subst (λ r. IsTrue b ↔ Holds p (is_filled r) mid.edges) rule
+        (subst (λ t. IsTrue t ↔ Holds p (is_filled mid.fill_rule) mid.edges) (sym is) (found.answers p)));
+    fillable = subst (IsFillable (is_filled old.fill_rule)) (sym edges)
+        (subst (λ r. IsFillable (is_filled r) mid.edges) rule found.fillable);
+    kept = all_else;
+    untouched = λ same. absurd (false≢true (ap is_err same));
+  }
