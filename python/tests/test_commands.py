@@ -75,7 +75,8 @@ class Inputs(unittest.TestCase):
 
     def test_figures_and_command(self):
         figures, words = figures_in("subject 0 0 4 0 4 4\npoint 1 -2\nline\nrun overlay Union NonZero min 3\n")
-        self.assertEqual(figures, {"subject": [[(0, 0), (4, 0), (4, 4)]], "clip": [], "line": [[]], "point": [[(1, -2)]]})
+        paths = {"subject": [[(0, 0), (4, 0), (4, 4)]], "clip": [], "line": [[]], "point": [[(1, -2)]]}
+        self.assertEqual(figures, paths)
         self.assertEqual(words, ["overlay", "Union", "NonZero", "min", "3"])
 
     @with_program
