@@ -15,6 +15,7 @@ import argparse
 import re
 import shutil
 import subprocess
+import sys
 import tempfile
 from pathlib import Path
 
@@ -118,6 +119,7 @@ def build(program, crate, used, text="", words=()):
         module = folder / "module.bc"
         make_kit(kit, folder / "kit", module)
         place = make_repository(folder / "repository", crate, used)
+        program.parent.mkdir(parents=True, exist_ok=True)
         answer_of([folder / "kit" / "bin" / "rt", "try", "--", *words], cwd=place, input=text)
         compile_module(kit, module, program.resolve())
 
@@ -143,19 +145,27 @@ def program_of(parser, options):
     return program
 
 
+def parted(words):
+    """The words before the first `--`, and those behind it, which argparse does not take behind an option's words."""
+    at = words.index("--") if "--" in words else len(words)
+    return words[:at], words[at + 1 :]
+
+
 def main():
-    parser = argparse.ArgumentParser(description=__doc__, formatter_class=argparse.RawDescriptionHelpFormatter)
+    usage = "build.py PROGRAM [--crate FOLDER --uses CRATE .. [--input FILE] [-- WORD ..]]"
+    how = {"usage": usage, "description": __doc__, "formatter_class": argparse.RawDescriptionHelpFormatter}
+    parser = argparse.ArgumentParser(**how)
     parser.add_argument("program", type=Path, metavar="PROGRAM")
     parser.add_argument("--crate", type=Path, metavar="FOLDER", help="the folder of another program's crate")
     parser.add_argument("--uses", nargs="+", metavar="CRATE", default=[], help="the crates that it uses")
     parser.add_argument("--input", type=Path, metavar="FILE", help="what it reads in its run with checks")
-    parser.add_argument("words", nargs="*", metavar="WORD", help="the words of that run")
-    given = parser.parse_args()
+    here, words = parted(sys.argv[1:])
+    given = parser.parse_args(here)
     if given.crate is None:
         build_polyover(given.program)
     else:
         text = given.input.read_text() if given.input else ""
-        build(given.program, given.crate.resolve(), given.uses, text, given.words)
+        build(given.program, given.crate.resolve(), given.uses, text, words)
 
 
 if __name__ == "__main__":

@@ -10,6 +10,9 @@
  * many points there are up to its end, those of the contours before it included: no item is below the one before it,
  * and the last one is half of `coordinate_count`. Without contours both counts are 0. A contour may have no points.
  *
+ * Points of a contour on one line with their two neighbours are dropped, one by one, before its edges are made, in all
+ * calls but `polyover_in_range`, `polyover_resolved` and `polyover_locate`.
+ *
  * All arrays and structs are the caller's; nothing is kept after a call, and nothing is to be freed. Each array behind a
  * `const` is only read. An array of length 0 may be a null pointer, a struct may not. What a call writes to lies apart
  * from all else that it is given.
@@ -100,10 +103,11 @@ enum {
 /* How an answer looks. All zero is the default. */
 typedef struct {
     uint32_t direction; /* of outlines: 0 counter-clockwise, 1 clockwise; holes run the other way */
-    uint32_t keep;      /* 1: points on one line with their two neighbours are kept; 0: dropped */
+    uint32_t keep;      /* 1: points of the answer on one line with their two neighbours are kept; 0: dropped */
     uint32_t ogc;       /* 1: no contour visits a point twice; 0: it may */
     uint32_t reserved;  /* not read */
-    /* contours of a smaller area than min_area_high * 2^64 + min_area_low, in squared units, are left out; 0 keeps all */
+    /* contours of a smaller area than min_area_high * 2^64 + min_area_low, in squared units, are left out, and so are
+     * holes for which no shape is left; 0 keeps all */
     uint64_t min_area_high;
     uint64_t min_area_low;
 } polyover_options;
@@ -168,7 +172,7 @@ typedef struct {
 uint32_t polyover_in_range(const int64_t *coordinates, size_t coordinate_count);
 uint32_t polyover_in_range_32(const int32_t *coordinates, size_t coordinate_count);
 
-/* Whether the contours can be asked about: POLYOVER_BAD_ENDS exactly where the ends do not fit, else
+/* Whether `polyover_locate` takes the contours: POLYOVER_BAD_ENDS exactly where the ends do not fit, else
  * POLYOVER_OUT_OF_RANGE exactly where a coordinate is out of range; else POLYOVER_MEMORY, or POLYOVER_OK exactly where
  * each contour is resolved: where two steps at different places of one never share a point that is not an end of both.
  * All pairs of steps of a contour are tested. */
@@ -198,10 +202,11 @@ polyover_status polyover_overlay_32(polyover_rule rule, polyover_fill fill, cons
                                     size_t contour_room, size_t *shape_ends, size_t shape_room,
                                     polyover_counts *counts);
 
-/* The shapes that the contours are simplified to. One contour that is simple, filled and in the output direction is
- * answered as it is given, one that is simple and not so reversed or by no shape; this is asked only where the smallest
- * area is 0. Else the answer is that of `polyover_overlay` with the rule POLYOVER_SUBJECT and no clip. Arrays, counts
- * and statuses are as there, but for POLYOVER_BAD_RULE, which does not come. */
+/* The shapes that the contours are simplified to. A contour is simple that meets itself nowhere and has no point on one
+ * line with its two neighbours. Where the smallest area is 0, one contour that is simple is answered as it is given if
+ * it is filled and runs in the output direction, reversed if it is filled and does not, and by no shape if it is not
+ * filled. Else the answer is that of `polyover_overlay` with the rule POLYOVER_SUBJECT and no clip. Arrays, counts and
+ * statuses are as there, but for POLYOVER_BAD_RULE, which does not come. */
 polyover_status polyover_simplify(polyover_fill fill, const polyover_options *options,
                                   const polyover_contours *contours, int64_t *coordinates, size_t coordinate_room,
                                   size_t *contour_ends, size_t contour_room, size_t *shape_ends, size_t shape_room,
@@ -279,9 +284,9 @@ polyover_status polyover_hierarchy_32(polyover_rule rule, polyover_fill fill, co
                                       size_t *link_count);
 
 /* The shapes into which open paths, `lines`, cut what the contours of the subject fill. A shape is its outline,
- * counter-clockwise, and then its holes, clockwise. Points of contours on one line with their two neighbours are dropped
- * before they are cut, and no point after that. A part of a line that ends inside cuts nothing: it goes, and the point
- * in which it meets an edge stays. A path of one point or none is none.
+ * counter-clockwise, and then its holes, clockwise. Points on one line where edges were cut stay in them. A part of a
+ * line that ends inside cuts nothing: it goes, and the point in which it meets an edge stays. A path of one point or
+ * none is none.
  *
  * Arrays, counts and statuses are as in `polyover_overlay`. Tested first, in this order: POLYOVER_BAD_FILL; then of the
  * subject, and then of the lines, POLYOVER_BAD_ENDS and POLYOVER_OUT_OF_RANGE. POLYOVER_NOT_SETTLED,

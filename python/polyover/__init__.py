@@ -1,6 +1,6 @@
 """Boolean operations on polygons with whole coordinates, by the proved library for C, or the proved program."""
 
-from .calls import backend, clip, edges, hierarchy, locate, overlay, relate, simplify, tiles
+from .calls import backend, clip, edges, hierarchy, is_resolved, locate, overlay, relate, simplify, tiles
 from .calls import slice  # pylint: disable=redefined-builtin
 from .errors import BadInput, LibraryMissing, NotResolved, NotSettled, OutOfMemory, PolyoverError, ProgramMissing
 from .errors import TooManyEdges
@@ -25,6 +25,7 @@ __all__ = [
     "contours_of",
     "edges",
     "hierarchy",
+    "is_resolved",
     "lines_of",
     "locate",
     "overlay",

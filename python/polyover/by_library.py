@@ -14,7 +14,7 @@ LOCATIONS = ("outside", "inside", "boundary")
 # (how much an answer takes is known once it is there, so to ask again costs as much as to ask)
 TIMES = 24
 # of the other calls each takes the function of its own name
-TAKES = {"tiles": "slice"}
+TAKES = {"tiles": "slice", "is_resolved": "resolved"}
 
 
 def can(call):
@@ -97,6 +97,14 @@ def hierarchy(subject, clip, rule, fill, look):
     return shapes_in(*arrays, counts), list(zip(told[0::3], told[1::3], told[2::3]))
 
 
+def simplify(subject, fill, look):
+    """The shapes that contours are simplified to."""
+    asked = library()
+    contours = asked.contours(subject)
+    given, counts = (FILL_NUMBERS[fill], options(look), contours), expected(contours)
+    return shapes_in(*asked.answer("polyover_simplify", given, shape_rooms, counts), counts)
+
+
 def edges(subject, clip, fill):
     """The edges of the arrangement."""
     asked = library()
@@ -146,6 +154,15 @@ def tiles(shape, width, height, fill):
     numbers = contours.numbers
     xs, ys = zip(*points_in(numbers)) if numbers else ((), ())
     return sliced(asked, contours, grid_lines(width, height, xs, ys), fill)
+
+
+def is_resolved(shape):
+    """Whether each contour is resolved."""
+    asked = library()
+    status = asked.call("polyover_resolved", asked.contours(shape))
+    if status != Status.NOT_RESOLVED:
+        check(status)
+    return status == Status.OK
 
 
 def locate(shape, points):

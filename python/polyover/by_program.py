@@ -1,8 +1,9 @@
 """Each call as the program answers it."""
 
 from .errors import BadInput, NotResolved
+from .geojson import double_area
 from .program import BadLine, answer
-from .text import FILLS, RELATIONS, RULES, edges_in, lines_of, paths_in, shapes_in
+from .text import FILLS, RELATIONS, RULES, coordinate, edges_in, lines_of, paths_in, shapes_in
 
 NAME = "program"
 
@@ -34,6 +35,23 @@ def hierarchy(subject, clip, rule, fill, look):
     return shapes_in(asked_of_two(f"hierarchy {RULES[rule]} {FILLS[fill]}{options(look)}", subject, clip))
 
 
+def simplify(subject, fill, look):
+    """The shapes that contours are simplified to: those of an overlay, or one simple contour as it is given, or
+    reversed. The program has no such command: that a contour is simple is told here."""
+    contours = [[(coordinate(x), coordinate(y)) for x, y in contour] for contour in subject]
+    shapes = overlay(contours, (), "subject", fill, look)
+    if len(contours) != 1 or look.minimum_area or not shapes or not is_simple(contours[0]):
+        return shapes
+    is_clockwise = double_area(contours[0]) < 0
+    return [contours if is_clockwise == bool(look.clockwise) else [contours[0][::-1]]]
+
+
+def is_simple(contour):
+    """Whether no point comes twice, and the edges of the arrangement are the steps: none is left out or cut."""
+    steps = {tuple(sorted(step)) for step in zip(contour, contour[1:] + contour[:1])}
+    return len(set(contour)) == len(contour) and steps == {edge[:2] for edge in edges([contour], (), "nonzero")}
+
+
 def edges(subject, clip, fill):
     """The edges of the arrangement."""
     return edges_in(asked_of_two(f"edges {FILLS[fill]}", subject, clip))
@@ -63,6 +81,15 @@ def tiles(shape, width, height, fill):
     except BadLine:
         told = f"cells of {width} by {height} do not fit: at least 1 wide and high, at most 1,000 lines in a direction"
         raise BadInput(told) from None
+
+
+def is_resolved(shape):
+    """Whether each contour is resolved: the program takes no other one, whatever points it is asked about."""
+    try:
+        answer(f"{lines_of('subject', shape)}run locate\n")
+    except BadLine:
+        return False
+    return True
 
 
 def locate(shape, points):

@@ -52,9 +52,11 @@ def hierarchy(subject, clip=(), rule="union", fill="nonzero", *, ogc=True, clock
     return Shapes(shapes), links
 
 
-def simplify(subject, fill="nonzero", **options):
-    """The shapes round what the contours fill: `overlay` with the rule subject."""
-    return overlay(subject, (), "subject", fill, **options)
+def simplify(subject, fill="nonzero", *, ogc=True, clockwise=False, keep=False, minimum_area=0):
+    """The shapes round what the contours fill: of `overlay` with the rule subject, but that one simple contour stays as
+    it is given, or is reversed, unless there is a minimum area."""
+    look = look_of(ogc, clockwise, keep, minimum_area)
+    return Shapes(asked("simplify").simplify(subject, known(FILLS, fill, "fill rule"), look))
 
 
 def edges(subject, clip=(), fill="nonzero"):
@@ -81,6 +83,11 @@ def tiles(shape, width, height, fill="nonzero"):
     """The shapes into which the cells of a grid, which has a node at (0, 0), cut a shape: each lies in one cell."""
     fill = known(FILLS, fill, "fill rule")
     return Shapes(asked("tiles").tiles(shape, coordinate(width), coordinate(height), fill))
+
+
+def is_resolved(shape):
+    """Whether `locate` takes the contours: whether two steps of one share points only where they are ends of both."""
+    return asked("is_resolved").is_resolved(shape)
 
 
 def locate(shape, points):

@@ -1,29 +1,29 @@
-"""Inputs of the program as pictures: what they have, and what the program answers."""
+"""Inputs of the program as pictures: what they have, and what is answered."""
 
-from .errors import BadInput
+from . import calls
+from .commands import NAMES, figures_in, printed
+from .errors import ProgramMissing
+from .library import library
 from .picture import Picture
 from .program import answer
-from .text import edges_in, lines_of, paths_in, points_in, shapes_in
+from .text import FILLS, edges_in, paths_in, shapes_in
 
-KINDS = ("subject", "clip", "line", "point")
 SHAPE_COMMANDS = ("overlay", "hierarchy", "slice", "tiles")
 STRENGTHS = (0.25, 0.5, 0.37)
 
 
-def figures_in(text):
-    """The paths of each kind in an input, and the words of its command."""
-    figures = {kind: [] for kind in KINDS}
-    for line in text.splitlines():
-        first, _, rest = line.strip().partition(" ")
-        if first == "run":
-            return figures, rest.split()
-        if first in figures:
-            figures[first].append(points_in(rest))
-    raise BadInput("the input has no command")
+def told_of(text):
+    """What the program answers to an input; where there is none, but a library, what that does."""
+    try:
+        return answer(text)
+    except ProgramMissing:
+        if library() is None:
+            raise
+    return printed(text)
 
 
 def add_answer(picture, command, figures, told):
-    """Adds what the program answered."""
+    """Adds what was answered."""
     if command in SHAPE_COMMANDS:
         shapes, _ = shapes_in(told)
         for place, shape in enumerate(shapes):
@@ -42,7 +42,7 @@ def add_answer(picture, command, figures, told):
 
 def picture_of(text, with_nodes=False):
     """The picture of an input and of its answer, where it is asked for with the ends of the arrangement's edges."""
-    told = answer(text)
+    told = told_of(text)
     figures, words = figures_in(text)
     picture = Picture(" ".join(["run", *words]))
     filled = "evenodd" if "EvenOdd" in words or not words[1:] else "nonzero"
@@ -62,7 +62,5 @@ def picture_of(text, with_nodes=False):
 
 def nodes_of(figures, words):
     """The ends of the edges of the arrangement of subject and clip."""
-    fill = next((word for word in words if word in ("EvenOdd", "NonZero", "Positive", "Negative")), "EvenOdd")
-    given = "".join(lines_of(kind, figures[kind]) for kind in ("subject", "clip"))
-    told = answer(f"{given}run edges {fill}\n")
-    return {point for edge in edges_in(told) for point in edge[:2]}
+    fill = next((NAMES[word] for word in words if word in FILLS.values()), "evenodd")
+    return {point for edge in calls.edges(figures["subject"], figures["clip"], fill) for point in edge[:2]}

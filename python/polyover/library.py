@@ -115,11 +115,13 @@ SHAPES = ARRAY * 3
 FUNCTIONS = {
     "polyover_in_range": ARRAY,
     "polyover_overlay": (*OVERLAY, *SHAPES, POINTER(Counts)),
+    "polyover_simplify": (c_uint32, POINTER(Options), CONTOURS, *SHAPES, POINTER(Counts)),
     "polyover_hierarchy": (*OVERLAY, *SHAPES, *ARRAY, POINTER(Counts), COUNT),
     "polyover_edges": (*TWO, *ARRAY, *ARRAY, COUNT),
     "polyover_relate": (*TWO, POINTER(c_uint32)),
     "polyover_clip": (c_uint32, POINTER(ClipOptions), CONTOURS, CONTOURS, *ARRAY, *ARRAY, POINTER(PathCounts)),
     "polyover_slice": (*TWO, *SHAPES, POINTER(Counts)),
+    "polyover_resolved": (CONTOURS,),
     "polyover_locate": (CONTOURS, *ARRAY, *ARRAY, COUNT),
 }
 
@@ -209,6 +211,6 @@ def library():
     `make -C c`, or none where none is."""
     named = os.environ.get(VARIABLE)
     if named:
-        return loaded(named)
+        return loaded(os.path.abspath(named))
     is_wanted = not os.environ.get(program.VARIABLE)
     return loaded(BUILT) if is_wanted and os.path.isfile(BUILT) else None

@@ -21,7 +21,7 @@ class BadLine(BadInput):
 
 def program():
     """The path of the program: the one that POLYOVER_PROGRAM names, or else the one that `rt run` built."""
-    path = Path(os.environ.get(VARIABLE) or BUILT)
+    path = Path(os.environ.get(VARIABLE) or BUILT).absolute()
     if not path.is_file():
         raise ProgramMissing(f"no program at {path}: build it (README.md, \"Run it\"), or name one by {VARIABLE}")
     return path

@@ -87,6 +87,14 @@ class Scaled:
         """Shapes with points of floats."""
         return Shapes([self.paths(shape) for shape in shapes])
 
+    def linked(self, shapes, links):
+        """Shapes with points of floats, and links."""
+        return self.shapes(shapes), links
+
+    def filled(self, edges):
+        """Edges with points of floats."""
+        return [(self.point(start), self.point(end), fills) for start, end, fills in edges]
+
     def finer(self):
         """The same at a scale 1,024 times as fine."""
         return Scaled(self.scale * FINER, self.origin)
@@ -111,9 +119,17 @@ class Scaled:
         """As `polyover.overlay`."""
         return self._settled(lambda at, s, c: at.shapes(calls.overlay(s, c, rule, fill, **options)), subject, clip)
 
+    def hierarchy(self, subject, clip=(), rule="union", fill="nonzero", **options):
+        """As `polyover.hierarchy`."""
+        return self._settled(lambda at, s, c: at.linked(*calls.hierarchy(s, c, rule, fill, **options)), subject, clip)
+
     def simplify(self, subject, fill="nonzero", **options):
         """As `polyover.simplify`."""
-        return self.overlay(subject, (), "subject", fill, **options)
+        return self._settled(lambda at, s: at.shapes(calls.simplify(s, fill, **options)), subject)
+
+    def edges(self, subject, clip=(), fill="nonzero"):
+        """As `polyover.edges`."""
+        return self._settled(lambda at, s, c: at.filled(calls.edges(s, c, fill)), subject, clip)
 
     def relate(self, subject, clip, fill="nonzero"):
         """As `polyover.relate`."""
@@ -134,6 +150,10 @@ class Scaled:
     def sides(self, width, height):
         """The whole width and height of a cell."""
         return Scaled(self.scale).whole_point((width, height))
+
+    def is_resolved(self, shape):
+        """As `polyover.is_resolved`."""
+        return calls.is_resolved(self.whole(shape))
 
     def locate(self, shape, points):
         """As `polyover.locate`."""

@@ -46,6 +46,16 @@ def lines_of(kind, paths):
     return "".join(f"{kind}{''.join(f' {coordinate(x)} {coordinate(y)}' for x, y in path)}\n" for path in paths)
 
 
+def printed_path(points):
+    """The line of a contour or path in an answer."""
+    return " ".join(f"{x} {y}" for x, y in points) + "\n"
+
+
+def printed_shapes(shapes):
+    """The lines of shapes in an answer."""
+    return "".join("shape\n" + "".join(map(printed_path, shape)) for shape in shapes)
+
+
 def points_in(line):
     """The points of a line of numbers."""
     numbers = [int(each) for each in line.split()]

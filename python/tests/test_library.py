@@ -12,30 +12,18 @@ from unittest import mock
 import polyover
 from polyover import by_library, by_program, library
 from polyover.calls import Look
+from polyover.commands import printed
 from polyover.program import BadLine, answer, program
 from polyover.text import FILLS, RULES
 
 from .inputs import COMMANDS, ROOT, cases_of_program, inputs_of
-from .printing import printed
 from .rows import OTHER, SQUARE, UNSETTLED
+from .there import ask_library_alone, asked_alone, library_path, with_both, with_library
 
 HEADER = (ROOT / "include" / "polyover.h").read_text()
 INPUTS = 60
 LIMIT = 4611686018427387903
 PLAIN = Look(ogc=True, clockwise=False, keep=False, minimum_area=0)
-
-
-def is_there(found):
-    """Whether the library, or the program, is there."""
-    try:
-        return found() is not None
-    except polyover.PolyoverError:
-        return False
-
-
-HAS_LIBRARY, HAS_PROGRAM = is_there(library.library), is_there(program)
-with_library = unittest.skipUnless(HAS_LIBRARY, "no library for C (make -C c)")
-with_both = unittest.skipUnless(HAS_LIBRARY and HAS_PROGRAM, "no library for C (make -C c), or no program beside it")
 
 
 class Declared(unittest.TestCase):
@@ -94,9 +82,16 @@ class Chosen(unittest.TestCase):
 
     @with_library
     def test_named_with_the_program(self):
-        with mock.patch.dict(os.environ, {"POLYOVER_PROGRAM": "/nowhere/polyover"}):
-            path = os.environ.get(library.VARIABLE) or library.BUILT
-            self.assertEqual(self.asked(POLYOVER_LIBRARY=path, POLYOVER_PROGRAM="/nowhere/polyover"), "library")
+        ask_library_alone(self)
+        self.assertEqual(polyover.backend(), "library")
+
+    @with_both
+    def test_named_from_their_folders(self):
+        for path, variable in ((library_path(), library.VARIABLE), (str(program()), "POLYOVER_PROGRAM")):
+            self.addCleanup(os.chdir, os.getcwd())
+            os.chdir(os.path.dirname(path))
+            asked_alone(self, **{variable: os.path.basename(path)})
+            self.assertEqual(len(polyover.overlay([SQUARE])), 1)
 
 
 @with_library
@@ -152,17 +147,19 @@ def made(chance):
     points = [(chance.randint(0, size), chance.randint(0, size)) for _ in range(5)]
     triangles = [[(0, 0), (each, 1), (1, each)] for each in range(2, chance.randint(3, 6))] + subject[: size == 4]
     fill, rule = chance.choice(list(FILLS)), chance.choice(list(RULES))
-    area = chance.choice((0, 0, 3, 2**64 + 1, 2**127 - 1))
+    area, least = (chance.choice((0, 0, 3, 2**64 + 1, 2**127 - 1)) for _ in range(2))
     look = Look(chance.random() < 0.5, chance.random() < 0.5, chance.random() < 0.5, area)
     sides = [chance.choice((-1, 0, 1, 3, size // 3 + 1, size // 900 + 1, LIMIT)) for _ in range(2)]
     return {
         "overlay": (subject, clip, rule, fill, look),
         "hierarchy": (subject, clip, rule, fill, look),
+        "simplify": (chance.choice((subject, subject[:1], triangles[-1:])), fill, look._replace(minimum_area=least)),
         "edges": (subject, clip, fill),
         "relate": (subject, clip, fill),
         "clip": (subject, lines, fill, look.keep, look.ogc),
         "slice": (subject, lines, fill),
         "tiles": (subject, *sides, fill),
+        "is_resolved": (chance.choice((subject, triangles)),),
         "locate": (triangles, points),
     }
 
@@ -191,7 +188,7 @@ class Compared(unittest.TestCase):
         return here == there or (here is polyover.NotResolved and there is polyover.BadInput)
 
     def test_inputs_of_the_program(self):
-        small = [case for case in cases_of_program() if case.status == 0 and "run contains" not in case.text]
+        small = [case for case in cases_of_program() if case.status == 0]
         self.assertGreater(len(small), 9)
         for case in small:
             self.assertEqual(printed(case.text.replace("\r", "")), case.written, case.name)

@@ -4,8 +4,11 @@ import unittest
 from pathlib import Path
 from xml.etree import ElementTree
 
+from polyover import PolyoverError, backend
 from polyover.errors import BadInput
 from polyover.inputs import picture_of
+
+from .there import ask_library_alone, with_library
 
 ROOT = Path(__file__).resolve().parents[2]
 PICTURES = ROOT / "docs" / "pictures"
@@ -40,6 +43,8 @@ class Pictures(unittest.TestCase):
     def test_points_by_location(self):
         _, words = self.drawn(SQUARE + "point 2 2\npoint 4 2\npoint 9 9\nrun locate\n")
         self.assertEqual(words[-3:], ["inside", "boundary", "outside"])
+        _, words = self.drawn(SQUARE + "point 2 2\npoint 9 9\nrun contains\n")
+        self.assertEqual(words[-2:], ["inside", "outside"])
 
     def test_ends_of_the_range(self):
         far = 4611686018427387903
@@ -54,7 +59,19 @@ class Pictures(unittest.TestCase):
         for text in ("", "subject 0 x\nrun edges NonZero\n", SQUARE):
             with self.assertRaises(BadInput):
                 picture_of(text)
+        for text in ("subject 0 0 4 4 4 0 0 4\nrun locate\n", SQUARE + "run tiles NonZero 1 0\n"):
+            with self.assertRaises(PolyoverError):
+                picture_of(text)
 
     def test_title_of_relations(self):
         _, words = self.drawn(SQUARE + "clip 4 0 8 0 8 4 4 4\nrun relate NonZero\n")
         self.assertIn("intersects, touches", words)
+
+
+@with_library
+class PicturesOfTheLibrary(Pictures):
+    """The same, where there is no program."""
+
+    def setUp(self):
+        ask_library_alone(self)
+        self.assertEqual(backend(), "library")

@@ -1,13 +1,12 @@
 """The rows of docs/PROGRAM.md through Python: what the program prints, once printed."""
 
-import os
 import unittest
-from unittest import mock
 
 import polyover
-from polyover.program import program
+from polyover.text import printed_path, printed_shapes
 
-from .rows import BAR, FRAME, HALL, NESTED, OTHER, SQUARE, WALLS, numbers, printed_shapes
+from .rows import BAR, FRAME, HALL, NESTED, OTHER, SQUARE, WALLS
+from .there import ask_program_alone, with_program
 
 
 class Rows(unittest.TestCase):
@@ -38,6 +37,33 @@ class Rows(unittest.TestCase):
         self.assertEqual(printed_shapes(shapes), "shape\n0 9 0 0 9 0 9 9\n1 1 1 8 8 8 8 1\nshape\n2 7 2 2 7 2 7 7\n")
         self.assertEqual(links, [(0, 1, 1)])
 
+    def test_simplify(self):
+        crossed, halves = [(0, 0), (4, 4), (4, 0), (0, 4)], "shape\n0 4 0 0 2 2\nshape\n4 4 2 2 4 0\n"
+        self.assertEqual(printed_shapes(polyover.simplify([crossed])), halves)
+        self.assertEqual(polyover.simplify([crossed], minimum_area=5), [])
+        joined = "shape\n0 4 0 0 4 0 4 2 6 2 6 6 2 6 2 4\n"
+        self.assertEqual(printed_shapes(polyover.simplify([SQUARE, OTHER])), joined)
+
+    def test_simple_contours_stay_as_they_are(self):
+        turned = [(4, 4), (0, 4), (0, 0), (4, 0)]
+        for options in ({}, {"keep": True}, {"ogc": False}, {"fill": "positive"}, {"fill": "evenodd"}):
+            self.assertEqual(polyover.simplify([turned], **options), [[turned]])
+        self.assertEqual(polyover.simplify([turned[::-1]]), [[turned]])
+        self.assertEqual(polyover.simplify([turned], clockwise=True), [[turned[::-1]]])
+        self.assertEqual(polyover.simplify([SQUARE], "negative"), [])
+        cut = polyover.overlay([SQUARE], (), "subject")
+        for given in ([*SQUARE, (0, 2)], [*SQUARE, (0, 4)], [*SQUARE, (0, 0)]):
+            self.assertEqual(polyover.simplify([given]), cut)
+        self.assertEqual(polyover.simplify([SQUARE, []]), cut)
+        self.assertEqual(polyover.simplify([SQUARE], minimum_area=16), cut)
+
+    def test_resolved(self):
+        touching, crossed = [(0, 0), (4, 0), (2, 2), (4, 4), (0, 4), (2, 2)], [(0, 0), (4, 4), (4, 0), (0, 4)]
+        for contours in ([], [[]], [SQUARE], [SQUARE, OTHER], [touching]):
+            self.assertTrue(polyover.is_resolved(contours), contours)
+        for contours in ([crossed], [SQUARE, crossed], [[(0, 0), (4, 0)]], [[(0, 0), (4, 0), (4, 4), (4, 0)]]):
+            self.assertFalse(polyover.is_resolved(contours), contours)
+
     def test_edges(self):
         needle = [(0, 0), (10, 4), (10, 0), (0, 3)]
         expected = [
@@ -56,9 +82,9 @@ class Rows(unittest.TestCase):
 
     def test_clip(self):
         shape, line = [[(-10, -10), (-10, 10), (10, 10), (10, -10)]], [[(0, -15), (0, 15)]]
-        self.assertEqual("".join(map(numbers, polyover.clip(shape, line))), "0 -10 0 10\n")
+        self.assertEqual("".join(map(printed_path, polyover.clip(shape, line))), "0 -10 0 10\n")
         inverted = polyover.clip(shape, line, invert=True)
-        self.assertEqual("".join(map(numbers, inverted)), "0 -15 0 -10\n0 10 0 15\n")
+        self.assertEqual("".join(map(printed_path, inverted)), "0 -15 0 -10\n0 10 0 15\n")
 
     def test_slice(self):
         rooms = (
@@ -87,11 +113,10 @@ class Rows(unittest.TestCase):
         self.assertEqual(polyover.clip([SQUARE], []), [])
 
 
+@with_program
 class RowsOfTheProgram(Rows):
     """The same, where the program is asked, which the library takes the place of."""
 
     def setUp(self):
-        chosen = mock.patch.dict(os.environ, {"POLYOVER_LIBRARY": "", "POLYOVER_PROGRAM": str(program())})
-        chosen.start()
-        self.addCleanup(chosen.stop)
+        ask_program_alone(self)
         self.assertEqual(polyover.backend(), "program")

@@ -10,7 +10,7 @@ from itertools import product
 import polyover
 from polyover.text import LIMIT
 
-from .rows import UNSETTLED
+from .rows import NESTED, UNSETTLED
 
 
 class ScaledFloats(unittest.TestCase):
@@ -42,6 +42,16 @@ class ScaledFloats(unittest.TestCase):
         square = [(0.0, 0.0), (0.25, 0.0), (0.25, 0.5), (0.0, 0.5)]
         self.assertEqual(scaled.overlay([square]), [[[(0.0, 0.5), (0.0, 0.0), (0.25, 0.0), (0.25, 0.5)]]])
         self.assertEqual(scaled.locate([square], [(0.1, 0.1), (0.25, 0.1)]), ["inside", "boundary"])
+
+    def test_links_edges_and_simple_contours(self):
+        scaled, (outer, hole, island) = polyover.Scaled(4), [[(x / 4, y / 4) for x, y in each] for each in NESTED]
+        shapes, links = scaled.hierarchy([outer, hole, island], (), "subject", "evenodd")
+        self.assertEqual((len(shapes), max(shapes[0][0]), links), (2, (2.25, 2.25), [(0, 1, 1)]))
+        self.assertEqual(scaled.edges([outer])[0], ((0.0, 0.0), (0.0, 2.25), 2))
+        self.assertEqual(scaled.simplify([island]), [[island]])
+        self.assertEqual(scaled.simplify([island[::-1]]), [[island]])
+        self.assertTrue(scaled.is_resolved([outer, hole]))
+        self.assertFalse(scaled.is_resolved([outer, [(0, 0), (1, 1), (1, 0), (0.25, 0.75)]]))
 
     def test_cells_have_a_node_at_the_origin(self):
         scaled = polyover.Scaled(100, (0.5, 0))

@@ -1,0 +1,144 @@
+"""Inputs of the program, read and answered by the module's calls as the program reads and answers them."""
+
+import re
+
+from . import calls
+from .program import BadLine
+from .text import FILLS, LIMIT, RULES, points_in, printed_path, printed_shapes
+
+KINDS = ("subject", "clip", "line", "point")
+NAMES = {word: name for words in (RULES, FILLS) for name, word in words.items()}
+PATH, FILL, NUMBER = "( -?[0-9]+ -?[0-9]+)*", f" ({'|'.join(FILLS.values())})", " -?[0-9]+"
+OVERLAY = f" ({'|'.join(RULES.values())}){FILL}( ogc| keep| clockwise| min{NUMBER})*"
+COMMANDS = {
+    "overlay": OVERLAY,
+    "hierarchy": OVERLAY,
+    "edges": FILL,
+    "relate": FILL,
+    "clip": f"{FILL}( invert| boundary)*",
+    "slice": FILL,
+    "tiles": f"{FILL}{NUMBER}{NUMBER}",
+    "contains": "",
+    "locate": "",
+}
+FIGURE = re.compile(f"(subject|clip|line){PATH}|point{NUMBER}{NUMBER}")
+COMMAND = re.compile("|".join(f"run {name}{words}" for name, words in COMMANDS.items()))
+SPACES = re.compile(" +")
+
+
+# ---- inputs
+
+
+def is_figure(line):
+    """Whether a line has a contour, a path or a point, in the coordinate range."""
+    return FIGURE.fullmatch(line) and all(abs(int(number)) <= LIMIT for number in line.split(" ")[1:])
+
+
+def is_command(line):
+    """Whether a line has a command, with each option at most once, and a minimum area that is in its range."""
+    words = line.split(" ")
+    names = list(filter(str.isalpha, words))
+    is_written = COMMAND.fullmatch(line) and len(set(names)) == len(names)
+    return is_written and 0 <= options_in(words)["minimum_area"] <= calls.AREA_LIMIT
+
+
+def figures_in(text):
+    """The paths of each kind in an input, and the words of its command; a bad line is a fault, which names it."""
+    figures, words = {kind: [] for kind in KINDS}, None
+    lines = text.replace("\r\n", "\n").removesuffix("\n").split("\n") if text else []
+    for number, each in enumerate(lines, 1):
+        line = SPACES.sub(" ", each).strip(" ")
+        kind, _, rest = line.partition(" ")
+        if words is None and is_figure(line):
+            figures[kind].append(points_in(rest))
+        elif words is None and is_command(line):
+            words = rest.split(" ")
+        elif line:
+            raise BadLine(number)
+    if words is None:
+        raise BadLine(len(lines) + 1)
+    return figures, words
+
+
+# ---- answers
+
+
+def options_in(words):
+    """The options of an overlay, by name."""
+    area = int(words[words.index("min") + 1]) if "min" in words else 0
+    return {**{name: name in words for name in ("ogc", "clockwise", "keep")}, "minimum_area": area}
+
+
+def printed_overlay(figures, words):
+    """The shapes of an overlay."""
+    rule, fill = (NAMES[word] for word in words[:2])
+    return printed_shapes(calls.overlay(figures["subject"], figures["clip"], rule, fill, **options_in(words)))
+
+
+def printed_hierarchy(figures, words):
+    """The shapes of an overlay, and its links."""
+    rule, fill = (NAMES[word] for word in words[:2])
+    shapes, links = calls.hierarchy(figures["subject"], figures["clip"], rule, fill, **options_in(words))
+    return printed_shapes(shapes) + "".join(f"link {' '.join(map(str, link))}\n" for link in links)
+
+
+def printed_edges(figures, words):
+    """The edges of the arrangement."""
+    found = calls.edges(figures["subject"], figures["clip"], NAMES[words[0]])
+    return "".join(f"edge {ax} {ay} {bx} {by} {fill}\n" for (ax, ay), (bx, by), fill in found)
+
+
+def printed_relations(figures, words):
+    """The seven relations."""
+    told = calls.relate(figures["subject"], figures["clip"], NAMES[words[0]])
+    return "".join(f"{name} {str(holds).lower()}\n" for name, holds in told.items())
+
+
+def printed_clip(figures, words):
+    """The paths that a clip leaves."""
+    chosen = {name: name in words for name in ("invert", "boundary")}
+    return "".join(map(printed_path, calls.clip(figures["subject"], figures["line"], NAMES[words[0]], **chosen)))
+
+
+def printed_slices(figures, words):
+    """The shapes into which paths cut the subject."""
+    return printed_shapes(calls.slice(figures["subject"], figures["line"], NAMES[words[0]]))
+
+
+def printed_tiles(figures, words):
+    """The shapes into which a grid cuts the subject."""
+    return printed_shapes(calls.tiles(figures["subject"], *map(int, words[1:]), NAMES[words[0]]))
+
+
+def located(figures):
+    """Where each point lies."""
+    return calls.locate(figures["subject"], [point for path in figures["point"] for point in path])
+
+
+def printed_locations(figures, _):
+    """Where each point lies."""
+    return "".join(f"{place}\n" for place in located(figures))
+
+
+def printed_truths(figures, _):
+    """Whether each point is inside; of one on an edge the program may say either, and this says false."""
+    return "".join(f"{str(place == 'inside').lower()}\n" for place in located(figures))
+
+
+PRINTED = {
+    "overlay": printed_overlay,
+    "hierarchy": printed_hierarchy,
+    "edges": printed_edges,
+    "relate": printed_relations,
+    "clip": printed_clip,
+    "slice": printed_slices,
+    "tiles": printed_tiles,
+    "locate": printed_locations,
+    "contains": printed_truths,
+}
+
+
+def printed(text):
+    """What the module's call answers to an input, as the program prints it."""
+    figures, (command, *words) = figures_in(text)
+    return PRINTED[command](figures, words)
