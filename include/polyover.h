@@ -34,7 +34,7 @@ extern "C" {
 typedef uint32_t polyover_status;
 enum {
     POLYOVER_OK = 0,
-    POLYOVER_MEMORY = 1, /* memory was refused */
+    POLYOVER_MEMORY = 1, /* memory was refused; none is taken before all is tested that a call tests first */
     /* the coordinates are an odd count, an end is below the one before it, or the last one is not the count of points */
     POLYOVER_BAD_ENDS = 2,
     POLYOVER_OUT_OF_RANGE = 3, /* a coordinate is out of the coordinate range */
@@ -175,7 +175,7 @@ uint32_t polyover_in_range_32(const int32_t *coordinates, size_t coordinate_coun
 /* Whether `polyover_locate` takes the contours: POLYOVER_BAD_ENDS exactly where the ends do not fit, else
  * POLYOVER_OUT_OF_RANGE exactly where a coordinate is out of range; else POLYOVER_MEMORY, or POLYOVER_OK exactly where
  * each contour is resolved: where two steps at different places of one never share a point that is not an end of both.
- * All pairs of steps of a contour are tested. */
+ * The steps of a contour are sorted for that. */
 polyover_status polyover_resolved(const polyover_contours *contours);
 polyover_status polyover_resolved_32(const polyover_contours_32 *contours);
 
@@ -189,8 +189,9 @@ polyover_status polyover_resolved_32(const polyover_contours_32 *contours);
  * are, and counts tells what it takes. After any other status nothing is changed, counts neither.
  *
  * Tested first, in this order: POLYOVER_BAD_RULE, POLYOVER_BAD_FILL, POLYOVER_BAD_OPTION; then of the subject, and then
- * of the clip, POLYOVER_BAD_ENDS and POLYOVER_OUT_OF_RANGE. Edges that meet in a point that is not whole are cut at a
- * whole point at most 1/2 away in x and in y. POLYOVER_NOT_SETTLED, POLYOVER_TOO_MANY_EDGES and POLYOVER_MEMORY are left.
+ * of the clip, POLYOVER_BAD_ENDS and POLYOVER_OUT_OF_RANGE. Each of these comes exactly where it must, and no other
+ * status in its place. Edges that meet in a point that is not whole are cut at a whole point at most 1/2 away in x and
+ * in y. POLYOVER_NOT_SETTLED, POLYOVER_TOO_MANY_EDGES and POLYOVER_MEMORY are left.
  */
 polyover_status polyover_overlay(polyover_rule rule, polyover_fill fill, const polyover_options *options,
                                  const polyover_contours *subject, const polyover_contours *clip,
@@ -238,7 +239,7 @@ polyover_status polyover_relate_32(polyover_fill fill, const polyover_contours_3
  *
  * Tested in this order: of the contours POLYOVER_BAD_ENDS and POLYOVER_OUT_OF_RANGE; then of the points, where
  * POLYOVER_BAD_ENDS says that they are an odd count of coordinates, the same two; POLYOVER_TOO_SMALL exactly where there
- * are more points than `location_room`; POLYOVER_NOT_RESOLVED. POLYOVER_MEMORY is left. */
+ * are more points than `location_room`. Then memory is taken: POLYOVER_NOT_RESOLVED and POLYOVER_MEMORY are left. */
 polyover_status polyover_locate(const polyover_contours *shape, const int64_t *coordinates, size_t coordinate_count,
                                 uint8_t *locations, size_t location_room, size_t *unresolved);
 polyover_status polyover_locate_32(const polyover_contours_32 *shape, const int32_t *coordinates,

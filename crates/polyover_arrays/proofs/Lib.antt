@@ -1,1 +1,2 @@
+pub mod PointCounts
 pub mod WithinPoints

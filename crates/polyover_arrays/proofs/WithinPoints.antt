@@ -3,7 +3,7 @@ use Rattle.std.proofs.Common.{ℕ, ℤ, List, [], ◌∷◌, All, Option, Some, 
 use Rattle.std.proofs.lemmas.List.Elements.{All-nil, All-cons, All-head, All-tail}
 use Rattle.std.specs.declared.ops.Range.{Range}
 use Rattle.overlay_geom.proofs.Mapped.{All-mapped_range}
-use Rattle.overlay_geom.specs.Flat.{paths_in, part_in, range_within}
+use Rattle.overlay_geom.specs.Flat.{paths_in, part_in}
 use Rattle.overlay_geom.specs.Numbers.{Within}
 use Rattle.overlay_geom.specs.Points.{plain_point, plain_points, InRange, AllInRange}
 use Rattle.overlay_geom.specs.declared.point.IntPoint.{IntPoint}

@@ -25,14 +25,20 @@ pub record ArePoints {I : Type 0} (whole : I → ℤ) (limit : ℕ) (cs : List I
   pub even : length cs % 2 ≡ 0
   pub within : AreWithin whole limit cs
 
+-- what is wrong with arrays of contours; that memory was refused is no fault of theirs
+abbrev pub HaveOwnFault : {I : Type 0} → (I → ℤ) → ℕ → List I → List ℕ → Fault → Type 0
+HaveOwnFault whole limit cs ends Memory = ⊥
+HaveOwnFault whole limit cs ends Ends = are_ends ends (length cs) ≡ false
+HaveOwnFault whole limit cs ends Range = (are_ends ends (length cs) ≡ true) × ¬ (AreWithin whole limit cs)
+
 -- why contours are not read: for want of memory they fit and are in range
 abbrev pub HaveFault : {I : Type 0} → (I → ℤ) → ℕ → List I → List ℕ → Fault → Type 0
 HaveFault whole limit cs ends Memory = AreContours whole limit cs ends
-HaveFault whole limit cs ends Ends = are_ends ends (length cs) ≡ false
-HaveFault whole limit cs ends Range = (are_ends ends (length cs) ≡ true) × ¬ (AreWithin whole limit cs)
+HaveFault whole limit cs ends Ends = HaveOwnFault whole limit cs ends Ends
+HaveFault whole limit cs ends Range = HaveOwnFault whole limit cs ends Range
 
--- why points are not read
-abbrev pub PointsHaveFault : {I : Type 0} → (I → ℤ) → ℕ → List I → Fault → Type 0
-PointsHaveFault whole limit cs Memory = ArePoints whole limit cs
-PointsHaveFault whole limit cs Ends = length cs % 2 ≢ 0
-PointsHaveFault whole limit cs Range = (length cs % 2 ≡ 0) × ¬ (AreWithin whole limit cs)
+-- what is wrong with an array of points
+abbrev pub PointsHaveOwnFault : {I : Type 0} → (I → ℤ) → ℕ → List I → Fault → Type 0
+PointsHaveOwnFault whole limit cs Memory = ⊥
+PointsHaveOwnFault whole limit cs Ends = length cs % 2 ≢ 0
+PointsHaveOwnFault whole limit cs Range = (length cs % 2 ≡ 0) × ¬ (AreWithin whole limit cs)

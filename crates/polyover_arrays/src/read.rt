@@ -4,10 +4,10 @@ ghost use Rattle.std.specs.Prelude.{◌≡◌, All, IfOk, MatchResult, IsOkUnles
 ghost use Rattle.overlay_geom.specs.Flat.{paths_in};
 ghost use Rattle.overlay_geom.specs.Points.{plain_points, AllInRange};
 ghost use Rattle.polyover_arrays.specs.Arrays.{points_of, ranges_from};
-ghost use Rattle.polyover_arrays.specs.Reading.{AreContours, ArePoints, contours_at, HaveFault, PointsHaveFault};
+ghost use Rattle.polyover_arrays.specs.Reading.{AreContours, ArePoints, contours_at, HaveFault};
 
 use crate::fault::Fault;
-use crate::test::{are_ends, are_within};
+use crate::test::test_contours;
 use overlay_geom::flat::contours::FlatContoursBuffer;
 use overlay_geom::number::IntNumber;
 use overlay_geom::point::IntPoint;
@@ -28,35 +28,39 @@ pub fn read_contours<I: IntNumber, A: Allocator + Copy>(
         ≡ contours_at I.whole coordinates.now ends.now) }
     ensures in_range { IfOk result (λ b. All (AllInRange I.limit) (paths_in I.whole b.points.items b.ranges.items)) }
 {
-    if !are_ends(ends, coordinates.len()) {
-        return Err(Fault::Ends);
-    }
-    if !are_within(coordinates) {
-        return Err(Fault::Range);
-    }
+    test_contours(coordinates, ends)?;
+    let contours = tested_contours(alloc, coordinates, ends)?;
+    Ok(contours)
+}
+
+/// The contours of the coordinates, one up to each end, which have passed `test_contours`. The only refusal is
+/// `Memory`.
+pub fn tested_contours<I: IntNumber, A: Allocator + Copy>(
+    alloc: A,
+    coordinates: &[I],
+    ends: &[usize],
+) -> Result<FlatContoursBuffer<I, A>, Fault>
+    requires { AreContours I.whole I.limit coordinates.now ends.now }
+    ensures contours { IfOk result (λ b. paths_in I.whole b.points.items b.ranges.items
+        ≡ contours_at I.whole coordinates.now ends.now) }
+    ensures in_range { IfOk result (λ b. All (AllInRange I.limit) (paths_in I.whole b.points.items b.ranges.items)) }
+    ensures only { IsOkUnless result Fault.Memory }
+{
     let points = points_of(alloc, coordinates)?;
     let ranges = ranges_of(alloc, ends)?;
     Ok(FlatContoursBuffer { points, ranges })
 }
 
-/// The points of the coordinates. They are tested first: `Ends` comes exactly where they are an odd count, `Range`
-/// exactly where they are an even one and a coordinate is out of range; `Memory` else.
-pub fn read_points<I: IntNumber, A: Allocator>(
+/// The points of the coordinates, which have passed `test_points`. The only refusal is `Memory`.
+pub fn tested_points<I: IntNumber, A: Allocator>(
     alloc: A,
     coordinates: &[I],
 ) -> Result<Vec<IntPoint<I>, A>, Fault>
-    ensures read { MatchResult result
-        (λ v. ArePoints I.whole I.limit coordinates.now)
-        (PointsHaveFault I.whole I.limit coordinates.now) }
+    requires { ArePoints I.whole I.limit coordinates.now }
     ensures points { IfOk result (λ v. v.items ≡ points_of coordinates.now) }
     ensures in_range { IfOk result (λ v. AllInRange I.limit (plain_points I.whole v.items)) }
+    ensures only { IsOkUnless result Fault.Memory }
 {
-    if coordinates.len() % 2 != 0 {
-        return Err(Fault::Ends);
-    }
-    if !are_within(coordinates) {
-        return Err(Fault::Range);
-    }
     let points = points_of(alloc, coordinates)?;
     Ok(points)
 }

@@ -1,9 +1,10 @@
 //! Whether arrays have contours in the coordinate range. No call here takes memory.
 
-ghost use Rattle.std.specs.Prelude.{◌≡◌, ◌↔◌, IsTrue};
-ghost use Rattle.polyover_arrays.specs.Arrays.{are_ends, rise_from};
-ghost use Rattle.polyover_arrays.specs.Reading.{AreWithin};
+ghost use Rattle.std.specs.Prelude.{◌≡◌, ◌↔◌, IsTrue, MatchResult, length};
+ghost use Rattle.polyover_arrays.specs.Arrays.{are_ends, points_of, rise_from};
+ghost use Rattle.polyover_arrays.specs.Reading.{AreContours, ArePoints, AreWithin, HaveOwnFault, PointsHaveOwnFault};
 
+use crate::fault::Fault;
 use overlay_geom::number::IntNumber;
 
 /// Returns whether the ends part so many coordinates into contours: the coordinates are an even count, no end is below
@@ -38,4 +39,44 @@ pub fn are_within<I: IntNumber>(coordinates: &[I]) -> bool
         }
     }
     true
+}
+
+/// Tests whether the coordinates have contours in the coordinate range, one up to each end: `Ends` comes exactly where
+/// they do not fit, `Range` exactly where they fit and a coordinate is out of range, and no other refusal.
+pub fn test_contours<I: IntNumber>(coordinates: &[I], ends: &[usize]) -> Result<(), Fault>
+    ensures { MatchResult result
+        (λ _. AreContours I.whole I.limit coordinates.now ends.now)
+        (HaveOwnFault I.whole I.limit coordinates.now ends.now) }
+{
+    if !are_ends(ends, coordinates.len()) {
+        return Err(Fault::Ends);
+    }
+    if !are_within(coordinates) {
+        return Err(Fault::Range);
+    }
+    Ok(())
+}
+
+/// Tests whether the coordinates are points in the coordinate range: `Ends` comes exactly where they are an odd count,
+/// `Range` exactly where they are an even one and a coordinate is out of range, and no other refusal.
+pub fn test_points<I: IntNumber>(coordinates: &[I]) -> Result<(), Fault>
+    ensures { MatchResult result
+        (λ _. ArePoints I.whole I.limit coordinates.now)
+        (PointsHaveOwnFault I.whole I.limit coordinates.now) }
+{
+    if coordinates.len() % 2 != 0 {
+        return Err(Fault::Ends);
+    }
+    if !are_within(coordinates) {
+        return Err(Fault::Range);
+    }
+    Ok(())
+}
+
+/// Returns how many points the coordinates are.
+#[tactic(auto, using(crate::proofs::PointCounts::points_counted))]
+pub fn count_points<I: IntNumber>(coordinates: &[I]) -> usize
+    ensures { result ≡ length (points_of coordinates.now) }
+{
+    coordinates.len() / 2
 }

@@ -1,6 +1,7 @@
 pub mod AskedAgain
 pub mod Clipped
 pub mod Endings
+pub mod Faults
 pub mod Filled
 pub mod Hierarchies
 pub mod Lines

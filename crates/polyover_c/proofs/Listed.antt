@@ -17,17 +17,18 @@ use Rattle.overlay_geom.specs.Plane.{Point}
 use Rattle.overlay_geom.specs.declared.error.OverlayError.{OverlayError}
 use Rattle.i_overlay.specs.OneShot.{MayRefusePaths}
 use Rattle.polyover_arrays.specs.declared.fault.Fault.{Fault}
-use Rattle.polyover_c.proofs.Filled.{subject_unread, clip_unread, unanswered}
+use Rattle.polyover_c.proofs.Filled.{contours_unread, without_memory, unanswered}
 use Rattle.polyover_c.specs.Asked.{fill_of}
-use Rattle.polyover_c.specs.Given.{Contours, paths_of, paths_given, AreGiven, IsFaulty}
+use Rattle.polyover_c.specs.Given.{Contours, paths_of, paths_given, AreGiven, IsOneFaulty}
 use Rattle.polyover_c.specs.Listed.{EdgeArrays, EdgeRoom, AreListed, AreEdgesIn, AreEdgesPut, IsListingRefused}
 use Rattle.polyover_c.specs.Listed.{AreEdgesOfPaths, ListingEnds, ends_of_vector}
 use Rattle.polyover_c.specs.Statuses.{status_of_fault, status_of_error}
 use Rattle.polyover_c.specs.declared.status.Status.{Status}
+use Rattle.polyover_c.specs.declared.status.Status.TheVariants.{Memory}
 
 module _ {I : Type 0} (whole : I → ℤ) (limit fill : ℕ) (subject clip : Contours I) where
   pub edges_written_end : (arrays : EdgeArrays I) (old new : EdgeRoom I) (s : Status) →
-      AreEdgesIn whole fill subject clip arrays → AreEdgesPut arrays old new s →
+      AreEdgesIn whole limit fill subject clip arrays → AreEdgesPut arrays old new s →
       ListingEnds whole limit fill subject clip old new s
   edges_written_end arrays old new s are put = inl (record { arrays = arrays; edges = are; put = put })
 
@@ -38,26 +39,30 @@ module _ {I : Type 0} (whole : I → ℤ) (limit fill : ℕ) (subject clip : Con
   abbrev may : OverlayError → Type 0
   may = MayRefusePaths (paths_given whole subject clip)
 
-  pub subject_unlisted : (f : Fault) → fill < 4 → IsFaulty whole limit subject f →
+  pub contours_unlisted : (f : Fault) → fill < 4 → IsOneFaulty whole limit subject clip f →
       IsListingRefused whole limit fill subject clip (status_of_fault f)
-  subject_unlisted = subject_unread whole limit fill subject clip may
+  contours_unlisted = contours_unread whole limit fill subject clip may
 
-  pub clip_unlisted : (f : Fault) → fill < 4 → AreGiven whole limit subject → IsFaulty whole limit clip f →
-      IsListingRefused whole limit fill subject clip (status_of_fault f)
-  clip_unlisted = clip_unread whole limit fill subject clip may
+  pub memory_unlisted : (s : Status) → fill < 4 → AreGiven whole limit subject → AreGiven whole limit clip →
+      s ≡ Memory → IsListingRefused whole limit fill subject clip s
+  memory_unlisted s = without_memory whole limit fill subject clip may s tt
 
   pub listing_refused : (e : OverlayError) (p q : List (List Point)) → fill < 4 → AreGiven whole limit subject →
       AreGiven whole limit clip → p ≡ paths_of whole subject → q ≡ paths_of whole clip →
       MayRefusePaths (subject_and_clip p q) e →
       IsListingRefused whole limit fill subject clip (status_of_error e)
-  listing_refused e p q known s c same_p same_q refused = unanswered whole limit fill subject clip may e known s c
+  listing_refused e p q known s c same_p same_q refused =
+      unanswered whole limit fill subject clip may e (λ failed. failed) known s c
       (subst (λ paths. MayRefusePaths paths e) (ap₂ subject_and_clip same_p same_q) refused)
 
   pub edges_answered : (f : FillRule) (p q : List (List Point)) (vectors : List Vector) (arrays : EdgeArrays I) →
-      f ≡ fill_of fill → p ≡ paths_of whole subject → q ≡ paths_of whole clip →
-      AreEdgesOfPaths f (subject_and_clip p q) vectors → AreListed whole vectors arrays →
-      AreEdgesIn whole fill subject clip arrays
-  edges_answered f p q vectors arrays same_f same_p same_q are listed = record {
+      fill < 4 → AreGiven whole limit subject → AreGiven whole limit clip → f ≡ fill_of fill →
+      p ≡ paths_of whole subject → q ≡ paths_of whole clip → AreEdgesOfPaths f (subject_and_clip p q) vectors →
+      AreListed whole vectors arrays → AreEdgesIn whole limit fill subject clip arrays
+  edges_answered f p q vectors arrays known s c same_f same_p same_q are listed = record {
+    known = known;
+    subject_given = s;
+    clip_given = c;
     vectors = vectors;
     answer = subst (λ y. AreEdgesOfPaths y (paths_given whole subject clip) vectors) same_f
         (subst (λ paths. AreEdgesOfPaths f paths vectors) (ap₂ subject_and_clip same_p same_q) are);

@@ -4,19 +4,20 @@ use Rattle.overlay_arrange.specs.declared.fill_rule.FillRule.{FillRule}
 use Rattle.overlay_builder.specs.GivenPaths.{GivenPath, subject_and_clip}
 use Rattle.overlay_geom.specs.Plane.{Point}
 use Rattle.overlay_geom.specs.declared.error.OverlayError.{OverlayError}
+use Rattle.overlay_geom.specs.declared.error.OverlayError.TheVariants as error
 use Rattle.polyover_c.specs.Relations.{Relations, AreRelationsOfPaths, MayRefuseRelations}
 use Rattle.polyover_arrays.specs.declared.fault.Fault.{Fault}
-use Rattle.polyover_c.proofs.Filled.{subject_unread, clip_unread, unanswered}
+use Rattle.polyover_c.proofs.Filled.{contours_unread, without_memory, unanswered}
 use Rattle.polyover_c.specs.Asked.{fill_of}
-use Rattle.polyover_c.specs.Given.{Contours, paths_of, paths_given, AreGiven, IsFaulty}
+use Rattle.polyover_c.specs.Given.{Contours, paths_of, paths_given, AreGiven, IsOneFaulty}
 use Rattle.polyover_c.specs.Related.{AreRelated, IsRelatingRefused, RelatingEnds, bits_of, relations_of}
 use Rattle.polyover_c.specs.Statuses.{status_of_fault, status_of_error}
 use Rattle.polyover_c.specs.declared.relate.Told.{Told}
 use Rattle.polyover_c.specs.declared.status.Status.{Status}
-use Rattle.polyover_c.specs.declared.status.Status.TheVariants.{Done}
+use Rattle.polyover_c.specs.declared.status.Status.TheVariants.{Done, Memory}
 
 module _ {I : Type 0} (whole : I → ℤ) (limit fill : ℕ) (subject clip : Contours I) where
-  pub told_ends : (old new : ℕ) → AreRelated whole fill subject clip new →
+  pub told_ends : (old new : ℕ) → AreRelated whole limit fill subject clip new →
       RelatingEnds whole limit fill subject clip old new Done
   told_ends old new told = inl (refl, told)
 
@@ -28,13 +29,17 @@ module _ {I : Type 0} (whole : I → ℤ) (limit fill : ℕ) (subject clip : Con
   abbrev may : OverlayError → Type 0
   may = MayRefuseRelations (paths_given whole subject clip) (paths_given whole clip subject)
 
-  pub subject_untold : (f : Fault) → fill < 4 → IsFaulty whole limit subject f →
-      IsRelatingRefused whole limit fill subject clip (status_of_fault f)
-  subject_untold = subject_unread whole limit fill subject clip may
+  never_failed : ¬ (may error.Failed)
+  never_failed (inl failed) = failed
+  never_failed (inr failed) = failed
 
-  pub clip_untold : (f : Fault) → fill < 4 → AreGiven whole limit subject → IsFaulty whole limit clip f →
+  pub contours_untold : (f : Fault) → fill < 4 → IsOneFaulty whole limit subject clip f →
       IsRelatingRefused whole limit fill subject clip (status_of_fault f)
-  clip_untold = clip_unread whole limit fill subject clip may
+  contours_untold = contours_unread whole limit fill subject clip may
+
+  pub memory_untold : (s : Status) → fill < 4 → AreGiven whole limit subject → AreGiven whole limit clip →
+      s ≡ Memory → IsRelatingRefused whole limit fill subject clip s
+  memory_untold s = without_memory whole limit fill subject clip may s (inl tt)
 
   -- what the query refuses, of what is read
   refused_of : (e : OverlayError) (p q : List (List Point)) → p ≡ paths_of whole subject → q ≡ paths_of whole clip →
@@ -48,13 +53,17 @@ module _ {I : Type 0} (whole : I → ℤ) (limit fill : ℕ) (subject clip : Con
       MayRefuseRelations (subject_and_clip p q) (subject_and_clip q p) e →
       IsRelatingRefused whole limit fill subject clip (status_of_error e)
   relating_refused e p q known s c same_p same_q refused =
-      unanswered whole limit fill subject clip may e known s c (refused_of e p q same_p same_q refused)
+      unanswered whole limit fill subject clip may e never_failed known s c (refused_of e p q same_p same_q refused)
 
-  pub bits_told : (f : FillRule) (p q : List (List Point)) (t : Told) (bits : ℕ) → f ≡ fill_of fill →
-      p ≡ paths_of whole subject → q ≡ paths_of whole clip →
+  pub bits_told : (f : FillRule) (p q : List (List Point)) (t : Told) (bits : ℕ) → fill < 4 →
+      AreGiven whole limit subject → AreGiven whole limit clip → f ≡ fill_of fill → p ≡ paths_of whole subject →
+      q ≡ paths_of whole clip →
       AreRelationsOfPaths f (subject_and_clip p q) (subject_and_clip q p) (relations_of t) →
-      bits ≡ bits_of (relations_of t) → AreRelated whole fill subject clip bits
-  bits_told f p q t bits same_f same_p same_q hold same = record {
+      bits ≡ bits_of (relations_of t) → AreRelated whole limit fill subject clip bits
+  bits_told f p q t bits known s c same_f same_p same_q hold same = record {
+    known = known;
+    subject_given = s;
+    clip_given = c;
     relations = relations_of t;
     hold = subst (λ y. AreRelationsOfPaths y (paths_given whole subject clip) (paths_given whole clip subject)
         (relations_of t)) same_f

@@ -14,7 +14,8 @@ use Rattle.polyover_arrays.specs.declared.fault.Fault.{Fault}
 use Rattle.polyover_arrays.specs.declared.fault.Fault.TheVariants as fault
 use Rattle.polyover_c.specs.Located.{IsFirstUnresolved}
 use Rattle.polyover_c.specs.Statuses.{ReadsAs, status_of_fault}
-use Rattle.polyover_c.specs.declared.status.Status.TheVariants.{Done, NotResolved}
+use Rattle.polyover_c.specs.declared.status.Status.{Status}
+use Rattle.polyover_c.specs.declared.status.Status.TheVariants.{Done, Memory, NotResolved}
 
 -- with a contour of the next path, a shape that has the paths so far has one more
 pub one_contour_more : {I A : Type 0} (whole : I → ℤ) (paths : List (List Point)) (i : ℕ)
@@ -32,6 +33,11 @@ pub fault_read : {I : Type 0} (whole : I → ℤ) (limit : ℕ) (cs : List I) (e
 fault_read whole limit cs ends fault.Memory faulty = faulty
 fault_read whole limit cs ends fault.Ends faulty = faulty
 fault_read whole limit cs ends fault.Range faulty = faulty
+
+-- contours that are read take memory to be tested
+pub without_memory : {I : Type 0} (whole : I → ℤ) (limit : ℕ) (cs : List I) (ends : List ℕ) (s : Status) →
+    AreContours whole limit cs ends → s ≡ Memory → ReadsAs whole limit cs ends s
+without_memory whole limit cs ends s are same = subst (ReadsAs whole limit cs ends) (sym same) are
 
 -- contours that are read, of which one is not resolved
 pub unresolved_read : {I : Type 0} (whole : I → ℤ) (limit : ℕ) (cs : List I) (ends : List ℕ)

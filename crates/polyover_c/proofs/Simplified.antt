@@ -1,5 +1,5 @@
 -- What the answer of a simplification says of the arrays, and its refusals.
-use Rattle.std.proofs.Common.{◌≡◌, ◌<◌, ℕ, ℤ, List, false, lit<, subst, ap}
+use Rattle.std.proofs.Common.{◌≡◌, ◌<◌, ℕ, ℤ, List, false, lit<, sym, subst, ap}
 use Rattle.std.specs.Int.{Width}
 use Rattle.overlay_arrange.specs.Arranged.{most_rounds}
 use Rattle.overlay_arrange.specs.declared.fill_rule.FillRule.{FillRule}
@@ -13,21 +13,30 @@ use Rattle.overlay_geom.specs.declared.error.OverlayError.{OverlayError}
 use Rattle.overlay_geom.specs.declared.error.OverlayError.TheVariants as error
 use Rattle.overlay_simplify.specs.Alone.{MayRefuseAlone}
 use Rattle.i_overlay.specs.Simplified.{IsSimplifiedAlone}
+use Rattle.polyover_arrays.specs.Reading.{HaveFault}
 use Rattle.polyover_arrays.specs.declared.fault.Fault.{Fault}
 use Rattle.polyover_arrays.specs.declared.fault.Fault.TheVariants as fault
 use Rattle.polyover_c.specs.Asked.{fill_of, options_of, AreChoices}
-use Rattle.polyover_c.specs.Given.{Contours, paths_of, AreGiven, IsFaulty}
+use Rattle.polyover_c.specs.Given.{Contours, paths_of, AreGiven}
 use Rattle.polyover_c.specs.Simplified.{IsSimplification, IsSimplifyingRefused}
 use Rattle.polyover_c.specs.Statuses.{status_of_fault, status_of_error}
 use Rattle.polyover_c.specs.Written.{Flat, AreFlattened, IsFlat}
 use Rattle.polyover_c.specs.declared.numbers.OptionNumbers.{OptionNumbers}
+use Rattle.polyover_c.specs.declared.status.Status.{Status}
+use Rattle.polyover_c.specs.declared.status.Status.TheVariants.{Memory}
 
 module _ {I U : Type 0} (whole : I → ℤ) (limit fill : ℕ) (options : OptionNumbers U) (given : Contours I) where
-  pub contours_refused : (f : Fault) → fill < 4 → AreChoices options → IsFaulty whole limit given f →
+  pub contours_refused : (f : Fault) → fill < 4 → AreChoices options →
+      HaveFault whole limit given.coordinates given.ends f →
       IsSimplifyingRefused whole limit fill options given (status_of_fault f)
-  contours_refused fault.Memory known_fill known faulty = tt
+  contours_refused fault.Memory known_fill known are = ((lit< tt, (known_fill, known)), (are, tt))
   contours_refused fault.Ends known_fill known faulty = ((lit< tt, (known_fill, known)), faulty)
   contours_refused fault.Range known_fill known faulty = ((lit< tt, (known_fill, known)), faulty)
+
+  pub memory_refused : (s : Status) → fill < 4 → AreChoices options → AreGiven whole limit given → s ≡ Memory →
+      IsSimplifyingRefused whole limit fill options given s
+  memory_refused s known_fill known are same = subst (IsSimplifyingRefused whole limit fill options given) (sym same)
+      ((lit< tt, (known_fill, known)), (are, tt))
 
   -- what the query refuses, of what is read
   read_refused : (e : OverlayError) (o : IntOverlayOptions U) (p : List (List Point)) → o ≡ options_of options →
@@ -41,25 +50,31 @@ module _ {I U : Type 0} (whole : I → ℤ) (limit fill : ℕ) (options : Option
       AreChoices options → AreGiven whole limit given → o ≡ options_of options → p ≡ paths_of whole given →
       MayRefuseAlone o.preserve_input_collinear most_rounds (paths_for Subject p) e →
       IsSimplifyingRefused whole limit fill options given (status_of_error e)
-  simplifying_refused error.Memory o p known_fill known are same_o same_p may = tt
+  simplifying_refused error.Memory o p known_fill known are same_o same_p may =
+      ((lit< tt, (known_fill, known)), (are, tt))
   simplifying_refused error.NotSettled o p known_fill known are same_o same_p may =
       ((lit< tt, (known_fill, known)), (are, read_refused error.NotSettled o p same_o same_p may))
   simplifying_refused error.TooManyEdges o p known_fill known are same_o same_p may =
       ((lit< tt, (known_fill, known)), (are, read_refused error.TooManyEdges o p same_o same_p may))
-  simplifying_refused error.Failed o p known_fill known are same_o same_p may = tt
+  simplifying_refused error.Failed o p known_fill known are same_o same_p may = absurd may
 
   pub contours_simplified : (width : Width) (natural : U → ℕ) (f : FillRule) (o : IntOverlayOptions U)
-      (p : List (List Point)) (shapes : List (List (List Point))) (flat : Flat I) → f ≡ fill_of fill →
-      o ≡ options_of options → p ≡ paths_of whole given →
+      (p : List (List Point)) (shapes : List (List (List Point))) (flat : Flat I) → fill < 4 → AreChoices options →
+      AreGiven whole limit given → f ≡ fill_of fill → o ≡ options_of options → p ≡ paths_of whole given →
       IsSimplifiedAlone (asked width natural f rule.Subject o) o.preserve_input_collinear p shapes →
       AreFlattened whole shapes flat →
-      IsFlat (IsSimplification whole width natural fill options given) whole flat
-  contours_simplified width natural f o p shapes flat same_f same_o same_p is flattened = record {
+      IsFlat (IsSimplification whole limit width natural fill options given) whole flat
+  contours_simplified width natural f o p shapes flat known_fill known are same_f same_o same_p is flattened = record {
     shapes = shapes;
-    answer = subst (λ y. IsSimplifiedAlone (asked width natural y rule.Subject (options_of options)) false
-        (paths_of whole given) shapes) same_f
-        (subst (λ q. IsSimplifiedAlone (asked width natural f rule.Subject (options_of options)) false q shapes) same_p
-        (subst (λ m. IsSimplifiedAlone (asked width natural f rule.Subject m) m.preserve_input_collinear p shapes)
-        same_o is));
+    answer = record {
+      known = (lit< tt, (known_fill, known));
+      are_given = are;
+      simplified = subst (λ y. IsSimplifiedAlone (asked width natural y rule.Subject (options_of options)) false
+          (paths_of whole given) shapes) same_f
+          (subst (λ q. IsSimplifiedAlone (asked width natural f rule.Subject (options_of options)) false q shapes)
+          same_p
+          (subst (λ m. IsSimplifiedAlone (asked width natural f rule.Subject m) m.preserve_input_collinear p shapes)
+          same_o is));
+    };
     flattened = flattened;
   }

@@ -4,7 +4,7 @@ use Rattle.overlay_geom.specs.Plane.{Point}
 use Rattle.overlay_string.specs.OneShot.{AreClippedOfPaths}
 use Rattle.overlay_string.specs.declared.clip_rule.ClipRule.{ClipRule}
 use Rattle.polyover_c.specs.Asked.{fill_of}
-use Rattle.polyover_c.specs.Given.{Contours}
+use Rattle.polyover_c.specs.Given.{Contours, AreGiven}
 use Rattle.polyover_c.specs.Lines.{shape_and_lines, AreLinesRefused}
 use Rattle.polyover_c.specs.WrittenPaths.{PathRoom, EndsWithPaths}
 use Rattle.polyover_c.specs.declared.clip_options.ClipOptions.{ClipOptions}
@@ -19,10 +19,15 @@ pub record AreClipChoices (o : ClipOptions) : Type 0 where
   pub invert : o.invert < 2
   pub boundary : o.boundary < 2
 
--- the paths are those that a clip of the lines by the shape leaves, as the numbers ask
-abbrev pub AreClips : {I : Type 0} → (I → ℤ) → ℕ → ClipOptions → Contours I → Contours I → List (List Point) → Type 0
-AreClips whole fill options shape lines paths =
-    AreClippedOfPaths (fill_of fill) (clip_rule_of options) (shape_and_lines whole shape lines) paths
+-- the numbers are known, shape and lines are given, and the paths are those that a clip of the lines by the shape
+-- leaves, as the numbers ask
+pub record AreClips {I : Type 0} (whole : I → ℤ) (limit fill : ℕ) (options : ClipOptions) (shape lines : Contours I)
+    (paths : List (List Point)) : Type 0 where
+  pub known_fill : fill < 4
+  pub known : AreClipChoices options
+  pub shape_given : AreGiven whole limit shape
+  pub lines_given : AreGiven whole limit lines
+  pub clipped : AreClippedOfPaths (fill_of fill) (clip_rule_of options) (shape_and_lines whole shape lines) paths
 
 -- a clip is refused so: a number stands for nothing, the fill rule's first; else the arrays have a fault, those of the
 -- shape first; else the query is refused
@@ -34,5 +39,5 @@ IsClipRefused whole limit fill options =
 -- how it ends
 abbrev pub ClipEnds : {I : Type 0} → (I → ℤ) → ℕ → ℕ → ClipOptions → Contours I → Contours I → PathRoom I →
     PathRoom I → Status → Type 0
-ClipEnds whole limit fill options shape lines = EndsWithPaths (AreClips whole fill options shape lines)
+ClipEnds whole limit fill options shape lines = EndsWithPaths (AreClips whole limit fill options shape lines)
     (IsClipRefused whole limit fill options shape lines) whole

@@ -11,7 +11,7 @@ abbrev pub IsUnknownFill : ℕ → Status → Type 0
 IsUnknownFill fill s = (s ≡ BadFill) × (4 ≤ fill)
 
 -- it is refused so: no fill rule has the number; else the contours have a fault, those of the subject first; else what
--- is asked of them may be refused
+-- is asked of them may be refused, for want of memory too
 abbrev pub IsQueryRefused : {I : Type 0} → (I → ℤ) → ℕ → ℕ → Contours I → Contours I → (OverlayError → Type 0) →
     Status → Type 0
 IsQueryRefused whole limit fill subject clip may = IsRefused (IsUnknownFill fill)

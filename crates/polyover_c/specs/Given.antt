@@ -2,7 +2,7 @@
 use Rattle.std.specs.Prelude.{◌⊎◌, ℕ, ℤ, List}
 use Rattle.overlay_geom.specs.Plane.{Point}
 use Rattle.overlay_builder.specs.GivenPaths.{GivenPath, subject_and_clip}
-use Rattle.polyover_arrays.specs.Reading.{AreContours, contours_at, HaveFault}
+use Rattle.polyover_arrays.specs.Reading.{AreContours, contours_at, HaveOwnFault}
 use Rattle.polyover_arrays.specs.declared.fault.Fault.{Fault}
 
 -- contours as arrays have them
@@ -22,9 +22,9 @@ paths_given whole subject clip = subject_and_clip (paths_of whole subject) (path
 abbrev pub AreGiven : {I : Type 0} → (I → ℤ) → ℕ → Contours I → Type 0
 AreGiven whole limit c = AreContours whole limit c.coordinates c.ends
 
--- they have a fault
+-- they have a fault; that memory was refused is none of theirs
 abbrev pub IsFaulty : {I : Type 0} → (I → ℤ) → ℕ → Contours I → Fault → Type 0
-IsFaulty whole limit c f = HaveFault whole limit c.coordinates c.ends f
+IsFaulty whole limit c f = HaveOwnFault whole limit c.coordinates c.ends f
 
 -- the subject has a fault, or the clip alone
 abbrev pub IsOneFaulty : {I : Type 0} → (I → ℤ) → ℕ → Contours I → Contours I → Fault → Type 0

@@ -9,8 +9,8 @@ use Rattle.overlay_extract.specs.Results.{Asked, asked}
 use Rattle.overlay_geom.specs.Edges.{CountedEdge}
 use Rattle.overlay_geom.specs.Plane.{Point}
 use Rattle.overlay_plane.specs.Islands.{ChildLink}
-use Rattle.polyover_c.specs.Asked.{rule_of, fill_of, options_of}
-use Rattle.polyover_c.specs.Given.{Contours, paths_given}
+use Rattle.polyover_c.specs.Asked.{rule_of, fill_of, options_of, AreKnown}
+use Rattle.polyover_c.specs.Given.{Contours, paths_given, AreGiven}
 use Rattle.polyover_c.specs.Linked.{LinkedRoom, EndsWithLinked}
 use Rattle.polyover_c.specs.Overlays.{IsOverlayRefused}
 use Rattle.polyover_c.specs.declared.numbers.OptionNumbers.{OptionNumbers}
@@ -25,16 +25,20 @@ pub record IsHierarchyOfPaths (q : Asked) (paths : List GivenPath) (shapes : Lis
   pub arranged : IsArranged most_rounds content edges
   pub is_hierarchy : IsHierarchy q edges shapes links
 
--- the shapes and links are those that the numbers ask for, of the contours of both
-abbrev pub IsLinkedOverlay : {I U : Type 0} → (I → ℤ) → Width → (U → ℕ) → ℕ → ℕ → OptionNumbers U → Contours I →
-    Contours I → List (List (List Point)) → List ChildLink → Type 0
-IsLinkedOverlay whole width natural rule fill options subject clip shapes links =
-    IsHierarchyOfPaths (asked width natural (fill_of fill) (rule_of rule) (options_of options))
-    (paths_given whole subject clip) shapes links
+-- all that is given stands for something, and the shapes and links are those that the numbers ask for, of the contours
+-- of both
+pub record IsLinkedOverlay {I U : Type 0} (whole : I → ℤ) (limit : ℕ) (width : Width) (natural : U → ℕ) (rule fill : ℕ)
+    (options : OptionNumbers U) (subject clip : Contours I) (shapes : List (List (List Point)))
+    (links : List ChildLink) : Type 0 where
+  pub known : AreKnown rule fill options
+  pub subject_given : AreGiven whole limit subject
+  pub clip_given : AreGiven whole limit clip
+  pub is_hierarchy : IsHierarchyOfPaths (asked width natural (fill_of fill) (rule_of rule) (options_of options))
+      (paths_given whole subject clip) shapes links
 
 -- how it ends: it is refused as an overlay is
 abbrev pub HierarchyEnds : {I U : Type 0} → (I → ℤ) → ℕ → Width → (U → ℕ) → ℕ → ℕ → OptionNumbers U → Contours I →
     Contours I → LinkedRoom I → LinkedRoom I → Status → Type 0
 HierarchyEnds whole limit width natural rule fill options subject clip =
-    EndsWithLinked (IsLinkedOverlay whole width natural rule fill options subject clip)
+    EndsWithLinked (IsLinkedOverlay whole limit width natural rule fill options subject clip)
     (IsOverlayRefused whole limit rule fill options subject clip) whole

@@ -22,12 +22,13 @@ MayRefuseLines whole limit shape lines e = AreGiven whole limit shape × (AreGiv
     × MayRefusePaths (shape_and_lines whole shape lines) e)
 
 -- a call on lines over a shape is refused with this status: the number of the fill rule stands for nothing, or that of
--- an option; else, as all are known, the arrays have a fault, those of the shape first; else the query is refused.
--- Memory is wanting only where all numbers are known, and the shape is given
+-- an option; else, as all are known, the arrays have a fault, those of the shape first; else, as both are given, the
+-- query is refused, for want of memory too
 abbrev pub AreLinesRefused : {I : Type 0} → (I → ℤ) → ℕ → (fill option known : Type 0) → Contours I → Contours I →
     Status → Type 0
 AreLinesRefused whole limit fill option known shape lines Done = ⊥
-AreLinesRefused whole limit fill option known shape lines Memory = known × AreGiven whole limit shape
+AreLinesRefused whole limit fill option known shape lines Memory =
+    known × MayRefuseLines whole limit shape lines error.Memory
 AreLinesRefused whole limit fill option known shape lines BadEnds =
     known × IsOneFaulty whole limit shape lines fault.Ends
 AreLinesRefused whole limit fill option known shape lines OutOfRange =

@@ -1,5 +1,5 @@
 -- The edges of an arrangement in arrays of a caller.
-use Rattle.std.specs.Prelude.{◌≡◌, ◌≤◌, ◌⊎◌, ℕ, ℤ, false, List, [], ◌∷◌, length, map}
+use Rattle.std.specs.Prelude.{◌≡◌, ◌<◌, ◌≤◌, ◌⊎◌, ℕ, ℤ, false, List, [], ◌∷◌, length, map}
 use Rattle.std.specs.List.{flat_map}
 use Rattle.overlay_geom.specs.Edges.{CountedEdge}
 use Rattle.overlay_arrange.specs.Arranged.{IsArranged, most_rounds}
@@ -11,7 +11,7 @@ use Rattle.i_overlay.specs.OneShot.{MayRefusePaths}
 use Rattle.polyover_arrays.specs.Arrays.{written_over}
 use Rattle.polyover_c.specs.Asked.{fill_of}
 use Rattle.polyover_c.specs.Filled.{IsQueryRefused}
-use Rattle.polyover_c.specs.Given.{Contours, paths_given}
+use Rattle.polyover_c.specs.Given.{Contours, paths_given, AreGiven}
 use Rattle.polyover_c.specs.declared.status.Status.{Status}
 use Rattle.polyover_c.specs.declared.status.Status.TheVariants.{Done, Memory, BadEnds, OutOfRange}
 use Rattle.polyover_c.specs.declared.status.Status.TheVariants.{NotResolved, BadRule, BadFill, BadOption}
@@ -73,10 +73,13 @@ AreEdgesPut arrays old new TooManyEdges = ⊥
 AreEdgesPut arrays old new TooSmall = ¬ (HasEdgeRoom arrays old.arrays)
     × (new ≡ record { arrays = old.arrays; count = length arrays.fills })
 
--- the edges of some arrangement of the contours of both stand in the arrays, with the sides that are filled under the
--- fill rule with the number
-pub record AreEdgesIn {I : Type 0} (whole : I → ℤ) (fill : ℕ) (subject clip : Contours I)
+-- the fill rule is known, both are given, and the edges of some arrangement of the contours of both stand in the
+-- arrays, with the sides that are filled under the fill rule with the number
+pub record AreEdgesIn {I : Type 0} (whole : I → ℤ) (limit fill : ℕ) (subject clip : Contours I)
     (arrays : EdgeArrays I) : Type 0 where
+  pub known : fill < 4
+  pub subject_given : AreGiven whole limit subject
+  pub clip_given : AreGiven whole limit clip
   pub vectors : List Vector
   pub answer : AreEdgesOfPaths (fill_of fill) (paths_given whole subject clip) vectors
   pub listed : AreListed whole vectors arrays
@@ -87,14 +90,14 @@ IsListingRefused whole limit fill subject clip =
     IsQueryRefused whole limit fill subject clip (MayRefusePaths (paths_given whole subject clip))
 
 -- arrays in which they stand are put into those of the caller
-pub record AreEdgesWritten {I : Type 0} (whole : I → ℤ) (fill : ℕ) (subject clip : Contours I) (old new : EdgeRoom I)
-    (s : Status) : Type 0 where
+pub record AreEdgesWritten {I : Type 0} (whole : I → ℤ) (limit fill : ℕ) (subject clip : Contours I)
+    (old new : EdgeRoom I) (s : Status) : Type 0 where
   pub arrays : EdgeArrays I
-  pub edges : AreEdgesIn whole fill subject clip arrays
+  pub edges : AreEdgesIn whole limit fill subject clip arrays
   pub put : AreEdgesPut arrays old new s
 
 -- how it ends: with edges that are put into the arrays, or it is refused, and nothing changes
 abbrev pub ListingEnds : {I : Type 0} → (I → ℤ) → ℕ → ℕ → Contours I → Contours I → EdgeRoom I → EdgeRoom I →
     Status → Type 0
-ListingEnds whole limit fill subject clip old new s = AreEdgesWritten whole fill subject clip old new s
+ListingEnds whole limit fill subject clip old new s = AreEdgesWritten whole limit fill subject clip old new s
     ⊎ ((new ≡ old) × IsListingRefused whole limit fill subject clip s)

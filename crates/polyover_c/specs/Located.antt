@@ -9,7 +9,7 @@ use Rattle.overlay_relate.specs.Locations.{IsLocatedAmong}
 use Rattle.overlay_relate.specs.declared.location.PointLocation.{PointLocation}
 use Rattle.overlay_relate.specs.declared.location.PointLocation.TheVariants.{Inside, Boundary, Outside}
 use Rattle.polyover_arrays.specs.Arrays.{points_of, written_over}
-use Rattle.polyover_arrays.specs.Reading.{ArePoints, PointsHaveFault}
+use Rattle.polyover_arrays.specs.Reading.{ArePoints, PointsHaveOwnFault}
 use Rattle.polyover_arrays.specs.declared.fault.Fault.{Fault}
 use Rattle.polyover_arrays.specs.declared.fault.Fault.TheVariants as fault
 use Rattle.polyover_c.specs.Given.{Contours, paths_of, AreGiven, IsFaulty}
@@ -50,7 +50,7 @@ pub record CanBeLocated {I : Type 0} (whole : I → ℤ) (limit : ℕ) (shape : 
 -- the contours have a fault, or the points alone
 abbrev pub CanNotBeLocated : {I : Type 0} → (I → ℤ) → ℕ → Contours I → List I → Fault → Type 0
 CanNotBeLocated whole limit shape points f =
-    IsFaulty whole limit shape f ⊎ (AreGiven whole limit shape × PointsHaveFault whole limit points f)
+    IsFaulty whole limit shape f ⊎ (AreGiven whole limit shape × PointsHaveOwnFault whole limit points f)
 
 -- a place for each point
 abbrev pub HavePlaces : {I : Type 0} → List I → Places → Type 0
@@ -65,11 +65,12 @@ pub record AreLocated {I : Type 0} (whole : I → ℤ) (shape : Contours I) (poi
   pub written : new ≡ record { locations = written_over numbers old.locations; unresolved = old.unresolved }
 
 -- how it ends: with `NotResolved` the number of the first contour that is not resolved is written, with any status but
--- `Done` and this one nothing
+-- `Done` and this one nothing; memory is wanting only where all that is given has been tested but that
 abbrev pub LocatingEnds : {I : Type 0} → (I → ℤ) → ℕ → Contours I → List I → Places → Places → Status → Type 0
 LocatingEnds whole limit shape points old new Done = CanBeLocated whole limit shape points
     × (HavePlaces points old × AreLocated whole shape points old new)
-LocatingEnds whole limit shape points old new Memory = new ≡ old
+LocatingEnds whole limit shape points old new Memory = (new ≡ old)
+    × (CanBeLocated whole limit shape points × HavePlaces points old)
 LocatingEnds whole limit shape points old new BadEnds = (new ≡ old)
     × CanNotBeLocated whole limit shape points fault.Ends
 LocatingEnds whole limit shape points old new OutOfRange = (new ≡ old)

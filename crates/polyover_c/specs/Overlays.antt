@@ -12,12 +12,15 @@ use Rattle.polyover_c.specs.Written.{Room, EndsWithShapes}
 use Rattle.polyover_c.specs.declared.numbers.OptionNumbers.{OptionNumbers}
 use Rattle.polyover_c.specs.declared.status.Status.{Status}
 
--- the shapes are the result that the numbers ask for, of the contours of both
-abbrev pub IsOverlay : {I U : Type 0} → (I → ℤ) → Width → (U → ℕ) → ℕ → ℕ → OptionNumbers U → Contours I →
-    Contours I → List (List (List Point)) → Type 0
-IsOverlay whole width natural rule fill options subject clip shapes =
-    IsResultOfPaths (asked width natural (fill_of fill) (rule_of rule) (options_of options))
-    (paths_given whole subject clip) shapes
+-- all that is given stands for something, and the shapes are the result that the numbers ask for, of the contours of
+-- both
+pub record IsOverlay {I U : Type 0} (whole : I → ℤ) (limit : ℕ) (width : Width) (natural : U → ℕ) (rule fill : ℕ)
+    (options : OptionNumbers U) (subject clip : Contours I) (shapes : List (List (List Point))) : Type 0 where
+  pub known : AreKnown rule fill options
+  pub subject_given : AreGiven whole limit subject
+  pub clip_given : AreGiven whole limit clip
+  pub is_result : IsResultOfPaths (asked width natural (fill_of fill) (rule_of rule) (options_of options))
+      (paths_given whole subject clip) shapes
 
 -- an overlay is refused so: a number stands for nothing; else the contours have a fault, those of the subject first;
 -- else the query is refused
@@ -32,5 +35,5 @@ IsOverlayRefused whole limit rule fill options subject clip = IsRefused (IsUnkno
 abbrev pub OverlayEnds : {I U : Type 0} → (I → ℤ) → ℕ → Width → (U → ℕ) → ℕ → ℕ → OptionNumbers U → Contours I →
     Contours I → Room I → Room I → Status → Type 0
 OverlayEnds whole limit width natural rule fill options subject clip =
-    EndsWithShapes (IsOverlay whole width natural rule fill options subject clip)
+    EndsWithShapes (IsOverlay whole limit width natural rule fill options subject clip)
     (IsOverlayRefused whole limit rule fill options subject clip) whole

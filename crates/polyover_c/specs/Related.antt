@@ -1,10 +1,10 @@
 -- How a subject and a clip in arrays lie to each other, as bits.
-use Rattle.std.specs.Prelude.{◌≡◌, ◌+◌, ◌⊎◌, ℕ, ℤ}
+use Rattle.std.specs.Prelude.{◌≡◌, ◌<◌, ◌+◌, ◌⊎◌, ℕ, ℤ}
 use Rattle.overlay_arrange.specs.Rules.{bit}
 use Rattle.polyover_c.specs.Relations.{Relations, AreRelationsOfPaths, MayRefuseRelations}
 use Rattle.polyover_c.specs.Asked.{fill_of}
 use Rattle.polyover_c.specs.Filled.{IsQueryRefused}
-use Rattle.polyover_c.specs.Given.{Contours, paths_given}
+use Rattle.polyover_c.specs.Given.{Contours, paths_given, AreGiven}
 use Rattle.polyover_c.specs.declared.relate.Told.{Told}
 use Rattle.polyover_c.specs.declared.status.Status.{Status}
 use Rattle.polyover_c.specs.declared.status.Status.TheVariants.{Done}
@@ -26,8 +26,11 @@ abbrev pub bits_of : Relations → ℕ
 bits_of r = bit r.intersects 1 + bit r.interiors_intersect 2 + bit r.touches 4 + bit r.point_intersects 8
     + bit r.within 16 + bit r.disjoint 32 + bit r.covers 64
 
--- the bits tell how the contours of both lie to each other, under the fill rule with the number
-pub record AreRelated {I : Type 0} (whole : I → ℤ) (fill : ℕ) (subject clip : Contours I) (sum : ℕ) : Type 0 where
+-- the fill rule is known, both are given, and the bits tell how the contours of both lie to each other under it
+pub record AreRelated {I : Type 0} (whole : I → ℤ) (limit fill : ℕ) (subject clip : Contours I) (sum : ℕ) : Type 0 where
+  pub known : fill < 4
+  pub subject_given : AreGiven whole limit subject
+  pub clip_given : AreGiven whole limit clip
   pub relations : Relations
   pub hold : AreRelationsOfPaths (fill_of fill) (paths_given whole subject clip) (paths_given whole clip subject)
       relations
@@ -40,5 +43,5 @@ IsRelatingRefused whole limit fill subject clip = IsQueryRefused whole limit fil
 
 -- how it ends: with `Done` the bits are written, else they stay
 abbrev pub RelatingEnds : {I : Type 0} → (I → ℤ) → ℕ → ℕ → Contours I → Contours I → ℕ → ℕ → Status → Type 0
-RelatingEnds whole limit fill subject clip old new s = ((s ≡ Done) × AreRelated whole fill subject clip new)
+RelatingEnds whole limit fill subject clip old new s = ((s ≡ Done) × AreRelated whole limit fill subject clip new)
     ⊎ ((new ≡ old) × IsRelatingRefused whole limit fill subject clip s)

@@ -15,12 +15,14 @@ use Rattle.polyover_c.specs.Written.{Room, EndsWithShapes}
 use Rattle.polyover_c.specs.declared.numbers.OptionNumbers.{OptionNumbers}
 use Rattle.polyover_c.specs.declared.status.Status.{Status}
 
--- the shapes are those that the contours are simplified to, as the numbers ask; the rule Subject has the number 0
-abbrev pub IsSimplification : {I U : Type 0} → (I → ℤ) → Width → (U → ℕ) → ℕ → OptionNumbers U → Contours I →
-    List (List (List Point)) → Type 0
-IsSimplification whole width natural fill options given shapes =
-    IsSimplifiedAlone (asked width natural (fill_of fill) (rule_of 0) (options_of options)) false (paths_of whole given)
-    shapes
+-- all that is given stands for something, and the shapes are those that the contours are simplified to, as the numbers
+-- ask; the rule Subject has the number 0
+pub record IsSimplification {I U : Type 0} (whole : I → ℤ) (limit : ℕ) (width : Width) (natural : U → ℕ) (fill : ℕ)
+    (options : OptionNumbers U) (given : Contours I) (shapes : List (List (List Point))) : Type 0 where
+  pub known : AreKnown 0 fill options
+  pub are_given : AreGiven whole limit given
+  pub simplified : IsSimplifiedAlone (asked width natural (fill_of fill) (rule_of 0) (options_of options)) false
+      (paths_of whole given) shapes
 
 -- a simplification is refused so: a number stands for nothing; else the contours have a fault; else the query is
 -- refused
@@ -34,5 +36,5 @@ IsSimplifyingRefused whole limit fill options given = IsRefused (IsUnknown 0 fil
 abbrev pub SimplifyingEnds : {I U : Type 0} → (I → ℤ) → ℕ → Width → (U → ℕ) → ℕ → OptionNumbers U → Contours I →
     Room I → Room I → Status → Type 0
 SimplifyingEnds whole limit width natural fill options given =
-    EndsWithShapes (IsSimplification whole width natural fill options given)
+    EndsWithShapes (IsSimplification whole limit width natural fill options given)
     (IsSimplifyingRefused whole limit fill options given) whole

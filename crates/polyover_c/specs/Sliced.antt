@@ -4,15 +4,18 @@ use Rattle.std.specs.Int.{Width}
 use Rattle.overlay_geom.specs.Plane.{Point}
 use Rattle.overlay_string.specs.StringSlices.{AreSlicedOfPaths}
 use Rattle.polyover_c.specs.Asked.{fill_of}
-use Rattle.polyover_c.specs.Given.{Contours}
+use Rattle.polyover_c.specs.Given.{Contours, AreGiven}
 use Rattle.polyover_c.specs.Lines.{shape_and_lines, AreLinesRefused}
 use Rattle.polyover_c.specs.Written.{Room, EndsWithShapes}
 use Rattle.polyover_c.specs.declared.status.Status.{Status}
 
--- the shapes are those into which the lines slice the subject, under the fill rule with the number
-abbrev pub AreSlices : {I : Type 0} → (I → ℤ) → Width → ℕ → Contours I → Contours I → List (List (List Point)) → Type 0
-AreSlices whole width fill subject lines shapes =
-    AreSlicedOfPaths width (fill_of fill) (shape_and_lines whole subject lines) shapes
+-- the fill rule is known, subject and lines are given, and the shapes are those into which the lines slice the subject
+pub record AreSlices {I : Type 0} (whole : I → ℤ) (limit : ℕ) (width : Width) (fill : ℕ) (subject lines : Contours I)
+    (shapes : List (List (List Point))) : Type 0 where
+  pub known : fill < 4
+  pub subject_given : AreGiven whole limit subject
+  pub lines_given : AreGiven whole limit lines
+  pub sliced : AreSlicedOfPaths width (fill_of fill) (shape_and_lines whole subject lines) shapes
 
 -- a slicing is refused so: the fill rule's number stands for nothing; else the arrays have a fault, those of the
 -- subject first; else the query is refused
@@ -22,5 +25,5 @@ IsSlicingRefused whole limit fill = AreLinesRefused whole limit (4 ≤ fill) ⊥
 -- how it ends
 abbrev pub SlicingEnds : {I : Type 0} → (I → ℤ) → ℕ → Width → ℕ → Contours I → Contours I → Room I → Room I → Status →
     Type 0
-SlicingEnds whole limit width fill subject lines = EndsWithShapes (AreSlices whole width fill subject lines)
+SlicingEnds whole limit width fill subject lines = EndsWithShapes (AreSlices whole limit width fill subject lines)
     (IsSlicingRefused whole limit fill subject lines) whole

@@ -55,10 +55,10 @@ ReadsAs whole limit cs ends TooManyEdges = ⊥
 ReadsAs whole limit cs ends TooSmall = ⊥
 
 -- a call is refused with this status: a number that it is given stands for nothing, arrays have a fault, or the query
--- is refused
+-- is refused; memory is wanting only where the query may be refused so
 abbrev pub IsRefused : (Status → Type 0) → (Fault → Type 0) → (OverlayError → Type 0) → Status → Type 0
 IsRefused unknown faulty refused Done = ⊥
-IsRefused unknown faulty refused Memory = Unit {0}
+IsRefused unknown faulty refused Memory = refused error.Memory
 IsRefused unknown faulty refused BadEnds = faulty fault.Ends
 IsRefused unknown faulty refused OutOfRange = faulty fault.Range
 IsRefused unknown faulty refused NotResolved = ⊥

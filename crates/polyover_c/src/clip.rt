@@ -5,14 +5,14 @@ ghost use Rattle.polyover_c.specs.Clipped.{AreClips, IsClipRefused, ClipEnds};
 ghost use Rattle.polyover_c.specs.WrittenPaths.{AreFlatPaths};
 
 use crate::clip_options::{ClipOptions, clip_rule_of};
-use crate::given::Contours;
+use crate::given::{Contours, test_both};
 use crate::numbers::fill_of;
 use crate::path_answer::{PathAnswer, flattened_paths, put_paths};
 use crate::path_counts::PathCounts;
 use crate::status::Status;
 use i_overlay::string::clip::IntClip;
 use overlay_geom::integer::OverlayInt;
-use polyover_arrays::read::read_contours;
+use polyover_arrays::read::tested_contours;
 use std::alloc::Global;
 
 /// The parts of the lines, which are open paths, that a clip by the shape keeps, put into the arrays.
@@ -41,7 +41,7 @@ pub(crate) fn clip_arrays<I: OverlayInt>(
 }
 
 // The parts of the lines that a clip by the shape keeps, as arrays.
-#[tactic(auto, using(crate::proofs::Lines::shape_refused, crate::proofs::Lines::lines_refused, crate::proofs::Lines::query_refused, crate::proofs::Clipped::lines_clipped))]
+#[tactic(auto, using(crate::proofs::Lines::contours_refused, crate::proofs::Lines::memory_refused, crate::proofs::Lines::query_refused, crate::proofs::Clipped::lines_clipped))]
 fn clip_answer<I: OverlayInt>(
     alloc: Global,
     fill: u32,
@@ -50,7 +50,7 @@ fn clip_answer<I: OverlayInt>(
     lines: &Contours<I>,
 ) -> Result<PathAnswer<I>, Status>
     ensures { MatchResult result
-        (λ a. AreFlatPaths (AreClips I.whole fill options
+        (λ a. AreFlatPaths (AreClips I.whole I.limit fill options
         (record { coordinates = shape.now.coordinates.now; ends = shape.now.ends.now })
         (record { coordinates = lines.now.coordinates.now; ends = lines.now.ends.now })) I.whole (record {
           coordinates = a.coordinates.items;
@@ -62,8 +62,9 @@ fn clip_answer<I: OverlayInt>(
 {
     let fill = fill_of(fill)?;
     let rule = clip_rule_of(options)?;
-    let shape = read_contours(alloc, shape.coordinates, shape.ends)?;
-    let lines = read_contours(alloc, lines.coordinates, lines.ends)?;
+    test_both(shape, lines)?;
+    let shape = tested_contours(alloc, shape.coordinates, shape.ends)?;
+    let lines = tested_contours(alloc, lines.coordinates, lines.ends)?;
     let paths = shape.clip_source(alloc, &lines, fill, rule)?;
     let answer = flattened_paths(alloc, &paths)?;
     Ok(answer)

@@ -9,7 +9,7 @@ ghost use Rattle.i_overlay.specs.OneShot.{MayRefusePaths};
 ghost use Rattle.polyover_c.specs.Listed.{AreEdgesIn, AreEdgesOfPaths, AreEdgesPut, AreListed};
 ghost use Rattle.polyover_c.specs.Listed.{IsListingRefused, ListingEnds};
 
-use crate::given::Contours;
+use crate::given::{Contours, test_both};
 use crate::numbers::fill_of;
 use crate::status::Status;
 use i_overlay::fill_rule::FillRule;
@@ -19,7 +19,7 @@ use overlay_geom::error::OverlayError;
 use overlay_geom::flat::contours::FlatContoursBuffer;
 use overlay_geom::integer::OverlayInt;
 use overlay_geom::number::IntNumber;
-use polyover_arrays::read::read_contours;
+use polyover_arrays::read::tested_contours;
 use polyover_arrays::write::write_over;
 use std::alloc::Global;
 
@@ -90,7 +90,7 @@ fn put<I: IntNumber>(
 }
 
 // The edges as arrays, or why there are none.
-#[tactic(auto, using(crate::proofs::Listed::subject_unlisted, crate::proofs::Listed::clip_unlisted, crate::proofs::Listed::listing_refused, crate::proofs::Listed::edges_answered))]
+#[tactic(auto, using(crate::proofs::Listed::contours_unlisted, crate::proofs::Listed::memory_unlisted, crate::proofs::Listed::listing_refused, crate::proofs::Listed::edges_answered))]
 fn edges_listed<I: OverlayInt>(
     alloc: Global,
     fill: u32,
@@ -98,7 +98,7 @@ fn edges_listed<I: OverlayInt>(
     clip: &Contours<I>,
 ) -> Result<ListedEdges<I>, Status>
     ensures { MatchResult result
-        (λ l. AreEdgesIn I.whole fill
+        (λ l. AreEdgesIn I.whole I.limit fill
         (record { coordinates = subject.now.coordinates.now; ends = subject.now.ends.now })
         (record { coordinates = clip.now.coordinates.now; ends = clip.now.ends.now })
         (record { coordinates = l.coordinates.items; fills = l.fills.items }))
@@ -107,8 +107,9 @@ fn edges_listed<I: OverlayInt>(
         (record { coordinates = clip.now.coordinates.now; ends = clip.now.ends.now })) }
 {
     let fill = fill_of(fill)?;
-    let subject = read_contours(alloc, subject.coordinates, subject.ends)?;
-    let clip = read_contours(alloc, clip.coordinates, clip.ends)?;
+    test_both(subject, clip)?;
+    let subject = tested_contours(alloc, subject.coordinates, subject.ends)?;
+    let clip = tested_contours(alloc, clip.coordinates, clip.ends)?;
     let edges = arranged_edges(alloc, &subject, &clip, fill)?;
     let listed = listed(alloc, &edges)?;
     Ok(listed)

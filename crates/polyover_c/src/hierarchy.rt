@@ -13,7 +13,7 @@ ghost use Rattle.polyover_c.specs.Linked.{AreFlatLinked};
 ghost use Rattle.polyover_c.specs.Overlays.{IsOverlayRefused};
 
 use crate::counts::Counts;
-use crate::given::Contours;
+use crate::given::{Contours, test_both};
 use crate::linked_answer::{LinkedAnswer, flattened_hierarchy, put_linked};
 use crate::links::Link;
 use crate::numbers::{OptionNumbers, fill_of, options_of, rule_of};
@@ -26,7 +26,7 @@ use i_overlay::solver::Solver;
 use overlay_geom::error::OverlayError;
 use overlay_geom::flat::contours::FlatContoursBuffer;
 use overlay_geom::integer::OverlayInt;
-use polyover_arrays::read::read_contours;
+use polyover_arrays::read::tested_contours;
 use std::alloc::Global;
 
 /// The overlay that the numbers ask for, with the links between its shapes, put into the arrays.
@@ -89,7 +89,7 @@ pub(crate) fn hierarchy_arrays<I: OverlayInt>(
 }
 
 // The overlay that the numbers ask for, with the links between its shapes, as arrays.
-#[tactic(auto, using(crate::proofs::Overlays::subject_refused, crate::proofs::Overlays::clip_refused, crate::proofs::Overlays::overlay_refused, crate::proofs::Hierarchies::hierarchy_answered))]
+#[tactic(auto, using(crate::proofs::Overlays::contours_refused, crate::proofs::Overlays::memory_refused, crate::proofs::Overlays::overlay_refused, crate::proofs::Hierarchies::hierarchy_answered))]
 fn hierarchy_answer<I: OverlayInt>(
     alloc: Global,
     rule: u32,
@@ -99,7 +99,7 @@ fn hierarchy_answer<I: OverlayInt>(
     clip: &Contours<I>,
 ) -> Result<LinkedAnswer<I>, Status>
     ensures { MatchResult result
-        (λ a. AreFlatLinked (IsLinkedOverlay I.whole I.Wide.width I.WideUInt.natural rule fill options
+        (λ a. AreFlatLinked (IsLinkedOverlay I.whole I.limit I.Wide.width I.WideUInt.natural rule fill options
         (record { coordinates = subject.now.coordinates.now; ends = subject.now.ends.now })
         (record { coordinates = clip.now.coordinates.now; ends = clip.now.ends.now })) I.whole (record {
           shapes = record {
@@ -116,8 +116,9 @@ fn hierarchy_answer<I: OverlayInt>(
     let rule = rule_of(rule)?;
     let fill = fill_of(fill)?;
     let options = options_of(options)?;
-    let subject = read_contours(alloc, subject.coordinates, subject.ends)?;
-    let clip = read_contours(alloc, clip.coordinates, clip.ends)?;
+    test_both(subject, clip)?;
+    let subject = tested_contours(alloc, subject.coordinates, subject.ends)?;
+    let clip = tested_contours(alloc, clip.coordinates, clip.ends)?;
     let hierarchy = hierarchy_shapes(alloc, &subject, &clip, rule, fill, options)?;
     let answer = flattened_hierarchy(alloc, &hierarchy)?;
     Ok(answer)

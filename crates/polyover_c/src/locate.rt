@@ -16,7 +16,8 @@ use overlay_geom::integer::OverlayInt;
 use overlay_geom::point::IntPoint;
 use overlay_relate::containment::IntPointContainment;
 use overlay_relate::location::PointLocation;
-use polyover_arrays::read::{read_contours, read_points};
+use polyover_arrays::read::{tested_contours, tested_points};
+use polyover_arrays::test::{count_points, test_contours, test_points};
 use polyover_arrays::write::write_over;
 use std::alloc::Global;
 
@@ -42,8 +43,9 @@ pub(crate) fn locate_arrays<I: OverlayInt>(
     }
 }
 
-// The same, where the status `Done` is no error.
-#[tactic(auto, using(crate::proofs::Located::shape_unread, crate::proofs::Located::points_unread, crate::proofs::Located::no_places, crate::proofs::Located::unresolved_ends, crate::proofs::Located::unlocated, crate::proofs::Located::located_ends, crate::proofs::Located::fit_numbers))]
+// The same, where the status `Done` is no error. What is given is tested before memory is taken, but for whether each
+// contour is resolved.
+#[tactic(auto, using(crate::proofs::Located::shape_unread, crate::proofs::Located::points_unread, crate::proofs::Located::no_places, crate::proofs::Located::unresolved_ends, crate::proofs::Located::without_memory, crate::proofs::Located::located_ends, crate::proofs::Located::fit_numbers))]
 fn locate<I: OverlayInt>(
     alloc: Global,
     shape: &Contours<I>,
@@ -64,12 +66,15 @@ fn locate<I: OverlayInt>(
         (record { locations = locations.old; unresolved = unresolved.old })
         (record { locations = locations.new; unresolved = unresolved.new })) }
 {
-    let contours = read_contours(alloc, shape.coordinates, shape.ends)?;
-    let points = read_points(alloc, points)?;
-    if locations.len() < points.len() {
+    test_contours(shape.coordinates, shape.ends)?;
+    test_points(points)?;
+    if locations.len() < count_points(points) {
         return Err(Status::TooSmall);
     }
-    if let Some(contour) = first_unresolved(&contours) {
+    let contours = tested_contours(alloc, shape.coordinates, shape.ends)?;
+    let points = tested_points(alloc, points)?;
+    let found = first_unresolved(alloc, &contours)?;
+    if let Some(contour) = found {
         *unresolved = contour;
         return Err(Status::NotResolved);
     }

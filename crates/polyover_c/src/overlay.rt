@@ -12,7 +12,7 @@ ghost use Rattle.polyover_c.specs.Overlays.{IsOverlay, IsOverlayRefused, Overlay
 
 use crate::answer::{Answer, flattened, put};
 use crate::counts::Counts;
-use crate::given::Contours;
+use crate::given::{Contours, test_both};
 use crate::numbers::{OptionNumbers, fill_of, options_of, rule_of};
 use crate::status::Status;
 use i_overlay::fill_rule::FillRule;
@@ -23,7 +23,7 @@ use overlay_geom::error::OverlayError;
 use overlay_geom::flat::contours::FlatContoursBuffer;
 use overlay_geom::integer::OverlayInt;
 use overlay_geom::path::IntShapes;
-use polyover_arrays::read::read_contours;
+use polyover_arrays::read::tested_contours;
 use std::alloc::Global;
 
 /// The overlay that the numbers ask for, put into the arrays.
@@ -68,7 +68,7 @@ pub(crate) fn overlay_arrays<I: OverlayInt>(
 }
 
 // The overlay that the numbers ask for, as arrays.
-#[tactic(auto, using(crate::proofs::Overlays::subject_refused, crate::proofs::Overlays::clip_refused, crate::proofs::Overlays::overlay_refused, crate::proofs::Overlays::overlay_answered))]
+#[tactic(auto, using(crate::proofs::Overlays::contours_refused, crate::proofs::Overlays::memory_refused, crate::proofs::Overlays::overlay_refused, crate::proofs::Overlays::overlay_answered))]
 fn overlay_answer<I: OverlayInt>(
     alloc: Global,
     rule: u32,
@@ -78,7 +78,7 @@ fn overlay_answer<I: OverlayInt>(
     clip: &Contours<I>,
 ) -> Result<Answer<I>, Status>
     ensures { MatchResult result
-        (λ a. IsFlat (IsOverlay I.whole I.Wide.width I.WideUInt.natural rule fill options
+        (λ a. IsFlat (IsOverlay I.whole I.limit I.Wide.width I.WideUInt.natural rule fill options
         (record { coordinates = subject.now.coordinates.now; ends = subject.now.ends.now })
         (record { coordinates = clip.now.coordinates.now; ends = clip.now.ends.now })) I.whole (record {
           coordinates = a.coordinates.items;
@@ -92,8 +92,9 @@ fn overlay_answer<I: OverlayInt>(
     let rule = rule_of(rule)?;
     let fill = fill_of(fill)?;
     let options = options_of(options)?;
-    let subject = read_contours(alloc, subject.coordinates, subject.ends)?;
-    let clip = read_contours(alloc, clip.coordinates, clip.ends)?;
+    test_both(subject, clip)?;
+    let subject = tested_contours(alloc, subject.coordinates, subject.ends)?;
+    let clip = tested_contours(alloc, clip.coordinates, clip.ends)?;
     let shapes = overlay_shapes(alloc, &subject, &clip, rule, fill, options)?;
     let answer = flattened(alloc, &shapes)?;
     Ok(answer)

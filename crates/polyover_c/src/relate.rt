@@ -11,7 +11,7 @@ ghost use Rattle.i_overlay.specs.Relations.{TellsOfPaths};
 ghost use Rattle.polyover_c.specs.Relations.{AreRelationsOfPaths, MayRefuseRelations};
 ghost use Rattle.polyover_c.specs.Related.{AreRelated, IsRelatingRefused, RelatingEnds, bits_of, relations_of};
 
-use crate::given::Contours;
+use crate::given::{Contours, test_both};
 use crate::numbers::fill_of;
 use crate::status::Status;
 use i_overlay::fill_rule::FillRule;
@@ -20,7 +20,7 @@ use i_overlay::solver::Solver;
 use overlay_geom::error::OverlayError;
 use overlay_geom::flat::contours::FlatContoursBuffer;
 use overlay_geom::integer::OverlayInt;
-use polyover_arrays::read::read_contours;
+use polyover_arrays::read::tested_contours;
 use std::alloc::Global;
 
 /// What is told of each relation of a subject and a clip.
@@ -90,7 +90,7 @@ pub(crate) fn relate_arrays<I: OverlayInt>(
 }
 
 // The same bits, or why there are none.
-#[tactic(auto, using(crate::proofs::Related::subject_untold, crate::proofs::Related::clip_untold, crate::proofs::Related::relating_refused, crate::proofs::Related::bits_told))]
+#[tactic(auto, using(crate::proofs::Related::contours_untold, crate::proofs::Related::memory_untold, crate::proofs::Related::relating_refused, crate::proofs::Related::bits_told))]
 fn relation_bits<I: OverlayInt>(
     alloc: Global,
     fill: u32,
@@ -98,7 +98,7 @@ fn relation_bits<I: OverlayInt>(
     clip: &Contours<I>,
 ) -> Result<u32, Status>
     ensures { MatchResult result
-        (AreRelated I.whole fill
+        (AreRelated I.whole I.limit fill
         (record { coordinates = subject.now.coordinates.now; ends = subject.now.ends.now })
         (record { coordinates = clip.now.coordinates.now; ends = clip.now.ends.now }))
         (IsRelatingRefused I.whole I.limit fill
@@ -106,8 +106,9 @@ fn relation_bits<I: OverlayInt>(
         (record { coordinates = clip.now.coordinates.now; ends = clip.now.ends.now })) }
 {
     let fill = fill_of(fill)?;
-    let subject = read_contours(alloc, subject.coordinates, subject.ends)?;
-    let clip = read_contours(alloc, clip.coordinates, clip.ends)?;
+    test_both(subject, clip)?;
+    let subject = tested_contours(alloc, subject.coordinates, subject.ends)?;
+    let clip = tested_contours(alloc, clip.coordinates, clip.ends)?;
     let told = relations_between(alloc, &subject, &clip, fill)?;
     Ok(told.bits())
 }

@@ -1,6 +1,6 @@
 //! Contours in arrays as one shape, each of which is resolved.
 
-ghost use Rattle.std.specs.Prelude.{◌≡◌, All, IfSome, IfOk, IsOkUnless};
+ghost use Rattle.std.specs.Prelude.{◌≡◌, All, IfSome, IfOk, IsOkUnless, MatchResult};
 ghost use Rattle.std.specs.Option.{IfNone};
 ghost use Rattle.overlay_geom.specs.Flat.{paths_in};
 ghost use Rattle.overlay_geom.specs.Paths.{paths_of_shape};
@@ -8,48 +8,66 @@ ghost use Rattle.overlay_geom.specs.Points.{AllInRange};
 ghost use Rattle.overlay_geom.specs.Resolved.{IsResolved};
 ghost use Rattle.polyover_c.specs.Located.{IsFirstUnresolved};
 ghost use Rattle.polyover_c.specs.Statuses.{ReadsAs};
+ghost use Rattle.polyover_c.specs.declared.status.Status.TheVariants.{Done};
 
 use crate::status::Status;
 use overlay_geom::error::OverlayError;
 use overlay_geom::flat::contours::FlatContoursBuffer;
 use overlay_geom::number::IntNumber;
 use overlay_geom::path::IntShape;
-use overlay_geom::resolved::is_resolved;
 use overlay_geom::resource::IntShapeResource;
+use overlay_relate::resolved::is_resolved_in;
 use polyover_arrays::read::read_contours;
 use std::alloc::Global;
 
 /// The status with which contours are read as a shape.
-#[tactic(auto, using(crate::proofs::ShapesRead::fault_read))]
 pub(crate) fn status_read<I: IntNumber>(alloc: Global, coordinates: &[I], ends: &[usize]) -> Status
     ensures { ReadsAs I.whole I.limit coordinates.now ends.now result }
 {
-    match read_contours(alloc, coordinates, ends) {
-        Ok(contours) => match first_unresolved(&contours) {
-            Some(_contour) => Status::NotResolved,
-            None => Status::Done,
-        },
-        Err(fault) => Status::from(fault),
+    match test_resolved(alloc, coordinates, ends) {
+        Ok(()) => Status::Done,
+        Err(status) => status,
     }
 }
 
-/// The number of the first contour that is not resolved, if there is one. It takes no memory.
+// The same, where the status `Done` is no error.
+#[tactic(auto, using(crate::proofs::ShapesRead::fault_read, crate::proofs::ShapesRead::without_memory, crate::proofs::ShapesRead::unresolved_read, crate::proofs::ShapesRead::shape_read))]
+fn test_resolved<I: IntNumber>(
+    alloc: Global,
+    coordinates: &[I],
+    ends: &[usize],
+) -> Result<(), Status>
+    ensures { MatchResult result (λ _. ReadsAs I.whole I.limit coordinates.now ends.now Done)
+        (ReadsAs I.whole I.limit coordinates.now ends.now) }
+{
+    let contours = read_contours(alloc, coordinates, ends)?;
+    let found = first_unresolved(alloc, &contours)?;
+    match found {
+        Some(_contour) => Err(Status::NotResolved),
+        None => Ok(()),
+    }
+}
+
+/// The number of the first contour that is not resolved, if there is one. The only refusal is `Memory`.
 pub(crate) fn first_unresolved<I: IntNumber>(
+    alloc: Global,
     contours: &FlatContoursBuffer<I, Global>,
-) -> Option<usize>
+) -> Result<Option<usize>, OverlayError>
     requires { All (AllInRange I.limit) (paths_in I.whole contours.now.points.items contours.now.ranges.items) }
-    ensures first { IfSome result
-        (IsFirstUnresolved (paths_in I.whole contours.now.points.items contours.now.ranges.items)) }
-    ensures none { IfNone result
-        (All IsResolved (paths_in I.whole contours.now.points.items contours.now.ranges.items)) }
+    ensures first { IfOk result (λ o. IfSome o
+        (IsFirstUnresolved (paths_in I.whole contours.now.points.items contours.now.ranges.items))) }
+    ensures none { IfOk result (λ o. IfNone o
+        (All IsResolved (paths_in I.whole contours.now.points.items contours.now.ranges.items))) }
+    ensures only { IsOkUnless result OverlayError.Memory }
 {
     for index in 0..contours.path_count() {
         let points = contours.path(index);
-        if !is_resolved(points) {
-            return Some(index);
+        let is_resolved = is_resolved_in(alloc, points)?;
+        if !is_resolved {
+            return Ok(Some(index));
         }
     }
-    None
+    Ok(None)
 }
 
 /// The contours as one shape. The only refusal is `Memory`.

@@ -53,7 +53,7 @@ pub(crate) fn simplify_arrays<I: OverlayInt>(
 }
 
 // The shapes that the contours are simplified to, as arrays.
-#[tactic(auto, using(crate::proofs::Simplified::contours_refused, crate::proofs::Simplified::simplifying_refused, crate::proofs::Simplified::contours_simplified))]
+#[tactic(auto, using(crate::proofs::Simplified::contours_refused, crate::proofs::Simplified::memory_refused, crate::proofs::Simplified::simplifying_refused, crate::proofs::Simplified::contours_simplified))]
 fn simplify_answer<I: OverlayInt>(
     alloc: Global,
     fill: u32,
@@ -61,7 +61,7 @@ fn simplify_answer<I: OverlayInt>(
     given: &Contours<I>,
 ) -> Result<Answer<I>, Status>
     ensures { MatchResult result
-        (λ a. IsFlat (IsSimplification I.whole I.Wide.width I.WideUInt.natural fill options
+        (λ a. IsFlat (IsSimplification I.whole I.limit I.Wide.width I.WideUInt.natural fill options
         (record { coordinates = given.now.coordinates.now; ends = given.now.ends.now })) I.whole (record {
           coordinates = a.coordinates.items;
           contour_ends = a.contour_ends.items;

@@ -6,12 +6,12 @@ ghost use Rattle.polyover_c.specs.Written.{IsFlat};
 
 use crate::answer::{Answer, flattened, put};
 use crate::counts::Counts;
-use crate::given::Contours;
+use crate::given::{Contours, test_both};
 use crate::numbers::fill_of;
 use crate::status::Status;
 use i_overlay::string::slice::IntSlice;
 use overlay_geom::integer::OverlayInt;
-use polyover_arrays::read::read_contours;
+use polyover_arrays::read::tested_contours;
 use std::alloc::Global;
 
 /// The shapes into which the lines, which are open paths, slice the subject, put into the arrays.
@@ -54,7 +54,7 @@ pub(crate) fn slice_arrays<I: OverlayInt>(
 }
 
 // The shapes into which the lines slice the subject, as arrays.
-#[tactic(auto, using(crate::proofs::Lines::shape_refused, crate::proofs::Lines::lines_refused, crate::proofs::Lines::query_refused, crate::proofs::Sliced::subject_sliced))]
+#[tactic(auto, using(crate::proofs::Lines::contours_refused, crate::proofs::Lines::memory_refused, crate::proofs::Lines::query_refused, crate::proofs::Sliced::subject_sliced))]
 fn slice_answer<I: OverlayInt>(
     alloc: Global,
     fill: u32,
@@ -62,7 +62,7 @@ fn slice_answer<I: OverlayInt>(
     lines: &Contours<I>,
 ) -> Result<Answer<I>, Status>
     ensures { MatchResult result
-        (λ a. IsFlat (AreSlices I.whole I.Wide.width fill
+        (λ a. IsFlat (AreSlices I.whole I.limit I.Wide.width fill
         (record { coordinates = subject.now.coordinates.now; ends = subject.now.ends.now })
         (record { coordinates = lines.now.coordinates.now; ends = lines.now.ends.now })) I.whole (record {
           coordinates = a.coordinates.items;
@@ -74,8 +74,9 @@ fn slice_answer<I: OverlayInt>(
         (record { coordinates = lines.now.coordinates.now; ends = lines.now.ends.now })) }
 {
     let fill = fill_of(fill)?;
-    let subject = read_contours(alloc, subject.coordinates, subject.ends)?;
-    let lines = read_contours(alloc, lines.coordinates, lines.ends)?;
+    test_both(subject, lines)?;
+    let subject = tested_contours(alloc, subject.coordinates, subject.ends)?;
+    let lines = tested_contours(alloc, lines.coordinates, lines.ends)?;
     let shapes = subject.slice_by_source(alloc, &lines, fill)?;
     let answer = flattened(alloc, &shapes)?;
     Ok(answer)

@@ -15,9 +15,10 @@ returns g c =
     located_ends whole g.I.IntNumber.limit
     (record { coordinates = c.args.shape.now.coordinates.now; ends = c.args.shape.now.ends.now }) c.args.points.now
     (record { locations = c.args.locations.now; unresolved = c.args.unresolved.now })
-    c.in_ok-contours.ensures.read c.in_ok-points.ensures.read paths c.in_ok-points.points.items
-    c.in_ok-contours.ensures.contours c.in_ok-points.ensures.points numbers c.write_over.new.room
-    (omega (arith, c.if-locations-len.false, c.len.ensures)) c.in_default.ensures.none
+    c.in_ok-test_contours.ensures c.in_ok-test_points.ensures
+    (omega (arith, c.if-locations-count_points.false, c.count_points.ensures))
+    paths c.in_ok-points.points.items numbers c.write_over.new.room
+    c.in_ok-contours.ensures.contours c.in_ok-points.ensures.points (rw c.in_default.is at c.in_ok-found.ensures.none)
     (subst (λ ps. AreNumbers paths (plain_points whole ps) numbers) c.deref.ensures.value
     c.in_ok-numbers.ensures.numbers)
     (c.write_over.ensures ∙ ap (λ ns. written_over ns c.args.locations.now) c.deref-2.ensures.value)

@@ -8,12 +8,12 @@ pub returns-in_err-told : goal.returns-in_err-told
 returns-in_err-told g c =
     let whole = g.I.IntNumber.whole in
     let e = err_from_is_err_and c.from_residual-in_err-told.result c.from_residual-in_err-told.ensures.1 in
-    let subject = c.in_ok-subject.ensures in
-    let clip = c.in_ok-clip.ensures in
+    let given = c.in_ok-test_both.ensures in
     rw (e.1, e.2) (relating_refused whole g.I.IntNumber.limit c.args.fill
     (record { coordinates = c.args.subject.now.coordinates.now; ends = c.args.subject.now.ends.now })
     (record { coordinates = c.args.clip.now.coordinates.now; ends = c.args.clip.now.ends.now })
     c.in_err-told.field-0.0
     (paths_in whole c.in_ok-subject.subject.points.items c.in_ok-subject.subject.ranges.items)
     (paths_in whole c.in_ok-clip.clip.points.items c.in_ok-clip.clip.ranges.items)
-    c.in_ok-fill.ensures.0 subject.read clip.read subject.contours clip.contours c.in_err-told.ensures)
+    c.in_ok-fill.ensures.0 given.0 given.1 c.in_ok-subject.ensures.contours c.in_ok-clip.ensures.contours
+    c.in_err-told.ensures)

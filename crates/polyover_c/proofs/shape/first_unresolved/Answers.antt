@@ -1,6 +1,6 @@
 -- A contour that is not resolved, one more that is, and all of them.
-use Rattle.std.proofs.Common.{◌≤◌, All, subst}
-use Rattle.std.proofs.lemmas.Bool.{iff_false}
+use Rattle.std.proofs.Common.{◌≤◌, All, sym, subst, ◌∙◌}
+use Rattle.std.proofs.lemmas.Bool.{false≢true}
 use Rattle.std.proofs.lemmas.List.{take_all}
 use Rattle.overlay_geom.proofs.ReadInOrder.{All-take_read}
 use Rattle.overlay_geom.specs.Flat.{paths_in}
@@ -13,7 +13,7 @@ returns-then-not-is_resolved-clause-first g c = record {
   path = plain_points g.I.IntNumber.whole c.path-points.result.now;
   here = c.path-points.ensures;
   before = c.loop-index.invariant;
-  unresolved = iff_false c.is_resolved.ensures c.if-not-is_resolved.true;
+  unresolved = λ is. false≢true (sym c.if-not-is_resolved.true ∙ c.in_ok-is_resolved.ensures.ok.1 is);
 }
 
 pub loop-index-preserved : goal.loop-index-preserved
@@ -21,7 +21,7 @@ loop-index-preserved g c =
     let whole = g.I.IntNumber.whole in
     let paths = paths_in whole c.args.contours.now.points.items c.args.contours.now.ranges.items in
     All-take_read paths c.loop-index.index (plain_points whole c.path-points.result.now) c.path-points.ensures
-    IsResolved c.loop-index.invariant (c.is_resolved.ensures.0 c.if-not-is_resolved.false)
+    IsResolved c.loop-index.invariant (c.in_ok-is_resolved.ensures.ok.0 c.if-not-is_resolved.false)
 
 pub returns-clause-none : goal.returns-clause-none
 returns-clause-none g c =

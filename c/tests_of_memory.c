@@ -1,0 +1,231 @@
+/* Tests of the calls for C where memory is refused: it is told only then, and in place of nothing that is tested first.
+ * The linker hands each request of the library for memory to this file. */
+#include <stdio.h>
+#include <string.h>
+
+#include "polyover.h"
+
+void *__real_malloc(size_t size);
+void *__real_realloc(void *old, size_t size);
+
+static int passed = 0;
+static int failed = 0;
+/* how many requests are still granted, and how many were not */
+static size_t granted = SIZE_MAX;
+static size_t refused = 0;
+
+static int grants(void) {
+    if (granted == 0) {
+        refused++;
+        return 0;
+    }
+    granted--;
+    return 1;
+}
+
+void *__wrap_malloc(size_t size) {
+    return grants() ? __real_malloc(size) : NULL;
+}
+
+void *__wrap_realloc(void *old, size_t size) {
+    return grants() ? __real_realloc(old, size) : NULL;
+}
+
+static void check(int holds, const char *what, size_t at, int line) {
+    passed += holds != 0;
+    failed += holds == 0;
+    if (!holds) {
+        printf("line %d, %zu requests granted: %s\n", line, at, what);
+    }
+}
+
+#define COUNT(items) (sizeof items / sizeof items[0])
+
+/* What a call is asked for, and what it is asked of. */
+typedef struct {
+    polyover_rule rule;
+    polyover_fill fill;
+    polyover_options options;
+    polyover_clip_options kept;
+    polyover_contours subject;
+    polyover_contours clip;
+    size_t point_coordinates;
+    size_t location_room;
+} asked;
+
+/* Room for any answer, which is filled before each call. */
+typedef struct {
+    int64_t coordinates[64];
+    size_t contour_ends[16];
+    size_t shape_ends[16];
+    polyover_link links[8];
+    uint8_t bytes[16];
+    polyover_counts counts;
+    polyover_path_counts path_counts;
+    polyover_relations relations;
+    size_t count;
+} room;
+
+typedef polyover_status (*call)(const asked *of, room *to);
+
+static polyover_status overlay(const asked *of, room *to) {
+    return polyover_overlay(of->rule, of->fill, &of->options, &of->subject, &of->clip, to->coordinates, 64,
+                            to->contour_ends, 16, to->shape_ends, 16, &to->counts);
+}
+
+static polyover_status hierarchy(const asked *of, room *to) {
+    return polyover_hierarchy(of->rule, of->fill, &of->options, &of->subject, &of->clip, to->coordinates, 64,
+                              to->contour_ends, 16, to->shape_ends, 16, to->links, 8, &to->counts, &to->count);
+}
+
+static polyover_status simplify(const asked *of, room *to) {
+    return polyover_simplify(of->fill, &of->options, &of->subject, to->coordinates, 64, to->contour_ends, 16,
+                             to->shape_ends, 16, &to->counts);
+}
+
+static polyover_status slice(const asked *of, room *to) {
+    return polyover_slice(of->fill, &of->subject, &of->clip, to->coordinates, 64, to->contour_ends, 16, to->shape_ends,
+                          16, &to->counts);
+}
+
+static polyover_status clip(const asked *of, room *to) {
+    return polyover_clip(of->fill, &of->kept, &of->subject, &of->clip, to->coordinates, 64, to->contour_ends, 16,
+                         &to->path_counts);
+}
+
+static polyover_status relate(const asked *of, room *to) {
+    return polyover_relate(of->fill, &of->subject, &of->clip, &to->relations);
+}
+
+static polyover_status edges(const asked *of, room *to) {
+    return polyover_edges(of->fill, &of->subject, &of->clip, to->coordinates, 64, to->bytes, 16, &to->count);
+}
+
+static polyover_status locate(const asked *of, room *to) {
+    static const int64_t points[] = {1, 1, 9, 9, 0, 0};
+    return polyover_locate(&of->subject, points, of->point_coordinates, to->bytes, of->location_room, &to->count);
+}
+
+static polyover_status resolved(const asked *of, room *to) {
+    (void)to;
+    return polyover_resolved(&of->subject);
+}
+
+/* The status of a call to which so many requests are granted. What is not answered changes nothing. */
+static polyover_status status_with(call made, const asked *of, size_t requests, int line) {
+    static room before, to;
+    memset(&before, 77, sizeof before);
+    memcpy(&to, &before, sizeof to);
+    granted = requests;
+    refused = 0;
+    polyover_status status = made(of, &to);
+    granted = SIZE_MAX;
+    check(status == POLYOVER_OK || memcmp(&to, &before, sizeof to) == 0, "nothing changes", requests, line);
+    return status;
+}
+
+/* Each request is refused in turn, with all behind it, until the call needs no more: then it is answered. */
+static void refuse_each(call made, const asked *of, int line) {
+    polyover_status status;
+    size_t requests = 0;
+    do {
+        status = status_with(made, of, requests, line);
+        check(status == (refused == 0 ? POLYOVER_OK : POLYOVER_MEMORY), "memory is told where it is wanting", requests,
+              line);
+        requests++;
+    } while (refused != 0 && requests < 10000);
+    check(status == POLYOVER_OK && requests > 1, "the call is answered", requests, line);
+}
+
+#define REFUSE_EACH(made, of) refuse_each(made, of, __LINE__)
+
+/* The status comes with no request granted, and none is made. */
+static void tested_first(call made, const asked *of, polyover_status wanted, int line) {
+    check(status_with(made, of, 0, line) == wanted, "the status is the one wanted", 0, line);
+    check(refused == 0, "no memory is asked for", 0, line);
+}
+
+#define TESTED_FIRST(made, of, wanted) tested_first(made, of, wanted, __LINE__)
+
+static const int64_t left[] = {0, 0, 4, 0, 4, 4, 0, 4}, right[] = {2, 2, 6, 2, 6, 6, 2, 6};
+static const int64_t beyond[] = {0, 0, 4, 0, 4, INT64_MAX};
+static const size_t four[] = {4}, three[] = {3}, falling[] = {4, 3};
+static const polyover_contours far = {beyond, 6, three, 1}, bad = {right, 8, falling, 2};
+
+static asked squares(void) {
+    asked of = {.rule = POLYOVER_XOR, .fill = POLYOVER_NON_ZERO, .point_coordinates = 6, .location_room = 3};
+    of.subject = (polyover_contours){left, 8, four, 1};
+    of.clip = (polyover_contours){right, 8, four, 1};
+    return of;
+}
+
+static void answered(void) {
+    const call all[] = {overlay, hierarchy, simplify, slice, clip, relate, edges, locate, resolved};
+    const asked of = squares();
+    for (size_t at = 0; at < COUNT(all); at++) {
+        REFUSE_EACH(all[at], &of);
+    }
+}
+
+/* Numbers that stand for nothing; each call has contours with faults too, which are tested later. */
+static void numbers(void) {
+    asked of = squares();
+    of.subject = bad;
+    of.clip = far;
+    of.options.keep = 2;
+    TESTED_FIRST(overlay, &of, POLYOVER_BAD_OPTION);
+    TESTED_FIRST(hierarchy, &of, POLYOVER_BAD_OPTION);
+    TESTED_FIRST(simplify, &of, POLYOVER_BAD_OPTION);
+    of.kept.invert = 2;
+    TESTED_FIRST(clip, &of, POLYOVER_BAD_OPTION);
+    of.fill = 4;
+    const call filled[] = {overlay, hierarchy, simplify, slice, clip, relate, edges};
+    for (size_t at = 0; at < COUNT(filled); at++) {
+        TESTED_FIRST(filled[at], &of, POLYOVER_BAD_FILL);
+    }
+    of.rule = 7;
+    TESTED_FIRST(overlay, &of, POLYOVER_BAD_RULE);
+    TESTED_FIRST(hierarchy, &of, POLYOVER_BAD_RULE);
+}
+
+/* Contours with faults: those of the subject come first. */
+static void faults(void) {
+    const call one[] = {simplify, locate, resolved}, two[] = {overlay, hierarchy, slice, clip, relate, edges};
+    asked of = squares();
+    of.clip = bad;
+    for (size_t at = 0; at < COUNT(two); at++) {
+        TESTED_FIRST(two[at], &of, POLYOVER_BAD_ENDS);
+    }
+    of.clip = far;
+    for (size_t at = 0; at < COUNT(two); at++) {
+        TESTED_FIRST(two[at], &of, POLYOVER_OUT_OF_RANGE);
+    }
+    of.subject = bad;
+    for (size_t at = 0; at < COUNT(two); at++) {
+        TESTED_FIRST(two[at], &of, POLYOVER_BAD_ENDS);
+    }
+    for (size_t at = 0; at < COUNT(one); at++) {
+        TESTED_FIRST(one[at], &of, POLYOVER_BAD_ENDS);
+    }
+    of.subject = far;
+    for (size_t at = 0; at < COUNT(one); at++) {
+        TESTED_FIRST(one[at], &of, POLYOVER_OUT_OF_RANGE);
+    }
+}
+
+static void points(void) {
+    asked of = squares();
+    of.location_room = 2;
+    TESTED_FIRST(locate, &of, POLYOVER_TOO_SMALL);
+    of.point_coordinates = 5;
+    TESTED_FIRST(locate, &of, POLYOVER_BAD_ENDS);
+}
+
+int main(void) {
+    answered();
+    numbers();
+    faults();
+    points();
+    printf("c, memory refused: %d passed, %d failed\n", passed, failed);
+    return failed == 0 ? 0 : 1;
+}
