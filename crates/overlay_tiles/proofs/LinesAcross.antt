@@ -20,16 +20,12 @@ pub mapped_twice : {X Y Z : Type 0} (f : Y → Z) (g : X → Y) (xs : List X) �
 mapped_twice f g [] = refl
 mapped_twice f g (x ∷ xs) = ap (λ zs. f (g x) ∷ zs) (mapped_twice f g xs)
 
--- lines at places, behind none and behind others, are the upright ones and then the level ones
-pub one_after_another : {I : Type 0} (whole : I → ℤ) (b : Bounds) (xs ys : List I)
-    (none uprights all : List (List Point)) →
-    none ≡ [] → uprights ≡ none ++ map (λ x. upright b (whole x)) xs →
-    all ≡ uprights ++ map (λ y. level b (whole y)) ys →
+-- lines at places are the upright ones and then the level ones
+pub one_after_another : {I : Type 0} (whole : I → ℤ) (b : Bounds) (xs ys : List I) (all : List (List Point)) →
+    all ≡ map (λ x. upright b (whole x)) xs ++ map (λ y. level b (whole y)) ys →
     all ≡ map (upright b) (map whole xs) ++ map (level b) (map whole ys)
-one_after_another whole b xs ys none uprights all no_lines first then_all =
-    then_all ∙ ap₂ (λ ls ms. ls ++ ms)
-    (first ∙ ap (λ ls. ls ++ map (λ x. upright b (whole x)) xs) no_lines ∙ mapped_twice (upright b) whole xs)
-    (mapped_twice (level b) whole ys)
+one_after_another whole b xs ys all are =
+    are ∙ ap₂ (λ ls ms. ls ++ ms) (mapped_twice (upright b) whole xs) (mapped_twice (level b) whole ys)
 
 -- the points of paths in range are
 pub points_in_range : (limit : ℕ) (paths : List (List Point)) → All (AllInRange limit) paths →

@@ -1,6 +1,6 @@
 //! The lines of a grid across the box of the points of a resource.
 
-ghost use Rattle.std.specs.Prelude.{◌≡◌, ◌++◌, All, IfOk, IsOkUnless, OnOk, map};
+ghost use Rattle.std.specs.Prelude.{◌≡◌, All, IfOk, IsOkUnless};
 ghost use Rattle.overlay_geom.specs.Points.{AllInRange, plain_points};
 ghost use Rattle.overlay_string.specs.StringPaths.{paths_of_lines};
 ghost use Rattle.overlay_tiles.specs.Grids.{AreGridLines, AreLinesAcross, IsGridStep, level, upright};
@@ -55,41 +55,13 @@ fn lines_across<I: IntNumber, A: Allocator + Clone>(
     let xs = grid_places(alloc.clone()?, grid.width, bounds.x)?;
     let ys = grid_places(alloc.clone()?, grid.height, bounds.y)?;
     let mut lines: Vec<IntLine<I>, A> = Vec::new(alloc);
-    push_uprights(&mut lines, &xs, bounds)?;
-    push_levels(&mut lines, &ys, bounds)?;
+    for x in &xs {
+        lines.push(upright_at(*x, bounds))?;
+    }
+    for y in &ys {
+        lines.push(level_at(*y, bounds))?;
+    }
     Ok(lines)
-}
-
-// Adds the line at each of these x, from the bottom of the box to its top.
-fn push_uprights<I: IntNumber, A: Allocator>(
-    lines: &mut Vec<IntLine<I>, A>,
-    places: &[I],
-    bounds: IntBounds<I>,
-) -> Result<(), OverlayError>
-    ensures ok { OnOk result (paths_of_lines I.whole lines.new.items ≡ paths_of_lines I.whole lines.old.items
-        ++ map (λ x. upright (plain_bounds I.whole bounds) (I.whole x)) places.now) }
-    ensures err { IsOkUnless result OverlayError.Memory }
-{
-    for place in places {
-        lines.push(upright_at(*place, bounds))?;
-    }
-    Ok(())
-}
-
-// Adds the line at each of these y, from the left of the box to its right.
-fn push_levels<I: IntNumber, A: Allocator>(
-    lines: &mut Vec<IntLine<I>, A>,
-    places: &[I],
-    bounds: IntBounds<I>,
-) -> Result<(), OverlayError>
-    ensures ok { OnOk result (paths_of_lines I.whole lines.new.items ≡ paths_of_lines I.whole lines.old.items
-        ++ map (λ y. level (plain_bounds I.whole bounds) (I.whole y)) places.now) }
-    ensures err { IsOkUnless result OverlayError.Memory }
-{
-    for place in places {
-        lines.push(level_at(*place, bounds))?;
-    }
-    Ok(())
 }
 
 // The line at this x, from the bottom of the box to its top.

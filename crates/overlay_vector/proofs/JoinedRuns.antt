@@ -7,11 +7,11 @@ use Rattle.std.proofs.lemmas.List.{append-nil, append_assoc}
 use Rattle.std.proofs.lemmas.List.Concat.{flat_map-append}
 use Rattle.std.proofs.lemmas.List.Elements.{All-append, All-cons, All-nil}
 use Rattle.overlay_geom.specs.Plane.{Point}
+use Rattle.overlay_geom.proofs.Mapped.{AllZip-more}
 use Rattle.overlay_vector.specs.DataVectors.{DataVector}
 use Rattle.overlay_vector.specs.Joining.{AreJoinable, joined, Becomes, stays, begins_later, joins}
 use Rattle.overlay_vector.specs.JoinedRuns.{StandsFor, LeadOn, Replaces, IsBegunElsewhere, here, later, IsMadeOfRuns}
 use Rattle.overlay_vector.specs.JoinedRuns.{JoinedEdgesStandForTheirs}
-use Rattle.overlay_vector.proofs.Zipped.{zipped_more}
 
 -- a closed list begins behind its first part
 begun_behind : {X : Type 0} (xs ys zs : List X) → IsBegunElsewhere (ys ++ xs) zs → IsBegunElsewhere (xs ++ ys) zs
@@ -92,7 +92,7 @@ module _ {D : Type 0} (eq : D → D → Bool) (per : IsPartialEquivalence eq) wh
   still_runs (v ∷ vs) ws [] (begins_later further) all = absurd all
   still_runs (v ∷ vs) ws (r ∷ runs) (begins_later further) all =
       turned_back r runs ws (still_runs (vs ++ v ∷ []) ws (runs ++ r ∷ []) further
-      (zipped_more (Replaces eq) runs vs r v all.1 all.0))
+      (AllZip-more (Replaces eq) runs vs r v all.1 all.0))
   still_runs (v ∷ w ∷ vs) ws [] (joins can further) all = absurd all
   still_runs (v ∷ w ∷ vs) ws (r ∷ []) (joins can further) all = absurd all.1
   still_runs (v ∷ w ∷ vs) ws (r ∷ s ∷ runs) (joins can further) all =

@@ -9,4 +9,3 @@ pub mod Sums
 pub mod TurnedFills
 pub mod VectorShapes
 pub mod WalkedEdges
-pub mod Zipped

@@ -2,13 +2,12 @@
 use Rattle.std.proofs.Common.{◌∷◌, ◌++◌, [], ◌+◌, ◌<◌, map, take, length, All, sym, ap, ◌∙◌, subst, rules}
 use Rattle.std.specs.List.{AllZip}
 use Rattle.std.proofs.lemmas.List.{map-append}
-use Rattle.overlay_geom.proofs.Mapped.{mapped_more, All-mapped_at}
+use Rattle.overlay_geom.proofs.Mapped.{AllZip-more, mapped_more, All-mapped_at}
 use Rattle.overlay_plane.specs.PlacedContours.{walk_at, walks_at}
 use Rattle.overlay_arrange.proofs.ReachedStores.{never_written, reached_on}
 use Rattle.overlay_walk.specs.GroupedContours.{plain_contours}
 use Rattle.overlay_bind.specs.Places.{place_lists}
 use Rattle.overlay_vector.specs.VectorShapes.{plain_vector_shape, plain_vector_shapes, IsVectorContour}
-use Rattle.overlay_vector.proofs.Zipped.{zipped_more}
 use Rattle.overlay_vector.proofs.vector_contours.assembled.Goals as goal
 
 pub shape_at-requires-clause-inside : goal.shape_at-requires-clause-inside
@@ -41,7 +40,7 @@ loop-shape-preserved g c =
           (subst (λ given. AllZip (AllZip is) given
           (plain_vector_shapes whole shapes ++ plain_vector_shape whole shape.items ∷ []))
           (sym (map-append (map (walk_at cs)) before (ps.items ∷ [])))
-          (zipped_more (AllZip is) (walks_at cs before) (plain_vector_shapes whole shapes) (map (walk_at cs) ps.items)
+          (AllZip-more (AllZip is) (walks_at cs before) (plain_vector_shapes whole shapes) (map (walk_at cs) ps.items)
           (plain_vector_shape whole shape.items) c.loop-shape.invariant.0 shown))),
       reached_on g.D.OverlayEdgeData.writes _ _ _ c.loop-shape.invariant.1 c.in_ok-shape_at.ensures.store,
     )

@@ -4,7 +4,7 @@ use Rattle.std.proofs.Common.{arith, rules}
 use Rattle.std.specs.List.{AllZip}
 use Rattle.std.proofs.lemmas.List.{length-map, map-append, take_all, take_more}
 use Rattle.overlay_geom.specs.Edges.{all_ends}
-use Rattle.overlay_geom.proofs.Mapped.{read_mapped}
+use Rattle.overlay_geom.proofs.Mapped.{AllZip-more, read_mapped}
 use Rattle.overlay_plane.specs.PlacedContours.{walk_at}
 use Rattle.overlay_arrange.specs.Graphs.{graph_edges}
 use Rattle.overlay_arrange.proofs.ReachedStores.{never_written, reached_on}
@@ -13,7 +13,6 @@ use Rattle.overlay_walk.specs.Steps.{plain_steps, RunsAlong}
 use Rattle.overlay_bind.proofs.HolesPlaced.{walk_there}
 use Rattle.overlay_vector.specs.DataVectors.{plain_data_vectors}
 use Rattle.overlay_vector.specs.VectorShapes.{plain_vector_shape, IsVectorContour}
-use Rattle.overlay_vector.proofs.Zipped.{zipped_more}
 use Rattle.overlay_vector.proofs.vector_contours.shape_at.Goals as goal
 
 pub bounds-contours-place : goal.bounds-contours-place
@@ -63,7 +62,7 @@ loop-i-preserved g c =
           (plain_vector_shape whole shape ++ plain_data_vectors whole contour.items ∷ []))
           (sym (ap (map (walk_at cs)) (take_more c.args.places.now i 0 c.loop-i-test.true)
           ∙ map-append (walk_at cs) before (place ∷ [])))
-          (zipped_more is (map (walk_at cs) before) (plain_vector_shape whole shape)
+          (AllZip-more is (map (walk_at cs) before) (plain_vector_shape whole shape)
           (walk_at cs place) (plain_data_vectors whole contour.items) c.loop-i.invariant.0 taken)),
       reached_on g.D.OverlayEdgeData.writes _ _ _ c.loop-i.invariant.1 c.in_ok-contour.ensures.store,
     )

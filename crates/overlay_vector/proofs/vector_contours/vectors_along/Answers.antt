@@ -4,14 +4,13 @@ use Rattle.std.specs.List.{AllZip}
 use Rattle.std.proofs.lemmas.List.{map-append, take_all}
 use Rattle.std.proofs.lemmas.List.Elements.{All-push}
 use Rattle.overlay_geom.specs.Edges.{all_ends}
-use Rattle.overlay_geom.proofs.Mapped.{mapped_more}
+use Rattle.overlay_geom.proofs.Mapped.{AllZip-more, mapped_more}
 use Rattle.overlay_arrange.specs.Graphs.{graph_edges}
 use Rattle.overlay_arrange.proofs.ReachedStores.{never_written, reached_on}
 use Rattle.overlay_walk.specs.Steps.{plain_step, plain_steps, RunsAlong}
 use Rattle.overlay_vector.specs.DataVectors.{plain_data_vector, plain_data_vectors}
 use Rattle.overlay_vector.specs.Joining.{IsInRange}
 use Rattle.overlay_vector.specs.VectorShapes.{IsVectorAlong}
-use Rattle.overlay_vector.proofs.Zipped.{zipped_more}
 use Rattle.overlay_vector.proofs.vector_contours.vectors_along.Goals as goal
 
 pub vector_along-requires : goal.vector_along-requires
@@ -33,7 +32,7 @@ loop-i-preserved g c =
           (subst (λ ss. AllZip is ss (vs ++ v ∷ []))
           (sym (mapped_more (plain_step whole) c.args.walk.now i c.index-walk-i.result c.loop-i-test.true
           c.index-walk-i.is))
-          (zipped_more is (plain_steps whole (take i c.args.walk.now)) vs (plain_step whole c.index-walk-i.result) v
+          (AllZip-more is (plain_steps whole (take i c.args.walk.now)) vs (plain_step whole c.index-walk-i.result) v
           c.loop-i.invariant.along c.vector_along.ensures.along));
       in_range = subst (All (IsInRange g.I.IntNumber.limit)) (sym pushed)
           (All-push (IsInRange g.I.IntNumber.limit) vs v c.loop-i.invariant.in_range c.vector_along.ensures.in_range);
