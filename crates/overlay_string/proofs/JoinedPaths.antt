@@ -1,5 +1,5 @@
 -- The paths that walks along open pieces make.
-use Rattle.std.proofs.Common.{◌≡◌, ◌<◌, true, false, List, [], ◌∷◌, ◌++◌, length, map, refl, sym, ap, ap₂}
+use Rattle.std.proofs.Common.{◌≡◌, ◌<◌, Bool, true, false, cond, List, [], ◌∷◌, ◌++◌, length, map, refl, sym, ap, ap₂}
 use Rattle.std.proofs.Common.{◌∙◌}
 use Rattle.std.proofs.Common.{subst, arith, ◌≤◌}
 use Rattle.std.specs.Prelude.{reverse}
@@ -10,7 +10,8 @@ use Rattle.overlay_string.specs.ClipPaths.{IsWalkFrom, IsPathOf, AreClipPaths, A
 use Rattle.overlay_string.specs.ClipPaths.IsWalkFrom.{stop, go}
 use Rattle.overlay_string.specs.ClipPaths.IsPathOf.{begun, ended}
 use Rattle.overlay_string.specs.ClipPaths.AreClipPaths.{done, next}
-use Rattle.overlay_string.specs.Pieces.{GoesOn, IsShownPath, IsTakenFirst}
+use Rattle.overlay_string.specs.Pieces.{GoesOn, IsShownPath, IsTakenFirst, turned, way_of}
+use Rattle.overlay_string.specs.declared.piece.Way.{Way}
 use Rattle.overlay_string.specs.declared.piece.Way.TheVariants.{Onward, Back}
 use Rattle.overlay_string.proofs.WalksOn.{arrivals, no_more_left}
 
@@ -29,9 +30,22 @@ points_backward v open_pieces walk rest (go {left} {walk = ws} {s = w} taken h) 
     ∙ ap (λ p. reverse (arrivals ws) ++ w.to ∷ p ∷ arrivals (s ∷ ss)) (taken.leaves ∙ sym begins)
     ∙ sym (last_first w.to (arrivals ws) (points_along (s ∷ ss)))
 
+-- which way a piece tells
+runs_forward : (forward : Bool) → cond forward Onward Back ≡ Onward → forward ≡ true
+runs_forward true is = refl
+runs_forward false is = absurd cc
+
+runs_back : (forward : Bool) → cond forward Onward Back ≡ Back → forward ≡ false
+runs_back true is = absurd cc
+runs_back false is = refl
+
+-- the ends of a piece, seen on the way
+abbrev pub ends : Step → Way → List Point
+ends s way = (turned way s).from ∷ (turned way s).to ∷ []
+
 module _ (s : Step) (old new : List Step) (points : List Point) where
   -- the path of a piece that runs from its smaller end
-  pub path_begun : is_forward s ≡ true → GoesOn Onward s.to old new (s.from ∷ s.to ∷ []) points →
+  path_begun : is_forward s ≡ true → GoesOn Onward s.to old new (s.from ∷ s.to ∷ []) points →
       IsShownPath s old new points
   path_begun forward h = record {
     path = s ∷ h.walk;
@@ -42,7 +56,7 @@ module _ (s : Step) (old new : List Step) (points : List Point) where
   }
 
   -- and of one that runs back, of which the points were found from its end on
-  pub path_ended : is_forward s ≡ false → (found : List Point) → GoesOn Back s.from old new (s.to ∷ s.from ∷ []) found
+  path_ended : is_forward s ≡ false → (found : List Point) → GoesOn Back s.from old new (s.to ∷ s.from ∷ []) found
       → points ≡ reverse found → IsShownPath s old new points
   path_ended forward found h turned = record {
     path = backward h.walk ++ s ∷ [];
@@ -53,6 +67,17 @@ module _ (s : Step) (old new : List Step) (points : List Point) where
         ∙ last_first s.from (arrivals h.walk) (s.to ∷ [])
         ∙ sym (points_backward s.from (map reversed_step old) h.walk (map reversed_step new) h.walks s [] refl);
   }
+
+  -- so what was found on the way that the piece tells are the points of its path, or these from the last one back
+  pub found_onward : (way : Way) → way ≡ way_of s → way ≡ Onward
+      → GoesOn way (turned way s).to old new (ends s way) points → IsShownPath s old new points
+  found_onward Onward is same on = path_begun (runs_forward (is_forward s) (sym is)) on
+  found_onward Back is same on = absurd cc
+
+  pub found_back : (way : Way) → way ≡ way_of s → way ≡ Back → (found : List Point)
+      → GoesOn way (turned way s).to old new (ends s way) found → points ≡ reverse found → IsShownPath s old new points
+  found_back Onward is same found on turned_round = absurd cc
+  found_back Back is same found on turned_round = path_ended (runs_back (is_forward s) (sym is)) found on turned_round
 
 -- a path leaves no more pieces open than there were behind its first one
 no_more_behind : (s : Step) (old path new : List Step) → IsPathOf s old path new → length new ≤ length old

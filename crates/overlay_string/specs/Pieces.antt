@@ -1,6 +1,6 @@
 -- Pieces of strings, as steps between whole points, and which of them are open.
 use Rattle.std.specs.Prelude.{◌≡◌, ◌≢◌, cond, ℤ, List, [], ◌∷◌, ◌++◌, map, Option, Some, None, All}
-use Rattle.overlay_geom.specs.Plane.{Point, Step, reversed_step}
+use Rattle.overlay_geom.specs.Plane.{Point, Step, is_forward, reversed_step}
 use Rattle.overlay_geom.specs.Points.{plain_point}
 use Rattle.overlay_string.specs.declared.piece.Piece.{Piece}
 use Rattle.overlay_string.specs.declared.piece.Way.{Way}
@@ -24,6 +24,10 @@ plain_pieces whole ps = map (plain_piece whole) ps
 abbrev pub turned : Way → Step → Step
 turned Onward s = s
 turned Back s = reversed_step s
+
+-- the way in which the path is walked of which the step is the first open piece
+abbrev pub way_of : Step → Way
+way_of s = cond (is_forward s) Onward Back
 
 -- none of the open pieces is taken, since none leaves v
 pub record TakesNone (v : Point) (old new : List Step) : Type 0 where

@@ -1,8 +1,7 @@
 //! The paths that pieces of strings are joined to.
 
-ghost use Rattle.std.specs.Prelude.{◌≡◌, true, false, IfOk, OnOk, IsOkUnless};
+ghost use Rattle.std.specs.Prelude.{IfOk, OnOk, IsOkUnless};
 ghost use Rattle.overlay_geom.specs.Paths.{paths_of_shape};
-ghost use Rattle.overlay_geom.specs.Plane.{is_forward};
 ghost use Rattle.overlay_geom.specs.Points.{plain_point, plain_points};
 ghost use Rattle.overlay_string.specs.ClipPaths.{ArePathsOf};
 ghost use Rattle.overlay_string.specs.Pieces.{plain_piece, GoesOn, IsShownPath};
@@ -32,7 +31,7 @@ pub(crate) fn joined_paths<I: IntNumber, A: Allocator + Clone>(
     Ok(paths)
 }
 
-// The path of a piece that was taken first of all.
+// The path of a piece that was taken first of all, which is walked on the way that the piece tells.
 fn path_of<I: IntNumber, A: Allocator>(
     alloc: A,
     pieces: &mut OpenPieces<I, A>,
@@ -42,48 +41,19 @@ fn path_of<I: IntNumber, A: Allocator>(
         (plain_points I.whole v.items)) }
     ensures err { IsOkUnless result OverlayError.Memory }
 {
-    if piece.is_forward() {
-        path_begun(alloc, pieces, piece)
-    } else {
-        path_ended(alloc, pieces, piece)
+    let way = piece.way();
+    let end = piece.end(way);
+    let mut path = Vec::new(alloc);
+    path.push(piece.start(way))?;
+    path.push(end)?;
+    go_on(&mut path, pieces, way, end)?;
+    match way {
+        Way::Onward => Ok(path),
+        Way::Back => {
+            path.reverse();
+            Ok(path)
+        }
     }
-}
-
-// The path that begins with a piece.
-fn path_begun<I: IntNumber, A: Allocator>(
-    alloc: A,
-    pieces: &mut OpenPieces<I, A>,
-    piece: Piece<I>,
-) -> Result<IntPath<I, A>, OverlayError>
-    requires { is_forward (plain_piece I.whole piece) ≡ true }
-    ensures ok { IfOk result (λ v. IsShownPath (plain_piece I.whole piece) pieces.old pieces.new
-        (plain_points I.whole v.items)) }
-    ensures err { IsOkUnless result OverlayError.Memory }
-{
-    let mut path = Vec::new(alloc);
-    path.push(piece.from)?;
-    path.push(piece.to)?;
-    go_on(&mut path, pieces, Way::Onward, piece.to)?;
-    Ok(path)
-}
-
-// The path that ends with a piece, which runs back along its edge.
-fn path_ended<I: IntNumber, A: Allocator>(
-    alloc: A,
-    pieces: &mut OpenPieces<I, A>,
-    piece: Piece<I>,
-) -> Result<IntPath<I, A>, OverlayError>
-    requires { is_forward (plain_piece I.whole piece) ≡ false }
-    ensures ok { IfOk result (λ v. IsShownPath (plain_piece I.whole piece) pieces.old pieces.new
-        (plain_points I.whole v.items)) }
-    ensures err { IsOkUnless result OverlayError.Memory }
-{
-    let mut path = Vec::new(alloc);
-    path.push(piece.to)?;
-    path.push(piece.from)?;
-    go_on(&mut path, pieces, Way::Back, piece.from)?;
-    path.reverse();
-    Ok(path)
 }
 
 // Adds the points at which open pieces arrive that go on from a point, one after another, seen on the way.

@@ -3,7 +3,7 @@
 ghost use Rattle.std.specs.Prelude.{◌≡◌};
 ghost use Rattle.overlay_geom.specs.Plane.{is_forward};
 ghost use Rattle.overlay_geom.specs.Points.{plain_point};
-ghost use Rattle.overlay_string.specs.Pieces.{plain_piece, turned};
+ghost use Rattle.overlay_string.specs.Pieces.{plain_piece, turned, way_of};
 
 use overlay_arrange::edge::compare_points;
 use overlay_geom::number::IntNumber;
@@ -26,11 +26,23 @@ pub(crate) enum Way {
 }
 
 impl<I: IntNumber> Piece<I> {
-    /// Whether it runs from its smaller to its larger end.
-    pub(crate) fn is_forward(self) -> bool
+    // Whether it runs from its smaller to its larger end.
+    fn is_forward(self) -> bool
         ensures { result ≡ is_forward (plain_piece I.whole self) }
     {
         compare_points(self.from, self.to).is_lt()
+    }
+
+    /// The way in which the path is walked of which it is the first open piece: on from it where it runs from its
+    /// smaller to its larger end, and else back.
+    pub(crate) fn way(self) -> Way
+        ensures { result ≡ way_of (plain_piece I.whole self) }
+    {
+        if self.is_forward() {
+            Way::Onward
+        } else {
+            Way::Back
+        }
     }
 
     /// The point where it begins, seen on the way.
