@@ -1,4 +1,5 @@
 mod Rows
+pub mod AskedAgain
 pub mod Builders
 pub mod HeldAlone
 pub mod OneShots

@@ -1,22 +1,27 @@
 -- What a new builder, to which paths were added, answers of the paths.
-use Rattle.std.proofs.Common.{◌≡◌, ℕ, Bool, false, List, ap, ap₂, ◌∙◌}
+use Rattle.std.proofs.Common.{◌≡◌, inl, ℕ, Bool, false, List, map, ap, ap₂, ◌∙◌}
 use Rattle.std.specs.Prelude.{Result, Ok, Err, IfOk, IfErr, OnOk}
 use Rattle.std.specs.Int.{Width}
 use Rattle.overlay_geom.specs.declared.error.OverlayError.{OverlayError}
+use Rattle.overlay_geom.specs.declared.error.OverlayError.TheVariants.{Memory, NotSettled, TooManyEdges, Failed}
 use Rattle.overlay_geom.specs.Edges.{CountedEdge}
 use Rattle.overlay_geom.specs.Plane.{Point}
 use Rattle.overlay_arrange.specs.Arranged.{IsArranged, most_rounds}
 use Rattle.overlay_arrange.specs.Options.{AreOptions}
+use Rattle.overlay_arrange.specs.Vectors.{Vector, vector_of}
 use Rattle.overlay_arrange.specs.declared.fill_rule.FillRule.{FillRule}
 use Rattle.overlay_arrange.specs.declared.overlay_rule.OverlayRule.{OverlayRule}
 use Rattle.overlay_arrange.specs.declared.options.ContourDirection.{ContourDirection}
 use Rattle.overlay_arrange.specs.declared.options.ContourDirection.TheVariants.{CounterClockwise}
 use Rattle.overlay_arrange.specs.declared.options.IntOverlayOptions.{IntOverlayOptions}
 use Rattle.overlay_builder.specs.Held.{Held, AnswersQuery}
-use Rattle.i_overlay.specs.OneShot.{asked_by_default, IsResultOfPaths, MayRefusePaths}
+use Rattle.i_overlay.specs.OneShot.{asked_by_default, IsResultOfPaths, IsHierarchyOfPaths, AreEdgesOfPaths}
+use Rattle.i_overlay.specs.OneShot.{MayRefusePaths}
+use Rattle.overlay_extract.specs.PlacedResults.{IsHierarchy}
 use Rattle.overlay_extract.specs.Results.{Asked, asked, IsResult}
+use Rattle.overlay_plane.specs.Islands.{ChildLink}
 use Rattle.overlay_builder.specs.GivenPaths.{GivenPath, added_paths}
-use Rattle.overlay_builder.specs.PathLists.{HoldsPaths}
+use Rattle.overlay_builder.specs.PathLists.{HoldsPaths, MayRefuseBuilder}
 use Rattle.overlay_simplify.proofs.AddedAlone.{query_refused as refused_alone}
 
 -- what the default options ask for
@@ -49,6 +54,26 @@ result_of_paths (Ok v) shapes q paths content edges holds arranged is =
     record { content = content; edges = edges; holds = holds; arranged = arranged; is_result = is }
 result_of_paths (Err e) shapes q paths content edges holds arranged is = tt
 
+-- so are its shapes and their links
+pub hierarchy_of_paths : {V E : Type 0} (r : Result V E) (shapes : V → List (List (List Point)))
+    (links : V → List ChildLink) (q : Asked) (paths : List GivenPath) (content edges : List CountedEdge) →
+    HoldsPaths (added_paths false paths) content → OnOk r (IsArranged most_rounds content edges) →
+    IfOk r (λ v. IsHierarchy q edges (shapes v) (links v)) →
+    IfOk r (λ v. IsHierarchyOfPaths q paths (shapes v) (links v))
+hierarchy_of_paths (Ok v) shapes links q paths content edges holds arranged is =
+    record { content = content; edges = edges; holds = holds; arranged = arranged; is_hierarchy = is }
+hierarchy_of_paths (Err e) shapes links q paths content edges holds arranged is = tt
+
+-- and its edges
+pub edges_of_paths : {V E : Type 0} (r : Result V E) (vectors : V → List Vector) (fill : FillRule)
+    (paths : List GivenPath) (content edges : List CountedEdge) → HoldsPaths (added_paths false paths) content
+    → OnOk r (IsArranged most_rounds content edges)
+    → IfOk r (λ v. vectors v ≡ map (vector_of fill edges) edges)
+    → IfOk r (λ v. AreEdgesOfPaths fill paths (vectors v))
+edges_of_paths (Ok v) vectors fill paths content edges holds arranged listed =
+    record { content = content; edges = edges; holds = holds; arranged = arranged; listed = listed }
+edges_of_paths (Err e) vectors fill paths content edges holds arranged listed = tt
+
 -- the refusal of a query on the paths
 pub query_refused : {V : Type 0} (limit : ℕ) (paths : List GivenPath) (old new : Held CountedEdge)
     (r : Result V OverlayError)
@@ -56,3 +81,11 @@ pub query_refused : {V : Type 0} (limit : ℕ) (paths : List GivenPath) (old new
     → IfErr r (MayRefusePaths paths)
 query_refused limit paths old new (Ok v) holds ready h = tt
 query_refused limit paths old new (Err e) holds ready h = refused_alone false paths limit old new e holds ready h
+
+-- where the paths can't be added, there is no answer
+pub adding_refused : (paths : List GivenPath) (e : OverlayError) → MayRefuseBuilder (added_paths false paths) e
+    → MayRefusePaths paths e
+adding_refused paths Memory may = tt
+adding_refused paths NotSettled may = absurd may
+adding_refused paths TooManyEdges may = inl may
+adding_refused paths Failed may = may

@@ -1,16 +1,19 @@
--- What an overlay of two resources answers that leaves no builder.
-use Rattle.std.specs.Prelude.{false, List}
+-- What queries of paths answer that leave no builder.
+use Rattle.std.specs.Prelude.{◌≡◌, false, List, map}
 use Rattle.std.specs.Int.{Width}
 use Rattle.overlay_geom.specs.Plane.{Point}
 use Rattle.overlay_geom.specs.Edges.{CountedEdge}
 use Rattle.overlay_geom.specs.declared.error.OverlayError.{OverlayError}
 use Rattle.overlay_arrange.specs.Arranged.{IsArranged, most_rounds}
+use Rattle.overlay_arrange.specs.Vectors.{Vector, vector_of}
 use Rattle.overlay_arrange.specs.declared.fill_rule.FillRule.{FillRule}
 use Rattle.overlay_arrange.specs.declared.overlay_rule.OverlayRule.{OverlayRule}
 use Rattle.overlay_arrange.specs.declared.options.ContourDirection.TheVariants.{CounterClockwise}
 use Rattle.overlay_builder.specs.GivenPaths.{GivenPath, added_paths}
 use Rattle.overlay_builder.specs.PathLists.{HoldsPaths}
+use Rattle.overlay_extract.specs.PlacedResults.{IsHierarchy}
 use Rattle.overlay_extract.specs.Results.{Asked, IsResult}
+use Rattle.overlay_plane.specs.Islands.{ChildLink}
 use Rattle.overlay_simplify.specs.Alone.{MayRefuseAlone}
 
 -- what rules ask for with the default options
@@ -32,6 +35,23 @@ pub record IsResultOfPaths (q : Asked) (paths : List GivenPath) (result : List (
   pub holds : HoldsPaths (added_paths false paths) content
   pub arranged : IsArranged most_rounds content edges
   pub is_result : IsResult q edges result
+
+-- the shapes and links over some arrangement of the edges that the paths give
+pub record IsHierarchyOfPaths (q : Asked) (paths : List GivenPath) (shapes : List (List (List Point)))
+    (links : List ChildLink) : Type 0 where
+  pub content : List CountedEdge
+  pub edges : List CountedEdge
+  pub holds : HoldsPaths (added_paths false paths) content
+  pub arranged : IsArranged most_rounds content edges
+  pub is_hierarchy : IsHierarchy q edges shapes links
+
+-- the edges in order of some arrangement of those that the paths give, with the sides that are filled
+pub record AreEdgesOfPaths (fill : FillRule) (paths : List GivenPath) (vectors : List Vector) : Type 0 where
+  pub content : List CountedEdge
+  pub edges : List CountedEdge
+  pub holds : HoldsPaths (added_paths false paths) content
+  pub arranged : IsArranged most_rounds content edges
+  pub listed : vectors ≡ map (vector_of fill edges) edges
 
 -- the paths may be refused so
 abbrev pub MayRefusePaths : List GivenPath → OverlayError → Type 0

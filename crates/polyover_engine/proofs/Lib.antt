@@ -1,4 +1,3 @@
-pub mod AskedAgain
 pub mod Builders
 pub mod Clips
 pub mod Endings
@@ -7,5 +6,6 @@ pub mod Queries
 pub mod Refusals
 pub mod Slices
 pub mod Subjects
+pub mod TakenContours
 pub mod TurnsTaken
 pub mod Writing

@@ -1,9 +1,8 @@
 -- What a query on a builder, to which all contours were added, says of the contours; and the text of its answer.
-use Rattle.std.proofs.Common.{◌≡◌, inl, ℕ, false, List, map, Option, Some, None, IfSome, subst, ◌∙◌}
+use Rattle.std.proofs.Common.{◌≡◌, ℕ, List, map, Option, Some, None, IfSome, subst, ◌∙◌}
 use Rattle.std.specs.Prelude.{Result, Ok, Err, IfOk, MatchResult}
 use Rattle.std.specs.Int.{w128}
 use Rattle.overlay_geom.specs.declared.error.OverlayError.{OverlayError}
-use Rattle.overlay_geom.specs.declared.error.OverlayError.TheVariants.{Memory, NotSettled, TooManyEdges, Failed}
 use Rattle.overlay_geom.specs.Edges.{CountedEdge}
 use Rattle.overlay_geom.specs.Plane.{Point}
 use Rattle.overlay_arrange.specs.Vectors.{Vector, vector_of}
@@ -14,13 +13,12 @@ use Rattle.i_overlay.specs.Builder.{Builder, held_by}
 use Rattle.overlay_extract.specs.PlacedResults.{IsHierarchy}
 use Rattle.overlay_extract.specs.Results.{Asked, asked, IsResult}
 use Rattle.overlay_plane.specs.Islands.{ChildLink}
-use Rattle.overlay_builder.specs.GivenPaths.{GivenPath, added_paths}
-use Rattle.overlay_builder.specs.PathLists.{MayRefuseBuilder}
-use Rattle.i_overlay.specs.OneShot.{IsResultOfPaths, MayRefusePaths}
-use Rattle.i_overlay.proofs.OneShots.{query_refused, result_of_paths}
+use Rattle.overlay_builder.specs.GivenPaths.{GivenPath}
+use Rattle.i_overlay.specs.OneShot.{AreEdgesOfPaths, IsHierarchyOfPaths, IsResultOfPaths, MayRefusePaths}
+use Rattle.i_overlay.proofs.OneShots.{edges_of_paths, hierarchy_of_paths, query_refused, result_of_paths}
 use Rattle.polyover_text.specs.declared.query.OverlayQuery.{OverlayQuery}
 use Rattle.polyover_text.specs.declared.query.Query.{Query}
-use Rattle.polyover_engine.specs.Answers.{AreEdges, Answers, IsAnswer, IsHierarchyOfPaths}
+use Rattle.polyover_engine.specs.Answers.{Answers, IsAnswer}
 use Rattle.polyover_engine.specs.Builders.{HasAdded, IsAskedBuilder, asked_by}
 use Rattle.polyover_text.specs.Grammar.{GivenFigures, Asks, input_lines}
 
@@ -30,9 +28,9 @@ module _ (cs : List GivenPath) (b : Builder ℕ) (h : HasAdded cs b) where
       (answer : Result V OverlayError)
       → AnswersQuery limit most_rounds (held_by b) new answer
       → IfOk answer (λ v. vectors v ≡ map (vector_of fill new.edges) new.edges)
-      → MatchResult answer (λ v. AreEdges cs fill (vectors v)) (λ e. MayRefusePaths cs e)
-  edges_answered limit vectors fill new (Ok v) query listed =
-      record { content = b.edges; edges = new.edges; holds = h.holds; arranged = query.arranged; listed = listed }
+      → MatchResult answer (λ v. AreEdgesOfPaths fill cs (vectors v)) (λ e. MayRefusePaths cs e)
+  edges_answered limit vectors fill new (Ok v) query listed = edges_of_paths {E = OverlayError} (Ok v) vectors fill cs
+      b.edges new.edges h.holds query.arranged listed
   edges_answered limit vectors fill new (Err e) query listed =
       query_refused limit cs (held_by b) new (Err e) h.holds h.made.ready query
 
@@ -58,23 +56,11 @@ module _ (cs : List GivenPath) (query : OverlayQuery) (b : Builder ℕ) (h : IsA
       AnswersQuery limit most_rounds (held_by b) new answer →
       IfOk answer (λ v. IsHierarchy asked_of new.edges (shapes v) (links v)) →
       MatchResult answer (λ v. IsHierarchyOfPaths (asked_by query) cs (shapes v) (links v)) (λ e. MayRefusePaths cs e)
-  hierarchy_answered limit shapes links new (Ok v) answers result = record {
-    content = b.edges;
-    edges = new.edges;
-    holds = h.holds;
-    arranged = answers.arranged;
-    is_hierarchy = subst (λ q. IsHierarchy q new.edges (shapes v) (links v)) h.asked result;
-  }
+  hierarchy_answered limit shapes links new (Ok v) answers result =
+      hierarchy_of_paths {E = OverlayError} (Ok v) shapes links (asked_by query) cs b.edges new.edges h.holds
+      answers.arranged (subst (λ q. IsHierarchy q new.edges (shapes v) (links v)) h.asked result)
   hierarchy_answered limit shapes links new (Err e) answers result =
       query_refused limit cs (held_by b) new (Err e) h.holds h.ready answers
-
--- where the contours can't be added, there is no answer
-pub adding_refused : (cs : List GivenPath) (e : OverlayError) → MayRefuseBuilder (added_paths false cs) e
-    → MayRefusePaths cs e
-adding_refused cs Memory may = tt
-adding_refused cs NotSettled may = absurd may
-adding_refused cs TooManyEdges may = inl may
-adding_refused cs Failed may = may
 
 -- the text answers what was read, where the reader tells it
 pub answers_read : (given : Option (List ℕ)) (bytes text written : List ℕ) (fs : GivenFigures) (query : Query)

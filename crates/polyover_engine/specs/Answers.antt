@@ -1,7 +1,7 @@
 -- What the program answers: the edges of the arrangement, the shapes of an overlay, how the subject and the clip lie to
 -- each other, what a clip leaves of open paths, what these or a grid slice the subject into, or where points lie; and
 -- the text of it.
-use Rattle.std.specs.Prelude.{◌≡◌, ◌⊎◌, ℕ, Bool, false, List, [], ◌∷◌, ◌++◌, map, All}
+use Rattle.std.specs.Prelude.{◌≡◌, ◌⊎◌, ℕ, Bool, List, [], ◌∷◌, ◌++◌, All}
 use Rattle.std.specs.Int.{w128}
 use Rattle.std.specs.List.{flat_map}
 use Rattle.overlay_geom.specs.Numbers.{greatest_of_64_bits}
@@ -11,18 +11,12 @@ use Rattle.overlay_geom.specs.declared.error.OverlayError.TheVariants.{Memory}
 use Rattle.overlay_relate.specs.Answers.{AnswersWhere, AnswersWhether}
 use Rattle.overlay_relate.specs.Locations.{shapes_edges, is_in_shapes, IsLocatedAmong}
 use Rattle.overlay_relate.specs.declared.location.PointLocation.{PointLocation}
-use Rattle.overlay_geom.specs.Edges.{CountedEdge}
 use Rattle.overlay_geom.specs.Plane.{Point}
-use Rattle.overlay_arrange.specs.declared.fill_rule.FillRule.{FillRule}
-use Rattle.overlay_arrange.specs.Arranged.{IsArranged, most_rounds}
-use Rattle.overlay_arrange.specs.Vectors.{Vector, vector_of}
-use Rattle.i_overlay.specs.OneShot.{IsResultOfPaths, MayRefusePaths}
-use Rattle.overlay_extract.specs.PlacedResults.{IsHierarchy}
-use Rattle.overlay_extract.specs.Results.{Asked}
+use Rattle.overlay_arrange.specs.Vectors.{Vector}
+use Rattle.i_overlay.specs.OneShot.{AreEdgesOfPaths, IsHierarchyOfPaths, IsResultOfPaths, MayRefusePaths}
+use Rattle.i_overlay.specs.Relations.{MayRefuseRelations}
 use Rattle.overlay_plane.specs.Islands.{ChildLink}
 use Rattle.polyover_engine.specs.Builders.{asked_by}
-use Rattle.overlay_builder.specs.GivenPaths.{GivenPath, added_paths}
-use Rattle.overlay_builder.specs.PathLists.{HoldsPaths}
 use Rattle.polyover_text.specs.declared.query.Query.{Query}
 use Rattle.polyover_text.specs.declared.query.Query.TheVariants.{Edges, Overlay, Hierarchy, Relate, ClipLines}
 use Rattle.polyover_text.specs.declared.query.Query.TheVariants.{Slice, Tiles, Contains, Locate}
@@ -38,29 +32,8 @@ use Rattle.overlay_tiles.specs.Grids.{FitsGrid}
 use Rattle.overlay_tiles.specs.Spans.{points_of_paths}
 use Rattle.overlay_tiles.specs.Tiles.{AreTiles, MayRefuseTiles}
 use Rattle.polyover_engine.specs.Clips.{clip_rule_of, shape_and_lines}
-use Rattle.polyover_engine.specs.Relations.{AreRelations, MayRefuseRelations}
+use Rattle.polyover_engine.specs.Relations.{AreRelations, exchanged}
 use Rattle.polyover_engine.specs.Subjects.{subject_of, IsFirstUnresolved}
-
--- ---- edges
-
--- the edges in order of some arrangement of those that the contours give, with the sides that are filled
-pub record AreEdges (cs : List GivenPath) (fill : FillRule) (vs : List Vector) : Type 0 where
-  pub content : List CountedEdge
-  pub edges : List CountedEdge
-  pub holds : HoldsPaths (added_paths false cs) content
-  pub arranged : IsArranged most_rounds content edges
-  pub listed : vs ≡ map (vector_of fill edges) edges
-
--- ---- shapes and their links
-
--- the shapes and links over some arrangement of the edges that the contours give
-pub record IsHierarchyOfPaths (q : Asked) (cs : List GivenPath) (shapes : List (List (List Point)))
-    (links : List ChildLink) : Type 0 where
-  pub content : List CountedEdge
-  pub edges : List CountedEdge
-  pub holds : HoldsPaths (added_paths false cs) content
-  pub arranged : IsArranged most_rounds content edges
-  pub is_hierarchy : IsHierarchy q edges shapes links
 
 -- a line for each link
 abbrev pub link_lines : List ChildLink → List ℕ
@@ -84,7 +57,7 @@ pub record TellWhere (fs : GivenFigures) (answers : List PointLocation) : Type 0
 
 -- the text answers the query on the figures
 abbrev pub Answers : GivenFigures → Query → List ℕ → Type 0
-Answers fs (Edges fill) text = (vs : List Vector) × AreEdges (paths_of fs) fill vs × (text ≡ edge_lines vs)
+Answers fs (Edges fill) text = (vs : List Vector) × AreEdgesOfPaths fill (paths_of fs) vs × (text ≡ edge_lines vs)
 Answers fs (Overlay query) text = (shapes : List (List (List Point))) × IsResultOfPaths (asked_by query)
     (paths_of fs) shapes × (text ≡ lines_of_shapes shapes)
 Answers fs (Hierarchy query) text = (shapes : List (List (List Point))) × (links : List ChildLink)
@@ -108,7 +81,7 @@ abbrev pub MayRefuseQuery : GivenFigures → Query → OverlayError → Type 0
 MayRefuseQuery fs (Edges fill) e = MayRefusePaths (paths_of fs) e
 MayRefuseQuery fs (Overlay query) e = MayRefusePaths (paths_of fs) e
 MayRefuseQuery fs (Hierarchy query) e = MayRefusePaths (paths_of fs) e
-MayRefuseQuery fs (Relate fill) e = MayRefuseRelations (paths_of fs) e
+MayRefuseQuery fs (Relate fill) e = MayRefuseRelations (paths_of fs) (exchanged (paths_of fs)) e
 MayRefuseQuery fs (ClipLines query) e = MayRefuseStrings (shape_and_lines fs) e
 MayRefuseQuery fs (Slice fill) e = MayRefuseStrings (shape_and_lines fs) e
 MayRefuseQuery fs (Tiles query) e = MayRefuseTiles query.width query.height (subject_of fs.contours) e

@@ -1,19 +1,10 @@
 -- How the subject and the clip of an input lie to each other.
-use Rattle.std.specs.Prelude.{◌≡◌, ◌↔◌, ◌⊎◌, false, List, map, IsTrue}
-use Rattle.overlay_geom.specs.Edges.{CountedEdge}
-use Rattle.overlay_geom.specs.declared.error.OverlayError.{OverlayError}
-use Rattle.overlay_plane.specs.Predicates.{Intersects, InteriorsIntersect, Touches, PointIntersects, IsWithin}
-use Rattle.overlay_plane.specs.Predicates.{IsDisjoint, IsFillable}
-use Rattle.overlay_arrange.specs.Arranged.{IsArranged, most_rounds}
-use Rattle.overlay_arrange.specs.Rules.{is_filled}
+use Rattle.std.specs.Prelude.{List, map}
 use Rattle.overlay_arrange.specs.declared.fill_rule.FillRule.{FillRule}
 use Rattle.overlay_arrange.specs.declared.options.ShapeType.{ShapeType}
 use Rattle.overlay_arrange.specs.declared.options.ShapeType.TheVariants.{Subject, Clip}
-use Rattle.overlay_builder.specs.GivenPaths.{GivenPath, added_paths}
-use Rattle.overlay_builder.specs.PathLists.{HoldsPaths}
-use Rattle.overlay_relate.specs.PredicateBuilder.{PredicateBuilder}
-use Rattle.i_overlay.specs.OneShot.{MayRefusePaths}
-use Rattle.i_overlay.specs.Relations.{TellsOfPaths}
+use Rattle.overlay_builder.specs.GivenPaths.{GivenPath}
+use Rattle.i_overlay.specs.Relations.{AreRelationsOfPaths}
 use Rattle.polyover_text.specs.declared.relations.Relations.{Relations}
 
 -- what a shape is taken for, where the first one is taken for the subject, and the other one for the clip
@@ -33,29 +24,14 @@ taken_paths subject cs = map (taken_path subject) cs
 abbrev pub exchanged : List GivenPath → List GivenPath
 exchanged cs = taken_paths Clip cs
 
--- the answers tell whether the relations hold of some arrangement of the edges that the contours give, under the fill
--- rule, whose edges are planar, with balanced counts; the last one, whether the subject lies within the clip in some
--- arrangement of the contours exchanged
-pub record AreRelations (cs : List GivenPath) (fill : FillRule) (r : Relations) : Type 0 where
-  pub content : List CountedEdge
-  pub edges : List CountedEdge
-  pub holds : HoldsPaths (added_paths false cs) content
-  pub arranged : IsArranged most_rounds content edges
-  pub fillable : IsFillable (is_filled fill) edges
-  pub intersects : IsTrue r.intersects ↔ Intersects (is_filled fill) edges
-  pub interiors_intersect : IsTrue r.interiors_intersect ↔ InteriorsIntersect (is_filled fill) edges
-  pub touches : IsTrue r.touches ↔ Touches (is_filled fill) edges
-  pub point_intersects : IsTrue r.point_intersects ↔ PointIntersects (is_filled fill) edges
-  pub within : IsTrue r.within ↔ IsWithin (is_filled fill) edges
-  pub disjoint : IsTrue r.disjoint ↔ IsDisjoint (is_filled fill) edges
-  pub covers : TellsOfPaths IsWithin fill (exchanged cs) r.covers
-
--- they may be refused so: as a query on the contours is, or one on the contours exchanged
-abbrev pub MayRefuseRelations : List GivenPath → OverlayError → Type 0
-MayRefuseRelations cs e = MayRefusePaths cs e ⊎ MayRefusePaths (exchanged cs) e
-
--- a builder for predicates under the fill rule, which has not failed, holds just the contours
-pub record HasAddedUnder (fill : FillRule) (cs : List GivenPath) (b : PredicateBuilder) : Type 0 where
-  pub holds : HoldsPaths (added_paths false cs) b.edges
-  pub ready : b.failed ≡ false
-  pub rule : b.fill_rule ≡ fill
+-- the answers tell whether the relations hold of the contours under the fill rule, the last one of them exchanged
+abbrev pub AreRelations : List GivenPath → FillRule → Relations → Type 0
+AreRelations cs fill r = AreRelationsOfPaths fill cs (exchanged cs) (record {
+  intersects = r.intersects;
+  interiors_intersect = r.interiors_intersect;
+  touches = r.touches;
+  point_intersects = r.point_intersects;
+  within = r.within;
+  disjoint = r.disjoint;
+  covers = r.covers;
+})

@@ -3,7 +3,8 @@
 ghost use Rattle.std.specs.Prelude.{◌≡◌, MatchResult, All, false};
 ghost use Rattle.overlay_geom.specs.Points.{AllInRange};
 ghost use Rattle.overlay_geom.specs.Numbers.{greatest_of_64_bits};
-ghost use Rattle.polyover_engine.specs.Relations.{HasAddedUnder, taken, taken_paths};
+ghost use Rattle.i_overlay.specs.Relations.{HasAddedUnder};
+ghost use Rattle.polyover_engine.specs.Relations.{taken, taken_paths};
 ghost use Rattle.polyover_text.specs.Grammar.{contour_paths};
 ghost use Rattle.polyover_text.specs.Statements.{contours_at};
 ghost use Rattle.overlay_builder.specs.PathLists.{MayRefuseBuilder};

@@ -5,9 +5,9 @@ ghost use Rattle.overlay_geom.specs.Points.{AllInRange};
 ghost use Rattle.overlay_geom.specs.Numbers.{greatest_of_64_bits};
 ghost use Rattle.overlay_plane.specs.Predicates.{IsWithin};
 ghost use Rattle.i_overlay.specs.OneShot.{MayRefusePaths};
-ghost use Rattle.i_overlay.specs.Relations.{TellsOfPaths};
+ghost use Rattle.i_overlay.specs.Relations.{TellsOfPaths, MayRefuseRelations};
 ghost use Rattle.polyover_engine.specs.Answers.{Answers, EndsUnanswered};
-ghost use Rattle.polyover_engine.specs.Relations.{AreRelations, MayRefuseRelations, exchanged};
+ghost use Rattle.polyover_engine.specs.Relations.{AreRelations, exchanged};
 ghost use Rattle.polyover_text.specs.Grammar.{contour_paths};
 ghost use Rattle.polyover_text.specs.Points.{FiguresInRange};
 ghost use Rattle.polyover_text.specs.Statements.{contours_at, figures_at};
@@ -49,7 +49,8 @@ fn relations<A: Allocator + Copy>(
     requires { All (λ c. AllInRange greatest_of_64_bits c.points) (contour_paths (contours_at contours.now)) }
     ensures { MatchResult result
         (λ r. AreRelations (contour_paths (contours_at contours.now)) fill_rule r)
-        (λ e. MayRefuseRelations (contour_paths (contours_at contours.now)) e) }
+        (λ e. MayRefuseRelations (contour_paths (contours_at contours.now))
+        (exchanged (contour_paths (contours_at contours.now))) e) }
 {
     let mut overlay = with_subject(alloc, contours, ShapeType::Subject, fill_rule)?;
     let intersects = overlay.intersects()?;

@@ -5,7 +5,8 @@ use Rattle.overlay_extract.specs.ChildLinks.{plain_link}
 use Rattle.overlay_geom.specs.Flat.{shapes_in}
 use Rattle.polyover_text.specs.Grammar.{contour_paths}
 use Rattle.polyover_text.specs.Statements.{contours_at}
-use Rattle.polyover_engine.proofs.Queries.{hierarchy_answered, adding_refused}
+use Rattle.i_overlay.proofs.OneShots.{adding_refused}
+use Rattle.polyover_engine.proofs.Queries.{hierarchy_answered}
 use Rattle.polyover_engine.proofs.hierarchy.overlay_hierarchy.Goals as goal
 
 pub returns : goal.returns

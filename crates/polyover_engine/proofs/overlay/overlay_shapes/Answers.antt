@@ -3,7 +3,8 @@ use Rattle.std.proofs.lemmas.Result.{err_from_is_err_and}
 use Rattle.overlay_geom.specs.Paths.{plain_shapes}
 use Rattle.polyover_text.specs.Grammar.{contour_paths}
 use Rattle.polyover_text.specs.Statements.{contours_at}
-use Rattle.polyover_engine.proofs.Queries.{shapes_answered, adding_refused}
+use Rattle.i_overlay.proofs.OneShots.{adding_refused}
+use Rattle.polyover_engine.proofs.Queries.{shapes_answered}
 use Rattle.polyover_engine.proofs.overlay.overlay_shapes.Goals as goal
 
 pub returns : goal.returns

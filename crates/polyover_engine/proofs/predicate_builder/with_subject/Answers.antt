@@ -10,9 +10,10 @@ use Rattle.overlay_builder.specs.GivenPaths.{ContourWeighsTooMuch}
 use Rattle.polyover_text.specs.Grammar.{contour_paths}
 use Rattle.polyover_text.specs.Points.{points_at}
 use Rattle.polyover_text.specs.Statements.{path_at, contour_at, contours_at}
-use Rattle.polyover_engine.specs.Relations.{HasAddedUnder, taken_path, taken_paths}
+use Rattle.i_overlay.specs.Relations.{HasAddedUnder}
+use Rattle.polyover_engine.specs.Relations.{taken_path, taken_paths}
 use Rattle.polyover_engine.proofs.Builders.{no_path_held, contour_here, one_more_held, contour_refused}
-use Rattle.polyover_engine.proofs.AskedAgain.{taken_here}
+use Rattle.polyover_engine.proofs.TakenContours.{taken_here}
 use Rattle.polyover_engine.proofs.predicate_builder.with_subject.Goals as goal
 
 pub loop-given-init : goal.loop-given-init

@@ -1,7 +1,8 @@
 use Rattle.std.proofs.Common.{take}
 use Rattle.polyover_text.specs.Grammar.{contour_paths}
 use Rattle.polyover_text.specs.Statements.{contours_at}
-use Rattle.polyover_engine.specs.Relations.{HasAddedUnder, taken_paths}
+use Rattle.i_overlay.specs.Relations.{HasAddedUnder}
+use Rattle.polyover_engine.specs.Relations.{taken_paths}
 use Rattle.polyover_engine.proofs.predicate_builder.with_subject.Given as goal
 
 -- the contours so far are added

@@ -12,14 +12,13 @@ use Rattle.overlay_arrange.specs.Rules.{is_filled}
 use Rattle.overlay_arrange.specs.declared.fill_rule.FillRule.{FillRule}
 use Rattle.overlay_builder.specs.GivenPaths.{GivenPath, added_paths}
 use Rattle.overlay_builder.specs.Held.{AnswersQuery}
-use Rattle.overlay_builder.specs.PathLists.{HoldsPaths, MayRefuseBuilder}
+use Rattle.overlay_builder.specs.PathLists.{HoldsPaths}
 use Rattle.overlay_relate.specs.PredicateBuilder.{PredicateBuilder, empty_builder, held_by}
 use Rattle.overlay_builder.specs.declared.solver.Solver.{Solver}
 use Rattle.i_overlay.proofs.OneShots.{query_refused}
 use Rattle.overlay_relate.specs.PredicateQueries.{TellsRelation}
 use Rattle.i_overlay.specs.OneShot.{MayRefusePaths}
-use Rattle.i_overlay.specs.Relations.{TellsOfPaths}
-use Rattle.polyover_c.specs.Relations.{MayRefuseRelations, HasAddedUnder}
+use Rattle.i_overlay.specs.Relations.{TellsOfPaths, MayRefuseRelations, HasAddedUnder}
 
 -- a builder that was asked: it holds an arrangement of what the paths give, and can be asked again
 pub record WasAsked (fill : FillRule) (paths : List GivenPath) (content edges : List CountedEdge)
@@ -142,11 +141,3 @@ told_or_refused (Ok b) relation limit fill paths old new h query fillable told =
 }
 told_or_refused (Err e) relation limit fill paths old new h query fillable told =
     query_refused limit paths (held_by old) (held_by new) (Err e) h.holds h.ready query
-
--- where the paths can't be added, there is no answer
-pub adding_refused : (paths : List GivenPath) (e : OverlayError) → MayRefuseBuilder (added_paths false paths) e
-    → MayRefusePaths paths e
-adding_refused paths Memory may = tt
-adding_refused paths NotSettled may = absurd may
-adding_refused paths TooManyEdges may = inl may
-adding_refused paths Failed may = may
