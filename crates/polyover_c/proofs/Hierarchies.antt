@@ -1,36 +1,22 @@
 -- What the answer of an overlay says of the arrays that tells of the links between its shapes.
 use Rattle.std.proofs.Common.{◌≡◌, ◌<◌, ℕ, ℤ, false, List, [], ◌∷◌, map, refl, sym, ap, ap₂, subst, ◌∙◌}
 use Rattle.std.specs.Int.{Width}
-use Rattle.std.specs.Prelude.{Result, Ok, Err, IfOk, OnOk}
-use Rattle.overlay_arrange.specs.Arranged.{IsArranged, most_rounds}
 use Rattle.overlay_arrange.specs.declared.fill_rule.FillRule.{FillRule}
 use Rattle.overlay_arrange.specs.declared.options.IntOverlayOptions.{IntOverlayOptions}
 use Rattle.overlay_arrange.specs.declared.overlay_rule.OverlayRule.{OverlayRule}
-use Rattle.overlay_builder.specs.GivenPaths.{GivenPath, added_paths, subject_and_clip}
-use Rattle.overlay_builder.specs.PathLists.{HoldsPaths}
+use Rattle.overlay_builder.specs.GivenPaths.{subject_and_clip}
 use Rattle.overlay_extract.specs.ChildLinks.{plain_link}
-use Rattle.overlay_extract.specs.PlacedResults.{IsHierarchy}
-use Rattle.overlay_extract.specs.Results.{Asked, asked}
+use Rattle.overlay_extract.specs.Results.{asked}
 use Rattle.overlay_extract.specs.declared.child_link.ChildLink.{ChildLink as LinkTaken}
-use Rattle.overlay_geom.specs.Edges.{CountedEdge}
 use Rattle.overlay_geom.specs.Plane.{Point}
 use Rattle.overlay_plane.specs.Islands.{ChildLink}
+use Rattle.i_overlay.specs.OneShot.{IsHierarchyOfPaths}
 use Rattle.polyover_c.specs.Asked.{rule_of, fill_of, options_of, AreChoices}
 use Rattle.polyover_c.specs.Given.{Contours, paths_of, paths_given, AreGiven}
-use Rattle.polyover_c.specs.Hierarchies.{IsHierarchyOfPaths, IsLinkedOverlay}
+use Rattle.polyover_c.specs.Hierarchies.{IsLinkedOverlay}
 use Rattle.polyover_c.specs.Linked.{link_of, link_at, LinkedFlat, AreFlatLinked}
 use Rattle.polyover_c.specs.Written.{AreFlattened}
 use Rattle.polyover_c.specs.declared.numbers.OptionNumbers.{OptionNumbers}
-
--- a hierarchy over the edges that a builder holds is one of the paths that it was given
-pub hierarchy_of_paths : {V E : Type 0} (r : Result V E) (shapes : V → List (List (List Point)))
-    (links : V → List ChildLink) (q : Asked) (paths : List GivenPath) (content edges : List CountedEdge) →
-    HoldsPaths (added_paths false paths) content → OnOk r (IsArranged most_rounds content edges) →
-    IfOk r (λ v. IsHierarchy q edges (shapes v) (links v)) →
-    IfOk r (λ v. IsHierarchyOfPaths q paths (shapes v) (links v))
-hierarchy_of_paths (Ok v) shapes links q paths content edges holds arranged is =
-    record { content = content; edges = edges; holds = holds; arranged = arranged; is_hierarchy = is }
-hierarchy_of_paths (Err e) shapes links q paths content edges holds arranged is = tt
 
 -- the links as C has them are those that are answered
 links_at : (links : List LinkTaken) → map link_at (map link_of links) ≡ map plain_link links

@@ -1,4 +1,3 @@
-pub mod AskedAgain
 pub mod Clipped
 pub mod Endings
 pub mod Faults

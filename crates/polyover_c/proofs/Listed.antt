@@ -3,25 +3,21 @@ use Rattle.std.proofs.Common.{◌≡◌, ◌<◌, ℕ, ◌+◌, ℤ, List, [], �
 use Rattle.std.proofs.Common.{ap, ap₂, subst, ◌∙◌}
 use Rattle.std.specs.List.{flat_map}
 use Rattle.std.proofs.lemmas.List.{map-append}
-use Rattle.std.specs.Prelude.{false, Result, Ok, Err, IfOk, OnOk}
-use Rattle.overlay_arrange.specs.Arranged.{IsArranged, most_rounds}
-use Rattle.overlay_arrange.specs.Vectors.{Vector, plain_vector, vector_of}
+use Rattle.overlay_arrange.specs.Vectors.{Vector, plain_vector}
 use Rattle.overlay_arrange.specs.declared.vector.DataVectorEdge.{DataVectorEdge}
 use Rattle.overlay_arrange.specs.declared.fill_rule.FillRule.{FillRule}
-use Rattle.overlay_builder.specs.GivenPaths.{GivenPath, added_paths, subject_and_clip}
-use Rattle.overlay_builder.specs.PathLists.{HoldsPaths}
-use Rattle.overlay_geom.specs.Edges.{CountedEdge}
+use Rattle.overlay_builder.specs.GivenPaths.{subject_and_clip}
 use Rattle.overlay_geom.proofs.JoinedLists.{joined_push}
 use Rattle.overlay_geom.proofs.Mapped.{mapped_more}
 use Rattle.overlay_geom.specs.Plane.{Point}
 use Rattle.overlay_geom.specs.declared.error.OverlayError.{OverlayError}
-use Rattle.i_overlay.specs.OneShot.{MayRefusePaths}
+use Rattle.i_overlay.specs.OneShot.{AreEdgesOfPaths, MayRefusePaths}
 use Rattle.polyover_arrays.specs.declared.fault.Fault.{Fault}
 use Rattle.polyover_c.proofs.Filled.{contours_unread, without_memory, unanswered}
 use Rattle.polyover_c.specs.Asked.{fill_of}
 use Rattle.polyover_c.specs.Given.{Contours, paths_of, paths_given, AreGiven, IsOneFaulty}
 use Rattle.polyover_c.specs.Listed.{EdgeArrays, EdgeRoom, AreListed, AreEdgesIn, AreEdgesPut, IsListingRefused}
-use Rattle.polyover_c.specs.Listed.{AreEdgesOfPaths, ListingEnds, ends_of_vector}
+use Rattle.polyover_c.specs.Listed.{ListingEnds, ends_of_vector}
 use Rattle.polyover_c.specs.Statuses.{status_of_fault, status_of_error}
 use Rattle.polyover_c.specs.declared.status.Status.{Status}
 use Rattle.polyover_c.specs.declared.status.Status.TheVariants.{Memory}
@@ -68,18 +64,6 @@ module _ {I : Type 0} (whole : I → ℤ) (limit fill : ℕ) (subject clip : Con
         (subst (λ paths. AreEdgesOfPaths f paths vectors) (ap₂ subject_and_clip same_p same_q) are);
     listed = listed;
   }
-
--- ---- the edges of a query
-
--- those of a query on a content that the paths give are those of the paths
-pub edges_of_paths : {V E : Type 0} (r : Result V E) (vectors : V → List Vector) (fill : FillRule)
-    (paths : List GivenPath) (content edges : List CountedEdge) → HoldsPaths (added_paths false paths) content
-    → OnOk r (IsArranged most_rounds content edges)
-    → IfOk r (λ v. vectors v ≡ map (vector_of fill edges) edges)
-    → IfOk r (λ v. AreEdgesOfPaths fill paths (vectors v))
-edges_of_paths (Ok v) vectors fill paths content edges holds arranged listed =
-    record { content = content; edges = edges; holds = holds; arranged = arranged; listed = listed }
-edges_of_paths (Err e) vectors fill paths content edges holds arranged listed = tt
 
 -- ---- one edge more
 

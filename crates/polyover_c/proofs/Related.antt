@@ -5,7 +5,7 @@ use Rattle.overlay_builder.specs.GivenPaths.{GivenPath, subject_and_clip}
 use Rattle.overlay_geom.specs.Plane.{Point}
 use Rattle.overlay_geom.specs.declared.error.OverlayError.{OverlayError}
 use Rattle.overlay_geom.specs.declared.error.OverlayError.TheVariants as error
-use Rattle.polyover_c.specs.Relations.{Relations, AreRelationsOfPaths, MayRefuseRelations}
+use Rattle.i_overlay.specs.Relations.{Relations, AreRelationsOfPaths, MayRefuseRelations}
 use Rattle.polyover_arrays.specs.declared.fault.Fault.{Fault}
 use Rattle.polyover_c.proofs.Filled.{contours_unread, without_memory, unanswered}
 use Rattle.polyover_c.specs.Asked.{fill_of}

@@ -1,29 +1,16 @@
 -- How an overlay of arrays ends that tells which shape lies in which hole.
-use Rattle.std.specs.Prelude.{ℕ, ℤ, false, List}
+use Rattle.std.specs.Prelude.{ℕ, ℤ, List}
 use Rattle.std.specs.Int.{Width}
-use Rattle.overlay_arrange.specs.Arranged.{IsArranged, most_rounds}
-use Rattle.overlay_builder.specs.GivenPaths.{GivenPath, added_paths}
-use Rattle.overlay_builder.specs.PathLists.{HoldsPaths}
-use Rattle.overlay_extract.specs.PlacedResults.{IsHierarchy}
-use Rattle.overlay_extract.specs.Results.{Asked, asked}
-use Rattle.overlay_geom.specs.Edges.{CountedEdge}
+use Rattle.overlay_extract.specs.Results.{asked}
 use Rattle.overlay_geom.specs.Plane.{Point}
 use Rattle.overlay_plane.specs.Islands.{ChildLink}
+use Rattle.i_overlay.specs.OneShot.{IsHierarchyOfPaths}
 use Rattle.polyover_c.specs.Asked.{rule_of, fill_of, options_of, AreKnown}
 use Rattle.polyover_c.specs.Given.{Contours, paths_given, AreGiven}
 use Rattle.polyover_c.specs.Linked.{LinkedRoom, EndsWithLinked}
 use Rattle.polyover_c.specs.Overlays.{IsOverlayRefused}
 use Rattle.polyover_c.specs.declared.numbers.OptionNumbers.{OptionNumbers}
 use Rattle.polyover_c.specs.declared.status.Status.{Status}
-
--- the shapes and links over some arrangement of the edges that the paths give
-pub record IsHierarchyOfPaths (q : Asked) (paths : List GivenPath) (shapes : List (List (List Point)))
-    (links : List ChildLink) : Type 0 where
-  pub content : List CountedEdge
-  pub edges : List CountedEdge
-  pub holds : HoldsPaths (added_paths false paths) content
-  pub arranged : IsArranged most_rounds content edges
-  pub is_hierarchy : IsHierarchy q edges shapes links
 
 -- all that is given stands for something, and the shapes and links are those that the numbers ask for, of the contours
 -- of both

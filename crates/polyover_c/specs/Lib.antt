@@ -10,7 +10,6 @@ pub mod Located
 pub mod Overlays
 pub mod Put
 pub mod Related
-pub mod Relations
 pub mod Simplified
 pub mod Sliced
 pub mod Statuses

@@ -1,13 +1,8 @@
 -- The edges of an arrangement in arrays of a caller.
-use Rattle.std.specs.Prelude.{◌≡◌, ◌<◌, ◌≤◌, ◌⊎◌, ℕ, ℤ, false, List, [], ◌∷◌, length, map}
+use Rattle.std.specs.Prelude.{◌≡◌, ◌<◌, ◌≤◌, ◌⊎◌, ℕ, ℤ, List, [], ◌∷◌, length, map}
 use Rattle.std.specs.List.{flat_map}
-use Rattle.overlay_geom.specs.Edges.{CountedEdge}
-use Rattle.overlay_arrange.specs.Arranged.{IsArranged, most_rounds}
-use Rattle.overlay_arrange.specs.Vectors.{Vector, vector_of}
-use Rattle.overlay_arrange.specs.declared.fill_rule.FillRule.{FillRule}
-use Rattle.overlay_builder.specs.GivenPaths.{GivenPath, added_paths}
-use Rattle.overlay_builder.specs.PathLists.{HoldsPaths}
-use Rattle.i_overlay.specs.OneShot.{MayRefusePaths}
+use Rattle.overlay_arrange.specs.Vectors.{Vector}
+use Rattle.i_overlay.specs.OneShot.{AreEdgesOfPaths, MayRefusePaths}
 use Rattle.polyover_arrays.specs.Arrays.{written_over}
 use Rattle.polyover_c.specs.Asked.{fill_of}
 use Rattle.polyover_c.specs.Filled.{IsQueryRefused}
@@ -16,14 +11,6 @@ use Rattle.polyover_c.specs.declared.status.Status.{Status}
 use Rattle.polyover_c.specs.declared.status.Status.TheVariants.{Done, Memory, BadEnds, OutOfRange}
 use Rattle.polyover_c.specs.declared.status.Status.TheVariants.{NotResolved, BadRule, BadFill, BadOption}
 use Rattle.polyover_c.specs.declared.status.Status.TheVariants.{NotSettled, TooManyEdges, TooSmall}
-
--- the edges in order of some arrangement of those that the paths give, with the sides that are filled
-pub record AreEdgesOfPaths (fill : FillRule) (paths : List GivenPath) (vectors : List Vector) : Type 0 where
-  pub content : List CountedEdge
-  pub edges : List CountedEdge
-  pub holds : HoldsPaths (added_paths false paths) content
-  pub arranged : IsArranged most_rounds content edges
-  pub listed : vectors ≡ map (vector_of fill edges) edges
 
 -- edges in arrays: of each the coordinates of both ends, and its fill bits
 pub record EdgeArrays (I : Type 0) : Type 0 where

@@ -1,7 +1,7 @@
 -- How a subject and a clip in arrays lie to each other, as bits.
 use Rattle.std.specs.Prelude.{◌≡◌, ◌<◌, ◌+◌, ◌⊎◌, ℕ, ℤ}
 use Rattle.overlay_arrange.specs.Rules.{bit}
-use Rattle.polyover_c.specs.Relations.{Relations, AreRelationsOfPaths, MayRefuseRelations}
+use Rattle.i_overlay.specs.Relations.{Relations, AreRelationsOfPaths, MayRefuseRelations}
 use Rattle.polyover_c.specs.Asked.{fill_of}
 use Rattle.polyover_c.specs.Filled.{IsQueryRefused}
 use Rattle.polyover_c.specs.Given.{Contours, paths_given, AreGiven}

@@ -5,8 +5,8 @@ ghost use Rattle.overlay_arrange.specs.Vectors.{plain_vector};
 ghost use Rattle.overlay_builder.specs.GivenPaths.{subject_and_clip};
 ghost use Rattle.overlay_geom.specs.Flat.{paths_in};
 ghost use Rattle.overlay_geom.specs.Points.{AllInRange};
-ghost use Rattle.i_overlay.specs.OneShot.{MayRefusePaths};
-ghost use Rattle.polyover_c.specs.Listed.{AreEdgesIn, AreEdgesOfPaths, AreEdgesPut, AreListed};
+ghost use Rattle.i_overlay.specs.OneShot.{AreEdgesOfPaths, MayRefusePaths};
+ghost use Rattle.polyover_c.specs.Listed.{AreEdgesIn, AreEdgesPut, AreListed};
 ghost use Rattle.polyover_c.specs.Listed.{IsListingRefused, ListingEnds};
 
 use crate::given::{Contours, test_both};

@@ -7,8 +7,8 @@ ghost use Rattle.overlay_extract.specs.Results.{asked};
 ghost use Rattle.overlay_geom.specs.Flat.{paths_in, shapes_in};
 ghost use Rattle.overlay_geom.specs.FlatShapes.{AreShapesPacked};
 ghost use Rattle.overlay_geom.specs.Points.{AllInRange};
-ghost use Rattle.i_overlay.specs.OneShot.{MayRefusePaths};
-ghost use Rattle.polyover_c.specs.Hierarchies.{IsHierarchyOfPaths, IsLinkedOverlay, HierarchyEnds};
+ghost use Rattle.i_overlay.specs.OneShot.{IsHierarchyOfPaths, MayRefusePaths};
+ghost use Rattle.polyover_c.specs.Hierarchies.{IsLinkedOverlay, HierarchyEnds};
 ghost use Rattle.polyover_c.specs.Linked.{AreFlatLinked};
 ghost use Rattle.polyover_c.specs.Overlays.{IsOverlayRefused};
 

@@ -7,8 +7,7 @@ ghost use Rattle.overlay_geom.specs.Flat.{paths_in};
 ghost use Rattle.overlay_geom.specs.Points.{AllInRange};
 ghost use Rattle.overlay_plane.specs.Predicates.{IsWithin};
 ghost use Rattle.i_overlay.specs.OneShot.{MayRefusePaths};
-ghost use Rattle.i_overlay.specs.Relations.{TellsOfPaths};
-ghost use Rattle.polyover_c.specs.Relations.{AreRelationsOfPaths, MayRefuseRelations};
+ghost use Rattle.i_overlay.specs.Relations.{TellsOfPaths, AreRelationsOfPaths, MayRefuseRelations};
 ghost use Rattle.polyover_c.specs.Related.{AreRelated, IsRelatingRefused, RelatingEnds, bits_of, relations_of};
 
 use crate::given::{Contours, test_both};

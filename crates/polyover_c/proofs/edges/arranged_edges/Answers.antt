@@ -4,8 +4,7 @@ use Rattle.overlay_arrange.specs.Vectors.{plain_vector}
 use Rattle.overlay_builder.specs.GivenPaths.{subject_and_clip}
 use Rattle.overlay_geom.specs.Flat.{paths_in}
 use Rattle.i_overlay.specs.Builder.{held_by}
-use Rattle.i_overlay.proofs.OneShots.{query_refused}
-use Rattle.polyover_c.proofs.Listed.{edges_of_paths}
+use Rattle.i_overlay.proofs.OneShots.{edges_of_paths, query_refused}
 use Rattle.polyover_c.proofs.edges.arranged_edges.Goals as goal
 
 pub returns-clause-edges : goal.returns-clause-edges

@@ -8,8 +8,7 @@ use Rattle.overlay_extract.specs.PlacedResults.{IsHierarchy}
 use Rattle.overlay_extract.specs.Results.{asked}
 use Rattle.overlay_geom.specs.Flat.{paths_in, shapes_in}
 use Rattle.i_overlay.specs.Builder.{held_by}
-use Rattle.i_overlay.proofs.OneShots.{query_refused}
-use Rattle.polyover_c.proofs.Hierarchies.{hierarchy_of_paths}
+use Rattle.i_overlay.proofs.OneShots.{hierarchy_of_paths, query_refused}
 use Rattle.polyover_c.proofs.hierarchy.hierarchy_shapes.Goals as goal
 
 pub returns-clause-result : goal.returns-clause-result

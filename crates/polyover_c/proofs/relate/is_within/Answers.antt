@@ -3,8 +3,8 @@ use Rattle.std.proofs.lemmas.Result.{err_from_is_err_and}
 use Rattle.overlay_builder.specs.GivenPaths.{subject_and_clip}
 use Rattle.overlay_geom.specs.Flat.{paths_in}
 use Rattle.overlay_plane.specs.Predicates.{IsWithin}
-use Rattle.polyover_c.proofs.AskedAgain.{made_under, told_or_refused}
-use Rattle.polyover_c.proofs.AskedAgain.{adding_refused}
+use Rattle.i_overlay.proofs.AskedAgain.{made_under, told_or_refused}
+use Rattle.i_overlay.proofs.OneShots.{adding_refused}
 use Rattle.polyover_c.proofs.relate.is_within.Goals as goal
 
 pub returns-in_err-overlay : goal.returns-in_err-overlay

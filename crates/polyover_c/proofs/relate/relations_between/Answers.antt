@@ -7,9 +7,8 @@ use Rattle.overlay_geom.specs.Flat.{paths_in}
 use Rattle.overlay_plane.specs.Predicates.{Intersects, InteriorsIntersect, Touches, PointIntersects, IsWithin}
 use Rattle.overlay_plane.specs.Predicates.{IsFillable}
 use Rattle.overlay_relate.specs.PredicateBuilder.{held_by}
-use Rattle.polyover_c.proofs.AskedAgain.{made_under, told_first, told_again, refused_again, refused_for_memory}
-use Rattle.i_overlay.proofs.OneShots.{query_refused}
-use Rattle.polyover_c.proofs.AskedAgain.{adding_refused}
+use Rattle.i_overlay.proofs.AskedAgain.{made_under, told_first, told_again, refused_again, refused_for_memory}
+use Rattle.i_overlay.proofs.OneShots.{adding_refused, query_refused}
 use Rattle.i_overlay.proofs.Relations.{opposite_tells}
 use Rattle.polyover_c.proofs.relate.relations_between.Goals as goal
 
