@@ -19,15 +19,16 @@ pub lines_clipped : {I : Type 0} (whole : I → ℤ) (limit fill : ℕ) (options
     AreFlatPaths (AreClips whole limit fill options shape lines) whole flat
 lines_clipped whole limit fill options shape lines f r p q paths flat known_fill known s l same_f same_r same_p
     same_q are flattened = record {
-  paths = paths;
-  answer = record {
-    known_fill = known_fill;
-    known = known;
-    shape_given = s;
-    lines_given = l;
-    clipped = subst (λ y. AreClippedOfPaths y (clip_rule_of options) (shape_and_lines whole shape lines) paths) same_f
-        (subst (λ y. AreClippedOfPaths f y (shape_and_lines whole shape lines) paths) same_r
-        (subst (λ ps. AreClippedOfPaths f r ps paths) (ap₂ shape_and_strings same_p same_q) are));
-  };
-  flattened = flattened;
-}
+      paths = paths;
+      answer = record {
+        known_fill = known_fill;
+        known = known;
+        shape_given = s;
+        lines_given = l;
+        clipped = subst (λ y. AreClippedOfPaths y (clip_rule_of options) (shape_and_lines whole shape lines) paths)
+            same_f
+            (subst (λ y. AreClippedOfPaths f y (shape_and_lines whole shape lines) paths) same_r
+            (subst (λ ps. AreClippedOfPaths f r ps paths) (ap₂ shape_and_strings same_p same_q) are));
+      };
+      flattened = flattened;
+    }

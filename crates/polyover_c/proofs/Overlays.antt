@@ -64,17 +64,17 @@ module _ {I U : Type 0} (whole : I → ℤ) (limit rule fill : ℕ) (options : O
       IsFlat (IsOverlay whole limit width natural rule fill options subject clip) whole flat
   overlay_answered width natural r f o p q shapes flat known_rule known_fill known s c same_r same_f same_o same_p
       same_q is flattened = record {
-    shapes = shapes;
-    answer = record {
-      known = (known_rule, (known_fill, known));
-      subject_given = s;
-      clip_given = c;
-      is_result = subst (λ paths. IsResultOfPaths
-          (asked width natural (fill_of fill) (rule_of rule) (options_of options)) paths shapes)
-          (ap₂ subject_and_clip same_p same_q)
-          (subst (λ a. IsResultOfPaths a (subject_and_clip p q) shapes)
-          (ap₂ (λ x y. asked width natural x y o) same_f same_r
-          ∙ ap (asked width natural (fill_of fill) (rule_of rule)) same_o) is);
-    };
-    flattened = flattened;
-  }
+        shapes = shapes;
+        answer = record {
+          known = (known_rule, (known_fill, known));
+          subject_given = s;
+          clip_given = c;
+          is_result = subst (λ paths. IsResultOfPaths
+              (asked width natural (fill_of fill) (rule_of rule) (options_of options)) paths shapes)
+              (ap₂ subject_and_clip same_p same_q)
+              (subst (λ a. IsResultOfPaths a (subject_and_clip p q) shapes)
+              (ap₂ (λ x y. asked width natural x y o) same_f same_r
+              ∙ ap (asked width natural (fill_of fill) (rule_of rule)) same_o) is);
+        };
+        flattened = flattened;
+      }
