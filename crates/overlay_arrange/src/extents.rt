@@ -1,6 +1,6 @@
 //! Between which heights and which places edges lie: a box in the order of their places.
 
-ghost use Rattle.std.specs.Prelude.{◌≡◌, ◌⊎◌, ◌↔◌, ◌+◌, ◌<◌, ◌≤◌, int_lt, cond, IsTrue};
+ghost use Rattle.std.specs.Prelude.{◌≡◌, ◌↔◌, int_lt, cond, IsTrue};
 ghost use Rattle.overlay_arrange.specs.Content.{plain_edge};
 ghost use Rattle.overlay_arrange.specs.Extents.{extent_of, plain_extent, Encloses, IsApart};
 
@@ -55,18 +55,6 @@ pub(crate) fn is_apart<I: IntNumber>(s: Extent<I>, t: Extent<I>) -> bool
     ensures { IsTrue result ↔ IsApart (plain_extent I.whole s) (plain_extent I.whole t) }
 {
     is_less(s.high, t.low) || is_less(t.high, s.low) || s.last < t.first || t.last < s.first
-}
-
-/// The place so far on, or the last one where that is less.
-pub(crate) fn on_by(at: usize, count: usize, last: usize) -> usize
-    requires { at ≤ last }
-    ensures from { at ≤ result }
-    ensures up_to { result ≤ last }
-    ensures no_further { result ≤ at + count }
-    ensures ends { (result ≡ last) ⊎ (result ≡ at + count) }
-    ensures on { at < last → 0 < count → at < result }
-{
-    if last - at < count { last } else { at + count }
 }
 
 /// The lesser and the greater one of two numbers.

@@ -1,6 +1,6 @@
 //! The later edges of a list that an edge may meet.
 
-ghost use Rattle.std.specs.Prelude.{◌≡◌, ◌+◌, ◌≤◌, ◌<◌, ◌/◌, [], All, length, IsTrue, OnOk, IsOkUnless};
+ghost use Rattle.std.specs.Prelude.{◌≡◌, ◌⊎◌, ◌+◌, ◌≤◌, ◌<◌, ◌/◌, [], All, length, IsTrue, OnOk, IsOkUnless};
 ghost use Rattle.overlay_arrange.specs.Content.{plain_edge, plain_edges, IsAscending, IsHeld};
 ghost use Rattle.overlay_arrange.specs.Extents.{plain_extent, plain_extents, AreInBlocks, AreInStrips};
 ghost use Rattle.overlay_arrange.specs.Extents.{AreStripsOf};
@@ -8,7 +8,7 @@ ghost use Rattle.overlay_arrange.specs.Near.{run_of, AreApartFrom, AreBetween, A
 
 use crate::count::EdgeCount;
 use crate::edge::CountedEdge;
-use crate::extents::{Extent, extent_of, is_apart, on_by};
+use crate::extents::{Extent, extent_of, is_apart};
 use crate::spans::run_end;
 use crate::strips::{STRIP, Strips};
 use overlay_geom::error::OverlayError;
@@ -95,6 +95,18 @@ fn find_by_blocks<I: IntNumber, A: Allocator>(
         }
     }
     Ok(())
+}
+
+/// The place so far on, or the last one where that is less.
+fn on_by(at: usize, count: usize, last: usize) -> usize
+    requires { at ≤ last }
+    ensures from { at ≤ result }
+    ensures up_to { result ≤ last }
+    ensures no_further { result ≤ at + count }
+    ensures ends { (result ≡ last) ⊎ (result ≡ at + count) }
+    ensures on { at < last → 0 < count → at < result }
+{
+    if last - at < count { last } else { at + count }
 }
 
 /// Of so many extents, from the one at a place on, a block tells that they lie apart from another one.
