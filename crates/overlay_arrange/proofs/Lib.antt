@@ -39,6 +39,7 @@ pub mod Searches
 pub mod SettledLists
 pub mod SideBits
 pub mod Sweepable
+pub mod StartsTogether
 pub mod StripOrder
 mod SweptFills
 pub mod WholeMeetings

@@ -1,8 +1,8 @@
 -- The edges of a list in the order in which a sweep comes to them, and what it holds of them.
-use Rattle.std.specs.Prelude.{◌≡◌, ℕ, false, ℤ, List, map, AllPairs}
+use Rattle.std.specs.Prelude.{◌≡◌, ℕ, ◌+◌, false, ℤ, List, map, AllPairs, slice_index_or}
 use Rattle.std.specs.List.Sorted.{IsPermutation}
 use Rattle.overlay_geom.specs.Counts.{Counts}
-use Rattle.overlay_geom.specs.Edges.{CountedEdge, ends_of, subj_of, clip_of, winding_above}
+use Rattle.overlay_geom.specs.Edges.{CountedEdge, ends_of, subj_of, clip_of, winding_below, winding_above}
 use Rattle.overlay_geom.specs.Numbered.{Numbered, numbered}
 use Rattle.overlay_geom.specs.Plane.{Edge}
 use Rattle.overlay_geom.specs.Points.{plain_point}
@@ -48,9 +48,17 @@ pub record IsSweepable (limit : ℕ) (fs : List CountedEdge) : Type 0 where
   pub clip : IsBalancedArrangement clip_of fs
   pub order : AllPairs (λ e f. is_anchored_before (ends_of f) (ends_of e) ≡ false) fs
 
--- the windings just above an edge
+-- the windings just below an edge, and those just above it
+abbrev pub windings_below : List CountedEdge → CountedEdge → Windings
+windings_below fs e = record { subj = winding_below subj_of fs e; clip = winding_below clip_of fs e }
+
 abbrev pub windings_above : List CountedEdge → CountedEdge → Windings
 windings_above fs e = record { subj = winding_above subj_of fs e; clip = winding_above clip_of fs e }
+
+-- the windings are those above the edge right before a place, if there is one
+abbrev pub AreAboveTheOneBefore : List CountedEdge → ℕ → Windings → Type 0
+AreAboveTheOneBefore fs i v = (k : ℕ) (e : CountedEdge) → k + 1 ≡ i → slice_index_or fs k e ≡ e →
+    v ≡ windings_above fs e
 
 -- the edges as entries of a sweep, each with the windings above it
 abbrev pub wound_entries : List CountedEdge → List (Entry Windings)

@@ -7,7 +7,8 @@ ghost use Rattle.overlay_scan.specs.Scan.{empty_sweep};
 ghost use Rattle.overlay_scan.specs.Sweeps.{IsSwept};
 ghost use Rattle.overlay_arrange.specs.Content.{plain_edges, IsContent, IsAscending};
 ghost use Rattle.overlay_arrange.specs.Rules.{fill_bits};
-ghost use Rattle.overlay_arrange.specs.Starts.{plain_starts, wound_entries, IsSweepable};
+ghost use Rattle.overlay_arrange.specs.Starts.{plain_starts, wound_entries, windings_below, IsSweepable};
+ghost use Rattle.overlay_arrange.specs.Starts.{AreAboveTheOneBefore};
 
 use crate::count::EdgeCount;
 use crate::edge::CountedEdge;
@@ -16,6 +17,7 @@ use crate::starting_edge::StartingEdge;
 use crate::starts::edges_by_start;
 use crate::vector::SideFill;
 use crate::windings::{Windings, bits_between};
+use overlay_geom::edge_pair::is_same;
 use overlay_geom::error::OverlayError;
 use overlay_geom::number::IntNumber;
 use overlay_scan::scan::Scan;
@@ -46,37 +48,68 @@ pub(crate) fn fills_by_sweep<
     let starting = edges_by_start(alloc.clone()?, edges)?;
     let mut fills = Vec::new(alloc);
     fills.resize(edges.len(), 0)?;
+    let mut above = Windings { subj: 0, clip: 0 };
     for i in 0..starting.len() {
-        let fill = next_fill(scan, &starting, i, rule)?;
+        let fill = next_fill(scan, &starting, i, &mut above, rule)?;
         fills[starting[i].place] = fill;
     }
     Ok(fills)
 }
 
 /// The filled sides of the edge to which the sweep comes next, which is put in with the windings above it,
-/// unless it is vertical. The only refusal is `Memory`.
+/// unless it is vertical. `above` has the windings above the edge before it, and then those above this one. The only
+/// refusal is `Memory`.
 fn next_fill<I: IntNumber, C: EdgeCount, S: Scan<I, Windings>>(
     scan: &mut S,
     starting: &[StartingEdge<I, C>],
     i: usize,
+    above: &mut Windings,
     rule: FillRule,
 ) -> Result<SideFill, OverlayError>
     requires edges { IsSweepable I.limit (plain_starts I.whole C.counts starting.now) }
     requires within { i < length starting.now }
     requires swept { let fs = plain_starts I.whole C.counts starting.now in (e : _) → slice_index_or fs i e ≡ e
         → IsSwept I.limit e.a.x (take i (wound_entries fs)) (S.content scan.old) }
+    requires before { AreAboveTheOneBefore (plain_starts I.whole C.counts starting.now) i above.old }
     ensures swept { let fs = plain_starts I.whole C.counts starting.now in OnOk result ((e : _)
         → slice_index_or fs i e ≡ e → IsSwept I.limit e.a.x (take (i + 1) (wound_entries fs)) (S.content scan.new)) }
+    ensures above { OnOk result
+        (AreAboveTheOneBefore (plain_starts I.whole C.counts starting.now) (i + 1) above.new) }
     ensures fill { let fs = plain_starts I.whole C.counts starting.now in IfOk result (λ n. (e : _)
         → slice_index_or fs i e ≡ e → n ≡ fill_bits rule fs e) }
     ensures err { IsOkUnless result OverlayError.Memory }
 {
     let next = &starting[i];
-    let outside = Windings { subj: 0, clip: 0 };
-    let below = scan.first_less(next.edge.a.x, outside, [next.edge.a, next.edge.b]);
-    let above = below.beyond(&next.edge);
+    let below = windings_below(scan, starting, i, *above);
+    *above = below.beyond(&next.edge);
     if next.edge.a.x.compare(next.edge.b.x).is_lt() {
-        scan.insert([next.edge.a, next.edge.b], above, next.edge.a.x)?;
+        scan.insert([next.edge.a, next.edge.b], *above, next.edge.a.x)?;
     }
-    Ok(bits_between(below, above, rule))
+    Ok(bits_between(below, *above, rule))
+}
+
+/// The windings below the edge to which the sweep comes next: those above the edge before it, where both start in one
+/// point; else they are looked up.
+fn windings_below<I: IntNumber, C: EdgeCount, S: Scan<I, Windings>>(
+    scan: &mut S,
+    starting: &[StartingEdge<I, C>],
+    i: usize,
+    above: Windings,
+) -> Windings
+    requires edges { IsSweepable I.limit (plain_starts I.whole C.counts starting.now) }
+    requires within { i < length starting.now }
+    requires swept { let fs = plain_starts I.whole C.counts starting.now in (e : _) → slice_index_or fs i e ≡ e
+        → IsSwept I.limit e.a.x (take i (wound_entries fs)) (S.content scan.old) }
+    requires before { AreAboveTheOneBefore (plain_starts I.whole C.counts starting.now) i above }
+    ensures swept { let fs = plain_starts I.whole C.counts starting.now in (e : _) → slice_index_or fs i e ≡ e
+        → IsSwept I.limit e.a.x (take i (wound_entries fs)) (S.content scan.new) }
+    ensures below { let fs = plain_starts I.whole C.counts starting.now in (e : _) → slice_index_or fs i e ≡ e
+        → result ≡ windings_below fs e }
+{
+    let next = &starting[i];
+    if i > 0 && is_same(starting[i - 1].edge.a, next.edge.a) {
+        return above;
+    }
+    let outside = Windings { subj: 0, clip: 0 };
+    scan.first_less(next.edge.a.x, outside, [next.edge.a, next.edge.b])
 }

@@ -12,7 +12,7 @@ use Rattle.overlay_scan.specs.Sweeps.{IsSwept}
 use Rattle.overlay_arrange.specs.Content.{plain_edge, plain_edges}
 use Rattle.overlay_arrange.specs.Rules.{fill_bits}
 use Rattle.overlay_arrange.specs.Starts.{plain_start, plain_starts, numbered_start, numbered_starts, wound_entries}
-use Rattle.overlay_arrange.specs.Starts.{IsSweepable}
+use Rattle.overlay_arrange.specs.Starts.{AreAboveTheOneBefore, IsSweepable}
 use Rattle.overlay_arrange.proofs.Sweepable.{starts_permuted, bits_shuffled, by_start_sweepable}
 use Rattle.overlay_arrange.proofs.SweptFills.{swept_on, swept_for_next}
 use Rattle.overlay_arrange.proofs.fill_sweep.fills_by_sweep.Goals as goal
@@ -50,6 +50,12 @@ next_fill-requires-clause-swept g c =
     IsSwept limit e.a.x (take i (wound_entries (plain_starts whole counts xs))) (g.S.Scan.content c.loop-i.scan))
     (sym c.deref.ensures.value)
     (λ e is. swept_for_next limit fs i e lt is (g.S.Scan.content c.loop-i.scan) c.loop-i.invariant.1)
+
+pub next_fill-requires-clause-before : goal.next_fill-requires-clause-before
+next_fill-requires-clause-before g c =
+    let counts = g.C.EdgeCount.counts in
+    subst (λ xs. AreAboveTheOneBefore (plain_starts g.I.IntNumber.whole counts xs) c.loop-i.i c.loop-i.above)
+    (sym c.deref.ensures.value) c.loop-i.invariant.3
 
 pub index_mut-requires : goal.index_mut-requires
 index_mut-requires g c =
@@ -118,6 +124,8 @@ loop-i-preserved g c =
           (c.loop-i.invariant.0 ∙ sym (length-map c.args.edges.now (plain_edge whole counts))) i n
           (let l = length-map ss (numbered_start whole counts) in omega arith) here c.in_ok-fill.fill told
           c.loop-i.invariant.2,
+      subst (λ xs. AreAboveTheOneBefore (plain_starts whole counts xs) (i + 1) c.next_fill.new.above)
+          c.deref.ensures.value c.in_ok-fill.ensures.above,
     )
 
 pub returns-clause-ok : goal.returns-clause-ok

@@ -1,9 +1,10 @@
--- The sides of the edges to which the sweep has come are told at their places, and it may go on to those left.
+-- The sides of the edges to which the sweep has come are told at their places, it may go on to those left, and the
+-- windings above the last one are known.
 use Rattle.std.proofs.Common.{◌≡◌, length, take, drop, get_or}
 use Rattle.std.specs.List.{All}
 use Rattle.overlay_scan.specs.Sweeps.{IsSwept}
 use Rattle.overlay_arrange.specs.Rules.{fill_bits}
-use Rattle.overlay_arrange.specs.Starts.{plain_starts, numbered_starts, wound_entries}
+use Rattle.overlay_arrange.specs.Starts.{plain_starts, numbered_starts, wound_entries, AreAboveTheOneBefore}
 use Rattle.overlay_arrange.proofs.fill_sweep.fills_by_sweep.Given as goal
 
 abbrev pub invariant-loop-i : goal.invariant-loop-i
@@ -16,3 +17,4 @@ invariant-loop-i g l =
     × All (λ f. IsSwept g.I.IntNumber.limit f.edge.a.x (take l.i (wound_entries fs)) (g.S.Scan.content l.scan))
     (drop l.i (wound_entries fs))
     × All (λ n. get_or l.fills.items n.place 0 ≡ fill_bits l.rule fs n.item) (take l.i ns)
+    × AreAboveTheOneBefore fs l.i l.above
