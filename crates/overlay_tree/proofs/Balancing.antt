@@ -1,14 +1,15 @@
 -- A node between two trees whose heights differ by at most two, seen from either side, and where no turn is needed.
-use Rattle.std.proofs.Common.{◌≡◌, ℕ, ◌+◌, ◌≤◌, List, [], ◌∷◌, Option, refl, sym, subst, arith}
+use Rattle.std.proofs.Common.{◌≡◌, ℕ, ◌+◌, ◌≤◌, max, List, [], ◌∷◌, slice_get, Option, Some, refl, sym, ap, subst}
+use Rattle.std.proofs.Common.{◌∙◌, arith}
 use Rattle.overlay_tree.specs.declared.links.Links.{Links}
 use Rattle.overlay_tree.specs.declared.links.NodeIndex.{NodeIndex}
 use Rattle.overlay_tree.specs.declared.links.Side.{Side}
 use Rattle.overlay_tree.specs.declared.links.Side.TheVariants.{Left, Right}
-use Rattle.overlay_tree.specs.Sides.{opposite}
-use Rattle.overlay_tree.specs.Trees.{Tree, items, height, fork_on, AreDistinct, AreParts, IsRebuilt}
-use Rattle.overlay_tree.specs.Trees.{IsRebalanced, IsTooHigh}
-use Rattle.overlay_tree.proofs.Standing.{height_on, in_top, kept_more}
-use Rattle.overlay_tree.proofs.Rotations.{only}
+use Rattle.overlay_tree.specs.Sides.{opposite, linked}
+use Rattle.overlay_tree.specs.Trees.{Tree, root_of, items, height, fork_on, AreDistinct, Stands, AreParts, IsRebuilt}
+use Rattle.overlay_tree.specs.Trees.{IsHeightBalanced, IsRebalanced, IsTooHigh}
+use Rattle.overlay_tree.proofs.Standing.{height_on, in_top, kept_more, linked_stands}
+use Rattle.overlay_tree.proofs.Rotations.{only, sides_differ}
 
 -- the same tree from the other side
 pub exchanged : (side : Side) (a : Tree) (i : ℕ) (b : Tree) → fork_on (opposite side) b i a ≡ fork_on side a i b
@@ -82,3 +83,24 @@ settled_at_once old new root side i a b made = record {
     level = λ near. height_on side a i b;
   };
 }
+
+-- ---- a node that is linked already
+
+-- the links of a top
+top_links : (ls : List Links) (side : Side) (a : Tree) (i : ℕ) (b : Tree) → Stands ls (fork_on side a i b) →
+    slice_get ls i ≡ Some (linked side (root_of a) (root_of b) (max (height a) (height b) + 1))
+top_links ls Left a i b at = at.0
+top_links ls Right a i b at = at.0 ∙ ap (λ n. Some (linked Right (root_of a) (root_of b) n)) (height_on Right a i b)
+
+-- in the place of one side came a tree with the same top and of the same height
+pub settled_already : (old new : List Links) (near far : Option NodeIndex) (side : Side) (i : ℕ) (a b u : Tree) →
+    Stands old (fork_on side a i b) → IsHeightBalanced (fork_on side a i b) → slice_get new i ≡ slice_get old i →
+    root_of a ≡ root_of u → height a ≡ height u → AreParts 2 new side near i far u b →
+    IsRebalanced new new (Some (record { place = i })) side u i b
+settled_already old new near far side i a b u at balanced kept top high parts =
+    let differ = sides_differ side a i b balanced in
+    settled_at_once new new (Some (record { place = i })) side i u b
+    (linked_stands new side i near far u b
+    (near_parts new side near far i u b parts (omega (arith, differ.0, differ.1)) (omega (arith, differ.0, differ.1)))
+    new (record { others = λ k out. refl; length_kept = refl })
+    (kept ∙ top_links old side a i b at ∙ ap Some (λ j. linked side (top j) (root_of b) (max (high j) (height b) + 1))))

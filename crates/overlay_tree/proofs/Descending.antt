@@ -28,7 +28,7 @@ use Rattle.overlay_tree.specs.Trees.{IsTreeAt, IsRebalanced, IsReplaced}
 use Rattle.overlay_tree.proofs.Distinct.{AreApart, in_left, in_right, in_either, distinct_left, distinct_right}
 use Rattle.overlay_tree.proofs.Distinct.{distinct_apart}
 use Rattle.overlay_tree.proofs.Distinct.{distinct_joined}
-use Rattle.overlay_tree.proofs.Standing.{parts_apart, in_near, in_far, top_inside}
+use Rattle.overlay_tree.proofs.Standing.{parts_apart, in_near, in_far, in_top, top_inside}
 use Rattle.overlay_tree.proofs.Replaced.{new_parts, new_replaced}
 use Rattle.overlay_tree.proofs.Rotations.{near_balanced, place_of}
 use Rattle.overlay_tree.proofs.Parted.{live-middle, before_part, after_part, all_before_pass, all_after_fail}
@@ -96,6 +96,11 @@ module _ (side : Side) (i : ℕ) (a b : Tree) (old between : List Links) (root p
   pub next_parts : AreParts 2 between side near i far below b
   next_parts = new_parts can.at ex.replaced far_is far_stands rest_apart inside new_distinct
 
+  -- the node itself is linked as before
+  pub top_kept : slice_get between i ≡ slice_get old i
+  top_kept = ex.replaced.rebuilt.kept.others i (λ at. ⊎_elim (parts_apart side a i b can.at.distinct).not_near
+      (λ new. can.other i (in_top side a i b) (into_put i new)) (in_either i (items a) into at))
+
   pub exchanged_above : (new : List Links) (top : Option NodeIndex) → IsRebalanced between new top side below i b →
       IsExchanged old new (fork_on side a i b) top out into (before_on side before i (items b))
       (after_on side after i (items b))
@@ -157,6 +162,13 @@ module _ {I V : Type 0} (whole : I → ℤ) (post : List (IntPoint I) → Orderi
       next_parts side i a b old between root put near far [] (items (alone put)) h.before h.after can h.exchanged
           (λ k at. at) (alone_distinct put) far_is far_stands inside,
     )
+
+    pub kept_by_end : (e : End V) → IsEndOf whole post x es old between a put near e →
+        slice_get between i ≡ slice_get old i
+    kept_by_end (Ended j) h = top_kept side i a b old between root put near far (j.place ∷ []) [] h.before h.after can
+        h.exchanged (λ k none. absurd none) tt far_is far_stands inside
+    kept_by_end (Found v) h = top_kept side i a b old between root put near far [] (items (alone put)) h.before
+        h.after can h.exchanged (λ k at. at) (alone_distinct put) far_is far_stands inside
 
     module _ (f : LiveEdge I V) (there : slice_get es i ≡ Some f) (live : int_lt x (whole f.b.x) ≡ true) (o : Ordering)
         (answered : post (f.a ∷ f.b ∷ []) o) (side_is : side ≡ side_of o) where

@@ -11,6 +11,7 @@ use Rattle.overlay_tree.specs.Trees.{Tree, Leaf, Fork, root_of, items, height, f
 use Rattle.overlay_tree.specs.Trees.{Stands}
 use Rattle.overlay_tree.specs.Trees.{DifferByAtMost, IsTreeAt, IsRebalanced, IsReplaced, IsFirstTaken}
 use Rattle.overlay_tree.specs.Trees.{AreKeptBut, stored_height, height_in}
+use Rattle.overlay_tree.proofs.Balancing.{settled_already}
 use Rattle.overlay_tree.proofs.Distinct.{AreApart, in_left, in_right, in_either, distinct_left, distinct_right}
 use Rattle.overlay_tree.proofs.Distinct.{distinct_apart}
 use Rattle.overlay_tree.proofs.Distinct.{distinct_joined}
@@ -173,6 +174,13 @@ module _ {ls between : List Links} {i : ℕ} {l r : Tree} {root near far : Optio
         (items (Fork l i r)) settled (λ k in_l. in_left k (items l) (i ∷ items r) in_l)
         (λ k there. subst (IsIn k) (sym all_same) (inr there));
   }
+
+  -- and has kept its top and its height
+  pub first_taken_kept : (near ≡ root_of l) × (height left ≡ height l) →
+      IsFirstTaken ls between (Fork l i r) first (Some (record { place = i }))
+  first_taken_kept same = first_taken (settled_already ls between near far Left i l r left at.stands at.balanced
+      (taken.replaced.rebuilt.kept.others i (parts_apart Left l i r at.distinct).not_near)
+      (sym same.0 ∙ taken.replaced.rebuilt.at_root.is_root) (sym same.1) first_parts_left)
 
 -- ---- the top node
 

@@ -167,20 +167,17 @@ module _ (ls : List Links) (side : Side) (i : ℕ) where
       count_all Right a b d below = let most = at_most (items (Fork b i a)) (length ls) d below in
           let count = length-append (items b) (i ∷ items a) in omega arith
 
-  pub now_linked : (near far : _) (a b : Tree) → AreParts 1 ls side near i far a b → (h : ℕ) →
-      h ≡ max (height a) (height b) + 1 → (new : List Links) → new ≡ slice_set ls i (linked side near far h) →
+  -- links of the node alone have changed, or none
+  pub linked_stands : (near far : _) (a b : Tree) → AreParts 1 ls side near i far a b → (new : List Links) →
+      AreKeptBut (i ∷ []) ls new →
+      slice_get new i ≡ Some (linked side (root_of a) (root_of b) (max (height a) (height b) + 1)) →
       IsRebuilt (i ∷ []) ls new (Some (record { place = i })) (items (fork_on side a i b)) (fork_on side a i b)
-  now_linked near far a b parts h high new is =
+  linked_stands near far a b parts new kept is =
       let d = parts_apart side a i b parts.distinct in
-      let kept : AreKeptBut (i ∷ []) ls new = subst (AreKeptBut (i ∷ []) ls) (sym is)
-      (set_one ls i (linked side near far h)) in
       record {
         at_root = record {
           is_root = top side a b;
-          stands = stands side a b
-              (ap (λ l. slice_get l i) is ∙ get_set_same ls i (linked side near far h) parts.inside
-              ∙ ap Some (λ j. linked side (parts.near_is j) (parts.far_is j) (high j)))
-              (still_stands (i ∷ []) ls new kept a parts.near_stands (apart a d.not_near))
+          stands = stands side a b is (still_stands (i ∷ []) ls new kept a parts.near_stands (apart a d.not_near))
               (still_stands (i ∷ []) ls new kept b parts.far_stands (apart b d.not_far));
           distinct = parts.distinct;
           balanced = balanced_on side a i b parts.near_balanced parts.far_balanced parts.differ;
@@ -206,3 +203,11 @@ module _ (ls : List Links) (side : Side) (i : ℕ) where
         high,
         low,
       )
+
+  pub now_linked : (near far : _) (a b : Tree) → AreParts 1 ls side near i far a b → (h : ℕ) →
+      h ≡ max (height a) (height b) + 1 → (new : List Links) → new ≡ slice_set ls i (linked side near far h) →
+      IsRebuilt (i ∷ []) ls new (Some (record { place = i })) (items (fork_on side a i b)) (fork_on side a i b)
+  now_linked near far a b parts h high new is = linked_stands near far a b parts new
+      (subst (AreKeptBut (i ∷ []) ls) (sym is) (set_one ls i (linked side near far h)))
+      (ap (λ l. slice_get l i) is ∙ get_set_same ls i (linked side near far h) parts.inside
+      ∙ ap Some (λ j. linked side (parts.near_is j) (parts.far_is j) (high j)))

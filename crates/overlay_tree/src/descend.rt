@@ -84,12 +84,15 @@ impl<I: IntNumber, V: Copy, A: Allocator> ScanNodes<I, V, A> {
         }
         let side = side_for(order, f.a, f.b);
         let links = self.links(i);
-        let below = self.descend(links.on(side), put, x, order);
-        let root = self.balance(i, side, below.root, links.on(side.other()));
-        Descent {
-            root,
-            end: below.end.above(side, f.value),
+        let near = links.on(side);
+        let height = self.height(near);
+        let below = self.descend(near, put, x, order);
+        let end = below.end.above(side, f.value);
+        if self.is_kept(below.root, near, height) {
+            return Descent { root: Some(i), end };
         }
+        let root = self.balance(i, side, below.root, links.on(side.other()));
+        Descent { root, end }
     }
 
     // Visits a node: its entry.

@@ -1,6 +1,6 @@
 //! How nodes are named, and how they are linked.
 
-ghost use Rattle.std.specs.Prelude.{◌≡◌};
+ghost use Rattle.std.specs.Prelude.{◌≡◌, ◌↔◌, true};
 ghost use Rattle.overlay_tree.specs.Sides.{linked, on, opposite};
 
 /// The name of a node.
@@ -36,6 +36,17 @@ pub const ALONE: Links = Links {
     right: None,
     height: 1,
 };
+
+/// Whether these are the same node, or both none.
+pub fn is_same(one: Option<NodeIndex>, other: Option<NodeIndex>) -> bool
+    ensures { (result ≡ true) ↔ (one ≡ other) }
+{
+    match (one, other) {
+        (Some(i), Some(j)) => i.place == j.place,
+        (None, None) => true,
+        _ => false,
+    }
+}
 
 impl Side {
     /// The other side.

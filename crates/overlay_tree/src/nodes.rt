@@ -1,13 +1,13 @@
 //! The nodes of a tree in a list, each with an entry, and with links to the nodes below it.
 
 ghost use Rattle.std.specs.Prelude.{◌≡◌, ◌+◌, ◌<◌, [], ◌++◌, ◌∷◌, Some, IfSome, IfOk, OnOk, OnErr, IsOkUnless, length};
-ghost use Rattle.std.specs.Prelude.{slice_get, slice_set};
+ghost use Rattle.std.specs.Prelude.{◌↔◌, true, slice_get, slice_set};
 ghost use Rattle.overlay_tree.specs.Sides.{unused_before};
 ghost use Rattle.overlay_tree.specs.Store.{IsEntryAt};
 ghost use Rattle.overlay_tree.specs.Trees.{root_of, items, height, fork_on, Stands, AreParts, HasParts, IsRebuilt};
 ghost use Rattle.overlay_tree.specs.declared.links.TheConstants.{ALONE};
 
-use crate::links::{ALONE, Links, NodeIndex, Side};
+use crate::links::{ALONE, Links, NodeIndex, Side, is_same};
 use crate::visits::Visits;
 use overlay_geom::error::OverlayError;
 use overlay_geom::number::IntNumber;
@@ -86,6 +86,15 @@ impl<I: IntNumber, V: Copy, A: Allocator> ScanNodes<I, V, A> {
             Some(i) => self.links(i).height,
             None => 0,
         }
+    }
+
+    /// Whether a tree has the top and the height that it had.
+    pub fn is_kept(&self, root: Option<NodeIndex>, was: Option<NodeIndex>, high: usize) -> bool
+        requires { IfSome root (λ i. i.place < length self.now.links) }
+        ensures { (t : _) → root ≡ root_of t → Stands self.now.links t
+            → (result ≡ true) ↔ ((root ≡ was) × (height t ≡ high)) }
+    {
+        is_same(root, was) && self.height(root) == high
     }
 
     /// Links a node to two trees whose heights differ by at most one: the near one on the given side, and the far one

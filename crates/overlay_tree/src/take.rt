@@ -38,7 +38,11 @@ impl<I: IntNumber, V: Copy, A: Allocator> ScanNodes<I, V, A> {
         let Some(left) = links.left else {
             return (i, links.right);
         };
+        let height = self.height(links.left);
         let (first, rest) = self.take_first(left);
+        if self.is_kept(rest, links.left, height) {
+            return (first, Some(i));
+        }
         let root = self.balance(i, Side::Left, rest, links.right);
         (first, root)
     }

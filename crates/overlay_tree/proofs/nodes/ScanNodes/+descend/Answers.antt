@@ -1,16 +1,16 @@
 -- The top is read: it has ended, or the way goes on on one of its sides.
-use Rattle.std.proofs.Common.{◌≡◌, ◌<◌, ◌++◌, Some, length, slice_get, sym, ap, subst, ◌∙◌, arith, rules}
+use Rattle.std.proofs.Common.{◌≡◌, ◌<◌, ◌++◌, Some, length, slice_get, refl, sym, ap, subst, ◌∙◌, arith, rules}
 use Rattle.overlay_scan.specs.Scan.{IsCallableOn}
 use Rattle.overlay_tree.specs.declared.links.Side.TheVariants.{Left}
-use Rattle.overlay_tree.specs.Sides.{on}
-use Rattle.overlay_tree.specs.Descents.{live_entries, CanDescend, IsEndOf, end_above}
+use Rattle.overlay_tree.specs.Sides.{on, opposite}
+use Rattle.overlay_tree.specs.Descents.{live_entries, CanDescend}
 use Rattle.overlay_tree.specs.Trees.{Tree, Fork, items, height, IsTreeAt, IsReplaced, stored_height}
-use Rattle.overlay_tree.proofs.Descending.{nothing_there, split_top, top_ended, top_place, callable_here, parts_of_end}
-use Rattle.overlay_tree.proofs.Descending.{end_over}
-use Rattle.overlay_tree.proofs.GoingDown.{same_links, way, can_fork, inside_way, can_near}
-use Rattle.overlay_tree.proofs.GoingDown.{lower_near, higher, may_on}
+use Rattle.overlay_tree.proofs.Descending.{nothing_there, split_top, top_ended, top_place, callable_here}
+use Rattle.overlay_tree.proofs.GoingDown.{same_links, way, can_near, lower_near, higher, may_on}
+use Rattle.overlay_tree.proofs.GoingDown.{parts_above, end_balanced, end_kept, same_end}
 use Rattle.overlay_tree.proofs.Replaced.{no_top}
 use Rattle.overlay_tree.proofs.Settling.{tree_at_is}
+use Rattle.overlay_tree.proofs.Standing.{top_inside}
 use Rattle.overlay_tree.proofs.nodes.ScanNodes.+descend.Goals as goal
 use Rattle.std.proofs.lemmas.Bool.{not-true, not-false}
 
@@ -83,18 +83,72 @@ descend-below-requires g t c =
     let live = not-false _ (sym c.has_ended.ensures ∙ c.if-has_ended.false) in
     let there : slice_get es1 c.in-Some.i.place ≡ Some c.visit-f.result =
     ap (λ e. slice_get e c.in-Some.i.place) c.visit-f.ensures.entries ∙ c.visit-f.ensures.entry in
-    let smaller : stored_height l1 c.on.result < stored_height ls c.args.root =
-    subst (λ h. stored_height l1 c.on.result < h)
+    let smaller : stored_height l1 c.on-near.result < stored_height ls c.args.root =
+    subst (λ h. stored_height l1 c.on-near.result < h)
     (ap (λ n. stored_height n (Some c.in-Some.i)) c.visit-f.ensures.links ∙ ap (stored_height ls) (sym c.in-Some.is))
-    (lower_near l1 c.args.put c.in-Some.i side links u can c.links-links.ensures c.on.result c.on.ensures) in
-    let tree : (v : Tree) × CanDescend l1 c.on.result c.args.put v =
-    (_, can_near l1 c.args.put c.in-Some.i side links u can c.links-links.ensures c.on.result c.on.ensures) in
-    let callable : (v : Tree) → IsTreeAt l1 c.on.result v → IsCallableOn whole pre
+    (lower_near l1 c.args.put c.in-Some.i side links u can c.links-links.ensures c.on-near.result c.on-near.ensures) in
+    let tree : (v : Tree) × CanDescend l1 c.on-near.result c.args.put v =
+    (_, can_near l1 c.args.put c.in-Some.i side links u can c.links-links.ensures c.on-near.result c.on-near.ensures) in
+    let callable : (v : Tree) → IsTreeAt l1 c.on-near.result v → IsCallableOn whole pre
     (live_entries whole x es1 (items v)) =
     may_on l1 c.args.put c.in-Some.i side links u can c.links-links.ensures whole x es1 pre c.visit-f.result there live
     (subst (λ e. IsCallableOn whole pre (live_entries whole x e (items u))) (sym c.visit-f.ensures.entries)
-    (c.requires.callable u c.requires.tree.1.at)) c.on.result c.on.ensures in
+    (c.requires.callable u c.requires.tree.1.at)) c.on-near.result c.on-near.ensures in
     search rules
+
+pub is_kept-requires : goal.is_kept-requires
+is_kept-requires g t c =
+    let whole = g.I.IntNumber.whole in
+    let x = whole c.args.x in
+    let ls = c.args.self.now.links in
+    let l1 = c.visit-f.new.self.links in
+    let es1 = c.visit-f.new.self.entries in
+    let post = goal.F-post g c.args.order.now in
+    let i = c.in-Some.i in
+    let put = c.args.put in
+    let u = c.requires.tree.0 in
+    let given = c.requires.tree.1 in
+    let can = same_links ls l1 c.args.root put i u c.visit-f.ensures.links c.in-Some.is given in
+    let side = c.side_for-side.result in
+    let links = c.links-links.result in
+    let read = c.links-links.ensures in
+    let o = way l1 put i side links u can read in
+    let near = can_near l1 put i side links u can read c.on-near.result c.on-near.ensures in
+    let below = c.descend-below.ensures.end o.near near in
+    let between = c.descend-below.new.self.links in
+    let top = c.descend-below.result.root in
+    let parts = parts_above l1 put i side links u can read whole post x es1 between top (on (opposite side) links) refl
+    c.descend-below.result.end below in
+    top_inside between parts.0 top parts.1.near_is parts.1.near_stands
+
+pub returns-then-is_kept-clause-end : goal.returns-then-is_kept-clause-end
+returns-then-is_kept-clause-end g t c u given =
+    let whole = g.I.IntNumber.whole in
+    let x = whole c.args.x in
+    let ls = c.args.self.now.links in
+    let l1 = c.visit-f.new.self.links in
+    let es1 = c.visit-f.new.self.entries in
+    let post = goal.F-post g c.args.order.now in
+    let i = c.in-Some.i in
+    let put = c.args.put in
+    let can = same_links ls l1 c.args.root put i u c.visit-f.ensures.links c.in-Some.is given in
+    let side = c.side_for-side.result in
+    let links = c.links-links.result in
+    let read = c.links-links.ensures in
+    let o = way l1 put i side links u can read in
+    let near = can_near l1 put i side links u can read c.on-near.result c.on-near.ensures in
+    let below = c.descend-below.ensures.end o.near near in
+    let between = c.descend-below.new.self.links in
+    let top = c.descend-below.result.root in
+    let live = not-false _ (sym c.has_ended.ensures ∙ c.if-has_ended.false) in
+    let there : slice_get es1 i.place ≡ Some c.visit-f.result =
+    ap (λ e. slice_get e i.place) c.visit-f.ensures.entries ∙ c.visit-f.ensures.entry in
+    same_end whole post x c.args.self.now.entries es1 ls l1 between u put (Some i) c.above-end.result _
+    c.visit-f.ensures.entries c.visit-f.ensures.links c.above-end.ensures
+    (end_kept l1 put i side links u can read whole post x es1 between top (on (opposite side) links) refl
+    c.descend-below.result.end below c.visit-f.result there live c.side_for-side.ensures c.on-near.result
+    c.on-near.ensures c.height-height.result (c.height-height.ensures o.near near.at.is_root near.at.stands)
+    (λ v root stands. (c.is_kept.ensures v root stands).0 c.if-is_kept.true))
 
 pub balance-root-requires : goal.balance-root-requires
 balance-root-requires g t c =
@@ -102,20 +156,23 @@ balance-root-requires g t c =
     let x = whole c.args.x in
     let ls = c.args.self.now.links in
     let l1 = c.visit-f.new.self.links in
+    let es1 = c.visit-f.new.self.entries in
+    let post = goal.F-post g c.args.order.now in
+    let i = c.in-Some.i in
+    let put = c.args.put in
     let u = c.requires.tree.0 in
-    let can = same_links ls l1 c.args.root c.args.put c.in-Some.i u c.visit-f.ensures.links c.in-Some.is
-    c.requires.tree.1 in
+    let given = c.requires.tree.1 in
+    let can = same_links ls l1 c.args.root put i u c.visit-f.ensures.links c.in-Some.is given in
     let side = c.side_for-side.result in
+    let links = c.links-links.result in
     let read = c.links-links.ensures in
-    let o = way l1 c.args.put c.in-Some.i side c.links-links.result u can read in
-    let below = c.descend-below.ensures.end o.near
-    (can_near l1 c.args.put c.in-Some.i side c.links-links.result u can read c.on.result c.on.ensures) in
-    let parts = parts_of_end whole (goal.F-post g c.args.order.now) x c.visit-f.new.self.entries side c.in-Some.i.place
-    o.near
-    o.far l1 c.descend-below.new.self.links (Some c.in-Some.i) c.args.put c.descend-below.result.root c.on-2.result
-    (can_fork l1 c.args.put c.in-Some.i side c.links-links.result u can read)
-    (c.on-2.ensures ∙ ap (λ s. on s c.links-links.result) c.other.ensures ∙ o.far_is) o.far_stands
-    (inside_way l1 c.args.put c.in-Some.i side c.links-links.result u can read) c.descend-below.result.end below in
+    let o = way l1 put i side links u can read in
+    let near = can_near l1 put i side links u can read c.on-near.result c.on-near.ensures in
+    let below = c.descend-below.ensures.end o.near near in
+    let between = c.descend-below.new.self.links in
+    let top = c.descend-below.result.root in
+    let parts = parts_above l1 put i side links u can read whole post x es1 between top c.on.result
+    (c.on.ensures ∙ ap (λ s. on s links) c.other.ensures) c.descend-below.result.end below in
     (parts.0, o.far, parts.1)
 
 pub returns-clause-end : goal.returns-clause-end
@@ -126,45 +183,61 @@ returns-clause-end g t c u given =
     let l1 = c.visit-f.new.self.links in
     let es1 = c.visit-f.new.self.entries in
     let post = goal.F-post g c.args.order.now in
-    let new = c.balance-root.new.self.links in
-    let can = same_links ls l1 c.args.root c.args.put c.in-Some.i u c.visit-f.ensures.links c.in-Some.is given in
+    let i = c.in-Some.i in
+    let put = c.args.put in
+    let can = same_links ls l1 c.args.root put i u c.visit-f.ensures.links c.in-Some.is given in
     let side = c.side_for-side.result in
+    let links = c.links-links.result in
     let read = c.links-links.ensures in
-    let o = way l1 c.args.put c.in-Some.i side c.links-links.result u can read in
+    let o = way l1 put i side links u can read in
+    let near = can_near l1 put i side links u can read c.on-near.result c.on-near.ensures in
+    let below = c.descend-below.ensures.end o.near near in
+    let between = c.descend-below.new.self.links in
+    let top = c.descend-below.result.root in
     let live = not-false _ (sym c.has_ended.ensures ∙ c.if-has_ended.false) in
-    let there : slice_get es1 c.in-Some.i.place ≡ Some c.visit-f.result =
-    ap (λ e. slice_get e c.in-Some.i.place) c.visit-f.ensures.entries ∙ c.visit-f.ensures.entry in
-    let below = c.descend-below.ensures.end o.near
-    (can_near l1 c.args.put c.in-Some.i side c.links-links.result u can read c.on.result c.on.ensures) in
-    let answer = c.side_for-side.ensures in
-    let ends = end_over whole post x es1 side c.in-Some.i.place o.near o.far l1 c.descend-below.new.self.links
-    (Some c.in-Some.i) c.args.put c.descend-below.result.root c.on-2.result
-    (can_fork l1 c.args.put c.in-Some.i side c.links-links.result u can read)
-    (c.on-2.ensures ∙ ap (λ s. on s c.links-links.result) c.other.ensures ∙ o.far_is) o.far_stands
-    (inside_way l1 c.args.put c.in-Some.i side c.links-links.result u can read) c.visit-f.result there live answer.0
-    answer.1
-    answer.2 c.descend-below.result.end below new c.balance-root.result
-    (λ v parts. c.balance-root.ensures.tree v o.far parts) in
-    let end = end_above side c.visit-f.result.value c.descend-below.result.end in
-    subst (λ e. IsEndOf whole post x c.args.self.now.entries ls new u c.args.put c.balance-root.result e)
-    (sym c.above.ensures)
-    (subst (λ n. IsEndOf whole post x c.args.self.now.entries n new u c.args.put c.balance-root.result end)
-    c.visit-f.ensures.links
-    (subst (λ es. IsEndOf whole post x es l1 new u c.args.put c.balance-root.result end) c.visit-f.ensures.entries
-    (subst (λ v. IsEndOf whole post x es1 l1 new v c.args.put c.balance-root.result end) (sym o.is) ends)))
+    let there : slice_get es1 i.place ≡ Some c.visit-f.result =
+    ap (λ e. slice_get e i.place) c.visit-f.ensures.entries ∙ c.visit-f.ensures.entry in
+    let new = c.balance-root.new.self.links in
+    let root = c.balance-root.result in
+    same_end whole post x c.args.self.now.entries es1 ls l1 new u put root c.above-end.result _
+    c.visit-f.ensures.entries c.visit-f.ensures.links c.above-end.ensures
+    (end_balanced l1 put i side links u can read whole post x es1 between top c.on.result
+    (c.on.ensures ∙ ap (λ s. on s links) c.other.ensures) c.descend-below.result.end below c.visit-f.result there live
+    c.side_for-side.ensures new root (λ v parts. c.balance-root.ensures.tree v o.far parts))
+
+pub returns-then-is_kept-clause-visits : goal.returns-then-is_kept-clause-visits
+returns-then-is_kept-clause-visits g t c u at =
+    let ls = c.args.self.now.links in
+    let l1 = c.visit-f.new.self.links in
+    let i = c.in-Some.i in
+    let put = c.args.put in
+    let v = c.requires.tree.0 in
+    let can = same_links ls l1 c.args.root put i v c.visit-f.ensures.links c.in-Some.is c.requires.tree.1 in
+    let side = c.side_for-side.result in
+    let links = c.links-links.result in
+    let read = c.links-links.ensures in
+    let o = way l1 put i side links v can read in
+    let near = can_near l1 put i side links v can read c.on-near.result c.on-near.ensures in
+    let high = higher l1 put i side links v can read in
+    let same = ap height (sym (tree_at_is ls u c.args.root at) ∙ tree_at_is ls v c.args.root c.requires.tree.1.at) in
+    let below = c.descend-below.ensures.visits o.near near.at in
+    let one = c.visit-f.ensures.count in
+    omega arith
 
 pub returns-clause-visits : goal.returns-clause-visits
 returns-clause-visits g t c u at =
     let ls = c.args.self.now.links in
     let l1 = c.visit-f.new.self.links in
+    let i = c.in-Some.i in
+    let put = c.args.put in
     let v = c.requires.tree.0 in
-    let can = same_links ls l1 c.args.root c.args.put c.in-Some.i v c.visit-f.ensures.links c.in-Some.is
-    c.requires.tree.1 in
+    let can = same_links ls l1 c.args.root put i v c.visit-f.ensures.links c.in-Some.is c.requires.tree.1 in
     let side = c.side_for-side.result in
+    let links = c.links-links.result in
     let read = c.links-links.ensures in
-    let o = way l1 c.args.put c.in-Some.i side c.links-links.result v can read in
-    let near = can_near l1 c.args.put c.in-Some.i side c.links-links.result v can read c.on.result c.on.ensures in
-    let high = higher l1 c.args.put c.in-Some.i side c.links-links.result v can read in
+    let o = way l1 put i side links v can read in
+    let near = can_near l1 put i side links v can read c.on-near.result c.on-near.ensures in
+    let high = higher l1 put i side links v can read in
     let same = ap height (sym (tree_at_is ls u c.args.root at) ∙ tree_at_is ls v c.args.root c.requires.tree.1.at) in
     let below = c.descend-below.ensures.visits o.near near.at in
     let one = c.visit-f.ensures.count in
