@@ -1,6 +1,6 @@
 -- What the core of a builder adds, as contours of the subject or of the clip.
 use Rattle.std.proofs.Common.{◌≡◌, Bool, true, false, cond, pos, negsuc, List, [], ◌∷◌, map, refl, ap, ap₂, subst, ◌∙◌}
-use Rattle.std.specs.Prelude.{Result}
+use Rattle.std.specs.Prelude.{Result, Ok, Err}
 use Rattle.overlay_geom.specs.Counts.{Counts}
 use Rattle.overlay_geom.specs.Edges.{CountedEdge, AddsContour, weight}
 use Rattle.overlay_geom.specs.Plane.{Point, Step, edge_of, is_forward}
@@ -11,14 +11,16 @@ use Rattle.overlay_arrange.specs.Counts.{boolean_counts}
 use Rattle.overlay_arrange.specs.declared.count.ShapeCountBoolean.{ShapeCountBoolean}
 use Rattle.overlay_arrange.specs.declared.data.CountWithData.{CountWithData}
 use Rattle.overlay_arrange.specs.declared.options.ShapeType.{ShapeType}
+use Rattle.overlay_builder.specs.BuilderCalls.{AddsPathAsAsked, AddsContourAsAsked}
 use Rattle.overlay_builder.specs.Held.{Held, plain_held}
 use Rattle.overlay_builder.specs.Passing.{passing, passing_without_data}
 use Rattle.overlay_builder.specs.PathLists.{carried_weight, path_as, paths_as, AddsAsAsked, WouldWeighTooMuch}
 use Rattle.overlay_builder.specs.Paths.{AddsPath, contour_kind, count_of_step, passed_edge}
 use Rattle.overlay_builder.specs.declared.path.PathKind.{PathKind}
 use Rattle.overlay_builder.specs.declared.path.StepCounts.{StepCounts}
+use Rattle.overlay_builder.proofs.BuilderCalls.{added_seen, refused_seen}
 use Rattle.overlay_builder.proofs.Mapped.{seen, one_seen, heavy_seen, adding_seen}
-use Rattle.overlay_builder.specs.GivenPaths.{added_paths, paths_for}
+use Rattle.overlay_builder.specs.GivenPaths.{ContourWeighsTooMuch, added_paths, paths_for}
 
 -- a path that is taken as a contour adds what a contour does
 pub as_contour : (keep : Bool) (f : Step → CountedEdge) (ps : List Point) (old new : List CountedEdge)
@@ -82,6 +84,25 @@ module _ (keep : Bool) (t : ShapeType) {C : Type 0} (counts : C → Counts) (kin
       subst (λ f. WouldWeighTooMuch weight (path_as (contour_kind keep) f ps) (edges_in old)) edges_alone
       (heavy_seen edge_alone weight (path_as (contour_kind keep) (passed_edge counts pass) ps) old
       (subst (λ k. WouldWeighTooMuch carried_weight (path_as k (passed_edge counts pass) ps) old) kind_is h))
+
+  -- a call that adds a contour
+  pub asked_contour_added : {V W : Type 0} (ps : List Point) (old new : Held (Carried C)) (v : V) (w : W) →
+      AddsPathAsAsked carried_weight (path_as kind (passed_edge counts pass) ps) old new (Ok v) →
+      AddsContourAsAsked keep t ps (plain_held old) (plain_held new) (Ok w)
+  asked_contour_added ps old new v w h =
+      added_seen edge_alone weight (AddsPath kind (passed_edge counts pass) ps) (AddsContour keep (edge_for t) ps)
+      (WouldWeighTooMuch carried_weight (path_as kind (passed_edge counts pass) ps)) (ContourWeighsTooMuch keep t ps)
+      old new (λ adds. as_contour keep (edge_for t) ps (edges_in old.edges) (edges_in new.edges)
+      (contour_added ps old.edges new.edges adds)) v w h
+
+  -- or refuses it
+  pub asked_contour_refused : {V W : Type 0} (ps : List Point) (old new : Held (Carried C)) (e : OverlayError) →
+      AddsPathAsAsked {V = V} carried_weight (path_as kind (passed_edge counts pass) ps) old new (Err e) →
+      AddsContourAsAsked {V = W} keep t ps (plain_held old) (plain_held new) (Err e)
+  asked_contour_refused ps old new e h =
+      refused_seen edge_alone weight (AddsPath kind (passed_edge counts pass) ps) (AddsContour keep (edge_for t) ps)
+      (WouldWeighTooMuch carried_weight (path_as kind (passed_edge counts pass) ps)) (ContourWeighsTooMuch keep t ps)
+      old new (contour_too_heavy ps old.edges) e h
 
   -- the paths of a resource
   same_paths : (paths : List (List Point)) →

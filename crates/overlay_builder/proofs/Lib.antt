@@ -1,5 +1,6 @@
 pub mod AddedContours
 pub mod Balanced
+pub mod BuilderCalls
 pub mod FirstPoints
 pub mod Fronts
 pub mod LeftOut

@@ -1,5 +1,5 @@
 -- What a query of a builder's core answers: where its edges are arranged, and where more is asked of them.
-use Rattle.std.proofs.Common.{◌≡◌, inr, ℕ, true, false, is_err, sym, ap, subst, ◌∙◌}
+use Rattle.std.proofs.Common.{◌≡◌, inr, ℕ, false, is_err, sym, ap, subst, ◌∙◌}
 use Rattle.std.proofs.lemmas.Bool.{false≢true}
 use Rattle.std.proofs.lemmas.Result.{IfErr-weaker}
 use Rattle.std.specs.Prelude.{Result, Ok, Err, OnOk, IfErr, IsErrOf}

@@ -1,4 +1,5 @@
 pub mod AddedSteps
+pub mod BuilderCalls
 pub mod GivenPaths
 pub mod Held
 pub mod Passing

@@ -1,8 +1,7 @@
 //! The core that builders share: the counted edges, and whether a query was refused.
 
-ghost use Rattle.std.specs.Prelude.{◌≡◌, ◌≢◌, ◌↔◌, ◌^◌, ◌<◌, true, false, [], if◌then◌else◌, All};
+ghost use Rattle.std.specs.Prelude.{◌≡◌, ◌↔◌, ◌^◌, ◌<◌, false, [], if◌then◌else◌, All};
 ghost use Rattle.std.specs.Prelude.{Ok, Err, IfOk, OnOk, OnErr, IsOkUnless, IsErrOf};
-ghost use Rattle.overlay_geom.specs.Edges.{weight};
 ghost use Rattle.overlay_geom.specs.Counts.{weight_of_counts};
 ghost use Rattle.overlay_geom.specs.Points.{plain_point, plain_points, InRange, AllInRange};
 ghost use Rattle.overlay_plane.specs.Arrangements.{IsReachedBy};
@@ -11,10 +10,10 @@ ghost use Rattle.overlay_arrange.specs.Arranged.{IsArrangedCarrying, most_rounds
 ghost use Rattle.overlay_arrange.specs.Content.{IsContent};
 ghost use Rattle.overlay_arrange.specs.Stores.{IsStoreReached};
 ghost use Rattle.overlay_builder.specs.AddedSteps.{AddsStep, LeavesStore, StepWeighsTooMuch};
+ghost use Rattle.overlay_builder.specs.BuilderCalls.{AddsOneAsAsked, AddsPathAsAsked};
 ghost use Rattle.overlay_builder.specs.Held.{nothing_held, plain_held, AnswersQuery};
-ghost use Rattle.overlay_builder.specs.PathLists.{carried_weight, path_as, paths_as};
-ghost use Rattle.overlay_builder.specs.PathLists.{AddsAsAsked, WouldWeighTooMuch};
-ghost use Rattle.overlay_builder.specs.Paths.{passed_edge, AddsPath, AreLight, IsTakenAs};
+ghost use Rattle.overlay_builder.specs.PathLists.{carried_weight, path_as, paths_as, AddsAsAsked};
+ghost use Rattle.overlay_builder.specs.Paths.{passed_edge, AreLight, IsTakenAs};
 
 use crate::path::{PathKind, StepCounts, add_path};
 use crate::single_step::push_step;
@@ -89,18 +88,13 @@ impl<I: IntNumber, C: EdgeCount, A: Allocator> BuilderCore<I, C, A> {
         requires light { weight_of_counts (C.counts given) < 2 ^ 31 }
         requires from { InRange I.limit (plain_point I.whole from) }
         requires to { InRange I.limit (plain_point I.whole to) }
-        ensures ok { OnOk result (AddsStep C.counts C.reverses given (plain_point I.whole from)
-            (plain_point I.whole to) self.old.edges self.new.edges) }
+        ensures added { AddsOneAsAsked carried_weight
+            (AddsStep C.counts C.reverses given (plain_point I.whole from) (plain_point I.whole to))
+            (StepWeighsTooMuch C.counts given (plain_point I.whole from) (plain_point I.whole to))
+            self.old self.new result }
         ensures store { OnOk result (LeavesStore C.writes (plain_point I.whole from) (plain_point I.whole to)
             store.old store.new) }
-        ensures kept { self.new ≡ record self.old { edges = self.new.edges } }
-        ensures light { weight (edges_in self.new.edges) < 2 ^ 31 }
-        ensures err { OnErr result (self.new ≡ self.old) }
         ensures untouched { OnErr result (store.new ≡ store.old) }
-        ensures failed { IsErrOf result OverlayError.Failed ↔ (self.old.failed ≡ true) }
-        ensures too_many { IsErrOf result OverlayError.TooManyEdges → StepWeighsTooMuch C.counts given
-            (plain_point I.whole from) (plain_point I.whole to) self.old.edges }
-        ensures no_query { result ≢ Err OverlayError.NotSettled }
     {
         self.content.note_limits();
         self.check_usable()?;
@@ -140,18 +134,10 @@ impl<I: IntNumber, C: EdgeCount, A: Allocator + Clone> BuilderCore<I, C, A> {
     ) -> Result<bool, OverlayError>
         requires light { AreLight C.counts passing }
         requires points { AllInRange I.limit (plain_points I.whole points.now) }
-        ensures ok { OnOk result (AddsPath kind (passed_edge C.counts passing)
-            (plain_points I.whole points.now) self.old.edges self.new.edges) }
+        ensures added { AddsPathAsAsked carried_weight
+            (path_as kind (passed_edge C.counts passing) (plain_points I.whole points.now)) self.old self.new result }
         ensures left_out { IfOk result (λ leaves_out. (leaves_out ≡ false)
             ↔ IsTakenAs kind (plain_points I.whole points.now) (plain_points I.whole points.now)) }
-        ensures kept { self.new ≡ record self.old { edges = self.new.edges } }
-        ensures light { weight (edges_in self.new.edges) < 2 ^ 31 }
-        ensures err { OnErr result (self.new ≡ self.old) }
-        ensures failed { IsErrOf result OverlayError.Failed ↔ (self.old.failed ≡ true) }
-        ensures too_many { IsErrOf result OverlayError.TooManyEdges
-            → WouldWeighTooMuch carried_weight
-            (path_as kind (passed_edge C.counts passing) (plain_points I.whole points.now)) self.old.edges }
-        ensures no_query { result ≢ Err OverlayError.NotSettled }
     {
         self.content.note_limits();
         self.check_usable()?;

@@ -12,6 +12,7 @@ pub mod JoinedParts
 pub mod JoinedRuns
 pub mod KeptFindings
 pub mod Located
+pub mod NextEdge
 pub mod NextEnds
 pub mod OnEdges
 pub mod OnWalls
@@ -19,6 +20,7 @@ pub mod Parities
 pub mod PredicateBuilders
 pub mod PredicatesTogether
 pub mod Pushed
+pub mod QueryAtHand
 pub mod RunsOver
 pub mod SharedBorders
 pub mod SortedEdges

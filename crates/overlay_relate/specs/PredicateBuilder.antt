@@ -1,13 +1,9 @@
 -- What contracts see of a builder for predicates, and what its calls do to it.
-use Rattle.std.specs.Prelude.{◌≡◌, ◌≢◌, ◌↔◌, ◌^◌, ◌<◌, Bool, true, false, List, [], Result, Err, OnOk, OnErr, IsErrOf}
-use Rattle.overlay_geom.specs.Edges.{CountedEdge, AddsContour, weight}
-use Rattle.overlay_geom.specs.Plane.{Point}
+use Rattle.std.specs.Prelude.{◌≡◌, Bool, false, List, [], Result}
+use Rattle.overlay_geom.specs.Edges.{CountedEdge, weight}
 use Rattle.overlay_geom.specs.declared.error.OverlayError.{OverlayError}
-use Rattle.overlay_geom.specs.declared.error.OverlayError.TheVariants.{NotSettled, TooManyEdges, Failed}
-use Rattle.overlay_arrange.specs.Content.{edge_for}
 use Rattle.overlay_arrange.specs.declared.fill_rule.FillRule.{FillRule}
-use Rattle.overlay_arrange.specs.declared.options.ShapeType.{ShapeType}
-use Rattle.overlay_builder.specs.GivenPaths.{GivenPath, ContourWeighsTooMuch, added_paths}
+use Rattle.overlay_builder.specs.GivenPaths.{GivenPath, added_paths}
 use Rattle.overlay_builder.specs.Held.{Held}
 use Rattle.overlay_builder.specs.PathLists.{AddsAsAsked}
 use Rattle.overlay_builder.specs.declared.solver.Solver.{Solver}
@@ -31,20 +27,6 @@ cleared b = record b { edges = []; failed = false }
 -- the part of it that all builders have
 abbrev pub held_by : PredicateBuilder → Held CountedEdge
 held_by b = record { edges = b.edges; failed = b.failed }
-
--- a call that adds the contour of these points, without those on one line, answers so, of the builder before and of the
--- one afterwards
-pub record PredicateBuilderAddsContour {V : Type 0} (shape_type : ShapeType) (points : List Point)
-    (old new : PredicateBuilder) (result : Result V OverlayError) : Type 0 where
-  pub ok : OnOk result (AddsContour false (edge_for shape_type) points old.edges new.edges)
-  pub light : OnOk result (weight new.edges < 2 ^ 31)
-  -- nothing but the edges changes; a refusal changes nothing
-  pub kept : new ≡ record old { edges = new.edges }
-  pub err : OnErr result (new ≡ old)
-  -- Failed exactly where the builder had failed, TooManyEdges only where the weight would come to 2^31
-  pub failed : IsErrOf result Failed ↔ (old.failed ≡ true)
-  pub too_many : IsErrOf result TooManyEdges → ContourWeighsTooMuch false shape_type points old.edges
-  pub no_query : result ≢ Err NotSettled
 
 -- a call that adds the paths, without their points on one line, answers so, of the builder before and of the one
 -- afterwards

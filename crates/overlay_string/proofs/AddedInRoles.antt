@@ -1,7 +1,7 @@
 -- What the core of a builder adds of a path, as an edge of the shape or of a string.
 use Rattle.std.proofs.Common.{◌≡◌, Bool, true, false, cond, not, pos, negsuc, List, [], ◌∷◌, map, refl, sym, ap, ap₂}
 use Rattle.std.proofs.Common.{subst}
-use Rattle.std.specs.Prelude.{Result}
+use Rattle.std.specs.Prelude.{Result, Ok, Err}
 use Rattle.overlay_geom.specs.Counts.{Counts}
 use Rattle.overlay_geom.specs.Edges.{CountedEdge, weight}
 use Rattle.overlay_geom.specs.Plane.{Point, Step, edge_of, is_forward}
@@ -10,12 +10,14 @@ use Rattle.overlay_plane.specs.Carried.{Carried, edges_in}
 use Rattle.overlay_arrange.specs.Content.{edge_with}
 use Rattle.overlay_arrange.specs.Counts.{string_counts}
 use Rattle.overlay_arrange.specs.declared.string_count.ShapeCountString.{ShapeCountString}
+use Rattle.overlay_builder.specs.BuilderCalls.{AddsPathAsAsked}
 use Rattle.overlay_builder.specs.Held.{Held, plain_held}
 use Rattle.overlay_builder.specs.PathLists.{AddsOne, AddsAsAsked, WouldWeighTooMuch}
 use Rattle.overlay_builder.specs.PathLists.{carried_weight, path_as, paths_as}
 use Rattle.overlay_builder.specs.Paths.{AddsPath, passed_edge}
 use Rattle.overlay_builder.specs.declared.path.PathKind.{PathKind}
 use Rattle.overlay_builder.specs.declared.path.StepCounts.{StepCounts}
+use Rattle.overlay_builder.proofs.BuilderCalls.{added_seen, refused_seen}
 use Rattle.overlay_builder.proofs.Mapped.{seen, one_seen, heavy_seen, adding_seen}
 use Rattle.overlay_string.specs.StringPaths.{kind_in, passing_in, edge_in, path_in, paths_in}
 use Rattle.overlay_string.specs.declared.role.PathRole.{PathRole}
@@ -76,13 +78,32 @@ module _ (role : PathRole) (kind : PathKind) (pass : StepCounts ShapeCountString
       (subst (λ k. AddsPath k (carried pass) ps old new) kind_is h))
 
   -- a path that would weigh too much
-  pub path_too_heavy : (ps : List Point) (old : List (Carried ShapeCountString))
+  path_too_heavy : (ps : List Point) (old : List (Carried ShapeCountString))
       → WouldWeighTooMuch carried_weight (path_as kind (carried pass) ps) old
       → WouldWeighTooMuch weight (path_in role ps) (edges_in old)
   path_too_heavy ps old h =
       subst (λ f. WouldWeighTooMuch weight (path_as (kind_in role) f ps) (edges_in old)) edges_alone
       (heavy_seen alone weight (path_as (kind_in role) (carried pass) ps) old
       (subst (λ k. WouldWeighTooMuch carried_weight (path_as k (carried pass) ps) old) kind_is h))
+
+  -- a call that adds a path
+  pub asked_path_added : {V W : Type 0} (ps : List Point) (old new : Held (Carried ShapeCountString)) (v : V) (w : W) →
+      AddsPathAsAsked carried_weight (path_as kind (carried pass) ps) old new (Ok v) →
+      AddsPathAsAsked weight (path_in role ps) (plain_held old) (plain_held new) (Ok w)
+  asked_path_added ps old new v w h =
+      added_seen alone weight (AddsPath kind (carried pass) ps) (AddsOne (path_in role ps))
+      (WouldWeighTooMuch carried_weight (path_as kind (carried pass) ps))
+      (WouldWeighTooMuch weight (path_in role ps)) old new (path_added ps old.edges new.edges) v w h
+
+  -- or refuses it
+  pub asked_path_refused : {V W : Type 0} (ps : List Point) (old new : Held (Carried ShapeCountString))
+      (e : OverlayError) →
+      AddsPathAsAsked {V = V} carried_weight (path_as kind (carried pass) ps) old new (Err e) →
+      AddsPathAsAsked {V = W} weight (path_in role ps) (plain_held old) (plain_held new) (Err e)
+  asked_path_refused ps old new e h =
+      refused_seen alone weight (AddsPath kind (carried pass) ps) (AddsOne (path_in role ps))
+      (WouldWeighTooMuch carried_weight (path_as kind (carried pass) ps))
+      (WouldWeighTooMuch weight (path_in role ps)) old new (path_too_heavy ps old.edges) e h
 
   -- the paths of a resource
   same_paths : (paths : List (List Point)) → map (seen alone) (paths_as (kind_in role) (carried pass) paths)

@@ -1,13 +1,12 @@
 -- What contracts see of a builder for strings over a shape, and what its calls do to it.
-use Rattle.std.specs.Prelude.{◌≡◌, ◌↔◌, ◌⊎◌, ◌^◌, ◌<◌, ℕ, Bool, true, false, List, []}
-use Rattle.std.specs.Prelude.{Result, OnOk, OnErr, IfErr, IsErrOf}
+use Rattle.std.specs.Prelude.{◌≡◌, ℕ, Bool, false, List, [], Result}
 use Rattle.overlay_geom.specs.Edges.{CountedEdge, weight}
 use Rattle.overlay_geom.specs.declared.error.OverlayError.{OverlayError}
-use Rattle.overlay_geom.specs.declared.error.OverlayError.TheVariants.{Failed}
 use Rattle.overlay_arrange.specs.Options.{AreOptions}
 use Rattle.overlay_arrange.specs.declared.options.IntOverlayOptions.{IntOverlayOptions}
+use Rattle.overlay_builder.specs.BuilderCalls.{AddsPathAsAsked}
 use Rattle.overlay_builder.specs.Held.{Held}
-use Rattle.overlay_builder.specs.PathLists.{AddedPath, AddsOne, AddsAsAsked, MayRefusePath}
+use Rattle.overlay_builder.specs.PathLists.{AddedPath, AddsAsAsked}
 
 -- a builder for strings: its options, the counted edges that it holds, and whether a query was refused
 pub record StringBuilder (U : Type 0) : Type 0 where
@@ -28,14 +27,9 @@ held_by b = record { edges = b.edges; failed = b.failed }
 -- a call that adds the path answers so, of the builder before and of the one afterwards
 pub record StringBuilderAddsOne {U V : Type 0} (path : AddedPath CountedEdge) (old new : StringBuilder U)
     (result : Result V OverlayError) : Type 0 where
-  pub ok : OnOk result (AddsOne path old.edges new.edges)
-  -- nothing but the edges changes, and their weight stays below 2^31, whatever is answered
-  pub light : weight new.edges < 2 ^ 31
+  pub added : AddsPathAsAsked weight path (held_by old) (held_by new) result
+  -- nothing but the edges changes, whatever is answered
   pub kept : new ≡ record old { edges = new.edges }
-  -- a refusal changes nothing: Failed exactly where the builder had failed, any other one is one of the path
-  pub unchanged : OnErr result (new ≡ old)
-  pub failed : IsErrOf result Failed ↔ (old.failed ≡ true)
-  pub err : IfErr result (λ e. (e ≡ Failed) ⊎ MayRefusePath weight path old.edges e)
 
 -- a call that adds the paths, one after another, does
 pub record StringBuilderAdds {U V : Type 0} (paths : List (AddedPath CountedEdge)) (old new : StringBuilder U)

@@ -28,7 +28,11 @@ pub record IsNewEdgeBuilder {U D S : Type 0} (natural : U → ℕ) (b : EdgeBuil
   pub edges : b.edges ≡ []
   pub ready : b.failed ≡ false
 
--- the part of it that all builders have, without the data
+-- the part of it that all builders have, with the data
+abbrev pub held_with_data : {U D S : Type 0} → EdgeBuilder U D S → Held (Carried (CountWithData D))
+held_with_data b = record { edges = b.edges; failed = b.failed }
+
+-- and without
 abbrev pub held_by : {U D S : Type 0} → EdgeBuilder U D S → Held CountedEdge
 held_by b = record { edges = edges_in b.edges; failed = b.failed }
 

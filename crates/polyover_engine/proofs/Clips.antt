@@ -14,10 +14,11 @@ use Rattle.overlay_arrange.specs.Arranged.{MayRefuseSplitting, most_rounds}
 use Rattle.overlay_arrange.specs.declared.fill_rule.FillRule.{FillRule}
 use Rattle.overlay_builder.specs.PathLists.{AddedPath, MayRefusePath, HoldsPaths, MayRefuseBuilder}
 use Rattle.overlay_builder.specs.PathLists.AddsPaths.{no_path}
+use Rattle.overlay_builder.proofs.BuilderCalls.{refusal_of_path}
 use Rattle.overlay_builder.proofs.PathLists.{adds_last}
 use Rattle.overlay_string.specs.ClipPaths.{AreClipped}
 use Rattle.overlay_string.specs.OneShot.{AreClippedOfPaths, MayRefusePaths}
-use Rattle.overlay_string.specs.StringBuilder.{StringBuilder, StringBuilderAddsOne}
+use Rattle.overlay_string.specs.StringBuilder.{StringBuilder, held_by, StringBuilderAddsOne}
 use Rattle.overlay_string.specs.StringPaths.{shape_contour, shape_contours}
 use Rattle.overlay_string.specs.declared.clip_rule.ClipRule.{ClipRule}
 use Rattle.overlay_string.proofs.OneShots.{clip_refused}
@@ -37,10 +38,14 @@ nothing_held b empty ready = record {
 pub adds_path : {V : Type 0} (path : AddedPath CountedEdge) (old new : StringBuilder ℕ) (r : Result V OverlayError) →
     StringBuilderAddsOne path old new r → AddsToHeld (path ∷ []) old new r
 adds_path path old new (Ok v) e = λ before h. record {
-  holds = record { added = adds_last before path [] old.edges new.edges h.holds.added e.ok; light = e.light };
+  holds = record {
+    added = adds_last before path [] old.edges new.edges h.holds.added e.added.ok;
+    light = e.added.light;
+  };
   ready = ap (λ b. b.failed) e.kept ∙ h.ready;
 }
-adds_path path old new (Err error) e = λ before h. either before h e.err
+adds_path path old new (Err error) e = λ before h.
+    either before h (refusal_of_path weight path (held_by old) (held_by new) error e.added)
   where
     by : (before : List (AddedPath CountedEdge)) → HoldsJust before old → (error : OverlayError) →
         MayRefusePath weight path old.edges error → MayRefuseBuilder (before ++ path ∷ []) error
@@ -58,7 +63,7 @@ adds_path path old new (Err error) e = λ before h. either before h e.err
 
     either : (before : List (AddedPath CountedEdge)) → HoldsJust before old →
         ((error ≡ Failed) ⊎ MayRefusePath weight path old.edges error) → MayRefuseBuilder (before ++ path ∷ []) error
-    either before h (inl same) = absurd (false≢true (sym h.ready ∙ e.failed.0 (ap Err same)))
+    either before h (inl same) = absurd (false≢true (sym h.ready ∙ e.added.failed.0 (ap Err same)))
     either before h (inr may) = by before h error may
 
 pub adds_no_path : {V : Type 0} (b : StringBuilder ℕ) (v : V) → AddsToHeld {V = V} [] b b (Ok v)

@@ -1,13 +1,13 @@
 //! What is added to a builder: closed contours, one by one or all paths of a resource.
 
-ghost use Rattle.std.specs.Prelude.{◌≡◌, ◌≢◌, ◌↔◌, ◌^◌, ◌<◌, true, List, All};
-ghost use Rattle.std.specs.Prelude.{Err, OnOk, OnErr, IsErrOf};
+ghost use Rattle.std.specs.Prelude.{◌≡◌, List, All};
 ghost use Rattle.std.specs.Iterator.{Drains, IsFinite};
 ghost use Rattle.overlay_arrange.specs.Content.{edge_for};
 ghost use Rattle.overlay_geom.specs.Edges.{AddsContour, weight};
 ghost use Rattle.overlay_geom.specs.Points.{plain_points, AllInRange};
-ghost use Rattle.i_overlay.specs.Adding.{BuilderAdds, BuilderAddsContour};
-ghost use Rattle.i_overlay.specs.Builder.{cleared};
+ghost use Rattle.overlay_builder.specs.BuilderCalls.{AddsContourAsAsked, AddsGivenAsAsked};
+ghost use Rattle.i_overlay.specs.Adding.{BuilderAdds};
+ghost use Rattle.i_overlay.specs.Builder.{cleared, held_by};
 ghost use Rattle.overlay_builder.specs.GivenPaths.{paths_for, subject_and_clip, ContourWeighsTooMuch};
 
 use crate::overlay::{Overlay, ShapeType};
@@ -33,7 +33,9 @@ impl<I: OverlayInt, A: Allocator + Clone> Overlay<I, A> {
         shape_type: ShapeType,
     ) -> Result<(), OverlayError>
         requires { AllInRange I.limit (plain_points I.whole contour.now) }
-        ensures { BuilderAddsContour shape_type (plain_points I.whole contour.now) self.old self.new result }
+        ensures added { AddsContourAsAsked self.old.options.preserve_input_collinear shape_type
+            (plain_points I.whole contour.now) (held_by self.old) (held_by self.new) result }
+        ensures kept { self.new ≡ record self.old { edges = self.new.edges } }
     {
         let kind = contour_kind(self.options.preserve_input_collinear);
         self.core
@@ -53,21 +55,16 @@ impl<I: OverlayInt, A: Allocator + Clone> Overlay<I, A> {
         requires ends { IsFinite (P.remaining iter) }
         requires in_range { (ps : List (IntPoint I)) → Drains P.next_gives iter ps
             → AllInRange I.limit (plain_points I.whole ps) }
-        ensures ok { OnOk result ((ps : List (IntPoint I)) × Drains P.next_gives iter ps
-            × AddsContour self.old.options.preserve_input_collinear (edge_for shape_type)
-            (plain_points I.whole ps) self.old.edges self.new.edges) }
-        ensures light { OnOk result (weight self.new.edges < 2 ^ 31) }
+        ensures added { let keep_points = self.old.options.preserve_input_collinear in
+            AddsGivenAsAsked weight P.next_gives iter
+            (λ ps. AddsContour keep_points (edge_for shape_type) (plain_points I.whole ps))
+            (λ ps. ContourWeighsTooMuch keep_points shape_type (plain_points I.whole ps))
+            (held_by self.old) (held_by self.new) result }
         ensures kept { self.new ≡ record self.old { edges = self.new.edges } }
-        ensures err { OnErr result (self.new ≡ self.old) }
-        ensures failed { IsErrOf result OverlayError.Failed ↔ (self.old.failed ≡ true) }
-        ensures too_many { IsErrOf result OverlayError.TooManyEdges
-            → (ps : List (IntPoint I)) × Drains P.next_gives iter ps
-            × ContourWeighsTooMuch self.old.options.preserve_input_collinear shape_type
-            (plain_points I.whole ps) self.old.edges }
-        ensures no_query { result ≢ Err OverlayError.NotSettled }
     {
+        let content = self.core.content();
         self.core.check_usable()?;
-        let points = gathered(self.core.content().allocator().clone()?, iter)?;
+        let points = gathered(content.allocator().clone()?, iter)?;
         self.add_contour(&points, shape_type)
     }
 

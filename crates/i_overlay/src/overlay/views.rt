@@ -4,8 +4,10 @@ ghost use Rattle.std.specs.Prelude.{◌≡◌, IfOk, IfSome};
 ghost use Rattle.std.specs.Borrow.{sem};
 ghost use Rattle.std.specs.Io.BufRead.{Rests};
 ghost use Rattle.overlay_arrange.specs.Arranged.{IsArranged, most_rounds};
+ghost use Rattle.overlay_builder.specs.BuilderCalls.{EndsView};
 ghost use Rattle.overlay_builder.specs.Held.{shown_edges};
-ghost use Rattle.i_overlay.specs.Views.{IsView, EndsViewed, viewed_edges};
+ghost use Rattle.i_overlay.specs.Builder.{held_by};
+ghost use Rattle.i_overlay.specs.Views.{IsView, viewed_edges};
 ghost use Rattle.i_overlay.specs.contracts.overlay.Overlay.{the_row};
 ghost use Rattle.i_overlay.specs.Queries.{BuilderAnswers};
 
@@ -36,7 +38,8 @@ impl<I: OverlayInt, A: Allocator + Clone> Overlay<I, A> {
         ensures* after { sem 𝓛 (Rests
             (the_row I.row A.row I.Wide.row I.WideUInt.row I.IntNumber I.Wide.WideIntNumber I.WideUInt.UIntNumber
             A.Allocator)
-            self.entry (λ new. EndsViewed I.limit most_rounds (λ v. viewed_edges v.viewed.now) self.old new result)) }
+            self.entry (λ new. EndsView I.limit most_rounds (λ v. viewed_edges v.viewed.now) (held_by self.old)
+            (held_by new) result × (new ≡ record self.old { edges = new.edges; failed = new.failed }))) }
     {
         let viewed = self.arranged_graph(fill_rule)?;
         let has_edges = !viewed.graph().edges().is_empty();

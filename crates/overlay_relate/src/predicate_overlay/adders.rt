@@ -1,13 +1,13 @@
 //! What is added to a builder for predicates: closed contours, one by one or all paths of a resource.
 
-ghost use Rattle.std.specs.Prelude.{◌≡◌, ◌≢◌, ◌↔◌, ◌^◌, ◌<◌, true, false, List, All};
-ghost use Rattle.std.specs.Prelude.{Err, OnOk, OnErr, IsErrOf};
+ghost use Rattle.std.specs.Prelude.{◌≡◌, false, List, All};
 ghost use Rattle.std.specs.Iterator.{Drains, IsFinite};
 ghost use Rattle.overlay_arrange.specs.Content.{edge_for};
 ghost use Rattle.overlay_geom.specs.Edges.{AddsContour, weight};
 ghost use Rattle.overlay_geom.specs.Points.{plain_points, AllInRange};
+ghost use Rattle.overlay_builder.specs.BuilderCalls.{AddsContourAsAsked, AddsGivenAsAsked};
 ghost use Rattle.overlay_builder.specs.GivenPaths.{paths_for, subject_and_clip, ContourWeighsTooMuch};
-ghost use Rattle.overlay_relate.specs.PredicateBuilder.{cleared, PredicateBuilderAdds, PredicateBuilderAddsContour};
+ghost use Rattle.overlay_relate.specs.PredicateBuilder.{cleared, held_by, PredicateBuilderAdds};
 
 use crate::predicate_overlay::{PredicateOverlay, ShapeType};
 use overlay_builder::boolean::passing;
@@ -32,7 +32,9 @@ impl<I: OverlayInt, A: Allocator + Clone> PredicateOverlay<I, A> {
         shape_type: ShapeType,
     ) -> Result<(), OverlayError>
         requires { AllInRange I.limit (plain_points I.whole contour.now) }
-        ensures { PredicateBuilderAddsContour shape_type (plain_points I.whole contour.now) self.old self.new result }
+        ensures added { AddsContourAsAsked false shape_type (plain_points I.whole contour.now)
+            (held_by self.old) (held_by self.new) result }
+        ensures kept { self.new ≡ record self.old { edges = self.new.edges } }
     {
         let kind = PathKind::Thinned;
         self.found = None;
@@ -52,20 +54,15 @@ impl<I: OverlayInt, A: Allocator + Clone> PredicateOverlay<I, A> {
         requires ends { IsFinite (P.remaining iter) }
         requires in_range { (ps : List (IntPoint I)) → Drains P.next_gives iter ps
             → AllInRange I.limit (plain_points I.whole ps) }
-        ensures ok { OnOk result ((ps : List (IntPoint I)) × Drains P.next_gives iter ps
-            × AddsContour false (edge_for shape_type)
-            (plain_points I.whole ps) self.old.edges self.new.edges) }
-        ensures light { OnOk result (weight self.new.edges < 2 ^ 31) }
+        ensures added { AddsGivenAsAsked weight P.next_gives iter
+            (λ ps. AddsContour false (edge_for shape_type) (plain_points I.whole ps))
+            (λ ps. ContourWeighsTooMuch false shape_type (plain_points I.whole ps))
+            (held_by self.old) (held_by self.new) result }
         ensures kept { self.new ≡ record self.old { edges = self.new.edges } }
-        ensures err { OnErr result (self.new ≡ self.old) }
-        ensures failed { IsErrOf result OverlayError.Failed ↔ (self.old.failed ≡ true) }
-        ensures too_many { IsErrOf result OverlayError.TooManyEdges
-            → (ps : List (IntPoint I)) × Drains P.next_gives iter ps
-            × ContourWeighsTooMuch false shape_type (plain_points I.whole ps) self.old.edges }
-        ensures no_query { result ≢ Err OverlayError.NotSettled }
     {
+        let content = self.core.content();
         self.core.check_usable()?;
-        let points = gathered(self.core.content().allocator().clone()?, iter)?;
+        let points = gathered(content.allocator().clone()?, iter)?;
         self.add_contour(&points, shape_type)
     }
 

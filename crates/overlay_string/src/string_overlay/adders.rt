@@ -1,12 +1,12 @@
 //! What is added to a builder for strings: closed contours of the shape, one by one or all paths of a resource.
 
-ghost use Rattle.std.specs.Prelude.{◌≡◌, ◌≢◌, ◌↔◌, ◌^◌, ◌<◌, true, List, All};
-ghost use Rattle.std.specs.Prelude.{Err, OnOk, OnErr, IsErrOf};
+ghost use Rattle.std.specs.Prelude.{◌≡◌, List, All};
 ghost use Rattle.std.specs.Iterator.{Drains, IsFinite};
 ghost use Rattle.overlay_geom.specs.Edges.{weight};
 ghost use Rattle.overlay_geom.specs.Points.{plain_points, AllInRange};
+ghost use Rattle.overlay_builder.specs.BuilderCalls.{AddsGivenAsAsked};
 ghost use Rattle.overlay_builder.specs.PathLists.{AddsOne, WouldWeighTooMuch};
-ghost use Rattle.overlay_string.specs.StringBuilder.{StringBuilderAddsOne, StringBuilderAdds};
+ghost use Rattle.overlay_string.specs.StringBuilder.{held_by, StringBuilderAddsOne, StringBuilderAdds};
 ghost use Rattle.overlay_string.specs.StringPaths.{shape_contour, shape_contours, path_in, paths_in};
 
 use crate::role::{PathRole, kind_in, passing_in};
@@ -43,19 +43,15 @@ impl<I: OverlayInt, A: Allocator + Clone> StringOverlay<I, A> {
         requires ends { IsFinite (P.remaining iter) }
         requires in_range { (ps : List (IntPoint I)) → Drains P.next_gives iter ps
             → AllInRange I.limit (plain_points I.whole ps) }
-        ensures ok { OnOk result ((ps : List (IntPoint I)) × Drains P.next_gives iter ps
-            × AddsOne (shape_contour (plain_points I.whole ps)) self.old.edges self.new.edges) }
-        ensures light { OnOk result (weight self.new.edges < 2 ^ 31) }
+        ensures added { AddsGivenAsAsked weight P.next_gives iter
+            (λ ps. AddsOne (shape_contour (plain_points I.whole ps)))
+            (λ ps. WouldWeighTooMuch weight (shape_contour (plain_points I.whole ps)))
+            (held_by self.old) (held_by self.new) result }
         ensures kept { self.new ≡ record self.old { edges = self.new.edges } }
-        ensures err { OnErr result (self.new ≡ self.old) }
-        ensures failed { IsErrOf result OverlayError.Failed ↔ (self.old.failed ≡ true) }
-        ensures too_many { IsErrOf result OverlayError.TooManyEdges
-            → (ps : List (IntPoint I)) × Drains P.next_gives iter ps
-            × WouldWeighTooMuch weight (shape_contour (plain_points I.whole ps)) self.old.edges }
-        ensures no_query { result ≢ Err OverlayError.NotSettled }
     {
+        let content = self.core.content();
         self.core.check_usable()?;
-        let points = gathered(self.core.content().allocator().clone()?, iter)?;
+        let points = gathered(content.allocator().clone()?, iter)?;
         self.add_shape_contour(&points)
     }
 

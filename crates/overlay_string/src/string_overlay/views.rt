@@ -6,10 +6,11 @@ ghost use Rattle.std.specs.Io.BufRead.{Rests};
 ghost use Rattle.overlay_geom.specs.Paths.{plain_shapes};
 ghost use Rattle.overlay_arrange.specs.Arranged.{IsArranged, MayRefuseSplitting, most_rounds};
 ghost use Rattle.overlay_arrange.specs.Graphs.{graph_edges};
+ghost use Rattle.overlay_builder.specs.BuilderCalls.{EndsView};
 ghost use Rattle.overlay_builder.specs.Held.{AnswersQuery, shown_edges};
 ghost use Rattle.overlay_string.specs.StringBuilder.{held_by};
 ghost use Rattle.overlay_string.specs.StringSlices.{AreSliced};
-ghost use Rattle.overlay_string.specs.StringViews.{IsStringView, EndsStringView};
+ghost use Rattle.overlay_string.specs.StringViews.{IsStringView};
 ghost use Rattle.overlay_string.specs.contracts.string_overlay.StringOverlay.{the_row};
 
 use crate::string_graph::StringGraph;
@@ -43,7 +44,8 @@ impl<I: OverlayInt, A: Allocator + Clone> StringOverlay<I, A> {
         ensures* after { sem 𝓛 (Rests
             (the_row I.row A.row I.Wide.row I.WideUInt.row I.IntNumber I.Wide.WideIntNumber I.WideUInt.UIntNumber
             A.Allocator)
-            self.entry (λ new. EndsStringView I.limit most_rounds (λ v. graph_edges v.graph.now) self.old new result)) }
+            self.entry (λ new. EndsView I.limit most_rounds (λ v. graph_edges v.graph.now) (held_by self.old)
+            (held_by new) result × (new ≡ record self.old { edges = new.edges; failed = new.failed }))) }
     {
         self.build_graph_view_with_solver(fill_rule, Solver::ABSOLUTE)
     }
@@ -61,7 +63,8 @@ impl<I: OverlayInt, A: Allocator + Clone> StringOverlay<I, A> {
         ensures* after { sem 𝓛 (Rests
             (the_row I.row A.row I.Wide.row I.WideUInt.row I.IntNumber I.Wide.WideIntNumber I.WideUInt.UIntNumber
             A.Allocator)
-            self.entry (λ new. EndsStringView I.limit most_rounds (λ v. graph_edges v.graph.now) self.old new result)) }
+            self.entry (λ new. EndsView I.limit most_rounds (λ v. graph_edges v.graph.now) (held_by self.old)
+            (held_by new) result × (new ≡ record self.old { edges = new.edges; failed = new.failed }))) }
     {
         let _ = solver;
         let arranged = self.arranged_graph(fill_rule)?;

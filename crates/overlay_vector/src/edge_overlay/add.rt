@@ -1,15 +1,18 @@
 //! Edges with data that are added to a builder.
 
-ghost use Rattle.std.specs.Prelude.{◌≡◌, ◌≢◌, ◌↔◌, ◌⊎◌, ◌^◌, ◌<◌, true, All};
-ghost use Rattle.std.specs.Prelude.{Err, IfErr, OnOk, OnErr, IsErrOf};
+ghost use Rattle.std.specs.Prelude.{◌≡◌, ◌↔◌, ◌⊎◌, ◌^◌, ◌<◌, true, All};
+ghost use Rattle.std.specs.Prelude.{IfErr, OnOk, OnErr, IsErrOf};
 ghost use Rattle.std.specs.Iterator.{IsFinite, HoldsAlong};
 ghost use Rattle.overlay_geom.specs.Edges.{weight};
 ghost use Rattle.overlay_geom.specs.Points.{plain_point};
 ghost use Rattle.overlay_plane.specs.Carried.{edges_in};
 ghost use Rattle.overlay_arrange.specs.Stores.{IsStoreReached};
 ghost use Rattle.overlay_builder.specs.AddedSteps.{LeavesStore};
+ghost use Rattle.overlay_builder.specs.BuilderCalls.{AddsOneAsAsked};
+ghost use Rattle.overlay_builder.specs.PathLists.{carried_weight};
 ghost use Rattle.overlay_vector.specs.AddedEdges.{passed_once, AddsAllGiven, AddsEdge, EdgeWeighsTooMuch};
 ghost use Rattle.overlay_vector.specs.AddedEdges.{IsEdgeInRange, StopsAtEdge};
+ghost use Rattle.overlay_vector.specs.EdgeBuilder.{held_with_data};
 
 use crate::edge_overlay::{EdgeOverlay, ShapeType};
 use crate::input_edge::InputEdge;
@@ -33,17 +36,12 @@ impl<I: OverlayInt, D: OverlayEdgeData, A: Allocator> EdgeOverlay<I, D, A> {
         shape_type: ShapeType,
     ) -> Result<(), OverlayError>
         requires { IsEdgeInRange I.whole I.limit edge }
-        ensures ok { OnOk result
-            (AddsEdge I.whole shape_type D.reverses edge self.old.edges self.new.edges) }
+        ensures added { AddsOneAsAsked carried_weight (AddsEdge I.whole shape_type D.reverses edge)
+            (EdgeWeighsTooMuch I.whole shape_type edge) (held_with_data self.old) (held_with_data self.new) result }
         ensures store { OnOk result (LeavesStore D.writes (plain_point I.whole edge.a) (plain_point I.whole edge.b)
             self.old.store self.new.store) }
-        ensures light { OnOk result (weight (edges_in self.new.edges) < 2 ^ 31) }
         ensures kept { self.new ≡ record self.old { edges = self.new.edges; store = self.new.store } }
         ensures err { OnErr result (self.new ≡ self.old) }
-        ensures failed { IsErrOf result OverlayError.Failed ↔ (self.old.failed ≡ true) }
-        ensures too_many { IsErrOf result OverlayError.TooManyEdges
-            → EdgeWeighsTooMuch I.whole shape_type edge self.old.edges }
-        ensures no_query { result ≢ Err OverlayError.NotSettled }
     {
         let given = passed_once(shape_type, edge.edge_data);
         self.core.add_step(edge.a, edge.b, given, &mut self.store)

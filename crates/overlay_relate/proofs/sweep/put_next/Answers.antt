@@ -1,39 +1,36 @@
 -- The next edge is looked for, and put in above what is under it.
-use Rattle.std.proofs.Common.{◌≡◌, ◌+◌, ◌<◌, false, not, Some, get_or, length, sym, ap, ◌∙◌, subst, arith}
-use Rattle.std.proofs.lemmas.List.{length-map, length_push, get_or_default}
+use Rattle.std.proofs.Common.{◌≡◌, ◌+◌, false, not, Some, get_or, length, sym, ap, ◌∙◌, subst, arith}
+use Rattle.std.proofs.lemmas.List.{length_push, get_or_default}
 use Rattle.overlay_geom.specs.Plane.{Edge}
-use Rattle.overlay_geom.proofs.Mapped.{read_mapped}
 use Rattle.overlay_scan.proofs.LinesFit.{line_fits}
 use Rattle.overlay_relate.specs.Sweeps.{wide_edge, wide_edges, AreTold, IsSwept}
-use Rattle.overlay_relate.proofs.Swept.{is_asked, is_over, may_move, meets, fresh, later_starts, moved_on, put_in}
+use Rattle.overlay_relate.proofs.NextEdge.{next_read, next_moved}
+use Rattle.overlay_relate.proofs.Swept.{is_asked, is_over, may_move, meets, fresh, put_in}
 use Rattle.overlay_relate.proofs.Told.{next_told, told_more}
 use Rattle.overlay_relate.proofs.sweep.put_next.Goals as goal
 
 pub first_less-below-requires : goal.first_less-below-requires
 first_less-below-requires g c =
-    let whole = g.I.IntNumber.whole in
     let limit = g.I.IntNumber.limit in
-    let fs = wide_edges whole c.args.edges.now in
+    let fs = wide_edges g.I.IntNumber.whole c.args.edges.now in
     let n = c.len-place.result in
-    let e = wide_edge whole c.index-edges-place.result in
+    let e = wide_edge g.I.IntNumber.whole c.index-edges-place.result in
     let s = g.S.Scan.content c.args.scan.now in
     let held = c.args.inside.now.ok.0 in
     let counted = c.len-place.ensures in
     let at : n ≡ length c.args.inside.now.items = omega arith in
-    let within : n < length c.args.edges.now = let w = c.requires.within in omega arith in
-    let lt : n < length fs = rw length-map within in
-    let is : get_or fs n e ≡ e = read_mapped (wide_edge whole) c.args.edges.now n c.index-edges-place.result e within
-    c.index-edges-place.is in
-    let swept : IsSwept limit fs n s = subst (λ m. IsSwept limit fs m s) (sym at) c.requires.swept in (
+    let next = next_read (wide_edge g.I.IntNumber.whole) limit c.args.edges.now (length c.args.inside.now.items) n
+    c.index-edges-place.result (g.S.Scan.content c.args.scan.now) at c.requires.within c.index-edges-place.is
+    c.requires.swept in (
       line_fits _ _ g.met.I.IntNumber.small.align_bound g.met.I.IntNumber.small.size_bound,
       (
-        swept.state,
+        next.swept.state,
         (
-          may_move fs c.requires.edges n e lt is limit s swept,
+          may_move fs c.requires.edges n e next.within next.read limit s next.swept,
           (
-            is_asked fs c.requires.edges n e lt is limit (c.index-edges-place.result).a_in_range
+            is_asked fs c.requires.edges n e next.within next.read limit (c.index-edges-place.result).a_in_range
                 (c.index-edges-place.result).b_in_range,
-            meets fs c.requires.edges n e lt is limit s swept,
+            meets fs c.requires.edges n e next.within next.read limit s next.swept,
           ),
         ),
       ),
@@ -41,34 +38,31 @@ first_less-below-requires g c =
 
 pub insert-requires : goal.insert-requires
 insert-requires g c =
-    let whole = g.I.IntNumber.whole in
     let limit = g.I.IntNumber.limit in
-    let fs = wide_edges whole c.args.edges.now in
+    let fs = wide_edges g.I.IntNumber.whole c.args.edges.now in
     let n = c.len-place.result in
-    let e = wide_edge whole c.index-edges-place.result in
-    let s = g.S.Scan.content c.args.scan.now in
+    let e = wide_edge g.I.IntNumber.whole c.index-edges-place.result in
     let held = c.args.inside.now.ok.0 in
     let counted = c.len-place.ensures in
     let at : n ≡ length c.args.inside.now.items = omega arith in
-    let within : n < length c.args.edges.now = let w = c.requires.within in omega arith in
-    let lt : n < length fs = rw length-map within in
-    let is : get_or fs n e ≡ e = read_mapped (wide_edge whole) c.args.edges.now n c.index-edges-place.result e within
-    c.index-edges-place.is in
-    let swept : IsSwept limit fs n s = subst (λ m. IsSwept limit fs m s) (sym at) c.requires.swept in
+    let next = next_read (wide_edge g.I.IntNumber.whole) limit c.args.edges.now (length c.args.inside.now.items) n
+    c.index-edges-place.result (g.S.Scan.content c.args.scan.now) at c.requires.within c.index-edges-place.is
+    c.requires.swept in
     let t = g.S.Scan.content c.first_less-below.new.self in
-    let moved : IsSwept limit fs n t = moved_on limit fs n s swept e.a.x
-    (may_move fs c.requires.edges n e lt is limit s swept)
-    (later_starts fs c.requires.edges n e lt is) t c.first_less-below.ensures.content
-    c.first_less-below.ensures.state in (
+    let moved = next_moved limit fs c.requires.edges n e (g.S.Scan.content c.args.scan.now) t next
+    c.first_less-below.ensures.content c.first_less-below.ensures.state in (
       line_fits _ _ g.met.I.IntNumber.small.align_bound g.met.I.IntNumber.small.size_bound,
       (
-        moved.state,
+        moved.swept.state,
         (
-          may_move fs c.requires.edges n e lt is limit t moved,
+          may_move fs c.requires.edges n e next.within next.read limit t moved.swept,
           (
-            is_over fs c.requires.edges n e lt is limit (c.index-edges-place.result).a_in_range
+            is_over fs c.requires.edges n e next.within next.read limit (c.index-edges-place.result).a_in_range
                 (c.index-edges-place.result).b_in_range,
-            (meets fs c.requires.edges n e lt is limit t moved, fresh fs c.requires.edges n e lt is limit t moved),
+            (
+              meets fs c.requires.edges n e next.within next.read limit t moved.swept,
+              fresh fs c.requires.edges n e next.within next.read limit t moved.swept,
+            ),
           ),
         ),
       ),
@@ -79,70 +73,61 @@ returns-clause-counted g c = ap length c.in_ok-push.ensures.items ∙ length_pus
 
 pub returns-clause-swept : goal.returns-clause-swept
 returns-clause-swept g c =
-    let whole = g.I.IntNumber.whole in
     let limit = g.I.IntNumber.limit in
-    let fs = wide_edges whole c.args.edges.now in
+    let fs = wide_edges g.I.IntNumber.whole c.args.edges.now in
     let n = c.len-place.result in
-    let e = wide_edge whole c.index-edges-place.result in
-    let s = g.S.Scan.content c.args.scan.now in
+    let e = wide_edge g.I.IntNumber.whole c.index-edges-place.result in
     let held = c.args.inside.now.ok.0 in
     let counted = c.len-place.ensures in
     let at : n ≡ length c.args.inside.now.items = omega arith in
-    let within : n < length c.args.edges.now = let w = c.requires.within in omega arith in
-    let lt : n < length fs = rw length-map within in
-    let is : get_or fs n e ≡ e = read_mapped (wide_edge whole) c.args.edges.now n c.index-edges-place.result e within
-    c.index-edges-place.is in
-    let swept : IsSwept limit fs n s = subst (λ m. IsSwept limit fs m s) (sym at) c.requires.swept in
+    let next = next_read (wide_edge g.I.IntNumber.whole) limit c.args.edges.now (length c.args.inside.now.items) n
+    c.index-edges-place.result (g.S.Scan.content c.args.scan.now) at c.requires.within c.index-edges-place.is
+    c.requires.swept in
     let t = g.S.Scan.content c.first_less-below.new.self in
-    let moved : IsSwept limit fs n t = moved_on limit fs n s swept e.a.x
-    (may_move fs c.requires.edges n e lt is limit s swept)
-    (later_starts fs c.requires.edges n e lt is) t c.first_less-below.ensures.content
-    c.first_less-below.ensures.state in
+    let moved = next_moved limit fs c.requires.edges n e (g.S.Scan.content c.args.scan.now) t next
+    c.first_less-below.ensures.content c.first_less-below.ensures.state in
     let pushed : n + 1 ≡ length c.push.new.self.items = ap (λ m. m + 1) at
     ∙ sym (ap length c.in_ok-push.ensures.items ∙ length_push c.args.inside.now.items _) in
     subst (λ m. IsSwept limit fs m (g.S.Scan.content c.insert.new.self)) pushed
-    (put_in fs c.requires.edges n e lt is limit t moved (g.S.Scan.content c.insert.new.self) c.in_ok-insert.ensures.ok
+    (put_in fs c.requires.edges n e next.within next.read limit t moved.swept (g.S.Scan.content c.insert.new.self)
+    c.in_ok-insert.ensures.ok
     c.in_ok-insert.ensures.reached
     c.in_ok-insert.ensures.state)
 
 pub returns-clause-reached : goal.returns-clause-reached
 returns-clause-reached g c = λ f here.
-    let whole = g.I.IntNumber.whole in
     let limit = g.I.IntNumber.limit in
-    let fs = wide_edges whole c.args.edges.now in
+    let fs = wide_edges g.I.IntNumber.whole c.args.edges.now in
     let n = c.len-place.result in
-    let e = wide_edge whole c.index-edges-place.result in
-    let s = g.S.Scan.content c.args.scan.now in
+    let e = wide_edge g.I.IntNumber.whole c.index-edges-place.result in
     let held = c.args.inside.now.ok.0 in
     let counted = c.len-place.ensures in
     let at : n ≡ length c.args.inside.now.items = omega arith in
-    let within : n < length c.args.edges.now = let w = c.requires.within in omega arith in
-    let lt : n < length fs = rw length-map within in
-    let is : get_or fs n e ≡ e = read_mapped (wide_edge whole) c.args.edges.now n c.index-edges-place.result e within
-    c.index-edges-place.is in
-    let swept : IsSwept limit fs n s = subst (λ m. IsSwept limit fs m s) (sym at) c.requires.swept in
+    let next = next_read (wide_edge g.I.IntNumber.whole) limit c.args.edges.now (length c.args.inside.now.items) n
+    c.index-edges-place.result (g.S.Scan.content c.args.scan.now) at c.requires.within c.index-edges-place.is
+    c.requires.swept in
     c.in_ok-insert.ensures.reached
-    ∙ ap (λ (k : Edge). Some k.a.x) (sym is ∙ get_or_default fs n e f lt ∙ ap (λ m. get_or fs m f) at ∙ here)
+    ∙ ap (λ (k : Edge). Some k.a.x) (sym next.read ∙ get_or_default fs n e f next.within ∙ ap (λ m. get_or fs m f) at
+    ∙ here)
 
 pub returns-clause-told : goal.returns-clause-told
 returns-clause-told g c = λ es of by told.
-    let whole = g.I.IntNumber.whole in
     let limit = g.I.IntNumber.limit in
-    let fs = wide_edges whole c.args.edges.now in
+    let fs = wide_edges g.I.IntNumber.whole c.args.edges.now in
     let n = c.len-place.result in
-    let e = wide_edge whole c.index-edges-place.result in
+    let e = wide_edge g.I.IntNumber.whole c.index-edges-place.result in
     let s = g.S.Scan.content c.args.scan.now in
     let held = c.args.inside.now.ok.0 in
     let counted = c.len-place.ensures in
     let at : n ≡ length c.args.inside.now.items = omega arith in
-    let within : n < length c.args.edges.now = let w = c.requires.within in omega arith in
-    let lt : n < length fs = rw length-map within in
-    let is : get_or fs n e ≡ e = read_mapped (wide_edge whole) c.args.edges.now n c.index-edges-place.result e within
-    c.index-edges-place.is in
-    let swept : IsSwept limit fs n s = subst (λ m. IsSwept limit fs m s) (sym at) c.requires.swept in
+    let next = next_read (wide_edge g.I.IntNumber.whole) limit c.args.edges.now (length c.args.inside.now.items) n
+    c.index-edges-place.result (g.S.Scan.content c.args.scan.now) at c.requires.within c.index-edges-place.is
+    c.requires.swept in
     let inside = c.args.inside.now.items in
     let below = c.first_less-below.result in
     subst (AreTold es fs) (sym c.in_ok-push.ensures.items)
-    (told_more es fs of by n e lt is limit s swept inside (sym at) told (not c.is_told-is_inside.result)
+    (told_more es fs of by n e next.within next.read limit s next.swept inside (sym at) told
+    (not c.is_told-is_inside.result)
     (ap not (c.is_told-is_inside.ensures ∙ ap (λ xs. get_or xs below false) c.deref.ensures.value)
-    ∙ next_told es fs of by n e lt is limit s swept inside (sym at) told below c.first_less-below.ensures.value))
+    ∙ next_told es fs of by n e next.within next.read limit s next.swept inside (sym at) told below
+    c.first_less-below.ensures.value))

@@ -1,5 +1,5 @@
 -- The contour is read at its smallest point, from the points before and after it.
-use Rattle.std.proofs.Common.{◌≡◌, inl, inr, ◌<ℤ◌, ◌≤ℤ◌, ℤ, pos, true, false, length, sym, ap, ap₂, ◌∙◌}
+use Rattle.std.proofs.Common.{◌≡◌, inl, inr, ◌<ℤ◌, ◌≤ℤ◌, pos, length, sym, ap, ap₂, ◌∙◌}
 use Rattle.std.proofs.Common.{subst}
 use Rattle.std.proofs.Common.{arith}
 use Rattle.std.proofs.lemmas.List.{length-map}

@@ -1,5 +1,5 @@
 -- A smaller point takes the place of the smallest one so far.
-use Rattle.std.proofs.Common.{◌≡◌, ◌+◌, ◌<◌, length, false, true, sym, ap, ap₂, ◌∙◌, subst, arith}
+use Rattle.std.proofs.Common.{◌≡◌, ◌+◌, ◌<◌, length, sym, ap, ap₂, ◌∙◌, subst, arith}
 use Rattle.std.proofs.lemmas.List.{length-map}
 use Rattle.std.specs.Ordering.{is_lt}
 use Rattle.overlay_geom.specs.Plane.{point_lt}

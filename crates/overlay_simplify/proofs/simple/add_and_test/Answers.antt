@@ -1,5 +1,5 @@
 -- The contour is all that is held, and then arranged; the tests tell whether it is simple.
-use Rattle.std.proofs.Common.{◌≡◌, ◌≤◌, true, false, not, ◌&&◌, [], ◌∷◌, length, Err, sym, ap, subst, ◌∙◌}
+use Rattle.std.proofs.Common.{◌≡◌, ◌≤◌, not, ◌&&◌, [], ◌∷◌, length, Err, sym, ap, subst, ◌∙◌}
 use Rattle.std.proofs.lemmas.Bool.{false≢true}
 use Rattle.std.proofs.lemmas.List.{length-map}
 use Rattle.std.proofs.lemmas.Result.{err_from_is_err_and}
@@ -18,7 +18,7 @@ use Rattle.overlay_simplify.proofs.simple.add_and_test.Goals as goal
 
 pub returns-in_err-leaves_out-clause-err : goal.returns-in_err-leaves_out-clause-err
 returns-in_err-leaves_out-clause-err g c =
-    let e = c.in_err-leaves_out.ensures in
+    let e = c.in_err-leaves_out.ensures.added in
     let p = err_from_is_err_and c.from_residual.result c.from_residual.ensures.1 in
     rw (p.1, p.2) (one_refused c.args.keeps_points (plain_points g.I.IntNumber.whole c.args.contour.now)
     c.in_err-leaves_out.field-0.0
@@ -37,8 +37,8 @@ returns-in_err-is_cut-clause-err g c =
     (held_alone c.args.keeps_points ps (edges_in c.add_path.new.self.edges)
     (path_added c.args.keeps_points c.contour_kind-kind.result c.contour_kind-kind.ensures
     c.passing_without_data-passing.result c.passing_without_data-passing.ensures c.args.core.now c.requires.nothing ps
-    c.add_path.new.self c.in_ok-leaves_out.ensures.ok) c.in_ok-leaves_out.ensures.light)
-    (ap (λ h. h.failed) c.in_ok-leaves_out.ensures.kept ∙ ap (λ h. h.failed) c.requires.nothing)
+    c.add_path.new.self c.in_ok-leaves_out.ensures.added.ok) c.in_ok-leaves_out.ensures.added.light)
+    (c.in_ok-leaves_out.ensures.added.kept ∙ ap (λ h. h.failed) c.requires.nothing)
     c.in_err-is_cut.ensures.query)
 
 pub direction_of-requires-clause-once : goal.direction_of-requires-clause-once
@@ -62,7 +62,7 @@ direction_of-requires-clause-some g c =
     (edges_in c.add_path.new.self.edges) (edges_in c.arrange.new.self.edges)
     (path_added c.args.keeps_points c.contour_kind-kind.result c.contour_kind-kind.ensures
     c.passing_without_data-passing.result c.passing_without_data-passing.ensures c.args.core.now c.requires.nothing ps
-    c.add_path.new.self c.in_ok-leaves_out.ensures.ok)
+    c.add_path.new.self c.in_ok-leaves_out.ensures.added.ok)
     c.in_ok-leaves_out.leaves_out c.in_ok-is_cut.is_cut c.in_ok-leaves_out.ensures.left_out
     c.in_ok-is_cut.ensures.cut (sym whole ∙ c.if-is_whole.true)
     (c.in_ok-visits_each_once.ensures.ok.0 c.if-branch.true).0
@@ -77,7 +77,7 @@ returns-then-branch-clause-arranged g c =
           (path_added c.args.keeps_points c.contour_kind-kind.result c.contour_kind-kind.ensures
           c.passing_without_data-passing.result c.passing_without_data-passing.ensures c.args.core.now
           c.requires.nothing ps
-          c.add_path.new.self c.in_ok-leaves_out.ensures.ok) c.in_ok-leaves_out.ensures.light;
+          c.add_path.new.self c.in_ok-leaves_out.ensures.added.ok) c.in_ok-leaves_out.ensures.added.light;
       arranged = c.in_ok-is_cut.ensures.query.arranged;
     }
 
@@ -100,7 +100,7 @@ returns-then-branch-clause-outcome g c =
     (edges_in c.add_path.new.self.edges) (edges_in c.arrange.new.self.edges)
     (path_added c.args.keeps_points c.contour_kind-kind.result c.contour_kind-kind.ensures
     c.passing_without_data-passing.result c.passing_without_data-passing.ensures c.args.core.now c.requires.nothing ps
-    c.add_path.new.self c.in_ok-leaves_out.ensures.ok)
+    c.add_path.new.self c.in_ok-leaves_out.ensures.added.ok)
     c.in_ok-leaves_out.leaves_out c.in_ok-is_cut.is_cut c.in_ok-leaves_out.ensures.left_out
     c.in_ok-is_cut.ensures.cut (sym whole ∙ c.if-is_whole.true)
     (c.in_ok-visits_each_once.ensures.ok.0 c.if-branch.true).0
@@ -115,7 +115,7 @@ returns-clause-arranged g c =
           (path_added c.args.keeps_points c.contour_kind-kind.result c.contour_kind-kind.ensures
           c.passing_without_data-passing.result c.passing_without_data-passing.ensures c.args.core.now
           c.requires.nothing ps
-          c.add_path.new.self c.in_ok-leaves_out.ensures.ok) c.in_ok-leaves_out.ensures.light;
+          c.add_path.new.self c.in_ok-leaves_out.ensures.added.ok) c.in_ok-leaves_out.ensures.added.light;
       arranged = c.in_ok-is_cut.ensures.query.arranged;
     }
 
@@ -139,7 +139,7 @@ returns-clause-outcome g c = λ simple.
           (path_added c.args.keeps_points c.contour_kind-kind.result c.contour_kind-kind.ensures
           c.passing_without_data-passing.result c.passing_without_data-passing.ensures c.args.core.now
           c.requires.nothing ps
-          c.add_path.new.self c.in_ok-leaves_out.ensures.ok)
+          c.add_path.new.self c.in_ok-leaves_out.ensures.added.ok)
           c.in_ok-leaves_out.leaves_out c.in_ok-is_cut.is_cut c.in_ok-leaves_out.ensures.left_out
           c.in_ok-is_cut.ensures.cut simple)
     ]

@@ -1,7 +1,7 @@
 -- The path has the piece's two ends, seen on the way, and what goes on from there.
 use Rattle.std.proofs.Common.{[], ◌∷◌, ◌++◌, ap, ap₂, ◌∙◌, subst}
 use Rattle.overlay_geom.specs.Points.{plain_point, plain_points}
-use Rattle.overlay_string.specs.Pieces.{plain_piece, GoesOn, turned}
+use Rattle.overlay_string.specs.Pieces.{plain_piece, GoesOn}
 use Rattle.overlay_geom.proofs.Mapped.{map-reverse}
 use Rattle.overlay_string.proofs.JoinedPaths.{ends, found_onward, found_back}
 use Rattle.overlay_string.proofs.joined_paths.path_of.Goals as goal

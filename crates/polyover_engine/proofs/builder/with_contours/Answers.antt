@@ -29,18 +29,18 @@ returns-in_err-add_contour g c =
     let p = err_from_is_err_and c.from_residual-in_err-add_contour.result
     c.from_residual-in_err-add_contour.ensures.1 in
     let here = contour_here c.args.contours.now _ _ c.given-item.result refl c.loop-given-test.true c.given-item.is in
-    let e = c.in_err-add_contour.ensures in
+    let added = c.in_err-add_contour.ensures.added in
     let b = c.loop-given.overlay in
     let held = c.loop-given.invariant in
     rw (p.1, p.2) (contour_refused _ c.loop-given.given-index (path_at c.given-item.result.contour) b.edges
     held.holds here.0 here.1 _
-    (λ same. false≢true (sym held.made.ready ∙ e.failed.0 (ap Err same)))
+    (λ same. false≢true (sym held.made.ready ∙ added.failed.0 (ap Err same)))
     (λ same. subst (λ keep. ContourWeighsTooMuch keep c.given-item.result.contour.shape_type
     (points_at c.given-item.result.contour.points.items) b.edges) held.made.options.input_kept
     (subst (λ ps. ContourWeighsTooMuch b.options.preserve_input_collinear c.given-item.result.contour.shape_type
     (points_at ps) b.edges)
-    c.deref.ensures.value (e.too_many (ap Err same))))
-    (λ same. e.no_query (ap Err same)))
+    c.deref.ensures.value (added.too_many (ap Err same))))
+    (λ same. added.no_query (ap Err same)))
 
 pub loop-given-preserved : goal.loop-given-preserved
 loop-given-preserved g c =
@@ -52,8 +52,8 @@ loop-given-preserved g c =
     (subst
     (λ ps. AddsContour b.options.preserve_input_collinear (edge_for c.given-item.result.contour.shape_type)
     (points_at ps) b.edges c.add_contour.new.self.edges)
-    c.deref.ensures.value e.ok)
-    e.light e.kept
+    c.deref.ensures.value e.added.ok)
+    e.added.light e.kept
 
 pub returns : goal.returns
 returns g c =

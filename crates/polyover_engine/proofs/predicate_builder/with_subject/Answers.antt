@@ -40,16 +40,16 @@ returns-in_err-add_contour g c =
     let given = contour_here c.args.contours.now _ _ c.given-item.result refl c.loop-given-test.true c.given-item.is in
     let path = path_at c.given-item.result.contour in
     let here = taken_here c.args.subject _ c.loop-given.given-index path given.0 given.1 in
-    let e = c.in_err-add_contour.ensures in
+    let added = c.in_err-add_contour.ensures.added in
     let b = c.loop-given.overlay in
     let held = c.loop-given.invariant in
     rw (p.1, p.2) (contour_refused _ c.loop-given.given-index (taken_path c.args.subject path) b.edges
     held.holds here.0 here.1 _
-    (λ same. false≢true (sym held.ready ∙ e.failed.0 (ap Err same)))
+    (λ same. false≢true (sym held.ready ∙ added.failed.0 (ap Err same)))
     (λ same. subst (λ t. ContourWeighsTooMuch false t path.points b.edges) c.taken_for-shape_type.ensures
     (subst (λ ps. ContourWeighsTooMuch false c.taken_for-shape_type.result (points_at ps) b.edges)
-    c.deref.ensures.value (e.too_many (ap Err same))))
-    (λ same. e.no_query (ap Err same)))
+    c.deref.ensures.value (added.too_many (ap Err same))))
+    (λ same. added.no_query (ap Err same)))
 
 pub loop-given-preserved : goal.loop-given-preserved
 loop-given-preserved g c =
@@ -65,8 +65,8 @@ loop-given-preserved g c =
           new.edges
           (subst (λ t. AddsContour false (edge_for t) path.points b.edges new.edges) c.taken_for-shape_type.ensures
           (subst (λ ps. AddsContour false (edge_for c.taken_for-shape_type.result) (points_at ps) b.edges new.edges)
-          c.deref.ensures.value e.ok))
-          e.light;
+          c.deref.ensures.value e.added.ok))
+          e.added.light;
       ready = ap (λ o. o.failed) e.kept ∙ held.ready;
       rule = ap (λ o. o.fill_rule) e.kept ∙ held.rule;
     }

@@ -1,31 +1,24 @@
 -- What is added is what the iterator gives.
 use Rattle.std.proofs.Common.{subst}
-use Rattle.std.proofs.lemmas.Result.{on_ok_weaker}
 use Rattle.overlay_arrange.specs.Content.{edge_for}
-use Rattle.overlay_geom.specs.Edges.{AddsContour}
+use Rattle.overlay_geom.specs.Edges.{AddsContour, weight}
 use Rattle.overlay_geom.specs.Points.{plain_points}
+use Rattle.overlay_builder.specs.BuilderCalls.{AddsContourAsAsked}
 use Rattle.overlay_builder.specs.GivenPaths.{ContourWeighsTooMuch}
+use Rattle.overlay_builder.proofs.BuilderCalls.{given_added}
+use Rattle.i_overlay.specs.Builder.{held_by}
 use Rattle.i_overlay.proofs.overlay.Overlay.add_path_iter.Goals as goal
 
-pub returns-clause-ok : goal.returns-clause-ok
-returns-clause-ok g c =
+pub returns-clause-added : goal.returns-clause-added
+returns-clause-added g c =
+    let whole = g.I.IntNumber.whole in
     let keep = c.args.self.now.options.preserve_input_collinear in
-    on_ok_weaker c.add_contour.result
-    (λ adds. (
-      c.in_ok-points.points.items,
-      c.in_ok-points.ensures.ok,
-      subst (λ ps. AddsContour keep (edge_for c.args.shape_type) (plain_points g.I.IntNumber.whole ps)
-          c.args.self.now.edges c.add_contour.new.self.edges)
-          c.deref.ensures.value adds,
-    ))
-    c.add_contour.ensures.ok
-
-pub returns-clause-too_many : goal.returns-clause-too_many
-returns-clause-too_many g c = λ same.
-    let keep = c.args.self.now.options.preserve_input_collinear in (
-      c.in_ok-points.points.items,
-      c.in_ok-points.ensures.ok,
-      subst (λ ps. ContourWeighsTooMuch keep c.args.shape_type (plain_points g.I.IntNumber.whole ps)
-          c.args.self.now.edges) c.deref.ensures.value
-          (c.add_contour.ensures.too_many same),
-    )
+    let t = c.args.shape_type in
+    let old = held_by c.args.self.now in
+    let new = held_by c.add_contour.new.self in
+    given_added weight g.P.Iterator.next_gives c.args.iter
+    (λ ps. AddsContour keep (edge_for t) (plain_points whole ps))
+    (λ ps. ContourWeighsTooMuch keep t (plain_points whole ps)) old new c.in_ok-points.points.items
+    c.in_ok-points.ensures.ok c.add_contour.result
+    (subst (λ ps. AddsContourAsAsked keep t (plain_points whole ps) old new c.add_contour.result)
+    c.deref.ensures.value c.add_contour.ensures.added)

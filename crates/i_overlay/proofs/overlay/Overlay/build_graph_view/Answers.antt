@@ -3,9 +3,11 @@ use Rattle.std.proofs.Common.{◌≡◌, IfSome, true, [], refl, sym, ap, subst,
 use Rattle.overlay_plane.specs.Carried.{edges_in}
 use Rattle.overlay_arrange.specs.Arranged.{IsArranged, most_rounds}
 use Rattle.overlay_arrange.specs.Graphs.{carried_vector}
+use Rattle.i_overlay.specs.Builder.{held_by}
 use Rattle.i_overlay.specs.Views.{IsView, viewed_edges}
+use Rattle.overlay_builder.proofs.BuilderCalls.{view_ended}
 use Rattle.overlay_builder.proofs.ReadEdges.{some_read, none_read}
-use Rattle.i_overlay.proofs.Views.{is_view, ends_viewed}
+use Rattle.i_overlay.proofs.Views.{is_view}
 use Rattle.i_overlay.proofs.overlay.Overlay.build_graph_view.Goals.{in_default-via-in-Some+else-has_edges}
 use Rattle.i_overlay.proofs.overlay.Overlay.build_graph_view.Goals.{in_default-via-in_default}
 use Rattle.i_overlay.proofs.overlay.Overlay.build_graph_view.Goals as goal
@@ -25,8 +27,12 @@ returns-in-Some g c =
       (
         refl,
         (λ _. tt),
-        ends_viewed limit most_rounds c.args.self.now new seen made.answers.query made.edges c.self.view_is
-            seen_is made.answers.kept,
+        (
+          view_ended held_by limit most_rounds (held_by c.args.self.now) new seen made.answers.query c.self.view_is
+              seen_is,
+          subst (λ b. b ≡ record c.args.self.now { edges = b.edges; failed = b.failed }) (sym c.self.view_is)
+              made.answers.kept,
+        ),
       ),
       record {
         arranged = subst (λ o. IfSome o (λ v. IsArranged most_rounds c.args.self.now.edges (viewed_edges v)))
@@ -54,8 +60,12 @@ returns-in_default g c =
       (
         refl,
         (λ _. tt),
-        ends_viewed limit most_rounds c.args.self.now new seen made.answers.query made.edges c.self.view_is
-            (sym none) made.answers.kept,
+        (
+          view_ended held_by limit most_rounds (held_by c.args.self.now) new seen made.answers.query c.self.view_is
+              (sym none),
+          subst (λ b. b ≡ record c.args.self.now { edges = b.edges; failed = b.failed }) (sym c.self.view_is)
+              made.answers.kept,
+        ),
       ),
       record {
         arranged = subst (IsArranged most_rounds c.args.self.now.edges) none made.answers.query.arranged;

@@ -1,9 +1,9 @@
 -- Each path is added after those before it; where one is refused those before it stay.
-use Rattle.std.proofs.Common.{◌≡◌, ◌^◌, ◌<◌, false, Err, rules, sym, subst, ap}
+use Rattle.std.proofs.Common.{◌≡◌, ◌^◌, ◌<◌, false, rules, subst}
 use Rattle.std.proofs.lemmas.Result.{err_from_is_err_and}
 use Rattle.overlay_geom.specs.Points.{plain_points, AllInRange}
 use Rattle.overlay_geom.proofs.ReadInOrder.{All-read}
-use Rattle.overlay_builder.specs.PathLists.{carried_weight, paths_as, AddsAsAsked}
+use Rattle.overlay_builder.specs.PathLists.{carried_weight}
 use Rattle.overlay_builder.specs.Paths.{passed_edge}
 use Rattle.overlay_builder.proofs.SourcePaths.{none_added_first, next_added, next_refused}
 use Rattle.overlay_builder.proofs.builder_core.BuilderCore.add_paths.Goals as goal
@@ -23,23 +23,18 @@ add_path-requires-clause-points g c =
 
 pub loop-index-preserved : goal.loop-index-preserved
 loop-index-preserved g c =
-    let e = c.in_ok-add_path.ensures in
     next_added carried_weight c.args.kind (passed_edge g.C.EdgeCount.counts c.args.passing)
     (g.R0.IntShapeResource.paths c.args.resource.now) c.loop-index.index
     (plain_points g.I.IntNumber.whole c.path.result.now) c.path.ensures
-    c.args.self.now c.loop-index.self c.loop-index.invariant c.add_path.new.self e.ok e.light
-    (ap (λ b. b.failed) e.kept)
+    c.args.self.now c.loop-index.self c.loop-index.invariant c.add_path.new.self c.in_ok-add_path.field-0
+    c.in_ok-add_path.ensures.added
 
 pub returns-in_err-add_path : goal.returns-in_err-add_path
 returns-in_err-add_path g c =
-    let paths = g.R0.IntShapeResource.paths c.args.resource.now in
-    let edge = passed_edge g.C.EdgeCount.counts c.args.passing in
-    let e = c.in_err-add_path.ensures in
     let p = err_from_is_err_and c.from_residual-in_err-add_path.result c.from_residual-in_err-add_path.ensures.1 in
-    let error = c.in_err-add_path.field-0.0 in
-    rw (p.1, p.2) (subst (λ b. AddsAsAsked {V = Unit {0}} carried_weight (paths_as c.args.kind edge paths)
-    c.args.self.now b (Err error)) (sym e.err)
-    (next_refused carried_weight c.args.kind edge paths c.loop-index.index
+    rw (p.1, p.2)
+    (next_refused carried_weight c.args.kind (passed_edge g.C.EdgeCount.counts c.args.passing)
+    (g.R0.IntShapeResource.paths c.args.resource.now) c.loop-index.index
     (plain_points g.I.IntNumber.whole c.path.result.now) c.path.ensures
-    c.args.self.now c.loop-index.self c.loop-index.invariant error (λ is. e.failed.0 (ap Err is))
-    (λ is. e.too_many (ap Err is)) (λ is. e.no_query (ap Err is))))
+    c.args.self.now c.loop-index.self c.loop-index.invariant c.add_path.new.self c.in_err-add_path.field-0.0
+    c.in_err-add_path.ensures.added)

@@ -1,29 +1,23 @@
 -- What is added is what the iterator gives.
 use Rattle.std.proofs.Common.{subst, false}
-use Rattle.std.proofs.lemmas.Result.{on_ok_weaker}
 use Rattle.overlay_arrange.specs.Content.{edge_for}
-use Rattle.overlay_geom.specs.Edges.{AddsContour}
+use Rattle.overlay_geom.specs.Edges.{AddsContour, weight}
 use Rattle.overlay_geom.specs.Points.{plain_points}
+use Rattle.overlay_builder.specs.BuilderCalls.{AddsContourAsAsked}
 use Rattle.overlay_builder.specs.GivenPaths.{ContourWeighsTooMuch}
+use Rattle.overlay_builder.proofs.BuilderCalls.{given_added}
+use Rattle.overlay_relate.specs.PredicateBuilder.{held_by}
 use Rattle.overlay_relate.proofs.predicate_overlay.PredicateOverlay.add_path_iter.Goals as goal
 
-pub returns-clause-ok : goal.returns-clause-ok
-returns-clause-ok g c =
-    on_ok_weaker c.add_contour.result
-    (λ adds. (
-      c.in_ok-points.points.items,
-      c.in_ok-points.ensures.ok,
-      subst (λ ps. AddsContour false (edge_for c.args.shape_type) (plain_points g.I.IntNumber.whole ps)
-          c.args.self.now.edges c.add_contour.new.self.edges)
-          c.deref.ensures.value adds,
-    ))
-    c.add_contour.ensures.ok
-
-pub returns-clause-too_many : goal.returns-clause-too_many
-returns-clause-too_many g c = λ same. (
-  c.in_ok-points.points.items,
-  c.in_ok-points.ensures.ok,
-  subst (λ ps. ContourWeighsTooMuch false c.args.shape_type (plain_points g.I.IntNumber.whole ps) c.args.self.now.edges)
-      c.deref.ensures.value
-      (c.add_contour.ensures.too_many same),
-)
+pub returns-clause-added : goal.returns-clause-added
+returns-clause-added g c =
+    let whole = g.I.IntNumber.whole in
+    let t = c.args.shape_type in
+    let old = held_by c.args.self.now in
+    let new = held_by c.add_contour.new.self in
+    given_added weight g.P.Iterator.next_gives c.args.iter
+    (λ ps. AddsContour false (edge_for t) (plain_points whole ps))
+    (λ ps. ContourWeighsTooMuch false t (plain_points whole ps)) old new c.in_ok-points.points.items
+    c.in_ok-points.ensures.ok c.add_contour.result
+    (subst (λ ps. AddsContourAsAsked false t (plain_points whole ps) old new c.add_contour.result)
+    c.deref.ensures.value c.add_contour.ensures.added)

@@ -3,9 +3,11 @@ use Rattle.std.proofs.Common.{◌≡◌, IfSome, true, [], refl, sym, ap, subst,
 use Rattle.overlay_plane.specs.Carried.{edges_in}
 use Rattle.overlay_arrange.specs.Arranged.{IsArranged, most_rounds}
 use Rattle.overlay_arrange.specs.Graphs.{carried_vector, graph_edges}
+use Rattle.overlay_string.specs.StringBuilder.{held_by}
 use Rattle.overlay_string.specs.StringViews.{IsStringView}
+use Rattle.overlay_builder.proofs.BuilderCalls.{view_ended}
 use Rattle.overlay_builder.proofs.ReadEdges.{some_read, none_read}
-use Rattle.overlay_string.proofs.StringViews.{is_view, ends_viewed}
+use Rattle.overlay_string.proofs.StringViews.{is_view}
 use Rattle.overlay_string.proofs.string_overlay.StringOverlay.build_graph_view_with_solver.Goals.{in_default-via-in-Some+else-has_edges}
 use Rattle.overlay_string.proofs.string_overlay.StringOverlay.build_graph_view_with_solver.Goals.{in_default-via-in_default}
 use Rattle.overlay_string.proofs.string_overlay.StringOverlay.build_graph_view_with_solver.Goals as goal
@@ -25,8 +27,11 @@ returns-in-Some g c =
       (
         refl,
         (λ _. tt),
-        ends_viewed limit most_rounds c.args.self.now new seen made.query made.edges c.self.view_is
-            seen_is made.kept,
+        (
+          view_ended held_by limit most_rounds (held_by c.args.self.now) new seen made.query c.self.view_is seen_is,
+          subst (λ b. b ≡ record c.args.self.now { edges = b.edges; failed = b.failed }) (sym c.self.view_is)
+              made.kept,
+        ),
       ),
       record {
         arranged = subst (λ o. IfSome o (λ v. IsArranged most_rounds c.args.self.now.edges (graph_edges v)))
@@ -53,8 +58,11 @@ returns-in_default g c =
       (
         refl,
         (λ _. tt),
-        ends_viewed limit most_rounds c.args.self.now new seen made.query made.edges c.self.view_is
-            (sym none) made.kept,
+        (
+          view_ended held_by limit most_rounds (held_by c.args.self.now) new seen made.query c.self.view_is (sym none),
+          subst (λ b. b ≡ record c.args.self.now { edges = b.edges; failed = b.failed }) (sym c.self.view_is)
+              made.kept,
+        ),
       ),
       record {
         arranged = subst (IsArranged most_rounds c.args.self.now.edges) none made.query.arranged;

@@ -45,8 +45,8 @@ loop-edge-preserved g c =
       search rules,
       search rules,
       one_more_added g.I.IntNumber.whole c.args.shape_type g.D.OverlayEdgeData.reverses c.loop-edge.yielded
-          c.in-Some.edge c.args.self.now c.loop-edge.self c.loop-edge.invariant.2 c.add_edge.new.self e.ok e.light
-          e.kept,
+          c.in-Some.edge c.args.self.now c.loop-edge.self c.loop-edge.invariant.2 c.add_edge.new.self e.added.ok
+          e.added.light e.kept,
       reached_on writes _ _ _ c.loop-edge.invariant.3
           (reached_unless writes (is_le (point_cmp (at c.in-Some.edge.a) (at c.in-Some.edge.b))) _ _ e.store),
     )
@@ -63,7 +63,7 @@ returns-in_err-add_edge-clause-err g c =
     let stops = stops_here whole c.args.shape_type reverses c.loop-edge.yielded c.in-Some.edge c.args.self.now
     c.loop-edge.self c.loop-edge.invariant.2 steps c.into_iter-edge-iterator.result c.next.new.self
     (c.loop-edge.edge-iterator, c.loop-edge.yielded_by, c.in-Some.ensures.steps) error
-    (λ is. e.failed.0 (ap Err is)) (λ is. e.too_many (ap Err is)) (λ is. e.no_query (ap Err is)) in
+    (λ is. e.added.failed.0 (ap Err is)) (λ is. e.added.too_many (ap Err is)) (λ is. e.added.no_query (ap Err is)) in
     rw (p.1, p.2) (inr (subst (λ es. StopsAtEdge whole c.args.shape_type reverses steps c.args.iter
     c.args.self.now.edges es error) (ap (λ b. b.edges) (sym e.err))
     (subst (λ s. StopsAtEdge whole c.args.shape_type reverses steps s c.args.self.now.edges c.loop-edge.self.edges
