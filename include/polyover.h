@@ -220,10 +220,9 @@ polyover_status polyover_simplify_32(polyover_fill fill, const polyover_options_
 /* How the subject and the clip lie to each other under the fill rule. On POLYOVER_OK *relations is the sum of the bits of
  * the relations that hold; after any other status it stays.
  *
- * All but POLYOVER_COVERS are told of one arrangement of the contours, in which edges that meet are cut as by
- * `polyover_overlay`. Tested first, in this order: POLYOVER_BAD_FILL; then of the subject, and then of the clip,
- * POLYOVER_BAD_ENDS and POLYOVER_OUT_OF_RANGE. POLYOVER_NOT_SETTLED, POLYOVER_TOO_MANY_EDGES and POLYOVER_MEMORY are
- * left. */
+ * All are told of one arrangement of the contours, in which edges that meet are cut as by `polyover_overlay`. Tested
+ * first, in this order: POLYOVER_BAD_FILL; then of the subject, and then of the clip, POLYOVER_BAD_ENDS and
+ * POLYOVER_OUT_OF_RANGE. POLYOVER_NOT_SETTLED, POLYOVER_TOO_MANY_EDGES and POLYOVER_MEMORY are left. */
 polyover_status polyover_relate(polyover_fill fill, const polyover_contours *subject, const polyover_contours *clip,
                                 polyover_relations *relations);
 polyover_status polyover_relate_32(polyover_fill fill, const polyover_contours_32 *subject,

@@ -18,15 +18,16 @@ type Built<'m, I> = PredicateOverlay<I, Memory<'m>>;
 
 // What the predicates tell shows what is held: each clip below changes it.
 impl<'m, I: Width> Seen for PredicateOverlay<I, Memory<'m>> {
-    type Content = [bool; 5];
+    type Content = [bool; 6];
 
-    fn content(&mut self) -> Answer<[bool; 5]> {
+    fn content(&mut self) -> Answer<[bool; 6]> {
         Ok([
             self.intersects()?,
             self.interiors_intersect()?,
             self.touches()?,
             self.point_intersects()?,
             self.within()?,
+            self.covers()?,
         ])
     }
 }
@@ -192,14 +193,17 @@ fn has_failed<I: Width>(
         && is_failed(it.touches())
         && is_failed(it.point_intersects())
         && is_failed(it.within())
+        && is_failed(it.covers())
+        && is_failed(it.relations())
 }
 
 // Refuses the growths of a predicate.
 fn refuses<
     'm,
     I: Width,
+    T: PartialEq + Drop,
     P: Fn() -> Answer<Built<'m, I>> + Drop,
-    Q: Fn(&mut Built<'m, I>) -> Answer<bool> + Drop,
+    Q: Fn(&mut Built<'m, I>) -> Answer<T> + Drop,
 >(trial: &Trial<'m, impl Abort>, name: &str, prepare: P, query: Q) -> Result<(), Fail> {
     let memory = trial.memory;
     let (shape, shapes) = (clips::<I>(memory)?, lone_clips::<I>(memory)?);
@@ -219,17 +223,21 @@ fn refuses<
 fn check_predicates<'m, I: Width>(trial: &Trial<'m, impl Abort>) -> Result<(), Fail> {
     let memory = trial.memory;
     let new = || builder::<I>(memory, PATHS);
-    refuses::<I, _, _>(trial, "PredicateOverlay::intersects", new, |it| {
+    refuses::<I, _, _, _>(trial, "PredicateOverlay::intersects", new, |it| {
         it.intersects()
     })?;
-    refuses::<I, _, _>(trial, "PredicateOverlay::interiors_intersect", new, |it| {
+    refuses::<I, _, _, _>(trial, "PredicateOverlay::interiors_intersect", new, |it| {
         it.interiors_intersect()
     })?;
-    refuses::<I, _, _>(trial, "PredicateOverlay::touches", new, |it| it.touches())?;
-    refuses::<I, _, _>(trial, "PredicateOverlay::point_intersects", new, |it| {
+    refuses::<I, _, _, _>(trial, "PredicateOverlay::touches", new, |it| it.touches())?;
+    refuses::<I, _, _, _>(trial, "PredicateOverlay::point_intersects", new, |it| {
         it.point_intersects()
     })?;
-    refuses::<I, _, _>(trial, "PredicateOverlay::within", new, |it| it.within())
+    refuses::<I, _, _, _>(trial, "PredicateOverlay::within", new, |it| it.within())?;
+    refuses::<I, _, _, _>(trial, "PredicateOverlay::covers", new, |it| it.covers())?;
+    refuses::<I, _, _, _>(trial, "PredicateOverlay::relations", new, |it| {
+        it.relations()
+    })
 }
 
 #[test]
@@ -245,12 +253,14 @@ fn check_asked_again<'m, I: Width>(trial: &Trial<'m, impl Abort>) -> Result<(), 
     let again = trial.needs_none("PredicateOverlay, asked again", || overlay.content())?;
     let mut wanted = builder::<I>(memory, PATHS)?;
     assert!(trial.rt; again == wanted.content()?);
+    let all = trial.needs_none("PredicateOverlay, all at once", || overlay.relations())?;
+    assert!(trial.rt; all == wanted.relations()?);
     let under_another_rule = || {
         let mut overlay = asked::<I>(memory, PATHS)?;
         overlay.fill_rule = FillRule::Negative;
         Ok(overlay)
     };
-    refuses::<I, _, _>(
+    refuses::<I, _, _, _>(
         trial,
         "PredicateOverlay::interiors_intersect, under another rule",
         under_another_rule,

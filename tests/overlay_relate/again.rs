@@ -20,35 +20,41 @@ const ALONG: [[i16; 2]; 4] = [[4, 0], [6, 0], [6, 4], [4, 4]];
 
 const INSIDE: [[i16; 2]; 4] = [[1, 1], [3, 1], [3, 3], [1, 3]];
 
-// What is answered of shapes that are apart, that meet in a corner, along an edge, and of a subject in the clip.
-const APART: [bool; 5] = [false, false, false, false, false];
+// What is answered of shapes that are apart, that meet in a corner, along an edge, of a subject in the clip, of one
+// round it, and of equal shapes.
+const APART: [bool; 6] = [false, false, false, false, false, false];
 
-const CORNERED: [bool; 5] = [true, false, true, true, false];
+const CORNERED: [bool; 6] = [true, false, true, true, false, false];
 
-const BORDERING: [bool; 5] = [true, false, true, false, false];
+const BORDERING: [bool; 6] = [true, false, true, false, false, false];
 
-const OVER: [bool; 5] = [true, true, false, false, false];
+const OVER: [bool; 6] = [true, true, false, false, false, false];
 
-const WITHIN: [bool; 5] = [true, true, false, false, true];
+const WITHIN: [bool; 6] = [true, true, false, false, true, false];
+
+const COVERING: [bool; 6] = [true, true, false, false, false, true];
+
+const EQUAL: [bool; 6] = [true, true, false, false, true, true];
 
 type Built<I> = PredicateOverlay<I, Global>;
 
-// What the five predicates answer, in the order intersects, interiors_intersect, touches,
-// point_intersects, within.
-fn asked<I: OverlayInt>(overlay: &mut Built<I>) -> Result<[bool; 5], OverlayError> {
+// What the six predicates answer, in the order intersects, interiors_intersect, touches,
+// point_intersects, within, covers.
+fn asked<I: OverlayInt>(overlay: &mut Built<I>) -> Result<[bool; 6], OverlayError> {
     Ok([
         overlay.intersects()?,
         overlay.interiors_intersect()?,
         overlay.touches()?,
         overlay.point_intersects()?,
         overlay.within()?,
+        overlay.covers()?,
     ])
 }
 
 // Whether they answer so, twice.
 fn is_answered<I: OverlayInt>(
     overlay: &mut Built<I>,
-    wanted: [bool; 5],
+    wanted: [bool; 6],
 ) -> Result<bool, OverlayError> {
     Ok(asked(overlay)? == wanted && asked(overlay)? == wanted)
 }
@@ -82,6 +88,10 @@ fn with_more<I: OverlayInt + From<i16>>(rt: &impl Abort, alloc: Global) -> Resul
     add(rt, &mut overlay, &INSIDE, ShapeType::Subject, alloc)?;
     add(rt, &mut overlay, &SQUARE, ShapeType::Clip, alloc)?;
     assert!(rt; is_answered(&mut overlay, WITHIN)?);
+    overlay.clear();
+    add(rt, &mut overlay, &INSIDE, ShapeType::Clip, alloc)?;
+    add(rt, &mut overlay, &SQUARE, ShapeType::Subject, alloc)?;
+    assert!(rt; is_answered(&mut overlay, COVERING)?);
     Ok(())
 }
 
@@ -92,20 +102,20 @@ fn under_other_rules<I: OverlayInt + From<i16>>(
     let mut overlay: Built<I> = PredicateOverlay::new(alloc, 0)?;
     add(rt, &mut overlay, &CLOCKWISE, ShapeType::Subject, alloc)?;
     add(rt, &mut overlay, &CLOCKWISE, ShapeType::Clip, alloc)?;
-    assert!(rt; is_answered(&mut overlay, WITHIN)?);
+    assert!(rt; is_answered(&mut overlay, EQUAL)?);
     overlay.fill_rule = FillRule::Positive;
     assert!(rt; is_answered(&mut overlay, APART)?);
     overlay.fill_rule = FillRule::Negative;
-    assert!(rt; is_answered(&mut overlay, WITHIN)?);
+    assert!(rt; is_answered(&mut overlay, EQUAL)?);
     for shape_type in [ShapeType::Subject, ShapeType::Clip] {
         add(rt, &mut overlay, &SQUARE, shape_type, alloc)?;
         add(rt, &mut overlay, &SQUARE, shape_type, alloc)?;
     }
     assert!(rt; is_answered(&mut overlay, APART)?);
     overlay.fill_rule = FillRule::Positive;
-    assert!(rt; is_answered(&mut overlay, WITHIN)?);
+    assert!(rt; is_answered(&mut overlay, EQUAL)?);
     overlay.fill_rule = FillRule::EvenOdd;
-    assert!(rt; is_answered(&mut overlay, WITHIN)?);
+    assert!(rt; is_answered(&mut overlay, EQUAL)?);
     Ok(())
 }
 
@@ -170,6 +180,6 @@ fn after_each_adder(rt: HostRuntime) -> Result<(), Fail> {
     overlay.add_shapes(&shapes, ShapeType::Clip)?;
     assert!(&rt; is_answered(&mut overlay, CORNERED)?);
     overlay.reinit_with_subj_and_clip(&shape, &shape)?;
-    assert!(&rt; is_answered(&mut overlay, WITHIN)?);
+    assert!(&rt; is_answered(&mut overlay, EQUAL)?);
     Ok(())
 }

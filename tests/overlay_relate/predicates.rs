@@ -25,14 +25,14 @@ fn shape<I: OverlayInt + From<i16>>(
     Ok(shape)
 }
 
-// What the five predicates answer, in the order intersects, interiors_intersect, touches,
-// point_intersects, within.
+// What the six predicates answer, in the order intersects, interiors_intersect, touches,
+// point_intersects, within, covers.
 fn answers<I: OverlayInt + From<i16>>(
     rt: &impl Abort,
     alloc: Global,
     subj: &[[i16; 2]],
     clip: &[[i16; 2]],
-) -> Result<[bool; 5], Fail> {
+) -> Result<[bool; 6], Fail> {
     let subj = shape::<I>(rt, alloc, subj)?;
     let clip = shape::<I>(rt, alloc, clip)?;
     assert_shape(rt, &subj);
@@ -44,28 +44,44 @@ fn answers<I: OverlayInt + From<i16>>(
         overlay.touches()?,
         overlay.point_intersects()?,
         overlay.within()?,
+        overlay.covers()?,
     ])
 }
 
 fn rows<I: OverlayInt + From<i16>>(rt: &impl Abort, alloc: Global) -> Result<(), Fail> {
     let corner = [[2, 2], [4, 2], [4, 4], [2, 4]];
-    assert!(rt; answers::<I>(rt, alloc, &SQUARE, &corner)? == [true, false, true, true, false]);
+    assert!(rt;
+        answers::<I>(rt, alloc, &SQUARE, &corner)? == [true, false, true, true, false, false]
+    );
     let border = [[2, 0], [4, 0], [4, 2], [2, 2]];
-    assert!(rt; answers::<I>(rt, alloc, &SQUARE, &border)? == [true, false, true, false, false]);
-    assert!(rt; answers::<I>(rt, alloc, &SQUARE, &SQUARE)? == [true, true, false, false, true]);
+    assert!(rt;
+        answers::<I>(rt, alloc, &SQUARE, &border)? == [true, false, true, false, false, false]
+    );
+    assert!(rt;
+        answers::<I>(rt, alloc, &SQUARE, &SQUARE)? == [true, true, false, false, true, true]
+    );
     let apart = [[9, 9], [10, 9], [10, 10], [9, 10]];
-    assert!(rt; answers::<I>(rt, alloc, &SQUARE, &apart)? == [false, false, false, false, false]);
+    assert!(rt; answers::<I>(rt, alloc, &SQUARE, &apart)? == [false; 6]);
     let inner = [[1, 1], [3, 1], [3, 3], [1, 3]];
     let outer = [[0, 0], [4, 0], [4, 4], [0, 4]];
-    assert!(rt; answers::<I>(rt, alloc, &inner, &outer)? == [true, true, false, false, true]);
-    assert!(rt; answers::<I>(rt, alloc, &outer, &inner)? == [true, true, false, false, false]);
+    assert!(rt;
+        answers::<I>(rt, alloc, &inner, &outer)? == [true, true, false, false, true, false]
+    );
+    assert!(rt;
+        answers::<I>(rt, alloc, &outer, &inner)? == [true, true, false, false, false, true]
+    );
+    let over_a_corner = [[1, 1], [5, 1], [5, 5], [1, 5]];
+    assert!(rt;
+        answers::<I>(rt, alloc, &outer, &over_a_corner)? == [true, true, false, false, false, false]
+    );
     Ok(())
 }
 
-// Of no edges, and of a subject without any.
+// Of no edges, of a subject without any, and of a clip without any.
 fn empty<I: OverlayInt + From<i16>>(rt: &impl Abort, alloc: Global) -> Result<(), Fail> {
-    assert!(rt; answers::<I>(rt, alloc, &[], &[])? == [false, false, false, false, false]);
-    assert!(rt; answers::<I>(rt, alloc, &[], &SQUARE)? == [false, false, false, false, false]);
+    assert!(rt; answers::<I>(rt, alloc, &[], &[])? == [false; 6]);
+    assert!(rt; answers::<I>(rt, alloc, &[], &SQUARE)? == [false; 6]);
+    assert!(rt; answers::<I>(rt, alloc, &SQUARE, &[])? == [false; 6]);
     Ok(())
 }
 
@@ -89,8 +105,8 @@ fn the_fill_rule_counts(rt: HostRuntime) -> Result<(), Fail> {
     let square = shape::<i32>(&rt, rt.alloc(), &[[0, 0], [0, 2], [2, 2], [2, 0]])?;
     assert_shape(&rt, &square);
     let mut overlay = PredicateOverlay::from_subj_and_clip(rt.alloc(), &square, &square)?;
-    assert!(&rt; overlay.intersects()?);
+    assert!(&rt; overlay.intersects()? && overlay.covers()?);
     overlay.fill_rule = FillRule::Positive;
-    assert!(&rt; !overlay.intersects()? && !overlay.within()?);
+    assert!(&rt; !overlay.intersects()? && !overlay.within()? && !overlay.covers()?);
     Ok(())
 }

@@ -1,5 +1,4 @@
 mod Rows
-pub mod AskedAgain
 pub mod Builders
 pub mod HeldAlone
 pub mod OneShots
@@ -7,5 +6,6 @@ pub mod Queries
 pub mod Relations
 pub mod SimplifiedContours
 pub mod SimplifiedPaths
+pub mod ToldRelations
 pub mod TwoSources
 pub mod Views

@@ -1,6 +1,5 @@
 -- What a new builder for predicates, to which paths were added, answers of the paths.
-use Rattle.std.proofs.Common.{ℤ, Bool, true, false, not, List, refl}
-use Rattle.std.proofs.lemmas.Bool.{false≢true}
+use Rattle.std.proofs.Common.{ℤ, Bool, false, not, List}
 use Rattle.std.specs.Prelude.{◌↔◌, Result, Ok, Err, IfOk, OnOk, IsTrue}
 use Rattle.overlay_geom.specs.declared.error.OverlayError.{OverlayError}
 use Rattle.overlay_geom.specs.Edges.{CountedEdge}
@@ -10,6 +9,7 @@ use Rattle.overlay_arrange.specs.Rules.{is_filled}
 use Rattle.overlay_arrange.specs.declared.fill_rule.FillRule.{FillRule}
 use Rattle.overlay_builder.specs.GivenPaths.{GivenPath, added_paths}
 use Rattle.overlay_builder.specs.PathLists.{HoldsPaths}
+use Rattle.overlay_relate.proofs.ToldByEdges.{opposite_tells}
 use Rattle.i_overlay.specs.Relations.{TellsOfPaths}
 
 -- the answer of a query on a content that the paths give is one of the paths
@@ -30,12 +30,6 @@ answer_of_paths (Ok b) relation fill paths content edges holds arranged fillable
 answer_of_paths (Err e) relation fill paths content edges holds arranged fillable tells = tt
 
 -- where one answer tells whether the shapes intersect, the opposite one tells whether they are disjoint
-pub opposite_tells : (filled : ℤ → Bool) (edges : List CountedEdge) (meets : Bool) →
-    (IsTrue meets ↔ Intersects filled edges)
-    → IsTrue (not meets) ↔ IsDisjoint filled edges
-opposite_tells filled edges true tells = ((λ t. absurd (false≢true t)), (λ none. absurd (none (tells.0 refl))))
-opposite_tells filled edges false tells = ((λ t. λ meets. false≢true (tells.1 meets)), (λ none. refl))
-
 pub disjoint_of_paths : (fill : FillRule) (paths : List GivenPath) (meets : Bool) →
     TellsOfPaths Intersects fill paths meets →
     TellsOfPaths IsDisjoint fill paths (not meets)

@@ -1,4 +1,4 @@
-//! How two resources lie to each other: predicates in one call, and the builder that answers them.
+//! How two resources lie to each other: predicates in one call, and the builder that answers them, one or all.
 
 ghost use Rattle.std.specs.Prelude.{All, IfOk, IfErr};
 ghost use Rattle.overlay_arrange.specs.declared.fill_rule.FillRule.TheVariants.{EvenOdd};
@@ -13,6 +13,7 @@ use overlay_geom::error::OverlayError;
 use overlay_geom::integer::OverlayInt;
 use overlay_geom::resource::IntShapeResource;
 pub use overlay_relate::predicate_overlay::PredicateOverlay;
+pub use overlay_relate::relations::Relations;
 use std::alloc::Allocator;
 
 /// Predicates of two resources, each of its own type, under the fill rule EvenOdd. Each path is a closed

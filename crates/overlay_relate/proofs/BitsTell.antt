@@ -13,7 +13,7 @@ use Rattle.overlay_arrange.proofs.SideBits.{bits_show_sides}
 use Rattle.overlay_relate.specs.EdgeTests.{bits_pass, edge_passes, is_subject_border, is_clip_border}
 use Rattle.overlay_relate.specs.declared.edge_test.EdgeTest.{EdgeTest}
 use Rattle.overlay_relate.specs.declared.edge_test.EdgeTest.TheVariants.{BothShapes, CommonSide, SubjectSide}
-use Rattle.overlay_relate.specs.declared.edge_test.EdgeTest.TheVariants.{SubjectOutside}
+use Rattle.overlay_relate.specs.declared.edge_test.EdgeTest.TheVariants.{SubjectOutside, ClipSide, ClipOutside}
 
 -- the bits of an edge pass where the edge does
 edge_by_bits : (test : EdgeTest) (rule : FillRule) (es : List CountedEdge) (e : CountedEdge) →
@@ -29,6 +29,11 @@ edge_by_bits SubjectSide rule es e = let shown = bits_show_sides (fills_of rule 
 edge_by_bits SubjectOutside rule es e = let shown = bits_show_sides (fills_of rule es e) in
     ap₂ (λ a b. a || b) (ap₂ (λ s c. s && not c) shown.subj_above shown.clip_above)
     (ap₂ (λ s c. s && not c) shown.subj_below shown.clip_below)
+edge_by_bits ClipSide rule es e = let shown = bits_show_sides (fills_of rule es e) in
+    ap₂ (λ a b. a || b) shown.clip_above shown.clip_below
+edge_by_bits ClipOutside rule es e = let shown = bits_show_sides (fills_of rule es e) in
+    ap₂ (λ a b. a || b) (ap₂ (λ c s. c && not s) shown.clip_above shown.subj_above)
+    (ap₂ (λ c s. c && not s) shown.clip_below shown.subj_below)
 
 -- so some edge passes where some bits do
 pub some_by_bits : (test : EdgeTest) (rule : FillRule) (es : List CountedEdge) (fills : List ℕ) →

@@ -1,5 +1,5 @@
 -- A query of a builder for predicates that keeps what was found, and the answer of one that has found it.
-use Rattle.std.proofs.Common.{◌≡◌, ℕ, Bool, true, false, List, [], Option, None, Some, is_err, sym, ap, subst, ◌∙◌}
+use Rattle.std.proofs.Common.{◌≡◌, ℕ, ℤ, Bool, true, false, List, [], Option, None, Some, is_err, sym, ap, subst, ◌∙◌}
 use Rattle.std.proofs.Common.{arith}
 use Rattle.std.proofs.lemmas.Bool.{false≢true}
 use Rattle.std.specs.Prelude.{◌↔◌, Ok, IfSome, IsTrue, is_some}
@@ -13,11 +13,13 @@ use Rattle.overlay_arrange.specs.Rules.{is_filled}
 use Rattle.overlay_arrange.proofs.ArrangedLists.{arranged_of_split}
 use Rattle.overlay_builder.specs.Held.{Held, AnswersQuery}
 use Rattle.overlay_builder.proofs.Queries.{answers_arranged, answers_after}
-use Rattle.overlay_relate.specs.Found.{IsFoundUnder, IsKept, answer_by}
+use Rattle.overlay_relate.specs.Found.{IsFoundUnder, IsKept, answer_by, relations_by}
 use Rattle.overlay_relate.specs.PredicateBuilder.{PredicateBuilder, held_by}
-use Rattle.overlay_relate.specs.PredicateQueries.{Holds, TellsRelation}
+use Rattle.overlay_relate.specs.PredicateQueries.{Holds, AreRelations, TellsOfShapes, TellsRelation, TellsRelations}
 use Rattle.overlay_relate.specs.declared.found.Found.{Found}
 use Rattle.overlay_relate.specs.declared.predicate.Predicate.{Predicate}
+use Rattle.overlay_relate.specs.declared.relations.Relations.{Relations}
+use Rattle.overlay_relate.proofs.ToldByEdges.{relations_found}
 
 -- an arrangement is one of itself, reached by no round
 arranged_of_itself : (limit most : ℕ) (es : List CountedEdge) → IsContent limit es → WasArranged es →
@@ -60,16 +62,29 @@ module _ {U : Type 0} (limit : ℕ) (old mid new : PredicateBuilder) (u : U)
       ∙ ap {B = PredicateBuilder} (λ es. record old { edges = es; failed = false }) (sym edges)
       ∙ ap {B = PredicateBuilder} (λ t. record old { edges = new.edges; failed = t }) (sym usable)
 
-  -- what is found of the arranged edges answers a query of a predicate
-  pub told_as_found : (p : Predicate) (f : Found) → IsFoundUnder mid.fill_rule mid.edges f → (b : Bool) →
-      b ≡ answer_by f p → TellsRelation limit (Holds p) old new (Ok b)
-  told_as_found p f found b is = record {
-    query = answers_after limit most_rounds (held_by old) (held_by mid) (held_by new) u first (Ok b) edges usable tt;
-    answer = subst (λ es. IsTrue b ↔ Holds p (is_filled old.fill_rule) es) (sym edges)
-        (subst (λ r. IsTrue b ↔ Holds p (is_filled r) mid.edges) rule
-        (subst (λ t. IsTrue t ↔ Holds p (is_filled mid.fill_rule) mid.edges) (sym is) (found.answers p)));
+  -- what is right of the arranged edges answers a query
+  told_so : {V : Type 0} (IsRight : (ℤ → Bool) → List CountedEdge → V → Type 0) (f : Found) →
+      IsFoundUnder mid.fill_rule mid.edges f → (v : V) → IsRight (is_filled mid.fill_rule) mid.edges v →
+      TellsOfShapes limit IsRight old new (Ok v)
+  told_so IsRight f found v right = record {
+    query = answers_after limit most_rounds (held_by old) (held_by mid) (held_by new) u first (Ok v) edges usable tt;
+    answer = subst (λ es. IsRight (is_filled old.fill_rule) es v) (sym edges)
+        (subst (λ r. IsRight (is_filled r) mid.edges v) rule right);
     fillable = subst (IsFillable (is_filled old.fill_rule)) (sym edges)
         (subst (λ r. IsFillable (is_filled r) mid.edges) rule found.fillable);
     kept = all_else;
     untouched = λ same. absurd (false≢true (ap is_err same));
   }
+
+  -- what is found of them answers a query of a predicate
+  pub told_as_found : (p : Predicate) (f : Found) → IsFoundUnder mid.fill_rule mid.edges f → (b : Bool) →
+      b ≡ answer_by f p → TellsRelation limit (Holds p) old new (Ok b)
+  told_as_found p f found b is = told_so (λ filled es t. IsTrue t ↔ Holds p filled es) f found b
+      (subst (λ t. IsTrue t ↔ Holds p (is_filled mid.fill_rule) mid.edges) (sym is) (found.answers p))
+
+  -- and one of all relations
+  pub relations_as_found : (f : Found) → IsFoundUnder mid.fill_rule mid.edges f → (r : Relations) →
+      r ≡ relations_by f → TellsRelations limit old new (Ok r)
+  relations_as_found f found r is = told_so AreRelations f found r
+      (subst (AreRelations (is_filled mid.fill_rule) mid.edges) (sym is)
+      (relations_found mid.fill_rule mid.edges f found))

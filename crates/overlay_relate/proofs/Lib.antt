@@ -6,6 +6,11 @@ pub mod Asked
 pub mod Beside
 pub mod BitsTell
 pub mod ByStart
+pub mod CoversByEdges
+pub mod ExchangedMerges
+pub mod ExchangedPaths
+pub mod ExchangedRounds
+pub mod ExchangedShapes
 pub mod Highest
 pub mod Insides
 pub mod JoinedParts

@@ -158,4 +158,5 @@ nothing_holds_without_edges fill = record {
   touches = λ h. no_region fill subj_of h.0.0 h.0.1;
   point_intersects = λ h. no_region fill subj_of h.0.0 h.0.1;
   within = λ h. false≢true (sym (zero_is_empty fill) ∙ h.some.2);
+  covers = λ h. false≢true (sym (zero_is_empty fill) ∙ h.some.2);
 }

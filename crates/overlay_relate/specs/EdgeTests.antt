@@ -2,15 +2,15 @@
 use Rattle.std.specs.Prelude.{◌≡◌, ℕ, Bool, true, false, cond, not, ◌&&◌, ◌||◌, ◌==◌, ℤ, List, [], ◌∷◌, map, Contains}
 use Rattle.overlay_geom.specs.Plane.{Point, point_eq}
 use Rattle.overlay_geom.specs.Points.{plain_point}
-use Rattle.overlay_geom.specs.Edges.{CountedEdge, subj_of}
-use Rattle.overlay_plane.specs.Predicates.{fills_a_side}
+use Rattle.overlay_geom.specs.Edges.{CountedEdge, subj_of, clip_of}
+use Rattle.overlay_plane.specs.Predicates.{fills_above, fills_below, fills_a_side}
 use Rattle.overlay_plane.specs.EdgePredicates.{has_both, has_common_side, pokes_out}
 use Rattle.overlay_arrange.specs.Counts.{has_bit}
 use Rattle.overlay_arrange.specs.Vectors.{Vector}
 use Rattle.overlay_relate.specs.declared.border_end.BorderEnd.{BorderEnd as HeldEnd}
 use Rattle.overlay_relate.specs.declared.edge_test.EdgeTest.{EdgeTest}
 use Rattle.overlay_relate.specs.declared.edge_test.EdgeTest.TheVariants.{BothShapes, CommonSide, SubjectSide}
-use Rattle.overlay_relate.specs.declared.edge_test.EdgeTest.TheVariants.{SubjectOutside}
+use Rattle.overlay_relate.specs.declared.edge_test.EdgeTest.TheVariants.{SubjectOutside, ClipSide, ClipOutside}
 
 -- filled sides pass the test: those of the subject above and below, and those of the clip
 abbrev pub sides_pass : EdgeTest → (subj_above subj_below clip_above clip_below : Bool) → Bool
@@ -18,10 +18,18 @@ sides_pass BothShapes a b c d = (a || b) && (c || d)
 sides_pass CommonSide a b c d = (a && c) || (b && d)
 sides_pass SubjectSide a b c d = a || b
 sides_pass SubjectOutside a b c d = (a && not c) || (b && not d)
+sides_pass ClipSide a b c d = c || d
+sides_pass ClipOutside a b c d = (c && not a) || (d && not b)
 
 -- fill bits pass it
 abbrev pub bits_pass : EdgeTest → ℕ → Bool
 bits_pass test n = sides_pass test (has_bit n 0) (has_bit n 1) (has_bit n 2) (has_bit n 3)
+
+-- the clip fills a side of the edge that the subject does not fill
+abbrev pub clip_pokes_out : (ℤ → Bool) → List CountedEdge → CountedEdge → Bool
+clip_pokes_out filled es e =
+    (fills_above filled es clip_of e && not (fills_above filled es subj_of e)) ||
+    (fills_below filled es clip_of e && not (fills_below filled es subj_of e))
 
 -- an edge of the list passes it, by what the shapes fill beside it
 abbrev pub edge_passes : EdgeTest → (ℤ → Bool) → List CountedEdge → CountedEdge → Bool
@@ -29,6 +37,8 @@ edge_passes BothShapes filled es e = has_both filled es e
 edge_passes CommonSide filled es e = has_common_side filled es e
 edge_passes SubjectSide filled es e = fills_a_side filled es subj_of e
 edge_passes SubjectOutside filled es e = pokes_out filled es e
+edge_passes ClipSide filled es e = fills_a_side filled es clip_of e
+edge_passes ClipOutside filled es e = clip_pokes_out filled es e
 
 -- an end of an edge of which one shape alone fills one side alone: the subject, or else the clip
 pub record BorderEnd : Type 0 where

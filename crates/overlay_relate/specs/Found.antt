@@ -10,7 +10,8 @@ use Rattle.overlay_relate.specs.PredicateQueries.{Holds}
 use Rattle.overlay_relate.specs.declared.found.Found.{Found}
 use Rattle.overlay_relate.specs.declared.predicate.Predicate.{Predicate}
 use Rattle.overlay_relate.specs.declared.predicate.Predicate.TheVariants.{Intersect, InteriorsIntersect as Interiors}
-use Rattle.overlay_relate.specs.declared.predicate.Predicate.TheVariants.{Touch, PointIntersect, Within}
+use Rattle.overlay_relate.specs.declared.predicate.Predicate.TheVariants.{Touch, PointIntersect, Within, Cover}
+use Rattle.overlay_relate.specs.declared.relations.Relations.{Relations}
 
 -- what was found answers a predicate so
 abbrev pub answer_by : Found → Predicate → Bool
@@ -18,7 +19,20 @@ answer_by f Intersect = f.meet
 answer_by f Interiors = f.has_common_side
 answer_by f Touch = f.meet && not f.has_common_side
 answer_by f PointIntersect = f.meet && not f.has_both
-answer_by f Within = f.has_subject && not f.pokes_out
+answer_by f Within = f.has_subject && not f.subject_pokes_out
+answer_by f Cover = f.has_clip && not f.clip_pokes_out
+
+-- and all relations so
+abbrev pub relations_by : Found → Relations
+relations_by f = record {
+  intersects = answer_by f Intersect;
+  interiors_intersect = answer_by f Interiors;
+  touches = answer_by f Touch;
+  point_intersects = answer_by f PointIntersect;
+  within = answer_by f Within;
+  disjoint = not (answer_by f Intersect);
+  covers = answer_by f Cover;
+}
 
 -- under the rule, of a planar list with balanced counts: each answer is right
 pub record IsFoundUnder (rule : FillRule) (es : List CountedEdge) (f : Found) : Type 0 where

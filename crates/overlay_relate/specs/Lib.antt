@@ -1,5 +1,6 @@
 pub mod Answers
 pub mod EdgeTests
+pub mod Exchanged
 pub mod Found
 pub mod Joined
 pub mod Laws

@@ -64,6 +64,7 @@ pub record NothingHolds (fill : FillRule) (es : List CountedEdge) : Type 0 where
   pub touches : ¬ (Touches (is_filled fill) es)
   pub point_intersects : ¬ (PointIntersects (is_filled fill) es)
   pub within : ¬ (IsWithin (is_filled fill) es)
+  pub covers : ¬ (Covers (is_filled fill) es)
 
 abbrev pub NothingHoldsWithoutEdges : Type 0
 NothingHoldsWithoutEdges = (fill : FillRule) → NothingHolds fill []

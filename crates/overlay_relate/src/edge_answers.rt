@@ -37,7 +37,9 @@ pub(crate) fn found_in<I: IntNumber, C: EdgeCount, A: Allocator + Clone>(
         has_both: some_edge(graph, EdgeTest::BothShapes),
         has_common_side: some_edge(graph, EdgeTest::CommonSide),
         has_subject: some_edge(graph, EdgeTest::SubjectSide),
-        pokes_out: some_edge(graph, EdgeTest::SubjectOutside),
+        subject_pokes_out: some_edge(graph, EdgeTest::SubjectOutside),
+        has_clip: some_edge(graph, EdgeTest::ClipSide),
+        clip_pokes_out: some_edge(graph, EdgeTest::ClipOutside),
     })
 }
 

@@ -19,6 +19,10 @@ pub(crate) enum EdgeTest {
     SubjectSide,
     /// The subject fills a side that the clip does not fill.
     SubjectOutside,
+    /// The clip fills a side.
+    ClipSide,
+    /// The clip fills a side that the subject does not fill.
+    ClipOutside,
 }
 
 /// Whether some edge passes the test. They are looked at in order, up to the first one that does.
@@ -61,5 +65,7 @@ fn sides_pass(
         EdgeTest::CommonSide => (subj_above && clip_above) || (subj_below && clip_below),
         EdgeTest::SubjectSide => subj_above || subj_below,
         EdgeTest::SubjectOutside => (subj_above && !clip_above) || (subj_below && !clip_below),
+        EdgeTest::ClipSide => clip_above || clip_below,
+        EdgeTest::ClipOutside => (clip_above && !subj_above) || (clip_below && !subj_below),
     }
 }

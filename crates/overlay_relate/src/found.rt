@@ -1,9 +1,10 @@
 //! What is found of the edges of an arrangement, from which each predicate is answered.
 
 ghost use Rattle.std.specs.Prelude.{◌≡◌};
-ghost use Rattle.overlay_relate.specs.Found.{answer_by};
+ghost use Rattle.overlay_relate.specs.Found.{answer_by, relations_by};
 
 use crate::predicate::Predicate;
+use crate::relations::Relations;
 use overlay_arrange::fill_rule::FillRule;
 
 /// What was found of the edges of an arrangement, with the sides that the two shapes fill under a rule.
@@ -20,7 +21,11 @@ pub(crate) struct Found {
     /// Whether the subject fills a side of some edge.
     pub(crate) has_subject: bool,
     /// Whether it fills one that the clip does not fill.
-    pub(crate) pokes_out: bool,
+    pub(crate) subject_pokes_out: bool,
+    /// Whether the clip fills a side of some edge.
+    pub(crate) has_clip: bool,
+    /// Whether it fills one that the subject does not fill.
+    pub(crate) clip_pokes_out: bool,
 }
 
 impl Found {
@@ -33,7 +38,24 @@ impl Found {
             Predicate::InteriorsIntersect => self.has_common_side,
             Predicate::Touch => self.meet && !self.has_common_side,
             Predicate::PointIntersect => self.meet && !self.has_both,
-            Predicate::Within => self.has_subject && !self.pokes_out,
+            Predicate::Within => self.has_subject && !self.subject_pokes_out,
+            Predicate::Cover => self.has_clip && !self.clip_pokes_out,
+        }
+    }
+
+    /// Whether each relation holds of these edges.
+    pub(crate) fn relations(self) -> Relations
+        ensures { result ≡ relations_by self }
+    {
+        let intersects = self.answer(Predicate::Intersect);
+        Relations {
+            intersects,
+            interiors_intersect: self.answer(Predicate::InteriorsIntersect),
+            touches: self.answer(Predicate::Touch),
+            point_intersects: self.answer(Predicate::PointIntersect),
+            within: self.answer(Predicate::Within),
+            disjoint: !intersects,
+            covers: self.answer(Predicate::Cover),
         }
     }
 }

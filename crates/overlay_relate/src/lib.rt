@@ -16,6 +16,7 @@ mod predicate;
 pub mod predicate_laws;
 pub mod predicate_overlay;
 mod queries;
+pub mod relations;
 pub mod resolved;
 mod runs;
 mod shared_end;

@@ -13,4 +13,6 @@ pub(crate) enum Predicate {
     PointIntersect,
     /// The subject lies within the clip.
     Within,
+    /// The clip lies within the subject.
+    Cover,
 }

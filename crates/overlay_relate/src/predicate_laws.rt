@@ -1,5 +1,6 @@
 //! How the predicates of one arrangement hang together, and what they have to do with overlays.
 
+ghost use Rattle.overlay_relate.specs.Exchanged.{ExchangingKeepsArrangements};
 ghost use Rattle.overlay_relate.specs.PredicateLaws.{TouchesIsIntersectsAlone, PointIntersectsTouches};
 ghost use Rattle.overlay_relate.specs.PredicateLaws.{WithinInteriorsIntersect, EmptyIsWithinNothing};
 ghost use Rattle.overlay_relate.specs.PredicateLaws.{DisjointIsNoIntersection, CoversIsWithinExchanged};
@@ -34,6 +35,12 @@ pub fn disjoint_is_no_intersection()
 /// The subject covers the clip exactly where, with the two exchanged, the subject lies within the clip.
 pub fn covers_is_within_exchanged()
     ensures { CoversIsWithinExchanged }
+{}
+
+/// What holds of subject and clip in an arrangement of what paths give holds of clip and subject in one of what the
+/// exchanged paths give, in any order of the two.
+pub fn exchanging_keeps_arrangements()
+    ensures { ExchangingKeepsArrangements }
 {}
 
 /// The interiors intersect exactly where the region of `Intersect` has a point off the edges, and the

@@ -5,14 +5,15 @@ use Rattle.overlay_builder.specs.GivenPaths.{GivenPath, subject_and_clip}
 use Rattle.overlay_geom.specs.Plane.{Point}
 use Rattle.overlay_geom.specs.declared.error.OverlayError.{OverlayError}
 use Rattle.overlay_geom.specs.declared.error.OverlayError.TheVariants as error
-use Rattle.i_overlay.specs.Relations.{Relations, AreRelationsOfPaths, MayRefuseRelations}
+use Rattle.overlay_relate.specs.declared.relations.Relations.{Relations}
+use Rattle.i_overlay.specs.OneShot.{MayRefusePaths}
+use Rattle.i_overlay.specs.Relations.{AreRelationsOfPaths}
 use Rattle.polyover_arrays.specs.declared.fault.Fault.{Fault}
 use Rattle.polyover_c.proofs.Filled.{contours_unread, without_memory, unanswered}
 use Rattle.polyover_c.specs.Asked.{fill_of}
 use Rattle.polyover_c.specs.Given.{Contours, paths_of, paths_given, AreGiven, IsOneFaulty}
-use Rattle.polyover_c.specs.Related.{AreRelated, IsRelatingRefused, RelatingEnds, bits_of, relations_of}
+use Rattle.polyover_c.specs.Related.{AreRelated, IsRelatingRefused, RelatingEnds, bits_of}
 use Rattle.polyover_c.specs.Statuses.{status_of_fault, status_of_error}
-use Rattle.polyover_c.specs.declared.relate.Told.{Told}
 use Rattle.polyover_c.specs.declared.status.Status.{Status}
 use Rattle.polyover_c.specs.declared.status.Status.TheVariants.{Done, Memory}
 
@@ -27,11 +28,10 @@ module _ {I : Type 0} (whole : I → ℤ) (limit fill : ℕ) (subject clip : Con
 
   -- why the relations are not told
   abbrev may : OverlayError → Type 0
-  may = MayRefuseRelations (paths_given whole subject clip) (paths_given whole clip subject)
+  may = MayRefusePaths (paths_given whole subject clip)
 
   never_failed : ¬ (may error.Failed)
-  never_failed (inl failed) = failed
-  never_failed (inr failed) = failed
+  never_failed failed = failed
 
   pub contours_untold : (f : Fault) → fill < 4 → IsOneFaulty whole limit subject clip f →
       IsRelatingRefused whole limit fill subject clip (status_of_fault f)
@@ -39,37 +39,36 @@ module _ {I : Type 0} (whole : I → ℤ) (limit fill : ℕ) (subject clip : Con
 
   pub memory_untold : (s : Status) → fill < 4 → AreGiven whole limit subject → AreGiven whole limit clip →
       s ≡ Memory → IsRelatingRefused whole limit fill subject clip s
-  memory_untold s = without_memory whole limit fill subject clip may s (inl tt)
+  memory_untold s = without_memory whole limit fill subject clip may s tt
 
   -- what the query refuses, of what is read
   refused_of : (e : OverlayError) (p q : List (List Point)) → p ≡ paths_of whole subject → q ≡ paths_of whole clip →
-      MayRefuseRelations (subject_and_clip p q) (subject_and_clip q p) e → may e
+      MayRefusePaths (subject_and_clip p q) e → may e
   refused_of e p q same_p same_q refused =
-      subst (λ paths. MayRefuseRelations (paths_given whole subject clip) paths e) (ap₂ subject_and_clip same_q same_p)
-      (subst (λ paths. MayRefuseRelations paths (subject_and_clip q p) e) (ap₂ subject_and_clip same_p same_q) refused)
+      subst (λ paths. MayRefusePaths paths e) (ap₂ subject_and_clip same_p same_q) refused
 
   pub relating_refused : (e : OverlayError) (p q : List (List Point)) → fill < 4 → AreGiven whole limit subject →
       AreGiven whole limit clip → p ≡ paths_of whole subject → q ≡ paths_of whole clip →
-      MayRefuseRelations (subject_and_clip p q) (subject_and_clip q p) e →
+      MayRefusePaths (subject_and_clip p q) e →
       IsRelatingRefused whole limit fill subject clip (status_of_error e)
   relating_refused e p q known s c same_p same_q refused =
       unanswered whole limit fill subject clip may e never_failed known s c (refused_of e p q same_p same_q refused)
 
-  pub bits_told : (f : FillRule) (p q : List (List Point)) (t : Told) (bits : ℕ) → fill < 4 →
+  pub bits_told : (f : FillRule) (p q : List (List Point)) (r : Relations) (bits : ℕ) → fill < 4 →
       AreGiven whole limit subject → AreGiven whole limit clip → f ≡ fill_of fill → p ≡ paths_of whole subject →
       q ≡ paths_of whole clip →
-      AreRelationsOfPaths f (subject_and_clip p q) (subject_and_clip q p) (relations_of t) →
-      bits ≡ bits_of (relations_of t) → AreRelated whole limit fill subject clip bits
-  bits_told f p q t bits known s c same_f same_p same_q hold same = record {
+      AreRelationsOfPaths f (subject_and_clip p q) (subject_and_clip q p) r →
+      bits ≡ bits_of r → AreRelated whole limit fill subject clip bits
+  bits_told f p q r bits known s c same_f same_p same_q hold same = record {
     known = known;
     subject_given = s;
     clip_given = c;
-    relations = relations_of t;
+    relations = r;
     hold = subst (λ y. AreRelationsOfPaths y (paths_given whole subject clip) (paths_given whole clip subject)
-        (relations_of t)) same_f
-        (subst (λ paths. AreRelationsOfPaths f (paths_given whole subject clip) paths (relations_of t))
+        r) same_f
+        (subst (λ paths. AreRelationsOfPaths f (paths_given whole subject clip) paths r)
         (ap₂ subject_and_clip same_q same_p)
-        (subst (λ paths. AreRelationsOfPaths f paths (subject_and_clip q p) (relations_of t))
+        (subst (λ paths. AreRelationsOfPaths f paths (subject_and_clip q p) r)
         (ap₂ subject_and_clip same_p same_q) hold));
     bits = same;
   }

@@ -1,25 +1,14 @@
 -- How a subject and a clip in arrays lie to each other, as bits.
 use Rattle.std.specs.Prelude.{◌≡◌, ◌<◌, ◌+◌, ◌⊎◌, ℕ, ℤ}
 use Rattle.overlay_arrange.specs.Rules.{bit}
-use Rattle.i_overlay.specs.Relations.{Relations, AreRelationsOfPaths, MayRefuseRelations}
+use Rattle.overlay_relate.specs.declared.relations.Relations.{Relations}
+use Rattle.i_overlay.specs.OneShot.{MayRefusePaths}
+use Rattle.i_overlay.specs.Relations.{AreRelationsOfPaths}
 use Rattle.polyover_c.specs.Asked.{fill_of}
 use Rattle.polyover_c.specs.Filled.{IsQueryRefused}
 use Rattle.polyover_c.specs.Given.{Contours, paths_given, AreGiven}
-use Rattle.polyover_c.specs.declared.relate.Told.{Told}
 use Rattle.polyover_c.specs.declared.status.Status.{Status}
 use Rattle.polyover_c.specs.declared.status.Status.TheVariants.{Done}
-
--- what is told of each relation
-abbrev pub relations_of : Told → Relations
-relations_of t = record {
-  intersects = t.intersects;
-  interiors_intersect = t.interiors_intersect;
-  touches = t.touches;
-  point_intersects = t.point_intersects;
-  within = t.within;
-  disjoint = t.disjoint;
-  covers = t.covers;
-}
 
 -- a bit for each relation that holds
 abbrev pub bits_of : Relations → ℕ
@@ -39,7 +28,7 @@ pub record AreRelated {I : Type 0} (whole : I → ℤ) (limit fill : ℕ) (subje
 -- nothing is told so
 abbrev pub IsRelatingRefused : {I : Type 0} → (I → ℤ) → ℕ → ℕ → Contours I → Contours I → Status → Type 0
 IsRelatingRefused whole limit fill subject clip = IsQueryRefused whole limit fill subject clip
-    (MayRefuseRelations (paths_given whole subject clip) (paths_given whole clip subject))
+    (MayRefusePaths (paths_given whole subject clip))
 
 -- how it ends: with `Done` the bits are written, else they stay
 abbrev pub RelatingEnds : {I : Type 0} → (I → ℤ) → ℕ → ℕ → Contours I → Contours I → ℕ → ℕ → Status → Type 0

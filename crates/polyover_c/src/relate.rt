@@ -5,16 +5,15 @@ ghost use Rattle.overlay_arrange.specs.Rules.{bit};
 ghost use Rattle.overlay_builder.specs.GivenPaths.{subject_and_clip};
 ghost use Rattle.overlay_geom.specs.Flat.{paths_in};
 ghost use Rattle.overlay_geom.specs.Points.{AllInRange};
-ghost use Rattle.overlay_plane.specs.Predicates.{IsWithin};
 ghost use Rattle.i_overlay.specs.OneShot.{MayRefusePaths};
-ghost use Rattle.i_overlay.specs.Relations.{TellsOfPaths, AreRelationsOfPaths, MayRefuseRelations};
-ghost use Rattle.polyover_c.specs.Related.{AreRelated, IsRelatingRefused, RelatingEnds, bits_of, relations_of};
+ghost use Rattle.i_overlay.specs.Relations.{AreRelationsOfPaths};
+ghost use Rattle.polyover_c.specs.Related.{AreRelated, IsRelatingRefused, RelatingEnds, bits_of};
 
 use crate::given::{Contours, test_both};
 use crate::numbers::fill_of;
 use crate::status::Status;
 use i_overlay::fill_rule::FillRule;
-use i_overlay::relate::PredicateOverlay;
+use i_overlay::relate::{PredicateOverlay, Relations};
 use i_overlay::solver::Solver;
 use overlay_geom::error::OverlayError;
 use overlay_geom::flat::contours::FlatContoursBuffer;
@@ -22,38 +21,17 @@ use overlay_geom::integer::OverlayInt;
 use polyover_arrays::read::tested_contours;
 use std::alloc::Global;
 
-/// What is told of each relation of a subject and a clip.
-#[derive(Clone, Copy)]
-pub(crate) struct Told {
-    /// They have a common point.
-    pub(crate) intersects: bool,
-    /// Some point off the edges is filled by both.
-    pub(crate) interiors_intersect: bool,
-    /// They have a common point, and no point off the edges is filled by both.
-    pub(crate) touches: bool,
-    /// They meet in single points alone.
-    pub(crate) point_intersects: bool,
-    /// The subject lies within the clip.
-    pub(crate) within: bool,
-    /// They have no common point.
-    pub(crate) disjoint: bool,
-    /// The clip lies within the subject.
-    pub(crate) covers: bool,
-}
-
-impl Told {
-    // A bit for each relation that holds.
-    fn bits(self) -> u32
-        ensures { result ≡ bits_of (relations_of self) }
-    {
-        bit_if(self.intersects, 1)
-            + bit_if(self.interiors_intersect, 2)
-            + bit_if(self.touches, 4)
-            + bit_if(self.point_intersects, 8)
-            + bit_if(self.within, 16)
-            + bit_if(self.disjoint, 32)
-            + bit_if(self.covers, 64)
-    }
+// A bit for each relation that holds.
+fn bits(relations: Relations) -> u32
+    ensures { result ≡ bits_of relations }
+{
+    bit_if(relations.intersects, 1)
+        + bit_if(relations.interiors_intersect, 2)
+        + bit_if(relations.touches, 4)
+        + bit_if(relations.point_intersects, 8)
+        + bit_if(relations.within, 16)
+        + bit_if(relations.disjoint, 32)
+        + bit_if(relations.covers, 64)
 }
 
 // The bit of a relation that holds, and 0 of another one.
@@ -108,65 +86,26 @@ fn relation_bits<I: OverlayInt>(
     test_both(subject, clip)?;
     let subject = tested_contours(alloc, subject.coordinates, subject.ends)?;
     let clip = tested_contours(alloc, clip.coordinates, clip.ends)?;
-    let told = relations_between(alloc, &subject, &clip, fill)?;
-    Ok(told.bits())
+    let relations = relations_between(alloc, &subject, &clip, fill)?;
+    Ok(bits(relations))
 }
 
-// How the contours lie to each other. All but `covers` is told of one arrangement.
+// How the contours lie to each other, all told of one arrangement.
 fn relations_between<I: OverlayInt>(
     alloc: Global,
     subject: &FlatContoursBuffer<I, Global>,
     clip: &FlatContoursBuffer<I, Global>,
     fill: FillRule,
-) -> Result<Told, OverlayError>
+) -> Result<Relations, OverlayError>
     requires subject_in_range { All (AllInRange I.limit)
         (paths_in I.whole subject.now.points.items subject.now.ranges.items) }
     requires clip_in_range { All (AllInRange I.limit) (paths_in I.whole clip.now.points.items clip.now.ranges.items) }
     ensures { MatchResult result
-        (λ t. AreRelationsOfPaths fill
+        (AreRelationsOfPaths fill
         (subject_and_clip (paths_in I.whole subject.now.points.items subject.now.ranges.items)
         (paths_in I.whole clip.now.points.items clip.now.ranges.items))
         (subject_and_clip (paths_in I.whole clip.now.points.items clip.now.ranges.items)
-        (paths_in I.whole subject.now.points.items subject.now.ranges.items)) (relations_of t))
-        (MayRefuseRelations
-        (subject_and_clip (paths_in I.whole subject.now.points.items subject.now.ranges.items)
-        (paths_in I.whole clip.now.points.items clip.now.ranges.items))
-        (subject_and_clip (paths_in I.whole clip.now.points.items clip.now.ranges.items)
-        (paths_in I.whole subject.now.points.items subject.now.ranges.items))) }
-{
-    let mut overlay = PredicateOverlay::from_subj_and_clip_custom(
-        alloc,
-        subject,
-        clip,
-        fill,
-        Solver::ABSOLUTE,
-    )?;
-    let intersects = overlay.intersects()?;
-    Ok(Told {
-        intersects,
-        interiors_intersect: overlay.interiors_intersect()?,
-        touches: overlay.touches()?,
-        point_intersects: overlay.point_intersects()?,
-        within: overlay.within()?,
-        disjoint: !intersects,
-        covers: is_within(alloc, clip, subject, fill)?,
-    })
-}
-
-// Whether the subject lies within the clip.
-fn is_within<I: OverlayInt>(
-    alloc: Global,
-    subject: &FlatContoursBuffer<I, Global>,
-    clip: &FlatContoursBuffer<I, Global>,
-    fill: FillRule,
-) -> Result<bool, OverlayError>
-    requires subject_in_range { All (AllInRange I.limit)
-        (paths_in I.whole subject.now.points.items subject.now.ranges.items) }
-    requires clip_in_range { All (AllInRange I.limit) (paths_in I.whole clip.now.points.items clip.now.ranges.items) }
-    ensures { MatchResult result
-        (TellsOfPaths IsWithin fill
-        (subject_and_clip (paths_in I.whole subject.now.points.items subject.now.ranges.items)
-        (paths_in I.whole clip.now.points.items clip.now.ranges.items)))
+        (paths_in I.whole subject.now.points.items subject.now.ranges.items)))
         (MayRefusePaths
         (subject_and_clip (paths_in I.whole subject.now.points.items subject.now.ranges.items)
         (paths_in I.whole clip.now.points.items clip.now.ranges.items))) }
@@ -178,5 +117,5 @@ fn is_within<I: OverlayInt>(
         fill,
         Solver::ABSOLUTE,
     )?;
-    overlay.within()
+    overlay.relations()
 }

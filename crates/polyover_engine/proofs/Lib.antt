@@ -6,6 +6,5 @@ pub mod Queries
 pub mod Refusals
 pub mod Slices
 pub mod Subjects
-pub mod TakenContours
 pub mod TurnsTaken
 pub mod Writing

@@ -14,8 +14,7 @@ pub never_failed : (fs : GivenFigures) (query : Query) → MayRefuseQuery fs que
 never_failed fs (Edges fill) h = h
 never_failed fs (Overlay query) h = h
 never_failed fs (Hierarchy query) h = h
-never_failed fs (Relate fill) (inl h) = h
-never_failed fs (Relate fill) (inr h) = h
+never_failed fs (Relate fill) h = h
 never_failed fs (ClipLines query) h = h
 never_failed fs (Slice fill) h = h
 never_failed fs (Tiles query) h = h

@@ -10,11 +10,13 @@ use Rattle.overlay_geom.specs.declared.error.OverlayError.{OverlayError}
 use Rattle.overlay_geom.specs.declared.error.OverlayError.TheVariants.{Memory}
 use Rattle.overlay_relate.specs.Answers.{AnswersWhere, AnswersWhether}
 use Rattle.overlay_relate.specs.Locations.{shapes_edges, is_in_shapes, IsLocatedAmong}
+use Rattle.overlay_relate.specs.Exchanged.{exchanged_paths}
 use Rattle.overlay_relate.specs.declared.location.PointLocation.{PointLocation}
+use Rattle.overlay_relate.specs.declared.relations.Relations.{Relations}
 use Rattle.overlay_geom.specs.Plane.{Point}
 use Rattle.overlay_arrange.specs.Vectors.{Vector}
 use Rattle.i_overlay.specs.OneShot.{AreEdgesOfPaths, IsHierarchyOfPaths, IsResultOfPaths, MayRefusePaths}
-use Rattle.i_overlay.specs.Relations.{MayRefuseRelations}
+use Rattle.i_overlay.specs.Relations.{AreRelationsOfPaths}
 use Rattle.overlay_plane.specs.Islands.{ChildLink}
 use Rattle.polyover_engine.specs.Builders.{asked_by}
 use Rattle.polyover_text.specs.declared.query.Query.{Query}
@@ -23,7 +25,6 @@ use Rattle.polyover_text.specs.declared.query.Query.TheVariants.{Slice, Tiles, C
 use Rattle.polyover_text.specs.Grammar.{GivenFigures, paths_of, Asks, input_lines}
 use Rattle.polyover_text.specs.Printed.{edge_lines, lines_of_shapes, link_line, relation_lines, truth_line}
 use Rattle.polyover_text.specs.Printed.{location_line, lines_of_paths}
-use Rattle.polyover_text.specs.declared.relations.Relations.{Relations}
 use Rattle.polyover_engine.specs.declared.exit.Exit.{Exit}
 use Rattle.polyover_engine.specs.declared.exit.Exit.TheVariants.{Answered, Refused, BadInput, Io}
 use Rattle.overlay_string.specs.OneShot.{AreClippedOfPaths, MayRefusePaths as MayRefuseStrings}
@@ -32,7 +33,6 @@ use Rattle.overlay_tiles.specs.Grids.{FitsGrid}
 use Rattle.overlay_tiles.specs.Spans.{points_of_paths}
 use Rattle.overlay_tiles.specs.Tiles.{AreTiles, MayRefuseTiles}
 use Rattle.polyover_engine.specs.Clips.{clip_rule_of, shape_and_lines}
-use Rattle.polyover_engine.specs.Relations.{AreRelations, exchanged}
 use Rattle.polyover_engine.specs.Subjects.{subject_of, IsFirstUnresolved}
 
 -- a line for each link
@@ -63,8 +63,8 @@ Answers fs (Overlay query) text = (shapes : List (List (List Point))) × IsResul
 Answers fs (Hierarchy query) text = (shapes : List (List (List Point))) × (links : List ChildLink)
     × IsHierarchyOfPaths (asked_by query) (paths_of fs) shapes links
     × (text ≡ lines_of_shapes shapes ++ link_lines links)
-Answers fs (Relate fill) text = (answers : Relations) × AreRelations (paths_of fs) fill answers
-    × (text ≡ relation_lines answers)
+Answers fs (Relate fill) text = (answers : Relations)
+    × AreRelationsOfPaths fill (paths_of fs) (exchanged_paths (paths_of fs)) answers × (text ≡ relation_lines answers)
 Answers fs (ClipLines query) text = (paths : List (List Point))
     × AreClippedOfPaths query.fill_rule (clip_rule_of query.options) (shape_and_lines fs) paths
     × (text ≡ lines_of_paths paths)
@@ -81,7 +81,7 @@ abbrev pub MayRefuseQuery : GivenFigures → Query → OverlayError → Type 0
 MayRefuseQuery fs (Edges fill) e = MayRefusePaths (paths_of fs) e
 MayRefuseQuery fs (Overlay query) e = MayRefusePaths (paths_of fs) e
 MayRefuseQuery fs (Hierarchy query) e = MayRefusePaths (paths_of fs) e
-MayRefuseQuery fs (Relate fill) e = MayRefuseRelations (paths_of fs) (exchanged (paths_of fs)) e
+MayRefuseQuery fs (Relate fill) e = MayRefusePaths (paths_of fs) e
 MayRefuseQuery fs (ClipLines query) e = MayRefuseStrings (shape_and_lines fs) e
 MayRefuseQuery fs (Slice fill) e = MayRefuseStrings (shape_and_lines fs) e
 MayRefuseQuery fs (Tiles query) e = MayRefuseTiles query.width query.height (subject_of fs.contours) e

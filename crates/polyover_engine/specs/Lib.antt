@@ -6,7 +6,6 @@ pub mod Engine
 pub mod Exits
 pub mod ReadAll
 pub mod Reading
-pub mod Relations
 pub mod Subjects
 pub mod Turns
 pub mod WriteAll

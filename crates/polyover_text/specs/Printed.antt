@@ -7,7 +7,7 @@ use Rattle.overlay_geom.specs.Plane.{Point}
 use Rattle.overlay_arrange.specs.Vectors.{Vector}
 use Rattle.overlay_relate.specs.declared.location.PointLocation.{PointLocation}
 use Rattle.overlay_relate.specs.declared.location.PointLocation.TheVariants.{Inside, Boundary, Outside}
-use Rattle.polyover_text.specs.declared.relations.Relations.{Relations}
+use Rattle.overlay_relate.specs.declared.relations.Relations.{Relations}
 
 -- ---- edges
 

@@ -19,7 +19,6 @@ pub mod options;
 pub mod path_text;
 mod points;
 pub mod query;
-pub mod relations;
 pub mod relations_text;
 mod rule;
 pub mod shape_text;

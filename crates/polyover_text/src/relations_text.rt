@@ -4,7 +4,7 @@ ghost use Rattle.std.specs.Prelude.{◌≡◌, IfOk, OnOk, ◌++◌, string_byte
 ghost use Rattle.polyover_text.specs.Printed.{relation_line, relation_lines};
 
 use crate::location_text::push_truth;
-use crate::relations::Relations;
+use overlay_relate::relations::Relations;
 use std::alloc::{AllocError, Allocator};
 
 /// A line for each relation, which gives its name and whether it holds: `intersects true`. They come in the

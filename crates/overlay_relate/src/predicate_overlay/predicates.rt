@@ -1,17 +1,19 @@
 //! The predicates of a builder: how its subject and its clip lie to each other.
 
 ghost use Rattle.std.specs.Prelude.{◌≡◌, false, IfOk, IfSome, IsErrOf, IsOkUnless, is_err};
-ghost use Rattle.overlay_plane.specs.Predicates.{Intersects, InteriorsIntersect, Touches, PointIntersects, IsWithin};
+ghost use Rattle.overlay_plane.specs.Predicates.{Intersects, InteriorsIntersect, Touches, PointIntersects};
+ghost use Rattle.overlay_plane.specs.Predicates.{IsWithin, Covers};
 ghost use Rattle.overlay_arrange.specs.Arranged.{WasArranged, most_rounds};
 ghost use Rattle.overlay_builder.specs.Held.{AnswersQuery};
 ghost use Rattle.overlay_relate.specs.Found.{IsFoundUnder};
 ghost use Rattle.overlay_relate.specs.PredicateBuilder.{held_by};
-ghost use Rattle.overlay_relate.specs.PredicateQueries.{Holds, TellsRelation};
+ghost use Rattle.overlay_relate.specs.PredicateQueries.{Holds, TellsRelation, TellsRelations};
 
 use crate::edge_answers::found_in;
 use crate::found::Found;
 use crate::predicate::Predicate;
 use crate::predicate_overlay::PredicateOverlay;
+use crate::relations::Relations;
 use overlay_geom::error::OverlayError;
 use overlay_geom::integer::OverlayInt;
 use std::alloc::Allocator;
@@ -25,7 +27,7 @@ impl<I: OverlayInt, A: Allocator + Clone> PredicateOverlay<I, A> {
     /// arranged before stays as it is. The answer is that of the edges which are held afterwards, which
     /// lead forward, meet in ends alone and have balanced counts; where there are none it is `false`.
     ///
-    /// The first query finds what answers all five predicates. Until something is added a further one under
+    /// The first query finds what answers all six predicates. Until something is added a further one under
     /// the same rule looks at no edge and takes no memory; under another rule it looks at the sides that
     /// shapes fill once more, and splits nothing.
     ///
@@ -71,6 +73,25 @@ impl<I: OverlayInt, A: Allocator + Clone> PredicateOverlay<I, A> {
         ensures { TellsRelation I.limit IsWithin self.old self.new result }
     {
         self.ask(Predicate::Within)
+    }
+
+    /// Splits the edges where they meet, and tells whether the subject covers the clip: the clip fills some
+    /// point off the edges, and the subject fills each such point. Splitting and refusals are those of
+    /// `intersects`.
+    pub fn covers(&mut self) -> Result<bool, OverlayError>
+        ensures { TellsRelation I.limit Covers self.old self.new result }
+    {
+        self.ask(Predicate::Cover)
+    }
+
+    /// Splits the edges where they meet, and tells of each relation whether it holds of them. Splitting and
+    /// refusals are those of `intersects`.
+    pub fn relations(&mut self) -> Result<Relations, OverlayError>
+        ensures { TellsRelations I.limit self.old self.new result }
+    {
+        self.arrange()?;
+        let found = self.find()?;
+        Ok(found.relations())
     }
 
     // Splits the edges where they meet, and tells whether the predicate holds of them.

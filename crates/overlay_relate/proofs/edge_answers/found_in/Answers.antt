@@ -15,8 +15,11 @@ returns-clause-ok g c =
       has_both = c.some_edge.result;
       has_common_side = c.some_edge-2.result;
       has_subject = c.some_edge-3.result;
-      pokes_out = c.some_edge-4.result;
+      subject_pokes_out = c.some_edge-4.result;
+      has_clip = c.some_edge-5.result;
+      clip_pokes_out = c.some_edge-6.result;
     } in
     subst (λ rule. IsFoundUnder rule es found) c.requires.rule
     (is_found g.I.IntNumber.limit es c.note_arrangement.ensures c.requires.balanced c.args.graph.now.fill_rule found
-    c.in_ok-meet.ensures.ok c.some_edge.ensures c.some_edge-2.ensures c.some_edge-3.ensures c.some_edge-4.ensures)
+    c.in_ok-meet.ensures.ok c.some_edge.ensures c.some_edge-2.ensures c.some_edge-3.ensures c.some_edge-4.ensures
+    c.some_edge-5.ensures c.some_edge-6.ensures)

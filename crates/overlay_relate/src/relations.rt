@@ -1,7 +1,7 @@
 //! How a subject and a clip lie to each other.
 
 /// Whether each relation of a subject and a clip holds.
-#[derive(Clone, Copy)]
+#[derive(Debug, Clone, Copy, PartialEq, Eq)]
 pub struct Relations {
     /// They have a common point.
     pub intersects: bool,

@@ -2,10 +2,9 @@ use Rattle.std.proofs.Common.{take}
 use Rattle.polyover_text.specs.Grammar.{contour_paths}
 use Rattle.polyover_text.specs.Statements.{contours_at}
 use Rattle.i_overlay.specs.Relations.{HasAddedUnder}
-use Rattle.polyover_engine.specs.Relations.{taken_paths}
-use Rattle.polyover_engine.proofs.predicate_builder.with_subject.Given as goal
+use Rattle.polyover_engine.proofs.predicate_builder.with_contours.Given as goal
 
 -- the contours so far are added
 abbrev pub invariant-loop-given : goal.invariant-loop-given
 invariant-loop-given g l = HasAddedUnder l.fn.fill_rule
-    (take l.given-index (taken_paths l.subject (contour_paths (contours_at l.contours)))) l.overlay
+    (take l.given-index (contour_paths (contours_at l.contours))) l.overlay

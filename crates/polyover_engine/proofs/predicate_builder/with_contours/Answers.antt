@@ -1,4 +1,4 @@
-use Rattle.std.proofs.Common.{Err, false, ap, sym, subst, refl, arith, ◌∙◌}
+use Rattle.std.proofs.Common.{false, Err, ap, sym, subst, refl, arith, ◌∙◌}
 use Rattle.std.proofs.lemmas.Bool.{false≢true}
 use Rattle.std.proofs.lemmas.List.{length-map, take_all}
 use Rattle.std.proofs.lemmas.Result.{err_from_is_err_and}
@@ -11,10 +11,8 @@ use Rattle.polyover_text.specs.Grammar.{contour_paths}
 use Rattle.polyover_text.specs.Points.{points_at}
 use Rattle.polyover_text.specs.Statements.{path_at, contour_at, contours_at}
 use Rattle.i_overlay.specs.Relations.{HasAddedUnder}
-use Rattle.polyover_engine.specs.Relations.{taken_path, taken_paths}
 use Rattle.polyover_engine.proofs.Builders.{no_path_held, contour_here, one_more_held, contour_refused}
-use Rattle.polyover_engine.proofs.TakenContours.{taken_here}
-use Rattle.polyover_engine.proofs.predicate_builder.with_subject.Goals as goal
+use Rattle.polyover_engine.proofs.predicate_builder.with_contours.Goals as goal
 
 pub loop-given-init : goal.loop-given-init
 loop-given-init g c =
@@ -37,35 +35,29 @@ pub returns-in_err-add_contour : goal.returns-in_err-add_contour
 returns-in_err-add_contour g c =
     let p = err_from_is_err_and c.from_residual-in_err-add_contour.result
     c.from_residual-in_err-add_contour.ensures.1 in
-    let given = contour_here c.args.contours.now _ _ c.given-item.result refl c.loop-given-test.true c.given-item.is in
+    let here = contour_here c.args.contours.now _ _ c.given-item.result refl c.loop-given-test.true c.given-item.is in
     let path = path_at c.given-item.result.contour in
-    let here = taken_here c.args.subject _ c.loop-given.given-index path given.0 given.1 in
-    let added = c.in_err-add_contour.ensures.added in
+    let e = c.in_err-add_contour.ensures.added in
     let b = c.loop-given.overlay in
     let held = c.loop-given.invariant in
-    rw (p.1, p.2) (contour_refused _ c.loop-given.given-index (taken_path c.args.subject path) b.edges
-    held.holds here.0 here.1 _
-    (λ same. false≢true (sym held.ready ∙ added.failed.0 (ap Err same)))
-    (λ same. subst (λ t. ContourWeighsTooMuch false t path.points b.edges) c.taken_for-shape_type.ensures
-    (subst (λ ps. ContourWeighsTooMuch false c.taken_for-shape_type.result (points_at ps) b.edges)
-    c.deref.ensures.value (added.too_many (ap Err same))))
-    (λ same. added.no_query (ap Err same)))
+    rw (p.1, p.2) (contour_refused _ c.loop-given.given-index path b.edges held.holds here.0 here.1 _
+    (λ same. false≢true (sym held.ready ∙ e.failed.0 (ap Err same)))
+    (λ same. subst (λ ps. ContourWeighsTooMuch false path.shape_type (points_at ps) b.edges)
+    c.deref.ensures.value (e.too_many (ap Err same)))
+    (λ same. e.no_query (ap Err same)))
 
 pub loop-given-preserved : goal.loop-given-preserved
 loop-given-preserved g c =
-    let given = contour_here c.args.contours.now _ _ c.given-item.result refl c.loop-given-test.true c.given-item.is in
+    let here = contour_here c.args.contours.now _ _ c.given-item.result refl c.loop-given-test.true c.given-item.is in
     let path = path_at c.given-item.result.contour in
-    let here = taken_here c.args.subject _ c.loop-given.given-index path given.0 given.1 in
     let e = c.in_ok-add_contour.ensures in
     let b = c.loop-given.overlay in
     let held = c.loop-given.invariant in
     let new = c.add_contour.new.self in
     record {
-      holds = one_more_held _ c.loop-given.given-index (taken_path c.args.subject path) b.edges held.holds here.0 here.1
-          new.edges
-          (subst (λ t. AddsContour false (edge_for t) path.points b.edges new.edges) c.taken_for-shape_type.ensures
-          (subst (λ ps. AddsContour false (edge_for c.taken_for-shape_type.result) (points_at ps) b.edges new.edges)
-          c.deref.ensures.value e.added.ok))
+      holds = one_more_held _ c.loop-given.given-index path b.edges held.holds here.0 here.1 new.edges
+          (subst (λ ps. AddsContour false (edge_for path.shape_type) (points_at ps) b.edges new.edges)
+          c.deref.ensures.value e.added.ok)
           e.added.light;
       ready = ap (λ o. o.failed) e.kept ∙ held.ready;
       rule = ap (λ o. o.fill_rule) e.kept ∙ held.rule;
@@ -75,10 +67,9 @@ pub returns : goal.returns
 returns g c =
     let cs = contour_paths (contours_at c.args.contours.now) in
     subst (λ l. HasAddedUnder c.args.fill_rule l c.loop-given.overlay)
-    (take_all c.loop-given.given-index (taken_paths c.args.subject cs)
+    (take_all c.loop-given.given-index cs
     (omega (
       arith,
-      length-map cs (taken_path c.args.subject),
       length-map c.args.contours.now contour_at,
       length-map (contours_at c.args.contours.now)
           (λ d. d.path),
