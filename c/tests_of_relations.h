@@ -3,7 +3,8 @@
 /* The relations of two squares, told by their lower left and upper right corners. */
 static polyover_relations TEST(related)(const NUMBER *subject, const NUMBER *clip, polyover_fill fill) {
     static const size_t four[] = {4};
-    const NUMBER first[] = {subject[0], subject[1], subject[2], subject[1], subject[2], subject[3], subject[0], subject[3]};
+    const NUMBER first[] = {subject[0], subject[1], subject[2], subject[1],
+                            subject[2], subject[3], subject[0], subject[3]};
     const NUMBER second[] = {clip[0], clip[1], clip[2], clip[1], clip[2], clip[3], clip[0], clip[3]};
     const CONTOURS given = {first, 8, four, 1}, other = {second, 8, four, 1};
     polyover_relations relations = 77;

@@ -1,5 +1,5 @@
-/* The tests at one width: NUMBER is the type of coordinates, LIMIT the end of their range, CONTOURS, OPTIONS, NAME(call)
- * and TEST(what) the names at that width, and SMALLEST(area) options with a smallest area. */
+/* The tests at one width: NUMBER is the type of coordinates, LIMIT the end of their range, CONTOURS, OPTIONS,
+ * NAME(call) and TEST(what) the names at that width, and SMALLEST(area) options with a smallest area. */
 
 static polyover_status TEST(status)(const NUMBER *coordinates, size_t count, const size_t *ends, size_t end_count) {
     const CONTOURS contours = {coordinates, count, ends, end_count};
@@ -87,7 +87,8 @@ static int TEST(is_untouched)(const TEST(room) *room) {
 }
 
 static int TEST(has_counts)(const TEST(room) *room, size_t coordinates, size_t contours, size_t shapes) {
-    return room->counts.coordinates == coordinates && room->counts.contours == contours && room->counts.shapes == shapes;
+    const polyover_counts *counts = &room->counts;
+    return counts->coordinates == coordinates && counts->contours == contours && counts->shapes == shapes;
 }
 
 /* The overlay of the first square and another one, with room for so many items. */

@@ -13,9 +13,9 @@
  * Points of a contour on one line with their two neighbours are dropped, one by one, before its edges are made, in all
  * calls but `polyover_in_range`, `polyover_resolved` and `polyover_locate`.
  *
- * All arrays and structs are the caller's; nothing is kept after a call, and nothing is to be freed. Each array behind a
- * `const` is only read. An array of length 0 may be a null pointer, a struct may not. What a call writes to lies apart
- * from all else that it is given.
+ * All arrays and structs are the caller's; nothing is kept after a call, and nothing is to be freed. Each array behind
+ * a `const` is only read. An array of length 0 may be a null pointer, a struct may not. What a call writes to lies
+ * apart from all else that it is given.
  *
  * No call keeps a state, so calls on several threads are safe, as long as nothing is written to what one of them reads.
  * Memory is taken by malloc, realloc and free, so no call is for a signal handler.
@@ -35,7 +35,8 @@ typedef uint32_t polyover_status;
 enum {
     POLYOVER_OK = 0,
     POLYOVER_MEMORY = 1, /* memory was refused; none is taken before all is tested that a call tests first */
-    /* the coordinates are an odd count, an end is below the one before it, or the last one is not the count of points */
+    /* the coordinates are an odd count, an end is below the one before it, or the last one is not the count of
+     * points */
     POLYOVER_BAD_ENDS = 2,
     POLYOVER_OUT_OF_RANGE = 3, /* a coordinate is out of the coordinate range */
     POLYOVER_NOT_RESOLVED = 4, /* two steps of a contour share a point that is not an end of both */
@@ -182,11 +183,11 @@ polyover_status polyover_resolved_32(const polyover_contours_32 *contours);
 /* The shapes round the region where the rules hold of what the contours of the subject and those of the clip fill. A
  * shape is its outline and then its holes.
  *
- * On POLYOVER_OK the first counts->coordinates items of `coordinates` are the points, x before y, contour by contour and
- * shape by shape; the first counts->contours items of `contour_ends` are how many points there are up to the end of each
- * contour, and the first counts->shapes items of `shape_ends` how many contours up to the end of each shape. The items
- * behind them stay. POLYOVER_TOO_SMALL comes exactly where one of the arrays has no room for that: they stay as they
- * are, and counts tells what it takes. After any other status nothing is changed, counts neither.
+ * On POLYOVER_OK the first counts->coordinates items of `coordinates` are the points, x before y, contour by contour
+ * and shape by shape; the first counts->contours items of `contour_ends` are how many points there are up to the end of
+ * each contour, and the first counts->shapes items of `shape_ends` how many contours up to the end of each shape. The
+ * items behind them stay. POLYOVER_TOO_SMALL comes exactly where one of the arrays has no room for that: they stay as
+ * they are, and counts tells what it takes. After any other status nothing is changed, counts neither.
  *
  * Tested first, in this order: POLYOVER_BAD_RULE, POLYOVER_BAD_FILL, POLYOVER_BAD_OPTION; then of the subject, and then
  * of the clip, POLYOVER_BAD_ENDS and POLYOVER_OUT_OF_RANGE. Each of these comes exactly where it must, and no other
@@ -217,8 +218,8 @@ polyover_status polyover_simplify_32(polyover_fill fill, const polyover_options_
                                      size_t coordinate_room, size_t *contour_ends, size_t contour_room,
                                      size_t *shape_ends, size_t shape_room, polyover_counts *counts);
 
-/* How the subject and the clip lie to each other under the fill rule. On POLYOVER_OK *relations is the sum of the bits of
- * the relations that hold; after any other status it stays.
+/* How the subject and the clip lie to each other under the fill rule. On POLYOVER_OK *relations is the sum of the bits
+ * of the relations that hold; after any other status it stays.
  *
  * All are told of one arrangement of the contours, in which edges that meet are cut as by `polyover_overlay`. Tested
  * first, in this order: POLYOVER_BAD_FILL; then of the subject, and then of the clip, POLYOVER_BAD_ENDS and
@@ -228,8 +229,8 @@ polyover_status polyover_relate(polyover_fill fill, const polyover_contours *sub
 polyover_status polyover_relate_32(polyover_fill fill, const polyover_contours_32 *subject,
                                    const polyover_contours_32 *clip, polyover_relations *relations);
 
-/* Where each of the points, x before y in `coordinates`, lies in the contours, which are one shape: a point is inside it
- * that is inside an odd number of them, and inside a contour that winds an odd number of times round it.
+/* Where each of the points, x before y in `coordinates`, lies in the contours, which are one shape: a point is inside
+ * it that is inside an odd number of them, and inside a contour that winds an odd number of times round it.
  *
  * On POLYOVER_OK the first items of `locations`, one for each point in order, are POLYOVER_OUTSIDE, POLYOVER_INSIDE or
  * POLYOVER_BOUNDARY; the items behind them stay. After any other status `locations` stays. On POLYOVER_NOT_RESOLVED
@@ -237,8 +238,9 @@ polyover_status polyover_relate_32(polyover_fill fill, const polyover_contours_3
  * other status it stays.
  *
  * Tested in this order: of the contours POLYOVER_BAD_ENDS and POLYOVER_OUT_OF_RANGE; then of the points, where
- * POLYOVER_BAD_ENDS says that they are an odd count of coordinates, the same two; POLYOVER_TOO_SMALL exactly where there
- * are more points than `location_room`. Then memory is taken: POLYOVER_NOT_RESOLVED and POLYOVER_MEMORY are left. */
+ * POLYOVER_BAD_ENDS says that they are an odd count of coordinates, the same two; POLYOVER_TOO_SMALL exactly where
+ * there are more points than `location_room`. Then memory is taken: POLYOVER_NOT_RESOLVED and POLYOVER_MEMORY are left.
+ */
 polyover_status polyover_locate(const polyover_contours *shape, const int64_t *coordinates, size_t coordinate_count,
                                 uint8_t *locations, size_t location_room, size_t *unresolved);
 polyover_status polyover_locate_32(const polyover_contours_32 *shape, const int32_t *coordinates,
@@ -249,8 +251,8 @@ polyover_status polyover_locate_32(const polyover_contours_32 *shape, const int3
  * `polyover_overlay`), of equal ones one, in order by their first and then by their second end. The first end is the
  * smaller one, by x and then by y. Edges are left out whose counts are zero: steps there and back.
  *
- * On POLYOVER_OK *count is the number of edges; the first 4 * *count items of `coordinates` are x and y of the first and
- * of the second end of each, and the first *count items of `fills` the sums of its bits POLYOVER_SUBJECT_LEFT to
+ * On POLYOVER_OK *count is the number of edges; the first 4 * *count items of `coordinates` are x and y of the first
+ * and of the second end of each, and the first *count items of `fills` the sums of its bits POLYOVER_SUBJECT_LEFT to
  * POLYOVER_CLIP_RIGHT under the fill rule, none where it fills no side. The items behind them stay. POLYOVER_TOO_SMALL
  * comes exactly where one of the arrays has no room for that: they stay as they are, and *count tells what it takes.
  * After any other status nothing is changed, *count neither. What is tested first, and what is left, is as of
@@ -264,8 +266,8 @@ polyover_status polyover_edges_32(polyover_fill fill, const polyover_contours_32
 
 /* The shapes of `polyover_overlay`, and beside them in `links` one link for each shape that lies in a hole of another
  * one. A shape lies in a hole where the next edge below its outline's leftmost lowest point that is filled below is one
- * of the hole, or of the outline of another shape that lies in it. No shape is the child of two links. They are in order:
- * by parent_shape, then by parent_contour, then by child_shape.
+ * of the hole, or of the outline of another shape that lies in it. No shape is the child of two links. They are in
+ * order: by parent_shape, then by parent_contour, then by child_shape.
  *
  * On POLYOVER_OK the first *link_count items of `links` are these. `links` and `link_count` are what an array for the
  * answer and counts are there: POLYOVER_TOO_SMALL comes exactly where one of the four arrays has no room, and then all
@@ -310,8 +312,8 @@ polyover_status polyover_slice_32(polyover_fill fill, const polyover_contours_32
  * them stay. POLYOVER_TOO_SMALL comes exactly where one of the arrays has no room for that: they stay as they are, and
  * counts tells what it takes. After any other status nothing is changed, counts neither.
  *
- * Tested first, in this order: POLYOVER_BAD_FILL; POLYOVER_BAD_OPTION, for an invert or boundary that is neither 0 nor 1;
- * then of the shape, and then of the lines, POLYOVER_BAD_ENDS and POLYOVER_OUT_OF_RANGE. POLYOVER_NOT_SETTLED,
+ * Tested first, in this order: POLYOVER_BAD_FILL; POLYOVER_BAD_OPTION, for an invert or boundary that is neither 0 nor
+ * 1; then of the shape, and then of the lines, POLYOVER_BAD_ENDS and POLYOVER_OUT_OF_RANGE. POLYOVER_NOT_SETTLED,
  * POLYOVER_TOO_MANY_EDGES, which counts the steps of lines too, and POLYOVER_MEMORY are left. */
 polyover_status polyover_clip(polyover_fill fill, const polyover_clip_options *options, const polyover_contours *shape,
                               const polyover_paths *lines, int64_t *coordinates, size_t coordinate_room,

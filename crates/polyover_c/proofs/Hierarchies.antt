@@ -1,5 +1,5 @@
 -- What the answer of an overlay says of the arrays that tells of the links between its shapes.
-use Rattle.std.proofs.Common.{◌≡◌, ◌<◌, ℕ, ℤ, false, List, [], ◌∷◌, map, refl, sym, ap, ap₂, subst, ◌∙◌}
+use Rattle.std.proofs.Common.{◌≡◌, ◌<◌, ℕ, ℤ, List, [], ◌∷◌, map, refl, sym, ap, ap₂, subst, ◌∙◌}
 use Rattle.std.specs.Int.{Width}
 use Rattle.overlay_arrange.specs.declared.fill_rule.FillRule.{FillRule}
 use Rattle.overlay_arrange.specs.declared.options.IntOverlayOptions.{IntOverlayOptions}
@@ -9,7 +9,6 @@ use Rattle.overlay_extract.specs.ChildLinks.{plain_link}
 use Rattle.overlay_extract.specs.Results.{asked}
 use Rattle.overlay_extract.specs.declared.child_link.ChildLink.{ChildLink as LinkTaken}
 use Rattle.overlay_geom.specs.Plane.{Point}
-use Rattle.overlay_plane.specs.Islands.{ChildLink}
 use Rattle.i_overlay.specs.OneShot.{IsHierarchyOfPaths}
 use Rattle.polyover_c.specs.Asked.{rule_of, fill_of, options_of, AreChoices}
 use Rattle.polyover_c.specs.Given.{Contours, paths_of, paths_given, AreGiven}

@@ -1,14 +1,10 @@
 pub mod Clipped
 pub mod Endings
-pub mod Faults
-pub mod Filled
 pub mod Hierarchies
-pub mod Lines
-pub mod LinkedEndings
 pub mod Listed
 pub mod Located
 pub mod Overlays
-pub mod PathEndings
+pub mod Refusals
 pub mod Related
 pub mod ShapesRead
 pub mod Simplified

@@ -1,5 +1,5 @@
 -- What edges in arrays tell, and why there are none.
-use Rattle.std.proofs.Common.{◌≡◌, ◌<◌, ℕ, ◌+◌, ℤ, List, [], ◌∷◌, ◌++◌, length, get_or, take, map, inl, inr, refl, sym}
+use Rattle.std.proofs.Common.{◌≡◌, ◌<◌, ℕ, ◌+◌, ℤ, List, [], ◌∷◌, ◌++◌, length, get_or, take, map, refl, sym}
 use Rattle.std.proofs.Common.{ap, ap₂, subst, ◌∙◌}
 use Rattle.std.specs.List.{flat_map}
 use Rattle.std.proofs.lemmas.List.{map-append}
@@ -13,42 +13,33 @@ use Rattle.overlay_geom.specs.Plane.{Point}
 use Rattle.overlay_geom.specs.declared.error.OverlayError.{OverlayError}
 use Rattle.i_overlay.specs.OneShot.{AreEdgesOfPaths, MayRefusePaths}
 use Rattle.polyover_arrays.specs.declared.fault.Fault.{Fault}
-use Rattle.polyover_c.proofs.Filled.{contours_unread, without_memory, unanswered}
+use Rattle.polyover_c.proofs.Refusals.{unread, without_memory, unanswered}
 use Rattle.polyover_c.specs.Asked.{fill_of}
-use Rattle.polyover_c.specs.Given.{Contours, paths_of, paths_given, AreGiven, IsOneFaulty}
-use Rattle.polyover_c.specs.Listed.{EdgeArrays, EdgeRoom, AreListed, AreEdgesIn, AreEdgesPut, IsListingRefused}
-use Rattle.polyover_c.specs.Listed.{ListingEnds, ends_of_vector}
+use Rattle.polyover_c.specs.Given.{Contours, paths_of, paths_given, AreGiven, AreUnread}
+use Rattle.polyover_c.specs.Listed.{EdgeArrays, AreListed, AreEdgesIn, IsListingRefused, ends_of_vector}
+use Rattle.polyover_c.specs.Refusals.{IsUnknownFill}
 use Rattle.polyover_c.specs.Statuses.{status_of_fault, status_of_error}
 use Rattle.polyover_c.specs.declared.status.Status.{Status}
 use Rattle.polyover_c.specs.declared.status.Status.TheVariants.{Memory}
 
 module _ {I : Type 0} (whole : I → ℤ) (limit fill : ℕ) (subject clip : Contours I) where
-  pub edges_written_end : (arrays : EdgeArrays I) (old new : EdgeRoom I) (s : Status) →
-      AreEdgesIn whole limit fill subject clip arrays → AreEdgesPut arrays old new s →
-      ListingEnds whole limit fill subject clip old new s
-  edges_written_end arrays old new s are put = inl (record { arrays = arrays; edges = are; put = put })
-
-  pub edges_refused_end : (old : EdgeRoom I) (s : Status) → IsListingRefused whole limit fill subject clip s →
-      ListingEnds whole limit fill subject clip old old s
-  edges_refused_end old s refused = inr (refl, refused)
-
   abbrev may : OverlayError → Type 0
   may = MayRefusePaths (paths_given whole subject clip)
 
-  pub contours_unlisted : (f : Fault) → fill < 4 → IsOneFaulty whole limit subject clip f →
+  pub contours_unlisted : (f : Fault) → fill < 4 → AreUnread whole limit subject clip f →
       IsListingRefused whole limit fill subject clip (status_of_fault f)
-  contours_unlisted = contours_unread whole limit fill subject clip may
+  contours_unlisted = unread whole limit (IsUnknownFill fill) (fill < 4) subject clip may tt
 
   pub memory_unlisted : (s : Status) → fill < 4 → AreGiven whole limit subject → AreGiven whole limit clip →
       s ≡ Memory → IsListingRefused whole limit fill subject clip s
-  memory_unlisted s = without_memory whole limit fill subject clip may s tt
+  memory_unlisted = without_memory whole limit (IsUnknownFill fill) (fill < 4) subject clip may tt
 
   pub listing_refused : (e : OverlayError) (p q : List (List Point)) → fill < 4 → AreGiven whole limit subject →
       AreGiven whole limit clip → p ≡ paths_of whole subject → q ≡ paths_of whole clip →
       MayRefusePaths (subject_and_clip p q) e →
       IsListingRefused whole limit fill subject clip (status_of_error e)
   listing_refused e p q known s c same_p same_q refused =
-      unanswered whole limit fill subject clip may e (λ failed. failed) known s c
+      unanswered whole limit (IsUnknownFill fill) (fill < 4) subject clip may (λ failed. failed) e known s c
       (subst (λ paths. MayRefusePaths paths e) (ap₂ subject_and_clip same_p same_q) refused)
 
   pub edges_answered : (f : FillRule) (p q : List (List Point)) (vectors : List Vector) (arrays : EdgeArrays I) →

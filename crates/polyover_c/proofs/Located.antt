@@ -10,7 +10,7 @@ use Rattle.polyover_arrays.specs.Reading.{ArePoints, PointsHaveOwnFault}
 use Rattle.polyover_arrays.specs.declared.fault.Fault.{Fault}
 use Rattle.polyover_arrays.specs.declared.fault.Fault.TheVariants as fault
 use Rattle.polyover_c.specs.Given.{Contours, paths_of, AreGiven, IsFaulty}
-use Rattle.polyover_c.specs.Located.{number_of, Places, AreNumbers, HavePlaces, IsFirstUnresolved, LocatingEnds}
+use Rattle.polyover_c.specs.Located.{number_of, Places, AreNumbers, IsFirstUnresolved, LocatingEnds}
 use Rattle.polyover_c.specs.Statuses.{status_of_fault}
 use Rattle.polyover_c.specs.declared.status.Status.{Status}
 use Rattle.polyover_c.specs.declared.status.Status.TheVariants.{Done, Memory, NotResolved, TooSmall}

@@ -1,20 +1,18 @@
 -- What the answer of an overlay says of the arrays, and its refusals.
-use Rattle.std.proofs.Common.{◌≡◌, ◌<◌, ℕ, ℤ, List, sym, ap₂, subst, ◌∙◌, ap}
+use Rattle.std.proofs.Common.{◌≡◌, ◌<◌, ℕ, ℤ, List, ap₂, subst, ◌∙◌, ap}
 use Rattle.std.specs.Int.{Width}
 use Rattle.overlay_arrange.specs.declared.fill_rule.FillRule.{FillRule}
 use Rattle.overlay_arrange.specs.declared.options.IntOverlayOptions.{IntOverlayOptions}
 use Rattle.overlay_arrange.specs.declared.overlay_rule.OverlayRule.{OverlayRule}
-use Rattle.overlay_builder.specs.GivenPaths.{GivenPath, subject_and_clip}
-use Rattle.overlay_extract.specs.Results.{Asked, asked}
+use Rattle.overlay_builder.specs.GivenPaths.{subject_and_clip}
+use Rattle.overlay_extract.specs.Results.{asked}
 use Rattle.overlay_geom.specs.Plane.{Point}
 use Rattle.overlay_geom.specs.declared.error.OverlayError.{OverlayError}
-use Rattle.overlay_geom.specs.declared.error.OverlayError.TheVariants as error
 use Rattle.i_overlay.specs.OneShot.{IsResultOfPaths, MayRefusePaths}
 use Rattle.polyover_arrays.specs.declared.fault.Fault.{Fault}
-use Rattle.polyover_arrays.specs.declared.fault.Fault.TheVariants as fault
-use Rattle.polyover_c.proofs.Faults.{memory_is_no_fault}
-use Rattle.polyover_c.specs.Asked.{rule_of, fill_of, options_of, AreChoices}
-use Rattle.polyover_c.specs.Given.{Contours, paths_of, paths_given, AreGiven, IsOneFaulty}
+use Rattle.polyover_c.proofs.Refusals.{unread, without_memory, unanswered}
+use Rattle.polyover_c.specs.Asked.{rule_of, fill_of, options_of, AreChoices, AreKnown, IsUnknown}
+use Rattle.polyover_c.specs.Given.{Contours, paths_of, paths_given, AreGiven, AreUnread}
 use Rattle.polyover_c.specs.Overlays.{IsOverlay, IsOverlayRefused}
 use Rattle.polyover_c.specs.Statuses.{status_of_fault, status_of_error}
 use Rattle.polyover_c.specs.Written.{Flat, AreFlattened, IsFlat}
@@ -24,37 +22,34 @@ use Rattle.polyover_c.specs.declared.status.Status.TheVariants.{Memory}
 
 module _ {I U : Type 0} (whole : I → ℤ) (limit rule fill : ℕ) (options : OptionNumbers U)
     (subject clip : Contours I) where
+  abbrev may : OverlayError → Type 0
+  may = MayRefusePaths (paths_given whole subject clip)
+
+  abbrev are_known : Type 0
+  are_known = AreKnown rule fill options
+
+  abbrev is_unknown : Status → Type 0
+  is_unknown = IsUnknown rule fill options
+
   pub contours_refused : (f : Fault) → rule < 7 → fill < 4 → AreChoices options →
-      IsOneFaulty whole limit subject clip f →
+      AreUnread whole limit subject clip f →
       IsOverlayRefused whole limit rule fill options subject clip (status_of_fault f)
-  contours_refused fault.Memory known_rule known_fill known faulty =
-      absurd (memory_is_no_fault whole limit subject clip faulty)
-  contours_refused fault.Ends known_rule known_fill known faulty = ((known_rule, (known_fill, known)), faulty)
-  contours_refused fault.Range known_rule known_fill known faulty = ((known_rule, (known_fill, known)), faulty)
+  contours_refused f known_rule known_fill known =
+      unread whole limit is_unknown are_known subject clip may tt f (known_rule, (known_fill, known))
 
   pub memory_refused : (s : Status) → rule < 7 → fill < 4 → AreChoices options → AreGiven whole limit subject →
       AreGiven whole limit clip → s ≡ Memory → IsOverlayRefused whole limit rule fill options subject clip s
-  memory_refused s known_rule known_fill known given_subject given_clip same =
-      subst (IsOverlayRefused whole limit rule fill options subject clip) (sym same)
-      ((known_rule, (known_fill, known)), (given_subject, (given_clip, tt)))
-
-  -- what the query refuses, of what is read
-  read_refused : (e : OverlayError) (p q : List (List Point)) → p ≡ paths_of whole subject → q ≡ paths_of whole clip →
-      MayRefusePaths (subject_and_clip p q) e → MayRefusePaths (paths_given whole subject clip) e
-  read_refused e p q same_p same_q may =
-      subst (λ paths. MayRefusePaths paths e) (ap₂ subject_and_clip same_p same_q) may
+  memory_refused s known_rule known_fill known =
+      without_memory whole limit is_unknown are_known subject clip may tt s (known_rule, (known_fill, known))
 
   pub overlay_refused : (e : OverlayError) (p q : List (List Point)) → rule < 7 → fill < 4 → AreChoices options →
       AreGiven whole limit subject → AreGiven whole limit clip → p ≡ paths_of whole subject → q ≡ paths_of whole clip →
       MayRefusePaths (subject_and_clip p q) e →
       IsOverlayRefused whole limit rule fill options subject clip (status_of_error e)
-  overlay_refused error.Memory p q known_rule known_fill known s c same_p same_q may =
-      ((known_rule, (known_fill, known)), (s, (c, tt)))
-  overlay_refused error.NotSettled p q known_rule known_fill known s c same_p same_q may =
-      ((known_rule, (known_fill, known)), (s, (c, read_refused error.NotSettled p q same_p same_q may)))
-  overlay_refused error.TooManyEdges p q known_rule known_fill known s c same_p same_q may =
-      ((known_rule, (known_fill, known)), (s, (c, read_refused error.TooManyEdges p q same_p same_q may)))
-  overlay_refused error.Failed p q known_rule known_fill known s c same_p same_q may = absurd may
+  overlay_refused e p q known_rule known_fill known s c same_p same_q refused =
+      unanswered whole limit is_unknown are_known subject clip may (λ failed. failed) e
+      (known_rule, (known_fill, known)) s c
+      (subst (λ paths. MayRefusePaths paths e) (ap₂ subject_and_clip same_p same_q) refused)
 
   pub overlay_answered : (width : Width) (natural : U → ℕ) (r : OverlayRule) (f : FillRule) (o : IntOverlayOptions U)
       (p q : List (List Point)) (shapes : List (List (List Point))) (flat : Flat I) → rule < 7 → fill < 4 →

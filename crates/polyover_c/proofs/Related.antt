@@ -1,7 +1,7 @@
 -- What bits tell of the arrays, and why none are told.
 use Rattle.std.proofs.Common.{◌≡◌, ◌<◌, ℕ, ℤ, List, inl, inr, refl, ap₂, subst}
 use Rattle.overlay_arrange.specs.declared.fill_rule.FillRule.{FillRule}
-use Rattle.overlay_builder.specs.GivenPaths.{GivenPath, subject_and_clip}
+use Rattle.overlay_builder.specs.GivenPaths.{subject_and_clip}
 use Rattle.overlay_geom.specs.Plane.{Point}
 use Rattle.overlay_geom.specs.declared.error.OverlayError.{OverlayError}
 use Rattle.overlay_geom.specs.declared.error.OverlayError.TheVariants as error
@@ -9,13 +9,14 @@ use Rattle.overlay_relate.specs.declared.relations.Relations.{Relations}
 use Rattle.i_overlay.specs.OneShot.{MayRefusePaths}
 use Rattle.i_overlay.specs.Relations.{AreRelationsOfPaths}
 use Rattle.polyover_arrays.specs.declared.fault.Fault.{Fault}
-use Rattle.polyover_c.proofs.Filled.{contours_unread, without_memory, unanswered}
+use Rattle.polyover_c.proofs.Refusals.{unread, unanswered}
 use Rattle.polyover_c.specs.Asked.{fill_of}
-use Rattle.polyover_c.specs.Given.{Contours, paths_of, paths_given, AreGiven, IsOneFaulty}
+use Rattle.polyover_c.specs.Given.{Contours, paths_of, paths_given, AreGiven, AreUnread}
+use Rattle.polyover_c.specs.Refusals.{IsUnknownFill}
 use Rattle.polyover_c.specs.Related.{AreRelated, IsRelatingRefused, RelatingEnds, bits_of}
 use Rattle.polyover_c.specs.Statuses.{status_of_fault, status_of_error}
 use Rattle.polyover_c.specs.declared.status.Status.{Status}
-use Rattle.polyover_c.specs.declared.status.Status.TheVariants.{Done, Memory}
+use Rattle.polyover_c.specs.declared.status.Status.TheVariants.{Done}
 
 module _ {I : Type 0} (whole : I → ℤ) (limit fill : ℕ) (subject clip : Contours I) where
   pub told_ends : (old new : ℕ) → AreRelated whole limit fill subject clip new →
@@ -33,13 +34,9 @@ module _ {I : Type 0} (whole : I → ℤ) (limit fill : ℕ) (subject clip : Con
   never_failed : ¬ (may error.Failed)
   never_failed failed = failed
 
-  pub contours_untold : (f : Fault) → fill < 4 → IsOneFaulty whole limit subject clip f →
+  pub contours_untold : (f : Fault) → fill < 4 → AreUnread whole limit subject clip f →
       IsRelatingRefused whole limit fill subject clip (status_of_fault f)
-  contours_untold = contours_unread whole limit fill subject clip may
-
-  pub memory_untold : (s : Status) → fill < 4 → AreGiven whole limit subject → AreGiven whole limit clip →
-      s ≡ Memory → IsRelatingRefused whole limit fill subject clip s
-  memory_untold s = without_memory whole limit fill subject clip may s tt
+  contours_untold = unread whole limit (IsUnknownFill fill) (fill < 4) subject clip may tt
 
   -- what the query refuses, of what is read
   refused_of : (e : OverlayError) (p q : List (List Point)) → p ≡ paths_of whole subject → q ≡ paths_of whole clip →
@@ -52,7 +49,8 @@ module _ {I : Type 0} (whole : I → ℤ) (limit fill : ℕ) (subject clip : Con
       MayRefusePaths (subject_and_clip p q) e →
       IsRelatingRefused whole limit fill subject clip (status_of_error e)
   relating_refused e p q known s c same_p same_q refused =
-      unanswered whole limit fill subject clip may e never_failed known s c (refused_of e p q same_p same_q refused)
+      unanswered whole limit (IsUnknownFill fill) (fill < 4) subject clip may never_failed e known s c
+      (refused_of e p q same_p same_q refused)
 
   pub bits_told : (f : FillRule) (p q : List (List Point)) (r : Relations) (bits : ℕ) → fill < 4 →
       AreGiven whole limit subject → AreGiven whole limit clip → f ≡ fill_of fill → p ≡ paths_of whole subject →

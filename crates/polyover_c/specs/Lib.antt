@@ -1,14 +1,15 @@
 pub mod Asked
 pub mod Clipped
-pub mod Filled
 pub mod Given
 pub mod Hierarchies
 pub mod Lines
 pub mod Linked
 pub mod Listed
 pub mod Located
+pub mod Options
 pub mod Overlays
 pub mod Put
+pub mod Refusals
 pub mod Related
 pub mod Simplified
 pub mod Sliced

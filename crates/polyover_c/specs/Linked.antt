@@ -1,11 +1,13 @@
 -- Shapes and the links between them in arrays of a caller.
-use Rattle.std.specs.Prelude.{◌≡◌, ◌≤◌, ◌⊎◌, ℕ, ℤ, List, map, length}
+use Rattle.std.specs.Prelude.{◌≤◌, ℕ, ℤ, List, map, length}
 use Rattle.overlay_extract.specs.declared.child_link.ChildLink.{ChildLink as LinkTaken}
 use Rattle.overlay_geom.specs.Plane.{Point}
 use Rattle.overlay_plane.specs.Islands.{ChildLink}
 use Rattle.polyover_arrays.specs.Arrays.{written_over}
-use Rattle.polyover_c.specs.Put.{IsPutSo}
-use Rattle.polyover_c.specs.Written.{Flat, Room, AreFlattened, HasRoom, counts_of, written_into}
+use Rattle.polyover_c.specs.Put.{IsPutSo, EndsInto}
+use Rattle.polyover_c.specs.Written.{Flat, Room, AreFlattened, HasRoom, flat_shapes, shape_room, counts_of}
+use Rattle.polyover_c.specs.Written.{written_into}
+use Rattle.polyover_c.specs.declared.counts.Counts.{Counts}
 use Rattle.polyover_c.specs.declared.links.Link.{Link}
 use Rattle.polyover_c.specs.declared.status.Status.{Status}
 
@@ -29,11 +31,22 @@ pub record LinkedFlat (I : Type 0) : Type 0 where
   pub shapes : Flat I
   pub links : List Link
 
+abbrev pub flat_linked : {I : Type 0} → List I → List ℕ → List ℕ → List Link → LinkedFlat I
+flat_linked coordinates contour_ends shape_ends links =
+    record { shapes = flat_shapes coordinates contour_ends shape_ends; links = links }
+
 -- the arrays that a caller has for them, and where their counts go
 pub record LinkedRoom (I : Type 0) : Type 0 where
   pub shapes : Room I
   pub links : List Link
   pub link_count : ℕ
+
+abbrev pub linked_room : {I : Type 0} → List I → List ℕ → List ℕ → List Link → Counts → ℕ → LinkedRoom I
+linked_room coordinates contour_ends shape_ends links counts link_count = record {
+  shapes = shape_room coordinates contour_ends shape_ends counts;
+  links = links;
+  link_count = link_count;
+}
 
 -- each array has a place for each item
 pub record HasLinkedRoom {I : Type 0} (flat : LinkedFlat I) (room : LinkedRoom I) : Type 0 where
@@ -63,15 +76,7 @@ pub record AreFlatLinked {I : Type 0} (IsAnswer : List (List (List Point)) → L
   pub answer : IsAnswer shapes (map link_at flat.links)
   pub flattened : AreFlattened whole shapes flat.shapes
 
--- arrays in which such shapes and links stand are put into those of the caller
-pub record AreSuchLinkedPut {I : Type 0} (IsAnswer : List (List (List Point)) → List ChildLink → Type 0)
-    (whole : I → ℤ) (old new : LinkedRoom I) (s : Status) : Type 0 where
-  pub flat : LinkedFlat I
-  pub answers : AreFlatLinked IsAnswer whole flat
-  pub put : ArePutLinked flat old new s
-
--- so a call ends: such shapes and links are put into the arrays, or it is refused, and nothing of them changes
+-- so a call ends: such shapes and links are put into the arrays, or it is refused
 abbrev pub EndsWithLinked : {I : Type 0} → (List (List (List Point)) → List ChildLink → Type 0) → (Status → Type 0) →
     (I → ℤ) → LinkedRoom I → LinkedRoom I → Status → Type 0
-EndsWithLinked IsAnswer refused whole old new s =
-    AreSuchLinkedPut IsAnswer whole old new s ⊎ ((new ≡ old) × refused s)
+EndsWithLinked IsAnswer refused whole = EndsInto (AreFlatLinked IsAnswer whole) ArePutLinked refused

@@ -1,26 +1,30 @@
 -- The edges of an arrangement in arrays of a caller.
-use Rattle.std.specs.Prelude.{◌≡◌, ◌<◌, ◌≤◌, ◌⊎◌, ℕ, ℤ, List, [], ◌∷◌, length, map}
+use Rattle.std.specs.Prelude.{◌≡◌, ◌<◌, ◌≤◌, ℕ, ℤ, List, [], ◌∷◌, length, map}
 use Rattle.std.specs.List.{flat_map}
 use Rattle.overlay_arrange.specs.Vectors.{Vector}
 use Rattle.i_overlay.specs.OneShot.{AreEdgesOfPaths, MayRefusePaths}
 use Rattle.polyover_arrays.specs.Arrays.{written_over}
 use Rattle.polyover_c.specs.Asked.{fill_of}
-use Rattle.polyover_c.specs.Filled.{IsQueryRefused}
 use Rattle.polyover_c.specs.Given.{Contours, paths_given, AreGiven}
+use Rattle.polyover_c.specs.Put.{IsPutSo, EndsInto}
+use Rattle.polyover_c.specs.Refusals.{IsQueryRefused}
 use Rattle.polyover_c.specs.declared.status.Status.{Status}
-use Rattle.polyover_c.specs.declared.status.Status.TheVariants.{Done, Memory, BadEnds, OutOfRange}
-use Rattle.polyover_c.specs.declared.status.Status.TheVariants.{NotResolved, BadRule, BadFill, BadOption}
-use Rattle.polyover_c.specs.declared.status.Status.TheVariants.{NotSettled, TooManyEdges, TooSmall}
 
 -- edges in arrays: of each the coordinates of both ends, and its fill bits
 pub record EdgeArrays (I : Type 0) : Type 0 where
   pub coordinates : List I
   pub fills : List ℕ
 
+abbrev pub flat_edges : {I : Type 0} → List I → List ℕ → EdgeArrays I
+flat_edges coordinates fills = record { coordinates = coordinates; fills = fills }
+
 -- the arrays that a caller has for edges, and where their number goes
 pub record EdgeRoom (I : Type 0) : Type 0 where
   pub arrays : EdgeArrays I
   pub count : ℕ
+
+abbrev pub edge_room : {I : Type 0} → List I → List ℕ → ℕ → EdgeRoom I
+edge_room coordinates fills count = record { arrays = flat_edges coordinates fills; count = count }
 
 -- x and y of where the edge begins, and of where it ends
 abbrev pub ends_of_vector : Vector → List ℤ
@@ -46,19 +50,9 @@ edges_written arrays room = record {
 -- what becomes of the arrays where an answer is there: it is written, or they are too small and stay; the count is that
 -- of the answer
 abbrev pub AreEdgesPut : {I : Type 0} → EdgeArrays I → EdgeRoom I → EdgeRoom I → Status → Type 0
-AreEdgesPut arrays old new Done = HasEdgeRoom arrays old.arrays
-    × (new ≡ record { arrays = edges_written arrays old.arrays; count = length arrays.fills })
-AreEdgesPut arrays old new Memory = ⊥
-AreEdgesPut arrays old new BadEnds = ⊥
-AreEdgesPut arrays old new OutOfRange = ⊥
-AreEdgesPut arrays old new NotResolved = ⊥
-AreEdgesPut arrays old new BadRule = ⊥
-AreEdgesPut arrays old new BadFill = ⊥
-AreEdgesPut arrays old new BadOption = ⊥
-AreEdgesPut arrays old new NotSettled = ⊥
-AreEdgesPut arrays old new TooManyEdges = ⊥
-AreEdgesPut arrays old new TooSmall = ¬ (HasEdgeRoom arrays old.arrays)
-    × (new ≡ record { arrays = old.arrays; count = length arrays.fills })
+AreEdgesPut arrays old new = IsPutSo (HasEdgeRoom arrays old.arrays)
+    (record { arrays = edges_written arrays old.arrays; count = length arrays.fills })
+    (record { arrays = old.arrays; count = length arrays.fills }) new
 
 -- the fill rule is known, both are given, and the edges of some arrangement of the contours of both stand in the
 -- arrays, with the sides that are filled under the fill rule with the number
@@ -76,15 +70,8 @@ abbrev pub IsListingRefused : {I : Type 0} → (I → ℤ) → ℕ → ℕ → C
 IsListingRefused whole limit fill subject clip =
     IsQueryRefused whole limit fill subject clip (MayRefusePaths (paths_given whole subject clip))
 
--- arrays in which they stand are put into those of the caller
-pub record AreEdgesWritten {I : Type 0} (whole : I → ℤ) (limit fill : ℕ) (subject clip : Contours I)
-    (old new : EdgeRoom I) (s : Status) : Type 0 where
-  pub arrays : EdgeArrays I
-  pub edges : AreEdgesIn whole limit fill subject clip arrays
-  pub put : AreEdgesPut arrays old new s
-
--- how it ends: with edges that are put into the arrays, or it is refused, and nothing changes
+-- how it ends: with edges that are put into the arrays, or it is refused
 abbrev pub ListingEnds : {I : Type 0} → (I → ℤ) → ℕ → ℕ → Contours I → Contours I → EdgeRoom I → EdgeRoom I →
     Status → Type 0
-ListingEnds whole limit fill subject clip old new s = AreEdgesWritten whole limit fill subject clip old new s
-    ⊎ ((new ≡ old) × IsListingRefused whole limit fill subject clip s)
+ListingEnds whole limit fill subject clip = EndsInto (AreEdgesIn whole limit fill subject clip) AreEdgesPut
+    (IsListingRefused whole limit fill subject clip)

@@ -1,13 +1,12 @@
 -- How an overlay of arrays ends.
 use Rattle.std.specs.Prelude.{ℕ, ℤ, List}
 use Rattle.std.specs.Int.{Width}
-use Rattle.overlay_arrange.specs.declared.fill_rule.FillRule.{FillRule}
 use Rattle.overlay_extract.specs.Results.{asked}
 use Rattle.overlay_geom.specs.Plane.{Point}
 use Rattle.i_overlay.specs.OneShot.{IsResultOfPaths, MayRefusePaths}
 use Rattle.polyover_c.specs.Asked.{rule_of, fill_of, options_of, AreKnown, IsUnknown}
-use Rattle.polyover_c.specs.Given.{Contours, paths_given, AreGiven, IsOneFaulty}
-use Rattle.polyover_c.specs.Statuses.{IsRefused}
+use Rattle.polyover_c.specs.Given.{Contours, paths_given, AreGiven}
+use Rattle.polyover_c.specs.Refusals.{AreBothRefused}
 use Rattle.polyover_c.specs.Written.{Room, EndsWithShapes}
 use Rattle.polyover_c.specs.declared.numbers.OptionNumbers.{OptionNumbers}
 use Rattle.polyover_c.specs.declared.status.Status.{Status}
@@ -26,10 +25,9 @@ pub record IsOverlay {I U : Type 0} (whole : I → ℤ) (limit : ℕ) (width : W
 -- else the query is refused
 abbrev pub IsOverlayRefused : {I U : Type 0} → (I → ℤ) → ℕ → ℕ → ℕ → OptionNumbers U → Contours I → Contours I →
     Status → Type 0
-IsOverlayRefused whole limit rule fill options subject clip = IsRefused (IsUnknown rule fill options)
-    (λ f. AreKnown rule fill options × IsOneFaulty whole limit subject clip f)
-    (λ e. AreKnown rule fill options × (AreGiven whole limit subject × (AreGiven whole limit clip
-    × MayRefusePaths (paths_given whole subject clip) e)))
+IsOverlayRefused whole limit rule fill options subject clip = AreBothRefused whole limit
+    (IsUnknown rule fill options) (AreKnown rule fill options) subject clip
+    (MayRefusePaths (paths_given whole subject clip))
 
 -- how it ends
 abbrev pub OverlayEnds : {I U : Type 0} → (I → ℤ) → ℕ → Width → (U → ℕ) → ℕ → ℕ → OptionNumbers U → Contours I →

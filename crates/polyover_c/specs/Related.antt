@@ -5,8 +5,8 @@ use Rattle.overlay_relate.specs.declared.relations.Relations.{Relations}
 use Rattle.i_overlay.specs.OneShot.{MayRefusePaths}
 use Rattle.i_overlay.specs.Relations.{AreRelationsOfPaths}
 use Rattle.polyover_c.specs.Asked.{fill_of}
-use Rattle.polyover_c.specs.Filled.{IsQueryRefused}
 use Rattle.polyover_c.specs.Given.{Contours, paths_given, AreGiven}
+use Rattle.polyover_c.specs.Refusals.{IsQueryRefused}
 use Rattle.polyover_c.specs.declared.status.Status.{Status}
 use Rattle.polyover_c.specs.declared.status.Status.TheVariants.{Done}
 

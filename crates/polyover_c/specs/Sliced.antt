@@ -1,11 +1,13 @@
 -- How the slicing of arrays ends.
-use Rattle.std.specs.Prelude.{◌<◌, ◌≤◌, ℕ, ℤ, List}
+use Rattle.std.specs.Prelude.{◌<◌, ℕ, ℤ, List}
 use Rattle.std.specs.Int.{Width}
 use Rattle.overlay_geom.specs.Plane.{Point}
+use Rattle.overlay_string.specs.OneShot.{MayRefusePaths}
 use Rattle.overlay_string.specs.StringSlices.{AreSlicedOfPaths}
 use Rattle.polyover_c.specs.Asked.{fill_of}
 use Rattle.polyover_c.specs.Given.{Contours, AreGiven}
-use Rattle.polyover_c.specs.Lines.{shape_and_lines, AreLinesRefused}
+use Rattle.polyover_c.specs.Lines.{shape_and_lines}
+use Rattle.polyover_c.specs.Refusals.{IsQueryRefused}
 use Rattle.polyover_c.specs.Written.{Room, EndsWithShapes}
 use Rattle.polyover_c.specs.declared.status.Status.{Status}
 
@@ -20,7 +22,8 @@ pub record AreSlices {I : Type 0} (whole : I → ℤ) (limit : ℕ) (width : Wid
 -- a slicing is refused so: the fill rule's number stands for nothing; else the arrays have a fault, those of the
 -- subject first; else the query is refused
 abbrev pub IsSlicingRefused : {I : Type 0} → (I → ℤ) → ℕ → ℕ → Contours I → Contours I → Status → Type 0
-IsSlicingRefused whole limit fill = AreLinesRefused whole limit (4 ≤ fill) ⊥ (fill < 4)
+IsSlicingRefused whole limit fill subject lines =
+    IsQueryRefused whole limit fill subject lines (MayRefusePaths (shape_and_lines whole subject lines))
 
 -- how it ends
 abbrev pub SlicingEnds : {I : Type 0} → (I → ℤ) → ℕ → Width → ℕ → Contours I → Contours I → Room I → Room I → Status →

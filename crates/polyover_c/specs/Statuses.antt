@@ -1,6 +1,5 @@
 -- The numbers of statuses, and for what they stand.
 use Rattle.std.specs.Prelude.{ℕ, ℤ, List, All}
-use Rattle.overlay_geom.specs.Plane.{Point}
 use Rattle.overlay_geom.specs.Resolved.{IsResolved}
 use Rattle.overlay_geom.specs.declared.error.OverlayError.{OverlayError}
 use Rattle.overlay_geom.specs.declared.error.OverlayError.TheVariants as error

@@ -1,16 +1,14 @@
 -- An answer in arrays of a caller.
-use Rattle.std.specs.Prelude.{◌≡◌, ◌≤◌, ◌⊎◌, ℕ, ℤ, List, length}
+use Rattle.std.specs.Prelude.{◌≡◌, ◌≤◌, ℕ, ℤ, List, length}
 use Rattle.std.specs.declared.ops.Range.{Range}
 use Rattle.overlay_geom.specs.Flat.{shapes_in}
 use Rattle.overlay_geom.specs.FlatShapes.{AreShapesPacked}
 use Rattle.overlay_geom.specs.Plane.{Point}
 use Rattle.overlay_geom.specs.declared.point.IntPoint.{IntPoint}
 use Rattle.polyover_arrays.specs.Arrays.{coordinates_of, ends_of, written_over}
+use Rattle.polyover_c.specs.Put.{IsPutSo, EndsInto}
 use Rattle.polyover_c.specs.declared.counts.Counts.{Counts}
 use Rattle.polyover_c.specs.declared.status.Status.{Status}
-use Rattle.polyover_c.specs.declared.status.Status.TheVariants.{Done, Memory, BadEnds, OutOfRange}
-use Rattle.polyover_c.specs.declared.status.Status.TheVariants.{NotResolved, BadRule, BadFill, BadOption}
-use Rattle.polyover_c.specs.declared.status.Status.TheVariants.{NotSettled, TooManyEdges, TooSmall}
 
 -- shapes in arrays: the coordinates, the ends of contours among the points, and those of shapes among the contours
 pub record Flat (I : Type 0) : Type 0 where
@@ -18,10 +16,18 @@ pub record Flat (I : Type 0) : Type 0 where
   pub contour_ends : List ℕ
   pub shape_ends : List ℕ
 
+abbrev pub flat_shapes : {I : Type 0} → List I → List ℕ → List ℕ → Flat I
+flat_shapes coordinates contour_ends shape_ends =
+    record { coordinates = coordinates; contour_ends = contour_ends; shape_ends = shape_ends }
+
 -- the arrays that a caller has for an answer, and where its counts go
 pub record Room (I : Type 0) : Type 0 where
   pub arrays : Flat I
   pub counts : Counts
+
+abbrev pub shape_room : {I : Type 0} → List I → List ℕ → List ℕ → Counts → Room I
+shape_room coordinates contour_ends shape_ends counts =
+    record { arrays = flat_shapes coordinates contour_ends shape_ends; counts = counts }
 
 -- the shapes stand in the arrays, one behind the other
 pub record AreFlattened {I : Type 0} (whole : I → ℤ) (shapes : List (List (List Point))) (flat : Flat I) : Type 0 where
@@ -58,20 +64,10 @@ written_into flat room = record {
 
 -- what becomes of the arrays where an answer is there: it is written, or they are too small and stay; the counts are
 -- those of the answer
-abbrev pub IsPut : {I : Type 0} → Flat I → Room I → Room I → Status → Type 0
-IsPut flat old new Done = HasRoom flat old.arrays
-    × (new ≡ record { arrays = written_into flat old.arrays; counts = counts_of flat })
-IsPut flat old new Memory = ⊥
-IsPut flat old new BadEnds = ⊥
-IsPut flat old new OutOfRange = ⊥
-IsPut flat old new NotResolved = ⊥
-IsPut flat old new BadRule = ⊥
-IsPut flat old new BadFill = ⊥
-IsPut flat old new BadOption = ⊥
-IsPut flat old new NotSettled = ⊥
-IsPut flat old new TooManyEdges = ⊥
-IsPut flat old new TooSmall = ¬ (HasRoom flat old.arrays)
-    × (new ≡ record { arrays = old.arrays; counts = counts_of flat })
+abbrev pub ArePut : {I : Type 0} → Flat I → Room I → Room I → Status → Type 0
+ArePut flat old new = IsPutSo (HasRoom flat old.arrays)
+    (record { arrays = written_into flat old.arrays; counts = counts_of flat })
+    (record { arrays = old.arrays; counts = counts_of flat }) new
 
 -- such shapes stand in the arrays
 pub record IsFlat {I : Type 0} (IsAnswer : List (List (List Point)) → Type 0) (whole : I → ℤ)
@@ -80,14 +76,7 @@ pub record IsFlat {I : Type 0} (IsAnswer : List (List (List Point)) → Type 0) 
   pub answer : IsAnswer shapes
   pub flattened : AreFlattened whole shapes flat
 
--- arrays in which such shapes stand are put into those of the caller
-pub record ArePut {I : Type 0} (IsAnswer : List (List (List Point)) → Type 0) (whole : I → ℤ) (old new : Room I)
-    (s : Status) : Type 0 where
-  pub flat : Flat I
-  pub answers : IsFlat IsAnswer whole flat
-  pub put : IsPut flat old new s
-
--- so a call ends: such shapes are put into the arrays, or it is refused, and nothing of them changes
+-- so a call ends: such shapes are put into the arrays, or it is refused
 abbrev pub EndsWithShapes : {I : Type 0} → (List (List (List Point)) → Type 0) → (Status → Type 0) → (I → ℤ) →
     Room I → Room I → Status → Type 0
-EndsWithShapes IsAnswer refused whole old new s = ArePut IsAnswer whole old new s ⊎ ((new ≡ old) × refused s)
+EndsWithShapes IsAnswer refused whole = EndsInto (IsFlat IsAnswer whole) ArePut refused

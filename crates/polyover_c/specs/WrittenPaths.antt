@@ -1,12 +1,12 @@
 -- Paths in arrays of a caller.
-use Rattle.std.specs.Prelude.{◌≡◌, ◌≤◌, ◌⊎◌, ℕ, ℤ, List, length}
+use Rattle.std.specs.Prelude.{◌≡◌, ◌≤◌, ℕ, ℤ, List, length}
 use Rattle.std.specs.declared.ops.Range.{Range}
 use Rattle.overlay_geom.specs.Flat.{paths_in}
 use Rattle.overlay_geom.specs.Packed.{IsPacked}
 use Rattle.overlay_geom.specs.Plane.{Point}
 use Rattle.overlay_geom.specs.declared.point.IntPoint.{IntPoint}
 use Rattle.polyover_arrays.specs.Arrays.{coordinates_of, ends_of, written_over}
-use Rattle.polyover_c.specs.Put.{IsPutSo}
+use Rattle.polyover_c.specs.Put.{IsPutSo, EndsInto}
 use Rattle.polyover_c.specs.declared.path_counts.PathCounts.{PathCounts}
 use Rattle.polyover_c.specs.declared.status.Status.{Status}
 
@@ -15,10 +15,16 @@ pub record FlatPaths (I : Type 0) : Type 0 where
   pub coordinates : List I
   pub ends : List ℕ
 
+abbrev pub flat_paths : {I : Type 0} → List I → List ℕ → FlatPaths I
+flat_paths coordinates ends = record { coordinates = coordinates; ends = ends }
+
 -- the arrays that a caller has for paths, and where their counts go
 pub record PathRoom (I : Type 0) : Type 0 where
   pub arrays : FlatPaths I
   pub counts : PathCounts
+
+abbrev pub path_room : {I : Type 0} → List I → List ℕ → PathCounts → PathRoom I
+path_room coordinates ends counts = record { arrays = flat_paths coordinates ends; counts = counts }
 
 -- the paths stand in the arrays, one behind the other
 pub record ArePathsFlattened {I : Type 0} (whole : I → ℤ) (paths : List (List Point)) (flat : FlatPaths I) : Type 0
@@ -60,15 +66,7 @@ pub record AreFlatPaths {I : Type 0} (IsAnswer : List (List Point) → Type 0) (
   pub answer : IsAnswer paths
   pub flattened : ArePathsFlattened whole paths flat
 
--- arrays in which such paths stand are put into those of the caller
-pub record AreSuchPathsPut {I : Type 0} (IsAnswer : List (List Point) → Type 0) (whole : I → ℤ) (old new : PathRoom I)
-    (s : Status) : Type 0 where
-  pub flat : FlatPaths I
-  pub answers : AreFlatPaths IsAnswer whole flat
-  pub put : ArePathsPut flat old new s
-
--- so a call ends: such paths are put into the arrays, or it is refused, and nothing of them changes
+-- so a call ends: such paths are put into the arrays, or it is refused
 abbrev pub EndsWithPaths : {I : Type 0} → (List (List Point) → Type 0) → (Status → Type 0) → (I → ℤ) → PathRoom I →
     PathRoom I → Status → Type 0
-EndsWithPaths IsAnswer refused whole old new s =
-    AreSuchPathsPut IsAnswer whole old new s ⊎ ((new ≡ old) × refused s)
+EndsWithPaths IsAnswer refused whole = EndsInto (AreFlatPaths IsAnswer whole) ArePathsPut refused

@@ -2,7 +2,7 @@
 
 ghost use Rattle.std.specs.Prelude.{◌≡◌, IfOk, IsOkUnless};
 ghost use Rattle.overlay_geom.specs.Paths.{plain_shapes};
-ghost use Rattle.polyover_c.specs.Written.{AreFlattened, IsPut};
+ghost use Rattle.polyover_c.specs.Written.{AreFlattened, ArePut, flat_shapes, shape_room};
 
 use crate::counts::Counts;
 use crate::status::Status;
@@ -26,11 +26,8 @@ pub(crate) fn flattened<I: IntNumber>(
     alloc: Global,
     shapes: &[IntShape<I, Global>],
 ) -> Result<Answer<I>, Status>
-    ensures flattened { IfOk result (λ a. AreFlattened I.whole (plain_shapes I.whole shapes.now) (record {
-      coordinates = a.coordinates.items;
-      contour_ends = a.contour_ends.items;
-      shape_ends = a.shape_ends.items;
-    })) }
+    ensures flattened { IfOk result (λ a. AreFlattened I.whole (plain_shapes I.whole shapes.now)
+        (flat_shapes a.coordinates.items a.contour_ends.items a.shape_ends.items)) }
     ensures only { IsOkUnless result Status.Memory }
 {
     let flat = FlatShapesBuffer::from_shapes(alloc, shapes)?;
@@ -52,28 +49,10 @@ pub(crate) fn put<I: IntNumber>(
     shape_ends: &mut [usize],
     counts: &mut Counts,
 ) -> Status
-    ensures { IsPut
-        (record {
-          coordinates = answer.now.coordinates.items;
-          contour_ends = answer.now.contour_ends.items;
-          shape_ends = answer.now.shape_ends.items;
-        })
-        (record {
-          arrays = record {
-            coordinates = coordinates.old;
-            contour_ends = contour_ends.old;
-            shape_ends = shape_ends.old;
-          };
-          counts = counts.old;
-        })
-        (record {
-          arrays = record {
-            coordinates = coordinates.new;
-            contour_ends = contour_ends.new;
-            shape_ends = shape_ends.new;
-          };
-          counts = counts.new;
-        })
+    ensures { ArePut
+        (flat_shapes answer.now.coordinates.items answer.now.contour_ends.items answer.now.shape_ends.items)
+        (shape_room coordinates.old contour_ends.old shape_ends.old counts.old)
+        (shape_room coordinates.new contour_ends.new shape_ends.new counts.new)
         result }
 {
     *counts = Counts {

@@ -6,10 +6,11 @@ ghost use Rattle.overlay_builder.specs.GivenPaths.{subject_and_clip};
 ghost use Rattle.overlay_geom.specs.Flat.{paths_in};
 ghost use Rattle.overlay_geom.specs.Points.{AllInRange};
 ghost use Rattle.i_overlay.specs.OneShot.{AreEdgesOfPaths, MayRefusePaths};
-ghost use Rattle.polyover_c.specs.Listed.{AreEdgesIn, AreEdgesPut, AreListed};
+ghost use Rattle.polyover_c.specs.Given.{contours_of};
+ghost use Rattle.polyover_c.specs.Listed.{AreEdgesIn, AreEdgesPut, AreListed, edge_room, flat_edges};
 ghost use Rattle.polyover_c.specs.Listed.{IsListingRefused, ListingEnds};
 
-use crate::given::{Contours, test_both};
+use crate::given::{Contours, read_both};
 use crate::numbers::fill_of;
 use crate::status::Status;
 use i_overlay::fill_rule::FillRule;
@@ -19,7 +20,6 @@ use overlay_geom::error::OverlayError;
 use overlay_geom::flat::contours::FlatContoursBuffer;
 use overlay_geom::integer::OverlayInt;
 use overlay_geom::number::IntNumber;
-use polyover_arrays::read::tested_contours;
 use polyover_arrays::write::write_over;
 use std::alloc::Global;
 
@@ -32,7 +32,7 @@ struct ListedEdges<I> {
 
 /// The edges of the arrangement of both shapes, with the sides that are filled under the fill rule with the number, put
 /// into the arrays.
-#[tactic(auto, using(crate::proofs::Listed::edges_written_end, crate::proofs::Listed::edges_refused_end))]
+#[tactic(auto, using(crate::proofs::Endings::put_ends, crate::proofs::Endings::refused_ends))]
 pub(crate) fn edges_arrays<I: OverlayInt>(
     alloc: Global,
     fill: u32,
@@ -43,16 +43,10 @@ pub(crate) fn edges_arrays<I: OverlayInt>(
     count: &mut usize,
 ) -> Status
     ensures { ListingEnds I.whole I.limit fill
-        (record { coordinates = subject.now.coordinates.now; ends = subject.now.ends.now })
-        (record { coordinates = clip.now.coordinates.now; ends = clip.now.ends.now })
-        (record {
-          arrays = record { coordinates = coordinates.old; fills = fills.old };
-          count = count.old;
-        })
-        (record {
-          arrays = record { coordinates = coordinates.new; fills = fills.new };
-          count = count.new;
-        })
+        (contours_of subject.now.coordinates.now subject.now.ends.now)
+        (contours_of clip.now.coordinates.now clip.now.ends.now)
+        (edge_room coordinates.old fills.old count.old)
+        (edge_room coordinates.new fills.new count.new)
         result }
 {
     match edges_listed(alloc, fill, subject, clip) {
@@ -69,15 +63,9 @@ fn put<I: IntNumber>(
     count: &mut usize,
 ) -> Status
     ensures { AreEdgesPut
-        (record { coordinates = listed.now.coordinates.items; fills = listed.now.fills.items })
-        (record {
-          arrays = record { coordinates = coordinates.old; fills = fills.old };
-          count = count.old;
-        })
-        (record {
-          arrays = record { coordinates = coordinates.new; fills = fills.new };
-          count = count.new;
-        })
+        (flat_edges listed.now.coordinates.items listed.now.fills.items)
+        (edge_room coordinates.old fills.old count.old)
+        (edge_room coordinates.new fills.new count.new)
         result }
 {
     *count = listed.fills.len();
@@ -99,18 +87,16 @@ fn edges_listed<I: OverlayInt>(
 ) -> Result<ListedEdges<I>, Status>
     ensures { MatchResult result
         (λ l. AreEdgesIn I.whole I.limit fill
-        (record { coordinates = subject.now.coordinates.now; ends = subject.now.ends.now })
-        (record { coordinates = clip.now.coordinates.now; ends = clip.now.ends.now })
-        (record { coordinates = l.coordinates.items; fills = l.fills.items }))
+        (contours_of subject.now.coordinates.now subject.now.ends.now)
+        (contours_of clip.now.coordinates.now clip.now.ends.now)
+        (flat_edges l.coordinates.items l.fills.items))
         (IsListingRefused I.whole I.limit fill
-        (record { coordinates = subject.now.coordinates.now; ends = subject.now.ends.now })
-        (record { coordinates = clip.now.coordinates.now; ends = clip.now.ends.now })) }
+        (contours_of subject.now.coordinates.now subject.now.ends.now)
+        (contours_of clip.now.coordinates.now clip.now.ends.now)) }
 {
     let fill = fill_of(fill)?;
-    test_both(subject, clip)?;
-    let subject = tested_contours(alloc, subject.coordinates, subject.ends)?;
-    let clip = tested_contours(alloc, clip.coordinates, clip.ends)?;
-    let edges = arranged_edges(alloc, &subject, &clip, fill)?;
+    let read = read_both(alloc, subject, clip)?;
+    let edges = arranged_edges(alloc, &read.first, &read.second, fill)?;
     let listed = listed(alloc, &edges)?;
     Ok(listed)
 }
@@ -142,7 +128,7 @@ fn listed<I: IntNumber>(
     edges: &[DataVectorEdge<I, ()>],
 ) -> Result<ListedEdges<I>, OverlayError>
     ensures listed { IfOk result (λ l. AreListed I.whole (map (plain_vector I.whole) edges.now)
-        (record { coordinates = l.coordinates.items; fills = l.fills.items })) }
+        (flat_edges l.coordinates.items l.fills.items)) }
     ensures only { IsOkUnless result OverlayError.Memory }
 {
     let mut coordinates = Vec::new(alloc);

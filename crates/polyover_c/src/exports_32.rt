@@ -3,9 +3,12 @@
 ghost use Rattle.std.specs.Prelude.{◌≡◌, ◌↔◌, ◌≤◌};
 ghost use Rattle.polyover_arrays.specs.Reading.{AreWithin};
 ghost use Rattle.std.specs.Int.{w64};
+ghost use Rattle.polyover_c.specs.Given.{contours_of};
+ghost use Rattle.polyover_c.specs.Options.{options_32};
 ghost use Rattle.polyover_c.specs.Overlays.{OverlayEnds};
 ghost use Rattle.polyover_c.specs.Simplified.{SimplifyingEnds};
 ghost use Rattle.polyover_c.specs.Statuses.{ReadsAs, code_of};
+ghost use Rattle.polyover_c.specs.Written.{shape_room};
 ghost use Rattle.polyover_c.specs.declared.status.Status.{Status};
 
 use crate::arrays::Contours32;
@@ -53,30 +56,11 @@ pub extern "C" fn polyover_overlay_32(
     counts: &mut Counts,
 ) -> u32
     ensures { (s : Status) × OverlayEnds (λ z. z) 1073741823 w64 (λ n. n) rule fill
-        (record {
-          direction = options.now.direction;
-          keep = options.now.keep;
-          ogc = options.now.ogc;
-          min_area = options.now.min_area;
-        })
-        (record { coordinates = subject.now.coordinates.now; ends = subject.now.ends.now })
-        (record { coordinates = clip.now.coordinates.now; ends = clip.now.ends.now })
-        (record {
-          arrays = record {
-            coordinates = coordinates.old;
-            contour_ends = contour_ends.old;
-            shape_ends = shape_ends.old;
-          };
-          counts = counts.old;
-        })
-        (record {
-          arrays = record {
-            coordinates = coordinates.new;
-            contour_ends = contour_ends.new;
-            shape_ends = shape_ends.new;
-          };
-          counts = counts.new;
-        })
+        (options_32 options.now)
+        (contours_of subject.now.coordinates.now subject.now.ends.now)
+        (contours_of clip.now.coordinates.now clip.now.ends.now)
+        (shape_room coordinates.old contour_ends.old shape_ends.old counts.old)
+        (shape_room coordinates.new contour_ends.new shape_ends.new counts.new)
         s × (result ≡ code_of s) }
 {
     let numbers = OptionNumbers {
@@ -122,29 +106,10 @@ pub extern "C" fn polyover_simplify_32(
     counts: &mut Counts,
 ) -> u32
     ensures { (s : Status) × SimplifyingEnds (λ z. z) 1073741823 w64 (λ n. n) fill
-        (record {
-          direction = options.now.direction;
-          keep = options.now.keep;
-          ogc = options.now.ogc;
-          min_area = options.now.min_area;
-        })
-        (record { coordinates = contours.now.coordinates.now; ends = contours.now.ends.now })
-        (record {
-          arrays = record {
-            coordinates = coordinates.old;
-            contour_ends = contour_ends.old;
-            shape_ends = shape_ends.old;
-          };
-          counts = counts.old;
-        })
-        (record {
-          arrays = record {
-            coordinates = coordinates.new;
-            contour_ends = contour_ends.new;
-            shape_ends = shape_ends.new;
-          };
-          counts = counts.new;
-        })
+        (options_32 options.now)
+        (contours_of contours.now.coordinates.now contours.now.ends.now)
+        (shape_room coordinates.old contour_ends.old shape_ends.old counts.old)
+        (shape_room coordinates.new contour_ends.new shape_ends.new counts.new)
         s × (result ≡ code_of s) }
 {
     let numbers = OptionNumbers {

@@ -8,12 +8,13 @@ ghost use Rattle.overlay_geom.specs.Flat.{paths_in, shapes_in};
 ghost use Rattle.overlay_geom.specs.FlatShapes.{AreShapesPacked};
 ghost use Rattle.overlay_geom.specs.Points.{AllInRange};
 ghost use Rattle.i_overlay.specs.OneShot.{IsHierarchyOfPaths, MayRefusePaths};
+ghost use Rattle.polyover_c.specs.Given.{contours_of};
 ghost use Rattle.polyover_c.specs.Hierarchies.{IsLinkedOverlay, HierarchyEnds};
-ghost use Rattle.polyover_c.specs.Linked.{AreFlatLinked};
+ghost use Rattle.polyover_c.specs.Linked.{AreFlatLinked, flat_linked, linked_room};
 ghost use Rattle.polyover_c.specs.Overlays.{IsOverlayRefused};
 
 use crate::counts::Counts;
-use crate::given::{Contours, test_both};
+use crate::given::{Contours, read_both};
 use crate::linked_answer::{LinkedAnswer, flattened_hierarchy, put_linked};
 use crate::links::Link;
 use crate::numbers::{OptionNumbers, fill_of, options_of, rule_of};
@@ -26,11 +27,10 @@ use i_overlay::solver::Solver;
 use overlay_geom::error::OverlayError;
 use overlay_geom::flat::contours::FlatContoursBuffer;
 use overlay_geom::integer::OverlayInt;
-use polyover_arrays::read::tested_contours;
 use std::alloc::Global;
 
 /// The overlay that the numbers ask for, with the links between its shapes, put into the arrays.
-#[tactic(auto, using(crate::proofs::LinkedEndings::linked_put, crate::proofs::LinkedEndings::linked_refused))]
+#[tactic(auto, using(crate::proofs::Endings::put_ends, crate::proofs::Endings::refused_ends))]
 pub(crate) fn hierarchy_arrays<I: OverlayInt>(
     alloc: Global,
     rule: u32,
@@ -46,32 +46,10 @@ pub(crate) fn hierarchy_arrays<I: OverlayInt>(
     link_count: &mut usize,
 ) -> Status
     ensures { HierarchyEnds I.whole I.limit I.Wide.width I.WideUInt.natural rule fill options
-        (record { coordinates = subject.now.coordinates.now; ends = subject.now.ends.now })
-        (record { coordinates = clip.now.coordinates.now; ends = clip.now.ends.now })
-        (record {
-          shapes = record {
-            arrays = record {
-              coordinates = coordinates.old;
-              contour_ends = contour_ends.old;
-              shape_ends = shape_ends.old;
-            };
-            counts = counts.old;
-          };
-          links = links.old;
-          link_count = link_count.old;
-        })
-        (record {
-          shapes = record {
-            arrays = record {
-              coordinates = coordinates.new;
-              contour_ends = contour_ends.new;
-              shape_ends = shape_ends.new;
-            };
-            counts = counts.new;
-          };
-          links = links.new;
-          link_count = link_count.new;
-        })
+        (contours_of subject.now.coordinates.now subject.now.ends.now)
+        (contours_of clip.now.coordinates.now clip.now.ends.now)
+        (linked_room coordinates.old contour_ends.old shape_ends.old links.old counts.old link_count.old)
+        (linked_room coordinates.new contour_ends.new shape_ends.new links.new counts.new link_count.new)
         result }
 {
     match hierarchy_answer(alloc, rule, fill, options, subject, clip) {
@@ -100,26 +78,19 @@ fn hierarchy_answer<I: OverlayInt>(
 ) -> Result<LinkedAnswer<I>, Status>
     ensures { MatchResult result
         (λ a. AreFlatLinked (IsLinkedOverlay I.whole I.limit I.Wide.width I.WideUInt.natural rule fill options
-        (record { coordinates = subject.now.coordinates.now; ends = subject.now.ends.now })
-        (record { coordinates = clip.now.coordinates.now; ends = clip.now.ends.now })) I.whole (record {
-          shapes = record {
-            coordinates = a.shapes.coordinates.items;
-            contour_ends = a.shapes.contour_ends.items;
-            shape_ends = a.shapes.shape_ends.items;
-          };
-          links = a.links.items;
-        }))
+        (contours_of subject.now.coordinates.now subject.now.ends.now)
+        (contours_of clip.now.coordinates.now clip.now.ends.now)) I.whole
+        (flat_linked a.shapes.coordinates.items a.shapes.contour_ends.items a.shapes.shape_ends.items
+        a.links.items))
         (IsOverlayRefused I.whole I.limit rule fill options
-        (record { coordinates = subject.now.coordinates.now; ends = subject.now.ends.now })
-        (record { coordinates = clip.now.coordinates.now; ends = clip.now.ends.now })) }
+        (contours_of subject.now.coordinates.now subject.now.ends.now)
+        (contours_of clip.now.coordinates.now clip.now.ends.now)) }
 {
     let rule = rule_of(rule)?;
     let fill = fill_of(fill)?;
     let options = options_of(options)?;
-    test_both(subject, clip)?;
-    let subject = tested_contours(alloc, subject.coordinates, subject.ends)?;
-    let clip = tested_contours(alloc, clip.coordinates, clip.ends)?;
-    let hierarchy = hierarchy_shapes(alloc, &subject, &clip, rule, fill, options)?;
+    let read = read_both(alloc, subject, clip)?;
+    let hierarchy = hierarchy_shapes(alloc, &read.first, &read.second, rule, fill, options)?;
     let answer = flattened_hierarchy(alloc, &hierarchy)?;
     Ok(answer)
 }

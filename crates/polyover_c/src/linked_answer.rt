@@ -3,8 +3,8 @@
 ghost use Rattle.std.specs.Prelude.{◌≡◌, map, IfOk, IsOkUnless};
 ghost use Rattle.overlay_geom.specs.Flat.{shapes_in};
 ghost use Rattle.overlay_geom.specs.FlatShapes.{AreShapesPacked};
-ghost use Rattle.polyover_c.specs.Linked.{link_of, ArePutLinked};
-ghost use Rattle.polyover_c.specs.Written.{AreFlattened};
+ghost use Rattle.polyover_c.specs.Linked.{link_of, ArePutLinked, flat_linked, linked_room};
+ghost use Rattle.polyover_c.specs.Written.{AreFlattened, flat_shapes};
 
 use crate::answer::Answer;
 use crate::counts::Counts;
@@ -33,11 +33,7 @@ pub(crate) fn flattened_hierarchy<I: IntNumber>(
     ensures flattened { IfOk result (λ a. AreFlattened I.whole
         (shapes_in I.whole hierarchy.now.shapes.points.items hierarchy.now.shapes.contour_ranges.items
         hierarchy.now.shapes.shape_ranges.items)
-        (record {
-          coordinates = a.shapes.coordinates.items;
-          contour_ends = a.shapes.contour_ends.items;
-          shape_ends = a.shapes.shape_ends.items;
-        })) }
+        (flat_shapes a.shapes.coordinates.items a.shapes.contour_ends.items a.shapes.shape_ends.items)) }
     ensures links { IfOk result (λ a. a.links.items ≡ map link_of hierarchy.now.links.items) }
     ensures only { IsOkUnless result Status.Memory }
 {
@@ -64,38 +60,10 @@ pub(crate) fn put_linked<I: IntNumber>(
     link_count: &mut usize,
 ) -> Status
     ensures { ArePutLinked
-        (record {
-          shapes = record {
-            coordinates = answer.now.shapes.coordinates.items;
-            contour_ends = answer.now.shapes.contour_ends.items;
-            shape_ends = answer.now.shapes.shape_ends.items;
-          };
-          links = answer.now.links.items;
-        })
-        (record {
-          shapes = record {
-            arrays = record {
-              coordinates = coordinates.old;
-              contour_ends = contour_ends.old;
-              shape_ends = shape_ends.old;
-            };
-            counts = counts.old;
-          };
-          links = links.old;
-          link_count = link_count.old;
-        })
-        (record {
-          shapes = record {
-            arrays = record {
-              coordinates = coordinates.new;
-              contour_ends = contour_ends.new;
-              shape_ends = shape_ends.new;
-            };
-            counts = counts.new;
-          };
-          links = links.new;
-          link_count = link_count.new;
-        })
+        (flat_linked answer.now.shapes.coordinates.items answer.now.shapes.contour_ends.items
+        answer.now.shapes.shape_ends.items answer.now.links.items)
+        (linked_room coordinates.old contour_ends.old shape_ends.old links.old counts.old link_count.old)
+        (linked_room coordinates.new contour_ends.new shape_ends.new links.new counts.new link_count.new)
         result }
 {
     let shapes = &answer.shapes;

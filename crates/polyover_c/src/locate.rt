@@ -4,6 +4,7 @@ ghost use Rattle.std.specs.Prelude.{◌≡◌, All, IfOk, IsOkUnless, MatchResul
 ghost use Rattle.overlay_geom.specs.Flat.{paths_in};
 ghost use Rattle.overlay_geom.specs.Points.{plain_points, AllInRange};
 ghost use Rattle.overlay_geom.specs.Resolved.{IsResolved};
+ghost use Rattle.polyover_c.specs.Given.{contours_of};
 ghost use Rattle.polyover_c.specs.Located.{AreNumbers, LocatingEnds, number_of};
 ghost use Rattle.polyover_c.specs.declared.status.Status.TheVariants.{Done};
 
@@ -31,7 +32,7 @@ pub(crate) fn locate_arrays<I: OverlayInt>(
     unresolved: &mut usize,
 ) -> Status
     ensures { LocatingEnds I.whole I.limit
-        (record { coordinates = shape.now.coordinates.now; ends = shape.now.ends.now })
+        (contours_of shape.now.coordinates.now shape.now.ends.now)
         points.now
         (record { locations = locations.old; unresolved = unresolved.old })
         (record { locations = locations.new; unresolved = unresolved.new })
@@ -55,13 +56,13 @@ fn locate<I: OverlayInt>(
 ) -> Result<(), Status>
     ensures { MatchResult result
         (λ _. LocatingEnds I.whole I.limit
-        (record { coordinates = shape.now.coordinates.now; ends = shape.now.ends.now })
+        (contours_of shape.now.coordinates.now shape.now.ends.now)
         points.now
         (record { locations = locations.old; unresolved = unresolved.old })
         (record { locations = locations.new; unresolved = unresolved.new })
         Done)
         (LocatingEnds I.whole I.limit
-        (record { coordinates = shape.now.coordinates.now; ends = shape.now.ends.now })
+        (contours_of shape.now.coordinates.now shape.now.ends.now)
         points.now
         (record { locations = locations.old; unresolved = unresolved.old })
         (record { locations = locations.new; unresolved = unresolved.new })) }

@@ -7,12 +7,13 @@ ghost use Rattle.overlay_geom.specs.Flat.{paths_in};
 ghost use Rattle.overlay_geom.specs.Paths.{plain_shapes};
 ghost use Rattle.overlay_geom.specs.Points.{AllInRange};
 ghost use Rattle.i_overlay.specs.OneShot.{IsResultOfPaths, MayRefusePaths};
-ghost use Rattle.polyover_c.specs.Written.{IsFlat};
+ghost use Rattle.polyover_c.specs.Given.{contours_of};
+ghost use Rattle.polyover_c.specs.Written.{IsFlat, flat_shapes, shape_room};
 ghost use Rattle.polyover_c.specs.Overlays.{IsOverlay, IsOverlayRefused, OverlayEnds};
 
 use crate::answer::{Answer, flattened, put};
 use crate::counts::Counts;
-use crate::given::{Contours, test_both};
+use crate::given::{Contours, read_both};
 use crate::numbers::{OptionNumbers, fill_of, options_of, rule_of};
 use crate::status::Status;
 use i_overlay::fill_rule::FillRule;
@@ -23,7 +24,6 @@ use overlay_geom::error::OverlayError;
 use overlay_geom::flat::contours::FlatContoursBuffer;
 use overlay_geom::integer::OverlayInt;
 use overlay_geom::path::IntShapes;
-use polyover_arrays::read::tested_contours;
 use std::alloc::Global;
 
 /// The overlay that the numbers ask for, put into the arrays.
@@ -41,24 +41,10 @@ pub(crate) fn overlay_arrays<I: OverlayInt>(
     counts: &mut Counts,
 ) -> Status
     ensures { OverlayEnds I.whole I.limit I.Wide.width I.WideUInt.natural rule fill options
-        (record { coordinates = subject.now.coordinates.now; ends = subject.now.ends.now })
-        (record { coordinates = clip.now.coordinates.now; ends = clip.now.ends.now })
-        (record {
-          arrays = record {
-            coordinates = coordinates.old;
-            contour_ends = contour_ends.old;
-            shape_ends = shape_ends.old;
-          };
-          counts = counts.old;
-        })
-        (record {
-          arrays = record {
-            coordinates = coordinates.new;
-            contour_ends = contour_ends.new;
-            shape_ends = shape_ends.new;
-          };
-          counts = counts.new;
-        })
+        (contours_of subject.now.coordinates.now subject.now.ends.now)
+        (contours_of clip.now.coordinates.now clip.now.ends.now)
+        (shape_room coordinates.old contour_ends.old shape_ends.old counts.old)
+        (shape_room coordinates.new contour_ends.new shape_ends.new counts.new)
         result }
 {
     match overlay_answer(alloc, rule, fill, options, subject, clip) {
@@ -79,23 +65,18 @@ fn overlay_answer<I: OverlayInt>(
 ) -> Result<Answer<I>, Status>
     ensures { MatchResult result
         (λ a. IsFlat (IsOverlay I.whole I.limit I.Wide.width I.WideUInt.natural rule fill options
-        (record { coordinates = subject.now.coordinates.now; ends = subject.now.ends.now })
-        (record { coordinates = clip.now.coordinates.now; ends = clip.now.ends.now })) I.whole (record {
-          coordinates = a.coordinates.items;
-          contour_ends = a.contour_ends.items;
-          shape_ends = a.shape_ends.items;
-        }))
+        (contours_of subject.now.coordinates.now subject.now.ends.now)
+        (contours_of clip.now.coordinates.now clip.now.ends.now)) I.whole
+        (flat_shapes a.coordinates.items a.contour_ends.items a.shape_ends.items))
         (IsOverlayRefused I.whole I.limit rule fill options
-        (record { coordinates = subject.now.coordinates.now; ends = subject.now.ends.now })
-        (record { coordinates = clip.now.coordinates.now; ends = clip.now.ends.now })) }
+        (contours_of subject.now.coordinates.now subject.now.ends.now)
+        (contours_of clip.now.coordinates.now clip.now.ends.now)) }
 {
     let rule = rule_of(rule)?;
     let fill = fill_of(fill)?;
     let options = options_of(options)?;
-    test_both(subject, clip)?;
-    let subject = tested_contours(alloc, subject.coordinates, subject.ends)?;
-    let clip = tested_contours(alloc, clip.coordinates, clip.ends)?;
-    let shapes = overlay_shapes(alloc, &subject, &clip, rule, fill, options)?;
+    let read = read_both(alloc, subject, clip)?;
+    let shapes = overlay_shapes(alloc, &read.first, &read.second, rule, fill, options)?;
     let answer = flattened(alloc, &shapes)?;
     Ok(answer)
 }

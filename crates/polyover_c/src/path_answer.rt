@@ -2,7 +2,7 @@
 
 ghost use Rattle.std.specs.Prelude.{IfOk, IsOkUnless};
 ghost use Rattle.overlay_geom.specs.Paths.{paths_of_shape};
-ghost use Rattle.polyover_c.specs.WrittenPaths.{ArePathsFlattened, ArePathsPut};
+ghost use Rattle.polyover_c.specs.WrittenPaths.{ArePathsFlattened, ArePathsPut, flat_paths, path_room};
 
 use crate::path_counts::PathCounts;
 use crate::status::Status;
@@ -25,10 +25,8 @@ pub(crate) fn flattened_paths<I: IntNumber>(
     alloc: Global,
     paths: &[IntPath<I, Global>],
 ) -> Result<PathAnswer<I>, Status>
-    ensures flattened { IfOk result (λ a. ArePathsFlattened I.whole (paths_of_shape I.whole paths.now) (record {
-      coordinates = a.coordinates.items;
-      ends = a.ends.items;
-    })) }
+    ensures flattened { IfOk result (λ a. ArePathsFlattened I.whole (paths_of_shape I.whole paths.now)
+        (flat_paths a.coordinates.items a.ends.items)) }
     ensures only { IsOkUnless result Status.Memory }
 {
     let mut flat = FlatContoursBuffer::<I, Global>::default(alloc)?;
@@ -48,9 +46,9 @@ pub(crate) fn put_paths<I: IntNumber>(
     counts: &mut PathCounts,
 ) -> Status
     ensures { ArePathsPut
-        (record { coordinates = answer.now.coordinates.items; ends = answer.now.ends.items })
-        (record { arrays = record { coordinates = coordinates.old; ends = ends.old }; counts = counts.old })
-        (record { arrays = record { coordinates = coordinates.new; ends = ends.new }; counts = counts.new })
+        (flat_paths answer.now.coordinates.items answer.now.ends.items)
+        (path_room coordinates.old ends.old counts.old)
+        (path_room coordinates.new ends.new counts.new)
         result }
 {
     *counts = PathCounts {

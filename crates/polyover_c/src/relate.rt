@@ -7,9 +7,10 @@ ghost use Rattle.overlay_geom.specs.Flat.{paths_in};
 ghost use Rattle.overlay_geom.specs.Points.{AllInRange};
 ghost use Rattle.i_overlay.specs.OneShot.{MayRefusePaths};
 ghost use Rattle.i_overlay.specs.Relations.{AreRelationsOfPaths};
+ghost use Rattle.polyover_c.specs.Given.{contours_of};
 ghost use Rattle.polyover_c.specs.Related.{AreRelated, IsRelatingRefused, RelatingEnds, bits_of};
 
-use crate::given::{Contours, test_both};
+use crate::given::{Contours, read_both};
 use crate::numbers::fill_of;
 use crate::status::Status;
 use i_overlay::fill_rule::FillRule;
@@ -18,7 +19,6 @@ use i_overlay::solver::Solver;
 use overlay_geom::error::OverlayError;
 use overlay_geom::flat::contours::FlatContoursBuffer;
 use overlay_geom::integer::OverlayInt;
-use polyover_arrays::read::tested_contours;
 use std::alloc::Global;
 
 // A bit for each relation that holds.
@@ -53,8 +53,8 @@ pub(crate) fn relate_arrays<I: OverlayInt>(
     relations: &mut u32,
 ) -> Status
     ensures { RelatingEnds I.whole I.limit fill
-        (record { coordinates = subject.now.coordinates.now; ends = subject.now.ends.now })
-        (record { coordinates = clip.now.coordinates.now; ends = clip.now.ends.now })
+        (contours_of subject.now.coordinates.now subject.now.ends.now)
+        (contours_of clip.now.coordinates.now clip.now.ends.now)
         relations.old relations.new result }
 {
     match relation_bits(alloc, fill, subject, clip) {
@@ -67,7 +67,7 @@ pub(crate) fn relate_arrays<I: OverlayInt>(
 }
 
 // The same bits, or why there are none.
-#[tactic(auto, using(crate::proofs::Related::contours_untold, crate::proofs::Related::memory_untold, crate::proofs::Related::relating_refused, crate::proofs::Related::bits_told))]
+#[tactic(auto, using(crate::proofs::Related::contours_untold, crate::proofs::Related::relating_refused, crate::proofs::Related::bits_told))]
 fn relation_bits<I: OverlayInt>(
     alloc: Global,
     fill: u32,
@@ -76,17 +76,15 @@ fn relation_bits<I: OverlayInt>(
 ) -> Result<u32, Status>
     ensures { MatchResult result
         (AreRelated I.whole I.limit fill
-        (record { coordinates = subject.now.coordinates.now; ends = subject.now.ends.now })
-        (record { coordinates = clip.now.coordinates.now; ends = clip.now.ends.now }))
+        (contours_of subject.now.coordinates.now subject.now.ends.now)
+        (contours_of clip.now.coordinates.now clip.now.ends.now))
         (IsRelatingRefused I.whole I.limit fill
-        (record { coordinates = subject.now.coordinates.now; ends = subject.now.ends.now })
-        (record { coordinates = clip.now.coordinates.now; ends = clip.now.ends.now })) }
+        (contours_of subject.now.coordinates.now subject.now.ends.now)
+        (contours_of clip.now.coordinates.now clip.now.ends.now)) }
 {
     let fill = fill_of(fill)?;
-    test_both(subject, clip)?;
-    let subject = tested_contours(alloc, subject.coordinates, subject.ends)?;
-    let clip = tested_contours(alloc, clip.coordinates, clip.ends)?;
-    let relations = relations_between(alloc, &subject, &clip, fill)?;
+    let read = read_both(alloc, subject, clip)?;
+    let relations = relations_between(alloc, &read.first, &read.second, fill)?;
     Ok(bits(relations))
 }
 

@@ -1,8 +1,9 @@
 //! The shapes that contours in arrays are simplified to.
 
 ghost use Rattle.std.specs.Prelude.{◌≡◌, MatchResult};
+ghost use Rattle.polyover_c.specs.Given.{contours_of};
 ghost use Rattle.polyover_c.specs.Simplified.{IsSimplification, IsSimplifyingRefused, SimplifyingEnds};
-ghost use Rattle.polyover_c.specs.Written.{IsFlat};
+ghost use Rattle.polyover_c.specs.Written.{IsFlat, flat_shapes, shape_room};
 
 use crate::answer::{Answer, flattened, put};
 use crate::counts::Counts;
@@ -27,23 +28,9 @@ pub(crate) fn simplify_arrays<I: OverlayInt>(
     counts: &mut Counts,
 ) -> Status
     ensures { SimplifyingEnds I.whole I.limit I.Wide.width I.WideUInt.natural fill options
-        (record { coordinates = given.now.coordinates.now; ends = given.now.ends.now })
-        (record {
-          arrays = record {
-            coordinates = coordinates.old;
-            contour_ends = contour_ends.old;
-            shape_ends = shape_ends.old;
-          };
-          counts = counts.old;
-        })
-        (record {
-          arrays = record {
-            coordinates = coordinates.new;
-            contour_ends = contour_ends.new;
-            shape_ends = shape_ends.new;
-          };
-          counts = counts.new;
-        })
+        (contours_of given.now.coordinates.now given.now.ends.now)
+        (shape_room coordinates.old contour_ends.old shape_ends.old counts.old)
+        (shape_room coordinates.new contour_ends.new shape_ends.new counts.new)
         result }
 {
     match simplify_answer(alloc, fill, options, given) {
@@ -62,13 +49,10 @@ fn simplify_answer<I: OverlayInt>(
 ) -> Result<Answer<I>, Status>
     ensures { MatchResult result
         (λ a. IsFlat (IsSimplification I.whole I.limit I.Wide.width I.WideUInt.natural fill options
-        (record { coordinates = given.now.coordinates.now; ends = given.now.ends.now })) I.whole (record {
-          coordinates = a.coordinates.items;
-          contour_ends = a.contour_ends.items;
-          shape_ends = a.shape_ends.items;
-        }))
+        (contours_of given.now.coordinates.now given.now.ends.now)) I.whole
+        (flat_shapes a.coordinates.items a.contour_ends.items a.shape_ends.items))
         (IsSimplifyingRefused I.whole I.limit fill options
-        (record { coordinates = given.now.coordinates.now; ends = given.now.ends.now })) }
+        (contours_of given.now.coordinates.now given.now.ends.now)) }
 {
     let fill = fill_of(fill)?;
     let options = options_of(options)?;

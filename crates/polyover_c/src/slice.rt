@@ -1,17 +1,17 @@
 //! The shapes into which open paths slice contours, of arrays.
 
 ghost use Rattle.std.specs.Prelude.{MatchResult};
+ghost use Rattle.polyover_c.specs.Given.{contours_of};
 ghost use Rattle.polyover_c.specs.Sliced.{AreSlices, IsSlicingRefused, SlicingEnds};
-ghost use Rattle.polyover_c.specs.Written.{IsFlat};
+ghost use Rattle.polyover_c.specs.Written.{IsFlat, flat_shapes, shape_room};
 
 use crate::answer::{Answer, flattened, put};
 use crate::counts::Counts;
-use crate::given::{Contours, test_both};
+use crate::given::{Contours, read_both};
 use crate::numbers::fill_of;
 use crate::status::Status;
 use i_overlay::string::slice::IntSlice;
 use overlay_geom::integer::OverlayInt;
-use polyover_arrays::read::tested_contours;
 use std::alloc::Global;
 
 /// The shapes into which the lines, which are open paths, slice the subject, put into the arrays.
@@ -27,24 +27,10 @@ pub(crate) fn slice_arrays<I: OverlayInt>(
     counts: &mut Counts,
 ) -> Status
     ensures { SlicingEnds I.whole I.limit I.Wide.width fill
-        (record { coordinates = subject.now.coordinates.now; ends = subject.now.ends.now })
-        (record { coordinates = lines.now.coordinates.now; ends = lines.now.ends.now })
-        (record {
-          arrays = record {
-            coordinates = coordinates.old;
-            contour_ends = contour_ends.old;
-            shape_ends = shape_ends.old;
-          };
-          counts = counts.old;
-        })
-        (record {
-          arrays = record {
-            coordinates = coordinates.new;
-            contour_ends = contour_ends.new;
-            shape_ends = shape_ends.new;
-          };
-          counts = counts.new;
-        })
+        (contours_of subject.now.coordinates.now subject.now.ends.now)
+        (contours_of lines.now.coordinates.now lines.now.ends.now)
+        (shape_room coordinates.old contour_ends.old shape_ends.old counts.old)
+        (shape_room coordinates.new contour_ends.new shape_ends.new counts.new)
         result }
 {
     match slice_answer(alloc, fill, subject, lines) {
@@ -54,7 +40,7 @@ pub(crate) fn slice_arrays<I: OverlayInt>(
 }
 
 // The shapes into which the lines slice the subject, as arrays.
-#[tactic(auto, using(crate::proofs::Lines::contours_refused, crate::proofs::Lines::memory_refused, crate::proofs::Lines::query_refused, crate::proofs::Sliced::subject_sliced))]
+#[tactic(auto, using(crate::proofs::Sliced::contours_unsliced, crate::proofs::Sliced::memory_refused, crate::proofs::Sliced::slicing_refused, crate::proofs::Sliced::subject_sliced))]
 fn slice_answer<I: OverlayInt>(
     alloc: Global,
     fill: u32,
@@ -63,21 +49,16 @@ fn slice_answer<I: OverlayInt>(
 ) -> Result<Answer<I>, Status>
     ensures { MatchResult result
         (λ a. IsFlat (AreSlices I.whole I.limit I.Wide.width fill
-        (record { coordinates = subject.now.coordinates.now; ends = subject.now.ends.now })
-        (record { coordinates = lines.now.coordinates.now; ends = lines.now.ends.now })) I.whole (record {
-          coordinates = a.coordinates.items;
-          contour_ends = a.contour_ends.items;
-          shape_ends = a.shape_ends.items;
-        }))
+        (contours_of subject.now.coordinates.now subject.now.ends.now)
+        (contours_of lines.now.coordinates.now lines.now.ends.now)) I.whole
+        (flat_shapes a.coordinates.items a.contour_ends.items a.shape_ends.items))
         (IsSlicingRefused I.whole I.limit fill
-        (record { coordinates = subject.now.coordinates.now; ends = subject.now.ends.now })
-        (record { coordinates = lines.now.coordinates.now; ends = lines.now.ends.now })) }
+        (contours_of subject.now.coordinates.now subject.now.ends.now)
+        (contours_of lines.now.coordinates.now lines.now.ends.now)) }
 {
     let fill = fill_of(fill)?;
-    test_both(subject, lines)?;
-    let subject = tested_contours(alloc, subject.coordinates, subject.ends)?;
-    let lines = tested_contours(alloc, lines.coordinates, lines.ends)?;
-    let shapes = subject.slice_by_source(alloc, &lines, fill)?;
+    let read = read_both(alloc, subject, lines)?;
+    let shapes = read.first.slice_by_source(alloc, &read.second, fill)?;
     let answer = flattened(alloc, &shapes)?;
     Ok(answer)
 }

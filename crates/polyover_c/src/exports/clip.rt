@@ -2,7 +2,9 @@
 
 ghost use Rattle.std.specs.Prelude.{◌≡◌};
 ghost use Rattle.polyover_c.specs.Clipped.{ClipEnds};
+ghost use Rattle.polyover_c.specs.Given.{contours_of};
 ghost use Rattle.polyover_c.specs.Statuses.{code_of};
+ghost use Rattle.polyover_c.specs.WrittenPaths.{path_room};
 ghost use Rattle.polyover_c.specs.declared.status.Status.{Status};
 
 use crate::arrays::{Contours32, Contours64};
@@ -26,10 +28,10 @@ pub extern "C" fn polyover_clip(
     counts: &mut PathCounts,
 ) -> u32
     ensures { (s : Status) × ClipEnds (λ z. z) 4611686018427387903 fill options.now
-        (record { coordinates = shape.now.coordinates.now; ends = shape.now.ends.now })
-        (record { coordinates = lines.now.coordinates.now; ends = lines.now.ends.now })
-        (record { arrays = record { coordinates = coordinates.old; ends = ends.old }; counts = counts.old })
-        (record { arrays = record { coordinates = coordinates.new; ends = ends.new }; counts = counts.new })
+        (contours_of shape.now.coordinates.now shape.now.ends.now)
+        (contours_of lines.now.coordinates.now lines.now.ends.now)
+        (path_room coordinates.old ends.old counts.old)
+        (path_room coordinates.new ends.new counts.new)
         s × (result ≡ code_of s) }
 {
     let shape = Contours {
@@ -66,10 +68,10 @@ pub extern "C" fn polyover_clip_32(
     counts: &mut PathCounts,
 ) -> u32
     ensures { (s : Status) × ClipEnds (λ z. z) 1073741823 fill options.now
-        (record { coordinates = shape.now.coordinates.now; ends = shape.now.ends.now })
-        (record { coordinates = lines.now.coordinates.now; ends = lines.now.ends.now })
-        (record { arrays = record { coordinates = coordinates.old; ends = ends.old }; counts = counts.old })
-        (record { arrays = record { coordinates = coordinates.new; ends = ends.new }; counts = counts.new })
+        (contours_of shape.now.coordinates.now shape.now.ends.now)
+        (contours_of lines.now.coordinates.now lines.now.ends.now)
+        (path_room coordinates.old ends.old counts.old)
+        (path_room coordinates.new ends.new counts.new)
         s × (result ≡ code_of s) }
 {
     let shape = Contours {

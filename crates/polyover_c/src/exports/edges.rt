@@ -1,7 +1,8 @@
 //! The edges of an arrangement.
 
 ghost use Rattle.std.specs.Prelude.{◌≡◌};
-ghost use Rattle.polyover_c.specs.Listed.{ListingEnds};
+ghost use Rattle.polyover_c.specs.Given.{contours_of};
+ghost use Rattle.polyover_c.specs.Listed.{ListingEnds, edge_room};
 ghost use Rattle.polyover_c.specs.Statuses.{code_of};
 ghost use Rattle.polyover_c.specs.declared.status.Status.{Status};
 
@@ -23,16 +24,10 @@ pub extern "C" fn polyover_edges(
     count: &mut usize,
 ) -> u32
     ensures { (s : Status) × ListingEnds (λ z. z) 4611686018427387903 fill
-        (record { coordinates = subject.now.coordinates.now; ends = subject.now.ends.now })
-        (record { coordinates = clip.now.coordinates.now; ends = clip.now.ends.now })
-        (record {
-          arrays = record { coordinates = coordinates.old; fills = fills.old };
-          count = count.old;
-        })
-        (record {
-          arrays = record { coordinates = coordinates.new; fills = fills.new };
-          count = count.new;
-        })
+        (contours_of subject.now.coordinates.now subject.now.ends.now)
+        (contours_of clip.now.coordinates.now clip.now.ends.now)
+        (edge_room coordinates.old fills.old count.old)
+        (edge_room coordinates.new fills.new count.new)
         s × (result ≡ code_of s) }
 {
     let subject = Contours {
@@ -58,16 +53,10 @@ pub extern "C" fn polyover_edges_32(
     count: &mut usize,
 ) -> u32
     ensures { (s : Status) × ListingEnds (λ z. z) 1073741823 fill
-        (record { coordinates = subject.now.coordinates.now; ends = subject.now.ends.now })
-        (record { coordinates = clip.now.coordinates.now; ends = clip.now.ends.now })
-        (record {
-          arrays = record { coordinates = coordinates.old; fills = fills.old };
-          count = count.old;
-        })
-        (record {
-          arrays = record { coordinates = coordinates.new; fills = fills.new };
-          count = count.new;
-        })
+        (contours_of subject.now.coordinates.now subject.now.ends.now)
+        (contours_of clip.now.coordinates.now clip.now.ends.now)
+        (edge_room coordinates.old fills.old count.old)
+        (edge_room coordinates.new fills.new count.new)
         s × (result ≡ code_of s) }
 {
     let subject = Contours {

@@ -1,8 +1,11 @@
 //! Overlays with the links between their shapes from C, at 64 and at 32 bits.
 
-ghost use Rattle.std.specs.Prelude.{◌≡◌, ◌+◌, ◌*◌, ◌^◌};
+ghost use Rattle.std.specs.Prelude.{◌≡◌};
 ghost use Rattle.std.specs.Int.{w64, w128};
+ghost use Rattle.polyover_c.specs.Given.{contours_of};
 ghost use Rattle.polyover_c.specs.Hierarchies.{HierarchyEnds};
+ghost use Rattle.polyover_c.specs.Linked.{linked_room};
+ghost use Rattle.polyover_c.specs.Options.{options_32, options_64};
 ghost use Rattle.polyover_c.specs.Statuses.{code_of};
 ghost use Rattle.polyover_c.specs.declared.status.Status.{Status};
 
@@ -33,38 +36,11 @@ pub extern "C" fn polyover_hierarchy(
     link_count: &mut usize,
 ) -> u32
     ensures { (s : Status) × HierarchyEnds (λ z. z) 4611686018427387903 w128 (λ n. n) rule fill
-        (record {
-          direction = options.now.direction;
-          keep = options.now.keep;
-          ogc = options.now.ogc;
-          min_area = options.now.min_area_high * 2 ^ 64 + options.now.min_area_low;
-        })
-        (record { coordinates = subject.now.coordinates.now; ends = subject.now.ends.now })
-        (record { coordinates = clip.now.coordinates.now; ends = clip.now.ends.now })
-        (record {
-          shapes = record {
-            arrays = record {
-              coordinates = coordinates.old;
-              contour_ends = contour_ends.old;
-              shape_ends = shape_ends.old;
-            };
-            counts = counts.old;
-          };
-          links = links.old;
-          link_count = link_count.old;
-        })
-        (record {
-          shapes = record {
-            arrays = record {
-              coordinates = coordinates.new;
-              contour_ends = contour_ends.new;
-              shape_ends = shape_ends.new;
-            };
-            counts = counts.new;
-          };
-          links = links.new;
-          link_count = link_count.new;
-        })
+        (options_64 options.now)
+        (contours_of subject.now.coordinates.now subject.now.ends.now)
+        (contours_of clip.now.coordinates.now clip.now.ends.now)
+        (linked_room coordinates.old contour_ends.old shape_ends.old links.old counts.old link_count.old)
+        (linked_room coordinates.new contour_ends.new shape_ends.new links.new counts.new link_count.new)
         s × (result ≡ code_of s) }
 {
     let numbers = OptionNumbers {
@@ -115,38 +91,11 @@ pub extern "C" fn polyover_hierarchy_32(
     link_count: &mut usize,
 ) -> u32
     ensures { (s : Status) × HierarchyEnds (λ z. z) 1073741823 w64 (λ n. n) rule fill
-        (record {
-          direction = options.now.direction;
-          keep = options.now.keep;
-          ogc = options.now.ogc;
-          min_area = options.now.min_area;
-        })
-        (record { coordinates = subject.now.coordinates.now; ends = subject.now.ends.now })
-        (record { coordinates = clip.now.coordinates.now; ends = clip.now.ends.now })
-        (record {
-          shapes = record {
-            arrays = record {
-              coordinates = coordinates.old;
-              contour_ends = contour_ends.old;
-              shape_ends = shape_ends.old;
-            };
-            counts = counts.old;
-          };
-          links = links.old;
-          link_count = link_count.old;
-        })
-        (record {
-          shapes = record {
-            arrays = record {
-              coordinates = coordinates.new;
-              contour_ends = contour_ends.new;
-              shape_ends = shape_ends.new;
-            };
-            counts = counts.new;
-          };
-          links = links.new;
-          link_count = link_count.new;
-        })
+        (options_32 options.now)
+        (contours_of subject.now.coordinates.now subject.now.ends.now)
+        (contours_of clip.now.coordinates.now clip.now.ends.now)
+        (linked_room coordinates.old contour_ends.old shape_ends.old links.old counts.old link_count.old)
+        (linked_room coordinates.new contour_ends.new shape_ends.new links.new counts.new link_count.new)
         s × (result ≡ code_of s) }
 {
     let numbers = OptionNumbers {

@@ -1,6 +1,7 @@
 //! Where points lie in contours.
 
 ghost use Rattle.std.specs.Prelude.{◌≡◌};
+ghost use Rattle.polyover_c.specs.Given.{contours_of};
 ghost use Rattle.polyover_c.specs.Located.{LocatingEnds};
 ghost use Rattle.polyover_c.specs.Statuses.{code_of};
 ghost use Rattle.polyover_c.specs.declared.status.Status.{Status};
@@ -21,7 +22,7 @@ pub extern "C" fn polyover_locate(
     unresolved: &mut usize,
 ) -> u32
     ensures { (s : Status) × LocatingEnds (λ z. z) 4611686018427387903
-        (record { coordinates = shape.now.coordinates.now; ends = shape.now.ends.now })
+        (contours_of shape.now.coordinates.now shape.now.ends.now)
         points.now
         (record { locations = locations.old; unresolved = unresolved.old })
         (record { locations = locations.new; unresolved = unresolved.new })
@@ -44,7 +45,7 @@ pub extern "C" fn polyover_locate_32(
     unresolved: &mut usize,
 ) -> u32
     ensures { (s : Status) × LocatingEnds (λ z. z) 1073741823
-        (record { coordinates = shape.now.coordinates.now; ends = shape.now.ends.now })
+        (contours_of shape.now.coordinates.now shape.now.ends.now)
         points.now
         (record { locations = locations.old; unresolved = unresolved.old })
         (record { locations = locations.new; unresolved = unresolved.new })

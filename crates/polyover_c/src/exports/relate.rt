@@ -1,6 +1,7 @@
 //! How a subject and a clip lie to each other.
 
 ghost use Rattle.std.specs.Prelude.{◌≡◌};
+ghost use Rattle.polyover_c.specs.Given.{contours_of};
 ghost use Rattle.polyover_c.specs.Related.{RelatingEnds};
 ghost use Rattle.polyover_c.specs.Statuses.{code_of};
 ghost use Rattle.polyover_c.specs.declared.status.Status.{Status};
@@ -21,8 +22,8 @@ pub extern "C" fn polyover_relate(
     relations: &mut u32,
 ) -> u32
     ensures { (s : Status) × RelatingEnds (λ z. z) 4611686018427387903 fill
-        (record { coordinates = subject.now.coordinates.now; ends = subject.now.ends.now })
-        (record { coordinates = clip.now.coordinates.now; ends = clip.now.ends.now })
+        (contours_of subject.now.coordinates.now subject.now.ends.now)
+        (contours_of clip.now.coordinates.now clip.now.ends.now)
         relations.old relations.new s × (result ≡ code_of s) }
 {
     let subject = Contours {
@@ -46,8 +47,8 @@ pub extern "C" fn polyover_relate_32(
     relations: &mut u32,
 ) -> u32
     ensures { (s : Status) × RelatingEnds (λ z. z) 1073741823 fill
-        (record { coordinates = subject.now.coordinates.now; ends = subject.now.ends.now })
-        (record { coordinates = clip.now.coordinates.now; ends = clip.now.ends.now })
+        (contours_of subject.now.coordinates.now subject.now.ends.now)
+        (contours_of clip.now.coordinates.now clip.now.ends.now)
         relations.old relations.new s × (result ≡ code_of s) }
 {
     let subject = Contours {

@@ -2,8 +2,10 @@
 
 ghost use Rattle.std.specs.Prelude.{◌≡◌};
 ghost use Rattle.std.specs.Int.{w64, w128};
+ghost use Rattle.polyover_c.specs.Given.{contours_of};
 ghost use Rattle.polyover_c.specs.Sliced.{SlicingEnds};
 ghost use Rattle.polyover_c.specs.Statuses.{code_of};
+ghost use Rattle.polyover_c.specs.Written.{shape_room};
 ghost use Rattle.polyover_c.specs.declared.status.Status.{Status};
 
 use crate::arrays::{Contours32, Contours64};
@@ -26,24 +28,10 @@ pub extern "C" fn polyover_slice(
     counts: &mut Counts,
 ) -> u32
     ensures { (s : Status) × SlicingEnds (λ z. z) 4611686018427387903 w128 fill
-        (record { coordinates = subject.now.coordinates.now; ends = subject.now.ends.now })
-        (record { coordinates = lines.now.coordinates.now; ends = lines.now.ends.now })
-        (record {
-          arrays = record {
-            coordinates = coordinates.old;
-            contour_ends = contour_ends.old;
-            shape_ends = shape_ends.old;
-          };
-          counts = counts.old;
-        })
-        (record {
-          arrays = record {
-            coordinates = coordinates.new;
-            contour_ends = contour_ends.new;
-            shape_ends = shape_ends.new;
-          };
-          counts = counts.new;
-        })
+        (contours_of subject.now.coordinates.now subject.now.ends.now)
+        (contours_of lines.now.coordinates.now lines.now.ends.now)
+        (shape_room coordinates.old contour_ends.old shape_ends.old counts.old)
+        (shape_room coordinates.new contour_ends.new shape_ends.new counts.new)
         s × (result ≡ code_of s) }
 {
     let subject = Contours {
@@ -80,24 +68,10 @@ pub extern "C" fn polyover_slice_32(
     counts: &mut Counts,
 ) -> u32
     ensures { (s : Status) × SlicingEnds (λ z. z) 1073741823 w64 fill
-        (record { coordinates = subject.now.coordinates.now; ends = subject.now.ends.now })
-        (record { coordinates = lines.now.coordinates.now; ends = lines.now.ends.now })
-        (record {
-          arrays = record {
-            coordinates = coordinates.old;
-            contour_ends = contour_ends.old;
-            shape_ends = shape_ends.old;
-          };
-          counts = counts.old;
-        })
-        (record {
-          arrays = record {
-            coordinates = coordinates.new;
-            contour_ends = contour_ends.new;
-            shape_ends = shape_ends.new;
-          };
-          counts = counts.new;
-        })
+        (contours_of subject.now.coordinates.now subject.now.ends.now)
+        (contours_of lines.now.coordinates.now lines.now.ends.now)
+        (shape_room coordinates.old contour_ends.old shape_ends.old counts.old)
+        (shape_room coordinates.new contour_ends.new shape_ends.new counts.new)
         s × (result ≡ code_of s) }
 {
     let subject = Contours {

@@ -1,7 +1,9 @@
 -- The smallest area is that of its two parts.
 use Rattle.std.proofs.Common.{ℕ, ℤ, subst}
 use Rattle.std.specs.Int.{w128}
+use Rattle.polyover_c.specs.Given.{contours_of}
 use Rattle.polyover_c.specs.Overlays.{OverlayEnds}
+use Rattle.polyover_c.specs.Written.{shape_room}
 use Rattle.polyover_c.proofs.exports_64.polyover_overlay.Goals as goal
 
 pub returns : goal.returns
@@ -14,24 +16,11 @@ returns c = (
         ogc = c.args.options.now.ogc;
         min_area = area;
       })
-      (record { coordinates = c.args.subject.now.coordinates.now; ends = c.args.subject.now.ends.now })
-      (record { coordinates = c.args.clip.now.coordinates.now; ends = c.args.clip.now.ends.now })
-      (record {
-        arrays = record {
-          coordinates = c.args.coordinates.now;
-          contour_ends = c.args.contour_ends.now;
-          shape_ends = c.args.shape_ends.now;
-        };
-        counts = c.args.counts.now;
-      })
-      (record {
-        arrays = record {
-          coordinates = c.overlay_arrays.new.coordinates;
-          contour_ends = c.overlay_arrays.new.contour_ends;
-          shape_ends = c.overlay_arrays.new.shape_ends;
-        };
-        counts = c.overlay_arrays.new.counts;
-      })
+      (contours_of c.args.subject.now.coordinates.now c.args.subject.now.ends.now)
+      (contours_of c.args.clip.now.coordinates.now c.args.clip.now.ends.now)
+      (shape_room c.args.coordinates.now c.args.contour_ends.now c.args.shape_ends.now c.args.counts.now)
+      (shape_room c.overlay_arrays.new.coordinates c.overlay_arrays.new.contour_ends c.overlay_arrays.new.shape_ends
+      c.overlay_arrays.new.counts)
       c.overlay_arrays.result)
       c.area_of.ensures c.overlay_arrays.ensures,
   c.code.ensures,

@@ -1,7 +1,9 @@
 -- The smallest area is that of its two parts.
 use Rattle.std.proofs.Common.{ℕ, ℤ, subst}
 use Rattle.std.specs.Int.{w128}
+use Rattle.polyover_c.specs.Given.{contours_of}
 use Rattle.polyover_c.specs.Simplified.{SimplifyingEnds}
+use Rattle.polyover_c.specs.Written.{shape_room}
 use Rattle.polyover_c.proofs.exports_64.polyover_simplify.Goals as goal
 
 pub returns : goal.returns
@@ -14,23 +16,10 @@ returns c = (
         ogc = c.args.options.now.ogc;
         min_area = area;
       })
-      (record { coordinates = c.args.contours.now.coordinates.now; ends = c.args.contours.now.ends.now })
-      (record {
-        arrays = record {
-          coordinates = c.args.coordinates.now;
-          contour_ends = c.args.contour_ends.now;
-          shape_ends = c.args.shape_ends.now;
-        };
-        counts = c.args.counts.now;
-      })
-      (record {
-        arrays = record {
-          coordinates = c.simplify_arrays.new.coordinates;
-          contour_ends = c.simplify_arrays.new.contour_ends;
-          shape_ends = c.simplify_arrays.new.shape_ends;
-        };
-        counts = c.simplify_arrays.new.counts;
-      })
+      (contours_of c.args.contours.now.coordinates.now c.args.contours.now.ends.now)
+      (shape_room c.args.coordinates.now c.args.contour_ends.now c.args.shape_ends.now c.args.counts.now)
+      (shape_room c.simplify_arrays.new.coordinates c.simplify_arrays.new.contour_ends c.simplify_arrays.new.shape_ends
+      c.simplify_arrays.new.counts)
       c.simplify_arrays.result)
       c.area_of.ensures c.simplify_arrays.ensures,
   c.code.ensures,

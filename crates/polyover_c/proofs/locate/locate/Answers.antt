@@ -4,6 +4,7 @@ use Rattle.overlay_geom.specs.Flat.{paths_in}
 use Rattle.overlay_geom.specs.Points.{plain_points}
 use Rattle.polyover_arrays.specs.Arrays.{written_over}
 use Rattle.polyover_c.proofs.Located.{located_ends}
+use Rattle.polyover_c.specs.Given.{contours_of}
 use Rattle.polyover_c.specs.Located.{AreNumbers}
 use Rattle.polyover_c.proofs.locate.locate.Goals as goal
 
@@ -13,7 +14,7 @@ returns g c =
     let paths = paths_in whole c.in_ok-contours.contours.points.items c.in_ok-contours.contours.ranges.items in
     let numbers = c.in_ok-numbers.numbers.items in
     located_ends whole g.I.IntNumber.limit
-    (record { coordinates = c.args.shape.now.coordinates.now; ends = c.args.shape.now.ends.now }) c.args.points.now
+    (contours_of c.args.shape.now.coordinates.now c.args.shape.now.ends.now) c.args.points.now
     (record { locations = c.args.locations.now; unresolved = c.args.unresolved.now })
     c.in_ok-test_contours.ensures c.in_ok-test_points.ensures
     (omega (arith, c.if-locations-count_points.false, c.count_points.ensures))
