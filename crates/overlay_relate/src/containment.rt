@@ -45,7 +45,12 @@ pub trait IntPointContainment<I: OverlayInt> {
         ensures inside { IfOk result (λ v. AnswersWhether (shapes_edges (shapes self.now))
             (is_in_shapes (shapes self.now))
             (plain_points I.whole points.now) v.items) }
-        ensures err { IsOkUnless result OverlayError.Memory };
+        ensures err { IsOkUnless result OverlayError.Memory }
+    {
+        let locations = self.locate_points(alloc.clone()?, points)?;
+        let inside = are_inside(alloc, &locations)?;
+        Ok(inside)
+    }
 
     /// Returns where each point lies. A point on an edge of a shape is on its boundary, also on that of
     /// a hole; of several shapes, a point inside one of them is inside, else one on the boundary of
@@ -66,17 +71,6 @@ pub trait IntPointContainment<I: OverlayInt> {
 impl<I: OverlayInt, B: Allocator> IntPointContainment<I> for IntContour<I, B> {
     ghost shapes = { λ c. (plain_points I.whole c.items ∷ []) ∷ [] };
 
-    /// Returns for each point that is on no edge whether it is inside the contour.
-    fn contains_points<A: Allocator + Clone>(
-        &self,
-        alloc: A,
-        points: &[IntPoint<I>],
-    ) -> Result<Vec<bool, A>, OverlayError> {
-        let locations = self.locate_points(alloc.clone()?, points)?;
-        let inside = are_inside(alloc, &locations)?;
-        Ok(inside)
-    }
-
     /// Returns where each point lies in the contour.
     fn locate_points<A: Allocator + Clone>(
         &self,
@@ -91,17 +85,6 @@ impl<I: OverlayInt, B: Allocator> IntPointContainment<I> for IntContour<I, B> {
 impl<I: OverlayInt, B: Allocator> IntPointContainment<I> for IntShape<I, B> {
     ghost shapes = { λ s. paths_of_shape I.whole s.items ∷ [] };
 
-    /// Returns for each point that is on no edge whether it is inside the shape.
-    fn contains_points<A: Allocator + Clone>(
-        &self,
-        alloc: A,
-        points: &[IntPoint<I>],
-    ) -> Result<Vec<bool, A>, OverlayError> {
-        let locations = self.locate_points(alloc.clone()?, points)?;
-        let inside = are_inside(alloc, &locations)?;
-        Ok(inside)
-    }
-
     /// Returns where each point lies in the shape.
     fn locate_points<A: Allocator + Clone>(
         &self,
@@ -115,17 +98,6 @@ impl<I: OverlayInt, B: Allocator> IntPointContainment<I> for IntShape<I, B> {
 
 impl<I: OverlayInt, B: Allocator> IntPointContainment<I> for IntShapes<I, B> {
     ghost shapes = { λ ss. plain_shapes I.whole ss.items };
-
-    /// Returns for each point that is on no edge whether it is inside the shapes.
-    fn contains_points<A: Allocator + Clone>(
-        &self,
-        alloc: A,
-        points: &[IntPoint<I>],
-    ) -> Result<Vec<bool, A>, OverlayError> {
-        let locations = self.locate_points(alloc.clone()?, points)?;
-        let inside = are_inside(alloc, &locations)?;
-        Ok(inside)
-    }
 
     /// Returns where each point lies in the shapes.
     fn locate_points<A: Allocator + Clone>(
