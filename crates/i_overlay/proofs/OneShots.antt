@@ -1,5 +1,5 @@
 -- What a new builder, to which paths were added, answers of the paths.
-use Rattle.std.proofs.Common.{◌≡◌, inl, ℕ, Bool, false, List, map, ap, ap₂, ◌∙◌}
+use Rattle.std.proofs.Common.{◌≡◌, inl, ℕ, Bool, false, List, map, ap₂, ◌∙◌}
 use Rattle.std.specs.Prelude.{Result, Ok, Err, IfOk, IfErr, OnOk}
 use Rattle.std.specs.Int.{Width}
 use Rattle.overlay_geom.specs.declared.error.OverlayError.{OverlayError}

@@ -1,5 +1,5 @@
 -- One contour is all that is added, and several are cut.
-use Rattle.std.proofs.Common.{◌≡◌, [], All, length, sym, subst, ◌∙◌}
+use Rattle.std.proofs.Common.{[], All, length, sym, subst, ◌∙◌}
 use Rattle.std.proofs.lemmas.Bool.{eqb-true, eq-eqb, false≢true}
 use Rattle.std.proofs.lemmas.List.Elements.{All-head}
 use Rattle.overlay_geom.specs.Flat.{part_in, first_range}

@@ -1,5 +1,5 @@
 -- What becomes of the contours is told and left; and a refusal is remembered.
-use Rattle.std.proofs.Common.{◌≡◌, map, refl, sym, ap, subst, ◌∙◌}
+use Rattle.std.proofs.Common.{◌≡◌, refl, sym, ap, subst, ◌∙◌}
 use Rattle.std.proofs.lemmas.Result.{on_ok_weaker}
 use Rattle.std.specs.Prelude.{OnOk}
 use Rattle.overlay_geom.specs.Flat.{part_in, first_range, paths_in}

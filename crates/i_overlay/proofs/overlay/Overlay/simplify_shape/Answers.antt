@@ -1,5 +1,5 @@
 -- One contour is all that is added, and of several none stays as it is given.
-use Rattle.std.proofs.Common.{◌≡◌, [], ◌∷◌, All, length, sym, ap, subst, ◌∙◌}
+use Rattle.std.proofs.Common.{◌≡◌, [], ◌∷◌, All, sym, ap, subst, ◌∙◌}
 use Rattle.std.proofs.lemmas.List.{length-map}
 use Rattle.std.proofs.lemmas.List.Elements.{All-head}
 use Rattle.std.proofs.lemmas.Option.{none-some}
