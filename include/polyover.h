@@ -43,8 +43,8 @@ enum {
     POLYOVER_BAD_RULE = 5,     /* no overlay rule has the number */
     POLYOVER_BAD_FILL = 6,     /* no fill rule has the number */
     POLYOVER_BAD_OPTION = 7,   /* a direction, keep, ogc, invert or boundary that is neither 0 nor 1 */
-    /* edges still meet in points that are no ends of both after 64 rounds of splitting: some that cross very flatly do,
-     * and are mostly settled where each coordinate is doubled */
+    /* edges still meet in points that are no ends of both after 64 rounds of splitting: some that cross very flatly do;
+     * with each coordinate doubled, or times more, they may be settled */
     POLYOVER_NOT_SETTLED = 8,
     /* the edges weigh 2^31 or more: those of contours and lines, or the pieces that a round of splitting gives */
     POLYOVER_TOO_MANY_EDGES = 9,
