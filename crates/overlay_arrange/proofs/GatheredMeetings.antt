@@ -48,7 +48,7 @@ abbrev IsLedBy : CountedEdge → CountedEdge → Point → Type 0
 IsLedBy g h v = Contains (met_at (ends_of g) (ends_of h)) v
 
 -- h leads g through nothing but g's ends
-abbrev LeadsNowhere : CountedEdge → CountedEdge → Type 0
+abbrev pub LeadsNowhere : CountedEdge → CountedEdge → Type 0
 LeadsNowhere g h = (v : Point) → IsLedBy g h v → IsEndOf g v
 
 module _ (es : List CountedEdge) where
@@ -62,7 +62,7 @@ module _ (es : List CountedEdge) where
 
   -- what is gathered of some pairs is gathered of others, if those lead one another nowhere but to their ends, or were
   -- looked at
-  gathered_of_more : {Some More : ℕ → ℕ → Type 0} {ms : List Meeting} → AreGathered es Some ms →
+  pub gathered_of_more : {Some More : ℕ → ℕ → Type 0} {ms : List Meeting} → AreGathered es Some ms →
       ((k l : ℕ) (g h : CountedEdge) → IsAt es k g → IsAt es l h → More k l → Some k l ⊎ LeadsNowhere g h) →
       AreGathered es More ms
   gathered_of_more gathered more = record {
@@ -70,6 +70,12 @@ module _ (es : List CountedEdge) where
     all = λ k l g h at_g at_h pair v at. ⊎_elim (λ some. gathered.all k l g h at_g at_h some v at)
         (λ ends. inl (ends v at)) (more k l g h at_g at_h pair);
   }
+
+  -- an edge leads itself nowhere
+  pub leads_itself : (k l : ℕ) (g h : CountedEdge) → IsAt es k g → IsAt es l h → k ≡ l → LeadsNowhere g h
+  leads_itself k l g h at_g at_h same v at =
+      let is : h ≡ g = one_entry es k h g (subst (λ n. IsAt es n h) (sym same) at_h) at_g in
+      met_at_itself (ends_of g) v (subst (λ u. Contains (met_at (ends_of g) (ends_of u)) v) is at)
 
   module _ (i : ℕ) (e : CountedEdge) (at_e : IsAt es i e) where
     -- at first the pairs with e have not been looked at
@@ -157,11 +163,6 @@ module _ (es : List CountedEdge) where
         holds : (k : ℕ) (g : CountedEdge) → IsAt es k g → IsHeld limit g
         holds k g at = subst (IsHeld limit) at.1 (held k g at.0)
 
-        own : (k l : ℕ) (g h : CountedEdge) → IsAt es k g → IsAt es l h → k ≡ l → LeadsNowhere g h
-        own k l g h at_g at_h same v at =
-            let is : h ≡ g = one_entry es k h g (subst (λ n. IsAt es n h) (sym same) at_h) at_g in
-            met_at_itself (ends_of g) v (subst (λ u. Contains (met_at (ends_of g) (ends_of u)) v) is at)
-
         no_end : (g h : CountedEdge) → met_at (ends_of g) (ends_of h) ≡ [] → LeadsNowhere g h
         no_end g h none v at = let empty = subst (λ (vs : List Point). Contains vs v) none at in absurd
             (omega (arith, empty.1))
@@ -176,13 +177,13 @@ module _ (es : List CountedEdge) where
             IsLookedAt i js k l ⊎ LeadsNowhere g h
         by k l g h at_g at_h (inl lt) = ⊎_elim
             (λ (is : k ≡ i). ⊎_elim (λ (less : l < i). inl (inl (inr less)))
-            (λ (from : i ≤ l). ⊎_elim (λ (same : i ≡ l). inr (own k l g h at_g at_h (is ∙ same)))
+            (λ (from : i ≤ l). ⊎_elim (λ (same : i ≡ l). inr (leads_itself k l g h at_g at_h (is ∙ same)))
             (λ (less : i < l). ⊎_elim (λ has. inl (inr (inl (is, has)))) (λ none. inr (no_end g h none.0))
             (later k l g h at_g at_h is less)) (eq-or-lt_of_le from)) (cases_lt l i))
             (λ (less : k < i). inl (inl (inl less))) (at_or_before k i lt)
         by k l g h at_g at_h (inr lt) = ⊎_elim
             (λ (is : l ≡ i). ⊎_elim (λ (less : k < i). inl (inl (inl less)))
-            (λ (from : i ≤ k). ⊎_elim (λ (same : i ≡ k). inr (own k l g h at_g at_h (sym same ∙ sym is)))
+            (λ (from : i ≤ k). ⊎_elim (λ (same : i ≡ k). inr (leads_itself k l g h at_g at_h (sym same ∙ sym is)))
             (λ (less : i < k). ⊎_elim (λ has. inl (inr (inr (is, has)))) (λ none. inr (no_end g h none.1))
             (later l k h g at_h at_g is less)) (eq-or-lt_of_le from)) (cases_lt k i))
             (λ (less : l < i). inl (inl (inr less))) (at_or_before l i lt)

@@ -36,6 +36,7 @@ pub mod RunsAlike
 pub mod RunsLoop
 pub mod RunsMerged
 pub mod Searches
+pub mod SettledFronts
 pub mod SettledLists
 pub mod SideBits
 pub mod Sweepable

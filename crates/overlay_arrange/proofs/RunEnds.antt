@@ -1,11 +1,11 @@
 -- The edges up to the end of an edge's run: ascending edges part where they start right of its end; and the edge meets
 -- all later ones in ends alone where it meets those of its run so.
-use Rattle.std.proofs.Common.{◌≡◌, ⊎_elim, ℕ, ◌+◌, ◌-◌, ◌<◌, ◌≤◌, Bool, true, false, not, ℤ, ◌<ℤ◌, ◌≤ℤ◌, int_lt, List}
-use Rattle.std.proofs.Common.{[], ◌∷◌, ◌++◌, All, Contains, length, drop, get_or, refl, sym, ap, ◌∙◌, subst, arith}
+use Rattle.std.proofs.Common.{◌≡◌, ⊎_elim, ℕ, ◌<◌, ◌≤◌, Bool, true, false, not, ℤ, ◌<ℤ◌, ◌≤ℤ◌, int_lt, List}
+use Rattle.std.proofs.Common.{[], ◌∷◌, ◌++◌, All, Contains, length, get_or, refl, sym, ap, ◌∙◌, subst, arith}
 use Rattle.std.specs.List.Sorted.{IsPartitionedBy, IsPartitionPoint}
 use Rattle.std.proofs.lemmas.Bool.{both_ways, cases_lt, false≢true}
 use Rattle.std.specs.Bool.{Decides}
-use Rattle.std.proofs.lemmas.List.{get_or_default, get_or-drop, get_or-map, length-drop, length-map}
+use Rattle.std.proofs.lemmas.List.{get_or-map, length-map}
 use Rattle.std.proofs.lemmas.List.Elements.{Contains-push_cases}
 use Rattle.std.proofs.Math.Nat.{eq-or-lt_of_le}
 use Rattle.overlay_geom.specs.Edges.{CountedEdge, ends_of}
@@ -158,22 +158,3 @@ module _ (es : List CountedEdge) (i : ℕ) where
         (λ (same : j ≡ k). subst (λ (u : CountedEdge). AreSettled u h) (one_entry es i e g at_e at_g)
         (subst (AreSettled e) (one_entry es j f h at_f (subst (λ n. IsAt es n h) (sym same) at_h)) meets))
         (Contains-push_cases js j k has)
-
-    -- that is to meet all edges that are left so
-    pub settled_with_rest : AreSettledUpTo es i (length es) → All (AreSettled e) (drop (i + 1) es)
-    settled_with_rest all k d within =
-        let l = length-drop (i + 1) es in
-        let inside : i + 1 + k < length es = omega (arith, within, l) in
-        subst (AreSettled e) (sym (get_or-drop (i + 1) es k d))
-        (all (i + 1 + k) e (get_or es (i + 1 + k) d) (omega arith) inside at_e
-        (inside, get_or_default es (i + 1 + k) (get_or es (i + 1 + k) d) d inside))
-
-    pub rest_settled : All (AreSettled e) (drop (i + 1) es) → AreSettledUpTo es i (length es)
-    rest_settled all k g f past less at_g at_f =
-        let l = length-drop (i + 1) es in
-        let n : ℕ = k - (i + 1) in
-        let inside : n < length (drop (i + 1) es) = omega (arith, past, less, l) in
-        subst (λ (h : CountedEdge). AreSettled h f) (one_entry es i e g at_e at_g)
-        (subst (AreSettled e) (get_or-drop (i + 1) es n f
-        ∙ ap (λ m. get_or es m f) (let same : i + 1 + n ≡ k = omega (arith, past) in same) ∙ at_f.1)
-        (all n f inside))

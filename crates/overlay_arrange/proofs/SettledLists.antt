@@ -1,22 +1,21 @@
 -- An ascending list of edges is settled exactly where each edge meets the later ones in ends alone. The later ones that
 -- start right of its end do so, and from the first of those on all do.
-use Rattle.std.proofs.Common.{◌≡◌, ◌⊎◌, inl, inr, ℕ, ◌+◌, ◌<◌, ◌≤◌, true, false, ◌≤ℤ◌, ◌<ℤ◌}
-use Rattle.std.proofs.Common.{List, [], ◌∷◌, All, length, drop, get_or, subst, ap, arith}
+use Rattle.std.proofs.Common.{◌≡◌, inl, inr, ⊎_elim, ℕ, ◌<◌, ◌≤◌, true, ◌≤ℤ◌, ◌<ℤ◌, List, length, get_or, sym, subst}
+use Rattle.std.proofs.Common.{ap, ◌∙◌, arith}
+use Rattle.std.specs.Prelude.{◌↔◌}
 use Rattle.std.proofs.Math.Nat.{eq-or-lt_of_le}
-use Rattle.std.specs.List.{Contains}
-use Rattle.std.proofs.lemmas.Bool.{both_ways}
+use Rattle.std.proofs.lemmas.Bool.{both_ways, cases_lt}
 use Rattle.std.proofs.lemmas.Bool.Decides.{Decides-and, Decides-or}
-use Rattle.std.proofs.lemmas.List.{get_or-drop, length-drop}
-use Rattle.std.proofs.lemmas.List.Elements.{All-contains, All-contains_itself}
+use Rattle.std.proofs.lemmas.List.{get_or_default}
 use Rattle.overlay_geom.specs.Plane.{Point, Edge, edge_lt, edge_eq}
 use Rattle.overlay_geom.specs.Edges.{CountedEdge, ends_of}
 use Rattle.overlay_geom.specs.Settled.{IsSettled}
-use Rattle.overlay_geom.proofs.Entries.{Contains-cases}
 use Rattle.overlay_geom.proofs.OneLine.{meet_in_ends_exchanged, apart_meet_in_ends}
 use Rattle.overlay_geom.proofs.Orders.{Decides-point_eq, edge_eq-from_lt, edge_eq-itself}
 use Rattle.overlay_geom.proofs.PointOrder.{Decides-point_lt}
 use Rattle.overlay_geom.proofs.Signs.{linear}
 use Rattle.overlay_arrange.specs.Content.{IsHeld, IsAscending}
+use Rattle.overlay_arrange.specs.Meetings.{AreSettledBefore, AreSettledUpTo, IsAt}
 use Rattle.overlay_arrange.specs.Settle.{AreSettled}
 
 -- ---- edges that start further right
@@ -49,35 +48,45 @@ right_from e fs i k d up le within right =
 
 -- ---- settled lists
 
--- no edges are settled
-pub settled_none : IsSettled []
-settled_none e f has_e = absurd (omega (arith, has_e.1))
+module _ (es : List CountedEdge) where
+  -- where each edge meets the later ones in ends alone, the list is settled
+  pub settled_throughout : AreSettledBefore es (length es) → IsSettled es
+  settled_throughout all e f has_e has_f other = ⊎_elim
+      (λ (less : has_e.0 < has_f.0). all.meet has_e.0 has_e.1 has_f.0 e f less has_f.1 at_e at_f)
+      (λ (from : has_f.0 ≤ has_e.0). ⊎_elim
+      (λ (same : has_f.0 ≡ has_e.0). absurd (both_ways (edge_eq (ends_of e) (ends_of f)) other (one same)))
+      (λ (less : has_f.0 < has_e.0). meet_in_ends_exchanged (ends_of e) (ends_of f)
+      (all.meet has_f.0 has_f.1 has_e.0 f e less has_e.1 at_f at_e)) (eq-or-lt_of_le from))
+      (cases_lt has_e.0 has_f.0)
+    where
+      at_e : IsAt es has_e.0 e
+      at_e = (has_e.1, has_e.2)
 
--- a list that begins with an edge that meets the rest in ends alone is settled where the rest is
-pub settled_with_more : (e : CountedEdge) (es : List CountedEdge) → All (AreSettled e) es → IsSettled es →
-    IsSettled (e ∷ es)
-settled_with_more e es with_e rest f g has_f has_g =
-    by (Contains-cases e es f has_f) (Contains-cases e es g has_g)
-  where
-    by : (e ≡ f) ⊎ Contains es f → (e ≡ g) ⊎ Contains es g → edge_eq (ends_of f) (ends_of g) ≡ false → AreSettled f g
-    by (inl is_f) (inl is_g) other =
-        let same : edge_eq (ends_of f) (ends_of g) ≡ true = rw (← is_f, ← is_g) (edge_eq-itself (ends_of e)) in
-        absurd (both_ways (edge_eq (ends_of f) (ends_of g)) other same)
-    by (inl is_f) (inr in_g) other = subst (λ (h : CountedEdge). AreSettled h g) is_f
-        (All-contains (AreSettled e) es g with_e in_g)
-    by (inr in_f) (inl is_g) other =
-        subst (λ (h : CountedEdge). AreSettled f h) is_g
-        (meet_in_ends_exchanged (ends_of f) (ends_of e) (All-contains (AreSettled e) es f with_e in_f))
-    by (inr in_f) (inr in_g) other = rest f g in_f in_g other
+      at_f : IsAt es has_f.0 f
+      at_f = (has_f.1, has_f.2)
 
--- each edge of an ascending settled list meets the later ones in ends alone
-pub settled_with_later : (es : List CountedEdge) (i : ℕ) (e : CountedEdge)
-    → IsSettled es → IsAscending es → ((d : CountedEdge) → get_or es i d ≡ e) → All (AreSettled e) (drop (i + 1) es)
-settled_with_later es i e settled up at = λ k d within.
-    let later : get_or (drop (i + 1) es) k d ≡ get_or es (i + 1 + k) d = get_or-drop (i + 1) es k d in
-    let inside : i + 1 + k < length es = omega (arith, length-drop (i + 1) es, within) in
-    let comes = up i (i + 1 + k) d (omega arith) inside in
-    rw later (subst (λ (f : CountedEdge). AreSettled f (get_or es (i + 1 + k) d)) (at d)
-    (settled (get_or es i d) (get_or es (i + 1 + k) d)
-    (All-contains_itself es i d (omega arith)) (All-contains_itself es (i + 1 + k) d inside)
-    (edge_eq-from_lt (ends_of (get_or es i d)) (ends_of (get_or es (i + 1 + k) d)) comes)))
+      one : has_f.0 ≡ has_e.0 → edge_eq (ends_of e) (ends_of f) ≡ true
+      one same =
+          let there : get_or es has_e.0 f ≡ f = subst (λ n. get_or es n f ≡ f) same at_f.1 in
+          let is : e ≡ f = sym at_e.1 ∙ get_or_default es has_e.0 e f at_e.0 ∙ there in
+          subst (λ (g : CountedEdge). edge_eq (ends_of e) (ends_of g) ≡ true) is (edge_eq-itself (ends_of e))
+
+  -- and each edge of an ascending settled list meets the later ones in ends alone
+  pub settled_with_later : IsSettled es → IsAscending es → (i : ℕ) → AreSettledUpTo es i (length es)
+  settled_with_later settled up i k e f past less at_e at_f =
+      let comes : edge_lt (ends_of e) (ends_of f) ≡ true =
+      subst (λ (g : CountedEdge). edge_lt (ends_of g) (ends_of f) ≡ true) at_e.1
+      (subst (λ (g : CountedEdge). edge_lt (ends_of (get_or es i e)) (ends_of g) ≡ true)
+      (get_or_default es k e f at_f.0 ∙ at_f.1) (up i k e past at_f.0)) in
+      settled e f (i, at_e.0, at_e.1) (k, at_f.0, at_f.1) (edge_eq-from_lt (ends_of e) (ends_of f) comes)
+
+  -- so it is settled exactly where the first edge that does not do so is counted behind all of them
+  pub settled_where_counted : (n len : ℕ) → length es ≡ len → IsAscending es → AreSettledBefore es n →
+      (n < len → ¬ (AreSettledUpTo es n len)) → (n ≡ len) ↔ IsSettled es
+  settled_where_counted n len same up front most = (
+    λ all. settled_throughout (subst (AreSettledBefore es) (all ∙ sym same) front),
+    λ settled. ⊎_elim (λ (all : n ≡ len). all)
+        (λ (less : n < len). absurd (most less
+        (subst (AreSettledUpTo es n) same (settled_with_later settled up n))))
+        (eq-or-lt_of_le (let within = front.within in let le : n ≤ len = omega (arith, within, same) in le)),
+  )

@@ -56,6 +56,11 @@ pub record IsRunEnd (es : List CountedEdge) (i end : ℕ) : Type 0 where
 abbrev pub AreSettledUpTo : List CountedEdge → ℕ → ℕ → Type 0
 AreSettledUpTo es i j = (k : ℕ) (e f : CountedEdge) → i < k → k < j → IsAt es i e → IsAt es k f → AreSettled e f
 
+-- the edges before place n meet each later one in ends alone
+pub record AreSettledBefore (es : List CountedEdge) (n : ℕ) : Type 0 where
+  pub within : n ≤ length es
+  pub meet : (k : ℕ) → k < n → AreSettledUpTo es k (length es)
+
 -- the meetings of the edges that stand at such pairs of places: all of them, but for the edges' own ends
 pub record AreGathered (es : List CountedEdge) (Pair : ℕ → ℕ → Type 0) (ms : List Meeting) : Type 0 where
   pub led : (m : Meeting) → Contains ms m →

@@ -1,7 +1,7 @@
 //! The counted edges that a builder holds, and their weight.
 
-ghost use Rattle.std.specs.Prelude.{◌≡◌, ◌^◌, ◌<◌, ◌≤◌, ◌⊎◌, ◌↔◌, [], ◌∷◌, ◌++◌, map, length, take};
-ghost use Rattle.std.specs.Prelude.{IsTrue, IfOk, IfErr, OnOk, OnErr, IsOkUnless, IsErrOf};
+ghost use Rattle.std.specs.Prelude.{◌≡◌, ◌^◌, ◌<◌, ◌≤◌, ◌⊎◌, [], ◌∷◌, ◌++◌, map, length, take};
+ghost use Rattle.std.specs.Prelude.{IfOk, IfErr, OnOk, OnErr, IsOkUnless, IsErrOf};
 ghost use Rattle.overlay_geom.specs.Edges.{weight};
 ghost use Rattle.overlay_geom.specs.Merged.{IsMerged};
 ghost use Rattle.overlay_geom.specs.Settled.{IsSettled};
@@ -19,7 +19,6 @@ use crate::edge::CountedEdge;
 use crate::fill_rule::FillRule;
 use crate::graph::Graph;
 use crate::merge::{merge, weight_of};
-use crate::settle::is_settled;
 use overlay_geom::error::OverlayError;
 use overlay_geom::number::IntNumber;
 use std::alloc::Allocator;
@@ -169,18 +168,6 @@ impl<I: IntNumber, C: EdgeCount, A: Allocator> Content<I, C, A> {
         ensures { IsContent I.limit (edges_in self.now) }
     {
         let _ = self.edges();
-    }
-
-    /// Whether any two different edges meet in ends alone. The edges ascend, as they do once merged. The
-    /// only refusal is `Memory`.
-    pub(crate) fn is_settled(&self) -> Result<bool, OverlayError>
-    where
-        A: Clone,
-        requires { IsAscending (edges_in self.now) }
-        ensures ok { IfOk result (λ is_settled. IsTrue is_settled ↔ IsSettled (edges_in self.now)) }
-        ensures err { IsOkUnless result OverlayError.Memory }
-    {
-        is_settled(self.edges.allocator().clone()?, &self.edges)
     }
 
     /// The graph of the edges under a fill rule. They are an arrangement. The only refusal is `Memory`.

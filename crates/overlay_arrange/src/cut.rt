@@ -18,7 +18,7 @@ ghost use Rattle.overlay_plane.specs.Meetings.{MeetInWholePoints};
 ghost use Rattle.overlay_arrange.specs.Content.{plain_edge, plain_edges, carried_edge, carried_edges};
 ghost use Rattle.overlay_arrange.specs.Content.{IsHeld, IsContent, IsAscending};
 ghost use Rattle.overlay_arrange.specs.Cut.{AddsGiven, IsOnLineOf, StaysWhole};
-ghost use Rattle.overlay_arrange.specs.Meetings.{plain_meetings, AreByPlace, ArePointsAt};
+ghost use Rattle.overlay_arrange.specs.Meetings.{plain_meetings, AreByPlace, AreMeetings, ArePointsAt};
 ghost use Rattle.overlay_arrange.specs.Stores.{IsStoreReached};
 
 use crate::content::Content;
@@ -26,6 +26,7 @@ use crate::count::EdgeCount;
 use crate::crossing::{is_end_of, is_on_line};
 use crate::edge::{CountedEdge, compare_points};
 use crate::meetings::{Meeting, gather, run_at};
+use crate::strips::strips_of;
 use overlay_geom::error::OverlayError;
 use overlay_geom::number::IntNumber;
 use overlay_geom::point::IntPoint;
@@ -50,22 +51,53 @@ impl<I: IntNumber, C: EdgeCount, A: Allocator> Content<I, C, A> {
         ensures too_many { IsErrOf result OverlayError.TooManyEdges → 2 ^ 31 ≤ weight (cut_edges (edges_in self.old)) }
         ensures only { IfErr result (λ e. (e ≡ OverlayError.Memory) ⊎ (e ≡ OverlayError.TooManyEdges)) }
     {
+        let strips = strips_of(self.allocator().clone()?, self.edges())?;
+        let meetings = gather(self.allocator().clone()?, self.edges(), &strips, 0)?;
+        self.cut_at(meetings, store)
+    }
+
+    /// Cuts the edges where they meet, and answers as `cut` does. The meetings are those of the edges, by their places.
+    /// They are dropped.
+    #[tactic(auto, using(crate::proofs::ReachedStores::never_written))]
+    pub(crate) fn cut_at(
+        &mut self,
+        meetings: Vec<Meeting<I>, A>,
+        store: &mut C::Store,
+    ) -> Result<bool, OverlayError>
+    where
+        A: Clone,
+        requires ascending { IsAscending (edges_in self.old) }
+        requires meetings { AreMeetings (edges_in self.old) (plain_meetings I.whole meetings.items) }
+        requires order { AreByPlace (plain_meetings I.whole meetings.items) }
+        ensures ok { OnOk result (edges_in self.new ≡ cut_edges (edges_in self.old)) }
+        ensures carried { OnOk result (AreCutAlong C.splits C.reverses
+            (computed_chain (edges_in self.old)) self.old self.new) }
+        ensures rounded { IfOk result (λ is_rounded.
+            (is_rounded ≡ false) ↔ MeetInWholePoints (edges_in self.old)) }
+        ensures store { IsStoreReached C.writes store.old store.new }
+        ensures too_many { IsErrOf result OverlayError.TooManyEdges → 2 ^ 31 ≤ weight (cut_edges (edges_in self.old)) }
+        ensures only { IfErr result (λ e. (e ≡ OverlayError.Memory) ⊎ (e ≡ OverlayError.TooManyEdges)) }
+    {
         let alloc = self.allocator().clone()?;
-        let (pieces, is_rounded) = cut_edges(alloc, self.edges(), store)?;
+        let (pieces, is_rounded) = cut_edges(alloc, self.edges(), &meetings, store)?;
         *self = pieces;
         Ok(is_rounded)
     }
 }
 
 /// The pieces of all edges, of each one along its chain, and whether some point of a chain was rounded.
+/// The meetings are those of the edges, by their places.
 #[tactic(auto, using(crate::proofs::ReachedStores::never_written))]
 fn cut_edges<I: IntNumber, C: EdgeCount, A: Allocator + Clone>(
     alloc: A,
     edges: &[CountedEdge<I, C>],
+    meetings: &[Meeting<I>],
     store: &mut C::Store,
 ) -> Result<(Content<I, C, A>, bool), OverlayError>
     requires content { IsContent I.limit (plain_edges I.whole C.counts edges.now) }
     requires ascending { IsAscending (plain_edges I.whole C.counts edges.now) }
+    requires meetings { AreMeetings (plain_edges I.whole C.counts edges.now) (plain_meetings I.whole meetings.now) }
+    requires order { AreByPlace (plain_meetings I.whole meetings.now) }
     ensures ok { IfOk result (λ cut. edges_in cut.0 ≡ cut_edges (plain_edges I.whole C.counts edges.now)) }
     ensures carried { IfOk result (λ cut. AreCutAlong C.splits C.reverses
         (computed_chain (plain_edges I.whole C.counts edges.now)) (carried_edges I.whole C.counts edges.now) cut.0) }
@@ -76,11 +108,10 @@ fn cut_edges<I: IntNumber, C: EdgeCount, A: Allocator + Clone>(
         → 2 ^ 31 ≤ weight (cut_edges (plain_edges I.whole C.counts edges.now)) }
     ensures only { IfErr result (λ e. (e ≡ OverlayError.Memory) ⊎ (e ≡ OverlayError.TooManyEdges)) }
 {
-    let meetings = gather(alloc.clone()?, edges)?;
     let mut pieces = Content::with_capacity(alloc.clone()?, edges.len())?;
     let mut is_rounded = false;
     for (i, e) in edges.iter().enumerate() {
-        let points = points_at(alloc.clone()?, &meetings, i, e)?;
+        let points = points_at(alloc.clone()?, meetings, i, e)?;
         push_pieces(&mut pieces, e, &points, store)?;
         if !are_on_line(e, &points) {
             is_rounded = true;

@@ -3,15 +3,16 @@
 ghost use Rattle.std.specs.Prelude.{◌≡◌, ◌+◌, ◌<◌, length, All, IfOk, OnOk, OnErr, IsOkUnless};
 ghost use Rattle.std.specs.List.Sorted.{IsPermutation};
 ghost use Rattle.overlay_arrange.specs.Content.{plain_edges, IsHeld, IsAscending};
+ghost use Rattle.overlay_arrange.specs.Extents.{plain_extents, AreStripsOf};
 ghost use Rattle.overlay_arrange.specs.Meetings.{plain_meetings, AreByPlace, AreGathered, AreMeetings};
-ghost use Rattle.overlay_arrange.specs.Meetings.{HasBefore, IsRunAt};
+ghost use Rattle.overlay_arrange.specs.Meetings.{AreSettledBefore, HasBefore, IsRunAt};
 ghost use Rattle.overlay_arrange.specs.Near.{AreNear};
 
 use crate::count::EdgeCount;
 use crate::crossing::push_meetings;
 use crate::edge::CountedEdge;
 use crate::near::find_near;
-use crate::strips::strips_of;
+use crate::strips::Strips;
 use overlay_geom::error::OverlayError;
 use overlay_geom::number::IntNumber;
 use overlay_geom::point::IntPoint;
@@ -27,23 +28,30 @@ pub(crate) struct Meeting<I> {
 }
 
 /// The whole points through which the edges lead one another, by the places of the edges that they
-/// lead. An edge's own ends may be missing: they change nothing. The edges ascend.
+/// lead. An edge's own ends may be missing: they change nothing. The edges ascend, and those before the
+/// place `from` meet each later one in ends alone.
 pub(crate) fn gather<I: IntNumber, C: EdgeCount, A: Allocator + Clone>(
     alloc: A,
     edges: &[CountedEdge<I, C>],
+    strips: &Strips<I, A>,
+    from: usize,
 ) -> Result<Vec<Meeting<I>, A>, OverlayError>
     requires held { All (IsHeld I.limit) (plain_edges I.whole C.counts edges.now) }
     requires ascending { IsAscending (plain_edges I.whole C.counts edges.now) }
+    requires strips { AreStripsOf (plain_edges I.whole C.counts edges.now)
+        (plain_extents I.whole strips.now.edges.items) (plain_extents I.whole strips.now.of_16.items)
+        (plain_extents I.whole strips.now.of_256.items) (plain_extents I.whole strips.now.of_4096.items)
+        (plain_extents I.whole strips.now.of_65536.items) }
+    requires settled { AreSettledBefore (plain_edges I.whole C.counts edges.now) from }
     ensures ok { IfOk result (λ meetings. AreMeetings
         (plain_edges I.whole C.counts edges.now) (plain_meetings I.whole meetings.items)) }
     ensures order { IfOk result (λ meetings. AreByPlace (plain_meetings I.whole meetings.items)) }
     ensures err { IsOkUnless result OverlayError.Memory }
 {
-    let strips = strips_of(alloc.clone()?, edges)?;
     let mut near = Vec::new(alloc.clone()?);
     let mut meetings = Vec::new(alloc);
-    for i in 0..edges.len() {
-        find_near(&mut near, edges, &strips, i)?;
+    for i in from..edges.len() {
+        find_near(&mut near, edges, strips, i)?;
         gather_from(&mut meetings, edges, i, &near)?;
     }
     sort_by_place(&mut meetings)?;

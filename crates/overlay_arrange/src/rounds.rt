@@ -1,15 +1,21 @@
 //! Splitting: rounds of merging and cutting, until edges meet in ends alone.
 
 ghost use Rattle.std.specs.Prelude.{◌≡◌, ◌≢◌, ◌↔◌, ◌^◌, false, []};
-ghost use Rattle.std.specs.Prelude.{Err, IfOk, IfErr, OnOk, IsErrOf};
+ghost use Rattle.std.specs.Prelude.{Err, None, IfOk, IfErr, IfSome, OnOk, IsErrOf, IsOkUnless};
 ghost use Rattle.overlay_arrange.specs.Arranged.{most_rounds, IsArranged, IsArrangedCarrying, IsSplitCarrying};
 ghost use Rattle.overlay_arrange.specs.Arranged.{MayRefuseSplitting};
+ghost use Rattle.overlay_arrange.specs.Content.{IsAscending};
+ghost use Rattle.overlay_arrange.specs.Meetings.{plain_meetings, AreByPlace, AreMeetings};
 ghost use Rattle.overlay_arrange.specs.Stores.{IsStoreReached};
+ghost use Rattle.overlay_geom.specs.Settled.{IsSettled};
 ghost use Rattle.overlay_plane.specs.Carried.{edges_in};
 ghost use Rattle.overlay_plane.specs.Arrangements.{IsReachedBy, IsSplit, StaysUnsettled, WeighsTooMuch};
 
 use crate::content::Content;
 use crate::count::EdgeCount;
+use crate::meetings::{Meeting, gather};
+use crate::settle::count_settled;
+use crate::strips::strips_of;
 use overlay_geom::error::OverlayError;
 use overlay_geom::number::IntNumber;
 use std::alloc::Allocator;
@@ -60,19 +66,42 @@ impl<I: IntNumber, C: EdgeCount, A: Allocator + Clone> Content<I, C, A> {
         ensures usable { result ≢ Err OverlayError.Failed }
     {
         self.merge(store)?;
-        let is_settled = self.is_settled()?;
-        if is_settled {
+        let Some(meetings) = self.open_meetings()? else {
             return Ok(false);
-        }
+        };
         if rounds == 0 {
             return Err(OverlayError::NotSettled);
         }
-        if self.cut(store)? {
+        let is_rounded = self.cut_at(meetings, store)?;
+        if is_rounded {
             self.split(rounds - 1, store)?;
         } else {
             // (no point was rounded, so the pieces meet in ends alone)
             self.merge(store)?;
         }
         Ok(true)
+    }
+
+    /// The whole points through which the edges lead one another, by the places of the edges that they lead, or none
+    /// where any two different edges meet in ends alone. The edges ascend, as they do once merged. The only refusal is
+    /// `Memory`.
+    pub(crate) fn open_meetings(&self) -> Result<Option<Vec<Meeting<I>, A>>, OverlayError>
+        requires { IsAscending (edges_in self.now) }
+        ensures settled { IfOk result (λ found. (found ≡ None) ↔ IsSettled (edges_in self.now)) }
+        ensures ok { IfOk result (λ found. IfSome found (λ meetings.
+            AreMeetings (edges_in self.now) (plain_meetings I.whole meetings.items))) }
+        ensures order { IfOk result (λ found. IfSome found (λ meetings.
+            AreByPlace (plain_meetings I.whole meetings.items))) }
+        ensures err { IsOkUnless result OverlayError.Memory }
+    {
+        let edges = self.edges();
+        let strips = strips_of(self.allocator().clone()?, edges)?;
+        let count = count_settled(self.allocator().clone()?, edges, &strips)?;
+        if count == edges.len() {
+            return Ok(None);
+        }
+        // (those before it meet all others in ends alone, and such meetings change nothing)
+        let meetings = gather(self.allocator().clone()?, edges, &strips, count)?;
+        Ok(Some(meetings))
     }
 }

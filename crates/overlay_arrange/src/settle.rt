@@ -5,13 +5,14 @@ ghost use Rattle.overlay_geom.specs.Edges.{ends_of};
 ghost use Rattle.overlay_geom.specs.Resolved.{IsPlaced};
 ghost use Rattle.overlay_geom.specs.Settled.{MeetInEnds, IsSettled};
 ghost use Rattle.overlay_arrange.specs.Content.{plain_edge, plain_edges, IsHeld, IsAscending};
-ghost use Rattle.overlay_arrange.specs.Meetings.{AreSettledUpTo};
+ghost use Rattle.overlay_arrange.specs.Extents.{plain_extents, AreStripsOf};
+ghost use Rattle.overlay_arrange.specs.Meetings.{AreSettledBefore, AreSettledUpTo};
 ghost use Rattle.overlay_arrange.specs.Near.{AreNear};
 
 use crate::count::EdgeCount;
 use crate::edge::CountedEdge;
 use crate::near::find_near;
-use crate::strips::strips_of;
+use crate::strips::{Strips, strips_of};
 use overlay_geom::edge::IntEdge;
 use overlay_geom::edge_pair;
 use overlay_geom::edge_pair::Place;
@@ -32,14 +33,36 @@ pub fn is_settled<I: IntNumber, C: EdgeCount, A: Allocator + Clone>(
     ensures err { IsOkUnless result OverlayError.Memory }
 {
     let strips = strips_of(alloc.clone()?, edges)?;
+    let count = count_settled(alloc, edges, &strips)?;
+    Ok(count == edges.len())
+}
+
+/// How many edges at the front meet each later one in ends alone: all of them where the edges are settled. The edges
+/// ascend. The only refusal is `Memory`.
+pub(crate) fn count_settled<I: IntNumber, C: EdgeCount, A: Allocator>(
+    alloc: A,
+    edges: &[CountedEdge<I, C>],
+    strips: &Strips<I, A>,
+) -> Result<usize, OverlayError>
+    requires held { All (IsHeld I.limit) (plain_edges I.whole C.counts edges.now) }
+    requires ascending { IsAscending (plain_edges I.whole C.counts edges.now) }
+    requires strips { AreStripsOf (plain_edges I.whole C.counts edges.now)
+        (plain_extents I.whole strips.now.edges.items) (plain_extents I.whole strips.now.of_16.items)
+        (plain_extents I.whole strips.now.of_256.items) (plain_extents I.whole strips.now.of_4096.items)
+        (plain_extents I.whole strips.now.of_65536.items) }
+    ensures ok { IfOk result (λ count. AreSettledBefore (plain_edges I.whole C.counts edges.now) count) }
+    ensures most { IfOk result (λ count. count < length edges.now
+        → ¬ (AreSettledUpTo (plain_edges I.whole C.counts edges.now) count (length edges.now))) }
+    ensures err { IsOkUnless result OverlayError.Memory }
+{
     let mut near = Vec::new(alloc);
     for i in 0..edges.len() {
-        find_near(&mut near, edges, &strips, i)?;
+        find_near(&mut near, edges, strips, i)?;
         if !is_settled_from(edges, i, &near) {
-            return Ok(false);
+            return Ok(i);
         }
     }
-    Ok(true)
+    Ok(edges.len())
 }
 
 /// Whether the edge at place i meets each of the later ones in ends alone. Among these it may meet those at

@@ -47,27 +47,26 @@ push_pieces-requires-clause-light g c =
 
 -- so it is led through the points of its meetings
 led_at : {I C : Type 0} (limit : ℕ) (whole : I → ℤ) (counts : C → Counts) (edges : List (CountedEdge I C)) (i : ℕ)
-    (e : CountedEdge I C) (ms ns : List (Meeting I)) (ps qs : List (IntPoint I)) →
+    (e : CountedEdge I C) (ms : List (Meeting I)) (ps qs : List (IntPoint I)) →
     All (IsHeld limit) (plain_edges whole counts edges) → i < length edges → e ≡ get_or edges i e →
     AreMeetings (plain_edges whole counts edges) (plain_meetings whole ms) →
-    ns ≡ ms → ArePointsAt (plain_meetings whole ns) i (ends_of (plain_edge whole counts e)) (plain_points whole ps) →
+    ArePointsAt (plain_meetings whole ms) i (ends_of (plain_edge whole counts e)) (plain_points whole ps) →
     qs ≡ ps →
     IsLedThrough limit (plain_edges whole counts edges) (plain_edge whole counts e) (plain_points whole qs)
-led_at limit whole counts edges i e ms ns ps qs held within is meetings read points taken =
+led_at limit whole counts edges i e ms ps qs held within is meetings points taken =
     led_through limit (plain_edges whole counts edges) held i (plain_edge whole counts e)
-    (placed_in_mapped (plain_edge whole counts) edges i e within is) (plain_meetings whole ns)
-    (plain_points whole qs)
-    (subst (λ rs. AreMeetings (plain_edges whole counts edges) (plain_meetings whole rs)) (sym read) meetings)
-    (subst (λ rs. ArePointsAt (plain_meetings whole ns) i (ends_of (plain_edge whole counts e)) (plain_points whole rs))
+    (placed_in_mapped (plain_edge whole counts) edges i e within is) (plain_meetings whole ms)
+    (plain_points whole qs) meetings
+    (subst (λ rs. ArePointsAt (plain_meetings whole ms) i (ends_of (plain_edge whole counts e)) (plain_points whole rs))
     (sym taken) points)
 
 pub push_pieces-requires-clause-points : goal.push_pieces-requires-clause-points
 push_pieces-requires-clause-points g c =
     (led_at g.I.IntNumber.limit g.I.IntNumber.whole g.C.EdgeCount.counts c.args.edges.now c.loop-i.i
-    c.index-edges-i.result c.in_ok-meetings.meetings.items c.deref.result.now c.in_ok-points.points.items
-    c.deref-in-loop-i.result.now
-    c.requires.content.held c.loop-i-test.true c.index-edges-i.is c.in_ok-meetings.ensures.ok c.deref.ensures.value
-    c.in_ok-points.ensures.ok c.deref-in-loop-i.ensures.value).in_range
+    c.index-edges-i.result c.args.meetings.now c.in_ok-points.points.items
+    c.deref.result.now
+    c.requires.content.held c.loop-i-test.true c.index-edges-i.is c.requires.meetings
+    c.in_ok-points.ensures.ok c.deref.ensures.value).in_range
 
 pub returns-in_err-push_pieces-clause-too_many : goal.returns-in_err-push_pieces-clause-too_many
 returns-in_err-push_pieces-clause-too_many g c =
@@ -81,10 +80,10 @@ returns-in_err-push_pieces-clause-too_many g c =
     (mapped_rest plain c.args.edges.now i c.index-edges-i.result c.loop-i-test.true c.index-edges-i.is)
     c.loop-i.invariant.0 refl in
     let led = led_at g.I.IntNumber.limit g.I.IntNumber.whole g.C.EdgeCount.counts c.args.edges.now i
-    c.index-edges-i.result c.in_ok-meetings.meetings.items c.deref.result.now c.in_ok-points.points.items
-    c.deref-in-loop-i.result.now
-    c.requires.content.held c.loop-i-test.true c.index-edges-i.is c.in_ok-meetings.ensures.ok c.deref.ensures.value
-    c.in_ok-points.ensures.ok c.deref-in-loop-i.ensures.value in
+    c.index-edges-i.result c.args.meetings.now c.in_ok-points.points.items
+    c.deref.result.now
+    c.requires.content.held c.loop-i-test.true c.index-edges-i.is c.requires.meetings
+    c.in_ok-points.ensures.ok c.deref.ensures.value in
     λ refused. heavy_beginning 2147483648 (edges_in c.loop-i.pieces ++ pieces e) (flat_map pieces rest) _ all
     (subst (λ ss. 2147483648 ≤ weight (edges_in c.loop-i.pieces ++ map (piece_along e) ss)) led.chain
     (c.push_pieces.ensures.too_many (search rules)))
@@ -97,16 +96,16 @@ loop-i-preserved g c =
     let e = plain c.index-edges-i.result in
     let rest = plain_edges g.I.IntNumber.whole g.C.EdgeCount.counts (drop (i + 1) c.args.edges.now) in
     let led = led_at g.I.IntNumber.limit g.I.IntNumber.whole g.C.EdgeCount.counts c.args.edges.now i
-    c.index-edges-i.result c.in_ok-meetings.meetings.items c.deref.result.now c.in_ok-points.points.items
-    c.deref-in-loop-i.result.now
-    c.requires.content.held c.loop-i-test.true c.index-edges-i.is c.in_ok-meetings.ensures.ok c.deref.ensures.value
-    c.in_ok-points.ensures.ok c.deref-in-loop-i.ensures.value in
+    c.index-edges-i.result c.args.meetings.now c.in_ok-points.points.items
+    c.deref.result.now
+    c.requires.content.held c.loop-i-test.true c.index-edges-i.is c.requires.meetings
+    c.in_ok-points.ensures.ok c.deref.ensures.value in
     let along = AreLedAlongLines es in
     let tested = led_at g.I.IntNumber.limit g.I.IntNumber.whole g.C.EdgeCount.counts c.args.edges.now i
-    c.index-edges-i.result c.in_ok-meetings.meetings.items c.deref.result.now c.in_ok-points.points.items
-    c.deref-in-loop-i-2.result.now
-    c.requires.content.held c.loop-i-test.true c.index-edges-i.is c.in_ok-meetings.ensures.ok c.deref.ensures.value
-    c.in_ok-points.ensures.ok c.deref-in-loop-i-2.ensures.value in
+    c.index-edges-i.result c.args.meetings.now c.in_ok-points.points.items
+    c.deref-in-loop-i.result.now
+    c.requires.content.held c.loop-i-test.true c.index-edges-i.is c.requires.meetings
+    c.in_ok-points.ensures.ok c.deref-in-loop-i.ensures.value in
     let carry = carried_edge g.I.IntNumber.whole g.C.EdgeCount.counts in
     let splits = g.C.EdgeCount.splits in
     let reverses = g.C.EdgeCount.reverses in
@@ -172,10 +171,10 @@ are_on_line-requires-clause-held g c =
 pub are_on_line-requires-clause-points : goal.are_on_line-requires-clause-points
 are_on_line-requires-clause-points g c =
     (led_at g.I.IntNumber.limit g.I.IntNumber.whole g.C.EdgeCount.counts c.args.edges.now c.loop-i.i
-    c.index-edges-i.result c.in_ok-meetings.meetings.items c.deref.result.now c.in_ok-points.points.items
-    c.deref-in-loop-i-2.result.now
-    c.requires.content.held c.loop-i-test.true c.index-edges-i.is c.in_ok-meetings.ensures.ok c.deref.ensures.value
-    c.in_ok-points.ensures.ok c.deref-in-loop-i-2.ensures.value).in_range
+    c.index-edges-i.result c.args.meetings.now c.in_ok-points.points.items
+    c.deref-in-loop-i.result.now
+    c.requires.content.held c.loop-i-test.true c.index-edges-i.is c.requires.meetings
+    c.in_ok-points.ensures.ok c.deref-in-loop-i.ensures.value).in_range
 
 pub returns-clause-rounded : goal.returns-clause-rounded
 returns-clause-rounded g c =

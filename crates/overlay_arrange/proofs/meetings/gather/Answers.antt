@@ -1,4 +1,5 @@
--- Each edge adds what it and the later ones lead one another through; sorting keeps what is gathered.
+-- Those before the first place need no meetings. Each other edge adds what it and the later ones lead one another
+-- through; sorting keeps what is gathered.
 use Rattle.std.proofs.Common.{List, sym, subst, arith}
 use Rattle.std.proofs.lemmas.List.{length-map}
 use Rattle.std.proofs.lemmas.List.Sorted.{Contains-permutation, IsPermutation-map, IsPermutation-sym}
@@ -6,14 +7,16 @@ use Rattle.overlay_arrange.specs.Content.{plain_edge, plain_edges}
 use Rattle.overlay_arrange.specs.Meetings.{plain_meeting, plain_meetings, AreGathered, HasBefore}
 use Rattle.overlay_arrange.specs.Near.{AreNear}
 use Rattle.overlay_arrange.specs.declared.meetings.Meeting.{Meeting}
-use Rattle.overlay_arrange.proofs.GatheredMeetings.{all_gathered, gathered_moved, none_gathered}
+use Rattle.overlay_arrange.proofs.GatheredMeetings.{all_gathered, gathered_moved}
+use Rattle.overlay_arrange.proofs.SettledFronts.{front_gathered}
 use Rattle.overlay_arrange.proofs.meetings.gather.Goals as goal
 
 pub loop-i-init : goal.loop-i-init
 loop-i-init g c =
     let es = plain_edges g.I.IntNumber.whole g.C.EdgeCount.counts c.args.edges.now in
-    subst (λ (ms : List (Meeting _)). AreGathered es (HasBefore 0) (plain_meetings g.I.IntNumber.whole ms))
-    (sym c.new-meetings.ensures.items) (none_gathered es)
+    subst (λ (ms : List (Meeting _)). AreGathered es (HasBefore c.args.from) (plain_meetings g.I.IntNumber.whole ms))
+    (sym c.new-meetings.ensures.items)
+    (front_gathered es g.I.IntNumber.limit c.args.from c.requires.held c.requires.settled)
 
 pub gather_from-requires-clause-gathered : goal.gather_from-requires-clause-gathered
 gather_from-requires-clause-gathered g c = c.loop-i.invariant

@@ -1,7 +1,6 @@
 -- Where the merged list is settled no round is taken; else the cut is one, and the rest is split with the rounds that
 -- are left.
-use Rattle.std.proofs.Common.{◌-◌, refl, arith}
-use Rattle.std.proofs.lemmas.Bool.{both_ways}
+use Rattle.std.proofs.Common.{◌≡◌, ◌-◌, ◌↔◌, Option, Some, None, refl, sym, ◌∙◌, arith}
 use Rattle.std.proofs.lemmas.Result.{err_from_is_err_and}
 use Rattle.overlay_arrange.proofs.ArrangedLists.{forward_content, leaves_cut, carried_at_once, carried_on}
 use Rattle.overlay_arrange.proofs.RoundsTaken.{split_at_once, unsettled_at_once, split_on, unsettled_on, heavy_on}
@@ -13,137 +12,140 @@ use Rattle.overlay_plane.specs.Carried.{edges_in}
 use Rattle.overlay_plane.specs.CutPoints.{cut_edges}
 use Rattle.overlay_arrange.proofs.content.Content.+split.Goals as goal
 
-pub is_settled-requires : goal.is_settled-requires
-is_settled-requires g n c = c.in_ok-merge.ensures.ok.ascending
+-- edges of which the meetings are found are not settled
+not_settled : {X : Type 0} {found : Option X} {x : X} {P : Type 0} → found ≡ Some x → (found ≡ None) ↔ P → ¬ P
+not_settled is law settled = let none = sym is ∙ law.1 settled in absurd (cc)
 
-pub returns-then-is_settled-clause-split : goal.returns-then-is_settled-clause-split
-returns-then-is_settled-clause-split g n c = split_at_once c.args.rounds _ _ c.in_ok-merge.ensures.ok
-    (c.in_ok-is_settled.ensures.ok.0 c.if-is_settled.true)
+pub open_meetings-requires : goal.open_meetings-requires
+open_meetings-requires g n c = c.in_ok-merge.ensures.ok.ascending
+
+pub returns-in_default-clause-split : goal.returns-in_default-clause-split
+returns-in_default-clause-split g n c = split_at_once c.args.rounds _ _ c.in_ok-merge.ensures.ok
+    (c.in_ok-meetings.ensures.settled.0 c.in_default.is)
 
 pub returns-then-rounds-eq0-clause-not_settled : goal.returns-then-rounds-eq0-clause-not_settled
 returns-then-rounds-eq0-clause-not_settled g n c = λ same. unsettled_at_once c.args.rounds _ _
     (omega arith) c.in_ok-merge.ensures.ok
-    (λ settled. both_ways c.in_ok-is_settled.is_settled c.if-is_settled.false (c.in_ok-is_settled.ensures.ok.1 settled))
+    (not_settled c.in-Some.is c.in_ok-meetings.ensures.settled)
 
-pub returns-in_err-cut-clause-too_many : goal.returns-in_err-cut-clause-too_many
-returns-in_err-cut-clause-too_many g n c = λ same.
-    let passed = err_from_is_err_and c.from_residual-in_err-cut.result c.from_residual-in_err-cut.ensures.1 in
+pub returns-in_err-is_rounded-clause-too_many : goal.returns-in_err-is_rounded-clause-too_many
+returns-in_err-is_rounded-clause-too_many g n c = λ same.
+    let passed = err_from_is_err_and c.from_residual-in_err-is_rounded.result
+    c.from_residual-in_err-is_rounded.ensures.1 in
     let first = leaves_cut g.I.IntNumber.limit (edges_in c.args.self.now) (edges_in c.merge.new.self)
     (cut_edges (edges_in c.merge.new.self)) c.merge.ensures.content c.in_ok-merge.ensures.ok
-    (λ settled. both_ways c.in_ok-is_settled.is_settled c.if-is_settled.false (c.in_ok-is_settled.ensures.ok.1 settled))
+    (not_settled c.in-Some.is c.in_ok-meetings.ensures.settled)
     refl in
-    heavy_at_once 2147483648 c.args.rounds _ _ (omega arith) first (c.in_err-cut.ensures.too_many (cc))
+    heavy_at_once 2147483648 c.args.rounds _ _ (omega arith) first (c.in_err-is_rounded.ensures.too_many (cc))
 
 pub returns-in_ok-split-clause-split : goal.returns-in_ok-split-clause-split
 returns-in_ok-split-clause-split g n c =
     let first = leaves_cut g.I.IntNumber.limit (edges_in c.args.self.now) (edges_in c.merge.new.self)
-    (edges_in c.cut.new.self) c.merge.ensures.content c.in_ok-merge.ensures.ok
-    (λ settled. both_ways c.in_ok-is_settled.is_settled c.if-is_settled.false
-    (c.in_ok-is_settled.ensures.ok.1 settled)) c.in_ok-cut.ensures.ok in
+    (edges_in c.cut_at.new.self) c.merge.ensures.content c.in_ok-merge.ensures.ok
+    (not_settled c.in-Some.is c.in_ok-meetings.ensures.settled) c.in_ok-is_rounded.ensures.ok in
     split_on (c.args.rounds - 1) c.args.rounds _ _ _ (omega arith) first c.in_ok-split.ensures.split
 
-pub returns-then-is_settled-clause-cut : goal.returns-then-is_settled-clause-cut
-returns-then-is_settled-clause-cut g n c = uncut_where_settled c.in_ok-merge.ensures.ok
-    (c.in_ok-is_settled.ensures.ok.0 c.if-is_settled.true)
+pub returns-in_default-clause-cut : goal.returns-in_default-clause-cut
+returns-in_default-clause-cut g n c = uncut_where_settled c.in_ok-merge.ensures.ok
+    (c.in_ok-meetings.ensures.settled.0 c.in_default.is)
 
 pub returns-in_ok-split-clause-cut : goal.returns-in_ok-split-clause-cut
 returns-in_ok-split-clause-cut g n c = cut_where_unsettled c.in_ok-merge.ensures.ok
-    (λ settled. both_ways c.in_ok-is_settled.is_settled c.if-is_settled.false (c.in_ok-is_settled.ensures.ok.1 settled))
+    (not_settled c.in-Some.is c.in_ok-meetings.ensures.settled)
 
 pub returns-in_err-split-clause-not_settled : goal.returns-in_err-split-clause-not_settled
 returns-in_err-split-clause-not_settled g n c = λ same.
     let passed = err_from_is_err_and c.from_residual-in_err-split.result c.from_residual-in_err-split.ensures.1 in
     let first = leaves_cut g.I.IntNumber.limit (edges_in c.args.self.now) (edges_in c.merge.new.self)
-    (edges_in c.cut.new.self) c.merge.ensures.content c.in_ok-merge.ensures.ok
-    (λ settled. both_ways c.in_ok-is_settled.is_settled c.if-is_settled.false
-    (c.in_ok-is_settled.ensures.ok.1 settled)) c.in_ok-cut.ensures.ok in
+    (edges_in c.cut_at.new.self) c.merge.ensures.content c.in_ok-merge.ensures.ok
+    (not_settled c.in-Some.is c.in_ok-meetings.ensures.settled) c.in_ok-is_rounded.ensures.ok in
     unsettled_on (c.args.rounds - 1) c.args.rounds _ _ (omega arith) first (c.in_err-split.ensures.not_settled (cc))
 
 pub returns-in_err-split-clause-too_many : goal.returns-in_err-split-clause-too_many
 returns-in_err-split-clause-too_many g n c = λ same.
     let passed = err_from_is_err_and c.from_residual-in_err-split.result c.from_residual-in_err-split.ensures.1 in
     let first = leaves_cut g.I.IntNumber.limit (edges_in c.args.self.now) (edges_in c.merge.new.self)
-    (edges_in c.cut.new.self) c.merge.ensures.content c.in_ok-merge.ensures.ok
-    (λ settled. both_ways c.in_ok-is_settled.is_settled c.if-is_settled.false
-    (c.in_ok-is_settled.ensures.ok.1 settled)) c.in_ok-cut.ensures.ok in
+    (edges_in c.cut_at.new.self) c.merge.ensures.content c.in_ok-merge.ensures.ok
+    (not_settled c.in-Some.is c.in_ok-meetings.ensures.settled) c.in_ok-is_rounded.ensures.ok in
     heavy_on 2147483648 (c.args.rounds - 1) c.args.rounds _ _ (omega arith) first (c.in_err-split.ensures.too_many (cc))
 
-pub returns-then-is_settled-clause-carried : goal.returns-then-is_settled-clause-carried
-returns-then-is_settled-clause-carried g n c =
+pub returns-in_default-clause-carried : goal.returns-in_default-clause-carried
+returns-in_default-clause-carried g n c =
     carried_at_once g.C.EdgeCount.merges g.C.EdgeCount.splits g.C.EdgeCount.reverses c.args.rounds c.args.self.now
     c.merge.new.self
-    c.in_ok-merge.ensures.ok (c.in_ok-is_settled.ensures.ok.0 c.if-is_settled.true) c.in_ok-merge.ensures.carried
+    c.in_ok-merge.ensures.ok (c.in_ok-meetings.ensures.settled.0 c.in_default.is) c.in_ok-merge.ensures.carried
 
 pub returns-in_ok-split-clause-carried : goal.returns-in_ok-split-clause-carried
 returns-in_ok-split-clause-carried g n c =
     carried_on g.C.EdgeCount.merges g.C.EdgeCount.splits g.C.EdgeCount.reverses g.I.IntNumber.limit
     (c.args.rounds - 1) c.args.rounds
-    c.args.self.now c.merge.new.self c.cut.new.self _ (omega arith) c.merge.ensures.content c.in_ok-merge.ensures.ok
-    (λ settled. both_ways c.in_ok-is_settled.is_settled c.if-is_settled.false (c.in_ok-is_settled.ensures.ok.1 settled))
-    c.in_ok-merge.ensures.carried c.in_ok-cut.ensures.ok c.in_ok-cut.ensures.carried
+    c.args.self.now c.merge.new.self c.cut_at.new.self _ (omega arith) c.merge.ensures.content c.in_ok-merge.ensures.ok
+    (not_settled c.in-Some.is c.in_ok-meetings.ensures.settled)
+    c.in_ok-merge.ensures.carried c.in_ok-is_rounded.ensures.ok c.in_ok-is_rounded.ensures.carried
     c.in_ok-split.ensures.carried
 
 -- where no point was rounded, the pieces, merged, are settled
 pub returns-in_ok-merge-2-clause-split : goal.returns-in_ok-merge-2-clause-split
 returns-in_ok-merge-2-clause-split g n c =
-    let unsettled : ¬ (IsSettled (edges_in c.merge.new.self)) = λ settled. both_ways c.in_ok-is_settled.is_settled
-    c.if-is_settled.false (c.in_ok-is_settled.ensures.ok.1 settled) in
+    let unsettled : ¬ (IsSettled (edges_in c.merge.new.self)) =
+    not_settled c.in-Some.is c.in_ok-meetings.ensures.settled in
     let first = leaves_cut g.I.IntNumber.limit (edges_in c.args.self.now) (edges_in c.merge.new.self)
-    (edges_in c.cut.new.self) c.merge.ensures.content c.in_ok-merge.ensures.ok unsettled c.in_ok-cut.ensures.ok in
-    let settled = settled_where_whole (edges_in c.args.self.now) (edges_in c.merge.new.self) (edges_in c.cut.new.self)
-    (edges_in c.merge-else-branch.new.self)
+    (edges_in c.cut_at.new.self) c.merge.ensures.content c.in_ok-merge.ensures.ok unsettled
+    c.in_ok-is_rounded.ensures.ok in
+    let settled = settled_where_whole (edges_in c.args.self.now) (edges_in c.merge.new.self)
+    (edges_in c.cut_at.new.self) (edges_in c.merge-else-is_rounded.new.self)
     (forward_content g.I.IntNumber.limit (edges_in c.merge.new.self) c.merge.ensures.content) c.in_ok-merge.ensures.ok
-    unsettled
-    (c.in_ok-cut.ensures.rounded.0 c.if-branch.false) c.in_ok-cut.ensures.ok c.in_ok-merge-2.ensures.ok in
+    unsettled (c.in_ok-is_rounded.ensures.rounded.0 c.if-is_rounded.false) c.in_ok-is_rounded.ensures.ok
+    c.in_ok-merge-2.ensures.ok in
     split_on (c.args.rounds - 1) c.args.rounds _ _ _ (omega arith) first
     (split_at_once (c.args.rounds - 1) _ _ c.in_ok-merge-2.ensures.ok settled)
 
 pub returns-in_ok-merge-2-clause-cut : goal.returns-in_ok-merge-2-clause-cut
 returns-in_ok-merge-2-clause-cut g n c = cut_where_unsettled c.in_ok-merge.ensures.ok
-    (λ settled. both_ways c.in_ok-is_settled.is_settled c.if-is_settled.false (c.in_ok-is_settled.ensures.ok.1 settled))
+    (not_settled c.in-Some.is c.in_ok-meetings.ensures.settled)
 
 pub returns-in_ok-merge-2-clause-carried : goal.returns-in_ok-merge-2-clause-carried
 returns-in_ok-merge-2-clause-carried g n c =
-    let unsettled : ¬ (IsSettled (edges_in c.merge.new.self)) = λ settled. both_ways c.in_ok-is_settled.is_settled
-    c.if-is_settled.false (c.in_ok-is_settled.ensures.ok.1 settled) in
-    let settled = settled_where_whole (edges_in c.args.self.now) (edges_in c.merge.new.self) (edges_in c.cut.new.self)
-    (edges_in c.merge-else-branch.new.self)
+    let unsettled : ¬ (IsSettled (edges_in c.merge.new.self)) =
+    not_settled c.in-Some.is c.in_ok-meetings.ensures.settled in
+    let settled = settled_where_whole (edges_in c.args.self.now) (edges_in c.merge.new.self)
+    (edges_in c.cut_at.new.self) (edges_in c.merge-else-is_rounded.new.self)
     (forward_content g.I.IntNumber.limit (edges_in c.merge.new.self) c.merge.ensures.content) c.in_ok-merge.ensures.ok
-    unsettled
-    (c.in_ok-cut.ensures.rounded.0 c.if-branch.false) c.in_ok-cut.ensures.ok c.in_ok-merge-2.ensures.ok in
+    unsettled (c.in_ok-is_rounded.ensures.rounded.0 c.if-is_rounded.false) c.in_ok-is_rounded.ensures.ok
+    c.in_ok-merge-2.ensures.ok in
     carried_on g.C.EdgeCount.merges g.C.EdgeCount.splits g.C.EdgeCount.reverses g.I.IntNumber.limit
     (c.args.rounds - 1) c.args.rounds
-    c.args.self.now c.merge.new.self c.cut.new.self _ (omega arith) c.merge.ensures.content c.in_ok-merge.ensures.ok
-    unsettled c.in_ok-merge.ensures.carried c.in_ok-cut.ensures.ok c.in_ok-cut.ensures.carried
-    (carried_at_once g.C.EdgeCount.merges g.C.EdgeCount.splits g.C.EdgeCount.reverses (c.args.rounds - 1) c.cut.new.self
-    c.merge-else-branch.new.self
+    c.args.self.now c.merge.new.self c.cut_at.new.self _ (omega arith) c.merge.ensures.content c.in_ok-merge.ensures.ok
+    unsettled c.in_ok-merge.ensures.carried c.in_ok-is_rounded.ensures.ok c.in_ok-is_rounded.ensures.carried
+    (carried_at_once g.C.EdgeCount.merges g.C.EdgeCount.splits g.C.EdgeCount.reverses (c.args.rounds - 1)
+    c.cut_at.new.self c.merge-else-is_rounded.new.self
     c.in_ok-merge-2.ensures.ok settled c.in_ok-merge-2.ensures.carried)
 
 -- the store is reached by merging, cutting and what follows
-pub returns-in_err-cut-clause-store : goal.returns-in_err-cut-clause-store
-returns-in_err-cut-clause-store g n c =
-    reached_on g.C.EdgeCount.writes _ _ _ c.in_ok-merge.ensures.store c.in_err-cut.ensures.store
+pub returns-in_err-is_rounded-clause-store : goal.returns-in_err-is_rounded-clause-store
+returns-in_err-is_rounded-clause-store g n c =
+    reached_on g.C.EdgeCount.writes _ _ _ c.in_ok-merge.ensures.store c.in_err-is_rounded.ensures.store
 
 pub returns-in_ok-split-clause-store : goal.returns-in_ok-split-clause-store
 returns-in_ok-split-clause-store g n c =
     let writes = g.C.EdgeCount.writes in
-    reached_on writes _ _ _ (reached_on writes _ _ _ c.in_ok-merge.ensures.store c.in_ok-cut.ensures.store)
+    reached_on writes _ _ _ (reached_on writes _ _ _ c.in_ok-merge.ensures.store c.in_ok-is_rounded.ensures.store)
     c.in_ok-split.ensures.store
 
 pub returns-in_err-split-clause-store : goal.returns-in_err-split-clause-store
 returns-in_err-split-clause-store g n c =
     let writes = g.C.EdgeCount.writes in
-    reached_on writes _ _ _ (reached_on writes _ _ _ c.in_ok-merge.ensures.store c.in_ok-cut.ensures.store)
+    reached_on writes _ _ _ (reached_on writes _ _ _ c.in_ok-merge.ensures.store c.in_ok-is_rounded.ensures.store)
     c.in_err-split.ensures.store
 
 pub returns-in_ok-merge-2-clause-store : goal.returns-in_ok-merge-2-clause-store
 returns-in_ok-merge-2-clause-store g n c =
     let writes = g.C.EdgeCount.writes in
-    reached_on writes _ _ _ (reached_on writes _ _ _ c.in_ok-merge.ensures.store c.in_ok-cut.ensures.store)
+    reached_on writes _ _ _ (reached_on writes _ _ _ c.in_ok-merge.ensures.store c.in_ok-is_rounded.ensures.store)
     c.in_ok-merge-2.ensures.store
 
 pub returns-in_err-merge-2-clause-store : goal.returns-in_err-merge-2-clause-store
 returns-in_err-merge-2-clause-store g n c =
     let writes = g.C.EdgeCount.writes in
-    reached_on writes _ _ _ (reached_on writes _ _ _ c.in_ok-merge.ensures.store c.in_ok-cut.ensures.store)
+    reached_on writes _ _ _ (reached_on writes _ _ _ c.in_ok-merge.ensures.store c.in_ok-is_rounded.ensures.store)
     c.in_err-merge-2.ensures.store

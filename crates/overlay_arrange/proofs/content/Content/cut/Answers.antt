@@ -1,12 +1,6 @@
--- What is cut is the content as contracts see it.
-use Rattle.std.proofs.Common.{◌≡◌, ◌↔◌, false, subst}
-use Rattle.overlay_plane.specs.Meetings.{MeetInWholePoints}
+-- From the first place on the meetings are those of all edges.
+use Rattle.overlay_arrange.proofs.SettledFronts.{none_in_front}
 use Rattle.overlay_arrange.proofs.content.Content.cut.Goals as goal
 
-pub returns-clause-carried : goal.returns-clause-carried
-returns-clause-carried g c = rw (c.edges.ensures.plain, c.edges.ensures.edges) at c.in_ok-pieces.ensures.carried
-
-pub returns-clause-rounded : goal.returns-clause-rounded
-returns-clause-rounded g c =
-    subst (λ es. (c.in_ok-pieces.is_rounded ≡ false) ↔ MeetInWholePoints es) c.edges.ensures.plain
-    c.in_ok-pieces.ensures.rounded
+pub gather-requires-clause-settled : goal.gather-requires-clause-settled
+gather-requires-clause-settled g c = none_in_front _
