@@ -1,9 +1,8 @@
 -- Lists to which something was appended, as a program that appends it finds them.
-use Rattle.std.proofs.Common.{◌≡◌, ℕ, ◌+◌, ◌<◌, List, [], ◌∷◌, ◌++◌, map, length, take, get_or, refl, sym, ◌∙◌, ap}
+use Rattle.std.proofs.Common.{◌≡◌, ℕ, ◌+◌, ◌<◌, List, [], ◌∷◌, ◌++◌, map, length, take, get_or, sym, ◌∙◌, ap}
 use Rattle.std.proofs.Common.{append_assoc}
 use Rattle.std.specs.List.{flat_map}
 use Rattle.std.proofs.lemmas.List.{map-append}
-use Rattle.overlay_geom.proofs.JoinedLists.{joined_push}
 use Rattle.overlay_geom.proofs.Mapped.{mapped_more}
 
 -- with an item pushed, the mapped list has what that is mapped to

@@ -91,10 +91,10 @@ blocks_of_blocks n m ss blocks over cover cover_over = λ k s d at_s.
 -- each extent at one of the first places is enclosed by that of its block; and there are so many blocks as these places
 -- need
 pub record AreBlocksUpTo (ss blocks : List Extent) (i : ℕ) : Type 0 where
-  pub enough : i ≤ length blocks * 16
-  pub few : length blocks * 16 < i + 16
+  pub enough : i ≤ length blocks * 8
+  pub few : length blocks * 8 < i + 8
   pub cover : (k : ℕ) (s d : Extent) → k < i → IsAt ss k s →
-      (k / 16 < length blocks) × Encloses (get_or blocks (k / 16) d) s
+      (k / 8 < length blocks) × Encloses (get_or blocks (k / 8) d) s
 
 -- at first there are none
 pub no_blocks : (ss : List Extent) → AreBlocksUpTo ss [] 0
@@ -102,7 +102,7 @@ no_blocks ss = record { enough = omega arith; few = omega arith; cover = λ k s 
 
 -- where all places have been taken they are the blocks
 pub all_blocks : (ss blocks : List Extent) (i : ℕ) → length ss ≤ i → AreBlocksUpTo ss blocks i →
-    AreBlocks 16 ss blocks
+    AreBlocks 8 ss blocks
 all_blocks ss blocks i past some = λ k s d at_s. some.cover k s d (let less = at_s.0 in omega arith) at_s
 
 module _ (ss blocks : List Extent) (i : ℕ) (some : AreBlocksUpTo ss blocks i) (s : Extent)
@@ -116,95 +116,95 @@ module _ (ss blocks : List Extent) (i : ℕ) (some : AreBlocksUpTo ss blocks i) 
   is_s k t same at_t = one_entry ss i t s (subst (λ n. IsAt ss n t) same at_t) at_s
 
   -- a block begins at the place
-  pub block_begun : i % 16 ≡ 0 → AreBlocksUpTo ss (blocks ++ s ∷ []) (i + 1)
+  pub block_begun : i % 8 ≡ 0 → AreBlocksUpTo ss (blocks ++ s ∷ []) (i + 1)
   block_begun begins = record { enough = omega (arith, count, e, f); few = omega (arith, count, e, f); cover = cover }
     where
       count : length (blocks ++ s ∷ []) ≡ length blocks + 1
       count = length-append blocks (s ∷ [])
 
-      e : i ≤ length blocks * 16
+      e : i ≤ length blocks * 8
       e = some.enough
 
-      f : length blocks * 16 < i + 16
+      f : length blocks * 8 < i + 8
       f = some.few
 
-      next : length blocks ≡ i / 16
-      next = let whole = div-add-mod i 16 in omega (arith, whole, begins, e, f)
+      next : length blocks ≡ i / 8
+      next = let whole = div-add-mod i 8 in omega (arith, whole, begins, e, f)
 
       cover : (k : ℕ) (t d : Extent) → k < i + 1 → IsAt ss k t →
-          (k / 16 < length (blocks ++ s ∷ [])) × Encloses (get_or (blocks ++ s ∷ []) (k / 16) d) t
+          (k / 8 < length (blocks ++ s ∷ [])) × Encloses (get_or (blocks ++ s ∷ []) (k / 8) d) t
       cover k t d lt at_t = ⊎_elim here before (or_before k lt)
         where
-          here : k ≡ i → (k / 16 < length (blocks ++ s ∷ [])) × Encloses (get_or (blocks ++ s ∷ []) (k / 16) d) t
+          here : k ≡ i → (k / 8 < length (blocks ++ s ∷ [])) × Encloses (get_or (blocks ++ s ∷ []) (k / 8) d) t
           here same =
-              let place : length blocks ≡ k / 16 = next ∙ ap (λ n. n / 16) (sym same) in (
+              let place : length blocks ≡ k / 8 = next ∙ ap (λ n. n / 8) (sym same) in (
                 omega (arith, place, count),
-                subst (λ (u : Extent). Encloses u t) (sym (get_or_push blocks s d (k / 16) place))
+                subst (λ (u : Extent). Encloses u t) (sym (get_or_push blocks s d (k / 8) place))
                     (subst (Encloses s) (sym (is_s k t same at_t)) (covers_itself s)),
               )
 
-          before : k < i → (k / 16 < length (blocks ++ s ∷ [])) × Encloses (get_or (blocks ++ s ∷ []) (k / 16) d) t
+          before : k < i → (k / 8 < length (blocks ++ s ∷ [])) × Encloses (get_or (blocks ++ s ∷ []) (k / 8) d) t
           before less = let found = some.cover k t d less at_t in (
             (let inside = found.0 in omega (arith, inside, count)),
-            subst (λ (u : Extent). Encloses u t) (sym (get_or-append blocks (s ∷ []) d (k / 16) found.0)) found.1,
+            subst (λ (u : Extent). Encloses u t) (sym (get_or-append blocks (s ∷ []) d (k / 8) found.0)) found.1,
           )
 
   -- where none begins, the place's block is the last one
-  pub last_block : ¬ (i % 16 ≡ 0) → i / 16 < length blocks
+  pub last_block : ¬ (i % 8 ≡ 0) → i / 8 < length blocks
   last_block goes_on =
-      let whole = div-add-mod i 16 in
+      let whole = div-add-mod i 8 in
       let e = some.enough in
       omega (arith, whole, goes_on, e)
 
   -- and grows
-  pub block_grown : (old block : Extent) (news : List Extent) → ¬ (i % 16 ≡ 0) → news ≡ set blocks (i / 16) block →
-      old ≡ get_or blocks (i / 16) old →
+  pub block_grown : (old block : Extent) (news : List Extent) → ¬ (i % 8 ≡ 0) → news ≡ set blocks (i / 8) block →
+      old ≡ get_or blocks (i / 8) old →
       Encloses block old → Encloses block s → AreBlocksUpTo ss news (i + 1)
   block_grown old block news goes_on news_are old_is of_old of_s =
       record { enough = omega (arith, count, e, whole, rest, goes_on, f); few = omega (arith, count, f); cover = cover }
     where
       count : length news ≡ length blocks
-      count = ap length news_are ∙ length-set blocks (i / 16) block
+      count = ap length news_are ∙ length-set blocks (i / 8) block
 
-      e : i ≤ length blocks * 16
+      e : i ≤ length blocks * 8
       e = some.enough
 
-      f : length blocks * 16 < i + 16
+      f : length blocks * 8 < i + 8
       f = some.few
 
-      whole : 16 * (i / 16) + i % 16 ≡ i
-      whole = div-add-mod i 16
+      whole : 8 * (i / 8) + i % 8 ≡ i
+      whole = div-add-mod i 8
 
-      rest : i % 16 < 16
-      rest = mod-lt i {m = 16} (omega arith)
+      rest : i % 8 < 8
+      rest = mod-lt i {m = 8} (omega arith)
 
       cover : (k : ℕ) (t d : Extent) → k < i + 1 → IsAt ss k t →
-          (k / 16 < length news) × Encloses (get_or news (k / 16) d) t
+          (k / 8 < length news) × Encloses (get_or news (k / 8) d) t
       cover k t d lt at_t = ⊎_elim here before (or_before k lt)
         where
-          read : get_or news (i / 16) d ≡ block
-          read = ap (λ xs. get_or xs (i / 16) d) news_are ∙ get_or-set_same blocks (i / 16) block d (last_block goes_on)
+          read : get_or news (i / 8) d ≡ block
+          read = ap (λ xs. get_or xs (i / 8) d) news_are ∙ get_or-set_same blocks (i / 8) block d (last_block goes_on)
 
-          here : k ≡ i → (k / 16 < length news) × Encloses (get_or news (k / 16) d) t
+          here : k ≡ i → (k / 8 < length news) × Encloses (get_or news (k / 8) d) t
           here same =
-              let place : k / 16 ≡ i / 16 = ap (λ n. n / 16) same in
+              let place : k / 8 ≡ i / 8 = ap (λ n. n / 8) same in
               let inside = last_block goes_on in (
                 omega (arith, place, count, inside),
                 subst (λ (u : Extent). Encloses u t) (sym (ap (λ n. get_or news n d) place ∙ read))
                     (subst (Encloses block) (sym (is_s k t same at_t)) of_s),
               )
 
-          before : k < i → (k / 16 < length news) × Encloses (get_or news (k / 16) d) t
+          before : k < i → (k / 8 < length news) × Encloses (get_or news (k / 8) d) t
           before less = let found = some.cover k t d less at_t in (
             (let inside = found.0 in omega (arith, inside, count)),
-            ⊎_elim (λ (same : k / 16 ≡ i / 16).
+            ⊎_elim (λ (same : k / 8 ≡ i / 8).
                 subst (λ (u : Extent). Encloses u t) (sym (ap (λ n. get_or news n d) same ∙ read))
                 (covers_through block old t of_old (subst (λ (u : Extent). Encloses u t)
-                (ap (λ n. get_or blocks n d) same ∙ get_or_default blocks (i / 16) d old (last_block goes_on)
+                (ap (λ n. get_or blocks n d) same ∙ get_or_default blocks (i / 8) d old (last_block goes_on)
                 ∙ sym old_is) found.1)))
-                (λ (other : k / 16 ≢ i / 16).
+                (λ (other : k / 8 ≢ i / 8).
                 subst (λ (u : Extent). Encloses u t)
-                (sym (ap (λ xs. get_or xs (k / 16) d) news_are
-                ∙ get_or-set_other blocks (i / 16) (k / 16) block d other)) found.1)
-                (cases_eq (k / 16) (i / 16)),
+                (sym (ap (λ xs. get_or xs (k / 8) d) news_are
+                ∙ get_or-set_other blocks (i / 8) (k / 8) block d other)) found.1)
+                (cases_eq (k / 8) (i / 8)),
           )

@@ -18,6 +18,7 @@ pub mod FarEdges
 pub mod FilledVectors
 pub mod FirstEdges
 pub mod GatheredMeetings
+pub mod HeightOrder
 pub mod HeldRuns
 pub mod HeldWeight
 pub mod LedThrough

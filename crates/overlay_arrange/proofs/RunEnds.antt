@@ -1,16 +1,16 @@
 -- The edges up to the end of an edge's run: ascending edges part where they start right of its end; and the edge meets
 -- all later ones in ends alone where it meets those of its run so.
+use Rattle.std.proofs.Common.{◌+◌, ◌-◌, drop, slice_range}
 use Rattle.std.proofs.Common.{◌≡◌, ⊎_elim, ℕ, ◌<◌, ◌≤◌, Bool, true, false, not, ℤ, ◌<ℤ◌, ◌≤ℤ◌, int_lt, List}
 use Rattle.std.proofs.Common.{[], ◌∷◌, ◌++◌, All, Contains, length, get_or, refl, sym, ap, ◌∙◌, subst, arith}
 use Rattle.std.specs.List.Sorted.{IsPartitionedBy, IsPartitionPoint}
 use Rattle.std.proofs.lemmas.Bool.{both_ways, cases_lt, false≢true}
 use Rattle.std.specs.Bool.{Decides}
-use Rattle.std.proofs.lemmas.List.{get_or-map, length-map}
+use Rattle.std.proofs.lemmas.List.{get_or-drop, get_or-map, get_or-take, length-drop, length-map, length-take-le}
 use Rattle.std.proofs.lemmas.List.Elements.{Contains-push_cases}
 use Rattle.std.proofs.Math.Nat.{eq-or-lt_of_le}
 use Rattle.overlay_geom.specs.Edges.{CountedEdge, ends_of}
 use Rattle.overlay_geom.proofs.Comparisons.{Decides-int_lt}
-use Rattle.overlay_geom.proofs.PointOrder.{Decides-point_lt}
 use Rattle.overlay_geom.proofs.Signs.{linear}
 use Rattle.overlay_geom.specs.Counts.{Counts}
 use Rattle.overlay_arrange.specs.Content.{IsAscending, IsHeld, plain_edge, plain_edges}
@@ -19,8 +19,27 @@ use Rattle.overlay_arrange.specs.Meetings.{AreSettledUpTo, IsAt, IsRunEnd}
 use Rattle.overlay_arrange.specs.Settle.{AreSettled}
 use Rattle.overlay_arrange.specs.declared.edge.CountedEdge.{CountedEdge as HeldEdge}
 use Rattle.overlay_arrange.proofs.FarEdges.{settled_where_far}
-use Rattle.overlay_arrange.proofs.GatheredMeetings.{one_entry}
+use Rattle.overlay_arrange.proofs.GatheredMeetings.{one_entry, placed_in_mapped}
 use Rattle.overlay_arrange.proofs.SettledLists.{starts_no_further_left}
+
+-- ---- part of a list
+
+module _ {X : Type 0} (xs : List X) (from to : ℕ) (ordered : from ≤ to) (within : to ≤ length xs) where
+  -- how many entries it has, and where they stand
+  count_between : length (slice_range xs from to) ≡ to - from
+  count_between = length-take-le (to - from) (drop from xs)
+      (let l = length-drop from xs in omega (arith, l, ordered, within))
+
+  at_between : (k : ℕ) (d : X) → k < to - from → get_or (slice_range xs from to) k d ≡ get_or xs (from + k) d
+  at_between k d less = get_or-take (to - from) (drop from xs) k d less ∙ get_or-drop from xs k d
+
+  -- where a test passes in the front of a list alone, so it does in the part's
+  pub parted_between : (p : X → Bool) → IsPartitionedBy p xs → IsPartitionedBy p (slice_range xs from to)
+  parted_between p parted j k d le inside passes =
+      let less : k < to - from = (let count = count_between in omega (arith, count, inside)) in
+      ap p (at_between j d (omega (arith, le, less)))
+      ∙ parted (from + j) (from + k) d (omega (arith, le)) (omega (arith, less, within))
+      (sym (ap p (at_between k d less)) ∙ passes)
 
 -- ---- where the run ends
 
@@ -81,53 +100,42 @@ module _ {I C : Type 0} (whole : I → ℤ) (counts : C → Counts) where
         true_of_up_to x (whole (get_or es j d).a.x) (λ less. up_to_of_true x (whole (get_or es k d).a.x) passes
         (omega linear))
 
-    -- and where it ends the run of an edge ends
-    pub run_ends : (i end : ℕ) (e : HeldEdge I C) → i < length es → e ≡ get_or es i e → end ≤ length es →
-        IsPartitionPoint (λ f. starts_up_to (whole e.b.x) f ≡ true) (λ f. starts_up_to (whole e.b.x) f ≡ false) es end →
-        IsRunEnd (plain_edges whole counts es) i end
-    run_ends i end e within e_is bound parted =
-        record {
-          after = after;
-          within = (let l = length-map es (plain_edge whole counts) in omega arith);
-          right = right;
-        }
+    -- and where it ends, from the next place on, the run of an edge ends
+    pub run_ends : (i to count : ℕ) (e : HeldEdge I C) → i < length es → e ≡ get_or es i e → i + 1 ≤ to →
+        to ≤ length es →
+        ((f : CountedEdge) → IsAt (plain_edges whole counts es) to f → whole e.b.x <ℤ f.a.x) →
+        count ≤ length (slice_range es (i + 1) to) →
+        IsPartitionPoint (λ f. starts_up_to (whole e.b.x) f ≡ true) (λ f. starts_up_to (whole e.b.x) f ≡ false)
+        (slice_range es (i + 1) to) count →
+        IsRunEnd (plain_edges whole counts es) i (i + 1 + count)
+    run_ends i to count e within e_is ordered fits bound few parted = record {
+      after = omega arith;
+      within = (let l = length-map es (plain_edge whole counts) in let all = count_between es (i + 1) to ordered fits in
+          omega (arith, l, all, few, fits, ordered));
+      right = right;
+    }
       where
-        plain : CountedEdge
-        plain = plain_edge whole counts e
-
-        at_e : IsAt (plain_edges whole counts es) i plain
-        at_e = (
-          let l = length-map es (plain_edge whole counts) in
-              omega arith,
-          get_or-map (plain_edge whole counts) es i e plain within
-              ∙ ap (plain_edge whole counts) (sym e_is),
-        )
-
-        not_right : ¬ (whole e.b.x <ℤ whole e.a.x)
-        not_right less =
-            let forward = (Decides-point_lt plain.a plain.b).0
-            (subst (IsHeld limit) at_e.1 (held i plain at_e.0)).forward in
-            let order = forward.x in
-            omega linear
-
-        after : i < end
-        after = ⊎_elim (λ less. less) (λ (past : end ≤ i). let fails = parted.1 i e past within in
-            absurd (not_right (right_of_false (whole e.b.x) (whole e.a.x)
-            (subst (λ (f : HeldEdge I C). starts_up_to (whole e.b.x) f ≡ false) (sym e_is) fails))))
-            (cases_lt i end)
+        at_e : IsAt (plain_edges whole counts es) i (plain_edge whole counts e)
+        at_e = placed_in_mapped (plain_edge whole counts) es i e within e_is
 
         right : (g f : CountedEdge) → IsAt (plain_edges whole counts es) i g →
-            IsAt (plain_edges whole counts es) end f → g.b.x <ℤ f.a.x
+            IsAt (plain_edges whole counts es) (i + 1 + count) f → g.b.x <ℤ f.a.x
         right g f at_g at_f =
-            let inside : end < length es = (let l = length-map es (plain_edge whole counts) in let less = at_f.0 in
-            omega arith) in
-            let fails = parted.1 end e (omega arith) inside in
-            let less = right_of_false (whole e.b.x) (whole (get_or es end e).a.x) fails in
-            let g_is : plain ≡ g = one_entry (plain_edges whole counts es) i plain g at_e at_g in
-            let f_is : plain_edge whole counts (get_or es end e) ≡ f =
-            sym (get_or-map (plain_edge whole counts) es end e f inside) ∙ at_f.1 in
-            subst (λ (h : CountedEdge). g.b.x <ℤ h.a.x) f_is
-            (subst (λ (h : CountedEdge). h.b.x <ℤ whole (get_or es end e).a.x) g_is less)
+            let all = count_between es (i + 1) to ordered fits in
+            subst (λ (h : CountedEdge). h.b.x <ℤ f.a.x)
+            (one_entry (plain_edges whole counts es) i (plain_edge whole counts e) g at_e at_g)
+            (⊎_elim
+            (λ (less : count < to - (i + 1)).
+            let inside : i + 1 + count < length es = omega (arith, less, fits) in
+            let fails = parted.1 count e (omega arith) (omega (arith, all, less)) in
+            let there = at_between es (i + 1) to ordered fits count e less in
+            let right = right_of_false (whole e.b.x) (whole (get_or es (i + 1 + count) e).a.x)
+            (subst (λ (h : HeldEdge I C). starts_up_to (whole e.b.x) h ≡ false) there fails) in
+            subst (λ (h : CountedEdge). whole e.b.x <ℤ h.a.x)
+            (sym (get_or-map (plain_edge whole counts) es (i + 1 + count) e f inside) ∙ at_f.1) right)
+            (λ (past : to - (i + 1) ≤ count).
+            let last : i + 1 + count ≡ to = omega (arith, past, all, few, ordered) in
+            bound f (subst (λ n. IsAt (plain_edges whole counts es) n f) last at_f)) (cases_lt count (to - (i + 1))))
 
 -- ---- edges that meet in ends alone
 

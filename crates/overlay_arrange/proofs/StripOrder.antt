@@ -1,23 +1,29 @@
 -- Extents strip by strip: with one more, and with those of the last strip in another order; and what a search by strips
 -- passes over.
 use Rattle.std.proofs.Common.{◌≡◌, ⊎_elim, inl, inr, ◌⊎◌, ℕ, ◌+◌, ◌*◌, ◌-◌, ◌/◌, ◌%◌, ◌<◌, ◌≤◌, List, [], ◌∷◌, ◌++◌}
-use Rattle.std.proofs.Common.{length, map, get_or, Contains, refl, sym, ap, ◌∙◌, subst, arith}
+use Rattle.std.proofs.Common.{length, map, get_or, AllPairs, Contains, ◌<ℤ◌, ◌≤ℤ◌, refl, sym, ap, ◌∙◌, subst, arith}
 use Rattle.std.specs.List.Sorted.{IsPermutation}
 use Rattle.std.proofs.lemmas.Bool.{cases_lt}
-use Rattle.std.proofs.lemmas.List.{append_assoc, get_or_push, get_or-append-add, length-append, length-map, map-append}
+use Rattle.std.proofs.lemmas.Nat.{div-add-mod'}
+use Rattle.std.proofs.lemmas.List.{append_assoc, get_or_default, get_or_push, get_or-append-add, length-append}
+use Rattle.std.proofs.lemmas.List.{length-map, map-append}
 use Rattle.std.proofs.lemmas.List.{append-nil}
 use Rattle.std.proofs.lemmas.List.Sorted.{Contains-permutation, IsPermutation-refl, IsPermutation-sym}
 use Rattle.std.proofs.lemmas.List.Sorted.{IsPermutation-trans}
 use Rattle.std.proofs.lemmas.List.Sorted.{IsPermutation-append_left, IsPermutation-append_right, length_permutation}
 use Rattle.std.proofs.Math.ListN.{get_or-append}
-use Rattle.std.proofs.Math.Nat.{div-add-mod, mod-lt, eq-or-lt_of_le}
+use Rattle.std.proofs.Math.Nat.{add-mod_right, add-mul, div-eq_of_lt-le, div-lt_iff_lt-mul, div-mul-le_self}
+use Rattle.std.proofs.Math.Nat.{eq-or-lt_of_le, le-div_iff_mul-le}
+use Rattle.std.proofs.Math.Nat.{mod-eq_of_lt, mod-lt, mul-le-mul_right}
 use Rattle.overlay_geom.specs.Edges.{CountedEdge}
 use Rattle.overlay_geom.specs.Numbered.{Numbered, numbered}
 use Rattle.overlay_geom.proofs.Numbered.{numbered_more, items_numbered}
-use Rattle.overlay_arrange.specs.Extents.{Extent, extent_at, extent_of, extents_of, AreInStrips, IsApart}
+use Rattle.overlay_geom.proofs.Signs.{linear}
+use Rattle.overlay_arrange.specs.Extents.{Extent, extent_at, extent_of, extents_of, AreByHeights, AreInStrips}
 use Rattle.overlay_arrange.specs.Meetings.{IsAt}
 use Rattle.overlay_arrange.specs.Near.{AreApartFrom}
 use Rattle.overlay_arrange.proofs.ExtentBlocks.{same_block}
+use Rattle.overlay_arrange.proofs.GatheredMeetings.{one_entry}
 
 -- the extents of one edge more
 extents_more : (es : List CountedEdge) (e : CountedEdge) → extents_of (es ++ e ∷ []) ≡ extents_of es
@@ -28,17 +34,19 @@ extents_more es e =
     ∙ ap (λ n. extents_of es ++ extent_of e n ∷ []) (let same : 0 + length es ≡ length es = omega arith in same)
 
 -- with the extent of the next edge behind them they are in strips
-strips_pushed : (ss : List Extent) (e : CountedEdge) → AreInStrips ss → AreInStrips (ss ++ extent_of e (length ss) ∷ [])
-strips_pushed ss e are k s at_s = ⊎_elim here before
+strips_pushed : (width : ℕ) (ss : List Extent) (e : CountedEdge) → AreInStrips width ss →
+    AreInStrips width (ss ++ extent_of e (length ss) ∷ [])
+strips_pushed width ss e are k s at_s = ⊎_elim here before
     (eq-or-lt_of_le (let l = length-append ss (extent_of e (length ss) ∷ []) in let lt = at_s.0 in
     let le : k ≤ length ss = omega (arith, l, lt) in le))
   where
-    here : k ≡ length ss → (s.first / 512 ≡ k / 512) × (s.last ≡ s.first)
+    here : k ≡ length ss → (s.first / width ≡ k / width) × (s.last ≡ s.first)
     here same =
         let is : extent_of e (length ss) ≡ s = sym (get_or_push ss (extent_of e (length ss)) s k (sym same)) ∙ at_s.1 in
-        subst (λ (t : Extent). (t.first / 512 ≡ k / 512) × (t.last ≡ t.first)) is (ap (λ n. n / 512) (sym same), refl)
+        subst (λ (t : Extent). (t.first / width ≡ k / width) × (t.last ≡ t.first)) is
+        (ap (λ n. n / width) (sym same), refl)
 
-    before : k < length ss → (s.first / 512 ≡ k / 512) × (s.last ≡ s.first)
+    before : k < length ss → (s.first / width ≡ k / width) × (s.last ≡ s.first)
     before less = are k s (less, sym (get_or-append ss (extent_of e (length ss) ∷ []) s k less) ∙ at_s.1)
 
 -- what stands in the second part of a list stands there further on
@@ -51,17 +59,17 @@ in_second xs ys k s past at_s =
     )
 
 -- with the second part, of one strip, in another order
-strips_moved : (xs ys zs : List Extent) → length xs % 512 ≡ 0 → length ys ≤ 512 → IsPermutation ys zs →
-    AreInStrips (xs ++ ys) → AreInStrips (xs ++ zs)
-strips_moved xs ys zs begun few moved are k s at_s = ⊎_elim before here (cases_lt k (length xs))
+strips_moved : (width : ℕ) (xs ys zs : List Extent) → 0 < width → length xs % width ≡ 0 → length ys ≤ width →
+    IsPermutation ys zs → AreInStrips width (xs ++ ys) → AreInStrips width (xs ++ zs)
+strips_moved width xs ys zs some begun few moved are k s at_s = ⊎_elim before here (cases_lt k (length xs))
   where
-    before : k < length xs → (s.first / 512 ≡ k / 512) × (s.last ≡ s.first)
+    before : k < length xs → (s.first / width ≡ k / width) × (s.last ≡ s.first)
     before less = are k s (
       (let l = length-append xs ys in omega (arith, l, less)),
       get_or-append xs ys s k less ∙ sym (get_or-append xs zs s k less) ∙ at_s.1,
     )
 
-    here : length xs ≤ k → (s.first / 512 ≡ k / 512) × (s.last ≡ s.first)
+    here : length xs ≤ k → (s.first / width ≡ k / width) × (s.last ≡ s.first)
     here past =
         let has = Contains-permutation zs ys s (IsPermutation-sym ys zs moved) (in_second xs zs k s past at_s) in
         let there : IsAt (xs ++ ys) (length xs + has.0) s = (
@@ -70,67 +78,130 @@ strips_moved xs ys zs begun few moved are k s at_s = ⊎_elim before here (cases
         ) in
         let found = are (length xs + has.0) s there in
         let l = length-append xs zs in let m = length_permutation ys zs moved in let lt = at_s.0 in
-        let one = same_block 512 (length xs) (length xs + has.0) (omega arith) begun (omega arith)
+        let one = same_block width (length xs) (length xs + has.0) some begun (omega arith)
         (let inside = has.1 in omega (arith, inside, few)) in
-        let two = same_block 512 (length xs) k (omega arith) begun past (omega (arith, l, m, lt, few)) in
+        let two = same_block width (length xs) k some begun past (omega (arith, l, m, lt, few)) in
         (found.0 ∙ one ∙ sym two, found.1)
 
+-- one more of a number
+suc_times : (n width : ℕ) → (n + 1) * width ≡ n * width + width
+suc_times n width = let product = add-mul n 1 width in omega (arith, product)
+
+-- ---- in the order of their heights
+
+module _ (width : ℕ) (some : 0 < width) where
+  -- a place before a multiple of the width is in an earlier strip than one from there on
+  earlier_strip : (j start k : ℕ) → start % width ≡ 0 → j < start → start ≤ k → j / width < k / width
+  earlier_strip j start k begun less past =
+      let whole : start / width * width ≡ start = (let all = div-add-mod' start width in omega (arith, all, begun)) in
+      let before : j / width < start / width = (div-lt_iff_lt-mul some).1 (omega (arith, whole, less)) in
+      let behind : start / width ≤ k / width = (le-div_iff_mul-le some).1 (omega (arith, whole, past)) in
+      omega (arith, before, behind)
+
+  -- behind finished strips one in the order of its heights
+  heights_closed : (xs zs : List Extent) → length xs % width ≡ 0 →
+      AllPairs (λ (s t : Extent). s.low ≤ℤ t.low) zs → AreByHeights width xs → AreByHeights width (xs ++ zs)
+  heights_closed xs zs begun up are j k s t le same at_s at_t =
+      ⊎_elim second (λ (past : length xs ≤ j). third past) (cases_lt j (length xs))
+    where
+      l : length (xs ++ zs) ≡ length xs + length zs
+      l = length-append xs zs
+
+      second : j < length xs → s.low ≤ℤ t.low
+      second less = ⊎_elim
+          (λ (inside : k < length xs). are j k s t le same
+          (less, sym (get_or-append xs zs s j less) ∙ at_s.1)
+          (inside, sym (get_or-append xs zs t k inside) ∙ at_t.1))
+          (λ (past : length xs ≤ k). let strict = earlier_strip j (length xs) k begun less past in
+          absurd (omega (arith, strict, same))) (cases_lt k (length xs))
+
+      behind : (n : ℕ) (u : Extent) → length xs ≤ n → IsAt (xs ++ zs) n u → IsAt zs (n - length xs) u
+      behind n u past at_u =
+          let from : length xs + (n - length xs) ≡ n = omega (arith, past) in (
+            (let lt = at_u.0 in omega (arith, l, lt, past)),
+            sym (get_or-append-add xs zs (n - length xs) u) ∙ ap (λ m. get_or (xs ++ zs) m u) from ∙ at_u.1,
+          )
+
+      third : length xs ≤ j → s.low ≤ℤ t.low
+      third past = ⊎_elim
+          (λ (is : j ≡ k). subst (λ (u : Extent). s.low ≤ℤ u.low)
+          (one_entry (xs ++ zs) k s t (subst (λ n. IsAt (xs ++ zs) n s) is at_s) at_t) (omega linear))
+          (λ (less : j < k).
+          let one = behind j s past at_s in let two = behind k t (omega (arith, past, less)) at_t in
+          subst (λ (u : Extent). u.low ≤ℤ t.low) one.1
+          (subst (λ (u : Extent). (get_or zs (j - length xs) s).low ≤ℤ u.low)
+          (get_or_default zs (k - length xs) s t two.0 ∙ two.1)
+          (up (j - length xs) (k - length xs) s (omega (arith, past, less)) two.0)))
+          (eq-or-lt_of_le le)
+
+-- ---- strip by strip
+
 -- the extents of edges: of finished strips, and of the strip so far
-pub record StripsSoFar (es : List CountedEdge) (xs ys : List Extent) : Type 0 where
+pub record StripsSoFar (width : ℕ) (es : List CountedEdge) (xs ys : List Extent) : Type 0 where
   pub permutation : IsPermutation (extents_of es) (xs ++ ys)
-  pub strips : AreInStrips (xs ++ ys)
+  pub strips : AreInStrips width (xs ++ ys)
+  pub heights : AreByHeights width xs
   pub count : length xs + length ys ≡ length es
-  pub begun : length xs % 512 ≡ 0
-  pub few : length ys ≤ 512
+  pub begun : length xs % width ≡ 0
+  pub few : length ys ≤ width
 
 -- at first there are none
-pub none_so_far : StripsSoFar [] [] []
-none_so_far = record {
+pub none_so_far : (width : ℕ) → 0 < width → StripsSoFar width [] [] []
+none_so_far width some = record {
   permutation = IsPermutation-refl [];
   strips = λ k s at_s. absurd (omega (arith, at_s.0));
+  heights = λ j k s t le same at_s. absurd (omega (arith, at_s.0));
   count = refl;
-  begun = refl;
+  begun = mod-eq_of_lt some;
   few = omega arith;
 }
 
-module _ (es : List CountedEdge) (xs ys : List Extent) (some : StripsSoFar es xs ys) where
+module _ (width : ℕ) (es : List CountedEdge) (xs ys : List Extent) (so_far : StripsSoFar width es xs ys) where
   -- one edge more
-  pub so_far_pushed : (e : CountedEdge) (place : ℕ) → place ≡ length es → length ys < 512 →
-      StripsSoFar (es ++ e ∷ []) xs (ys ++ extent_of e place ∷ [])
+  pub so_far_pushed : (e : CountedEdge) (place : ℕ) → place ≡ length es → length ys < width →
+      StripsSoFar width (es ++ e ∷ []) xs (ys ++ extent_of e place ∷ [])
   so_far_pushed e place is less =
       let joined = append_assoc xs ys (extent_of e place ∷ []) in
-      let count = some.count in
+      let count = so_far.count in
       let all : length (xs ++ ys) ≡ place = length-append xs ys ∙ count ∙ sym is in record {
         permutation = subst (λ zs. IsPermutation zs (xs ++ (ys ++ extent_of e place ∷ [])))
             (sym (extents_more es e ∙ ap (λ n. extents_of es ++ extent_of e n ∷ []) (sym is)))
             (subst (IsPermutation (extents_of es ++ extent_of e place ∷ [])) joined
-            (IsPermutation-append_left (extent_of e place ∷ []) (extents_of es) (xs ++ ys) some.permutation));
-        strips = subst AreInStrips joined
-            (subst (λ n. AreInStrips ((xs ++ ys) ++ extent_of e n ∷ [])) all (strips_pushed (xs ++ ys) e some.strips));
+            (IsPermutation-append_left (extent_of e place ∷ []) (extents_of es) (xs ++ ys) so_far.permutation));
+        strips = subst (AreInStrips width) joined
+            (subst (λ n. AreInStrips width ((xs ++ ys) ++ extent_of e n ∷ [])) all
+            (strips_pushed width (xs ++ ys) e so_far.strips));
+        heights = so_far.heights;
         count = (let l = length-append ys (extent_of e place ∷ []) in let m = length-append es (e ∷ []) in
             omega (arith, l, m, count));
-        begun = some.begun;
+        begun = so_far.begun;
         few = (let l = length-append ys (extent_of e place ∷ []) in omega (arith, l, less));
       }
 
-  module _ (zs : List Extent) (moved : IsPermutation ys zs) where
-    -- the strip so far in another order
-    pub all_in_strips : AreInStrips (xs ++ zs)
-    all_in_strips = strips_moved xs ys zs some.begun some.few moved some.strips
+  module _ (some : 0 < width) (zs : List Extent) (moved : IsPermutation ys zs)
+      (up : AllPairs (λ (s t : Extent). s.low ≤ℤ t.low) zs) where
+    -- the strip so far in the order of its heights
+    pub all_in_strips : AreInStrips width (xs ++ zs)
+    all_in_strips = strips_moved width xs ys zs some so_far.begun so_far.few moved so_far.strips
+
+    pub all_by_heights : AreByHeights width (xs ++ zs)
+    all_by_heights = heights_closed width some xs zs so_far.begun up so_far.heights
 
     pub all_there : IsPermutation (extents_of es) (xs ++ zs)
-    all_there = IsPermutation-trans (extents_of es) (xs ++ ys) (xs ++ zs) some.permutation
+    all_there = IsPermutation-trans (extents_of es) (xs ++ ys) (xs ++ zs) so_far.permutation
         (IsPermutation-append_right xs ys zs moved)
 
     -- it is finished where it is full
-    pub so_far_closed : length ys ≡ 512 → StripsSoFar es (xs ++ zs) []
+    pub so_far_closed : length ys ≡ width → StripsSoFar width es (xs ++ zs) []
     so_far_closed full =
         let l = length-append xs zs in let m = length_permutation ys zs moved in
-        let count = some.count in let begun = some.begun in record {
+        let count = so_far.count in
+        let longer : length (xs ++ zs) ≡ length xs + width = omega (arith, l, m, full) in record {
           permutation = subst (IsPermutation (extents_of es)) (sym (append-nil (xs ++ zs))) all_there;
-          strips = subst AreInStrips (sym (append-nil (xs ++ zs))) all_in_strips;
+          strips = subst (AreInStrips width) (sym (append-nil (xs ++ zs))) all_in_strips;
+          heights = all_by_heights;
           count = omega (arith, l, m, count);
-          begun = omega (arith, l, m, begun, full);
+          begun = ap (λ n. n % width) longer ∙ add-mod_right (length xs) width ∙ so_far.begun;
           few = omega arith;
         }
 
@@ -144,25 +215,55 @@ as_many es ss moved =
 
 -- ---- searching
 
-module _ (ss : List Extent) (of : Extent) (are : AreInStrips ss) where
-  -- what stands before the first strip lies apart
-  pub strips_before_apart : AreApartFrom ss of 0 (of.first / 512 * 512)
-  strips_before_apart k s past less at_s =
-      let strip = (are k s at_s).0 in
-      let one = (are k s at_s).1 in
-      let whole = div-add-mod k 512 in let whole_s = div-add-mod s.first 512 in
-      let whole_of = div-add-mod of.first 512 in
-      let rest_s = mod-lt s.first {m = 512} (omega arith) in
-      inr (inr (inr (omega (arith, strip, one, whole, whole_s, whole_of, rest_s, less))))
+module _ (width : ℕ) (some : 0 < width) where
+  -- the strip of an earlier place begins no later
+  pub strips_in_order : (at to : ℕ) → at ≤ to → at / width * width ≤ to / width * width
+  strips_in_order at to le =
+      let begins = div-mul-le_self at width in
+      mul-le-mul_right width ((le-div_iff_mul-le some).1 (let fits : at / width * width ≤ to = omega (arith, begins, le)
+      in fits))
 
-  -- and what stands behind the last one
-  pub strips_behind_apart : (stop : ℕ) → (stop ≡ length ss) ⊎ (stop ≡ of.last / 512 * 512 + 512) →
-      AreApartFrom ss of stop (length ss)
-  strips_behind_apart stop ends k s past less at_s = ⊎_elim
-      (λ (all : stop ≡ length ss). absurd (omega (arith, all, past, less)))
-      (λ (next : stop ≡ of.last / 512 * 512 + 512).
-      let strip = (are k s at_s).0 in
-      let whole = div-add-mod k 512 in let whole_s = div-add-mod s.first 512 in
-      let whole_of = div-add-mod of.last 512 in
-      let rest = mod-lt k {m = 512} (omega arith) in let rest_of = mod-lt of.last {m = 512} (omega arith) in
-      inr (inr (inl (omega (arith, strip, whole, whole_s, whole_of, rest, rest_of, next, past))))) ends
+module _ (width : ℕ) (some : 0 < width) (ss : List Extent) (of : Extent) where
+  module _ (are : AreInStrips width ss) where
+    -- what stands before the first strip lies apart
+    pub strips_before_apart : AreApartFrom ss of 0 (of.first / width * width)
+    strips_before_apart k s past less at_s =
+        let strip = (are k s at_s).0 in
+        let one = (are k s at_s).1 in
+        let before : k / width < of.first / width = (div-lt_iff_lt-mul some).1 less in
+        let first : s.first < of.first / width * width =
+        (div-lt_iff_lt-mul some).0 (let lt : s.first / width < of.first / width = omega (arith, strip, before) in lt) in
+        let whole = div-add-mod' of.first width in
+        inr (inr (inr (omega (arith, one, first, whole))))
+
+    -- and what stands behind the last one
+    pub strips_behind_apart : (stop : ℕ) → (stop ≡ length ss) ⊎ (stop ≡ of.last / width * width + width) →
+        AreApartFrom ss of stop (length ss)
+    strips_behind_apart stop ends k s past less at_s = ⊎_elim
+        (λ (all : stop ≡ length ss). absurd (omega (arith, all, past, less)))
+        (λ (next : stop ≡ of.last / width * width + width).
+        let strip = (are k s at_s).0 in
+        let whole_of = div-add-mod' of.last width in
+        let rest_of = mod-lt of.last some in
+        ⊎_elim (λ (behind : of.last < s.first). inr (inr (inl behind)))
+        (λ (before : s.first ≤ of.last).
+        let less_first : s.first < (of.last / width + 1) * width =
+        (let product = suc_times (of.last / width) width in omega (arith, before, whole_of, rest_of, product)) in
+        let low : s.first / width < of.last / width + 1 = (div-lt_iff_lt-mul some).1 less_first in
+        let k_low : k < (of.last / width + 1) * width = (div-lt_iff_lt-mul some).0
+        (let lt : k / width < of.last / width + 1 = omega (arith, strip, low) in lt) in
+        let product = suc_times (of.last / width) width in
+        absurd (omega (arith, k_low, product, next, past))) (cases_lt of.last s.first)) ends
+
+  module _ (are : AreByHeights width ss) where
+    -- where the extent at a place lies above, so do those after it in its strip
+    pub rest_above_apart : (at : ℕ) (s : Extent) → IsAt ss at s → of.high <ℤ s.low →
+        AreApartFrom ss of at (at + (width - at % width))
+    rest_above_apart at s at_s above k t past less at_t =
+        let whole = div-add-mod' at width in
+        let rest = mod-lt at some in
+        let product = suc_times (at / width) width in
+        let same : k / width ≡ at / width = div-eq_of_lt-le {k = at / width} width {m = k}
+        (omega (arith, whole, past)) (omega (arith, whole, rest, less, product)) in
+        let low = are at k s t past (sym same) at_s at_t in
+        inl (omega (linear, above, low))

@@ -54,18 +54,27 @@ AreBlocks n ss blocks = (k : ℕ) (s d : Extent) → IsAt ss k s →
     (k / n < length blocks) × Encloses (slice_index_or blocks (k / n) d) s
 
 -- the extents are enclosed by those of their blocks
-pub record AreInBlocks (ss of_16 of_256 of_4096 of_65536 : List Extent) : Type 0 where
-  pub by_16 : AreBlocks 16 ss of_16
-  pub by_256 : AreBlocks 256 ss of_256
+pub record AreInBlocks (ss of_8 of_64 of_512 of_4096 of_32768 : List Extent) : Type 0 where
+  pub by_8 : AreBlocks 8 ss of_8
+  pub by_64 : AreBlocks 64 ss of_64
+  pub by_512 : AreBlocks 512 ss of_512
   pub by_4096 : AreBlocks 4096 ss of_4096
-  pub by_65536 : AreBlocks 65536 ss of_65536
+  pub by_32768 : AreBlocks 32768 ss of_32768
 
--- each extent is that of an edge, and stands in the strip of 512 in which its edge does
-abbrev pub AreInStrips : List Extent → Type 0
-AreInStrips ss = (k : ℕ) (s : Extent) → IsAt ss k s → (s.first / 512 ≡ k / 512) × (s.last ≡ s.first)
+-- each extent is that of an edge, and stands in the strip, of so many, in which its edge does
+abbrev pub AreInStrips : ℕ → List Extent → Type 0
+AreInStrips width ss = (k : ℕ) (s : Extent) → IsAt ss k s → (s.first / width ≡ k / width) × (s.last ≡ s.first)
 
--- they are those of the edges, strip by strip
-pub record AreStripsOf (es : List CountedEdge) (ss of_16 of_256 of_4096 of_65536 : List Extent) : Type 0 where
+-- the extents of each strip, of so many, stand by their least heights
+abbrev pub AreByHeights : ℕ → List Extent → Type 0
+AreByHeights width ss = (j k : ℕ) (s t : Extent) → j ≤ k → j / width ≡ k / width → IsAt ss j s → IsAt ss k t →
+    s.low ≤ℤ t.low
+
+-- they are those of the edges, strip by strip, of so many each
+pub record AreStripsOf (es : List CountedEdge) (width : ℕ) (ss of_8 of_64 of_512 of_4096 of_32768 : List Extent) :
+    Type 0 where
+  pub some : 0 < width
   pub permutation : IsPermutation (extents_of es) ss
-  pub strips : AreInStrips ss
-  pub blocks : AreInBlocks ss of_16 of_256 of_4096 of_65536
+  pub strips : AreInStrips width ss
+  pub heights : AreByHeights width ss
+  pub blocks : AreInBlocks ss of_8 of_64 of_512 of_4096 of_32768

@@ -57,6 +57,13 @@ pub(crate) fn is_apart<I: IntNumber>(s: Extent<I>, t: Extent<I>) -> bool
     is_less(s.high, t.low) || is_less(t.high, s.low) || s.last < t.first || t.last < s.first
 }
 
+/// Whether the heights of the one lie wholly below those of the other one.
+pub(crate) fn is_under<I: IntNumber>(s: Extent<I>, t: Extent<I>) -> bool
+    ensures { result ≡ int_lt (I.whole s.high) (I.whole t.low) }
+{
+    is_less(s.high, t.low)
+}
+
 /// The lesser and the greater one of two numbers.
 fn ordered<I: IntNumber>(y: I, z: I) -> (I, I)
     ensures low { I.whole result.0 ≡ cond (int_lt (I.whole y) (I.whole z)) (I.whole y) (I.whole z) }

@@ -38,10 +38,10 @@ pub(crate) fn gather<I: IntNumber, C: EdgeCount, A: Allocator + Clone>(
 ) -> Result<Vec<Meeting<I>, A>, OverlayError>
     requires held { All (IsHeld I.limit) (plain_edges I.whole C.counts edges.now) }
     requires ascending { IsAscending (plain_edges I.whole C.counts edges.now) }
-    requires strips { AreStripsOf (plain_edges I.whole C.counts edges.now)
-        (plain_extents I.whole strips.now.edges.items) (plain_extents I.whole strips.now.of_16.items)
-        (plain_extents I.whole strips.now.of_256.items) (plain_extents I.whole strips.now.of_4096.items)
-        (plain_extents I.whole strips.now.of_65536.items) }
+    requires strips { AreStripsOf (plain_edges I.whole C.counts edges.now) strips.now.width
+        (plain_extents I.whole strips.now.edges.items) (plain_extents I.whole strips.now.of_8.items)
+        (plain_extents I.whole strips.now.of_64.items) (plain_extents I.whole strips.now.of_512.items)
+        (plain_extents I.whole strips.now.of_4096.items) (plain_extents I.whole strips.now.of_32768.items) }
     requires settled { AreSettledBefore (plain_edges I.whole C.counts edges.now) from }
     ensures ok { IfOk result (λ meetings. AreMeetings
         (plain_edges I.whole C.counts edges.now) (plain_meetings I.whole meetings.items)) }

@@ -2,15 +2,15 @@
 
 ghost use Rattle.std.specs.Prelude.{◌≡◌, ◌⊎◌, ◌+◌, ◌≤◌, ◌<◌, ◌/◌, [], All, length, IsTrue, OnOk, IsOkUnless};
 ghost use Rattle.overlay_arrange.specs.Content.{plain_edge, plain_edges, IsAscending, IsHeld};
-ghost use Rattle.overlay_arrange.specs.Extents.{plain_extent, plain_extents, AreInBlocks, AreInStrips};
-ghost use Rattle.overlay_arrange.specs.Extents.{AreStripsOf};
+ghost use Rattle.overlay_arrange.specs.Extents.{plain_extent, plain_extents, AreByHeights, AreInBlocks};
+ghost use Rattle.overlay_arrange.specs.Extents.{AreInStrips, AreStripsOf};
 ghost use Rattle.overlay_arrange.specs.Near.{run_of, AreApartFrom, AreBetween, AreNear, BeginsApart, IsSearchedTo};
 
 use crate::count::EdgeCount;
 use crate::edge::CountedEdge;
-use crate::extents::{Extent, extent_of, is_apart};
+use crate::extents::{Extent, extent_of, is_apart, is_under};
 use crate::spans::run_end;
-use crate::strips::{STRIP, Strips};
+use crate::strips::Strips;
 use overlay_geom::error::OverlayError;
 use overlay_geom::number::IntNumber;
 use std::alloc::Allocator;
@@ -18,7 +18,7 @@ use std::alloc::Allocator;
 // A run of so few edges is taken whole.
 const FEW: usize = 8;
 // So many extents are looked through at a time.
-const BLOCK: usize = 16;
+const BLOCK: usize = 8;
 
 /// Finds the places of the later edges that the edge at place i may meet: all of its run, or those of it that do not
 /// lie at heights apart from its own. The edges ascend.
@@ -30,10 +30,10 @@ pub(crate) fn find_near<I: IntNumber, C: EdgeCount, A: Allocator>(
 ) -> Result<(), OverlayError>
     requires held { All (IsHeld I.limit) (plain_edges I.whole C.counts edges.now) }
     requires ascending { IsAscending (plain_edges I.whole C.counts edges.now) }
-    requires strips { AreStripsOf (plain_edges I.whole C.counts edges.now)
-        (plain_extents I.whole strips.now.edges.items) (plain_extents I.whole strips.now.of_16.items)
-        (plain_extents I.whole strips.now.of_256.items) (plain_extents I.whole strips.now.of_4096.items)
-        (plain_extents I.whole strips.now.of_65536.items) }
+    requires strips { AreStripsOf (plain_edges I.whole C.counts edges.now) strips.now.width
+        (plain_extents I.whole strips.now.edges.items) (plain_extents I.whole strips.now.of_8.items)
+        (plain_extents I.whole strips.now.of_64.items) (plain_extents I.whole strips.now.of_512.items)
+        (plain_extents I.whole strips.now.of_4096.items) (plain_extents I.whole strips.now.of_32768.items) }
     requires within { i < length edges.now }
     ensures ok { OnOk result (AreNear (plain_edges I.whole C.counts edges.now) i near.new.items) }
     ensures err { IsOkUnless result OverlayError.Memory }
@@ -72,18 +72,21 @@ fn find_by_blocks<I: IntNumber, A: Allocator>(
 ) -> Result<(), OverlayError>
     requires ordered { of.first ≤ of.last }
     requires within { of.last < length strips.now.edges.items }
-    requires strips { AreInStrips (plain_extents I.whole strips.now.edges.items) }
+    requires some { 0 < strips.now.width }
+    requires strips { AreInStrips strips.now.width (plain_extents I.whole strips.now.edges.items) }
+    requires heights { AreByHeights strips.now.width (plain_extents I.whole strips.now.edges.items) }
     requires blocks { AreInBlocks
-        (plain_extents I.whole strips.now.edges.items) (plain_extents I.whole strips.now.of_16.items)
-        (plain_extents I.whole strips.now.of_256.items) (plain_extents I.whole strips.now.of_4096.items)
-        (plain_extents I.whole strips.now.of_65536.items) }
+        (plain_extents I.whole strips.now.edges.items) (plain_extents I.whole strips.now.of_8.items)
+        (plain_extents I.whole strips.now.of_64.items) (plain_extents I.whole strips.now.of_512.items)
+        (plain_extents I.whole strips.now.of_4096.items) (plain_extents I.whole strips.now.of_32768.items) }
     requires empty { near.old.items ≡ [] }
     ensures ok { OnOk result (IsSearchedTo (plain_extents I.whole strips.now.edges.items) (plain_extent I.whole of)
         (length strips.now.edges.items) near.new.items) }
     ensures err { IsOkUnless result OverlayError.Memory }
 {
-    let mut at = of.first / STRIP * STRIP;
-    let stop = on_by(of.last / STRIP * STRIP, STRIP, strips.edges.len());
+    let width = strips.width;
+    let mut at = of.first / width * width;
+    let stop = on_by(of.last / width * width, width, strips.edges.len());
     while at < stop {
         let next = on_by(at, count_passed(strips, of, at), stop);
         if at < next {
@@ -109,28 +112,35 @@ fn on_by(at: usize, count: usize, last: usize) -> usize
     if last - at < count { last } else { at + count }
 }
 
-/// Of so many extents, from the one at a place on, a block tells that they lie apart from another one.
+/// Of so many extents, from the one at a place on, a block tells that they lie apart from another one, or their order:
+/// where the first one lies above, so do the others of its strip.
 fn count_passed<I: IntNumber, A: Allocator>(
     strips: &Strips<I, A>,
     of: Extent<I>,
     at: usize,
 ) -> usize
-    requires strips { AreInBlocks
-        (plain_extents I.whole strips.now.edges.items) (plain_extents I.whole strips.now.of_16.items)
-        (plain_extents I.whole strips.now.of_256.items) (plain_extents I.whole strips.now.of_4096.items)
-        (plain_extents I.whole strips.now.of_65536.items) }
+    requires some { 0 < strips.now.width }
+    requires heights { AreByHeights strips.now.width (plain_extents I.whole strips.now.edges.items) }
+    requires blocks { AreInBlocks
+        (plain_extents I.whole strips.now.edges.items) (plain_extents I.whole strips.now.of_8.items)
+        (plain_extents I.whole strips.now.of_64.items) (plain_extents I.whole strips.now.of_512.items)
+        (plain_extents I.whole strips.now.of_4096.items) (plain_extents I.whole strips.now.of_32768.items) }
     requires within { at < length strips.now.edges.items }
     ensures { AreApartFrom (plain_extents I.whole strips.now.edges.items) (plain_extent I.whole of)
         at (at + result) }
 {
-    if begins_apart(&strips.of_65536, 65536, of, at) {
-        65536
+    if begins_apart(&strips.of_32768, 32768, of, at) {
+        32768
     } else if begins_apart(&strips.of_4096, 4096, of, at) {
         4096
-    } else if begins_apart(&strips.of_256, 256, of, at) {
-        256
-    } else if begins_apart(&strips.of_16, 16, of, at) {
-        16
+    } else if begins_apart(&strips.of_512, 512, of, at) {
+        512
+    } else if is_under(of, strips.edges[at]) {
+        strips.width - at % strips.width
+    } else if begins_apart(&strips.of_64, 64, of, at) {
+        64
+    } else if begins_apart(&strips.of_8, 8, of, at) {
+        8
     } else {
         0
     }

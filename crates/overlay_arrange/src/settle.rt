@@ -46,10 +46,10 @@ pub(crate) fn count_settled<I: IntNumber, C: EdgeCount, A: Allocator>(
 ) -> Result<usize, OverlayError>
     requires held { All (IsHeld I.limit) (plain_edges I.whole C.counts edges.now) }
     requires ascending { IsAscending (plain_edges I.whole C.counts edges.now) }
-    requires strips { AreStripsOf (plain_edges I.whole C.counts edges.now)
-        (plain_extents I.whole strips.now.edges.items) (plain_extents I.whole strips.now.of_16.items)
-        (plain_extents I.whole strips.now.of_256.items) (plain_extents I.whole strips.now.of_4096.items)
-        (plain_extents I.whole strips.now.of_65536.items) }
+    requires strips { AreStripsOf (plain_edges I.whole C.counts edges.now) strips.now.width
+        (plain_extents I.whole strips.now.edges.items) (plain_extents I.whole strips.now.of_8.items)
+        (plain_extents I.whole strips.now.of_64.items) (plain_extents I.whole strips.now.of_512.items)
+        (plain_extents I.whole strips.now.of_4096.items) (plain_extents I.whole strips.now.of_32768.items) }
     ensures ok { IfOk result (λ count. AreSettledBefore (plain_edges I.whole C.counts edges.now) count) }
     ensures most { IfOk result (λ count. count < length edges.now
         → ¬ (AreSettledUpTo (plain_edges I.whole C.counts edges.now) count (length edges.now))) }

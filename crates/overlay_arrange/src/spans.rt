@@ -1,12 +1,15 @@
 //! Where the edges begin that start right of another one's end.
 
-ghost use Rattle.std.specs.Prelude.{◌<◌, All, length};
+ghost use Rattle.std.specs.Prelude.{◌<◌, ◌≤◌, ◌<ℤ◌, All, length};
 ghost use Rattle.overlay_arrange.specs.Content.{plain_edges, IsAscending, IsHeld};
-ghost use Rattle.overlay_arrange.specs.Meetings.{IsRunEnd};
+ghost use Rattle.overlay_arrange.specs.Meetings.{IsAt, IsRunEnd};
 
 use crate::count::EdgeCount;
 use crate::edge::CountedEdge;
 use overlay_geom::number::IntNumber;
+
+// So far behind an edge the end of its run is looked for first.
+const FIRST: usize = 16;
 
 /// The place of the first edge that starts right of the end of the edge at place i, or how many edges there are.
 /// They ascend.
@@ -16,6 +19,33 @@ pub(crate) fn run_end<I: IntNumber, C: EdgeCount>(edges: &[CountedEdge<I, C>], i
     requires within { i < length edges.now }
     ensures { IsRunEnd (plain_edges I.whole C.counts edges.now) i result }
 {
-    let end = edges[i].b.x;
-    edges.partition_point(|f| !end.compare(f.a.x).is_lt())
+    let x = edges[i].b.x;
+    let from = i + 1;
+    let to = place_right_of(edges, from, x);
+    from + edges[from..to].partition_point(|f| !x.compare(f.a.x).is_lt())
+}
+
+/// A place from the given one on where an edge starts right of x, or how many edges there are. Each step from place to
+/// place is twice as long as the one before, so it is not far behind the first such place.
+fn place_right_of<I: IntNumber, C: EdgeCount>(
+    edges: &[CountedEdge<I, C>],
+    from: usize,
+    x: I,
+) -> usize
+    requires { from ≤ length edges.now }
+    ensures ordered { from ≤ result }
+    ensures within { result ≤ length edges.now }
+    ensures right { (f : _) → IsAt (plain_edges I.whole C.counts edges.now) result f
+        → I.whole x <ℤ f.a.x }
+{
+    let mut at = from;
+    let mut step: usize = FIRST;
+    while at < edges.len() {
+        if x.compare(edges[at].a.x).is_lt() {
+            return at;
+        }
+        at = at.saturating_add(step);
+        step = step.saturating_add(step);
+    }
+    edges.len()
 }

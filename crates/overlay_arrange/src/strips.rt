@@ -1,37 +1,47 @@
 //! The extents of the edges of a list in strips of neighbours, and of blocks of them.
 
-ghost use Rattle.std.specs.Prelude.{◌≡◌, List, [], ◌++◌, IfOk, OnOk, IsOkUnless};
+ghost use Rattle.std.specs.Prelude.{◌≡◌, ◌<◌, ◌≤ℤ◌, List, [], ◌++◌, All, AllPairs, IfOk, OnOk, IsOkUnless};
 ghost use Rattle.std.specs.List.Sorted.{IsPermutation};
-ghost use Rattle.overlay_arrange.specs.Content.{plain_edges};
-ghost use Rattle.overlay_arrange.specs.Extents.{extents_of, plain_extents, AreBlocks, AreInStrips, AreStripsOf};
+ghost use Rattle.overlay_arrange.specs.Content.{plain_edges, IsAscending, IsHeld};
+ghost use Rattle.overlay_arrange.specs.Extents.{extents_of, plain_extents, AreBlocks, AreByHeights};
+ghost use Rattle.overlay_arrange.specs.Extents.{AreInStrips, AreStripsOf};
 ghost use Rattle.overlay_arrange.specs.declared.extents.Extent.{Extent};
 
 use crate::count::EdgeCount;
 use crate::edge::CountedEdge;
 use crate::extents::{Extent, extent_of, joined};
+use crate::spans::run_end;
 use overlay_geom::error::OverlayError;
 use overlay_geom::number::IntNumber;
 use std::alloc::Allocator;
 
-// So many neighbours are a strip.
-pub(crate) const STRIP: usize = 512;
-// So many extents are a block.
-const BLOCK: usize = 16;
+// A strip is of so many neighbours at least, and at most.
+const LEAST: usize = 64;
 
-/// The extents of the edges of a list, strip by strip, and those of the 16, 256, 4096 and 65536 that begin at each
+const MOST: usize = 65536;
+// So many edges are asked how long their runs are.
+const SAMPLES: usize = 64;
+// So many extents are a block.
+const BLOCK: usize = 8;
+
+/// The extents of the edges of a list, strip by strip, and those of the 8, 64, 512, 4096 and 32768 that begin at each
 /// multiple of this number. In a strip they stand by their least heights, so those of a block lie near one another.
 #[derive(Drop)]
 pub(crate) struct Strips<I: Copy, A: Allocator> {
+    /// So many neighbours are a strip.
+    pub width: usize,
     /// Those of the edges.
     pub edges: Vec<Extent<I>, A>,
-    /// Those of each 16 edges.
-    pub of_16: Vec<Extent<I>, A>,
-    /// Those of each 256 edges.
-    pub of_256: Vec<Extent<I>, A>,
+    /// Those of each 8 edges.
+    pub of_8: Vec<Extent<I>, A>,
+    /// Those of each 64 edges.
+    pub of_64: Vec<Extent<I>, A>,
+    /// Those of each 512 edges.
+    pub of_512: Vec<Extent<I>, A>,
     /// Those of each 4096 edges.
     pub of_4096: Vec<Extent<I>, A>,
-    /// Those of each 65536 edges.
-    pub of_65536: Vec<Extent<I>, A>,
+    /// Those of each 32768 edges.
+    pub of_32768: Vec<Extent<I>, A>,
 }
 
 /// The strips of the edges. The only refusal is `Memory`.
@@ -39,41 +49,78 @@ pub(crate) fn strips_of<I: IntNumber, C: EdgeCount, A: Allocator + Clone>(
     alloc: A,
     edges: &[CountedEdge<I, C>],
 ) -> Result<Strips<I, A>, OverlayError>
-    ensures ok { IfOk result (λ strips. AreStripsOf (plain_edges I.whole C.counts edges.now)
-        (plain_extents I.whole strips.edges.items) (plain_extents I.whole strips.of_16.items)
-        (plain_extents I.whole strips.of_256.items) (plain_extents I.whole strips.of_4096.items)
-        (plain_extents I.whole strips.of_65536.items)) }
+    requires held { All (IsHeld I.limit) (plain_edges I.whole C.counts edges.now) }
+    requires ascending { IsAscending (plain_edges I.whole C.counts edges.now) }
+    ensures ok { IfOk result (λ strips. AreStripsOf (plain_edges I.whole C.counts edges.now) strips.width
+        (plain_extents I.whole strips.edges.items) (plain_extents I.whole strips.of_8.items)
+        (plain_extents I.whole strips.of_64.items) (plain_extents I.whole strips.of_512.items)
+        (plain_extents I.whole strips.of_4096.items) (plain_extents I.whole strips.of_32768.items)) }
     ensures err { IsOkUnless result OverlayError.Memory }
 {
-    let extents = extents_by_strips(alloc.clone()?, edges)?;
-    let of_16 = extents_of_blocks(alloc.clone()?, &extents)?;
-    let of_256 = extents_of_blocks(alloc.clone()?, &of_16)?;
-    let of_4096 = extents_of_blocks(alloc.clone()?, &of_256)?;
-    let of_65536 = extents_of_blocks(alloc, &of_4096)?;
+    let width = strip_width(length_of_runs(edges));
+    let extents = extents_by_strips(alloc.clone()?, edges, width)?;
+    let of_8 = extents_of_blocks(alloc.clone()?, &extents)?;
+    let of_64 = extents_of_blocks(alloc.clone()?, &of_8)?;
+    let of_512 = extents_of_blocks(alloc.clone()?, &of_64)?;
+    let of_4096 = extents_of_blocks(alloc.clone()?, &of_512)?;
+    let of_32768 = extents_of_blocks(alloc, &of_4096)?;
     Ok(Strips {
+        width,
         edges: extents,
-        of_16,
-        of_256,
+        of_8,
+        of_64,
+        of_512,
         of_4096,
-        of_65536,
+        of_32768,
     })
+}
+
+/// How many neighbours are to be a strip: the more, the longer the runs of the edges are. A search goes through each
+/// strip of an edge's run, and in it past those at other heights.
+fn strip_width(runs: usize) -> usize
+    ensures { 0 < result }
+{
+    let mut width = LEAST;
+    while width < MOST && width * width / 4 < runs {
+        width *= 2;
+    }
+    width
+}
+
+/// How long the runs of so many edges are together, at equal distances. It is no more than a guess at all of them.
+fn length_of_runs<I: IntNumber, C: EdgeCount>(edges: &[CountedEdge<I, C>]) -> usize
+    requires held { All (IsHeld I.limit) (plain_edges I.whole C.counts edges.now) }
+    requires ascending { IsAscending (plain_edges I.whole C.counts edges.now) }
+{
+    let distance = edges.len() / SAMPLES + 1;
+    let mut length: usize = 0;
+    for k in 0..SAMPLES {
+        let i = k.saturating_mul(distance);
+        if i < edges.len() {
+            length = length.saturating_add(run_end(edges, i) - i);
+        }
+    }
+    length
 }
 
 /// The extents of the edges, strip by strip, and in each strip by their least heights.
 fn extents_by_strips<I: IntNumber, C: EdgeCount, A: Allocator + Clone>(
     alloc: A,
     edges: &[CountedEdge<I, C>],
+    width: usize,
 ) -> Result<Vec<Extent<I>, A>, OverlayError>
+    requires some { 0 < width }
     ensures permutation { IfOk result (λ extents. IsPermutation
         (extents_of (plain_edges I.whole C.counts edges.now)) (plain_extents I.whole extents.items)) }
-    ensures strips { IfOk result (λ extents. AreInStrips (plain_extents I.whole extents.items)) }
+    ensures strips { IfOk result (λ extents. AreInStrips width (plain_extents I.whole extents.items)) }
+    ensures heights { IfOk result (λ extents. AreByHeights width (plain_extents I.whole extents.items)) }
     ensures err { IsOkUnless result OverlayError.Memory }
 {
     let mut extents = Vec::with_capacity(alloc.clone()?, edges.len())?;
-    let mut strip = Vec::with_capacity(alloc, STRIP.min(edges.len()))?;
+    let mut strip = Vec::with_capacity(alloc, width.min(edges.len()))?;
     for (place, e) in edges.iter().enumerate() {
         strip.push(extent_of(e, place))?;
-        if strip.len() == STRIP {
+        if strip.len() == width {
             close_strip(&mut extents, &mut strip)?;
         }
     }
@@ -87,6 +134,7 @@ fn close_strip<I: IntNumber, A: Allocator>(
     strip: &mut Vec<Extent<I>, A>,
 ) -> Result<(), OverlayError>
     ensures ok { OnOk result ((sorted : List (Extent I)) × IsPermutation strip.old.items sorted
+        × AllPairs (λ s t. I.whole s.low ≤ℤ I.whole t.low) sorted
         × (extents.new.items ≡ extents.old.items ++ sorted)) }
     ensures emptied { OnOk result (strip.new.items ≡ []) }
     ensures err { IsOkUnless result OverlayError.Memory }
@@ -102,7 +150,7 @@ fn extents_of_blocks<I: IntNumber, A: Allocator>(
     extents: &[Extent<I>],
 ) -> Result<Vec<Extent<I>, A>, OverlayError>
     ensures ok { IfOk result (λ blocks.
-        AreBlocks 16 (plain_extents I.whole extents.now) (plain_extents I.whole blocks.items)) }
+        AreBlocks 8 (plain_extents I.whole extents.now) (plain_extents I.whole blocks.items)) }
     ensures err { IsOkUnless result OverlayError.Memory }
 {
     let mut blocks = Vec::new(alloc);

@@ -8,6 +8,6 @@ use Rattle.overlay_arrange.proofs.strips.extents_by_strips.Given as goal
 abbrev pub invariant-loop-place : goal.invariant-loop-place
 invariant-loop-place g l =
     let whole = g.I.IntNumber.whole in
-    StripsSoFar (plain_edges whole g.C.EdgeCount.counts (take l.place l.edges)) (plain_extents whole l.extents.items)
-    (plain_extents whole l.strip.items)
-    × (length l.strip.items < 512)
+    StripsSoFar l.width (plain_edges whole g.C.EdgeCount.counts (take l.place l.edges))
+    (plain_extents whole l.extents.items) (plain_extents whole l.strip.items)
+    × (length l.strip.items < l.width)

@@ -24,14 +24,14 @@ loop-i-preserved g c =
           ∙ map-append plain old (c.index-extents-i.result ∷ [])))
           (block_begun ss (plain_extents g.I.IntNumber.whole old) i c.loop-i.invariant s at_s (omega arith))
       | else-i-eq0 w ↦
-          let goes_on : ¬ (i % 16 ≡ 0) = λ zero. absurd (omega (arith, zero)) in
+          let goes_on : ¬ (i % 8 ≡ 0) = λ zero. absurd (omega (arith, zero)) in
           let inside = last_block ss (plain_extents g.I.IntNumber.whole old) i c.loop-i.invariant s at_s goes_on in
           let l = length-map old plain in
           block_grown ss (plain_extents g.I.IntNumber.whole old) i c.loop-i.invariant s at_s (plain w.index.result.now)
           (plain w.joined.result)
           (plain_extents g.I.IntNumber.whole c.if-i-eq0.blocks.items) goes_on
-          (ap (λ v. plain_extents g.I.IntNumber.whole v.items) w.blocks-is ∙ map-set plain old (i / 16) w.joined.result)
-          (sym (read_mapped plain old (i / 16) w.index.result.now (plain w.index.result.now) (omega (arith, inside, l))
+          (ap (λ v. plain_extents g.I.IntNumber.whole v.items) w.blocks-is ∙ map-set plain old (i / 8) w.joined.result)
+          (sym (read_mapped plain old (i / 8) w.index.result.now (plain w.index.result.now) (omega (arith, inside, l))
           w.index.ensures))
           w.joined.ensures.first w.joined.ensures.second
     ]

@@ -1,8 +1,6 @@
 -- The lists of blocks belong together.
-use Rattle.std.proofs.Common.{List, subst}
-use Rattle.std.specs.List.Sorted.{IsPermutation}
-use Rattle.std.proofs.lemmas.List.Sorted.{IsPermutation-map}
-use Rattle.overlay_arrange.specs.Extents.{Extent, plain_extent, plain_extents, AreBlocks}
+use Rattle.std.proofs.Common.{subst}
+use Rattle.overlay_arrange.specs.Extents.{plain_extents, AreBlocks}
 use Rattle.overlay_arrange.proofs.ExtentBlocks.{blocks_of_blocks}
 use Rattle.overlay_arrange.proofs.strips.strips_of.Goals as goal
 
@@ -11,19 +9,24 @@ returns-clause-ok g c =
     let whole = g.I.IntNumber.whole in
     let plain = plain_extents whole in
     let sorted = c.in_ok-extents.extents.items in
-    let of_16 = plain c.in_ok-of_16.of_16.items in
-    let of_256 = plain c.in_ok-of_256.of_256.items in
+    let of_8 = plain c.in_ok-of_8.of_8.items in
+    let of_64 = plain c.in_ok-of_64.of_64.items in
+    let of_512 = plain c.in_ok-of_512.of_512.items in
     let of_4096 = plain c.in_ok-of_4096.of_4096.items in
-    let of_65536 = plain c.in_ok-of_65536.of_65536.items in
-    let by_16 = subst (λ ss. AreBlocks 16 (plain ss) of_16) c.deref.ensures.value c.in_ok-of_16.ensures.ok in
-    let by_256 = blocks_of_blocks 16 16 (plain sorted) of_16 of_256 by_16
-    (subst (λ ss. AreBlocks 16 (plain ss) of_256) c.deref-2.ensures.value c.in_ok-of_256.ensures.ok) in
-    let by_4096 = blocks_of_blocks 256 16 (plain sorted) of_256 of_4096 by_256
-    (subst (λ ss. AreBlocks 16 (plain ss) of_4096) c.deref-3.ensures.value c.in_ok-of_4096.ensures.ok) in
-    let by_65536 = blocks_of_blocks 4096 16 (plain sorted) of_4096 of_65536 by_4096
-    (subst (λ ss. AreBlocks 16 (plain ss) of_65536) c.deref-4.ensures.value c.in_ok-of_65536.ensures.ok) in
+    let of_32768 = plain c.in_ok-of_32768.of_32768.items in
+    let by_8 = subst (λ ss. AreBlocks 8 (plain ss) of_8) c.deref.ensures.value c.in_ok-of_8.ensures.ok in
+    let by_64 = blocks_of_blocks 8 8 (plain sorted) of_8 of_64 by_8
+    (subst (λ ss. AreBlocks 8 (plain ss) of_64) c.deref-2.ensures.value c.in_ok-of_64.ensures.ok) in
+    let by_512 = blocks_of_blocks 64 8 (plain sorted) of_64 of_512 by_64
+    (subst (λ ss. AreBlocks 8 (plain ss) of_512) c.deref-3.ensures.value c.in_ok-of_512.ensures.ok) in
+    let by_4096 = blocks_of_blocks 512 8 (plain sorted) of_512 of_4096 by_512
+    (subst (λ ss. AreBlocks 8 (plain ss) of_4096) c.deref-4.ensures.value c.in_ok-of_4096.ensures.ok) in
+    let by_32768 = blocks_of_blocks 4096 8 (plain sorted) of_4096 of_32768 by_4096
+    (subst (λ ss. AreBlocks 8 (plain ss) of_32768) c.deref-5.ensures.value c.in_ok-of_32768.ensures.ok) in
     record {
+      some = c.strip_width-width.ensures;
       permutation = c.in_ok-extents.ensures.permutation;
       strips = c.in_ok-extents.ensures.strips;
-      blocks = record { by_16 = by_16; by_256 = by_256; by_4096 = by_4096; by_65536 = by_65536 };
+      heights = c.in_ok-extents.ensures.heights;
+      blocks = record { by_8 = by_8; by_64 = by_64; by_512 = by_512; by_4096 = by_4096; by_32768 = by_32768 };
     }

@@ -1,0 +1,38 @@
+-- What stands before the strips of the run lies apart, and what stands behind them.
+use Rattle.std.proofs.Common.{◌≡◌, ◌⊎◌, ⊎_elim, inl, inr, ◌+◌, ◌*◌, ◌/◌, [], length, sym, subst, arith}
+use Rattle.std.proofs.lemmas.List.{length-map}
+use Rattle.overlay_arrange.specs.Extents.{plain_extent, plain_extents}
+use Rattle.overlay_arrange.proofs.Searches.{searched_before, searched_none, searched_past}
+use Rattle.overlay_arrange.specs.Near.{IsSearchedTo}
+use Rattle.overlay_arrange.proofs.StripOrder.{strips_before_apart, strips_behind_apart, strips_in_order}
+use Rattle.overlay_arrange.proofs.near.find_by_blocks.Goals as goal
+
+pub loop-at-init : goal.loop-at-init
+loop-at-init g c =
+    let width = c.args.strips.now.width in
+    let ss = plain_extents g.I.IntNumber.whole c.args.strips.now.edges.items in
+    let of = plain_extent g.I.IntNumber.whole c.args.of in
+    let order = strips_in_order width c.requires.some c.args.of.first c.args.of.last c.requires.ordered in
+    let from = c.on_by-stop.ensures.from in (
+      omega (arith, order, from),
+      subst (IsSearchedTo ss of (c.args.of.first / width * width)) (sym c.requires.empty)
+          (searched_past ss of 0 (c.args.of.first / width * width) []
+          (strips_before_apart width c.requires.some ss of c.requires.strips) (searched_none ss of)),
+    )
+
+pub returns-clause-ok : goal.returns-clause-ok
+returns-clause-ok g c =
+    let width = c.args.strips.now.width in
+    let extents = c.args.strips.now.edges.items in
+    let ss = plain_extents g.I.IntNumber.whole extents in
+    let of = plain_extent g.I.IntNumber.whole c.args.of in
+    let stop = c.on_by-stop.result in
+    let js = c.loop-at.near.items in
+    let count : length ss ≡ length extents = length-map extents (plain_extent g.I.IntNumber.whole) in
+    let ends : (stop ≡ length ss) ⊎ (stop ≡ c.args.of.last / width * width + width) = ⊎_elim
+    (λ (all : stop ≡ c.len.result). inl (let l = c.len.ensures in omega (arith, all, l, count))) (λ next. inr next)
+    c.on_by-stop.ensures.ends in
+    subst (λ n. IsSearchedTo ss of n js) count
+    (searched_past ss of stop (length ss) js
+    (strips_behind_apart width c.requires.some ss of c.requires.strips stop ends)
+    (searched_before ss of c.loop-at.at stop js c.loop-at-test.false c.loop-at.invariant.1))
