@@ -1,13 +1,12 @@
 -- The last entry of a list, and of those that pass a test.
-use Rattle.std.proofs.Common.{◌≡◌, ◌⊎◌, inl, inr, Bool, true, ℕ, ◌+◌, ◌-◌, ◌≤◌, List, [], ◌∷◌, ◌++◌, length, map, take}
+use Rattle.std.proofs.Common.{◌≡◌, ◌⊎◌, inl, inr, Bool, true, ℕ, ◌+◌, ◌-◌, ◌≤◌, List, [], ◌∷◌, ◌++◌, length, take}
 use Rattle.std.proofs.Common.{get_or, Option, None, Some, refl, sym, ap, ◌∙◌, subst, arith, pos}
 use Rattle.std.specs.List.{AllPairs, Contains, filter, last_or}
 use Rattle.std.specs.Option.{IfSome, MatchOption}
-use Rattle.std.proofs.lemmas.List.{take-map}
+use Rattle.std.proofs.lemmas.List.{take_more}
 use Rattle.std.proofs.lemmas.List.Elements.{All-contains}
 use Rattle.std.proofs.lemmas.List.Kept.{AllPairs-filter}
 use Rattle.overlay_geom.proofs.Entries.{Contains-head, Contains-later, Contains-cases}
-use Rattle.overlay_geom.proofs.Mapped.{mapped_more}
 use Rattle.overlay_geom.proofs.Merging.{AllPairs-head, AllPairs-tail}
 use Rattle.overlay_plane.proofs.Entries.{Contains-filter, Contains-from_filter}
 use Rattle.overlay_plane.specs.Anchors.{is_below_anchor}
@@ -16,21 +15,20 @@ use Rattle.overlay_scan.specs.Scan.{Entry}
 use Rattle.overlay_scan.specs.Laws.{LookUpGivesTheGreatest}
 use Rattle.std.proofs.lemmas.Option.{same_Some}
 
-last_pushed : {X : Type 0} (o : Option X) (xs : List X) (x : X) → last_or o (xs ++ x ∷ []) ≡ Some x
+pub last_pushed : {X : Type 0} (o : Option X) (xs : List X) (x : X) → last_or o (xs ++ x ∷ []) ≡ Some x
 last_pushed o [] x = refl
 last_pushed o (y ∷ xs) x = last_pushed (Some y) xs x
 
-before_one : (n : ℕ) → ¬ (n ≡ 0) → n - 1 + 1 ≡ n
+pub before_one : (n : ℕ) → ¬ (n ≡ 0) → n - 1 + 1 ≡ n
 before_one n some = omega arith
 
 -- the last of the first n items, n not 0, is the one at n - 1
-pub last_of_first : {X Y : Type 0} (h : X → Y) (xs : List X) (n : ℕ) (x : X) → ¬ (n ≡ 0) → n ≤ length xs →
-    x ≡ get_or xs (n - 1) x →
-    last_or None (take n (map h xs)) ≡ Some (h x)
-last_of_first h xs n x some le is = ap (last_or None)
-    (take-map h n xs ∙ ap (λ m. map h (take m xs)) (sym (before_one n some))
-    ∙ mapped_more h xs (n - 1) x (omega arith) is)
-    ∙ last_pushed None (map h (take (n - 1) xs)) (h x)
+pub last_of_first : {X : Type 0} (xs : List X) (n : ℕ) (x : X) → ¬ (n ≡ 0) → n ≤ length xs → x ≡ get_or xs (n - 1) x →
+    last_or None (take n xs) ≡ Some x
+last_of_first xs n x some le is = ap (last_or None)
+    (ap (λ m. take m xs) (sym (before_one n some)) ∙ take_more xs (n - 1) x (omega arith)
+    ∙ ap (λ y. take (n - 1) xs ++ y ∷ []) (sym is))
+    ∙ last_pushed None (take (n - 1) xs) x
 
 -- the last of several items is one of them, and R leads to it from each other one
 pub last_is : {X : Type 0} (R : X → X → Type 0) (xs : List X) → AllPairs R xs → (f : X) → last_or None xs ≡ Some f →

@@ -1,22 +1,11 @@
 -- How many entries pass a test from the first one on, and which ones pass where none does after one that fails.
-use Rattle.std.proofs.Common.{◌≡◌, Bool, true, false, cond, ℕ, suc, ◌+◌, ◌≤◌, List, [], ◌∷◌, length, map, take, drop}
+use Rattle.std.proofs.Common.{◌≡◌, Bool, true, false, cond, ℕ, suc, ◌+◌, List, [], ◌∷◌, take, drop}
 use Rattle.std.proofs.Common.{refl, sym, ap, ◌∙◌, arith}
 use Rattle.std.specs.List.{All, filter, prefix_len}
 use Rattle.std.proofs.lemmas.Bool.{false≢true}
-use Rattle.std.proofs.lemmas.List.{length-map}
-use Rattle.std.proofs.lemmas.List.Sums.{prefix_len-le-length}
 use Rattle.std.proofs.lemmas.List.Elements.{All-nil, All-cons, All-head, All-tail, All-weaker}
 use Rattle.overlay_geom.proofs.Merging.{AllPairs-head, AllPairs-tail}
 use Rattle.overlay_scan.specs.Lists.{PassBefore}
-
--- no more pass than there are
-pub prefix_fits : {X Y : Type 0} (test : Y → Bool) (h : X → Y) (xs : List X) → prefix_len test (map h xs) ≤ length xs
-prefix_fits test h xs = let le = prefix_len-le-length test (map h xs) in let same = length-map xs h in omega arith
-
--- so a count is at most the length
-pub fits_in : {X Y : Type 0} (test : Y → Bool) (h : X → Y) (xs : List X) (place n : ℕ) →
-    place ≡ prefix_len test (map h xs) → length xs ≡ n → place ≤ n
-fits_in test h xs place n count len = let le = prefix_fits test h xs in omega arith
 
 -- ---- tests that agree
 

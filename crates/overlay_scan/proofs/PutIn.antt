@@ -1,10 +1,10 @@
 -- Where a new entry goes: above all entries under it, and below the others.
-use Rattle.std.proofs.Common.{◌≡◌, ⊎_elim, true, false, ℕ, List, [], ◌∷◌, ◌++◌, map, take, drop, get_or, ℤ, pos, sym}
-use Rattle.std.proofs.Common.{ap, ap₂, ◌∙◌, subst, arith}
+use Rattle.std.proofs.Common.{◌≡◌, ⊎_elim, true, false, ℕ, List, [], ◌∷◌, ◌++◌, take, drop, get_or, ℤ, pos, sym}
+use Rattle.std.proofs.Common.{ap, ◌∙◌, subst, arith}
 use Rattle.std.proofs.lemmas.Int.{ints}
 use Rattle.std.proofs.lemmas.Bool.{false≢true}
-use Rattle.std.specs.List.{All, AllPairs, filter, insert, prefix_len}
-use Rattle.std.proofs.lemmas.List.{take-append-drop, take-map, drop-map, map-append}
+use Rattle.std.specs.List.{All, AllPairs, filter, prefix_len}
+use Rattle.std.proofs.lemmas.List.{take-append-drop}
 use Rattle.std.proofs.lemmas.List.Elements.{All-cons, All-head, All-tail, All-weaker, All-drop}
 use Rattle.std.proofs.lemmas.List.Kept.{AllPairs-cons}
 use Rattle.overlay_geom.specs.Plane.{Edge}
@@ -18,8 +18,7 @@ use Rattle.overlay_plane.proofs.Entries.{All-first, All-rest}
 use Rattle.overlay_plane.proofs.Under.{under_transitive, under_total}
 use Rattle.overlay_scan.specs.Scan.{Entry, IsOver, IsAsked, AreLive, IsFromBottomToTop, IsPutIn, MeetsOthers}
 use Rattle.overlay_scan.specs.Scan.{IsNewAmong}
-use Rattle.overlay_scan.specs.declared.list.LiveEdge.{LiveEdge}
-use Rattle.overlay_scan.specs.Lists.{plain_entry, plain_entries, PassBefore, is_lower}
+use Rattle.overlay_scan.specs.Lists.{PassBefore, is_lower}
 use Rattle.overlay_scan.proofs.AtStarts.{lower_is_under}
 use Rattle.overlay_scan.proofs.BelowStarts.{IsBeside, lower_is_below, below_through}
 use Rattle.overlay_scan.proofs.Prefixes.{prefix-same, filter_is_prefix, prefix_passes, others_fail}
@@ -40,12 +39,6 @@ AllPairs-with R [] ys n pairs before after = AllPairs-cons R n ys after pairs
 AllPairs-with R (x ∷ xs) ys n pairs before after = AllPairs-cons R x (xs ++ n ∷ ys)
     (All-with (R x) xs ys n (AllPairs-head R x (xs ++ ys) pairs) (All-head (λ x. R x n) x xs before))
     (AllPairs-with R xs ys n (AllPairs-tail R x (xs ++ ys) pairs) (All-tail (λ x. R x n) x xs before) after)
-
--- to put in an item before items are mapped or after is one
-pub map-insert : {X Y : Type 0} (h : X → Y) (xs : List X) (n : ℕ) (x : X) → map h (insert xs n x) ≡ take n (map h xs)
-    ++ h x ∷ drop n (map h xs)
-map-insert h xs n x = map-append h (take n xs) (x ∷ drop n xs) ∙ ap₂ (λ ys zs. ys ++ h x ∷ zs) (sym (take-map h n xs))
-    (sym (drop-map h n xs))
 
 -- ---- the place of an edge
 
@@ -161,23 +154,3 @@ live_with limit x n fs new live at_n meets put = subst (AreLive limit x) (sym pu
   where
     met : All (λ f. MeetInEnds n.edge f.edge) (put.before ++ put.after)
     met = subst (All (λ f. MeetInEnds n.edge f.edge)) put.live_is meets
-
--- ---- in the program's entries
-
--- how many entries are under the edge, counted in a list that is the live ones
-pub counted : {I V : Type 0} (whole : I → ℤ) (es : List (LiveEdge I V)) (entry : LiveEdge I V) (n : Entry V)
-    (live : List (Entry V)) (place : ℕ) →
-    plain_entries whole es ≡ live → plain_entry whole entry ≡ n →
-    place ≡ prefix_len (λ f. is_lower f.edge (plain_entry whole entry).edge) (plain_entries whole es) →
-    place ≡ prefix_len (λ f. is_lower f.edge n.edge) live
-counted whole es entry n live place mapped is_n count = count
-    ∙ (λ i. prefix_len (λ f. is_lower f.edge (is_n i).edge) (mapped i))
-
--- an entry put in there, as the live ones have it
-pub placed : {I V : Type 0} (whole : I → ℤ) (es new : List (LiveEdge I V)) (entry : LiveEdge I V) (n : Entry V)
-    (live : List (Entry V)) (place count : ℕ) →
-    plain_entries whole es ≡ live → plain_entry whole entry ≡ n → place ≡ count → new ≡ insert es place entry →
-    plain_entries whole new ≡ take count live ++ n ∷ drop count live
-placed whole es new entry n live place count mapped is_n is_count is_new = ap (plain_entries whole) is_new
-    ∙ map-insert (plain_entry whole) es place entry
-    ∙ (λ i. take (is_count i) (mapped i) ++ is_n i ∷ drop (is_count i) (mapped i))

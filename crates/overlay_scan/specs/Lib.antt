@@ -1,5 +1,6 @@
-pub mod Ends
+pub mod HeldEntries
 pub mod Laws
 pub mod Lists
 pub mod Scan
+pub mod Searches
 pub mod Sweeps

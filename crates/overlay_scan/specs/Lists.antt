@@ -1,12 +1,10 @@
 -- What a list of entries with points of the program stands for, and the test which of two edges is the lower one.
 use Rattle.std.specs.Prelude.{◌≡◌, true, AllPairs, Bool, cond, not, ◌&&◌, ◌||◌, ℕ, ℤ, pos, int_lt, List, map}
-use Rattle.std.specs.Prelude.{option_map}
 use Rattle.std.specs.Ordering.{int_eq}
 use Rattle.overlay_geom.specs.Plane.{Edge, cross_at}
 use Rattle.overlay_geom.specs.Points.{plain_point, InRange}
-use Rattle.overlay_scan.specs.Scan.{Entry, Sweep}
+use Rattle.overlay_scan.specs.Scan.{Entry}
 use Rattle.overlay_scan.specs.declared.list.LiveEdge.{LiveEdge}
-use Rattle.overlay_scan.specs.declared.list.ScanList.{ScanList}
 
 -- the edge between whole points, with the value
 abbrev pub plain_entry : {I V : Type 0} → (I → ℤ) → LiveEdge I V → Entry V
@@ -20,10 +18,6 @@ plain_entries whole fs = map (plain_entry whole) fs
 pub record IsInRange (limit : ℕ) (e : Edge) : Type 0 where
   pub a : InRange limit e.a
   pub b : InRange limit e.b
-
--- the list's entries, and where the sweep is
-abbrev pub plain_sweep : {I V A W U : Type 0} → (I → ℤ) → ScanList I V A W U → Sweep V
-plain_sweep whole s = record { entries = plain_entries whole s.live; reached = option_map whole s.reached }
 
 -- f is lower than e just right of the start of e: it passes below the start, or starts there to the right of e
 abbrev pub is_lower_at_start : Edge → Edge → Bool

@@ -5,3 +5,4 @@ pub mod laws;
 pub mod list;
 mod live;
 pub mod scan;
+mod search;

@@ -1,15 +1,13 @@
 //! Live edges in a list.
 
-ghost use Rattle.std.specs.Prelude.{◌≡◌, ◌≤◌, [], ◌∷◌, length, take, not, All, None, Some, OnOk, OnErr, IsOkUnless};
-ghost use Rattle.std.specs.List.{last_or, prefix_len};
+ghost use Rattle.std.specs.Prelude.{◌≡◌, [], ◌∷◌, true, not, int_lt, Some, OnOk, OnErr, IsOkUnless};
 ghost use Rattle.std.specs.Ordering.{is_gt};
 ghost use Rattle.overlay_geom.specs.Lines.{plain_line};
-ghost use Rattle.overlay_scan.specs.Lists.{plain_entry, plain_entries, plain_sweep};
-ghost use Rattle.overlay_scan.specs.Lists.{IsInRange, PassBefore, is_lower_at_start, is_lower};
-ghost use Rattle.overlay_scan.specs.Scan.{empty_sweep, live_at, moved_to, value_or};
+ghost use Rattle.overlay_scan.specs.HeldEntries.{live_of, plain_sweep, IsLookedUp};
+ghost use Rattle.overlay_scan.specs.Lists.{plain_entry, IsInRange, is_lower_at_start, is_lower};
+ghost use Rattle.overlay_scan.specs.Scan.{empty_sweep, live_at, moved_to};
 ghost use Rattle.overlay_scan.specs.Scan.{MayMoveTo, IsOver, IsAsked, IsSweep, IsPutIn};
-ghost use Rattle.overlay_scan.specs.Scan.{MeetsOthers, IsNewAmong, value_below};
-ghost use Rattle.overlay_scan.specs.Scan.{IsCallableOn, IsAnsweredBy, AnswersRise};
+ghost use Rattle.overlay_scan.specs.Scan.{MeetsOthers, IsNewAmong, value_below, IsCallableOn};
 
 use crate::live::LiveEdges;
 use crate::scan::Scan;
@@ -32,11 +30,11 @@ pub struct LiveEdge<I, V> {
     pub value: V,
 }
 
-/// A [`Scan`] that keeps its edges in a list. Look-ups go by halves, and edges are dropped only where
-/// one has ended.
+/// A [`Scan`] that keeps its edges in a list. Look-ups go by halves, from where the last one ended. An edge that has
+/// ended is still held until another one takes its place, or until many have ended.
 #[derive(Drop)]
 pub struct ScanList<I: IntNumber, V: Copy, A: Allocator> {
-    // the edges over the line
+    // the edges over the line, and some that have ended
     live: LiveEdges<I, V, A>,
     // the x that was moved to last, and none after `clear`
     reached: Option<I>,
@@ -53,17 +51,41 @@ impl<I: IntNumber, V: Copy, A: Allocator> ScanList<I, V, A> {
         }
     }
 
-    // Drops the edges that end at or before x.
-    fn move_to(&mut self, x: I)
-        ensures { plain_sweep I.whole self.new ≡ moved_to (I.whole x) (plain_sweep I.whole self.old) }
+    // Looks up by an order at x.
+    fn look_up<F: Fn(IntLine<I>) -> Ordering>(&mut self, x: I, order: &F) -> Option<V>
+        requires { IsCallableOn I.whole (F.pre order.now) (live_of I.whole (I.whole x) self.old.live) }
+        ensures found { IsLookedUp I.whole (F.post order.now) (I.whole x) self.old.live self.new.live [] result }
+        ensures reached { self.new.reached ≡ Some x }
     {
-        self.live.drop_ended(x);
+        let place = self.live.find(x, order);
         self.reached = Some(x);
+        self.live.value_below(place)
+    }
+
+    // Puts in an entry by an order at x.
+    fn put_in<F: Fn(IntLine<I>) -> Ordering>(
+        &mut self,
+        x: I,
+        entry: LiveEdge<I, V>,
+        order: &F,
+    ) -> Result<(), OverlayError>
+        requires live { int_lt (I.whole x) (I.whole entry.b.x) ≡ true }
+        requires callable { IsCallableOn I.whole (F.pre order.now) (live_of I.whole (I.whole x) self.old.live) }
+        ensures ok { OnOk result ((v : _) × IsLookedUp I.whole (F.post order.now) (I.whole x) self.old.live
+            self.new.live (plain_entry I.whole entry ∷ []) v) }
+        ensures err { OnErr result
+            (live_of I.whole (I.whole x) self.new.live ≡ live_of I.whole (I.whole x) self.old.live) }
+        ensures reached { self.new.reached ≡ Some x }
+        ensures only { IsOkUnless result OverlayError.Memory }
+    {
+        let place = self.live.find(x, order);
+        self.reached = Some(x);
+        self.live.put(place, entry, x)
     }
 }
 
 impl<I: IntNumber, V: Copy, A: Allocator> Scan<I, V> for ScanList<I, V, A> {
-    ghost use Rattle.overlay_scan.specs.Lists.{plain_sweep};
+    ghost use Rattle.overlay_scan.specs.HeldEntries.{plain_sweep};
 
     ghost content = { plain_sweep I.whole };
 
@@ -83,10 +105,13 @@ impl<I: IntNumber, V: Copy, A: Allocator> Scan<I, V> for ScanList<I, V, A> {
         ensures state { IsSweep I.limit (plain_sweep I.whole self.new) }
         ensures only { IsOkUnless result OverlayError.Memory }
     {
-        self.move_to(x);
         let entry = live_edge(edge, value);
-        let place = count_under(self.live.as_slice(), entry);
-        self.live.insert(place, entry)?;
+        let asked = entry;
+        let order = |f: IntLine<I>| -> Ordering
+            requires { IsInRange I.limit (plain_line I.whole f) × IsInRange I.limit (plain_entry I.whole asked).edge }
+            ensures { not (is_gt result) ≡ is_lower (plain_line I.whole f) (plain_entry I.whole asked).edge }
+        { order_to(f, &asked) };
+        self.put_in(x, entry, &order)?;
         Ok(())
     }
 
@@ -101,10 +126,13 @@ impl<I: IntNumber, V: Copy, A: Allocator> Scan<I, V> for ScanList<I, V, A> {
         ensures content { plain_sweep I.whole self.new ≡ moved_to (I.whole x) (plain_sweep I.whole self.old) }
         ensures state { IsSweep I.limit (plain_sweep I.whole self.new) }
     {
-        self.move_to(x);
         let asked = live_edge(edge, default);
-        let place = count_under(self.live.as_slice(), asked);
-        value_before(self.live.as_slice(), place, default)
+        let order = |f: IntLine<I>| -> Ordering
+            requires { IsInRange I.limit (plain_line I.whole f) × IsInRange I.limit (plain_entry I.whole asked).edge }
+            ensures { not (is_gt result) ≡ is_lower (plain_line I.whole f) (plain_entry I.whole asked).edge }
+        { order_to(f, &asked) };
+        let found = self.look_up(x, &order);
+        found.unwrap_or(default)
     }
 
     fn first_less_or_equal_by<F: Fn(IntLine<I>) -> Ordering + Drop>(
@@ -113,9 +141,8 @@ impl<I: IntNumber, V: Copy, A: Allocator> Scan<I, V> for ScanList<I, V, A> {
         default: V,
         order: F,
     ) -> V {
-        self.move_to(x);
-        let place = count_up_to(self.live.as_slice(), order);
-        value_before(self.live.as_slice(), place, default)
+        let value = self.look_up(x, &order);
+        value.unwrap_or(default)
     }
 
     fn clear(&mut self) {
@@ -132,72 +159,24 @@ pub fn live_edge<I: IntNumber, V: Copy>(line: IntLine<I>, value: V) -> LiveEdge<
     LiveEdge { a, b, value }
 }
 
-// How many entries are under the edge, from the bottom on: above one that is not, none is.
-fn count_under<I: IntNumber, V: Copy>(entries: &[LiveEdge<I, V>], e: LiveEdge<I, V>) -> usize
-    requires entries { All (λ f. IsInRange I.limit f.edge) (plain_entries I.whole entries.now) }
-    requires edge { IsInRange I.limit (plain_entry I.whole e).edge }
-    requires front { PassBefore (λ f. is_lower f.edge (plain_entry I.whole e).edge)
-        (plain_entries I.whole entries.now) }
-    ensures { result ≡ prefix_len (λ f. is_lower f.edge (plain_entry I.whole e).edge)
-        (plain_entries I.whole entries.now) }
+/// Whether the edge ends at or before x.
+pub fn has_ended<I: IntNumber, V: Copy>(f: &LiveEdge<I, V>, x: I) -> bool
+    ensures { result ≡ not (int_lt (I.whole x) (I.whole f.now.b.x)) }
 {
-    let mut low = 0;
-    let mut high = entries.len();
-    while low < high {
-        let middle = low + (high - low) / 2;
-        if is_under(&entries[middle], &e) {
-            low = middle + 1;
-        } else {
-            high = middle;
-        }
-    }
-    low
+    !x.compare(f.b.x).is_lt()
 }
 
-// How many entries the order does not answer Greater, from the bottom on, where its answers rise.
-fn count_up_to<I: IntNumber, V: Copy, F: Fn(IntLine<I>) -> Ordering + Drop>(
-    entries: &[LiveEdge<I, V>],
-    order: F,
-) -> usize
-    requires { IsCallableOn I.whole (F.pre order) (plain_entries I.whole entries.now) }
-    ensures fits { result ≤ length entries.now }
-    ensures count { (answer : _) → IsAnsweredBy I.whole (F.post order) answer (plain_entries I.whole entries.now)
-        → AnswersRise answer (plain_entries I.whole entries.now)
-        → result ≡ prefix_len (λ f. not (is_gt (answer f.edge))) (plain_entries I.whole entries.now) }
+/// `Less` for a line that is under the edge, and `Greater` for another.
+pub fn order_to<I: IntNumber, V: Copy>(line: IntLine<I>, e: &LiveEdge<I, V>) -> Ordering
+    requires one { IsInRange I.limit (plain_line I.whole line) }
+    requires other { IsInRange I.limit (plain_entry I.whole e.now).edge }
+    ensures { not (is_gt result) ≡ is_lower (plain_line I.whole line) (plain_entry I.whole e.now).edge }
 {
-    let mut low = 0;
-    let mut high = entries.len();
-    while low < high {
-        let middle = low + (high - low) / 2;
-        if ask(&order, &entries[middle]).is_gt() {
-            high = middle;
-        } else {
-            low = middle + 1;
-        }
-    }
-    low
-}
-
-// What the order answers for an entry's line.
-fn ask<I: IntNumber, V: Copy, F: Fn(IntLine<I>) -> Ordering>(
-    order: &F,
-    f: &LiveEdge<I, V>,
-) -> Ordering
-    requires { F.pre order.now (f.now.a ∷ f.now.b ∷ []) }
-    ensures { F.post order.now (f.now.a ∷ f.now.b ∷ []) result }
-{
-    order([f.a, f.b])
-}
-
-// The value of the last of the first n entries, or the default if n is 0.
-fn value_before<I: IntNumber, V: Copy>(entries: &[LiveEdge<I, V>], n: usize, default: V) -> V
-    requires { n ≤ length entries.now }
-    ensures { result ≡ value_or default (last_or None (take n (plain_entries I.whole entries.now))) }
-{
-    if n == 0 {
-        default
+    let f = live_edge(line, e.value);
+    if is_under(&f, e) {
+        Ordering::Less
     } else {
-        entries[n - 1].value
+        Ordering::Greater
     }
 }
 

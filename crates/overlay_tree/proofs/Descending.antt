@@ -20,7 +20,8 @@ use Rattle.overlay_tree.specs.declared.links.Links.{Links}
 use Rattle.overlay_tree.specs.declared.links.NodeIndex.{NodeIndex}
 use Rattle.overlay_tree.specs.declared.links.Side.{Side}
 use Rattle.overlay_tree.specs.declared.links.Side.TheVariants.{Left, Right}
-use Rattle.overlay_tree.specs.Descents.{live_entries, alone, CanDescend, side_of, passed_on, end_above, Tells, IsParted}
+use Rattle.overlay_scan.specs.HeldEntries.{Tells, IsParted}
+use Rattle.overlay_tree.specs.Descents.{live_entries, alone, CanDescend, side_of, passed_on, end_above}
 use Rattle.overlay_tree.specs.Descents.{IsExchanged, IsDropped, IsPassed, IsEndOf}
 use Rattle.overlay_tree.specs.Trees.{Tree, Leaf, Fork, root_of, items, height, fork_on, IsHeightBalanced, AreDistinct}
 use Rattle.overlay_tree.specs.Trees.{AreParts, IsIn, Stands}
@@ -31,7 +32,8 @@ use Rattle.overlay_tree.proofs.Distinct.{distinct_joined}
 use Rattle.overlay_tree.proofs.Standing.{parts_apart, in_near, in_far, in_top, top_inside}
 use Rattle.overlay_tree.proofs.Replaced.{new_parts, new_replaced}
 use Rattle.overlay_tree.proofs.Rotations.{near_balanced, place_of}
-use Rattle.overlay_tree.proofs.Parted.{live-middle, before_part, after_part, all_before_pass, all_after_fail}
+use Rattle.overlay_tree.proofs.Parted.{live-middle}
+use Rattle.overlay_scan.proofs.Passing.{before_part, after_part, all_before_pass, all_after_fail}
 use Rattle.overlay_tree.proofs.Parted.{parted_left, parted_right}
 
 -- ---- numbers in the place of others

@@ -1,9 +1,7 @@
-mod Asked
 mod Balancing
 mod Bound
 mod Descending
 mod Distinct
-mod Found
 mod Freshness
 mod GoingDown
 mod LookedUp

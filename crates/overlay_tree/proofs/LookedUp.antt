@@ -4,14 +4,15 @@ use Rattle.std.proofs.Common.{slice_get, Option, None, Some, refl, sym, ap, subs
 use Rattle.std.specs.List.{filter_map, cons_option}
 use Rattle.std.specs.declared.cmp.Ordering.{Ordering}
 use Rattle.overlay_geom.specs.declared.point.IntPoint.{IntPoint}
-use Rattle.overlay_scan.specs.Lists.{plain_entry, plain_entries, PassBefore}
-use Rattle.overlay_scan.specs.Scan.{Entry, live_at, IsCallableOn}
+use Rattle.overlay_scan.specs.Lists.{plain_entry, PassBefore}
+use Rattle.overlay_scan.specs.Scan.{Entry, IsCallableOn}
 use Rattle.overlay_scan.specs.declared.list.LiveEdge.{LiveEdge}
 use Rattle.overlay_tree.specs.declared.links.Links.{Links}
 use Rattle.overlay_tree.specs.declared.links.NodeIndex.{NodeIndex}
-use Rattle.overlay_tree.specs.Descents.{live_entries, alone, Tells}
+use Rattle.overlay_scan.specs.HeldEntries.{live_of, Tells, IsLookedUp}
+use Rattle.overlay_tree.specs.Descents.{live_entries, alone}
 use Rattle.overlay_tree.specs.Forests.{tree_at, IsForest, CanSettle, HasForest, IsFound, AreFewVisits}
-use Rattle.overlay_tree.specs.HeldEdges.{HeldEdges, IsLookedUp, IsQuick}
+use Rattle.overlay_tree.specs.HeldEdges.{HeldEdges, IsQuick}
 use Rattle.overlay_tree.specs.Trees.{Tree, Leaf, items, IsIn, IsTreeAt}
 use Rattle.overlay_tree.proofs.Parted.{live-here}
 use Rattle.overlay_tree.proofs.Settling.{tree_at_is}
@@ -59,23 +60,23 @@ module _ {I V : Type 0} (whole : I → ℤ) (post : List (IntPoint I) → Orderi
     (es now : List (LiveEdge I V))
     (ls new : List Links) (root root' free' put : Option NodeIndex) (t : Tree) (v : Option V)
     (at : IsTreeAt ls root t) (kept : (k : ℕ) → IsIn k (items t) → slice_get now k ≡ slice_get es k)
-    (found : IsFound whole post x now new t put root' free' v) (old_held new_held : HeldEdges I V)
-    (old_is : old_held.entries ≡ filter_map (slice_get es) (items (tree_at ls root)))
-    (new_is : new_held.entries ≡ filter_map (slice_get now) (items (tree_at new root'))) where
+    (found : IsFound whole post x now new t put root' free' v) (held left : List (LiveEdge I V))
+    (old_is : held ≡ filter_map (slice_get es) (items (tree_at ls root)))
+    (new_is : left ≡ filter_map (slice_get now) (items (tree_at new root'))) where
   abbrev old_live : List (Entry V)
-  old_live = live_at x (plain_entries whole old_held.entries)
+  old_live = live_of whole x held
 
   old_same : old_live ≡ live_entries whole x now (items t)
-  old_same = ap (λ fs. live_at x (plain_entries whole fs)) (old_is
+  old_same = ap (live_of whole x) (old_is
       ∙ ap (λ u. filter_map (slice_get es) (items u)) (tree_at_is ls t root at) ∙ sym
       (same_entries es now (items t) kept))
 
-  new_same : live_at x (plain_entries whole new_held.entries) ≡ live_entries whole x now (items found.tree)
-  new_same = ap (λ fs. live_at x (plain_entries whole fs)) (new_is
+  new_same : live_of whole x left ≡ live_entries whole x now (items found.tree)
+  new_same = ap (live_of whole x) (new_is
       ∙ ap (λ u. filter_map (slice_get now) (items u)) (tree_at_is new found.tree root' found.forest.at))
 
   pub looked_up : (news : List (Entry V)) → live_entries whole x now (items (alone put)) ≡ news →
-      IsLookedUp whole post x old_held new_held news v
+      IsLookedUp whole post x held left news v
   looked_up news news_are = record {
     before = live_entries whole x now found.before;
     after = live_entries whole x now found.after;
@@ -86,17 +87,18 @@ module _ {I V : Type 0} (whole : I → ℤ) (post : List (IntPoint I) → Orderi
         (subst (PassBefore passes) old_same front);
   }
 
-  pub quick : (m : ℕ) → length (items (alone put)) ≡ m → length es ≡ length ls → length now ≡ length new →
-      AreFewVisits old_held.visits new_held.visits (length (items t)) found.dropped → IsQuick old_held new_held m
-  quick m count enough enough_now few =
-      let was : length old_held.entries ≡ length (items t) = ap length old_is
+  pub quick : (s u : HeldEdges I V) → s.entries ≡ held → u.entries ≡ left → (m : ℕ) →
+      length (items (alone put)) ≡ m → length es ≡ length ls → length now ≡ length new →
+      AreFewVisits s.visits u.visits (length (items t)) found.dropped → IsQuick s u m
+  quick s u s_is u_is m count enough enough_now few =
+      let was : length s.entries ≡ length (items t) = ap length (s_is ∙ old_is)
       ∙ as_many_entries es ls root t at enough in
-      let is : length new_held.entries ≡ length (items found.tree) = ap length new_is
+      let is : length u.entries ≡ length (items found.tree) = ap length (u_is ∙ new_is)
       ∙ as_many_entries now new root' found.tree found.forest.at enough_now in
       record {
         dropped = found.dropped;
         count = (let same = found.count in omega arith);
-        visited = subst (λ n. AreFewVisits old_held.visits new_held.visits n found.dropped) (sym was) few;
+        visited = subst (λ n. AreFewVisits s.visits u.visits n found.dropped) (sym was) few;
       }
 
   -- some tree stands then
@@ -107,12 +109,11 @@ module _ {I V : Type 0} (whole : I → ℤ) (post : List (IntPoint I) → Orderi
 pub callable_in_tree : {I V : Type 0} (whole : I → ℤ) (pre : List (IntPoint I) → Type 0) (x : ℤ)
     (es now : List (LiveEdge I V))
     (ls : List Links) (root : Option NodeIndex) (fs : List (LiveEdge I V)) →
-    fs ≡ filter_map (slice_get es) (items (tree_at ls root)) → IsCallableOn whole pre
-    (live_at x (plain_entries whole fs)) →
+    fs ≡ filter_map (slice_get es) (items (tree_at ls root)) → IsCallableOn whole pre (live_of whole x fs) →
     (t : Tree) → IsTreeAt ls root t → ((k : ℕ) → IsIn k (items t) → slice_get now k ≡ slice_get es k) →
     IsCallableOn whole pre (live_entries whole x now (items t))
 callable_in_tree whole pre x es now ls root fs is may t at kept =
-    subst (λ gs. IsCallableOn whole pre (live_at x (plain_entries whole gs))) (is
+    subst (λ gs. IsCallableOn whole pre (live_of whole x gs)) (is
     ∙ ap (λ u. filter_map (slice_get es) (items u)) (tree_at_is ls t root at) ∙ sym
     (same_entries es now (items t) kept)) may
 
@@ -130,4 +131,13 @@ empty_forest ls = record {
   chain = tt;
   once = tt;
   apart = λ k none. absurd none;
+}
+
+-- where only the place of the sweep changes, nothing is dropped and nothing visited
+pub still_quick : {I V : Type 0} (old : HeldEdges I V) (reached : Option I) →
+    IsQuick old (record old { reached = reached }) 0
+still_quick old reached = record {
+  dropped = 0;
+  count = refl;
+  visited = record { never_fall = omega arith; few = λ digits lt. omega arith };
 }

@@ -5,7 +5,8 @@ use Rattle.std.specs.Option.{MatchOption, option_map}
 use Rattle.overlay_scan.specs.Lists.{plain_entries}
 use Rattle.overlay_scan.specs.Scan.{empty_sweep}
 use Rattle.overlay_scan.specs.declared.list.LiveEdge.{LiveEdge}
-use Rattle.overlay_tree.specs.HeldEdges.{HeldEdges, held_sweep, live_where}
+use Rattle.overlay_scan.specs.HeldEntries.{live_where}
+use Rattle.overlay_tree.specs.HeldEdges.{HeldEdges, held_sweep}
 use Rattle.overlay_tree.specs.Runs.{Call, AreQuick, after_all, put_in_all, RunsAreQuick}
 
 -- one call, and those after it

@@ -1,44 +1,35 @@
 -- The live entries of nodes in order, and where those that pass a test end.
-use Rattle.std.proofs.Common.{◌≡◌, Bool, true, false, cond, ℕ, ℤ, int_lt, List, [], ◌∷◌, ◌++◌, Option, None, Some}
-use Rattle.std.proofs.Common.{slice_get, refl, sym, ap, ◌∙◌, arith}
+use Rattle.std.proofs.Common.{◌≡◌, Bool, true, false, ℕ, ℤ, int_lt, List, [], ◌∷◌, ◌++◌, Option, None, Some}
+use Rattle.std.proofs.Common.{slice_get, refl, sym, ap, ◌∙◌}
 use Rattle.std.specs.List.{All, filter_map, cons_option, last_or}
 use Rattle.std.specs.Option.{option_map}
-use Rattle.std.proofs.lemmas.Bool.{false_from_ne_true, false≢true}
-use Rattle.std.proofs.lemmas.List.{map-append}
-use Rattle.std.proofs.lemmas.List.Elements.{All-append, All-cons, All-head, All-weaker, filter-append}
+use Rattle.std.proofs.lemmas.List.Elements.{All-append, All-cons}
 use Rattle.std.proofs.lemmas.List.Elements.{filter_map-append}
-use Rattle.std.proofs.lemmas.List.Elements.{All-nil}
-use Rattle.std.proofs.lemmas.List.Kept.{AllPairs-cons}
-use Rattle.overlay_geom.proofs.Merging.{AllPairs-head, AllPairs-tail}
-use Rattle.overlay_plane.proofs.Entries.{All-first, All-rest}
-use Rattle.overlay_scan.specs.Lists.{plain_entry, plain_entries, PassBefore}
-use Rattle.overlay_scan.specs.Scan.{Entry, live_at}
+use Rattle.overlay_scan.specs.HeldEntries.{live_of, IsParted}
+use Rattle.overlay_scan.specs.Lists.{plain_entry}
+use Rattle.overlay_scan.proofs.LiveParts.{live-append as held-append, live-here as held-here, live-ended as held-ended}
+use Rattle.overlay_scan.specs.Scan.{Entry}
 use Rattle.overlay_scan.specs.declared.list.LiveEdge.{LiveEdge}
 use Rattle.overlay_tree.specs.declared.links.Side.TheVariants.{Left, Right}
-use Rattle.overlay_tree.specs.Descents.{live_entries, passed_on, IsParted}
+use Rattle.overlay_tree.specs.Descents.{live_entries, passed_on}
 
 module _ {I V : Type 0} (whole : I → ℤ) (x : ℤ) (es : List (LiveEdge I V)) where
   pub live-append : (is js : List ℕ) →
       live_entries whole x es (is ++ js) ≡ live_entries whole x es is ++ live_entries whole x es js
-  live-append is js = ap (λ fs. live_at x (plain_entries whole fs)) (filter_map-append (slice_get es) is js)
-      ∙ ap (live_at x) (map-append (plain_entry whole) (filter_map (slice_get es) is) (filter_map (slice_get es) js))
-      ∙ filter-append (λ f. int_lt x f.edge.b.x) (plain_entries whole (filter_map (slice_get es) is))
-      (plain_entries whole (filter_map (slice_get es) js))
+  live-append is js = ap (live_of whole x) (filter_map-append (slice_get es) is js)
+      ∙ held-append whole x (filter_map (slice_get es) is) (filter_map (slice_get es) js)
 
   at_head : (i : ℕ) (is : List ℕ) (f : LiveEdge I V) → slice_get es i ≡ Some f →
-      live_entries whole x es (i ∷ is) ≡ cond (int_lt x (whole f.b.x))
-      (plain_entry whole f ∷ live_entries whole x es is) (live_entries whole x es is)
-  at_head i is f there = ap (λ o. live_at x (plain_entries whole (cons_option o (filter_map (slice_get es) is)))) there
+      live_entries whole x es (i ∷ is) ≡ live_of whole x (f ∷ filter_map (slice_get es) is)
+  at_head i is f there = ap (λ o. live_of whole x (cons_option o (filter_map (slice_get es) is))) there
 
   pub live-here : (i : ℕ) (is : List ℕ) (f : LiveEdge I V) → slice_get es i ≡ Some f → int_lt x (whole f.b.x) ≡ true →
       live_entries whole x es (i ∷ is) ≡ plain_entry whole f ∷ live_entries whole x es is
-  live-here i is f there live = at_head i is f there
-      ∙ ap (λ t. cond t (plain_entry whole f ∷ live_entries whole x es is) (live_entries whole x es is)) live
+  live-here i is f there live = at_head i is f there ∙ held-here whole x f (filter_map (slice_get es) is) live
 
   pub live-ended : (i : ℕ) (is : List ℕ) (f : LiveEdge I V) → slice_get es i ≡ Some f → int_lt x (whole f.b.x) ≡ false →
       live_entries whole x es (i ∷ is) ≡ live_entries whole x es is
-  live-ended i is f there ended = at_head i is f there
-      ∙ ap (λ t. cond t (plain_entry whole f ∷ live_entries whole x es is) (live_entries whole x es is)) ended
+  live-ended i is f there ended = at_head i is f there ∙ held-ended whole x f (filter_map (slice_get es) is) ended
 
   -- in the middle
   pub live-middle : (is : List ℕ) (i : ℕ) (js : List ℕ) (f : LiveEdge I V) → slice_get es i ≡ Some f →
@@ -51,35 +42,6 @@ module _ {I V : Type 0} (whole : I → ℤ) (x : ℤ) (es : List (LiveEdge I V))
       int_lt x (whole f.b.x) ≡ false → live_entries whole x es (is ++ i ∷ js) ≡ live_entries whole x es (is ++ js)
   live-without is i js f there ended = live-append is (i ∷ js)
       ∙ ap (λ fs. live_entries whole x es is ++ fs) (live-ended i js f there ended) ∙ sym (live-append is js)
-
--- ---- what passes up to an entry, and fails from it on
-
-module _ {X : Type 0} (test : X → Bool) where
-  abbrev Before : X → X → Type 0
-  Before y z = test z ≡ true → test y ≡ true
-
-  pub before_part : (ys zs : List X) → PassBefore test (ys ++ zs) → PassBefore test ys
-  before_part [] zs h = λ i j d lt end. absurd (omega arith)
-  before_part (y ∷ ys) zs h = AllPairs-cons Before y ys (All-first (Before y) ys zs
-      (AllPairs-head Before y (ys ++ zs) h))
-      (before_part ys zs (AllPairs-tail Before y (ys ++ zs) h))
-
-  pub after_part : (ys zs : List X) → PassBefore test (ys ++ zs) → PassBefore test zs
-  after_part [] zs h = h
-  after_part (y ∷ ys) zs h = after_part ys zs (AllPairs-tail Before y (ys ++ zs) h)
-
-  pub all_before_pass : (ys : List X) (z : X) (zs : List X) → PassBefore test (ys ++ z ∷ zs) → test z ≡ true →
-      All (λ y. test y ≡ true) ys
-  all_before_pass [] z zs h pass = All-nil (λ y. test y ≡ true)
-  all_before_pass (y ∷ ys) z zs h pass = All-cons (λ y. test y ≡ true) y ys
-      (All-head (Before y) z zs (All-rest (Before y) ys (z ∷ zs) (AllPairs-head Before y (ys ++ z ∷ zs) h)) pass)
-      (all_before_pass ys z zs (AllPairs-tail Before y (ys ++ z ∷ zs) h) pass)
-
-  pub all_after_fail : (ys : List X) (z : X) (zs : List X) → PassBefore test (ys ++ z ∷ zs) → test z ≡ false →
-      All (λ y. test y ≡ false) zs
-  all_after_fail ys z zs h fail = All-weaker (λ y. test y ≡ true → test z ≡ true) (λ y. test y ≡ false)
-      (λ y pass. false_from_ne_true (test y) (λ t. false≢true (sym fail ∙ pass t))) zs
-      (AllPairs-head Before z zs (after_part ys (z ∷ zs) h))
 
 -- ---- the last entry that passes
 

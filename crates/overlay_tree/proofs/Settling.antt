@@ -10,7 +10,8 @@ use Rattle.overlay_scan.specs.declared.list.LiveEdge.{LiveEdge}
 use Rattle.overlay_tree.specs.declared.links.Links.{Links}
 use Rattle.overlay_tree.specs.declared.links.NodeIndex.{NodeIndex}
 use Rattle.overlay_tree.specs.Sides.{unused_before}
-use Rattle.overlay_tree.specs.Descents.{live_entries, alone, Tells, IsDropped, IsPassed}
+use Rattle.overlay_scan.specs.HeldEntries.{Tells}
+use Rattle.overlay_tree.specs.Descents.{live_entries, alone, IsDropped, IsPassed}
 use Rattle.overlay_tree.specs.Forests.{fork_at, tree_of, tree_at, IsChain, CanSettle, AreFewVisits}
 use Rattle.overlay_tree.specs.Forests.{IsSettledSo}
 use Rattle.overlay_tree.specs.Trees.{Tree, Leaf, Fork, root_of, items, height, AreDistinct, IsIn, Stands, IsTreeAt}

@@ -1,13 +1,13 @@
 -- What a way down through a tree finds, and what it leaves.
-use Rattle.std.specs.Prelude.{◌≡◌, Bool, true, false, cond, not, ℕ, ℤ, int_lt, List, [], ◌∷◌, ◌++◌, All, Option, Some}
+use Rattle.std.specs.Prelude.{◌≡◌, Bool, false, cond, ℕ, ℤ, int_lt, List, [], ◌∷◌, ◌++◌, Option, Some}
 use Rattle.std.specs.Prelude.{None}
-use Rattle.std.specs.Prelude.{slice_get, filter_map, option_map}
-use Rattle.std.specs.List.{last_or}
+use Rattle.std.specs.Prelude.{slice_get, filter_map}
 use Rattle.std.specs.Ordering.{is_gt}
 use Rattle.std.specs.declared.cmp.Ordering.{Ordering}
 use Rattle.overlay_geom.specs.declared.point.IntPoint.{IntPoint}
-use Rattle.overlay_scan.specs.Lists.{plain_entries, PassBefore}
-use Rattle.overlay_scan.specs.Scan.{Entry, live_at, HoldsOfLine}
+use Rattle.overlay_scan.specs.HeldEntries.{live_of, Tells, IsParted}
+use Rattle.overlay_scan.specs.Lists.{PassBefore}
+use Rattle.overlay_scan.specs.Scan.{Entry}
 use Rattle.overlay_scan.specs.declared.list.LiveEdge.{LiveEdge}
 use Rattle.overlay_tree.specs.declared.descend.End.{End}
 use Rattle.overlay_tree.specs.declared.descend.End.TheVariants.{Ended, Found}
@@ -19,7 +19,7 @@ use Rattle.overlay_tree.specs.Trees.{Tree, Leaf, Fork, items, IsIn, Stands, IsTr
 
 -- the entries of these nodes that are live at x, in order
 abbrev pub live_entries : {I V : Type 0} → (I → ℤ) → ℤ → List (LiveEdge I V) → List ℕ → List (Entry V)
-live_entries whole x es is = live_at x (plain_entries whole (filter_map (slice_get es) is))
+live_entries whole x es is = live_of whole x (filter_map (slice_get es) is)
 
 -- the tree of one node, or of none
 abbrev pub alone : Option NodeIndex → Tree
@@ -46,18 +46,6 @@ passed_on Right value (Some v) = Some v
 abbrev pub end_above : {V : Type 0} → Side → V → End V → End V
 end_above side value (Ended j) = Ended j
 end_above side value (Found v) = Found (passed_on side value v)
-
--- the order's answers say which entries pass
-abbrev pub Tells : {I V : Type 0} → (I → ℤ) → (List (IntPoint I) → Ordering → Type 0) → (Entry V → Bool) → List
-    (Entry V) → Type 0
-Tells whole post passes fs = All (λ f. HoldsOfLine whole f.edge
-    (λ line. (o : Ordering) → post line o → not (is_gt o) ≡ passes f)) fs
-
--- the entries before pass, those after do not, and the value is the last one's before
-pub record IsParted {V : Type 0} (passes : Entry V → Bool) (before after : List (Entry V)) (v : Option V) : Type 0 where
-  pub pass : All (λ f. passes f ≡ true) before
-  pub fail : All (λ f. passes f ≡ false) after
-  pub value : v ≡ option_map (λ (f : Entry V). f.value) (last_or None before)
 
 -- in the place of some nodes in the middle of t stand others
 pub record IsExchanged (old new : List Links) (t : Tree) (root : Option NodeIndex)

@@ -1,6 +1,6 @@
 -- What a scan of either kind is seen as.
 use Rattle.std.specs.Prelude.{ℕ, ℤ, Bool, true, false}
-use Rattle.overlay_scan.specs.Lists.{plain_sweep}
+use Rattle.overlay_scan.specs.HeldEntries.{plain_sweep}
 use Rattle.overlay_scan.specs.Scan.{Sweep}
 use Rattle.overlay_tree.specs.HeldEdges.{held_sweep, IsQuick}
 use Rattle.overlay_tree.specs.declared.either.EitherScan.{EitherScan}

@@ -3,12 +3,13 @@ use Rattle.std.specs.Prelude.{◌≡◌, ℕ, zero, suc, ◌+◌, ◌*◌, ◌^�
 use Rattle.std.specs.Prelude.{slice_get, length, ℤ}
 use Rattle.std.specs.declared.cmp.Ordering.{Ordering}
 use Rattle.overlay_geom.specs.declared.point.IntPoint.{IntPoint}
+use Rattle.overlay_scan.specs.HeldEntries.{Tells, IsParted}
 use Rattle.overlay_scan.specs.Lists.{PassBefore}
 use Rattle.overlay_scan.specs.Scan.{Entry}
 use Rattle.overlay_scan.specs.declared.list.LiveEdge.{LiveEdge}
 use Rattle.overlay_tree.specs.declared.links.Links.{Links}
 use Rattle.overlay_tree.specs.declared.links.NodeIndex.{NodeIndex}
-use Rattle.overlay_tree.specs.Descents.{live_entries, alone, CanDescend, Tells, IsParted}
+use Rattle.overlay_tree.specs.Descents.{live_entries, alone, CanDescend}
 use Rattle.overlay_tree.specs.Trees.{Tree, Leaf, Fork, items, IsIn, AreDistinct, IsTreeAt, stored_height}
 
 -- ---- the tree that stands below a root

@@ -11,7 +11,7 @@ use crate::nodes::ScanNodes;
 use overlay_geom::number::IntNumber;
 use overlay_geom::path::IntLine;
 use overlay_geom::point::IntPoint;
-use overlay_scan::list::LiveEdge;
+use overlay_scan::list::{LiveEdge, has_ended};
 use std::alloc::Allocator;
 use std::cmp::Ordering;
 
@@ -106,13 +106,6 @@ impl<I: IntNumber, V: Copy, A: Allocator> ScanNodes<I, V, A> {
         let ([a, b], value) = self.entry(i);
         LiveEdge { a, b, value }
     }
-}
-
-// Whether the edge ends at or before x.
-fn has_ended<I: IntNumber, V: Copy>(f: &LiveEdge<I, V>, x: I) -> bool
-    ensures { result ≡ not (int_lt (I.whole x) (I.whole f.now.b.x)) }
-{
-    !x.compare(f.b.x).is_lt()
 }
 
 // The side on which the way goes on beside a line.

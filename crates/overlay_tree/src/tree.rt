@@ -3,19 +3,20 @@
 ghost use Rattle.std.specs.Prelude.{◌≡◌, [], ◌∷◌, true, not, int_lt, Some, OnOk, OnErr, IsOkUnless};
 ghost use Rattle.std.specs.Ordering.{is_gt};
 ghost use Rattle.overlay_geom.specs.Lines.{plain_line};
-ghost use Rattle.overlay_scan.specs.Lists.{plain_entry, plain_entries, IsInRange, is_lower};
+ghost use Rattle.overlay_scan.specs.Lists.{plain_entry, IsInRange, is_lower};
 ghost use Rattle.overlay_scan.specs.Scan.{empty_sweep, live_at, moved_to};
 ghost use Rattle.overlay_scan.specs.Scan.{MayMoveTo, IsOver, IsAsked, IsSweep, IsPutIn};
 ghost use Rattle.overlay_scan.specs.Scan.{MeetsOthers, IsNewAmong, value_below};
 ghost use Rattle.overlay_scan.specs.Scan.{IsCallableOn, IsAnsweredBy, AnswersRise, value_up_to};
-ghost use Rattle.overlay_tree.specs.HeldEdges.{held_sweep, IsLookedUp, IsQuick};
+ghost use Rattle.overlay_scan.specs.HeldEntries.{live_of, IsLookedUp};
+ghost use Rattle.overlay_tree.specs.HeldEdges.{held_sweep, IsQuick};
 
 use crate::links::NodeIndex;
 use crate::nodes::ScanNodes;
 use overlay_geom::error::OverlayError;
 use overlay_geom::number::IntNumber;
 use overlay_geom::path::IntLine;
-use overlay_scan::list::{LiveEdge, is_under, live_edge};
+use overlay_scan::list::{LiveEdge, live_edge, order_to};
 use overlay_scan::scan::Scan;
 use std::alloc::Allocator;
 use std::cmp::Ordering;
@@ -67,9 +68,9 @@ impl<I: IntNumber, V: Copy, A: Allocator> ScanTree<I, V, A> {
 
     // Looks up by an order at x.
     fn look_up<F: Fn(IntLine<I>) -> Ordering>(&mut self, x: I, order: &F) -> Option<V>
-        requires { IsCallableOn I.whole (F.pre order.now)
-            (live_at (I.whole x) (plain_entries I.whole self.old.entries)) }
-        ensures found { IsLookedUp I.whole (F.post order.now) (I.whole x) self.old self.new [] result }
+        requires { IsCallableOn I.whole (F.pre order.now) (live_of I.whole (I.whole x) self.old.entries) }
+        ensures found { IsLookedUp I.whole (F.post order.now) (I.whole x) self.old.entries self.new.entries
+            [] result }
         ensures quick { IsQuick self.old self.new 0 }
         ensures reached { self.new.reached ≡ Some x }
     {
@@ -88,10 +89,9 @@ impl<I: IntNumber, V: Copy, A: Allocator> ScanTree<I, V, A> {
         order: &F,
     ) -> Result<(), OverlayError>
         requires live { int_lt (I.whole x) (I.whole entry.b.x) ≡ true }
-        requires callable { IsCallableOn I.whole (F.pre order.now)
-            (live_at (I.whole x) (plain_entries I.whole self.old.entries)) }
-        ensures ok { OnOk result ((v : _) × IsLookedUp I.whole (F.post order.now) (I.whole x) self.old self.new
-            (plain_entry I.whole entry ∷ []) v) }
+        requires callable { IsCallableOn I.whole (F.pre order.now) (live_of I.whole (I.whole x) self.old.entries) }
+        ensures ok { OnOk result ((v : _) × IsLookedUp I.whole (F.post order.now) (I.whole x) self.old.entries
+            self.new.entries (plain_entry I.whole entry ∷ []) v) }
         ensures quick { OnOk result (IsQuick self.old self.new 1) }
         ensures err { OnErr result (self.new ≡ record self.old { reached = Some x }) }
         ensures reached { self.new.reached ≡ Some x }
@@ -192,19 +192,5 @@ impl<I: IntNumber, V: Copy, A: Allocator> Scan<I, V> for ScanTree<I, V, A> {
         self.root = None;
         self.free = None;
         self.reached = None;
-    }
-}
-
-// `Less` for a line that is under the edge, and `Greater` for another.
-fn order_to<I: IntNumber, V: Copy>(line: IntLine<I>, e: &LiveEdge<I, V>) -> Ordering
-    requires one { IsInRange I.limit (plain_line I.whole line) }
-    requires other { IsInRange I.limit (plain_entry I.whole e.now).edge }
-    ensures { not (is_gt result) ≡ is_lower (plain_line I.whole line) (plain_entry I.whole e.now).edge }
-{
-    let f = live_edge(line, e.value);
-    if is_under(&f, e) {
-        Ordering::Less
-    } else {
-        Ordering::Greater
     }
 }

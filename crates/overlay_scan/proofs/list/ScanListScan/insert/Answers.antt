@@ -1,90 +1,68 @@
 -- The entry goes in above those under it.
-use Rattle.std.proofs.Common.{length, ap, sym, ◌∙◌, subst}
-use Rattle.std.proofs.lemmas.List.Elements.{All-same}
+use Rattle.std.proofs.Common.{◌≡◌, not, rules, List, [], ◌∷◌, sym, ap, subst}
+use Rattle.std.specs.Ordering.{is_gt}
 use Rattle.overlay_geom.specs.Lines.{plain_line}
-use Rattle.overlay_scan.specs.Scan.{Entry, live_at}
-use Rattle.overlay_scan.specs.Lists.{plain_entry, plain_entries, plain_sweep, IsInRange, PassBefore, is_lower}
-use Rattle.overlay_scan.proofs.Moving.{sweep_after_move, sweep_moved, sweep_from_live, live_in_range}
-use Rattle.overlay_scan.proofs.Prefixes.{fits_in}
-use Rattle.overlay_scan.proofs.PutIn.{lower_before, counted, placed, put_in, live_with}
+use Rattle.overlay_geom.specs.declared.point.IntPoint.{IntPoint}
+use Rattle.overlay_scan.specs.HeldEntries.{plain_sweep}
+use Rattle.overlay_scan.specs.Lists.{plain_entry, IsInRange, is_lower}
+use Rattle.overlay_scan.proofs.Asked.{only_moved, is_put_in, sweep_with, ends_after, may_compare, on_err}
+use Rattle.overlay_scan.proofs.Moving.{sweep_moved}
 use Rattle.overlay_scan.proofs.list.ScanListScan.insert.Goals as goal
 
-pub count_under-place-requires-clause-entries : goal.count_under-place-requires-clause-entries
-count_under-place-requires-clause-entries g c =
+pub put_in-requires-clause-live : goal.put_in-requires-clause-live
+put_in-requires-clause-live g c =
     let whole = g.I.IntNumber.whole in
-    let live = sweep_after_move g.I.IntNumber.limit (whole c.args.x) (plain_sweep whole c.args.self.now)
-    c.requires.state c.requires.moves in
-    All-same (λ f. IsInRange g.I.IntNumber.limit f.edge) (plain_entries whole c.as_slice.result.now)
-    (live_at (whole c.args.x) (plain_entries whole c.args.self.now.live))
-    (ap (plain_entries whole) c.as_slice.ensures ∙ ap (λ s. s.entries) c.move_to.ensures)
-    (live_in_range g.I.IntNumber.limit (whole c.args.x)
-    (live_at (whole c.args.x) (plain_entries whole c.args.self.now.live)) live)
+    ends_after g.I.IntNumber.limit (whole c.args.x) (plain_line whole c.args.edge)
+    (plain_entry whole c.live_edge-entry.result).edge (ap (λ n. n.edge) c.live_edge-entry.ensures) c.requires.over
 
-pub count_under-place-requires-clause-front : goal.count_under-place-requires-clause-front
-count_under-place-requires-clause-front g c =
+pub put_in-requires-clause-callable : goal.put_in-requires-clause-callable
+put_in-requires-clause-callable g c k d lt a b at_a at_b =
     let whole = g.I.IntNumber.whole in
-    let x = whole c.args.x in
-    let e = plain_line whole c.args.edge in
-    let fs = live_at x (plain_entries whole c.args.self.now.live) in
-    let live = sweep_after_move g.I.IntNumber.limit x (plain_sweep whole c.args.self.now) c.requires.state
-    c.requires.moves in
-    subst (λ d. PassBefore (λ f. is_lower f.edge d) (plain_entries whole c.as_slice.result.now))
-    (sym (ap (λ n. n.edge) c.live_edge-entry.ensures))
-    (subst (PassBefore (λ f. is_lower f.edge e))
-    (sym (ap (plain_entries whole) c.as_slice.ensures ∙ ap (λ s. s.entries) c.move_to.ensures))
-    (lower_before g.I.IntNumber.limit x e fs live c.requires.over c.requires.meets))
+    let limit = g.I.IntNumber.limit in
+    let old = c.args.self.now in
+    let asked = (plain_entry whole c.live_edge-entry.result).edge in
+    let range = subst (IsInRange limit) (sym (ap (λ n. n.edge) c.live_edge-entry.ensures))
+    (record { a = c.requires.over.a_in_range; b = c.requires.over.b_in_range }) in
+    let both = may_compare whole limit c.args.x old.live old.reached asked c.requires.state c.requires.moves range
+    k d lt a b at_a at_b in
+    let one : IsInRange limit (plain_line whole (a ∷ b ∷ [])) = both.0 in
+    let other : IsInRange limit asked = both.1 in
+    search rules
 
-pub insert-requires : goal.insert-requires
-insert-requires g c =
-    let whole = g.I.IntNumber.whole in
-    fits_in (λ f. is_lower f.edge (plain_entry whole c.live_edge-entry.result).edge)
-    (plain_entry whole) c.as_slice.result.now c.count_under-place.result _ c.count_under-place.ensures
-    (ap length c.as_slice.ensures)
+pub returns-in_err-put_in-clause-err : goal.returns-in_err-put_in-clause-err
+returns-in_err-put_in-clause-err g c =
+    let old = c.args.self.now in
+    let new = c.put_in.new.self in
+    on_err c.from_residual.result (only_moved g.I.IntNumber.whole c.args.x old.live old.reached c.requires.moves
+    new.live new.reached c.put_in.ensures.reached c.in_err-put_in.ensures.err)
 
-pub returns-in_err-insert-clause-state : goal.returns-in_err-insert-clause-state
-returns-in_err-insert-clause-state g c =
+pub returns-in_err-put_in-clause-state : goal.returns-in_err-put_in-clause-state
+returns-in_err-put_in-clause-state g c =
     let whole = g.I.IntNumber.whole in
-    sweep_moved g.I.IntNumber.limit (whole c.args.x) (plain_sweep whole c.args.self.now)
-    (record {
-      entries = plain_entries whole c.insert.new.self;
-      reached =
-          (plain_sweep whole c.move_to.new.self).reached;
-    }) c.requires.state c.requires.moves
-    (ap (λ es. record { entries = plain_entries whole es; reached = (plain_sweep whole c.move_to.new.self).reached })
-    c.in_err-insert.ensures.err ∙ c.move_to.ensures)
+    let old = c.args.self.now in
+    let new = c.put_in.new.self in
+    sweep_moved g.I.IntNumber.limit (whole c.args.x) (plain_sweep whole old) (plain_sweep whole new) c.requires.state
+    c.requires.moves (only_moved whole c.args.x old.live old.reached c.requires.moves new.live new.reached
+    c.put_in.ensures.reached c.in_err-put_in.ensures.err)
 
 pub returns-clause-ok : goal.returns-clause-ok
 returns-clause-ok g c =
     let whole = g.I.IntNumber.whole in
-    let x = whole c.args.x in
-    let e = plain_line whole c.args.edge in
-    let fs = live_at x (plain_entries whole c.args.self.now.live) in
-    let live = sweep_after_move g.I.IntNumber.limit x (plain_sweep whole c.args.self.now) c.requires.state
-    c.requires.moves in
-    let moved = ap (λ s. s.entries) c.move_to.ensures in
-    let n : Entry _ = record { edge = e; value = c.args.value } in
-    let place = counted whole c.as_slice.result.now c.live_edge-entry.result n fs c.count_under-place.result
-    (ap (plain_entries whole) c.as_slice.ensures ∙ moved) c.live_edge-entry.ensures c.count_under-place.ensures in
-    put_in g.I.IntNumber.limit x e fs live c.requires.over c.requires.meets c.requires.fresh c.args.value
-    (plain_entries whole c.insert.new.self)
-    (placed whole c.move_to.new.self.live c.insert.new.self c.live_edge-entry.result n fs
-    c.count_under-place.result _ moved c.live_edge-entry.ensures place c.in_ok-insert.ensures.ok)
+    let old = c.args.self.now in
+    let new = c.put_in.new.self in
+    let found = c.in_ok-put_in.ensures.ok in
+    let asked = (plain_entry whole c.live_edge-entry.result).edge in
+    is_put_in whole g.I.IntNumber.limit c.args.x old.live new.live old.reached new.reached c.requires.state
+    c.requires.moves (plain_line whole c.args.edge) c.requires.meets
+    (λ line o. List (IntPoint g.row.I.Denot) × (not (is_gt o) ≡ is_lower (plain_line whole line) asked))
+    found.0 asked (ap (λ n. n.edge) c.live_edge-entry.ensures) (λ line o answered. answered.1)
+    c.put_in.ensures.reached c.requires.over c.requires.fresh c.args.value (plain_entry whole c.live_edge-entry.result)
+    c.live_edge-entry.ensures found.1
 
 pub returns-clause-state : goal.returns-clause-state
 returns-clause-state g c =
-    let whole = g.I.IntNumber.whole in
-    let x = whole c.args.x in
-    let e = plain_line whole c.args.edge in
-    let fs = live_at x (plain_entries whole c.args.self.now.live) in
-    let live = sweep_after_move g.I.IntNumber.limit x (plain_sweep whole c.args.self.now) c.requires.state
-    c.requires.moves in
-    sweep_from_live g.I.IntNumber.limit x
-    (record {
-      entries = plain_entries whole c.insert.new.self;
-      reached =
-          (plain_sweep whole c.move_to.new.self).reached;
-    })
-    (ap (λ s. s.reached) c.move_to.ensures)
-    (live_with g.I.IntNumber.limit x (record { edge = e; value = c.args.value }) fs
-    (plain_entries whole c.insert.new.self) live c.requires.over
-    (λ k d lt. c.requires.meets k d lt (c.requires.fresh k d lt)) (returns-clause-ok g c))
+    let old = c.args.self.now in
+    let new = c.put_in.new.self in
+    sweep_with g.I.IntNumber.whole g.I.IntNumber.limit c.args.x old.live new.live old.reached new.reached
+    c.requires.state c.requires.moves (plain_line g.I.IntNumber.whole c.args.edge) c.requires.meets
+    c.put_in.ensures.reached c.requires.over c.requires.fresh c.args.value (returns-clause-ok g c)

@@ -1,13 +1,16 @@
--- The edge that is put in ends at the lesser one or after it.
-use Rattle.std.proofs.Common.{subst, sym}
-use Rattle.overlay_scan.specs.Ends.{NoneEndsBefore}
-use Rattle.std.specs.Prelude.{Some}
-use Rattle.overlay_scan.proofs.LeastEnds.{none_with}
+-- What is dropped is not live.
+use Rattle.std.proofs.Common.{int_lt, ap, ◌∙◌}
+use Rattle.std.specs.List.{filter, insert}
+use Rattle.overlay_scan.specs.HeldEntries.{live_of}
+use Rattle.overlay_scan.proofs.LiveParts.{live_kept, live_inserted}
 use Rattle.overlay_scan.proofs.live.LiveEdges.insert.Goals as goal
 
-pub invariant_of-self-2 : goal.invariant_of-self-2
-invariant_of-self-2 g c =
-    subst (NoneEndsBefore g.I.IntNumber.whole (Some c.lesser_end.result)) (sym c.in_ok-insert.ensures.items)
-    (none_with g.I.IntNumber.whole c.self.inside.least_end c.self.inside.entries.items c.args.place c.args.edge
-    c.lesser_end.result
-    c.self.invariant c.lesser_end.ensures.edge c.lesser_end.ensures.end)
+pub returns-then-self-eq0-clause-ok : goal.returns-then-self-eq0-clause-ok
+returns-then-self-eq0-clause-ok g c =
+    let whole = g.I.IntNumber.whole in
+    let x = whole c.args.x in
+    ap (live_of whole x) (c.drop_ended.ensures
+    ∙ ap (filter (λ f. int_lt x (whole f.b.x))) (c.in_ok-insert.ensures.items
+    ∙ ap (λ es. insert es c.args.place c.args.edge) c.self.view_is))
+    ∙ live_kept whole x (insert c.args.self.now c.args.place c.args.edge)
+    ∙ live_inserted whole x c.args.self.now c.args.place c.args.edge c.requires.live

@@ -41,7 +41,7 @@ returns-clause-found g c =
     looked_up g.I.IntNumber.whole (goal.F-post g c.args.order.now) (g.I.IntNumber.whole c.args.x) nodes.entries
     nodes.entries
     nodes.links s.new.self.links c.self.inside.root s.result.root s.result.free None held.0 s.result.value held.2.at
-    (λ k there. refl) found.0 c.args.self.now _ (ap (λ v. v.entries) (sym c.self.view_is))
+    (λ k there. refl) found.0 c.args.self.now.entries _ (ap (λ v. v.entries) (sym c.self.view_is))
     (ap (λ e. filter_map (slice_get e) (items (tree_at s.new.self.links s.result.root))) s.ensures.entries) [] refl
 
 pub returns-clause-quick : goal.returns-clause-quick
@@ -54,8 +54,9 @@ returns-clause-quick g c =
     quick g.I.IntNumber.whole (goal.F-post g c.args.order.now) (g.I.IntNumber.whole c.args.x) nodes.entries
     nodes.entries
     nodes.links s.new.self.links c.self.inside.root s.result.root s.result.free None held.0 s.result.value held.2.at
-    (λ k there. refl) found.0 c.args.self.now _ (ap (λ v. v.entries) (sym c.self.view_is))
-    (ap (λ e. filter_map (slice_get e) (items (tree_at s.new.self.links s.result.root))) s.ensures.entries) 0 refl
+    (λ k there. refl) found.0 c.args.self.now.entries _ (ap (λ v. v.entries) (sym c.self.view_is))
+    (ap (λ e. filter_map (slice_get e) (items (tree_at s.new.self.links s.result.root))) s.ensures.entries)
+    c.args.self.now _ refl refl 0 refl
     c.self.invariant.1 (c.self.invariant.1 ∙ sym s.ensures.count)
     (subst (λ v. AreFewVisits v s.new.self.visits (length (items held.0)) found.0.dropped)
     (ap (λ v. v.visits) c.self.view_is) found.1)

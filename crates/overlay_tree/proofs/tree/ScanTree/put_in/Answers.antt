@@ -52,7 +52,7 @@ returns-clause-ok g c =
       looked_up whole (goal.F-post g c.args.order.now) (whole c.args.x) nodes.entries now.entries
           nodes.links s.new.self.links c.self.inside.root s.result.root s.result.free (Some c.in_ok-fresh.fresh.node)
           held.0
-          s.result.value held.2.at f.kept found.0 c.args.self.now _ (ap (λ v. v.entries) (sym c.self.view_is))
+          s.result.value held.2.at f.kept found.0 c.args.self.now.entries _ (ap (λ v. v.entries) (sym c.self.view_is))
           (ap (λ e. filter_map (slice_get e) (items (tree_at s.new.self.links s.result.root))) s.ensures.entries)
           (plain_entry whole c.args.entry ∷ [])
           (one_live whole (whole c.args.x) now.entries c.in_ok-fresh.fresh.node c.args.entry f.there c.requires.live),
@@ -69,8 +69,9 @@ returns-clause-quick g c =
     let found = s.ensures.found held.0 f.unused f.can in
     quick whole (goal.F-post g c.args.order.now) (whole c.args.x) nodes.entries now.entries
     nodes.links s.new.self.links c.self.inside.root s.result.root s.result.free (Some c.in_ok-fresh.fresh.node) held.0
-    s.result.value held.2.at f.kept found.0 c.args.self.now _ (ap (λ v. v.entries) (sym c.self.view_is))
-    (ap (λ e. filter_map (slice_get e) (items (tree_at s.new.self.links s.result.root))) s.ensures.entries) 1 refl
+    s.result.value held.2.at f.kept found.0 c.args.self.now.entries _ (ap (λ v. v.entries) (sym c.self.view_is))
+    (ap (λ e. filter_map (slice_get e) (items (tree_at s.new.self.links s.result.root))) s.ensures.entries)
+    c.args.self.now _ refl refl 1 refl
     c.self.invariant.1 (c.fresh.ensures.enough ∙ sym s.ensures.count)
     (subst (λ v. AreFewVisits v s.new.self.visits (length (items held.0)) found.0.dropped)
     (c.fresh.ensures.visits ∙ ap (λ v. v.visits) c.self.view_is) found.1)

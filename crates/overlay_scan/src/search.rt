@@ -1,0 +1,165 @@
+//! Searches in a list in which some edges have ended.
+
+ghost use Rattle.std.specs.Prelude.{◌≡◌, ◌+◌, ◌-◌, ◌≤◌, ◌<◌, ◌∷◌, [], true, not, int_lt, length};
+ghost use Rattle.std.specs.Prelude.{drop, get_or, IfSome, IsSome};
+ghost use Rattle.std.specs.Ordering.{is_gt};
+ghost use Rattle.std.specs.declared.cmp.Ordering.{Ordering};
+ghost use Rattle.overlay_scan.specs.HeldEntries.{live_of};
+ghost use Rattle.overlay_scan.specs.Scan.{IsCallableOn};
+ghost use Rattle.overlay_scan.specs.Searches.{IsBetween};
+
+use crate::list::{LiveEdge, has_ended};
+use overlay_geom::number::IntNumber;
+use overlay_geom::path::IntLine;
+use std::cmp::Ordering;
+
+// Two places, between which another one is searched.
+#[derive(Clone, Copy)]
+struct Bounds {
+    low: usize,
+    high: usize,
+}
+
+/// The place above the live entries that the order does not answer `Greater`, guessed to be at a place. There is none
+/// where more than `most` entries that have ended stand side by side.
+pub fn search<I: IntNumber, V: Copy, F: Fn(IntLine<I>) -> Ordering>(
+    entries: &[LiveEdge<I, V>],
+    guess: usize,
+    most: usize,
+    x: I,
+    order: &F,
+) -> Option<usize>
+    requires { IsCallableOn I.whole (F.pre order.now) (live_of I.whole (I.whole x) entries.now) }
+    ensures found { IfSome result (λ n. IsBetween I.whole (F.post order.now) (I.whole x) entries.now n n) }
+    ensures some { length entries.now ≤ most → IsSome result }
+{
+    let mut bounds = begun(entries, guess, most, x, order)?;
+    while bounds.low < bounds.high {
+        let middle = bounds.low + (bounds.high - bounds.low) / 2;
+        bounds = narrowed(entries, bounds, middle, most, x, order)?;
+    }
+    Some(bounds.low)
+}
+
+// Where the search begins. Where the entry below the guess is live and passes, the next live one is asked.
+fn begun<I: IntNumber, V: Copy, F: Fn(IntLine<I>) -> Ordering>(
+    entries: &[LiveEdge<I, V>],
+    guess: usize,
+    most: usize,
+    x: I,
+    order: &F,
+) -> Option<Bounds>
+    requires { IsCallableOn I.whole (F.pre order.now) (live_of I.whole (I.whole x) entries.now) }
+    ensures between { IfSome result
+        (λ b. IsBetween I.whole (F.post order.now) (I.whole x) entries.now b.low b.high) }
+    ensures some { length entries.now ≤ most → IsSome result }
+{
+    let bounds = guessed(entries, guess, x, order);
+    if bounds.low == guess && guess < bounds.high {
+        narrowed(entries, bounds, guess, most, x, order)
+    } else {
+        Some(bounds)
+    }
+}
+
+// What the entry below the guess tells, if it is live.
+fn guessed<I: IntNumber, V: Copy, F: Fn(IntLine<I>) -> Ordering>(
+    entries: &[LiveEdge<I, V>],
+    guess: usize,
+    x: I,
+    order: &F,
+) -> Bounds
+    requires { IsCallableOn I.whole (F.pre order.now) (live_of I.whole (I.whole x) entries.now) }
+    ensures { IsBetween I.whole (F.post order.now) (I.whole x) entries.now result.low result.high }
+{
+    let all = Bounds {
+        low: 0,
+        high: entries.len(),
+    };
+    if guess == 0 || all.high < guess {
+        return all;
+    }
+    let f = &entries[guess - 1];
+    if has_ended(f, x) {
+        all
+    } else if passes(order, f) {
+        Bounds {
+            low: guess,
+            high: all.high,
+        }
+    } else {
+        Bounds {
+            low: 0,
+            high: guess - 1,
+        }
+    }
+}
+
+// The part below a place between the bounds, or the part above it, by the next live entry from there on.
+fn narrowed<I: IntNumber, V: Copy, F: Fn(IntLine<I>) -> Ordering>(
+    entries: &[LiveEdge<I, V>],
+    bounds: Bounds,
+    middle: usize,
+    most: usize,
+    x: I,
+    order: &F,
+) -> Option<Bounds>
+    requires between { IsBetween I.whole (F.post order.now) (I.whole x) entries.now bounds.low bounds.high }
+    requires callable { IsCallableOn I.whole (F.pre order.now) (live_of I.whole (I.whole x) entries.now) }
+    requires above { bounds.low ≤ middle }
+    requires below { middle < bounds.high }
+    ensures between { IfSome result
+        (λ b. IsBetween I.whole (F.post order.now) (I.whole x) entries.now b.low b.high) }
+    ensures smaller { IfSome result (λ b. b.high - b.low < bounds.high - bounds.low) }
+    ensures some { length entries.now ≤ most → IsSome result }
+{
+    let k = next_live(entries, middle, bounds.high, x);
+    if most < k - middle {
+        return None;
+    }
+    if k < bounds.high && passes(order, &entries[k]) {
+        Some(Bounds {
+            low: k + 1,
+            high: bounds.high,
+        })
+    } else {
+        Some(Bounds {
+            low: bounds.low,
+            high: middle,
+        })
+    }
+}
+
+// The first place from one on, up to another, whose entry is live, or that other one.
+fn next_live<I: IntNumber, V: Copy>(
+    entries: &[LiveEdge<I, V>],
+    from: usize,
+    to: usize,
+    x: I,
+) -> usize
+    requires order { from ≤ to }
+    requires within { to ≤ length entries.now }
+    ensures from { from ≤ result }
+    ensures to { result ≤ to }
+    ensures ended { live_of I.whole (I.whole x) (drop from entries.now)
+        ≡ live_of I.whole (I.whole x) (drop result entries.now) }
+    ensures live { (f : LiveEdge I V) → result < to → f ≡ get_or entries.now result f
+        → int_lt (I.whole x) (I.whole f.b.x) ≡ true }
+{
+    let mut k = from;
+    while k < to && has_ended(&entries[k], x) {
+        k += 1;
+    }
+    k
+}
+
+// Whether the order does not answer `Greater` for the entry's line.
+fn passes<I: IntNumber, V: Copy, F: Fn(IntLine<I>) -> Ordering>(
+    order: &F,
+    f: &LiveEdge<I, V>,
+) -> bool
+    requires { F.pre order.now (f.now.a ∷ f.now.b ∷ []) }
+    ensures { (o : Ordering) × F.post order.now (f.now.a ∷ f.now.b ∷ []) o × (result ≡ not (is_gt o)) }
+{
+    !order([f.a, f.b]).is_gt()
+}
