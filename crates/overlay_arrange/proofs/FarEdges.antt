@@ -1,15 +1,12 @@
--- Edges of which the one lies wholly below the other one, or starts right of its end, meet nowhere.
-use Rattle.std.proofs.Common.{◌≡◌, ◌⊎◌, inl, inr, ℕ, Bool, true, false, cond, ◌<ℤ◌, ◌≤ℤ◌, int_lt, [], refl}
+-- Edges of which the one lies wholly below the other one, or starts right of its end, meet in ends alone.
+use Rattle.std.proofs.Common.{◌⊎◌, inl, inr, ℕ, Bool, true, false, cond, ◌<ℤ◌, ◌≤ℤ◌, int_lt, refl}
 use Rattle.std.specs.Bool.{Decides}
 use Rattle.std.proofs.lemmas.Bool.{false≢true}
 use Rattle.std.proofs.lemmas.Int.{by_lt_z}
 use Rattle.overlay_geom.specs.Edges.{CountedEdge, ends_of}
 use Rattle.overlay_geom.proofs.Comparisons.{Decides-int_lt}
-use Rattle.overlay_geom.proofs.PointOrder.{IsBefore, Decides-point_lt}
 use Rattle.overlay_geom.proofs.Signs.{linear}
-use Rattle.overlay_plane.specs.CutPoints.{met_at}
-use Rattle.overlay_plane.proofs.MetInBox.{AreApartInY, IsBelow, apart_in_y_have_no_common, apart_meet_nowhere}
-use Rattle.overlay_plane.proofs.MetInBox.{meet_nowhere}
+use Rattle.overlay_plane.proofs.MetInBox.{AreApartInY, IsBelow, apart_in_y_have_no_common}
 use Rattle.overlay_arrange.specs.Content.{IsHeld}
 use Rattle.overlay_arrange.specs.Extents.{extent_of}
 use Rattle.overlay_arrange.specs.Near.{IsFar, IsUnder}
@@ -47,35 +44,8 @@ apart_where_under : (e f : CountedEdge) → IsUnder e f ⊎ IsUnder f e → AreA
 apart_where_under e f (inl under) = inl (below_where_under e f under)
 apart_where_under e f (inr above) = inr (below_where_under f e above)
 
-exchanged : (e f : CountedEdge) → IsUnder e f ⊎ IsUnder f e → IsUnder f e ⊎ IsUnder e f
-exchanged e f (inl under) = inr under
-exchanged e f (inr above) = inl above
-
 -- edges far from one another meet in ends alone
 pub settled_where_far : (limit : ℕ) (e f : CountedEdge) → IsHeld limit e → IsHeld limit f → IsFar e f → AreSettled e f
 settled_where_far limit e f e_held f_held (inl right) = starting_right limit e f e_held f_held right
 settled_where_far limit e f e_held f_held (inr apart) = λ p common.
     absurd (apart_in_y_have_no_common (ends_of e) (ends_of f) p (apart_where_under e f apart) common)
-
--- and neither leads the other one through a whole point
-pub nowhere_where_far : (limit : ℕ) (e f : CountedEdge) → IsHeld limit e → IsHeld limit f → IsFar e f →
-    (met_at (ends_of e) (ends_of f) ≡ []) × (met_at (ends_of f) (ends_of e) ≡ [])
-nowhere_where_far limit e f e_held f_held = by
-  where
-    e_forward : IsBefore e.a e.b
-    e_forward = (Decides-point_lt e.a e.b).0 e_held.forward
-
-    f_forward : IsBefore f.a f.b
-    f_forward = (Decides-point_lt f.a f.b).0 f_held.forward
-
-    by : IsFar e f → (met_at (ends_of e) (ends_of f) ≡ []) × (met_at (ends_of f) (ends_of e) ≡ [])
-    by (inl right) = (
-      apart_meet_nowhere (ends_of e) (ends_of f) e_forward f_forward (inl right),
-      apart_meet_nowhere (ends_of f) (ends_of e) f_forward e_forward (inr right),
-    )
-    by (inr apart) = (
-      meet_nowhere (ends_of e) (ends_of f) e_forward f_forward
-          (λ p. apart_in_y_have_no_common (ends_of e) (ends_of f) p (apart_where_under e f apart)),
-      meet_nowhere (ends_of f) (ends_of e) f_forward e_forward
-          (λ p. apart_in_y_have_no_common (ends_of f) (ends_of e) p (apart_where_under f e (exchanged e f apart))),
-    )

@@ -20,7 +20,8 @@ use Rattle.overlay_arrange.specs.Cut.{IsEndOf}
 use Rattle.overlay_arrange.specs.Meetings.{AddsBoth, AreGathered, AreMeetings, HasBefore, IsAt, IsEndOrMet}
 use Rattle.overlay_arrange.specs.Meetings.{Meeting}
 use Rattle.overlay_arrange.specs.Near.{AreNear}
-use Rattle.overlay_arrange.proofs.FarEdges.{nowhere_where_far}
+use Rattle.overlay_arrange.specs.Settle.{AreSettled}
+use Rattle.overlay_arrange.proofs.LedToEnds.{leads_to_ends, led_to_ends, IsLedBy, LeadsNowhere}
 
 -- at one place stands one entry
 pub one_entry : {X : Type 0} (xs : List X) (i : ℕ) (x y : X) → IsAt xs i x → IsAt xs i y → x ≡ y
@@ -42,14 +43,6 @@ at_or_before k i lt = eq-or-lt_of_le (let le : k ≤ i = omega (arith, lt) in le
 -- one of the two places comes before place i; or the one is i, and the other one is among the places js
 abbrev pub IsLookedAt : ℕ → List ℕ → ℕ → ℕ → Type 0
 IsLookedAt i js k l = HasBefore i k l ⊎ (((k ≡ i) × Contains js l) ⊎ ((l ≡ i) × Contains js k))
-
--- h leads g through v
-abbrev IsLedBy : CountedEdge → CountedEdge → Point → Type 0
-IsLedBy g h v = Contains (met_at (ends_of g) (ends_of h)) v
-
--- h leads g through nothing but g's ends
-abbrev pub LeadsNowhere : CountedEdge → CountedEdge → Type 0
-LeadsNowhere g h = (v : Point) → IsLedBy g h v → IsEndOf g v
 
 module _ (es : List CountedEdge) where
   -- at first no pair has been looked at
@@ -153,8 +146,35 @@ module _ (es : List CountedEdge) where
               (λ (so_far : Contains js k). earlier k l g h at_g at_h (inr (inr (l_is, so_far))) v at)
               (λ (is : j ≡ k). back k l g h at_g at_h (sym is) l_is v at) (Contains-push_cases js j k has)
 
-    -- where all edges near e have been looked at, the pairs with e have: the other later ones lead it nowhere, and it
-    -- them; and an edge leads itself through its ends alone
+    -- a pair that meets in ends alone may be left out
+    pub pair_left_out : (limit : ℕ) (js : List ℕ) (j : ℕ) (f : CountedEdge) → IsHeld limit e → IsHeld limit f →
+        IsAt es j f → AreSettled e f → {ms : List Meeting} → AreGathered es (IsLookedAt i js) ms →
+        AreGathered es (IsLookedAt i (js ++ j ∷ [])) ms
+    pair_left_out limit js j f e_held f_held at_f settled gathered = gathered_of_more gathered
+        (λ k l g h at_g at_h pair. by k l g h at_g at_h pair)
+      where
+        is_e : (k : ℕ) (g : CountedEdge) → IsAt es k g → k ≡ i → e ≡ g
+        is_e k g at_g k_is = one_entry es i e g at_e (subst (λ n. IsAt es n g) k_is at_g)
+
+        is_f : (l : ℕ) (h : CountedEdge) → IsAt es l h → j ≡ l → f ≡ h
+        is_f l h at_h is = one_entry es j f h at_f (subst (λ n. IsAt es n h) (sym is) at_h)
+
+        by : (k l : ℕ) (g h : CountedEdge) → IsAt es k g → IsAt es l h → IsLookedAt i (js ++ j ∷ []) k l →
+            IsLookedAt i js k l ⊎ LeadsNowhere g h
+        by k l g h at_g at_h (inl before) = inl (inl before)
+        by k l g h at_g at_h (inr (inl (k_is, has))) = ⊎_elim
+            (λ (so_far : Contains js l). inl (inr (inl (k_is, so_far))))
+            (λ (is : j ≡ l). inr (subst (λ u. LeadsNowhere u h) (is_e k g at_g k_is)
+            (subst (LeadsNowhere e) (is_f l h at_h is) (leads_to_ends limit e f e_held f_held settled))))
+            (Contains-push_cases js j l has)
+        by k l g h at_g at_h (inr (inr (l_is, has))) = ⊎_elim
+            (λ (so_far : Contains js k). inl (inr (inr (l_is, so_far))))
+            (λ (is : j ≡ k). inr (subst (λ u. LeadsNowhere u h) (is_f k g at_g is)
+            (subst (LeadsNowhere f) (is_e l h at_h l_is) (led_to_ends limit e f e_held f_held settled))))
+            (Contains-push_cases js j k has)
+
+    -- where all edges near e have been looked at, the pairs with e have: the other later ones lead it to its ends alone,
+    -- and it them; and so an edge leads itself
     pub near_looked_at : (limit : ℕ) (js : List ℕ) {ms : List Meeting} → All (IsHeld limit) es → AreNear es i js →
         AreGathered es (IsLookedAt i js) ms → AreGathered es (HasBefore (i + 1)) ms
     near_looked_at limit js held near gathered = gathered_of_more gathered
@@ -163,28 +183,27 @@ module _ (es : List CountedEdge) where
         holds : (k : ℕ) (g : CountedEdge) → IsAt es k g → IsHeld limit g
         holds k g at = subst (IsHeld limit) at.1 (held k g at.0)
 
-        no_end : (g h : CountedEdge) → met_at (ends_of g) (ends_of h) ≡ [] → LeadsNowhere g h
-        no_end g h none v at = let empty = subst (λ (vs : List Point). Contains vs v) none at in absurd
-            (omega (arith, empty.1))
-
         later : (k l : ℕ) (g h : CountedEdge) → IsAt es k g → IsAt es l h → k ≡ i → i < l →
-            Contains js l ⊎ ((met_at (ends_of g) (ends_of h) ≡ []) × (met_at (ends_of h) (ends_of g) ≡ []))
+            Contains js l ⊎ (LeadsNowhere g h × LeadsNowhere h g)
         later k l g h at_g at_h is less = ⊎_elim (λ has. inl has)
-            (λ far. inr (nowhere_where_far limit g h (holds k g at_g) (holds l h at_h) far))
-            (near.all l g h less (subst (λ n. IsAt es n g) is at_g) at_h)
+            (λ settled. inr (
+              leads_to_ends limit g h (holds k g at_g) (holds l h at_h) settled,
+              led_to_ends limit g h (holds k g at_g) (holds l h at_h) settled,
+            ))
+            ((near g (subst (λ n. IsAt es n g) is at_g)).all l h (omega (arith, less)) at_h)
 
         by : (k l : ℕ) (g h : CountedEdge) → IsAt es k g → IsAt es l h → HasBefore (i + 1) k l →
             IsLookedAt i js k l ⊎ LeadsNowhere g h
         by k l g h at_g at_h (inl lt) = ⊎_elim
             (λ (is : k ≡ i). ⊎_elim (λ (less : l < i). inl (inl (inr less)))
             (λ (from : i ≤ l). ⊎_elim (λ (same : i ≡ l). inr (leads_itself k l g h at_g at_h (is ∙ same)))
-            (λ (less : i < l). ⊎_elim (λ has. inl (inr (inl (is, has)))) (λ none. inr (no_end g h none.0))
+            (λ (less : i < l). ⊎_elim (λ has. inl (inr (inl (is, has)))) (λ none. inr none.0)
             (later k l g h at_g at_h is less)) (eq-or-lt_of_le from)) (cases_lt l i))
             (λ (less : k < i). inl (inl (inl less))) (at_or_before k i lt)
         by k l g h at_g at_h (inr lt) = ⊎_elim
             (λ (is : l ≡ i). ⊎_elim (λ (less : k < i). inl (inl (inl less)))
             (λ (from : i ≤ k). ⊎_elim (λ (same : i ≡ k). inr (leads_itself k l g h at_g at_h (sym same ∙ sym is)))
-            (λ (less : i < k). ⊎_elim (λ has. inl (inr (inr (is, has)))) (λ none. inr (no_end g h none.1))
+            (λ (less : i < k). ⊎_elim (λ has. inl (inr (inr (is, has)))) (λ none. inr none.1)
             (later l k h g at_h at_g is less)) (eq-or-lt_of_le from)) (cases_lt k i))
             (λ (less : l < i). inl (inl (inr less))) (at_or_before l i lt)
 

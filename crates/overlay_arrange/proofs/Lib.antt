@@ -7,6 +7,7 @@ pub mod CarriedLoop
 pub mod CarriedMerges
 pub mod CarriedPieces
 pub mod CarriedRuns
+pub mod ChangedEdges
 pub mod CountedEnds
 pub mod Crossings
 pub mod CutContents
@@ -22,12 +23,16 @@ pub mod HeightOrder
 pub mod HeldRuns
 pub mod HeldWeight
 pub mod LedThrough
+pub mod LedToEnds
 pub mod MeetingRuns
 pub mod MergedContent
+pub mod NearChanged
 pub mod NearEdges
+pub mod OpenPairs
 pub mod PairMeetings
 pub mod Pieces
 pub mod PushedReversed
+pub mod PutPlaces
 pub mod ReachedStores
 pub mod ReversedCounts
 pub mod RoundsTaken

@@ -1,5 +1,6 @@
--- The later edges that are not far from an edge: all of its run, or those whose extents a search finds.
-use Rattle.std.proofs.Common.{◌≡◌, ◌⊎◌, ⊎_elim, inl, inr, ℕ, ◌+◌, ◌<◌, ◌≤◌, ◌<ℤ◌, List, Contains, length}
+-- The edges from a place on that an edge may meet elsewhere than in ends: all of its run, or those whose extents a search
+-- finds.
+use Rattle.std.proofs.Common.{◌≡◌, ◌⊎◌, ⊎_elim, inl, inr, ℕ, ◌<◌, ◌≤◌, ◌<ℤ◌, List, All, Contains, length}
 use Rattle.std.proofs.Common.{get_or, sym, ap, ap₂, ◌∙◌, subst, arith}
 use Rattle.std.specs.List.Sorted.{IsPermutation}
 use Rattle.std.proofs.lemmas.Bool.{cases_lt}
@@ -9,10 +10,12 @@ use Rattle.overlay_geom.specs.Edges.{CountedEdge}
 use Rattle.overlay_geom.specs.Numbered.{Numbered, numbered, AreNumbered}
 use Rattle.overlay_geom.proofs.Entries.{some_entry}
 use Rattle.overlay_geom.proofs.Numbered.{numbered_shuffled}
-use Rattle.overlay_arrange.specs.Content.{IsAscending}
+use Rattle.overlay_arrange.specs.Content.{IsAscending, IsHeld}
 use Rattle.overlay_arrange.specs.Extents.{Extent, extent_at, extent_of, extents_of, IsApart}
 use Rattle.overlay_arrange.specs.Meetings.{IsAt, IsRunEnd}
-use Rattle.overlay_arrange.specs.Near.{run_of, AreBetween, AreNear, IsFar, IsSearchedTo}
+use Rattle.overlay_arrange.specs.Near.{run_of, AreBetween, AreNearBehind, IsFar, IsSearchedTo}
+use Rattle.overlay_arrange.specs.Settle.{AreSettled}
+use Rattle.overlay_arrange.proofs.FarEdges.{settled_where_far}
 use Rattle.overlay_arrange.proofs.GatheredMeetings.{one_entry}
 use Rattle.overlay_arrange.proofs.SettledLists.{right_from}
 
@@ -62,56 +65,56 @@ module _ (es : List CountedEdge) where
 
   -- ---- the later edges that are not far
 
-  module _ (i end : ℕ) (e : CountedEdge) (up : IsAscending es) (at_e : IsAt es i e) (run : IsRunEnd es i end) where
+  module _ (first end : ℕ) (e : CountedEdge) (limit : ℕ) (held : All (IsHeld limit) es) (e_held : IsHeld limit e)
+      (up : IsAscending es) (run : IsRunEnd es e.b.x first end) where
     -- an edge from the end of its run on starts right of its end
     right_of_run : (j : ℕ) (f : CountedEdge) → end ≤ j → IsAt es j f → e.b.x <ℤ f.a.x
     right_of_run j f past at_f =
-        let first = get_or es end e in
+        let next = get_or es end e in
         let inside : end < length es = omega (arith, past, at_f.0) in
-        let right = run.right e first at_e (inside, get_or_default es end first e inside) in
+        let right = run.right next (inside, get_or_default es end next e inside) in
         let further = right_from e es end j e up past at_f.0 right in
         subst (λ (h : CountedEdge). e.b.x <ℤ h.a.x) (get_or_default es j e f at_f.0 ∙ at_f.1) further
 
-    -- so its run has all that are not far from it
-    pub run_near : (js : List ℕ) → AreBetween (i + 1) end js → AreNear es i js
+    -- an edge far from it meets it in ends alone
+    settled : (j : ℕ) (f : CountedEdge) → IsAt es j f → IsFar e f → AreSettled e f
+    settled j f at_f far = settled_where_far limit e f e_held (subst (IsHeld limit) at_f.1 (held j f at_f.0)) far
+
+    -- so its run has all others
+    pub run_near : (js : List ℕ) → AreBetween first end js → AreNearBehind es e first js
     run_near js between = record {
-      later = λ j has. let within = between.within j has in (
-        omega (arith, within.0),
-        omega (arith, within.1, run.within),
-      );
-      all = λ j g f less at_g at_f. ⊎_elim (λ (inside : j < end). inl (between.all j (omega (arith, less)) inside))
-          (λ (past : end ≤ j). inr (subst (λ (h : CountedEdge). IsFar h f) (one_entry es i e g at_e at_g)
-          (inl (right_of_run j f past at_f)))) (cases_lt j end);
+      within = λ j has. let within = between.within j has in (within.0, omega (arith, within.1, run.within));
+      all = λ j f past at_f. ⊎_elim (λ (inside : j < end). inl (between.all j past inside))
+          (λ (behind : end ≤ j). inr (settled j f at_f (inl (right_of_run j f behind at_f)))) (cases_lt j end);
     }
 
     -- and a search for what does not lie apart from the extent of its run finds them
     pub searched_near : (ss : List Extent) (js : List ℕ) → IsPermutation (extents_of es) ss →
-        IsSearchedTo ss (run_of e i end) (length ss) js → AreNear es i js
-    searched_near ss js moved searched = record { later = later; all = all }
+        IsSearchedTo ss (run_of e first end) (length ss) js → AreNearBehind es e first js
+    searched_near ss js moved searched = record { within = within; all = all }
       where
-        later : (j : ℕ) → Contains js j → (i < j) × (j < length es)
-        later j has =
+        within : (j : ℕ) → Contains js j → (first ≤ j) × (j < length es)
+        within j has =
             let found = searched.from j has in
             let edge = edge_there ss moved found.place found.extent found.at in
-            let first : edge.0 ≡ j = ap (λ (s : Extent). s.first) edge.3 ∙ found.is in
+            let begins : edge.0 ≡ j = ap (λ (s : Extent). s.first) edge.3 ∙ found.is in
             let last : edge.0 ≡ found.extent.last = ap (λ (s : Extent). s.last) edge.3 in
             let inside = edge.2.0 in (
-              ⊎_elim (λ (less : i < j). less)
-                  (λ (before : j ≤ i). absurd (found.near (inr (inr (inr (omega (arith, first, last, before)))))))
-                  (cases_lt i j),
-              omega (arith, first, inside),
+              ⊎_elim
+                  (λ (before : j < first). absurd (found.near (inr (inr (inr (omega (arith, begins, last, before)))))))
+                  (λ (past : first ≤ j). past) (cases_lt j first),
+              omega (arith, begins, inside),
             )
 
-        far : (j : ℕ) (f : CountedEdge) → i < j → IsAt es j f → IsApart (run_of e i end) (extent_of f j) → IsFar e f
-        far j f less at_f (inl under) = inr (inl under)
-        far j f less at_f (inr (inl above)) = inr (inr above)
-        far j f less at_f (inr (inr (inl past))) = inl (right_of_run j f (omega (arith, past)) at_f)
-        far j f less at_f (inr (inr (inr before))) = absurd (omega (arith, less, before))
+        far : (j : ℕ) (f : CountedEdge) → first ≤ j → IsAt es j f → IsApart (run_of e first end) (extent_of f j) →
+            IsFar e f
+        far j f past at_f (inl under) = inr (inl under)
+        far j f past at_f (inr (inl above)) = inr (inr above)
+        far j f past at_f (inr (inr (inl behind))) = inl (right_of_run j f (omega (arith, behind)) at_f)
+        far j f past at_f (inr (inr (inr before))) = absurd (omega (arith, past, before))
 
-        all : (j : ℕ) (g f : CountedEdge) → i < j → IsAt es i g → IsAt es j f → Contains js j ⊎ IsFar g f
-        all j g f less at_g at_f =
+        all : (j : ℕ) (f : CountedEdge) → first ≤ j → IsAt es j f → Contains js j ⊎ AreSettled e f
+        all j f past at_f =
             let has = extent_there ss moved j f at_f in
-            ⊎_elim
-            (λ apart. inr (subst (λ (h : CountedEdge). IsFar h f) (one_entry es i e g at_e at_g)
-            (far j f less at_f apart)))
-            (λ there. inl there) (searched.all has.0 (extent_of f j) has.1 (has.1, has.2))
+            ⊎_elim (λ apart. inr (settled j f at_f (far j f past at_f apart))) (λ there. inl there)
+            (searched.all has.0 (extent_of f j) has.1 (has.1, has.2))

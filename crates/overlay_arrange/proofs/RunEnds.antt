@@ -11,6 +11,7 @@ use Rattle.std.proofs.lemmas.List.Elements.{Contains-push_cases}
 use Rattle.std.proofs.Math.Nat.{eq-or-lt_of_le}
 use Rattle.overlay_geom.specs.Edges.{CountedEdge, ends_of}
 use Rattle.overlay_geom.proofs.Comparisons.{Decides-int_lt}
+use Rattle.overlay_geom.proofs.Entries.{some_entry}
 use Rattle.overlay_geom.proofs.Signs.{linear}
 use Rattle.overlay_geom.specs.Counts.{Counts}
 use Rattle.overlay_arrange.specs.Content.{IsAscending, IsHeld, plain_edge, plain_edges}
@@ -18,8 +19,7 @@ use Rattle.overlay_arrange.specs.Near.{AreNear}
 use Rattle.overlay_arrange.specs.Meetings.{AreSettledUpTo, IsAt, IsRunEnd}
 use Rattle.overlay_arrange.specs.Settle.{AreSettled}
 use Rattle.overlay_arrange.specs.declared.edge.CountedEdge.{CountedEdge as HeldEdge}
-use Rattle.overlay_arrange.proofs.FarEdges.{settled_where_far}
-use Rattle.overlay_arrange.proofs.GatheredMeetings.{one_entry, placed_in_mapped}
+use Rattle.overlay_arrange.proofs.GatheredMeetings.{one_entry}
 use Rattle.overlay_arrange.proofs.SettledLists.{starts_no_further_left}
 
 -- ---- part of a list
@@ -100,42 +100,36 @@ module _ {I C : Type 0} (whole : I → ℤ) (counts : C → Counts) where
         true_of_up_to x (whole (get_or es j d).a.x) (λ less. up_to_of_true x (whole (get_or es k d).a.x) passes
         (omega linear))
 
-    -- and where it ends, from the next place on, the run of an edge ends
-    pub run_ends : (i to count : ℕ) (e : HeldEdge I C) → i < length es → e ≡ get_or es i e → i + 1 ≤ to →
-        to ≤ length es →
-        ((f : CountedEdge) → IsAt (plain_edges whole counts es) to f → whole e.b.x <ℤ f.a.x) →
-        count ≤ length (slice_range es (i + 1) to) →
-        IsPartitionPoint (λ f. starts_up_to (whole e.b.x) f ≡ true) (λ f. starts_up_to (whole e.b.x) f ≡ false)
-        (slice_range es (i + 1) to) count →
-        IsRunEnd (plain_edges whole counts es) i (i + 1 + count)
-    run_ends i to count e within e_is ordered fits bound few parted = record {
-      after = omega arith;
-      within = (let l = length-map es (plain_edge whole counts) in let all = count_between es (i + 1) to ordered fits in
+    -- and where it ends, from a place on, the run of an edge ends
+    pub run_ends : (x : ℤ) (first to count : ℕ) → first ≤ to → to ≤ length es →
+        ((f : CountedEdge) → IsAt (plain_edges whole counts es) to f → x <ℤ f.a.x) →
+        count ≤ length (slice_range es first to) →
+        IsPartitionPoint (λ f. starts_up_to x f ≡ true) (λ f. starts_up_to x f ≡ false) (slice_range es first to)
+        count →
+        IsRunEnd (plain_edges whole counts es) x first (first + count)
+    run_ends x first to count ordered fits bound few parted = record {
+      ordered = omega arith;
+      within = (let l = length-map es (plain_edge whole counts) in let all = count_between es first to ordered fits in
           omega (arith, l, all, few, fits, ordered));
       right = right;
     }
       where
-        at_e : IsAt (plain_edges whole counts es) i (plain_edge whole counts e)
-        at_e = placed_in_mapped (plain_edge whole counts) es i e within e_is
-
-        right : (g f : CountedEdge) → IsAt (plain_edges whole counts es) i g →
-            IsAt (plain_edges whole counts es) (i + 1 + count) f → g.b.x <ℤ f.a.x
-        right g f at_g at_f =
-            let all = count_between es (i + 1) to ordered fits in
-            subst (λ (h : CountedEdge). h.b.x <ℤ f.a.x)
-            (one_entry (plain_edges whole counts es) i (plain_edge whole counts e) g at_e at_g)
-            (⊎_elim
-            (λ (less : count < to - (i + 1)).
-            let inside : i + 1 + count < length es = omega (arith, less, fits) in
+        right : (f : CountedEdge) → IsAt (plain_edges whole counts es) (first + count) f → x <ℤ f.a.x
+        right f at_f =
+            let all = count_between es first to ordered fits in
+            ⊎_elim
+            (λ (less : count < to - first).
+            let inside : first + count < length es = omega (arith, less, fits) in
+            let e = some_entry es (first + count) inside in
             let fails = parted.1 count e (omega arith) (omega (arith, all, less)) in
-            let there = at_between es (i + 1) to ordered fits count e less in
-            let right = right_of_false (whole e.b.x) (whole (get_or es (i + 1 + count) e).a.x)
-            (subst (λ (h : HeldEdge I C). starts_up_to (whole e.b.x) h ≡ false) there fails) in
-            subst (λ (h : CountedEdge). whole e.b.x <ℤ h.a.x)
-            (sym (get_or-map (plain_edge whole counts) es (i + 1 + count) e f inside) ∙ at_f.1) right)
-            (λ (past : to - (i + 1) ≤ count).
-            let last : i + 1 + count ≡ to = omega (arith, past, all, few, ordered) in
-            bound f (subst (λ n. IsAt (plain_edges whole counts es) n f) last at_f)) (cases_lt count (to - (i + 1))))
+            let there = at_between es first to ordered fits count e less in
+            let right = right_of_false x (whole (get_or es (first + count) e).a.x)
+            (subst (λ (h : HeldEdge I C). starts_up_to x h ≡ false) there fails) in
+            subst (λ (h : CountedEdge). x <ℤ h.a.x)
+            (sym (get_or-map (plain_edge whole counts) es (first + count) e f inside) ∙ at_f.1) right)
+            (λ (past : to - first ≤ count).
+            let last : first + count ≡ to = omega (arith, past, all, few, ordered) in
+            bound f (subst (λ n. IsAt (plain_edges whole counts es) n f) last at_f)) (cases_lt count (to - first))
 
 -- ---- edges that meet in ends alone
 
@@ -148,14 +142,11 @@ module _ (es : List CountedEdge) (i : ℕ) where
   pub none_settled : AreSettledWith es i []
   none_settled k e f has = absurd (omega (arith, has.1))
 
-  -- where it meets those so that are not far from it, it meets all later ones so
-  pub settled_with_near : (limit : ℕ) (js : List ℕ) → All (IsHeld limit) es → AreNear es i js →
-      AreSettledWith es i js → AreSettledUpTo es i (length es)
-  settled_with_near limit js held near with_near k g f past less at_g at_f =
-      ⊎_elim (λ has. with_near k g f has at_g at_f)
-      (λ far. settled_where_far limit g f (subst (IsHeld limit) at_g.1 (held i g at_g.0))
-      (subst (IsHeld limit) at_f.1 (held k f at_f.0)) far)
-      (near.all k g f past at_g at_f)
+  -- where it meets those so that are near it, it meets all later ones so
+  pub settled_with_near : (js : List ℕ) → AreNear es i js → AreSettledWith es i js → AreSettledUpTo es i (length es)
+  settled_with_near js near with_near k g f past less at_g at_f =
+      ⊎_elim (λ has. with_near k g f has at_g at_f) (λ settled. settled)
+      ((near g at_g).all k f (omega (arith, past)) at_f)
 
   module _ (e : CountedEdge) (at_e : IsAt es i e) where
     -- one more may meet it so

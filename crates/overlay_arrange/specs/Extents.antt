@@ -6,6 +6,7 @@ use Rattle.overlay_geom.specs.Edges.{CountedEdge}
 use Rattle.overlay_geom.specs.Numbered.{Numbered, numbered}
 use Rattle.overlay_arrange.specs.Meetings.{IsAt}
 use Rattle.overlay_arrange.specs.declared.extents.Extent.{Extent as HeldExtent}
+use Rattle.overlay_arrange.specs.declared.strips.Strips.{Strips}
 
 -- the least and the greatest height of edges, and the first and the last one of their places
 pub record Extent : Type 0 where
@@ -78,3 +79,10 @@ pub record AreStripsOf (es : List CountedEdge) (width : ℕ) (ss of_8 of_64 of_5
   pub strips : AreInStrips width ss
   pub heights : AreByHeights width ss
   pub blocks : AreInBlocks ss of_8 of_64 of_512 of_4096 of_32768
+
+-- so are those that a program holds
+abbrev pub AreHeldStripsOf : {I A : Type 0} → (I → ℤ) → List CountedEdge → Strips I A → Type 0
+AreHeldStripsOf whole es strips =
+    AreStripsOf es strips.width (plain_extents whole strips.edges.items) (plain_extents whole strips.of_8.items)
+    (plain_extents whole strips.of_64.items) (plain_extents whole strips.of_512.items)
+    (plain_extents whole strips.of_4096.items) (plain_extents whole strips.of_32768.items)

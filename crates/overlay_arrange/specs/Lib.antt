@@ -1,4 +1,5 @@
 pub mod Arranged
+pub mod Changed
 pub mod Content
 pub mod Counts
 pub mod Cut

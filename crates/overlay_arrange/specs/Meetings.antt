@@ -46,11 +46,11 @@ pub record AddsBoth (i : ℕ) (e : CountedEdge) (j : ℕ) (f : CountedEdge) (old
 abbrev pub IsAt : {X : Type 0} → List X → ℕ → X → Type 0
 IsAt xs i x = (i < length xs) × (slice_index_or xs i x ≡ x)
 
--- the edges from the place on start right of the end of the edge at place i, which comes before them
-pub record IsRunEnd (es : List CountedEdge) (i end : ℕ) : Type 0 where
-  pub after : i < end
+-- the edge at the place `end`, which does not come before the place `first`, starts right of x
+pub record IsRunEnd (es : List CountedEdge) (x : ℤ) (first end : ℕ) : Type 0 where
+  pub ordered : first ≤ end
   pub within : end ≤ length es
-  pub right : (e f : CountedEdge) → IsAt es i e → IsAt es end f → e.b.x <ℤ f.a.x
+  pub right : (f : CountedEdge) → IsAt es end f → x <ℤ f.a.x
 
 -- the edge at place i meets those after it, up to place j, in ends alone
 abbrev pub AreSettledUpTo : List CountedEdge → ℕ → ℕ → Type 0

@@ -3,11 +3,12 @@ use Rattle.std.specs.Prelude.{◌≡◌, ◌⊎◌, ℕ, ◌+◌, ◌-◌, ◌/�
 use Rattle.overlay_geom.specs.Edges.{CountedEdge}
 use Rattle.overlay_arrange.specs.Extents.{Extent, extent_of, IsApart}
 use Rattle.overlay_arrange.specs.Meetings.{IsAt}
+use Rattle.overlay_arrange.specs.Settle.{AreSettled}
 
--- the heights of the edge e at place i, and the places after it up to the end of its run
+-- the heights of the edge e, and the places from the one on up to the end of a run
 abbrev pub run_of : CountedEdge → ℕ → ℕ → Extent
-run_of e i end =
-    record { low = (extent_of e i).low; high = (extent_of e i).high; first = i + 1; last = end - 1 }
+run_of e from end =
+    record { low = (extent_of e from).low; high = (extent_of e from).high; first = from; last = end - 1 }
 
 -- the heights of the edge e are less than those of f
 abbrev pub IsUnder : CountedEdge → CountedEdge → Type 0
@@ -17,10 +18,14 @@ IsUnder e f = (extent_of e 0).high <ℤ (extent_of f 0).low
 abbrev pub IsFar : CountedEdge → CountedEdge → Type 0
 IsFar e f = (e.b.x <ℤ f.a.x) ⊎ (IsUnder e f ⊎ IsUnder f e)
 
--- places of edges after the one at place i, with each one that is not far from it
-pub record AreNear (es : List CountedEdge) (i : ℕ) (js : List ℕ) : Type 0 where
-  pub later : (j : ℕ) → Contains js j → (i < j) × (j < length es)
-  pub all : (j : ℕ) (e f : CountedEdge) → i < j → IsAt es i e → IsAt es j f → Contains js j ⊎ IsFar e f
+-- places of edges from the one on, with each one there that e does not meet in ends alone
+pub record AreNearBehind (es : List CountedEdge) (e : CountedEdge) (from : ℕ) (js : List ℕ) : Type 0 where
+  pub within : (j : ℕ) → Contains js j → (from ≤ j) × (j < length es)
+  pub all : (j : ℕ) (f : CountedEdge) → from ≤ j → IsAt es j f → Contains js j ⊎ AreSettled e f
+
+-- places of edges after the one at place i, with each one that it does not meet in ends alone
+abbrev pub AreNear : List CountedEdge → ℕ → List ℕ → Type 0
+AreNear es i js = (e : CountedEdge) → IsAt es i e → AreNearBehind es e (i + 1) js
 
 -- the extents from one place up to another one lie apart from s
 abbrev pub AreApartFrom : List Extent → Extent → ℕ → ℕ → Type 0

@@ -32,6 +32,7 @@ use overlay_geom::number::IntNumber;
 use overlay_geom::point::IntPoint;
 use std::alloc::Allocator;
 use std::cmp::Ordering;
+use std::mem;
 
 impl<I: IntNumber, C: EdgeCount, A: Allocator> Content<I, C, A> {
     /// Cuts each edge into the pieces of the chain through the whole points in which the others
@@ -52,18 +53,19 @@ impl<I: IntNumber, C: EdgeCount, A: Allocator> Content<I, C, A> {
         ensures only { IfErr result (λ e. (e ≡ OverlayError.Memory) ⊎ (e ≡ OverlayError.TooManyEdges)) }
     {
         let strips = strips_of(self.allocator().clone()?, self.edges())?;
-        let meetings = gather(self.allocator().clone()?, self.edges(), &strips, 0)?;
-        self.cut_at(meetings, store)
+        let (meetings, _) = gather(self.allocator().clone()?, self.edges(), &strips, &None, 0)?;
+        let (is_rounded, _) = self.cut_at(meetings, store)?;
+        Ok(is_rounded)
     }
 
-    /// Cuts the edges where they meet, and answers as `cut` does. The meetings are those of the edges, by their places.
-    /// They are dropped.
+    /// Cuts the edges where they meet, and answers as `cut` does, with the edges as they were before. The meetings are
+    /// those of the edges, by their places. They are dropped.
     #[tactic(auto, using(crate::proofs::ReachedStores::never_written))]
     pub(crate) fn cut_at(
         &mut self,
         meetings: Vec<Meeting<I>, A>,
         store: &mut C::Store,
-    ) -> Result<bool, OverlayError>
+    ) -> Result<(bool, Self), OverlayError>
     where
         A: Clone,
         requires ascending { IsAscending (edges_in self.old) }
@@ -72,16 +74,17 @@ impl<I: IntNumber, C: EdgeCount, A: Allocator> Content<I, C, A> {
         ensures ok { OnOk result (edges_in self.new ≡ cut_edges (edges_in self.old)) }
         ensures carried { OnOk result (AreCutAlong C.splits C.reverses
             (computed_chain (edges_in self.old)) self.old self.new) }
-        ensures rounded { IfOk result (λ is_rounded.
-            (is_rounded ≡ false) ↔ MeetInWholePoints (edges_in self.old)) }
+        ensures rounded { IfOk result (λ cut.
+            (cut.0 ≡ false) ↔ MeetInWholePoints (edges_in self.old)) }
+        ensures before { IfOk result (λ cut. edges_in cut.1 ≡ edges_in self.old) }
         ensures store { IsStoreReached C.writes store.old store.new }
         ensures too_many { IsErrOf result OverlayError.TooManyEdges → 2 ^ 31 ≤ weight (cut_edges (edges_in self.old)) }
         ensures only { IfErr result (λ e. (e ≡ OverlayError.Memory) ⊎ (e ≡ OverlayError.TooManyEdges)) }
     {
         let alloc = self.allocator().clone()?;
         let (pieces, is_rounded) = cut_edges(alloc, self.edges(), &meetings, store)?;
-        *self = pieces;
-        Ok(is_rounded)
+        let before = mem::replace(self, pieces);
+        Ok((is_rounded, before))
     }
 }
 

@@ -3,6 +3,7 @@
 #![tactic(auto)]
 
 pub mod balance;
+mod changed;
 pub mod content;
 pub mod count;
 mod counted_end;

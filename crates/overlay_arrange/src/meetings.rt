@@ -1,17 +1,19 @@
 //! The whole points through which the edges of a list lead one another, gathered pair by pair.
 
-ghost use Rattle.std.specs.Prelude.{◌≡◌, ◌+◌, ◌<◌, length, All, IfOk, OnOk, OnErr, IsOkUnless};
+ghost use Rattle.std.specs.Prelude.{◌≡◌, ◌+◌, ◌<◌, true, length, All, IfOk, IfSome, OnOk, IsOkUnless};
 ghost use Rattle.std.specs.List.Sorted.{IsPermutation};
+ghost use Rattle.overlay_arrange.specs.Changed.{AreHeldChangesOf, AreOpenBefore, AreOpenIn, StayOpen};
 ghost use Rattle.overlay_arrange.specs.Content.{plain_edges, IsHeld, IsAscending};
-ghost use Rattle.overlay_arrange.specs.Extents.{plain_extents, AreStripsOf};
+ghost use Rattle.overlay_arrange.specs.Extents.{AreHeldStripsOf};
 ghost use Rattle.overlay_arrange.specs.Meetings.{plain_meetings, AreByPlace, AreGathered, AreMeetings};
-ghost use Rattle.overlay_arrange.specs.Meetings.{AreSettledBefore, HasBefore, IsRunAt};
+ghost use Rattle.overlay_arrange.specs.Meetings.{AreSettledBefore, HasBefore, IsAt, IsRunAt};
 ghost use Rattle.overlay_arrange.specs.Near.{AreNear};
 
+use crate::changed::{Changed, find_open};
 use crate::count::EdgeCount;
 use crate::crossing::push_meetings;
 use crate::edge::CountedEdge;
-use crate::near::find_near;
+use crate::settle::meet_in_ends;
 use crate::strips::Strips;
 use overlay_geom::error::OverlayError;
 use overlay_geom::number::IntNumber;
@@ -28,40 +30,45 @@ pub(crate) struct Meeting<I> {
 }
 
 /// The whole points through which the edges lead one another, by the places of the edges that they
-/// lead. An edge's own ends may be missing: they change nothing. The edges ascend, and those before the
-/// place `from` meet each later one in ends alone.
+/// lead, and which edges are open: two of which neither is meet in ends alone. An edge's own ends may be missing: they
+/// change nothing. The edges ascend, and those before the place `from` meet each later one in ends alone. Where the
+/// changed ones are known, pairs of others are not looked at.
 pub(crate) fn gather<I: IntNumber, C: EdgeCount, A: Allocator + Clone>(
     alloc: A,
     edges: &[CountedEdge<I, C>],
     strips: &Strips<I, A>,
+    changed: &Option<Changed<I, C, A>>,
     from: usize,
-) -> Result<Vec<Meeting<I>, A>, OverlayError>
+) -> Result<(Vec<Meeting<I>, A>, Vec<bool, A>), OverlayError>
     requires held { All (IsHeld I.limit) (plain_edges I.whole C.counts edges.now) }
     requires ascending { IsAscending (plain_edges I.whole C.counts edges.now) }
-    requires strips { AreStripsOf (plain_edges I.whole C.counts edges.now) strips.now.width
-        (plain_extents I.whole strips.now.edges.items) (plain_extents I.whole strips.now.of_8.items)
-        (plain_extents I.whole strips.now.of_64.items) (plain_extents I.whole strips.now.of_512.items)
-        (plain_extents I.whole strips.now.of_4096.items) (plain_extents I.whole strips.now.of_32768.items) }
+    requires strips { AreHeldStripsOf I.whole (plain_edges I.whole C.counts edges.now) strips.now }
+    requires changed { IfSome changed.now
+        (AreHeldChangesOf I.whole C.counts (plain_edges I.whole C.counts edges.now)) }
     requires settled { AreSettledBefore (plain_edges I.whole C.counts edges.now) from }
-    ensures ok { IfOk result (λ meetings. AreMeetings
-        (plain_edges I.whole C.counts edges.now) (plain_meetings I.whole meetings.items)) }
-    ensures order { IfOk result (λ meetings. AreByPlace (plain_meetings I.whole meetings.items)) }
+    ensures ok { IfOk result (λ gathered. AreMeetings
+        (plain_edges I.whole C.counts edges.now) (plain_meetings I.whole gathered.0.items)) }
+    ensures order { IfOk result (λ gathered. AreByPlace (plain_meetings I.whole gathered.0.items)) }
+    ensures open { IfOk result (λ gathered. AreOpenIn (plain_edges I.whole C.counts edges.now) gathered.1.items) }
     ensures err { IsOkUnless result OverlayError.Memory }
 {
     let mut near = Vec::new(alloc.clone()?);
+    let mut is_open = Vec::new(alloc.clone()?);
+    is_open.resize(edges.len(), false)?;
     let mut meetings = Vec::new(alloc);
     for i in from..edges.len() {
-        find_near(&mut near, edges, strips, i)?;
-        gather_from(&mut meetings, edges, i, &near)?;
+        find_open(&mut near, edges, strips, changed, i)?;
+        gather_from(&mut meetings, &mut is_open, edges, i, &near)?;
     }
     sort_by_place(&mut meetings)?;
-    Ok(meetings)
+    Ok((meetings, is_open))
 }
 
-/// Adds the points through which the edge at place i and the later ones lead one another. Among these it
-/// may meet those at the places `near` alone.
+/// Adds the points through which the edge at place i and the later ones lead one another, and marks what is open. Among
+/// the later ones it may meet those at the places `near` alone elsewhere than in ends.
 fn gather_from<I: IntNumber, C: EdgeCount, A: Allocator>(
     meetings: &mut Vec<Meeting<I>, A>,
+    is_open: &mut Vec<bool, A>,
     edges: &[CountedEdge<I, C>],
     i: usize,
     near: &[usize],
@@ -72,16 +79,35 @@ fn gather_from<I: IntNumber, C: EdgeCount, A: Allocator>(
     requires near { AreNear (plain_edges I.whole C.counts edges.now) i near.now }
     requires gathered { AreGathered (plain_edges I.whole C.counts edges.now)
         (HasBefore i) (plain_meetings I.whole meetings.old.items) }
+    requires open { AreOpenBefore (plain_edges I.whole C.counts edges.now) i is_open.old.items }
     ensures ok { OnOk result (AreGathered (plain_edges I.whole C.counts edges.now)
         (HasBefore (i + 1)) (plain_meetings I.whole meetings.new.items)) }
+    ensures open { OnOk result (AreOpenBefore (plain_edges I.whole C.counts edges.now) (i + 1) is_open.new.items) }
     ensures err { IsOkUnless result OverlayError.Memory }
 {
     let e = &edges[i];
     for k in 0..near.len() {
         let j = near[k];
-        push_meetings(meetings, i, e, j, &edges[j])?;
+        let f = &edges[j];
+        if !meet_in_ends(e, f) {
+            mark_open(is_open, i, j);
+            push_meetings(meetings, i, e, j, f)?;
+        }
     }
     Ok(())
+}
+
+/// Marks two edges as open.
+fn mark_open<A: Allocator>(is_open: &mut Vec<bool, A>, i: usize, j: usize)
+    requires one { i < length is_open.old.items }
+    requires other { j < length is_open.old.items }
+    ensures one { IsAt is_open.new.items i true }
+    ensures other { IsAt is_open.new.items j true }
+    ensures stay { StayOpen is_open.old.items is_open.new.items }
+    ensures count { length is_open.new.items ≡ length is_open.old.items }
+{
+    is_open[i] = true;
+    is_open[j] = true;
 }
 
 /// Puts the meetings by their places.

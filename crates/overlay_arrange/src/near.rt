@@ -3,8 +3,9 @@
 ghost use Rattle.std.specs.Prelude.{◌≡◌, ◌⊎◌, ◌+◌, ◌≤◌, ◌<◌, ◌/◌, [], All, length, IsTrue, OnOk, IsOkUnless};
 ghost use Rattle.overlay_arrange.specs.Content.{plain_edge, plain_edges, IsAscending, IsHeld};
 ghost use Rattle.overlay_arrange.specs.Extents.{plain_extent, plain_extents, AreByHeights, AreInBlocks};
-ghost use Rattle.overlay_arrange.specs.Extents.{AreInStrips, AreStripsOf};
-ghost use Rattle.overlay_arrange.specs.Near.{run_of, AreApartFrom, AreBetween, AreNear, BeginsApart, IsSearchedTo};
+ghost use Rattle.overlay_arrange.specs.Extents.{AreHeldStripsOf, AreInStrips};
+ghost use Rattle.overlay_arrange.specs.Near.{run_of, AreApartFrom, AreBetween, AreNearBehind, BeginsApart};
+ghost use Rattle.overlay_arrange.specs.Near.{IsSearchedTo};
 
 use crate::count::EdgeCount;
 use crate::edge::CountedEdge;
@@ -20,30 +21,30 @@ const FEW: usize = 8;
 // So many extents are looked through at a time.
 const BLOCK: usize = 8;
 
-/// Finds the places of the later edges that the edge at place i may meet: all of its run, or those of it that do not
-/// lie at heights apart from its own. The edges ascend.
-pub(crate) fn find_near<I: IntNumber, C: EdgeCount, A: Allocator>(
+/// Finds the places of the edges from a place on that an edge may meet elsewhere than in ends: all that start up to its
+/// end, or those of them that do not lie at heights apart from its own. The edges ascend; it need not be one of them.
+pub(crate) fn find_near_behind<I: IntNumber, C: EdgeCount, A: Allocator>(
     near: &mut Vec<usize, A>,
     edges: &[CountedEdge<I, C>],
     strips: &Strips<I, A>,
-    i: usize,
+    e: &CountedEdge<I, C>,
+    from: usize,
 ) -> Result<(), OverlayError>
     requires held { All (IsHeld I.limit) (plain_edges I.whole C.counts edges.now) }
     requires ascending { IsAscending (plain_edges I.whole C.counts edges.now) }
-    requires strips { AreStripsOf (plain_edges I.whole C.counts edges.now) strips.now.width
-        (plain_extents I.whole strips.now.edges.items) (plain_extents I.whole strips.now.of_8.items)
-        (plain_extents I.whole strips.now.of_64.items) (plain_extents I.whole strips.now.of_512.items)
-        (plain_extents I.whole strips.now.of_4096.items) (plain_extents I.whole strips.now.of_32768.items) }
-    requires within { i < length edges.now }
-    ensures ok { OnOk result (AreNear (plain_edges I.whole C.counts edges.now) i near.new.items) }
+    requires strips { AreHeldStripsOf I.whole (plain_edges I.whole C.counts edges.now) strips.now }
+    requires one { IsHeld I.limit (plain_edge I.whole C.counts e.now) }
+    requires within { from ≤ length edges.now }
+    ensures ok { OnOk result (AreNearBehind (plain_edges I.whole C.counts edges.now) (plain_edge I.whole C.counts e.now)
+        from near.new.items) }
     ensures err { IsOkUnless result OverlayError.Memory }
 {
-    let end = run_end(edges, i);
+    let end = run_end(edges, e.b.x, from);
     near.clear();
-    if end - i <= FEW {
-        take_run(near, i + 1, end)
+    if end - from < FEW {
+        take_run(near, from, end)
     } else {
-        find_by_blocks(near, strips, run_of(&edges[i], i, end))
+        find_by_blocks(near, strips, run_of(e, from, end))
     }
 }
 
@@ -179,16 +180,16 @@ fn push_near<I: IntNumber, A: Allocator>(
     Ok(())
 }
 
-/// The heights of the edge at place i, and the places after it up to the end of its run.
-fn run_of<I: IntNumber, C: EdgeCount>(e: &CountedEdge<I, C>, i: usize, end: usize) -> Extent<I>
-    requires { i < end }
-    ensures { plain_extent I.whole result ≡ run_of (plain_edge I.whole C.counts e.now) i end }
+/// The heights of the edge, and the places from the one on up to the end of a run.
+fn run_of<I: IntNumber, C: EdgeCount>(e: &CountedEdge<I, C>, from: usize, end: usize) -> Extent<I>
+    requires { from < end }
+    ensures { plain_extent I.whole result ≡ run_of (plain_edge I.whole C.counts e.now) from end }
 {
-    let own = extent_of(e, i);
+    let own = extent_of(e, from);
     Extent {
         low: own.low,
         high: own.high,
-        first: i + 1,
+        first: from,
         last: end - 1,
     }
 }

@@ -4,6 +4,7 @@ ghost use Rattle.std.specs.Prelude.{◌≡◌, ◌≢◌, ◌↔◌, ◌^◌, fa
 ghost use Rattle.std.specs.Prelude.{Err, None, IfOk, IfErr, IfSome, OnOk, IsErrOf, IsOkUnless};
 ghost use Rattle.overlay_arrange.specs.Arranged.{most_rounds, IsArranged, IsArrangedCarrying, IsSplitCarrying};
 ghost use Rattle.overlay_arrange.specs.Arranged.{MayRefuseSplitting};
+ghost use Rattle.overlay_arrange.specs.Changed.{AreOpenIn};
 ghost use Rattle.overlay_arrange.specs.Content.{IsAscending};
 ghost use Rattle.overlay_arrange.specs.Meetings.{plain_meetings, AreByPlace, AreMeetings};
 ghost use Rattle.overlay_arrange.specs.Stores.{IsStoreReached};
@@ -11,6 +12,7 @@ ghost use Rattle.overlay_geom.specs.Settled.{IsSettled};
 ghost use Rattle.overlay_plane.specs.Carried.{edges_in};
 ghost use Rattle.overlay_plane.specs.Arrangements.{IsReachedBy, IsSplit, StaysUnsettled, WeighsTooMuch};
 
+use crate::changed::{Settling, changes_since};
 use crate::content::Content;
 use crate::count::EdgeCount;
 use crate::meetings::{Meeting, gather};
@@ -65,16 +67,38 @@ impl<I: IntNumber, C: EdgeCount, A: Allocator + Clone> Content<I, C, A> {
             → WeighsTooMuch rounds (2 ^ 31) (edges_in self.old) }
         ensures usable { result ≢ Err OverlayError.Failed }
     {
+        self.split_since(rounds, None, store)
+    }
+
+    /// Splits the edges as `split` does. Where the list before the last cut is known, pairs that met in ends alone are
+    /// not looked at again.
+    fn split_since(
+        &mut self,
+        rounds: u32,
+        before: Option<Settling<I, C, A>>,
+        store: &mut C::Store,
+    ) -> Result<bool, OverlayError>
+        requires { IfSome before (λ s. AreOpenIn (edges_in s.edges) s.is_open.items) }
+        ensures split { OnOk result (IsSplit rounds (edges_in self.old) (edges_in self.new)) }
+        ensures carried { OnOk result (IsSplitCarrying C.merges C.splits C.reverses rounds self.old self.new) }
+        ensures cut { IfOk result (λ is_cut. (is_cut ≡ false)
+            ↔ IsReachedBy [] (edges_in self.old) (edges_in self.new)) }
+        ensures store { IsStoreReached C.writes store.old store.new }
+        ensures not_settled { IsErrOf result OverlayError.NotSettled → StaysUnsettled rounds (edges_in self.old) }
+        ensures too_many { IsErrOf result OverlayError.TooManyEdges
+            → WeighsTooMuch rounds (2 ^ 31) (edges_in self.old) }
+        ensures usable { result ≢ Err OverlayError.Failed }
+    {
         self.merge(store)?;
-        let Some(meetings) = self.open_meetings()? else {
+        let Some((meetings, is_open)) = self.open_meetings(before)? else {
             return Ok(false);
         };
         if rounds == 0 {
             return Err(OverlayError::NotSettled);
         }
-        let is_rounded = self.cut_at(meetings, store)?;
+        let (is_rounded, edges) = self.cut_at(meetings, store)?;
         if is_rounded {
-            self.split(rounds - 1, store)?;
+            self.split_since(rounds - 1, Some(Settling { edges, is_open }), store)?;
         } else {
             // (no point was rounded, so the pieces meet in ends alone)
             self.merge(store)?;
@@ -82,26 +106,33 @@ impl<I: IntNumber, C: EdgeCount, A: Allocator + Clone> Content<I, C, A> {
         Ok(true)
     }
 
-    /// The whole points through which the edges lead one another, by the places of the edges that they lead, or none
-    /// where any two different edges meet in ends alone. The edges ascend, as they do once merged. The only refusal is
-    /// `Memory`.
-    pub(crate) fn open_meetings(&self) -> Result<Option<Vec<Meeting<I>, A>>, OverlayError>
-        requires { IsAscending (edges_in self.now) }
+    /// The whole points through which the edges lead one another, by the places of the edges that they lead, and which
+    /// edges are open; or none where any two different edges meet in ends alone. What is known of the list before is
+    /// dropped. The edges ascend, as they do once merged. The only refusal is `Memory`.
+    fn open_meetings(
+        &self,
+        before: Option<Settling<I, C, A>>,
+    ) -> Result<Option<(Vec<Meeting<I>, A>, Vec<bool, A>)>, OverlayError>
+        requires ascending { IsAscending (edges_in self.now) }
+        requires before { IfSome before (λ s. AreOpenIn (edges_in s.edges) s.is_open.items) }
         ensures settled { IfOk result (λ found. (found ≡ None) ↔ IsSettled (edges_in self.now)) }
-        ensures ok { IfOk result (λ found. IfSome found (λ meetings.
-            AreMeetings (edges_in self.now) (plain_meetings I.whole meetings.items))) }
-        ensures order { IfOk result (λ found. IfSome found (λ meetings.
-            AreByPlace (plain_meetings I.whole meetings.items))) }
+        ensures ok { IfOk result (λ found. IfSome found (λ gathered.
+            AreMeetings (edges_in self.now) (plain_meetings I.whole gathered.0.items))) }
+        ensures order { IfOk result (λ found. IfSome found (λ gathered.
+            AreByPlace (plain_meetings I.whole gathered.0.items))) }
+        ensures open { IfOk result (λ found. IfSome found (λ gathered.
+            AreOpenIn (edges_in self.now) gathered.1.items)) }
         ensures err { IsOkUnless result OverlayError.Memory }
     {
         let edges = self.edges();
+        let changed = changes_since(self.allocator().clone()?, edges, &before)?;
         let strips = strips_of(self.allocator().clone()?, edges)?;
-        let count = count_settled(self.allocator().clone()?, edges, &strips)?;
+        let count = count_settled(self.allocator().clone()?, edges, &strips, &changed)?;
         if count == edges.len() {
             return Ok(None);
         }
         // (those before it meet all others in ends alone, and such meetings change nothing)
-        let meetings = gather(self.allocator().clone()?, edges, &strips, count)?;
-        Ok(Some(meetings))
+        let gathered = gather(self.allocator().clone()?, edges, &strips, &changed, count)?;
+        Ok(Some(gathered))
     }
 }

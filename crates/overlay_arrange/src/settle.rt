@@ -1,17 +1,18 @@
 //! Whether the edges of a list meet in ends alone.
 
-ghost use Rattle.std.specs.Prelude.{◌↔◌, ◌<◌, length, All, IsTrue, IfOk, IsOkUnless};
+ghost use Rattle.std.specs.Prelude.{◌↔◌, ◌<◌, length, All, IsTrue, IfOk, IfSome, IsOkUnless};
 ghost use Rattle.overlay_geom.specs.Edges.{ends_of};
 ghost use Rattle.overlay_geom.specs.Resolved.{IsPlaced};
 ghost use Rattle.overlay_geom.specs.Settled.{MeetInEnds, IsSettled};
+ghost use Rattle.overlay_arrange.specs.Changed.{AreHeldChangesOf};
 ghost use Rattle.overlay_arrange.specs.Content.{plain_edge, plain_edges, IsHeld, IsAscending};
-ghost use Rattle.overlay_arrange.specs.Extents.{plain_extents, AreStripsOf};
+ghost use Rattle.overlay_arrange.specs.Extents.{AreHeldStripsOf};
 ghost use Rattle.overlay_arrange.specs.Meetings.{AreSettledBefore, AreSettledUpTo};
 ghost use Rattle.overlay_arrange.specs.Near.{AreNear};
 
+use crate::changed::{Changed, find_open};
 use crate::count::EdgeCount;
 use crate::edge::CountedEdge;
-use crate::near::find_near;
 use crate::strips::{Strips, strips_of};
 use overlay_geom::edge::IntEdge;
 use overlay_geom::edge_pair;
@@ -33,23 +34,23 @@ pub fn is_settled<I: IntNumber, C: EdgeCount, A: Allocator + Clone>(
     ensures err { IsOkUnless result OverlayError.Memory }
 {
     let strips = strips_of(alloc.clone()?, edges)?;
-    let count = count_settled(alloc, edges, &strips)?;
+    let count = count_settled(alloc, edges, &strips, &None)?;
     Ok(count == edges.len())
 }
 
-/// How many edges at the front meet each later one in ends alone: all of them where the edges are settled. The edges
-/// ascend. The only refusal is `Memory`.
+/// How many edges at the front meet each later one in ends alone: all of them where the edges are settled. Where the
+/// changed ones are known, pairs of others are not looked at. The edges ascend. The only refusal is `Memory`.
 pub(crate) fn count_settled<I: IntNumber, C: EdgeCount, A: Allocator>(
     alloc: A,
     edges: &[CountedEdge<I, C>],
     strips: &Strips<I, A>,
+    changed: &Option<Changed<I, C, A>>,
 ) -> Result<usize, OverlayError>
     requires held { All (IsHeld I.limit) (plain_edges I.whole C.counts edges.now) }
     requires ascending { IsAscending (plain_edges I.whole C.counts edges.now) }
-    requires strips { AreStripsOf (plain_edges I.whole C.counts edges.now) strips.now.width
-        (plain_extents I.whole strips.now.edges.items) (plain_extents I.whole strips.now.of_8.items)
-        (plain_extents I.whole strips.now.of_64.items) (plain_extents I.whole strips.now.of_512.items)
-        (plain_extents I.whole strips.now.of_4096.items) (plain_extents I.whole strips.now.of_32768.items) }
+    requires strips { AreHeldStripsOf I.whole (plain_edges I.whole C.counts edges.now) strips.now }
+    requires changed { IfSome changed.now
+        (AreHeldChangesOf I.whole C.counts (plain_edges I.whole C.counts edges.now)) }
     ensures ok { IfOk result (λ count. AreSettledBefore (plain_edges I.whole C.counts edges.now) count) }
     ensures most { IfOk result (λ count. count < length edges.now
         → ¬ (AreSettledUpTo (plain_edges I.whole C.counts edges.now) count (length edges.now))) }
@@ -57,7 +58,7 @@ pub(crate) fn count_settled<I: IntNumber, C: EdgeCount, A: Allocator>(
 {
     let mut near = Vec::new(alloc);
     for i in 0..edges.len() {
-        find_near(&mut near, edges, strips, i)?;
+        find_open(&mut near, edges, strips, changed, i)?;
         if !is_settled_from(edges, i, &near) {
             return Ok(i);
         }
@@ -88,7 +89,10 @@ fn is_settled_from<I: IntNumber, C: EdgeCount>(
 }
 
 /// Whether the two edges meet in ends alone. An edge does not meet itself so.
-fn meet_in_ends<I: IntNumber, C: EdgeCount>(e: &CountedEdge<I, C>, f: &CountedEdge<I, C>) -> bool
+pub(crate) fn meet_in_ends<I: IntNumber, C: EdgeCount>(
+    e: &CountedEdge<I, C>,
+    f: &CountedEdge<I, C>,
+) -> bool
     requires one { IsHeld I.limit (plain_edge I.whole C.counts e.now) }
     requires other { IsHeld I.limit (plain_edge I.whole C.counts f.now) }
     ensures settles { IsTrue result

@@ -11,16 +11,17 @@ use overlay_geom::number::IntNumber;
 // So far behind an edge the end of its run is looked for first.
 const FIRST: usize = 16;
 
-/// The place of the first edge that starts right of the end of the edge at place i, or how many edges there are.
-/// They ascend.
-pub(crate) fn run_end<I: IntNumber, C: EdgeCount>(edges: &[CountedEdge<I, C>], i: usize) -> usize
+/// The place of the first edge from a place on that starts right of x, or how many edges there are. They ascend.
+pub(crate) fn run_end<I: IntNumber, C: EdgeCount>(
+    edges: &[CountedEdge<I, C>],
+    x: I,
+    from: usize,
+) -> usize
     requires held { All (IsHeld I.limit) (plain_edges I.whole C.counts edges.now) }
     requires ascending { IsAscending (plain_edges I.whole C.counts edges.now) }
-    requires within { i < length edges.now }
-    ensures { IsRunEnd (plain_edges I.whole C.counts edges.now) i result }
+    requires within { from ≤ length edges.now }
+    ensures { IsRunEnd (plain_edges I.whole C.counts edges.now) (I.whole x) from result }
 {
-    let x = edges[i].b.x;
-    let from = i + 1;
     let to = place_right_of(edges, from, x);
     from + edges[from..to].partition_point(|f| !x.compare(f.a.x).is_lt())
 }

@@ -4,7 +4,7 @@ ghost use Rattle.std.specs.Prelude.{◌≡◌, ◌<◌, ◌≤ℤ◌, List, [], 
 ghost use Rattle.std.specs.List.Sorted.{IsPermutation};
 ghost use Rattle.overlay_arrange.specs.Content.{plain_edges, IsAscending, IsHeld};
 ghost use Rattle.overlay_arrange.specs.Extents.{extents_of, plain_extents, AreBlocks, AreByHeights};
-ghost use Rattle.overlay_arrange.specs.Extents.{AreInStrips, AreStripsOf};
+ghost use Rattle.overlay_arrange.specs.Extents.{AreHeldStripsOf, AreInStrips};
 ghost use Rattle.overlay_arrange.specs.declared.extents.Extent.{Extent};
 
 use crate::count::EdgeCount;
@@ -51,10 +51,7 @@ pub(crate) fn strips_of<I: IntNumber, C: EdgeCount, A: Allocator + Clone>(
 ) -> Result<Strips<I, A>, OverlayError>
     requires held { All (IsHeld I.limit) (plain_edges I.whole C.counts edges.now) }
     requires ascending { IsAscending (plain_edges I.whole C.counts edges.now) }
-    ensures ok { IfOk result (λ strips. AreStripsOf (plain_edges I.whole C.counts edges.now) strips.width
-        (plain_extents I.whole strips.edges.items) (plain_extents I.whole strips.of_8.items)
-        (plain_extents I.whole strips.of_64.items) (plain_extents I.whole strips.of_512.items)
-        (plain_extents I.whole strips.of_4096.items) (plain_extents I.whole strips.of_32768.items)) }
+    ensures ok { IfOk result (AreHeldStripsOf I.whole (plain_edges I.whole C.counts edges.now)) }
     ensures err { IsOkUnless result OverlayError.Memory }
 {
     let width = strip_width(length_of_runs(edges));
@@ -97,7 +94,7 @@ fn length_of_runs<I: IntNumber, C: EdgeCount>(edges: &[CountedEdge<I, C>]) -> us
     for k in 0..SAMPLES {
         let i = k.saturating_mul(distance);
         if i < edges.len() {
-            length = length.saturating_add(run_end(edges, i) - i);
+            length = length.saturating_add(run_end(edges, edges[i].b.x, i + 1) - i);
         }
     }
     length

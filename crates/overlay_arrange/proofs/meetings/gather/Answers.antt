@@ -1,6 +1,6 @@
 -- Those before the first place need no meetings. Each other edge adds what it and the later ones lead one another
 -- through; sorting keeps what is gathered.
-use Rattle.std.proofs.Common.{List, sym, subst, arith}
+use Rattle.std.proofs.Common.{◌≡◌, List, length, sym, subst, arith}
 use Rattle.std.proofs.lemmas.List.{length-map}
 use Rattle.std.proofs.lemmas.List.Sorted.{Contains-permutation, IsPermutation-map, IsPermutation-sym}
 use Rattle.overlay_arrange.specs.Content.{plain_edge, plain_edges}
@@ -8,26 +8,36 @@ use Rattle.overlay_arrange.specs.Meetings.{plain_meeting, plain_meetings, AreGat
 use Rattle.overlay_arrange.specs.Near.{AreNear}
 use Rattle.overlay_arrange.specs.declared.meetings.Meeting.{Meeting}
 use Rattle.overlay_arrange.proofs.GatheredMeetings.{all_gathered, gathered_moved}
+use Rattle.overlay_arrange.proofs.OpenPairs.{all_open, front_closed}
 use Rattle.overlay_arrange.proofs.SettledFronts.{front_gathered}
 use Rattle.overlay_arrange.proofs.meetings.gather.Goals as goal
 
 pub loop-i-init : goal.loop-i-init
 loop-i-init g c =
     let es = plain_edges g.I.IntNumber.whole g.C.EdgeCount.counts c.args.edges.now in
-    subst (λ (ms : List (Meeting _)). AreGathered es (HasBefore c.args.from) (plain_meetings g.I.IntNumber.whole ms))
-    (sym c.new-meetings.ensures.items)
-    (front_gathered es g.I.IntNumber.limit c.args.from c.requires.held c.requires.settled)
+    let opens = c.resize.new.self.items in
+    let l = length-map c.args.edges.now (plain_edge g.I.IntNumber.whole g.C.EdgeCount.counts) in
+    let count : length opens ≡ length es = (let n = c.in_ok-resize.ensures.len in omega (arith, n, l)) in (
+      subst (λ (ms : List (Meeting _)). AreGathered es (HasBefore c.args.from)
+          (plain_meetings g.I.IntNumber.whole ms))
+          (sym c.new-meetings.ensures.items)
+          (front_gathered es g.I.IntNumber.limit c.args.from c.requires.held c.requires.settled),
+      front_closed es c.args.from opens count c.requires.settled,
+    )
 
 pub gather_from-requires-clause-gathered : goal.gather_from-requires-clause-gathered
-gather_from-requires-clause-gathered g c = c.loop-i.invariant
+gather_from-requires-clause-gathered g c = c.loop-i.invariant.0
+
+pub gather_from-requires-clause-open : goal.gather_from-requires-clause-open
+gather_from-requires-clause-open g c = c.loop-i.invariant.1
 
 pub gather_from-requires-clause-near : goal.gather_from-requires-clause-near
 gather_from-requires-clause-near g c =
     subst (AreNear (plain_edges g.I.IntNumber.whole g.C.EdgeCount.counts c.args.edges.now) c.loop-i.i)
-    (sym c.deref.ensures.value) c.in_ok-find_near.ensures.ok
+    (sym c.deref.ensures.value) c.in_ok-find_open.ensures.ok
 
 pub loop-i-preserved : goal.loop-i-preserved
-loop-i-preserved g c = c.in_ok-gather_from.ensures.ok
+loop-i-preserved g c = (c.in_ok-gather_from.ensures.ok, c.in_ok-gather_from.ensures.open)
 
 pub returns-clause-ok : goal.returns-clause-ok
 returns-clause-ok g c =
@@ -39,4 +49,10 @@ returns-clause-ok g c =
     c.sort_by_place.new.meetings.items c.sort_by_place.ensures.permutation in
     gathered_moved es (λ m at. Contains-permutation old new m moved at)
     (λ m at. Contains-permutation new old m (IsPermutation-sym old new moved) at)
-    (all_gathered es c.loop-i.i (omega (arith, count, c.loop-i-test.false)) c.loop-i.invariant)
+    (all_gathered es c.loop-i.i (omega (arith, count, c.loop-i-test.false)) c.loop-i.invariant.0)
+
+pub returns-clause-open : goal.returns-clause-open
+returns-clause-open g c =
+    let count = length-map c.args.edges.now (plain_edge g.I.IntNumber.whole g.C.EdgeCount.counts) in
+    all_open (plain_edges g.I.IntNumber.whole g.C.EdgeCount.counts c.args.edges.now) c.loop-i.i c.loop-i.is_open.items
+    (omega (arith, count, c.loop-i-test.false)) c.loop-i.invariant.1

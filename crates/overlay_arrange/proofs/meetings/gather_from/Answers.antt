@@ -1,25 +1,36 @@
--- A loop over the edges that are not far from the edge: each adds what it and the edge lead one another through.
-use Rattle.std.proofs.Common.{◌<◌, length, get_or, take, sym, subst, arith}
+-- A loop over the edges that are near the edge: each adds what it and the edge lead one another through, and is marked,
+-- or meets it in ends alone.
+use Rattle.std.proofs.Common.{◌<◌, length, get_or, inl, inr, refl, take, sym, subst, arith}
 use Rattle.std.proofs.lemmas.List.{get_or_default, length-map, take_all, take_more}
 use Rattle.overlay_geom.proofs.Mapped.{All-mapped_at}
 use Rattle.overlay_arrange.specs.Content.{plain_edge, plain_edges, IsHeld}
 use Rattle.overlay_arrange.specs.Meetings.{plain_meetings, AreGathered}
-use Rattle.overlay_arrange.proofs.GatheredMeetings.{begun, near_looked_at, pair_gathered, placed_in_mapped, IsLookedAt}
+use Rattle.overlay_arrange.proofs.GatheredMeetings.{begun, near_looked_at, pair_gathered, pair_left_out}
+use Rattle.overlay_arrange.proofs.GatheredMeetings.{placed_in_mapped, IsLookedAt}
+use Rattle.overlay_arrange.proofs.OpenPairs.{none_open, open_still, open_with_more, open_with_near, open_with_still}
+use Rattle.overlay_arrange.proofs.OpenPairs.{AreOpenWith}
 use Rattle.overlay_arrange.proofs.meetings.gather_from.Goals as goal
+use Rattle.overlay_arrange.proofs.meetings.gather_from.Goals.{then-not-meet_in_ends+in_ok-push_meetings}
+use Rattle.overlay_arrange.proofs.meetings.gather_from.Goals.{else-not-meet_in_ends}
 
 pub loop-k-init : goal.loop-k-init
 loop-k-init g c =
     let plain = plain_edge g.I.IntNumber.whole g.C.EdgeCount.counts in
-    begun (plain_edges g.I.IntNumber.whole g.C.EdgeCount.counts c.args.edges.now) c.args.i
-    (plain c.index-edges-i.result)
-    (placed_in_mapped plain c.args.edges.now c.args.i c.index-edges-i.result c.requires.within c.index-edges-i.is)
-    c.requires.gathered
+    let es = plain_edges g.I.IntNumber.whole g.C.EdgeCount.counts c.args.edges.now in (
+      begun es c.args.i (plain c.index-edges-i.result)
+          (placed_in_mapped plain c.args.edges.now c.args.i c.index-edges-i.result c.requires.within c.index-edges-i.is)
+          c.requires.gathered,
+      c.requires.open,
+      none_open es c.args.i c.args.is_open.now.items,
+    )
 
 pub offset_bounds-edges-j : goal.offset_bounds-edges-j
 offset_bounds-edges-j g c =
     let plain = plain_edge g.I.IntNumber.whole g.C.EdgeCount.counts in
     let j = get_or c.args.near.now c.loop-k.k 0 in
-    let later = c.requires.near.later j (
+    let at_e = placed_in_mapped plain c.args.edges.now c.args.i c.index-edges-i.result c.requires.within
+    c.index-edges-i.is in
+    let later = (c.requires.near (plain c.index-edges-i.result) at_e).within j (
       c.loop-k.k,
       c.loop-k-test.true,
       get_or_default c.args.near.now c.loop-k.k j 0 c.loop-k-test.true,
@@ -32,7 +43,9 @@ pub bounds-edges-j : goal.bounds-edges-j
 bounds-edges-j g c =
     let plain = plain_edge g.I.IntNumber.whole g.C.EdgeCount.counts in
     let j = get_or c.args.near.now c.loop-k.k 0 in
-    let later = c.requires.near.later j (
+    let at_e = placed_in_mapped plain c.args.edges.now c.args.i c.index-edges-i.result c.requires.within
+    c.index-edges-i.is in
+    let later = (c.requires.near (plain c.index-edges-i.result) at_e).within j (
       c.loop-k.k,
       c.loop-k-test.true,
       get_or_default c.args.near.now c.loop-k.k j 0 c.loop-k-test.true,
@@ -41,17 +54,62 @@ bounds-edges-j g c =
     let less = later.1 in
     omega (arith, l, less)
 
+pub meet_in_ends-requires-clause-one : goal.meet_in_ends-requires-clause-one
+meet_in_ends-requires-clause-one g c =
+    All-mapped_at (IsHeld g.I.IntNumber.limit) (plain_edge g.I.IntNumber.whole g.C.EdgeCount.counts) c.args.edges.now
+    c.args.i c.index-edges-i.result c.requires.within c.index-edges-i.is c.requires.held
+
+pub meet_in_ends-requires-clause-other : goal.meet_in_ends-requires-clause-other
+meet_in_ends-requires-clause-other g c =
+    let plain = plain_edge g.I.IntNumber.whole g.C.EdgeCount.counts in
+    let j = get_or c.args.near.now c.loop-k.k 0 in
+    let at_e = placed_in_mapped plain c.args.edges.now c.args.i c.index-edges-i.result c.requires.within
+    c.index-edges-i.is in
+    let later = (c.requires.near (plain c.index-edges-i.result) at_e).within j (
+      c.loop-k.k,
+      c.loop-k-test.true,
+      get_or_default c.args.near.now c.loop-k.k j 0 c.loop-k-test.true,
+    ) in
+    let inside : j < length c.args.edges.now =
+    (let l = length-map c.args.edges.now plain in let less = later.1 in omega (arith, l, less)) in
+    All-mapped_at (IsHeld g.I.IntNumber.limit) plain c.args.edges.now j c.index-edges-j.result inside
+    c.index-edges-j.is c.requires.held
+
+pub mark_open-requires-clause-one : goal.mark_open-requires-clause-one
+mark_open-requires-clause-one g c =
+    let l = length-map c.args.edges.now (plain_edge g.I.IntNumber.whole g.C.EdgeCount.counts) in
+    let count = c.loop-k.invariant.1.count in
+    omega (arith, l, count, c.requires.within)
+
+pub mark_open-requires-clause-other : goal.mark_open-requires-clause-other
+mark_open-requires-clause-other g c =
+    let plain = plain_edge g.I.IntNumber.whole g.C.EdgeCount.counts in
+    let j = get_or c.args.near.now c.loop-k.k 0 in
+    let at_e = placed_in_mapped plain c.args.edges.now c.args.i c.index-edges-i.result c.requires.within
+    c.index-edges-i.is in
+    let later = (c.requires.near (plain c.index-edges-i.result) at_e).within j (
+      c.loop-k.k,
+      c.loop-k-test.true,
+      get_or_default c.args.near.now c.loop-k.k j 0 c.loop-k-test.true,
+    ) in
+    let inside : j < length c.args.edges.now =
+    (let l = length-map c.args.edges.now plain in let less = later.1 in omega (arith, l, less)) in
+    let l = length-map c.args.edges.now plain in
+    let count = c.loop-k.invariant.1.count in
+    omega (arith, l, count, inside)
+
 pub push_meetings-requires-clause-one : goal.push_meetings-requires-clause-one
 push_meetings-requires-clause-one g c =
     All-mapped_at (IsHeld g.I.IntNumber.limit) (plain_edge g.I.IntNumber.whole g.C.EdgeCount.counts) c.args.edges.now
-    c.args.i c.index-edges-i.result
-    c.requires.within c.index-edges-i.is c.requires.held
+    c.args.i c.index-edges-i.result c.requires.within c.index-edges-i.is c.requires.held
 
 pub push_meetings-requires-clause-other : goal.push_meetings-requires-clause-other
 push_meetings-requires-clause-other g c =
     let plain = plain_edge g.I.IntNumber.whole g.C.EdgeCount.counts in
     let j = get_or c.args.near.now c.loop-k.k 0 in
-    let later = c.requires.near.later j (
+    let at_e = placed_in_mapped plain c.args.edges.now c.args.i c.index-edges-i.result c.requires.within
+    c.index-edges-i.is in
+    let later = (c.requires.near (plain c.index-edges-i.result) at_e).within j (
       c.loop-k.k,
       c.loop-k-test.true,
       get_or_default c.args.near.now c.loop-k.k j 0 c.loop-k-test.true,
@@ -64,23 +122,50 @@ push_meetings-requires-clause-other g c =
 pub loop-k-preserved : goal.loop-k-preserved
 loop-k-preserved g c =
     let whole = g.I.IntNumber.whole in
-    let plain = plain_edge whole g.C.EdgeCount.counts in
-    let es = plain_edges whole g.C.EdgeCount.counts c.args.edges.now in
+    let limit = g.I.IntNumber.limit in
+    let plain = plain_edge g.I.IntNumber.whole g.C.EdgeCount.counts in
     let j = get_or c.args.near.now c.loop-k.k 0 in
-    let later = c.requires.near.later j (
+    let at_e = placed_in_mapped plain c.args.edges.now c.args.i c.index-edges-i.result c.requires.within
+    c.index-edges-i.is in
+    let later = (c.requires.near (plain c.index-edges-i.result) at_e).within j (
       c.loop-k.k,
       c.loop-k-test.true,
       get_or_default c.args.near.now c.loop-k.k j 0 c.loop-k-test.true,
     ) in
     let inside : j < length c.args.edges.now =
     (let l = length-map c.args.edges.now plain in let less = later.1 in omega (arith, l, less)) in
-    subst (λ js. AreGathered es (IsLookedAt c.args.i js) (plain_meetings whole c.push_meetings.new.meetings.items))
-    (sym (take_more c.args.near.now c.loop-k.k 0 c.loop-k-test.true))
-    (pair_gathered es c.args.i (plain c.index-edges-i.result)
-    (placed_in_mapped plain c.args.edges.now c.args.i c.index-edges-i.result c.requires.within c.index-edges-i.is)
-    (take c.loop-k.k c.args.near.now) j (plain c.index-edges-j.result)
-    (placed_in_mapped plain c.args.edges.now j c.index-edges-j.result inside c.index-edges-j.is)
-    c.loop-k.invariant c.in_ok-push_meetings.ensures.ok)
+    let es = plain_edges whole g.C.EdgeCount.counts c.args.edges.now in
+    let at_f = placed_in_mapped plain c.args.edges.now j c.index-edges-j.result inside c.index-edges-j.is in
+    let i = c.args.i in
+    let e = plain c.index-edges-i.result in
+    let f = plain c.index-edges-j.result in
+    let js = take c.loop-k.k c.args.near.now in
+    let old = c.loop-k.is_open.items in
+    let more = sym (take_more c.args.near.now c.loop-k.k 0 c.loop-k-test.true) in
+    elim c.if-not-meet_in_ends.branch [
+      | then-not-meet_in_ends+in_ok-push_meetings w ↦
+          let new = w.mark_open.new.is_open.items in
+          let marks = w.mark_open.ensures in
+          rw (w.meetings-is, w.is_open-is) (
+            subst (λ ks. AreGathered es (IsLookedAt i ks) (plain_meetings whole w.push_meetings.new.meetings.items))
+                more
+                (pair_gathered es i e at_e js j f at_f c.loop-k.invariant.0 w.in_ok-push_meetings.ensures.ok),
+            open_still es i old new marks.count marks.stay c.loop-k.invariant.1,
+            subst (λ ks. AreOpenWith es i ks new) more
+                (open_with_more es i js j new e f at_e at_f (inl (inl marks.one))
+                (open_with_still es i js old new marks.stay c.loop-k.invariant.2)),
+          )
+      | else-not-meet_in_ends w ↦
+          let settled = w.if-not-meet_in_ends.ensures.settles.0 refl in
+          rw (w.meetings-is, w.is_open-is) (
+            subst (λ ks. AreGathered es (IsLookedAt i ks) (plain_meetings whole c.loop-k.meetings.items)) more
+                (pair_left_out es i e at_e limit js j f (subst (IsHeld limit) at_e.1 (c.requires.held i e at_e.0))
+                (subst (IsHeld limit) at_f.1 (c.requires.held j f at_f.0)) at_f settled c.loop-k.invariant.0),
+            c.loop-k.invariant.1,
+            subst (λ ks. AreOpenWith es i ks old) more
+                (open_with_more es i js j old e f at_e at_f (inr settled) c.loop-k.invariant.2),
+          )
+    ]
 
 pub returns-clause-ok : goal.returns-clause-ok
 returns-clause-ok g c =
@@ -91,4 +176,12 @@ returns-clause-ok g c =
     (placed_in_mapped plain c.args.edges.now c.args.i c.index-edges-i.result c.requires.within c.index-edges-i.is)
     g.I.IntNumber.limit c.args.near.now c.requires.held c.requires.near
     (subst (λ js. AreGathered es (IsLookedAt c.args.i js) (plain_meetings whole c.loop-k.meetings.items))
-    (take_all c.loop-k.k c.args.near.now c.loop-k-test.false) c.loop-k.invariant)
+    (take_all c.loop-k.k c.args.near.now c.loop-k-test.false) c.loop-k.invariant.0)
+
+pub returns-clause-open : goal.returns-clause-open
+returns-clause-open g c =
+    let es = plain_edges g.I.IntNumber.whole g.C.EdgeCount.counts c.args.edges.now in
+    let opens = c.loop-k.is_open.items in
+    open_with_near es c.args.i c.args.near.now opens c.requires.near
+    (subst (λ js. AreOpenWith es c.args.i js opens) (take_all c.loop-k.k c.args.near.now c.loop-k-test.false)
+    c.loop-k.invariant.2) c.loop-k.invariant.1

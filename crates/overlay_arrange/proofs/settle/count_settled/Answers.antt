@@ -10,7 +10,7 @@ use Rattle.overlay_arrange.proofs.settle.count_settled.Goals as goal
 pub is_settled_from-requires-clause-near : goal.is_settled_from-requires-clause-near
 is_settled_from-requires-clause-near g c =
     subst (AreNear (plain_edges g.I.IntNumber.whole g.C.EdgeCount.counts c.args.edges.now) c.loop-i.i)
-    (sym c.deref.ensures.value) c.in_ok-find_near.ensures.ok
+    (sym c.deref.ensures.value) c.in_ok-find_open.ensures.ok
 
 pub loop-i-preserved : goal.loop-i-preserved
 loop-i-preserved g c =

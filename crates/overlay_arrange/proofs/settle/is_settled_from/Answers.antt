@@ -15,7 +15,9 @@ pub offset_bounds-edges-j : goal.offset_bounds-edges-j
 offset_bounds-edges-j g c =
     let plain = plain_edge g.I.IntNumber.whole g.C.EdgeCount.counts in
     let j = get_or c.args.near.now c.loop-k.k 0 in
-    let later = c.requires.near.later j (
+    let at_e = placed_in_mapped plain c.args.edges.now c.args.i c.index-edges-i.result c.requires.within
+    c.index-edges-i.is in
+    let later = (c.requires.near (plain c.index-edges-i.result) at_e).within j (
       c.loop-k.k,
       c.loop-k-test.true,
       get_or_default c.args.near.now c.loop-k.k j 0 c.loop-k-test.true,
@@ -28,7 +30,9 @@ pub bounds-edges-j : goal.bounds-edges-j
 bounds-edges-j g c =
     let plain = plain_edge g.I.IntNumber.whole g.C.EdgeCount.counts in
     let j = get_or c.args.near.now c.loop-k.k 0 in
-    let later = c.requires.near.later j (
+    let at_e = placed_in_mapped plain c.args.edges.now c.args.i c.index-edges-i.result c.requires.within
+    c.index-edges-i.is in
+    let later = (c.requires.near (plain c.index-edges-i.result) at_e).within j (
       c.loop-k.k,
       c.loop-k-test.true,
       get_or_default c.args.near.now c.loop-k.k j 0 c.loop-k-test.true,
@@ -47,7 +51,9 @@ pub meet_in_ends-requires-clause-other : goal.meet_in_ends-requires-clause-other
 meet_in_ends-requires-clause-other g c =
     let plain = plain_edge g.I.IntNumber.whole g.C.EdgeCount.counts in
     let j = get_or c.args.near.now c.loop-k.k 0 in
-    let later = c.requires.near.later j (
+    let at_e = placed_in_mapped plain c.args.edges.now c.args.i c.index-edges-i.result c.requires.within
+    c.index-edges-i.is in
+    let later = (c.requires.near (plain c.index-edges-i.result) at_e).within j (
       c.loop-k.k,
       c.loop-k-test.true,
       get_or_default c.args.near.now c.loop-k.k j 0 c.loop-k-test.true,
@@ -61,7 +67,9 @@ pub returns-then-not-meet_in_ends : goal.returns-then-not-meet_in_ends
 returns-then-not-meet_in_ends g c =
     let plain = plain_edge g.I.IntNumber.whole g.C.EdgeCount.counts in
     let j = get_or c.args.near.now c.loop-k.k 0 in
-    let later = c.requires.near.later j (
+    let at_e = placed_in_mapped plain c.args.edges.now c.args.i c.index-edges-i.result c.requires.within
+    c.index-edges-i.is in
+    let later = (c.requires.near (plain c.index-edges-i.result) at_e).within j (
       c.loop-k.k,
       c.loop-k-test.true,
       get_or_default c.args.near.now c.loop-k.k j 0 c.loop-k-test.true,
@@ -70,8 +78,7 @@ returns-then-not-meet_in_ends g c =
     (let l = length-map c.args.edges.now plain in let less = later.1 in omega (arith, l, less)) in (
       λ h. absurd (cc),
       λ all. c.if-not-meet_in_ends.ensures.settles.1
-          (all j (plain c.index-edges-i.result) (plain c.index-edges-j.result) later.0 inside
-          (placed_in_mapped plain c.args.edges.now c.args.i c.index-edges-i.result c.requires.within c.index-edges-i.is)
+          (all j (plain c.index-edges-i.result) (plain c.index-edges-j.result) (omega (arith, later.0)) inside at_e
           (placed_in_mapped plain c.args.edges.now j c.index-edges-j.result inside c.index-edges-j.is)),
     )
 
@@ -80,7 +87,9 @@ loop-k-preserved g c =
     let plain = plain_edge g.I.IntNumber.whole g.C.EdgeCount.counts in
     let es = plain_edges g.I.IntNumber.whole g.C.EdgeCount.counts c.args.edges.now in
     let j = get_or c.args.near.now c.loop-k.k 0 in
-    let later = c.requires.near.later j (
+    let at_e = placed_in_mapped plain c.args.edges.now c.args.i c.index-edges-i.result c.requires.within
+    c.index-edges-i.is in
+    let later = (c.requires.near (plain c.index-edges-i.result) at_e).within j (
       c.loop-k.k,
       c.loop-k-test.true,
       get_or_default c.args.near.now c.loop-k.k j 0 c.loop-k-test.true,
@@ -89,8 +98,7 @@ loop-k-preserved g c =
     (let l = length-map c.args.edges.now plain in let less = later.1 in omega (arith, l, less)) in
     subst (AreSettledWith es c.args.i)
     (sym (take_more c.args.near.now c.loop-k.k 0 c.loop-k-test.true))
-    (settled_more es c.args.i (plain c.index-edges-i.result)
-    (placed_in_mapped plain c.args.edges.now c.args.i c.index-edges-i.result c.requires.within c.index-edges-i.is)
+    (settled_more es c.args.i (plain c.index-edges-i.result) at_e
     (take c.loop-k.k c.args.near.now) j (plain c.index-edges-j.result)
     (placed_in_mapped plain c.args.edges.now j c.index-edges-j.result inside c.index-edges-j.is)
     (c.if-not-meet_in_ends.ensures.settles.0 refl) c.loop-k.invariant)
@@ -100,7 +108,7 @@ returns g c =
     let plain = plain_edge g.I.IntNumber.whole g.C.EdgeCount.counts in
     let es = plain_edges g.I.IntNumber.whole g.C.EdgeCount.counts c.args.edges.now in (
       λ _. subst (AreSettledUpTo es c.args.i) (length-map c.args.edges.now plain)
-          (settled_with_near es c.args.i g.I.IntNumber.limit c.args.near.now c.requires.held c.requires.near
+          (settled_with_near es c.args.i c.args.near.now c.requires.near
           (subst (AreSettledWith es c.args.i) (take_all c.loop-k.k c.args.near.now c.loop-k-test.false)
           c.loop-k.invariant)),
       λ _. refl,

@@ -6,18 +6,24 @@ use Rattle.overlay_arrange.specs.Content.{plain_edge, plain_edges}
 use Rattle.overlay_arrange.proofs.SettledLists.{settled_where_counted}
 use Rattle.overlay_arrange.proofs.content.Content.open_meetings.Goals as goal
 
+pub count_settled-requires-clause-held : goal.count_settled-requires-clause-held
+count_settled-requires-clause-held g c = rw c.edges-edges.ensures.plain c.edges-edges.ensures.content.held
+
+pub count_settled-requires-clause-ascending : goal.count_settled-requires-clause-ascending
+count_settled-requires-clause-ascending g c = rw c.edges-edges.ensures.plain c.requires.ascending
+
 pub gather-requires-clause-held : goal.gather-requires-clause-held
 gather-requires-clause-held g c = rw c.edges-edges.ensures.plain c.edges-edges.ensures.content.held
 
 pub gather-requires-clause-ascending : goal.gather-requires-clause-ascending
-gather-requires-clause-ascending g c = rw c.edges-edges.ensures.plain c.requires
+gather-requires-clause-ascending g c = rw c.edges-edges.ensures.plain c.requires.ascending
 
 pub returns-then-count-edges-clause-settled : goal.returns-then-count-edges-clause-settled
 returns-then-count-edges-clause-settled g c =
     let law = settled_where_counted (plain_edges g.I.IntNumber.whole g.C.EdgeCount.counts c.edges-edges.result.now)
     c.in_ok-count.count (length c.edges-edges.result.now)
     (length-map c.edges-edges.result.now (plain_edge g.I.IntNumber.whole g.C.EdgeCount.counts))
-    (rw c.edges-edges.ensures.plain c.requires) c.in_ok-count.ensures.ok c.in_ok-count.ensures.most in (
+    (rw c.edges-edges.ensures.plain c.requires.ascending) c.in_ok-count.ensures.ok c.in_ok-count.ensures.most in (
       λ _. subst IsSettled c.edges-edges.ensures.plain (law.0 c.if-count-edges.true),
       λ _. refl,
     )
@@ -27,7 +33,7 @@ returns-clause-settled g c =
     let law = settled_where_counted (plain_edges g.I.IntNumber.whole g.C.EdgeCount.counts c.edges-edges.result.now)
     c.in_ok-count.count (length c.edges-edges.result.now)
     (length-map c.edges-edges.result.now (plain_edge g.I.IntNumber.whole g.C.EdgeCount.counts))
-    (rw c.edges-edges.ensures.plain c.requires) c.in_ok-count.ensures.ok c.in_ok-count.ensures.most in (
+    (rw c.edges-edges.ensures.plain c.requires.ascending) c.in_ok-count.ensures.ok c.in_ok-count.ensures.most in (
       λ same. absurd (cc),
       λ settled. absurd (c.if-count-edges.false (law.1 (rw c.edges-edges.ensures.plain settled))),
     )

@@ -10,14 +10,14 @@ use Rattle.overlay_arrange.proofs.WholeMeetings.{settled_where_whole}
 use Rattle.overlay_geom.specs.Settled.{IsSettled}
 use Rattle.overlay_plane.specs.Carried.{edges_in}
 use Rattle.overlay_plane.specs.CutPoints.{cut_edges}
-use Rattle.overlay_arrange.proofs.content.Content.+split.Goals as goal
+use Rattle.overlay_arrange.proofs.content.Content.+split_since.Goals as goal
 
 -- edges of which the meetings are found are not settled
 not_settled : {X : Type 0} {found : Option X} {x : X} {P : Type 0} → found ≡ Some x → (found ≡ None) ↔ P → ¬ P
 not_settled is law settled = let none = sym is ∙ law.1 settled in absurd (cc)
 
-pub open_meetings-requires : goal.open_meetings-requires
-open_meetings-requires g n c = c.in_ok-merge.ensures.ok.ascending
+pub open_meetings-requires-clause-ascending : goal.open_meetings-requires-clause-ascending
+open_meetings-requires-clause-ascending g n c = c.in_ok-merge.ensures.ok.ascending
 
 pub returns-in_default-clause-split : goal.returns-in_default-clause-split
 returns-in_default-clause-split g n c = split_at_once c.args.rounds _ _ c.in_ok-merge.ensures.ok
@@ -38,36 +38,40 @@ returns-in_err-is_rounded-clause-too_many g n c = λ same.
     refl in
     heavy_at_once 2147483648 c.args.rounds _ _ (omega arith) first (c.in_err-is_rounded.ensures.too_many (cc))
 
-pub returns-in_ok-split-clause-split : goal.returns-in_ok-split-clause-split
-returns-in_ok-split-clause-split g n c =
+pub returns-in_ok-split_since-clause-split : goal.returns-in_ok-split_since-clause-split
+returns-in_ok-split_since-clause-split g n c =
     let first = leaves_cut g.I.IntNumber.limit (edges_in c.args.self.now) (edges_in c.merge.new.self)
     (edges_in c.cut_at.new.self) c.merge.ensures.content c.in_ok-merge.ensures.ok
     (not_settled c.in-Some.is c.in_ok-meetings.ensures.settled) c.in_ok-is_rounded.ensures.ok in
-    split_on (c.args.rounds - 1) c.args.rounds _ _ _ (omega arith) first c.in_ok-split.ensures.split
+    split_on (c.args.rounds - 1) c.args.rounds _ _ _ (omega arith) first c.in_ok-split_since.ensures.split
 
 pub returns-in_default-clause-cut : goal.returns-in_default-clause-cut
 returns-in_default-clause-cut g n c = uncut_where_settled c.in_ok-merge.ensures.ok
     (c.in_ok-meetings.ensures.settled.0 c.in_default.is)
 
-pub returns-in_ok-split-clause-cut : goal.returns-in_ok-split-clause-cut
-returns-in_ok-split-clause-cut g n c = cut_where_unsettled c.in_ok-merge.ensures.ok
+pub returns-in_ok-split_since-clause-cut : goal.returns-in_ok-split_since-clause-cut
+returns-in_ok-split_since-clause-cut g n c = cut_where_unsettled c.in_ok-merge.ensures.ok
     (not_settled c.in-Some.is c.in_ok-meetings.ensures.settled)
 
-pub returns-in_err-split-clause-not_settled : goal.returns-in_err-split-clause-not_settled
-returns-in_err-split-clause-not_settled g n c = λ same.
-    let passed = err_from_is_err_and c.from_residual-in_err-split.result c.from_residual-in_err-split.ensures.1 in
+pub returns-in_err-split_since-clause-not_settled : goal.returns-in_err-split_since-clause-not_settled
+returns-in_err-split_since-clause-not_settled g n c = λ same.
+    let passed = err_from_is_err_and c.from_residual-in_err-split_since.result
+    c.from_residual-in_err-split_since.ensures.1 in
     let first = leaves_cut g.I.IntNumber.limit (edges_in c.args.self.now) (edges_in c.merge.new.self)
     (edges_in c.cut_at.new.self) c.merge.ensures.content c.in_ok-merge.ensures.ok
     (not_settled c.in-Some.is c.in_ok-meetings.ensures.settled) c.in_ok-is_rounded.ensures.ok in
-    unsettled_on (c.args.rounds - 1) c.args.rounds _ _ (omega arith) first (c.in_err-split.ensures.not_settled (cc))
+    unsettled_on (c.args.rounds - 1) c.args.rounds _ _ (omega arith) first
+    (c.in_err-split_since.ensures.not_settled (cc))
 
-pub returns-in_err-split-clause-too_many : goal.returns-in_err-split-clause-too_many
-returns-in_err-split-clause-too_many g n c = λ same.
-    let passed = err_from_is_err_and c.from_residual-in_err-split.result c.from_residual-in_err-split.ensures.1 in
+pub returns-in_err-split_since-clause-too_many : goal.returns-in_err-split_since-clause-too_many
+returns-in_err-split_since-clause-too_many g n c = λ same.
+    let passed = err_from_is_err_and c.from_residual-in_err-split_since.result
+    c.from_residual-in_err-split_since.ensures.1 in
     let first = leaves_cut g.I.IntNumber.limit (edges_in c.args.self.now) (edges_in c.merge.new.self)
     (edges_in c.cut_at.new.self) c.merge.ensures.content c.in_ok-merge.ensures.ok
     (not_settled c.in-Some.is c.in_ok-meetings.ensures.settled) c.in_ok-is_rounded.ensures.ok in
-    heavy_on 2147483648 (c.args.rounds - 1) c.args.rounds _ _ (omega arith) first (c.in_err-split.ensures.too_many (cc))
+    heavy_on 2147483648 (c.args.rounds - 1) c.args.rounds _ _ (omega arith) first
+    (c.in_err-split_since.ensures.too_many (cc))
 
 pub returns-in_default-clause-carried : goal.returns-in_default-clause-carried
 returns-in_default-clause-carried g n c =
@@ -75,14 +79,14 @@ returns-in_default-clause-carried g n c =
     c.merge.new.self
     c.in_ok-merge.ensures.ok (c.in_ok-meetings.ensures.settled.0 c.in_default.is) c.in_ok-merge.ensures.carried
 
-pub returns-in_ok-split-clause-carried : goal.returns-in_ok-split-clause-carried
-returns-in_ok-split-clause-carried g n c =
+pub returns-in_ok-split_since-clause-carried : goal.returns-in_ok-split_since-clause-carried
+returns-in_ok-split_since-clause-carried g n c =
     carried_on g.C.EdgeCount.merges g.C.EdgeCount.splits g.C.EdgeCount.reverses g.I.IntNumber.limit
     (c.args.rounds - 1) c.args.rounds
     c.args.self.now c.merge.new.self c.cut_at.new.self _ (omega arith) c.merge.ensures.content c.in_ok-merge.ensures.ok
     (not_settled c.in-Some.is c.in_ok-meetings.ensures.settled)
     c.in_ok-merge.ensures.carried c.in_ok-is_rounded.ensures.ok c.in_ok-is_rounded.ensures.carried
-    c.in_ok-split.ensures.carried
+    c.in_ok-split_since.ensures.carried
 
 -- where no point was rounded, the pieces, merged, are settled
 pub returns-in_ok-merge-2-clause-split : goal.returns-in_ok-merge-2-clause-split
@@ -126,17 +130,17 @@ pub returns-in_err-is_rounded-clause-store : goal.returns-in_err-is_rounded-clau
 returns-in_err-is_rounded-clause-store g n c =
     reached_on g.C.EdgeCount.writes _ _ _ c.in_ok-merge.ensures.store c.in_err-is_rounded.ensures.store
 
-pub returns-in_ok-split-clause-store : goal.returns-in_ok-split-clause-store
-returns-in_ok-split-clause-store g n c =
+pub returns-in_ok-split_since-clause-store : goal.returns-in_ok-split_since-clause-store
+returns-in_ok-split_since-clause-store g n c =
     let writes = g.C.EdgeCount.writes in
     reached_on writes _ _ _ (reached_on writes _ _ _ c.in_ok-merge.ensures.store c.in_ok-is_rounded.ensures.store)
-    c.in_ok-split.ensures.store
+    c.in_ok-split_since.ensures.store
 
-pub returns-in_err-split-clause-store : goal.returns-in_err-split-clause-store
-returns-in_err-split-clause-store g n c =
+pub returns-in_err-split_since-clause-store : goal.returns-in_err-split_since-clause-store
+returns-in_err-split_since-clause-store g n c =
     let writes = g.C.EdgeCount.writes in
     reached_on writes _ _ _ (reached_on writes _ _ _ c.in_ok-merge.ensures.store c.in_ok-is_rounded.ensures.store)
-    c.in_err-split.ensures.store
+    c.in_err-split_since.ensures.store
 
 pub returns-in_ok-merge-2-clause-store : goal.returns-in_ok-merge-2-clause-store
 returns-in_ok-merge-2-clause-store g n c =

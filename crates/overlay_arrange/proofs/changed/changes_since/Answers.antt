@@ -1,0 +1,68 @@
+-- The edges found are the changes, so they are held and ascend as the list does.
+use Rattle.std.proofs.Common.{All, IfSome, length, sym, subst, arith}
+use Rattle.std.proofs.lemmas.List.{length-map}
+use Rattle.overlay_plane.specs.Carried.{edges_in}
+use Rattle.overlay_arrange.specs.Changed.{AreChangedBefore, AreOpenIn, StandAt}
+use Rattle.overlay_arrange.specs.Content.{plain_edge, plain_edges, IsAscending, IsHeld}
+use Rattle.overlay_arrange.proofs.ChangedEdges.{changes_found}
+use Rattle.overlay_arrange.proofs.NearChanged.{changes_ascend, changes_held}
+use Rattle.overlay_arrange.proofs.changed.changes_since.Goals as goal
+
+pub strips_of-requires-clause-held : goal.strips_of-requires-clause-held
+strips_of-requires-clause-held g c =
+    let whole = g.I.IntNumber.whole in
+    let counts = g.C.EdgeCount.counts in
+    let es = plain_edges whole counts c.args.edges.now in
+    let before = edges_in c.in-Some.before.edges in
+    let opens = c.in-Some.before.is_open.items in
+    let places = c.in_ok-places.places.items in
+    let cs = plain_edges whole counts c.in_ok-changed.changed.items in
+    let l = length-map c.args.edges.now (plain_edge whole counts) in
+    let known : AreOpenIn before opens = subst (λ o. IfSome o (λ s. AreOpenIn (edges_in s.edges) s.is_open.items))
+    c.in-Some.is c.requires.before in
+    let found : AreChangedBefore es before opens (length c.args.edges.now) places =
+    rw (← c.edges.ensures.plain, ← c.deref.ensures.value) c.in_ok-places.ensures.ok in
+    let stand : StandAt es places cs = rw (← c.deref-2.ensures.value) c.in_ok-changed.ensures.ok in
+    let changes = changes_found es c.requires.ascending before opens known (length c.args.edges.now) places cs
+    (omega (arith, l)) found stand in
+    subst (λ fs. All (IsHeld g.I.IntNumber.limit) (plain_edges whole counts fs)) (sym c.deref-3.ensures.value)
+    (changes_held es places cs changes g.I.IntNumber.limit c.requires.held)
+
+pub strips_of-requires-clause-ascending : goal.strips_of-requires-clause-ascending
+strips_of-requires-clause-ascending g c =
+    let whole = g.I.IntNumber.whole in
+    let counts = g.C.EdgeCount.counts in
+    let es = plain_edges whole counts c.args.edges.now in
+    let before = edges_in c.in-Some.before.edges in
+    let opens = c.in-Some.before.is_open.items in
+    let places = c.in_ok-places.places.items in
+    let cs = plain_edges whole counts c.in_ok-changed.changed.items in
+    let l = length-map c.args.edges.now (plain_edge whole counts) in
+    let known : AreOpenIn before opens = subst (λ o. IfSome o (λ s. AreOpenIn (edges_in s.edges) s.is_open.items))
+    c.in-Some.is c.requires.before in
+    let found : AreChangedBefore es before opens (length c.args.edges.now) places =
+    rw (← c.edges.ensures.plain, ← c.deref.ensures.value) c.in_ok-places.ensures.ok in
+    let stand : StandAt es places cs = rw (← c.deref-2.ensures.value) c.in_ok-changed.ensures.ok in
+    let changes = changes_found es c.requires.ascending before opens known (length c.args.edges.now) places cs
+    (omega (arith, l)) found stand in
+    subst (λ fs. IsAscending (plain_edges whole counts fs)) (sym c.deref-3.ensures.value)
+    (changes_ascend es places cs changes c.requires.ascending)
+
+pub returns-clause-ok : goal.returns-clause-ok
+returns-clause-ok g c =
+    let whole = g.I.IntNumber.whole in
+    let counts = g.C.EdgeCount.counts in
+    let es = plain_edges whole counts c.args.edges.now in
+    let before = edges_in c.in-Some.before.edges in
+    let opens = c.in-Some.before.is_open.items in
+    let places = c.in_ok-places.places.items in
+    let cs = plain_edges whole counts c.in_ok-changed.changed.items in
+    let l = length-map c.args.edges.now (plain_edge whole counts) in
+    let known : AreOpenIn before opens = subst (λ o. IfSome o (λ s. AreOpenIn (edges_in s.edges) s.is_open.items))
+    c.in-Some.is c.requires.before in
+    let found : AreChangedBefore es before opens (length c.args.edges.now) places =
+    rw (← c.edges.ensures.plain, ← c.deref.ensures.value) c.in_ok-places.ensures.ok in
+    let stand : StandAt es places cs = rw (← c.deref-2.ensures.value) c.in_ok-changed.ensures.ok in
+    let changes = changes_found es c.requires.ascending before opens known (length c.args.edges.now) places cs
+    (omega (arith, l)) found stand in
+    record { changes = changes; strips = rw (← c.deref-3.ensures.value) c.in_ok-strips.ensures.ok }

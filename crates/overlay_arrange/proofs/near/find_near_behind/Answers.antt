@@ -1,0 +1,47 @@
+-- The whole run is taken, or searched.
+use Rattle.std.proofs.Common.{length, sym, ap, subst, arith}
+use Rattle.std.proofs.lemmas.List.{length-map}
+use Rattle.std.proofs.lemmas.Result.{on_ok_weaker}
+use Rattle.overlay_arrange.specs.Content.{plain_edge, plain_edges}
+use Rattle.overlay_arrange.specs.Extents.{Extent, plain_extent, plain_extents}
+use Rattle.overlay_arrange.specs.Near.{run_of, IsSearchedTo}
+use Rattle.overlay_arrange.proofs.NearEdges.{run_near, searched_near}
+use Rattle.overlay_arrange.proofs.StripOrder.{as_many}
+use Rattle.overlay_arrange.proofs.near.find_near_behind.Goals as goal
+
+pub returns-then-end-from-lt-FEW-clause-ok : goal.returns-then-end-from-lt-FEW-clause-ok
+returns-then-end-from-lt-FEW-clause-ok g c =
+    on_ok_weaker c.take_run.result
+    (run_near (plain_edges g.I.IntNumber.whole g.C.EdgeCount.counts c.args.edges.now) c.args.from c.run_end-end.result
+    (plain_edge g.I.IntNumber.whole g.C.EdgeCount.counts c.args.e.now) g.I.IntNumber.limit c.requires.held
+    c.requires.one c.requires.ascending c.run_end-end.ensures c.take_run.new.near.items) c.take_run.ensures.ok
+
+pub find_by_blocks-requires-clause-within : goal.find_by_blocks-requires-clause-within
+find_by_blocks-requires-clause-within g c =
+    let whole = g.I.IntNumber.whole in
+    let plain = plain_edge whole g.C.EdgeCount.counts in
+    let extents = c.args.strips.now.edges.items in
+    let last = ap (λ (s : Extent). s.last) c.run_of.ensures in
+    let count = as_many (plain_edges whole g.C.EdgeCount.counts c.args.edges.now) (plain_extents whole extents)
+    c.requires.strips.permutation in
+    let l = length-map extents (plain_extent whole) in
+    let m = length-map c.args.edges.now plain in
+    let ordered = c.run_end-end.ensures.ordered in
+    let up_to = c.run_end-end.ensures.within in
+    omega (arith, last, count, l, m, ordered, up_to)
+
+pub returns-else-end-from-lt-FEW-clause-ok : goal.returns-else-end-from-lt-FEW-clause-ok
+returns-else-end-from-lt-FEW-clause-ok g c =
+    let whole = g.I.IntNumber.whole in
+    let plain = plain_edge whole g.C.EdgeCount.counts in
+    let es = plain_edges whole g.C.EdgeCount.counts c.args.edges.now in
+    let e = plain c.args.e.now in
+    let end = c.run_end-end.result in
+    let extents = c.args.strips.now.edges.items in
+    let ss = plain_extents whole extents in
+    let js = c.find_by_blocks.new.near.items in
+    on_ok_weaker c.find_by_blocks.result
+    (λ searched. searched_near es c.args.from end e g.I.IntNumber.limit c.requires.held c.requires.one
+    c.requires.ascending c.run_end-end.ensures ss js c.requires.strips.permutation
+    (subst (λ n. IsSearchedTo ss (run_of e c.args.from end) n js) (sym (length-map extents (plain_extent whole)))
+    (subst (λ s. IsSearchedTo ss s (length extents) js) c.run_of.ensures searched))) c.find_by_blocks.ensures.ok

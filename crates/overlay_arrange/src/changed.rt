@@ -1,0 +1,197 @@
+//! The edges of a list that may meet another one elsewhere than in ends, by what is known of the list before.
+
+ghost use Rattle.std.specs.Prelude.{◌≡◌, ◌≤◌, ◌<◌, ◌+◌, length, All, AllPairs, IsTrue, IfOk, IfSome, OnOk, IsOkUnless};
+ghost use Rattle.overlay_plane.specs.Carried.{edges_in};
+ghost use Rattle.overlay_arrange.specs.Changed.{AreChangedBefore, AreHeldChangesOf, AreOpenIn, ArePlacesAt, StandAt};
+ghost use Rattle.overlay_arrange.specs.Changed.{IsFirstFrom, WasClosed};
+ghost use Rattle.overlay_arrange.specs.Content.{plain_edge, plain_edges, IsAscending, IsHeld};
+ghost use Rattle.overlay_arrange.specs.Extents.{AreHeldStripsOf};
+ghost use Rattle.overlay_arrange.specs.Near.{AreNear};
+
+use crate::content::Content;
+use crate::count::EdgeCount;
+use crate::edge::{CountedEdge, compare_edges};
+use crate::near::find_near_behind;
+use crate::strips::{Strips, strips_of};
+use overlay_geom::error::OverlayError;
+use overlay_geom::number::IntNumber;
+use std::alloc::Allocator;
+
+/// A list of edges, and which of them meet another one elsewhere than in ends.
+#[derive(Drop)]
+pub(crate) struct Settling<I: IntNumber, C: EdgeCount, A: Allocator> {
+    /// The edges.
+    pub edges: Content<I, C, A>,
+    /// Of each one, whether it is open: two edges of which neither is meet in ends alone.
+    pub is_open: Vec<bool, A>,
+}
+
+/// The edges of a list that may meet another one elsewhere than in ends: any two others meet in ends alone.
+#[derive(Drop)]
+pub(crate) struct Changed<I: Copy, C: Copy, A: Allocator> {
+    /// Their places, which ascend.
+    pub places: Vec<usize, A>,
+    /// The edges at these places.
+    pub edges: Vec<CountedEdge<I, C>, A>,
+    /// The strips of these edges.
+    pub strips: Strips<I, A>,
+}
+
+/// The edges of a list that may meet another one elsewhere than in ends, by what is known of the list before it: all but
+/// those whose ends are those of an edge before that is not open. None where there was no list before, or where they are
+/// more than half of the edges. These ascend. The only refusal is `Memory`.
+pub(crate) fn changes_since<I: IntNumber, C: EdgeCount, A: Allocator + Clone>(
+    alloc: A,
+    edges: &[CountedEdge<I, C>],
+    before: &Option<Settling<I, C, A>>,
+) -> Result<Option<Changed<I, C, A>>, OverlayError>
+    requires held { All (IsHeld I.limit) (plain_edges I.whole C.counts edges.now) }
+    requires ascending { IsAscending (plain_edges I.whole C.counts edges.now) }
+    requires before { IfSome before.now (λ s. AreOpenIn (edges_in s.edges) s.is_open.items) }
+    ensures ok { IfOk result (λ found.
+        IfSome found (AreHeldChangesOf I.whole C.counts (plain_edges I.whole C.counts edges.now))) }
+    ensures err { IsOkUnless result OverlayError.Memory }
+{
+    let Some(before) = before else {
+        return Ok(None);
+    };
+    let places = changed_places(alloc.clone()?, edges, before.edges.edges(), &before.is_open)?;
+    if edges.len() / 2 < places.len() {
+        return Ok(None);
+    }
+    let changed = edges_at(alloc.clone()?, edges, &places)?;
+    let strips = strips_of(alloc, &changed)?;
+    Ok(Some(Changed {
+        places,
+        edges: changed,
+        strips,
+    }))
+}
+
+/// The places of the edges but of those whose ends are those of an edge of the list before that is not open. It goes
+/// through both lists, which ascend.
+fn changed_places<I: IntNumber, C: EdgeCount, A: Allocator>(
+    alloc: A,
+    edges: &[CountedEdge<I, C>],
+    before: &[CountedEdge<I, C>],
+    is_open: &[bool],
+) -> Result<Vec<usize, A>, OverlayError>
+    requires { length is_open.now ≡ length before.now }
+    ensures ok { IfOk result (λ places. AreChangedBefore (plain_edges I.whole C.counts edges.now)
+        (plain_edges I.whole C.counts before.now) is_open.now (length edges.now) places.items) }
+    ensures err { IsOkUnless result OverlayError.Memory }
+{
+    let mut places = Vec::new(alloc);
+    let mut at = 0;
+    for i in 0..edges.len() {
+        let e = &edges[i];
+        at = place_from(before, at, e);
+        if !was_closed(before, is_open, at, e) {
+            places.push(i)?;
+        }
+    }
+    Ok(places)
+}
+
+/// The place of the first edge from a place on that does not come before e, or a place behind all of them.
+fn place_from<I: IntNumber, C: EdgeCount>(
+    edges: &[CountedEdge<I, C>],
+    from: usize,
+    e: &CountedEdge<I, C>,
+) -> usize
+    ensures { from ≤ result }
+{
+    let mut at = from;
+    while at < edges.len() && compare_edges(&edges[at], e).is_lt() {
+        at += 1;
+    }
+    at
+}
+
+/// Whether an edge stands at the place of the list before, is not open, and has the ends of e.
+fn was_closed<I: IntNumber, C: EdgeCount>(
+    before: &[CountedEdge<I, C>],
+    is_open: &[bool],
+    at: usize,
+    e: &CountedEdge<I, C>,
+) -> bool
+    requires { length is_open.now ≡ length before.now }
+    ensures { IsTrue result → WasClosed (plain_edges I.whole C.counts before.now) is_open.now
+        (plain_edge I.whole C.counts e.now) }
+{
+    if before.len() <= at {
+        return false;
+    }
+    !is_open[at] && compare_edges(&before[at], e).is_eq()
+}
+
+/// The edges at the places, in their order.
+fn edges_at<I: IntNumber, C: EdgeCount, A: Allocator>(
+    alloc: A,
+    edges: &[CountedEdge<I, C>],
+    places: &[usize],
+) -> Result<Vec<CountedEdge<I, C>, A>, OverlayError>
+    requires { All (λ i. i < length edges.now) places.now }
+    ensures ok { IfOk result (λ found. StandAt (plain_edges I.whole C.counts edges.now) places.now
+        (plain_edges I.whole C.counts found.items)) }
+    ensures err { IsOkUnless result OverlayError.Memory }
+{
+    let mut found = Vec::with_capacity(alloc, places.len())?;
+    for k in 0..places.len() {
+        found.push(edges[places[k]])?;
+    }
+    Ok(found)
+}
+
+/// Finds the places of the later edges that the edge at place i may meet elsewhere than in ends. Where the changed ones
+/// are known, an edge that is not among them is held against them alone. The edges ascend.
+pub(crate) fn find_open<I: IntNumber, C: EdgeCount, A: Allocator>(
+    near: &mut Vec<usize, A>,
+    edges: &[CountedEdge<I, C>],
+    strips: &Strips<I, A>,
+    changed: &Option<Changed<I, C, A>>,
+    i: usize,
+) -> Result<(), OverlayError>
+    requires held { All (IsHeld I.limit) (plain_edges I.whole C.counts edges.now) }
+    requires ascending { IsAscending (plain_edges I.whole C.counts edges.now) }
+    requires strips { AreHeldStripsOf I.whole (plain_edges I.whole C.counts edges.now) strips.now }
+    requires changed { IfSome changed.now
+        (AreHeldChangesOf I.whole C.counts (plain_edges I.whole C.counts edges.now)) }
+    requires within { i < length edges.now }
+    ensures ok { OnOk result (AreNear (plain_edges I.whole C.counts edges.now) i near.new.items) }
+    ensures err { IsOkUnless result OverlayError.Memory }
+{
+    let e = &edges[i];
+    let Some(changed) = changed else {
+        return find_near_behind(near, edges, strips, e, i + 1);
+    };
+    let k = first_from(&changed.places, i);
+    if k == changed.places.len() {
+        near.clear();
+        Ok(())
+    } else if changed.places[k] == i {
+        find_near_behind(near, edges, strips, e, i + 1)
+    } else {
+        find_near_behind(near, &changed.edges, &changed.strips, e, k)?;
+        put_places(near, &changed.places);
+        Ok(())
+    }
+}
+
+/// Where in an ascending list the first number from i on stands, or how many numbers there are.
+fn first_from(places: &[usize], i: usize) -> usize
+    requires { AllPairs (λ j k. j < k) places.now }
+    ensures { IsFirstFrom places.now i result }
+{
+    places.partition_point(|place| *place < i)
+}
+
+/// Puts in the place of each number the place that stands at it.
+fn put_places<A: Allocator>(near: &mut Vec<usize, A>, places: &[usize])
+    requires { All (λ k. k < length places.now) near.old.items }
+    ensures { ArePlacesAt places.now near.old.items near.new.items }
+{
+    for n in 0..near.len() {
+        near[n] = places[near[n]];
+    }
+}
