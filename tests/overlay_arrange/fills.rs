@@ -1,7 +1,7 @@
 //! The filled sides of edges, where live ones are kept in trees alone and in lists alone.
 
 use crate::edges::{Held, edge, with_edges};
-use overlay_arrange::fill::fills_with_trees_from;
+use overlay_arrange::fill::{fills_of_balanced, fills_with_trees_from};
 use overlay_arrange::fill_rule::FillRule;
 use overlay_arrange::vector::{SUBJ_LEFT, SUBJ_RIGHT, SideFill};
 use overlay_geom::error::OverlayError;
@@ -10,17 +10,23 @@ use std::alloc::Global;
 use std::process::Abort;
 use std::test::Fail;
 
-// Whether the edges of an arrangement have these filled sides, in order.
+// Whether the edges of an arrangement have these filled sides, in order, also where it is not tested that their counts are
+// balanced, if they are.
 fn check<I: IntNumber>(
     rt: &impl Abort,
     alloc: Global,
     mut content: Held<I>,
+    is_balanced: bool,
     wanted: &[SideFill],
 ) -> Result<(), OverlayError> {
     content.arrange(&mut ())?;
     for tree_from in [0, usize::MAX] {
         let fills = fills_with_trees_from(alloc, content.edges(), FillRule::NonZero, tree_from)?;
         assert!(rt; &fills[..] == wanted);
+        if is_balanced {
+            let fills = fills_of_balanced(alloc, content.edges(), FillRule::NonZero, tree_from)?;
+            assert!(rt; &fills[..] == wanted);
+        }
     }
     Ok(())
 }
@@ -45,10 +51,11 @@ fn rows<I: IntNumber>(
         rt,
         alloc,
         held,
+        true,
         &[SUBJ_RIGHT, SUBJ_LEFT, SUBJ_RIGHT, SUBJ_LEFT],
     )?;
     let alone = with_edges(rt, alloc, &[edge(zero, zero, two, one, 1)])?;
-    check(rt, alloc, alone, &[SUBJ_LEFT])
+    check(rt, alloc, alone, false, &[SUBJ_LEFT])
 }
 
 #[test]

@@ -1,6 +1,6 @@
 //! Graphs: the edges of an arrangement with what they carry and their filled sides.
 
-use crate::edges::{edge, with_edges};
+use crate::edges::{Held, edge, with_edges};
 use overlay_arrange::content::Content;
 use overlay_arrange::count::ShapeCountBoolean;
 use overlay_arrange::edge::compare_points;
@@ -16,16 +16,15 @@ use std::test::Fail;
 
 type Found<I> = Graph<I, ShapeCountBoolean, Global>;
 
-// The graph of a square of the side `two` from the origin, round which the subject winds so often,
-// and once more round its lower edge back and forth, of which nothing is left.
+// A square of the side `two` from the origin, arranged, round which the subject winds so often, and once more round its
+// lower edge back and forth, of which nothing is left.
 fn square<I: IntNumber>(
     rt: &impl Abort,
     alloc: Global,
     zero: I,
     two: I,
     often: i32,
-    fill_rule: FillRule,
-) -> Result<Found<I>, OverlayError> {
+) -> Result<Held<I>, OverlayError> {
     assert!(rt; often > -1000 && often < 1000);
     let edges = [
         edge(zero, zero, two, zero, often),
@@ -37,7 +36,7 @@ fn square<I: IntNumber>(
     ];
     let mut content = with_edges(rt, alloc, &edges)?;
     content.arrange(&mut ())?;
-    content.graph(fill_rule)
+    Ok(content)
 }
 
 // An edge with these filled sides, which the subject passes so often.
@@ -86,10 +85,20 @@ fn check_rules<I: IntNumber>(
     zero: I,
     two: I,
 ) -> Result<(), OverlayError> {
-    let filled = square(rt, alloc, zero, two, 2, FillRule::NonZero)?;
-    check_square(rt, &filled, zero, two, (2, SUBJ_LEFT), (-2, SUBJ_RIGHT))?;
-    let empty = square(rt, alloc, zero, two, 2, FillRule::EvenOdd)?;
-    check_square(rt, &empty, zero, two, (2, 0), (-2, 0))
+    let held = square(rt, alloc, zero, two, 2)?;
+    let filled = [
+        held.graph(FillRule::NonZero)?,
+        held.graph_of_balanced(FillRule::NonZero)?,
+    ];
+    let empty = [
+        held.graph(FillRule::EvenOdd)?,
+        held.graph_of_balanced(FillRule::EvenOdd)?,
+    ];
+    for k in 0..2 {
+        check_square(rt, &filled[k], zero, two, (2, SUBJ_LEFT), (-2, SUBJ_RIGHT))?;
+        check_square(rt, &empty[k], zero, two, (2, 0), (-2, 0))?;
+    }
+    Ok(())
 }
 
 #[test]

@@ -250,17 +250,18 @@ impl<I: OverlayInt, A: Allocator + Clone> Overlay<I, A> {
         written
     }
 
-    // The graph of the arranged edges.
+    // The graph of the arranged edges, whose counts are balanced: closed contours alone were added.
     fn graph_filled_by(
         &self,
         fill_rule: FillRule,
     ) -> Result<Graph<I, CountWithData<()>, A>, OverlayError>
+        requires usable { self.now.failed ≡ false }
         requires ascending { IsAscending self.now.edges }
         requires settled { IsSettled self.now.edges }
         ensures edges { IfOk result (λ g. graph_edges g ≡ self.now.edges) }
         ensures rule { IfOk result (λ g. g.fill_rule ≡ fill_rule) }
         ensures err { IsOkUnless result OverlayError.Memory }
     {
-        self.core.content().graph(fill_rule)
+        self.core.content().graph_of_balanced(fill_rule)
     }
 }

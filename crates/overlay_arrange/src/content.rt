@@ -6,6 +6,7 @@ ghost use Rattle.overlay_geom.specs.Edges.{weight};
 ghost use Rattle.overlay_geom.specs.Merged.{IsMerged};
 ghost use Rattle.overlay_geom.specs.Settled.{IsSettled};
 ghost use Rattle.overlay_geom.specs.Counts.{weight_of_counts};
+ghost use Rattle.overlay_plane.specs.Balance.{HasBalancedCounts};
 ghost use Rattle.overlay_plane.specs.Carried.{edges_in};
 ghost use Rattle.overlay_plane.specs.DerivedData.{CarriesMerged};
 ghost use Rattle.overlay_arrange.specs.Content.{plain_edge, plain_edges};
@@ -180,5 +181,20 @@ impl<I: IntNumber, C: EdgeCount, A: Allocator> Content<I, C, A> {
         ensures err { IsOkUnless result OverlayError.Memory }
     {
         Graph::new(self.edges.allocator().clone()?, &self.edges, fill_rule)
+    }
+
+    /// The same where the counts are balanced, as those of closed contours and what is arranged of them are: as many
+    /// steps enter each point as leave it, of the subject and of the clip. That is not tested. The only refusal is
+    /// `Memory`.
+    pub fn graph_of_balanced(&self, fill_rule: FillRule) -> Result<Graph<I, C, A>, OverlayError>
+    where
+        A: Clone,
+        requires ascending { IsAscending (edges_in self.now) }
+        requires settled { IsSettled (edges_in self.now) }
+        requires balanced { HasBalancedCounts (edges_in self.now) }
+        ensures ok { IfOk result (λ g. g ≡ record { fill_rule = fill_rule; edges = self.now }) }
+        ensures err { IsOkUnless result OverlayError.Memory }
+    {
+        Graph::of_balanced(self.edges.allocator().clone()?, &self.edges, fill_rule)
     }
 }

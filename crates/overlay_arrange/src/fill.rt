@@ -2,6 +2,7 @@
 
 ghost use Rattle.std.specs.Prelude.{◌≡◌, ◌≤◌, ◌↔◌, true, map, length, IfOk, IsOkUnless};
 ghost use Rattle.overlay_geom.specs.Settled.{IsSettled};
+ghost use Rattle.overlay_plane.specs.Balance.{HasBalancedCounts};
 ghost use Rattle.overlay_scan.specs.Scan.{empty_sweep};
 ghost use Rattle.overlay_tree.specs.EitherScans.{either_sweep, is_tree};
 ghost use Rattle.overlay_arrange.specs.Content.{plain_edges, IsContent, IsAscending};
@@ -42,12 +43,30 @@ pub fn fills_with_trees_from<I: IntNumber, C: EdgeCount, A: Allocator + Clone>(
 {
     let balanced = is_balanced(alloc.clone()?, edges)?;
     if balanced {
-        let mut scan = scan_for(alloc.clone()?, edges, tree_from);
-        fills_by_sweep(alloc, &mut scan, edges, rule)
+        fills_of_balanced(alloc, edges, rule, tree_from)
     } else {
         // What edges carry may have any counts, and then no sweep tells the winding below an edge.
         fills_by_rays(alloc, edges, rule)
     }
+}
+
+/// The same of edges whose counts are balanced, as those of closed contours are: that is not tested.
+pub fn fills_of_balanced<I: IntNumber, C: EdgeCount, A: Allocator + Clone>(
+    alloc: A,
+    edges: &[CountedEdge<I, C>],
+    rule: FillRule,
+    tree_from: usize,
+) -> Result<Vec<SideFill, A>, OverlayError>
+    requires content { IsContent I.limit (plain_edges I.whole C.counts edges.now) }
+    requires ascending { IsAscending (plain_edges I.whole C.counts edges.now) }
+    requires settled { IsSettled (plain_edges I.whole C.counts edges.now) }
+    requires balanced { HasBalancedCounts (plain_edges I.whole C.counts edges.now) }
+    ensures ok { let es = plain_edges I.whole C.counts edges.now in
+        IfOk result (λ v. v.items ≡ map (fill_bits rule es) es) }
+    ensures err { IsOkUnless result OverlayError.Memory }
+{
+    let mut scan = scan_for(alloc.clone()?, edges, tree_from);
+    fills_by_sweep(alloc, &mut scan, edges, rule)
 }
 
 /// No live edges yet, in a tree where there are `tree_from` edges or more, and else in a list.

@@ -2,13 +2,15 @@
 
 ghost use Rattle.std.specs.Prelude.{◌≡◌, map, length, IfOk, IsOkUnless};
 ghost use Rattle.overlay_geom.specs.Settled.{IsSettled};
+ghost use Rattle.overlay_plane.specs.Balance.{HasBalancedCounts};
 ghost use Rattle.overlay_arrange.specs.Content.{plain_edges, carried_edges, IsContent, IsAscending};
 ghost use Rattle.overlay_arrange.specs.Graphs.{graph_edges, carried_vectors, IsArrangement};
+ghost use Rattle.overlay_arrange.specs.Rules.{fill_bits};
 ghost use Rattle.overlay_arrange.specs.Vectors.{plain_vector, vector_of};
 
 use crate::count::EdgeCount;
 use crate::edge::CountedEdge;
-use crate::fill::{TREE_FROM_EDGES, fills_with_trees_from};
+use crate::fill::{TREE_FROM_EDGES, fills_of_balanced, fills_with_trees_from};
 use crate::fill_rule::FillRule;
 use crate::vector::{DataVectorEdge, SideFill};
 use overlay_geom::error::OverlayError;
@@ -56,7 +58,44 @@ impl<I: IntNumber, C: EdgeCount, A: Allocator + Clone> Graph<I, C, A> {
         ensures err { IsOkUnless result OverlayError.Memory }
     {
         let fills = fills_with_trees_from(alloc.clone()?, edges, fill_rule, TREE_FROM_EDGES)?;
-        let edges = with_fills(alloc, edges, &fills)?;
+        Graph::filled(alloc, edges, fill_rule, &fills)
+    }
+
+    /// The same of edges whose counts are balanced, which is not tested.
+    pub(crate) fn of_balanced(
+        alloc: A,
+        edges: &[CountedEdge<I, C>],
+        fill_rule: FillRule,
+    ) -> Result<Self, OverlayError>
+        requires content { IsContent I.limit (plain_edges I.whole C.counts edges.now) }
+        requires ascending { IsAscending (plain_edges I.whole C.counts edges.now) }
+        requires settled { IsSettled (plain_edges I.whole C.counts edges.now) }
+        requires balanced { HasBalancedCounts (plain_edges I.whole C.counts edges.now) }
+        ensures ok { IfOk result (λ g.
+            g ≡ record { fill_rule = fill_rule; edges = carried_edges I.whole C.counts edges.now }) }
+        ensures err { IsOkUnless result OverlayError.Memory }
+    {
+        let fills = fills_of_balanced(alloc.clone()?, edges, fill_rule, TREE_FROM_EDGES)?;
+        Graph::filled(alloc, edges, fill_rule, &fills)
+    }
+
+    // The graph of the edges with their filled sides.
+    fn filled(
+        alloc: A,
+        edges: &[CountedEdge<I, C>],
+        fill_rule: FillRule,
+        fills: &[SideFill],
+    ) -> Result<Self, OverlayError>
+        requires content { IsContent I.limit (plain_edges I.whole C.counts edges.now) }
+        requires ascending { IsAscending (plain_edges I.whole C.counts edges.now) }
+        requires settled { IsSettled (plain_edges I.whole C.counts edges.now) }
+        requires fills { let es = plain_edges I.whole C.counts edges.now in
+            fills.now ≡ map (fill_bits fill_rule es) es }
+        ensures ok { IfOk result (λ g.
+            g ≡ record { fill_rule = fill_rule; edges = carried_edges I.whole C.counts edges.now }) }
+        ensures err { IsOkUnless result OverlayError.Memory }
+    {
+        let edges = with_fills(alloc, edges, fills)?;
         Ok(Graph { fill_rule, edges })
     }
 }

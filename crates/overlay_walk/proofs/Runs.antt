@@ -19,7 +19,8 @@ pub use Rattle.overlay_geom.proofs.PointComparisons.{point_cmp-is_less}
 use Rattle.overlay_geom.proofs.PointOrder.{point_lt-after_up_to, point_lt-before_up_to}
 use Rattle.overlay_arrange.specs.Content.{point_cmp}
 use Rattle.overlay_arrange.proofs.EdgeOrder.{point_cmp-is_order}
-use Rattle.overlay_walk.specs.Places.{step_at, IsRun}
+use Rattle.overlay_plane.specs.Turn.{no_step}
+use Rattle.overlay_walk.specs.Places.{step_at, IsRun, IsRunEnd}
 use Rattle.overlay_walk.specs.Steps.{plain_step, plain_steps, IsByFrom}
 use Rattle.overlay_walk.specs.declared.step.Step.{Step as StepTaken}
 
@@ -104,6 +105,10 @@ module _ {I : Type 0} (whole : I → ℤ) where
         (ap not (point_lt-before_up_to p (plain_step whole (get_or ss i d)).from (plain_step whole (get_or ss j d)).from
         less (later_leaves i j d up h))) at))
 
+    -- what leaves a smaller point is up to p
+    below_is_in_front : (s : StepTaken I) → leaves_below p s ≡ true → leaves_up_to p s ≡ true
+    below_is_in_front s less = ap not (point_lt-order.one_way (plain_step whole s).from p less)
+
     -- between the two fronts stand the steps that leave p
     pub run_between : (low high : ℕ) → low ≤ length ss → high ≤ length ss →
         IsPartitionPoint (λ s. leaves_below p s ≡ true) (λ s. leaves_below p s ≡ false) ss low →
@@ -116,10 +121,6 @@ module _ {I : Type 0} (whole : I → ℤ) where
       all = λ k h at. stands k (let l = length-map ss (plain_step whole) in omega arith) at;
     }
       where
-        -- what leaves a smaller point is up to p
-        below_is_in_front : (s : StepTaken I) → leaves_below p s ≡ true → leaves_up_to p s ≡ true
-        below_is_in_front s less = ap not (point_lt-order.one_way (plain_step whole s).from p less)
-
         ordered : low ≤ high
         ordered = ⊎_elim (λ back. let d = some_entry ss high (omega arith) in
             absurd (both_ways (leaves_up_to p (get_or ss high d)) (up_to.1 high d (omega arith) (omega arith))
@@ -148,3 +149,22 @@ module _ {I : Type 0} (whole : I → ℤ) where
               ⊎_elim (λ less. less) (λ up. absurd
                   (both_ways (leaves_up_to p (get_or ss k d)) (up_to.1 k d up h) not_larger)) (cases_lt k high),
             )
+
+    -- and the second front may be looked for from the first one on
+    pub run_until : (low high : ℕ) → low ≤ length ss →
+        IsPartitionPoint (λ s. leaves_below p s ≡ true) (λ s. leaves_below p s ≡ false) ss low →
+        IsRunEnd (plain_steps whole ss) p low high → IsRun (plain_steps whole ss) p low high
+    run_until low high low_in smaller end =
+        let count = length-map ss (plain_step whole) in
+        let fits = end.within in
+        run_between low high low_in (omega arith) smaller (
+          λ k d from_first below. ⊎_elim
+              (λ before. below_is_in_front (get_or ss k d) (smaller.0 k d from_first before))
+              (λ from. ap not (subst (λ s. point_lt p s.from ≡ false) (plain_at k d no_step (omega arith))
+              (end.up_to k from below))) (cases_lt k low),
+          λ k d past inside. ap not (point_lt-before_up_to p (plain_step whole (get_or ss high d)).from
+              (plain_step whole (get_or ss k d)).from
+              (subst (λ s. point_lt p s.from ≡ true) (plain_at high d no_step (omega arith))
+              (end.ends (omega arith)))
+              (later_leaves high k d past inside)),
+        )

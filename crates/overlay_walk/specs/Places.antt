@@ -39,6 +39,13 @@ pub record IsRun (ss : List Step) (p : Point) (low high : ℕ) : Type 0 where
   pub leave : (k : ℕ) → low ≤ k → k < high → (step_at ss k).from ≡ p
   pub all : (k : ℕ) → k < length ss → (step_at ss k).from ≡ p → (low ≤ k) × (k < high)
 
+-- the steps from low up to high leave no greater point than p, and that at high does, if there is one
+pub record IsRunEnd (ss : List Step) (p : Point) (low high : ℕ) : Type 0 where
+  pub ordered : low ≤ high
+  pub within : high ≤ length ss
+  pub up_to : (k : ℕ) → low ≤ k → k < high → point_lt p (step_at ss k).from ≡ false
+  pub ends : high < length ss → point_lt p (step_at ss high).from ≡ true
+
 -- the place of the step that is met first, by a ray that turns by the hand at the end of s, among the open ones that
 -- leave that end
 pub record IsNextAt (ss : List Step) (marks : List Bool) (hand : Hand) (s : Step) (m : ℕ) : Type 0 where

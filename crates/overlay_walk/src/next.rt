@@ -1,8 +1,8 @@
 //! The next step at the end of a step, among steps sorted by the points that they leave.
 
-ghost use Rattle.std.specs.Prelude.{◌≡◌, length, All};
+ghost use Rattle.std.specs.Prelude.{◌≡◌, ◌≤◌, length, All};
 ghost use Rattle.overlay_geom.specs.Points.{plain_point};
-ghost use Rattle.overlay_walk.specs.Places.{IsRun, IsNextPlace};
+ghost use Rattle.overlay_walk.specs.Places.{IsRun, IsRunEnd, IsNextPlace};
 ghost use Rattle.overlay_walk.specs.Steps.{plain_hand, plain_step, plain_steps};
 ghost use Rattle.overlay_walk.specs.Steps.{IsByFrom, IsLong};
 
@@ -44,12 +44,23 @@ pub fn place_of_next<I: IntNumber>(
     found
 }
 
-/// The places of the steps that leave a point: the first of them, and the one after the last.
+/// The places of the steps that leave a point: the first of them, and the one after the last, which is not far.
 fn run_from<I: IntNumber>(steps: &[Step<I>], p: IntPoint<I>) -> (usize, usize)
     requires { IsByFrom (plain_steps I.whole steps.now) }
     ensures { IsRun (plain_steps I.whole steps.now) (plain_point I.whole p) result.0 result.1 }
 {
     let low = steps.partition_point(|s| compare_points(s.from, p).is_lt());
-    let high = steps.partition_point(|s| !compare_points(s.from, p).is_gt());
-    (low, high)
+    (low, run_end(steps, low, p))
+}
+
+/// The first place from the given one on whose step leaves a greater point, or how many steps there are.
+fn run_end<I: IntNumber>(steps: &[Step<I>], low: usize, p: IntPoint<I>) -> usize
+    requires { low ≤ length steps.now }
+    ensures { IsRunEnd (plain_steps I.whole steps.now) (plain_point I.whole p) low result }
+{
+    let mut high = low;
+    while high < steps.len() && !compare_points(steps[high].from, p).is_gt() {
+        high += 1;
+    }
+    high
 }

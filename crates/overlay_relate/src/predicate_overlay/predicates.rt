@@ -159,7 +159,7 @@ impl<I: OverlayInt, A: Allocator + Clone> PredicateOverlay<I, A> {
         ensures rule { IfOk result (λ f. f.fill_rule ≡ self.now.fill_rule) }
         ensures err { IsOkUnless result OverlayError.Memory }
     {
-        let graph = self.core.content().graph(self.fill_rule)?;
+        let graph = self.core.content().graph_of_balanced(self.fill_rule)?;
         found_in(&graph, self.fill_rule)
     }
 }

@@ -61,7 +61,7 @@ impl<I: OverlayInt, A: Allocator + Clone> StringOverlay<I, A> {
     {
         let _ = solver;
         self.core.arrange(&mut ())?;
-        let graph = self.core.content().graph(fill_rule)?;
+        let graph = self.core.content().graph_of_balanced(fill_rule)?;
         clipped(&graph, clip_rule)
     }
 }

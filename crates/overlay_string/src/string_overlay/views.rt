@@ -102,7 +102,7 @@ impl<I: OverlayInt, A: Allocator + Clone> StringOverlay<I, A> {
         ensures untouched { IsErrOf result OverlayError.Failed → self.new ≡ self.old }
     {
         self.core.arrange(&mut ())?;
-        let graph = self.core.content().graph(fill_rule);
+        let graph = self.core.content().graph_of_balanced(fill_rule);
         self.core.set_failed(graph.is_err());
         Ok(BalancedGraph::new(graph?))
     }

@@ -1,12 +1,11 @@
--- Each search finds the end of a front of the sorted steps.
-use Rattle.std.proofs.Common.{◌≡◌, ap, not, ◌∙◌, rules}
-use Rattle.std.specs.Ordering.{is_lt, is_gt}
+-- The search finds the end of a front of the sorted steps, and from there the run ends.
+use Rattle.std.proofs.Common.{◌≡◌, ◌∙◌, rules}
+use Rattle.std.specs.Ordering.{is_lt}
 use Rattle.std.proofs.lemmas.List.Sorted.{IsPartitionPoint-from_clause}
 use Rattle.overlay_geom.specs.Points.{plain_point}
 use Rattle.overlay_arrange.specs.Content.{point_cmp}
 use Rattle.overlay_walk.specs.Steps.{plain_step}
-use Rattle.overlay_walk.proofs.Runs.{point_cmp-is_less, point_cmp-is_greater, leaves_below, leaves_up_to, below-parted}
-use Rattle.overlay_walk.proofs.Runs.{up_to-parted, run_between}
+use Rattle.overlay_walk.proofs.Runs.{point_cmp-is_less, leaves_below, below-parted, run_until}
 use Rattle.overlay_walk.proofs.next.run_from.Goals as goal
 
 pub returns : goal.returns
@@ -18,9 +17,4 @@ returns g c =
     (below-parted whole ss c.requires p) (λ a r q k.
     let answer : r ≡ is_lt (point_cmp (plain_step whole a.0.now).from p) = search rules in
     (answer ∙ point_cmp-is_less (plain_step whole a.0.now).from p, search rules)) in
-    let high = IsPartitionPoint-from_clause (leaves_up_to whole p) _ _ c.partition_point-high.ensures.partitioned
-    (up_to-parted whole ss c.requires p) (λ a r q k.
-    let answer : r ≡ not (is_gt (point_cmp (plain_step whole a.0.now).from p)) = search rules in
-    (answer ∙ ap not (point_cmp-is_greater (plain_step whole a.0.now).from p), search rules)) in
-    run_between whole ss c.requires p _ _ c.partition_point-low.ensures.bound c.partition_point-high.ensures.bound low
-    high
+    run_until whole ss c.requires p _ _ c.partition_point-low.ensures.bound low c.run_end.ensures

@@ -5,12 +5,12 @@ use Rattle.overlay_plane.specs.Carried.{edges_in}
 use Rattle.overlay_arrange.specs.Content.{IsAscending}
 use Rattle.i_overlay.proofs.overlay.Overlay.graph_filled_by.Goals as goal
 
-pub graph-requires-clause-ascending : goal.graph-requires-clause-ascending
-graph-requires-clause-ascending g c =
+pub graph_of_balanced-requires-clause-ascending : goal.graph_of_balanced-requires-clause-ascending
+graph_of_balanced-requires-clause-ascending g c =
     subst (λ es. IsAscending (edges_in es)) (sym c.content.ensures.edges)
     (subst (λ b. IsAscending b.edges) (sym c.self.view_is) c.requires.ascending)
 
-pub graph-requires-clause-settled : goal.graph-requires-clause-settled
-graph-requires-clause-settled g c =
+pub graph_of_balanced-requires-clause-settled : goal.graph_of_balanced-requires-clause-settled
+graph_of_balanced-requires-clause-settled g c =
     subst (λ es. IsSettled (edges_in es)) (sym c.content.ensures.edges)
     (subst (λ b. IsSettled b.edges) (sym c.self.view_is) c.requires.settled)

@@ -11,8 +11,8 @@ use Rattle.overlay_string.specs.ClipPaths.{ArePathsOf}
 use Rattle.overlay_string.specs.ClipPieces.{clip_pieces}
 use Rattle.overlay_string.proofs.string_overlay.StringOverlay.clip_string_lines_with_solver.Goals as goal
 
-pub graph-requires-clause-settled : goal.graph-requires-clause-settled
-graph-requires-clause-settled g c =
+pub graph_of_balanced-requires-clause-settled : goal.graph_of_balanced-requires-clause-settled
+graph_of_balanced-requires-clause-settled g c =
     subst (λ es. IsSettled (edges_in es)) (sym c.content.ensures.edges)
     c.in_ok-arrange.ensures.query.arranged.reached.settled
 
