@@ -14,6 +14,7 @@ use crate::edge::CountedEdge;
 use crate::fill_rays::fills_by_rays;
 use crate::fill_rule::FillRule;
 use crate::fill_sweep::fills_by_sweep;
+use crate::spans::length_of_runs;
 use crate::vector::SideFill;
 use crate::windings::Windings;
 use overlay_geom::error::OverlayError;
@@ -21,9 +22,24 @@ use overlay_geom::number::IntNumber;
 use overlay_tree::either::EitherScan;
 use std::alloc::Allocator;
 
-/// The number of edges from which on the live ones are kept in a tree. Where half of the edges are live at once,
-/// a tree is the quicker one from some 2,000 edges on; where few are, a list is a little quicker at any number.
-pub(crate) const TREE_FROM_EDGES: usize = 4_000;
+// Where so many edges are live at once, by a sample, a tree is the quicker one: in a list an edge that is put in moves
+// half of them.
+const MANY_LIVE: usize = 2_000;
+// So many edges are the sample.
+const SAMPLES: usize = 256;
+
+/// From how many edges on live ones are to be kept in a tree: from none on where many are live at once, and else at no
+/// number. An edge is live for as long as its run is, so runs are as long as many are live, one with another.
+pub(crate) fn tree_from<I: IntNumber, C: EdgeCount>(edges: &[CountedEdge<I, C>]) -> usize
+    requires content { IsContent I.limit (plain_edges I.whole C.counts edges.now) }
+    requires ascending { IsAscending (plain_edges I.whole C.counts edges.now) }
+{
+    if length_of_runs(edges, SAMPLES) / SAMPLES < MANY_LIVE {
+        usize::MAX
+    } else {
+        0
+    }
+}
 
 /// The filled sides of every edge of an arrangement, in the order of the edges. The edges that are live are kept in a
 /// tree where there are `tree_from` edges or more, and else in a list; the answer is the same. The only refusal is

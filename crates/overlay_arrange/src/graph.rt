@@ -10,7 +10,7 @@ ghost use Rattle.overlay_arrange.specs.Vectors.{plain_vector, vector_of};
 
 use crate::count::EdgeCount;
 use crate::edge::CountedEdge;
-use crate::fill::{TREE_FROM_EDGES, fills_of_balanced, fills_with_trees_from};
+use crate::fill::{fills_of_balanced, fills_with_trees_from, tree_from};
 use crate::fill_rule::FillRule;
 use crate::vector::{DataVectorEdge, SideFill};
 use overlay_geom::error::OverlayError;
@@ -57,7 +57,7 @@ impl<I: IntNumber, C: EdgeCount, A: Allocator + Clone> Graph<I, C, A> {
             g ≡ record { fill_rule = fill_rule; edges = carried_edges I.whole C.counts edges.now }) }
         ensures err { IsOkUnless result OverlayError.Memory }
     {
-        let fills = fills_with_trees_from(alloc.clone()?, edges, fill_rule, TREE_FROM_EDGES)?;
+        let fills = fills_with_trees_from(alloc.clone()?, edges, fill_rule, tree_from(edges))?;
         Graph::filled(alloc, edges, fill_rule, &fills)
     }
 
@@ -75,7 +75,7 @@ impl<I: IntNumber, C: EdgeCount, A: Allocator + Clone> Graph<I, C, A> {
             g ≡ record { fill_rule = fill_rule; edges = carried_edges I.whole C.counts edges.now }) }
         ensures err { IsOkUnless result OverlayError.Memory }
     {
-        let fills = fills_of_balanced(alloc.clone()?, edges, fill_rule, TREE_FROM_EDGES)?;
+        let fills = fills_of_balanced(alloc.clone()?, edges, fill_rule, tree_from(edges))?;
         Graph::filled(alloc, edges, fill_rule, &fills)
     }
 

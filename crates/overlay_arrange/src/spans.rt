@@ -1,4 +1,4 @@
-//! Where the edges begin that start right of another one's end.
+//! Where the edges begin that start right of another one's end, and how many there are before them.
 
 ghost use Rattle.std.specs.Prelude.{◌<◌, ◌≤◌, ◌<ℤ◌, All, length};
 ghost use Rattle.overlay_arrange.specs.Content.{plain_edges, IsAscending, IsHeld};
@@ -49,4 +49,25 @@ fn place_right_of<I: IntNumber, C: EdgeCount>(
         step = step.saturating_add(step);
     }
     edges.len()
+}
+
+/// How long the runs of so many edges are together, which stand at equal distances. It is no more than a guess at all
+/// of them. They ascend.
+pub(crate) fn length_of_runs<I: IntNumber, C: EdgeCount>(
+    edges: &[CountedEdge<I, C>],
+    samples: usize,
+) -> usize
+    requires held { All (IsHeld I.limit) (plain_edges I.whole C.counts edges.now) }
+    requires ascending { IsAscending (plain_edges I.whole C.counts edges.now) }
+    requires some { 0 < samples }
+{
+    let distance = (edges.len() / samples).saturating_add(1);
+    let mut length: usize = 0;
+    for k in 0..samples {
+        let i = k.saturating_mul(distance);
+        if i < edges.len() {
+            length = length.saturating_add(run_end(edges, edges[i].b.x, i + 1) - i);
+        }
+    }
+    length
 }

@@ -10,7 +10,7 @@ ghost use Rattle.overlay_arrange.specs.declared.extents.Extent.{Extent};
 use crate::count::EdgeCount;
 use crate::edge::CountedEdge;
 use crate::extents::{Extent, extent_of, joined};
-use crate::spans::run_end;
+use crate::spans::length_of_runs;
 use overlay_geom::error::OverlayError;
 use overlay_geom::number::IntNumber;
 use std::alloc::Allocator;
@@ -54,7 +54,7 @@ pub(crate) fn strips_of<I: IntNumber, C: EdgeCount, A: Allocator + Clone>(
     ensures ok { IfOk result (AreHeldStripsOf I.whole (plain_edges I.whole C.counts edges.now)) }
     ensures err { IsOkUnless result OverlayError.Memory }
 {
-    let width = strip_width(length_of_runs(edges));
+    let width = strip_width(length_of_runs(edges, SAMPLES));
     let extents = extents_by_strips(alloc.clone()?, edges, width)?;
     let of_8 = extents_of_blocks(alloc.clone()?, &extents)?;
     let of_64 = extents_of_blocks(alloc.clone()?, &of_8)?;
@@ -82,22 +82,6 @@ fn strip_width(runs: usize) -> usize
         width *= 2;
     }
     width
-}
-
-/// How long the runs of so many edges are together, at equal distances. It is no more than a guess at all of them.
-fn length_of_runs<I: IntNumber, C: EdgeCount>(edges: &[CountedEdge<I, C>]) -> usize
-    requires held { All (IsHeld I.limit) (plain_edges I.whole C.counts edges.now) }
-    requires ascending { IsAscending (plain_edges I.whole C.counts edges.now) }
-{
-    let distance = edges.len() / SAMPLES + 1;
-    let mut length: usize = 0;
-    for k in 0..SAMPLES {
-        let i = k.saturating_mul(distance);
-        if i < edges.len() {
-            length = length.saturating_add(run_end(edges, edges[i].b.x, i + 1) - i);
-        }
-    }
-    length
 }
 
 /// The extents of the edges, strip by strip, and in each strip by their least heights.
