@@ -1,4 +1,4 @@
-//! Which of two edges is under the other one, and a list of no edge and of one.
+//! Which of two edges is under the other one, a list of no edge and of one, and one in which edges have ended.
 
 use overlay_geom::error::OverlayError;
 use overlay_geom::path::IntLine;
@@ -84,5 +84,65 @@ fn one_edge_is_inserted_and_cleared(rt: HostRuntime) -> Result<(), OverlayError>
         list.first_less_or_equal_by(0, 7, |line: IntLine<i64>| is_reached(line)),
         7
     );
+    Ok(())
+}
+
+// A level edge from x to its end.
+fn level(x: i16, end: i16, y: i16) -> IntLine<i16> {
+    [IntPoint::new(x, y), IntPoint::new(end, y)]
+}
+
+// The value of the highest edge below a height, or 0.
+fn below<S: Scan<i16, u8>>(scan: &mut S, x: i16, y: i16) -> u8 {
+    scan.first_less(x, 0, [IntPoint::new(x, y), IntPoint::new(x + 1, y)])
+}
+
+#[test]
+fn an_edge_takes_the_place_of_one_that_has_ended(rt: HostRuntime) -> Result<(), OverlayError> {
+    let mut list: ScanList<i16, u8, _> = ScanList::default(rt.alloc());
+    list.insert(level(0, 3, 0), 1, 0)?;
+    list.insert(level(0, 9, 4), 2, 0)?;
+    assert_eq!(rt; below(&mut list, 2, 3), 1);
+    assert_eq!(rt; below(&mut list, 3, 3), 0);
+    list.insert(level(3, 9, 2), 3, 3)?;
+    assert_eq!(rt; below(&mut list, 3, 1), 0);
+    assert_eq!(rt; below(&mut list, 3, 3), 3);
+    assert_eq!(rt; below(&mut list, 3, 5), 2);
+    Ok(())
+}
+
+#[test]
+fn an_edge_is_put_in_between_ended_ones(rt: HostRuntime) -> Result<(), OverlayError> {
+    let mut list: ScanList<i16, u8, _> = ScanList::default(rt.alloc());
+    list.insert(level(0, 2, 0), 1, 0)?;
+    list.insert(level(0, 9, 2), 2, 0)?;
+    list.insert(level(0, 2, 4), 3, 0)?;
+    list.insert(level(0, 2, 6), 4, 0)?;
+    list.insert(level(0, 9, 8), 5, 0)?;
+    list.insert(level(2, 9, 6), 6, 2)?;
+    list.insert(level(2, 9, 4), 7, 2)?;
+    assert_eq!(rt; below(&mut list, 2, 1), 0);
+    assert_eq!(rt; below(&mut list, 2, 3), 2);
+    assert_eq!(rt; below(&mut list, 2, 5), 7);
+    assert_eq!(rt; below(&mut list, 2, 7), 6);
+    assert_eq!(rt; below(&mut list, 2, 9), 5);
+    Ok(())
+}
+
+#[test]
+fn many_edges_that_have_ended_are_passed_over(rt: HostRuntime) -> Result<(), OverlayError> {
+    let mut list: ScanList<i16, u8, _> = ScanList::default(rt.alloc());
+    list.insert(level(0, 9, -2), 101, 0)?;
+    for n in 0..100u8 {
+        list.insert(level(0, 5, 2 * i16::from(n)), n + 1, 0)?;
+    }
+    list.insert(level(0, 9, 200), 102, 0)?;
+    assert_eq!(rt; below(&mut list, 4, 199), 100);
+    assert_eq!(rt; below(&mut list, 4, 99), 50);
+    assert_eq!(rt; below(&mut list, 5, 199), 101);
+    assert_eq!(rt; below(&mut list, 5, 201), 102);
+    list.insert(level(5, 9, 100), 103, 5)?;
+    assert_eq!(rt; below(&mut list, 5, 99), 101);
+    assert_eq!(rt; below(&mut list, 5, 199), 103);
     Ok(())
 }

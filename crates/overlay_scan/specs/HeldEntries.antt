@@ -9,23 +9,23 @@ use Rattle.overlay_scan.specs.Scan.{Entry, Sweep, live_at, HoldsOfLine}
 use Rattle.overlay_scan.specs.declared.list.LiveEdge.{LiveEdge}
 use Rattle.overlay_scan.specs.declared.list.ScanList.{ScanList}
 
--- those of them that are live at x
+-- those of held edges that are live at x
 abbrev pub live_of : {I V : Type 0} → (I → ℤ) → ℤ → List (LiveEdge I V) → List (Entry V)
 live_of whole x es = live_at x (plain_entries whole es)
 
--- those that are live where the sweep is
+-- those that are live where the sweep is, and all before it begins
 abbrev pub live_where : {V : Type 0} → Option ℤ → List (Entry V) → List (Entry V)
 live_where None fs = fs
 live_where (Some x) fs = live_at x fs
 
--- the sweep that has come so far
+-- the sweep that held edges stand for, by the abscissa that it has come to: the live ones of them
 abbrev pub sweep_of : {I V : Type 0} → (I → ℤ) → List (LiveEdge I V) → Option I → Sweep V
 sweep_of whole es reached = record {
   entries = live_where (option_map whole reached) (plain_entries whole es);
   reached = option_map whole reached;
 }
 
--- that of a list
+-- the sweep of a list
 abbrev pub plain_sweep : {I V A W U : Type 0} → (I → ℤ) → ScanList I V A W U → Sweep V
 plain_sweep whole s = sweep_of whole s.live s.reached
 

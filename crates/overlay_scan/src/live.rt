@@ -1,7 +1,7 @@
 //! Live edges, among which some that have ended are still held.
 
 ghost use Rattle.std.specs.Prelude.{◌≡◌, ◌≤◌, [], ◌∷◌, ◌++◌, true, take, drop, filter, int_lt, length};
-ghost use Rattle.std.specs.Prelude.{None, OnOk, OnErr, IsOkUnless, ◌&&◌, ◌<◌, not, get_or, option_map};
+ghost use Rattle.std.specs.Prelude.{None, OnOk, OnErr, IsOkUnless, option_map};
 ghost use Rattle.std.specs.List.{last_or};
 ghost use Rattle.overlay_scan.specs.HeldEntries.{live_of};
 ghost use Rattle.overlay_scan.specs.Lists.{plain_entry};

@@ -1,6 +1,6 @@
 //! Searches in a list in which some edges have ended.
 
-ghost use Rattle.std.specs.Prelude.{◌≡◌, ◌+◌, ◌-◌, ◌≤◌, ◌<◌, ◌∷◌, [], true, not, int_lt, length};
+ghost use Rattle.std.specs.Prelude.{◌≡◌, ◌-◌, ◌≤◌, ◌<◌, ◌∷◌, [], true, not, int_lt, length};
 ghost use Rattle.std.specs.Prelude.{drop, get_or, IfSome, IsSome};
 ghost use Rattle.std.specs.Ordering.{is_gt};
 ghost use Rattle.std.specs.declared.cmp.Ordering.{Ordering};

@@ -12,7 +12,7 @@ pub record HeldEdges (I V : Type 0) : Type 0 where
   pub reached : Option I
   pub visits : ℕ
 
--- the sweep that they stand for
+-- the sweep that a tree's edges stand for
 abbrev pub held_sweep : {I V : Type 0} → (I → ℤ) → HeldEdges I V → Sweep V
 held_sweep whole s = sweep_of whole s.entries s.reached
 

@@ -1,6 +1,6 @@
 //! The way down through a tree.
 
-ghost use Rattle.std.specs.Prelude.{◌≡◌, ◌+◌, ◌≤◌, ◌<◌, ◌∷◌, [], not, int_lt, length, slice_get, Some};
+ghost use Rattle.std.specs.Prelude.{◌≡◌, ◌+◌, ◌≤◌, ◌<◌, ◌∷◌, [], length, slice_get, Some};
 ghost use Rattle.std.specs.declared.cmp.Ordering.{Ordering};
 ghost use Rattle.overlay_scan.specs.Scan.{IsCallableOn};
 ghost use Rattle.overlay_tree.specs.Descents.{live_entries, CanDescend, IsEndOf, side_of, end_above};

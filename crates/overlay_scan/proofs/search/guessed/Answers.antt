@@ -1,15 +1,13 @@
 -- The entry below the guess is live, and tells which part is left.
-use Rattle.std.proofs.Common.{◌≡◌, ℕ, ◌+◌, ◌-◌, ◌<◌, ◌≤◌, length, int_lt, refl, sym, ◌∙◌, subst, arith}
+use Rattle.std.proofs.Common.{◌≡◌, ℕ, ◌-◌, ◌<◌, ◌≤◌, length, int_lt, refl, sym, ◌∙◌, subst, arith}
 use Rattle.std.proofs.lemmas.Bool.{not-false}
 use Rattle.overlay_scan.specs.Searches.{IsBetween}
+use Rattle.overlay_scan.proofs.LastEntries.{before_one}
 use Rattle.overlay_scan.proofs.Searching.{may_ask, between_all, fails_from, raised, lowered}
 use Rattle.overlay_scan.proofs.search.guessed.Goals as goal
 
 within : (n m : ℕ) → ¬ (n ≡ 0) → n ≤ m → n - 1 < m
 within n m some le = omega arith
-
-before_one : (n : ℕ) → ¬ (n ≡ 0) → n - 1 + 1 ≡ n
-before_one n some = omega arith
 
 pub passes-requires : goal.passes-requires
 passes-requires g c =
