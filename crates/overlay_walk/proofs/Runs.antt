@@ -20,7 +20,7 @@ use Rattle.overlay_geom.proofs.PointOrder.{point_lt-after_up_to, point_lt-before
 use Rattle.overlay_arrange.specs.Content.{point_cmp}
 use Rattle.overlay_arrange.proofs.EdgeOrder.{point_cmp-is_order}
 use Rattle.overlay_plane.specs.Turn.{no_step}
-use Rattle.overlay_walk.specs.Places.{step_at, IsRun, IsRunEnd}
+use Rattle.overlay_walk.specs.Places.{step_at, IsRun, LeaveUpTo}
 use Rattle.overlay_walk.specs.Steps.{plain_step, plain_steps, IsByFrom}
 use Rattle.overlay_walk.specs.declared.step.Step.{Step as StepTaken}
 
@@ -153,7 +153,7 @@ module _ {I : Type 0} (whole : I → ℤ) where
     -- and the second front may be looked for from the first one on
     pub run_until : (low high : ℕ) → low ≤ length ss →
         IsPartitionPoint (λ s. leaves_below p s ≡ true) (λ s. leaves_below p s ≡ false) ss low →
-        IsRunEnd (plain_steps whole ss) p low high → IsRun (plain_steps whole ss) p low high
+        LeaveUpTo (plain_steps whole ss) p low high → IsRun (plain_steps whole ss) p low high
     run_until low high low_in smaller end =
         let count = length-map ss (plain_step whole) in
         let fits = end.within in

@@ -40,7 +40,7 @@ pub record IsRun (ss : List Step) (p : Point) (low high : ℕ) : Type 0 where
   pub all : (k : ℕ) → k < length ss → (step_at ss k).from ≡ p → (low ≤ k) × (k < high)
 
 -- the steps from low up to high leave no greater point than p, and that at high does, if there is one
-pub record IsRunEnd (ss : List Step) (p : Point) (low high : ℕ) : Type 0 where
+pub record LeaveUpTo (ss : List Step) (p : Point) (low high : ℕ) : Type 0 where
   pub ordered : low ≤ high
   pub within : high ≤ length ss
   pub up_to : (k : ℕ) → low ≤ k → k < high → point_lt p (step_at ss k).from ≡ false

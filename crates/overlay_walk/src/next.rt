@@ -2,7 +2,7 @@
 
 ghost use Rattle.std.specs.Prelude.{◌≡◌, ◌≤◌, length, All};
 ghost use Rattle.overlay_geom.specs.Points.{plain_point};
-ghost use Rattle.overlay_walk.specs.Places.{IsRun, IsRunEnd, IsNextPlace};
+ghost use Rattle.overlay_walk.specs.Places.{IsRun, LeaveUpTo, IsNextPlace};
 ghost use Rattle.overlay_walk.specs.Steps.{plain_hand, plain_step, plain_steps};
 ghost use Rattle.overlay_walk.specs.Steps.{IsByFrom, IsLong};
 
@@ -56,7 +56,7 @@ fn run_from<I: IntNumber>(steps: &[Step<I>], p: IntPoint<I>) -> (usize, usize)
 /// The first place from the given one on whose step leaves a greater point, or how many steps there are.
 fn run_end<I: IntNumber>(steps: &[Step<I>], low: usize, p: IntPoint<I>) -> usize
     requires { low ≤ length steps.now }
-    ensures { IsRunEnd (plain_steps I.whole steps.now) (plain_point I.whole p) low result }
+    ensures { LeaveUpTo (plain_steps I.whole steps.now) (plain_point I.whole p) low result }
 {
     let mut high = low;
     while high < steps.len() && !compare_points(steps[high].from, p).is_gt() {
