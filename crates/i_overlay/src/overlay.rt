@@ -182,6 +182,7 @@ impl<I: OverlayInt, A: Allocator + Clone> Overlay<I, A> {
 
     // The arranged edges with their filled sides.
     fn list(&self, fill_rule: FillRule) -> Result<Vec<DataVectorEdge<I, ()>, A>, OverlayError>
+        requires usable { self.now.failed ≡ false }
         requires ascending { IsAscending self.now.edges }
         requires settled { IsSettled self.now.edges }
         ensures listed { IfOk result (λ v.
