@@ -173,8 +173,8 @@ module _ (es : List CountedEdge) where
             (subst (LeadsNowhere f) (is_e l h at_h l_is) (led_to_ends limit e f e_held f_held settled))))
             (Contains-push_cases js j k has)
 
-    -- where all edges near e have been looked at, the pairs with e have: the other later ones lead it to its ends alone,
-    -- and it them; and so an edge leads itself
+    -- where all edges near e have been looked at, the pairs with e have: the other later ones lead it to its ends
+    -- alone, and it them; and so an edge leads itself
     pub near_looked_at : (limit : ℕ) (js : List ℕ) {ms : List Meeting} → All (IsHeld limit) es → AreNear es i js →
         AreGathered es (IsLookedAt i js) ms → AreGathered es (HasBefore (i + 1)) ms
     near_looked_at limit js held near gathered = gathered_of_more gathered

@@ -22,7 +22,8 @@ module _ (places ks : List ℕ) where
   put_more js n y inside is so_far = record {
     count = length-set js n y ∙ so_far.count;
     put = λ m k j less at_k at_j. ⊎_elim
-        (λ (here : m ≡ n). subst (λ p. IsAt (set js n y) p j) (sym here) (by k j (subst (λ p. IsAt ks p k) here at_k) at_j))
+        (λ (here : m ≡ n). subst (λ p. IsAt (set js n y) p j) (sym here)
+        (by k j (subst (λ p. IsAt ks p k) here at_k) at_j))
         (λ (before : m < n). other m j (omega (arith, before)) (so_far.put m k j before at_k at_j))
         (eq-or-lt_of_le (let le : m ≤ n = omega (arith, less) in le));
     rest = λ m k from at_k. other m k (omega (arith, from)) (so_far.rest m k (omega (arith, from)) at_k);

@@ -37,9 +37,10 @@ pub(crate) struct Changed<I: Copy, C: Copy, A: Allocator> {
     pub strips: Strips<I, A>,
 }
 
-/// The edges of a list that may meet another one elsewhere than in ends, by what is known of the list before it: all but
-/// those whose ends are those of an edge before that is not open. None where there was no list before, or where they are
-/// more than half of the edges. These ascend. The only refusal is `Memory`.
+/// The edges of a list that may meet another one elsewhere than in ends, by what is known of the list before it: all
+/// but those whose ends are those of an edge before that is not open. None where there was no list before, or where
+/// they are more than half of the edges, so that all are as well looked at. The edges ascend. The only refusal is
+/// `Memory`.
 pub(crate) fn changes_since<I: IntNumber, C: EdgeCount, A: Allocator + Clone>(
     alloc: A,
     edges: &[CountedEdge<I, C>],
@@ -108,7 +109,7 @@ fn place_from<I: IntNumber, C: EdgeCount>(
     at
 }
 
-/// Whether an edge stands at the place of the list before, is not open, and has the ends of e.
+/// Whether an edge stands at the place of the list before, has the ends of e, and is not open.
 fn was_closed<I: IntNumber, C: EdgeCount>(
     before: &[CountedEdge<I, C>],
     is_open: &[bool],
@@ -144,7 +145,7 @@ fn edges_at<I: IntNumber, C: EdgeCount, A: Allocator>(
 }
 
 /// Finds the places of the later edges that the edge at place i may meet elsewhere than in ends. Where the changed ones
-/// are known, an edge that is not among them is held against them alone. The edges ascend.
+/// are known, an edge that is none of them is held against them alone. The edges ascend.
 pub(crate) fn find_open<I: IntNumber, C: EdgeCount, A: Allocator>(
     near: &mut Vec<usize, A>,
     edges: &[CountedEdge<I, C>],

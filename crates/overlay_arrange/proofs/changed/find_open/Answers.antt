@@ -33,7 +33,8 @@ find_near_behind-requires-else-index-i-clause-held g c =
     let es = plain_edges whole counts c.args.edges.now in
     let changed = c.in-Some.changed in
     let known = subst (λ o. IfSome o (AreHeldChangesOf whole counts es)) c.in-Some.is c.requires.changed in
-    subst (λ cs. All (IsHeld g.I.IntNumber.limit) (plain_edges whole counts cs)) (sym c.deref-else-index-i.ensures.value)
+    subst (λ fs. All (IsHeld g.I.IntNumber.limit) (plain_edges whole counts fs))
+    (sym c.deref-else-index-i.ensures.value)
     (changes_held es changed.places.items (plain_edges whole counts changed.edges.items) known.changes
     g.I.IntNumber.limit c.requires.held)
 
@@ -45,7 +46,7 @@ find_near_behind-requires-else-index-i-clause-ascending g c =
     let es = plain_edges whole counts c.args.edges.now in
     let changed = c.in-Some.changed in
     let known = subst (λ o. IfSome o (AreHeldChangesOf whole counts es)) c.in-Some.is c.requires.changed in
-    subst (λ cs. IsAscending (plain_edges whole counts cs)) (sym c.deref-else-index-i.ensures.value)
+    subst (λ fs. IsAscending (plain_edges whole counts fs)) (sym c.deref-else-index-i.ensures.value)
     (changes_ascend es changed.places.items (plain_edges whole counts changed.edges.items) known.changes
     c.requires.ascending)
 
@@ -114,7 +115,8 @@ returns-in_ok-find_near_behind-clause-ok g c =
     near_of_edge es c.args.i (plain_edge whole counts e) c.put_places.new.near.items at_e
     (changed_near es changed.places.items cs known.changes c.args.i c.first_from-k.result first
     (plain_edge whole counts e) at_e (λ at. c.if-index-i.false
-    (c.index.ensures ∙ get_or_default changed.places.items c.first_from-k.result c.index.result.now c.args.i at.0 ∙ at.1))
+    (c.index.ensures ∙ get_or_default changed.places.items c.first_from-k.result c.index.result.now c.args.i at.0
+    ∙ at.1))
     c.find_near_behind-else-index-i.new.near.items c.put_places.new.near.items near
     (subst (λ ps. ArePlacesAt ps c.find_near_behind-else-index-i.new.near.items c.put_places.new.near.items)
     c.deref-else-index-i-2.ensures.value c.put_places.ensures))

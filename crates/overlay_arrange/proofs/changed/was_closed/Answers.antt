@@ -15,8 +15,8 @@ returns-then-not-is_open-at g c = λ is_equal.
     let e = plain c.args.e.now in record {
       place = c.args.at;
       edge = f;
-      at = placed_in_mapped plain c.args.before.now c.args.at c.index-before-at.result (omega (arith, c.if-before-at.false))
-          c.index-before-at.is;
+      at = placed_in_mapped plain c.args.before.now c.args.at c.index-before-at.result
+          (omega (arith, c.if-before-at.false)) c.index-before-at.is;
       closed = (let l = c.requires in omega (arith, l, c.if-before-at.false), c.if-not-is_open-at.true);
       ends = edge_eq-same (ends_of f) (ends_of e) (sym (edge_cmp-is_tie f e) ∙ ap is_eq (sym c.compare_edges.ensures)
           ∙ sym c.is_eq.ensures ∙ is_equal);
