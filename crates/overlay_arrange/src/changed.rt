@@ -94,7 +94,8 @@ fn changed_places<I: IntNumber, C: EdgeCount, A: Allocator>(
     Ok(places)
 }
 
-/// The place of the first edge from a place on that does not come before e, or a place behind all of them.
+/// A place from the given one on: that of the first edge from there on that does not come before e, or one behind all
+/// of them. That it is the first one is not promised: `was_closed` tests what stands there.
 fn place_from<I: IntNumber, C: EdgeCount>(
     edges: &[CountedEdge<I, C>],
     from: usize,
@@ -109,7 +110,8 @@ fn place_from<I: IntNumber, C: EdgeCount>(
     at
 }
 
-/// Whether an edge stands at the place of the list before, has the ends of e, and is not open.
+/// Whether an edge stands at the place of the list before, has the ends of e, and is not open. Only that it is so where
+/// the answer is yes is promised: an edge taken for a changed one costs time alone.
 fn was_closed<I: IntNumber, C: EdgeCount>(
     before: &[CountedEdge<I, C>],
     is_open: &[bool],
