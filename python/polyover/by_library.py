@@ -128,7 +128,7 @@ def clip(shape, lines, fill, invert, boundary):
     asked = library()
     both = asked.contours(shape), asked.contours(lines)
     given = (FILL_NUMBERS[fill], ClipOptions(bool(invert), bool(boundary)), *both)
-    paths = TIMES // 4 * both[1].coordinate_count + 15
+    paths = TIMES // 4 * sum(each.coordinate_count for each in both) + 15
     counts = PathCounts(4 * paths, paths)
     coordinates, ends = asked.answer("polyover_clip", given, path_rooms, counts)
     return parted(points_in(coordinates.first(counts.coordinates)), ends.first(counts.paths))

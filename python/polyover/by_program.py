@@ -1,7 +1,8 @@
 """Each call as the program answers it."""
 
-from .errors import BadInput, NotResolved
-from .geojson import double_area
+from .contour import double_area
+from .errors import NotResolved
+from .grid import misfit
 from .program import BadLine, answer
 from .text import FILLS, RELATIONS, RULES, coordinate, edges_in, lines_of, paths_in, shapes_in
 
@@ -79,8 +80,7 @@ def tiles(shape, width, height, fill):
     try:
         return shapes_in(asked_of_lines(f"tiles {FILLS[fill]} {width} {height}", shape, []))[0]
     except BadLine:
-        told = f"cells of {width} by {height} do not fit: at least 1 wide and high, at most 1,000 lines in a direction"
-        raise BadInput(told) from None
+        raise misfit(width, height) from None
 
 
 def is_resolved(shape):

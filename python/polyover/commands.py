@@ -90,7 +90,7 @@ def printed_edges(figures, words):
 
 def printed_relations(figures, words):
     """The seven relations."""
-    told = calls.relate(figures["subject"], figures["clip"], NAMES[words[0]])
+    told = calls.relations_as_given(figures["subject"], figures["clip"], NAMES[words[0]])
     return "".join(f"{name} {str(holds).lower()}\n" for name, holds in told.items())
 
 
