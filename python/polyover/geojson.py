@@ -77,6 +77,7 @@ class Reader:
         self.kinds, self.skip_invalid, self.told = kinds, skip_invalid, told
         self.wanted = " or ".join(kinds)
         self.passed_over: list[str] = []
+        self.finds_any = False
 
     def points(self, place: Place, path: object, least: int) -> Path | None:
         """The points of a ring or line, with x and y alone; none where too few of them are to be skipped."""
@@ -129,6 +130,7 @@ class Reader:
             self.passed_over.append(f"{place}: {kind} in the place of {self.wanted}")
             self.told.add(PASSED_OVER.format(self.wanted), place)
             return
+        self.finds_any = True
         name, read = ("polygon", self.polygon) if self.kinds == POLYGONS else ("line", self.line)
         items = listed(place, coordinates, "coordinates")
         if kind.startswith("Multi"):
@@ -240,7 +242,7 @@ def features_of(
     of other kinds, and what points have beyond x and y."""
     reader = Reader(kinds, skip_invalid, Told() if told is None else told)
     features = [reader.feature(number, each) for number, each in enumerate(features_in(geometry_of(thing)), 1)]
-    if reader.passed_over and not any(each.parts for each in features):
+    if reader.passed_over and not reader.finds_any:
         raise BadInput(reader.passed_over[0])
     return features
 

@@ -38,7 +38,7 @@ def side_of(points: WholePath, a: int, b: int) -> Side:
 
 
 def region_of(points: WholePath) -> Region:
-    """The sides of a region round points: upright and level ones, and those along the way from the first to the last."""
+    """The sides of a region round points: upright and level ones, and those along the way from first to last."""
     along, up = points[-1][0] - points[0][0], points[-1][1] - points[0][1]
     ways = [(1, 0), (-1, 0), (0, 1), (0, -1)]
     if along and up:

@@ -33,14 +33,16 @@ ROUND = 20_000
 def lake(count, chance):
     """A ring of many points round the origin, at some 0.5 from it."""
     reach = [0.5 + chance.uniform(-0.02, 0.02) for _ in range(count)]
-    ring = [[round(r * cos(at * 2 * pi / count), 7), round(r * sin(at * 2 * pi / count), 7)] for at, r in enumerate(reach)]
+    turns = [at * 2 * pi / count for at in range(count)]
+    ring = [[round(r * cos(turn), 7), round(r * sin(turn), 7)] for turn, r in zip(turns, reach)]
     return [*ring, ring[0]]
 
 
 def roads(count, chance):
     """Features of lines of a few points, across the lake, each with a name."""
-    ends = [[[round(chance.uniform(-1, 1), 7) for _ in range(2)] for _ in range(chance.randint(2, 6))] for _ in range(count)]
-    return [feature("LineString", line, name=at) for at, line in enumerate(ends)]
+    counts = [chance.randint(2, 6) for _ in range(count)]
+    lines = [[[round(chance.uniform(-1, 1), 7) for _ in range(2)] for _ in range(most)] for most in counts]
+    return [feature("LineString", line, name=at) for at, line in enumerate(lines)]
 
 
 class Many(unittest.TestCase):
@@ -87,10 +89,12 @@ class Many(unittest.TestCase):
         near = Nearby(shape)
         self.assertLess(sum(map(len, near.part([[(5, 9000), (5, -9999)]]))), 500)
         for _ in range(60):
-            x, y, u, v = chance.randint(-9, 40009), chance.randint(-9999, 3999), chance.randint(1, 99), chance.randint(1, 9999)
-            lines = [[(x, y), (x + u, y), (x + u, y - v)]]
+            x, y = chance.randint(-9, 40009), chance.randint(-9999, 3999)
+            along, down = chance.randint(1, 99), chance.randint(1, 9999)
+            lines = [[(x, y), (x + along, y), (x + along, y - down)]]
             for options in ({}, {"invert": True}, {"boundary": True}):
-                self.assertEqual(polyover.clip(near.part(lines), lines, **options), polyover.clip(shape, lines, **options))
+                found = polyover.clip(near.part(lines), lines, **options)
+                self.assertEqual(found, polyover.clip(shape, lines, **options))
 
 
 class Members(unittest.TestCase):
@@ -135,7 +139,7 @@ class Files(unittest.TestCase):
             ("{", "b.geojson: Expecting property name"),
             ("[" * 100_000, "b.geojson: too many lists or objects in one another"),
             ("[]", r"b.geojson: [] is no geometry"),
-            ('{"type": "Polygon", "coordinates": [[[0, 0], [1, 0], [1e999, 1]]]}', "b.geojson: feature 1, polygon 1, ring"),
+            ('{"type": "Polygon", "coordinates": [[[0, 0], [1, 0], [1e999, 1]]]}', "b.geojson: feature 1, polygon 1"),
         ):
             status, left, said, _ = ran("relate", self.AREA, None, raw=raw)
             self.assertEqual((status, left), (1, None))
