@@ -38,7 +38,9 @@ JUNK = (None, True, False, 0, 5, -1, 0.5, -0.0, float("nan"), float("inf"), -flo
         {1: 2}, {"a"}, object(), int, range(3), 2j)
 MEMBERS = ("type", "features", "geometry", "coordinates", "properties", "geometries", "id", "bbox", "crs", "name")
 FLAGS = ("--skip-invalid", "--digits 2", "--digits -1", "--digits 17")
-FLAGS_OF = {"clip": ("--invert", "--boundary"), "overlay": ("--rule xor", "--rule intersect"), "slice": (), "relate": ()}
+FLAGS_OF = {"clip": ("--invert", "--boundary"), "overlay": ("--rule xor", "--rule intersect")}
+CALLS = ("overlay", "hierarchy", "simplify", "edges", "relate", "clip", "slice", "tiles", "locate", "is_resolved")
+READERS = ("contours_of", "lines_of")
 AREAS, LINES = ("Polygon", "MultiPolygon"), ("LineString", "MultiLineString")
 OTHERS = ("Point", "GeometryCollection", *AREAS, *LINES)
 # (the ones that JSON has)
@@ -89,9 +91,9 @@ def geometry(chance, size, kinds, depth=0):
     if kind == "GeometryCollection":
         some = [geometry(chance, size, kinds, depth + 1) for _ in range(chance.randint(0, 3))] if depth < 4 else []
         return {"type": kind, "geometries": some}
-    flat = {"Polygon": rings[0] if rings else [], "MultiPolygon": rings, "Point": point(chance, size)}
-    lines = {"LineString": ring(chance, size), "MultiLineString": [ring(chance, size) for _ in range(chance.randint(0, 3))]}
-    return {"type": kind, "coordinates": {**flat, **lines}[kind]}
+    first = rings[0] if rings else []
+    made = {"Polygon": first, "MultiPolygon": rings, "MultiLineString": first, "LineString": ring(chance, size)}
+    return {"type": kind, "coordinates": made[kind] if kind in made else point(chance, size)}
 
 
 def file_thing(chance, kinds=AREAS):
@@ -112,7 +114,8 @@ def spoiled(chance, thing, junk):
     for _ in range(chance.randint(0, 3)):
         here = thing
         for _ in range(chance.randint(0, 9)):
-            inner = [each for each in (here.values() if isinstance(here, dict) else here) if isinstance(each, (dict, list))]
+            items = here.values() if isinstance(here, dict) else here
+            inner = [each for each in items if isinstance(each, (dict, list))]
             if not inner:
                 break
             here = chance.choice(inner)
@@ -154,8 +157,8 @@ def file_text(chance, kinds):
 def contours(chance):
     """Contours as lists, or not."""
     size = chance.choice((3, 10, 1000, FAR))
-    made = [[[round(chance.uniform(-size, size)) for _ in range(2)] for _ in range(chance.randint(0, 6))] for _ in range(3)]
-    made = [[[max(-FAR, min(FAR, value)) for value in each] for each in path] for path in made]
+    counts = [chance.randint(0, 6) for _ in range(3)]
+    made = [[[chance.randint(-size, size) for _ in range(2)] for _ in range(count)] for count in counts]
     return spoiled(chance, made, JUNK) if chance.random() < 0.4 else made
 
 
@@ -167,28 +170,34 @@ def argument(chance, good):
 # ---- the cases
 
 
+def rest_of_call(chance, name):
+    """The arguments of a call behind the first, and the named ones."""
+    rest, named = [], {}
+    if name in ("overlay", "hierarchy", "edges", "relate", "clip", "slice"):
+        rest = [contours(chance)]
+    elif name == "tiles":
+        rest = [argument(chance, lambda: chance.randint(1, 99)) for _ in range(2)]
+    elif name == "locate":
+        rest = [[each for path in contours(chance) if isinstance(path, list) for each in path]]
+    if name in ("overlay", "hierarchy") and chance.random() < 0.5:
+        named["rule"] = argument(chance, lambda: chance.choice(list(RULES)))
+    if name not in (*READERS, "locate", "is_resolved") and chance.random() < 0.5:
+        named["fill"] = argument(chance, lambda: chance.choice(list(FILLS)))
+    if name in ("overlay", "simplify", "hierarchy") and chance.random() < 0.3:
+        named["minimum_area"] = argument(chance, lambda: chance.randint(0, 99))
+    return rest, named
+
+
 def case_of_call(chance, counts):
     """One call of the module."""
-    name = chance.choice(("overlay", "hierarchy", "simplify", "edges", "relate", "clip", "slice", "tiles", "locate",
-                          "is_resolved", "contours_of", "lines_of"))
-    is_scaled = chance.random() < 0.5 and name != "lines_of"
+    name, owner = chance.choice((*CALLS, *READERS)), polyover
     try:
-        owner = polyover.Scaled(argument(chance, lambda: chance.choice((1, 100, 0.5, 10**7)))) if is_scaled else polyover
-        given = [argument(chance, lambda: contours(chance))]
-        if name in ("contours_of", "lines_of") or is_scaled and chance.random() < 0.4:
-            given = [argument(chance, lambda: spoiled(chance, file_thing(chance), JUNK))]
-        given += {"overlay": [contours(chance)], "hierarchy": [contours(chance)], "edges": [contours(chance)],
-                  "relate": [contours(chance)], "clip": [contours(chance)], "slice": [contours(chance)],
-                  "tiles": [argument(chance, lambda: chance.randint(1, 99)) for _ in range(2)],
-                  "locate": [[each for path in contours(chance) if isinstance(path, list) for each in path]]}.get(name, [])
-        named = {}
-        if name in ("overlay", "hierarchy") and chance.random() < 0.5:
-            named["rule"] = argument(chance, lambda: chance.choice(list(RULES)))
-        if name not in ("contours_of", "lines_of", "locate", "is_resolved") and chance.random() < 0.5:
-            named["fill"] = argument(chance, lambda: chance.choice(list(FILLS)))
-        if name in ("overlay", "simplify", "hierarchy") and chance.random() < 0.3:
-            named["minimum_area"] = argument(chance, lambda: chance.randint(0, 99))
-        getattr(owner, name)(*given, **named)
+        if chance.random() < 0.5 and name != "lines_of":
+            owner = polyover.Scaled(argument(chance, lambda: chance.choice((1, 100, 0.5, 10**7))))
+        takes_geometry = name in READERS or owner is not polyover and chance.random() < 0.4
+        thing = spoiled(chance, file_thing(chance), JUNK) if takes_geometry else contours(chance)
+        rest, named = rest_of_call(chance, name)
+        getattr(owner, name)(argument(chance, lambda: thing), *rest, **named)
         counts["calls answered"] += 1
     except polyover.PolyoverError as fault:
         counts[f"calls: {type(fault).__name__}"] += 1
@@ -207,7 +216,7 @@ def case_of_command(chance, counts):
         words = [name, str(files[0]), str(files[1]), "--out", str(files[2])]
         if name != "relate" and chance.random() < 0.3:
             words += ["--svg", str(files[3])]
-        for flag in (*FLAGS, *FLAGS_OF[name]):
+        for flag in (*FLAGS, *FLAGS_OF.get(name, ())):
             if chance.random() < 0.2:
                 words += flag.split()
         said = io.StringIO()

@@ -40,7 +40,7 @@ def visits_once(contour: WholePath) -> bool:
 
 def extent_of(contours: Sequence[WholePath]) -> int:
     """How far the coordinates are from 0 at most."""
-    return max((max(map(abs, point)) for contour in contours for point in contour), default=0)
+    return max((max(abs(x), abs(y)) for contour in contours for x, y in contour), default=0)
 
 
 def surplus_of(contours: Sequence[WholePath]) -> int:

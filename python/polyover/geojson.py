@@ -25,7 +25,7 @@ SKIPPED = "# rings or lines with too few points are skipped"
 NULLS = "# features have no geometry"
 
 Point = Sequence[Any]
-Path = list
+Path = list[Any]
 
 
 class Place(NamedTuple):

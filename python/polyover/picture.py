@@ -160,6 +160,8 @@ def drawn_grid(at: Place) -> str:
     """The lines of the grid, and their coordinates; of those along x as many as have room."""
     parts = ['<g stroke="#dddddd" stroke-width="1" fill="#666666">']
     values, end = multiples(at.left, at.right, at.step), -1e9
+    x: float
+    y: float
     for value in values:
         (x, _), y = at((value, at.low)), at.height - MARGIN
         parts.append(f'<path d="M{x} {MARGIN}V{y}"/>')

@@ -29,7 +29,7 @@ class Ring:
 
     def is_to_turn(self, is_outline: bool) -> bool:
         """Whether it runs against what it is: outlines run counterclockwise, and holes clockwise."""
-        return (double_area(self.whole) > 0) != is_outline
+        return bool((double_area(self.whole) > 0) != is_outline)
 
 
 Polygon = list[Ring]

@@ -74,7 +74,7 @@ def contours_of(thing: object, *, skip_invalid: bool = False) -> list[list[Any]]
     polygons = polygons_in(thing, skip_invalid=skip_invalid)
     values, bottom = over_one_bottom(value for part in polygons.parts for it in part.paths for p in it for value in p)
     numbers = iter(values)
-    contours = polygons.contours(lambda path: list(zip(*[(next(numbers) for _ in range(2 * len(path)))] * 2)))
+    contours = polygons.contours(lambda path: [(next(numbers), next(numbers)) for _ in path])
     return [number_points(whole, bottom) if given is None else given for whole, given in contours]
 
 

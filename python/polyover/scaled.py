@@ -151,8 +151,8 @@ class Scaled:
     def overlay(self, subject: Group, clip: Group = (), rule: str = "union", fill: str = "nonzero", **look: Any) -> Any:
         """As `polyover.overlay`."""
 
-        def answer(at: Scaled, *given: Any) -> Any:
-            return at.shapes(calls.overlay(*given, rule, fill, **look))
+        def answer(at: Scaled, *both: Any) -> Any:
+            return at.shapes(calls.overlay(both[0], both[1], rule, fill, **look))
 
         return self._settled(answer, subject=subject, clip=clip)
 
@@ -161,8 +161,8 @@ class Scaled:
     ) -> Any:
         """As `polyover.hierarchy`."""
 
-        def answer(at: Scaled, *given: Any) -> Any:
-            shapes, links = calls.hierarchy(*given, rule, fill, **look)
+        def answer(at: Scaled, *both: Any) -> Any:
+            shapes, links = calls.hierarchy(both[0], both[1], rule, fill, **look)
             return at.shapes(shapes), links
 
         return self._settled(answer, subject=subject, clip=clip)

@@ -1,8 +1,8 @@
 """Made features, read and written: areas and holes against an exact reading by fractions, and faults by their places.
 
 The polygons are boxes with holes that are boxes: closed or not, in both directions, from any corner, with equal points
-and points on their sides, tiny and huge, far from the origin, touching, overlapping and outside; with heights, empty and
-null geometries, in collections of collections."""
+and points on their sides, tiny and huge, far from the origin, touching, overlapping and outside; with heights, empty
+and null geometries, in collections of collections."""
 
 import copy
 import json
