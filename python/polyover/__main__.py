@@ -43,18 +43,14 @@ def told_where_it_takes_long(what: str) -> Iterator[None]:
 
 @contextmanager
 def warnings_as_lines() -> Iterator[None]:
-    """Each warning is a line on standard error, once."""
-    said = set()
-
-    def show(message: Any, *_: Any, **__: Any) -> None:
-        if str(message) not in said:
-            said.add(str(message))
-            say(message)
-
-    with warnings.catch_warnings():
+    """Each warning is a line on standard error, once, at the end."""
+    with warnings.catch_warnings(record=True) as found:
         warnings.simplefilter("always")
-        warnings.showwarning = show
-        yield
+        try:
+            yield
+        finally:
+            for line in dict.fromkeys(str(each.message) for each in found or ()):
+                say(line)
 
 
 # ---- answers

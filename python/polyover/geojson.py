@@ -17,8 +17,6 @@ KINDS = {*POLYGONS, *LINES, *POINTS}
 # (how many lists stand round a point)
 DEPTHS = {"Point": 0, "MultiPoint": 1, "LineString": 1, "MultiLineString": 2, "Polygon": 2, "MultiPolygon": 3}
 NESTED = 50
-# members of a feature that an answer has anew
-OWN = ("type", "geometry", "bbox")
 DROPPED = "members of # points beyond x and y are left out"
 PASSED_OVER = "# geometries that are no {} are passed over"
 SKIPPED = "# rings or lines with too few points are skipped"
@@ -63,11 +61,6 @@ class Feature:
     def paths(self) -> list[Path]:
         """The paths of all parts."""
         return [path for part in self.parts for path in part.paths]
-
-    @property
-    def has_box(self) -> bool:
-        """Whether the feature states its box."""
-        return "bbox" in self.members
 
 
 class Reader:
@@ -115,6 +108,7 @@ class Reader:
 
     def parts(self, place: Place, geometry: object) -> Iterator[Part]:
         """The polygons, or the lines, of a geometry."""
+        geometry = interface_of(geometry)
         kind = kind_of(place, geometry)
         if kind == "GeometryCollection":
             if len(place.geometries) >= NESTED:
@@ -147,7 +141,7 @@ class Reader:
             raise BadInput(f"{place}: {shown(found)} is no feature")
         if found.get("type") != "Feature":
             return Feature(number, list(self.parts(place, found)))
-        geometry = interface_of(member(place, found, "geometry"))
+        geometry = member(place, found, "geometry")
         members = {name: value for name, value in found.items() if name not in ("type", "geometry")}
         if not isinstance(members.setdefault("properties", None), (dict, type(None))):
             raise BadInput(f"{place}: properties: {shown(members['properties'])} is no object")

@@ -41,8 +41,6 @@ def contours_of_polygons(polygons: Sequence[Polygon], told: Told) -> list[Contou
 
     What collapses at this scale is left out, and counted in `told`, and so are rings that cross themselves."""
     left = [rings for rings in (without_flat(rings, told) for rings in polygons) if rings]
-    if len(left) == 1 and len(left[0]) == 1:
-        return [taken(left[0][0], True)]
     mark_simple([ring for rings in left for ring in rings], told)
     bad = polygons_with_bad_holes(left)
     contours: list[Contour] = []

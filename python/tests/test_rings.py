@@ -163,6 +163,12 @@ class Holes(unittest.TestCase):
         self.assertEqual(area_of(polyover.overlay(contours)), 16)
         self.assertIn("1 rings cross or overlap themselves", told[0])
 
+    def test_a_ring_that_crosses_itself_alone(self):
+        crossed = [[0, 0], [4, 4], [4, 0], [0, 4], [0, 0]]
+        for fill in ("nonzero", "positive"):
+            shapes, told = silently(polyover.Scaled(1).overlay, polygon(crossed), fill=fill)
+            self.assertEqual((area_of(shapes), len(told)), (8, 1))
+
     def test_a_ring_that_touches_itself(self):
         touching = [[0, 0], [2, 2], [4, 0], [4, 4], [2, 2], [0, 4]]
         self.assertEqual(self.covered([touching], [square(0, 0, 4, 4)]), 16)
