@@ -32,6 +32,5 @@ __all__ = [
     "overlay",
     "relate",
     "simplify",
-    "slice",
     "tiles",
 ]

@@ -11,7 +11,7 @@ from dataclasses import dataclass
 from typing import Any, Sequence
 
 from .errors import BadInput
-from .geojson import LINES, POLYGONS, Feature, features_of, geometry_of
+from .geojson import LINES, POINTS, POLYGONS, Feature, features_of, geometry_of
 from .reading import Lines, Polygons
 from .told import Told
 
@@ -109,6 +109,11 @@ def polygons_of(name: str, skip_invalid: bool = False, tells_nulls: bool = True)
 def lines_of(name: str, skip_invalid: bool = False, tells_nulls: bool = True) -> File:
     """The lines of a file."""
     return read(name, LINES, skip_invalid, tells_nulls)
+
+
+def points_of(name: str) -> File:
+    """The points of a file."""
+    return read(name, POINTS, tells_nulls=False)
 
 
 # ---- out

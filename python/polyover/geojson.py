@@ -64,13 +64,15 @@ class Feature:
 
 
 class Reader:
-    """Reads polygons, or lines; counts what it passes over."""
+    """Reads polygons, lines or points; counts what it passes over."""
 
     def __init__(self, kinds: Sequence[str], skip_invalid: bool, told: Told) -> None:
         self.kinds, self.skip_invalid, self.told = kinds, skip_invalid, told
         self.wanted = " or ".join(kinds)
         self.passed_over: list[str] = []
         self.finds_any = False
+        self.readers = {"Polygon": ("polygon", self.polygon), "LineString": ("line", self.line)}
+        self.readers["Point"] = ("point", self.point)
 
     def points(self, place: Place, path: object, least: int) -> Path | None:
         """The points of a ring or line, with x and y alone; none where too few of them are to be skipped."""
@@ -106,8 +108,12 @@ class Reader:
         if path is not None:
             yield Part(place, [path])
 
+    def point(self, place: Place, point: object) -> Iterator[Part]:
+        """A point, as a line of one."""
+        yield Part(place, [[tuple(checked_point(place, 1, point))]])
+
     def parts(self, place: Place, geometry: object) -> Iterator[Part]:
-        """The polygons, or the lines, of a geometry."""
+        """The polygons, the lines or the points of a geometry."""
         geometry = interface_of(geometry)
         kind = kind_of(place, geometry)
         if kind == "GeometryCollection":
@@ -125,7 +131,7 @@ class Reader:
             self.told.add(PASSED_OVER.format(self.wanted), place)
             return
         self.finds_any = True
-        name, read = ("polygon", self.polygon) if self.kinds == POLYGONS else ("line", self.line)
+        name, read = self.readers[self.kinds[0]]
         items = listed(place, coordinates, "coordinates")
         if kind.startswith("Multi"):
             for number, each in enumerate(items, 1):

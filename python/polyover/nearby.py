@@ -89,6 +89,11 @@ def kept(chain: Chain, regions: Sequence[Region]) -> WholePath:
     return chain.points[:1] if chain.is_far(regions) else chain.points
 
 
+def boxes_meet(contour: WholePath, others: Sequence[WholePath]) -> bool:
+    """Whether the box of a contour comes near the box of some others."""
+    return bool(lines_near([contour], others))
+
+
 def lines_near(lines: Sequence[WholePath], contours: Sequence[WholePath]) -> list[WholePath]:
     """The lines whose boxes come near the box of some contours."""
     points = [point for contour in contours for point in contour]

@@ -16,13 +16,18 @@ Whole = Callable[[Sequence[Any]], WholePath]
 
 @dataclass
 class Polygons:
-    """Polygons that were read, of which the contours are told at a scale; `source` names their file."""
+    """Polygons that were read, of which the contours are told at a scale; `source` names their file.
+
+    If they are raw, each ring is a contour that runs as it is, for any fill rule."""
 
     parts: list[Part]
     source: str = ""
+    is_raw: bool = False
 
     def contours(self, whole: Whole) -> list[Contour]:
         """Their contours for the fill rule nonzero, by whole points and as they were given."""
+        if self.is_raw:
+            return [(whole(path), path) for part in self.parts for path in part.paths]
         told = Told(self.source)
         polygons = [
             [Ring(part.place._replace(ring=at), path, whole(path)) for at, path in enumerate(part.paths, 1)]

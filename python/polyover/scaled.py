@@ -4,9 +4,11 @@ from __future__ import annotations
 
 import warnings
 from fractions import Fraction
+from itertools import islice
 from typing import Any, Callable, Iterable, Sequence
 
 from . import calls
+from .columns import whole_points
 from .contour import WholePath, WholePoint
 from .errors import BadInput, NotSettled, PolyoverWarning
 from .geojson import is_geometry
@@ -26,6 +28,9 @@ class Axis:
     def __init__(self, start: Fraction, scale: Fraction) -> None:
         (top, bottom), (up, down) = start.as_integer_ratio(), scale.as_integer_ratio()
         self.times, self.less, self.over = bottom * up, top * up, bottom * down
+        # (for columns of floats, where these are floats)
+        exact = float_of(start), float_of(scale)
+        self.floats = None if None in exact else exact
 
     def whole(self, value: Any) -> int:
         """The whole number nearest to a number; of two equally near ones the even one."""
@@ -76,9 +81,10 @@ class Scaled:
         except (TypeError, ValueError, OverflowError):
             raise BadInput(f"{point!r} is no point of two finite numbers") from None
 
-    def whole_path(self, path: Iterable[Any]) -> WholePath:
+    def whole_path(self, path: Sequence[Any]) -> WholePath:
         """A path with whole points."""
-        return [self.whole_point(point) for point in path]
+        found = whole_points(self.axes, path)
+        return [self.whole_point(point) for point in path] if found is None else found
 
     def whole(self, paths: Group, name: str = "paths") -> list[WholePath]:
         """Paths with whole points; of polygons that were read, their contours for the fill rule nonzero. A fault names
@@ -86,11 +92,12 @@ class Scaled:
         if isinstance(paths, Polygons):
             return [whole for whole, _ in paths.contours(self.whole_path)]
         if isinstance(paths, Lines):
-            found = [self.whole_path(path) for path in paths.paths]
-            paths.tell_collapsed(found)
-            return found
+            lines = [self.whole_path(path) for path in paths.paths]
+            paths.tell_collapsed(lines)
+            return lines
         try:
-            return [self.whole_path(path) for path in paths]
+            points = iter(self.whole_path([point for path in paths for point in path]))
+            return [list(islice(points, len(path))) for path in paths]
         except BadInput:
             self._check_points(name, paths)
             raise
@@ -148,11 +155,17 @@ class Scaled:
                 warnings.warn(told, PolyoverWarning, stacklevel=3)
             at = finer
 
+    def _look(self, at: Scaled, look: dict[str, Any]) -> dict[str, Any]:
+        """The options of an overlay at another scale: the minimum area is in squares of this scale's unit."""
+        if at is self or "minimum_area" not in look:
+            return look
+        return {**look, "minimum_area": int(look["minimum_area"] * (at.scale / self.scale) ** 2)}
+
     def overlay(self, subject: Group, clip: Group = (), rule: str = "union", fill: str = "nonzero", **look: Any) -> Any:
         """As `polyover.overlay`."""
 
         def answer(at: Scaled, *both: Any) -> Any:
-            return at.shapes(calls.overlay(both[0], both[1], rule, fill, **look))
+            return at.shapes(calls.overlay(both[0], both[1], rule, fill, **self._look(at, look)))
 
         return self._settled(answer, subject=subject, clip=clip)
 
@@ -162,14 +175,14 @@ class Scaled:
         """As `polyover.hierarchy`."""
 
         def answer(at: Scaled, *both: Any) -> Any:
-            shapes, links = calls.hierarchy(both[0], both[1], rule, fill, **look)
+            shapes, links = calls.hierarchy(both[0], both[1], rule, fill, **self._look(at, look))
             return at.shapes(shapes), links
 
         return self._settled(answer, subject=subject, clip=clip)
 
     def simplify(self, subject: Group, fill: str = "nonzero", **look: Any) -> Any:
         """As `polyover.simplify`."""
-        return self._settled(lambda at, s: at.shapes(calls.simplify(s, fill, **look)), subject=subject)
+        return self._settled(lambda at, s: at.shapes(calls.simplify(s, fill, **self._look(at, look))), subject=subject)
 
     def edges(self, subject: Group, clip: Group = (), fill: str = "nonzero") -> Any:
         """As `polyover.edges`."""
@@ -208,6 +221,14 @@ class Scaled:
         """As `polyover.locate`."""
         queries = taken("points", [points])
         return calls.locate(self.whole(taken("shape", shape), "shape"), self.whole(queries, "points")[0])
+
+
+def float_of(value: Fraction) -> float | None:
+    """A fraction as a float, if it is one."""
+    try:
+        return float(value) if Fraction(float(value)) == value else None
+    except OverflowError:
+        return None
 
 
 def fraction_of(value: Any, what: str) -> Fraction:

@@ -128,6 +128,77 @@ class Members(unittest.TestCase):
         self.assertEqual((status, said), (1, "polyover: b.geojson: the member 'a' comes twice in one object\n"))
 
 
+class Polygons(unittest.TestCase):
+    """Commands over polygons by themselves, and over points."""
+
+    CROSSED = feature("Polygon", [[[0, 0], [4, 4], [4, 0], [0, 4], [0, 0]]], name="bow")
+
+    def rings(self, left):
+        """The numbers of rings of the polygons of each feature."""
+        return [[len(shape) for shape in each["geometry"]["coordinates"]] for each in left["features"]]
+
+    def test_simplify(self):
+        given = collection(self.CROSSED, feature("Polygon", [square(9, 0, 11, 1)], name="box"))
+        _, left, said, _ = ran("simplify", given)
+        self.assertEqual(self.rings(left), [[1, 1], [1]])
+        self.assertEqual([each["properties"]["name"] for each in left["features"]], ["bow", "box"])
+        self.assertIn("1 rings cross or overlap themselves, and cover what they wind round "
+                      "(the first: feature 1, polygon 1, ring 1)", said)
+        # (each half of the bow has an area of 4, the box 2)
+        self.assertEqual(self.rings(ran("simplify", given, words=["--min-area", "3.5"])[1]), [[1, 1]])
+
+    def test_fill(self):
+        one = collection(feature("MultiPolygon", [[square(0, 0, 4, 4)], [square(1, 1, 3, 3)]]))
+        other = collection(feature("Polygon", [square(0, 0, 9, 9)]))
+        for fill, rings in ((), [[1]]), (("evenodd",), [[2]]), (("negative",), []):
+            words = ["--rule", "intersect", *(["--fill", *fill] if fill else [])]
+            self.assertEqual(self.rings(ran("overlay", one, other, words=words)[1]), rings)
+
+    def test_tiles(self):
+        _, left, _, _ = ran("tiles", collection(feature("Polygon", [square(0, 0, 4, 4)], name="a")), words=["2", "2.5"])
+        self.assertEqual([each["properties"] for each in left["features"]], [{"name": "a"}] * 4)
+
+    def test_locate(self):
+        area = collection(feature("MultiPolygon", [[square(0, 0, 4, 4), square(1, 1, 2, 2)], [square(3, 3, 5, 5)]]))
+        many = {"type": "Feature", "id": 7, "properties": {"a": 1},
+                "geometry": {"type": "MultiPoint", "coordinates": [[3.5, 3.5], [1.5, 1.5]]}}
+        points = collection(feature("Point", [1, 1, 8]), many, feature("Point", [9, 9]))
+        _, left, said, _ = ran("locate", area, points)
+        told = [each["properties"]["location"] for each in left["features"]]
+        self.assertEqual((told, said), (["boundary", ["inside", "outside"], "outside"], ""))
+        self.assertEqual(left["features"][1]["id"], 7)
+        self.assertEqual(left["features"][0]["geometry"], {"type": "Point", "coordinates": [1, 1, 8]})
+        twice = collection(feature("Point", [1, 1], location="here"))
+        self.assertIn("b.geojson: feature 1: it has a property location already", ran("locate", area, twice)[2])
+
+    def test_overlays_that_keep_features(self):
+        parcels = collection(feature("Polygon", [square(0, 0, 2, 2)], owner="a"),
+                             feature("Polygon", [square(2, 0, 4, 2)], owner="b"),
+                             feature("Polygon", [square(8, 0, 9, 2)], owner="c"), name="parcels")
+        zone = collection(feature("Polygon", [square(1, -1, 3, 3)]), feature("Polygon", [square(50, 50, 60, 60)]))
+        _, left, _, _ = ran("overlay", parcels, zone, words=["--rule", "intersect", "--keep"])
+        found = {each["properties"]["owner"]: each["geometry"]["coordinates"] for each in left["features"]}
+        self.assertEqual((sorted(found), left["name"]), (["a", "b"], "parcels"))
+        self.assertEqual(sorted(map(tuple, found["a"][0][0][1:])), [(1, 0), (1, 2), (2, 0), (2, 2)])
+        _, left, _, _ = ran("overlay", parcels, zone, words=["--rule", "difference", "--keep"])
+        self.assertEqual([each["properties"]["owner"] for each in left["features"]], ["a", "b", "c"])
+        self.assertIn("--keep goes with the rules", ran("overlay", parcels, zone, words=["--keep"])[2])
+
+    def test_other_systems_of_coordinates(self):
+        crs = [{"type": "name", "properties": {"name": name}} for name in ("EPSG:4326", "EPSG:3857")]
+        one, two = (collection(self.CROSSED, crs=each) for each in crs)
+        self.assertIn("a.geojson and b.geojson state different members crs", ran("relate", one, two)[2])
+        self.assertEqual(ran("overlay", one, one)[1]["crs"], crs[0])
+
+    def test_help(self):
+        for words in (["--help"], ["--version"], ["overlay", "--help"], ["svg", "--help"]):
+            said = io.StringIO()
+            with contextlib.redirect_stdout(said), self.assertRaises(SystemExit) as ended:
+                main(words)
+            self.assertEqual(ended.exception.code, 0)
+            self.assertIn("polyover", said.getvalue())
+
+
 class Files(unittest.TestCase):
     """Files are read whole, and left whole."""
 
