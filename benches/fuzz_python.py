@@ -33,16 +33,23 @@ from polyover.text import FILLS, RULES  # noqa: E402  pylint: disable=wrong-impo
 
 LIMIT = 20
 FAR = 2**62 - 1
+WORDS = "subject clip line point run 0 4 -4 7 x 1.5 overlay Union EvenOdd ogc edges NonZero tiles slice relate".split()
+WORDS += ["min", "locate", str(FAR), str(FAR + 1)] + ["\n"] * 5 + ["\r\n"]
 JUNK = (None, True, False, 0, 5, -1, 0.5, -0.0, float("nan"), float("inf"), -float("inf"), 1e308, 5e-324, 10**30, -FAR,
         "", "x", "12", "\ud800", "Polygon", "Feature", b"x", [], {}, [[]], [None], [[[]]], {"type": "Polygon"}, (0, 0),
         {1: 2}, {"a"}, object(), int, range(3), 2j)
 MEMBERS = ("type", "features", "geometry", "coordinates", "properties", "geometries", "id", "bbox", "crs", "name")
-FLAGS = ("--skip-invalid", "--digits 2", "--digits -1", "--digits 17")
-FLAGS_OF = {"clip": ("--invert", "--boundary"), "overlay": ("--rule xor", "--rule intersect")}
+FLAGS = ("--skip-invalid", "--digits 2", "--digits -1", "--digits 17", "--fill evenodd", "--fill negative")
+FLAGS_OF = {"clip": ("--invert", "--boundary"), "overlay": ("--rule xor", "--rule intersect --keep", "--min-area 2")}
+FLAGS_OF["simplify"] = ("--min-area 0.5",)
+POINTS = ("Point", "MultiPoint")
+# (what the second file of a command has)
+OTHER_OF = {"clip": ("LineString", "MultiLineString"), "locate": POINTS}
+OTHER_OF["slice"] = OTHER_OF["clip"]
 CALLS = ("overlay", "hierarchy", "simplify", "edges", "relate", "clip", "slice", "tiles", "locate", "is_resolved")
 READERS = ("contours_of", "lines_of")
 AREAS, LINES = ("Polygon", "MultiPolygon"), ("LineString", "MultiLineString")
-OTHERS = ("Point", "GeometryCollection", *AREAS, *LINES)
+OTHERS = ("Point", "MultiPoint", "GeometryCollection", *AREAS, *LINES)
 # (the ones that JSON has)
 PLAIN = [each for each in JUNK if isinstance(each, (int, float, str, list, type(None)))]
 
@@ -93,6 +100,7 @@ def geometry(chance, size, kinds, depth=0):
         return {"type": kind, "geometries": some}
     first = rings[0] if rings else []
     made = {"Polygon": first, "MultiPolygon": rings, "MultiLineString": first, "LineString": ring(chance, size)}
+    made["MultiPoint"] = made["LineString"]
     return {"type": kind, "coordinates": made[kind] if kind in made else point(chance, size)}
 
 
@@ -207,13 +215,14 @@ def case_of_call(chance, counts):
 
 def case_of_command(chance, counts):
     """One command on files."""
-    name = chance.choice(("overlay", "relate", "clip", "slice"))
+    name = chance.choice(("overlay", "relate", "clip", "slice", "simplify", "tiles", "locate"))
     with tempfile.TemporaryDirectory() as folder:
         files = [Path(folder, each) for each in ("a", "b", "out", "svg")]
-        for file, kinds in zip(files, (AREAS, LINES if name in ("clip", "slice") else AREAS)):
+        for file, kinds in zip(files, (AREAS, OTHER_OF.get(name, AREAS))):
             file.write_bytes(file_text(chance, kinds))
         before = {each.name for each in Path(folder).iterdir()}
-        words = [name, str(files[0]), str(files[1]), "--out", str(files[2])]
+        alone = {"simplify": [], "tiles": [str(chance.choice((0, 0.5, 1000, 10**9))) for _ in range(2)]}
+        words = [name, str(files[0]), *alone.get(name, [str(files[1])]), "--out", str(files[2])]
         if name != "relate" and chance.random() < 0.3:
             words += ["--svg", str(files[3])]
         for flag in (*FLAGS, *FLAGS_OF.get(name, ())):
@@ -225,6 +234,24 @@ def case_of_command(chance, counts):
         after = {each.name for each in Path(folder).iterdir()}
         counts[f"commands: status {status}"] += 1
         check_files(status, said.getvalue(), before, after, files)
+
+
+def case_of_picture(chance, counts):
+    """The picture of an input of the program, good or bad."""
+    command = chance.choice(("slice NonZero", "edges EvenOdd", "clip Positive"))
+    good = f"subject 0 0 4 0 4 4\nline 1 1 9 9\nrun {command}"
+    bad = " ".join(chance.choice(WORDS) for _ in range(chance.randint(0, 30)))
+    text = bad if chance.random() < 0.7 else good
+    with tempfile.TemporaryDirectory() as folder:
+        files = [Path(folder, each) for each in ("in", "unused", "out")]
+        files[0].write_text(text)
+        said = io.StringIO()
+        with contextlib.redirect_stderr(said):
+            status = run_command(["svg", str(files[0]), "--out", str(files[2]), *["--nodes"] * chance.randint(0, 1)])
+        counts[f"pictures: status {status}"] += 1
+        if status == 0:
+            files[2].write_text('"a picture"')
+        check_files(status, said.getvalue(), {"in"}, {each.name for each in Path(folder).iterdir()}, files)
 
 
 def check_files(status, said, before, after, files):
@@ -247,7 +274,7 @@ def run_case(seed, number, counts):
     try:
         with warnings.catch_warnings():
             warnings.simplefilter("ignore")
-            (case_of_call if chance.random() < 0.6 else case_of_command)(chance, counts)
+            chance.choices((case_of_call, case_of_command, case_of_picture), (6, 4, 1))[0](chance, counts)
         return True
     except TooLong:
         print(f"case {number}: longer than {LIMIT} seconds", flush=True)
@@ -275,6 +302,8 @@ def main():
         bad += not run_case(given.seed, case, counts)
         slowest = max(slowest, time.monotonic() - begun)
         case += 1
+        if case % 10_000 == 0:
+            print(f"{case} cases after {(time.monotonic() - start) / 60:.1f} minutes, {bad} bad", flush=True)
     print(f"{case} cases, {bad} bad, slowest {slowest:.1f} s")
     for name, count in sorted(counts.items()):
         print(f"  {name}: {count}")
