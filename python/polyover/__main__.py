@@ -127,11 +127,11 @@ def parsed(words: Sequence[str] | None) -> argparse.Namespace:
 
 
 def main(words: Sequence[str] | None = None) -> int:
-    """Runs a command; 1 where it does not answer, and the words are bad where argparse ends it with 2."""
+    """Runs a command; 1 where it does not answer. Where its words are bad argparse ends it, with 2."""
     given = parsed(words)
     try:
         with warnings_as_lines():
-            given.run(given)
+            return int(given.run(given) or 0)
     except BrokenPipeError:
         # (nobody reads on: what is left in the buffer goes nowhere)
         os.dup2(os.open(os.devnull, os.O_WRONLY), sys.stdout.fileno())
@@ -142,7 +142,6 @@ def main(words: Sequence[str] | None = None) -> int:
     except MemoryError:
         say("no memory")
         return 1
-    return 0
 
 
 if __name__ == "__main__":

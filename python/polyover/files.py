@@ -44,7 +44,7 @@ class File:
 
 
 def once(pairs: list[tuple[str, Any]]) -> dict[str, Any]:
-    """An object of JSON, of which no member comes twice."""
+    """An object of JSON; a member that comes twice is a fault."""
     found = dict(pairs)
     if len(found) != len(pairs):
         names = [name for name, _ in pairs]

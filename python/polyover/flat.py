@@ -63,7 +63,7 @@ class Flat:
     """Contours or open paths in two arrays of 64 bits: the points, two coordinates in a row, and how many points there
     are up to the end of each contour. The calls take it in the place of lists; they read it without a copy.
 
-    `coordinates` and `ends` are memoryviews, of which `numpy.asarray` makes arrays without a copy; going over it gives
+    `coordinates` and `ends` are memoryviews, which `numpy.asarray` takes without a copy; going over it gives
     lists. Raises BadInput where the arrays are of another kind, or the ends do not rise to the number of points."""
 
     def __init__(self, coordinates: Any, ends: Any) -> None:

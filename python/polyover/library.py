@@ -107,7 +107,7 @@ class Room:
         self.arguments = addressof(c_char.from_buffer(self.space)), count
 
     def view(self, count: int) -> memoryview:
-        """The first numbers, so many, where they are."""
+        """That many of the first numbers, where they are."""
         return memoryview(self.space)[: count * array(self.kind).itemsize].cast(self.kind)
 
     def first(self, count: int) -> Any:

@@ -16,7 +16,7 @@ Whole = Callable[[Sequence[Any]], WholePath]
 
 @dataclass
 class Polygons:
-    """Polygons that were read, of which the contours are told at a scale; `source` names their file.
+    """Polygons that were read; their contours are told at a scale. `source` names their file.
 
     If they are raw, each ring is a contour that runs as it is, for any fill rule."""
 
