@@ -34,6 +34,7 @@ pub mod Orbits
 pub mod OrbitsSoFar
 pub mod Order
 pub mod Parents
+pub mod PixelSteps
 pub mod PlacedContours
 pub mod Predicates
 pub mod Rays
@@ -43,6 +44,8 @@ pub mod Rounds
 pub mod SelectedSteps
 pub mod ShapeWindings
 pub mod ShapesAlone
+pub mod SnapPoints
+pub mod Snaps
 pub mod Spokes
 pub mod Thinning
 pub mod Turn
