@@ -8,6 +8,7 @@ pub mod AlongOrder
 pub mod AnchorOrder
 pub mod Anchors
 pub mod AnchorsLeadOn
+pub mod AnyRounds
 pub mod Areas
 pub mod AtNodes
 pub mod BalancedSigns
@@ -145,8 +146,8 @@ pub mod RoledShapes
 pub mod RoledWalks
 pub mod RoundNodes
 pub mod RoundWalks
-pub mod RoundedHalves
 pub mod RoundedAlong
+pub mod RoundedHalves
 pub mod SameOrder
 pub mod SameSector
 pub mod SameWay

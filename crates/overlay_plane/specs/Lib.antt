@@ -40,6 +40,7 @@ pub mod Predicates
 pub mod Rays
 pub mod Regions
 pub mod RoledContours
+pub mod RoundLists
 pub mod Rounds
 pub mod SelectedSteps
 pub mod ShapeWindings
