@@ -7,6 +7,7 @@ use Rattle.overlay_geom.specs.Plane.{Step}
 use Rattle.overlay_geom.specs.Edges.{CountedEdge, ends_of}
 use Rattle.overlay_geom.specs.Merged.{IsMerged}
 use Rattle.overlay_geom.specs.Settled.{IsSettled}
+use Rattle.overlay_geom.specs.declared.solver.Solver.TheVariants.{Rounds}
 use Rattle.overlay_arrange.specs.Arranged.{IsArranged, IsArrangedCarrying, IsSplitCarrying, MayRefuseSplitting}
 use Rattle.overlay_arrange.specs.Content.{IsContent}
 use Rattle.overlay_arrange.proofs.RoundsTaken.{Leaves}
@@ -39,7 +40,7 @@ leaves_cut limit old es new content merged unsettled is =
 
 -- a content that was split is arranged
 abbrev pub arranged_of_split : (limit most : ℕ) (old new : List CountedEdge) → IsContent limit old →
-    IsSplit most old new → IsArranged most old new
+    IsSplit Rounds most old new → IsArranged most old new
 arranged_of_split limit most old new content split =
     let moving = moving_rounds split.rounds in
     let forward = forward_content limit old content in
@@ -49,17 +50,17 @@ arranged_of_split limit most old new content split =
       reached = split.reached;
       moving = moving.0;
       moved = moving.1;
-      chains = arrangements_hold_chains split.rounds moving.0 old new forward split.reached moving.1;
-      exact = λ whole. whole_meetings_are_exact.exact split.rounds moving.0 old new forward whole
+      chains = arrangements_hold_chains Rounds split.rounds moving.0 old new forward split.reached moving.1;
+      exact = λ whole. whole_meetings_are_exact.exact Rounds split.rounds moving.0 old new forward whole
           split.reached moving.1;
-      balanced = arrangements_keep_balance split.rounds old new split.reached;
-      stays = λ was. arranged_stays_arranged was.1 split.rounds was.0 old new was.2 split.reached;
+      balanced = arrangements_keep_balance Rounds split.rounds old new split.reached;
+      stays = λ was. arranged_stays_arranged was.0 Rounds was.2 split.rounds was.1 old new was.3 split.reached;
     }
 
 -- so it is where an answer says that it was split
 pub arranged_answer : {T E : Type 0} (limit most : ℕ) (answer : Result T E) (old new : List CountedEdge) →
     IsContent limit old →
-    OnOk answer (IsSplit most old new) → OnOk answer (IsArranged most old new)
+    OnOk answer (IsSplit Rounds most old new) → OnOk answer (IsArranged most old new)
 arranged_answer limit most (Ok v) old new content h = arranged_of_split limit most old new content h
 arranged_answer limit most (Err e) old new content h = h
 
@@ -67,22 +68,22 @@ arranged_answer limit most (Err e) old new content h = h
 settles_whole : (limit most : ℕ) (old : List CountedEdge) → 2 ≤ most → IsContent limit old → MeetInWholePoints old →
     ¬ (StaysUnsettled most old)
 settles_whole limit most old several content whole stays =
-    let few = whole_meetings_are_exact.few stays.rounds old (forward_content limit old content) whole stays.cut in
+    let few = whole_meetings_are_exact.few Rounds stays.rounds old (forward_content limit old content) whole stays.cut in
     omega (arith, few, stays.all_taken)
 
 -- a refusal of rounds is one of bringing the edges into an arrangement
 refused_so : (limit most : ℕ) (old : List CountedEdge) (e : OverlayError) → 2 ≤ most → IsContent limit old →
     (e ≡ NotSettled → StaysUnsettled most old) →
-    (e ≡ TooManyEdges → WeighsTooMuch most (2 ^ 31) old) → ¬ (e ≡ Failed) → MayRefuseSplitting most old e
+    (e ≡ TooManyEdges → WeighsTooMuch Rounds most (2 ^ 31) old) → ¬ (e ≡ Failed) → MayRefuseSplitting most old e
 refused_so limit most old Memory several content unsettled heavy usable = tt
 refused_so limit most old NotSettled several content unsettled heavy usable = let stays = unsettled refl in record {
   unsettled = stays;
   not_whole = λ whole. settles_whole limit most old several content whole stays;
-  not_arranged = λ was. no_rounds_again was.1 stays.rounds was.0 old was.2 stays.cut (omega (arith, stays.all_taken));
+  not_arranged = λ was. no_rounds_again was.0 Rounds was.2 stays.rounds was.1 old was.3 stays.cut (omega (arith, stays.all_taken));
 }
 refused_so limit most old TooManyEdges several content unsettled heavy usable = let weighs = heavy refl in record {
   heavy = weighs;
-  not_arranged = λ was. no_rounds_again was.1 weighs.rounds was.0 old was.2 weighs.cut weighs.some;
+  not_arranged = λ was. no_rounds_again was.0 Rounds was.2 weighs.rounds was.1 old was.3 weighs.cut weighs.some;
 }
 refused_so limit most old Failed several content unsettled heavy usable = usable refl
 
@@ -90,7 +91,7 @@ refused_so limit most old Failed several content unsettled heavy usable = usable
 pub refused_answer : {T : Type 0} (limit most : ℕ) (answer : Result T OverlayError) (old : List CountedEdge) →
     2 ≤ most → IsContent limit old →
     (IsErrOf answer NotSettled → StaysUnsettled most old) →
-    (IsErrOf answer TooManyEdges → WeighsTooMuch most (2 ^ 31) old) → ¬ (answer ≡ Err Failed) →
+    (IsErrOf answer TooManyEdges → WeighsTooMuch Rounds most (2 ^ 31) old) → ¬ (answer ≡ Err Failed) →
     IfErr answer (MayRefuseSplitting most old)
 refused_answer limit most (Ok v) old several content unsettled heavy usable = tt
 refused_answer limit most (Err e) old several content unsettled heavy usable =
@@ -126,8 +127,8 @@ module _ {C : Type 0} (merges : C → C → C → Type 0) (splits reverses : C �
       merged unsettled in
       let r = through.0 in
       let cuts = through.1 in
-      let later : IsReachedBy h.split.rounds (pieces_of r) (edges_in new) =
-      subst (λ (es : List CountedEdge). IsReachedBy h.split.rounds es (edges_in new)) (left_is ∙ sym cuts.leaves)
+      let later : IsReachedBy Rounds h.split.rounds (pieces_of r) (edges_in new) =
+      subst (λ (es : List CountedEdge). IsReachedBy Rounds h.split.rounds es (edges_in new)) (left_is ∙ sym cuts.leaves)
       h.split.reached in
       record {
         split = record {

@@ -3,6 +3,8 @@ use Rattle.std.specs.Prelude.{◌≡◌, ℕ, ◌≤◌, ◌^◌, List, length}
 use Rattle.overlay_geom.specs.Edges.{CountedEdge}
 use Rattle.overlay_geom.specs.declared.error.OverlayError.{OverlayError}
 use Rattle.overlay_geom.specs.declared.error.OverlayError.TheVariants.{Memory, NotSettled, TooManyEdges, Failed}
+use Rattle.overlay_geom.specs.declared.solver.Solver.{Solver}
+use Rattle.overlay_geom.specs.declared.solver.Solver.TheVariants.{Rounds}
 use Rattle.overlay_plane.specs.Arrangements.{IsReachedBy, IsSplit, IsExact, StaysUnsettled, WeighsTooMuch}
 use Rattle.overlay_plane.specs.Balance.{HasBalancedCounts}
 use Rattle.overlay_plane.specs.Carried.{Carried, edges_in}
@@ -17,13 +19,13 @@ most_rounds = 64
 
 -- the list is an arrangement already
 abbrev pub WasArranged : List CountedEdge → Type 0
-WasArranged es = (before : List CountedEdge) × (earlier : List Round) × IsReachedBy earlier before es
+WasArranged es = (solver : Solver) × (before : List CountedEdge) × (earlier : List Round) × IsReachedBy solver earlier before es
 
 -- the second list is an arrangement of the first one, reached with so many cutting rounds at most
 pub record IsArranged (most : ℕ) (old new : List CountedEdge) : Type 0 where
   pub rounds : List Round
   pub few : length rounds ≤ most
-  pub reached : IsReachedBy rounds old new
+  pub reached : IsReachedBy Rounds rounds old new
   -- so many of the rounds moved some point
   pub moving : ℕ
   pub moved : MovingRounds rounds moving
@@ -39,7 +41,7 @@ pub record IsArranged (most : ℕ) (old new : List CountedEdge) : Type 0 where
 -- derived along these rounds
 pub record IsSplitCarrying {C : Type 0} (merges : C → C → C → Type 0) (splits reverses : C → C → Type 0) (most : ℕ)
     (old new : List (Carried C)) : Type 0 where
-  pub split : IsSplit most (edges_in old) (edges_in new)
+  pub split : IsSplit Rounds most (edges_in old) (edges_in new)
   pub derived : AreDerived merges splits reverses split.rounds old new
 
 -- the second list is an arrangement of the first one, and what its edges carry is derived along the rounds that led
@@ -58,7 +60,7 @@ pub record CannotBeSettled (most : ℕ) (es : List CountedEdge) : Type 0 where
 
 -- some round, of so many at most, leaves pieces that weigh 2^31; the edges were no arrangement already
 pub record IsSplitTooMuch (most : ℕ) (es : List CountedEdge) : Type 0 where
-  pub heavy : WeighsTooMuch most (2 ^ 31) es
+  pub heavy : WeighsTooMuch Rounds most (2 ^ 31) es
   pub not_arranged : ¬ (WasArranged es)
 
 -- bringing the edges into an arrangement, with so many cutting rounds at most, may be refused so

@@ -9,6 +9,7 @@ ghost use Rattle.overlay_arrange.specs.Content.{IsAscending};
 ghost use Rattle.overlay_arrange.specs.Meetings.{plain_meetings, AreByPlace, AreMeetings};
 ghost use Rattle.overlay_arrange.specs.Stores.{IsStoreReached};
 ghost use Rattle.overlay_geom.specs.Settled.{IsSettled};
+ghost use Rattle.overlay_geom.specs.declared.solver.Solver.TheVariants.{Rounds};
 ghost use Rattle.overlay_plane.specs.Carried.{edges_in};
 ghost use Rattle.overlay_plane.specs.Arrangements.{IsReachedBy, IsSplit, StaysUnsettled, WeighsTooMuch};
 
@@ -45,7 +46,7 @@ impl<I: IntNumber, C: EdgeCount, A: Allocator + Clone> Content<I, C, A> {
         ensures arranged { OnOk result (IsArranged most_rounds (edges_in self.old) (edges_in self.new)) }
         ensures carried { OnOk result (IsArrangedCarrying C.merges C.splits C.reverses most_rounds self.old self.new) }
         ensures cut { IfOk result (λ is_cut. (is_cut ≡ false)
-            ↔ IsReachedBy [] (edges_in self.old) (edges_in self.new)) }
+            ↔ IsReachedBy Rounds [] (edges_in self.old) (edges_in self.new)) }
         ensures store { IsStoreReached C.writes store.old store.new }
         ensures err { IfErr result (MayRefuseSplitting most_rounds (edges_in self.old)) }
     {
@@ -57,14 +58,14 @@ impl<I: IntNumber, C: EdgeCount, A: Allocator + Clone> Content<I, C, A> {
     /// Merges the edges, and cuts them so many times at most, until they are settled. Returns
     /// whether it cut them. If it is refused the content is left open.
     pub fn split(&mut self, rounds: u32, store: &mut C::Store) -> Result<bool, OverlayError>
-        ensures split { OnOk result (IsSplit rounds (edges_in self.old) (edges_in self.new)) }
+        ensures split { OnOk result (IsSplit Rounds rounds (edges_in self.old) (edges_in self.new)) }
         ensures carried { OnOk result (IsSplitCarrying C.merges C.splits C.reverses rounds self.old self.new) }
         ensures cut { IfOk result (λ is_cut. (is_cut ≡ false)
-            ↔ IsReachedBy [] (edges_in self.old) (edges_in self.new)) }
+            ↔ IsReachedBy Rounds [] (edges_in self.old) (edges_in self.new)) }
         ensures store { IsStoreReached C.writes store.old store.new }
         ensures not_settled { IsErrOf result OverlayError.NotSettled → StaysUnsettled rounds (edges_in self.old) }
         ensures too_many { IsErrOf result OverlayError.TooManyEdges
-            → WeighsTooMuch rounds (2 ^ 31) (edges_in self.old) }
+            → WeighsTooMuch Rounds rounds (2 ^ 31) (edges_in self.old) }
         ensures usable { result ≢ Err OverlayError.Failed }
     {
         self.split_since(rounds, None, store)
@@ -79,14 +80,14 @@ impl<I: IntNumber, C: EdgeCount, A: Allocator + Clone> Content<I, C, A> {
         store: &mut C::Store,
     ) -> Result<bool, OverlayError>
         requires { IfSome before (λ s. AreOpenIn (edges_in s.edges) s.is_open.items) }
-        ensures split { OnOk result (IsSplit rounds (edges_in self.old) (edges_in self.new)) }
+        ensures split { OnOk result (IsSplit Rounds rounds (edges_in self.old) (edges_in self.new)) }
         ensures carried { OnOk result (IsSplitCarrying C.merges C.splits C.reverses rounds self.old self.new) }
         ensures cut { IfOk result (λ is_cut. (is_cut ≡ false)
-            ↔ IsReachedBy [] (edges_in self.old) (edges_in self.new)) }
+            ↔ IsReachedBy Rounds [] (edges_in self.old) (edges_in self.new)) }
         ensures store { IsStoreReached C.writes store.old store.new }
         ensures not_settled { IsErrOf result OverlayError.NotSettled → StaysUnsettled rounds (edges_in self.old) }
         ensures too_many { IsErrOf result OverlayError.TooManyEdges
-            → WeighsTooMuch rounds (2 ^ 31) (edges_in self.old) }
+            → WeighsTooMuch Rounds rounds (2 ^ 31) (edges_in self.old) }
         ensures usable { result ≢ Err OverlayError.Failed }
     {
         self.merge(store)?;

@@ -4,6 +4,7 @@ ghost use Rattle.std.specs.Prelude.{◌≡◌, ◌↔◌, ◌^◌, ◌<◌, fals
 ghost use Rattle.std.specs.Prelude.{Ok, Err, IfOk, OnOk, OnErr, IsOkUnless, IsErrOf};
 ghost use Rattle.overlay_geom.specs.Counts.{weight_of_counts};
 ghost use Rattle.overlay_geom.specs.Points.{plain_point, plain_points, InRange, AllInRange};
+ghost use Rattle.overlay_geom.specs.declared.solver.Solver.TheVariants.{Rounds};
 ghost use Rattle.overlay_plane.specs.Arrangements.{IsReachedBy};
 ghost use Rattle.overlay_plane.specs.Carried.{edges_in};
 ghost use Rattle.overlay_arrange.specs.Arranged.{IsArrangedCarrying, most_rounds};
@@ -180,7 +181,7 @@ impl<I: IntNumber, C: EdgeCount, A: Allocator + Clone> BuilderCore<I, C, A> {
         ensures store { IsStoreReached C.writes store.old store.new }
         ensures untouched { IsErrOf result OverlayError.Failed → self.new ≡ self.old }
         ensures cut { IfOk result (λ is_cut. (is_cut ≡ false)
-            ↔ IsReachedBy [] (edges_in self.old.edges) (edges_in self.new.edges)) }
+            ↔ IsReachedBy Rounds [] (edges_in self.old.edges) (edges_in self.new.edges)) }
     {
         self.check_usable()?;
         let arranged = self.content.arrange(store);

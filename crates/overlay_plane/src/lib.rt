@@ -29,6 +29,5 @@ pub mod region;
 pub mod selected;
 pub mod shapes_alone;
 pub mod side;
-pub mod snapping;
 pub mod spoke;
 pub mod thinning;
