@@ -28,6 +28,7 @@ pub mod ChainWalks
 pub mod Chains
 pub mod ClosedParts
 pub mod ClosedWalks
+pub mod CommonLevels
 pub mod CommonPoints
 pub mod ContourNumbers
 pub mod ContourSteps
@@ -96,6 +97,7 @@ pub mod LongSteps
 pub mod LowerEdges
 pub mod MarkedLinks
 pub mod MeetingLists
+pub mod MeetingPieces
 pub mod MeetingsAlong
 pub mod MeetingsOf
 pub mod MetInBox
@@ -132,6 +134,7 @@ pub mod PartsOfLists
 pub mod PastOrbits
 pub mod PieceCounts
 pub mod Pigeonhole
+pub mod PixelNumbers
 pub mod PlacedHoles
 pub mod Placements
 pub mod PlacesOfContours
@@ -145,8 +148,8 @@ pub mod RoledShapes
 pub mod RoledWalks
 pub mod RoundNodes
 pub mod RoundWalks
-pub mod RoundedHalves
 pub mod RoundedAlong
+pub mod RoundedHalves
 pub mod SameOrder
 pub mod SameSector
 pub mod SameWay
@@ -187,6 +190,7 @@ pub mod ThreeTurns
 pub mod TiedStarts
 pub mod Totals
 pub mod TurnOrder
+pub mod TurningEnds
 pub mod Turning
 pub mod Under
 pub mod WalkedEdges
