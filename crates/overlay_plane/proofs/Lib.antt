@@ -26,6 +26,7 @@ pub mod ChainMarks
 pub mod ChainStops
 pub mod ChainWalks
 pub mod Chains
+pub mod ChangedSides
 pub mod ClosedParts
 pub mod ClosedWalks
 pub mod CommonLevels
@@ -94,6 +95,7 @@ pub mod LinkCounts
 pub mod LinksKept
 pub mod ListInduction
 pub mod LongSteps
+pub mod LostSigns
 pub mod LowerEdges
 pub mod MarkedLinks
 pub mod MeetingLists
@@ -103,6 +105,7 @@ pub mod MeetingsOf
 pub mod MetInBox
 pub mod Mixtures
 pub mod MovedPoints
+pub mod MovedSegments
 pub mod NearAbove
 pub mod NearAbscissas
 pub mod NearBetween
@@ -131,6 +134,7 @@ pub mod OrderLaws
 pub mod OwnContours
 pub mod OwnGroups
 pub mod PartsOfLists
+pub mod PassedPixels
 pub mod PastOrbits
 pub mod PieceCounts
 pub mod Pigeonhole
@@ -190,13 +194,13 @@ pub mod ThreeTurns
 pub mod TiedStarts
 pub mod Totals
 pub mod TurnOrder
-pub mod TurningEnds
 pub mod Turning
 pub mod Under
 pub mod WalkedEdges
 pub mod Walks
 pub mod WalksApart
 pub mod WalksOfCuts
+pub mod WaysToEnds
 pub mod WeighedLinks
 pub mod WhereEdgesStart
 pub mod WholeChains

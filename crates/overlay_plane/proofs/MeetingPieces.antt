@@ -1,93 +1,28 @@
--- Two pieces whose steps meet: the pieces meet too, or one passes through the pixel of an end of the other step. The ends
--- are brought to one denominator and rounded in x, then in y.
+-- Two pieces whose steps meet: the pieces meet too, or one passes through the pixel of an end of the other step. From
+-- the steps back to the pieces first y is what it was before rounding, then x.
 use Rattle.std.proofs.Common.{◌≡◌, ◌⊎◌, inl, inr, ⊎_elim, ℤ, pos, ◌+ℤ◌, ◌-ℤ◌, ◌*ℤ◌, ◌<ℤ◌, sym, ap, ap₂, ◌∙◌}
-use Rattle.std.proofs.Common.{subst}
-use Rattle.overlay_geom.specs.Plane.{Point, PlanePoint, SamePlace, in_plane}
+use Rattle.overlay_geom.specs.Plane.{PlanePoint, SamePlace, in_plane}
 use Rattle.overlay_geom.specs.Rounding.{nearest, nearest_point}
 use Rattle.overlay_geom.proofs.Identities.{solve, number, ◌⊕◌, ◌⊗◌, ◌⊖◌, ◌≗◌}
 use Rattle.overlay_geom.proofs.Signs.{linear, mul-pos, mul-nonneg}
-use Rattle.overlay_plane.specs.PixelSteps.{Between, mixed, PiecesMeet, PassesPixel, StepsMeet}
-use Rattle.overlay_plane.proofs.CommonLevels.{OfEnds, excess, HaveOneLevel}
-use Rattle.overlay_plane.proofs.PixelNumbers.{RoundsTo, AreWeights, rounds_to_nearest, nearest_of_rounds}
-use Rattle.overlay_plane.proofs.PixelNumbers.{mixtures_round, weighed_rounds, changed_order_rounds}
-use Rattle.overlay_plane.proofs.TurningEnds.{Turns, SomeEndTurns, meet_or_turn}
+use Rattle.overlay_plane.specs.PixelSteps.{Between, mixed, PiecesMeet, PassesPixel, MeetingStepsPassPixels}
+use Rattle.overlay_plane.proofs.ChangedSides.{SomeEndChangesSides}
+use Rattle.overlay_plane.proofs.CommonLevels.{OfEnds, excess, HaveOneLevel, Meet, first_weights, second_weights}
+use Rattle.overlay_plane.proofs.MovedSegments.{meet_or_change_sides}
+use Rattle.overlay_plane.proofs.PassedPixels.{Factor, size, part, place, passed_as_x_moves, passed_as_y_moves}
 
--- what a point's coordinates are multiplied by, to stand over this denominator
-record Factor (whole : ℤ) (p : PlanePoint) : Type 0 where
-  by : ℤ
-  positive : pos 0 <ℤ by
-  is : p.d *ℤ by ≡ whole
-
-module _ (whole : ℤ) (some : pos 0 <ℤ whole) where
-  -- each coordinate rounds to the nearest number over it too
-  at_x : (p : PlanePoint) (f : Factor whole p) → RoundsTo (nearest p.x p.d) (f.by *ℤ p.x) whole
-  at_x p f = rounds_to_nearest p.x p.d f.by whole p.positive f.positive f.is
-
-  at_y : (p : PlanePoint) (f : Factor whole p) → RoundsTo (nearest p.y p.d) (f.by *ℤ p.y) whole
-  at_y p f = rounds_to_nearest p.y p.d f.by whole p.positive f.positive f.is
-
-  module _ (p q : PlanePoint) (f : Factor whole p) (g : Factor whole q) (m n : ℤ) (weights : AreWeights m n) where
-    -- the denominator of the mixture
-    size : (m *ℤ f.by) *ℤ p.d +ℤ (n *ℤ g.by) *ℤ q.d ≡ (m +ℤ n) *ℤ whole
-    size = solve 6 (λ m n a b c d. (m ⊗ a) ⊗ b ⊕ (n ⊗ c) ⊗ d ≗ m ⊗ (b ⊗ a) ⊕ n ⊗ (d ⊗ c)) tt m n f.by p.d g.by q.d
-        ∙ (λ i. m *ℤ f.is i +ℤ n *ℤ g.is i)
-        ∙ solve 3 (λ m n w. m ⊗ w ⊕ n ⊗ w ≗ (m ⊕ n) ⊗ w) tt m n whole
-
-    size-positive : pos 0 <ℤ ((m +ℤ n) *ℤ whole)
-    size-positive = mul-pos (m +ℤ n) whole weights.some some
-
-    -- the mixture by these weights
-    abbrev part : Between p q
-    part = record {
-      m = m *ℤ f.by;
-      n = n *ℤ g.by;
-      m_nonneg = let positive = f.positive in mul-nonneg m f.by weights.first (omega linear);
-      n_nonneg = let positive = g.positive in mul-nonneg n g.by weights.second (omega linear);
-      some = let is = size in let positive = size-positive in omega linear;
-    }
-
-    -- a coordinate of it
-    place : (x y : ℤ) → (m *ℤ f.by) *ℤ x +ℤ (n *ℤ g.by) *ℤ y ≡ m *ℤ (f.by *ℤ x) +ℤ n *ℤ (g.by *ℤ y)
-    place = solve 6 (λ m n a b x y. (m ⊗ a) ⊗ x ⊕ (n ⊗ b) ⊗ y ≗ m ⊗ (a ⊗ x) ⊕ n ⊗ (b ⊗ y)) tt m n f.by g.by
-
-    -- where both coordinates round to those of a whole point, the piece passes through its pixel
-    passes : (v : Point) → RoundsTo v.x (m *ℤ (f.by *ℤ p.x) +ℤ n *ℤ (g.by *ℤ q.x)) ((m +ℤ n) *ℤ whole) →
-        RoundsTo v.y (m *ℤ (f.by *ℤ p.y) +ℤ n *ℤ (g.by *ℤ q.y)) ((m +ℤ n) *ℤ whole) → PassesPixel p q v
-    passes v x y = (
-      part,
-      ap₂ (λ x y. record { x = x; y = y })
-          (ap₂ nearest (place p.x q.x) size ∙ nearest_of_rounds v.x _ _ size-positive x)
-          (ap₂ nearest (place p.y q.y) size ∙ nearest_of_rounds v.y _ _ size-positive y),
-    )
-
-  module _ (e p q : PlanePoint) (h : Factor whole e) (f : Factor whole p) (g : Factor whole q) where
-    -- an end that turns as x is rounded
-    turns_in_x : Turns (h.by *ℤ e.y) (f.by *ℤ p.y) (g.by *ℤ q.y) (h.by *ℤ e.x) (f.by *ℤ p.x) (g.by *ℤ q.x)
-        (nearest e.x e.d) (nearest p.x p.d) (nearest q.x q.d) → PassesPixel p q (nearest_point e)
-    turns_in_x t = passes p q f g t.m t.n t.weights (nearest_point e)
-        (changed_order_rounds whole t.m t.n (h.by *ℤ e.x) (f.by *ℤ p.x) (g.by *ℤ q.x) (nearest e.x e.d)
-        (nearest p.x p.d) (nearest q.x q.d) some t.weights (at_x e h) (at_x p f) (at_x q g) t.changes)
-        (subst (λ z. RoundsTo (nearest e.y e.d) z ((t.m +ℤ t.n) *ℤ whole)) t.level
-        (weighed_rounds (t.m +ℤ t.n) (nearest e.y e.d) (h.by *ℤ e.y) whole t.weights.some (at_y e h)))
-
-    -- and one that turns as y is, x being rounded
-    turns_in_y : Turns (nearest e.x e.d) (nearest p.x p.d) (nearest q.x q.d) (h.by *ℤ e.y) (f.by *ℤ p.y) (g.by *ℤ q.y)
-        (nearest e.y e.d) (nearest p.y p.d) (nearest q.y q.d) → PassesPixel p q (nearest_point e)
-    turns_in_y t = passes p q f g t.m t.n t.weights (nearest_point e)
-        (mixtures_round whole t.m t.n (f.by *ℤ p.x) (g.by *ℤ q.x) (nearest p.x p.d) (nearest q.x q.d) t.weights
-        (at_x p f) (at_x q g) (nearest e.x e.d) some t.level)
-        (changed_order_rounds whole t.m t.n (h.by *ℤ e.y) (f.by *ℤ p.y) (g.by *ℤ q.y) (nearest e.y e.d)
-        (nearest p.y p.d) (nearest q.y q.d) some t.weights (at_y e h) (at_y p f) (at_y q g) t.changes)
-
+-- the ends of the two pieces
 module _ (p q k l : PlanePoint) where
   -- the one denominator
   abbrev whole : ℤ
   whole = (p.d *ℤ q.d) *ℤ (k.d *ℤ l.d)
 
+  -- it is positive
   whole-positive : pos 0 <ℤ whole
   whole-positive = mul-pos (p.d *ℤ q.d) (k.d *ℤ l.d) (mul-pos p.d q.d p.positive q.positive)
       (mul-pos k.d l.d k.positive l.positive)
 
+  -- the factors that bring the ends to it
   abbrev of_p : Factor whole p
   of_p = record {
     by = q.d *ℤ (k.d *ℤ l.d);
@@ -135,40 +70,35 @@ module _ (p q k l : PlanePoint) where
   SomePixelPassed = (PassesPixel p q (nearest_point k) ⊎ PassesPixel p q (nearest_point l))
       ⊎ (PassesPixel k l (nearest_point p) ⊎ PassesPixel k l (nearest_point q))
 
-  passed_in_x : SomeEndTurns ys xs whole_xs → SomePixelPassed
-  passed_in_x (inl (inl t)) = inl (inl (turns_in_x whole whole-positive k p q of_k of_p of_q t))
-  passed_in_x (inl (inr t)) = inl (inr (turns_in_x whole whole-positive l p q of_l of_p of_q t))
-  passed_in_x (inr (inl t)) = inr (inl (turns_in_x whole whole-positive p k l of_p of_k of_l t))
-  passed_in_x (inr (inr t)) = inr (inr (turns_in_x whole whole-positive q k l of_q of_k of_l t))
+  -- where an end changes sides as x is rounded
+  passed_in_x : SomeEndChangesSides ys xs whole_xs → SomePixelPassed
+  passed_in_x (inl (inl t)) = inl (inl (passed_as_x_moves whole whole-positive k p q of_k of_p of_q t))
+  passed_in_x (inl (inr t)) = inl (inr (passed_as_x_moves whole whole-positive l p q of_l of_p of_q t))
+  passed_in_x (inr (inl t)) = inr (inl (passed_as_x_moves whole whole-positive p k l of_p of_k of_l t))
+  passed_in_x (inr (inr t)) = inr (inr (passed_as_x_moves whole whole-positive q k l of_q of_k of_l t))
 
-  passed_in_y : SomeEndTurns whole_xs ys whole_ys → SomePixelPassed
-  passed_in_y (inl (inl t)) = inl (inl (turns_in_y whole whole-positive k p q of_k of_p of_q t))
-  passed_in_y (inl (inr t)) = inl (inr (turns_in_y whole whole-positive l p q of_l of_p of_q t))
-  passed_in_y (inr (inl t)) = inr (inl (turns_in_y whole whole-positive p k l of_p of_k of_l t))
-  passed_in_y (inr (inr t)) = inr (inr (turns_in_y whole whole-positive q k l of_q of_k of_l t))
+  -- or as y is
+  passed_in_y : SomeEndChangesSides whole_xs ys whole_ys → SomePixelPassed
+  passed_in_y (inl (inl t)) = inl (inl (passed_as_y_moves whole whole-positive k p q of_k of_p of_q t))
+  passed_in_y (inl (inr t)) = inl (inr (passed_as_y_moves whole whole-positive l p q of_l of_p of_q t))
+  passed_in_y (inr (inl t)) = inr (inl (passed_as_y_moves whole whole-positive p k l of_p of_k of_l t))
+  passed_in_y (inr (inr t)) = inr (inr (passed_as_y_moves whole whole-positive q k l of_q of_k of_l t))
 
   -- where the ends, weighed, have one x and one y
   module _ (u : OfEnds) (have : HaveOneLevel ys u) (zero : excess xs u ≡ pos 0) where
-    first_weights : AreWeights u.p u.q
-    first_weights = record { first = have.p; second = have.q; some = have.some }
-
-    second_weights : AreWeights u.k u.l
-    second_weights = record {
-      first = have.k;
-      second = have.l;
-      some = let some = have.some in let even = have.even in omega linear;
-    }
-
+    -- the common point on the first piece
     abbrev first : Between p q
-    first = part whole whole-positive p q of_p of_q u.p u.q first_weights
+    first = part whole whole-positive p q of_p of_q u.p u.q (first_weights ys u have)
 
+    -- and on the second
     abbrev second : Between k l
-    second = part whole whole-positive k l of_k of_l u.k u.l second_weights
+    second = part whole whole-positive k l of_k of_l u.k u.l (second_weights ys u have)
 
-    -- the two points have one denominator
+    -- both have one denominator
     sizes : second.m *ℤ k.d +ℤ second.n *ℤ l.d ≡ first.m *ℤ p.d +ℤ first.n *ℤ q.d
-    sizes = size whole whole-positive k l of_k of_l u.k u.l second_weights ∙ ap (λ t. t *ℤ whole) (sym have.even)
-        ∙ sym (size whole whole-positive p q of_p of_q u.p u.q first_weights)
+    sizes = size whole whole-positive k l of_k of_l u.k u.l (second_weights ys u have)
+        ∙ ap (λ t. t *ℤ whole) (sym have.even)
+        ∙ sym (size whole whole-positive p q of_p of_q u.p u.q (first_weights ys u have))
 
     -- and one place, by each coordinate
     same : (xp xq xk xl : ℤ) → u.p *ℤ (of_p.by *ℤ xp) +ℤ u.q *ℤ (of_q.by *ℤ xq) ≡
@@ -176,8 +106,8 @@ module _ (p q k l : PlanePoint) where
         (first.m *ℤ xp +ℤ first.n *ℤ xq) *ℤ (second.m *ℤ k.d +ℤ second.n *ℤ l.d) ≡
         (second.m *ℤ xk +ℤ second.n *ℤ xl) *ℤ (first.m *ℤ p.d +ℤ first.n *ℤ q.d)
     same xp xq xk xl is = ap₂ (λ x d. x *ℤ d)
-        (place whole whole-positive p q of_p of_q u.p u.q first_weights xp xq ∙ is
-        ∙ sym (place whole whole-positive k l of_k of_l u.k u.l second_weights xk xl)) sizes
+        (place whole whole-positive p q of_p of_q u.p u.q (first_weights ys u have) xp xq ∙ is
+        ∙ sym (place whole whole-positive k l of_k of_l u.k u.l (second_weights ys u have) xk xl)) sizes
 
     -- so the pieces meet
     pieces_meet : PiecesMeet p q k l
@@ -186,14 +116,15 @@ module _ (p q k l : PlanePoint) where
       second,
       (
         same p.x q.x k.x l.x (omega linear),
-        same p.y q.y k.y l.y
-            (let level = have.level in omega linear),
+        same p.y q.y k.y l.y (let level = have.level in omega linear),
       ),
     )
 
-  -- where the steps meet, their ends, weighed, have one x and one y
+  -- where the steps meet in a point that b and c mix
   module _ (b : Between (in_plane (nearest_point p)) (in_plane (nearest_point q)))
-      (c : Between (in_plane (nearest_point k)) (in_plane (nearest_point l))) (one : SamePlace (mixed b) (mixed c)) where
+      (c : Between (in_plane (nearest_point k)) (in_plane (nearest_point l)))
+      (one : SamePlace (mixed b) (mixed c)) where
+    -- its weights over one sum
     abbrev at : OfEnds
     at = record {
       p = b.m *ℤ (mixed c).d;
@@ -210,6 +141,7 @@ module _ (p q k l : PlanePoint) where
         (bm ⊗ wp ⊕ bn ⊗ wq) ⊗ cd ⊖ (cm ⊗ wk ⊕ cn ⊗ wl) ⊗ bd) tt
         w.p w.q w.k w.l b.m b.n c.m c.n (mixed b).d (mixed c).d
 
+    -- so at them the steps have one x
     one_x : HaveOneLevel whole_xs at
     one_x = record {
       p = mul-nonneg b.m (mixed c).d b.m_nonneg (let some = c.some in omega linear);
@@ -228,17 +160,16 @@ module _ (p q k l : PlanePoint) where
       level = let is = weighed whole_xs in let same = one.0 in omega linear;
     }
 
-    -- back from there: first y as it was, then x
+    -- so with y as it was they meet or an end changes sides, and where they meet, so with x as it was
     meet_or_pass : PiecesMeet p q k l ⊎ SomePixelPassed
-    meet_or_pass = ⊎_elim before_y (λ turn. inr (passed_in_y turn))
-        (meet_or_turn whole_xs ys whole_ys at one_x
+    meet_or_pass = ⊎_elim before_y (λ change. inr (passed_in_y change))
+        (meet_or_change_sides whole_xs ys whole_ys at one_x
         (let is = weighed whole_ys in let same = one.1 in omega linear))
       where
-        before_y : (u : OfEnds) × HaveOneLevel whole_xs u × (excess ys u ≡ pos 0) →
-            PiecesMeet p q k l ⊎ SomePixelPassed
+        before_y : Meet whole_xs ys → PiecesMeet p q k l ⊎ SomePixelPassed
         before_y (u, have, zero) = ⊎_elim (λ meet. inl (pieces_meet meet.0 meet.1 meet.2))
-            (λ turn. inr (passed_in_x turn))
-            (meet_or_turn ys xs whole_xs u (record {
+            (λ change. inr (passed_in_x change))
+            (meet_or_change_sides ys xs whole_xs u (record {
               p = have.p;
               q = have.q;
               k = have.k;
@@ -249,7 +180,5 @@ module _ (p q k l : PlanePoint) where
             }) have.level)
 
 -- where the steps of two pieces meet, the pieces meet, or one passes through the pixel of an end of the other step
-pub meeting_steps_pass_pixels : (p q k l : PlanePoint) → StepsMeet p q k l → PiecesMeet p q k l ⊎
-    ((PassesPixel p q (nearest_point k) ⊎ PassesPixel p q (nearest_point l))
-    ⊎ (PassesPixel k l (nearest_point p) ⊎ PassesPixel k l (nearest_point q)))
+pub meeting_steps_pass_pixels : MeetingStepsPassPixels
 meeting_steps_pass_pixels p q k l (b, c, one) = meet_or_pass p q k l b c one

@@ -90,7 +90,7 @@ module _ (d m n x1 x2 v1 v2 : ℤ) (weights : AreWeights m n) (at1 : RoundsTo v1
       let some = weights.some in
       omega linear
 
-  -- where the mixture of the whole numbers is at least a whole number, twice the mixture is no less than its lower bound
+  -- where the mixture of the whole numbers is at least v, twice the mixture is no less than the lower bound of v
   at_least : (v : ℤ) → pos 0 <ℤ d → ((m +ℤ n) *ℤ v) ≤ℤ (m *ℤ v1 +ℤ n *ℤ v2) →
       ((pos 2 *ℤ v -ℤ pos 1) *ℤ ((m +ℤ n) *ℤ d)) ≤ℤ (pos 2 *ℤ (m *ℤ x1 +ℤ n *ℤ x2))
   at_least v some le =
@@ -102,7 +102,7 @@ module _ (d m n x1 x2 v1 v2 : ℤ) (weights : AreWeights m n) (at1 : RoundsTo v1
       d ⊗ ((m ⊕ n) ⊗ v) ⊕ d ⊗ ((m ⊕ n) ⊗ v) ⊖ (m ⊕ n) ⊗ d) tt d m n v in
       omega linear
 
-  -- and less than its upper bound where it is at most that
+  -- and where it is at most v, less than the upper one
   at_most : (v : ℤ) → pos 0 <ℤ d → (m *ℤ v1 +ℤ n *ℤ v2) ≤ℤ ((m +ℤ n) *ℤ v) →
       (pos 2 *ℤ (m *ℤ x1 +ℤ n *ℤ x2)) <ℤ ((pos 2 *ℤ v +ℤ pos 1) *ℤ ((m +ℤ n) *ℤ d))
   at_most v some le =
