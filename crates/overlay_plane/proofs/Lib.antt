@@ -106,6 +106,7 @@ pub mod NearAbscissas
 pub mod NearBetween
 pub mod NearChains
 pub mod Nearest
+pub mod Neighbours
 pub mod NextAnchors
 pub mod NextOfHoles
 pub mod NextSteps
@@ -132,6 +133,7 @@ pub mod PartsOfLists
 pub mod PastOrbits
 pub mod PieceCounts
 pub mod Pigeonhole
+pub mod PlaceOrder
 pub mod PlacedHoles
 pub mod Placements
 pub mod PlacesOfContours
@@ -145,8 +147,9 @@ pub mod RoledShapes
 pub mod RoledWalks
 pub mod RoundNodes
 pub mod RoundWalks
-pub mod RoundedHalves
 pub mod RoundedAlong
+pub mod RoundedHalves
+pub mod RoundedMixtures
 pub mod SameOrder
 pub mod SameSector
 pub mod SameWay
@@ -168,6 +171,9 @@ pub mod ShuffledSteps
 pub mod Sides
 pub mod SingleEntries
 pub mod SmallerPoints
+pub mod SnapPieces
+pub mod SnapSteps
+pub mod SnapsSettle
 pub mod SortedStarts
 pub mod SortedSteps
 pub mod SplitLists
@@ -176,6 +182,7 @@ pub mod SpokeSigns
 pub mod SpokeTurns
 pub mod SpokeWindings
 pub mod StartWindings
+pub mod StepPoints
 pub mod StepTotals
 pub mod StepsAlong
 pub mod StraightOn
