@@ -28,6 +28,7 @@ pub mod ChainWalks
 pub mod Chains
 pub mod ClosedParts
 pub mod ClosedWalks
+pub mod CommonLevels
 pub mod CommonPoints
 pub mod ContourNumbers
 pub mod ContourSteps
@@ -96,6 +97,7 @@ pub mod LongSteps
 pub mod LowerEdges
 pub mod MarkedLinks
 pub mod MeetingLists
+pub mod MeetingPieces
 pub mod MeetingsAlong
 pub mod MeetingsOf
 pub mod MetInBox
@@ -133,6 +135,7 @@ pub mod PartsOfLists
 pub mod PastOrbits
 pub mod PieceCounts
 pub mod Pigeonhole
+pub mod PixelNumbers
 pub mod PlaceOrder
 pub mod PlacedHoles
 pub mod Placements
@@ -195,6 +198,7 @@ pub mod TiedStarts
 pub mod Totals
 pub mod TurnOrder
 pub mod Turning
+pub mod TurningEnds
 pub mod Under
 pub mod WalkedEdges
 pub mod Walks
