@@ -34,7 +34,7 @@ use Rattle.overlay_plane.proofs.WholeOnEdges.{forward_from_test}
 -- ---- an edge and itself
 
 -- an edge lies along itself
-along_itself : (e : Edge) → IsAlong e e
+pub along_itself : (e : Edge) → IsAlong e e
 along_itself e = (
   solve 4 (λ ax ay bx by. crossE ax ay bx by ax ay ≗ number (pos 0)) tt e.a.x e.a.y e.b.x e.b.y,
   solve 4 (λ ax ay bx by. crossE ax ay bx by bx by ≗ number (pos 0)) tt e.a.x e.a.y e.b.x e.b.y,

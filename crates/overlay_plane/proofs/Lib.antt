@@ -112,6 +112,7 @@ pub mod NearAbscissas
 pub mod NearBetween
 pub mod NearChains
 pub mod Nearest
+pub mod Neighbours
 pub mod NextAnchors
 pub mod NextOfHoles
 pub mod NextSteps
@@ -140,6 +141,7 @@ pub mod PastOrbits
 pub mod PieceCounts
 pub mod Pigeonhole
 pub mod PixelNumbers
+pub mod PlaceOrder
 pub mod PlacedHoles
 pub mod Placements
 pub mod PlacesOfContours
@@ -155,6 +157,7 @@ pub mod RoundNodes
 pub mod RoundWalks
 pub mod RoundedAlong
 pub mod RoundedHalves
+pub mod RoundedMixtures
 pub mod SameOrder
 pub mod SameSector
 pub mod SameWay
@@ -176,6 +179,9 @@ pub mod ShuffledSteps
 pub mod Sides
 pub mod SingleEntries
 pub mod SmallerPoints
+pub mod SnapPieces
+pub mod SnapSteps
+pub mod SnapsSettle
 pub mod SortedStarts
 pub mod SortedSteps
 pub mod SplitLists
@@ -184,6 +190,7 @@ pub mod SpokeSigns
 pub mod SpokeTurns
 pub mod SpokeWindings
 pub mod StartWindings
+pub mod StepPoints
 pub mod StepTotals
 pub mod StepsAlong
 pub mod StraightOn
@@ -196,6 +203,7 @@ pub mod TiedStarts
 pub mod Totals
 pub mod TurnOrder
 pub mod Turning
+pub mod TurningEnds
 pub mod Under
 pub mod WalkedEdges
 pub mod Walks
