@@ -99,6 +99,7 @@ pub mod MeetingLists
 pub mod MeetingsAlong
 pub mod MeetingsOf
 pub mod MetInBox
+pub mod MetPixels
 pub mod Mixtures
 pub mod MovedPoints
 pub mod NearAbove
@@ -132,6 +133,9 @@ pub mod PartsOfLists
 pub mod PastOrbits
 pub mod PieceCounts
 pub mod Pigeonhole
+pub mod PixelOffsets
+pub mod PixelPoints
+pub mod PixelTests
 pub mod PlacedHoles
 pub mod Placements
 pub mod PlacesOfContours

@@ -30,7 +30,8 @@ pub fn pixels_met_by_test()
     ensures { PixelsMetByTest }
 {}
 
-/// Merged edges that are not settled, cut through the computed hot points whose pixels they meet, are what a snap leaves.
+/// Merged edges that are not settled, cut through the computed hot points whose pixels they meet, are what a snap
+/// leaves.
 pub fn snapping_is_a_snap()
     ensures { SnappingIsASnap }
 {}
