@@ -74,6 +74,7 @@ pub mod HoleParents
 pub mod HolePlaces
 pub mod HoleWindings
 pub mod HolesInGroups
+pub mod HotPoints
 pub mod InOrderLists
 pub mod InnerPoints
 pub mod InsideGroups
@@ -172,6 +173,9 @@ pub mod ShuffledSteps
 pub mod Sides
 pub mod SingleEntries
 pub mod SmallerPoints
+pub mod SnapChains
+pub mod SnapLists
+pub mod SnappedEdges
 pub mod SortedStarts
 pub mod SortedSteps
 pub mod SplitLists

@@ -5,8 +5,8 @@ use Rattle.overlay_geom.proofs.AlongEdge.{sideE}
 use Rattle.overlay_geom.proofs.Cross.{crossE}
 use Rattle.overlay_geom.proofs.Signs.{linear, mul-lt, mul-le, lt_of_mul-lt, le_of_mul-le}
 
--- twice the cross product of the whole point (v, w), over the denominator d of a point (x / d, y / d): twice the point's
--- side, and by how much the two differ
+-- twice the cross product of the whole point (v, w), over the denominator d of a point (x / d, y / d): twice the
+-- point's side, and how far the two points are apart by the edge's width and rise
 pub offset_form : (ax ay bx by v w x y d : ℤ) →
     d *ℤ (pos 2 *ℤ ((bx -ℤ ax) *ℤ (w -ℤ ay) -ℤ (by -ℤ ay) *ℤ (v -ℤ ax))) ≡
     pos 2 *ℤ ((bx -ℤ ax) *ℤ (y -ℤ ay *ℤ d) -ℤ (by -ℤ ay) *ℤ (x -ℤ ax *ℤ d))
@@ -16,7 +16,7 @@ offset_form = solve 9 (λ ax ay bx by v w x y d.
     ((bx ⊖ ax) ⊗ (number (pos 2) ⊗ w ⊗ d ⊖ number (pos 2) ⊗ y) ⊕
     (by ⊖ ay) ⊗ (number (pos 2) ⊗ x ⊖ number (pos 2) ⊗ v ⊗ d))) tt
 
--- m times a number and n times another, where both numbers are more than -d and at most d
+-- the number c is, over d, m times s and n times t together: the bounds of s and t, which are -d and d, give its own
 module _ (m n s t d c : ℤ) (positive : pos 0 <ℤ d) (is : d *ℤ c ≡ m *ℤ s +ℤ n *ℤ t) where
   -- a bound over the denominator
   bound : d *ℤ (m +ℤ n) ≡ m *ℤ d +ℤ n *ℤ d
