@@ -77,6 +77,7 @@ pub mod HoleParents
 pub mod HolePlaces
 pub mod HoleWindings
 pub mod HolesInGroups
+pub mod HotPoints
 pub mod InOrderLists
 pub mod InnerPoints
 pub mod InsideGroups
@@ -104,6 +105,7 @@ pub mod MeetingPieces
 pub mod MeetingsAlong
 pub mod MeetingsOf
 pub mod MetInBox
+pub mod MetPixels
 pub mod Mixtures
 pub mod MovedPoints
 pub mod MovedSegments
@@ -141,6 +143,9 @@ pub mod PastOrbits
 pub mod PieceCounts
 pub mod Pigeonhole
 pub mod PixelNumbers
+pub mod PixelOffsets
+pub mod PixelPoints
+pub mod PixelTests
 pub mod PlaceOrder
 pub mod PlacedHoles
 pub mod Placements
@@ -179,8 +184,11 @@ pub mod ShuffledSteps
 pub mod Sides
 pub mod SingleEntries
 pub mod SmallerPoints
+pub mod SnapChains
+pub mod SnapLists
 pub mod SnapPieces
 pub mod SnapSteps
+pub mod SnappedEdges
 pub mod SnapsSettle
 pub mod SortedStarts
 pub mod SortedSteps

@@ -1,6 +1,6 @@
 -- The hot points whose pixels an edge meets, computed: by one cross product each.
-use Rattle.std.specs.Prelude.{◌≡◌, ◌⊎◌, ◌↔◌, Bool, true, cond, ◌&&◌, ◌||◌, ℤ, pos, ◌+ℤ◌, ◌-ℤ◌, ◌*ℤ◌, int_lt, int_le, List}
-use Rattle.std.specs.Prelude.{[], ◌∷◌, ◌++◌, filter, flat_map, nat_abs}
+use Rattle.std.specs.Prelude.{◌≡◌, ◌↔◌, Bool, true, cond, ◌&&◌, ◌||◌, ℤ, pos, ◌+ℤ◌, ◌-ℤ◌, ◌*ℤ◌, int_lt, int_le, List}
+use Rattle.std.specs.Prelude.{◌∷◌, filter, flat_map, nat_abs}
 use Rattle.overlay_geom.specs.Plane.{Point, PlanePoint, Edge, IsOn, point_eq, point_lt, cross_at}
 use Rattle.overlay_geom.specs.Edges.{CountedEdge, ends_of}
 use Rattle.overlay_geom.specs.Merged.{IsMerged}
