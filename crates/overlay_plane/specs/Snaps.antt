@@ -1,5 +1,5 @@
 -- Snap rounding: merged edges that are not settled are each led, once, through all hot points whose pixels they meet.
--- The pixel of a whole point holds the points of the plane to which no other whole point is nearer.
+-- The pixel of a whole point holds the points of the plane that round to it.
 use Rattle.std.specs.Prelude.{◌≡◌, ◌⊎◌, pos, ◌-ℤ◌, ◌*ℤ◌, ◌<ℤ◌, ◌≤ℤ◌, List, All, AllPairs, Any, Contains}
 use Rattle.overlay_geom.specs.Plane.{Point, PlanePoint, Step, Edge, IsOn}
 use Rattle.overlay_geom.specs.Edges.{CountedEdge, ends_of, subj_of, clip_of, winding_by}
