@@ -211,7 +211,6 @@ pub mod TiedStarts
 pub mod Totals
 pub mod TurnOrder
 pub mod Turning
-pub mod TurningEnds
 pub mod Under
 pub mod WalkedEdges
 pub mod Walks
