@@ -43,12 +43,12 @@ impl<I: IntNumber, C: EdgeCount, A: Allocator + Clone> Content<I, C, A> {
     /// What was arranged before is refused for want of memory alone; `NotSettled` does not come
     /// where edges meet only in whole points or overlap.
     pub fn arrange(&mut self, store: &mut C::Store) -> Result<bool, OverlayError>
-        ensures arranged { OnOk result (IsArranged most_rounds (edges_in self.old) (edges_in self.new)) }
-        ensures carried { OnOk result (IsArrangedCarrying C.merges C.splits C.reverses most_rounds self.old self.new) }
+        ensures arranged { OnOk result (IsArranged Rounds (edges_in self.old) (edges_in self.new)) }
+        ensures carried { OnOk result (IsArrangedCarrying C.merges C.splits C.reverses Rounds self.old self.new) }
         ensures cut { IfOk result (λ is_cut. (is_cut ≡ false)
             ↔ IsReachedBy Rounds [] (edges_in self.old) (edges_in self.new)) }
         ensures store { IsStoreReached C.writes store.old store.new }
-        ensures err { IfErr result (MayRefuseSplitting most_rounds (edges_in self.old)) }
+        ensures err { IfErr result (MayRefuseSplitting Rounds (edges_in self.old)) }
     {
         // (its contract says that the edges are in range, and weigh less than 2^31)
         self.note_limits();
@@ -59,7 +59,7 @@ impl<I: IntNumber, C: EdgeCount, A: Allocator + Clone> Content<I, C, A> {
     /// whether it cut them. If it is refused the content is left open.
     pub fn split(&mut self, rounds: u32, store: &mut C::Store) -> Result<bool, OverlayError>
         ensures split { OnOk result (IsSplit Rounds rounds (edges_in self.old) (edges_in self.new)) }
-        ensures carried { OnOk result (IsSplitCarrying C.merges C.splits C.reverses rounds self.old self.new) }
+        ensures carried { OnOk result (IsSplitCarrying C.merges C.splits C.reverses Rounds rounds self.old self.new) }
         ensures cut { IfOk result (λ is_cut. (is_cut ≡ false)
             ↔ IsReachedBy Rounds [] (edges_in self.old) (edges_in self.new)) }
         ensures store { IsStoreReached C.writes store.old store.new }
@@ -81,7 +81,7 @@ impl<I: IntNumber, C: EdgeCount, A: Allocator + Clone> Content<I, C, A> {
     ) -> Result<bool, OverlayError>
         requires { IfSome before (λ s. AreOpenIn (edges_in s.edges) s.is_open.items) }
         ensures split { OnOk result (IsSplit Rounds rounds (edges_in self.old) (edges_in self.new)) }
-        ensures carried { OnOk result (IsSplitCarrying C.merges C.splits C.reverses rounds self.old self.new) }
+        ensures carried { OnOk result (IsSplitCarrying C.merges C.splits C.reverses Rounds rounds self.old self.new) }
         ensures cut { IfOk result (λ is_cut. (is_cut ≡ false)
             ↔ IsReachedBy Rounds [] (edges_in self.old) (edges_in self.new)) }
         ensures store { IsStoreReached C.writes store.old store.new }
