@@ -21,6 +21,7 @@ use crate::settle::count_settled;
 use crate::strips::strips_of;
 use overlay_geom::error::OverlayError;
 use overlay_geom::number::IntNumber;
+use overlay_geom::solver::Solver;
 use std::alloc::Allocator;
 
 // How often edges are cut before they are given up as not settled: `most_rounds`.
@@ -42,7 +43,21 @@ impl<I: IntNumber, C: EdgeCount, A: Allocator + Clone> Content<I, C, A> {
     /// settled after 64 rounds, `TooManyEdges` where a round brings the weight to 2^31, `Memory`.
     /// What was arranged before is refused for want of memory alone; `NotSettled` does not come
     /// where edges meet only in whole points or overlap.
-    pub fn arrange(&mut self, store: &mut C::Store) -> Result<bool, OverlayError>
+    pub fn arrange(&mut self, solver: Solver, store: &mut C::Store) -> Result<bool, OverlayError>
+        ensures arranged { OnOk result (IsArranged solver (edges_in self.old) (edges_in self.new)) }
+        ensures carried { OnOk result (IsArrangedCarrying C.merges C.splits C.reverses solver self.old self.new) }
+        ensures cut { IfOk result (λ is_cut. (is_cut ≡ false)
+            ↔ IsReachedBy solver [] (edges_in self.old) (edges_in self.new)) }
+        ensures store { IsStoreReached C.writes store.old store.new }
+        ensures err { IfErr result (MayRefuseSplitting solver (edges_in self.old)) }
+    {
+        match solver {
+            Solver::Rounds => self.arrange_in_rounds(store),
+            Solver::Snapping => Err(OverlayError::Memory),
+        }
+    }
+
+    fn arrange_in_rounds(&mut self, store: &mut C::Store) -> Result<bool, OverlayError>
         ensures arranged { OnOk result (IsArranged Rounds (edges_in self.old) (edges_in self.new)) }
         ensures carried { OnOk result (IsArrangedCarrying C.merges C.splits C.reverses Rounds self.old self.new) }
         ensures cut { IfOk result (λ is_cut. (is_cut ≡ false)
