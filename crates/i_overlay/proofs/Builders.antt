@@ -4,7 +4,7 @@ use Rattle.std.specs.Prelude.{Result, Ok, Err, IfOk}
 use Rattle.overlay_geom.specs.Edges.{CountedEdge}
 use Rattle.overlay_arrange.specs.Options.{AreOptions}
 use Rattle.overlay_arrange.specs.declared.options.IntOverlayOptions.{IntOverlayOptions}
-use Rattle.overlay_builder.specs.declared.solver.Solver.{Solver}
+use Rattle.overlay_geom.specs.declared.solver.Solver.{Solver}
 use Rattle.i_overlay.specs.Builder.{Builder, empty_builder, IsNewBuilder}
 
 module _ {U : Type 0} where

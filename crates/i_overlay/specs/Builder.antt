@@ -1,7 +1,7 @@
 -- What contracts see of an overlay builder, and what its calls do to it.
 use Rattle.std.specs.Prelude.{◌≡◌, ℕ, Bool, false, List, [], Option, Some}
 use Rattle.overlay_geom.specs.Edges.{CountedEdge}
-use Rattle.overlay_builder.specs.declared.solver.Solver.{Solver}
+use Rattle.overlay_geom.specs.declared.solver.Solver.{Solver}
 use Rattle.overlay_builder.specs.Held.{Held}
 use Rattle.overlay_arrange.specs.Options.{AreOptions}
 use Rattle.overlay_arrange.specs.declared.options.IntOverlayOptions.{IntOverlayOptions}
