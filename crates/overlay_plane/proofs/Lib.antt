@@ -168,6 +168,8 @@ pub mod ShuffledSteps
 pub mod Sides
 pub mod SingleEntries
 pub mod SmallerPoints
+pub mod SnapChains
+pub mod SnapsNear
 pub mod SortedStarts
 pub mod SortedSteps
 pub mod SplitLists
@@ -193,9 +195,11 @@ pub mod WalkedEdges
 pub mod Walks
 pub mod WalksApart
 pub mod WalksOfCuts
+pub mod WayAlong
 pub mod WeighedLinks
 pub mod WhereEdgesStart
 pub mod WholeChains
 pub mod WholeCuts
 pub mod WholeOnEdges
 pub mod WholePlaces
+pub mod WithinHalf
