@@ -169,6 +169,7 @@ pub mod Sides
 pub mod SingleEntries
 pub mod SmallerPoints
 pub mod SnapChains
+pub mod SnapWindings
 pub mod SnapsNear
 pub mod SortedStarts
 pub mod SortedSteps
@@ -177,8 +178,10 @@ pub mod SpokeRays
 pub mod SpokeSigns
 pub mod SpokeTurns
 pub mod SpokeWindings
+pub mod SquareSides
 pub mod StartWindings
 pub mod StepTotals
+pub mod StepsAcross
 pub mod StepsAlong
 pub mod StraightOn
 pub mod Stretches

@@ -13,7 +13,7 @@ use Rattle.overlay_geom.proofs.Entries.{Contains-head, Contains-later, Contains-
 use Rattle.overlay_geom.proofs.Identities.{solve, number, ◌⊗◌, ◌≗◌}
 use Rattle.overlay_geom.proofs.Orders.{point_eq-same, same_point}
 use Rattle.overlay_geom.proofs.Rounded.{nearest-whole}
-use Rattle.overlay_plane.specs.Rounds.{Round, chain_of}
+use Rattle.overlay_plane.specs.Rounds.{Round, whole_cuts, chain_of}
 use Rattle.overlay_plane.proofs.Ends.{start_on, end_on}
 use Rattle.overlay_plane.proofs.LinksKept.{IsBetweenGood, good_through}
 
@@ -154,11 +154,14 @@ abbrev pub rounded_chain : Round → CountedEdge → List Step
 rounded_chain r e = steps_through (nearest_point (in_plane e.a)) (map nearest_point (places_after r e))
 
 module _ (r : Round) (rounding : (p : PlanePoint) → r.whole_at p ≡ nearest_point p) (e : CountedEdge) where
-  -- are the chain of the edge
+  -- the whole points nearest the places are those through which the chain of the edge leads
+  pub rounded_places : map nearest_point (places_after r e) ≡ whole_cuts r e ++ e.b ∷ []
+  rounded_places = map-append nearest_point (r.cuts e) (in_plane e.b ∷ [])
+      ∙ ap₂ (λ f v. map f (r.cuts e) ++ v ∷ []) (λ i p. sym (rounding p) i) (nearest_itself e.b)
+
+  -- so the steps are its chain
   pub rounded_chain-is : rounded_chain r e ≡ chain_of r e
-  rounded_chain-is = ap₂ steps_through (nearest_itself e.a)
-      (map-append nearest_point (r.cuts e) (in_plane e.b ∷ [])
-      ∙ ap₂ (λ f v. map f (r.cuts e) ++ v ∷ []) (λ i p. sym (rounding p) i) (nearest_itself e.b))
+  rounded_chain-is = ap₂ steps_through (nearest_itself e.a) rounded_places
 
   module _ (on : All (IsOn (ends_of e)) (r.cuts e)) where
     -- the places lie on the edge

@@ -5,7 +5,7 @@ use Rattle.overlay_geom.specs.Plane.{PlanePoint, SamePlace, in_plane}
 use Rattle.overlay_geom.specs.Rounding.{nearest_point, IsWithinHalf}
 use Rattle.overlay_geom.proofs.Identities.{solve, number, ◌⊕◌, ◌⊗◌, ◌⊖◌, ◌≗◌}
 use Rattle.overlay_geom.proofs.Rounded.{nearest-within}
-use Rattle.overlay_geom.proofs.Signs.{linear, mul-le, mul-zero, le_of_mul-le}
+use Rattle.overlay_geom.proofs.Signs.{linear, mul-lt, mul-le, mul-zero, le_of_mul-le}
 use Rattle.overlay_plane.specs.Snaps.{AreWithinHalf}
 use Rattle.overlay_plane.proofs.Mixtures.{mixture}
 
@@ -80,6 +80,21 @@ halves_mixed s t x d z c v w s_nonneg t_nonneg at_v at_w =
     (λ s t d c v w. s ⊗ (number (pos 2) ⊗ v ⊗ d) ⊕ t ⊗ (number (pos 2) ⊗ w ⊗ c) ≗ number (pos 2) ⊗
     ((s ⊗ d) ⊗ v ⊕ (t ⊗ c) ⊗ w)) tt s t d c v w in
     (omega linear, omega linear)
+
+-- and less than 1/2 below it, where both are so below, and the first counts
+pub less_than_half_mixed : (s t x d z c v w : ℤ) → pos 0 <ℤ s → pos 0 ≤ℤ t →
+    (pos 2 *ℤ x -ℤ d) <ℤ (pos 2 *ℤ v *ℤ d) → (pos 2 *ℤ z -ℤ c) <ℤ (pos 2 *ℤ w *ℤ c) →
+    (pos 2 *ℤ (s *ℤ x +ℤ t *ℤ z) -ℤ (s *ℤ d +ℤ t *ℤ c)) <ℤ (pos 2 *ℤ ((s *ℤ d) *ℤ v +ℤ (t *ℤ c) *ℤ w))
+less_than_half_mixed s t x d z c v w s_positive t_nonneg at_v at_w =
+    let low_v = mul-lt s (pos 2 *ℤ x -ℤ d) (pos 2 *ℤ v *ℤ d) s_positive at_v in
+    let low_w = mul-le t (pos 2 *ℤ z -ℤ c) (pos 2 *ℤ w *ℤ c) t_nonneg (omega linear) in
+    let low = solve 6
+    (λ s t x d z c. s ⊗ (number (pos 2) ⊗ x ⊖ d) ⊕ t ⊗ (number (pos 2) ⊗ z ⊖ c) ≗ number (pos 2) ⊗ (s ⊗ x ⊕ t ⊗ z) ⊖
+    (s ⊗ d ⊕ t ⊗ c)) tt s t x d z c in
+    let whole = solve 6
+    (λ s t d c v w. s ⊗ (number (pos 2) ⊗ v ⊗ d) ⊕ t ⊗ (number (pos 2) ⊗ w ⊗ c) ≗ number (pos 2) ⊗
+    ((s ⊗ d) ⊗ v ⊕ (t ⊗ c) ⊗ w)) tt s t d c v w in
+    omega linear
 
 -- the size of such a mixture of whole numbers
 pub size_mixed : (u v : ℤ) → u *ℤ pos 1 +ℤ v *ℤ pos 1 ≡ u +ℤ v
