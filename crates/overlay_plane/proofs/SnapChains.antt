@@ -1,12 +1,13 @@
--- The chain of a snapped edge: the steps through the whole points nearest points of the edge, of which two neighbours are
--- on either side of any point between.
-use Rattle.std.proofs.Common.{◌≡◌, ◌⊎◌, inl, inr, Bool, true, false, cond, pos, List, [], ◌∷◌, ◌++◌, map, Contains, refl}
-use Rattle.std.proofs.Common.{sym, ap, ap₂, ◌∙◌, subst}
+-- The chain of a snapped edge: the steps through the whole points nearest points of the edge. Each point of the edge
+-- lies between two neighbours of these.
+use Rattle.std.proofs.Common.{◌≡◌, ◌⊎◌, inl, inr, Bool, true, false, cond, pos, List, [], ◌∷◌, ◌++◌, map, Contains}
+use Rattle.std.proofs.Common.{refl, sym, ap, ap₂, ◌∙◌, subst}
 use Rattle.std.specs.List.{All}
 use Rattle.std.proofs.lemmas.List.{map-append}
 use Rattle.std.proofs.lemmas.List.Elements.{All-nil, All-cons, All-append, All-map, All-weaker, All-contains}
 use Rattle.std.proofs.lemmas.List.Elements.{Contains-append_right}
-use Rattle.overlay_geom.specs.Plane.{Point, PlanePoint, Step, Edge, IsOn, in_plane, point_eq, steps_between, steps_through}
+use Rattle.overlay_geom.specs.Plane.{Point, PlanePoint, Step, Edge, IsOn, in_plane, point_eq, steps_between}
+use Rattle.overlay_geom.specs.Plane.{steps_through}
 use Rattle.overlay_geom.specs.Edges.{CountedEdge, ends_of}
 use Rattle.overlay_geom.specs.Rounding.{nearest, nearest_point}
 use Rattle.overlay_geom.proofs.Entries.{Contains-head, Contains-later, Contains-cases}

@@ -21,8 +21,8 @@ use Rattle.overlay_plane.proofs.Ends.{start_on, end_on}
 use Rattle.overlay_plane.proofs.Entries.{all_of_entries, Contains-map}
 use Rattle.overlay_plane.proofs.LinksKept.{IsBetweenGood}
 use Rattle.overlay_plane.proofs.Mixtures.{mixture, mixture_on}
-use Rattle.overlay_plane.proofs.SnapChains.{nearest_itself, IsEndOfSome, ends_of_steps, Change, change_between, IsRounded}
-use Rattle.overlay_plane.proofs.SnapChains.{places, places_after, rounded_chain, rounded_chain-is, places_on}
+use Rattle.overlay_plane.proofs.SnapChains.{nearest_itself, IsEndOfSome, ends_of_steps, Change, change_between}
+use Rattle.overlay_plane.proofs.SnapChains.{IsRounded, places, places_after, rounded_chain, rounded_chain-is, places_on}
 use Rattle.overlay_plane.proofs.SnapChains.{chain_between_rounded}
 use Rattle.overlay_plane.proofs.WayAlong.{way, same_place_of_same_way, start_first, end_last, part_of_first}
 use Rattle.overlay_plane.proofs.WayAlong.{part_of_second, some_part, mixed_between}
@@ -130,8 +130,10 @@ near_step e p q on_p on_q h long on = (
 
     same : SamePlace (rounded_mixture s t p q some) h
     same = (
-      at_mean mean.of_a mean.of_b mean.both p.d q.d (nearest_point p).x (nearest_point q).x h.x h.d mean.sum mean.mean_x,
-      at_mean mean.of_a mean.of_b mean.both p.d q.d (nearest_point p).y (nearest_point q).y h.y h.d mean.sum mean.mean_y,
+      at_mean mean.of_a mean.of_b mean.both p.d q.d (nearest_point p).x (nearest_point q).x h.x h.d mean.sum
+          mean.mean_x,
+      at_mean mean.of_a mean.of_b mean.both p.d q.d (nearest_point p).y (nearest_point q).y h.y h.d mean.sum
+          mean.mean_y,
     )
 
 -- so for each step between whole points nearest points of the edge
@@ -216,6 +218,7 @@ module _ (r : Round) (rounding : (p : PlanePoint) → r.whole_at p ≡ nearest_p
     abbrev IsLater : PlanePoint → Type 0
     IsLater x = (way (ends_of e) m *ℤ x.d) <ℤ (way (ends_of e) x *ℤ m.d)
 
+    -- it does the one or the other
     no_later_or_later : (x : PlanePoint) → IsNoLater x ⊎ IsLater x
     no_later_or_later x = by_lt_z (way (ends_of e) m *ℤ x.d) (way (ends_of e) x *ℤ m.d) (λ later. inr later)
         (λ no_later. inl no_later)

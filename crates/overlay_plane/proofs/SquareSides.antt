@@ -4,7 +4,7 @@ use Rattle.std.proofs.Common.{◌≡◌, ◌⊎◌, inl, inr, ℤ, pos, ◌+ℤ�
 use Rattle.std.proofs.lemmas.Int.{by_lt_z}
 use Rattle.overlay_geom.specs.Plane.{PlanePoint, Edge, IsOn}
 use Rattle.overlay_geom.proofs.Identities.{solve, number, ◌⊕◌, ◌⊗◌, ◌⊖◌, ◌≗◌}
-use Rattle.overlay_geom.proofs.Signs.{linear, mul-pos, mul-lt, mul-le, pos_of_mul-pos}
+use Rattle.overlay_geom.proofs.Signs.{linear, mul-pos, mul-lt, mul-le, mul-zero, pos_of_mul-pos}
 use Rattle.overlay_plane.specs.Snaps.{MeetsSquareRound}
 use Rattle.overlay_plane.proofs.Mixtures.{mixture, mixture_on}
 
@@ -37,9 +37,9 @@ module _ (e : Edge) (p : PlanePoint) (misses : ¬ (MeetsSquareRound e p)) where
       })))
       (λ above. inr above))
 
-  -- no two points of the edge in the column lie on either side of it: one between them would be as high as p
-  module _ (q r : PlanePoint) (on_q : IsOn e q) (on_r : IsOn e r) (column_q : IsInColumn p q) (column_r : IsInColumn p r)
-      (below : IsBelowSquare p q) (above : IsAboveSquare p r) where
+  -- no two points of the edge in the column lie on different sides of it: one between them would be as high as p
+  module _ (q r : PlanePoint) (on_q : IsOn e q) (on_r : IsOn e r) (column_q : IsInColumn p q)
+      (column_r : IsInColumn p r) (below : IsBelowSquare p q) (above : IsAboveSquare p r) where
     -- how much higher r is than p
     abbrev rise : ℤ
     rise = r.y *ℤ p.d -ℤ p.y *ℤ r.d
@@ -48,6 +48,7 @@ module _ (e : Edge) (p : PlanePoint) (misses : ¬ (MeetsSquareRound e p)) where
     abbrev fall : ℤ
     fall = p.y *ℤ q.d -ℤ q.y *ℤ p.d
 
+    -- both are positive
     rise-positive : pos 0 <ℤ rise
     rise-positive =
         let size = mul-pos p.d r.d p.positive r.positive in
@@ -60,27 +61,25 @@ module _ (e : Edge) (p : PlanePoint) (misses : ¬ (MeetsSquareRound e p)) where
         let low : (p.d *ℤ q.d) <ℤ (pos 2 *ℤ fall) = below in
         pos_of_mul-pos (pos 2) fall (record { lt = tt }) (omega linear)
 
+    -- so q and r can be mixed, q as often as r is higher, and r as often as q is lower
     some : pos 0 <ℤ (rise *ℤ q.d +ℤ fall *ℤ r.d)
     some =
         let of_q = mul-pos rise q.d rise-positive q.positive in
         let of_r = mul-pos fall r.d fall-positive r.positive in
         omega linear
 
-    level : pos 2 *ℤ (p.y *ℤ (rise *ℤ q.d +ℤ fall *ℤ r.d) -ℤ (rise *ℤ q.y +ℤ fall *ℤ r.y) *ℤ p.d) ≡ pos 0
+    abbrev between : PlanePoint
+    between = mixture rise fall q r some
+
+    -- the mixture is as high as p
+    level : p.y *ℤ between.d ≡ between.y *ℤ p.d
     level = solve 6
-        (λ py pd qy qd ry rd. number (pos 2) ⊗
-        (py ⊗ ((ry ⊗ pd ⊖ py ⊗ rd) ⊗ qd ⊕ (py ⊗ qd ⊖ qy ⊗ pd) ⊗ rd) ⊖
-        ((ry ⊗ pd ⊖ py ⊗ rd) ⊗ qy ⊕ (py ⊗ qd ⊖ qy ⊗ pd) ⊗ ry) ⊗ pd) ≗ number (pos 0))
+        (λ py pd qy qd ry rd. py ⊗ ((ry ⊗ pd ⊖ py ⊗ rd) ⊗ qd ⊕ (py ⊗ qd ⊖ qy ⊗ pd) ⊗ rd) ≗
+        ((ry ⊗ pd ⊖ py ⊗ rd) ⊗ qy ⊕ (py ⊗ qd ⊖ qy ⊗ pd) ⊗ ry) ⊗ pd)
         tt p.y p.d q.y q.d r.y r.d
 
-    level_back : pos 2 *ℤ ((rise *ℤ q.y +ℤ fall *ℤ r.y) *ℤ p.d -ℤ p.y *ℤ (rise *ℤ q.d +ℤ fall *ℤ r.d)) ≡ pos 0
-    level_back = solve 6
-        (λ py pd qy qd ry rd. number (pos 2) ⊗
-        (((ry ⊗ pd ⊖ py ⊗ rd) ⊗ qy ⊕ (py ⊗ qd ⊖ qy ⊗ pd) ⊗ ry) ⊗ pd ⊖
-        py ⊗ ((ry ⊗ pd ⊖ py ⊗ rd) ⊗ qd ⊕ (py ⊗ qd ⊖ qy ⊗ pd) ⊗ rd)) ≗ number (pos 0))
-        tt p.y p.d q.y q.d r.y r.d
-
-    between_in_column : IsInColumn p (mixture rise fall q r some)
+    -- and in the column, as q and r are
+    between_in_column : IsInColumn p between
     between_in_column =
         let positive_rise = rise-positive in
         let positive_fall = fall-positive in
@@ -111,13 +110,15 @@ module _ (e : Edge) (p : PlanePoint) (misses : ¬ (MeetsSquareRound e p)) where
               omega linear;
         }
 
+    -- so it is in the square
     pub not_on_both_sides : ⊥
     not_on_both_sides =
-        let size = mul-pos p.d (rise *ℤ q.d +ℤ fall *ℤ r.d) p.positive some in
-        let from = level in
-        let to = level_back in
+        let size = mul-pos p.d between.d p.positive some in
+        let as_high = level in
+        let from = mul-zero (pos 2) (p.y *ℤ between.d -ℤ between.y *ℤ p.d) (omega linear) in
+        let to = mul-zero (pos 2) (between.y *ℤ p.d -ℤ p.y *ℤ between.d) (omega linear) in
         misses (record {
-          q = mixture rise fall q r some;
+          q = between;
           on = mixture_on e rise fall q r some (let positive = rise-positive in omega linear)
               (let positive = fall-positive in omega linear) on_q on_r;
           from_left = between_in_column.from_left;

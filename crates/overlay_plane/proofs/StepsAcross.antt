@@ -1,5 +1,5 @@
--- A step between the whole points nearest two points of an edge, which leads across the vertical line through a point of
--- the plane: a point of the edge in the column of the unit square round that point tells on which side the step passes.
+-- A step between the whole points nearest two points of an edge leads across the vertical line through a point of the
+-- plane: a point of the edge in the column of the unit square round it tells on which side of it the step passes.
 use Rattle.std.proofs.Common.{◌≡◌, ℤ, pos, ◌+ℤ◌, ◌-ℤ◌, ◌*ℤ◌, ◌<ℤ◌, ◌≤ℤ◌}
 use Rattle.overlay_geom.specs.Plane.{Point, PlanePoint, Edge, IsOn, side}
 use Rattle.overlay_geom.specs.Rounding.{nearest_point}
@@ -58,7 +58,7 @@ by_above y d n c z positive lt high =
 
 -- ---- one step across the point
 
--- e has a point in the column of the square round p which, below the square or above it, tells that f passes below p, or
+-- e has a point in the column of the square round p: where it is below the square, f passes below p, and where above,
 -- above
 pub record CrossesAt (e : Edge) (p : PlanePoint) (f : Edge) : Type 0 where
   pub at : PlanePoint
@@ -77,23 +77,29 @@ module _ (e : Edge) (p q r : PlanePoint) (on_q : IsOn e q) (on_r : IsOn e r)
   abbrev v : Point
   v = nearest_point r
 
-  -- how often q is taken for a point of e between q and r: as p's vertical line divides the step
+  -- the weight of q in a point of e between q and r: p's vertical line divides the step in these parts
   abbrev s : ℤ
   s = (v.x *ℤ p.d -ℤ p.x) *ℤ r.d
 
-  -- and how often r is
+  -- and that of r
   abbrev t : ℤ
   t = (p.x -ℤ u.x *ℤ p.d) *ℤ q.d
 
+  -- the denominator of that point
   abbrev size : ℤ
   size = s *ℤ q.d +ℤ t *ℤ r.d
 
+  -- the first is positive, and the second not negative
   s_positive : pos 0 <ℤ s
   s_positive = mul-pos (v.x *ℤ p.d -ℤ p.x) r.d (omega linear) r.positive
+
+  s_nonneg : pos 0 ≤ℤ s
+  s_nonneg = let positive = s_positive in omega linear
 
   t_nonneg : pos 0 ≤ℤ t
   t_nonneg = mul-nonneg (p.x -ℤ u.x *ℤ p.d) q.d (omega linear) (let positive = q.positive in omega linear)
 
+  -- so the denominator is positive
   some : pos 0 <ℤ size
   some =
       let first = mul-pos s q.d s_positive q.positive in
@@ -104,38 +110,36 @@ module _ (e : Edge) (p q r : PlanePoint) (on_q : IsOn e q) (on_r : IsOn e r)
   abbrev between : PlanePoint
   between = mixture s t q r some
 
-  -- two numbers taken so often, each over its denominator
-  abbrev taken : ℤ → ℤ → ℤ
-  taken y z = (s *ℤ q.d) *ℤ y +ℤ (t *ℤ r.d) *ℤ z
+  -- two numbers by these weights, each as often as the denominator says
+  abbrev weighed : ℤ → ℤ → ℤ
+  weighed y z = (s *ℤ q.d) *ℤ y +ℤ (t *ℤ r.d) *ℤ z
 
-  -- the step's point at the same parts is where p's vertical line crosses it
-  on_vertical : p.x *ℤ size ≡ taken u.x v.x *ℤ p.d
+  -- the step's point by the same weights is where p's vertical line crosses it
+  on_vertical : p.x *ℤ size ≡ weighed u.x v.x *ℤ p.d
   on_vertical = solve 6
       (λ x d u v c b. x ⊗ (((v ⊗ d ⊖ x) ⊗ b) ⊗ c ⊕ ((x ⊖ u ⊗ d) ⊗ c) ⊗ b) ≗
       ((((v ⊗ d ⊖ x) ⊗ b) ⊗ c) ⊗ u ⊕ (((x ⊖ u ⊗ d) ⊗ c) ⊗ b) ⊗ v) ⊗ d)
       tt p.x p.d u.x v.x q.d r.d
 
   -- and how much lower it is than p tells the side of p
-  lower_by_side : (p.d *ℤ (q.d *ℤ r.d)) *ℤ side (record { a = u; b = v }) p ≡ p.y *ℤ size -ℤ taken u.y v.y *ℤ p.d
+  lower_by_side : (p.d *ℤ (q.d *ℤ r.d)) *ℤ side (record { a = u; b = v }) p ≡ p.y *ℤ size -ℤ weighed u.y v.y *ℤ p.d
   lower_by_side = solve 9
       (λ x y d ux uy vx vy c b. (d ⊗ (c ⊗ b)) ⊗ sideE ux uy vx vy x y d ≗
       y ⊗ (((vx ⊗ d ⊖ x) ⊗ b) ⊗ c ⊕ ((x ⊖ ux ⊗ d) ⊗ c) ⊗ b) ⊖
       ((((vx ⊗ d ⊖ x) ⊗ b) ⊗ c) ⊗ uy ⊕ (((x ⊖ ux ⊗ d) ⊗ c) ⊗ b) ⊗ vy) ⊗ d)
       tt p.x p.y p.d u.x u.y v.x v.y q.d r.d
 
+  -- the factor of the side is positive
   scale-positive : pos 0 <ℤ (p.d *ℤ (q.d *ℤ r.d))
   scale-positive = mul-pos p.d (q.d *ℤ r.d) p.positive (mul-pos q.d r.d q.positive r.positive)
-
-  positive_s : pos 0 ≤ℤ s
-  positive_s = let positive = s_positive in omega linear
 
   -- so that point is in the column of the square round p
   between_in_column : IsInColumn p between
   between_in_column = record {
-    from_left = at_left p.x p.d size (taken u.x v.x) between.x p.positive on_vertical
-        (halves_mixed s t q.x q.d r.x r.d u.x v.x positive_s t_nonneg (nearest-within q.x q.d q.positive)
+    from_left = at_left p.x p.d size (weighed u.x v.x) between.x p.positive on_vertical
+        (halves_mixed s t q.x q.d r.x r.d u.x v.x s_nonneg t_nonneg (nearest-within q.x q.d q.positive)
         (nearest-within r.x r.d r.positive)).1;
-    to_right = at_right p.x p.d size (taken u.x v.x) between.x p.positive on_vertical
+    to_right = at_right p.x p.d size (weighed u.x v.x) between.x p.positive on_vertical
         (less_than_half_mixed s t q.x q.d r.x r.d u.x v.x s_positive t_nonneg (nearest-strict q.x q.d q.positive)
         (nearest-strict r.x r.d r.positive));
   }
@@ -143,8 +147,8 @@ module _ (e : Edge) (p q r : PlanePoint) (on_q : IsOn e q) (on_r : IsOn e r)
   -- where it is below the square, the step passes below p
   passes_below : IsBelowSquare p between → pos 0 <ℤ side (record { a = u; b = v }) p
   passes_below low =
-      let lower = by_below p.y p.d size (taken u.y v.y) between.y p.positive
-      (halves_mixed s t q.y q.d r.y r.d u.y v.y positive_s t_nonneg (nearest-within q.y q.d q.positive)
+      let lower = by_below p.y p.d size (weighed u.y v.y) between.y p.positive
+      (halves_mixed s t q.y q.d r.y r.d u.y v.y s_nonneg t_nonneg (nearest-within q.y q.d q.positive)
       (nearest-within r.y r.d r.positive)).1 low in
       let same = lower_by_side in
       pos_of_mul-pos (p.d *ℤ (q.d *ℤ r.d)) (side (record { a = u; b = v }) p) scale-positive (omega linear)
@@ -152,7 +156,7 @@ module _ (e : Edge) (p q r : PlanePoint) (on_q : IsOn e q) (on_r : IsOn e r)
   -- and where it is above the square, above p
   passes_above : IsAboveSquare p between → side (record { a = u; b = v }) p <ℤ pos 0
   passes_above high =
-      let higher = by_above p.y p.d size (taken u.y v.y) between.y p.positive
+      let higher = by_above p.y p.d size (weighed u.y v.y) between.y p.positive
       (less_than_half_mixed s t q.y q.d r.y r.d u.y v.y s_positive t_nonneg (nearest-strict q.y q.d q.positive)
       (nearest-strict r.y r.d r.positive)) high in
       let same = lower_by_side in
@@ -162,7 +166,7 @@ module _ (e : Edge) (p q r : PlanePoint) (on_q : IsOn e q) (on_r : IsOn e r)
   pub step_crosses : CrossesAt e p (record { a = u; b = v })
   step_crosses = record {
     at = between;
-    on = mixture_on e s t q r some positive_s t_nonneg on_q on_r;
+    on = mixture_on e s t q r some s_nonneg t_nonneg on_q on_r;
     column = between_in_column;
     below = passes_below;
     above = passes_above;

@@ -1,4 +1,4 @@
--- Points of the plane at most 1/2 apart in x and in y: in either order, wherever they are written down, and mixed alike.
+-- Points of the plane at most 1/2 apart in x and in y: in either order, over any denominators, and mixed alike.
 use lib.IntN.{*ℤ_comm}
 use Rattle.std.proofs.Common.{◌≡◌, ℤ, pos, ◌+ℤ◌, ◌-ℤ◌, ◌*ℤ◌, ◌<ℤ◌, ◌≤ℤ◌}
 use Rattle.overlay_geom.specs.Plane.{PlanePoint, SamePlace, in_plane}
