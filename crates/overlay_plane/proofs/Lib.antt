@@ -168,7 +168,7 @@ pub mod ShuffledSteps
 pub mod Sides
 pub mod SingleEntries
 pub mod SmallerPoints
-pub mod SnapChains
+pub mod SnapStops
 pub mod SnapWindings
 pub mod SnapsNear
 pub mod SortedStarts

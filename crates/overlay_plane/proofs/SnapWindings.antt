@@ -19,7 +19,7 @@ use Rattle.overlay_plane.proofs.CutOnLines.{WindsAsBefore, winding_by-cut}
 use Rattle.overlay_plane.proofs.Ends.{start_on, end_on}
 use Rattle.overlay_plane.proofs.PieceCounts.{subj_of_piece, clip_of_piece}
 use Rattle.overlay_plane.proofs.RoundedAlong.{start_up_to_rounded, rounded_up_to_end}
-use Rattle.overlay_plane.proofs.SnapChains.{nearest_itself, IsRounded, rounded_places, rounded_after}
+use Rattle.overlay_plane.proofs.SnapStops.{nearest_itself, IsRounded, rounded_places, rounded_after}
 use Rattle.overlay_plane.proofs.SquareSides.{IsBelowSquare, IsAboveSquare, below_or_above, not_on_both_sides}
 use Rattle.overlay_plane.proofs.StepsAcross.{CrossesAt, step_crosses}
 use Rattle.overlay_plane.proofs.Telescopes.{rises_along, last_from-append}

@@ -21,9 +21,9 @@ use Rattle.overlay_plane.proofs.Ends.{start_on, end_on}
 use Rattle.overlay_plane.proofs.Entries.{all_of_entries, Contains-map}
 use Rattle.overlay_plane.proofs.LinksKept.{IsBetweenGood}
 use Rattle.overlay_plane.proofs.Mixtures.{mixture, mixture_on}
-use Rattle.overlay_plane.proofs.SnapChains.{nearest_itself, IsEndOfSome, ends_of_steps, Change, change_between}
-use Rattle.overlay_plane.proofs.SnapChains.{IsRounded, places, places_after, rounded_chain, rounded_chain-is, places_on}
-use Rattle.overlay_plane.proofs.SnapChains.{chain_between_rounded}
+use Rattle.overlay_plane.proofs.SnapStops.{nearest_itself, IsEndOfSome, ends_of_steps, Change, change_between}
+use Rattle.overlay_plane.proofs.SnapStops.{IsRounded, places, places_after, rounded_chain, rounded_chain-is, places_on}
+use Rattle.overlay_plane.proofs.SnapStops.{chain_between_rounded}
 use Rattle.overlay_plane.proofs.WayAlong.{way, same_place_of_same_way, start_first, end_last, part_of_first}
 use Rattle.overlay_plane.proofs.WayAlong.{part_of_second, some_part, mixed_between}
 use Rattle.overlay_plane.proofs.WholeCuts.{forward_merged}
