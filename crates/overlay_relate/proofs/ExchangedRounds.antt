@@ -111,7 +111,8 @@ rounds_exchanged : (old : List CountedEdge) (rs : List Round) → AreRounds Roun
 rounds_exchanged old [] h = tt
 rounds_exchanged old (r ∷ rs) (first, later) = (
   round_exchanged old r first,
-  subst (λ es. AreRounds Rounds es (exchanged_rounds rs)) (sym (left_exchanged r)) (rounds_exchanged (pieces_of r) rs later),
+  subst (λ es. AreRounds Rounds es (exchanged_rounds rs)) (sym (left_exchanged r))
+      (rounds_exchanged (pieces_of r) rs later),
 )
 
 after_exchanged : (old : List CountedEdge) (rs : List Round) →
@@ -135,7 +136,8 @@ split_exchanged most old new h = record {
 }
 
 -- and edges in another order into the same ones
-pub split_shuffled : (most : ℕ) (old other new : List CountedEdge) → IsPermutation old other → IsSplit Rounds most old new →
+pub split_shuffled : (most : ℕ) (old other new : List CountedEdge) → IsPermutation old other →
+    IsSplit Rounds most old new →
     IsSplit Rounds most other new
 split_shuffled most old other new same h =
     record { rounds = h.rounds; few = h.few; reached = by h.rounds h.reached }
