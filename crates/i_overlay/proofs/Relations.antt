@@ -1,5 +1,5 @@
 -- What a new builder for predicates, to which paths were added, answers of the paths.
-use Rattle.std.proofs.Common.{ℤ, Bool, false, not, List}
+use Rattle.std.proofs.Common.{◌≡◌, ℤ, Bool, false, not, List, subst}
 use Rattle.std.specs.Prelude.{◌↔◌, Result, Ok, Err, IfOk, OnOk, IsTrue}
 use Rattle.overlay_geom.specs.declared.error.OverlayError.{OverlayError}
 use Rattle.overlay_geom.specs.Edges.{CountedEdge}
@@ -14,21 +14,21 @@ use Rattle.overlay_relate.proofs.ToldByEdges.{opposite_tells}
 use Rattle.i_overlay.specs.Relations.{TellsOfPaths}
 
 -- the answer of a query on a content that the paths give is one of the paths
-pub answer_of_paths : (solver : Solver) (r : Result Bool OverlayError) (relation : (ℤ → Bool) → List CountedEdge → Type 0)
+pub answer_of_paths : {s : Solver} (solver : Solver) → s ≡ solver → (r : Result Bool OverlayError) (relation : (ℤ → Bool) → List CountedEdge → Type 0)
     (fill : FillRule) (paths : List GivenPath)
     (content edges : List CountedEdge) → HoldsPaths (added_paths false paths) content
-    → OnOk r (IsArranged solver content edges)
+    → OnOk r (IsArranged s content edges)
     → OnOk r (IsFillable (is_filled fill) edges)
     → IfOk r (λ b. IsTrue b ↔ relation (is_filled fill) edges) → IfOk r (TellsOfPaths solver relation fill paths)
-answer_of_paths solver (Ok b) relation fill paths content edges holds arranged fillable tells = record {
+answer_of_paths solver by (Ok b) relation fill paths content edges holds arranged fillable tells = record {
   content = content;
   edges = edges;
   holds = holds;
-  arranged = arranged;
+  arranged = subst (λ t. IsArranged t content edges) by arranged;
   fillable = fillable;
   tells = tells;
 }
-answer_of_paths solver (Err e) relation fill paths content edges holds arranged fillable tells = tt
+answer_of_paths solver by (Err e) relation fill paths content edges holds arranged fillable tells = tt
 
 -- where one answer tells whether the shapes intersect, the opposite one tells whether they are disjoint
 pub disjoint_of_paths : (solver : Solver) (fill : FillRule) (paths : List GivenPath) (meets : Bool) →

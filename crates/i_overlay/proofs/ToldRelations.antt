@@ -14,7 +14,6 @@ use Rattle.overlay_arrange.specs.declared.fill_rule.FillRule.{FillRule}
 use Rattle.overlay_arrange.specs.declared.options.ShapeType.{ShapeType}
 use Rattle.overlay_arrange.specs.declared.options.ShapeType.TheVariants.{Subject, Clip}
 use Rattle.overlay_builder.specs.GivenPaths.{GivenPath, added_paths, paths_for, subject_and_clip}
-use Rattle.overlay_builder.specs.Held.{AnswersQuery}
 use Rattle.overlay_builder.specs.PathLists.{HoldsPaths}
 use Rattle.overlay_geom.specs.declared.solver.Solver.{Solver}
 use Rattle.overlay_relate.specs.Exchanged.{other_shape, exchanged_path, exchanged_paths, IsArrangementOf}
@@ -123,5 +122,4 @@ relations_or_refused solver (Ok r) limit fill paths exchanged old new h other to
       });
     }
 relations_or_refused solver (Err e) limit fill paths exchanged old new h other told =
-    query_refused solver limit paths (held_by old) (held_by new) (Err e) h.holds h.ready
-    (subst (λ s. AnswersQuery {V = Relations} limit s (held_by old) (held_by new) (Err e)) h.by told.query)
+    query_refused solver h.by limit paths (held_by old) (held_by new) (Err e) h.holds h.ready told.query
