@@ -46,7 +46,8 @@ asked_of_default area_width natural fill rule o are =
     }
 
 -- the result of a query on a content that the paths give is one of the paths
-pub result_of_paths : {V E : Type 0} {s : Solver} (solver : Solver) → s ≡ solver → (r : Result V E) (shapes : V → List (List (List Point))) (q : Asked)
+pub result_of_paths : {V E : Type 0} {s : Solver} (solver : Solver) → s ≡ solver →
+    (r : Result V E) (shapes : V → List (List (List Point))) (q : Asked)
     (paths : List GivenPath)
     (content edges : List CountedEdge) → HoldsPaths (added_paths false paths) content
     → OnOk r (IsArranged s content edges)
@@ -62,7 +63,8 @@ result_of_paths solver by (Ok v) shapes q paths content edges holds arranged is 
 result_of_paths solver by (Err e) shapes q paths content edges holds arranged is = tt
 
 -- so are its shapes and their links
-pub hierarchy_of_paths : {V E : Type 0} {s : Solver} (solver : Solver) → s ≡ solver → (r : Result V E) (shapes : V → List (List (List Point)))
+pub hierarchy_of_paths : {V E : Type 0} {s : Solver} (solver : Solver) → s ≡ solver →
+    (r : Result V E) (shapes : V → List (List (List Point)))
     (links : V → List ChildLink) (q : Asked) (paths : List GivenPath) (content edges : List CountedEdge) →
     HoldsPaths (added_paths false paths) content → OnOk r (IsArranged s content edges) →
     IfOk r (λ v. IsHierarchy q edges (shapes v) (links v)) →
@@ -78,7 +80,8 @@ hierarchy_of_paths solver by (Ok v) shapes links q paths content edges holds arr
 hierarchy_of_paths solver by (Err e) shapes links q paths content edges holds arranged is = tt
 
 -- and its edges
-pub edges_of_paths : {V E : Type 0} {s : Solver} (solver : Solver) → s ≡ solver → (r : Result V E) (vectors : V → List Vector) (fill : FillRule)
+pub edges_of_paths : {V E : Type 0} {s : Solver} (solver : Solver) → s ≡ solver →
+    (r : Result V E) (vectors : V → List Vector) (fill : FillRule)
     (paths : List GivenPath) (content edges : List CountedEdge) → HoldsPaths (added_paths false paths) content
     → OnOk r (IsArranged s content edges)
     → IfOk r (λ v. vectors v ≡ map (vector_of fill edges) edges)
@@ -105,7 +108,8 @@ query_refused {V = V} solver by limit paths old new (Err e) holds ready h =
     (subst (λ t. AnswersQuery {V = V} limit t old new (Err e)) by h)
 
 -- where the paths can't be added, there is no answer
-pub adding_refused : (solver : Solver) (paths : List GivenPath) (e : OverlayError) → MayRefuseBuilder (added_paths false paths) e
+pub adding_refused : (solver : Solver) (paths : List GivenPath) (e : OverlayError) →
+    MayRefuseBuilder (added_paths false paths) e
     → MayRefusePaths solver paths e
 adding_refused solver paths Memory may = tt
 adding_refused solver paths NotSettled may = absurd may

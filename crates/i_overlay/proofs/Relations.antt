@@ -14,7 +14,8 @@ use Rattle.overlay_relate.proofs.ToldByEdges.{opposite_tells}
 use Rattle.i_overlay.specs.Relations.{TellsOfPaths}
 
 -- the answer of a query on a content that the paths give is one of the paths
-pub answer_of_paths : {s : Solver} (solver : Solver) → s ≡ solver → (r : Result Bool OverlayError) (relation : (ℤ → Bool) → List CountedEdge → Type 0)
+pub answer_of_paths : {s : Solver} (solver : Solver) → s ≡ solver →
+    (r : Result Bool OverlayError) (relation : (ℤ → Bool) → List CountedEdge → Type 0)
     (fill : FillRule) (paths : List GivenPath)
     (content edges : List CountedEdge) → HoldsPaths (added_paths false paths) content
     → OnOk r (IsArranged s content edges)

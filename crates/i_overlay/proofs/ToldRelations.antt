@@ -101,7 +101,8 @@ module _ (solver : Solver) (fill : FillRule) where
 pub relations_or_refused : (solver : Solver) (r : Result Relations OverlayError) (limit : ℕ) (fill : FillRule)
     (paths exchanged : List GivenPath) (old new : PredicateBuilder) → HasAddedUnder solver fill paths old
     → ((b : Bool) → TellsOfPaths solver Covers fill paths b → TellsOfPaths solver IsWithin fill exchanged b)
-    → TellsRelations limit old new r → MatchResult r (AreRelationsOfPaths solver fill paths exchanged) (MayRefusePaths solver paths)
+    → TellsRelations limit old new r → MatchResult r (AreRelationsOfPaths solver fill paths exchanged)
+    (MayRefusePaths solver paths)
 relations_or_refused solver (Ok r) limit fill paths exchanged old new h other told =
     let fillable = subst (λ f. IsFillable (is_filled f) new.edges) h.rule told.fillable in
     let relations = subst (λ f. AreRelations (is_filled f) new.edges r) h.rule told.answer in

@@ -12,8 +12,8 @@ use Rattle.overlay_relate.specs.PredicateBuilder.{PredicateBuilder}
 use Rattle.overlay_relate.specs.PredicateQueries.{AreRelations}
 use Rattle.overlay_relate.specs.declared.relations.Relations.{Relations}
 
--- the answer tells whether the relation holds of some arrangement, by the solver, of the edges that the paths give, under
--- the fill rule; its edges are planar, with balanced counts, as laws of predicates ask
+-- the answer tells whether the relation holds of some arrangement, by the solver, of the edges that the paths give,
+-- under the fill rule; its edges are planar, with balanced counts, as laws of predicates ask
 pub record TellsOfPaths (solver : Solver) (relation : (ℤ → Bool) → List CountedEdge → Type 0) (fill : FillRule)
     (paths : List GivenPath) (answer : Bool) : Type 0 where
   pub content : List CountedEdge
@@ -28,7 +28,8 @@ pub record TellsOfPaths (solver : Solver) (relation : (ℤ → Bool) → List Co
 -- the answers tell whether the relations hold of some arrangement of the edges that the paths give, under the fill
 -- rule, whose edges are planar, with balanced counts; the last one tells also whether the subject lies within the clip
 -- in some arrangement of the paths exchanged
-pub record AreRelationsOfPaths (solver : Solver) (fill : FillRule) (paths exchanged : List GivenPath) (r : Relations) : Type 0 where
+pub record AreRelationsOfPaths (solver : Solver) (fill : FillRule) (paths exchanged : List GivenPath) (r : Relations) :
+    Type 0 where
   pub content : List CountedEdge
   pub edges : List CountedEdge
   pub holds : HoldsPaths (added_paths false paths) content
@@ -38,7 +39,8 @@ pub record AreRelationsOfPaths (solver : Solver) (fill : FillRule) (paths exchan
   pub within_exchanged : TellsOfPaths solver IsWithin fill exchanged r.covers
 
 -- a builder for predicates by the solver and under the fill rule, which has not failed, holds just the paths
-pub record HasAddedUnder (solver : Solver) (fill : FillRule) (paths : List GivenPath) (b : PredicateBuilder) : Type 0 where
+pub record HasAddedUnder (solver : Solver) (fill : FillRule) (paths : List GivenPath) (b : PredicateBuilder) : Type 0
+    where
   pub holds : HoldsPaths (added_paths false paths) b.edges
   pub ready : b.failed ≡ false
   pub rule : b.fill_rule ≡ fill

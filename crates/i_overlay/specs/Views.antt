@@ -24,7 +24,8 @@ abbrev pub asked_of : {C U : Type 0} → Width → (U → ℕ) → Viewed C U �
 asked_of area_width natural v rule = asked area_width natural v.graph.fill_rule rule v.options
 
 -- a view of an arrangement with some edge, of a builder that held these edges and had these options
-pub record IsView {C U : Type 0} (solver : Solver) (rule : FillRule) (options : IntOverlayOptions U) (held : List CountedEdge)
+pub record IsView {C U : Type 0} (solver : Solver) (rule : FillRule) (options : IntOverlayOptions U)
+    (held : List CountedEdge)
     (view : Viewed C U) : Type 0 where
   pub arranged : IsArranged solver held (viewed_edges view)
   pub some_edge : viewed_edges view ≢ []

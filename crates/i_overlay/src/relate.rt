@@ -34,7 +34,8 @@ pub trait IntRelate<I: OverlayInt>: IntShapeResource<I> {
         requires other_in_range { All (AllInRange I.limit) (R1.paths other.now) }
         ensures answer { IfOk result (TellsOfPaths Rounds Intersects EvenOdd
             (subject_and_clip (Self.paths self.now) (R1.paths other.now))) }
-        ensures err { IfErr result (MayRefusePaths Rounds (subject_and_clip (Self.paths self.now) (R1.paths other.now))) };
+        ensures err { IfErr result (MayRefusePaths Rounds (subject_and_clip (Self.paths self.now)
+            (R1.paths other.now))) };
 
     /// Whether both fill some point off the edges.
     fn interiors_intersect<R1: IntShapeResource<I>, A: Allocator + Clone>(
@@ -46,7 +47,8 @@ pub trait IntRelate<I: OverlayInt>: IntShapeResource<I> {
         requires other_in_range { All (AllInRange I.limit) (R1.paths other.now) }
         ensures answer { IfOk result (TellsOfPaths Rounds InteriorsIntersect EvenOdd
             (subject_and_clip (Self.paths self.now) (R1.paths other.now))) }
-        ensures err { IfErr result (MayRefusePaths Rounds (subject_and_clip (Self.paths self.now) (R1.paths other.now))) };
+        ensures err { IfErr result (MayRefusePaths Rounds (subject_and_clip (Self.paths self.now)
+            (R1.paths other.now))) };
 
     /// Whether the two have a common point, and their interiors have none.
     fn touches<R1: IntShapeResource<I>, A: Allocator + Clone>(
@@ -58,7 +60,8 @@ pub trait IntRelate<I: OverlayInt>: IntShapeResource<I> {
         requires other_in_range { All (AllInRange I.limit) (R1.paths other.now) }
         ensures answer { IfOk result (TellsOfPaths Rounds Touches EvenOdd
             (subject_and_clip (Self.paths self.now) (R1.paths other.now))) }
-        ensures err { IfErr result (MayRefusePaths Rounds (subject_and_clip (Self.paths self.now) (R1.paths other.now))) };
+        ensures err { IfErr result (MayRefusePaths Rounds (subject_and_clip (Self.paths self.now)
+            (R1.paths other.now))) };
 
     /// Whether the two meet in single points alone.
     fn point_intersects<R1: IntShapeResource<I>, A: Allocator + Clone>(
@@ -70,7 +73,8 @@ pub trait IntRelate<I: OverlayInt>: IntShapeResource<I> {
         requires other_in_range { All (AllInRange I.limit) (R1.paths other.now) }
         ensures answer { IfOk result (TellsOfPaths Rounds PointIntersects EvenOdd
             (subject_and_clip (Self.paths self.now) (R1.paths other.now))) }
-        ensures err { IfErr result (MayRefusePaths Rounds (subject_and_clip (Self.paths self.now) (R1.paths other.now))) };
+        ensures err { IfErr result (MayRefusePaths Rounds (subject_and_clip (Self.paths self.now)
+            (R1.paths other.now))) };
 
     /// Whether this resource lies within the other one.
     fn within<R1: IntShapeResource<I>, A: Allocator + Clone>(
@@ -82,7 +86,8 @@ pub trait IntRelate<I: OverlayInt>: IntShapeResource<I> {
         requires other_in_range { All (AllInRange I.limit) (R1.paths other.now) }
         ensures answer { IfOk result (TellsOfPaths Rounds IsWithin EvenOdd
             (subject_and_clip (Self.paths self.now) (R1.paths other.now))) }
-        ensures err { IfErr result (MayRefusePaths Rounds (subject_and_clip (Self.paths self.now) (R1.paths other.now))) };
+        ensures err { IfErr result (MayRefusePaths Rounds (subject_and_clip (Self.paths self.now)
+            (R1.paths other.now))) };
 
     /// Whether the two have no common point.
     fn disjoint<R1: IntShapeResource<I>, A: Allocator + Clone>(
@@ -94,7 +99,8 @@ pub trait IntRelate<I: OverlayInt>: IntShapeResource<I> {
         requires other_in_range { All (AllInRange I.limit) (R1.paths other.now) }
         ensures answer { IfOk result (TellsOfPaths Rounds IsDisjoint EvenOdd
             (subject_and_clip (Self.paths self.now) (R1.paths other.now))) }
-        ensures err { IfErr result (MayRefusePaths Rounds (subject_and_clip (Self.paths self.now) (R1.paths other.now))) };
+        ensures err { IfErr result (MayRefusePaths Rounds (subject_and_clip (Self.paths self.now)
+            (R1.paths other.now))) };
 
     /// Whether the other resource lies within this one: `within` of the two exchanged.
     fn covers<R1: IntShapeResource<I>, A: Allocator + Clone>(
@@ -106,7 +112,8 @@ pub trait IntRelate<I: OverlayInt>: IntShapeResource<I> {
         requires other_in_range { All (AllInRange I.limit) (R1.paths other.now) }
         ensures answer { IfOk result (TellsOfPaths Rounds IsWithin EvenOdd
             (subject_and_clip (R1.paths other.now) (Self.paths self.now))) }
-        ensures err { IfErr result (MayRefusePaths Rounds (subject_and_clip (R1.paths other.now) (Self.paths self.now))) };
+        ensures err { IfErr result (MayRefusePaths Rounds (subject_and_clip (R1.paths other.now)
+            (Self.paths self.now))) };
 }
 
 impl<I: OverlayInt, R0: IntShapeResource<I>> IntRelate<I> for R0 {

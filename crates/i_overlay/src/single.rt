@@ -35,7 +35,8 @@ pub trait SingleIntOverlay<I: OverlayInt>: IntShapeResource<I> {
         ensures result { IfOk result (λ v. IsResultOfPaths Rounds
             (asked_by_default I.Wide.width fill_rule overlay_rule)
             (subject_and_clip (Self.paths self.now) (R1.paths other.now)) (plain_shapes I.whole v.items)) }
-        ensures err { IfErr result (MayRefusePaths Rounds (subject_and_clip (Self.paths self.now) (R1.paths other.now))) };
+        ensures err { IfErr result (MayRefusePaths Rounds (subject_and_clip (Self.paths self.now)
+            (R1.paths other.now))) };
 }
 
 impl<I: OverlayInt, R0: IntShapeResource<I>> SingleIntOverlay<I> for R0 {

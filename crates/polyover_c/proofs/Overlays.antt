@@ -56,7 +56,8 @@ module _ {I U : Type 0} (whole : I → ℤ) (limit rule fill : ℕ) (options : O
       (p q : List (List Point)) (shapes : List (List (List Point))) (flat : Flat I) → rule < 7 → fill < 4 →
       AreChoices options → AreGiven whole limit subject → AreGiven whole limit clip → r ≡ rule_of rule →
       f ≡ fill_of fill → o ≡ options_of options → p ≡ paths_of whole subject → q ≡ paths_of whole clip →
-      IsResultOfPaths Rounds (asked width natural f r o) (subject_and_clip p q) shapes → AreFlattened whole shapes flat →
+      IsResultOfPaths Rounds (asked width natural f r o) (subject_and_clip p q) shapes →
+      AreFlattened whole shapes flat →
       IsFlat (IsOverlay whole limit width natural rule fill options subject clip) whole flat
   overlay_answered width natural r f o p q shapes flat known_rule known_fill known s c same_r same_f same_o same_p
       same_q is flattened = record {

@@ -71,9 +71,11 @@ module _ {I U : Type 0} (whole : I → ℤ) (limit fill : ℕ) (options : Option
       are_given = are;
       simplified = subst (λ y. IsSimplifiedAlone Rounds (asked width natural y rule.Subject (options_of options)) false
           (paths_of whole given) shapes) same_f
-          (subst (λ q. IsSimplifiedAlone Rounds (asked width natural f rule.Subject (options_of options)) false q shapes)
+          (subst (λ q. IsSimplifiedAlone Rounds (asked width natural f rule.Subject (options_of options)) false q
+          shapes)
           same_p
-          (subst (λ m. IsSimplifiedAlone Rounds (asked width natural f rule.Subject m) m.preserve_input_collinear p shapes)
+          (subst (λ m. IsSimplifiedAlone Rounds (asked width natural f rule.Subject m) m.preserve_input_collinear p
+          shapes)
           same_o is));
     };
     flattened = flattened;

@@ -33,7 +33,8 @@ module _ {I : Type 0} (whole : I → ℤ) (limit fill : ℕ) (subject lines : Co
 
   pub slicing_refused : (e : OverlayError) (p q : List (List Point)) → fill < 4 → AreGiven whole limit subject →
       AreGiven whole limit lines → p ≡ paths_of whole subject → q ≡ paths_of whole lines →
-      MayRefusePaths Rounds (shape_and_strings p q) e → IsSlicingRefused whole limit fill subject lines (status_of_error e)
+      MayRefusePaths Rounds (shape_and_strings p q) e → IsSlicingRefused whole limit fill subject lines
+      (status_of_error e)
   slicing_refused e p q known s l same_p same_q refused =
       unanswered whole limit (IsUnknownFill fill) (fill < 4) subject lines may (λ failed. failed) e known s l
       (subst (λ paths. MayRefusePaths Rounds paths e) (ap₂ shape_and_strings same_p same_q) refused)

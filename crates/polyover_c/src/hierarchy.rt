@@ -109,7 +109,8 @@ fn hierarchy_shapes<I: OverlayInt>(
     requires subject_in_range { All (AllInRange I.limit)
         (paths_in I.whole subject.now.points.items subject.now.ranges.items) }
     requires clip_in_range { All (AllInRange I.limit) (paths_in I.whole clip.now.points.items clip.now.ranges.items) }
-    ensures result { IfOk result (λ h. IsHierarchyOfPaths Rounds (asked I.Wide.width I.WideUInt.natural fill rule options)
+    ensures result { IfOk result (λ h. IsHierarchyOfPaths Rounds (asked I.Wide.width I.WideUInt.natural fill rule
+        options)
         (subject_and_clip (paths_in I.whole subject.now.points.items subject.now.ranges.items)
         (paths_in I.whole clip.now.points.items clip.now.ranges.items))
         (shapes_in I.whole h.shapes.points.items h.shapes.contour_ranges.items h.shapes.shape_ranges.items)

@@ -29,7 +29,8 @@ module _ (cs : List GivenPath) (b : Builder ℕ) (h : HasAdded cs b) where
       → AnswersQuery limit b.solver (held_by b) new answer
       → IfOk answer (λ v. vectors v ≡ map (vector_of fill new.edges) new.edges)
       → MatchResult answer (λ v. AreEdgesOfPaths Rounds fill cs (vectors v)) (λ e. MayRefusePaths Rounds cs e)
-  edges_answered limit vectors fill new (Ok v) query listed = edges_of_paths {E = OverlayError} Rounds h.made.by (Ok v) vectors fill cs
+  edges_answered limit vectors fill new (Ok v) query listed = edges_of_paths {E = OverlayError} Rounds h.made.by (Ok v)
+      vectors fill cs
       b.edges new.edges h.holds query.arranged listed
   edges_answered limit vectors fill new (Err e) query listed =
       query_refused Rounds h.made.by limit cs (held_by b) new (Err e) h.holds h.made.ready query
@@ -45,7 +46,8 @@ module _ (cs : List GivenPath) (query : OverlayQuery) (b : Builder ℕ) (h : IsA
       IfOk answer (λ v. IsResult asked_of new.edges (shapes v)) →
       MatchResult answer (λ v. IsResultOfPaths Rounds (asked_by query) cs (shapes v)) (λ e. MayRefusePaths Rounds cs e)
   shapes_answered limit shapes new (Ok v) answers result =
-      result_of_paths {E = OverlayError} Rounds h.by (Ok v) shapes (asked_by query) cs b.edges new.edges h.holds answers.arranged
+      result_of_paths {E = OverlayError} Rounds h.by (Ok v) shapes (asked_by query) cs b.edges new.edges h.holds
+          answers.arranged
       (subst (λ q. IsResult q new.edges (shapes v)) h.asked result)
   shapes_answered limit shapes new (Err e) answers result =
       query_refused Rounds h.by limit cs (held_by b) new (Err e) h.holds h.ready answers
@@ -55,9 +57,11 @@ module _ (cs : List GivenPath) (query : OverlayQuery) (b : Builder ℕ) (h : IsA
       (links : V → List ChildLink) (new : Held CountedEdge) (answer : Result V OverlayError) →
       AnswersQuery limit b.solver (held_by b) new answer →
       IfOk answer (λ v. IsHierarchy asked_of new.edges (shapes v) (links v)) →
-      MatchResult answer (λ v. IsHierarchyOfPaths Rounds (asked_by query) cs (shapes v) (links v)) (λ e. MayRefusePaths Rounds cs e)
+      MatchResult answer (λ v. IsHierarchyOfPaths Rounds (asked_by query) cs (shapes v) (links v))
+      (λ e. MayRefusePaths Rounds cs e)
   hierarchy_answered limit shapes links new (Ok v) answers result =
-      hierarchy_of_paths {E = OverlayError} Rounds h.by (Ok v) shapes links (asked_by query) cs b.edges new.edges h.holds
+      hierarchy_of_paths {E = OverlayError} Rounds h.by (Ok v) shapes links (asked_by query) cs b.edges new.edges
+          h.holds
       answers.arranged (subst (λ q. IsHierarchy q new.edges (shapes v) (links v)) h.asked result)
   hierarchy_answered limit shapes links new (Err e) answers result =
       query_refused Rounds h.by limit cs (held_by b) new (Err e) h.holds h.ready answers

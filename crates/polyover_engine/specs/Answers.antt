@@ -58,14 +58,16 @@ pub record TellWhere (fs : GivenFigures) (answers : List PointLocation) : Type 0
 
 -- the text answers the query on the figures
 abbrev pub Answers : GivenFigures → Query → List ℕ → Type 0
-Answers fs (Edges fill) text = (vs : List Vector) × AreEdgesOfPaths Rounds fill (paths_of fs) vs × (text ≡ edge_lines vs)
+Answers fs (Edges fill) text = (vs : List Vector) × AreEdgesOfPaths Rounds fill (paths_of fs) vs ×
+    (text ≡ edge_lines vs)
 Answers fs (Overlay query) text = (shapes : List (List (List Point))) × IsResultOfPaths Rounds (asked_by query)
     (paths_of fs) shapes × (text ≡ lines_of_shapes shapes)
 Answers fs (Hierarchy query) text = (shapes : List (List (List Point))) × (links : List ChildLink)
     × IsHierarchyOfPaths Rounds (asked_by query) (paths_of fs) shapes links
     × (text ≡ lines_of_shapes shapes ++ link_lines links)
 Answers fs (Relate fill) text = (answers : Relations)
-    × AreRelationsOfPaths Rounds fill (paths_of fs) (exchanged_paths (paths_of fs)) answers × (text ≡ relation_lines answers)
+    × AreRelationsOfPaths Rounds fill (paths_of fs) (exchanged_paths (paths_of fs)) answers ×
+    (text ≡ relation_lines answers)
 Answers fs (ClipLines query) text = (paths : List (List Point))
     × AreClippedOfPaths Rounds query.fill_rule (clip_rule_of query.options) (shape_and_lines fs) paths
     × (text ≡ lines_of_paths paths)

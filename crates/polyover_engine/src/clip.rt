@@ -44,7 +44,8 @@ fn clipped_lines<A: Allocator + Clone>(
 ) -> Result<Vec<IntPath<i64, A>, A>, OverlayError>
     requires { FiguresInRange (figures_at figures.now) }
     ensures { MatchResult result
-        (λ v. AreClippedOfPaths Rounds query.fill_rule (clip_rule_of query.options) (shape_and_lines (figures_at figures.now))
+        (λ v. AreClippedOfPaths Rounds query.fill_rule (clip_rule_of query.options)
+        (shape_and_lines (figures_at figures.now))
         (paths_of_shape (λ z. z) v.items))
         (λ e. MayRefusePaths Rounds (shape_and_lines (figures_at figures.now)) e) }
 {

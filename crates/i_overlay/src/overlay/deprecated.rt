@@ -249,7 +249,8 @@ impl<I: OverlayInt, A: Allocator + Clone> Overlay<I, A> {
         fill_rule: FillRule,
     ) -> Result<IntShapes<I, A>, OverlayError>
         requires { All (AllInRange I.limit) (counted_paths (paths_of_shapes I.whole shapes.now)) }
-        ensures alone { AnswersAlone I.limit self.old.solver self.old.options.preserve_input_collinear (paths_for Subject
+        ensures alone { AnswersAlone I.limit self.old.solver self.old.options.preserve_input_collinear
+            (paths_for Subject
             (counted_paths (paths_of_shapes I.whole shapes.now))) (held_by self.new) result }
         ensures result { IfOk result (λ v. IsResult
             (asked I.Wide.width I.WideUInt.natural fill_rule OverlayRule.Subject self.old.options)

@@ -44,7 +44,8 @@ impl<I: OverlayInt, A: Allocator + Clone> Overlay<I, A> {
     ) -> Result<(), OverlayError>
         requires points { All (AllInRange I.limit)
             (paths_in I.whole flat_buffer.old.points.items flat_buffer.old.ranges.items) }
-        ensures alone { AnswersAlone I.limit self.old.solver self.old.options.preserve_input_collinear (paths_for Subject
+        ensures alone { AnswersAlone I.limit self.old.solver self.old.options.preserve_input_collinear
+            (paths_for Subject
             (paths_in I.whole flat_buffer.old.points.items flat_buffer.old.ranges.items)) (held_by self.new) result }
         ensures simplified { OnOk result (AreSimplified
             (asked I.Wide.width I.WideUInt.natural fill_rule OverlayRule.Subject self.old.options)
@@ -86,7 +87,8 @@ impl<I: OverlayInt, A: Allocator + Clone> Overlay<I, A> {
         fill_rule: FillRule,
     ) -> Result<Outcome, OverlayError>
         requires { All (AllInRange I.limit) (paths_in I.whole contours.now.points.items contours.now.ranges.items) }
-        ensures alone { AnswersAlone I.limit self.old.solver self.old.options.preserve_input_collinear (paths_for Subject
+        ensures alone { AnswersAlone I.limit self.old.solver self.old.options.preserve_input_collinear
+            (paths_for Subject
             (paths_in I.whole contours.now.points.items contours.now.ranges.items)) (held_by self.new) result }
         ensures outcome { IfOk result (IsOutcomeOfAll self.old.options.preserve_input_collinear fill_rule
             self.old.options.output_direction

@@ -33,7 +33,8 @@ returns-clause-err g c =
     let paths = subject_and_clip (paths_in whole c.args.subject.now.points.items c.args.subject.now.ranges.items)
     (paths_in whole c.args.clip.now.points.items c.args.clip.now.ranges.items) in
     let made = c.in_ok-overlay.ensures in
-    query_refused Rounds (ap (λ m. m.solver) made.made) g.I.IntNumber.limit paths (held_by c.in_ok-overlay.overlay) (held_by c.overlay.new.self)
+    query_refused Rounds (ap (λ m. m.solver) made.made) g.I.IntNumber.limit paths (held_by c.in_ok-overlay.overlay)
+    (held_by c.overlay.new.self)
     c.overlay.result
     (subst (λ keep. HoldsPaths (added_paths keep paths) c.in_ok-overlay.overlay.edges) c.requires.input made.ok)
     (ap (λ m. m.failed) made.made) c.overlay.ensures.answers.query

@@ -23,5 +23,6 @@ returns-clause-result g c =
 pub returns-clause-err : goal.returns-clause-err
 returns-clause-err g c =
     let made = c.in_ok-overlay.ensures in
-    query_refused Rounds made.made.by g.I.IntNumber.limit _ (held_by c.in_ok-overlay.overlay) (held_by c.overlay.new.self) c.overlay.result
+    query_refused Rounds made.made.by g.I.IntNumber.limit _ (held_by c.in_ok-overlay.overlay)
+    (held_by c.overlay.new.self) c.overlay.result
     made.ok made.made.ready c.overlay.ensures.answers.query
