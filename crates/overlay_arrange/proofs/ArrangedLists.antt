@@ -7,7 +7,10 @@ use Rattle.overlay_geom.specs.Plane.{Step}
 use Rattle.overlay_geom.specs.Edges.{CountedEdge, ends_of}
 use Rattle.overlay_geom.specs.Merged.{IsMerged}
 use Rattle.overlay_geom.specs.Settled.{IsSettled}
-use Rattle.overlay_arrange.specs.Arranged.{IsArranged, IsArrangedCarrying, IsSplitCarrying, MayRefuseSplitting}
+use Rattle.overlay_geom.specs.declared.solver.Solver.{Solver}
+use Rattle.overlay_geom.specs.declared.solver.Solver.TheVariants.{Rounds}
+use Rattle.overlay_arrange.specs.Arranged.{most_rounds, IsArranged, IsArrangedCarrying, IsSplitCarrying}
+use Rattle.overlay_arrange.specs.Arranged.{MayRefuseSplitting}
 use Rattle.overlay_arrange.specs.Content.{IsContent}
 use Rattle.overlay_arrange.proofs.RoundsTaken.{Leaves}
 use Rattle.overlay_plane.proofs.AfterRounds.{arrangements_keep_balance, arranged_stays_arranged, no_rounds_again}
@@ -38,9 +41,9 @@ leaves_cut limit old es new content merged unsettled is =
     (round.0, round.1, (cc))
 
 -- a content that was split is arranged
-abbrev pub arranged_of_split : (limit most : ℕ) (old new : List CountedEdge) → IsContent limit old →
-    IsSplit most old new → IsArranged most old new
-arranged_of_split limit most old new content split =
+abbrev pub arranged_of_split : (limit : ℕ) (solver : Solver) (old new : List CountedEdge) → IsContent limit old →
+    IsSplit solver (most_rounds solver) old new → IsArranged solver old new
+arranged_of_split limit solver old new content split =
     let moving = moving_rounds split.rounds in
     let forward = forward_content limit old content in
     record {
@@ -49,52 +52,58 @@ arranged_of_split limit most old new content split =
       reached = split.reached;
       moving = moving.0;
       moved = moving.1;
-      chains = arrangements_hold_chains split.rounds moving.0 old new forward split.reached moving.1;
-      exact = λ whole. whole_meetings_are_exact.exact split.rounds moving.0 old new forward whole
+      chains = arrangements_hold_chains solver split.rounds moving.0 old new forward split.reached moving.1;
+      exact = λ whole. whole_meetings_are_exact.exact solver split.rounds moving.0 old new forward whole
           split.reached moving.1;
-      balanced = arrangements_keep_balance split.rounds old new split.reached;
-      stays = λ was. arranged_stays_arranged was.1 split.rounds was.0 old new was.2 split.reached;
+      balanced = arrangements_keep_balance solver split.rounds old new split.reached;
+      stays = λ was. arranged_stays_arranged was.0 solver was.2 split.rounds was.1 old new was.3 split.reached;
     }
 
 -- so it is where an answer says that it was split
-pub arranged_answer : {T E : Type 0} (limit most : ℕ) (answer : Result T E) (old new : List CountedEdge) →
+pub arranged_answer : {T E : Type 0} (limit : ℕ) (solver : Solver) (answer : Result T E) (old new : List CountedEdge) →
     IsContent limit old →
-    OnOk answer (IsSplit most old new) → OnOk answer (IsArranged most old new)
-arranged_answer limit most (Ok v) old new content h = arranged_of_split limit most old new content h
-arranged_answer limit most (Err e) old new content h = h
+    OnOk answer (IsSplit solver (most_rounds solver) old new) → OnOk answer (IsArranged solver old new)
+arranged_answer limit solver (Ok v) old new content h = arranged_of_split limit solver old new content h
+arranged_answer limit solver (Err e) old new content h = h
 
 -- where edges meet only in whole points or overlap, more than one round cannot be taken, so they do not stay unsettled
 settles_whole : (limit most : ℕ) (old : List CountedEdge) → 2 ≤ most → IsContent limit old → MeetInWholePoints old →
     ¬ (StaysUnsettled most old)
 settles_whole limit most old several content whole stays =
-    let few = whole_meetings_are_exact.few stays.rounds old (forward_content limit old content) whole stays.cut in
+    let few = whole_meetings_are_exact.few Rounds stays.rounds old (forward_content limit old content) whole
+    stays.cut in
     omega (arith, few, stays.all_taken)
 
 -- a refusal of rounds is one of bringing the edges into an arrangement
-refused_so : (limit most : ℕ) (old : List CountedEdge) (e : OverlayError) → 2 ≤ most → IsContent limit old →
-    (e ≡ NotSettled → StaysUnsettled most old) →
-    (e ≡ TooManyEdges → WeighsTooMuch most (2 ^ 31) old) → ¬ (e ≡ Failed) → MayRefuseSplitting most old e
-refused_so limit most old Memory several content unsettled heavy usable = tt
-refused_so limit most old NotSettled several content unsettled heavy usable = let stays = unsettled refl in record {
-  unsettled = stays;
-  not_whole = λ whole. settles_whole limit most old several content whole stays;
-  not_arranged = λ was. no_rounds_again was.1 stays.rounds was.0 old was.2 stays.cut (omega (arith, stays.all_taken));
-}
-refused_so limit most old TooManyEdges several content unsettled heavy usable = let weighs = heavy refl in record {
+refused_so : (limit : ℕ) (solver : Solver) (old : List CountedEdge) (e : OverlayError) → IsContent limit old →
+    (e ≡ NotSettled → (solver ≡ Rounds) × StaysUnsettled (most_rounds Rounds) old) →
+    (e ≡ TooManyEdges → WeighsTooMuch solver (most_rounds solver) (2 ^ 31) old) → ¬ (e ≡ Failed) →
+    MayRefuseSplitting solver old e
+refused_so limit solver old Memory content unsettled heavy usable = tt
+refused_so limit solver old NotSettled content unsettled heavy usable =
+    let by_rounds = (unsettled refl).0 in
+    let stays = (unsettled refl).1 in
+    (by_rounds, record {
+      unsettled = stays;
+      not_whole = λ whole. settles_whole limit (most_rounds Rounds) old (omega arith) content whole stays;
+      not_arranged = λ was. no_rounds_again was.0 Rounds was.2 stays.rounds was.1 old was.3 stays.cut
+          (omega (arith, stays.all_taken));
+    })
+refused_so limit solver old TooManyEdges content unsettled heavy usable = let weighs = heavy refl in record {
   heavy = weighs;
-  not_arranged = λ was. no_rounds_again was.1 weighs.rounds was.0 old was.2 weighs.cut weighs.some;
+  not_arranged = λ was. no_rounds_again was.0 solver was.2 weighs.rounds was.1 old was.3 weighs.cut weighs.some;
 }
-refused_so limit most old Failed several content unsettled heavy usable = usable refl
+refused_so limit solver old Failed content unsettled heavy usable = usable refl
 
 -- so it is where an answer is such a refusal
-pub refused_answer : {T : Type 0} (limit most : ℕ) (answer : Result T OverlayError) (old : List CountedEdge) →
-    2 ≤ most → IsContent limit old →
-    (IsErrOf answer NotSettled → StaysUnsettled most old) →
-    (IsErrOf answer TooManyEdges → WeighsTooMuch most (2 ^ 31) old) → ¬ (answer ≡ Err Failed) →
-    IfErr answer (MayRefuseSplitting most old)
-refused_answer limit most (Ok v) old several content unsettled heavy usable = tt
-refused_answer limit most (Err e) old several content unsettled heavy usable =
-    refused_so limit most old e several content (λ same. unsettled (ap Err same)) (λ same. heavy (ap Err same))
+pub refused_answer : {T : Type 0} (limit : ℕ) (solver : Solver) (answer : Result T OverlayError)
+    (old : List CountedEdge) → IsContent limit old →
+    (IsErrOf answer NotSettled → (solver ≡ Rounds) × StaysUnsettled (most_rounds Rounds) old) →
+    (IsErrOf answer TooManyEdges → WeighsTooMuch solver (most_rounds solver) (2 ^ 31) old) → ¬ (answer ≡ Err Failed) →
+    IfErr answer (MayRefuseSplitting solver old)
+refused_answer limit solver (Ok v) old content unsettled heavy usable = tt
+refused_answer limit solver (Err e) old content unsettled heavy usable =
+    refused_so limit solver old e content (λ same. unsettled (ap Err same)) (λ same. heavy (ap Err same))
     (λ same. usable (ap Err same))
 
 -- ---- with what edges carry
@@ -103,7 +112,7 @@ module _ {C : Type 0} (merges : C → C → C → Type 0) (splits reverses : C �
   -- a merged content that is settled was split without a round
   pub carried_at_once : (most : ℕ) (old new : List (Carried C)) → IsMerged (edges_in old) (edges_in new) →
       IsSettled (edges_in new) →
-      CarriesMerged merges old new → IsSplitCarrying merges splits reverses most old new
+      CarriesMerged merges old new → IsSplitCarrying merges splits reverses Rounds most old new
   carried_at_once most old new merged settled carries = record {
     split = record {
       rounds = [];
@@ -120,14 +129,15 @@ module _ {C : Type 0} (merges : C → C → C → Type 0) (splits reverses : C �
       IsMerged (edges_in old) (edges_in kept) → ¬ (IsSettled (edges_in kept)) → CarriesMerged merges old kept →
       edges_in left ≡ cut_edges (edges_in kept) →
       AreCutAlong splits reverses (computed_chain (edges_in kept)) kept left →
-      IsSplitCarrying merges splits reverses fewer left new → IsSplitCarrying merges splits reverses most old new
+      IsSplitCarrying merges splits reverses Rounds fewer left new →
+      IsSplitCarrying merges splits reverses Rounds most old new
   carried_on limit fewer most old kept left new le content merged unsettled carries left_is cut h =
       let through = cutting_through (edges_in old) (edges_in kept) (forward_content limit (edges_in kept) content)
       merged unsettled in
       let r = through.0 in
       let cuts = through.1 in
-      let later : IsReachedBy h.split.rounds (pieces_of r) (edges_in new) =
-      subst (λ (es : List CountedEdge). IsReachedBy h.split.rounds es (edges_in new)) (left_is ∙ sym cuts.leaves)
+      let later : IsReachedBy Rounds h.split.rounds (pieces_of r) (edges_in new) =
+      subst (λ (es : List CountedEdge). IsReachedBy Rounds h.split.rounds es (edges_in new)) (left_is ∙ sym cuts.leaves)
       h.split.reached in
       record {
         split = record {
@@ -144,13 +154,13 @@ module _ {C : Type 0} (merges : C → C → C → Type 0) (splits reverses : C �
       }
 
   -- where an answer says that a content was split, it is arranged
-  pub arranged_carrying : {T E : Type 0} (limit most : ℕ) (answer : Result T E) (old new : List (Carried C)) →
-      IsContent limit (edges_in old) →
-      OnOk answer (IsSplitCarrying merges splits reverses most old new) →
-      OnOk answer (IsArrangedCarrying merges splits reverses most old new)
-  arranged_carrying limit most (Ok v) old new content h =
+  pub arranged_carrying : {T E : Type 0} (limit : ℕ) (solver : Solver) (answer : Result T E)
+      (old new : List (Carried C)) → IsContent limit (edges_in old) →
+      OnOk answer (IsSplitCarrying merges splits reverses solver (most_rounds solver) old new) →
+      OnOk answer (IsArrangedCarrying merges splits reverses solver old new)
+  arranged_carrying limit solver (Ok v) old new content h =
       record {
-        arranged = arranged_of_split limit most (edges_in old) (edges_in new) content h.split;
+        arranged = arranged_of_split limit solver (edges_in old) (edges_in new) content h.split;
         derived = h.derived;
       }
-  arranged_carrying limit most (Err e) old new content h = h
+  arranged_carrying limit solver (Err e) old new content h = h

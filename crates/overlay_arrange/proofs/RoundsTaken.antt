@@ -4,12 +4,14 @@ use Rattle.std.proofs.lemmas.Bool.{false≢true}
 use Rattle.overlay_geom.specs.Edges.{CountedEdge, weight}
 use Rattle.overlay_geom.specs.Merged.{IsMerged}
 use Rattle.overlay_geom.specs.Settled.{IsSettled}
+use Rattle.overlay_geom.specs.declared.solver.Solver.TheVariants.{Rounds}
 use Rattle.overlay_geom.proofs.MergedOnce.{IsMerged-unique}
 use Rattle.overlay_plane.specs.Arrangements.{IsReachedBy, IsSplit, StaysUnsettled, WeighsTooMuch}
 use Rattle.overlay_plane.specs.Rounds.{Round, IsRound, pieces_of}
 
 -- a merged list that is settled was split without a round
-pub split_at_once : (most : ℕ) (old new : List CountedEdge) → IsMerged old new → IsSettled new → IsSplit most old new
+pub split_at_once : (most : ℕ) (old new : List CountedEdge) → IsMerged old new → IsSettled new →
+    IsSplit Rounds most old new
 split_at_once most old new merged settled = record {
   rounds = [];
   few = omega arith;
@@ -18,12 +20,12 @@ split_at_once most old new merged settled = record {
 
 -- and the answer that it was not cut is right
 pub uncut_where_settled : {old new : List CountedEdge} → IsMerged old new → IsSettled new →
-    (false ≡ false) ↔ IsReachedBy [] old new
+    (false ≡ false) ↔ IsReachedBy Rounds [] old new
 uncut_where_settled merged settled = (λ same. record { cut = tt; merged = merged; settled = settled }, λ reached. refl)
 
 -- where the merged list is not settled, no list is reached without a round
 pub cut_where_unsettled : {old left new : List CountedEdge} → IsMerged old left → ¬ (IsSettled left) →
-    (true ≡ false) ↔ IsReachedBy [] old new
+    (true ≡ false) ↔ IsReachedBy Rounds [] old new
 cut_where_unsettled {old} {left} {new} merged unsettled = (
   λ same. absurd (false≢true (sym same)),
   λ reached. absurd (unsettled (subst IsSettled (IsMerged-unique old new left reached.merged merged) reached.settled)),
@@ -47,10 +49,10 @@ Leaves old left = (r : Round) × IsRound old r × (pieces_of r ≡ left)
 
 -- what a first round leaves was split, so the list was
 pub split_on : (fewer most : ℕ) (old left new : List CountedEdge) → fewer + 1 ≤ most → Leaves old left →
-    IsSplit fewer left new → IsSplit most old new
+    IsSplit Rounds fewer left new → IsSplit Rounds most old new
 split_on fewer most old left new le (r, is, left_is) h =
-    let reached : IsReachedBy h.rounds (pieces_of r) new = subst
-    (λ (es : List CountedEdge). IsReachedBy h.rounds es new) (sym left_is) h.reached in
+    let reached : IsReachedBy Rounds h.rounds (pieces_of r) new = subst
+    (λ (es : List CountedEdge). IsReachedBy Rounds h.rounds es new) (sym left_is) h.reached in
     record {
       rounds = r ∷ h.rounds;
       few = omega (arith, h.few);
@@ -74,15 +76,15 @@ unsettled_on fewer most old left e (r, is, left_is) given =
 
 -- it weighs too much in a later round, so the list does
 pub heavy_on : (limit fewer most : ℕ) (old left : List CountedEdge) → fewer + 1 ≤ most → Leaves old left →
-    WeighsTooMuch fewer limit left → WeighsTooMuch most limit old
+    WeighsTooMuch Rounds fewer limit left → WeighsTooMuch Rounds most limit old
 heavy_on limit fewer most old left le (r, is, left_is) given =
-    let h : WeighsTooMuch fewer limit (pieces_of r) = subst (λ (es : List CountedEdge). WeighsTooMuch fewer limit es)
-    (sym left_is) given in
+    let h : WeighsTooMuch Rounds fewer limit (pieces_of r) = subst
+    (λ (es : List CountedEdge). WeighsTooMuch Rounds fewer limit es) (sym left_is) given in
     record { rounds = r ∷ h.rounds; some = omega arith; few = omega (arith, h.few); cut = (is, h.cut); heavy = h.heavy }
 
 -- it weighs too much at once, so the list does after one round
 pub heavy_at_once : (limit most : ℕ) (old left : List CountedEdge) → 1 ≤ most → Leaves old left → limit ≤ weight left →
-    WeighsTooMuch most limit old
+    WeighsTooMuch Rounds most limit old
 heavy_at_once limit most old left le (r, is, left_is) heavy = record {
   rounds = r ∷ [];
   some = omega arith;

@@ -3,6 +3,8 @@ use Rattle.std.specs.Prelude.{◌≡◌, ℕ, ◌≤◌, ◌^◌, List, length}
 use Rattle.overlay_geom.specs.Edges.{CountedEdge}
 use Rattle.overlay_geom.specs.declared.error.OverlayError.{OverlayError}
 use Rattle.overlay_geom.specs.declared.error.OverlayError.TheVariants.{Memory, NotSettled, TooManyEdges, Failed}
+use Rattle.overlay_geom.specs.declared.solver.Solver.{Solver}
+use Rattle.overlay_geom.specs.declared.solver.Solver.TheVariants.{Rounds, Snapping}
 use Rattle.overlay_plane.specs.Arrangements.{IsReachedBy, IsSplit, IsExact, StaysUnsettled, WeighsTooMuch}
 use Rattle.overlay_plane.specs.Balance.{HasBalancedCounts}
 use Rattle.overlay_plane.specs.Carried.{Carried, edges_in}
@@ -11,19 +13,21 @@ use Rattle.overlay_plane.specs.DerivedData.{AreDerived}
 use Rattle.overlay_plane.specs.Meetings.{MeetInWholePoints}
 use Rattle.overlay_plane.specs.Rounds.{Round, MovingRounds}
 
--- so many times edges are cut at most, before they are given up as not settled
-abbrev pub most_rounds : ℕ
-most_rounds = 64
+-- how many rounds the solver takes at most
+abbrev pub most_rounds : Solver → ℕ
+most_rounds Rounds = 64
+most_rounds Snapping = 1
 
 -- the list is an arrangement already
 abbrev pub WasArranged : List CountedEdge → Type 0
-WasArranged es = (before : List CountedEdge) × (earlier : List Round) × IsReachedBy earlier before es
+WasArranged es =
+    (solver : Solver) × (before : List CountedEdge) × (earlier : List Round) × IsReachedBy solver earlier before es
 
--- the second list is an arrangement of the first one, reached with so many cutting rounds at most
-pub record IsArranged (most : ℕ) (old new : List CountedEdge) : Type 0 where
+-- the second list is an arrangement of the first one, reached by the solver's rounds
+pub record IsArranged (solver : Solver) (old new : List CountedEdge) : Type 0 where
   pub rounds : List Round
-  pub few : length rounds ≤ most
-  pub reached : IsReachedBy rounds old new
+  pub few : length rounds ≤ most_rounds solver
+  pub reached : IsReachedBy solver rounds old new
   -- so many of the rounds moved some point
   pub moving : ℕ
   pub moved : MovingRounds rounds moving
@@ -35,35 +39,35 @@ pub record IsArranged (most : ℕ) (old new : List CountedEdge) : Type 0 where
   -- what was arranged before stays as it is
   pub stays : WasArranged old → new ≡ old
 
--- the second list is reached from the first one with so many cutting rounds at most, and what its edges carry is
--- derived along these rounds
-pub record IsSplitCarrying {C : Type 0} (merges : C → C → C → Type 0) (splits reverses : C → C → Type 0) (most : ℕ)
-    (old new : List (Carried C)) : Type 0 where
-  pub split : IsSplit most (edges_in old) (edges_in new)
+-- the solver reaches the second list from the first one in `most` rounds or fewer, and what its edges carry is derived
+-- along these rounds
+pub record IsSplitCarrying {C : Type 0} (merges : C → C → C → Type 0) (splits reverses : C → C → Type 0)
+    (solver : Solver) (most : ℕ) (old new : List (Carried C)) : Type 0 where
+  pub split : IsSplit solver most (edges_in old) (edges_in new)
   pub derived : AreDerived merges splits reverses split.rounds old new
 
 -- the second list is an arrangement of the first one, and what its edges carry is derived along the rounds that led
 -- there
-pub record IsArrangedCarrying {C : Type 0} (merges : C → C → C → Type 0) (splits reverses : C → C → Type 0) (most : ℕ)
-    (old new : List (Carried C)) : Type 0 where
-  pub arranged : IsArranged most (edges_in old) (edges_in new)
+pub record IsArrangedCarrying {C : Type 0} (merges : C → C → C → Type 0) (splits reverses : C → C → Type 0)
+    (solver : Solver) (old new : List (Carried C)) : Type 0 where
+  pub arranged : IsArranged solver (edges_in old) (edges_in new)
   pub derived : AreDerived merges splits reverses arranged.rounds old new
 
--- so many rounds leave edges that are not settled; they did not meet in whole points alone, and were no arrangement
+-- all cutting rounds leave edges that are not settled; they did not meet in whole points alone, and were no arrangement
 -- already
-pub record CannotBeSettled (most : ℕ) (es : List CountedEdge) : Type 0 where
-  pub unsettled : StaysUnsettled most es
+pub record CannotBeSettled (es : List CountedEdge) : Type 0 where
+  pub unsettled : StaysUnsettled (most_rounds Rounds) es
   pub not_whole : ¬ (MeetInWholePoints es)
   pub not_arranged : ¬ (WasArranged es)
 
--- some round, of so many at most, leaves pieces that weigh 2^31; the edges were no arrangement already
-pub record IsSplitTooMuch (most : ℕ) (es : List CountedEdge) : Type 0 where
-  pub heavy : WeighsTooMuch most (2 ^ 31) es
+-- some round of the solver leaves pieces that weigh 2^31; the edges were no arrangement already
+pub record IsSplitTooMuch (solver : Solver) (es : List CountedEdge) : Type 0 where
+  pub heavy : WeighsTooMuch solver (most_rounds solver) (2 ^ 31) es
   pub not_arranged : ¬ (WasArranged es)
 
--- bringing the edges into an arrangement, with so many cutting rounds at most, may be refused so
-abbrev pub MayRefuseSplitting : ℕ → List CountedEdge → OverlayError → Type 0
-MayRefuseSplitting most es Memory = Unit {0}
-MayRefuseSplitting most es NotSettled = CannotBeSettled most es
-MayRefuseSplitting most es TooManyEdges = IsSplitTooMuch most es
-MayRefuseSplitting most es Failed = ⊥
+-- the solver may refuse so to bring the edges into an arrangement: snap rounding never as not settled
+abbrev pub MayRefuseSplitting : Solver → List CountedEdge → OverlayError → Type 0
+MayRefuseSplitting solver es Memory = Unit {0}
+MayRefuseSplitting solver es NotSettled = (solver ≡ Rounds) × CannotBeSettled es
+MayRefuseSplitting solver es TooManyEdges = IsSplitTooMuch solver es
+MayRefuseSplitting solver es Failed = ⊥

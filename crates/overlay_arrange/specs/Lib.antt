@@ -14,6 +14,7 @@ pub mod Paths
 pub mod Rules
 pub mod Runs
 pub mod Settle
+pub mod SnapMeetings
 pub mod Starts
 pub mod Stores
 pub mod Vectors

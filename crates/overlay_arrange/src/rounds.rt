@@ -9,6 +9,7 @@ ghost use Rattle.overlay_arrange.specs.Content.{IsAscending};
 ghost use Rattle.overlay_arrange.specs.Meetings.{plain_meetings, AreByPlace, AreMeetings};
 ghost use Rattle.overlay_arrange.specs.Stores.{IsStoreReached};
 ghost use Rattle.overlay_geom.specs.Settled.{IsSettled};
+ghost use Rattle.overlay_geom.specs.declared.solver.Solver.TheVariants.{Rounds};
 ghost use Rattle.overlay_plane.specs.Carried.{edges_in};
 ghost use Rattle.overlay_plane.specs.Arrangements.{IsReachedBy, IsSplit, StaysUnsettled, WeighsTooMuch};
 
@@ -20,6 +21,7 @@ use crate::settle::count_settled;
 use crate::strips::strips_of;
 use overlay_geom::error::OverlayError;
 use overlay_geom::number::IntNumber;
+use overlay_geom::solver::Solver;
 use std::alloc::Allocator;
 
 // How often edges are cut before they are given up as not settled: `most_rounds`.
@@ -41,13 +43,27 @@ impl<I: IntNumber, C: EdgeCount, A: Allocator + Clone> Content<I, C, A> {
     /// settled after 64 rounds, `TooManyEdges` where a round brings the weight to 2^31, `Memory`.
     /// What was arranged before is refused for want of memory alone; `NotSettled` does not come
     /// where edges meet only in whole points or overlap.
-    pub fn arrange(&mut self, store: &mut C::Store) -> Result<bool, OverlayError>
-        ensures arranged { OnOk result (IsArranged most_rounds (edges_in self.old) (edges_in self.new)) }
-        ensures carried { OnOk result (IsArrangedCarrying C.merges C.splits C.reverses most_rounds self.old self.new) }
+    pub fn arrange(&mut self, solver: Solver, store: &mut C::Store) -> Result<bool, OverlayError>
+        ensures arranged { OnOk result (IsArranged solver (edges_in self.old) (edges_in self.new)) }
+        ensures carried { OnOk result (IsArrangedCarrying C.merges C.splits C.reverses solver self.old self.new) }
         ensures cut { IfOk result (λ is_cut. (is_cut ≡ false)
-            ↔ IsReachedBy [] (edges_in self.old) (edges_in self.new)) }
+            ↔ IsReachedBy solver [] (edges_in self.old) (edges_in self.new)) }
         ensures store { IsStoreReached C.writes store.old store.new }
-        ensures err { IfErr result (MayRefuseSplitting most_rounds (edges_in self.old)) }
+        ensures err { IfErr result (MayRefuseSplitting solver (edges_in self.old)) }
+    {
+        match solver {
+            Solver::Rounds => self.arrange_in_rounds(store),
+            Solver::Snapping => Err(OverlayError::Memory),
+        }
+    }
+
+    fn arrange_in_rounds(&mut self, store: &mut C::Store) -> Result<bool, OverlayError>
+        ensures arranged { OnOk result (IsArranged Rounds (edges_in self.old) (edges_in self.new)) }
+        ensures carried { OnOk result (IsArrangedCarrying C.merges C.splits C.reverses Rounds self.old self.new) }
+        ensures cut { IfOk result (λ is_cut. (is_cut ≡ false)
+            ↔ IsReachedBy Rounds [] (edges_in self.old) (edges_in self.new)) }
+        ensures store { IsStoreReached C.writes store.old store.new }
+        ensures err { IfErr result (MayRefuseSplitting Rounds (edges_in self.old)) }
     {
         // (its contract says that the edges are in range, and weigh less than 2^31)
         self.note_limits();
@@ -57,14 +73,14 @@ impl<I: IntNumber, C: EdgeCount, A: Allocator + Clone> Content<I, C, A> {
     /// Merges the edges, and cuts them so many times at most, until they are settled. Returns
     /// whether it cut them. If it is refused the content is left open.
     pub fn split(&mut self, rounds: u32, store: &mut C::Store) -> Result<bool, OverlayError>
-        ensures split { OnOk result (IsSplit rounds (edges_in self.old) (edges_in self.new)) }
-        ensures carried { OnOk result (IsSplitCarrying C.merges C.splits C.reverses rounds self.old self.new) }
+        ensures split { OnOk result (IsSplit Rounds rounds (edges_in self.old) (edges_in self.new)) }
+        ensures carried { OnOk result (IsSplitCarrying C.merges C.splits C.reverses Rounds rounds self.old self.new) }
         ensures cut { IfOk result (λ is_cut. (is_cut ≡ false)
-            ↔ IsReachedBy [] (edges_in self.old) (edges_in self.new)) }
+            ↔ IsReachedBy Rounds [] (edges_in self.old) (edges_in self.new)) }
         ensures store { IsStoreReached C.writes store.old store.new }
         ensures not_settled { IsErrOf result OverlayError.NotSettled → StaysUnsettled rounds (edges_in self.old) }
         ensures too_many { IsErrOf result OverlayError.TooManyEdges
-            → WeighsTooMuch rounds (2 ^ 31) (edges_in self.old) }
+            → WeighsTooMuch Rounds rounds (2 ^ 31) (edges_in self.old) }
         ensures usable { result ≢ Err OverlayError.Failed }
     {
         self.split_since(rounds, None, store)
@@ -79,14 +95,14 @@ impl<I: IntNumber, C: EdgeCount, A: Allocator + Clone> Content<I, C, A> {
         store: &mut C::Store,
     ) -> Result<bool, OverlayError>
         requires { IfSome before (λ s. AreOpenIn (edges_in s.edges) s.is_open.items) }
-        ensures split { OnOk result (IsSplit rounds (edges_in self.old) (edges_in self.new)) }
-        ensures carried { OnOk result (IsSplitCarrying C.merges C.splits C.reverses rounds self.old self.new) }
+        ensures split { OnOk result (IsSplit Rounds rounds (edges_in self.old) (edges_in self.new)) }
+        ensures carried { OnOk result (IsSplitCarrying C.merges C.splits C.reverses Rounds rounds self.old self.new) }
         ensures cut { IfOk result (λ is_cut. (is_cut ≡ false)
-            ↔ IsReachedBy [] (edges_in self.old) (edges_in self.new)) }
+            ↔ IsReachedBy Rounds [] (edges_in self.old) (edges_in self.new)) }
         ensures store { IsStoreReached C.writes store.old store.new }
         ensures not_settled { IsErrOf result OverlayError.NotSettled → StaysUnsettled rounds (edges_in self.old) }
         ensures too_many { IsErrOf result OverlayError.TooManyEdges
-            → WeighsTooMuch rounds (2 ^ 31) (edges_in self.old) }
+            → WeighsTooMuch Rounds rounds (2 ^ 31) (edges_in self.old) }
         ensures usable { result ≢ Err OverlayError.Failed }
     {
         self.merge(store)?;

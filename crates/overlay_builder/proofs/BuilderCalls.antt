@@ -7,6 +7,7 @@ use Rattle.std.specs.Prelude.{Option, Result, Ok, Err}
 use Rattle.overlay_geom.specs.Edges.{CountedEdge}
 use Rattle.overlay_geom.specs.declared.error.OverlayError.{OverlayError}
 use Rattle.overlay_geom.specs.declared.error.OverlayError.TheVariants.{Memory, NotSettled, TooManyEdges, Failed}
+use Rattle.overlay_geom.specs.declared.solver.Solver.{Solver}
 use Rattle.overlay_builder.specs.BuilderCalls.{AddsOneAsAsked, AddsPathAsAsked, AddsGivenAsAsked, EndsView}
 use Rattle.overlay_builder.specs.Held.{Held, AnswersQuery, shown_edges}
 use Rattle.overlay_builder.specs.PathLists.{AddedPath, MayRefusePath}
@@ -83,14 +84,15 @@ module _ {X S E V : Type 0} (weigh : List E → ℕ) (steps : S → Option X →
 
 -- ---- views
 
-module _ {B S : Type 0} (held_by : B → Held CountedEdge) (limit most : ℕ) (old : Held CountedEdge) (new : B) (seen : S)
-    (first : AnswersQuery limit most old (held_by new) (Ok seen)) where
+module _ {B S : Type 0} (held_by : B → Held CountedEdge) (limit : ℕ) (solver : Solver) (old : Held CountedEdge)
+    (new : B) (seen : S)
+    (first : AnswersQuery limit solver old (held_by new) (Ok seen)) where
   -- once a view of an answer has ended, the builder is as after any query
   pub view_ended : {V : Type 0} {edges_of : V → List CountedEdge} {shown : Option V} {later : B} → later ≡ new →
-      shown_edges edges_of shown ≡ (held_by new).edges → EndsView limit most edges_of old (held_by later) (Ok shown)
+      shown_edges edges_of shown ≡ (held_by new).edges → EndsView limit solver edges_of old (held_by later) (Ok shown)
   view_ended {edges_of = edges_of} {shown = shown} is are =
-      subst (λ b. EndsView limit most edges_of old (held_by b) (Ok shown)) (sym is) (record {
-        query = answers_after limit most old (held_by new) (held_by new) seen first (Ok shown)
+      subst (λ b. EndsView limit solver edges_of old (held_by b) (Ok shown)) (sym is) (record {
+        query = answers_after limit solver old (held_by new) (held_by new) seen first (Ok shown)
             (λ i. (held_by new).edges) first.stays_usable tt;
         shown = are;
       })

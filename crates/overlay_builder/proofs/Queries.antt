@@ -6,16 +6,17 @@ use Rattle.std.specs.Prelude.{Result, Ok, Err, OnOk, IfErr, IsErrOf}
 use Rattle.overlay_geom.specs.Edges.{CountedEdge}
 use Rattle.overlay_geom.specs.declared.error.OverlayError.{OverlayError}
 use Rattle.overlay_geom.specs.declared.error.OverlayError.TheVariants.{Memory, Failed}
+use Rattle.overlay_geom.specs.declared.solver.Solver.{Solver}
 use Rattle.overlay_arrange.specs.Arranged.{IsArranged, MayRefuseSplitting}
 use Rattle.overlay_arrange.specs.Content.{IsContent}
 use Rattle.overlay_builder.specs.Held.{Held, AnswersQuery}
 
-module _ {V : Type 0} (limit most : ℕ) (old : Held CountedEdge) where
+module _ {V : Type 0} (limit : ℕ) (solver : Solver) (old : Held CountedEdge) where
   module _ (ready : old.failed ≡ false) (new : Held CountedEdge) where
     -- one that had not answers by the arrangement of its edges, or remembers that it was refused
-    pub answers_arranged : (r : Result V OverlayError) → OnOk r (IsArranged most old.edges new.edges) →
+    pub answers_arranged : (r : Result V OverlayError) → OnOk r (IsArranged solver old.edges new.edges) →
         IsContent limit new.edges
-        → IfErr r (MayRefuseSplitting most old.edges) → new.failed ≡ is_err r → AnswersQuery limit most old new r
+        → IfErr r (MayRefuseSplitting solver old.edges) → new.failed ≡ is_err r → AnswersQuery limit solver old new r
     answers_arranged (Ok v) arranged content refused flag = record {
       usable = ready;
       stays_usable = flag;
@@ -41,17 +42,17 @@ module _ {V : Type 0} (limit most : ℕ) (old : Held CountedEdge) where
     }
       where
         not_failed : ¬ (IsErrOf {T = V} (Err e) Failed)
-        not_failed same = subst (λ answer. IfErr {T = V} answer (MayRefuseSplitting most old.edges)) same refused
+        not_failed same = subst (λ answer. IfErr {T = V} answer (MayRefuseSplitting solver old.edges)) same refused
 
 -- more is asked of the arrangement, which may be refused for want of memory
-pub answers_after : {U V : Type 0} (limit most : ℕ) (old mid new : Held CountedEdge) (v : U) →
-    AnswersQuery limit most old mid (Ok v)
+pub answers_after : {U V : Type 0} (limit : ℕ) (solver : Solver) (old mid new : Held CountedEdge) (v : U) →
+    AnswersQuery limit solver old mid (Ok v)
     → (r : Result V OverlayError) → new.edges ≡ mid.edges → new.failed ≡ is_err r → IfErr r (λ e. e ≡ Memory)
-    → AnswersQuery limit most old new r
-answers_after {V = V} limit most old mid new v first r edges flag refused =
-    answers_arranged limit most old first.usable new r (by r) (subst (IsContent limit) (sym edges) first.content)
-    (IfErr-weaker r _ _ (λ e is. subst (MayRefuseSplitting most old.edges) (sym is) tt) refused) flag
+    → AnswersQuery limit solver old new r
+answers_after {V = V} limit solver old mid new v first r edges flag refused =
+    answers_arranged limit solver old first.usable new r (by r) (subst (IsContent limit) (sym edges) first.content)
+    (IfErr-weaker r _ _ (λ e is. subst (MayRefuseSplitting solver old.edges) (sym is) tt) refused) flag
   where
-    by : (r : Result V OverlayError) → OnOk r (IsArranged most old.edges new.edges)
-    by (Ok w) = subst (IsArranged most old.edges) (sym edges) first.arranged
+    by : (r : Result V OverlayError) → OnOk r (IsArranged solver old.edges new.edges)
+    by (Ok w) = subst (IsArranged solver old.edges) (sym edges) first.arranged
     by (Err e) = tt

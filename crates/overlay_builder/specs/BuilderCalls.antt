@@ -6,6 +6,7 @@ use Rattle.overlay_geom.specs.Edges.{CountedEdge, AddsContour, weight}
 use Rattle.overlay_geom.specs.Plane.{Point}
 use Rattle.overlay_geom.specs.declared.error.OverlayError.{OverlayError}
 use Rattle.overlay_geom.specs.declared.error.OverlayError.TheVariants.{NotSettled, TooManyEdges, Failed}
+use Rattle.overlay_geom.specs.declared.solver.Solver.{Solver}
 use Rattle.overlay_arrange.specs.Content.{edge_for}
 use Rattle.overlay_arrange.specs.declared.options.ShapeType.{ShapeType}
 use Rattle.overlay_builder.specs.GivenPaths.{ContourWeighsTooMuch}
@@ -52,7 +53,8 @@ AddsGivenAsAsked {X = X} weigh steps iter Adds WeighsTooMuch old new result =
 -- ---- viewing
 
 -- a builder after a view of it has ended: it is as after any other query, and holds the edges that the view showed
-pub record EndsView {V : Type 0} (limit most : ℕ) (edges_of : V → List CountedEdge) (old new : Held CountedEdge)
+pub record EndsView {V : Type 0} (limit : ℕ) (solver : Solver) (edges_of : V → List CountedEdge)
+    (old new : Held CountedEdge)
     (result : Result (Option V) OverlayError) : Type 0 where
-  pub query : AnswersQuery limit most old new result
+  pub query : AnswersQuery limit solver old new result
   pub shown : IfOk result (λ o. shown_edges edges_of o ≡ new.edges)

@@ -4,6 +4,7 @@ use Rattle.std.specs.Prelude.{Result, IfErr, IsErrOf, OnOk}
 use Rattle.overlay_geom.specs.Edges.{CountedEdge}
 use Rattle.overlay_geom.specs.declared.error.OverlayError.{OverlayError}
 use Rattle.overlay_geom.specs.declared.error.OverlayError.TheVariants.{Failed}
+use Rattle.overlay_geom.specs.declared.solver.Solver.{Solver}
 use Rattle.overlay_arrange.specs.Arranged.{IsArranged, MayRefuseSplitting}
 use Rattle.overlay_plane.specs.Carried.{Carried, edges_in}
 use Rattle.overlay_arrange.specs.Content.{IsContent}
@@ -21,20 +22,20 @@ nothing_held = record { edges = []; failed = false }
 abbrev pub plain_held : {C : Type 0} → Held (Carried C) → Held CountedEdge
 plain_held h = record { edges = edges_in h.edges; failed = h.failed }
 
--- a query, of what a builder held before and holds afterwards, is answered so, with so many cutting rounds at most
-pub record AnswersQuery {V : Type 0} (limit most : ℕ) (old new : Held CountedEdge)
+-- a query by the solver, of what a builder held before and holds afterwards, is answered so
+pub record AnswersQuery {V : Type 0} (limit : ℕ) (solver : Solver) (old new : Held CountedEdge)
     (result : Result V OverlayError) : Type 0 where
   -- an answer comes only of a builder that had not failed, and leaves it so; it holds the arrangement of what it held
   pub usable : OnOk result (old.failed ≡ false)
   pub stays_usable : OnOk result (new.failed ≡ false)
-  pub arranged : OnOk result (IsArranged most old.edges new.edges)
+  pub arranged : OnOk result (IsArranged solver old.edges new.edges)
   pub content : OnOk result (IsContent limit new.edges)
   -- any refusal leaves it failed: Failed exactly where it had failed
   pub fails : IfErr result (λ e. new.failed ≡ true)
   pub failed : IsErrOf result Failed ↔ (old.failed ≡ true)
   pub untouched : IsErrOf result Failed → new ≡ old
   -- any other refusal is one of bringing the edges into an arrangement
-  pub err : IfErr result (λ e. (e ≡ Failed) ⊎ MayRefuseSplitting most old.edges e)
+  pub err : IfErr result (λ e. (e ≡ Failed) ⊎ MayRefuseSplitting solver old.edges e)
 
 -- the edges that an answer shows: those of the view, and none where there is no view
 abbrev pub shown_edges : {V : Type 0} → (V → List CountedEdge) → Option V → List CountedEdge

@@ -6,7 +6,7 @@ ghost use Rattle.overlay_geom.specs.Counts.{weight_of_counts};
 ghost use Rattle.overlay_geom.specs.Points.{plain_point, plain_points, InRange, AllInRange};
 ghost use Rattle.overlay_plane.specs.Arrangements.{IsReachedBy};
 ghost use Rattle.overlay_plane.specs.Carried.{edges_in};
-ghost use Rattle.overlay_arrange.specs.Arranged.{IsArrangedCarrying, most_rounds};
+ghost use Rattle.overlay_arrange.specs.Arranged.{IsArrangedCarrying};
 ghost use Rattle.overlay_arrange.specs.Content.{IsContent};
 ghost use Rattle.overlay_arrange.specs.Stores.{IsStoreReached};
 ghost use Rattle.overlay_builder.specs.AddedSteps.{AddsStep, LeavesStore, StepWeighsTooMuch};
@@ -23,6 +23,7 @@ use overlay_geom::error::OverlayError;
 use overlay_geom::number::IntNumber;
 use overlay_geom::point::IntPoint;
 use overlay_geom::resource::IntShapeResource;
+use overlay_geom::solver::Solver;
 use std::alloc::Allocator;
 use std::marker::Model;
 
@@ -171,19 +172,19 @@ impl<I: IntNumber, C: EdgeCount, A: Allocator + Clone> BuilderCore<I, C, A> {
         Ok(())
     }
 
-    /// Brings the edges into an arrangement, and returns whether some were cut. A refusal leaves the
+    /// Brings the edges into an arrangement by this solver, and returns whether some were cut. A refusal leaves the
     /// core failed.
-    pub fn arrange(&mut self, store: &mut C::Store) -> Result<bool, OverlayError>
-        ensures query { AnswersQuery I.limit most_rounds (plain_held self.old) (plain_held self.new) result }
+    pub fn arrange(&mut self, solver: Solver, store: &mut C::Store) -> Result<bool, OverlayError>
+        ensures query { AnswersQuery I.limit solver (plain_held self.old) (plain_held self.new) result }
         ensures carried { OnOk result
-            (IsArrangedCarrying C.merges C.splits C.reverses most_rounds self.old.edges self.new.edges) }
+            (IsArrangedCarrying C.merges C.splits C.reverses solver self.old.edges self.new.edges) }
         ensures store { IsStoreReached C.writes store.old store.new }
         ensures untouched { IsErrOf result OverlayError.Failed → self.new ≡ self.old }
         ensures cut { IfOk result (λ is_cut. (is_cut ≡ false)
-            ↔ IsReachedBy [] (edges_in self.old.edges) (edges_in self.new.edges)) }
+            ↔ IsReachedBy solver [] (edges_in self.old.edges) (edges_in self.new.edges)) }
     {
         self.check_usable()?;
-        let arranged = self.content.arrange(store);
+        let arranged = self.content.arrange(solver, store);
         self.content.note_limits();
         self.is_failed = arranged.is_err();
         arranged

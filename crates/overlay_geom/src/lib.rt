@@ -11,5 +11,6 @@ pub mod path;
 pub mod point;
 pub mod resolved;
 pub mod resource;
+pub mod solver;
 pub mod thin;
 pub mod vector;

@@ -17,7 +17,9 @@ use Rattle.overlay_plane.specs.ChainLinks.{count_of_chains}
 use Rattle.overlay_plane.specs.ChainLinks.ChainLink.{held, dropped}
 use Rattle.overlay_plane.specs.Cutting.{piece_along, pieces_through}
 use Rattle.overlay_plane.specs.EdgeLists.{IsForwardBy}
-use Rattle.overlay_plane.specs.Rounds.{Round, IsRound, AreRounds, chain_of, whole_cuts, pieces_of, after_rounds}
+use Rattle.overlay_plane.specs.RoundLists.{AreEachRounds}
+use Rattle.overlay_plane.specs.Rounds.{Round, chain_of, whole_cuts, pieces_of, after_rounds}
+use Rattle.overlay_plane.proofs.AnyRounds.{IsAnyRound}
 use Rattle.overlay_plane.proofs.EdgesOfSteps.{edge_by}
 use Rattle.overlay_plane.proofs.FoundEntries.{IsFound, found_by}
 use Rattle.overlay_plane.proofs.JoinedLists.{total-map, total-flat_map, total-times, taken_out}
@@ -100,7 +102,7 @@ module _ (count : CountedEdge → ℤ) (goes_over : GoesOver count) where
       pub by_dropped : (f : Edge) → weighed count old links (dropped_along f) ≡ pos 0
 
     -- so they do after a round
-    counts_in_a_round : (es : List CountedEdge) (r : Round) → IsRound es r → (links : CountedEdge → List ChainLink) →
+    counts_in_a_round : (es : List CountedEdge) (r : Round) → IsAnyRound es r → (links : CountedEdge → List ChainLink) →
         MakeCounts links es →
         MakeCounts (λ e. flat_map (links_after r) (links e)) (pieces_of r)
     counts_in_a_round es r round links make = record {
@@ -128,7 +130,7 @@ module _ (count : CountedEdge → ℤ) (goes_over : GoesOver count) where
     }
 
     -- and after all rounds
-    counts_in_rounds : (es : List CountedEdge) (rs : List Round) → AreRounds es rs →
+    counts_in_rounds : (es : List CountedEdge) (rs : List Round) → AreEachRounds IsAnyRound es rs →
         (links : CountedEdge → List ChainLink) → MakeCounts links es →
         MakeCounts (λ e. links_through rs (links e)) (after_rounds es rs)
     counts_in_rounds es [] rounds links make = make
@@ -168,7 +170,7 @@ module _ (count : CountedEdge → ℤ) (goes_over : GoesOver count) where
     held_or_dropped f (dropped s) = sym (+ℤ_idl (along f s))
 
     -- what the chains count along an edge is what the rounds leave there
-    count_of_chains-is : (rs : List Round) → AreRounds old rs → IsForwardBy ends_of old → (f : Edge) →
+    count_of_chains-is : (rs : List Round) → AreEachRounds IsAnyRound old rs → IsForwardBy ends_of old → (f : Edge) →
         count_of_chains count rs old f ≡ total count (edges_between (after_rounds old rs) f)
     count_of_chains-is rs rounds forward f =
         total-same (λ e. total (λ t. cond (edge_eq (edge_of t) f) (sign_of t *ℤ count e) (pos 0)) (chain_through rs e))
@@ -191,7 +193,7 @@ module _ (count : CountedEdge → ℤ) (goes_over : GoesOver count) where
         make = counts_in_rounds old rs rounds own_chain (counts_at_first forward)
 
     -- so the chains make the counts of the arrangement
-    pub chains_make_counts : (rs : List Round) (new : List CountedEdge) → AreRounds old rs →
+    pub chains_make_counts : (rs : List Round) (new : List CountedEdge) → AreEachRounds IsAnyRound old rs →
         IsMerged (after_rounds old rs) new → IsForwardBy ends_of old →
         All (λ f. count f ≡ count_of_chains count rs old (ends_of f)) new
     chains_make_counts rs new rounds merged forward = All-weaker (Contains new)

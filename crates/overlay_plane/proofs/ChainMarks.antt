@@ -13,7 +13,9 @@ use Rattle.overlay_plane.specs.ChainLinks.{IsMarkedBy, marks_along, marks_agains
 use Rattle.overlay_plane.specs.ChainLinks.ChainLink.{held, dropped}
 use Rattle.overlay_plane.specs.EdgeLists.{IsForwardBy}
 use Rattle.overlay_plane.specs.MarkedChains.{IsMarkedStep, MarkedChainsStay}
-use Rattle.overlay_plane.specs.Rounds.{Round, AreRounds, pieces_of, after_rounds}
+use Rattle.overlay_plane.specs.RoundLists.{AreEachRounds}
+use Rattle.overlay_plane.specs.Rounds.{Round, pieces_of, after_rounds}
+use Rattle.overlay_plane.proofs.AnyRounds.{IsAnyRound, any_rounds}
 use Rattle.overlay_plane.proofs.EdgeMarks.{mark, marks, along_edge, HasMarked, merged_marked, marked_merged}
 use Rattle.overlay_plane.proofs.EdgeMarks.{marked_held, marks-along, marks-against}
 use Rattle.overlay_plane.proofs.EdgesOfSteps.{edge_by}
@@ -23,7 +25,7 @@ use Rattle.overlay_plane.proofs.Totals.{Contains-head}
 
 module _ (old : List CountedEdge) where
   -- the links of the chains make the marks after all rounds
-  make_in_rounds : (es : List CountedEdge) (rs : List Round) → AreRounds es rs →
+  make_in_rounds : (es : List CountedEdge) (rs : List Round) → AreEachRounds IsAnyRound es rs →
       (links : CountedEdge → List ChainLink) → MakeMarks old links es →
       MakeMarks old (λ e. links_through rs (links e)) (after_rounds es rs)
   make_in_rounds es [] rounds links make = make
@@ -66,7 +68,7 @@ module _ (old : List CountedEdge) where
       runs : (e : CountedEdge) → Contains old e → point_lt e.a e.b ≡ true
       runs e c = All-contains (λ d. point_lt d.a d.b ≡ true) old e forward c
 
-  module _ (rs : List Round) (new : List CountedEdge) (rounds : AreRounds old rs)
+  module _ (rs : List Round) (new : List CountedEdge) (rounds : AreEachRounds IsAnyRound old rs)
       (merged : IsMerged (after_rounds old rs) new) (forward : IsForwardBy ends_of old) where
     -- the links after all rounds
     abbrev links : CountedEdge → List ChainLink
@@ -152,6 +154,7 @@ module _ (old : List CountedEdge) where
 
 -- the law of the chains of edges with a mark
 pub marked_chains_stay : MarkedChainsStay
-marked_chains_stay rounds old new forward reached e inside marked =
-    ⊎_elim (marked_step old rounds new reached.cut reached.merged forward e inside true)
-    (marked_step old rounds new reached.cut reached.merged forward e inside false) marked
+marked_chains_stay solver rounds old new forward reached e inside marked =
+    let cut = any_rounds solver old rounds reached.cut in
+    ⊎_elim (marked_step old rounds new cut reached.merged forward e inside true)
+    (marked_step old rounds new cut reached.merged forward e inside false) marked

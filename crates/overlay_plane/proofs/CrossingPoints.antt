@@ -37,12 +37,12 @@ part_on e t d positive begun within = record {
 -- ---- how far along
 
 -- the size of a number that is not negative
-abs_up : (z : ℤ) → pos 0 ≤ℤ z → pos (nat_abs z) ≡ z
+pub abs_up : (z : ℤ) → pos 0 ≤ℤ z → pos (nat_abs z) ≡ z
 abs_up (pos n) h = refl
 abs_up (negsuc n) h = absurd (omega linear)
 
 -- and of one that is not positive
-abs_down : (z : ℤ) → z ≤ℤ pos 0 → pos (nat_abs z) ≡ neg_ℤ z
+pub abs_down : (z : ℤ) → z ≤ℤ pos 0 → pos (nat_abs z) ≡ neg_ℤ z
 abs_down (pos n) h = omega linear
 abs_down (negsuc n) h = refl
 

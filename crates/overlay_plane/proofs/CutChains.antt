@@ -34,7 +34,7 @@ use Rattle.overlay_plane.proofs.WholeOnEdges.{forward_from_test}
 -- ---- an edge and itself
 
 -- an edge lies along itself
-along_itself : (e : Edge) → IsAlong e e
+pub along_itself : (e : Edge) → IsAlong e e
 along_itself e = (
   solve 4 (λ ax ay bx by. crossE ax ay bx by ax ay ≗ number (pos 0)) tt e.a.x e.a.y e.b.x e.b.y,
   solve 4 (λ ax ay bx by. crossE ax ay bx by bx by ≗ number (pos 0)) tt e.a.x e.a.y e.b.x e.b.y,
@@ -65,6 +65,31 @@ entries_with_ends a b us vs each z at_z = ⊎_elim (λ is. placed (inl (sym is))
     placed (inr (inl is)) = subst (λ u. Contains (a ∷ vs ++ b ∷ []) u) (sym is)
         (Contains-later a (vs ++ b ∷ []) b (Contains-push vs b))
     placed (inr (inr in_vs)) = Contains-later a (vs ++ b ∷ []) z (Contains-append_left vs (b ∷ []) z in_vs)
+
+-- two lists in order along an edge, of which the second lies between its ends, and each has the entries of the other or
+-- ends, lead it along one chain
+pub chains_alike : (e : Edge) → IsBefore e.a e.b → (us vs : List Point) →
+    Each (IsUpToAlong e) us → Each (IsUpToAlong e) vs →
+    ((v : Point) → Contains vs v → IsUpToAlong e e.a v × IsUpToAlong e v e.b) →
+    ((v : Point) → Contains us v → IsEndOrIn e.a e.b vs v) → ((v : Point) → Contains vs v → IsEndOrIn e.a e.b us v) →
+    steps_through e.a (us ++ e.b ∷ []) ≡ steps_through e.a (vs ++ e.b ∷ [])
+chains_alike e before us vs us_in_order vs_in_order within forth back =
+    same_chain_steps (IsUpToAlong e) (along-reflexive e) (along-antisymmetric e) e.a (us ++ e.b ∷ []) (vs ++ e.b ∷ [])
+    (Each-between_ends (IsUpToAlong e) e.a e.b us ends_in_order also_within us_in_order)
+    (Each-between_ends (IsUpToAlong e) e.a e.b vs ends_in_order within vs_in_order)
+    (record { forth = entries_with_ends e.a e.b us vs forth; back = entries_with_ends e.a e.b vs us back })
+  where
+    IsWithin : Point → Type 0
+    IsWithin v = IsUpToAlong e e.a v × IsUpToAlong e v e.b
+
+    ends_in_order : IsUpToAlong e e.a e.b
+    ends_in_order = start_up_to_end e before
+
+    also_within : (v : Point) → Contains us v → IsWithin v
+    also_within v at_v = ⊎_elim (λ is. subst IsWithin (sym is) (along-reflexive e e.a, ends_in_order))
+        (λ other. ⊎_elim (λ is. subst IsWithin (sym is) (ends_in_order, along-reflexive e e.b))
+        (λ in_vs. within v in_vs) other)
+        (forth v at_v)
 
 -- ---- the two chains of an edge
 
@@ -109,7 +134,7 @@ module _ (es : List CountedEdge) (forward : IsForwardBy ends_of es) (e : Counted
           (led_by f) v (are_nearest f at_f differ).to at_v)
 
   -- so each computed point is
-  computed_is_rounded : (v : Point) → Contains (cut_points es e) v → IsEndOrIn e.a e.b rounded v
+  pub computed_is_rounded : (v : Point) → Contains (cut_points es e) v → IsEndOrIn e.a e.b rounded v
   computed_is_rounded v at_v =
       let from = Contains-from_flat_map led_by es v (Contains-in_order (comes_first (ends_of e)) computed v at_v) in
       led_is_rounded from.0 from.1 v from.2
@@ -120,7 +145,8 @@ module _ (es : List CountedEdge) (forward : IsForwardBy ends_of es) (e : Counted
       (Contains-flat_map led_by es f v at_f at_v)
 
   -- each cut rounded is an end of e or a computed point
-  cut_is_computed : (p : PlanePoint) → Contains (cuts_of es e) p → IsEndOrIn e.a e.b (cut_points es e) (nearest_point p)
+  pub cut_is_computed : (p : PlanePoint) → Contains (cuts_of es e) p →
+      IsEndOrIn e.a e.b (cut_points es e) (nearest_point p)
   cut_is_computed p at_p = ⊎_elim (λ is. inl is)
       (λ other. inr (⊎_elim (λ is. inl is) (λ met. inr (put_in_order f at_f (nearest_point p) met)) other))
       (All-contains (λ q. IsEndOrIn e.a e.b (led_by f) (nearest_point q)) (points_between e f) p
@@ -194,25 +220,13 @@ module _ (es : List CountedEdge) (forward : IsForwardBy ends_of es) (e : Counted
 
   -- the two chains have the same steps
   pub same_chain : steps_through e.a (rounded ++ e.b ∷ []) ≡ steps_through e.a (cut_points es e ++ e.b ∷ [])
-  same_chain = same_chain_steps IsUpTo (along-reflexive (ends_of e)) (along-antisymmetric (ends_of e)) e.a
-      (rounded ++ e.b ∷ []) (cut_points es e ++ e.b ∷ [])
-      (Each-between_ends IsUpTo e.a e.b rounded ends_in_order rounded_within rounded_in_order)
-      (Each-between_ends IsUpTo e.a e.b (cut_points es e) ends_in_order computed_within computed_in_order)
-      (record {
-        forth = entries_with_ends e.a e.b rounded (cut_points es e) rounded_is_computed;
-        back = entries_with_ends e.a e.b (cut_points es e) rounded computed_is_rounded;
-      })
+  same_chain = chains_alike (ends_of e) before rounded (cut_points es e) rounded_in_order computed_in_order
+      computed_within rounded_is_computed computed_is_rounded
 
   -- so has the chain through any other points in order along e that are, but for ends, the computed ones
   pub same_chain_through : (us : List Point) → Each IsUpTo us →
       ((v : Point) → Contains us v → Contains (cut_points es e) v)
       → ((v : Point) → Contains (cut_points es e) v → IsEndOrIn e.a e.b us v)
       → steps_through e.a (us ++ e.b ∷ []) ≡ steps_through e.a (cut_points es e ++ e.b ∷ [])
-  same_chain_through us us_in_order computed_of all = same_chain_steps IsUpTo (along-reflexive (ends_of e))
-      (along-antisymmetric (ends_of e)) e.a (us ++ e.b ∷ []) (cut_points es e ++ e.b ∷ [])
-      (Each-between_ends IsUpTo e.a e.b us ends_in_order (λ v at_v. computed_within v (computed_of v at_v)) us_in_order)
-      (Each-between_ends IsUpTo e.a e.b (cut_points es e) ends_in_order computed_within computed_in_order)
-      (record {
-        forth = entries_with_ends e.a e.b us (cut_points es e) (λ v at_v. inr (inr (computed_of v at_v)));
-        back = entries_with_ends e.a e.b (cut_points es e) us all;
-      })
+  same_chain_through us us_in_order computed_of all = chains_alike (ends_of e) before us (cut_points es e)
+      us_in_order computed_in_order computed_within (λ v at_v. inr (inr (computed_of v at_v))) all

@@ -6,15 +6,18 @@ use Rattle.std.proofs.lemmas.List.Elements.{All-contains, Contains-get_or}
 use Rattle.overlay_geom.specs.Edges.{CountedEdge, ends_of}
 use Rattle.overlay_geom.specs.Merged.{HaveSameWindings}
 use Rattle.overlay_geom.specs.Plane.{Point, IsAt, in_plane, cross_at}
+use Rattle.overlay_geom.specs.declared.solver.Solver.{Solver}
 use Rattle.overlay_geom.proofs.MergedWindings.{windings_from_merged}
 use Rattle.overlay_geom.proofs.Signs.{mul-zero}
 use Rattle.overlay_plane.specs.Arrangements.{IsReachedBy, IsExact, WholeMeetingsAreExact}
 use Rattle.overlay_plane.specs.Cutting.{AreOnLine}
 use Rattle.overlay_plane.specs.EdgeLists.{IsForwardBy}
 use Rattle.overlay_plane.specs.Meetings.{MeetInWholePoints}
-use Rattle.overlay_plane.specs.Rounds.{Round, IsRound, AreRounds, MovesNone, MovesSome, MovingRounds, whole_cuts}
+use Rattle.overlay_plane.specs.RoundLists.{AreRounds}
+use Rattle.overlay_plane.specs.Rounds.{Round, IsRound, MovesNone, MovesSome, MovingRounds, whole_cuts}
 use Rattle.overlay_plane.specs.Rounds.{pieces_of}
 use Rattle.overlay_plane.specs.Rounds.MovingRounds.{none, exact, moving}
+use Rattle.overlay_plane.proofs.AnyRounds.{IsAnyRound, any_round, whole_round}
 use Rattle.overlay_plane.proofs.Entries.{Contains-from_any}
 use Rattle.overlay_plane.proofs.CutOnLines.{cutting_on_lines_keeps_windings}
 use Rattle.overlay_plane.proofs.SettledPieces.{pieces_settled}
@@ -59,42 +62,45 @@ round_keeps_windings old r round h =
     (λ k d l. cuts_on_line r h (get_or r.edges k d) (Contains-get_or r.edges k d l)))
 
 -- no round comes after it
-no_second_round : (old : List CountedEdge) (r next : Round) (rounds : List Round) → IsForwardBy ends_of old →
-    MeetInWholePoints old →
-    ¬ (AreRounds old (r ∷ next ∷ rounds))
-no_second_round old r next rounds forward whole cut = second.unsettled
-    (pieces_settled r (cuts_whole old r forward whole cut.0) next.edges second.merged)
+no_second_round : (solver : Solver) (old : List CountedEdge) (r next : Round) (rounds : List Round) →
+    IsForwardBy ends_of old → MeetInWholePoints old → ¬ (AreRounds solver old (r ∷ next ∷ rounds))
+no_second_round solver old r next rounds forward whole cut = second.unsettled
+    (pieces_settled r (cuts_whole old r forward whole (whole_round solver old r whole cut.0)) next.edges second.merged)
   where
-    second : IsRound (pieces_of r) next
-    second = cut.1.0
+    second : IsAnyRound (pieces_of r) next
+    second = any_round solver (pieces_of r) next cut.1.0
 
 -- so there is one at most
-one_round : (rounds : List Round) (old : List CountedEdge) → IsForwardBy ends_of old → MeetInWholePoints old →
-    AreRounds old rounds → length rounds ≤ 1
-one_round [] old forward whole cut = omega arith
-one_round (r ∷ []) old forward whole cut = omega arith
-one_round (r ∷ next ∷ rounds) old forward whole cut = absurd (no_second_round old r next rounds forward whole cut)
+one_round : (solver : Solver) (rounds : List Round) (old : List CountedEdge) → IsForwardBy ends_of old →
+    MeetInWholePoints old → AreRounds solver old rounds → length rounds ≤ 1
+one_round solver [] old forward whole cut = omega arith
+one_round solver (r ∷ []) old forward whole cut = omega arith
+one_round solver (r ∷ next ∷ rounds) old forward whole cut =
+    absurd (no_second_round solver old r next rounds forward whole cut)
 
 -- and what is reached is exact
-exactly_reached : (rounds : List Round) (k : ℕ) (old new : List CountedEdge) → IsForwardBy ends_of old →
-    MeetInWholePoints old →
-    IsReachedBy rounds old new → MovingRounds rounds k → IsExact rounds k old new
-exactly_reached [] k old new forward whole reached none = record {
+exactly_reached : (solver : Solver) (rounds : List Round) (k : ℕ) (old new : List CountedEdge) →
+    IsForwardBy ends_of old → MeetInWholePoints old → IsReachedBy solver rounds old new → MovingRounds rounds k →
+    IsExact rounds k old new
+exactly_reached solver [] k old new forward whole reached none = record {
   one_round = omega arith;
   none_moved = refl;
   windings = windings_from_merged old new reached.merged;
 }
-exactly_reached (r ∷ []) k old new forward whole reached moved = record {
+exactly_reached solver (r ∷ []) k old new forward whole reached moved = record {
   one_round = omega arith;
   none_moved = none_moving r k (moves_none r h) moved;
-  windings = windings_through old (pieces_of r) new (round_keeps_windings old r reached.cut.0 h)
+  windings = windings_through old (pieces_of r) new (round_keeps_windings old r taken h)
       (windings_from_merged (pieces_of r) new reached.merged);
 }
   where
+    taken : IsRound old r
+    taken = whole_round solver old r whole reached.cut.0
+
     h : CutsWhole r
-    h = cuts_whole old r forward whole reached.cut.0
-exactly_reached (r ∷ next ∷ rounds) k old new forward whole reached moved = absurd
-    (no_second_round old r next rounds forward whole reached.cut)
+    h = cuts_whole old r forward whole taken
+exactly_reached solver (r ∷ next ∷ rounds) k old new forward whole reached moved = absurd
+    (no_second_round solver old r next rounds forward whole reached.cut)
 
 -- the law of whole meeting points
 pub whole_meetings_are_exact : WholeMeetingsAreExact

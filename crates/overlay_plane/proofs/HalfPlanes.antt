@@ -12,9 +12,10 @@ use Rattle.overlay_plane.specs.ChainLinks.ChainLink.{held}
 use Rattle.overlay_plane.specs.Cutting.{piece_along, pieces_through}
 use Rattle.overlay_plane.specs.HalfPlanes.{HalfPlane, IsInHalf, IsStepInHalf, IsEdgeInHalf, ChainsStayInHalfPlanes}
 use Rattle.overlay_plane.specs.HalfPlanes.{ArrangementsStayInHalfPlanes}
-use Rattle.overlay_plane.specs.Meetings.{MeetsAnother}
-use Rattle.overlay_plane.specs.Rounds.{Round, IsRound, IsCutAt, AreRounds, pieces_of, after_rounds, chain_of}
+use Rattle.overlay_plane.specs.RoundLists.{AreEachRounds}
+use Rattle.overlay_plane.specs.Rounds.{Round, pieces_of, after_rounds, chain_of}
 use Rattle.overlay_plane.specs.Rounds.{whole_cuts}
+use Rattle.overlay_plane.proofs.AnyRounds.{IsAnyRound, any_rounds}
 use Rattle.overlay_plane.proofs.EdgesOfSteps.{edge_by}
 use Rattle.overlay_plane.proofs.Entries.{Contains-from_map, Contains-from_flat_map}
 use Rattle.overlay_plane.proofs.LinksKept.{IsBetweenGood, good_through, AllLinks, links_kept}
@@ -30,20 +31,16 @@ module _ (h : HalfPlane) where
       by true = in_half
       by false = (in_half.1, in_half.0)
 
-  module _ (old : List CountedEdge) (r : Round) (round : IsRound old r) where
+  module _ (old : List CountedEdge) (r : Round) (round : IsAnyRound old r) where
     -- the whole points of an edge's cuts are in the half plane, where its ends are
     cuts_in_half : (f : CountedEdge) → Contains r.edges f → IsEdgeInHalf h f → All (IsInHalf h) (whole_cuts r f)
     cuts_in_half f c ends = All-map (IsInHalf h) r.whole_at (r.cuts f)
         (All-weaker (Contains (r.cuts f)) (λ p. IsInHalf h (r.whole_at p)) at (r.cuts f)
         (All-contains_itself (r.cuts f)))
       where
-        cut : IsCutAt r.edges f (r.cuts f)
-        cut = All-contains (λ g. IsCutAt r.edges g (r.cuts g)) r.edges f round.cut c
-
         at : (p : PlanePoint) → Contains (r.cuts f) p → IsInHalf h (r.whole_at p)
         at p here = rounded_in_half h (ends_of f) p (r.whole_at p) ends.0 ends.1
-            (All-contains (MeetsAnother r.edges f) (r.cuts f) p cut.only here).3.common.0 (round.rounding.near_x p)
-            (round.rounding.near_y p)
+            (round.on f c p here) (round.rounding.near_x p) (round.rounding.near_y p)
 
     -- so its chain is
     chain_in_half : (f : CountedEdge) → Contains r.edges f → IsEdgeInHalf h f → All (IsStepInHalf h) (chain_of r f)
@@ -87,7 +84,7 @@ module _ (h : HalfPlane) where
           (All-contains (IsEdgeInHalf h) old found.0 all found.1)
 
   -- links in it stay in it in all rounds
-  links_in_rounds : (old : List CountedEdge) (rs : List Round) (ls : List ChainLink) → AreRounds old rs →
+  links_in_rounds : (old : List CountedEdge) (rs : List Round) (ls : List ChainLink) → AreEachRounds IsAnyRound old rs →
       AllLinks (IsStepInHalf h) ls → AllLinks (IsStepInHalf h) (links_through rs ls)
   links_in_rounds old [] ls rounds in_half = in_half
   links_in_rounds old (r ∷ rs) ls rounds in_half =
@@ -95,7 +92,8 @@ module _ (h : HalfPlane) where
       (links_in_half old r rounds.0 ls in_half)
 
   -- and edges do
-  edges_in_rounds : (old : List CountedEdge) (rs : List Round) → AreRounds old rs → All (IsEdgeInHalf h) old →
+  edges_in_rounds : (old : List CountedEdge) (rs : List Round) → AreEachRounds IsAnyRound old rs →
+      All (IsEdgeInHalf h) old →
       All (IsEdgeInHalf h) (after_rounds old rs)
   edges_in_rounds old [] rounds all = all
   edges_in_rounds old (r ∷ rs) rounds all =
@@ -104,13 +102,14 @@ module _ (h : HalfPlane) where
 
 -- chains stay in half planes
 pub chains_stay_in_half_planes : ChainsStayInHalfPlanes
-chains_stay_in_half_planes rounds old are h e ends =
+chains_stay_in_half_planes solver rounds old are h e ends =
     All-map (IsStepInHalf h) step_of (links_through rounds (held (step_along e) ∷ []))
-    (links_in_rounds h old rounds (held (step_along e) ∷ []) are
+    (links_in_rounds h old rounds (held (step_along e) ∷ []) (any_rounds solver old rounds are)
     (All-cons (λ l. IsStepInHalf h (step_of l)) (held (step_along e)) [] ends
     (All-nil (λ l. IsStepInHalf h (step_of l)))))
 
 -- and so do arrangements
 pub arrangements_stay_in_half_planes : ArrangementsStayInHalfPlanes
-arrangements_stay_in_half_planes rounds old new reached h all =
-    merged_in_half h (after_rounds old rounds) new reached.merged (edges_in_rounds h old rounds reached.cut all)
+arrangements_stay_in_half_planes solver rounds old new reached h all =
+    merged_in_half h (after_rounds old rounds) new reached.merged
+    (edges_in_rounds h old rounds (any_rounds solver old rounds reached.cut) all)

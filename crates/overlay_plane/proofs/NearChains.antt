@@ -16,10 +16,11 @@ use Rattle.overlay_geom.proofs.MeansOfEnds.{mean_of_ends}
 use Rattle.overlay_plane.specs.ChainLinks.{ChainLink, links_after, links_through, step_of, step_along, chain_through}
 use Rattle.overlay_plane.specs.ChainLinks.{IsNear}
 use Rattle.overlay_plane.specs.ChainLinks.ChainLink.{held}
-use Rattle.overlay_plane.specs.Meetings.{MeetsAnother}
-use Rattle.overlay_plane.specs.Rounds.{Round, IsRound, IsCutAt, AreRounds, pieces_of, chain_of, whole_cuts, MovesNone}
+use Rattle.overlay_plane.specs.RoundLists.{AreEachRounds}
+use Rattle.overlay_plane.specs.Rounds.{Round, pieces_of, chain_of, whole_cuts, MovesNone}
 use Rattle.overlay_plane.specs.Rounds.{MovingRounds}
 use Rattle.overlay_plane.specs.Rounds.MovingRounds.{none, exact, moving}
+use Rattle.overlay_plane.proofs.AnyRounds.{IsAnyRound}
 use Rattle.overlay_plane.proofs.EdgesOfSteps.{edge_by}
 use Rattle.overlay_plane.proofs.Ends.{start_on, end_on}
 use Rattle.overlay_plane.proofs.LinksKept.{IsLong, IsBetweenGood, good_through, AllLinks, links_kept}
@@ -59,7 +60,7 @@ abbrev pub TakesWithin : ℕ → Round → Type 0
 TakesWithin m r = (f : CountedEdge) → Contains r.edges f → (p : PlanePoint) → Contains (r.cuts f) p →
     IsCloseTo m (r.whole_at p) p
 
-module _ (m k : ℕ) (e : Edge) (old : List CountedEdge) (r : Round) (round : IsRound old r)
+module _ (m k : ℕ) (e : Edge) (old : List CountedEdge) (r : Round) (round : IsAnyRound old r)
     (takes : TakesWithin m r) where
   -- the whole points of an edge's cuts are near, where its ends are
   cuts_near : (f : CountedEdge) → Contains r.edges f → IsBefore f.a f.b → IsNear k e f.a → IsNear k e f.b →
@@ -68,14 +69,9 @@ module _ (m k : ℕ) (e : Edge) (old : List CountedEdge) (r : Round) (round : Is
       (All-weaker (Contains (r.cuts f)) (λ p. IsNear (m + k) e (r.whole_at p)) at (r.cuts f)
       (All-contains_itself (r.cuts f)))
     where
-      cut : IsCutAt r.edges f (r.cuts f)
-      cut = All-contains (λ g. IsCutAt r.edges g (r.cuts g)) r.edges f round.cut c
-
       at : (p : PlanePoint) → Contains (r.cuts f) p → IsNear (m + k) e (r.whole_at p)
       at p here = near_between e (ends_of f) p k m (r.whole_at p)
-          (mean_of_ends (ends_of f) p forward
-          (All-contains (MeetsAnother r.edges f) (r.cuts f) p cut.only here).3.common.0) near_a near_b
-          (takes f c p here)
+          (mean_of_ends (ends_of f) p forward (round.on f c p here)) near_a near_b (takes f c p here)
 
   -- so the chain of the edge of a near step is near
   chain_near : (s : Step) (f : CountedEdge) → Contains r.edges f → ends_of f ≡ edge_of s → IsNearStep k e s →
@@ -106,7 +102,7 @@ takes_exactly r still f c p here = close_from_at (r.whole_at p) p
     (All-contains (λ f. All (λ p. IsAt (r.whole_at p) p) (r.cuts f)) r.edges f still c) here)
 
 -- and any round takes each at most one half away
-takes_by_rounding : (old : List CountedEdge) (r : Round) → IsRound old r → TakesWithin 1 r
+takes_by_rounding : (old : List CountedEdge) (r : Round) → IsAnyRound old r → TakesWithin 1 r
 takes_by_rounding old r round f c p here = close_from_half (r.whole_at p) p (round.rounding.near_x p)
     (round.rounding.near_y p)
 
@@ -117,7 +113,7 @@ by_count e ls m n same h = subst (λ i. AllLinks (IsNearStep i e) ls) same h
 
 -- so in rounds the links stay near, by a half more for each round that moves a point
 near_in_rounds : (e : Edge) (old : List CountedEdge) (rs : List Round) (k j : ℕ) (ls : List ChainLink) →
-    AreRounds old rs → MovingRounds rs k →
+    AreEachRounds IsAnyRound old rs → MovingRounds rs k →
     AllLinks (IsNearStep j e) ls → AllLinks (IsNearStep (k + j) e) (links_through rs ls)
 near_in_rounds e old [] zero j ls rounds none near = by_count e ls j (0 + j) (omega arith) near
 near_in_rounds e old [] (suc k) j ls rounds moved near = elim moved [ ]
@@ -137,8 +133,8 @@ long_along e forward = false_from_ne_true _ (λ same. both_ways (point_lt e.a e.
     (false_from_ne_true _ (λ less. before_is_other e.a e.a ((Decides-point_lt e.a e.a).0 less) refl refl))) forward)
 
 -- the chain that a forward edge has become is near it
-pub chain_stays_near : (old : List CountedEdge) (rs : List Round) (k : ℕ) → AreRounds old rs → MovingRounds rs k →
-    (e : CountedEdge) → point_lt e.a e.b ≡ true →
+pub chain_stays_near : (old : List CountedEdge) (rs : List Round) (k : ℕ) → AreEachRounds IsAnyRound old rs →
+    MovingRounds rs k → (e : CountedEdge) → point_lt e.a e.b ≡ true →
     All (λ t. IsNear k (ends_of e) t.from × IsNear k (ends_of e) t.to) (chain_through rs e)
 chain_stays_near old rs k rounds moved e forward = All-map
     (λ t. IsNear k (ends_of e) t.from × IsNear k (ends_of e) t.to) step_of

@@ -19,8 +19,8 @@ third_first : (x c b : ℤ) → b *ℤ (x *ℤ c) ≡ c *ℤ (x *ℤ b)
 third_first = solve 3 (λ x c b. b ⊗ (x ⊗ c) ≗ c ⊗ (x ⊗ b)) tt
 
 -- at most the one is at most the other
-fraction_le : (x d y c z b : ℤ) → pos 0 <ℤ d → pos 0 <ℤ c → pos 0 <ℤ b → (x *ℤ c) ≤ℤ (y *ℤ d) → (y *ℤ b) ≤ℤ (z *ℤ c) →
-    (x *ℤ b) ≤ℤ (z *ℤ d)
+pub fraction_le : (x d y c z b : ℤ) → pos 0 <ℤ d → pos 0 <ℤ c → pos 0 <ℤ b → (x *ℤ c) ≤ℤ (y *ℤ d) →
+    (y *ℤ b) ≤ℤ (z *ℤ c) → (x *ℤ b) ≤ℤ (z *ℤ d)
 fraction_le x d y c z b d_pos c_pos b_pos first second =
     let low = mul-le b (x *ℤ c) (y *ℤ d) (omega linear) first in
     let high = mul-le d (y *ℤ b) (z *ℤ c) (omega linear) second in

@@ -1,5 +1,6 @@
 -- Tests between whole numbers, and the order that they decide.
 use Rattle.std.proofs.Common.{◌≡◌, Bool, true, false, not, ℤ, ◌<ℤ◌, ◌≤ℤ◌, int_lt, int_le, refl, sym, arith}
+use Rattle.std.specs.Bool.{Decides}
 use Rattle.std.proofs.lemmas.Int.{ints}
 
 -- what the tests say
@@ -33,6 +34,10 @@ test_from_le a b h = let e : true ≡ int_le a b = omega (arith, ints) in sym e
 -- what is greater fails the test for at most
 pub test_from_gt : (a b : ℤ) → b <ℤ a → int_le a b ≡ false
 test_from_gt a b h = let e : false ≡ int_le a b = omega (arith, ints) in sym e
+
+-- so the test tells whether the first number is at most the second
+pub Decides-int_le : (a b : ℤ) → Decides (int_le a b) (a ≤ℤ b)
+Decides-int_le a b = (le_from_test a b, test_from_le a b)
 
 -- at most is not greater
 pub int_le-not : (a b : ℤ) → int_le a b ≡ not (int_lt b a)

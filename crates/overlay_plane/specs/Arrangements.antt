@@ -3,40 +3,43 @@ use Rattle.std.specs.Prelude.{◌≡◌, ℕ, ◌≤◌, List, length}
 use Rattle.overlay_geom.specs.Edges.{CountedEdge, ends_of, weight}
 use Rattle.overlay_geom.specs.Merged.{IsMerged, HaveSameWindings}
 use Rattle.overlay_geom.specs.Settled.{IsSettled}
+use Rattle.overlay_geom.specs.declared.solver.Solver.{Solver}
+use Rattle.overlay_geom.specs.declared.solver.Solver.TheVariants.{Rounds}
 use Rattle.overlay_plane.specs.Balance.{HasBalancedCounts}
 use Rattle.overlay_plane.specs.ChainLinks.{ChainsHold}
 use Rattle.overlay_plane.specs.CutPoints.{cut_edges}
 use Rattle.overlay_plane.specs.EdgeLists.{IsForwardBy}
 use Rattle.overlay_plane.specs.Meetings.{MeetInWholePoints}
-use Rattle.overlay_plane.specs.Rounds.{Round, IsRound, AreRounds, pieces_of, after_rounds, MovingRounds}
+use Rattle.overlay_plane.specs.RoundLists.{AreRounds}
+use Rattle.overlay_plane.specs.Rounds.{Round, IsRound, pieces_of, after_rounds, MovingRounds}
 
--- the second list is where these rounds bring the first: merged, in order and settled
-pub record IsReachedBy (rounds : List Round) (old new : List CountedEdge) : Type 0 where
-  pub cut : AreRounds old rounds
+-- the second list is where these rounds of the solver bring the first: merged, in order and settled
+pub record IsReachedBy (solver : Solver) (rounds : List Round) (old new : List CountedEdge) : Type 0 where
+  pub cut : AreRounds solver old rounds
   pub merged : IsMerged (after_rounds old rounds) new
   pub settled : IsSettled new
 
--- the second list is reached from the first one with so many cutting rounds at most
-pub record IsSplit (most : ℕ) (old new : List CountedEdge) : Type 0 where
+-- the solver reaches the second list from the first one in `most` rounds or fewer
+pub record IsSplit (solver : Solver) (most : ℕ) (old new : List CountedEdge) : Type 0 where
   pub rounds : List Round
   pub few : length rounds ≤ most
-  pub reached : IsReachedBy rounds old new
+  pub reached : IsReachedBy solver rounds old new
 
--- so many rounds cut the edges, and what they leave is not settled
+-- `most` cutting rounds leave edges that are not settled
 pub record StaysUnsettled (most : ℕ) (old : List CountedEdge) : Type 0 where
   pub rounds : List Round
   pub all_taken : length rounds ≡ most
-  pub cut : AreRounds old rounds
+  pub cut : AreRounds Rounds old rounds
   pub left : List CountedEdge
   pub merged : IsMerged (after_rounds old rounds) left
   pub unsettled : ¬ (IsSettled left)
 
--- the pieces that some round, of so many at most, leaves weigh the limit or more
-pub record WeighsTooMuch (most limit : ℕ) (old : List CountedEdge) : Type 0 where
+-- the pieces that some round of the solver leaves, the last of `most` or one before it, weigh the limit or more
+pub record WeighsTooMuch (solver : Solver) (most limit : ℕ) (old : List CountedEdge) : Type 0 where
   pub rounds : List Round
   pub some : 1 ≤ length rounds
   pub few : length rounds ≤ most
-  pub cut : AreRounds old rounds
+  pub cut : AreRounds solver old rounds
   pub heavy : limit ≤ weight (after_rounds old rounds)
 
 -- at most one round was taken, it moved no point, and no winding changed
@@ -49,27 +52,27 @@ pub record IsExact (rounds : List Round) (k : ℕ) (old new : List CountedEdge) 
 
 -- the chains of the edges from which an arrangement was reached hold
 abbrev pub ArrangementsHoldChains : Type 0
-ArrangementsHoldChains = (rounds : List Round) (k : ℕ) (old new : List CountedEdge) → IsForwardBy ends_of old →
-    IsReachedBy rounds old new →
+ArrangementsHoldChains = (solver : Solver) (rounds : List Round) (k : ℕ) (old new : List CountedEdge) →
+    IsForwardBy ends_of old → IsReachedBy solver rounds old new →
     MovingRounds rounds k → ChainsHold rounds k old new
 
 -- where edges meet only in whole points or overlap, the arrangement is exact, and more than one round cannot be taken
 pub record WholeMeetingsAreExact : Type 0 where
-  pub exact : (rounds : List Round) (k : ℕ) (old new : List CountedEdge) → IsForwardBy ends_of old →
+  pub exact : (solver : Solver) (rounds : List Round) (k : ℕ) (old new : List CountedEdge) → IsForwardBy ends_of old →
       MeetInWholePoints old →
-      IsReachedBy rounds old new → MovingRounds rounds k → IsExact rounds k old new
-  pub few : (rounds : List Round) (old : List CountedEdge) → IsForwardBy ends_of old → MeetInWholePoints old →
-      AreRounds old rounds → length rounds ≤ 1
+      IsReachedBy solver rounds old new → MovingRounds rounds k → IsExact rounds k old new
+  pub few : (solver : Solver) (rounds : List Round) (old : List CountedEdge) → IsForwardBy ends_of old →
+      MeetInWholePoints old → AreRounds solver old rounds → length rounds ≤ 1
 
 -- an arrangement keeps balanced counts
 abbrev pub ArrangementsKeepBalance : Type 0
-ArrangementsKeepBalance = (rounds : List Round) (old new : List CountedEdge) → IsReachedBy rounds old new →
-    HasBalancedCounts old → HasBalancedCounts new
+ArrangementsKeepBalance = (solver : Solver) (rounds : List Round) (old new : List CountedEdge) →
+    IsReachedBy solver rounds old new → HasBalancedCounts old → HasBalancedCounts new
 
--- an arrangement of an arrangement is the same list
+-- an arrangement of an arrangement is the same list, whichever solvers reach the two
 abbrev pub ArrangedStaysArranged : Type 0
-ArrangedStaysArranged = (rounds again : List Round) (old new newer : List CountedEdge) → IsReachedBy rounds old new →
-    IsReachedBy again new newer → newer ≡ new
+ArrangedStaysArranged = (first second : Solver) (rounds again : List Round) (old new newer : List CountedEdge) →
+    IsReachedBy first rounds old new → IsReachedBy second again new newer → newer ≡ new
 
 -- a merged list of forward edges that is not settled, cut through the points computed pair by pair, is what a cutting
 -- round leaves

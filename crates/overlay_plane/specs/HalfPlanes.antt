@@ -2,10 +2,12 @@
 use Rattle.std.specs.Prelude.{◌≡◌, ℤ, pos, ◌*ℤ◌, ◌<ℤ◌, ◌≤ℤ◌, List, All}
 use Rattle.overlay_geom.specs.Plane.{Point, PlanePoint, Step}
 use Rattle.overlay_geom.specs.Edges.{CountedEdge, ends_of, winding_by}
+use Rattle.overlay_geom.specs.declared.solver.Solver.{Solver}
 use Rattle.overlay_plane.specs.Arrangements.{IsReachedBy}
 use Rattle.overlay_plane.specs.ChainLinks.{chain_through}
 use Rattle.overlay_plane.specs.EdgeLists.{IsBalanced, IsForwardBy}
-use Rattle.overlay_plane.specs.Rounds.{Round, AreRounds}
+use Rattle.overlay_plane.specs.RoundLists.{AreRounds}
+use Rattle.overlay_plane.specs.Rounds.{Round}
 
 -- what lies on one side of an upright or a level line, and the line
 pub data HalfPlane : Type 0 where
@@ -33,13 +35,14 @@ IsEdgeInHalf h e = IsInHalf h e.a × IsInHalf h e.b
 
 -- the chain of an edge in a half plane stays in it, so that of an upright or a level one stays on its line
 abbrev pub ChainsStayInHalfPlanes : Type 0
-ChainsStayInHalfPlanes = (rounds : List Round) (old : List CountedEdge) → AreRounds old rounds →
-    (h : HalfPlane) (e : CountedEdge) → IsEdgeInHalf h e → All (IsStepInHalf h) (chain_through rounds e)
+ChainsStayInHalfPlanes = (solver : Solver) (rounds : List Round) (old : List CountedEdge) →
+    AreRounds solver old rounds → (h : HalfPlane) (e : CountedEdge) → IsEdgeInHalf h e →
+    All (IsStepInHalf h) (chain_through rounds e)
 
 -- an arrangement of edges in a half plane stays in it, so no point of it lies outside a box of all their ends
 abbrev pub ArrangementsStayInHalfPlanes : Type 0
-ArrangementsStayInHalfPlanes = (rounds : List Round) (old new : List CountedEdge) → IsReachedBy rounds old new →
-    (h : HalfPlane) → All (IsEdgeInHalf h) old → All (IsEdgeInHalf h) new
+ArrangementsStayInHalfPlanes = (solver : Solver) (rounds : List Round) (old new : List CountedEdge) →
+    IsReachedBy solver rounds old new → (h : HalfPlane) → All (IsEdgeInHalf h) old → All (IsEdgeInHalf h) new
 
 -- p lies beyond its border
 abbrev pub IsBeyond : HalfPlane → PlanePoint → Type 0

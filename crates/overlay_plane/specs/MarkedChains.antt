@@ -2,6 +2,7 @@
 use Rattle.std.specs.Prelude.{◌≡◌, ◌⊎◌, true, List, Contains}
 use Rattle.overlay_geom.specs.Plane.{Step, edge_of}
 use Rattle.overlay_geom.specs.Edges.{CountedEdge, ends_of}
+use Rattle.overlay_geom.specs.declared.solver.Solver.{Solver}
 use Rattle.overlay_plane.specs.Arrangements.{IsReachedBy}
 use Rattle.overlay_plane.specs.ChainLinks.{chain_through, marks_along, marks_against}
 use Rattle.overlay_plane.specs.EdgeLists.{IsForwardBy}
@@ -17,7 +18,7 @@ pub record IsMarkedStep (es : List CountedEdge) (e : CountedEdge) (t : Step) : T
 
 -- an arrangement has an edge along each step of the chain of an edge with a mark
 abbrev pub MarkedChainsStay : Type 0
-MarkedChainsStay = (rounds : List Round) (old new : List CountedEdge) → IsForwardBy ends_of old →
-    IsReachedBy rounds old new → (e : CountedEdge) → Contains old e →
+MarkedChainsStay = (solver : Solver) (rounds : List Round) (old new : List CountedEdge) → IsForwardBy ends_of old →
+    IsReachedBy solver rounds old new → (e : CountedEdge) → Contains old e →
     (e.counts.along ≡ true) ⊎ (e.counts.against ≡ true) →
     (t : Step) → Contains (chain_through rounds e) t → IsMarkedStep new e t

@@ -1,7 +1,7 @@
 -- Cutting rounds: merged edges that are not settled are each replaced by the chain of steps through the points in which
 -- others meet them.
 use Rattle.std.specs.Prelude.{◌≡◌, ◌⊎◌, ℕ, zero, suc, ◌*ℤ◌, ◌<ℤ◌, List, [], ◌∷◌, ◌++◌, map, flat_map, All, AllPairs}
-use Rattle.std.specs.Prelude.{Any, ⊤}
+use Rattle.std.specs.Prelude.{Any}
 use Rattle.overlay_geom.specs.Plane.{Point, PlanePoint, Step, SamePlace, IsAt, steps_through}
 use Rattle.overlay_geom.specs.Edges.{CountedEdge}
 use Rattle.overlay_geom.specs.Merged.{IsMerged}
@@ -45,11 +45,6 @@ pub record IsRound (old : List CountedEdge) (r : Round) : Type 0 where
   pub unsettled : ¬ (IsSettled r.edges)
   pub cut : All (λ e. IsCutAt r.edges e (r.cuts e)) r.edges
   pub rounding : IsRounding r.whole_at
-
--- each round cuts what the one before it leaves
-abbrev pub AreRounds : List CountedEdge → List Round → Type 0
-AreRounds es [] = ⊤
-AreRounds es (r ∷ rs) = IsRound es r × AreRounds (pieces_of r) rs
 
 -- the edges after all rounds
 abbrev pub after_rounds : List CountedEdge → List Round → List CountedEdge

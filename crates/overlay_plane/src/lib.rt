@@ -29,5 +29,6 @@ pub mod region;
 pub mod selected;
 pub mod shapes_alone;
 pub mod side;
+pub mod snapping;
 pub mod spoke;
 pub mod thinning;

@@ -10,6 +10,7 @@ use Rattle.std.proofs.lemmas.List.Sorted.{IsPermutation-append_comm}
 use Rattle.overlay_geom.specs.Plane.{Point, Step, point_lt, edge_of, is_forward}
 use Rattle.overlay_geom.specs.Edges.{CountedEdge, ends_of}
 use Rattle.overlay_geom.proofs.Shuffled.{weight_shuffled}
+use Rattle.overlay_geom.specs.declared.solver.Solver.TheVariants.{Rounds}
 use Rattle.overlay_plane.specs.Arrangements.{IsSplit}
 use Rattle.overlay_plane.specs.EdgeLists.{IsForwardBy}
 use Rattle.overlay_plane.proofs.LinksKept.{IsLong}
@@ -166,10 +167,10 @@ exchanging_keeps_arrangements = record {
       };
 }
   where
-    split_of : (most : ℕ) (old new : List CountedEdge) → IsArranged most old new → IsSplit most old new
+    split_of : (most : ℕ) (old new : List CountedEdge) → IsArranged most old new → IsSplit Rounds most old new
     split_of most old new h = record { rounds = h.rounds; few = h.few; reached = h.reached }
 
     arranged_of : (keep : Bool) (paths : List GivenPath) (most : ℕ) (old new : List CountedEdge) →
-        HoldsPaths (added_paths keep paths) old → IsSplit most old new → IsArranged most old new
+        HoldsPaths (added_paths keep paths) old → IsSplit Rounds most old new → IsArranged most old new
     arranged_of keep paths most old new holds split =
         arranged_forward most old new (paths_lead_on keep paths [] old holds.added (All-nil leads_on)) split

@@ -11,11 +11,13 @@ use Rattle.overlay_geom.specs.Plane.{Point, PlanePoint, Step, edge_of, is_forwar
 use Rattle.overlay_geom.specs.Edges.{CountedEdge, ends_of}
 use Rattle.overlay_geom.specs.Merged.{IsMerged}
 use Rattle.overlay_geom.specs.Settled.{IsSettled}
+use Rattle.overlay_geom.specs.declared.solver.Solver.TheVariants.{Rounds}
 use Rattle.overlay_plane.specs.Arrangements.{IsReachedBy, IsSplit}
 use Rattle.overlay_plane.specs.Cutting.{piece_along, pieces_through}
 use Rattle.overlay_plane.specs.EdgeLists.{IsForwardBy}
 use Rattle.overlay_plane.specs.Meetings.{MeetsAnother}
-use Rattle.overlay_plane.specs.Rounds.{Round, IsCutAt, IsRound, AreRounds, pieces_of, after_rounds}
+use Rattle.overlay_plane.specs.RoundLists.{AreRounds}
+use Rattle.overlay_plane.specs.Rounds.{Round, IsCutAt, IsRound, pieces_of, after_rounds}
 use Rattle.overlay_plane.proofs.AfterRounds.{arrangements_keep_balance, arranged_stays_arranged}
 use Rattle.overlay_plane.proofs.Entries.{Contains-map}
 use Rattle.overlay_plane.proofs.ExactRounds.{whole_meetings_are_exact}
@@ -104,12 +106,13 @@ exchanged_rounds rs = map exchanged_round rs
 left_exchanged : (r : Round) → pieces_of (exchanged_round r) ≡ map exchanged (pieces_of r)
 left_exchanged r = pieces_exchanged (λ e. map r.whole_at (r.cuts e)) r.edges
 
-rounds_exchanged : (old : List CountedEdge) (rs : List Round) → AreRounds old rs →
-    AreRounds (map exchanged old) (exchanged_rounds rs)
+rounds_exchanged : (old : List CountedEdge) (rs : List Round) → AreRounds Rounds old rs →
+    AreRounds Rounds (map exchanged old) (exchanged_rounds rs)
 rounds_exchanged old [] h = tt
 rounds_exchanged old (r ∷ rs) (first, later) = (
   round_exchanged old r first,
-  subst (λ es. AreRounds es (exchanged_rounds rs)) (sym (left_exchanged r)) (rounds_exchanged (pieces_of r) rs later),
+  subst (λ es. AreRounds Rounds es (exchanged_rounds rs)) (sym (left_exchanged r))
+      (rounds_exchanged (pieces_of r) rs later),
 )
 
 after_exchanged : (old : List CountedEdge) (rs : List Round) →
@@ -119,8 +122,8 @@ after_exchanged old (r ∷ rs) = ap (λ es. after_rounds es (exchanged_rounds rs
     ∙ after_exchanged (pieces_of r) rs
 
 -- so the exchanged edges are split into the exchanged ones
-pub split_exchanged : (most : ℕ) (old new : List CountedEdge) → IsSplit most old new →
-    IsSplit most (map exchanged old) (map exchanged new)
+pub split_exchanged : (most : ℕ) (old new : List CountedEdge) → IsSplit Rounds most old new →
+    IsSplit Rounds most (map exchanged old) (map exchanged new)
 split_exchanged most old new h = record {
   rounds = exchanged_rounds h.rounds;
   few = subst (λ n. n ≤ most) (sym (length-map h.rounds exchanged_round)) h.few;
@@ -133,12 +136,13 @@ split_exchanged most old new h = record {
 }
 
 -- and edges in another order into the same ones
-pub split_shuffled : (most : ℕ) (old other new : List CountedEdge) → IsPermutation old other → IsSplit most old new →
-    IsSplit most other new
+pub split_shuffled : (most : ℕ) (old other new : List CountedEdge) → IsPermutation old other →
+    IsSplit Rounds most old new →
+    IsSplit Rounds most other new
 split_shuffled most old other new same h =
     record { rounds = h.rounds; few = h.few; reached = by h.rounds h.reached }
   where
-    by : (rs : List Round) → IsReachedBy rs old new → IsReachedBy rs other new
+    by : (rs : List Round) → IsReachedBy Rounds rs old new → IsReachedBy Rounds rs other new
     by [] reached = record {
       cut = tt;
       merged = merged_shuffled old other new same reached.merged;
@@ -159,7 +163,7 @@ split_shuffled most old other new same h =
     }
 
 -- forward edges that were split are arranged
-pub arranged_forward : (most : ℕ) (old new : List CountedEdge) → IsForwardBy ends_of old → IsSplit most old new →
+pub arranged_forward : (most : ℕ) (old new : List CountedEdge) → IsForwardBy ends_of old → IsSplit Rounds most old new →
     IsArranged most old new
 arranged_forward most old new forward split =
     let moving = moving_rounds split.rounds in
@@ -169,9 +173,9 @@ arranged_forward most old new forward split =
       reached = split.reached;
       moving = moving.0;
       moved = moving.1;
-      chains = arrangements_hold_chains split.rounds moving.0 old new forward split.reached moving.1;
-      exact = λ whole. whole_meetings_are_exact.exact split.rounds moving.0 old new forward whole
+      chains = arrangements_hold_chains Rounds split.rounds moving.0 old new forward split.reached moving.1;
+      exact = λ whole. whole_meetings_are_exact.exact Rounds split.rounds moving.0 old new forward whole
           split.reached moving.1;
-      balanced = arrangements_keep_balance split.rounds old new split.reached;
-      stays = λ was. arranged_stays_arranged was.1 split.rounds was.0 old new was.2 split.reached;
+      balanced = arrangements_keep_balance Rounds split.rounds old new split.reached;
+      stays = λ was. arranged_stays_arranged was.0 Rounds was.2 split.rounds was.1 old new was.3 split.reached;
     }

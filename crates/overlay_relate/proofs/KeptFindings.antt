@@ -29,8 +29,8 @@ arranged_of_itself limit most es content was = arranged_of_split limit most es e
   few = omega arith;
   reached = record {
     cut = tt;
-    merged = IsMerged-again (after_rounds was.0 was.1) es was.2.merged;
-    settled = was.2.settled;
+    merged = IsMerged-again (after_rounds was.1 was.2) es was.3.merged;
+    settled = was.3.settled;
   };
 })
 

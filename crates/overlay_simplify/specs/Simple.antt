@@ -2,6 +2,7 @@
 use Rattle.std.specs.Prelude.{◌≡◌, ◌≢◌, cond, List, [], map, Contains}
 use Rattle.overlay_geom.specs.Plane.{Point, Step, is_forward, edge_of, steps_of}
 use Rattle.overlay_geom.specs.Edges.{CountedEdge, subject_edge}
+use Rattle.overlay_geom.specs.declared.solver.Solver.TheVariants.{Rounds}
 use Rattle.overlay_plane.specs.Arrangements.{IsReachedBy}
 use Rattle.overlay_plane.specs.Groups.{HasEachPointOnce}
 use Rattle.overlay_plane.specs.LeftmostSteps.{NoneHasEndBefore, NoneTakenBelow}
@@ -16,7 +17,7 @@ subject_edges ps = map subject_edge (steps_of ps)
 -- there are some, are left
 pub record IsSimple (ps : List Point) (es : List CountedEdge) : Type 0 where
   pub points_once : HasEachPointOnce ps
-  pub none_cut : IsReachedBy [] (subject_edges ps) es
+  pub none_cut : IsReachedBy Rounds [] (subject_edges ps) es
   pub some_edge : es ≢ []
 
 -- the step along the lowest edge at the leftmost lowest point of the steps
