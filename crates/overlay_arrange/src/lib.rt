@@ -22,6 +22,7 @@ mod merge;
 mod near;
 pub mod options;
 pub mod overlay_rule;
+mod pixel;
 mod rounds;
 pub mod settle;
 pub mod sort_runs;
