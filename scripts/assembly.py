@@ -1,0 +1,108 @@
+#!/usr/bin/env python3
+"""Leaves the assembly of the library for a processor, which any C compiler for it assembles (c/library.mk).
+
+    assembly.py FILE.s [--processor x86_64|aarch64] [--proved]
+
+It is made of the proved module, where `.ci/library` has left that and nothing is newer; else of one without a proof, which
+takes a minute more (unproved.py). With --proved the library is proved first if it is not, some 40 minutes. What it was made
+of is said on standard error, and in a line at the head of the file.
+"""
+
+import argparse
+import re
+import subprocess
+import sys
+import tempfile
+from dataclasses import dataclass
+from pathlib import Path
+
+from toolchain import ROOT, answer_of, clang
+from unproved import LIBRARY, crate_uses, library_text
+
+MODULE = ROOT / "crates" / LIBRARY / "out" / f"{LIBRARY}.bc"
+PROVED, UNPROVED = "of the proved module", "of an unproved module"
+
+
+@dataclass(frozen=True)
+class Processor:
+    """What a module says of the processor that it is compiled for; the least one of its kind."""
+
+    triple: str
+    layout: str
+    cpu: str
+
+    def flags(self):
+        """The flags of the toolchain's compiler."""
+        return f"--target={self.triple}", "--no-default-config", f"-march={self.cpu}", "-x", "ir"
+
+    def of(self, text):
+        """The text of a module, for this processor."""
+        text = re.sub(r'^target datalayout = ".*"$', f'target datalayout = "{self.layout}"', text, 1, re.M)
+        text = re.sub(r'^target triple = ".*"$', f'target triple = "{self.triple}"', text, 1, re.M)
+        return re.sub(r'"target-(?:cpu|features)"="[^"]*" ?', "", text)
+
+
+PROCESSORS = {
+    "x86_64": Processor(
+        "x86_64-unknown-linux-gnu",
+        "e-m:e-p270:32:32-p271:32:32-p272:64:64-i64:64-i128:128-f80:128-n8:16:32:64-S128",
+        "x86-64",
+    ),
+    "aarch64": Processor(
+        "aarch64-unknown-linux-gnu",
+        "e-m:e-p270:32:32-p271:32:32-p272:64:64-i8:8:32-i16:16:32-i64:64-i128:128-n32:64-S128-Fn32",
+        "armv8-a",
+    ),
+}
+
+
+def compiled(text, processor, to, *flags):
+    """Compiles the text of a module for a processor."""
+    with tempfile.TemporaryDirectory(prefix="polyover-") as folder:
+        module = Path(folder) / "module.ll"
+        module.write_text(processor.of(text))
+        answer_of([clang(), *processor.flags(), "-O3", *flags, module, "-o", to])
+
+
+# ---- the library
+
+
+def is_fresh(module):
+    """Whether a module is there that is newer than all that it is made of."""
+    crates = [LIBRARY, *crate_uses()[LIBRARY]]
+    sources = [file for name in crates for file in (ROOT / "crates" / name / "src").rglob("*.rt")]
+    return module.is_file() and all(file.stat().st_mtime <= module.stat().st_mtime for file in sources)
+
+
+def proved_text():
+    """The text of the proved module."""
+    with tempfile.TemporaryDirectory(prefix="polyover-") as folder:
+        text = Path(folder) / "module.ll"
+        answer_of([clang(), "-x", "ir", "-S", "-emit-llvm", "-Xclang", "-disable-llvm-passes", MODULE, "-o", text])
+        return text.read_text()
+
+
+def leave(file, processor, is_proved):
+    """Leaves the assembly, and says what it is made of."""
+    if is_proved and not is_fresh(MODULE):
+        subprocess.run([ROOT / ".ci" / "library"], cwd=ROOT, check=True)
+    made_of = PROVED if is_fresh(MODULE) else UNPROVED
+    print(f"polyover: the library for {processor}, {made_of} ..", file=sys.stderr, flush=True)
+    text = proved_text() if made_of == PROVED else library_text()
+    file.parent.mkdir(parents=True, exist_ok=True)
+    compiled(text, PROCESSORS[processor], file, "-fPIC", "-ffunction-sections", "-S")
+    file.write_text(f"# The library polyover for {processor}, {made_of}.\n{file.read_text()}")
+
+
+def main():
+    """Leaves the assembly for a processor."""
+    parser = argparse.ArgumentParser(description=__doc__, formatter_class=argparse.RawDescriptionHelpFormatter)
+    parser.add_argument("file", type=Path, metavar="FILE.s")
+    parser.add_argument("--processor", choices=PROCESSORS, default="x86_64")
+    parser.add_argument("--proved", action="store_true", help="prove it first, if it is not proved")
+    given = parser.parse_args()
+    leave(given.file, given.processor, given.proved)
+
+
+if __name__ == "__main__":
+    main()
