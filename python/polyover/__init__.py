@@ -8,6 +8,8 @@ from .geojson import contours_of, lines_of
 from .scaled import Scaled
 from .shapes import Paths, Shapes
 
+__version__ = "0.1.0"
+
 __all__ = [
     "BadInput",
     "LibraryMissing",
