@@ -16,8 +16,8 @@ import tempfile
 from dataclasses import dataclass
 from pathlib import Path
 
-from toolchain import ROOT, answer_of, clang
-from unproved import LIBRARY, crate_uses, library_text
+from toolchain import ROOT, answer_of, clang, kit
+from unproved import LIBRARY, crate_uses, crates_below, library_text
 
 MODULE = ROOT / "crates" / LIBRARY / "out" / f"{LIBRARY}.bc"
 PROVED, UNPROVED = "of the proved module", "of an unproved module"
@@ -64,14 +64,22 @@ def compiled(text, processor, to, *flags):
         answer_of([clang(), *processor.flags(), "-O3", *flags, module, "-o", to])
 
 
+def linked_program(text, program):
+    """Links a program of the text of its module."""
+    with tempfile.TemporaryDirectory(prefix="polyover-") as folder:
+        machine = Path(folder) / "program.o"
+        compiled(text, PROCESSORS["x86_64"], machine, "-fPIE", "-c")
+        answer_of(["cc", machine, kit() / "c" / "libos_c.a", kit() / "c" / "liblibc_c.a", "-o", program])
+
+
 # ---- the library
 
 
-def is_fresh(module):
-    """Whether a module is there that is newer than all that it is made of."""
-    crates = [LIBRARY, *crate_uses()[LIBRARY]]
-    sources = [file for name in crates for file in (ROOT / "crates" / name / "src").rglob("*.rt")]
-    return module.is_file() and all(file.stat().st_mtime <= module.stat().st_mtime for file in sources)
+def is_newer(made, crate):
+    """Whether a file is there that is newer than the sources of a crate and of those below it."""
+    uses = crate_uses()
+    sources = [file for name in crates_below(uses, [crate]) for file in (ROOT / "crates" / name / "src").rglob("*.rt")]
+    return made.is_file() and all(file.stat().st_mtime <= made.stat().st_mtime for file in sources)
 
 
 def proved_text():
@@ -82,16 +90,30 @@ def proved_text():
         return text.read_text()
 
 
+def head_of(file):
+    """The first line of a file."""
+    with open(file, encoding="utf-8") as lines:
+        return lines.readline()
+
+
+def time_of(file):
+    """When a file was changed; of none, before all others."""
+    return file.stat().st_mtime if file.is_file() else 0
+
+
 def leave(file, processor, is_proved):
     """Leaves the assembly, and says what it is made of."""
-    if is_proved and not is_fresh(MODULE):
+    if is_proved and not is_newer(MODULE, LIBRARY):
         subprocess.run([ROOT / ".ci" / "library"], cwd=ROOT, check=True)
-    made_of = PROVED if is_fresh(MODULE) else UNPROVED
+    made_of = PROVED if is_newer(MODULE, LIBRARY) else UNPROVED
+    head = f"/* The library polyover for {processor}, {made_of}. */\n"
+    if is_newer(file, LIBRARY) and head_of(file) == head and file.stat().st_mtime >= time_of(MODULE):
+        return
     print(f"polyover: the library for {processor}, {made_of} ..", file=sys.stderr, flush=True)
     text = proved_text() if made_of == PROVED else library_text()
     file.parent.mkdir(parents=True, exist_ok=True)
-    compiled(text, PROCESSORS[processor], file, "-fPIC", "-ffunction-sections", "-S")
-    file.write_text(f"# The library polyover for {processor}, {made_of}.\n{file.read_text()}")
+    compiled(text, PROCESSORS[processor], file, "-fPIC", "-ffunction-sections", "-fno-addrsig", "-S")
+    file.write_text(head + file.read_text())
 
 
 def main():

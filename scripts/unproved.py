@@ -13,6 +13,8 @@ from pathlib import Path
 from toolchain import ROOT, answer_of, clang, make_leaving_kit
 
 LIBRARY = "polyover_c"
+POLYOVER = ROOT / "crates" / "polyover"
+EXAMPLE = ROOT / "examples" / "square.txt"
 # What a checked module has more than a proved one: traps, and a pattern in memory that is not written yet.
 CHECK = re.compile(r"^  call void @llvm\.(trap\(\)|memset\.p0\.i64\(ptr %\w+, i8 -86,).*\n", re.M)
 EXPORT = re.compile(r'^pub (?:unsafe )?extern "C" fn (\w+)\(([^)]*)\)', re.M)
@@ -115,6 +117,11 @@ def program_text(crate, used, text="", words=()):
     """The text of the module of a program's crate."""
     with tempfile.TemporaryDirectory(prefix="polyover-") as folder:
         return without_checks(module_of(crate, used, Path(folder), text=text, words=words))
+
+
+def polyover_text():
+    """The text of the module of the program polyover, which answers an example with checks first."""
+    return program_text(POLYOVER, crate_uses()[POLYOVER.name], EXAMPLE.read_text())
 
 
 def library_text():
