@@ -11,6 +11,7 @@ from . import geojson
 from .errors import PolyoverError
 from .inputs import picture_of
 from .picture import Picture
+from .running import run
 from .scaled import Scaled
 from .text import RULES
 
@@ -106,6 +107,11 @@ def run_svg(given):
     written(picture.svg(), given.out)
 
 
+def run_program(_):
+    """An input of the program on standard input, answered as the program does."""
+    return run()
+
+
 def parsed(words):
     """The words of the command line."""
     parser = argparse.ArgumentParser(prog="python -m polyover", description=__doc__)
@@ -128,18 +134,18 @@ def parsed(words):
     command.add_argument("input", metavar="INPUT.txt", help="as docs/PROGRAM.md says; - for standard input")
     command.add_argument("--nodes", action="store_true", help="show the ends of the arrangement's edges")
     command.add_argument("--out", metavar="FILE", help="where the picture goes, if not to standard output")
+    commands.add_parser("run", help=run_program.__doc__).set_defaults(run=run_program)
     return parser.parse_args(words)
 
 
 def main(words=None):
-    """Runs a command; 1 where it does not answer."""
+    """Runs a command; 1 where it does not answer, or the status of the program."""
     given = parsed(words)
     try:
-        given.run(given)
+        return given.run(given) or 0
     except (PolyoverError, OSError) as fault:
         print(f"polyover: {fault}", file=sys.stderr)
         return 1
-    return 0
 
 
 if __name__ == "__main__":
