@@ -21,7 +21,7 @@ def library():
         subprocess.run([HERE / "scripts" / "build", "library"], check=True)
     found = Path(named or HERE / "out" / NAME)
     if not found.is_file():
-        raise SystemExit(f"no library at {found}: scripts/build makes it, or POLYOVER_LIBRARY names one that is installed")
+        raise SystemExit(f"no library at {found}: scripts/build makes it, or POLYOVER_LIBRARY names an installed one")
     return found
 
 

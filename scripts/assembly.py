@@ -3,9 +3,9 @@
 
     assembly.py FILE.s [--processor x86_64|aarch64] [--proved]
 
-It is made of the proved module, where `.ci/library` has left that and nothing is newer; else of one without a proof, which
-takes a minute more (unproved.py). With --proved the library is proved first if it is not, some 40 minutes. What it was made
-of is said on standard error, and in a line at the head of the file.
+It is made of the proved module, where `.ci/library` has left that and nothing is newer; else of one without a proof,
+which takes a minute more (unproved.py). With --proved the library is proved first if it is not, some 40 minutes. It
+says what it was made of on standard error, and in a line at the head of the file.
 """
 
 import argparse
@@ -16,10 +16,11 @@ import tempfile
 from dataclasses import dataclass
 from pathlib import Path
 
-from toolchain import ROOT, answer_of, clang, kit
-from unproved import LIBRARY, crate_uses, crates_below, library_text
+from toolchain import ROOT, answer_of, clang, kit, text_of
+from unproved import LIBRARY, crate_uses, crates_below, leave_library, library_text
 
 MODULE = ROOT / "crates" / LIBRARY / "out" / f"{LIBRARY}.bc"
+CHECKED = ROOT / "out" / "checked" / f"{LIBRARY}.bc"
 PROVED, UNPROVED = "of the proved module", "of an unproved module"
 
 
@@ -82,14 +83,6 @@ def is_newer(made, crate):
     return made.is_file() and all(file.stat().st_mtime <= made.stat().st_mtime for file in sources)
 
 
-def proved_text():
-    """The text of the proved module."""
-    with tempfile.TemporaryDirectory(prefix="polyover-") as folder:
-        text = Path(folder) / "module.ll"
-        answer_of([clang(), "-x", "ir", "-S", "-emit-llvm", "-Xclang", "-disable-llvm-passes", MODULE, "-o", text])
-        return text.read_text()
-
-
 def head_of(file):
     """The first line of a file."""
     with open(file, encoding="utf-8") as lines:
@@ -110,7 +103,9 @@ def leave(file, processor, is_proved):
     if is_newer(file, LIBRARY) and head_of(file) == head and file.stat().st_mtime >= time_of(MODULE):
         return
     print(f"polyover: the library for {processor}, {made_of} ..", file=sys.stderr, flush=True)
-    text = proved_text() if made_of == PROVED else library_text()
+    if made_of == UNPROVED and not is_newer(CHECKED, LIBRARY):
+        leave_library(CHECKED)
+    text = text_of(MODULE) if made_of == PROVED else library_text(CHECKED)
     file.parent.mkdir(parents=True, exist_ok=True)
     compiled(text, PROCESSORS[processor], file, "-fPIC", "-ffunction-sections", "-fno-addrsig", "-S")
     file.write_text(head + file.read_text())

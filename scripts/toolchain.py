@@ -1,7 +1,8 @@
-"""The toolchain: where it is, its compiler for machines, and a copy of it whose compiler leaves the module it is given."""
+"""The toolchain: where it is, its compiler of modules, and links to it whose compiler leaves the module it is given."""
 
 import shutil
 import subprocess
+import tempfile
 from pathlib import Path
 
 ROOT = Path(__file__).resolve().parent.parent
@@ -31,6 +32,14 @@ def kit():
 def clang():
     """The toolchain's compiler of modules."""
     return kit() / "toolchain" / "bin" / "clang"
+
+
+def text_of(module):
+    """The text of a module, as it is."""
+    with tempfile.TemporaryDirectory(prefix="polyover-") as folder:
+        text = Path(folder) / "module.ll"
+        answer_of([clang(), "-x", "ir", "-S", "-emit-llvm", "-Xclang", "-disable-llvm-passes", module, "-o", text])
+        return text.read_text()
 
 
 def link_all(source, target, *others):

@@ -1,8 +1,9 @@
 """Modules without a proof: of a program, or of all calls for C, as `rt try` hands them to the toolchain's compiler.
 
-The toolchain builds nothing that is not proved, but for `rt try`, which compiles a program with checks and runs it once.
-So the module is taken from there, and its checks, which a proved module does not have, are taken out of its text.
-`CHECK` is the one place that knows how they look.
+The toolchain has no build without a proof that is meant to be kept: `rattle build` makes nothing of a crate that is not
+proved, and `rt try` compiles with checks, runs once and keeps nothing. So the module is taken from there, and its
+checks, which a proved module does not have, are taken out of its text: they cost some 45 in 100 of the time. `CHECK` is
+the one place that knows how they look.
 """
 
 import re
@@ -10,7 +11,7 @@ import shutil
 import tempfile
 from pathlib import Path
 
-from toolchain import ROOT, answer_of, clang, make_leaving_kit
+from toolchain import ROOT, answer_of, make_leaving_kit, text_of
 
 LIBRARY = "polyover_c"
 POLYOVER = ROOT / "crates" / "polyover"
@@ -78,8 +79,9 @@ def exports_of(source):
 def make_caller(crate):
     """Makes a program of the library's crate, from which all its calls can be reached."""
     root = crate / "src" / "lib.rt"
-    calls = [f"        let _ = {path}({', '.join(['any()'] * count)});\n" for path, count in exports_of(root.parent).items()]
-    (crate / "src" / "main.rt").write_text(root.read_text() + CALLER.format(calls="".join(calls)))
+    exports = exports_of(root.parent).items()
+    calls = "".join(f"        let _ = {path}({', '.join(['any()'] * count)});\n" for path, count in exports)
+    (crate / "src" / "main.rt").write_text(root.read_text() + CALLER.format(calls=calls))
     root.unlink()
 
 
@@ -98,9 +100,7 @@ def module_of(crate, used, folder, prepare=lambda place: None, text="", words=()
 
 def without_checks(module):
     """The text of a module without its checks."""
-    text = module.with_suffix(".checked.ll")
-    answer_of([clang(), "-x", "ir", "-S", "-emit-llvm", "-Xclang", "-disable-llvm-passes", module, "-o", text])
-    free, count = CHECK.subn("", text.read_text())
+    free, count = CHECK.subn("", text_of(module))
     if count == 0:
         raise SystemExit("the module has no checks of the kind that is dropped")
     return free
@@ -124,8 +124,14 @@ def polyover_text():
     return program_text(POLYOVER, crate_uses()[POLYOVER.name], EXAMPLE.read_text())
 
 
-def library_text():
-    """The text of the module of all calls for C."""
+def leave_library(module):
+    """Leaves the module of all calls for C, with its checks."""
     crate = ROOT / "crates" / LIBRARY
+    module.parent.mkdir(parents=True, exist_ok=True)
     with tempfile.TemporaryDirectory(prefix="polyover-") as folder:
-        return shown(without_checks(module_of(crate, crate_uses()[LIBRARY], Path(folder), make_caller)))
+        shutil.move(module_of(crate, crate_uses()[LIBRARY], Path(folder), make_caller), module)
+
+
+def library_text(module):
+    """The text of the module of all calls for C."""
+    return shown(without_checks(module))
