@@ -31,7 +31,8 @@ def ending(fault, text):
 def run():
     """Answers the input on standard input, as docs/PROGRAM.md says; gives the status."""
     try:
-        text = sys.stdin.buffer.read().decode("utf-8", "surrogateescape")
+        # (a good input is ASCII; read so, each other byte makes its line a bad one)
+        text = sys.stdin.buffer.read().decode("latin-1")
         try:
             told = told_of(text)
         except PolyoverError as fault:
