@@ -1,5 +1,6 @@
-# The library of its assembly: static, shared, and installed. c/Makefile includes it, and in a release of assembly it is the
-# Makefile: `make`, `make install PREFIX=/usr/local`, `make check`. It takes a C compiler for the processor (CC) with binutils.
+# The library of its assembly: static, shared, and installed. c/Makefile includes it, and in a release of assembly it is
+# the Makefile: `make`, `make install PREFIX=/usr/local`, `make check`. It takes a C compiler (CC) for x86-64 or aarch64
+# Linux, with binutils.
 
 PREFIX ?= /usr/local
 LIBDIR ?= $(PREFIX)/lib
