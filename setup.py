@@ -14,7 +14,7 @@ HERE = Path(__file__).resolve().parent
 NAME = "libpolyover.so"
 
 
-def library():
+def library() -> Path:
     """The library, which is built first where the toolchain is there."""
     named = os.environ.get("POLYOVER_LIBRARY")
     if not named and shutil.which("rt"):
@@ -28,7 +28,7 @@ def library():
 class Held(build_py):
     """Puts the library beside the modules."""
 
-    def run(self):
+    def run(self) -> None:
         super().run()
         shutil.copyfile(library(), Path(self.build_lib) / "polyover" / NAME)
 
@@ -36,14 +36,14 @@ class Held(build_py):
 class Platform(bdist_wheel):
     """A wheel for the platform of its library, and for every Python 3."""
 
-    def get_tag(self):
+    def get_tag(self) -> "tuple[str, str, str]":
         return "py3", "none", super().get_tag()[2]
 
 
 class Binary(Distribution):
     """What is built is for one platform."""
 
-    def has_ext_modules(self):
+    def has_ext_modules(self) -> bool:
         return True
 
 

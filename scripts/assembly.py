@@ -32,11 +32,11 @@ class Processor:
     layout: str
     cpu: str
 
-    def flags(self):
+    def flags(self) -> tuple[str, ...]:
         """The flags of the toolchain's compiler."""
         return f"--target={self.triple}", "--no-default-config", f"-march={self.cpu}", "-x", "ir"
 
-    def of(self, text):
+    def of(self, text: str) -> str:
         """The text of a module, for this processor."""
         text = re.sub(r'^target datalayout = ".*"$', f'target datalayout = "{self.layout}"', text, 1, re.M)
         text = re.sub(r'^target triple = ".*"$', f'target triple = "{self.triple}"', text, 1, re.M)
@@ -57,7 +57,7 @@ PROCESSORS = {
 }
 
 
-def compiled(text, processor, to, *flags):
+def compiled(text: str, processor: Processor, to: Path, *flags: str) -> None:
     """Compiles the text of a module for a processor."""
     with tempfile.TemporaryDirectory(prefix="polyover-") as folder:
         module = Path(folder) / "module.ll"
@@ -65,7 +65,7 @@ def compiled(text, processor, to, *flags):
         answer_of([clang(), *processor.flags(), "-O3", *flags, module, "-o", to])
 
 
-def linked_program(text, program):
+def linked_program(text: str, program: Path) -> None:
     """Links a program of the text of its module."""
     with tempfile.TemporaryDirectory(prefix="polyover-") as folder:
         machine = Path(folder) / "program.o"
@@ -76,25 +76,25 @@ def linked_program(text, program):
 # ---- the library
 
 
-def is_newer(made, crate):
+def is_newer(made: Path, crate: str) -> bool:
     """Whether a file is there that is newer than the sources of a crate and of those below it."""
     uses = crate_uses()
     sources = [file for name in crates_below(uses, [crate]) for file in (ROOT / "crates" / name / "src").rglob("*.rt")]
     return made.is_file() and all(file.stat().st_mtime <= made.stat().st_mtime for file in sources)
 
 
-def head_of(file):
+def head_of(file: Path) -> str:
     """The first line of a file."""
     with open(file, encoding="utf-8") as lines:
         return lines.readline()
 
 
-def time_of(file):
+def time_of(file: Path) -> float:
     """When a file was changed; of none, before all others."""
     return file.stat().st_mtime if file.is_file() else 0
 
 
-def leave(file, processor, is_proved):
+def leave(file: Path, processor: str, is_proved: bool) -> None:
     """Leaves the assembly, and says what it is made of."""
     if is_proved and not is_newer(MODULE, LIBRARY):
         subprocess.run([ROOT / ".ci" / "library"], cwd=ROOT, check=True)
@@ -111,7 +111,7 @@ def leave(file, processor, is_proved):
     file.write_text(head + file.read_text())
 
 
-def main():
+def main() -> None:
     """Leaves the assembly for a processor."""
     parser = argparse.ArgumentParser(description=__doc__, formatter_class=argparse.RawDescriptionHelpFormatter)
     parser.add_argument("file", type=Path, metavar="FILE.s")

@@ -3,6 +3,7 @@
 import shutil
 import subprocess
 import tempfile
+from collections.abc import Sequence
 from pathlib import Path
 
 ROOT = Path(__file__).resolve().parent.parent
@@ -13,7 +14,7 @@ exec "{clang}" "$@"
 """
 
 
-def answer_of(words, **how):
+def answer_of(words: Sequence, **how) -> str:
     """What a command writes; it must end with status 0."""
     ran = subprocess.run([str(word) for word in words], capture_output=True, text=True, check=False, **how)
     if ran.returncode != 0:
@@ -21,7 +22,7 @@ def answer_of(words, **how):
     return ran.stdout
 
 
-def kit():
+def kit() -> Path:
     """The folder of the toolchain."""
     found = shutil.which("rt")
     if not found:
@@ -29,12 +30,12 @@ def kit():
     return Path(found).resolve().parent.parent
 
 
-def clang():
+def clang() -> Path:
     """The toolchain's compiler of modules."""
     return kit() / "toolchain" / "bin" / "clang"
 
 
-def text_of(module):
+def text_of(module: Path) -> str:
     """The text of a module, as it is."""
     with tempfile.TemporaryDirectory(prefix="polyover-") as folder:
         text = Path(folder) / "module.ll"
@@ -42,7 +43,7 @@ def text_of(module):
         return text.read_text()
 
 
-def link_all(source, target, *others):
+def link_all(source: Path, target: Path, *others: str) -> None:
     """A folder of links to what another one holds, but for the names of `others`."""
     target.mkdir()
     for each in source.iterdir():
@@ -50,7 +51,7 @@ def link_all(source, target, *others):
             (target / each.name).symlink_to(each)
 
 
-def make_leaving_compiler(folder, module):
+def make_leaving_compiler(folder: Path, module: Path) -> None:
     """The toolchain's folder of compilers as a folder of links, whose clang copies the last module it is given."""
     link_all(kit() / "toolchain", folder, "bin")
     link_all(kit() / "toolchain" / "bin", folder / "bin", "clang")
@@ -59,7 +60,7 @@ def make_leaving_compiler(folder, module):
     script.chmod(0o755)
 
 
-def make_leaving_kit(folder, module):
+def make_leaving_kit(folder: Path, module: Path) -> Path:
     """The toolchain as a folder of links, with such a compiler; gives its `rt`."""
     link_all(kit(), folder, "bin", "toolchain")
     link_all(kit() / "bin", folder / "bin", "rt", "rtlib.py")

@@ -6,13 +6,17 @@ checks, which a proved module does not have, are taken out of its text: they cos
 the one place that knows how they look.
 """
 
+from __future__ import annotations
+
 import re
 import shutil
 import tempfile
+from collections.abc import Callable, Iterable, Sequence
 from pathlib import Path
 
 from toolchain import ROOT, answer_of, make_leaving_kit, text_of
 
+Uses = dict[str, list[str]]
 LIBRARY = "polyover_c"
 POLYOVER = ROOT / "crates" / "polyover"
 EXAMPLE = ROOT / "examples" / "square.txt"
@@ -40,13 +44,13 @@ fn main() {{
 # ---- the crates
 
 
-def crate_uses():
+def crate_uses() -> Uses:
     """The crates of the repository, each with those that its line of crates.txt names."""
     lines = [line.partition(":") for line in (ROOT / "crates.txt").read_text().splitlines() if not line.startswith("#")]
     return {name.split()[0]: uses.split() for name, _, uses in lines}
 
 
-def crates_below(uses, named):
+def crates_below(uses: Uses, named: Iterable[str]) -> set[str]:
     """The crates of the repository among the ones named, and those below them."""
     below = set()
     for name in named:
@@ -55,7 +59,7 @@ def crates_below(uses, named):
     return below
 
 
-def make_repository(folder, crate, used):
+def make_repository(folder: Path, crate: Path, used: list[str]) -> Path:
     """A repository of a program's crate and the crates that it uses; gives the folder of the program's crate."""
     uses = crate_uses()
     lines = {name: uses[name] for name in crates_below(uses, used)} | {crate.name: used}
@@ -66,7 +70,7 @@ def make_repository(folder, crate, used):
     return folder / "crates" / crate.name
 
 
-def exports_of(source):
+def exports_of(source: Path) -> dict[str, int]:
     """The calls for C in a crate's source: for each its path in the crate, and how many arguments it takes."""
     found = {}
     for file in sorted(source.rglob("*.rt")):
@@ -76,7 +80,7 @@ def exports_of(source):
     return found
 
 
-def make_caller(crate):
+def make_caller(crate: Path) -> None:
     """Makes a program of the library's crate, from which all its calls can be reached."""
     root = crate / "src" / "lib.rt"
     exports = exports_of(root.parent).items()
@@ -88,7 +92,14 @@ def make_caller(crate):
 # ---- the module
 
 
-def module_of(crate, used, folder, prepare=lambda place: None, text="", words=()):
+def module_of(
+    crate: Path,
+    used: list[str],
+    folder: Path,
+    prepare: Callable[[Path], None] = lambda place: None,
+    text: str = "",
+    words: Sequence[str] = (),
+) -> Path:
     """The module of a program's crate, in the folder; the program runs once with checks, on a text and with words."""
     module = folder / "module.bc"
     rt = make_leaving_kit(folder / "kit", module)
@@ -98,7 +109,7 @@ def module_of(crate, used, folder, prepare=lambda place: None, text="", words=()
     return module
 
 
-def without_checks(module):
+def without_checks(module: Path) -> str:
     """The text of a module without its checks."""
     free, count = CHECK.subn("", text_of(module))
     if count == 0:
@@ -106,25 +117,25 @@ def without_checks(module):
     return free
 
 
-def shown(text):
+def shown(text: str) -> str:
     """The text of the library's module with each call under its name for C, and without `main`."""
     names = {path.split("::")[-1] for path in exports_of(ROOT / "crates" / LIBRARY / "src")}
     aliases = [f"@{name} = alias void (), ptr {path}\n" for path, name in DEFINED.findall(text) if name in names]
     return text.replace("define i32 @main()", "define internal i32 @main()") + "".join(aliases)
 
 
-def program_text(crate, used, text="", words=()):
+def program_text(crate: Path, used: list[str], text: str = "", words: Sequence[str] = ()) -> str:
     """The text of the module of a program's crate."""
     with tempfile.TemporaryDirectory(prefix="polyover-") as folder:
         return without_checks(module_of(crate, used, Path(folder), text=text, words=words))
 
 
-def polyover_text():
+def polyover_text() -> str:
     """The text of the module of the program polyover, which answers an example with checks first."""
     return program_text(POLYOVER, crate_uses()[POLYOVER.name], EXAMPLE.read_text())
 
 
-def leave_library(module):
+def leave_library(module: Path) -> None:
     """Leaves the module of all calls for C, with its checks."""
     crate = ROOT / "crates" / LIBRARY
     module.parent.mkdir(parents=True, exist_ok=True)
@@ -132,6 +143,6 @@ def leave_library(module):
         shutil.move(module_of(crate, crate_uses()[LIBRARY], Path(folder), make_caller), module)
 
 
-def library_text(module):
+def library_text(module: Path) -> str:
     """The text of the module of all calls for C."""
     return shown(without_checks(module))

@@ -13,7 +13,7 @@ PLACES = {
 }
 
 
-def version():
+def version() -> str:
     """The version in numbers of the header, which all others must repeat."""
     header = (ROOT / "include/polyover.h").read_text()
     found = ".".join(re.findall(r"^#define POLYOVER_VERSION_(?:MAJOR|MINOR|PATCH) (\d+)$", header, re.M))

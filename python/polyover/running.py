@@ -9,7 +9,7 @@ from .program import BadLine
 REFUSED = {OutOfMemory: "E1", NotSettled: "E2", TooManyEdges: "E3"}
 
 
-def line_of(text, fault):
+def line_of(text: str, fault: PolyoverError) -> int:
     """The number of the line that a fault tells of: of a subject that is not resolved its own, else the command's."""
     if isinstance(fault, BadLine):
         return fault.line
@@ -19,7 +19,7 @@ def line_of(text, fault):
     return places[fault.contour if isinstance(fault, NotResolved) else 0]
 
 
-def ending(fault, text):
+def ending(fault: PolyoverError, text: str) -> "tuple[int, str]":
     """The status and the words of the program for a fault."""
     if type(fault) in REFUSED:
         return 1, f"refused {REFUSED[type(fault)]}"
@@ -28,7 +28,7 @@ def ending(fault, text):
     raise fault
 
 
-def run():
+def run() -> int:
     """Answers the input on standard input, as docs/PROGRAM.md says; gives the status."""
     try:
         # (a good input is ASCII; read so, each other byte makes its line a bad one)
