@@ -22,6 +22,7 @@ MAJOR := $(call said,MAJOR)
 VERSION := $(MAJOR).$(call said,MINOR).$(call said,PATCH)
 SHARED := libpolyover.so.$(VERSION)
 SONAME := libpolyover.so.$(MAJOR)
+IN_C := $(patsubst $(HERE)/%.c,$(OUT)/%.o,$(HERE)/heap.c $(wildcard $(HERE)/library*.c))
 
 .DELETE_ON_ERROR:
 .PHONY: library install check
@@ -32,21 +33,26 @@ $(OUT)/code.o: $(ASSEMBLY)
 	mkdir -p $(OUT)
 	$(CC) -c $< -o $@
 
-$(OUT)/heap.o: $(HERE)/heap.c
+# (what takes memory, and the part of the library that is C)
+$(OUT)/%.o: $(HERE)/%.c $(HEADER) $(wildcard $(HERE)/library_of_*.h)
 	mkdir -p $(OUT)
-	$(CC) -std=c99 -O2 -fPIC -c $< -o $@
+	$(CC) -std=c11 -O2 -fPIC -I$(dir $(HEADER)) -c $< -o $@
 
-# (one object, which shows the calls of the header alone)
-$(OUT)/libpolyover.o: $(OUT)/code.o $(OUT)/heap.o
-	$(CC) -r -nostdlib $^ -o $@
-	$(OBJCOPY) --wildcard --keep-global-symbol='polyover_*' $@
+# (the names that the header declares, which are all that the library shows)
+$(OUT)/names.txt: $(HEADER)
+	mkdir -p $(OUT)
+	sed -n 's/^[a-z][a-z_0-9 ]*[ *]\(polyover_[a-z_0-9]*\)(.*/\1/p' $< > $@
+
+$(OUT)/libpolyover.o: $(OUT)/code.o $(IN_C) $(OUT)/names.txt
+	$(CC) -r -nostdlib $(OUT)/code.o $(IN_C) -o $@
+	$(OBJCOPY) --keep-global-symbols=$(OUT)/names.txt $@
 
 $(OUT)/libpolyover.a: $(OUT)/libpolyover.o
 	rm -f $@
 	$(ARCHIVER) rcs $@ $<
 
-$(OUT)/$(SHARED): $(OUT)/libpolyover.o $(HERE)/libpolyover.map
-	$(CC) -shared -Wl,-soname,$(SONAME) -Wl,--version-script,$(HERE)/libpolyover.map -Wl,-z,defs $< -o $@
+$(OUT)/$(SHARED): $(OUT)/libpolyover.o
+	$(CC) -shared -Wl,-soname,$(SONAME) -Wl,-z,defs $< -o $@
 
 $(OUT)/libpolyover.so: $(OUT)/$(SHARED)
 	ln -sf $(SHARED) $(OUT)/$(SONAME)
