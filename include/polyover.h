@@ -229,8 +229,12 @@ polyover_status polyover_simplify_32(polyover_fill fill, const polyover_options_
 /* How the subject and the clip lie to each other under the fill rule. On POLYOVER_OK *relations is the sum of the bits
  * of the relations that hold; after any other status it stays.
  *
- * All are told of one arrangement of the contours, in which edges that meet are cut as by `polyover_overlay`. Tested
- * first, in this order: POLYOVER_BAD_FILL; then of the subject, and then of the clip, POLYOVER_BAD_ENDS and
+ * All are told of one arrangement of the contours, in which edges that meet are cut as by `polyover_overlay`, at points
+ * that are rounded: so of shapes as small as a few units they may differ from the relations of the contours as they
+ * are. Of (1, 2), (2, 0), (3, 2) and (0, 0), (3, 2), (2, 1) POLYOVER_DISJOINT is told, though (2, 1) is inside the
+ * first one; with each coordinate doubled it is not. To come nearer, multiply all coordinates by a power of two.
+ *
+ * Tested first, in this order: POLYOVER_BAD_FILL; then of the subject, and then of the clip, POLYOVER_BAD_ENDS and
  * POLYOVER_OUT_OF_RANGE. POLYOVER_NOT_SETTLED, POLYOVER_TOO_MANY_EDGES and POLYOVER_MEMORY are left. */
 polyover_status polyover_relate(polyover_fill fill, const polyover_contours *subject, const polyover_contours *clip,
                                 polyover_relations *relations);

@@ -3,8 +3,8 @@
 from .calls import backend, clip, edges, hierarchy, is_resolved, locate, overlay, relate, simplify, tiles
 from .calls import slice  # pylint: disable=redefined-builtin
 from .errors import BadInput, LibraryMissing, NotResolved, NotSettled, OutOfMemory, PolyoverError, ProgramMissing
-from .errors import TooManyEdges
-from .geojson import contours_of, lines_of
+from .errors import PolyoverWarning, TooManyEdges
+from .reading import contours_of, lines_of
 from .scaled import Scaled
 from .shapes import Paths, Shapes
 
@@ -18,6 +18,7 @@ __all__ = [
     "OutOfMemory",
     "Paths",
     "PolyoverError",
+    "PolyoverWarning",
     "ProgramMissing",
     "Scaled",
     "Shapes",
@@ -33,6 +34,5 @@ __all__ = [
     "overlay",
     "relate",
     "simplify",
-    "slice",
     "tiles",
 ]

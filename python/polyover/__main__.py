@@ -1,150 +1,150 @@
-"""Overlays of files of GeoJSON, and pictures: `python -m polyover --help`."""
+"""Overlays of files of GeoJSON, and pictures."""
+
+from __future__ import annotations
 
 import argparse
-import json
+import os
 import sys
-from contextlib import contextmanager
-from pathlib import Path
-from threading import Timer
+from fractions import Fraction
+from typing import Any, Callable, Sequence
 
-from . import geojson
+from . import runs
+from .answers import say, warnings_as_lines
 from .errors import PolyoverError
-from .inputs import picture_of
-from .picture import Picture
-from .running import run
-from .scaled import Scaled
-from .text import RULES
+from .picture import WIDTH
+from .running import run as run_program
+from .text import FILLS, RULES
+
+LEAST_WIDTH = 400
+EXAMPLES = {
+    "overlay": "overlay LAND.geojson LAKES.geojson --rule difference --out DRY.geojson --svg DRY.svg",
+    "relate": "relate PARCEL.geojson ZONE.geojson",
+    "clip": "clip AREAS.geojson ROADS.geojson --out INSIDE.geojson",
+    "slice": "slice FIELDS.geojson FENCES.geojson --out PARTS.geojson",
+    "simplify": "simplify ANY.geojson --out VALID.geojson",
+    "tiles": "tiles LAND.geojson 10 10 --out TILES.geojson",
+    "locate": "locate ZONES.geojson POINTS.geojson --out WHERE.geojson",
+    "svg": "svg examples/overlay.txt --nodes --out overlay.svg",
+}
+OF_POLYGONS, OF_LINES = ("overlay", "relate"), ("clip", "slice")
 
 
-@contextmanager
-def told_where_it_takes_long(what):
-    """A line on standard error where this takes longer than a second."""
-    timer = Timer(1, lambda: print(f"polyover: {what} ..", file=sys.stderr, flush=True))
-    timer.start()
-    try:
-        yield
-    finally:
-        timer.cancel()
+# ---- words
 
 
-def written(text, file):
-    """Writes a text to the file, or to standard output."""
-    if file:
-        Path(file).write_text(text, encoding="utf-8")
-    else:
-        sys.stdout.write(text)
+def width_in(word: str) -> int:
+    """The width of a picture."""
+    width = int(word)
+    if not LEAST_WIDTH <= width <= 100_000:
+        raise ValueError
+    return width
 
 
-def leave(given, features, picture):
-    """Leaves what was answered, as GeoJSON, and the picture where it is asked for."""
-    written(json.dumps(geojson.collection(features)) + "\n", given.out)
-    if given.svg:
-        written(picture.svg(), given.svg)
+def digits_in(word: str) -> int:
+    """How many digits behind the decimal point coordinates have."""
+    digits = int(word)
+    if not -300 <= digits <= 300:
+        raise ValueError
+    return digits
 
 
-def run_overlay(given):
-    """The overlay of two files."""
-    subject, other = (geojson.contours_of(geojson.read(file)) for file in (given.subject, given.other))
-    with told_where_it_takes_long(f"overlay of {len(subject)} and {len(other)} contours"):
-        shapes = Scaled.of_digits(given.digits).overlay(subject, other, given.rule)
-    picture = Picture(f"{given.rule} of two files")
-    picture.add_contours("subject", subject)
-    picture.add_contours("clip", other)
-    for shape in shapes:
-        picture.add_contours("answer", shape, strength=0.55)
-    picture.legend = list(dict.fromkeys(picture.legend))
-    leave(given, [(geojson.polygons(shapes), {"rule": given.rule})], picture)
+def number_in(word: str) -> Fraction:
+    """A number that is not below 0."""
+    number = Fraction(word)
+    if number < 0 or len(word) > 100:
+        raise ValueError
+    return number
 
 
-def run_relate(given):
-    """How two files lie to each other."""
-    subject, other = (geojson.contours_of(geojson.read(file)) for file in (given.subject, given.other))
-    with told_where_it_takes_long(f"relations of {len(subject)} and {len(other)} contours"):
-        relations = Scaled.of_digits(given.digits).relate(subject, other)
-    written(json.dumps(relations, indent=1) + "\n", given.out)
+width_in.__name__ = f"width, which is from {LEAST_WIDTH} to 100000,"
+digits_in.__name__ = "count of digits, which is from -300 to 300,"
+number_in.__name__ = "number from 0 on"
 
 
-def run_clip(given):
-    """The lines of a file, feature by feature, clipped by the polygons of another one."""
-    shape, lines = geojson.contours_of(geojson.read(given.subject)), geojson.read(given.other)
-    scaled = Scaled.of_digits(given.digits)
-    picture = Picture("lines, clipped")
-    picture.add_contours("subject", shape)
-    picture.add_paths("line", geojson.lines_of(lines))
-    features = []
-    with told_where_it_takes_long(f"clip by {len(shape)} contours"):
-        for each in geojson.features_of(lines, geojson.LINES):
-            paths = scaled.clip(shape, each.parts, invert=given.invert, boundary=given.boundary)
-            picture.add_paths("answer", paths)
-            features.append((geojson.lines(paths), each.properties))
-    picture.legend = list(dict.fromkeys(picture.legend))
-    leave(given, features, picture)
-
-
-def run_slice(given):
-    """The polygons of a file, feature by feature, sliced along the lines of another one."""
-    polygons, lines = geojson.read(given.subject), geojson.lines_of(geojson.read(given.other))
-    scaled = Scaled.of_digits(given.digits)
-    picture = Picture("polygons, sliced")
-    picture.add_contours("subject", geojson.contours_of(polygons))
-    picture.add_paths("line", lines)
-    features = []
-    with told_where_it_takes_long(f"slices along {len(lines)} lines"):
-        for each in geojson.features_of(polygons, geojson.POLYGONS):
-            contours = [contour for rings in each.parts for contour in geojson.turned(rings)]
-            for shape in scaled.slice(contours, lines):
-                picture.add_contours("answer", shape, strength=0.55)
-                features.append((geojson.polygons([shape]), each.properties))
-    picture.legend = list(dict.fromkeys(picture.legend))
-    leave(given, features, picture)
-
-
-def run_svg(given):
-    """The picture of an input of the program."""
-    text = Path(given.input).read_text(encoding="utf-8") if given.input != "-" else sys.stdin.read()
-    with told_where_it_takes_long("picture"):
-        picture = picture_of(text, given.nodes)
-    written(picture.svg(), given.out)
-
-
-def run_program(_):
-    """An input of the program on standard input, answered as the program does."""
-    return run()
-
-
-def parsed(words):
-    """The words of the command line."""
-    parser = argparse.ArgumentParser(prog="python -m polyover", description=__doc__)
-    commands = parser.add_subparsers(required=True, metavar="COMMAND")
-    for name, run in (("overlay", run_overlay), ("relate", run_relate), ("clip", run_clip), ("slice", run_slice)):
-        command = commands.add_parser(name, help=run.__doc__)
-        command.set_defaults(run=run)
-        command.add_argument("subject", metavar="A.geojson", help="polygons")
-        what = "polygons" if name in ("overlay", "relate") else "lines"
+def add_files(command: argparse.ArgumentParser, name: str) -> None:
+    """The words for the files of a command, and how they are read."""
+    command.add_argument("subject", metavar="A.geojson", help="polygons; - for standard input")
+    if name == "tiles":
+        command.add_argument("wide", type=number_in, metavar="WIDE", help="how wide a cell of the grid is")
+        command.add_argument("high", type=number_in, metavar="HIGH", help="how high it is; a node is at (0, 0)")
+    elif name != "simplify":
+        what = "polygons" if name in OF_POLYGONS else "lines" if name in OF_LINES else "points"
         command.add_argument("other", metavar="B.geojson", help=what)
-        command.add_argument("--digits", type=int, default=7, help="behind the decimal point, of coordinates (7)")
-        command.add_argument("--out", metavar="FILE", help="where the answer goes, if not to standard output")
-        if name != "relate":
-            command.add_argument("--svg", metavar="FILE", help="where a picture goes")
-    commands.choices["overlay"].add_argument("--rule", choices=list(RULES), default="union", help="(union)")
-    commands.choices["clip"].add_argument("--invert", action="store_true", help="keep the parts outside")
-    commands.choices["clip"].add_argument("--boundary", action="store_true", help="keep those along the boundary too")
-    command = commands.add_parser("svg", help=run_svg.__doc__)
-    command.set_defaults(run=run_svg)
-    command.add_argument("input", metavar="INPUT.txt", help="as docs/PROGRAM.md says; - for standard input")
-    command.add_argument("--nodes", action="store_true", help="show the ends of the arrangement's edges")
-    command.add_argument("--out", metavar="FILE", help="where the picture goes, if not to standard output")
-    commands.add_parser("run", help=run_program.__doc__).set_defaults(run=run_program)
+    digits = "how many digits of coordinates behind the point count (7)"
+    command.add_argument("--digits", type=digits_in, default=7, metavar="N", help=digits)
+    fills = "which windings of rings count, as they run; else polygons cover what is in their outline and in no hole"
+    command.add_argument("--fill", choices=list(FILLS), help=fills)
+    skips = "leave out, and count, rings of less than three points and lines of less than two"
+    command.add_argument("--skip-invalid", action="store_true", help=skips)
+
+
+def add_answers(command: argparse.ArgumentParser, name: str) -> None:
+    """The words for what a command leaves."""
+    what = "picture" if name == "svg" else "answer"
+    command.add_argument("--out", metavar="FILE", help=f"where the {what} goes, if not to standard output")
+    if name not in ("relate", "svg"):
+        command.add_argument("--svg", metavar="FILE", help="where a picture goes")
+    if name != "relate":
+        command.add_argument("--width", type=width_in, default=WIDTH, metavar="N", help=f"of the picture ({WIDTH})")
+
+
+def add_options(commands: dict[str, argparse.ArgumentParser]) -> None:
+    """The words of single commands."""
+    commands["overlay"].add_argument("--rule", choices=list(RULES), default="union", help="(union)")
+    keeps = "a feature for each of A that gives pieces, with its members; of the rules intersect and difference"
+    commands["overlay"].add_argument("--keep", action="store_true", help=keeps)
+    for name in ("overlay", "simplify"):
+        least = "the smallest area of a contour that is kept, in squares of the coordinates' unit (0)"
+        commands[name].add_argument("--min-area", type=number_in, default=Fraction(0), metavar="N", help=least)
+    commands["clip"].add_argument("--invert", action="store_true", help="keep the parts outside")
+    commands["clip"].add_argument("--boundary", action="store_true", help="keep those along the boundary too")
+    commands["svg"].add_argument("input", metavar="INPUT.txt", help="as docs/PROGRAM.md says; - for standard input")
+    commands["svg"].add_argument("--nodes", action="store_true", help="show the ends of the arrangement's edges")
+
+
+def version() -> str:
+    """The version of the module."""
+    return str(getattr(sys.modules[__package__], "__version__", "of a clone"))
+
+
+def parsed(words: Sequence[str] | None) -> argparse.Namespace:
+    """The words of the command line."""
+    prog = "python -m polyover"
+    how: dict[str, Any] = {"formatter_class": argparse.RawDescriptionHelpFormatter}
+    every = "\n".join(f"  {prog} {example}" for example in EXAMPLES.values())
+    parser = argparse.ArgumentParser(prog=prog, description=__doc__, epilog=f"examples:\n{every}", **how)
+    parser.add_argument("--version", action="version", version=f"polyover {version()}")
+    commands = parser.add_subparsers(required=True, metavar="COMMAND")
+    for name, example in EXAMPLES.items():
+        run: Callable[[Any], None] = getattr(runs, f"run_{name}")
+        help_of: dict[str, Any] = {"help": run.__doc__, "description": f"{run.__doc__}.", **how}
+        command = commands.add_parser(name, epilog=f"example:\n  {prog} {example}", **help_of)
+        command.set_defaults(run=run)
+        if name != "svg":
+            add_files(command, name)
+        add_answers(command, name)
+    add_options(commands.choices)
+    told = "An input of the program on standard input, answered as the program does"
+    commands.add_parser("run", help=told, description=f"{told}.").set_defaults(run=lambda _: run_program())
     return parser.parse_args(words)
 
 
-def main(words=None):
-    """Runs a command; 1 where it does not answer, or the status of the program."""
+def main(words: Sequence[str] | None = None) -> int:
+    """Runs a command; 1 where it does not answer, and the words are bad where argparse ends it with 2. The command run
+    ends as the program does."""
     given = parsed(words)
     try:
-        return given.run(given) or 0
+        with warnings_as_lines():
+            return given.run(given) or 0
+    except BrokenPipeError:
+        # (nobody reads on: what is left in the buffer goes nowhere)
+        os.dup2(os.open(os.devnull, os.O_WRONLY), sys.stdout.fileno())
+        return 1
     except (PolyoverError, OSError) as fault:
-        print(f"polyover: {fault}", file=sys.stderr)
+        say(fault)
+        return 1
+    except MemoryError:
+        say("no memory")
         return 1
 
 

@@ -1,10 +1,14 @@
 """Each call as the library for C answers it."""
 
-from ctypes import c_size_t, c_uint32
+from __future__ import annotations
 
-from .errors import NotResolved
+from ctypes import c_size_t, c_uint32
+from typing import Any, Sequence
+
+from .errors import LibraryMissing, NotResolved
 from .grid import grid_lines
-from .library import BYTES, COORDINATES, SIZES, ClipOptions, Counts, Options, PathCounts, Room, Status, check, library
+from .library import BYTES, COORDINATES, SIZES, ClipOptions, Counts, Library, Options, PathCounts, Room, Status, check
+from .library import library as found_library
 from .text import FILLS, RELATIONS, RULES
 
 NAME = "library"
@@ -17,60 +21,69 @@ TIMES = 24
 TAKES = {"tiles": "slice", "is_resolved": "resolved"}
 
 
-def can(call):
+def can(call: str) -> bool:
     """Whether there is a library, and it has the function that the call takes."""
-    found = library()
+    found = found_library()
     return found is not None and f"polyover_{TAKES.get(call, call)}" in found.names
 
 
-def options(look):
+def options(look: Any) -> Options:
     """The options of an overlay."""
     high, low = divmod(look.minimum_area, 2**64)
     return Options(bool(look.clockwise), bool(look.keep), bool(look.ogc), 0, high, low)
 
 
+def library() -> Library:
+    """The library, which must be there."""
+    found = found_library()
+    if found is None:
+        raise LibraryMissing("no library")
+    return found
+
+
 # ---- answers in arrays
 
 
-def expected(*given):
+def expected(*given: Any) -> Counts:
     """How much an answer of shapes most often has at most: some times the points, and three points in a contour."""
     contours = TIMES // 6 * sum(each.coordinate_count for each in given) + 10
     return Counts(6 * contours, contours, contours)
 
 
-def shape_rooms(counts):
+def shape_rooms(counts: Counts) -> list[Room]:
     """The arrays for shapes."""
     sizes = Room(SIZES, counts.contours), Room(SIZES, counts.shapes)
     return [Room(COORDINATES, counts.coordinates), *sizes]
 
 
-def linked_rooms(counts, link_count):
+def linked_rooms(counts: Counts, link_count: Any) -> list[Room]:
     """The arrays for shapes and links, each of which has three numbers."""
     return [*shape_rooms(counts), Room(SIZES, link_count.value, 3)]
 
 
-def path_rooms(counts):
+def path_rooms(counts: PathCounts) -> list[Room]:
     """The arrays for paths."""
     return [Room(COORDINATES, counts.coordinates), Room(SIZES, counts.paths)]
 
 
-def edge_rooms(count):
+def edge_rooms(count: Any) -> list[Room]:
     """The arrays for edges, each of two points."""
     return [Room(COORDINATES, 4 * count.value), Room(BYTES, count.value)]
 
 
-def points_in(numbers):
+def points_in(numbers: Sequence[int]) -> list[tuple[int, int]]:
     """The points of an array of coordinates."""
     return list(zip(numbers[0::2], numbers[1::2]))
 
 
-def parted(items, ends):
+def parted(items: list[Any], ends: Sequence[int]) -> list[Any]:
     """The parts of a list, of which each end is known."""
     return [items[start:end] for start, end in zip([0, *ends[:-1]], ends)]
 
 
-def shapes_in(coordinates, contour_ends, shape_ends, counts):
+def shapes_in(arrays: list[Room], counts: Counts) -> list[Any]:
     """The shapes in arrays."""
+    coordinates, contour_ends, shape_ends = arrays
     contours = parted(points_in(coordinates.first(counts.coordinates)), contour_ends.first(counts.contours))
     return parted(contours, shape_ends.first(counts.shapes))
 
@@ -78,15 +91,15 @@ def shapes_in(coordinates, contour_ends, shape_ends, counts):
 # ---- the calls
 
 
-def overlay(subject, clip, rule, fill, look):
+def overlay(subject: Any, clip: Any, rule: str, fill: str, look: Any) -> list[Any]:
     """The shapes of an overlay."""
     asked = library()
     both = asked.contours(subject), asked.contours(clip)
     given, counts = (RULE_NUMBERS[rule], FILL_NUMBERS[fill], options(look), *both), expected(*both)
-    return shapes_in(*asked.answer("polyover_overlay", given, shape_rooms, counts), counts)
+    return shapes_in(asked.answer("polyover_overlay", given, shape_rooms, counts), counts)
 
 
-def hierarchy(subject, clip, rule, fill, look):
+def hierarchy(subject: Any, clip: Any, rule: str, fill: str, look: Any) -> tuple[list[Any], list[Any]]:
     """The shapes of an overlay, and its links."""
     asked = library()
     both = asked.contours(subject), asked.contours(clip)
@@ -94,18 +107,18 @@ def hierarchy(subject, clip, rule, fill, look):
     link_count = c_size_t(counts.shapes)
     *arrays, links = asked.answer("polyover_hierarchy", given, linked_rooms, counts, link_count)
     told = links.first(3 * link_count.value)
-    return shapes_in(*arrays, counts), list(zip(told[0::3], told[1::3], told[2::3]))
+    return shapes_in(arrays, counts), list(zip(told[0::3], told[1::3], told[2::3]))
 
 
-def simplify(subject, fill, look):
+def simplify(subject: Any, fill: str, look: Any) -> list[Any]:
     """The shapes that contours are simplified to."""
     asked = library()
     contours = asked.contours(subject)
     given, counts = (FILL_NUMBERS[fill], options(look), contours), expected(contours)
-    return shapes_in(*asked.answer("polyover_simplify", given, shape_rooms, counts), counts)
+    return shapes_in(asked.answer("polyover_simplify", given, shape_rooms, counts), counts)
 
 
-def edges(subject, clip, fill):
+def edges(subject: Any, clip: Any, fill: str) -> list[Any]:
     """The edges of the arrangement."""
     asked = library()
     both = asked.contours(subject), asked.contours(clip)
@@ -115,7 +128,7 @@ def edges(subject, clip, fill):
     return list(zip(points[0::2], points[1::2], fills.first(count.value)))
 
 
-def relate(subject, clip, fill):
+def relate(subject: Any, clip: Any, fill: str) -> dict[str, bool]:
     """The truth of each relation."""
     asked, relations = library(), c_uint32()
     both = asked.contours(subject), asked.contours(clip)
@@ -123,31 +136,31 @@ def relate(subject, clip, fill):
     return {name: bool(relations.value >> at & 1) for at, name in enumerate(RELATIONS)}
 
 
-def clip(shape, lines, fill, invert, boundary):
+def clip(shape: Any, lines: Any, fill: str, invert: bool, boundary: bool) -> list[Any]:
     """The parts of open paths that are kept."""
     asked = library()
     both = asked.contours(shape), asked.contours(lines)
     given = (FILL_NUMBERS[fill], ClipOptions(bool(invert), bool(boundary)), *both)
-    paths = TIMES // 4 * both[1].coordinate_count + 15
+    paths = TIMES // 4 * sum(each.coordinate_count for each in both) + 15
     counts = PathCounts(4 * paths, paths)
     coordinates, ends = asked.answer("polyover_clip", given, path_rooms, counts)
     return parted(points_in(coordinates.first(counts.coordinates)), ends.first(counts.paths))
 
 
-def sliced(asked, contours, lines, fill):
+def sliced(asked: Library, contours: Any, lines: Any, fill: str) -> list[Any]:
     """The shapes into which open paths cut contours."""
     paths = asked.contours(lines)
     given, counts = (FILL_NUMBERS[fill], contours, paths), expected(contours, paths)
-    return shapes_in(*asked.answer("polyover_slice", given, shape_rooms, counts), counts)
+    return shapes_in(asked.answer("polyover_slice", given, shape_rooms, counts), counts)
 
 
-def slice(shape, lines, fill):  # pylint: disable=redefined-builtin
+def slice(shape: Any, lines: Any, fill: str) -> list[Any]:  # pylint: disable=redefined-builtin
     """The shapes into which open paths cut a shape."""
     asked = library()
     return sliced(asked, asked.contours(shape), lines, fill)
 
 
-def tiles(shape, width, height, fill):
+def tiles(shape: Any, width: int, height: int, fill: str) -> list[Any]:
     """The shapes into which the cells of a grid cut a shape: it is sliced along the lines of the grid."""
     asked = library()
     contours = asked.contours(shape)
@@ -156,7 +169,7 @@ def tiles(shape, width, height, fill):
     return sliced(asked, contours, grid_lines(width, height, xs, ys), fill)
 
 
-def is_resolved(shape):
+def is_resolved(shape: Any) -> bool:
     """Whether each contour is resolved."""
     asked = library()
     status = asked.call("polyover_resolved", asked.contours(shape))
@@ -165,7 +178,7 @@ def is_resolved(shape):
     return status == Status.OK
 
 
-def locate(shape, points):
+def locate(shape: Any, points: Any) -> list[str]:
     """Where each point lies."""
     asked, unresolved = library(), c_size_t()
     contours, queries = asked.contours(shape), asked.contours([points])

@@ -1,13 +1,22 @@
 """The calls: contours of whole points in, lists of shapes out."""
 
-from typing import NamedTuple
+from __future__ import annotations
+
+import warnings
+from contextlib import contextmanager
+from typing import Any, Iterable, Iterator, NamedTuple
 
 from . import by_library, by_program
-from .errors import BadInput
+from .contour import room_of, shifted
+from .errors import BadInput, NotSettled, PolyoverWarning
 from .shapes import Paths, Shapes
 from .text import FILLS, RULES, coordinate, known, whole
+from .told import Told
 
 AREA_LIMIT = 2**127 - 1
+# (by how many powers of two relations are told coarser where splitting does not settle)
+COARSER = 8
+MORE = "members of # points beyond x and y are left out"
 
 
 class Look(NamedTuple):
@@ -19,77 +28,227 @@ class Look(NamedTuple):
     minimum_area: int
 
 
-def look_of(ogc, clockwise, keep, minimum_area):
+def look_of(ogc: bool, clockwise: bool, keep: bool, minimum_area: Any) -> Look:
     """How an answer looks by these options."""
-    if not 0 <= minimum_area <= AREA_LIMIT:
+    area = whole(minimum_area)
+    if not 0 <= area <= AREA_LIMIT:
         raise BadInput(f"the minimum area {minimum_area} is not from 0 to {AREA_LIMIT}")
-    return Look(ogc, clockwise, keep, whole(minimum_area))
+    return Look(ogc, clockwise, keep, area)
 
 
-def asked(call):
+def asked(call: str) -> Any:
     """What answers a call: the library, where it is there and has the call, or else the program."""
     return by_library if by_library.can(call) else by_program
 
 
-def backend(call="overlay"):
+def backend(call: str = "overlay") -> str:
     """What answers the call of that name: "library" or "program"."""
-    return asked(call).NAME
+    return str(asked(call).NAME)
 
 
-def overlay(subject, clip=(), rule="union", fill="nonzero", *, ogc=True, clockwise=False, keep=False, minimum_area=0):
+# ---- what is given
+
+
+def listed(name: str, paths: Any, told: Told | None = None) -> list[list[Any]]:
+    """Lists of points of two members, of a group of paths. What points have beyond x and y is left out, if it is
+    counted in `told`, and else a fault."""
+    lists = []
+    for number, path in enumerate(iterated(name, paths, f"a list of {kind_of(name)}s"), 1):
+        place = place_of(name, number)
+        points = iterated(place, path, "a list of points")
+        try:
+            for _, _ in points:
+                pass
+        except (TypeError, ValueError):
+            points = [checked_point(f"{place}, point {at}", point, told) for at, point in enumerate(points, 1)]
+        lists.append(points)
+    return lists
+
+
+def kind_of(name: str) -> str:
+    """The kind of the paths in a group."""
+    return "line" if name == "lines" else "contour"
+
+
+def place_of(name: str, number: int) -> str:
+    """Where a path stands in a group; the points that are located are one group by themselves."""
+    return name if name == "points" else f"{name}: {kind_of(name)} {number}"
+
+
+def iterated(place: str, things: Any, what: str) -> list[Any]:
+    """The items of a list, or of whatever can be gone over."""
+    if not isinstance(things, (list, tuple)):
+        if isinstance(things, (str, bytes, dict)) or not hasattr(things, "__iter__"):
+            raise BadInput(f"{place}: {things!r} in the place of {what}")
+        things = list(things)
+    return things  # type: ignore[no-any-return]
+
+
+def checked_point(place: str, point: Any, told: Told | None) -> Any:
+    """A point of two members, or of more where that is counted."""
+    try:
+        members = tuple(point)
+    except TypeError:
+        raise BadInput(f"{place}: {point!r} is no point: contours and lines are lists of points, in a list") from None
+    if len(members) == 2:
+        return members
+    if told is None or len(members) < 2:
+        raise BadInput(f"{place}: {point!r} is no point of two members")
+    told.add(MORE, place)
+    return members[:2]
+
+
+@contextmanager
+def placed(**groups: list[list[Any]]) -> Iterator[None]:
+    """Names the place of the first coordinate that is no whole number in the range, where that is a fault."""
+    try:
+        yield
+    except BadInput:
+        for name, paths in groups.items():
+            for number, path in enumerate(paths, 1):
+                check_coordinates(name, number, path)
+        raise
+
+
+def check_coordinates(name: str, number: int, path: list[Any]) -> None:
+    """That the coordinates of a path are whole numbers in the range."""
+    for at, point in enumerate(path, 1):
+        try:
+            for value in point:
+                coordinate(value)
+        except BadInput as fault:
+            raise BadInput(f"{place_of(name, number)}, point {at}: {fault}") from None
+
+
+# ---- the calls
+
+
+def overlay(
+    subject: Any,
+    clip: Any = (),
+    rule: str = "union",
+    fill: str = "nonzero",
+    *,
+    ogc: bool = True,
+    clockwise: bool = False,
+    keep: bool = False,
+    minimum_area: int = 0,
+) -> Shapes:
     """The shapes round the region where the rules hold of two lists of contours: each its outline and its holes."""
     look = look_of(ogc, clockwise, keep, minimum_area)
     rule, fill = known(RULES, rule, "rule"), known(FILLS, fill, "fill rule")
-    return Shapes(asked("overlay").overlay(subject, clip, rule, fill, look))
+    subject, clip = listed("subject", subject), listed("clip", clip)
+    with placed(subject=subject, clip=clip):
+        return Shapes(asked("overlay").overlay(subject, clip, rule, fill, look))
 
 
-def hierarchy(subject, clip=(), rule="union", fill="nonzero", *, ogc=True, clockwise=False, keep=False, minimum_area=0):
+def hierarchy(
+    subject: Any,
+    clip: Any = (),
+    rule: str = "union",
+    fill: str = "nonzero",
+    *,
+    ogc: bool = True,
+    clockwise: bool = False,
+    keep: bool = False,
+    minimum_area: int = 0,
+) -> tuple[Shapes, list[tuple[int, int, int]]]:
     """The same shapes, and a triple for each shape in a hole of another one: the other shape, the place of the hole
     among all contours, and the shape, counted from 0."""
     look = look_of(ogc, clockwise, keep, minimum_area)
     rule, fill = known(RULES, rule, "rule"), known(FILLS, fill, "fill rule")
-    shapes, links = asked("hierarchy").hierarchy(subject, clip, rule, fill, look)
+    subject, clip = listed("subject", subject), listed("clip", clip)
+    with placed(subject=subject, clip=clip):
+        shapes, links = asked("hierarchy").hierarchy(subject, clip, rule, fill, look)
     return Shapes(shapes), links
 
 
-def simplify(subject, fill="nonzero", *, ogc=True, clockwise=False, keep=False, minimum_area=0):
+def simplify(
+    subject: Any,
+    fill: str = "nonzero",
+    *,
+    ogc: bool = True,
+    clockwise: bool = False,
+    keep: bool = False,
+    minimum_area: int = 0,
+) -> Shapes:
     """The shapes round what the contours fill: of `overlay` with the rule subject, but that one simple contour stays as
     it is given, or is reversed, unless there is a minimum area."""
     look = look_of(ogc, clockwise, keep, minimum_area)
-    return Shapes(asked("simplify").simplify(subject, known(FILLS, fill, "fill rule"), look))
+    fill, subject = known(FILLS, fill, "fill rule"), listed("subject", subject)
+    with placed(subject=subject):
+        return Shapes(asked("simplify").simplify(subject, fill, look))
 
 
-def edges(subject, clip=(), fill="nonzero"):
+def edges(subject: Any, clip: Any = (), fill: str = "nonzero") -> list[tuple[Any, Any, int]]:
     """The edges of the arrangement, in order: two points, and the sum of the bits of the filled sides."""
-    return asked("edges").edges(subject, clip, known(FILLS, fill, "fill rule"))
+    fill, subject, clip = known(FILLS, fill, "fill rule"), listed("subject", subject), listed("clip", clip)
+    with placed(subject=subject, clip=clip):
+        return list(asked("edges").edges(subject, clip, fill))
 
 
-def relate(subject, clip, fill="nonzero"):
-    """Which relations hold: a dictionary from the seven names to truths."""
-    return asked("relate").relate(subject, clip, known(FILLS, fill, "fill rule"))
+def relations_as_given(subject: list[Any], clip: list[Any], fill: str) -> dict[str, bool]:
+    """Which relations hold of the arrangement of the contours as they are."""
+    return dict(asked("relate").relate(subject, clip, fill))
 
 
-def clip(shape, lines, fill="nonzero", *, invert=False, boundary=False):
+def relate(subject: Any, clip: Any, fill: str = "nonzero") -> dict[str, bool]:
+    """Which relations hold: a dictionary from the seven names to truths.
+
+    They are told of the arrangement of the coordinates times the greatest power of two that keeps them in the range,
+    whose chains stay within half a unit of that scale of their edges for each round that moved a point. Where splitting
+    does not settle there, a smaller power is taken, with a warning; NotSettled comes where the least, 1, does not."""
+    fill, subject, clip = known(FILLS, fill, "fill rule"), listed("subject", subject), listed("clip", clip)
+    with placed(subject=subject, clip=clip):
+        whole_points = [[[(coordinate(x), coordinate(y)) for x, y in path] for path in it] for it in (subject, clip)]
+    finest = power = room_of([path for paths in whole_points for path in paths])
+    while True:
+        try:
+            told = relations_as_given(shifted(whole_points[0], power), shifted(whole_points[1], power), fill)
+        except NotSettled:
+            if power == 0:
+                raise
+            power = max(0, power - COARSER)
+            continue
+        if power < finest:
+            how = f"of coordinates times 2^{power}, since splitting did not settle at 2^{finest}"
+            warnings.warn(f"relations are those of the arrangement {how}", PolyoverWarning, stacklevel=2)
+        return told
+
+
+def clip(
+    shape: Any, lines: Any, fill: str = "nonzero", *, invert: bool = False, boundary: bool = False
+) -> Paths:
     """The parts of open paths inside the shape, with `invert` those outside, and with `boundary` those along it too."""
-    return Paths(asked("clip").clip(shape, lines, known(FILLS, fill, "fill rule"), invert, boundary))
+    fill, shape, lines = known(FILLS, fill, "fill rule"), listed("shape", shape), listed("lines", lines)
+    with placed(shape=shape, lines=lines):
+        return Paths(asked("clip").clip(shape, lines, fill, invert, boundary))
 
 
-def slice(shape, lines, fill="nonzero"):  # pylint: disable=redefined-builtin
+def slice(shape: Any, lines: Any, fill: str = "nonzero") -> Shapes:  # pylint: disable=redefined-builtin
     """The shapes into which open paths cut a shape."""
-    return Shapes(asked("slice").slice(shape, lines, known(FILLS, fill, "fill rule")))
+    fill, shape, lines = known(FILLS, fill, "fill rule"), listed("shape", shape), listed("lines", lines)
+    with placed(shape=shape, lines=lines):
+        return Shapes(asked("slice").slice(shape, lines, fill))
 
 
-def tiles(shape, width, height, fill="nonzero"):
+def tiles(shape: Any, width: int, height: int, fill: str = "nonzero") -> Shapes:
     """The shapes into which the cells of a grid, which has a node at (0, 0), cut a shape: each lies in one cell."""
-    fill = known(FILLS, fill, "fill rule")
-    return Shapes(asked("tiles").tiles(shape, coordinate(width), coordinate(height), fill))
+    fill, shape = known(FILLS, fill, "fill rule"), listed("shape", shape)
+    sides = coordinate(width), coordinate(height)
+    with placed(shape=shape):
+        return Shapes(asked("tiles").tiles(shape, *sides, fill))
 
 
-def is_resolved(shape):
+def is_resolved(shape: Any) -> bool:
     """Whether `locate` takes the contours: whether two steps of one share points only where they are ends of both."""
-    return asked("is_resolved").is_resolved(shape)
+    shape = listed("shape", shape)
+    with placed(shape=shape):
+        return bool(asked("is_resolved").is_resolved(shape))
 
 
-def locate(shape, points):
+def locate(shape: Any, points: Iterable[Any]) -> list[str]:
     """Where each point lies in the contours, which are joined by exclusive or: "inside", "boundary" or "outside"."""
-    return asked("locate").locate(shape, points)
+    shape, queries = listed("shape", shape), listed("points", [points])
+    with placed(shape=shape, points=queries):
+        return list(asked("locate").locate(shape, queries[0]))

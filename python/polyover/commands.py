@@ -1,6 +1,9 @@
 """Inputs of the program, read and answered by the module's calls as the program reads and answers them."""
 
+from __future__ import annotations
+
 import re
+from typing import Any, Callable
 
 from . import calls
 from .program import BadLine
@@ -25,26 +28,29 @@ FIGURE = re.compile(f"(subject|clip|line){PATH}|point{NUMBER}{NUMBER}")
 COMMAND = re.compile("|".join(f"run {name}{words}" for name, words in COMMANDS.items()))
 SPACES = re.compile(" +")
 
+Figures = dict[str, list[Any]]
+
 
 # ---- inputs
 
 
-def is_figure(line):
+def is_figure(line: str) -> bool:
     """Whether a line has a contour, a path or a point, in the coordinate range."""
-    return FIGURE.fullmatch(line) and all(abs(int(number)) <= LIMIT for number in line.split(" ")[1:])
+    return bool(FIGURE.fullmatch(line)) and all(abs(int(number)) <= LIMIT for number in line.split(" ")[1:])
 
 
-def is_command(line):
+def is_command(line: str) -> bool:
     """Whether a line has a command, with each option at most once, and a minimum area that is in its range."""
     words = line.split(" ")
     names = list(filter(str.isalpha, words))
-    is_written = COMMAND.fullmatch(line) and len(set(names)) == len(names)
+    is_written = bool(COMMAND.fullmatch(line)) and len(set(names)) == len(names)
     return is_written and 0 <= options_in(words)["minimum_area"] <= calls.AREA_LIMIT
 
 
-def figures_in(text):
+def figures_in(text: str) -> tuple[Figures, list[str]]:
     """The paths of each kind in an input, and the words of its command; a bad line is a fault, which names it."""
-    figures, words = {kind: [] for kind in KINDS}, None
+    figures: Figures = {kind: [] for kind in KINDS}
+    words: list[str] | None = None
     lines = text.replace("\r\n", "\n").removesuffix("\n").split("\n") if text else []
     for number, each in enumerate(lines, 1):
         line = SPACES.sub(" ", each).strip(" ")
@@ -63,69 +69,69 @@ def figures_in(text):
 # ---- answers
 
 
-def options_in(words):
+def options_in(words: list[str]) -> dict[str, Any]:
     """The options of an overlay, by name."""
     area = int(words[words.index("min") + 1]) if "min" in words else 0
     return {**{name: name in words for name in ("ogc", "clockwise", "keep")}, "minimum_area": area}
 
 
-def printed_overlay(figures, words):
+def printed_overlay(figures: Figures, words: list[str]) -> str:
     """The shapes of an overlay."""
     rule, fill = (NAMES[word] for word in words[:2])
     return printed_shapes(calls.overlay(figures["subject"], figures["clip"], rule, fill, **options_in(words)))
 
 
-def printed_hierarchy(figures, words):
+def printed_hierarchy(figures: Figures, words: list[str]) -> str:
     """The shapes of an overlay, and its links."""
     rule, fill = (NAMES[word] for word in words[:2])
     shapes, links = calls.hierarchy(figures["subject"], figures["clip"], rule, fill, **options_in(words))
     return printed_shapes(shapes) + "".join(f"link {' '.join(map(str, link))}\n" for link in links)
 
 
-def printed_edges(figures, words):
+def printed_edges(figures: Figures, words: list[str]) -> str:
     """The edges of the arrangement."""
     found = calls.edges(figures["subject"], figures["clip"], NAMES[words[0]])
     return "".join(f"edge {ax} {ay} {bx} {by} {fill}\n" for (ax, ay), (bx, by), fill in found)
 
 
-def printed_relations(figures, words):
+def printed_relations(figures: Figures, words: list[str]) -> str:
     """The seven relations."""
-    told = calls.relate(figures["subject"], figures["clip"], NAMES[words[0]])
+    told = calls.relations_as_given(figures["subject"], figures["clip"], NAMES[words[0]])
     return "".join(f"{name} {str(holds).lower()}\n" for name, holds in told.items())
 
 
-def printed_clip(figures, words):
+def printed_clip(figures: Figures, words: list[str]) -> str:
     """The paths that a clip leaves."""
     chosen = {name: name in words for name in ("invert", "boundary")}
     return "".join(map(printed_path, calls.clip(figures["subject"], figures["line"], NAMES[words[0]], **chosen)))
 
 
-def printed_slices(figures, words):
+def printed_slices(figures: Figures, words: list[str]) -> str:
     """The shapes into which paths cut the subject."""
     return printed_shapes(calls.slice(figures["subject"], figures["line"], NAMES[words[0]]))
 
 
-def printed_tiles(figures, words):
+def printed_tiles(figures: Figures, words: list[str]) -> str:
     """The shapes into which a grid cuts the subject."""
-    return printed_shapes(calls.tiles(figures["subject"], *map(int, words[1:]), NAMES[words[0]]))
+    return printed_shapes(calls.tiles(figures["subject"], int(words[1]), int(words[2]), NAMES[words[0]]))
 
 
-def located(figures):
+def located(figures: Figures) -> list[str]:
     """Where each point lies."""
     return calls.locate(figures["subject"], [point for path in figures["point"] for point in path])
 
 
-def printed_locations(figures, _):
+def printed_locations(figures: Figures, _: list[str]) -> str:
     """Where each point lies."""
     return "".join(f"{place}\n" for place in located(figures))
 
 
-def printed_truths(figures, _):
+def printed_truths(figures: Figures, _: list[str]) -> str:
     """Whether each point is inside; of one on an edge the program may say either, and this says false."""
     return "".join(f"{str(place == 'inside').lower()}\n" for place in located(figures))
 
 
-PRINTED = {
+PRINTED: dict[str, Callable[[Figures, list[str]], str]] = {
     "overlay": printed_overlay,
     "hierarchy": printed_hierarchy,
     "edges": printed_edges,
@@ -138,7 +144,7 @@ PRINTED = {
 }
 
 
-def printed(text):
+def printed(text: str) -> str:
     """What the module's call answers to an input, as the program prints it."""
     figures, (command, *words) = figures_in(text)
     return PRINTED[command](figures, words)

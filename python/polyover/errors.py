@@ -20,7 +20,7 @@ class TooManyEdges(PolyoverError):
 class NotResolved(PolyoverError):
     """A contour of a shape in which points are located meets itself; `contour` is its number, from 0."""
 
-    def __init__(self, contour):
+    def __init__(self, contour: int) -> None:
         super().__init__(f"contour {contour} is not resolved: two of its steps share a point that is no end of both")
         self.contour = contour
 
@@ -35,3 +35,7 @@ class ProgramMissing(PolyoverError):
 
 class LibraryMissing(PolyoverError):
     """There is no library where one is named, or it can't be loaded."""
+
+
+class PolyoverWarning(UserWarning):
+    """What a call answers differs from what was given in a way that it says."""

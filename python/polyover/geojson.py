@@ -1,125 +1,286 @@
-"""Geometries as GeoJSON has them, and as `__geo_interface__` gives them."""
+"""Geometries as GeoJSON has them, and as `__geo_interface__` gives them: each feature's polygons or lines."""
 
-import json
+from __future__ import annotations
+
 from dataclasses import dataclass, field
+from typing import Any, Iterable, Iterator, NamedTuple, Sequence
 
 from .errors import BadInput
+from .numbers import is_finite
 from .shapes import ring
+from .told import Told
 
 POLYGONS = ("Polygon", "MultiPolygon")
 LINES = ("LineString", "MultiLineString")
-PARTS = {"Polygon": lambda it: [it], "MultiPolygon": list, "LineString": lambda it: [it], "MultiLineString": list}
+POINTS = ("Point", "MultiPoint")
+KINDS = {*POLYGONS, *LINES, *POINTS}
+# (how many lists stand round a point)
+DEPTHS = {"Point": 0, "MultiPoint": 1, "LineString": 1, "MultiLineString": 2, "Polygon": 2, "MultiPolygon": 3}
+NESTED = 50
+DROPPED = "members of # points beyond x and y are left out"
+PASSED_OVER = "# geometries that are no {} are passed over"
+SKIPPED = "# rings or lines with too few points are skipped"
+NULLS = "# features have no geometry"
+
+Point = Sequence[Any]
+Path = list[Any]
+
+
+class Place(NamedTuple):
+    """Where something stands in a file: a feature, a geometry in collections, a polygon or line, a ring; from 1."""
+
+    feature: int
+    geometries: tuple[int, ...] = ()
+    part: str = ""
+    ring: int = 0
+
+    def __str__(self) -> str:
+        words = [f"feature {self.feature}", *(f"geometry {number}" for number in self.geometries)]
+        words += [self.part] * bool(self.part) + [f"ring {self.ring}"] * bool(self.ring)
+        return ", ".join(words)
+
+
+@dataclass
+class Part:
+    """A polygon, by its rings, or a line, which is its one path; no ring repeats its first point at its end."""
+
+    place: Place
+    paths: list[Path]
 
 
 @dataclass
 class Feature:
-    """A geometry's polygons, each a list of rings, or its lines, and its properties; `number` is its place, from 1."""
+    """A geometry's polygons or lines, and the members of its feature; `number` is its place, from 1."""
 
     number: int
-    kind: str
-    parts: list
-    properties: dict = field(default_factory=dict)
+    parts: list[Part] = field(default_factory=list)
+    members: dict[str, Any] = field(default_factory=dict)
+    is_null: bool = False
+
+    @property
+    def paths(self) -> list[Path]:
+        """The paths of all parts."""
+        return [path for part in self.parts for path in part.paths]
 
 
-def geometry_of(thing):
-    """What a thing is as GeoJSON: a dictionary, or whatever has `__geo_interface__`."""
-    found = getattr(thing, "__geo_interface__", thing)
-    if not isinstance(found, dict) or "type" not in found:
-        raise BadInput(f"{type(thing).__name__} is no geometry: neither GeoJSON nor with __geo_interface__")
+class Reader:
+    """Reads polygons, lines or points; counts what it passes over."""
+
+    def __init__(self, kinds: Sequence[str], skip_invalid: bool, told: Told) -> None:
+        self.kinds, self.skip_invalid, self.told = kinds, skip_invalid, told
+        self.wanted = " or ".join(kinds)
+        self.passed_over: list[str] = []
+        self.finds_any = False
+        self.readers = {"Polygon": ("polygon", self.polygon), "LineString": ("line", self.line)}
+        self.readers["Point"] = ("point", self.point)
+
+    def points(self, place: Place, path: object, least: int) -> Path | None:
+        """The points of a ring or line, with x and y alone; none where too few of them are to be skipped."""
+        points = []
+        for number, point in enumerate(listed(place, path), 1):
+            points.append(checked_point(place, number, point))
+        if least == 3 and len(points) > 1 and tuple(points[0]) == tuple(points[-1]):
+            points.pop()
+        if len(points) < least:
+            if not self.skip_invalid:
+                what = "three points of a ring" if least == 3 else "two points of a line"
+                raise BadInput(f"{place}: {len(points)} in the place of at least {what}")
+            self.told.add(SKIPPED, place)
+            return None
+        more = sum(len(point) > 2 for point in points)
+        if more:
+            self.told.add(DROPPED, place, more)
+        return [tuple(point[:2]) for point in points]
+
+    def polygon(self, place: Place, rings: object) -> Iterator[Part]:
+        """A polygon, if its outline is one."""
+        paths = [self.points(place._replace(ring=at), each, 3) for at, each in enumerate(listed(place, rings), 1)]
+        if paths and paths[0] is None:
+            holes = sum(path is not None for path in paths)
+            if holes:
+                self.told.add("# holes of outlines that are skipped are skipped too", place, holes)
+        elif paths:
+            yield Part(place, [path for path in paths if path is not None])
+
+    def line(self, place: Place, points: object) -> Iterator[Part]:
+        """A line, if it is one."""
+        path = self.points(place, points, 2)
+        if path is not None:
+            yield Part(place, [path])
+
+    def point(self, place: Place, point: object) -> Iterator[Part]:
+        """A point, as a line of one."""
+        yield Part(place, [[tuple(checked_point(place, 1, point))]])
+
+    def parts(self, place: Place, geometry: object) -> Iterator[Part]:
+        """The polygons, the lines or the points of a geometry."""
+        geometry = interface_of(geometry)
+        kind = kind_of(place, geometry)
+        if kind == "GeometryCollection":
+            if len(place.geometries) >= NESTED:
+                raise BadInput(f"feature {place.feature}: more than {NESTED} collections in one another")
+            for number, each in enumerate(listed(place, member(place, geometry, "geometries"), "geometries"), 1):
+                yield from self.parts(place._replace(geometries=(*place.geometries, number)), each)
+            return
+        if kind not in KINDS:
+            raise BadInput(f"{place}: {shown(kind)} in the place of {self.wanted}")
+        coordinates = member(place, geometry, "coordinates")
+        if kind not in self.kinds:
+            check_nested(place, coordinates, DEPTHS[kind])
+            self.passed_over.append(f"{place}: {kind} in the place of {self.wanted}")
+            self.told.add(PASSED_OVER.format(self.wanted), place)
+            return
+        self.finds_any = True
+        name, read = self.readers[self.kinds[0]]
+        items = listed(place, coordinates, "coordinates")
+        if kind.startswith("Multi"):
+            for number, each in enumerate(items, 1):
+                yield from read(place._replace(part=f"{name} {number}"), each)
+        elif len(items):
+            yield from read(place._replace(part=f"{name} 1"), items)
+
+    def feature(self, number: int, thing: object) -> Feature:
+        """A feature, or a geometry that stands alone."""
+        place = Place(number)
+        found = interface_of(thing)
+        if not isinstance(found, dict):
+            raise BadInput(f"{place}: {shown(found)} is no feature")
+        if found.get("type") != "Feature":
+            return Feature(number, list(self.parts(place, found)))
+        geometry = member(place, found, "geometry")
+        members = {name: value for name, value in found.items() if name not in ("type", "geometry")}
+        if not isinstance(members.setdefault("properties", None), (dict, type(None))):
+            raise BadInput(f"{place}: properties: {shown(members['properties'])} is no object")
+        if geometry is None:
+            return Feature(number, [], members, is_null=True)
+        return Feature(number, list(self.parts(place, geometry)), members)
+
+
+# ---- what stands where it should
+
+
+def shown(value: object) -> str:
+    """A value in a message, not too long."""
+    text = "null" if value is None else repr(value)
+    return text if len(text) <= 60 else f"{text[:57]}.."
+
+
+def interface_of(thing: object) -> Any:
+    """What a thing is as GeoJSON has it."""
+    return getattr(thing, "__geo_interface__", thing)
+
+
+def member(place: Place, found: Any, name: str) -> Any:
+    """A member of an object, which must be there."""
+    if name not in found:
+        raise BadInput(f"{place}: no member {name}")
+    return found[name]
+
+
+def listed(place: Place, found: object, name: str = "") -> Sequence[Any]:
+    """A list, which must be one."""
+    if not isinstance(found, (list, tuple)):
+        start = f"{place}: {name}" if name else str(place)
+        raise BadInput(f"{start}: {shown(found)} in the place of a list")
     return found
 
 
-def check_points(path, least):
-    """That a path has points of two numbers or more, and enough of them."""
-    if not isinstance(path, (list, tuple)) or len(path) < least:
-        raise BadInput(f"a ring or line has less than {least} points")
-    for point in path:
-        is_point = isinstance(point, (list, tuple)) and len(point) >= 2
-        if not is_point or not all(isinstance(each, (int, float)) for each in point[:2]):
-            raise BadInput(f"{point!r} is no point of two numbers")
+def kind_of(place: Place, geometry: object) -> str:
+    """The type of a geometry."""
+    if not isinstance(geometry, dict):
+        raise BadInput(f"{place}: {shown(geometry)} is no geometry")
+    kind = member(place, geometry, "type")
+    if not isinstance(kind, str):
+        raise BadInput(f"{place}: type: {shown(kind)} is no text")
+    return kind
 
 
-def parts_of(geometry, kinds):
-    """The polygons, or the lines, of a geometry."""
-    kind = geometry["type"]
-    if kind not in kinds:
-        raise BadInput(f"{kind} in the place of {' or '.join(kinds)}")
-    parts = PARTS[kind](geometry.get("coordinates") or [])
-    for part in parts:
-        if kinds == LINES:
-            check_points(part, 2)
-        else:
-            for each in part:
-                check_points(each, 4)
-    return [part for part in parts if part]
+def checked_point(place: Place, number: int, point: object) -> Point:
+    """A point of two finite numbers, or more."""
+    if not isinstance(point, (list, tuple)) or len(point) < 2 or not all(map(is_finite, point)):
+        raise BadInput(f"{place}, point {number}: {shown(point)} is no point of two finite numbers")
+    return point
 
 
-def features_of(thing, kinds):
-    """The features of a geometry, a feature or a collection; faults name the number of the feature."""
-    found = geometry_of(thing)
-    given = found.get("features", []) if found["type"] == "FeatureCollection" else [found]
-    features = []
-    for number, each in enumerate(given, 1):
-        is_feature = each.get("type") == "Feature"
-        geometry = each.get("geometry") if is_feature else each
-        if geometry is None:
-            continue
-        try:
-            parts = parts_of(geometry_of(geometry), kinds)
-        except BadInput as fault:
-            raise BadInput(f"feature {number}: {fault}") from None
-        properties = (each.get("properties") or {}) if is_feature else {}
-        features.append(Feature(number, geometry["type"], parts, properties))
+def check_nested(place: Place, coordinates: object, depth: int) -> None:
+    """That coordinates that are passed over are points in as many lists."""
+    if depth == 0:
+        if coordinates:
+            checked_point(place, 1, coordinates)
+        return
+    for each in listed(place, coordinates, "coordinates"):
+        check_nested(place, each, depth - 1)
+
+
+# ---- features
+
+
+def geometry_of(thing: object) -> dict[str, Any]:
+    """What a thing is as GeoJSON: a dictionary, or whatever has `__geo_interface__`."""
+    found = interface_of(thing)
+    if not isinstance(found, dict) or "type" not in found:
+        raise BadInput(f"{shown(found)} is no geometry: neither GeoJSON nor with __geo_interface__")
+    return found
+
+
+def features_in(found: dict[str, Any]) -> Sequence[Any]:
+    """The features of a collection, or what is the only one."""
+    if found["type"] != "FeatureCollection":
+        return [found]
+    if not isinstance(found.get("features"), (list, tuple)):
+        raise BadInput(f"features: {shown(found.get('features'))} in the place of a list")
+    return found["features"]  # type: ignore[no-any-return]
+
+
+def features_of(
+    thing: object, kinds: Sequence[str], *, skip_invalid: bool = False, told: Told | None = None
+) -> list[Feature]:
+    """The features of a geometry, a feature or a collection, with their polygons or their lines; faults name the place.
+
+    Raises BadInput where it is none, or where no geometry is of these kinds but some are of others. With `skip_invalid`
+    a ring of less than three points and a line of less than two are left out, and counted in `told`, as are geometries
+    of other kinds, and what points have beyond x and y."""
+    reader = Reader(kinds, skip_invalid, Told() if told is None else told)
+    features = [reader.feature(number, each) for number, each in enumerate(features_in(geometry_of(thing)), 1)]
+    if reader.passed_over and not reader.finds_any:
+        raise BadInput(reader.passed_over[0])
     return features
 
 
-def double_area(contour):
-    """Twice the area inside a contour, negative where it runs clockwise."""
-    return sum(a[0] * b[1] - b[0] * a[1] for a, b in zip(contour, contour[1:] + contour[:1]))
+def told_features(thing: object, kinds: Sequence[str], skip_invalid: bool) -> list[Feature]:
+    """The features, and what is to be said of them, by warnings; that some have no geometry too."""
+    told = Told()
+    features = features_of(thing, kinds, skip_invalid=skip_invalid, told=told)
+    for each in features:
+        if each.is_null:
+            told.add(NULLS, Place(each.number))
+    told.say()
+    return features
 
 
-def turned(rings):
-    """The contours of a polygon's rings, the first counterclockwise and the others clockwise, no last point repeated.
-
-    So of polygons that overlap `nonzero` fills what one of them covers, whichever way their rings ran."""
-    contours = []
-    for at, points in enumerate(rings):
-        contour = [tuple(point[:2]) for point in points[:-1]]
-        is_outline = at == 0
-        contours.append(contour if (double_area(contour) > 0) == is_outline else contour[::-1])
-    return contours
+def parts_of(thing: object, kinds: Sequence[str], skip_invalid: bool = False) -> list[Part]:
+    """The polygons, or the lines, of all features."""
+    return [part for each in told_features(thing, kinds, skip_invalid) for part in each.parts]
 
 
-def contours_of(thing):
-    """The contours of all polygons of a geometry, for the fill rule nonzero."""
-    return [contour for it in features_of(thing, POLYGONS) for rings in it.parts for contour in turned(rings)]
+def is_geometry(thing: object) -> bool:
+    """Whether a thing is given as a geometry, and not as a list of paths."""
+    return isinstance(thing, dict) or hasattr(thing, "__geo_interface__")
 
 
-def lines_of(thing):
-    """The open paths of all lines of a geometry."""
-    return [[tuple(point[:2]) for point in line] for it in features_of(thing, LINES) for line in it.parts]
+# ---- answers
 
 
-def read(file):
-    """What a file of GeoJSON has."""
-    try:
-        with open(file, encoding="utf-8") as text:
-            return json.load(text)
-    except (OSError, ValueError) as fault:
-        raise BadInput(f"{file}: {fault}") from None
-
-
-def polygons(shapes):
+def polygons(shapes: Iterable[list[Path]]) -> dict[str, Any]:
     """A geometry of shapes: the rings of each."""
     return {"type": "MultiPolygon", "coordinates": [[ring(contour, list) for contour in shape] for shape in shapes]}
 
 
-def lines(paths):
+def lines(paths: Iterable[Path]) -> dict[str, Any]:
     """A geometry of open paths."""
     return {"type": "MultiLineString", "coordinates": [[list(point) for point in path] for path in paths]}
 
 
-def collection(pairs):
-    """A collection of features, of pairs of a geometry and properties."""
-    features = [{"type": "Feature", "properties": its, "geometry": geometry} for geometry, its in pairs]
-    return {"type": "FeatureCollection", "features": features}
+def collection(features: Iterable[dict[str, Any]], **members: Any) -> dict[str, Any]:
+    """A collection of features, with members of its own."""
+    return {"type": "FeatureCollection", **members, "features": list(features)}

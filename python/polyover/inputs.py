@@ -1,18 +1,24 @@
 """Inputs of the program as pictures: what they have, and what is answered."""
 
+from __future__ import annotations
+
+from typing import Any
+
 from . import calls
 from .commands import NAMES, figures_in, printed
 from .errors import ProgramMissing
+from .grid import grid_lines
 from .library import library
 from .picture import Picture
 from .program import answer
 from .text import FILLS, edges_in, paths_in, shapes_in
 
+CLIP_COMMANDS = ("overlay", "hierarchy", "edges", "relate")
 SHAPE_COMMANDS = ("overlay", "hierarchy", "slice", "tiles")
 STRENGTHS = (0.25, 0.5, 0.37)
 
 
-def told_of(text):
+def told_of(text: str) -> str:
     """What the program answers to an input; where there is none, but a library, what that does."""
     try:
         return answer(text)
@@ -22,7 +28,7 @@ def told_of(text):
     return printed(text)
 
 
-def add_answer(picture, command, figures, told):
+def add_answer(picture: Picture, command: str, figures: dict[str, Any], told: str) -> None:
     """Adds what was answered."""
     if command in SHAPE_COMMANDS:
         shapes, _ = shapes_in(told)
@@ -40,7 +46,7 @@ def add_answer(picture, command, figures, told):
             picture.add_points(name, found)
 
 
-def picture_of(text, with_nodes=False):
+def picture_of(text: str, with_nodes: bool = False) -> Picture:
     """The picture of an input and of its answer, where it is asked for with the ends of the arrangement's edges."""
     told = told_of(text)
     figures, words = figures_in(text)
@@ -60,7 +66,24 @@ def picture_of(text, with_nodes=False):
     return picture
 
 
-def nodes_of(figures, words):
-    """The ends of the edges of the arrangement of subject and clip."""
+def nodes_of(figures: dict[str, Any], words: list[str]) -> set[Any]:
+    """The ends of the edges of the arrangement of subject and clip, and of the lines where the command takes them."""
     fill = next((NAMES[word] for word in words if word in FILLS.values()), "evenodd")
-    return {point for edge in calls.edges(figures["subject"], figures["clip"], fill) for point in edge[:2]}
+    clip = figures["clip"] if words[0] in CLIP_COMMANDS else []
+    nodes = {point for edge in calls.edges(figures["subject"], clip, fill) for point in edge[:2]}
+    lines = lines_in(figures, words)
+    if lines:
+        for is_outside in (False, True):
+            paths = calls.clip(figures["subject"], lines, fill, invert=is_outside, boundary=True)
+            nodes.update(point for path in paths for point in path)
+    return nodes
+
+
+def lines_in(figures: dict[str, Any], words: list[str]) -> list[Any]:
+    """The lines that a command takes: those that are given, or those of its grid."""
+    if words[0] in ("clip", "slice"):
+        return list(figures["line"])
+    points = [point for contour in figures["subject"] for point in contour]
+    if words[0] != "tiles" or not points:
+        return []
+    return grid_lines(int(words[2]), int(words[3]), *zip(*points))

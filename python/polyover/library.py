@@ -1,5 +1,7 @@
 """The library for C, whose calls are proved (include/polyover.h): where it is, and what it takes and answers."""
 
+from __future__ import annotations
+
 import mmap
 import os
 from array import array
@@ -9,6 +11,7 @@ from functools import lru_cache
 from pathlib import Path
 from struct import error as StructError
 from struct import pack
+from typing import Any, Callable
 
 from . import program
 from .errors import BadInput, LibraryMissing, NotSettled, OutOfMemory, PolyoverError, TooManyEdges
@@ -84,7 +87,7 @@ class Contours(Structure):
         ("end_count", c_size_t),
     ]
 
-    def __init__(self, numbers, ends):
+    def __init__(self, numbers: Any, ends: Any) -> None:
         # (the fields hold no more than addresses: the arrays have to stay as long)
         self.numbers, self.ends_of_each = numbers, ends
         super().__init__(address(numbers), len(numbers), address(ends), len(ends))
@@ -93,16 +96,16 @@ class Contours(Structure):
 class Room:
     """An array for an answer: so many items, each of some numbers. Of many only those written to take memory."""
 
-    def __init__(self, kind, count, numbers=1):
+    def __init__(self, kind: str, count: int, numbers: int = 1) -> None:
         self.kind = kind
         size = max(1, count * numbers * array(kind).itemsize)
         try:
-            self.space = bytearray(size) if size < MUCH else reserved(size)
+            self.space: bytearray | mmap.mmap = bytearray(size) if size < MUCH else reserved(size)
         except OSError:
             raise OutOfMemory(OutOfMemory.__doc__) from None
         self.arguments = addressof(c_char.from_buffer(self.space)), count
 
-    def first(self, count):
+    def first(self, count: int) -> Any:
         """The first numbers, so many."""
         numbers = array(self.kind)
         numbers.frombytes(memoryview(self.space)[: count * numbers.itemsize])
@@ -128,37 +131,40 @@ FUNCTIONS = {
 }
 
 
-def reserved(size):
+def reserved(size: int) -> mmap.mmap:
     """So many bytes, each of which takes memory once it is written to."""
     return mmap.mmap(-1, size, flags=mmap.MAP_PRIVATE | mmap.MAP_ANONYMOUS)
 
 
-def address(items):
+def address(items: Any) -> int:
     """Where the items of an array are."""
-    return items.buffer_info()[0]
+    return int(items.buffer_info()[0])
 
 
-def passed(argument):
+def passed(argument: Any) -> tuple[Any, ...]:
     """An argument as C takes it."""
     if isinstance(argument, Room):
         return argument.arguments
     return (argument if isinstance(argument, int) else byref(argument),)
 
 
-def check(status):
+def check(status: int) -> None:
     """Raises what a status stands for, if it is not OK."""
-    if status in FAULTS:
-        raise FAULTS[status](FAULTS[status].__doc__)
-    if status in WRONG:
-        raise BadInput(f"the library answers {Status(status).name}")
-    if status != Status.OK:
+    if status not in set(Status):
         raise PolyoverError(f"the library answers the status {status}")
+    known = Status(status)
+    if known in FAULTS:
+        raise FAULTS[known](FAULTS[known].__doc__)
+    if known in WRONG:
+        raise BadInput(f"the library answers {known.name}")
+    if known != Status.OK:
+        raise PolyoverError(f"the library answers the status {known}")
 
 
 class Library:
     """A library that is loaded; `names` are those of its functions that are declared here."""
 
-    def __init__(self, path):
+    def __init__(self, path: str) -> None:
         try:
             self.functions = CDLL(path)
         except OSError as fault:
@@ -168,7 +174,7 @@ class Library:
             function = getattr(self.functions, name)
             function.argtypes, function.restype = FUNCTIONS[name], c_uint32
 
-    def numbers(self, given):
+    def numbers(self, given: list[Any]) -> Any:
         """An array of coordinates, which are whole numbers in the coordinate range."""
         try:
             numbers = array(COORDINATES, pack(f"{len(given)}q", *given))
@@ -178,7 +184,7 @@ class Library:
         # (of bad ones this names the first)
         return numbers if is_good else array(COORDINATES, map(coordinate, given))
 
-    def contours(self, paths):
+    def contours(self, paths: Any) -> Contours:
         """Contours, or open paths, as the library takes them."""
         numbers, ends = [], []
         for path in paths:
@@ -186,11 +192,11 @@ class Library:
             ends.append(len(numbers) // 2)
         return Contours(self.numbers(numbers), array(SIZES, ends))
 
-    def call(self, name, *arguments):
+    def call(self, name: str, *arguments: Any) -> int:
         """The status with which a function ends."""
-        return getattr(self.functions, name)(*(part for each in arguments for part in passed(each)))
+        return int(getattr(self.functions, name)(*(part for each in arguments for part in passed(each))))
 
-    def answer(self, name, given, rooms_for, *counts):
+    def answer(self, name: str, given: Any, rooms_for: Callable[..., list[Room]], *counts: Any) -> list[Room]:
         """The room that a function has written to; it has set the counts. Where the room for those given is too small,
         it is asked again with what it takes."""
         for _ in range(2):
@@ -203,14 +209,14 @@ class Library:
 
 
 @lru_cache(maxsize=None)
-def loaded(path):
+def loaded(path: str) -> Library:
     """The library at a path."""
     return Library(path)
 
 
-def library():
-    """The library that POLYOVER_LIBRARY names; or else, if POLYOVER_PROGRAM names no program, the one beside the
-    module or in out/; or none where none is."""
+def library() -> Library | None:
+    """The library that POLYOVER_LIBRARY names; or else, if POLYOVER_PROGRAM names no program, the one beside
+    the module or in out/, or none where none is."""
     named = os.environ.get(VARIABLE)
     if named:
         return loaded(os.path.abspath(named))

@@ -1,5 +1,7 @@
 """The program polyover, which is proved: it is asked by a text, and answers by one."""
 
+from __future__ import annotations
+
 import os
 import subprocess
 from pathlib import Path
@@ -14,12 +16,12 @@ REFUSALS = {"E1": OutOfMemory, "E2": NotSettled, "E3": TooManyEdges}
 class BadLine(BadInput):
     """A line of the text is bad; `line` is its number, from 1."""
 
-    def __init__(self, line):
+    def __init__(self, line: int) -> None:
         super().__init__(f"line {line}: bad input")
         self.line = line
 
 
-def program():
+def program() -> Path:
     """The path of the program: the one that POLYOVER_PROGRAM names, or else the one that `rt run` built."""
     path = Path(os.environ.get(VARIABLE) or BUILT).absolute()
     if not path.is_file():
@@ -27,7 +29,7 @@ def program():
     return path
 
 
-def answer(text):
+def answer(text: str) -> str:
     """What the program answers to an input."""
     ran = subprocess.run([str(program())], input=text.encode(), capture_output=True, check=False)
     said = ran.stderr.decode().split()

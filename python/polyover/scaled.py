@@ -1,24 +1,38 @@
 """Floats on a grid of whole numbers, with a scale that is stated."""
 
+from __future__ import annotations
+
 import warnings
 from fractions import Fraction
+from itertools import islice
+from typing import Any, Callable, Iterable, Sequence
 
 from . import calls
-from .errors import BadInput, NotSettled
+from .columns import whole_points
+from .contour import WholePath, WholePoint
+from .errors import BadInput, NotSettled, PolyoverWarning
+from .geojson import is_geometry
+from .numbers import ratio_of
+from .reading import Lines, Polygons, lines_in, polygons_in
 from .shapes import Paths, Shapes
 from .text import LIMIT
+from .told import Told
 
 FINER = 1024
+Group = Any
 
 
 class Axis:
     """Numbers taken as whole ones: each less a start, times a scale, and rounded; by whole numbers alone, exactly."""
 
-    def __init__(self, start, scale):
+    def __init__(self, start: Fraction, scale: Fraction) -> None:
         (top, bottom), (up, down) = start.as_integer_ratio(), scale.as_integer_ratio()
         self.times, self.less, self.over = bottom * up, top * up, bottom * down
+        # (for columns of floats, where these are floats)
+        exact = float_of(start), float_of(scale)
+        self.floats = None if None in exact else exact
 
-    def whole(self, value):
+    def whole(self, value: Any) -> int:
         """The whole number nearest to a number; of two equally near ones the even one."""
         top, bottom = ratio_of(value)
         # (of the number and a half, which is a whole number just where two are equally near)
@@ -26,135 +40,212 @@ class Axis:
         nearest, rest = divmod(2 * (top * self.times - bottom * self.less) + distance, 2 * distance)
         return nearest - 1 if rest == 0 and nearest % 2 else nearest
 
-    def number(self, whole):
+    def number(self, whole: int) -> float:
         """The float nearest to the number that a whole one stands for."""
         return (whole * self.over + self.less) / self.times
-
-
-def ratio_of(value):
-    """A finite number as a ratio of whole numbers, the second one above 0."""
-    if isinstance(value, (int, float)):
-        return value.as_integer_ratio()
-    exact = Fraction(value)
-    return int(exact.numerator), int(exact.denominator)
 
 
 class Scaled:
     """Coordinates that are floats, taken as whole numbers: each less the origin's, times the scale, and rounded.
 
     So a coordinate is taken at most half a unit from where it is, which is `lost` in the floats' own unit; an answer is
-    given back as the floats nearest to its whole points. The calls are those of the module. Where splitting does not
+    given back as the floats nearest to its whole points. The calls are those of the module, and take a geometry
+    (GeoJSON, or what has `__geo_interface__`) in the place of a list of contours or paths too. Where splitting does not
     settle, a call is tried again at a scale 1,024 times as fine, as long as coordinates are in range, with a warning.
     """
 
-    def __init__(self, scale, origin=(0, 0)):
-        self.scale = Fraction(scale)
+    def __init__(self, scale: Any, origin: Sequence[Any] = (0, 0)) -> None:
+        self.scale = fraction_of(scale, "the scale")
         if self.scale <= 0:
             raise BadInput(f"the scale {scale} is not above 0")
-        self.origin = tuple(map(Fraction, origin))
+        if len(origin) != 2:
+            raise BadInput(f"the origin {origin!r} is no point of two numbers")
+        self.origin = tuple(fraction_of(value, "the origin") for value in origin)
         self.axes = [Axis(start, self.scale) for start in self.origin]
 
     @classmethod
-    def of_digits(cls, digits, origin=(0, 0)):
+    def of_digits(cls, digits: int, origin: Sequence[Any] = (0, 0)) -> Scaled:
         """With so many digits behind the decimal point."""
         return cls(Fraction(10) ** digits, origin)
 
     @property
-    def lost(self):
+    def lost(self) -> float:
         """How far from where it is a coordinate may be taken."""
         return float(1 / (2 * self.scale))
 
-    def whole_point(self, point):
+    def whole_point(self, point: Sequence[Any]) -> WholePoint:
         """The whole point of a point of floats."""
         try:
-            return tuple(axis.whole(value) for value, axis in zip(point[:2], self.axes))
+            x, y = point
+            return self.axes[0].whole(x), self.axes[1].whole(y)
         except (TypeError, ValueError, OverflowError):
             raise BadInput(f"{point!r} is no point of two finite numbers") from None
 
-    def whole(self, paths):
-        """Paths with whole points."""
-        return [[self.whole_point(point) for point in path] for path in paths]
+    def whole_path(self, path: Sequence[Any]) -> WholePath:
+        """A path with whole points."""
+        found = whole_points(self.axes, path)
+        return [self.whole_point(point) for point in path] if found is None else found
 
-    def point(self, whole):
+    def whole(self, paths: Group, name: str = "paths") -> list[WholePath]:
+        """Paths with whole points; of polygons that were read, their contours for the fill rule nonzero. A fault names
+        the place."""
+        if isinstance(paths, Polygons):
+            return [whole for whole, _ in paths.contours(self.whole_path)]
+        if isinstance(paths, Lines):
+            lines = [self.whole_path(path) for path in paths.paths]
+            paths.tell_collapsed(lines)
+            return lines
+        try:
+            points = iter(self.whole_path([point for path in paths for point in path]))
+            return [list(islice(points, len(path))) for path in paths]
+        except BadInput:
+            self._check_points(name, paths)
+            raise
+
+    def _check_points(self, name: str, paths: Group) -> None:
+        """Names the place of the first point that is none."""
+        for number, path in enumerate(paths, 1):
+            for at, point in enumerate(path, 1):
+                try:
+                    self.whole_point(point)
+                except BadInput as fault:
+                    raise BadInput(f"{calls.place_of(name, number)}, point {at}: {fault}") from None
+
+    def point(self, whole: WholePoint) -> tuple[float, float]:
         """The point of floats at a whole one."""
-        return tuple(axis.number(value) for value, axis in zip(whole, self.axes))
+        return self.axes[0].number(whole[0]), self.axes[1].number(whole[1])
 
-    def paths(self, paths):
+    def paths(self, paths: Iterable[WholePath]) -> Paths:
         """Paths with points of floats."""
         return Paths([[self.point(whole) for whole in path] for path in paths])
 
-    def shapes(self, shapes):
+    def shapes(self, shapes: Iterable[Iterable[WholePath]]) -> Shapes:
         """Shapes with points of floats."""
         return Shapes([self.paths(shape) for shape in shapes])
 
-    def linked(self, shapes, links):
-        """Shapes with points of floats, and links."""
-        return self.shapes(shapes), links
-
-    def filled(self, edges):
+    def filled(self, edges: Any) -> Any:
         """Edges with points of floats."""
         return [(self.point(start), self.point(end), fills) for start, end, fills in edges]
 
-    def finer(self):
+    def finer(self) -> Scaled:
         """The same at a scale 1,024 times as fine."""
         return Scaled(self.scale * FINER, self.origin)
 
-    def _fits(self, *groups):
-        points = (self.whole_point(point) for paths in groups for path in paths for point in path)
-        return all(abs(value) <= LIMIT for point in points for value in point)
+    def contours_of(self, thing: object, *, skip_invalid: bool = False) -> list[list[Any]]:
+        """The contours of all polygons of a geometry, for the fill rule nonzero at this scale, with points of floats.
 
-    def _settled(self, call, *groups):
+        As `polyover.contours_of`, but that directions, and what collapses, are told of the whole numbers."""
+        contours = polygons_in(thing, skip_invalid=skip_invalid).contours(self.whole_path)
+        return [[self.point(each) for each in whole] if given is None else given for whole, given in contours]
+
+    def _fits(self, *groups: Group) -> bool:
+        return all(abs(value) <= LIMIT for it in groups for path in self.whole(it) for point in path for value in point)
+
+    def _settled(self, call: Callable[..., Any], **groups: Group) -> Any:
         """What the call answers of the groups of paths with whole points, at the first scale at which it settles."""
-        try:
-            return call(self, *map(self.whole, groups))
-        except NotSettled:
-            finer = self.finer()
-            if not finer._fits(*groups):
-                raise
-            told = f"splitting did not settle at the scale {self.scale}: tried again at {finer.scale}"
-            warnings.warn(told, stacklevel=3)
-        return finer._settled(call, *groups)
+        at, given = self, {name: taken(name, group) for name, group in groups.items()}
+        while True:
+            try:
+                return call(at, *(at.whole(group, name) for name, group in given.items()))
+            except NotSettled:
+                finer = at.finer()
+                if not finer._fits(*given.values()):
+                    raise
+                told = f"splitting did not settle at the scale {at.scale}: tried again at {finer.scale}"
+                warnings.warn(told, PolyoverWarning, stacklevel=3)
+            at = finer
 
-    def overlay(self, subject, clip=(), rule="union", fill="nonzero", **options):
+    def _look(self, at: Scaled, look: dict[str, Any]) -> dict[str, Any]:
+        """The options of an overlay at another scale: the minimum area is in squares of this scale's unit."""
+        if at is self or "minimum_area" not in look:
+            return look
+        return {**look, "minimum_area": int(look["minimum_area"] * (at.scale / self.scale) ** 2)}
+
+    def overlay(self, subject: Group, clip: Group = (), rule: str = "union", fill: str = "nonzero", **look: Any) -> Any:
         """As `polyover.overlay`."""
-        return self._settled(lambda at, s, c: at.shapes(calls.overlay(s, c, rule, fill, **options)), subject, clip)
 
-    def hierarchy(self, subject, clip=(), rule="union", fill="nonzero", **options):
+        def answer(at: Scaled, *both: Any) -> Any:
+            return at.shapes(calls.overlay(both[0], both[1], rule, fill, **self._look(at, look)))
+
+        return self._settled(answer, subject=subject, clip=clip)
+
+    def hierarchy(
+        self, subject: Group, clip: Group = (), rule: str = "union", fill: str = "nonzero", **look: Any
+    ) -> Any:
         """As `polyover.hierarchy`."""
-        return self._settled(lambda at, s, c: at.linked(*calls.hierarchy(s, c, rule, fill, **options)), subject, clip)
 
-    def simplify(self, subject, fill="nonzero", **options):
+        def answer(at: Scaled, *both: Any) -> Any:
+            shapes, links = calls.hierarchy(both[0], both[1], rule, fill, **self._look(at, look))
+            return at.shapes(shapes), links
+
+        return self._settled(answer, subject=subject, clip=clip)
+
+    def simplify(self, subject: Group, fill: str = "nonzero", **look: Any) -> Any:
         """As `polyover.simplify`."""
-        return self._settled(lambda at, s: at.shapes(calls.simplify(s, fill, **options)), subject)
+        return self._settled(lambda at, s: at.shapes(calls.simplify(s, fill, **self._look(at, look))), subject=subject)
 
-    def edges(self, subject, clip=(), fill="nonzero"):
+    def edges(self, subject: Group, clip: Group = (), fill: str = "nonzero") -> Any:
         """As `polyover.edges`."""
-        return self._settled(lambda at, s, c: at.filled(calls.edges(s, c, fill)), subject, clip)
+        return self._settled(lambda at, s, c: at.filled(calls.edges(s, c, fill)), subject=subject, clip=clip)
 
-    def relate(self, subject, clip, fill="nonzero"):
-        """As `polyover.relate`."""
-        return self._settled(lambda at, s, c: calls.relate(s, c, fill), subject, clip)
+    def relate(self, subject: Group, clip: Group, fill: str = "nonzero") -> Any:
+        """As `polyover.relate`, of the coordinates as they are taken at this scale."""
+        return self._settled(lambda at, s, c: calls.relate(s, c, fill), subject=subject, clip=clip)
 
-    def clip(self, shape, lines, fill="nonzero", **options):
+    def clip(self, shape: Group, lines: Group, fill: str = "nonzero", **options: Any) -> Any:
         """As `polyover.clip`."""
-        return self._settled(lambda at, s, l: at.paths(calls.clip(s, l, fill, **options)), shape, lines)
+        return self._settled(lambda at, s, l: at.paths(calls.clip(s, l, fill, **options)), shape=shape, lines=lines)
 
-    def slice(self, shape, lines, fill="nonzero"):
+    def slice(self, shape: Group, lines: Group, fill: str = "nonzero") -> Any:
         """As `polyover.slice`."""
-        return self._settled(lambda at, s, l: at.shapes(calls.slice(s, l, fill)), shape, lines)
+        return self._settled(lambda at, s, l: at.shapes(calls.slice(s, l, fill)), shape=shape, lines=lines)
 
-    def tiles(self, shape, width, height, fill="nonzero"):
+    def tiles(self, shape: Group, width: Any, height: Any, fill: str = "nonzero") -> Any:
         """As `polyover.tiles`: a cell's width and height, times the scale, are rounded, and a node is at the origin."""
-        return self._settled(lambda at, s: at.shapes(calls.tiles(s, *at.sides(width, height), fill)), shape)
 
-    def sides(self, width, height):
+        def answer(at: Scaled, given: Any) -> Any:
+            wide, high = at.sides(width, height)
+            return at.shapes(calls.tiles(given, wide, high, fill))
+
+        return self._settled(answer, shape=shape)
+
+    def sides(self, width: Any, height: Any) -> WholePoint:
         """The whole width and height of a cell."""
         return Scaled(self.scale).whole_point((width, height))
 
-    def is_resolved(self, shape):
+    def is_resolved(self, shape: Group) -> bool:
         """As `polyover.is_resolved`."""
-        return calls.is_resolved(self.whole(shape))
+        return calls.is_resolved(self.whole(taken("shape", shape), "shape"))
 
-    def locate(self, shape, points):
+    def locate(self, shape: Group, points: Iterable[Any]) -> list[str]:
         """As `polyover.locate`."""
-        return calls.locate(self.whole(shape), self.whole([points])[0])
+        queries = taken("points", [points])
+        return calls.locate(self.whole(taken("shape", shape), "shape"), self.whole(queries, "points")[0])
+
+
+def float_of(value: Fraction) -> float | None:
+    """A fraction as a float, if it is one."""
+    try:
+        return float(value) if Fraction(float(value)) == value else None
+    except OverflowError:
+        return None
+
+
+def fraction_of(value: Any, what: str) -> Fraction:
+    """A finite number as a fraction."""
+    try:
+        return Fraction(*ratio_of(value))
+    except (TypeError, ValueError, OverflowError):
+        raise BadInput(f"{what} {value!r} is no finite number") from None
+
+
+def taken(name: str, group: Group) -> Group:
+    """What was given for a group of paths: polygons or lines that are read, or lists of points of two numbers."""
+    if isinstance(group, (Polygons, Lines)):
+        return group
+    if is_geometry(group) and not isinstance(group, Paths):
+        return lines_in(group) if name == "lines" else polygons_in(group)
+    told = Told()
+    paths = calls.listed(name, group, told)
+    told.say()
+    return paths

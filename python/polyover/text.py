@@ -1,8 +1,13 @@
 """Inputs and answers of the program as text."""
 
+from __future__ import annotations
+
 from operator import index
+from typing import Any, Iterable, Mapping
 
 from .errors import BadInput
+
+Points = Iterable[Any]
 
 LIMIT = 2**62 - 1
 RULES = {
@@ -18,14 +23,14 @@ FILLS = {"evenodd": "EvenOdd", "nonzero": "NonZero", "positive": "Positive", "ne
 RELATIONS = ("intersects", "interiors_intersect", "touches", "point_intersects", "within", "disjoint", "covers")
 
 
-def known(words, name, what):
+def known(words: Mapping[str, str], name: object, what: str) -> str:
     """The name of a rule, which is one of those that have a word."""
-    if name not in words:
+    if not isinstance(name, str) or name not in words:
         raise BadInput(f"unknown {what} {name!r}: one of {', '.join(words)}")
     return name
 
 
-def whole(value):
+def whole(value: Any) -> int:
     """A whole number."""
     try:
         return index(value)
@@ -33,7 +38,7 @@ def whole(value):
         raise BadInput(f"{value!r} is no whole number: Scaled takes floats") from None
 
 
-def coordinate(value):
+def coordinate(value: Any) -> int:
     """A whole number in the coordinate range."""
     number = whole(value)
     if abs(number) > LIMIT:
@@ -41,35 +46,36 @@ def coordinate(value):
     return number
 
 
-def lines_of(kind, paths):
+def lines_of(kind: str, paths: Iterable[Points]) -> str:
     """A line of an input for each path."""
     return "".join(f"{kind}{''.join(f' {coordinate(x)} {coordinate(y)}' for x, y in path)}\n" for path in paths)
 
 
-def printed_path(points):
+def printed_path(points: Points) -> str:
     """The line of a contour or path in an answer."""
     return " ".join(f"{x} {y}" for x, y in points) + "\n"
 
 
-def printed_shapes(shapes):
+def printed_shapes(shapes: Iterable[Iterable[Points]]) -> str:
     """The lines of shapes in an answer."""
     return "".join("shape\n" + "".join(map(printed_path, shape)) for shape in shapes)
 
 
-def points_in(line):
+def points_in(line: str) -> list[tuple[int, int]]:
     """The points of a line of numbers."""
     numbers = [int(each) for each in line.split()]
     return list(zip(numbers[0::2], numbers[1::2]))
 
 
-def paths_in(answer):
+def paths_in(answer: str) -> list[list[tuple[int, int]]]:
     """The paths of an answer."""
     return [points_in(line) for line in answer.splitlines()]
 
 
-def shapes_in(answer):
+def shapes_in(answer: str) -> tuple[list[Any], list[Any]]:
     """The shapes of an answer, each a list of contours, and its links."""
-    shapes, links = [], []
+    shapes: list[Any] = []
+    links: list[Any] = []
     for line in answer.splitlines():
         first, _, rest = line.partition(" ")
         if first == "shape":
@@ -81,7 +87,7 @@ def shapes_in(answer):
     return shapes, links
 
 
-def edges_in(answer):
+def edges_in(answer: str) -> list[Any]:
     """The edges of an answer: two points, and the sum of the bits of the filled sides."""
     numbers = [[int(each) for each in line.split()[1:]] for line in answer.splitlines()]
     return [((ax, ay), (bx, by), fill) for ax, ay, bx, by, fill in numbers]

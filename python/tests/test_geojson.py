@@ -8,23 +8,10 @@ import unittest
 from pathlib import Path
 
 import polyover
-from polyover import geojson
+from polyover.contour import double_area
 from polyover.__main__ import main
 
-
-def square(left, low, right, high):
-    """A ring round a rectangle."""
-    return [[left, low], [right, low], [right, high], [left, high], [left, low]]
-
-
-def feature(kind, coordinates, **properties):
-    """A feature of GeoJSON."""
-    return {"type": "Feature", "properties": properties, "geometry": {"type": kind, "coordinates": coordinates}}
-
-
-def collection(*features):
-    """A collection of features."""
-    return {"type": "FeatureCollection", "features": list(features)}
+from .features import collection, feature, square
 
 
 class Geometries(unittest.TestCase):
@@ -33,7 +20,7 @@ class Geometries(unittest.TestCase):
     def test_rings_either_way(self):
         polygon = {"type": "Polygon", "coordinates": [square(0, 0, 9, 9)[::-1], square(1, 1, 2, 2)]}
         contours = polyover.contours_of(polygon)
-        self.assertEqual([geojson.double_area(each) for each in contours], [162, -2])
+        self.assertEqual([double_area(each) for each in contours], [162, -2])
 
     def test_interface_there_and_back(self):
         shapes = polyover.overlay([[(0, 0), (9, 0), (9, 9), (0, 9)], [(1, 1), (1, 2), (2, 2), (2, 1)]])
@@ -44,11 +31,11 @@ class Geometries(unittest.TestCase):
 
     def test_faults_name_the_feature(self):
         good, short = feature("Polygon", [square(0, 0, 1, 1)]), feature("Polygon", [[[0, 0], [1, 1]]])
-        with self.assertRaisesRegex(polyover.BadInput, "feature 2: a ring or line has less than 4 points"):
+        with self.assertRaisesRegex(polyover.BadInput, "feature 2, polygon 1, ring 1: 2 in the place of at least"):
             polyover.contours_of(collection(good, short))
         with self.assertRaisesRegex(polyover.BadInput, "feature 1: Point in the place of Polygon or MultiPolygon"):
             polyover.contours_of(collection(feature("Point", [0, 0])))
-        with self.assertRaisesRegex(polyover.BadInput, "no geometry"):
+        with self.assertRaisesRegex(polyover.BadInput, "3 is no geometry"):
             polyover.contours_of(3)
 
 

@@ -3,6 +3,7 @@
 import unittest
 
 import polyover
+from polyover.contour import double_area
 from polyover.text import printed_path, printed_shapes
 
 from .rows import BAR, FRAME, HALL, NESTED, OTHER, SQUARE, WALLS
@@ -22,7 +23,7 @@ class Rows(unittest.TestCase):
         areas["inverse_difference"] = 12
         for rule, expected in areas.items():
             shapes = polyover.overlay([SQUARE], [OTHER], rule)
-            doubled = sum(polyover.geojson.double_area(contour) for shape in shapes for contour in shape)
+            doubled = sum(double_area(contour) for shape in shapes for contour in shape)
             self.assertEqual(doubled, 2 * expected, rule)
 
     def test_options(self):

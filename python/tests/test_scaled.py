@@ -12,6 +12,11 @@ from polyover.text import LIMIT
 
 from .rows import NESTED, UNSETTLED
 
+try:
+    import numpy
+except ImportError:
+    numpy = None
+
 
 class ScaledFloats(unittest.TestCase):
     """What is taken, what is given back, and what is tried again."""
@@ -36,6 +41,27 @@ class ScaledFloats(unittest.TestCase):
             for whole in (0, 1, -1, 3, LIMIT, -LIMIT, *(chance.randint(-(10**12), 10**12) for _ in range(20))):
                 value = float(whole / Fraction(scale) + Fraction(start))
                 self.assertEqual(scaled.point((whole, 0))[0], value)
+
+    @unittest.skipIf(numpy is None, "no python3 here has NumPy (Debian's python3-numpy)")
+    def test_columns_are_the_same_numbers(self):
+        chance, far = random.Random(8), 2.0**60
+        for start, scale in product((0, -0.1, 1e6, Fraction(1, 3)), (10**7, 1, Fraction(1, 8), 0.3, 2.0**40)):
+            scaled = polyover.Scaled(scale, (start, 0))
+            values = [chance.uniform(-180, 180) for _ in range(900)] + [chance.randint(-99, 99) / 2 for _ in range(300)]
+            values += [round(chance.uniform(-99, 99), 8) for _ in range(300)] + [far, -far, 5e-324, -0.0, 1e300, 0.5]
+            whole = [round((Fraction(value) - Fraction(start)) * Fraction(scale)) for value in values]
+            found = scaled.whole([[(value, value) for value in values[:9]], [(value, 0.0) for value in values[9:]]])
+            self.assertEqual([x for path in found for x, _ in path], whole)
+        with self.assertRaisesRegex(polyover.BadInput, "subject: contour 1, point 100: .*nan"):
+            polyover.Scaled(1).overlay([[(0.0, 1.0)] * 99 + [(0.0, float("nan"))]])
+
+    def test_the_minimum_area_is_that_of_the_scale(self):
+        far = [(x + 5000.0, y + 0.0) for x, y in ((0, 0), (3, 0), (3, 3), (0, 3))]
+        contours = [[(float(x), float(y)) for x, y in contour] for contour in UNSETTLED]
+        with warnings.catch_warnings():
+            warnings.simplefilter("ignore")
+            counts = [len(polyover.Scaled(1).overlay([*contours, far], minimum_area=area)) for area in (9, 10)]
+        self.assertEqual(counts[0], counts[1] + 1)
 
     def test_whole_numbers_come_back(self):
         scaled = polyover.Scaled(1000)

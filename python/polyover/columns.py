@@ -1,0 +1,67 @@
+"""Many points at once, by columns of NumPy's, where it is installed: the same numbers as one by one."""
+
+from __future__ import annotations
+
+import sys
+from array import array
+from itertools import chain
+from typing import Any, Sequence
+
+# (how many points pay for columns, and for the import of NumPy too)
+FEW, MANY = 64, 200_000
+# (beyond it floats are whole numbers, and a float's own rounding may be more than half a unit)
+EXACT = 2.0**50
+# (of a difference and a product of floats, with room)
+ERROR = 2.0**-50
+LEAST = 1e-290
+
+
+def numpy_for(count: int) -> Any:
+    """NumPy, where it pays for so many points, and is there."""
+    if count < FEW or "numpy" not in sys.modules and count < MANY:
+        return None
+    try:
+        import numpy  # pylint: disable=import-outside-toplevel
+    except ImportError:
+        return None
+    return numpy
+
+
+def floats_of(numpy: Any, points: Sequence[Any]) -> Any:
+    """Points of two floats as an array of floats, if they are such."""
+    if set(map(len, points)) != {2}:
+        return None
+    numbers = list(chain.from_iterable(points))
+    if not set(map(type, numbers)) <= {float, numpy.float64, numpy.float32}:
+        return None
+    return numpy.frombuffer(array("d", numbers), numpy.float64).reshape(-1, 2)
+
+
+def whole_column(numpy: Any, axis: Any, values: Any) -> list[int]:
+    """The whole numbers of a column, those that are near a half or large one by one."""
+    start, scale = axis.floats
+    with numpy.errstate(all="ignore"):
+        found = (values - start) * scale
+        nearest = numpy.rint(found)
+        lost = (numpy.abs(values) + abs(start)) * scale * ERROR + LEAST
+        is_sure = (numpy.abs(found) < EXACT) & (numpy.abs(found - nearest) + lost < 0.5)
+        whole = numpy.where(is_sure, nearest, 0).astype(numpy.int64).tolist()
+    for at in numpy.nonzero(~is_sure)[0].tolist():
+        whole[at] = axis.whole(values[at])
+    return whole  # type: ignore[no-any-return]
+
+
+def whole_points(axes: Sequence[Any], points: Sequence[Any]) -> list[tuple[int, int]] | None:
+    """The whole points of many points of floats, where columns are of use."""
+    numpy = numpy_for(len(points))
+    if numpy is None or any(axis.floats is None for axis in axes):
+        return None
+    floats = floats_of(numpy, points)
+    if floats is None:
+        return None
+    try:
+        xs, ys = (whole_column(numpy, axis, floats[:, at]) for at, axis in enumerate(axes))
+    except (ValueError, OverflowError):
+        # (a number that is none: one by one it is found)
+        return None
+    return list(zip(xs, ys))

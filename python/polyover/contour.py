@@ -1,0 +1,62 @@
+"""Contours by themselves: their area, their box, and whether they have an inside."""
+
+from __future__ import annotations
+
+from typing import Any, Sequence
+
+from .text import LIMIT
+
+WholePoint = tuple[int, int]
+WholePath = list[WholePoint]
+
+
+def double_area(contour: Sequence[Any]) -> Any:
+    """Twice the area inside a contour, negative where it runs clockwise; exact for whole numbers."""
+    return sum(a[0] * b[1] - b[0] * a[1] for a, b in zip(contour, [*contour[1:], *contour[:1]]))
+
+
+def without_repeats(contour: WholePath) -> WholePath:
+    """A contour without points that are equal to the one before them."""
+    return [point for point, before in zip(contour, [contour[-1], *contour]) if point != before] or contour[:1]
+
+
+def is_flat(contour: WholePath) -> bool:
+    """Whether all points of a contour are on one line, or are one."""
+    (x, y), *others = contour
+    far = next(((u - x, v - y) for u, v in others if (u, v) != (x, y)), None)
+    return far is None or all((u - x) * far[1] == (v - y) * far[0] for u, v in others)
+
+
+def box_of(contour: Sequence[Any]) -> tuple[Any, Any, Any, Any]:
+    """The least x and y, and the greatest x and y."""
+    xs, ys = [point[0] for point in contour], [point[1] for point in contour]
+    return min(xs), min(ys), max(xs), max(ys)
+
+
+def visits_once(contour: WholePath) -> bool:
+    """Whether no point comes twice."""
+    return len(set(contour)) == len(contour)
+
+
+def extent_of(contours: Sequence[WholePath]) -> int:
+    """How far the coordinates are from 0 at most."""
+    return max((max(abs(x), abs(y)) for contour in contours for x, y in contour), default=0)
+
+
+def surplus_of(contours: Sequence[WholePath]) -> int:
+    """The least power of two that brings coordinates into the range where they are divided by it, and rounded."""
+    return max(0, extent_of(contours).bit_length() - LIMIT.bit_length())
+
+
+def room_of(contours: Sequence[WholePath]) -> int:
+    """The greatest power of two by which coordinates in the range can be multiplied and stay in it; 0 for no points."""
+    extent = extent_of(contours)
+    return (LIMIT // extent).bit_length() - 1 if extent else 0
+
+
+def shifted(contours: Sequence[WholePath], power: int) -> list[WholePath]:
+    """Contours times a power of two; rounded where the power is below 0, halves upwards."""
+    if power >= 0:
+        return [[(x << power, y << power) for x, y in contour] for contour in contours]
+    half = 1 << (-power - 1)
+    return [[((x + half) >> -power, (y + half) >> -power) for x, y in contour] for contour in contours]

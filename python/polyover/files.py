@@ -1,0 +1,185 @@
+"""Files of GeoJSON in, and files of answers out: beside and renamed, so that none is left in part."""
+
+from __future__ import annotations
+
+import json
+import os
+import shutil
+import stat
+import sys
+from dataclasses import dataclass
+from typing import Any, Sequence
+
+from .errors import BadInput
+from .geojson import LINES, POINTS, POLYGONS, Feature, features_of, geometry_of
+from .reading import Lines, Polygons
+from .told import Told
+
+STANDARD = "-"
+# members of a collection that an answer has anew
+OWN = ("type", "features", "bbox")
+
+
+@dataclass
+class File:
+    """What a file of GeoJSON has: its features, of one kind, and the members of its collection."""
+
+    name: str
+    features: list[Feature]
+    members: dict[str, Any]
+    has_box: bool
+
+    @property
+    def polygons(self) -> Polygons:
+        """Its polygons."""
+        return Polygons([part for each in self.features for part in each.parts], self.name)
+
+    @property
+    def lines(self) -> Lines:
+        """Its lines."""
+        return Lines([part for each in self.features for part in each.parts], self.name)
+
+
+# ---- in
+
+
+def once(pairs: list[tuple[str, Any]]) -> dict[str, Any]:
+    """An object of JSON, of which no member comes twice."""
+    found = dict(pairs)
+    if len(found) != len(pairs):
+        names = [name for name, _ in pairs]
+        twice = next(name for name in names if names.count(name) > 1)
+        raise ValueError(f"the member {twice!r} comes twice in one object")
+    return found
+
+
+def bytes_of(name: str) -> bytes:
+    """What a file holds, or standard input."""
+    if name == STANDARD:
+        return sys.stdin.buffer.read()
+    with open(name, "rb") as file:
+        return file.read()
+
+
+def text_of(name: str) -> str:
+    """The text of a file; BadInput, which names it, where there is none."""
+    try:
+        return bytes_of(name).decode("utf-8-sig")
+    except OSError as fault:
+        raise BadInput(f"{name}: {fault.strerror or fault}") from None
+    except ValueError as fault:
+        raise BadInput(f"{name}: {fault}") from None
+
+
+def json_of(name: str) -> Any:
+    """What a file of JSON has."""
+    text = text_of(name)
+    try:
+        return json.loads(text, object_pairs_hook=once)
+    except ValueError as fault:
+        raise BadInput(f"{name}: {fault}") from None
+    except RecursionError:
+        raise BadInput(f"{name}: too many lists or objects in one another") from None
+
+
+def read(name: str, kinds: Sequence[str], skip_invalid: bool = False, tells_nulls: bool = True) -> File:
+    """The features of a file with their polygons, or their lines; says what is left out, and names the file."""
+    found = json_of(name)
+    told = Told(name)
+    try:
+        features = features_of(found, kinds, skip_invalid=skip_invalid, told=told)
+        whole = geometry_of(found)
+    except BadInput as fault:
+        raise BadInput(f"{name}: {fault}") from None
+    if tells_nulls:
+        for each in features:
+            if each.is_null:
+                told.add("# features without a geometry are left out", f"feature {each.number}")
+    told.say()
+    is_collection = whole["type"] == "FeatureCollection"
+    members = {key: value for key, value in whole.items() if key not in OWN} if is_collection else {}
+    return File(name, features, members, is_collection and "bbox" in whole)
+
+
+def polygons_of(name: str, skip_invalid: bool = False, tells_nulls: bool = True) -> File:
+    """The polygons of a file."""
+    return read(name, POLYGONS, skip_invalid, tells_nulls)
+
+
+def lines_of(name: str, skip_invalid: bool = False, tells_nulls: bool = True) -> File:
+    """The lines of a file."""
+    return read(name, LINES, skip_invalid, tells_nulls)
+
+
+def points_of(name: str) -> File:
+    """The points of a file."""
+    return read(name, POINTS, tells_nulls=False)
+
+
+# ---- out
+
+
+def json_text(value: Any) -> str:
+    """The text of an answer as JSON."""
+    try:
+        return json.dumps(value) + "\n"
+    except RecursionError:
+        raise BadInput("properties have too many lists or objects in one another") from None
+
+
+def is_plain(target: str) -> bool:
+    """Whether a file may be put in the place of what is there: nothing, or a plain file."""
+    try:
+        return stat.S_ISREG(os.stat(target).st_mode)
+    except FileNotFoundError:
+        return True
+
+
+def beside(text: str, target: str) -> str:
+    """The path of a new file beside the target, with the text; none is left where writing fails."""
+    path = os.path.join(os.path.dirname(target), f".{os.path.basename(target)[:100]}.{os.getpid()}.part")
+    handle = os.open(path, os.O_WRONLY | os.O_CREAT | os.O_EXCL, 0o666)
+    try:
+        with open(handle, "w", encoding="utf-8") as file:
+            file.write(text)
+        if os.path.exists(target):
+            shutil.copymode(target, path)
+    except BaseException:
+        os.unlink(path)
+        raise
+    return path
+
+
+def leave(answers: Sequence[tuple[str, str | None]]) -> None:
+    """Leaves texts in their files, or on standard output where none is named: all, or, where one fails, none.
+
+    Each text is written beside its file first. What is no plain file, as a pipe, is written to as it is."""
+    made: list[tuple[str, str]] = []
+    targets = [os.path.realpath(file) for _, file in answers if file]
+    if len(set(targets)) < len(targets):
+        raise BadInput(f"{targets[0]}: two answers can't go to one file")
+    try:
+        direct = []
+        for text, file in answers:
+            if file and is_plain(file):
+                made.append((beside(text, os.path.realpath(file)), os.path.realpath(file)))
+            else:
+                direct.append((text, file))
+        for text, file in direct:
+            write_to(text, file)
+        while made:
+            os.replace(*made[0])
+            made.pop(0)
+    finally:
+        for path, _ in made:
+            os.unlink(path)
+
+
+def write_to(text: str, file: str | None) -> None:
+    """Writes a text to standard output, or to what is no plain file."""
+    if file:
+        with open(file, "w", encoding="utf-8") as target:
+            target.write(text)
+    else:
+        sys.stdout.write(text)
+        sys.stdout.flush()

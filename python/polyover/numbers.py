@@ -1,0 +1,42 @@
+"""Numbers as exact ratios of whole ones."""
+
+from __future__ import annotations
+
+from fractions import Fraction
+from math import lcm
+from operator import index
+from typing import Any, Iterable
+
+
+def ratio_of(value: Any) -> tuple[int, int]:
+    """A finite number as a ratio of whole numbers, the second one above 0."""
+    if isinstance(value, (int, float)):
+        return value.as_integer_ratio()
+    if hasattr(value, "__index__"):
+        return index(value), 1
+    if hasattr(value, "as_integer_ratio"):
+        top, bottom = value.as_integer_ratio()
+        return int(top), int(bottom)
+    exact = Fraction(value)
+    return int(exact.numerator), int(exact.denominator)
+
+
+def over_one_bottom(values: Iterable[Any]) -> tuple[list[int], int]:
+    """Finite numbers as whole ones over one bottom, the smallest."""
+    ratios = [ratio_of(value) for value in values]
+    bottom = lcm(*{below for _, below in ratios})
+    return [above * (bottom // below) for above, below in ratios], bottom
+
+
+def is_finite(value: Any) -> bool:
+    """Whether a value is a finite number, and neither a truth nor a text."""
+    kind = type(value)
+    if kind is int or kind is float:
+        return kind is int or bool(value - value == 0)
+    if kind is bool or not (hasattr(value, "as_integer_ratio") or hasattr(value, "__index__")):
+        return False
+    try:
+        ratio_of(value)
+    except (TypeError, ValueError, OverflowError):
+        return False
+    return True

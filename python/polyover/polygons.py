@@ -1,0 +1,158 @@
+"""Polygons of whole points as contours of which `nonzero` fills what any of the polygons covers.
+
+A polygon covers what its outline winds round and none of its holes does. Where its rings are simple, and its holes are
+apart and inside the outline, that is what its outline counterclockwise and its holes clockwise wind round once, and
+they wind round nothing else. Other polygons are overlaid by themselves first."""
+
+from __future__ import annotations
+
+from bisect import bisect_right
+from dataclasses import dataclass
+from typing import Any, Sequence
+
+from . import calls
+from .contour import WholePath, box_of, double_area, is_flat, shifted, surplus_of, visits_once, without_repeats
+from .told import Told
+
+COLLAPSED = "# {} collapse to lines or points, and are left out"
+CROSSED = "# rings cross or overlap themselves, and cover what they wind round"
+
+
+@dataclass
+class Ring:
+    """A ring of a polygon as it was given, and by whole points."""
+
+    place: object
+    given: list[Any]
+    whole: WholePath
+    is_simple: bool = True
+
+    def is_to_turn(self, is_outline: bool) -> bool:
+        """Whether it runs against what it is: outlines run counterclockwise, and holes clockwise."""
+        return bool((double_area(self.whole) > 0) != is_outline)
+
+
+Polygon = list[Ring]
+Contour = tuple[WholePath, "list[Any] | None"]
+
+
+def contours_of_polygons(polygons: Sequence[Polygon], told: Told) -> list[Contour]:
+    """The contours of polygons by whole points, each with its points as they were given, where it is a ring that was.
+
+    What collapses at this scale is left out, and counted in `told`, and so are rings that cross themselves."""
+    left = [rings for rings in (without_flat(rings, told) for rings in polygons) if rings]
+    mark_simple([ring for rings in left for ring in rings], told)
+    bad = polygons_with_bad_holes(left)
+    contours: list[Contour] = []
+    for number, rings in enumerate(left):
+        if number in bad or not all(ring.is_simple for ring in rings):
+            contours += [(contour, None) for contour in overlaid(rings)]
+        else:
+            contours += [taken(ring, at == 0) for at, ring in enumerate(rings)]
+    return contours
+
+
+def taken(ring: Ring, is_outline: bool) -> Contour:
+    """A ring as a contour in its direction."""
+    return (ring.whole[::-1], ring.given[::-1]) if ring.is_to_turn(is_outline) else (ring.whole, ring.given)
+
+
+def without_flat(rings: Polygon, told: Told) -> Polygon:
+    """The rings of a polygon that have an inside; none where its outline has none."""
+    left: Polygon = []
+    for at, ring in enumerate(rings):
+        ring.whole = without_repeats(ring.whole)
+        if not is_flat(ring.whole):
+            left.append(ring)
+        elif at == 0:
+            told.add(COLLAPSED.format("polygons"), ring.place)
+            return []
+        else:
+            told.add(COLLAPSED.format("holes"), ring.place)
+    return left
+
+
+# ---- simple rings
+
+
+def in_range(contours: Sequence[WholePath]) -> tuple[list[WholePath], int]:
+    """Contours that the calls take, and by which power of two they were divided, and rounded."""
+    power = surplus_of(contours)
+    return shifted(contours, -power) if power else list(contours), power
+
+
+def are_resolved(contours: Sequence[WholePath]) -> bool:
+    """Whether of each contour steps share points only where these are ends of both."""
+    return calls.is_resolved(in_range(contours)[0])
+
+
+def mark_simple(rings: Polygon, told: Told) -> None:
+    """Marks the rings that are not simple: those with steps that meet, and those that visit a point twice."""
+    for ring in rings:
+        ring.is_simple = visits_once(ring.whole)
+    groups = [rings]
+    while groups:
+        group = groups.pop()
+        if are_resolved([ring.whole for ring in group]):
+            continue
+        if len(group) == 1:
+            group[0].is_simple = False
+            told.add(CROSSED, group[0].place)
+        else:
+            groups += [group[len(group) // 2 :], group[: len(group) // 2]]
+
+
+# ---- holes
+
+
+def polygons_with_bad_holes(polygons: Sequence[Polygon]) -> set[int]:
+    """The numbers of polygons with holes that overlap, or are not inside the outline: which wind round less than 0."""
+    asked = [at for at, rings in enumerate(polygons) if len(rings) > 1 and all(ring.is_simple for ring in rings)]
+    groups = [asked] if asked else []
+    found: set[int] = set()
+    while groups:
+        group = groups.pop()
+        laid, starts = laid_apart([polygons[at] for at in group])
+        if surplus_of(laid) and len(group) > 1:
+            groups += [group[len(group) // 2 :], group[: len(group) // 2]]
+            continue
+        shapes = calls.overlay(in_range(laid)[0], (), "subject", "negative", ogc=False)
+        found |= {group[bisect_right(starts, shape[0][0][0]) - 1] for shape in shapes}
+    return found
+
+
+def laid_apart(polygons: Sequence[Polygon]) -> tuple[list[WholePath], list[int]]:
+    """The contours of polygons in their directions, moved so that their boxes are apart, and the least x of each."""
+    boxes = [box_of([point for ring in rings for point in ring.whole]) for rings in polygons]
+    start = -sum(right - left + 2 for left, _, right, _ in boxes) // 2 if len(boxes) > 1 else 0
+    laid, starts = [], []
+    for rings, (left, low, right, _) in zip(polygons, boxes):
+        move = (start - left, -low) if len(boxes) > 1 else (0, 0)
+        starts.append(left + move[0])
+        for at, ring in enumerate(rings):
+            contour = taken(ring, at == 0)[0]
+            laid.append([(x + move[0], y + move[1]) for x, y in contour])
+        start += right - left + 2
+    return laid, starts
+
+
+# ---- polygons of any kind
+
+
+def covered(ring: Ring) -> list[WholePath]:
+    """The contours of what a ring winds round."""
+    if ring.is_simple:
+        return [taken(ring, True)[0]]
+    contours, power = in_range([ring.whole])
+    return shifted([contour for shape in calls.overlay(contours) for contour in shape], power)
+
+
+def overlaid(rings: Polygon) -> list[WholePath]:
+    """The contours of what the outline of a polygon covers, and none of its holes does."""
+    outline, holes = covered(rings[0]), [contour for ring in rings[1:] for contour in covered(ring)]
+    if not holes:
+        return outline
+    contours, power = in_range([*outline, *holes])
+    shapes = calls.overlay(contours[: len(outline)], contours[len(outline) :], "difference")
+    return shifted([contour for shape in shapes for contour in shape], power)
+

@@ -1,0 +1,96 @@
+"""Contours and open paths of geometries, at a scale or as they are."""
+
+from __future__ import annotations
+
+from dataclasses import dataclass
+from typing import Any, Callable, Iterable, Sequence
+
+from .contour import WholePath
+from .geojson import LINES, POLYGONS, Part, parts_of
+from .numbers import over_one_bottom
+from .polygons import Contour, Ring, contours_of_polygons
+from .told import Told
+
+Whole = Callable[[Sequence[Any]], WholePath]
+
+
+@dataclass
+class Polygons:
+    """Polygons that were read, of which the contours are told at a scale; `source` names their file.
+
+    If they are raw, each ring is a contour that runs as it is, for any fill rule."""
+
+    parts: list[Part]
+    source: str = ""
+    is_raw: bool = False
+
+    def contours(self, whole: Whole) -> list[Contour]:
+        """Their contours for the fill rule nonzero, by whole points and as they were given."""
+        if self.is_raw:
+            return [(whole(path), path) for part in self.parts for path in part.paths]
+        told = Told(self.source)
+        polygons = [
+            [Ring(part.place._replace(ring=at), path, whole(path)) for at, path in enumerate(part.paths, 1)]
+            for part in self.parts
+        ]
+        contours = contours_of_polygons(polygons, told)
+        told.say()
+        return contours
+
+
+@dataclass
+class Lines:
+    """Lines that were read; `source` names their file."""
+
+    parts: list[Part]
+    source: str = ""
+
+    @property
+    def paths(self) -> list[list[Any]]:
+        """Their points."""
+        return [part.paths[0] for part in self.parts]
+
+    def tell_collapsed(self, paths: Iterable[WholePath]) -> None:
+        """Says which of them are points at a scale."""
+        told = Told(self.source)
+        for part, path in zip(self.parts, paths):
+            if len(set(path)) < 2:
+                told.add("# lines collapse to points, and are left out", part.place)
+        told.say()
+
+
+def polygons_in(thing: object, *, skip_invalid: bool = False) -> Polygons:
+    """The polygons of a geometry."""
+    return Polygons(parts_of(thing, POLYGONS, skip_invalid))
+
+
+def lines_in(thing: object, *, skip_invalid: bool = False) -> Lines:
+    """The lines of a geometry."""
+    return Lines(parts_of(thing, LINES, skip_invalid))
+
+
+def contours_of(thing: object, *, skip_invalid: bool = False) -> list[list[Any]]:
+    """The contours of all polygons of a geometry, for the fill rule nonzero: with it they fill what any polygon covers.
+
+    The points are those given, in one direction or the other; those of polygons that cross themselves, or whose holes
+    overlap or lie outside, are computed. Raises BadInput, which names the place, where it is no geometry of polygons;
+    with `skip_invalid` rings of less than three points are left out, with a warning. What has no area is left out with
+    a warning too. `Scaled.contours_of` does so at its scale."""
+    polygons = polygons_in(thing, skip_invalid=skip_invalid)
+    values, bottom = over_one_bottom(value for part in polygons.parts for it in part.paths for p in it for value in p)
+    numbers = iter(values)
+    contours = polygons.contours(lambda path: [(next(numbers), next(numbers)) for _ in path])
+    return [number_points(whole, bottom) if given is None else given for whole, given in contours]
+
+
+def number_points(whole: WholePath, bottom: int) -> list[Any]:
+    """The points of whole ones over a bottom: floats, where that is not 1."""
+    return [(x, y) if bottom == 1 else (x / bottom, y / bottom) for x, y in whole]
+
+
+def lines_of(thing: object, *, skip_invalid: bool = False) -> list[list[Any]]:
+    """The open paths of all lines of a geometry.
+
+    Raises BadInput, which names the place, where it is no geometry of lines; with `skip_invalid` lines of less than two
+    points are left out, with a warning."""
+    return lines_in(thing, skip_invalid=skip_invalid).paths

@@ -1,0 +1,256 @@
+"""The commands over files of GeoJSON: what each reads, asks and leaves."""
+
+from __future__ import annotations
+
+from fractions import Fraction
+from math import ceil
+from typing import Any, Callable, Sequence
+
+from . import calls, files, geojson
+from .answers import feature_of, leave, null_feature, say, told_where_it_takes_long
+from .errors import BadInput, NotSettled
+from .files import File
+from .geojson import Feature
+from .inputs import picture_of
+from .nearby import Nearby, boxes_meet, lines_near
+from .picture import Picture
+from .reading import Lines, Polygons
+from .scaled import Scaled
+
+KEEPING = ("intersect", "difference")
+
+
+def fill_of(given: Any) -> str:
+    """The fill rule: nonzero of contours in their directions, or the one that is named, of rings as they run."""
+    return given.fill or "nonzero"
+
+
+def look_of(given: Any, scaled: Scaled) -> dict[str, Any]:
+    """The smallest area that is kept, in units of the scale."""
+    return {"minimum_area": ceil(Fraction(given.min_area) * scaled.scale**2)}
+
+
+def polygons_of(given: Any, file: File, parts: Sequence[Any] | None = None) -> Polygons:
+    """The polygons of a file, or some of them, by GeoJSON's reading or as rings that run as they are."""
+    found = [part for each in file.features for part in each.parts] if parts is None else parts
+    return Polygons(list(found), file.name, is_raw=given.fill is not None)
+
+
+def paths_of(file: File) -> list[Any]:
+    """The paths of a file."""
+    return [path for each in file.features for path in each.paths]
+
+
+def two_of_polygons(given: Any) -> tuple[File, File]:
+    """The two files of polygons."""
+    first, second = (files.polygons_of(name, given.skip_invalid) for name in (given.subject, given.other))
+    tell_other_crs(first, second)
+    return first, second
+
+
+def tell_other_crs(first: File, second: File) -> None:
+    """Says that two files state different systems of coordinates."""
+    stated = [each.members["crs"] for each in (first, second) if "crs" in each.members]
+    if len(stated) == 2 and stated[0] != stated[1]:
+        say(f"{first.name} and {second.name} state different members crs: coordinates are taken as they are")
+
+
+# ---- two files of polygons
+
+
+def run_overlay(given: Any) -> None:
+    """The overlay of two files"""
+    first, second = two_of_polygons(given)
+    if given.keep and given.rule not in KEEPING:
+        raise BadInput(f"--keep goes with the rules {' and '.join(KEEPING)}: of others many features give one piece")
+    scaled = Scaled.of_digits(given.digits)
+    picture = Picture(f"{given.rule} of two files")
+    picture.add_contours("subject", paths_of(first))
+    picture.add_contours("clip", paths_of(second))
+    with told_where_it_takes_long(f"overlay of {len(paths_of(first))} and {len(paths_of(second))} rings"):
+        features = kept_pieces(given, scaled, first, second) if given.keep else joined(given, scaled, first, second)
+    for each in features:
+        for shape in each["geometry"]["coordinates"]:
+            picture.add_contours("answer", [ring[:-1] for ring in shape], strength=0.55)
+    if not given.keep:
+        first.members = {name: value for name, value in first.members.items() if name == "crs"}
+        first.has_box = False
+    leave(given, features, picture, first)
+
+
+def joined(given: Any, scaled: Scaled, first: File, second: File) -> list[dict[str, Any]]:
+    """One feature of all shapes of an overlay."""
+    both = polygons_of(given, first), polygons_of(given, second)
+    shapes = scaled.overlay(*both, given.rule, fill_of(given), **look_of(given, scaled))
+    return [feature_of(geojson.polygons(shapes), {"properties": {"rule": given.rule}})] * bool(shapes)
+
+
+def kept_pieces(given: Any, scaled: Scaled, first: File, second: File) -> list[dict[str, Any]]:
+    """For each feature of the first file, overlaid by itself, a feature of the pieces that it gives."""
+    features = []
+    clip = scaled.whole(polygons_of(given, second))
+    for each in first.features:
+        polygons = polygons_of(given, first, each.parts)
+        subject = scaled.whole(polygons)
+        near = [contour for contour in clip if boxes_meet(contour, subject)]
+        try:
+            asked = calls.overlay(subject, near, given.rule, fill_of(given), **look_of(given, scaled))
+            shapes = scaled.shapes(asked)
+        except NotSettled:
+            # (which tries finer scales, with a warning)
+            other = polygons_of(given, second)
+            shapes = scaled.overlay(polygons, other, given.rule, fill_of(given), **look_of(given, scaled))
+        if shapes:
+            features.append(feature_of(geojson.polygons(shapes), each.members))
+    return features
+
+
+def run_relate(given: Any) -> None:
+    """How two files lie to each other"""
+    first, second = two_of_polygons(given)
+    both = polygons_of(given, first), polygons_of(given, second)
+    with told_where_it_takes_long(f"relations of {len(paths_of(first))} and {len(paths_of(second))} rings"):
+        relations = Scaled.of_digits(given.digits).relate(*both, fill_of(given))
+    files.leave([(files.json_text(relations), given.out)])
+
+
+# ---- polygons and lines
+
+
+def run_clip(given: Any) -> None:
+    """The lines of a file, feature by feature, clipped by the polygons of another one"""
+    area = files.polygons_of(given.subject, given.skip_invalid)
+    roads = files.lines_of(given.other, given.skip_invalid, tells_nulls=False)
+    tell_other_crs(area, roads)
+    scaled = Scaled.of_digits(given.digits)
+    picture = Picture("lines, clipped")
+    picture.add_contours("subject", paths_of(area))
+    picture.add_paths("line", paths_of(roads))
+    features = []
+    with told_where_it_takes_long(f"clip of {len(roads.features)} features by {len(paths_of(area))} rings"):
+        shape = Nearby(scaled.whole(polygons_of(given, area)))
+        scaled.whole(roads.lines)
+        for each in roads.features:
+            paths = clipped(given, scaled, shape, area, each)
+            picture.add_paths("answer", paths)
+            if each.is_null:
+                features.append(null_feature(each))
+            elif paths:
+                features.append(feature_of(geojson.lines(paths), each.members))
+    leave(given, features, picture, roads)
+
+
+def clipped(given: Any, scaled: Scaled, shape: Nearby, area: File, each: Feature) -> Any:
+    """The parts of the lines of a feature that are kept."""
+    if not each.parts:
+        return []
+    options = {"invert": given.invert, "boundary": given.boundary}
+    lines = [scaled.whole_path(path) for path in each.paths]
+    try:
+        return scaled.paths(calls.clip(shape.part(lines), lines, fill_of(given), **options))
+    except NotSettled:
+        # (which tries finer scales, with a warning)
+        return scaled.clip(polygons_of(given, area), Lines(each.parts), fill_of(given), **options)
+
+
+def run_slice(given: Any) -> None:
+    """The polygons of a file, feature by feature, sliced along the lines of another one"""
+    walls = files.lines_of(given.other, given.skip_invalid)
+    scaled = Scaled.of_digits(given.digits)
+    lines = scaled.whole(walls.lines)
+
+    def cut(polygons: Polygons) -> Any:
+        contours = scaled.whole(polygons)
+        try:
+            return scaled.shapes(calls.slice(contours, lines_near(lines, contours), fill_of(given)))
+        except NotSettled:
+            # (which tries finer scales, with a warning)
+            return scaled.slice(polygons, walls.lines, fill_of(given))
+
+    answer_features(given, "slices", cut, walls, is_parted=True)
+
+
+# ---- polygons
+
+
+def run_simplify(given: Any) -> None:
+    """The polygons of a file, feature by feature, as valid ones that cover the same"""
+    scaled = Scaled.of_digits(given.digits)
+    look = look_of(given, scaled)
+    answer_features(given, "simplified", lambda polygons: scaled.overlay(polygons, (), "subject", fill_of(given), **look))
+
+
+def run_tiles(given: Any) -> None:
+    """The polygons of a file, feature by feature, cut along a grid"""
+    scaled = Scaled.of_digits(given.digits)
+    sides = Fraction(given.wide), Fraction(given.high)
+    answer_features(given, "tiles", lambda polygons: scaled.tiles(polygons, *sides, fill_of(given)), is_parted=True)
+
+
+def answer_features(
+    given: Any, title: str, answer: Callable[[Polygons], Any], walls: File | None = None, is_parted: bool = False
+) -> None:
+    """Leaves for each feature of polygons one of what is answered, or, where it is parted, one for each shape."""
+    area = files.polygons_of(given.subject, given.skip_invalid, tells_nulls=False)
+    picture = Picture(title)
+    picture.add_contours("subject", paths_of(area))
+    if walls:
+        tell_other_crs(area, walls)
+        picture.add_paths("line", paths_of(walls))
+    features = []
+    with told_where_it_takes_long(f"{title} of {len(area.features)} features"):
+        for each in area.features:
+            if each.is_null:
+                features.append(null_feature(each))
+            shapes = answer(polygons_of(given, area, each.parts))
+            for shape in shapes:
+                picture.add_contours("answer", shape, strength=0.55)
+            groups = [[shape] for shape in shapes] if is_parted else [shapes] * bool(shapes)
+            features += [feature_of(geojson.polygons(group), each.members) for group in groups]
+    leave(given, features, picture, area)
+
+
+def run_locate(given: Any) -> None:
+    """Where the points of a file lie in the polygons of another one: as the property location of each feature"""
+    area = files.polygons_of(given.subject, given.skip_invalid)
+    places = files.points_of(given.other)
+    tell_other_crs(area, places)
+    scaled = Scaled.of_digits(given.digits)
+    picture = Picture("points, located")
+    picture.add_contours("subject", paths_of(area))
+    with told_where_it_takes_long(f"places of {len(places.features)} features in {len(paths_of(area))} rings"):
+        shapes = calls.overlay(scaled.whole(polygons_of(given, area)), (), "subject", fill_of(given))
+        points = [point[:2] for path in paths_of(places) for point in path]
+        told = calls.locate([contour for shape in shapes for contour in shape], scaled.whole([points])[0])
+    for name in ("inside", "boundary", "outside"):
+        picture.add_points(name, [point for point, place in zip(points, told) if place == name])
+    found = iter(told)
+    features = [located(places, each, found) for each in places.features]
+    leave(given, features, picture, places)
+
+
+def located(places: File, each: Feature, found: Any) -> dict[str, Any]:
+    """A feature of points, with where they lie: one place, or a list for several points."""
+    if each.is_null:
+        return null_feature(each)
+    properties = each.members.get("properties") or {}
+    if "location" in properties:
+        raise BadInput(f"{places.name}: feature {each.number}: it has a property location already")
+    points = [point for path in each.paths for point in path]
+    told = [next(found) for _ in points]
+    is_one = len(points) == 1
+    coordinates = points[0] if is_one else points
+    geometry = {"type": "Point" if is_one else "MultiPoint", "coordinates": coordinates}
+    members = {**each.members, "properties": {**properties, "location": told[0] if is_one else told}}
+    return feature_of(geometry, members)
+
+
+# ---- pictures
+
+
+def run_svg(given: Any) -> None:
+    """The picture of an input of the program"""
+    text = files.text_of(given.input)
+    with told_where_it_takes_long("picture"):
+        picture = picture_of(text, given.nodes)
+    files.leave([(picture.svg(given.width), given.out)])

@@ -1,0 +1,267 @@
+"""Commands on files: many features at once, properties, and files that are left whole or not at all."""
+
+import contextlib
+import io
+import json
+import os
+import random
+import resource
+import subprocess
+import sys
+import tempfile
+import unittest
+from math import cos, pi, sin
+from pathlib import Path
+from unittest import mock
+
+import polyover
+from polyover import library
+from polyover.__main__ import main
+
+try:
+    from polyover.nearby import Nearby
+except ImportError:
+    Nearby = None
+
+from .features import collection, feature, ran, square
+from .there import with_library
+
+MODULE = Path(__file__).resolve().parents[1]
+ROUND = 20_000
+
+
+def lake(count, chance):
+    """A ring of many points round the origin, at some 0.5 from it."""
+    reach = [0.5 + chance.uniform(-0.02, 0.02) for _ in range(count)]
+    turns = [at * 2 * pi / count for at in range(count)]
+    ring = [[round(r * cos(turn), 7), round(r * sin(turn), 7)] for turn, r in zip(turns, reach)]
+    return [*ring, ring[0]]
+
+
+def roads(count, chance):
+    """Features of lines of a few points, across the lake, each with a name."""
+    counts = [chance.randint(2, 6) for _ in range(count)]
+    lines = [[[round(chance.uniform(-1, 1), 7) for _ in range(2)] for _ in range(most)] for most in counts]
+    return [feature("LineString", line, name=at) for at, line in enumerate(lines)]
+
+
+class Many(unittest.TestCase):
+    """Clips of many features."""
+
+    @with_library
+    def test_200_roads_over_a_lake(self):
+        chance = random.Random(8)
+        area, lines = collection(feature("Polygon", [lake(ROUND, chance)])), collection(*roads(200, chance))
+        with tempfile.TemporaryDirectory() as name:
+            files = [Path(name, each) for each in ("a.geojson", "b.geojson")]
+            for file, thing in zip(files, (area, lines)):
+                file.write_text(json.dumps(thing))
+            words = [sys.executable, "-m", "polyover", "clip", *map(str, files), "--out", str(Path(name, "c.geojson"))]
+            before = resource.getrusage(resource.RUSAGE_CHILDREN)
+            subprocess.run(words, cwd=MODULE, check=True, stderr=subprocess.DEVNULL)
+            after = resource.getrusage(resource.RUSAGE_CHILDREN)
+            found = json.loads(Path(name, "c.geojson").read_text())["features"]
+        # (seconds of processor time; one call for each road with the whole lake takes more than 20)
+        self.assertLess(after.ru_utime + after.ru_stime - before.ru_utime - before.ru_stime, 3)
+        self.assertGreater(len(found), 150)
+        names = [each["properties"]["name"] for each in found]
+        self.assertEqual(names, sorted(set(names)))
+
+    def test_the_part_nearby_answers_as_the_whole(self):
+        chance = random.Random(9)
+        scaled = polyover.Scaled.of_digits(7)
+        shape = scaled.whole(polyover.contours_of({"type": "Polygon", "coordinates": [lake(1500, chance)]}))
+        near = Nearby(shape)
+        for each in roads(40, chance):
+            lines = scaled.whole(polyover.lines_of(each))
+            for options in ({}, {"invert": True}, {"boundary": True}):
+                found = polyover.clip(near.part(lines), lines, **options)
+                expected = polyover.clip(shape, lines, **options)
+                self.assertEqual([len(path) for path in found], [len(path) for path in expected])
+                far = [abs(u - v) for a, b in zip(found, expected) for p, q in zip(a, b) for u, v in zip(p, q)]
+                self.assertLessEqual(max(far, default=0), 1)
+
+    def test_the_part_nearby_along_a_grid_exactly(self):
+        chance = random.Random(10)
+        steps = [(x, chance.randint(0, 3000)) for x in range(0, 40000, 10)]
+        upper = [point for (x, y), (u, _) in zip(steps, steps[1:]) for point in ((x, y), (u, y))]
+        shape = [[*upper, (39990, -9000), (0, -9000)]]
+        near = Nearby(shape)
+        self.assertLess(sum(map(len, near.part([[(5, 9000), (5, -9999)]]))), 500)
+        for _ in range(60):
+            x, y = chance.randint(-9, 40009), chance.randint(-9999, 3999)
+            along, down = chance.randint(1, 99), chance.randint(1, 9999)
+            lines = [[(x, y), (x + along, y), (x + along, y - down)]]
+            for options in ({}, {"invert": True}, {"boundary": True}):
+                found = polyover.clip(near.part(lines), lines, **options)
+                self.assertEqual(found, polyover.clip(shape, lines, **options))
+
+
+class Members(unittest.TestCase):
+    """What features and collections have beside geometries."""
+
+    def test_empty_results_leave_no_features(self):
+        area = collection(feature("Polygon", [square(0, 0, 2, 2)]))
+        lines = collection(feature("LineString", [[5, 1], [9, 1]]), feature("LineString", [[1, 1], [9, 1]], name="in"))
+        _, left, _, _ = ran("clip", area, lines)
+        self.assertEqual([each["properties"] for each in left["features"]], [{"name": "in"}])
+        other = collection(feature("Polygon", [square(5, 5, 6, 6)]))
+        self.assertEqual(ran("overlay", area, other, words=["--rule", "intersect"])[1]["features"], [])
+
+    def test_members_are_kept(self):
+        area = collection(feature("Polygon", [square(0, 0, 2, 2)]))
+        road = {**feature("LineString", [[-1, 1], [3, 1]], name="é", nothing=None, many=[1, {"a": 2.5}]), "id": "r1",
+                "more": [1], "bbox": [-1, 1, 3, 1]}
+        bare = {"type": "Feature", "properties": None, "geometry": road["geometry"]}
+        crs = {"type": "name", "properties": {"name": "urn:ogc:def:crs:OGC:1.3:CRS84"}}
+        _, left, said, _ = ran("clip", area, collection(road, bare, crs=crs, name="roads", bbox=[-1, 1, 3, 1]))
+        one, two = left["features"]
+        for name in ("id", "more", "properties"):
+            self.assertEqual(one[name], road[name])
+        self.assertEqual((one["bbox"], left["bbox"], "bbox" in two), ([0, 1, 2, 1], [0, 1, 2, 1], False))
+        self.assertEqual((two["properties"], left["crs"], left["name"], said), (None, crs, "roads", ""))
+
+    def test_two_members_of_one_name(self):
+        area = collection(feature("Polygon", [square(0, 0, 2, 2)]))
+        twice = '{"type": "Feature", "properties": {"a": 1, "a": 2}, "geometry": null}'
+        status, _, said, _ = ran("relate", area, None, raw=twice)
+        self.assertEqual((status, said), (1, "polyover: b.geojson: the member 'a' comes twice in one object\n"))
+
+
+class Polygons(unittest.TestCase):
+    """Commands over polygons by themselves, and over points."""
+
+    CROSSED = feature("Polygon", [[[0, 0], [4, 4], [4, 0], [0, 4], [0, 0]]], name="bow")
+
+    def rings(self, left):
+        """The numbers of rings of the polygons of each feature."""
+        return [[len(shape) for shape in each["geometry"]["coordinates"]] for each in left["features"]]
+
+    def test_simplify(self):
+        given = collection(self.CROSSED, feature("Polygon", [square(9, 0, 11, 1)], name="box"))
+        _, left, said, _ = ran("simplify", given)
+        self.assertEqual(self.rings(left), [[1, 1], [1]])
+        self.assertEqual([each["properties"]["name"] for each in left["features"]], ["bow", "box"])
+        self.assertIn("1 rings cross or overlap themselves, and cover what they wind round "
+                      "(the first: feature 1, polygon 1, ring 1)", said)
+        # (each half of the bow has an area of 4, the box 2)
+        self.assertEqual(self.rings(ran("simplify", given, words=["--min-area", "3.5"])[1]), [[1, 1]])
+
+    def test_fill(self):
+        one = collection(feature("MultiPolygon", [[square(0, 0, 4, 4)], [square(1, 1, 3, 3)]]))
+        other = collection(feature("Polygon", [square(0, 0, 9, 9)]))
+        for fill, rings in ((), [[1]]), (("evenodd",), [[2]]), (("negative",), []):
+            words = ["--rule", "intersect", *(["--fill", *fill] if fill else [])]
+            self.assertEqual(self.rings(ran("overlay", one, other, words=words)[1]), rings)
+
+    def test_tiles(self):
+        _, left, _, _ = ran("tiles", collection(feature("Polygon", [square(0, 0, 4, 4)], name="a")), words=["2", "2.5"])
+        self.assertEqual([each["properties"] for each in left["features"]], [{"name": "a"}] * 4)
+
+    def test_locate(self):
+        area = collection(feature("MultiPolygon", [[square(0, 0, 4, 4), square(1, 1, 2, 2)], [square(3, 3, 5, 5)]]))
+        many = {"type": "Feature", "id": 7, "properties": {"a": 1},
+                "geometry": {"type": "MultiPoint", "coordinates": [[3.5, 3.5], [1.5, 1.5]]}}
+        points = collection(feature("Point", [1, 1, 8]), many, feature("Point", [9, 9]))
+        _, left, said, _ = ran("locate", area, points)
+        told = [each["properties"]["location"] for each in left["features"]]
+        self.assertEqual((told, said), (["boundary", ["inside", "outside"], "outside"], ""))
+        self.assertEqual(left["features"][1]["id"], 7)
+        self.assertEqual(left["features"][0]["geometry"], {"type": "Point", "coordinates": [1, 1, 8]})
+        twice = collection(feature("Point", [1, 1], location="here"))
+        self.assertIn("b.geojson: feature 1: it has a property location already", ran("locate", area, twice)[2])
+
+    def test_overlays_that_keep_features(self):
+        parcels = collection(feature("Polygon", [square(0, 0, 2, 2)], owner="a"),
+                             feature("Polygon", [square(2, 0, 4, 2)], owner="b"),
+                             feature("Polygon", [square(8, 0, 9, 2)], owner="c"), name="parcels")
+        zone = collection(feature("Polygon", [square(1, -1, 3, 3)]), feature("Polygon", [square(50, 50, 60, 60)]))
+        _, left, _, _ = ran("overlay", parcels, zone, words=["--rule", "intersect", "--keep"])
+        found = {each["properties"]["owner"]: each["geometry"]["coordinates"] for each in left["features"]}
+        self.assertEqual((sorted(found), left["name"]), (["a", "b"], "parcels"))
+        self.assertEqual(sorted(map(tuple, found["a"][0][0][1:])), [(1, 0), (1, 2), (2, 0), (2, 2)])
+        _, left, _, _ = ran("overlay", parcels, zone, words=["--rule", "difference", "--keep"])
+        self.assertEqual([each["properties"]["owner"] for each in left["features"]], ["a", "b", "c"])
+        self.assertIn("--keep goes with the rules", ran("overlay", parcels, zone, words=["--keep"])[2])
+
+    def test_other_systems_of_coordinates(self):
+        crs = [{"type": "name", "properties": {"name": name}} for name in ("EPSG:4326", "EPSG:3857")]
+        one, two = (collection(self.CROSSED, crs=each) for each in crs)
+        self.assertIn("a.geojson and b.geojson state different members crs", ran("relate", one, two)[2])
+        self.assertEqual(ran("overlay", one, one)[1]["crs"], crs[0])
+
+    def test_help(self):
+        for words in (["--help"], ["--version"], ["overlay", "--help"], ["svg", "--help"]):
+            said = io.StringIO()
+            with contextlib.redirect_stdout(said), self.assertRaises(SystemExit) as ended:
+                main(words)
+            self.assertEqual(ended.exception.code, 0)
+            self.assertIn("polyover", said.getvalue())
+
+
+class Files(unittest.TestCase):
+    """Files are read whole, and left whole."""
+
+    AREA = collection(feature("Polygon", [square(0, 0, 2, 2)]))
+
+    def test_what_is_no_json(self):
+        for raw, told in (
+            ("", "b.geojson: Expecting value"),
+            ("{", "b.geojson: Expecting property name"),
+            ("[" * 100_000, "b.geojson: too many lists or objects in one another"),
+            ("[]", r"b.geojson: [] is no geometry"),
+            ('{"type": "Polygon", "coordinates": [[[0, 0], [1, 0], [1e999, 1]]]}', "b.geojson: feature 1, polygon 1"),
+        ):
+            status, left, said, _ = ran("relate", self.AREA, None, raw=raw)
+            self.assertEqual((status, left), (1, None))
+            self.assertIn(told, said)
+
+    def test_a_mark_of_the_order_of_bytes(self):
+        self.assertEqual(ran("relate", self.AREA, None, raw="\ufeff" + json.dumps(self.AREA))[0], 0)
+
+    def test_no_file_is_left_in_part(self):
+        before = {"kept": True}
+        with tempfile.TemporaryDirectory() as name:
+            area, out = Path(name, "a.geojson"), Path(name, "out.geojson")
+            area.write_text(json.dumps(self.AREA))
+            out.write_text(json.dumps(before))
+            words = ["overlay", str(area), str(area), "--out", str(out)]
+            for svg in (str(Path(name, "nowhere", "c.svg")), str(out), name):
+                with contextlib.redirect_stderr(io.StringIO()):
+                    self.assertEqual(main([*words, "--svg", svg]), 1)
+                self.assertEqual((json.loads(out.read_text()), len(list(Path(name).iterdir()))), (before, 2))
+            with mock.patch("os.replace", side_effect=OSError("no")), contextlib.redirect_stderr(io.StringIO()):
+                self.assertEqual(main(words), 1)
+            self.assertEqual((json.loads(out.read_text()), len(list(Path(name).iterdir()))), (before, 2))
+            out.chmod(0o640)
+            self.assertEqual(main(words), 0)
+            self.assertEqual((len(json.loads(out.read_text())["features"]), out.stat().st_mode & 0o777), (1, 0o640))
+
+    def test_to_what_is_no_plain_file(self):
+        with tempfile.TemporaryDirectory() as name:
+            area, link, target = Path(name, "a.geojson"), Path(name, "link"), Path(name, "target")
+            area.write_text(json.dumps(self.AREA))
+            link.symlink_to(target)
+            self.assertEqual(main(["relate", str(area), str(area), "--out", os.devnull]), 0)
+            self.assertFalse(Path(os.devnull).is_file())
+            self.assertEqual(main(["relate", str(area), str(area), "--out", str(link)]), 0)
+            self.assertTrue(link.is_symlink() and json.loads(target.read_text())["within"])
+
+    def test_standard_input(self):
+        with tempfile.TemporaryDirectory() as name:
+            area = Path(name, "a.geojson")
+            area.write_text(json.dumps(self.AREA))
+            words = [sys.executable, "-m", "polyover", "relate", "-", str(area)]
+            done = subprocess.run(words, cwd=MODULE, input=area.read_bytes(), capture_output=True, check=True)
+            self.assertTrue(json.loads(done.stdout)["within"])
+
+    def test_nothing_to_ask(self):
+        nowhere = {library.VARIABLE: "", "POLYOVER_PROGRAM": "/nowhere/polyover"}
+        with mock.patch.dict(os.environ, nowhere):
+            status, left, said, _ = ran("overlay", self.AREA, self.AREA)
+        self.assertEqual((status, left), (1, None))
+        self.assertIn("no program at /nowhere/polyover", said)
+
+
+if __name__ == "__main__":
+    unittest.main()
