@@ -10,7 +10,6 @@ says what it was made of on standard error, and in a line at the head of the fil
 
 import argparse
 import re
-import subprocess
 import sys
 import tempfile
 from dataclasses import dataclass
@@ -97,7 +96,7 @@ def time_of(file: Path) -> float:
 def leave(file: Path, processor: str, is_proved: bool) -> None:
     """Leaves the assembly, and says what it is made of."""
     if is_proved and not is_newer(MODULE, LIBRARY):
-        subprocess.run([ROOT / ".ci" / "library"], cwd=ROOT, check=True)
+        answer_of([ROOT / ".ci" / "library"], cwd=ROOT)
     made_of = PROVED if is_newer(MODULE, LIBRARY) else UNPROVED
     head = f"/* The library polyover for {processor}, {made_of}. */\n"
     if is_newer(file, LIBRARY) and head_of(file) == head and file.stat().st_mtime >= time_of(MODULE):
