@@ -11,6 +11,7 @@ from . import calls
 from .columns import whole_points
 from .contour import WholePath, WholePoint
 from .errors import BadInput, NotSettled, PolyoverWarning
+from .flat import Flat
 from .geojson import is_geometry
 from .numbers import ratio_of
 from .reading import Lines, Polygons, lines_in, polygons_in
@@ -95,11 +96,12 @@ class Scaled:
             lines = [self.whole_path(path) for path in paths.paths]
             paths.tell_collapsed(lines)
             return lines
+        given = [path if isinstance(path, (list, tuple)) else list(path) for path in paths]
         try:
-            points = iter(self.whole_path([point for path in paths for point in path]))
-            return [list(islice(points, len(path))) for path in paths]
+            points = iter(self.whole_path([point for path in given for point in path]))
+            return [list(islice(points, len(path))) for path in given]
         except BadInput:
-            self._check_points(name, paths)
+            self._check_points(name, given)
             raise
 
     def _check_points(self, name: str, paths: Group) -> None:
@@ -243,7 +245,7 @@ def taken(name: str, group: Group) -> Group:
     """What was given for a group of paths: polygons or lines that are read, or lists of points of two numbers."""
     if isinstance(group, (Polygons, Lines)):
         return group
-    if is_geometry(group) and not isinstance(group, Paths):
+    if is_geometry(group) and not isinstance(group, (Paths, Flat)):
         return lines_in(group) if name == "lines" else polygons_in(group)
     told = Told()
     paths = calls.listed(name, group, told)
