@@ -221,7 +221,7 @@ def case_of_command(chance, counts):
         for file, kinds in zip(files, (AREAS, OTHER_OF.get(name, AREAS))):
             file.write_bytes(file_text(chance, kinds))
         before = {each.name for each in Path(folder).iterdir()}
-        alone = {"simplify": [], "tiles": [str(chance.choice((0, 0.5, 1000, 10**9))) for _ in range(2)]}
+        alone = {"simplify": [], "tiles": [str(chance.choice((0, 100, 1000, 10**9))) for _ in range(2)]}
         words = [name, str(files[0]), *alone.get(name, [str(files[1])]), "--out", str(files[2])]
         if name != "relate" and chance.random() < 0.3:
             words += ["--svg", str(files[3])]

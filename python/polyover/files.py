@@ -8,6 +8,8 @@ import shutil
 import stat
 import sys
 from dataclasses import dataclass
+from importlib import import_module
+from pathlib import Path
 from typing import Any, Sequence
 
 from .errors import BadInput
@@ -82,9 +84,24 @@ def json_of(name: str) -> Any:
         raise BadInput(f"{name}: too many lists or objects in one another") from None
 
 
+def shapely_of(name: str) -> Any:
+    """The geometry in a file of WKT or WKB, read by shapely, which must be installed."""
+    kind = Path(name).suffix[1:]
+    try:
+        reader, errors = import_module(f"shapely.{kind}"), import_module("shapely.errors")
+    except ImportError:
+        raise BadInput(f"{name}: {kind.upper()} takes shapely, which is not installed") from None
+    try:
+        return reader.loads(text_of(name) if kind == "wkt" else bytes_of(name))
+    except OSError as fault:
+        raise BadInput(f"{name}: {fault.strerror or fault}") from None
+    except (errors.ShapelyError, ValueError) as fault:
+        raise BadInput(f"{name}: no {kind.upper()}: {fault}") from None
+
+
 def read(name: str, kinds: Sequence[str], skip_invalid: bool = False, tells_nulls: bool = True) -> File:
     """The features of a file with their polygons, or their lines; says what is left out, and names the file."""
-    found = json_of(name)
+    found = shapely_of(name) if name.endswith((".wkt", ".wkb")) else json_of(name)
     told = Told(name)
     try:
         features = features_of(found, kinds, skip_invalid=skip_invalid, told=told)
