@@ -9,7 +9,7 @@ from typing import Any, Callable, Iterable, Sequence
 
 from . import calls
 from .columns import whole_points
-from .contour import WholePath, WholePoint
+from .contour import WholePath, WholePoint, extent_of
 from .errors import BadInput, NotSettled, PolyoverWarning
 from .flat import Flat
 from .geojson import is_geometry
@@ -93,9 +93,7 @@ class Scaled:
         if isinstance(paths, Polygons):
             return [whole for whole, _ in paths.contours(self.whole_path)]
         if isinstance(paths, Lines):
-            lines = [self.whole_path(path) for path in paths.paths]
-            paths.tell_collapsed(lines)
-            return lines
+            return paths.whole(self.whole_path)
         given = [path if isinstance(path, (list, tuple)) else list(path) for path in paths]
         try:
             points = iter(self.whole_path([point for path in given for point in path]))
@@ -141,7 +139,10 @@ class Scaled:
         return [[self.point(each) for each in whole] if given is None else given for whole, given in contours]
 
     def _fits(self, *groups: Group) -> bool:
-        return all(abs(value) <= LIMIT for it in groups for path in self.whole(it) for point in path for value in point)
+        try:
+            return all(extent_of(self.whole(group)) <= LIMIT for group in groups)
+        except BadInput:
+            return False
 
     def _settled(self, call: Callable[..., Any], **groups: Group) -> Any:
         """What the call answers of the groups of paths with whole points, at the first scale at which it settles."""
