@@ -11,6 +11,7 @@ from typing import Any, Callable, Sequence
 from . import runs
 from .answers import say, warnings_as_lines
 from .errors import PolyoverError
+from .files import STANDARD
 from .picture import WIDTH
 from .text import FILLS, RULES
 
@@ -129,6 +130,9 @@ def parsed(words: Sequence[str] | None) -> argparse.Namespace:
 def main(words: Sequence[str] | None = None) -> int:
     """Runs a command; 1 where it does not answer. Where its words are bad argparse ends it, with 2."""
     given = parsed(words)
+    if [getattr(given, name, None) for name in ("subject", "other")] == [STANDARD] * 2:
+        say("standard input can't be two files")
+        return 1
     try:
         with warnings_as_lines():
             return int(given.run(given) or 0)

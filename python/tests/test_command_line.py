@@ -274,6 +274,12 @@ class Files(unittest.TestCase):
             words = [sys.executable, "-m", "polyover", "relate", "-", str(area)]
             done = subprocess.run(words, cwd=MODULE, input=area.read_bytes(), capture_output=True, check=True)
             self.assertTrue(json.loads(done.stdout)["within"])
+            bad = subprocess.run(words, cwd=MODULE, input=b"{", capture_output=True, check=False)
+            self.assertIn(b"polyover: standard input: Expecting", bad.stderr)
+        said = io.StringIO()
+        with contextlib.redirect_stderr(said):
+            self.assertEqual(main(["relate", "-", "-"]), 1)
+        self.assertIn("standard input can't be two files", said.getvalue())
 
     def test_nothing_to_ask(self):
         nowhere = {library.VARIABLE: "", "POLYOVER_PROGRAM": "/nowhere/polyover"}
