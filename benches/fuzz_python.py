@@ -21,6 +21,7 @@ import tempfile
 import time
 import traceback
 import warnings
+from array import array
 from collections import Counter
 from pathlib import Path
 
@@ -33,16 +34,23 @@ from polyover.text import FILLS, RULES  # noqa: E402  pylint: disable=wrong-impo
 
 LIMIT = 20
 FAR = 2**62 - 1
+WORDS = "subject clip line point run 0 4 -4 7 x 1.5 overlay Union EvenOdd ogc edges NonZero tiles slice relate".split()
+WORDS += ["min", "locate", str(FAR), str(FAR + 1)] + ["\n"] * 5 + ["\r\n"]
 JUNK = (None, True, False, 0, 5, -1, 0.5, -0.0, float("nan"), float("inf"), -float("inf"), 1e308, 5e-324, 10**30, -FAR,
         "", "x", "12", "\ud800", "Polygon", "Feature", b"x", [], {}, [[]], [None], [[[]]], {"type": "Polygon"}, (0, 0),
-        {1: 2}, {"a"}, object(), int, range(3), 2j)
+        {1: 2}, {"a"}, object(), int, range(3), 2j, array("q", [0, 0, 4, 0]), array("d", [1.5]), bytearray(16))
 MEMBERS = ("type", "features", "geometry", "coordinates", "properties", "geometries", "id", "bbox", "crs", "name")
-FLAGS = ("--skip-invalid", "--digits 2", "--digits -1", "--digits 17")
-FLAGS_OF = {"clip": ("--invert", "--boundary"), "overlay": ("--rule xor", "--rule intersect")}
+FLAGS = ("--skip-invalid", "--digits 2", "--digits -1", "--digits 17", "--fill evenodd", "--fill negative")
+FLAGS_OF = {"clip": ("--invert", "--boundary"), "overlay": ("--rule xor", "--rule intersect --keep", "--min-area 2")}
+FLAGS_OF["simplify"] = ("--min-area 0.5",)
+POINTS = ("Point", "MultiPoint")
+# (what the second file of a command has)
+OTHER_OF = {"clip": ("LineString", "MultiLineString"), "locate": POINTS}
+OTHER_OF["slice"] = OTHER_OF["clip"]
 CALLS = ("overlay", "hierarchy", "simplify", "edges", "relate", "clip", "slice", "tiles", "locate", "is_resolved")
 READERS = ("contours_of", "lines_of")
 AREAS, LINES = ("Polygon", "MultiPolygon"), ("LineString", "MultiLineString")
-OTHERS = ("Point", "GeometryCollection", *AREAS, *LINES)
+OTHERS = ("Point", "MultiPoint", "GeometryCollection", *AREAS, *LINES)
 # (the ones that JSON has)
 PLAIN = [each for each in JUNK if isinstance(each, (int, float, str, list, type(None)))]
 
@@ -93,6 +101,7 @@ def geometry(chance, size, kinds, depth=0):
         return {"type": kind, "geometries": some}
     first = rings[0] if rings else []
     made = {"Polygon": first, "MultiPolygon": rings, "MultiLineString": first, "LineString": ring(chance, size)}
+    made["MultiPoint"] = made["LineString"]
     return {"type": kind, "coordinates": made[kind] if kind in made else point(chance, size)}
 
 
@@ -159,7 +168,20 @@ def contours(chance):
     size = chance.choice((3, 10, 1000, FAR))
     counts = [chance.randint(0, 6) for _ in range(3)]
     made = [[[chance.randint(-size, size) for _ in range(2)] for _ in range(count)] for count in counts]
+    if chance.random() < 0.2:
+        return in_arrays(chance, made)
     return spoiled(chance, made, JUNK) if chance.random() < 0.4 else made
+
+
+def in_arrays(chance, paths):
+    """Contours in arrays, or not."""
+    numbers = array(chance.choice("qqqd"))
+    ends = [chance.choice((0, -1, 1)) if chance.random() < 0.1 else 0]
+    for path in paths:
+        values = [value for point in path for value in point]
+        numbers.extend(values)
+        ends.append(ends[-1] + len(path))
+    return polyover.Flat(numbers, array("Q", ends[1:]) if min(ends) >= 0 else ends)
 
 
 def argument(chance, good):
@@ -183,6 +205,8 @@ def rest_of_call(chance, name):
         named["rule"] = argument(chance, lambda: chance.choice(list(RULES)))
     if name not in (*READERS, "locate", "is_resolved") and chance.random() < 0.5:
         named["fill"] = argument(chance, lambda: chance.choice(list(FILLS)))
+    if name in ("overlay", "simplify", "clip", "slice", "tiles"):
+        named["arrays"] = chance.random() < 0.3
     if name in ("overlay", "simplify", "hierarchy") and chance.random() < 0.3:
         named["minimum_area"] = argument(chance, lambda: chance.randint(0, 99))
     return rest, named
@@ -197,6 +221,8 @@ def case_of_call(chance, counts):
         takes_geometry = name in READERS or owner is not polyover and chance.random() < 0.4
         thing = spoiled(chance, file_thing(chance), JUNK) if takes_geometry else contours(chance)
         rest, named = rest_of_call(chance, name)
+        if owner is not polyover and name in ("slice", "tiles"):
+            del named["arrays"]
         getattr(owner, name)(argument(chance, lambda: thing), *rest, **named)
         counts["calls answered"] += 1
     except polyover.PolyoverError as fault:
@@ -207,13 +233,14 @@ def case_of_call(chance, counts):
 
 def case_of_command(chance, counts):
     """One command on files."""
-    name = chance.choice(("overlay", "relate", "clip", "slice"))
+    name = chance.choice(("overlay", "relate", "clip", "slice", "simplify", "tiles", "locate"))
     with tempfile.TemporaryDirectory() as folder:
         files = [Path(folder, each) for each in ("a", "b", "out", "svg")]
-        for file, kinds in zip(files, (AREAS, LINES if name in ("clip", "slice") else AREAS)):
+        for file, kinds in zip(files, (AREAS, OTHER_OF.get(name, AREAS))):
             file.write_bytes(file_text(chance, kinds))
         before = {each.name for each in Path(folder).iterdir()}
-        words = [name, str(files[0]), str(files[1]), "--out", str(files[2])]
+        alone = {"simplify": [], "tiles": [str(chance.choice((0, 100, 1000, 10**9))) for _ in range(2)]}
+        words = [name, str(files[0]), *alone.get(name, [str(files[1])]), "--out", str(files[2])]
         if name != "relate" and chance.random() < 0.3:
             words += ["--svg", str(files[3])]
         for flag in (*FLAGS, *FLAGS_OF.get(name, ())):
@@ -225,6 +252,24 @@ def case_of_command(chance, counts):
         after = {each.name for each in Path(folder).iterdir()}
         counts[f"commands: status {status}"] += 1
         check_files(status, said.getvalue(), before, after, files)
+
+
+def case_of_picture(chance, counts):
+    """The picture of an input of the program, good or bad."""
+    command = chance.choice(("slice NonZero", "edges EvenOdd", "clip Positive"))
+    good = f"subject 0 0 4 0 4 4\nline 1 1 9 9\nrun {command}"
+    bad = " ".join(chance.choice(WORDS) for _ in range(chance.randint(0, 30)))
+    text = bad if chance.random() < 0.7 else good
+    with tempfile.TemporaryDirectory() as folder:
+        files = [Path(folder, each) for each in ("in", "unused", "out")]
+        files[0].write_text(text)
+        said = io.StringIO()
+        with contextlib.redirect_stderr(said):
+            status = run_command(["svg", str(files[0]), "--out", str(files[2]), *["--nodes"] * chance.randint(0, 1)])
+        counts[f"pictures: status {status}"] += 1
+        if status == 0:
+            files[2].write_text('"a picture"')
+        check_files(status, said.getvalue(), {"in"}, {each.name for each in Path(folder).iterdir()}, files)
 
 
 def check_files(status, said, before, after, files):
@@ -247,7 +292,7 @@ def run_case(seed, number, counts):
     try:
         with warnings.catch_warnings():
             warnings.simplefilter("ignore")
-            (case_of_call if chance.random() < 0.6 else case_of_command)(chance, counts)
+            chance.choices((case_of_call, case_of_command, case_of_picture), (6, 4, 1))[0](chance, counts)
         return True
     except TooLong:
         print(f"case {number}: longer than {LIMIT} seconds", flush=True)
@@ -275,6 +320,8 @@ def main():
         bad += not run_case(given.seed, case, counts)
         slowest = max(slowest, time.monotonic() - begun)
         case += 1
+        if case % 10_000 == 0:
+            print(f"{case} cases after {(time.monotonic() - start) / 60:.1f} minutes, {bad} bad", flush=True)
     print(f"{case} cases, {bad} bad, slowest {slowest:.1f} s")
     for name, count in sorted(counts.items()):
         print(f"  {name}: {count}")

@@ -4,6 +4,7 @@ from .calls import backend, clip, edges, hierarchy, is_resolved, locate, overlay
 from .calls import slice  # pylint: disable=redefined-builtin
 from .errors import BadInput, LibraryMissing, NotResolved, NotSettled, OutOfMemory, PolyoverError, ProgramMissing
 from .errors import PolyoverWarning, TooManyEdges
+from .flat import Flat, FlatShapes
 from .reading import contours_of, lines_of
 from .scaled import Scaled
 from .shapes import Paths, Shapes
@@ -12,6 +13,8 @@ __version__ = "0.1.0"
 
 __all__ = [
     "BadInput",
+    "Flat",
+    "FlatShapes",
     "LibraryMissing",
     "NotResolved",
     "NotSettled",

@@ -11,6 +11,7 @@ from typing import Any, Callable, Sequence
 from . import runs
 from .answers import say, warnings_as_lines
 from .errors import PolyoverError
+from .files import STANDARD
 from .picture import WIDTH
 from .running import run as run_program
 from .text import FILLS, RULES
@@ -133,9 +134,12 @@ def main(words: Sequence[str] | None = None) -> int:
     """Runs a command; 1 where it does not answer, and the words are bad where argparse ends it with 2. The command run
     ends as the program does."""
     given = parsed(words)
+    if [getattr(given, name, None) for name in ("subject", "other")] == [STANDARD] * 2:
+        say("standard input can't be two files")
+        return 1
     try:
         with warnings_as_lines():
-            return given.run(given) or 0
+            return int(given.run(given) or 0)
     except BrokenPipeError:
         # (nobody reads on: what is left in the buffer goes nowhere)
         os.dup2(os.open(os.devnull, os.O_WRONLY), sys.stdout.fileno())

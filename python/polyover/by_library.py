@@ -3,9 +3,10 @@
 from __future__ import annotations
 
 from ctypes import c_size_t, c_uint32
-from typing import Any, Sequence
+from typing import Any, Callable, Sequence
 
 from .errors import LibraryMissing, NotResolved
+from .flat import Flat, FlatShapes
 from .grid import grid_lines
 from .library import BYTES, COORDINATES, SIZES, ClipOptions, Counts, Library, Options, PathCounts, Room, Status, check
 from .library import library as found_library
@@ -17,6 +18,7 @@ FILL_NUMBERS = {name: number for number, name in enumerate(FILLS)}
 LOCATIONS = ("outside", "inside", "boundary")
 # (how much an answer takes is known once it is there, so to ask again costs as much as to ask)
 TIMES = 24
+Found = Callable[[list[Room], Counts], Any]
 # of the other calls each takes the function of its own name
 TAKES = {"tiles": "slice", "is_resolved": "resolved"}
 
@@ -81,6 +83,13 @@ def parted(items: list[Any], ends: Sequence[int]) -> list[Any]:
     return [items[start:end] for start, end in zip([0, *ends[:-1]], ends)]
 
 
+def flat_shapes(arrays: list[Room], counts: Counts) -> FlatShapes:
+    """The shapes in arrays, where they are."""
+    coordinates, contour_ends, shape_ends = arrays
+    contours = Flat(coordinates.view(counts.coordinates), contour_ends.view(counts.contours))
+    return FlatShapes(contours, shape_ends.view(counts.shapes))
+
+
 def shapes_in(arrays: list[Room], counts: Counts) -> list[Any]:
     """The shapes in arrays."""
     coordinates, contour_ends, shape_ends = arrays
@@ -91,12 +100,12 @@ def shapes_in(arrays: list[Room], counts: Counts) -> list[Any]:
 # ---- the calls
 
 
-def overlay(subject: Any, clip: Any, rule: str, fill: str, look: Any) -> list[Any]:
+def overlay(subject: Any, clip: Any, rule: str, fill: str, look: Any, found: Found = shapes_in) -> Any:
     """The shapes of an overlay."""
     asked = library()
     both = asked.contours(subject), asked.contours(clip)
     given, counts = (RULE_NUMBERS[rule], FILL_NUMBERS[fill], options(look), *both), expected(*both)
-    return shapes_in(asked.answer("polyover_overlay", given, shape_rooms, counts), counts)
+    return found(asked.answer("polyover_overlay", given, shape_rooms, counts), counts)
 
 
 def hierarchy(subject: Any, clip: Any, rule: str, fill: str, look: Any) -> tuple[list[Any], list[Any]]:
@@ -110,12 +119,12 @@ def hierarchy(subject: Any, clip: Any, rule: str, fill: str, look: Any) -> tuple
     return shapes_in(arrays, counts), list(zip(told[0::3], told[1::3], told[2::3]))
 
 
-def simplify(subject: Any, fill: str, look: Any) -> list[Any]:
+def simplify(subject: Any, fill: str, look: Any, found: Found = shapes_in) -> Any:
     """The shapes that contours are simplified to."""
     asked = library()
     contours = asked.contours(subject)
     given, counts = (FILL_NUMBERS[fill], options(look), contours), expected(contours)
-    return shapes_in(asked.answer("polyover_simplify", given, shape_rooms, counts), counts)
+    return found(asked.answer("polyover_simplify", given, shape_rooms, counts), counts)
 
 
 def edges(subject: Any, clip: Any, fill: str) -> list[Any]:
@@ -136,37 +145,48 @@ def relate(subject: Any, clip: Any, fill: str) -> dict[str, bool]:
     return {name: bool(relations.value >> at & 1) for at, name in enumerate(RELATIONS)}
 
 
-def clip(shape: Any, lines: Any, fill: str, invert: bool, boundary: bool) -> list[Any]:
+def paths_in(arrays: list[Room], counts: PathCounts) -> list[Any]:
+    """The paths in arrays."""
+    coordinates, ends = arrays
+    return parted(points_in(coordinates.first(counts.coordinates)), ends.first(counts.paths))
+
+
+def flat_paths(arrays: list[Room], counts: PathCounts) -> Flat:
+    """The paths in arrays, where they are."""
+    coordinates, ends = arrays
+    return Flat(coordinates.view(counts.coordinates), ends.view(counts.paths))
+
+
+def clip(shape: Any, lines: Any, fill: str, invert: bool, boundary: bool, found: Any = paths_in) -> Any:
     """The parts of open paths that are kept."""
     asked = library()
     both = asked.contours(shape), asked.contours(lines)
     given = (FILL_NUMBERS[fill], ClipOptions(bool(invert), bool(boundary)), *both)
     paths = TIMES // 4 * sum(each.coordinate_count for each in both) + 15
     counts = PathCounts(4 * paths, paths)
-    coordinates, ends = asked.answer("polyover_clip", given, path_rooms, counts)
-    return parted(points_in(coordinates.first(counts.coordinates)), ends.first(counts.paths))
+    return found(asked.answer("polyover_clip", given, path_rooms, counts), counts)
 
 
-def sliced(asked: Library, contours: Any, lines: Any, fill: str) -> list[Any]:
+def sliced(asked: Library, contours: Any, lines: Any, fill: str, found: Found = shapes_in) -> Any:
     """The shapes into which open paths cut contours."""
     paths = asked.contours(lines)
     given, counts = (FILL_NUMBERS[fill], contours, paths), expected(contours, paths)
-    return shapes_in(asked.answer("polyover_slice", given, shape_rooms, counts), counts)
+    return found(asked.answer("polyover_slice", given, shape_rooms, counts), counts)
 
 
-def slice(shape: Any, lines: Any, fill: str) -> list[Any]:  # pylint: disable=redefined-builtin
+def slice(shape: Any, lines: Any, fill: str, found: Found = shapes_in) -> Any:  # pylint: disable=redefined-builtin
     """The shapes into which open paths cut a shape."""
     asked = library()
-    return sliced(asked, asked.contours(shape), lines, fill)
+    return sliced(asked, asked.contours(shape), lines, fill, found)
 
 
-def tiles(shape: Any, width: int, height: int, fill: str) -> list[Any]:
+def tiles(shape: Any, width: int, height: int, fill: str, found: Found = shapes_in) -> Any:
     """The shapes into which the cells of a grid cut a shape: it is sliced along the lines of the grid."""
     asked = library()
     contours = asked.contours(shape)
     numbers = contours.numbers
     xs, ys = zip(*points_in(numbers)) if numbers else ((), ())
-    return sliced(asked, contours, grid_lines(width, height, xs, ys), fill)
+    return sliced(asked, contours, grid_lines(width, height, xs, ys), fill, found)
 
 
 def is_resolved(shape: Any) -> bool:

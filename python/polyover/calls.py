@@ -9,6 +9,7 @@ from typing import Any, Iterable, Iterator, NamedTuple
 from . import by_library, by_program
 from .contour import room_of, shifted
 from .errors import BadInput, NotSettled, PolyoverWarning
+from .flat import Flat, FlatShapes, is_whole_path
 from .shapes import Paths, Shapes
 from .text import FILLS, RULES, coordinate, known, whole
 from .told import Told
@@ -46,15 +47,33 @@ def backend(call: str = "overlay") -> str:
     return str(asked(call).NAME)
 
 
+def shapes_of(call: str, arrays: bool, *given: Any) -> Shapes | FlatShapes:
+    """The shapes that a call answers, in lists or in arrays."""
+    answer = getattr(asked(call), call)
+    if not arrays:
+        return Shapes(answer(*given))
+    return answer(*given, by_library.flat_shapes) if by_library.can(call) else FlatShapes.of(answer(*given))
+
+
+def flat_of(paths: list[Any]) -> Flat:
+    """Paths of lists in arrays."""
+    return FlatShapes.of([paths]).contours
+
+
 # ---- what is given
 
 
-def listed(name: str, paths: Any, told: Told | None = None) -> list[list[Any]]:
-    """Lists of points of two members, of a group of paths. What points have beyond x and y is left out, if it is
-    counted in `told`, and else a fault."""
+def listed(name: str, paths: Any, told: Told | None = None) -> Any:
+    """Lists of points of two members, of a group of paths; arrays of whole points stay. What points have beyond x and y
+    is left out, if it is counted in `told`, and else a fault."""
+    if isinstance(paths, Flat):
+        return paths
     lists = []
     for number, path in enumerate(iterated(name, paths, f"a list of {kind_of(name)}s"), 1):
         place = place_of(name, number)
+        if is_whole_path(path):
+            lists.append(path)
+            continue
         points = iterated(place, path, "a list of points")
         try:
             for _, _ in points:
@@ -133,13 +152,15 @@ def overlay(
     clockwise: bool = False,
     keep: bool = False,
     minimum_area: int = 0,
-) -> Shapes:
-    """The shapes round the region where the rules hold of two lists of contours: each its outline and its holes."""
+    arrays: bool = False,
+) -> Any:
+    """The shapes round the region where the rules hold of two lists of contours: each its outline and its holes. With
+    `arrays` they are `FlatShapes`, in arrays."""
     look = look_of(ogc, clockwise, keep, minimum_area)
     rule, fill = known(RULES, rule, "rule"), known(FILLS, fill, "fill rule")
     subject, clip = listed("subject", subject), listed("clip", clip)
     with placed(subject=subject, clip=clip):
-        return Shapes(asked("overlay").overlay(subject, clip, rule, fill, look))
+        return shapes_of("overlay", arrays, subject, clip, rule, fill, look)
 
 
 def hierarchy(
@@ -171,13 +192,14 @@ def simplify(
     clockwise: bool = False,
     keep: bool = False,
     minimum_area: int = 0,
-) -> Shapes:
+    arrays: bool = False,
+) -> Any:
     """The shapes round what the contours fill: of `overlay` with the rule subject, but that one simple contour stays as
     it is given, or is reversed, unless there is a minimum area."""
     look = look_of(ogc, clockwise, keep, minimum_area)
     fill, subject = known(FILLS, fill, "fill rule"), listed("subject", subject)
     with placed(subject=subject):
-        return Shapes(asked("simplify").simplify(subject, fill, look))
+        return shapes_of("simplify", arrays, subject, fill, look)
 
 
 def edges(subject: Any, clip: Any = (), fill: str = "nonzero") -> list[tuple[Any, Any, int]]:
@@ -217,27 +239,41 @@ def relate(subject: Any, clip: Any, fill: str = "nonzero") -> dict[str, bool]:
 
 
 def clip(
-    shape: Any, lines: Any, fill: str = "nonzero", *, invert: bool = False, boundary: bool = False
-) -> Paths:
-    """The parts of open paths inside the shape, with `invert` those outside, and with `boundary` those along it too."""
+    shape: Any,
+    lines: Any,
+    fill: str = "nonzero",
+    *,
+    invert: bool = False,
+    boundary: bool = False,
+    arrays: bool = False,
+) -> Any:
+    """The parts of open paths inside the shape, with `invert` those outside, and with `boundary` those along it too.
+    With `arrays` they are `Flat`, in arrays."""
     fill, shape, lines = known(FILLS, fill, "fill rule"), listed("shape", shape), listed("lines", lines)
     with placed(shape=shape, lines=lines):
-        return Paths(asked("clip").clip(shape, lines, fill, invert, boundary))
+        given = shape, lines, fill, invert, boundary
+        if not arrays:
+            return Paths(asked("clip").clip(*given))
+        is_there = by_library.can("clip")
+        return by_library.clip(*given, by_library.flat_paths) if is_there else flat_of(by_program.clip(*given))
 
 
-def slice(shape: Any, lines: Any, fill: str = "nonzero") -> Shapes:  # pylint: disable=redefined-builtin
-    """The shapes into which open paths cut a shape."""
+def slice(  # pylint: disable=redefined-builtin
+    shape: Any, lines: Any, fill: str = "nonzero", *, arrays: bool = False
+) -> Any:
+    """The shapes into which open paths cut a shape, with `arrays` in arrays."""
     fill, shape, lines = known(FILLS, fill, "fill rule"), listed("shape", shape), listed("lines", lines)
     with placed(shape=shape, lines=lines):
-        return Shapes(asked("slice").slice(shape, lines, fill))
+        return shapes_of("slice", arrays, shape, lines, fill)
 
 
-def tiles(shape: Any, width: int, height: int, fill: str = "nonzero") -> Shapes:
-    """The shapes into which the cells of a grid, which has a node at (0, 0), cut a shape: each lies in one cell."""
+def tiles(shape: Any, width: int, height: int, fill: str = "nonzero", *, arrays: bool = False) -> Any:
+    """The shapes into which the cells of a grid, which has a node at (0, 0), cut a shape: each lies in one cell. With
+    `arrays` they are in arrays."""
     fill, shape = known(FILLS, fill, "fill rule"), listed("shape", shape)
     sides = coordinate(width), coordinate(height)
     with placed(shape=shape):
-        return Shapes(asked("tiles").tiles(shape, *sides, fill))
+        return shapes_of("tiles", arrays, shape, *sides, fill)
 
 
 def is_resolved(shape: Any) -> bool:

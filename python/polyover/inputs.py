@@ -10,7 +10,8 @@ from .errors import ProgramMissing
 from .grid import grid_lines
 from .library import library
 from .picture import Picture
-from .program import answer
+from .program import BadLine, answer
+from .reasons import BadLineBecause, checked, reason_of
 from .text import FILLS, edges_in, paths_in, shapes_in
 
 CLIP_COMMANDS = ("overlay", "hierarchy", "edges", "relate")
@@ -19,12 +20,16 @@ STRENGTHS = (0.25, 0.5, 0.37)
 
 
 def told_of(text: str) -> str:
-    """What the program answers to an input; where there is none, but a library, what that does."""
+    """What the program answers to an input; where there is none, but a library, what that does. A bad line is named
+    with what is wrong in it."""
     try:
         return answer(text)
+    except BadLine as bad:
+        raise BadLineBecause(bad.line, reason_of(text, bad.line)) from None
     except ProgramMissing:
         if library() is None:
             raise
+    checked(text)
     return printed(text)
 
 

@@ -15,6 +15,7 @@ from typing import Any, Callable
 
 from . import program
 from .errors import BadInput, LibraryMissing, NotSettled, OutOfMemory, PolyoverError, TooManyEdges
+from .flat import Flat, address_of, is_whole_path
 from .text import coordinate
 
 VARIABLE = "POLYOVER_LIBRARY"
@@ -90,7 +91,9 @@ class Contours(Structure):
     def __init__(self, numbers: Any, ends: Any) -> None:
         # (the fields hold no more than addresses: the arrays have to stay as long)
         self.numbers, self.ends_of_each = numbers, ends
-        super().__init__(address(numbers), len(numbers), address(ends), len(ends))
+        (coordinates, kept), (places, also_kept) = map(address_of, map(memoryview, (numbers, ends)))
+        self.kept = kept, also_kept
+        super().__init__(coordinates, len(numbers), places, len(ends))
 
 
 class Room:
@@ -104,6 +107,10 @@ class Room:
         except OSError:
             raise OutOfMemory(OutOfMemory.__doc__) from None
         self.arguments = addressof(c_char.from_buffer(self.space)), count
+
+    def view(self, count: int) -> memoryview:
+        """That many of the first numbers, where they are."""
+        return memoryview(self.space)[: count * array(self.kind).itemsize].cast(self.kind)
 
     def first(self, count: int) -> Any:
         """The first numbers, so many."""
@@ -185,12 +192,32 @@ class Library:
         return numbers if is_good else array(COORDINATES, map(coordinate, given))
 
     def contours(self, paths: Any) -> Contours:
-        """Contours, or open paths, as the library takes them."""
+        """Contours, or open paths, as the library takes them: arrays without a copy, where all is in one."""
+        if not isinstance(paths, Flat) and any(map(is_whole_path, paths)):
+            paths = self.joined(list(paths))
+        if isinstance(paths, Flat):
+            found = Contours(paths.numbers, paths.counts)
+            if not self.functions.polyover_in_range(found.coordinates or 0, len(paths.numbers)):
+                raise BadInput("coordinates are out of range")
+            return found
         numbers, ends = [], []
         for path in paths:
             numbers += [number for x, y in path for number in (x, y)]
             ends.append(len(numbers) // 2)
         return Contours(self.numbers(numbers), array(SIZES, ends))
+
+    def joined(self, paths: list[Any]) -> Flat:
+        """Arrays of points, and lists of them, in one array; an array alone as it is."""
+        if len(paths) == 1:
+            return Flat(paths[0], [len(paths[0])])
+        numbers, ends = array(COORDINATES), array(SIZES)
+        for path in paths:
+            if is_whole_path(path):
+                numbers.frombytes(memoryview(path).cast("B"))
+            else:
+                numbers.extend(self.numbers([number for x, y in path for number in (x, y)]))
+            ends.append(len(numbers) // 2)
+        return Flat(numbers, ends)
 
     def call(self, name: str, *arguments: Any) -> int:
         """The status with which a function ends."""

@@ -65,7 +65,7 @@ class Chain(NamedTuple):
 
 
 class Nearby:
-    """A shape, of which the part near lines is asked for again and again."""
+    """A shape that is asked again and again for its part near lines."""
 
     def __init__(self, contours: Sequence[WholePath]) -> None:
         self.contours = [(Chain(contour, box_of(contour)), chains_of(contour)) for contour in contours if contour]

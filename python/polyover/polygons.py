@@ -1,8 +1,8 @@
-"""Polygons of whole points as contours of which `nonzero` fills what any of the polygons covers.
+"""Polygons of whole points as contours; `nonzero` fills the points that any of the polygons covers.
 
-A polygon covers what its outline winds round and none of its holes does. Where its rings are simple, and its holes are
-apart and inside the outline, that is what its outline counterclockwise and its holes clockwise wind round once, and
-they wind round nothing else. Other polygons are overlaid by themselves first."""
+A polygon covers the points round which its outline winds, and none of its holes does. Where its rings are simple, and
+its holes are apart and inside the outline, its outline counterclockwise and its holes clockwise wind once round just
+these points. Other polygons are overlaid by themselves first."""
 
 from __future__ import annotations
 

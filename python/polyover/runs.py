@@ -69,7 +69,7 @@ def run_overlay(given: Any) -> None:
     picture.add_contours("clip", paths_of(second))
     with told_where_it_takes_long(f"overlay of {len(paths_of(first))} and {len(paths_of(second))} rings"):
         features = kept_pieces(given, scaled, first, second) if given.keep else joined(given, scaled, first, second)
-    for each in features:
+    for each in features if given.svg else ():
         for shape in each["geometry"]["coordinates"]:
             picture.add_contours("answer", [ring[:-1] for ring in shape], strength=0.55)
     if not given.keep:
@@ -177,14 +177,14 @@ def run_simplify(given: Any) -> None:
     """The polygons of a file, feature by feature, as valid ones that cover the same"""
     scaled = Scaled.of_digits(given.digits)
     look = look_of(given, scaled)
-    answer_features(given, "simplified", lambda polygons: scaled.overlay(polygons, (), "subject", fill_of(given), **look))
+    answer_features(given, "simplified", lambda area: scaled.overlay(area, (), "subject", fill_of(given), **look))
 
 
 def run_tiles(given: Any) -> None:
     """The polygons of a file, feature by feature, cut along a grid"""
     scaled = Scaled.of_digits(given.digits)
     sides = Fraction(given.wide), Fraction(given.high)
-    answer_features(given, "tiles", lambda polygons: scaled.tiles(polygons, *sides, fill_of(given)), is_parted=True)
+    answer_features(given, "tiles", lambda area: scaled.tiles(area, *sides, fill_of(given)), is_parted=True)
 
 
 def answer_features(
@@ -203,7 +203,7 @@ def answer_features(
             if each.is_null:
                 features.append(null_feature(each))
             shapes = answer(polygons_of(given, area, each.parts))
-            for shape in shapes:
+            for shape in shapes if given.svg else ():
                 picture.add_contours("answer", shape, strength=0.55)
             groups = [[shape] for shape in shapes] if is_parted else [shapes] * bool(shapes)
             features += [feature_of(geojson.polygons(group), each.members) for group in groups]

@@ -3,8 +3,11 @@
 import unittest
 from itertools import product
 
+from polyover import PolyoverError
 from polyover.commands import figures_in
+from polyover.inputs import told_of
 from polyover.program import BadLine, answer
+from polyover.reasons import reason_of
 
 from .there import with_program
 
@@ -79,10 +82,40 @@ class Inputs(unittest.TestCase):
         self.assertEqual(figures, paths)
         self.assertEqual(words, ["overlay", "Union", "NonZero", "min", "3"])
 
+    def test_reasons(self):
+        square = "subject 0 0 4 0 4 4\n"
+        for text, told in (
+            ("", "line 1: no line has a command"),
+            (square, "line 2: no line has a command"),
+            (square + "run overlay union NonZero\n", "line 2: RULE is Union, not union"),
+            (square + "run overlay Unite NonZero\n", "line 2: RULE is one of Subject, .*: not 'Unite'"),
+            (square + "run overlay Union\n", "line 2: FILL is one of EvenOdd, .*: missing"),
+            (square + "run overlay Union NonZero ogc ogc\n", "line 2: the option ogc comes twice"),
+            (square + "run overlay Union NonZero min -1\n", "line 2: min takes a whole number from 0 to 17014"),
+            (square + "run relate NonZero ogc\n", "line 2: 'ogc': no word is left for it"),
+            (square + "run tiles NonZero 3\n", "line 2: tiles takes two whole numbers"),
+            (square + "run tiles NonZero 0 3\n", "line 2: the grid does not fit"),
+            (square + "run Edges NonZero\n", "line 2: the command is edges, not Edges"),
+            (square + "run\n", "line 2: the command is one of .*: missing"),
+            ("subject 0 0 4\n" + square, "line 1: 3 numbers: x and y take two for each point"),
+            ("subject 0 1.5\n", "line 1: '1.5' is no whole number"),
+            ("line 0 4611686018427387904\n", "line 1: '4611686018427387904' is out of range"),
+            ("point 1 2 3 4\n", "line 1: 4 numbers: a point has two"),
+            ("Subject 0 0\n", "line 1: the first word is subject, not Subject"),
+            (square + "run edges NonZero\n" + square, "line 3: it stands behind the command"),
+            ("subject 0 0 4 4 4 0 0 4\nrun locate\n", "line 1: two steps of the contour share|contour 0 is not"),
+        ):
+            with self.subTest(text), self.assertRaisesRegex(PolyoverError, told):
+                told_of(text)
+
     @with_program
     def test_bad_lines_are_those_of_the_program(self):
         for parts in product(FIGURES, COMMANDS):
-            self.assertEqual(bad_line(figures_in, "".join(parts)), bad_line(answer, "".join(parts)), parts)
+            text = "".join(parts)
+            number = bad_line(answer, text)
+            self.assertEqual(bad_line(figures_in, text), number, parts)
+            if number is not None:
+                self.assertNotEqual(reason_of(text, number), "bad input", parts)
 
 
 if __name__ == "__main__":

@@ -51,7 +51,7 @@ def made_ring(chance, box, origin):
 
 
 def made_polygon(chance, size, origin):
-    """The rings of a polygon, of which the holes may overlap, touch, or lie outside."""
+    """The rings of a polygon; its holes may overlap, touch, or lie outside."""
     return [made_ring(chance, made_box(chance, size), origin) for _ in range(chance.choice((1, 1, 2, 3)))]
 
 
@@ -205,7 +205,7 @@ class Made(unittest.TestCase):
 
 
 def spoiled(chance, thing):
-    """A feature of which something inside is exchanged or left out."""
+    """A feature with something inside exchanged or left out."""
     thing = copy.deepcopy(thing)
     here = thing
     for _ in range(chance.randint(0, 8)):

@@ -85,7 +85,7 @@ class Pictures(unittest.TestCase):
             self.assertEqual(float(ElementTree.fromstring(picture.svg(wide)).get("width")), wide)
 
     def nodes(self, text):
-        """The nodes in a picture of an input, of which the largest side is 12."""
+        """The nodes in a picture of an input whose largest side is 12."""
         root = ElementTree.fromstring(picture_of(text, with_nodes=True).svg())
         dots = [each for each in root.iter() if each.get("fill") == "#111111" and each.get("r") == "3.5"]
         scale, height = (560 - 2 * 46) / 12, float(root.get("height"))

@@ -1,0 +1,127 @@
+"""Contours, paths and shapes in arrays, which the library takes and gives without a copy."""
+
+from __future__ import annotations
+
+from array import array
+from ctypes import addressof, c_char
+from itertools import islice
+from typing import Any, Iterable, Iterator
+
+from .errors import BadInput
+from .shapes import Paths, Shapes
+from .text import coordinate
+
+WHOLE, COUNTS = ("q", "l"), ("Q", "L", "N", "q", "l", "n")
+
+
+def buffer_of(thing: Any) -> memoryview | None:
+    """The buffer of a thing that has one, without a gap; none of lists and others."""
+    if isinstance(thing, (list, tuple)):
+        return None
+    try:
+        found = memoryview(thing)
+    except (TypeError, ValueError, BufferError):
+        return None
+    return found if found.c_contiguous else None
+
+
+def is_whole_path(thing: Any) -> bool:
+    """Whether a thing is an array of points: two int64 in a row, C-contiguous."""
+    found = buffer_of(thing)
+    if found is None or found.format not in WHOLE or found.itemsize != 8:
+        return False
+    return found.ndim == 2 and (found.shape or ())[1] == 2
+
+
+def checked_buffer(what: str, thing: Any, formats: tuple[str, ...]) -> memoryview:
+    """The buffer of an array of numbers of 64 bits, as one row."""
+    found = buffer_of(thing)
+    if found is None or found.format not in formats or found.itemsize != 8:
+        raise BadInput(f"{what}: no array of int64, C-contiguous")
+    return found if found.ndim == 1 else found.cast("B").cast("q")
+
+
+def address_of(buffer: memoryview) -> tuple[int, Any]:
+    """Where the numbers of a buffer are, and what has to stay as long."""
+    if buffer.nbytes == 0:
+        return 0, buffer
+    if not buffer.readonly:
+        return addressof(c_char.from_buffer(buffer)), buffer
+    found = getattr(buffer.obj, "__array_interface__", None)
+    if found:
+        return int(found["data"][0]), buffer
+    kept = bytearray(buffer.cast("B"))
+    return addressof(c_char.from_buffer(kept)), kept
+
+
+def rows(buffer: memoryview) -> memoryview:
+    """A row of coordinates as points."""
+    return buffer.cast("B").cast("q", (len(buffer) // 2, 2)) if len(buffer) else buffer
+
+
+class Flat:
+    """Contours or open paths in two arrays of 64 bits: the points, two coordinates in a row, and how many points there
+    are up to the end of each contour. The calls take it in the place of lists; they read it without a copy.
+
+    `coordinates` and `ends` are memoryviews, which `numpy.asarray` takes without a copy; going over it gives
+    lists. Raises BadInput where the arrays are of another kind, or the ends do not rise to the number of points."""
+
+    def __init__(self, coordinates: Any, ends: Any) -> None:
+        self.numbers = checked_buffer("coordinates", coordinates, WHOLE)
+        whole_ends = array("q", map(coordinate, ends)) if isinstance(ends, (list, tuple)) else ends
+        self.counts = checked_buffer("ends", whole_ends, COUNTS)
+        counts = [0, *self.counts.tolist()]
+        if counts != sorted(counts) or len(self.numbers) != 2 * counts[-1]:
+            raise BadInput("ends: they do not rise from 0 to the number of points")
+
+    @property
+    def coordinates(self) -> memoryview:
+        """The points, two coordinates in a row."""
+        return rows(self.numbers)
+
+    @property
+    def ends(self) -> memoryview:
+        """How many points there are up to the end of each contour."""
+        return self.counts
+
+    def __len__(self) -> int:
+        return len(self.counts)
+
+    def __iter__(self) -> Iterator[list[tuple[int, int]]]:
+        points = list(zip(self.numbers[0::2], self.numbers[1::2]))
+        return (points[start:end] for start, end in zip([0, *self.counts[:-1]], self.counts))
+
+    @property
+    def __geo_interface__(self) -> dict[str, Any]:
+        return Paths(self).__geo_interface__
+
+
+class FlatShapes:
+    """Shapes in arrays: their contours, as `Flat`, and how many contours there are up to the end of each shape."""
+
+    def __init__(self, contours: Flat, shape_ends: Any) -> None:
+        self.contours, self.shape_ends = contours, checked_buffer("shape ends", shape_ends, COUNTS)
+
+    @classmethod
+    def of(cls, shapes: Iterable[list[Any]]) -> FlatShapes:
+        """Shapes of lists in arrays."""
+        numbers, ends, shape_ends = array("q"), array("Q"), array("Q")
+        for shape in shapes:
+            for contour in shape:
+                numbers.extend(value for point in contour for value in point)
+                ends.append(len(numbers) // 2)
+            shape_ends.append(len(ends))
+        return cls(Flat(numbers, ends), shape_ends)
+
+    def __len__(self) -> int:
+        return len(self.shape_ends)
+
+    def __iter__(self) -> Iterator[list[list[tuple[int, int]]]]:
+        contours, start = iter(self.contours), 0
+        for end in self.shape_ends:
+            yield list(islice(contours, end - start))
+            start = end
+
+    @property
+    def __geo_interface__(self) -> dict[str, Any]:
+        return Shapes(self).__geo_interface__

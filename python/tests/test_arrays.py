@@ -1,0 +1,116 @@
+"""Contours and shapes in arrays: the same answers as of lists, without a copy where they are in one."""
+
+import random
+import unittest
+from array import array
+
+import polyover
+from polyover import by_library, library
+
+from .rows import BAR, FRAME, HALL, OTHER, SQUARE, WALLS
+from .there import ask_program_alone, with_library, with_program
+
+try:
+    import numpy
+except ImportError:
+    numpy = None
+
+
+def flat(paths):
+    """Paths in arrays of Python's own."""
+    ends = []
+    for path in paths:
+        ends.append((ends[-1] if ends else 0) + len(path))
+    return polyover.Flat(array("q", [value for path in paths for point in path for value in point]), array("Q", ends))
+
+
+class Arrays(unittest.TestCase):
+    """Arrays of Python, by the buffer protocol."""
+
+    def test_as_lists(self):
+        frame, bar, hall, walls = map(flat, (FRAME, BAR, HALL, WALLS))
+        self.assertEqual(list(frame), FRAME)
+        for arrays in (False, True):
+            answers = [
+                (polyover.overlay(frame, bar, arrays=arrays), polyover.overlay(FRAME, BAR)),
+                (polyover.overlay(frame, BAR, "xor", arrays=arrays), polyover.overlay(FRAME, BAR, "xor")),
+                (polyover.simplify(frame, arrays=arrays), polyover.simplify(FRAME)),
+                (polyover.slice(hall, walls, "evenodd", arrays=arrays), polyover.slice(HALL, WALLS, "evenodd")),
+                (polyover.tiles(hall, 5, 5, arrays=arrays), polyover.tiles(HALL, 5, 5)),
+                (polyover.clip(hall, walls, arrays=arrays), polyover.clip(HALL, WALLS)),
+                (polyover.overlay([], [], arrays=arrays), []),
+                (polyover.clip([], [], arrays=arrays), []),
+            ]
+            for found, expected in answers:
+                self.assertEqual((list(found), len(found)), (list(expected), len(expected)))
+        self.assertEqual(polyover.relate(frame, bar), polyover.relate(FRAME, BAR))
+        self.assertEqual(polyover.edges(frame, bar), polyover.edges(FRAME, BAR))
+        self.assertEqual(polyover.locate(frame, [(2, 3), (1, 1)]), polyover.locate(FRAME, [(2, 3), (1, 1)]))
+
+    def test_at_a_scale(self):
+        shapes = polyover.overlay([SQUARE], arrays=True)
+        for given in (flat([SQUARE]), shapes, shapes.contours):
+            self.assertEqual(polyover.Scaled(1).overlay(given), polyover.overlay([SQUARE]))
+
+    def test_an_answer_is_given_again(self):
+        shapes = polyover.overlay([SQUARE], [OTHER], "difference", arrays=True)
+        joined = polyover.overlay(shapes.contours, [OTHER], "union", arrays=True)
+        self.assertEqual(list(joined), polyover.overlay([SQUARE], [OTHER]))
+        self.assertEqual(shapes.__geo_interface__, polyover.overlay([SQUARE], [OTHER], "difference").__geo_interface__)
+
+    def test_faults(self):
+        far = array("q", [0, 0, 2**62, 0, 1, 1])
+        with self.assertRaisesRegex(polyover.BadInput, "subject: contour 1, point 2: 4611686018427387904 is out of"):
+            polyover.overlay(polyover.Flat(far, [3]))
+        one, four, none = array("q", [0, 0]), array("q", [0] * 8), array("q")
+        wrong = (array("d", [0, 0]), [1]), ([0, 0], [1]), (one, [2]), (none, array("d")), (four, [5, 4]), (one, [-1, 1])
+        for coordinates, ends in wrong:
+            with self.assertRaises(polyover.BadInput):
+                polyover.Flat(coordinates, ends)
+
+    @unittest.skipIf(numpy is None, "no python3 here has NumPy (Debian's python3-numpy)")
+    def test_numpy(self):
+        chance = random.Random(11)
+        contours = [[(chance.randint(0, 99), chance.randint(0, 99)) for _ in range(9)] for _ in range(5)]
+        arrays = [numpy.array(contour) for contour in contours]
+        expected = polyover.overlay(contours)
+        frozen = [numpy.array(contour) for contour in contours]
+        for each in frozen:
+            each.flags.writeable = False
+        for given in (arrays, frozen, [arrays[0], *contours[1:]], numpy.array(contours)):
+            self.assertEqual(polyover.overlay(given), expected)
+        self.assertEqual(polyover.overlay(frozen[:1]), polyover.overlay(contours[:1]))
+        every = polyover.Flat(numpy.concatenate(arrays), numpy.cumsum([9] * 5))
+        self.assertEqual(polyover.overlay(every), expected)
+        found = polyover.overlay(every, arrays=True)
+        points = numpy.asarray(found.contours.coordinates)
+        self.assertEqual((points.dtype, points.shape[1]), (numpy.int64, 2))
+        self.assertEqual(points.tolist(), [list(point) for shape in expected for contour in shape for point in contour])
+        for other in (arrays[0][::2], arrays[0].astype("int32"), arrays[0].T.copy().T):
+            self.assertEqual(polyover.overlay([other]), polyover.overlay([other.tolist()]))
+
+
+@with_library
+class Addresses(unittest.TestCase):
+    """What the library is given and gives is where it was."""
+
+    def test_no_copy(self):
+        given = array("q", [0, 0, 4, 0, 4, 4])
+        passed = library.library().contours(polyover.Flat(given, [3]))
+        self.assertEqual(passed.coordinates, given.buffer_info()[0])
+        found = by_library.overlay([SQUARE], (), "union", "nonzero", polyover.calls.look_of(True, False, False, 0))
+        self.assertEqual(len(found), 1)
+        answer = polyover.overlay([SQUARE], arrays=True).contours.numbers
+        self.assertNotIsInstance(answer.obj, array)
+
+
+@with_program
+class ArraysOfTheProgram(Arrays):
+    """The same, where the program is asked."""
+
+    def setUp(self):
+        ask_program_alone(self)
+
+
+if __name__ == "__main__":
+    unittest.main()
