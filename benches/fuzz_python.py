@@ -21,6 +21,7 @@ import tempfile
 import time
 import traceback
 import warnings
+from array import array
 from collections import Counter
 from pathlib import Path
 
@@ -37,7 +38,7 @@ WORDS = "subject clip line point run 0 4 -4 7 x 1.5 overlay Union EvenOdd ogc ed
 WORDS += ["min", "locate", str(FAR), str(FAR + 1)] + ["\n"] * 5 + ["\r\n"]
 JUNK = (None, True, False, 0, 5, -1, 0.5, -0.0, float("nan"), float("inf"), -float("inf"), 1e308, 5e-324, 10**30, -FAR,
         "", "x", "12", "\ud800", "Polygon", "Feature", b"x", [], {}, [[]], [None], [[[]]], {"type": "Polygon"}, (0, 0),
-        {1: 2}, {"a"}, object(), int, range(3), 2j)
+        {1: 2}, {"a"}, object(), int, range(3), 2j, array("q", [0, 0, 4, 0]), array("d", [1.5]), bytearray(16))
 MEMBERS = ("type", "features", "geometry", "coordinates", "properties", "geometries", "id", "bbox", "crs", "name")
 FLAGS = ("--skip-invalid", "--digits 2", "--digits -1", "--digits 17", "--fill evenodd", "--fill negative")
 FLAGS_OF = {"clip": ("--invert", "--boundary"), "overlay": ("--rule xor", "--rule intersect --keep", "--min-area 2")}
@@ -167,7 +168,20 @@ def contours(chance):
     size = chance.choice((3, 10, 1000, FAR))
     counts = [chance.randint(0, 6) for _ in range(3)]
     made = [[[chance.randint(-size, size) for _ in range(2)] for _ in range(count)] for count in counts]
+    if chance.random() < 0.2:
+        return in_arrays(chance, made)
     return spoiled(chance, made, JUNK) if chance.random() < 0.4 else made
+
+
+def in_arrays(chance, paths):
+    """Contours in arrays, or not."""
+    numbers = array(chance.choice("qqqd"))
+    ends = [chance.choice((0, -1, 1)) if chance.random() < 0.1 else 0]
+    for path in paths:
+        values = [value for point in path for value in point]
+        numbers.extend(values)
+        ends.append(ends[-1] + len(path))
+    return polyover.Flat(numbers, array("Q", ends[1:]) if min(ends) >= 0 else ends)
 
 
 def argument(chance, good):
@@ -191,6 +205,8 @@ def rest_of_call(chance, name):
         named["rule"] = argument(chance, lambda: chance.choice(list(RULES)))
     if name not in (*READERS, "locate", "is_resolved") and chance.random() < 0.5:
         named["fill"] = argument(chance, lambda: chance.choice(list(FILLS)))
+    if name in ("overlay", "simplify", "clip", "slice", "tiles"):
+        named["arrays"] = chance.random() < 0.3
     if name in ("overlay", "simplify", "hierarchy") and chance.random() < 0.3:
         named["minimum_area"] = argument(chance, lambda: chance.randint(0, 99))
     return rest, named
@@ -205,6 +221,8 @@ def case_of_call(chance, counts):
         takes_geometry = name in READERS or owner is not polyover and chance.random() < 0.4
         thing = spoiled(chance, file_thing(chance), JUNK) if takes_geometry else contours(chance)
         rest, named = rest_of_call(chance, name)
+        if owner is not polyover and name in ("slice", "tiles"):
+            del named["arrays"]
         getattr(owner, name)(argument(chance, lambda: thing), *rest, **named)
         counts["calls answered"] += 1
     except polyover.PolyoverError as fault:
@@ -221,7 +239,7 @@ def case_of_command(chance, counts):
         for file, kinds in zip(files, (AREAS, OTHER_OF.get(name, AREAS))):
             file.write_bytes(file_text(chance, kinds))
         before = {each.name for each in Path(folder).iterdir()}
-        alone = {"simplify": [], "tiles": [str(chance.choice((0, 0.5, 1000, 10**9))) for _ in range(2)]}
+        alone = {"simplify": [], "tiles": [str(chance.choice((0, 100, 1000, 10**9))) for _ in range(2)]}
         words = [name, str(files[0]), *alone.get(name, [str(files[1])]), "--out", str(files[2])]
         if name != "relate" and chance.random() < 0.3:
             words += ["--svg", str(files[3])]

@@ -11,7 +11,9 @@ from typing import Any, Callable, Sequence
 from . import runs
 from .answers import say, warnings_as_lines
 from .errors import PolyoverError
+from .files import STANDARD
 from .picture import WIDTH
+from .running import run as run_program
 from .text import FILLS, RULES
 
 LEAST_WIDTH = 400
@@ -123,12 +125,18 @@ def parsed(words: Sequence[str] | None) -> argparse.Namespace:
             add_files(command, name)
         add_answers(command, name)
     add_options(commands.choices)
+    told = "An input of the program on standard input, answered as the program does"
+    commands.add_parser("run", help=told, description=f"{told}.").set_defaults(run=lambda _: run_program())
     return parser.parse_args(words)
 
 
 def main(words: Sequence[str] | None = None) -> int:
-    """Runs a command; 1 where it does not answer. Where its words are bad argparse ends it, with 2."""
+    """Runs a command; 1 where it does not answer, and the words are bad where argparse ends it with 2. The command run
+    ends as the program does."""
     given = parsed(words)
+    if [getattr(given, name, None) for name in ("subject", "other")] == [STANDARD] * 2:
+        say("standard input can't be two files")
+        return 1
     try:
         with warnings_as_lines():
             return int(given.run(given) or 0)

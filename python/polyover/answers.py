@@ -10,6 +10,7 @@ from typing import Any, Iterable, Iterator, Sequence
 
 from . import files, geojson
 from .contour import box_of
+from .errors import PolyoverWarning
 from .files import File
 from .geojson import Feature
 from .picture import Picture
@@ -33,13 +34,14 @@ def told_where_it_takes_long(what: str) -> Iterator[None]:
 
 @contextmanager
 def warnings_as_lines() -> Iterator[None]:
-    """Each warning is a line on standard error, once, at the end."""
+    """Each warning of the module is a line on standard error, once, at the end."""
     with warnings.catch_warnings(record=True) as found:
         warnings.simplefilter("always")
         try:
             yield
         finally:
-            for line in dict.fromkeys(str(each.message) for each in found or ()):
+            ours = [each for each in found or () if issubclass(each.category, PolyoverWarning)]
+            for line in dict.fromkeys(str(each.message) for each in ours):
                 say(line)
 
 

@@ -8,6 +8,8 @@ import shutil
 import stat
 import sys
 from dataclasses import dataclass
+from importlib import import_module
+from pathlib import Path
 from typing import Any, Sequence
 
 from .errors import BadInput
@@ -53,6 +55,11 @@ def once(pairs: list[tuple[str, Any]]) -> dict[str, Any]:
     return found
 
 
+def shown_name(name: str) -> str:
+    """The name of a file in a message."""
+    return "standard input" if name == STANDARD else name
+
+
 def bytes_of(name: str) -> bytes:
     """What a file holds, or standard input."""
     if name == STANDARD:
@@ -66,9 +73,9 @@ def text_of(name: str) -> str:
     try:
         return bytes_of(name).decode("utf-8-sig")
     except OSError as fault:
-        raise BadInput(f"{name}: {fault.strerror or fault}") from None
+        raise BadInput(f"{shown_name(name)}: {fault.strerror or fault}") from None
     except ValueError as fault:
-        raise BadInput(f"{name}: {fault}") from None
+        raise BadInput(f"{shown_name(name)}: {fault}") from None
 
 
 def json_of(name: str) -> Any:
@@ -77,28 +84,43 @@ def json_of(name: str) -> Any:
     try:
         return json.loads(text, object_pairs_hook=once)
     except ValueError as fault:
-        raise BadInput(f"{name}: {fault}") from None
+        raise BadInput(f"{shown_name(name)}: {fault}") from None
     except RecursionError:
-        raise BadInput(f"{name}: too many lists or objects in one another") from None
+        raise BadInput(f"{shown_name(name)}: too many lists or objects in one another") from None
+
+
+def shapely_of(name: str) -> Any:
+    """The geometry in a file of WKT or WKB, read by shapely, which must be installed."""
+    kind = Path(name).suffix[1:]
+    try:
+        reader, errors = import_module(f"shapely.{kind}"), import_module("shapely.errors")
+    except ImportError:
+        raise BadInput(f"{shown_name(name)}: {kind.upper()} takes shapely, which is not installed") from None
+    try:
+        return reader.loads(text_of(name) if kind == "wkt" else bytes_of(name))
+    except OSError as fault:
+        raise BadInput(f"{shown_name(name)}: {fault.strerror or fault}") from None
+    except (errors.ShapelyError, ValueError) as fault:
+        raise BadInput(f"{shown_name(name)}: no {kind.upper()}: {fault}") from None
 
 
 def read(name: str, kinds: Sequence[str], skip_invalid: bool = False, tells_nulls: bool = True) -> File:
     """The features of a file with their polygons, or their lines; says what is left out, and names the file."""
-    found = json_of(name)
-    told = Told(name)
+    found = shapely_of(name) if name.endswith((".wkt", ".wkb")) else json_of(name)
+    what = Told(shown_name(name))
     try:
-        features = features_of(found, kinds, skip_invalid=skip_invalid, told=told)
+        features = features_of(found, kinds, skip_invalid=skip_invalid, told=what)
         whole = geometry_of(found)
     except BadInput as fault:
-        raise BadInput(f"{name}: {fault}") from None
+        raise BadInput(f"{shown_name(name)}: {fault}") from None
     if tells_nulls:
         for each in features:
             if each.is_null:
-                told.add("# features without a geometry are left out", f"feature {each.number}")
-    told.say()
+                what.add("# features without a geometry are left out", f"feature {each.number}")
+    what.say()
     is_collection = whole["type"] == "FeatureCollection"
     members = {key: value for key, value in whole.items() if key not in OWN} if is_collection else {}
-    return File(name, features, members, is_collection and "bbox" in whole)
+    return File(shown_name(name), features, members, is_collection and "bbox" in whole)
 
 
 def polygons_of(name: str, skip_invalid: bool = False, tells_nulls: bool = True) -> File:

@@ -8,6 +8,8 @@ from html import escape
 from math import floor, hypot
 from typing import Any, Callable, Iterable, Sequence
 
+from .contour import box_of
+
 WIDTH = 750
 MARGIN = 46
 LEGEND = 190
@@ -98,10 +100,9 @@ class Place:
     Beside the points there is a margin, which on the left has room for the labels of the grid."""
 
     def __init__(self, points: Sequence[Any], size: int = WIDTH - LEGEND) -> None:
-        xs, ys = [Fraction(x) for x, _ in points], [Fraction(y) for _, y in points]
-        self.left, self.low, self.right, self.high = min(xs), min(ys), max(xs), max(ys)
+        self.left, self.low, self.right, self.high = map(Fraction, box_of(points))
         across = max(self.right - self.left, self.high - self.low) or Fraction(1)
-        self.step = step_of(across, all(value.denominator == 1 for value in (*xs, *ys)))
+        self.step = step_of(across, all(value == int(value) for point in points for value in point[:2]))
         self.before = max([MARGIN, *(8 + label_width(value) for value in multiples(self.low, self.high, self.step))])
         self.scale = Fraction(max(size - self.before - MARGIN, 20)) / across
         self.width = round((self.right - self.left) * self.scale) + self.before + MARGIN
@@ -121,8 +122,8 @@ class Place:
 
 def extent_of(contour: Any) -> Fraction:
     """How wide or high a contour is."""
-    xs, ys = [point[0] for point in contour], [point[1] for point in contour]
-    return max(Fraction(max(xs)) - Fraction(min(xs)), Fraction(max(ys)) - Fraction(min(ys)))
+    left, low, right, high = map(Fraction, box_of(contour))
+    return max(right - left, high - low)
 
 
 def multiples(low: Fraction, high: Fraction, step: Fraction) -> list[Fraction]:

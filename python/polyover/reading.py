@@ -5,10 +5,12 @@ from __future__ import annotations
 from dataclasses import dataclass
 from typing import Any, Callable, Iterable, Sequence
 
-from .contour import WholePath
+from .contour import WholePath, extent_of
+from .errors import BadInput
 from .geojson import LINES, POLYGONS, Part, parts_of
 from .numbers import over_one_bottom
 from .polygons import Contour, Ring, contours_of_polygons
+from .text import LIMIT
 from .told import Told
 
 Whole = Callable[[Sequence[Any]], WholePath]
@@ -24,15 +26,18 @@ class Polygons:
     source: str = ""
     is_raw: bool = False
 
-    def contours(self, whole: Whole) -> list[Contour]:
-        """Their contours for the fill rule nonzero, by whole points and as they were given."""
-        if self.is_raw:
-            return [(whole(path), path) for part in self.parts for path in part.paths]
-        told = Told(self.source)
+    def contours(self, whole: Whole, has_range: bool = True) -> list[Contour]:
+        """Their contours for the fill rule nonzero, by whole points and as they were given. Where there is a range a
+        point that is out of it is a fault, which names its place."""
         polygons = [
             [Ring(part.place._replace(ring=at), path, whole(path)) for at, path in enumerate(part.paths, 1)]
             for part in self.parts
         ]
+        if has_range:
+            check_range(self.source, [(ring.place, ring.whole) for rings in polygons for ring in rings])
+        if self.is_raw:
+            return [(ring.whole, ring.given) for rings in polygons for ring in rings]
+        told = Told(self.source)
         contours = contours_of_polygons(polygons, told)
         told.say()
         return contours
@@ -50,13 +55,25 @@ class Lines:
         """Their points."""
         return [part.paths[0] for part in self.parts]
 
-    def tell_collapsed(self, paths: Iterable[WholePath]) -> None:
-        """Says which of them are points at a scale."""
+    def whole(self, whole: Whole) -> list[WholePath]:
+        """Their whole points; says how many of them are points at a scale."""
+        paths = [whole(path) for path in self.paths]
+        check_range(self.source, [(part.place, path) for part, path in zip(self.parts, paths)])
         told = Told(self.source)
         for part, path in zip(self.parts, paths):
             if len(set(path)) < 2:
                 told.add("# lines collapse to points, and are left out", part.place)
         told.say()
+        return paths
+
+
+def check_range(source: str, paths: Iterable[tuple[object, WholePath]]) -> None:
+    """That points are in the range; the first that is not is named by its place."""
+    for place, path in paths:
+        if extent_of([path]) > LIMIT:
+            at, point = next((at, each) for at, each in enumerate(path, 1) if extent_of([[each]]) > LIMIT)
+            start = f"{source}: {place}" if source else str(place)
+            raise BadInput(f"{start}, point {at}: {point} at this scale is out of range: at most {LIMIT} from 0")
 
 
 def polygons_in(thing: object, *, skip_invalid: bool = False) -> Polygons:
@@ -79,7 +96,7 @@ def contours_of(thing: object, *, skip_invalid: bool = False) -> list[list[Any]]
     polygons = polygons_in(thing, skip_invalid=skip_invalid)
     values, bottom = over_one_bottom(value for part in polygons.parts for it in part.paths for p in it for value in p)
     numbers = iter(values)
-    contours = polygons.contours(lambda path: [(next(numbers), next(numbers)) for _ in path])
+    contours = polygons.contours(lambda path: [(next(numbers), next(numbers)) for _ in path], has_range=False)
     return [number_points(whole, bottom) if given is None else given for whole, given in contours]
 
 

@@ -9,8 +9,9 @@ from typing import Any, Callable, Iterable, Sequence
 
 from . import calls
 from .columns import whole_points
-from .contour import WholePath, WholePoint
+from .contour import WholePath, WholePoint, extent_of
 from .errors import BadInput, NotSettled, PolyoverWarning
+from .flat import Flat
 from .geojson import is_geometry
 from .numbers import ratio_of
 from .reading import Lines, Polygons, lines_in, polygons_in
@@ -92,14 +93,13 @@ class Scaled:
         if isinstance(paths, Polygons):
             return [whole for whole, _ in paths.contours(self.whole_path)]
         if isinstance(paths, Lines):
-            lines = [self.whole_path(path) for path in paths.paths]
-            paths.tell_collapsed(lines)
-            return lines
+            return paths.whole(self.whole_path)
+        given = [path if isinstance(path, (list, tuple)) else list(path) for path in paths]
         try:
-            points = iter(self.whole_path([point for path in paths for point in path]))
-            return [list(islice(points, len(path))) for path in paths]
+            points = iter(self.whole_path([point for path in given for point in path]))
+            return [list(islice(points, len(path))) for path in given]
         except BadInput:
-            self._check_points(name, paths)
+            self._check_points(name, given)
             raise
 
     def _check_points(self, name: str, paths: Group) -> None:
@@ -139,7 +139,10 @@ class Scaled:
         return [[self.point(each) for each in whole] if given is None else given for whole, given in contours]
 
     def _fits(self, *groups: Group) -> bool:
-        return all(abs(value) <= LIMIT for it in groups for path in self.whole(it) for point in path for value in point)
+        try:
+            return all(extent_of(self.whole(group)) <= LIMIT for group in groups)
+        except BadInput:
+            return False
 
     def _settled(self, call: Callable[..., Any], **groups: Group) -> Any:
         """What the call answers of the groups of paths with whole points, at the first scale at which it settles."""
@@ -243,7 +246,7 @@ def taken(name: str, group: Group) -> Group:
     """What was given for a group of paths: polygons or lines that are read, or lists of points of two numbers."""
     if isinstance(group, (Polygons, Lines)):
         return group
-    if is_geometry(group) and not isinstance(group, Paths):
+    if is_geometry(group) and not isinstance(group, (Paths, Flat)):
         return lines_in(group) if name == "lines" else polygons_in(group)
     told = Told()
     paths = calls.listed(name, group, told)

@@ -47,6 +47,11 @@ class Arrays(unittest.TestCase):
         self.assertEqual(polyover.edges(frame, bar), polyover.edges(FRAME, BAR))
         self.assertEqual(polyover.locate(frame, [(2, 3), (1, 1)]), polyover.locate(FRAME, [(2, 3), (1, 1)]))
 
+    def test_at_a_scale(self):
+        shapes = polyover.overlay([SQUARE], arrays=True)
+        for given in (flat([SQUARE]), shapes, shapes.contours):
+            self.assertEqual(polyover.Scaled(1).overlay(given), polyover.overlay([SQUARE]))
+
     def test_an_answer_is_given_again(self):
         shapes = polyover.overlay([SQUARE], [OTHER], "difference", arrays=True)
         joined = polyover.overlay(shapes.contours, [OTHER], "union", arrays=True)

@@ -23,6 +23,11 @@ try:
 except ImportError:
     Nearby = None
 
+try:
+    from shapely.geometry import Polygon
+except ImportError:
+    Polygon = None
+
 from .features import collection, feature, ran, square
 from .there import with_library
 
@@ -247,6 +252,21 @@ class Files(unittest.TestCase):
             self.assertEqual(main(["relate", str(area), str(area), "--out", str(link)]), 0)
             self.assertTrue(link.is_symlink() and json.loads(target.read_text())["within"])
 
+    @unittest.skipIf(Polygon is None, "no python3 here has shapely (Debian's python3-shapely)")
+    def test_wkt_and_wkb(self):
+        with tempfile.TemporaryDirectory() as name:
+            text, data, out = (Path(name, each) for each in ("a.wkt", "b.wkb", "c.geojson"))
+            text.write_text("POLYGON ((0 0, 2 0, 2 2, 0 2, 0 0))")
+            data.write_bytes(Polygon([(1, 1), (3, 1), (3, 3), (1, 3)]).wkb)
+            self.assertEqual(main(["overlay", str(text), str(data), "--rule", "intersect", "--out", str(out)]), 0)
+            rings = json.loads(out.read_text())["features"][0]["geometry"]["coordinates"]
+            self.assertEqual(Polygon(rings[0][0]).area, 1)
+            text.write_text("POLYGON ((0 0, 2 0")
+            said = io.StringIO()
+            with contextlib.redirect_stderr(said):
+                self.assertEqual(main(["relate", str(text), str(data)]), 1)
+            self.assertIn("a.wkt: no WKT: ", said.getvalue())
+
     def test_standard_input(self):
         with tempfile.TemporaryDirectory() as name:
             area = Path(name, "a.geojson")
@@ -254,6 +274,12 @@ class Files(unittest.TestCase):
             words = [sys.executable, "-m", "polyover", "relate", "-", str(area)]
             done = subprocess.run(words, cwd=MODULE, input=area.read_bytes(), capture_output=True, check=True)
             self.assertTrue(json.loads(done.stdout)["within"])
+            bad = subprocess.run(words, cwd=MODULE, input=b"{", capture_output=True, check=False)
+            self.assertIn(b"polyover: standard input: Expecting", bad.stderr)
+        said = io.StringIO()
+        with contextlib.redirect_stderr(said):
+            self.assertEqual(main(["relate", "-", "-"]), 1)
+        self.assertIn("standard input can't be two files", said.getvalue())
 
     def test_nothing_to_ask(self):
         nowhere = {library.VARIABLE: "", "POLYOVER_PROGRAM": "/nowhere/polyover"}

@@ -92,6 +92,18 @@ class Faults(unittest.TestCase):
             with self.assertRaises(polyover.BadInput):
                 polyover.Scaled(scale)
 
+    def test_out_of_range_at_a_scale(self):
+        things = collection(GOOD, feature("MultiPolygon", [[square(0, 0, 1, 1), [[0, 0], [1, 0], [1e9, 1e9]]]]))
+        told = r"feature 2, polygon 1, ring 2, point 3: \(.*\) at this scale is out of range"
+        with self.assertRaisesRegex(polyover.BadInput, told):
+            polyover.Scaled.of_digits(12).overlay(things)
+        status, left, said, _ = ran("overlay", GOOD, things, words=["--digits", "12"])
+        self.assertEqual((status, left), (1, None))
+        self.assertRegex(said, f"b.geojson: {told}")
+        line = {"type": "LineString", "coordinates": [[0, 0], [1e9, 1e9]]}
+        with self.assertRaisesRegex(polyover.BadInput, "feature 1, line 1, point 2: .* out of range"):
+            polyover.Scaled.of_digits(12).clip(GOOD, line)
+
     def test_ends_of_the_range_of_floats(self):
         with self.assertRaisesRegex(polyover.BadInput, "out of range"):
             polyover.Scaled(2**60).overlay([[(0, 0), (1e9, 1), (1, 1)]])

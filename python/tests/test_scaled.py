@@ -55,6 +55,11 @@ class ScaledFloats(unittest.TestCase):
         with self.assertRaisesRegex(polyover.BadInput, "subject: contour 1, point 100: .*nan"):
             polyover.Scaled(1).overlay([[(0.0, 1.0)] * 99 + [(0.0, float("nan"))]])
 
+    def test_lists_that_are_gone_over_once(self):
+        points = [(0.0, 0.0), (0.5, 0.0), (0.5, 0.25)]
+        self.assertEqual(polyover.Scaled(4).whole(iter([iter(points)])), [[(0, 0), (2, 0), (2, 1)]])
+        self.assertEqual(len(polyover.Scaled(4).overlay(iter([iter(points)]))), 1)
+
     def test_the_minimum_area_is_that_of_the_scale(self):
         far = [(x + 5000.0, y + 0.0) for x, y in ((0, 0), (3, 0), (3, 3), (0, 3))]
         contours = [[(float(x), float(y)) for x, y in contour] for contour in UNSETTLED]

@@ -74,6 +74,21 @@ class Compared(unittest.TestCase):
             contours = [box(chance, chance.choice((3, 12))) for _ in range(chance.randint(2, 6))]
             self.compared(contours[:2], contours[2:], chance.choice(list(RULES)), 1e-9)
 
+    def test_holes_of_any_kind(self):
+        chance = random.Random(6)
+        for _ in range(INPUTS // 4):
+            size, scaled = chance.choice((1000, 10**6)), polyover.Scaled(1)
+            polygons = []
+            for _ in range(chance.randint(1, 3)):
+                rings = [self.resolved(star, chance, size) for _ in range(chance.randint(1, 4))]
+                polygons.append([ring[:: chance.choice((1, -1))] for ring in rings])
+            shapes = scaled.overlay({"type": "MultiPolygon", "coordinates": polygons})
+            each = [Polygon(rings[0]).difference(region(rings[1:])) for rings in polygons]
+            lost = 4 * length([ring for rings in polygons for ring in rings])
+            found = [Polygon(shape[0], shape[1:]) for shape in shapes]
+            self.assertTrue(all(each.is_valid for each in found), polygons)
+            self.assertLessEqual(unary_union(found).symmetric_difference(unary_union(each)).area, lost, polygons)
+
     def resolved(self, made, chance, size):
         """A contour that is valid by GEOS and runs counterclockwise."""
         while True:
