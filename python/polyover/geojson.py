@@ -83,8 +83,8 @@ class Reader:
             points.pop()
         if len(points) < least:
             if not self.skip_invalid:
-                what = "three points of a ring" if least == 3 else "two points of a line"
-                raise BadInput(f"{place}: {len(points)} in the place of at least {what}")
+                what = "a ring takes at least three" if least == 3 else "a line takes at least two"
+                raise BadInput(f"{place}: {len(points)} points: {what}")
             self.told.add(SKIPPED, place)
             return None
         more = sum(len(point) > 2 for point in points)

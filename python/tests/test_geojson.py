@@ -31,7 +31,7 @@ class Geometries(unittest.TestCase):
 
     def test_faults_name_the_feature(self):
         good, short = feature("Polygon", [square(0, 0, 1, 1)]), feature("Polygon", [[[0, 0], [1, 1]]])
-        with self.assertRaisesRegex(polyover.BadInput, "feature 2, polygon 1, ring 1: 2 in the place of at least"):
+        with self.assertRaisesRegex(polyover.BadInput, "feature 2, polygon 1, ring 1: 2 points: a ring takes"):
             polyover.contours_of(collection(good, short))
         with self.assertRaisesRegex(polyover.BadInput, "feature 1: Point in the place of Polygon or MultiPolygon"):
             polyover.contours_of(collection(feature("Point", [0, 0])))

@@ -49,7 +49,7 @@ class Closed(unittest.TestCase):
     def test_too_few_points_are_a_fault_with_its_place(self):
         short = [[0, 0], [1, 1], [0, 0]]
         things = collection(feature("Polygon", [SQUARE]), feature("MultiPolygon", [[SQUARE], [SQUARE, short]]))
-        with self.assertRaisesRegex(polyover.BadInput, "feature 2, polygon 2, ring 2: 2 "):
+        with self.assertRaisesRegex(polyover.BadInput, "feature 2, polygon 2, ring 2: 2 points: a ring takes"):
             polyover.contours_of(things)
         contours, told = silently(polyover.contours_of, things, skip_invalid=True)
         self.assertEqual(len(contours), 3)
@@ -57,7 +57,7 @@ class Closed(unittest.TestCase):
                                 "(the first: feature 2, polygon 2, ring 2)"])
 
     def test_lines_too(self):
-        with self.assertRaisesRegex(polyover.BadInput, "feature 1, line 1: 1 "):
+        with self.assertRaisesRegex(polyover.BadInput, "feature 1, line 1: 1 points: a line takes at least two"):
             polyover.lines_of({"type": "LineString", "coordinates": [[0, 0]]})
         lines = {"type": "MultiLineString", "coordinates": [[[0, 0]], [[0, 0], [0, 0]]]}
         found, told = silently(polyover.lines_of, lines, skip_invalid=True)
@@ -68,7 +68,7 @@ class Closed(unittest.TestCase):
         good = collection(feature("Polygon", [square(5, 5, 6, 6)]))
         status, left, said, there = ran("overlay", bad, good)
         self.assertEqual((status, left, there), (1, None, ["a.geojson", "b.geojson"]))
-        self.assertIn("a.geojson: feature 1, polygon 1, ring 1: 2 ", said)
+        self.assertIn("a.geojson: feature 1, polygon 1, ring 1: 2 points: ", said)
         status, left, said, _ = ran("overlay", bad, good, words=["--skip-invalid"])
         self.assertEqual((status, len(left["features"][0]["geometry"]["coordinates"])), (0, 2))
         self.assertIn("1 rings or lines with too few points are skipped", said)
