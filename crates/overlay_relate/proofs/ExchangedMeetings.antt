@@ -1,5 +1,5 @@
 -- Edges with the counts of subject and clip exchanged meet, and are settled, where the edges do.
-use Rattle.std.proofs.Common.{List, map, Contains, sym, subst}
+use Rattle.std.proofs.Common.{List, map, sym, subst}
 use Rattle.overlay_geom.specs.Plane.{PlanePoint}
 use Rattle.overlay_geom.specs.Edges.{CountedEdge}
 use Rattle.overlay_geom.specs.Settled.{IsSettled}

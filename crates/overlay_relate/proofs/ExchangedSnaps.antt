@@ -1,5 +1,5 @@
 -- A snap of edges is one of the edges with the counts of subject and clip exchanged, and of the edges in another order.
-use Rattle.std.proofs.Common.{inl, inr, List, map, sym, subst}
+use Rattle.std.proofs.Common.{inl, inr, List, map, subst}
 use Rattle.std.specs.List.Sorted.{IsPermutation}
 use Rattle.std.proofs.lemmas.List.Elements.{All-map, All-weaker}
 use Rattle.overlay_geom.specs.Plane.{Point, PlanePoint}
@@ -39,7 +39,8 @@ snapped_exchanged es e ps h = record {
 }
 
 -- a snap of the edges is one of the exchanged edges
-pub snap_exchanged : (old : List CountedEdge) (r : Round) → IsSnap old r → IsSnap (map exchanged old) (exchanged_round r)
+pub snap_exchanged : (old : List CountedEdge) (r : Round) → IsSnap old r →
+    IsSnap (map exchanged old) (exchanged_round r)
 snap_exchanged old r h = record {
   merged = merged_exchanged old r.edges h.merged;
   unsettled = λ settled. h.unsettled (settled_back r.edges settled);

@@ -36,8 +36,8 @@ arranged_of_itself limit solver es content was = arranged_of_split limit solver 
 })
 
 -- so a builder that keeps something answers a query as it is, whichever solver is set
-pub answers_as_it_is : (limit : ℕ) (solver : Solver) (b : Held CountedEdge) (kept : Option Found) → is_some kept ≡ true →
-    IfSome kept (IsKept b.failed b.edges) → IsContent limit b.edges →
+pub answers_as_it_is : (limit : ℕ) (solver : Solver) (b : Held CountedEdge) (kept : Option Found) →
+    is_some kept ≡ true → IfSome kept (IsKept b.failed b.edges) → IsContent limit b.edges →
     AnswersQuery {V = Unit {0}} limit solver b b (Ok tt)
 answers_as_it_is limit solver b None some right content = absurd (false≢true some)
 answers_as_it_is limit solver b (Some f) some right content =

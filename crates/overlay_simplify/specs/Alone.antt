@@ -11,7 +11,8 @@ use Rattle.overlay_builder.specs.Held.{Held}
 use Rattle.overlay_builder.specs.PathLists.{HoldsPaths, SomePathWeighsTooMuch}
 
 -- the edges are an arrangement of those that the paths give, reached by the solver
-pub record IsArrangedAlone (keep : Bool) (solver : Solver) (paths : List GivenPath) (es : List CountedEdge) : Type 0 where
+pub record IsArrangedAlone (keep : Bool) (solver : Solver) (paths : List GivenPath)
+    (es : List CountedEdge) : Type 0 where
   pub content : List CountedEdge
   pub holds : HoldsPaths (added_paths keep paths) content
   pub arranged : IsArranged solver content es

@@ -134,8 +134,8 @@ returns-clause-outcome g c = λ simple.
       | else-is_whole-via-then-is_whole+in_ok-visits_each_once+else-branch w ↦ false≢true (sym w.if-branch.false
           ∙ w.in_ok-visits_each_once.ensures.ok.1 (simple.simple.some_edge, simple.simple.points_once))
       | else-is_whole-via-else-is_whole w ↦ false≢true (sym w.if-is_whole.false ∙ whole
-          ∙ whole_where_simple c.args.solver c.args.keeps_points c.contour_kind-kind.result c.contour_kind-kind.ensures ps
-          (edges_in c.add_path.new.self.edges) (edges_in c.arrange.new.self.edges)
+          ∙ whole_where_simple c.args.solver c.args.keeps_points c.contour_kind-kind.result
+          c.contour_kind-kind.ensures ps (edges_in c.add_path.new.self.edges) (edges_in c.arrange.new.self.edges)
           (path_added c.args.keeps_points c.contour_kind-kind.result c.contour_kind-kind.ensures
           c.passing_without_data-passing.result c.passing_without_data-passing.ensures c.args.core.now
           c.requires.nothing ps
