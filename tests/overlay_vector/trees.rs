@@ -11,6 +11,7 @@ use overlay_arrange::data::CountWithData;
 use overlay_arrange::edge::{CountedEdge, compare_points};
 use overlay_geom::error::OverlayError;
 use overlay_geom::integer::OverlayInt;
+use overlay_geom::solver::Solver;
 use overlay_vector::edge_overlay::{EdgeOverlay, ShapeType};
 use overlay_vector::vector_shapes::vector_shapes_with_trees_from;
 use std::alloc::Global;
@@ -117,7 +118,7 @@ fn gives<I: OverlayInt + PartialEq + From<i16>>(
     };
     let mut content = content_of::<I>(rt, alloc, row)?;
     let mut store = Calls::default();
-    content.arrange(&mut store)?;
+    content.arrange(Solver::ABSOLUTE, &mut store)?;
     assert!(rt; is_balanced(alloc, content.edges())?);
     let graph = content.graph(row.fill)?;
     let shapes = vector_shapes_with_trees_from(
