@@ -9,6 +9,7 @@ use overlay_builder::builder_core::BuilderCore;
 use overlay_geom::error::OverlayError;
 use overlay_geom::path::IntShapes;
 use overlay_geom::point::IntPoint;
+use overlay_geom::solver::Solver;
 use overlay_simplify::outcome::Outcome;
 use overlay_simplify::shapes::shapes_left;
 use overlay_simplify::simple::outcome_of_contour;
@@ -23,6 +24,7 @@ pub fn shapes_if_simple(
     requires { AllInRange 1073741823 (plain_points (λ z. z) contour.now) }
 {
     let direction = ContourDirection::CounterClockwise;
-    let outcome = outcome_of_contour(core, contour, false, FillRule::NonZero, direction)?;
+    let solver = Solver::ABSOLUTE;
+    let outcome = outcome_of_contour(core, solver, contour, false, FillRule::NonZero, direction)?;
     shapes_left(alloc, contour, outcome)
 }

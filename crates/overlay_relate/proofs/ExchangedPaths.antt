@@ -1,6 +1,6 @@
 -- What the exchanged paths give is what the paths give, with the counts of each edge exchanged; and an arrangement of
 -- it is the exchanged arrangement.
-use Rattle.std.proofs.Common.{◌≡◌, ◌<◌, ◌^◌, ℕ, Bool, true, false, cond, pos, negsuc, List, [], ◌∷◌, ◌++◌, map, refl}
+use Rattle.std.proofs.Common.{◌≡◌, ◌<◌, ◌^◌, Bool, true, false, cond, pos, negsuc, List, [], ◌∷◌, ◌++◌, map, refl}
 use Rattle.std.proofs.Common.{sym, ap, ap₂, ◌∙◌, subst}
 use Rattle.std.specs.List.{All}
 use Rattle.std.specs.List.Sorted.{IsPermutation}
@@ -9,14 +9,14 @@ use Rattle.std.proofs.lemmas.List.Elements.{All-nil, All-append, All-map, All-we
 use Rattle.std.proofs.lemmas.List.Sorted.{IsPermutation-append_comm}
 use Rattle.overlay_geom.specs.Plane.{Point, Step, point_lt, edge_of, is_forward}
 use Rattle.overlay_geom.specs.Edges.{CountedEdge, ends_of}
+use Rattle.overlay_geom.specs.declared.solver.Solver.{Solver}
 use Rattle.overlay_geom.proofs.Shuffled.{weight_shuffled}
-use Rattle.overlay_geom.specs.declared.solver.Solver.TheVariants.{Rounds}
 use Rattle.overlay_plane.specs.Arrangements.{IsSplit}
 use Rattle.overlay_plane.specs.EdgeLists.{IsForwardBy}
 use Rattle.overlay_plane.proofs.LinksKept.{IsLong}
 use Rattle.overlay_plane.proofs.NearChains.{long_forward}
 use Rattle.overlay_plane.proofs.StepsAlong.{long_through}
-use Rattle.overlay_arrange.specs.Arranged.{IsArranged}
+use Rattle.overlay_arrange.specs.Arranged.{IsArranged, most_rounds}
 use Rattle.overlay_arrange.specs.Content.{count_for, edge_for, edge_with}
 use Rattle.overlay_arrange.specs.Counts.{boolean_counts}
 use Rattle.overlay_arrange.specs.declared.options.ShapeType.{ShapeType}
@@ -148,29 +148,31 @@ paths_lead_on keep (p ∷ ps) from to (path_and_others {mid} first h) before =
 
 pub exchanging_keeps_arrangements : ExchangingKeepsArrangements
 exchanging_keeps_arrangements = record {
-  exchanging = λ keep most paths edges h.
+  exchanging = λ keep solver paths edges h.
       let holds = holds_exchanged keep paths h.content h.holds in
       record {
         content = map exchanged h.content;
         holds = holds;
-        arranged = arranged_of keep (exchanged_paths paths) most (map exchanged h.content) (map exchanged edges) holds
-            (split_exchanged most h.content edges (split_of most h.content edges h.arranged));
+        arranged = arranged_of keep (exchanged_paths paths) solver (map exchanged h.content) (map exchanged edges) holds
+            (split_exchanged solver (most_rounds solver) h.content edges (split_of solver h.content edges h.arranged));
       };
-  reordering = λ keep most first later edges h.
+  reordering = λ keep solver first later edges h.
       let given = holds_reordered keep first later h.content h.holds in
       record {
         content = given.content;
         holds = given.holds;
-        arranged = arranged_of keep (later ++ first) most given.content edges given.holds
-            (split_shuffled most h.content given.content edges given.shuffled
-            (split_of most h.content edges h.arranged));
+        arranged = arranged_of keep (later ++ first) solver given.content edges given.holds
+            (split_shuffled solver (most_rounds solver) h.content given.content edges given.shuffled
+            (split_of solver h.content edges h.arranged));
       };
 }
   where
-    split_of : (most : ℕ) (old new : List CountedEdge) → IsArranged most old new → IsSplit Rounds most old new
-    split_of most old new h = record { rounds = h.rounds; few = h.few; reached = h.reached }
+    split_of : (solver : Solver) (old new : List CountedEdge) → IsArranged solver old new →
+        IsSplit solver (most_rounds solver) old new
+    split_of solver old new h = record { rounds = h.rounds; few = h.few; reached = h.reached }
 
-    arranged_of : (keep : Bool) (paths : List GivenPath) (most : ℕ) (old new : List CountedEdge) →
-        HoldsPaths (added_paths keep paths) old → IsSplit Rounds most old new → IsArranged most old new
-    arranged_of keep paths most old new holds split =
-        arranged_forward most old new (paths_lead_on keep paths [] old holds.added (All-nil leads_on)) split
+    arranged_of : (keep : Bool) (paths : List GivenPath) (solver : Solver) (old new : List CountedEdge) →
+        HoldsPaths (added_paths keep paths) old → IsSplit solver (most_rounds solver) old new →
+        IsArranged solver old new
+    arranged_of keep paths solver old new holds split =
+        arranged_forward solver old new (paths_lead_on keep paths [] old holds.added (All-nil leads_on)) split

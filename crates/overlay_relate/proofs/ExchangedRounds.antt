@@ -1,6 +1,6 @@
 -- The rounds that lead from edges to an arrangement lead from the exchanged edges to the exchanged arrangement, and
 -- from the edges in another order to the same one.
-use Rattle.std.proofs.Common.{◌≡◌, ℕ, ◌≤◌, Bool, true, false, cond, List, [], ◌∷◌, ◌++◌, map, refl, sym}
+use Rattle.std.proofs.Common.{◌≡◌, ℕ, ◌≤◌, Bool, true, false, cond, inl, inr, List, [], ◌∷◌, ◌++◌, map, refl, sym}
 use Rattle.std.proofs.Common.{ap, ap₂, ◌∙◌, subst}
 use Rattle.std.specs.List.{flat_map}
 use Rattle.std.specs.List.Sorted.{IsPermutation}
@@ -10,48 +10,28 @@ use Rattle.overlay_geom.specs.Counts.{Counts, reversed_counts}
 use Rattle.overlay_geom.specs.Plane.{Point, PlanePoint, Step, edge_of, is_forward, steps_through}
 use Rattle.overlay_geom.specs.Edges.{CountedEdge, ends_of}
 use Rattle.overlay_geom.specs.Merged.{IsMerged}
-use Rattle.overlay_geom.specs.Settled.{IsSettled}
-use Rattle.overlay_geom.specs.declared.solver.Solver.TheVariants.{Rounds}
+use Rattle.overlay_geom.specs.declared.solver.Solver.{Solver}
+use Rattle.overlay_geom.specs.declared.solver.Solver.TheVariants.{Rounds, Snapping}
 use Rattle.overlay_plane.specs.Arrangements.{IsReachedBy, IsSplit}
 use Rattle.overlay_plane.specs.Cutting.{piece_along, pieces_through}
 use Rattle.overlay_plane.specs.EdgeLists.{IsForwardBy}
 use Rattle.overlay_plane.specs.Meetings.{MeetsAnother}
-use Rattle.overlay_plane.specs.RoundLists.{AreRounds}
+use Rattle.overlay_plane.specs.RoundLists.{IsRoundBy, AreRounds}
 use Rattle.overlay_plane.specs.Rounds.{Round, IsCutAt, IsRound, pieces_of, after_rounds}
 use Rattle.overlay_plane.proofs.AfterRounds.{arrangements_keep_balance, arranged_stays_arranged}
-use Rattle.overlay_plane.proofs.Entries.{Contains-map}
 use Rattle.overlay_plane.proofs.ExactRounds.{whole_meetings_are_exact}
 use Rattle.overlay_plane.proofs.HeldChains.{arrangements_hold_chains}
 use Rattle.overlay_plane.proofs.MovedPoints.{moving_rounds}
-use Rattle.overlay_arrange.specs.Arranged.{IsArranged}
+use Rattle.overlay_arrange.specs.Arranged.{IsArranged, most_rounds}
 use Rattle.overlay_relate.specs.PredicateLaws.{exchanged}
-use Rattle.overlay_relate.proofs.ExchangedMerges.{exchanged_twice, merged_exchanged, merged_shuffled}
+use Rattle.overlay_relate.proofs.ExchangedMeetings.{settled_back, settled_exchanged, meets_exchanged, meets_back}
+use Rattle.overlay_relate.proofs.ExchangedMeetings.{whole_back, whole_exchanged}
+use Rattle.overlay_relate.proofs.ExchangedMerges.{merged_exchanged, merged_shuffled}
+use Rattle.overlay_relate.proofs.ExchangedSnaps.{exchanged_round, snap_exchanged, snap_shuffled}
 
 -- ---- one round
 
--- the round that cuts the exchanged edges where this one cuts the edges
-abbrev pub exchanged_round : Round → Round
-exchanged_round r = record { edges = map exchanged r.edges; cuts = λ e. r.cuts (exchanged e); whole_at = r.whole_at }
-
--- the edges are settled where the exchanged ones are, and the other way round
-settled_back : (es : List CountedEdge) → IsSettled (map exchanged es) → IsSettled es
-settled_back es h x y at_x at_y apart = h (exchanged x) (exchanged y) (Contains-map exchanged es x at_x)
-    (Contains-map exchanged es y at_y) apart
-
-pub settled_exchanged : (es : List CountedEdge) → IsSettled es → IsSettled (map exchanged es)
-settled_exchanged es h = settled_back (map exchanged es) (subst IsSettled (sym (exchanged_twice es)) h)
-
--- another edge meets one where the exchanged one meets the exchanged one
-meets_exchanged : (es : List CountedEdge) (e : CountedEdge) (p : PlanePoint) → MeetsAnother es e p →
-    MeetsAnother (map exchanged es) (exchanged e) p
-meets_exchanged es e p (f, at_f, apart, meets) = (exchanged f, Contains-map exchanged es f at_f, apart, meets)
-
-meets_back : (es : List CountedEdge) (e : CountedEdge) (p : PlanePoint) →
-    MeetsAnother (map exchanged es) (exchanged e) p → MeetsAnother es e p
-meets_back es e p h = subst (λ fs. MeetsAnother fs e p) (exchanged_twice es)
-    (meets_exchanged (map exchanged es) (exchanged e) p h)
-
--- so an edge is cut where the exchanged one is
+-- an edge is cut where the exchanged one is
 cut_exchanged : (es : List CountedEdge) (e : CountedEdge) (ps : List PlanePoint) → IsCutAt es e ps →
     IsCutAt (map exchanged es) (exchanged e) ps
 cut_exchanged es e ps h = record {
@@ -61,8 +41,10 @@ cut_exchanged es e ps h = record {
   every = λ p meets. h.every p (meets_back es e p meets);
 }
 
-round_exchanged : (old : List CountedEdge) (r : Round) → IsRound old r → IsRound (map exchanged old) (exchanged_round r)
-round_exchanged old r h = record {
+-- so a cutting round of the edges is one of the exchanged edges
+cutting_exchanged : (old : List CountedEdge) (r : Round) → IsRound old r →
+    IsRound (map exchanged old) (exchanged_round r)
+cutting_exchanged old r h = record {
   merged = merged_exchanged old r.edges h.merged;
   unsettled = λ settled. h.unsettled (settled_back r.edges settled);
   cut = All-map (λ e. IsCutAt (map exchanged r.edges) e (r.cuts (exchanged e))) exchanged r.edges
@@ -70,6 +52,31 @@ round_exchanged old r h = record {
       (λ e. cut_exchanged r.edges e (r.cuts e)) r.edges h.cut);
   rounding = h.rounding;
 }
+
+-- so a round of the solver is one of the exchanged edges
+round_exchanged : (solver : Solver) (old : List CountedEdge) (r : Round) → IsRoundBy solver old r →
+    IsRoundBy solver (map exchanged old) (exchanged_round r)
+round_exchanged Rounds old r h = cutting_exchanged old r h
+round_exchanged Snapping old r (inl (whole, h)) = inl (whole_exchanged r.edges whole, cutting_exchanged old r h)
+round_exchanged Snapping old r (inr (not_whole, h)) =
+    inr (λ whole. not_whole (whole_back r.edges whole), snap_exchanged old r h)
+
+-- a cutting round of the edges is one of the edges in another order, which merge into the same ones
+cutting_shuffled : (old other : List CountedEdge) (r : Round) → IsPermutation old other → IsRound old r →
+    IsRound other r
+cutting_shuffled old other r same h = record {
+  merged = merged_shuffled old other r.edges same h.merged;
+  unsettled = h.unsettled;
+  cut = h.cut;
+  rounding = h.rounding;
+}
+
+-- and so is a round of the solver
+round_shuffled : (solver : Solver) (old other : List CountedEdge) (r : Round) → IsPermutation old other →
+    IsRoundBy solver old r → IsRoundBy solver other r
+round_shuffled Rounds old other r same h = cutting_shuffled old other r same h
+round_shuffled Snapping old other r same (inl (whole, h)) = inl (whole, cutting_shuffled old other r same h)
+round_shuffled Snapping old other r same (inr (not_whole, h)) = inr (not_whole, snap_shuffled old other r same h)
 
 -- ---- the pieces
 
@@ -106,13 +113,13 @@ exchanged_rounds rs = map exchanged_round rs
 left_exchanged : (r : Round) → pieces_of (exchanged_round r) ≡ map exchanged (pieces_of r)
 left_exchanged r = pieces_exchanged (λ e. map r.whole_at (r.cuts e)) r.edges
 
-rounds_exchanged : (old : List CountedEdge) (rs : List Round) → AreRounds Rounds old rs →
-    AreRounds Rounds (map exchanged old) (exchanged_rounds rs)
-rounds_exchanged old [] h = tt
-rounds_exchanged old (r ∷ rs) (first, later) = (
-  round_exchanged old r first,
-  subst (λ es. AreRounds Rounds es (exchanged_rounds rs)) (sym (left_exchanged r))
-      (rounds_exchanged (pieces_of r) rs later),
+rounds_exchanged : (solver : Solver) (old : List CountedEdge) (rs : List Round) → AreRounds solver old rs →
+    AreRounds solver (map exchanged old) (exchanged_rounds rs)
+rounds_exchanged solver old [] h = tt
+rounds_exchanged solver old (r ∷ rs) (first, later) = (
+  round_exchanged solver old r first,
+  subst (λ es. AreRounds solver es (exchanged_rounds rs)) (sym (left_exchanged r))
+      (rounds_exchanged solver (pieces_of r) rs later),
 )
 
 after_exchanged : (old : List CountedEdge) (rs : List Round) →
@@ -122,13 +129,13 @@ after_exchanged old (r ∷ rs) = ap (λ es. after_rounds es (exchanged_rounds rs
     ∙ after_exchanged (pieces_of r) rs
 
 -- so the exchanged edges are split into the exchanged ones
-pub split_exchanged : (most : ℕ) (old new : List CountedEdge) → IsSplit Rounds most old new →
-    IsSplit Rounds most (map exchanged old) (map exchanged new)
-split_exchanged most old new h = record {
+pub split_exchanged : (solver : Solver) (most : ℕ) (old new : List CountedEdge) → IsSplit solver most old new →
+    IsSplit solver most (map exchanged old) (map exchanged new)
+split_exchanged solver most old new h = record {
   rounds = exchanged_rounds h.rounds;
   few = subst (λ n. n ≤ most) (sym (length-map h.rounds exchanged_round)) h.few;
   reached = record {
-    cut = rounds_exchanged old h.rounds h.reached.cut;
+    cut = rounds_exchanged solver old h.rounds h.reached.cut;
     merged = subst (λ es. IsMerged es (map exchanged new)) (sym (after_exchanged old h.rounds))
         (merged_exchanged (after_rounds old h.rounds) new h.reached.merged);
     settled = settled_exchanged new h.reached.settled;
@@ -136,36 +143,27 @@ split_exchanged most old new h = record {
 }
 
 -- and edges in another order into the same ones
-pub split_shuffled : (most : ℕ) (old other new : List CountedEdge) → IsPermutation old other →
-    IsSplit Rounds most old new →
-    IsSplit Rounds most other new
-split_shuffled most old other new same h =
+pub split_shuffled : (solver : Solver) (most : ℕ) (old other new : List CountedEdge) → IsPermutation old other →
+    IsSplit solver most old new → IsSplit solver most other new
+split_shuffled solver most old other new same h =
     record { rounds = h.rounds; few = h.few; reached = by h.rounds h.reached }
   where
-    by : (rs : List Round) → IsReachedBy Rounds rs old new → IsReachedBy Rounds rs other new
+    by : (rs : List Round) → IsReachedBy solver rs old new → IsReachedBy solver rs other new
     by [] reached = record {
       cut = tt;
       merged = merged_shuffled old other new same reached.merged;
       settled = reached.settled;
     }
-    by (r ∷ rs) reached = let first = reached.cut.0 in record {
-      cut = (
-        record {
-          merged = merged_shuffled old other r.edges same first.merged;
-          unsettled = first.unsettled;
-          cut = first.cut;
-          rounding = first.rounding;
-        },
-        reached.cut.1,
-      );
+    by (r ∷ rs) reached = record {
+      cut = (round_shuffled solver old other r same reached.cut.0, reached.cut.1);
       merged = reached.merged;
       settled = reached.settled;
     }
 
 -- forward edges that were split are arranged
-pub arranged_forward : (most : ℕ) (old new : List CountedEdge) → IsForwardBy ends_of old → IsSplit Rounds most old new →
-    IsArranged most old new
-arranged_forward most old new forward split =
+pub arranged_forward : (solver : Solver) (old new : List CountedEdge) → IsForwardBy ends_of old →
+    IsSplit solver (most_rounds solver) old new → IsArranged solver old new
+arranged_forward solver old new forward split =
     let moving = moving_rounds split.rounds in
     record {
       rounds = split.rounds;
@@ -173,9 +171,9 @@ arranged_forward most old new forward split =
       reached = split.reached;
       moving = moving.0;
       moved = moving.1;
-      chains = arrangements_hold_chains Rounds split.rounds moving.0 old new forward split.reached moving.1;
-      exact = λ whole. whole_meetings_are_exact.exact Rounds split.rounds moving.0 old new forward whole
+      chains = arrangements_hold_chains solver split.rounds moving.0 old new forward split.reached moving.1;
+      exact = λ whole. whole_meetings_are_exact.exact solver split.rounds moving.0 old new forward whole
           split.reached moving.1;
-      balanced = arrangements_keep_balance Rounds split.rounds old new split.reached;
-      stays = λ was. arranged_stays_arranged was.0 Rounds was.2 split.rounds was.1 old new was.3 split.reached;
+      balanced = arrangements_keep_balance solver split.rounds old new split.reached;
+      stays = λ was. arranged_stays_arranged was.0 solver was.2 split.rounds was.1 old new was.3 split.reached;
     }

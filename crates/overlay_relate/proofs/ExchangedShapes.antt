@@ -9,7 +9,7 @@ use Rattle.overlay_plane.specs.Predicates.{IsFillable}
 use Rattle.overlay_plane.specs.Regions.{IsPlanar}
 use Rattle.overlay_plane.proofs.JoinedLists.{total-map}
 use Rattle.overlay_relate.specs.PredicateLaws.{exchanged}
-use Rattle.overlay_relate.proofs.ExchangedRounds.{settled_exchanged}
+use Rattle.overlay_relate.proofs.ExchangedMeetings.{settled_exchanged}
 
 balanced_exchanged : (es : List CountedEdge) → HasBalancedCounts es → HasBalancedCounts (map exchanged es)
 balanced_exchanged es h = record {

@@ -4,10 +4,11 @@ use Rattle.std.proofs.Common.{arith}
 use Rattle.std.proofs.lemmas.Bool.{false≢true}
 use Rattle.std.specs.Prelude.{◌↔◌, Ok, IfSome, IsTrue, is_some}
 use Rattle.overlay_geom.specs.Edges.{CountedEdge}
+use Rattle.overlay_geom.specs.declared.solver.Solver.{Solver}
 use Rattle.overlay_geom.proofs.Merging.{IsMerged-again}
 use Rattle.overlay_plane.specs.Predicates.{IsFillable}
 use Rattle.overlay_plane.specs.Rounds.{after_rounds}
-use Rattle.overlay_arrange.specs.Arranged.{IsArranged, WasArranged, most_rounds}
+use Rattle.overlay_arrange.specs.Arranged.{IsArranged, WasArranged}
 use Rattle.overlay_arrange.specs.Content.{IsContent}
 use Rattle.overlay_arrange.specs.Rules.{is_filled}
 use Rattle.overlay_arrange.proofs.ArrangedLists.{arranged_of_split}
@@ -21,10 +22,10 @@ use Rattle.overlay_relate.specs.declared.predicate.Predicate.{Predicate}
 use Rattle.overlay_relate.specs.declared.relations.Relations.{Relations}
 use Rattle.overlay_relate.proofs.ToldByEdges.{relations_found}
 
--- an arrangement is one of itself, reached by no round
-arranged_of_itself : (limit most : ℕ) (es : List CountedEdge) → IsContent limit es → WasArranged es →
-    IsArranged most es es
-arranged_of_itself limit most es content was = arranged_of_split limit most es es content (record {
+-- an arrangement is one of itself by each solver, reached by no round
+arranged_of_itself : (limit : ℕ) (solver : Solver) (es : List CountedEdge) → IsContent limit es → WasArranged es →
+    IsArranged solver es es
+arranged_of_itself limit solver es content was = arranged_of_split limit solver es es content (record {
   rounds = [];
   few = omega arith;
   reached = record {
@@ -34,17 +35,17 @@ arranged_of_itself limit most es content was = arranged_of_split limit most es e
   };
 })
 
--- so a builder that keeps something answers a query as it is
-pub answers_as_it_is : (limit : ℕ) (b : Held CountedEdge) (kept : Option Found) → is_some kept ≡ true →
-    IfSome kept (IsKept b.failed b.edges) → IsContent limit b.edges →
-    AnswersQuery {V = Unit {0}} limit most_rounds b b (Ok tt)
-answers_as_it_is limit b None some right content = absurd (false≢true some)
-answers_as_it_is limit b (Some f) some right content =
-    answers_arranged limit most_rounds b right.usable b (Ok tt)
-    (arranged_of_itself limit most_rounds b.edges content right.arranged) content tt right.usable
+-- so a builder that keeps something answers a query as it is, whichever solver is set
+pub answers_as_it_is : (limit : ℕ) (solver : Solver) (b : Held CountedEdge) (kept : Option Found) →
+    is_some kept ≡ true → IfSome kept (IsKept b.failed b.edges) → IsContent limit b.edges →
+    AnswersQuery {V = Unit {0}} limit solver b b (Ok tt)
+answers_as_it_is limit solver b None some right content = absurd (false≢true some)
+answers_as_it_is limit solver b (Some f) some right content =
+    answers_arranged limit solver b right.usable b (Ok tt)
+    (arranged_of_itself limit solver b.edges content right.arranged) content tt right.usable
 
 module _ {U : Type 0} (limit : ℕ) (old mid new : PredicateBuilder) (u : U)
-    (first : AnswersQuery limit most_rounds (held_by old) (held_by mid) (Ok u))
+    (first : AnswersQuery limit old.solver (held_by old) (held_by mid) (Ok u))
     (kept : mid ≡ record old { edges = mid.edges; failed = mid.failed })
     (stays : new ≡ record mid { failed = false }) where
   edges : new.edges ≡ mid.edges
@@ -67,7 +68,7 @@ module _ {U : Type 0} (limit : ℕ) (old mid new : PredicateBuilder) (u : U)
       IsFoundUnder mid.fill_rule mid.edges f → (v : V) → IsRight (is_filled mid.fill_rule) mid.edges v →
       TellsOfShapes limit IsRight old new (Ok v)
   told_so IsRight f found v right = record {
-    query = answers_after limit most_rounds (held_by old) (held_by mid) (held_by new) u first (Ok v) edges usable tt;
+    query = answers_after limit old.solver (held_by old) (held_by mid) (held_by new) u first (Ok v) edges usable tt;
     answer = subst (λ es. IsRight (is_filled old.fill_rule) es v) (sym edges)
         (subst (λ r. IsRight (is_filled r) mid.edges v) rule right);
     fillable = subst (IsFillable (is_filled old.fill_rule)) (sym edges)

@@ -7,10 +7,12 @@ pub mod Beside
 pub mod BitsTell
 pub mod ByStart
 pub mod CoversByEdges
+pub mod ExchangedMeetings
 pub mod ExchangedMerges
 pub mod ExchangedPaths
 pub mod ExchangedRounds
 pub mod ExchangedShapes
+pub mod ExchangedSnaps
 pub mod Highest
 pub mod Insides
 pub mod JoinedParts

@@ -1,6 +1,7 @@
 -- Subject and clip exchanged: in the paths that are given, and in an arrangement of the edges that they give.
-use Rattle.std.specs.Prelude.{ℕ, ◌++◌, Bool, List, map}
+use Rattle.std.specs.Prelude.{◌++◌, Bool, List, map}
 use Rattle.overlay_geom.specs.Edges.{CountedEdge}
+use Rattle.overlay_geom.specs.declared.solver.Solver.{Solver}
 use Rattle.overlay_arrange.specs.Arranged.{IsArranged}
 use Rattle.overlay_arrange.specs.declared.options.ShapeType.{ShapeType}
 use Rattle.overlay_arrange.specs.declared.options.ShapeType.TheVariants.{Subject, Clip}
@@ -21,19 +22,19 @@ exchanged_path p = record { shape_type = other_shape p.shape_type; points = p.po
 abbrev pub exchanged_paths : List GivenPath → List GivenPath
 exchanged_paths ps = map exchanged_path ps
 
--- the edges are an arrangement of those that the paths give, reached with so many cutting rounds at most
-pub record IsArrangementOf (keep_points : Bool) (most : ℕ) (paths : List GivenPath)
+-- the edges are an arrangement of those that the paths give, reached by the solver
+pub record IsArrangementOf (keep_points : Bool) (solver : Solver) (paths : List GivenPath)
     (edges : List CountedEdge) : Type 0 where
   pub content : List CountedEdge
   pub holds : HoldsPaths (added_paths keep_points paths) content
-  pub arranged : IsArranged most content edges
+  pub arranged : IsArranged solver content edges
 
 -- an arrangement of what paths give, with the counts of subject and clip exchanged in each edge, is one of what the
 -- exchanged paths give; and an arrangement of what paths give is one of what they give in another order
 pub record ExchangingKeepsArrangements : Type 0 where
-  pub exchanging : (keep_points : Bool) (most : ℕ) (paths : List GivenPath) (edges : List CountedEdge) →
-      IsArrangementOf keep_points most paths edges →
-      IsArrangementOf keep_points most (exchanged_paths paths) (map exchanged edges)
-  pub reordering : (keep_points : Bool) (most : ℕ) (first later : List GivenPath) (edges : List CountedEdge) →
-      IsArrangementOf keep_points most (first ++ later) edges →
-      IsArrangementOf keep_points most (later ++ first) edges
+  pub exchanging : (keep_points : Bool) (solver : Solver) (paths : List GivenPath) (edges : List CountedEdge) →
+      IsArrangementOf keep_points solver paths edges →
+      IsArrangementOf keep_points solver (exchanged_paths paths) (map exchanged edges)
+  pub reordering : (keep_points : Bool) (solver : Solver) (first later : List GivenPath) (edges : List CountedEdge) →
+      IsArrangementOf keep_points solver (first ++ later) edges →
+      IsArrangementOf keep_points solver (later ++ first) edges

@@ -5,7 +5,6 @@ use Rattle.overlay_geom.specs.declared.error.OverlayError.{OverlayError}
 use Rattle.overlay_geom.specs.declared.error.OverlayError.TheVariants.{Failed}
 use Rattle.overlay_plane.specs.Predicates.{Intersects, InteriorsIntersect, Touches, PointIntersects, IsWithin, Covers}
 use Rattle.overlay_plane.specs.Predicates.{IsDisjoint, IsFillable}
-use Rattle.overlay_arrange.specs.Arranged.{most_rounds}
 use Rattle.overlay_arrange.specs.Rules.{is_filled}
 use Rattle.overlay_builder.specs.Held.{AnswersQuery}
 use Rattle.overlay_relate.specs.PredicateBuilder.{PredicateBuilder, held_by}
@@ -36,7 +35,7 @@ pub record AreRelations (filled : ℤ → Bool) (es : List CountedEdge) (r : Rel
 -- a query of the two shapes answers so, of the builder before and of the one afterwards
 pub record TellsOfShapes {V : Type 0} (limit : ℕ) (IsRight : (ℤ → Bool) → List CountedEdge → V → Type 0)
     (old new : PredicateBuilder) (result : Result V OverlayError) : Type 0 where
-  pub query : AnswersQuery limit most_rounds (held_by old) (held_by new) result
+  pub query : AnswersQuery limit old.solver (held_by old) (held_by new) result
   -- the answer is right of what is held afterwards, which is planar, with balanced counts
   pub answer : IfOk result (IsRight (is_filled old.fill_rule) new.edges)
   pub fillable : OnOk result (IsFillable (is_filled old.fill_rule) new.edges)

@@ -21,7 +21,7 @@ pub use overlay_arrange::options::ShapeType;
 /// what is added.
 ///
 /// A query finds at once what answers each predicate. It is kept: until something is added, or `fill_rule`
-/// is another one, further queries look at no edge.
+/// is another one, further queries look at no edge, whatever `solver` is then.
 ///
 /// A query that is refused leaves the builder failed: every call that returns a result then answers
 /// `Failed`, until `clear` or `reinit_with_subj_and_clip`.

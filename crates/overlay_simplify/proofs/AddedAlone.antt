@@ -9,7 +9,8 @@ use Rattle.overlay_geom.specs.Plane.{Point, steps_of}
 use Rattle.overlay_geom.specs.Edges.{CountedEdge, subject_edge, weight}
 use Rattle.overlay_geom.specs.declared.error.OverlayError.{OverlayError}
 use Rattle.overlay_geom.specs.declared.error.OverlayError.TheVariants.{Memory, NotSettled, TooManyEdges, Failed}
-use Rattle.overlay_arrange.specs.Arranged.{MayRefuseSplitting, most_rounds}
+use Rattle.overlay_geom.specs.declared.solver.Solver.{Solver}
+use Rattle.overlay_arrange.specs.Arranged.{MayRefuseSplitting}
 use Rattle.overlay_arrange.specs.Content.{IsContent, edge_for}
 use Rattle.overlay_arrange.specs.Counts.{boolean_counts}
 use Rattle.overlay_arrange.specs.declared.data.CountWithData.{CountWithData}
@@ -55,10 +56,10 @@ whole_content false ps es adds whole = adds.content
 
 -- ---- refusals
 
-module _ (keep : Bool) (paths : List GivenPath) where
+module _ (keep : Bool) (solver : Solver) (paths : List GivenPath) where
   -- splitting the edges of the paths may be refused
   pub refused_to_split : (content : List CountedEdge) (e : OverlayError) → HoldsPaths (added_paths keep paths) content →
-      MayRefuseSplitting most_rounds content e → MayRefuseAlone keep most_rounds paths e
+      MayRefuseSplitting solver content e → MayRefuseAlone keep solver paths e
   refused_to_split content Memory holds may = tt
   refused_to_split content NotSettled holds may = record { content = content; holds = holds; refused = may }
   refused_to_split content TooManyEdges holds may = inr (record { content = content; holds = holds; refused = may })
@@ -67,40 +68,42 @@ module _ (keep : Bool) (paths : List GivenPath) where
   -- of a builder that has not failed
   pub query_refused : {V : Type 0} (limit : ℕ) (old new : Held CountedEdge) (e : OverlayError) →
       HoldsPaths (added_paths keep paths) old.edges → old.failed ≡ false →
-      AnswersQuery {V = V} limit most_rounds old new (Err e) →
-      MayRefuseAlone keep most_rounds paths e
+      AnswersQuery {V = V} limit solver old new (Err e) →
+      MayRefuseAlone keep solver paths e
   query_refused {V} limit old new e holds ready h = by h.err
     where
-      by : ((e ≡ Failed) ⊎ MayRefuseSplitting most_rounds old.edges e) → MayRefuseAlone keep most_rounds paths e
+      by : ((e ≡ Failed) ⊎ MayRefuseSplitting solver old.edges e) → MayRefuseAlone keep solver paths e
       by (inl same) = absurd (false≢true (sym ready ∙ h.failed.0 (ap {B = Result V OverlayError} (λ x. Err x) same)))
       by (inr may) = refused_to_split old.edges e holds may
 
   -- adding them may be
   pub adding_refused : (es : List CountedEdge) (e : OverlayError) →
-      StopsAtPath weight (added_paths keep paths) [] es e → MayRefuseAlone keep most_rounds paths e
+      StopsAtPath weight (added_paths keep paths) [] es e → MayRefuseAlone keep solver paths e
   adding_refused es Memory stops = tt
   adding_refused es NotSettled stops = absurd stops.refused
   adding_refused es TooManyEdges stops = inl (es, stops)
   adding_refused es Failed stops = stops.refused
 
 -- one path
-pub one_refused : (keep : Bool) (ps : List Point) (e : OverlayError) → ¬ (e ≡ Failed) → ¬ (e ≡ NotSettled) →
+pub one_refused : (keep : Bool) (solver : Solver) (ps : List Point) (e : OverlayError) → ¬ (e ≡ Failed) →
+    ¬ (e ≡ NotSettled) →
     (e ≡ TooManyEdges → SomePathWeighsTooMuch (added_paths keep (paths_for Subject (ps ∷ [])))) →
-    MayRefuseAlone keep most_rounds (paths_for Subject (ps ∷ [])) e
-one_refused keep ps Memory unfailed settled heavy = tt
-one_refused keep ps NotSettled unfailed settled heavy = absurd (settled refl)
-one_refused keep ps TooManyEdges unfailed settled heavy = inl (heavy refl)
-one_refused keep ps Failed unfailed settled heavy = unfailed refl
+    MayRefuseAlone keep solver (paths_for Subject (ps ∷ [])) e
+one_refused keep solver ps Memory unfailed settled heavy = tt
+one_refused keep solver ps NotSettled unfailed settled heavy = absurd (settled refl)
+one_refused keep solver ps TooManyEdges unfailed settled heavy = inl (heavy refl)
+one_refused keep solver ps Failed unfailed settled heavy = unfailed refl
 
 -- ---- and where it is remembered whether they were
 
-module _ {V : Type 0} (limit : ℕ) (keep : Bool) (paths : List GivenPath) (mid new : Held CountedEdge) where
-  pub answers_alone : (r : Result V OverlayError) → OnOk r (IsArrangedAlone keep most_rounds paths mid.edges) →
-      OnOk r (IsContent limit mid.edges) → IfErr r (MayRefuseAlone keep most_rounds paths) → new.edges ≡ mid.edges →
-      new.failed ≡ is_err r → AnswersAlone limit most_rounds keep paths new r
+module _ {V : Type 0} (limit : ℕ) (solver : Solver) (keep : Bool) (paths : List GivenPath)
+    (mid new : Held CountedEdge) where
+  pub answers_alone : (r : Result V OverlayError) → OnOk r (IsArrangedAlone keep solver paths mid.edges) →
+      OnOk r (IsContent limit mid.edges) → IfErr r (MayRefuseAlone keep solver paths) → new.edges ≡ mid.edges →
+      new.failed ≡ is_err r → AnswersAlone limit solver keep paths new r
   answers_alone (Ok v) arranged content refused edges failed = record {
     usable = failed;
-    arranged = subst (IsArrangedAlone keep most_rounds paths) (sym edges) arranged;
+    arranged = subst (IsArrangedAlone keep solver paths) (sym edges) arranged;
     content = subst (IsContent limit) (sym edges) content;
     fails = tt;
     err = tt;
@@ -137,19 +140,19 @@ module _ (keep : Bool) (kind : PathKind) (kind_is : kind ≡ contour_kind keep)
     paths_held = on_ok_weaker r (λ added. record { added = added; light = plainly.light }) plainly.ok
 
     -- and a refusal is one of them
-    pub paths_refused : IfErr r (MayRefuseAlone keep most_rounds (paths_for Subject paths))
-    paths_refused = by r plainly
+    pub paths_refused : (solver : Solver) → IfErr r (MayRefuseAlone keep solver (paths_for Subject paths))
+    paths_refused solver = by r plainly
       where
         by : (r : Result V OverlayError) →
             AddsAsAsked weight (added_paths keep (paths_for Subject paths)) nothing_held (plain_held new) r →
-            IfErr r (MayRefuseAlone keep most_rounds (paths_for Subject paths))
+            IfErr r (MayRefuseAlone keep solver (paths_for Subject paths))
         by (Ok v) h = tt
         by (Err e) h = either h.err
           where
             either : ((e ≡ Failed) ⊎ StopsAtPath weight (added_paths keep (paths_for Subject paths)) []
-                (edges_in new.edges) e) → MayRefuseAlone keep most_rounds (paths_for Subject paths) e
+                (edges_in new.edges) e) → MayRefuseAlone keep solver (paths_for Subject paths) e
             either (inl same) = absurd (false≢true (h.failed.0 (ap {B = Result V OverlayError} (λ x. Err x) same)))
-            either (inr stops) = adding_refused keep (paths_for Subject paths) (edges_in new.edges) e stops
+            either (inr stops) = adding_refused keep solver (paths_for Subject paths) (edges_in new.edges) e stops
 
   -- one path
   module _ (ps : List Point) where

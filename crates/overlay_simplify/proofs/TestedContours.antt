@@ -6,6 +6,7 @@ use Rattle.std.proofs.lemmas.Bool.{false≢true, and_parts}
 use Rattle.std.specs.Prelude.{◌↔◌}
 use Rattle.overlay_geom.specs.Plane.{Point}
 use Rattle.overlay_geom.specs.Edges.{CountedEdge}
+use Rattle.overlay_geom.specs.declared.solver.Solver.{Solver}
 use Rattle.overlay_geom.specs.declared.solver.Solver.TheVariants.{Rounds}
 use Rattle.overlay_plane.specs.Arrangements.{IsReachedBy}
 use Rattle.overlay_plane.specs.Carried.{Carried, edges_in}
@@ -30,10 +31,15 @@ pub some_held : {C : Type 0} (es : List (Carried C)) → length es ≢ 0 → edg
 some_held [] other same = other refl
 some_held (e ∷ es) other same = let long = ap length same in omega (arith, long)
 
-module _ (keep : Bool) (kind : PathKind) (kind_is : kind ≡ contour_kind keep) (ps : List Point)
+-- what one solver reaches without a round, each does: it is merged and settled
+by_each_solver : (first second : Solver) (old new : List CountedEdge) → IsReachedBy first [] old new →
+    IsReachedBy second [] old new
+by_each_solver first second old new h = record { cut = tt; merged = h.merged; settled = h.settled }
+
+module _ (solver : Solver) (keep : Bool) (kind : PathKind) (kind_is : kind ≡ contour_kind keep) (ps : List Point)
     (held es : List CountedEdge) (adds : AddsPath (contour_kind keep) (edge_for Subject) ps [] held)
     (leaves_out is_cut : Bool) (left_out : (leaves_out ≡ false) ↔ IsTakenAs kind ps ps)
-    (cut : (is_cut ≡ false) ↔ IsReachedBy Rounds [] held es) where
+    (cut : (is_cut ≡ false) ↔ IsReachedBy solver [] held es) where
   -- where all tests pass
   pub simple_where_whole : (not leaves_out && not is_cut) ≡ true → es ≢ [] → HasEachPointOnce ps →
       IsSimpleAsAdded keep ps es
@@ -46,7 +52,7 @@ module _ (keep : Bool) (kind : PathKind) (kind_is : kind ≡ contour_kind keep) 
         simple = record {
           points_once = once;
           none_cut = subst (λ fs. IsReachedBy Rounds [] fs es) (whole_content keep ps held adds taken)
-              (cut.0 (not-true is_cut parts.1));
+              (by_each_solver solver Rounds held es (cut.0 (not-true is_cut parts.1)));
           some_edge = some;
         };
       }
@@ -55,8 +61,9 @@ module _ (keep : Bool) (kind : PathKind) (kind_is : kind ≡ contour_kind keep) 
   pub whole_where_simple : IsSimpleAsAdded keep ps es → (not leaves_out && not is_cut) ≡ true
   whole_where_simple simple =
       let out : leaves_out ≡ false = left_out.1 (subst (λ k. IsTakenAs k ps ps) (sym kind_is) simple.none_left_out) in
-      let uncut : is_cut ≡ false = cut.1 (subst (λ fs. IsReachedBy Rounds [] fs es)
-      (sym (whole_content keep ps held adds simple.none_left_out)) simple.simple.none_cut) in
+      let none_cut : IsReachedBy Rounds [] held es = subst (λ fs. IsReachedBy Rounds [] fs es)
+      (sym (whole_content keep ps held adds simple.none_left_out)) simple.simple.none_cut in
+      let uncut : is_cut ≡ false = cut.1 (by_each_solver Rounds solver held es none_cut) in
       ap (λ t. not t && not is_cut) out ∙ ap (λ t. not false && not t) uncut
 
 -- it has two points or more then

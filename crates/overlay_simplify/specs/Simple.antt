@@ -14,7 +14,7 @@ abbrev pub subject_edges : List Point → List CountedEdge
 subject_edges ps = map subject_edge (steps_of ps)
 
 -- no point of the contour is visited twice, and none of its edges is cut where others meet it; these edges, of which
--- there are some, are left
+-- there are some, are left. Without a round both solvers say the same.
 pub record IsSimple (ps : List Point) (es : List CountedEdge) : Type 0 where
   pub points_once : HasEachPointOnce ps
   pub none_cut : IsReachedBy Rounds [] (subject_edges ps) es

@@ -1,6 +1,7 @@
 -- What contracts see of a builder of edges with data, and what its queries do to it.
 use Rattle.std.specs.Prelude.{◌≡◌, ℕ, Bool, true, false, List, [], Option, None}
 use Rattle.overlay_geom.specs.Edges.{CountedEdge}
+use Rattle.overlay_geom.specs.declared.solver.Solver.{Solver}
 use Rattle.overlay_plane.specs.Carried.{Carried, edges_in}
 use Rattle.overlay_arrange.specs.Arranged.{IsArrangedCarrying}
 use Rattle.overlay_arrange.specs.EdgeData.{AreMerged, IsPiece, IsReversed}
@@ -9,7 +10,6 @@ use Rattle.overlay_arrange.specs.declared.count.ShapeCountBoolean.{ShapeCountBoo
 use Rattle.overlay_arrange.specs.declared.data.CountWithData.{CountWithData}
 use Rattle.overlay_arrange.specs.declared.options.IntOverlayOptions.{IntOverlayOptions}
 use Rattle.overlay_builder.specs.Held.{Held}
-use Rattle.overlay_builder.specs.declared.solver.Solver.{Solver}
 
 -- a builder of edges with data: its settings, whether it holds a buffer for extractions (of which nothing is seen), the
 -- counted edges that it holds, each with its data, the store of the data, and whether a query was refused
@@ -38,10 +38,10 @@ held_by b = record { edges = edges_in b.edges; failed = b.failed }
 
 -- ---- queries
 
--- the second list is an arrangement of the first one, reached with so many cutting rounds at most, and its data is
--- derived along the rounds that led there, by what the three operations on data may answer
+-- the second list is an arrangement of the first one, reached by the solver's rounds, and its data is derived along the
+-- rounds that led there, by what the three operations on data may answer
 abbrev pub IsArrangedWithData : {D : Type 0} →
-    (ShapeCountBoolean → D → ShapeCountBoolean → D → D → Type 0) → (D → D → Type 0) → (D → D → Type 0) → ℕ →
+    (ShapeCountBoolean → D → ShapeCountBoolean → D → D → Type 0) → (D → D → Type 0) → (D → D → Type 0) → Solver →
     List (Carried (CountWithData D)) → List (Carried (CountWithData D)) → Type 0
-IsArrangedWithData merges splits reverses most old new =
-    IsArrangedCarrying (AreMerged merges) (IsPiece splits) (IsReversed reverses) most old new
+IsArrangedWithData merges splits reverses solver old new =
+    IsArrangedCarrying (AreMerged merges) (IsPiece splits) (IsReversed reverses) solver old new

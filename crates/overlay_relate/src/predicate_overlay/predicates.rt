@@ -3,7 +3,7 @@
 ghost use Rattle.std.specs.Prelude.{◌≡◌, false, IfOk, IfSome, IsErrOf, IsOkUnless, is_err};
 ghost use Rattle.overlay_plane.specs.Predicates.{Intersects, InteriorsIntersect, Touches, PointIntersects};
 ghost use Rattle.overlay_plane.specs.Predicates.{IsWithin, Covers};
-ghost use Rattle.overlay_arrange.specs.Arranged.{WasArranged, most_rounds};
+ghost use Rattle.overlay_arrange.specs.Arranged.{WasArranged};
 ghost use Rattle.overlay_builder.specs.Held.{AnswersQuery};
 ghost use Rattle.overlay_relate.specs.Found.{IsFoundUnder};
 ghost use Rattle.overlay_relate.specs.PredicateBuilder.{held_by};
@@ -22,19 +22,21 @@ impl<I: OverlayInt, A: Allocator + Clone> PredicateOverlay<I, A> {
     /// Splits the edges where they meet, and tells whether some point lies in the closed regions of both
     /// shapes under `fill_rule`: each is what the shape fills, and the edges on a side of which it does.
     ///
-    /// In each round equal edges are merged, and each edge is cut where others meet it; a meeting
-    /// point that is not whole is rounded to one whole point, at most 1/2 away in x and in y. What was
-    /// arranged before stays as it is. The answer is that of the edges which are held afterwards, which
-    /// lead forward, meet in ends alone and have balanced counts; where there are none it is `false`.
+    /// The edges are split by `solver`. By `Solver::ABSOLUTE` equal edges are merged in each round, and each
+    /// edge is cut where others meet it; a meeting point that is not whole is rounded to one whole point, at
+    /// most 1/2 away in x and in y. By `Solver::SNAPPED` each edge is led, once, through the hot points whose
+    /// pixels it meets. What was arranged before, by either solver, stays as it is. The answer is that of the
+    /// edges which are held afterwards, which lead forward, meet in ends alone and have balanced counts; where
+    /// there are none it is `false`.
     ///
     /// The first query finds what answers all six predicates. Until something is added a further one under
-    /// the same rule looks at no edge and takes no memory; under another rule it looks at the sides that
-    /// shapes fill once more, and splits nothing.
+    /// the same rule, by either solver, looks at no edge and takes no memory; under another rule it looks at
+    /// the sides that shapes fill once more, and splits nothing.
     ///
-    /// Refusals: `Failed` before anything else, and then nothing is changed; `NotSettled` where
-    /// edges still meet in points that are no ends of both after 64 rounds; `TooManyEdges` where a
-    /// round brings the weight to 2^31; `Memory`. After these three the builder has failed, and
-    /// what it holds is left open.
+    /// Refusals: `Failed` before anything else, and then nothing is changed; `NotSettled` (never with
+    /// `Solver::SNAPPED`) where edges still meet in points that are no ends of both after 64 rounds;
+    /// `TooManyEdges` where a round brings the weight to 2^31; `Memory`. After these three the builder has
+    /// failed, and what it holds is left open.
     pub fn intersects(&mut self) -> Result<bool, OverlayError>
         ensures { TellsRelation I.limit Intersects self.old self.new result }
     {
@@ -105,7 +107,7 @@ impl<I: OverlayInt, A: Allocator + Clone> PredicateOverlay<I, A> {
 
     // Splits the edges where they meet. Where something was found of them they are an arrangement.
     fn arrange(&mut self) -> Result<(), OverlayError>
-        ensures query { AnswersQuery I.limit most_rounds (held_by self.old) (held_by self.new) result }
+        ensures query { AnswersQuery I.limit self.old.solver (held_by self.old) (held_by self.new) result }
         ensures kept { self.new ≡ record self.old { edges = self.new.edges; failed = self.new.failed } }
         ensures untouched { IsErrOf result OverlayError.Failed → self.new ≡ self.old }
     {
@@ -113,7 +115,7 @@ impl<I: OverlayInt, A: Allocator + Clone> PredicateOverlay<I, A> {
         if self.found.is_some() {
             return Ok(());
         }
-        self.core.arrange(&mut ())?;
+        self.core.arrange(self.solver, &mut ())?;
         Ok(())
     }
 

@@ -5,7 +5,6 @@ ghost use Rattle.overlay_geom.specs.Settled.{IsSettled};
 ghost use Rattle.overlay_plane.specs.Balance.{HasBalancedCounts};
 ghost use Rattle.overlay_plane.specs.Carried.{edges_in};
 ghost use Rattle.overlay_arrange.specs.Content.{IsAscending};
-ghost use Rattle.overlay_arrange.specs.Arranged.{most_rounds};
 ghost use Rattle.overlay_arrange.specs.Stores.{IsStoreReached};
 ghost use Rattle.overlay_builder.specs.GivenPaths.{IsBalancedUnlessFailed};
 ghost use Rattle.overlay_builder.specs.Held.{AnswersQuery};
@@ -52,9 +51,9 @@ impl<I: OverlayInt, D: OverlayEdgeData, A: Allocator + Clone> EdgeOverlay<I, D, 
         fill_rule: FillRule,
     ) -> Result<Vec<DataVectorShape<I, D, A>, A>, OverlayError>
         requires { IsBalancedUnlessFailed self.old.failed (edges_in self.old.edges) }
-        ensures query { AnswersQuery I.limit most_rounds (held_by self.old) (held_by self.new) result }
+        ensures query { AnswersQuery I.limit self.old.solver (held_by self.old) (held_by self.new) result }
         ensures carried { OnOk result
-            (IsArrangedWithData D.merges D.splits D.reverses most_rounds self.old.edges self.new.edges) }
+            (IsArrangedWithData D.merges D.splits D.reverses self.old.solver self.old.edges self.new.edges) }
         ensures shapes { IfOk result (λ v. AreVectorShapes D.reverses D.eq
             (asked I.Wide.width I.WideUInt.natural fill_rule overlay_rule self.old.options)
             self.new.edges (plain_vector_shapes I.whole v.items)) }
@@ -69,7 +68,7 @@ impl<I: OverlayInt, D: OverlayEdgeData, A: Allocator + Clone> EdgeOverlay<I, D, 
         ensures buffer { OnOk result (self.new.boolean_buffer ≡ Some tt) }
     {
         self.core.check_usable()?;
-        self.core.arrange(&mut self.store)?;
+        self.core.arrange(self.solver, &mut self.store)?;
         let shapes = self.extract(overlay_rule, fill_rule);
         self.core.set_failed(shapes.is_err());
         shapes

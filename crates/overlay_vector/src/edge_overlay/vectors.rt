@@ -4,7 +4,6 @@ ghost use Rattle.std.specs.Prelude.{◌≡◌, IfOk, OnOk, IsErrOf, IsOkUnless};
 ghost use Rattle.overlay_geom.specs.Settled.{IsSettled};
 ghost use Rattle.overlay_plane.specs.Carried.{edges_in};
 ghost use Rattle.overlay_arrange.specs.Content.{IsAscending};
-ghost use Rattle.overlay_arrange.specs.Arranged.{most_rounds};
 ghost use Rattle.overlay_arrange.specs.Stores.{IsStoreReached};
 ghost use Rattle.overlay_builder.specs.Held.{AnswersQuery};
 ghost use Rattle.overlay_vector.specs.DataVectors.{plain_data_vectors, selected_vectors};
@@ -25,26 +24,27 @@ impl<I: OverlayInt, D: OverlayEdgeData, A: Allocator + Clone> EdgeOverlay<I, D, 
     /// order, by the smaller and then the larger end; each from its smaller to its larger end, with the
     /// sides that the subject and the clip fill under the rule, seen on this way, and with its data.
     ///
-    /// In each round equal edges are merged, and each edge is cut where others meet it; a meeting point
-    /// that is not whole is rounded to one whole point, at most 1/2 away in x and in y. The data of equal
-    /// edges is merged, two by two; that of an edge that is cut into two pieces or more is split, once for
-    /// each piece, and that of a piece which runs against its edge is reversed. What was arranged before
-    /// stays as it is. The edges need not be balanced: the winding below an edge is the sum of the counts
-    /// strictly below its midpoint.
+    /// The edges are split by `solver`. By `Solver::ABSOLUTE` equal edges are merged in each round, and each
+    /// edge is cut where others meet it; a meeting point that is not whole is rounded to one whole point, at
+    /// most 1/2 away in x and in y. By `Solver::SNAPPED` each edge is led, once, through the hot points whose
+    /// pixels it meets. The data of equal edges is merged, two by two; that of an edge that is cut into two
+    /// pieces or more is split, once for each piece, and that of a piece which runs against its edge is
+    /// reversed. What was arranged before, by either solver, stays as it is. The edges need not be balanced:
+    /// the winding below an edge is the sum of the counts strictly below its midpoint.
     ///
-    /// Refusals: `Failed` before anything else, and then nothing is changed; `NotSettled` where edges still
-    /// meet in points that are no ends of both after 64 rounds; `TooManyEdges` where a round brings the
-    /// weight to 2^31; `Memory`. After these three the builder has failed, and what it holds is left
-    /// open.
+    /// Refusals: `Failed` before anything else, and then nothing is changed; `NotSettled` (never with
+    /// `Solver::SNAPPED`) where edges still meet in points that are no ends of both after 64 rounds;
+    /// `TooManyEdges` where a round brings the weight to 2^31; `Memory`. After these three the builder has
+    /// failed, and what it holds is left open.
     #[tactic(auto, using(overlay_arrange::proofs::ReachedStores::never_written))]
     pub fn build_vectors(
         &mut self,
         overlay_rule: OverlayRule,
         fill_rule: FillRule,
     ) -> Result<Vec<DataVectorEdge<I, D>, A>, OverlayError>
-        ensures query { AnswersQuery I.limit most_rounds (held_by self.old) (held_by self.new) result }
+        ensures query { AnswersQuery I.limit self.old.solver (held_by self.old) (held_by self.new) result }
         ensures carried { OnOk result
-            (IsArrangedWithData D.merges D.splits D.reverses most_rounds self.old.edges self.new.edges) }
+            (IsArrangedWithData D.merges D.splits D.reverses self.old.solver self.old.edges self.new.edges) }
         ensures listed { IfOk result (λ v. plain_data_vectors I.whole v.items
             ≡ selected_vectors fill_rule overlay_rule self.new.edges) }
         ensures store { IsStoreReached D.writes self.old.store self.new.store }
@@ -56,7 +56,7 @@ impl<I: OverlayInt, D: OverlayEdgeData, A: Allocator + Clone> EdgeOverlay<I, D, 
         ensures untouched { IsErrOf result OverlayError.Failed → self.new ≡ self.old }
     {
         self.core.check_usable()?;
-        self.core.arrange(&mut self.store)?;
+        self.core.arrange(self.solver, &mut self.store)?;
         let listed = self.list(overlay_rule, fill_rule);
         self.core.set_failed(listed.is_err());
         listed

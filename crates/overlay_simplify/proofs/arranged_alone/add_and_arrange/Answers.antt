@@ -12,13 +12,13 @@ returns-in_err-add_paths-clause-err g c =
     let p = err_from_is_err_and c.from_residual.result c.from_residual.ensures.1 in
     rw (p.1, p.2) (paths_refused c.args.keeps_points c.contour_kind-kind.result c.contour_kind-kind.ensures
     c.passing_without_data.result c.passing_without_data.ensures c.args.core.now c.requires.nothing
-    (g.R0.IntShapeResource.paths c.args.resource.now) c.add_paths.new.self _ c.in_err-add_paths.ensures)
+    (g.R0.IntShapeResource.paths c.args.resource.now) c.add_paths.new.self _ c.in_err-add_paths.ensures c.args.solver)
 
 pub returns-in_err-arrange-clause-err : goal.returns-in_err-arrange-clause-err
 returns-in_err-arrange-clause-err g c =
     let paths = g.R0.IntShapeResource.paths c.args.resource.now in
     let p = err_from_is_err_and c.from_residual-in_err-arrange.result c.from_residual-in_err-arrange.ensures.1 in
-    rw (p.1, p.2) (query_refused c.args.keeps_points (paths_for Subject paths) g.I.IntNumber.limit
+    rw (p.1, p.2) (query_refused c.args.keeps_points c.args.solver (paths_for Subject paths) g.I.IntNumber.limit
     (plain_held c.add_paths.new.self) (plain_held c.arrange.new.self) c.in_err-arrange.field-0.0
     (paths_held c.args.keeps_points c.contour_kind-kind.result c.contour_kind-kind.ensures
     c.passing_without_data.result c.passing_without_data.ensures c.args.core.now c.requires.nothing

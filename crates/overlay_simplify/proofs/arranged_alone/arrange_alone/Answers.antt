@@ -10,7 +10,7 @@ use Rattle.overlay_simplify.proofs.arranged_alone.arrange_alone.Goals as goal
 pub returns : goal.returns
 returns g c =
     let e = c.add_and_arrange-arranged.ensures in
-    answers_alone g.I.IntNumber.limit c.args.keeps_points
+    answers_alone g.I.IntNumber.limit c.args.solver c.args.keeps_points
     (paths_for Subject (g.R0.IntShapeResource.paths c.args.resource.now))
     (plain_held c.add_and_arrange-arranged.new.core) (plain_held c.set_failed.new.self)
     c.add_and_arrange-arranged.result

@@ -20,7 +20,7 @@ pub returns-in_err-leaves_out-clause-err : goal.returns-in_err-leaves_out-clause
 returns-in_err-leaves_out-clause-err g c =
     let e = c.in_err-leaves_out.ensures.added in
     let p = err_from_is_err_and c.from_residual.result c.from_residual.ensures.1 in
-    rw (p.1, p.2) (one_refused c.args.keeps_points (plain_points g.I.IntNumber.whole c.args.contour.now)
+    rw (p.1, p.2) (one_refused c.args.keeps_points c.args.solver (plain_points g.I.IntNumber.whole c.args.contour.now)
     c.in_err-leaves_out.field-0.0
     (λ is. false≢true (sym (ap (λ h. h.failed) c.requires.nothing) ∙ e.failed.0 (ap Err is)))
     (λ is. e.no_query (ap Err is))
@@ -32,7 +32,7 @@ pub returns-in_err-is_cut-clause-err : goal.returns-in_err-is_cut-clause-err
 returns-in_err-is_cut-clause-err g c =
     let ps = plain_points g.I.IntNumber.whole c.args.contour.now in
     let p = err_from_is_err_and c.from_residual-in_err-is_cut.result c.from_residual-in_err-is_cut.ensures.1 in
-    rw (p.1, p.2) (query_refused c.args.keeps_points (paths_for Subject (ps ∷ [])) g.I.IntNumber.limit
+    rw (p.1, p.2) (query_refused c.args.keeps_points c.args.solver (paths_for Subject (ps ∷ [])) g.I.IntNumber.limit
     (plain_held c.add_path.new.self) (plain_held c.arrange.new.self) c.in_err-is_cut.field-0.0
     (held_alone c.args.keeps_points ps (edges_in c.add_path.new.self.edges)
     (path_added c.args.keeps_points c.contour_kind-kind.result c.contour_kind-kind.ensures
@@ -58,7 +58,7 @@ direction_of-requires-clause-some g c =
           w.if-not-leaves_out.false)
     ] in
     subst (λ n. 2 ≤ n) size (two_or_more c.args.keeps_points ps (edges_in c.arrange.new.self.edges)
-    (simple_where_whole c.args.keeps_points c.contour_kind-kind.result c.contour_kind-kind.ensures ps
+    (simple_where_whole c.args.solver c.args.keeps_points c.contour_kind-kind.result c.contour_kind-kind.ensures ps
     (edges_in c.add_path.new.self.edges) (edges_in c.arrange.new.self.edges)
     (path_added c.args.keeps_points c.contour_kind-kind.result c.contour_kind-kind.ensures
     c.passing_without_data-passing.result c.passing_without_data-passing.ensures c.args.core.now c.requires.nothing ps
@@ -95,7 +95,7 @@ returns-then-branch-clause-outcome g c =
     subst (IsOutcome c.args.keeps_points c.args.fill_rule c.args.output_direction ps
     (edges_in c.arrange.new.self.edges)) (sym c.outcome_of.ensures)
     (has_outcome c.args.keeps_points c.args.fill_rule c.args.output_direction c.direction_of.result ps
-    (edges_in c.arrange.new.self.edges) (simple_where_whole c.args.keeps_points c.contour_kind-kind.result
+    (edges_in c.arrange.new.self.edges) (simple_where_whole c.args.solver c.args.keeps_points c.contour_kind-kind.result
     c.contour_kind-kind.ensures ps
     (edges_in c.add_path.new.self.edges) (edges_in c.arrange.new.self.edges)
     (path_added c.args.keeps_points c.contour_kind-kind.result c.contour_kind-kind.ensures
@@ -134,8 +134,8 @@ returns-clause-outcome g c = λ simple.
       | else-is_whole-via-then-is_whole+in_ok-visits_each_once+else-branch w ↦ false≢true (sym w.if-branch.false
           ∙ w.in_ok-visits_each_once.ensures.ok.1 (simple.simple.some_edge, simple.simple.points_once))
       | else-is_whole-via-else-is_whole w ↦ false≢true (sym w.if-is_whole.false ∙ whole
-          ∙ whole_where_simple c.args.keeps_points c.contour_kind-kind.result c.contour_kind-kind.ensures ps
-          (edges_in c.add_path.new.self.edges) (edges_in c.arrange.new.self.edges)
+          ∙ whole_where_simple c.args.solver c.args.keeps_points c.contour_kind-kind.result
+          c.contour_kind-kind.ensures ps (edges_in c.add_path.new.self.edges) (edges_in c.arrange.new.self.edges)
           (path_added c.args.keeps_points c.contour_kind-kind.result c.contour_kind-kind.ensures
           c.passing_without_data-passing.result c.passing_without_data-passing.ensures c.args.core.now
           c.requires.nothing ps
