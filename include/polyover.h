@@ -26,6 +26,12 @@
 #include <stddef.h>
 #include <stdint.h>
 
+/* The version: docs/C.md says what changes when it does. */
+#define POLYOVER_VERSION_MAJOR 0
+#define POLYOVER_VERSION_MINOR 1
+#define POLYOVER_VERSION_PATCH 0
+#define POLYOVER_VERSION "0.1.0"
+
 #ifdef __cplusplus
 extern "C" {
 #endif

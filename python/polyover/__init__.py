@@ -9,6 +9,8 @@ from .reading import contours_of, lines_of
 from .scaled import Scaled
 from .shapes import Paths, Shapes
 
+__version__ = "0.1.0"
+
 __all__ = [
     "BadInput",
     "Flat",

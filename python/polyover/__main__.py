@@ -13,6 +13,7 @@ from .answers import say, warnings_as_lines
 from .errors import PolyoverError
 from .files import STANDARD
 from .picture import WIDTH
+from .running import run
 from .text import FILLS, RULES
 
 LEAST_WIDTH = 400
@@ -102,6 +103,11 @@ def add_options(commands: dict[str, argparse.ArgumentParser]) -> None:
     commands["svg"].add_argument("--nodes", action="store_true", help="show the ends of the arrangement's edges")
 
 
+def run_program(_: argparse.Namespace) -> int:
+    """An input of the program on standard input, answered as the program does"""
+    return run()
+
+
 def version() -> str:
     """The version of the module."""
     return str(getattr(sys.modules[__package__], "__version__", "of a clone"))
@@ -124,11 +130,12 @@ def parsed(words: Sequence[str] | None) -> argparse.Namespace:
             add_files(command, name)
         add_answers(command, name)
     add_options(commands.choices)
+    commands.add_parser("run", help=run_program.__doc__).set_defaults(run=run_program)
     return parser.parse_args(words)
 
 
 def main(words: Sequence[str] | None = None) -> int:
-    """Runs a command; 1 where it does not answer. Where its words are bad argparse ends it, with 2."""
+    """Runs a command; 1 where it does not answer, or the status of the program. Where its words are bad argparse ends it, with 2."""
     given = parsed(words)
     if [getattr(given, name, None) for name in ("subject", "other")] == [STANDARD] * 2:
         say("standard input can't be two files")

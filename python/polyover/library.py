@@ -19,7 +19,9 @@ from .flat import Flat, address_of, is_whole_path
 from .text import coordinate
 
 VARIABLE = "POLYOVER_LIBRARY"
-BUILT = str(Path(__file__).resolve().parents[2] / "c" / "out" / "libpolyover.so")
+HELD = Path(__file__).resolve().with_name("libpolyover.so")
+# (a wheel holds the library; a clone has it where scripts/build, or make -C c, leaves it)
+BUILT = str(HELD if HELD.is_file() else HELD.parents[2] / "out" / HELD.name)
 COORDINATES, SIZES, BYTES = "q", "Q" if sizeof(c_size_t) == 8 else "I", "B"
 MUCH = 2**17
 
@@ -240,8 +242,8 @@ def loaded(path: str) -> Library:
 
 
 def library() -> Library | None:
-    """The library that POLYOVER_LIBRARY names; or else, if POLYOVER_PROGRAM names no program, the one that is built by
-    `make -C c`, or none where none is."""
+    """The library that POLYOVER_LIBRARY names; or else, if POLYOVER_PROGRAM names no program, the one beside the
+    module or in out/; or none where none is."""
     named = os.environ.get(VARIABLE)
     if named:
         return loaded(os.path.abspath(named))

@@ -1,0 +1,81 @@
+# The library of its assembly: static, shared, and installed. c/Makefile includes it, and in a release of assembly it is
+# the Makefile: `make`, `make install PREFIX=/usr/local`, `make check`. It takes a C compiler (CC) for x86-64 or aarch64
+# Linux, with binutils.
+
+PREFIX ?= /usr/local
+LIBDIR ?= $(PREFIX)/lib
+INCLUDEDIR ?= $(PREFIX)/include
+DESTDIR ?=
+HERE := $(patsubst %/,%,$(dir $(lastword $(MAKEFILE_LIST))))
+# (a release has all in one folder)
+HEADER := $(firstword $(wildcard $(HERE)/../include/polyover.h) $(HERE)/polyover.h)
+# the processor that the compiler makes code for: x86_64 or aarch64
+PROCESSOR := $(firstword $(subst -, ,$(shell $(CC) -dumpmachine)))
+OUT ?= out
+ASSEMBLY ?= $(HERE)/$(PROCESSOR)/polyover.s
+OBJCOPY ?= $(shell $(CC) -print-prog-name=objcopy)
+ARCHIVER ?= $(shell $(CC) -print-prog-name=ar)
+
+# The version stands in the header alone; the first number of it is that of the shared library.
+said = $(shell sed -n 's/^\#define POLYOVER_VERSION_$(1) //p' $(HEADER))
+MAJOR := $(call said,MAJOR)
+VERSION := $(MAJOR).$(call said,MINOR).$(call said,PATCH)
+SHARED := libpolyover.so.$(VERSION)
+SONAME := libpolyover.so.$(MAJOR)
+IN_C := $(patsubst $(HERE)/%.c,$(OUT)/%.o,$(HERE)/heap.c $(wildcard $(HERE)/library*.c))
+
+.DELETE_ON_ERROR:
+.PHONY: library install check
+
+library: $(OUT)/libpolyover.a $(OUT)/libpolyover.so
+
+$(OUT)/code.o: $(ASSEMBLY)
+	mkdir -p $(OUT)
+	$(CC) -c $< -o $@
+
+# (what takes memory, and the part of the library that is C)
+$(OUT)/%.o: $(HERE)/%.c $(HEADER) $(wildcard $(HERE)/library_of_*.h)
+	mkdir -p $(OUT)
+	$(CC) -std=c11 -O2 -fPIC -I$(dir $(HEADER)) -c $< -o $@
+
+# (the names that the header declares, which are all that the library shows)
+$(OUT)/names.txt: $(HEADER)
+	mkdir -p $(OUT)
+	sed -n 's/^[a-z][a-z_0-9 ]*[ *]\(polyover_[a-z_0-9]*\)(.*/\1/p' $< > $@
+
+$(OUT)/libpolyover.o: $(OUT)/code.o $(IN_C) $(OUT)/names.txt
+	$(CC) -r -nostdlib $(OUT)/code.o $(IN_C) -o $@
+	$(OBJCOPY) --keep-global-symbols=$(OUT)/names.txt $@
+
+$(OUT)/libpolyover.a: $(OUT)/libpolyover.o
+	rm -f $@
+	$(ARCHIVER) rcs $@ $<
+
+$(OUT)/$(SHARED): $(OUT)/libpolyover.o
+	$(CC) -shared -Wl,-soname,$(SONAME) -Wl,-z,defs $< -o $@
+
+$(OUT)/libpolyover.so: $(OUT)/$(SHARED)
+	ln -sf $(SHARED) $(OUT)/$(SONAME)
+	ln -sf $(SONAME) $@
+
+# Files of pkg-config and of CMake find the rest from where they stand, so an installed tree can be moved.
+filled = sed -e 's|@VERSION@|$(VERSION)|g' -e 's|@PREFIX@|$(shell realpath -m --relative-to=$(1) $(PREFIX))|g' \
+  -e 's|@LIBDIR@|$(patsubst $(PREFIX)/%,%,$(LIBDIR))|g' -e 's|@INCLUDEDIR@|$(patsubst $(PREFIX)/%,%,$(INCLUDEDIR))|g' \
+  -e 's|@SHARED@|$(SHARED)|g' -e 's|@SONAME@|$(SONAME)|g'
+
+install: library
+	install -d $(DESTDIR)$(INCLUDEDIR) $(DESTDIR)$(LIBDIR)/pkgconfig $(DESTDIR)$(LIBDIR)/cmake/polyover
+	install -m 644 $(HEADER) $(DESTDIR)$(INCLUDEDIR)/polyover.h
+	install -m 644 $(OUT)/libpolyover.a $(DESTDIR)$(LIBDIR)
+	install -m 755 $(OUT)/$(SHARED) $(DESTDIR)$(LIBDIR)
+	ln -sf $(SHARED) $(DESTDIR)$(LIBDIR)/$(SONAME)
+	ln -sf $(SONAME) $(DESTDIR)$(LIBDIR)/libpolyover.so
+	$(call filled,$(LIBDIR)/pkgconfig) $(HERE)/polyover.pc.in > $(DESTDIR)$(LIBDIR)/pkgconfig/polyover.pc
+	for file in polyoverConfig polyoverConfigVersion; do $(call filled,$(LIBDIR)/cmake/polyover) $(HERE)/$$file.cmake.in \
+	  > $(DESTDIR)$(LIBDIR)/cmake/polyover/$$file.cmake || exit 1; done
+
+$(OUT)/example: $(HERE)/example.c $(HEADER) $(OUT)/libpolyover.a
+	$(CC) -std=c11 -O2 -I$(dir $(HEADER)) $< $(OUT)/libpolyover.a -o $@
+
+check: $(OUT)/example
+	$(RUN) $(OUT)/example

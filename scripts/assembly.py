@@ -1,0 +1,124 @@
+#!/usr/bin/env python3
+"""Leaves the assembly of the library for a processor, which any C compiler for it assembles (c/library.mk).
+
+    assembly.py FILE.s [--processor x86_64|aarch64] [--proved]
+
+It is made of the proved module, where `.ci/library` has left that and nothing is newer; else of one without a proof,
+which takes a minute more (unproved.py). With --proved the library is proved first if it is not, some 40 minutes. It
+says what it was made of on standard error, and in a line at the head of the file.
+"""
+
+import argparse
+import re
+import sys
+import tempfile
+from dataclasses import dataclass
+from pathlib import Path
+
+from toolchain import ROOT, answer_of, clang, kit, text_of
+from unproved import LIBRARY, crate_uses, crates_below, leave_library, library_text
+
+MODULE = ROOT / "crates" / LIBRARY / "out" / f"{LIBRARY}.bc"
+CHECKED = ROOT / "out" / "checked" / f"{LIBRARY}.bc"
+PROVED, UNPROVED = "of the proved module", "of an unproved module"
+
+
+@dataclass(frozen=True)
+class Processor:
+    """What a module says of the processor that it is compiled for; the least one of its kind."""
+
+    triple: str
+    layout: str
+    cpu: str
+
+    def flags(self) -> tuple[str, ...]:
+        """The flags of the toolchain's compiler."""
+        return f"--target={self.triple}", "--no-default-config", f"-march={self.cpu}", "-x", "ir"
+
+    def of(self, text: str) -> str:
+        """The text of a module, for this processor."""
+        text = re.sub(r'^target datalayout = ".*"$', f'target datalayout = "{self.layout}"', text, 1, re.M)
+        text = re.sub(r'^target triple = ".*"$', f'target triple = "{self.triple}"', text, 1, re.M)
+        return re.sub(r'"target-(?:cpu|features)"="[^"]*" ?', "", text)
+
+
+PROCESSORS = {
+    "x86_64": Processor(
+        "x86_64-unknown-linux-gnu",
+        "e-m:e-p270:32:32-p271:32:32-p272:64:64-i64:64-i128:128-f80:128-n8:16:32:64-S128",
+        "x86-64",
+    ),
+    "aarch64": Processor(
+        "aarch64-unknown-linux-gnu",
+        "e-m:e-p270:32:32-p271:32:32-p272:64:64-i8:8:32-i16:16:32-i64:64-i128:128-n32:64-S128-Fn32",
+        "armv8-a",
+    ),
+}
+
+
+def compiled(text: str, processor: Processor, to: Path, *flags: str) -> None:
+    """Compiles the text of a module for a processor."""
+    with tempfile.TemporaryDirectory(prefix="polyover-") as folder:
+        module = Path(folder) / "module.ll"
+        module.write_text(processor.of(text))
+        answer_of([clang(), *processor.flags(), "-O3", *flags, module, "-o", to])
+
+
+def linked_program(text: str, program: Path) -> None:
+    """Links a program of the text of its module."""
+    with tempfile.TemporaryDirectory(prefix="polyover-") as folder:
+        machine = Path(folder) / "program.o"
+        compiled(text, PROCESSORS["x86_64"], machine, "-fPIE", "-c")
+        answer_of(["cc", machine, kit() / "c" / "libos_c.a", kit() / "c" / "liblibc_c.a", "-o", program])
+
+
+# ---- the library
+
+
+def is_newer(made: Path, crate: str) -> bool:
+    """Whether a file is there that is newer than the sources of a crate and of those below it."""
+    uses = crate_uses()
+    sources = [file for name in crates_below(uses, [crate]) for file in (ROOT / "crates" / name / "src").rglob("*.rt")]
+    return made.is_file() and all(file.stat().st_mtime <= made.stat().st_mtime for file in sources)
+
+
+def head_of(file: Path) -> str:
+    """The first line of a file."""
+    with open(file, encoding="utf-8") as lines:
+        return lines.readline()
+
+
+def time_of(file: Path) -> float:
+    """When a file was changed; of none, before all others."""
+    return file.stat().st_mtime if file.is_file() else 0
+
+
+def leave(file: Path, processor: str, is_proved: bool) -> None:
+    """Leaves the assembly, and says what it is made of."""
+    if is_proved and not is_newer(MODULE, LIBRARY):
+        answer_of([ROOT / ".ci" / "library"], cwd=ROOT)
+    made_of = PROVED if is_newer(MODULE, LIBRARY) else UNPROVED
+    head = f"/* The library polyover for {processor}, {made_of}. */\n"
+    if is_newer(file, LIBRARY) and head_of(file) == head and file.stat().st_mtime >= time_of(MODULE):
+        return
+    print(f"polyover: the library for {processor}, {made_of} ..", file=sys.stderr, flush=True)
+    if made_of == UNPROVED and not is_newer(CHECKED, LIBRARY):
+        leave_library(CHECKED)
+    text = text_of(MODULE) if made_of == PROVED else library_text(CHECKED)
+    file.parent.mkdir(parents=True, exist_ok=True)
+    compiled(text, PROCESSORS[processor], file, "-fPIC", "-ffunction-sections", "-fno-addrsig", "-S")
+    file.write_text(head + file.read_text())
+
+
+def main() -> None:
+    """Leaves the assembly for a processor."""
+    parser = argparse.ArgumentParser(description=__doc__, formatter_class=argparse.RawDescriptionHelpFormatter)
+    parser.add_argument("file", type=Path, metavar="FILE.s")
+    parser.add_argument("--processor", choices=PROCESSORS, default="x86_64")
+    parser.add_argument("--proved", action="store_true", help="prove it first, if it is not proved")
+    given = parser.parse_args()
+    leave(given.file, given.processor, given.proved)
+
+
+if __name__ == "__main__":
+    main()

@@ -1,0 +1,70 @@
+"""The toolchain: where it is, its compiler of modules, and links to it whose compiler leaves the module it is given."""
+
+import shutil
+import subprocess
+import tempfile
+from collections.abc import Sequence
+from pathlib import Path
+
+ROOT = Path(__file__).resolve().parent.parent
+LEAVING = """\
+#!/bin/sh
+for word in "$@"; do case "$word" in *.bc) cp "$word" "{module}";; esac; done
+exec "{clang}" "$@"
+"""
+
+
+def answer_of(words: Sequence, **how) -> str:
+    """What a command writes; it must end with status 0."""
+    ran = subprocess.run([str(word) for word in words], capture_output=True, text=True, check=False, **how)
+    if ran.returncode != 0:
+        raise SystemExit(f"{words[0]}: status {ran.returncode}\n{ran.stdout}{ran.stderr}".strip())
+    return ran.stdout
+
+
+def kit() -> Path:
+    """The folder of the toolchain."""
+    found = shutil.which("rt")
+    if not found:
+        raise SystemExit("no rt on the PATH: a build from source needs the toolchain")
+    return Path(found).resolve().parent.parent
+
+
+def clang() -> Path:
+    """The toolchain's compiler of modules."""
+    return kit() / "toolchain" / "bin" / "clang"
+
+
+def text_of(module: Path) -> str:
+    """The text of a module, as it is."""
+    with tempfile.TemporaryDirectory(prefix="polyover-") as folder:
+        text = Path(folder) / "module.ll"
+        answer_of([clang(), "-x", "ir", "-S", "-emit-llvm", "-Xclang", "-disable-llvm-passes", module, "-o", text])
+        return text.read_text()
+
+
+def link_all(source: Path, target: Path, *others: str) -> None:
+    """A folder of links to what another one holds, but for the names of `others`."""
+    target.mkdir()
+    for each in source.iterdir():
+        if each.name not in others:
+            (target / each.name).symlink_to(each)
+
+
+def make_leaving_compiler(folder: Path, module: Path) -> None:
+    """The toolchain's folder of compilers as a folder of links, whose clang copies the last module it is given."""
+    link_all(kit() / "toolchain", folder, "bin")
+    link_all(kit() / "toolchain" / "bin", folder / "bin", "clang")
+    script = folder / "bin" / "clang"
+    script.write_text(LEAVING.format(module=module, clang=clang()))
+    script.chmod(0o755)
+
+
+def make_leaving_kit(folder: Path, module: Path) -> Path:
+    """The toolchain as a folder of links, with such a compiler; gives its `rt`."""
+    link_all(kit(), folder, "bin", "toolchain")
+    link_all(kit() / "bin", folder / "bin", "rt", "rtlib.py")
+    for name in ("rt", "rtlib.py"):
+        shutil.copy(kit() / "bin" / name, folder / "bin" / name)
+    make_leaving_compiler(folder / "toolchain", module)
+    return folder / "bin" / "rt"

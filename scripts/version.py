@@ -1,0 +1,29 @@
+#!/usr/bin/env python3
+"""The version, which stands in include/polyover.h; fails where another place has another one."""
+
+import re
+import sys
+
+from toolchain import ROOT
+
+PLACES = {
+    "python/polyover/__init__.py": r'^__version__ = "(.*)"$',
+    "include/polyover.h": r'^#define POLYOVER_VERSION "(.*)"$',
+    "CHANGELOG.md": r"^## (.*)$",
+}
+
+
+def version() -> str:
+    """The version in numbers of the header, which all others must repeat."""
+    header = (ROOT / "include/polyover.h").read_text()
+    found = ".".join(re.findall(r"^#define POLYOVER_VERSION_(?:MAJOR|MINOR|PATCH) (\d+)$", header, re.M))
+    for place, pattern in PLACES.items():
+        told = re.search(pattern, (ROOT / place).read_text(), re.M)
+        if not told or told[1] != found:
+            raise SystemExit(f"{place}: the version is {told and told[1]}, and not {found}, as in include/polyover.h")
+    return found
+
+
+if __name__ == "__main__":
+    print(version())
+    sys.exit()
