@@ -13,7 +13,7 @@ from .answers import say, warnings_as_lines
 from .errors import PolyoverError
 from .files import STANDARD
 from .picture import WIDTH
-from .running import run as run_program
+from .running import run
 from .text import FILLS, RULES
 
 LEAST_WIDTH = 400
@@ -103,6 +103,11 @@ def add_options(commands: dict[str, argparse.ArgumentParser]) -> None:
     commands["svg"].add_argument("--nodes", action="store_true", help="show the ends of the arrangement's edges")
 
 
+def run_program(_: argparse.Namespace) -> int:
+    """An input of the program on standard input, answered as the program does"""
+    return run()
+
+
 def version() -> str:
     """The version of the module."""
     return str(getattr(sys.modules[__package__], "__version__", "of a clone"))
@@ -125,14 +130,12 @@ def parsed(words: Sequence[str] | None) -> argparse.Namespace:
             add_files(command, name)
         add_answers(command, name)
     add_options(commands.choices)
-    told = "An input of the program on standard input, answered as the program does"
-    commands.add_parser("run", help=told, description=f"{told}.").set_defaults(run=lambda _: run_program())
+    commands.add_parser("run", help=run_program.__doc__).set_defaults(run=run_program)
     return parser.parse_args(words)
 
 
 def main(words: Sequence[str] | None = None) -> int:
-    """Runs a command; 1 where it does not answer, and the words are bad where argparse ends it with 2. The command run
-    ends as the program does."""
+    """Runs a command; 1 where it does not answer, or the status of the program. Where its words are bad argparse ends it, with 2."""
     given = parsed(words)
     if [getattr(given, name, None) for name in ("subject", "other")] == [STANDARD] * 2:
         say("standard input can't be two files")

@@ -242,8 +242,8 @@ def loaded(path: str) -> Library:
 
 
 def library() -> Library | None:
-    """The library that POLYOVER_LIBRARY names; or else, if POLYOVER_PROGRAM names no program, the one beside
-    the module or in out/, or none where none is."""
+    """The library that POLYOVER_LIBRARY names; or else, if POLYOVER_PROGRAM names no program, the one beside the
+    module or in out/; or none where none is."""
     named = os.environ.get(VARIABLE)
     if named:
         return loaded(os.path.abspath(named))
