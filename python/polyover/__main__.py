@@ -135,7 +135,10 @@ def parsed(words: Sequence[str] | None) -> argparse.Namespace:
 
 
 def main(words: Sequence[str] | None = None) -> int:
-    """Runs a command; 1 where it does not answer, or the status of the program. Where its words are bad argparse ends it, with 2."""
+    """Runs a command. Returns 1 where it does not answer, or the status of the program.
+
+    Where its words are bad argparse ends it, with 2.
+    """
     given = parsed(words)
     if [getattr(given, name, None) for name in ("subject", "other")] == [STANDARD] * 2:
         say("standard input can't be two files")
