@@ -37,6 +37,7 @@ mod shape_vectors;
 mod shapes;
 mod simplified;
 mod simplify;
+mod snapped;
 mod squares;
 mod trees;
 mod views;

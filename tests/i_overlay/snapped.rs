@@ -1,0 +1,111 @@
+//! Contours that rounds do not settle, and that snap rounding does, at each coordinate type.
+
+use crate::contours::{assert_in_range, contour_of};
+use i_overlay::fill_rule::FillRule;
+use i_overlay::i_float::int::point::IntPoint;
+use i_overlay::overlay::{IntOverlayOptions, Overlay};
+use i_overlay::overlay_rule::OverlayRule;
+use i_overlay::relate::PredicateOverlay;
+use i_overlay::solver::Solver;
+use overlay_geom::error::OverlayError;
+use overlay_geom::integer::OverlayInt;
+use std::alloc::Global;
+use std::process::Abort;
+use std::test::Fail;
+
+// Two needles, whose long sides cross so flatly that each round moves their crossing on by one unit: 66 rounds would
+// settle them.
+const FIRST: [(i16, i16); 3] = [(2, 0), (0, 66), (2, -66)];
+const SECOND: [(i16, i16); 3] = [(1, 0), (0, 67), (-1, 0)];
+
+// A builder of the needles by a solver: the first one is the subject, and the second one the clip.
+fn needles<I: OverlayInt + From<i16>>(
+    rt: &impl Abort,
+    alloc: Global,
+    solver: Solver,
+) -> Result<Overlay<I, Global>, OverlayError> {
+    let first = contour_of::<I>(alloc, &FIRST)?;
+    let second = contour_of::<I>(alloc, &SECOND)?;
+    assert_in_range(rt, &first);
+    assert_in_range(rt, &second);
+    Overlay::from_subj_and_clip_custom(
+        alloc,
+        &first,
+        &second,
+        IntOverlayOptions::default(),
+        solver,
+    )
+}
+
+// The union of the needles. The crossings of their sides round to (0, 65), by hand: the sides of the first one are led
+// through it, and the second one becomes the edge from there to (-1, 0), and the one from (-1, 0) to (1, 0).
+fn union<I: OverlayInt + From<i16>>(rt: &impl Abort, alloc: Global) -> Result<(), OverlayError> {
+    let mut by_rounds = needles::<I>(rt, alloc, Solver::ABSOLUTE)?;
+    let refused = by_rounds.overlay(OverlayRule::Union, FillRule::NonZero);
+    assert!(rt; matches!(refused, Err(OverlayError::NotSettled)));
+    let mut snapped = needles::<I>(rt, alloc, Solver::SNAPPED)?;
+    let shapes = snapped.overlay(OverlayRule::Union, FillRule::NonZero)?;
+    assert!(rt; shapes.len() == 1 && shapes[0].len() == 1);
+    let outline = contour_of::<I>(alloc, &[(0, 65), (-1, 0), (1, 0), (2, -66), (2, 0)])?;
+    assert!(rt; shapes[0][0].as_slice() == outline.as_slice());
+    Ok(())
+}
+
+// What a second query finds: the arrangement, which both solvers leave as it is.
+fn once_more<I: OverlayInt + From<i16>>(rt: &impl Abort, alloc: Global) -> Result<(), OverlayError> {
+    let mut builder = needles::<I>(rt, alloc, Solver::SNAPPED)?;
+    let first = builder.build_separate_vectors(FillRule::NonZero)?;
+    builder.solver = Solver::ABSOLUTE;
+    let second = builder.build_separate_vectors(FillRule::NonZero)?;
+    assert!(rt; first.len() == 6 && first.as_slice() == second.as_slice());
+    Ok(())
+}
+
+// Two squares, whose sides cross in whole points, are answered alike by both solvers.
+fn whole<I: OverlayInt + From<i16>>(rt: &impl Abort, alloc: Global) -> Result<(), OverlayError> {
+    let left = contour_of::<I>(alloc, &[(0, 0), (4, 0), (4, 4), (0, 4)])?;
+    let right = contour_of::<I>(alloc, &[(2, 2), (6, 2), (6, 6), (2, 6)])?;
+    assert_in_range(rt, &left);
+    assert_in_range(rt, &right);
+    let options = IntOverlayOptions::default();
+    let solver = Solver::SNAPPED;
+    let mut snapped = Overlay::from_subj_and_clip_custom(alloc, &left, &right, options, solver)?;
+    let mut by_rounds = Overlay::from_subj_and_clip(alloc, &left, &right)?;
+    let shapes = snapped.overlay(OverlayRule::Xor, FillRule::EvenOdd)?;
+    assert!(rt; shapes.len() == 2 && shapes == by_rounds.overlay(OverlayRule::Xor, FillRule::EvenOdd)?);
+    Ok(())
+}
+
+// How the needles lie to each other: they share their parts from (0, 65) to (1, 0), and the first one fills none of the
+// second.
+fn relations<I: OverlayInt + From<i16>>(rt: &impl Abort, alloc: Global) -> Result<(), OverlayError> {
+    let first = contour_of::<I>(alloc, &FIRST)?;
+    let second = contour_of::<I>(alloc, &SECOND)?;
+    assert_in_range(rt, &first);
+    assert_in_range(rt, &second);
+    let rule = FillRule::NonZero;
+    let solver = Solver::SNAPPED;
+    let mut pair = PredicateOverlay::from_subj_and_clip_custom(alloc, &first, &second, rule, solver)?;
+    assert!(rt; pair.intersects()? && !pair.within()? && !pair.disjoint()?);
+    Ok(())
+}
+
+#[test]
+fn needles_are_united(rt: HostRuntime) -> Result<(), Fail> {
+    each_wide!(rt, union)
+}
+
+#[test]
+fn snapped_edges_stay_as_they_are(rt: HostRuntime) -> Result<(), Fail> {
+    each_wide!(rt, once_more)
+}
+
+#[test]
+fn whole_crossings_do_not_move(rt: HostRuntime) -> Result<(), Fail> {
+    each_wide!(rt, whole)
+}
+
+#[test]
+fn needles_are_related(rt: HostRuntime) -> Result<(), Fail> {
+    each_wide!(rt, relations)
+}
