@@ -3,6 +3,7 @@ use Rattle.std.specs.Prelude.{◌≡◌, ◌⊎◌, ℕ, pos, neg_ℤ, List, map
 use Rattle.std.specs.List.{flat_map}
 use Rattle.overlay_geom.specs.Plane.{Point, PlanePoint, IsOff, steps_of, winding}
 use Rattle.overlay_geom.specs.Edges.{CountedEdge, ends_of, subj_of, clip_of}
+use Rattle.overlay_geom.specs.declared.solver.Solver.{Solver}
 use Rattle.overlay_plane.specs.Balance.{HasBalancedCounts}
 use Rattle.overlay_plane.specs.ContourWindings.{wanted_winding}
 use Rattle.overlay_plane.specs.Islands.{ChildLink}
@@ -17,9 +18,8 @@ use Rattle.overlay_extract.specs.Results.{Asked, region_asked, filled_asked, sel
 -- of an arrangement of edges with balanced counts, the selected steps wind once, in the output direction, round each
 -- point where the rules hold of the windings there, and zero times round each other one
 abbrev pub SelectedStepsWindRoundRegion : Type 0
-SelectedStepsWindRoundRegion = (q : Asked) (limit most : ℕ) (old new : List CountedEdge) → HasBalancedCounts old →
-    IsArranged most old new →
-    IsContent limit new → (p : PlanePoint) →
+SelectedStepsWindRoundRegion = (q : Asked) (limit : ℕ) (solver : Solver) (old new : List CountedEdge) →
+    HasBalancedCounts old → IsArranged solver old new → IsContent limit new → (p : PlanePoint) →
     winding (selected_of q new) p ≡ wanted_winding (region_asked q) subj_of clip_of (filled_asked q) new p
 
 -- the same asked for, with another output direction

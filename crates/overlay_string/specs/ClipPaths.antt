@@ -1,8 +1,9 @@
 -- The paths that pieces of strings are joined to. The pieces stand in the order of their edges, of one edge the piece
 -- from its smaller end first.
-use Rattle.std.specs.Prelude.{◌≡◌, ◌≢◌, ℕ, true, false, List, [], ◌∷◌, ◌++◌, map, All}
+use Rattle.std.specs.Prelude.{◌≡◌, ◌≢◌, true, false, List, [], ◌∷◌, ◌++◌, map, All}
 use Rattle.overlay_geom.specs.Edges.{CountedEdge, ends_of}
 use Rattle.overlay_geom.specs.Plane.{Point, Step, is_forward, reversed_step, backward}
+use Rattle.overlay_geom.specs.declared.solver.Solver.{Solver}
 use Rattle.overlay_plane.specs.EdgeLists.{IsForwardBy}
 use Rattle.overlay_arrange.specs.Arranged.{IsArranged}
 use Rattle.overlay_arrange.specs.declared.fill_rule.FillRule.{FillRule}
@@ -53,11 +54,11 @@ pub record ArePathsOf (pieces : List Step) (paths : List (List Point)) : Type 0 
   pub joined : AreClipPaths pieces walks
   pub shown : paths ≡ map points_along walks
 
--- the paths are those of the pieces that a clip keeps in an arrangement of the edges, with so many cutting rounds at
--- most; its edges lead forward
-pub record AreClipped (most : ℕ) (fill : FillRule) (rule : ClipRule) (es : List CountedEdge)
+-- the solver brings the edges into an arrangement, whose edges lead forward, and the paths are those of the pieces that
+-- a clip keeps in it
+pub record AreClipped (solver : Solver) (fill : FillRule) (rule : ClipRule) (es : List CountedEdge)
     (paths : List (List Point)) : Type 0 where
   pub arrangement : List CountedEdge
-  pub arranged : IsArranged most es arrangement
+  pub arranged : IsArranged solver es arrangement
   pub forward : IsForwardBy ends_of arrangement
   pub paths_of : ArePathsOf (clip_pieces fill rule arrangement) paths

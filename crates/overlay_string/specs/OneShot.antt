@@ -4,7 +4,8 @@ use Rattle.overlay_geom.specs.Plane.{Point}
 use Rattle.overlay_geom.specs.Edges.{CountedEdge}
 use Rattle.overlay_geom.specs.declared.error.OverlayError.{OverlayError}
 use Rattle.overlay_geom.specs.declared.error.OverlayError.TheVariants.{Memory, NotSettled, TooManyEdges, Failed}
-use Rattle.overlay_arrange.specs.Arranged.{MayRefuseSplitting, most_rounds}
+use Rattle.overlay_geom.specs.declared.solver.Solver.{Solver}
+use Rattle.overlay_arrange.specs.Arranged.{MayRefuseSplitting}
 use Rattle.overlay_arrange.specs.declared.fill_rule.FillRule.{FillRule}
 use Rattle.overlay_builder.specs.PathLists.{AddedPath, HoldsPaths, SomePathWeighsTooMuch}
 use Rattle.overlay_string.specs.ClipPaths.{AreClipped}
@@ -15,22 +16,24 @@ use Rattle.overlay_string.specs.declared.clip_rule.ClipRule.{ClipRule}
 abbrev pub shape_and_strings : List (List Point) → List (List Point) → List (AddedPath CountedEdge)
 shape_and_strings shape strings = shape_contours shape ++ open_strings strings
 
--- what a clip leaves of the edges that the paths give
-pub record AreClippedOfPaths (fill : FillRule) (rule : ClipRule) (paths : List (AddedPath CountedEdge))
-    (left : List (List Point)) : Type 0 where
+-- what a clip leaves of the edges that the paths give, split by the solver
+pub record AreClippedOfPaths (solver : Solver) (fill : FillRule) (rule : ClipRule)
+    (paths : List (AddedPath CountedEdge)) (left : List (List Point)) : Type 0 where
   pub content : List CountedEdge
   pub holds : HoldsPaths paths content
-  pub clipped : AreClipped most_rounds fill rule content left
+  pub clipped : AreClipped solver fill rule content left
 
--- the edges that the paths give, brought into an arrangement, may be refused so
-pub record MayRefuseSplittingPaths (paths : List (AddedPath CountedEdge)) (e : OverlayError) : Type 0 where
+-- the edges that the paths give, brought into an arrangement by the solver, may be refused so
+pub record MayRefuseSplittingPaths (solver : Solver) (paths : List (AddedPath CountedEdge)) (e : OverlayError)
+    : Type 0 where
   pub content : List CountedEdge
   pub holds : HoldsPaths paths content
-  pub refused : MayRefuseSplitting most_rounds content e
+  pub refused : MayRefuseSplitting solver content e
 
 -- the paths may be refused so
-abbrev pub MayRefusePaths : List (AddedPath CountedEdge) → OverlayError → Type 0
-MayRefusePaths paths Memory = Unit {0}
-MayRefusePaths paths NotSettled = MayRefuseSplittingPaths paths NotSettled
-MayRefusePaths paths TooManyEdges = SomePathWeighsTooMuch paths ⊎ MayRefuseSplittingPaths paths TooManyEdges
-MayRefusePaths paths Failed = ⊥
+abbrev pub MayRefusePaths : Solver → List (AddedPath CountedEdge) → OverlayError → Type 0
+MayRefusePaths solver paths Memory = Unit {0}
+MayRefusePaths solver paths NotSettled = MayRefuseSplittingPaths solver paths NotSettled
+MayRefusePaths solver paths TooManyEdges =
+    SomePathWeighsTooMuch paths ⊎ MayRefuseSplittingPaths solver paths TooManyEdges
+MayRefusePaths solver paths Failed = ⊥

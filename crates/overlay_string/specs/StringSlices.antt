@@ -3,7 +3,8 @@ use Rattle.std.specs.Prelude.{ℕ, List}
 use Rattle.std.specs.Int.{Width}
 use Rattle.overlay_geom.specs.Plane.{Point}
 use Rattle.overlay_geom.specs.Edges.{CountedEdge}
-use Rattle.overlay_arrange.specs.Arranged.{IsArranged, most_rounds}
+use Rattle.overlay_geom.specs.declared.solver.Solver.{Solver}
+use Rattle.overlay_arrange.specs.Arranged.{IsArranged}
 use Rattle.overlay_arrange.specs.Graphs.{Graph, graph_edges}
 use Rattle.overlay_arrange.specs.declared.fill_rule.FillRule.{FillRule}
 use Rattle.overlay_arrange.specs.declared.options.ContourDirection.TheVariants.{CounterClockwise}
@@ -22,16 +23,16 @@ IsSlicedBy width natural options g result =
 abbrev pub IsSlicedWhole : Width → FillRule → List CountedEdge → List (List (List Point)) → Type 0
 IsSlicedWhole width fill es result = IsSliced width 0 fill CounterClockwise es result
 
--- the shapes are those slices over an arrangement of the edges, with so many cutting rounds at most
-pub record AreSliced (width : Width) (most : ℕ) (fill : FillRule) (es : List CountedEdge)
+-- the shapes are those slices over an arrangement of the edges, which the solver splits
+pub record AreSliced (width : Width) (solver : Solver) (fill : FillRule) (es : List CountedEdge)
     (result : List (List (List Point))) : Type 0 where
   pub arrangement : List CountedEdge
-  pub arranged : IsArranged most es arrangement
+  pub arranged : IsArranged solver es arrangement
   pub sliced : IsSlicedWhole width fill arrangement result
 
 -- and of the edges that the paths give
-pub record AreSlicedOfPaths (width : Width) (fill : FillRule) (paths : List (AddedPath CountedEdge))
-    (result : List (List (List Point))) : Type 0 where
+pub record AreSlicedOfPaths (solver : Solver) (width : Width) (fill : FillRule)
+    (paths : List (AddedPath CountedEdge)) (result : List (List (List Point))) : Type 0 where
   pub content : List CountedEdge
   pub holds : HoldsPaths paths content
-  pub sliced : AreSliced width most_rounds fill content result
+  pub sliced : AreSliced width solver fill content result

@@ -1,12 +1,15 @@
 -- What a view shows of a builder for strings.
-use Rattle.std.specs.Prelude.{◌≡◌, ◌≢◌, ℕ, List, []}
+use Rattle.std.specs.Prelude.{◌≡◌, ◌≢◌, List, []}
 use Rattle.overlay_geom.specs.Edges.{CountedEdge}
+use Rattle.overlay_geom.specs.declared.solver.Solver.{Solver}
 use Rattle.overlay_arrange.specs.Arranged.{IsArranged}
 use Rattle.overlay_arrange.specs.Graphs.{Graph, graph_edges}
 use Rattle.overlay_arrange.specs.declared.fill_rule.FillRule.{FillRule}
 
--- the graph shows an arrangement with some edge, of what a builder held, and the sides that are filled under the rule
-pub record IsStringView {C : Type 0} (most : ℕ) (rule : FillRule) (held : List CountedEdge) (g : Graph C) : Type 0 where
-  pub arranged : IsArranged most held (graph_edges g)
+-- the graph shows an arrangement by the solver, with some edge, of what a builder held, and the sides that are filled
+-- under the rule
+pub record IsStringView {C : Type 0} (solver : Solver) (rule : FillRule) (held : List CountedEdge) (g : Graph C)
+    : Type 0 where
+  pub arranged : IsArranged solver held (graph_edges g)
   pub some_edge : graph_edges g ≢ []
   pub filled : g.fill_rule ≡ rule

@@ -4,7 +4,7 @@ use Rattle.std.specs.List.{All}
 use Rattle.std.proofs.lemmas.List.Elements.{All-contains}
 use Rattle.overlay_geom.specs.Plane.{Point, Edge, IsBetween}
 use Rattle.overlay_geom.specs.Edges.{CountedEdge, ends_of}
-use Rattle.overlay_geom.specs.declared.solver.Solver.TheVariants.{Rounds}
+use Rattle.overlay_geom.specs.declared.solver.Solver.{Solver}
 use Rattle.overlay_geom.proofs.Signs.{linear}
 use Rattle.overlay_plane.specs.Arrangements.{IsReachedBy}
 use Rattle.overlay_plane.specs.ChainLinks.{Leads, chain_through}
@@ -33,16 +33,16 @@ pub record IsLineEdge (es : List CountedEdge) (p q : Point) : Type 0 where
   pub ends : ends_of edge ≡ record { a = p; b = q }
   pub marked : edge.counts.along ≡ true
 
-module _ (b : Bounds) (rounds : List Round) (old new : List CountedEdge) (reached : IsReachedBy Rounds rounds old new)
-    (forward : IsForwardBy ends_of old) (keep_ends : All (λ e. Leads e.a (chain_through rounds e) e.b) old)
-    (in_box : AreInBox b old) where
+module _ (b : Bounds) (solver : Solver) (rounds : List Round) (old new : List CountedEdge)
+    (reached : IsReachedBy solver rounds old new) (forward : IsForwardBy ends_of old)
+    (keep_ends : All (λ e. Leads e.a (chain_through rounds e) e.b) old) (in_box : AreInBox b old) where
   -- what the edges are brought into lies in the box too
   pub stay_in_box : AreInBox b new
   stay_in_box = record {
-    low_x = arrangements_stay_in_half_planes Rounds rounds old new reached (right_of b.x.least) in_box.low_x;
-    high_x = arrangements_stay_in_half_planes Rounds rounds old new reached (left_of b.x.greatest) in_box.high_x;
-    low_y = arrangements_stay_in_half_planes Rounds rounds old new reached (above b.y.least) in_box.low_y;
-    high_y = arrangements_stay_in_half_planes Rounds rounds old new reached (below b.y.greatest) in_box.high_y;
+    low_x = arrangements_stay_in_half_planes solver rounds old new reached (right_of b.x.least) in_box.low_x;
+    high_x = arrangements_stay_in_half_planes solver rounds old new reached (left_of b.x.greatest) in_box.high_x;
+    low_y = arrangements_stay_in_half_planes solver rounds old new reached (above b.y.least) in_box.low_y;
+    high_y = arrangements_stay_in_half_planes solver rounds old new reached (below b.y.greatest) in_box.high_y;
   }
 
   -- the edge of a line on the grid line covers what lies between its ends
@@ -50,13 +50,13 @@ module _ (b : Bounds) (rounds : List Round) (old new : List CountedEdge) (reache
       ¬ (along axis p ≡ along axis q) → (z d : ℤ) → pos 0 <ℤ d →
       IsBetween z (along axis p *ℤ d) (along axis q *ℤ d) → IsOver axis c new z d
   line_covers axis c p q line from to apart z d some between =
-      over_each axis c old new rounds reached.cut line.edge
+      over_each axis c solver old new rounds reached.cut line.edge
       (subst (λ (f : Edge). across axis f.a ≡ c) (sym line.ends) from)
       (subst (λ (f : Edge). across axis f.b ≡ c) (sym line.ends) to)
       (subst (λ (f : Edge). ¬ (along axis f.a ≡ along axis f.b)) (sym line.ends) apart)
       (All-contains (λ e. Leads e.a (chain_through rounds e) e.b) old line.edge keep_ends line.entry)
-      (λ t at. marked_chains_stay Rounds rounds old new forward reached line.edge line.entry (inl line.marked) t
-          at) z d some
+      (λ t at. marked_chains_stay solver rounds old new forward reached line.edge line.entry (inl line.marked) t at)
+      z d some
       (subst (λ (f : Edge). IsBetween z (along axis f.a *ℤ d) (along axis f.b *ℤ d)) (sym line.ends) between)
 
   -- an upright line is covered from the top of the box to its bottom

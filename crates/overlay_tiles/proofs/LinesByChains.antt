@@ -6,7 +6,7 @@ use Rattle.std.proofs.lemmas.Int.{by_lt_z}
 use Rattle.std.proofs.lemmas.List.Elements.{All-contains}
 use Rattle.overlay_geom.specs.Plane.{Point, Step, Edge, IsBetween, is_forward}
 use Rattle.overlay_geom.specs.Edges.{CountedEdge}
-use Rattle.overlay_geom.specs.declared.solver.Solver.TheVariants.{Rounds}
+use Rattle.overlay_geom.specs.declared.solver.Solver.{Solver}
 use Rattle.overlay_geom.proofs.Signs.{linear}
 use Rattle.overlay_plane.specs.ChainLinks.{Leads, here, on_to, chain_through}
 use Rattle.overlay_plane.specs.HalfPlanes.{HalfPlane, IsStepInHalf, IsEdgeInHalf}
@@ -80,8 +80,8 @@ begun axis z d p r (s ∷ ss) (on_to {q = q} rest) apart at = record {
 
 -- where an edge along the line, from one place to another, has become a chain of which each step runs along an edge,
 -- these cover what lies between the places
-module _ (axis : Axis) (c : ℤ) (old new : List CountedEdge) (rounds : List Round) (are : AreRounds Rounds old rounds)
-    (e : CountedEdge) (from : across axis e.a ≡ c) (to : across axis e.b ≡ c)
+module _ (axis : Axis) (c : ℤ) (solver : Solver) (old new : List CountedEdge) (rounds : List Round)
+    (are : AreRounds solver old rounds) (e : CountedEdge) (from : across axis e.a ≡ c) (to : across axis e.b ≡ c)
     (apart : ¬ (along axis e.a ≡ along axis e.b))
     (leads : Leads e.a (chain_through rounds e) e.b)
     (marked : (t : Step) → Contains (chain_through rounds e) t → IsMarkedStep new e t) where
@@ -89,14 +89,14 @@ module _ (axis : Axis) (c : ℤ) (old new : List CountedEdge) (rounds : List Rou
   chain = chain_through rounds e
 
   before : All (IsStepInHalf (half_before axis c)) chain
-  before = chains_stay_in_half_planes Rounds rounds old are (half_before axis c) e (ends axis from to)
+  before = chains_stay_in_half_planes solver rounds old are (half_before axis c) e (ends axis from to)
     where
       ends : (x : Axis) → across x e.a ≡ c → across x e.b ≡ c → IsEdgeInHalf (half_before x c) e
       ends of_uprights f t = (omega linear, omega linear)
       ends of_levels f t = (omega linear, omega linear)
 
   beyond : All (IsStepInHalf (half_beyond axis c)) chain
-  beyond = chains_stay_in_half_planes Rounds rounds old are (half_beyond axis c) e (ends axis from to)
+  beyond = chains_stay_in_half_planes solver rounds old are (half_beyond axis c) e (ends axis from to)
     where
       ends : (x : Axis) → across x e.a ≡ c → across x e.b ≡ c → IsEdgeInHalf (half_beyond x c) e
       ends of_uprights f t = (omega linear, omega linear)

@@ -10,6 +10,7 @@ use Rattle.std.proofs.lemmas.List.Elements.{All-nil, All-weaker}
 use Rattle.std.proofs.lemmas.List.Elements.{All-contains, Contains-append_left, Contains-append_right}
 use Rattle.overlay_geom.specs.Plane.{Point, Step, point_lt, reversed_step, steps_of}
 use Rattle.overlay_geom.specs.Edges.{CountedEdge, subj_of}
+use Rattle.overlay_geom.specs.declared.solver.Solver.{Solver}
 use Rattle.overlay_geom.proofs.PointOrder.{Decides-point_lt}
 use Rattle.overlay_geom.proofs.Signs.{linear}
 use Rattle.overlay_plane.specs.HalfPlanes.{IsEdgeInHalf}
@@ -65,9 +66,9 @@ has_step (outline ∷ holes) is ps c = ⊎_elim
     (λ later. (_, (All-contains (λ h. PassesAnchor false (left_steps CounterClockwise h)) holes ps is.1 later).passes))
     (Contains-cases outline holes ps c)
 
-module _ (width : Width) (fill : FillRule) (wide high : ℤ) (some_wide : pos 0 <ℤ wide) (some_high : pos 0 <ℤ high)
-    (paths lines : List (List Point)) (result : List (List (List Point)))
-    (are : AreSlicedOfPaths width fill (shape_and_strings paths lines) result) where
+module _ (solver : Solver) (width : Width) (fill : FillRule) (wide high : ℤ) (some_wide : pos 0 <ℤ wide)
+    (some_high : pos 0 <ℤ high) (paths lines : List (List Point)) (result : List (List (List Point)))
+    (are : AreSlicedOfPaths solver width fill (shape_and_strings paths lines) result) where
   abbrev es : List CountedEdge
   es = are.sliced.arrangement
 
@@ -128,7 +129,7 @@ module _ (width : Width) (fill : FillRule) (wide high : ℤ) (some_wide : pos 0 
       forward = All-weaker (IsGood (IsInBounds b)) (λ e. point_lt e.a e.b ≡ true) (λ e h. h.forward) are.content good
 
       in_box : AreInBox b es
-      in_box = stay_in_box b are.sliced.arranged.rounds are.content es are.sliced.arranged.reached forward
+      in_box = stay_in_box b solver are.sliced.arranged.rounds are.content es are.sliced.arranged.reached forward
           are.sliced.arranged.chains.keep_ends (good_in_box b are.content good)
 
       -- where the box has no height, or no width, there is no orbit
@@ -188,7 +189,7 @@ module _ (width : Width) (fill : FillRule) (wide high : ℤ) (some_wide : pos 0 
 
         covered_upright : (c : ℤ) → IsGridPlace wide b.x c → b.y.least <ℤ b.y.greatest →
             IsCovered of_uprights c es (neg_ℤ b.y.greatest) (neg_ℤ b.y.least)
-        covered_upright c at some = upright_covered b are.sliced.arranged.rounds are.content es
+        covered_upright c at some = upright_covered b solver are.sliced.arranged.rounds are.content es
             are.sliced.arranged.reached forward are.sliced.arranged.chains.keep_ends (good_in_box b are.content good) c
             some
             (line_edge paths lines are.content are.holds (record { x = c; y = b.y.least })
@@ -198,7 +199,7 @@ module _ (width : Width) (fill : FillRule) (wide high : ℤ) (some_wide : pos 0 
 
         covered_level : (c : ℤ) → IsGridPlace high b.y c → b.x.least <ℤ b.x.greatest →
             IsCovered of_levels c es b.x.least b.x.greatest
-        covered_level c at some = level_covered b are.sliced.arranged.rounds are.content es
+        covered_level c at some = level_covered b solver are.sliced.arranged.rounds are.content es
             are.sliced.arranged.reached forward are.sliced.arranged.chains.keep_ends (good_in_box b are.content good) c
             some
             (line_edge paths lines are.content are.holds (record { x = b.x.least; y = c })
@@ -278,7 +279,8 @@ module _ (width : Width) (fill : FillRule) (wide high : ℤ) (some_wide : pos 0 
       (λ shape at. all_of_entries (LieInOneCell wide high) shape
       (λ ps in_shape. cells ps (each_contour shape at ps in_shape)))
 
-  pub are_tiles : AreGridLines wide high (points_of_paths paths) lines → AreTiles width fill wide high paths result
+  pub are_tiles : AreGridLines wide high (points_of_paths paths) lines →
+      AreTiles solver width fill wide high paths result
   are_tiles of_grid = record {
     lines = lines;
     are_lines = of_grid;

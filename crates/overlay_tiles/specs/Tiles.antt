@@ -4,6 +4,7 @@ use Rattle.std.specs.Int.{Width}
 use Rattle.overlay_geom.specs.Plane.{Point, Step}
 use Rattle.overlay_geom.specs.declared.error.OverlayError.{OverlayError}
 use Rattle.overlay_geom.specs.declared.error.OverlayError.TheVariants.{Memory, NotSettled, TooManyEdges, Failed}
+use Rattle.overlay_geom.specs.declared.solver.Solver.{Solver}
 use Rattle.overlay_plane.specs.BesideOrbits.{HasEachOnce}
 use Rattle.overlay_plane.specs.ShapeWindings.{steps_of_shapes}
 use Rattle.overlay_arrange.specs.declared.fill_rule.FillRule.{FillRule}
@@ -16,12 +17,12 @@ use Rattle.overlay_tiles.specs.Grids.{AreGridLines}
 use Rattle.overlay_tiles.specs.Spans.{Bounds, IsBoxOf, points_of_paths}
 
 -- the shapes are those into which the lines of a grid, of cells of this width and height, slice the shape of these
--- paths
-pub record AreTiles (width : Width) (fill : FillRule) (wide high : ℤ) (paths : List (List Point))
+-- paths, where the solver splits edges
+pub record AreTiles (solver : Solver) (width : Width) (fill : FillRule) (wide high : ℤ) (paths : List (List Point))
     (result : List (List (List Point))) : Type 0 where
   pub lines : List (List Point)
   pub are_lines : AreGridLines wide high (points_of_paths paths) lines
-  pub sliced : AreSlicedOfPaths width fill (shape_and_strings paths lines) result
+  pub sliced : AreSlicedOfPaths solver width fill (shape_and_strings paths lines) result
   -- round each point off the edges they wind once where the shape is filled, and zero times elsewhere
   pub winds : WindsRoundFilled fill CounterClockwise sliced.sliced.arrangement (steps_of_shapes result)
   -- the points of each contour lie in one cell
@@ -33,14 +34,15 @@ pub record AreTiles (width : Width) (fill : FillRule) (wide high : ℤ) (paths :
   pub at_most_once : HasEachOnce (left_steps_of_shapes CounterClockwise result)
 
 -- slicing it along the lines of the grid may be refused so
-pub record MayRefuseLines (wide high : ℤ) (paths : List (List Point)) (e : OverlayError) : Type 0 where
+pub record MayRefuseLines (solver : Solver) (wide high : ℤ) (paths : List (List Point)) (e : OverlayError)
+    : Type 0 where
   pub lines : List (List Point)
   pub are_lines : AreGridLines wide high (points_of_paths paths) lines
-  pub refused : MayRefusePaths (shape_and_strings paths lines) e
+  pub refused : MayRefusePaths solver (shape_and_strings paths lines) e
 
 -- and finding them too
-abbrev pub MayRefuseTiles : ℤ → ℤ → List (List Point) → OverlayError → Type 0
-MayRefuseTiles wide high paths Memory = Unit {0}
-MayRefuseTiles wide high paths NotSettled = MayRefuseLines wide high paths NotSettled
-MayRefuseTiles wide high paths TooManyEdges = MayRefuseLines wide high paths TooManyEdges
-MayRefuseTiles wide high paths Failed = ⊥
+abbrev pub MayRefuseTiles : Solver → ℤ → ℤ → List (List Point) → OverlayError → Type 0
+MayRefuseTiles solver wide high paths Memory = Unit {0}
+MayRefuseTiles solver wide high paths NotSettled = MayRefuseLines solver wide high paths NotSettled
+MayRefuseTiles solver wide high paths TooManyEdges = MayRefuseLines solver wide high paths TooManyEdges
+MayRefuseTiles solver wide high paths Failed = ⊥

@@ -2,7 +2,8 @@
 
 ghost use Rattle.std.specs.Prelude.{◌≡◌, ◌⊎◌, ◌↔◌, true, IfOk, IfErr, IsErrOf, IsOkUnless};
 ghost use Rattle.overlay_geom.specs.Paths.{paths_of_shape};
-ghost use Rattle.overlay_arrange.specs.Arranged.{MayRefuseSplitting, most_rounds};
+ghost use Rattle.overlay_geom.specs.declared.solver.Solver.TheVariants.{Rounds};
+ghost use Rattle.overlay_arrange.specs.Arranged.{MayRefuseSplitting};
 ghost use Rattle.overlay_arrange.specs.Graphs.{graph_edges};
 ghost use Rattle.overlay_string.specs.ClipPaths.{ArePathsOf, AreClipped};
 ghost use Rattle.overlay_string.specs.ClipPieces.{clip_pieces};
@@ -15,11 +16,11 @@ use crate::string_overlay::StringOverlay;
 use overlay_arrange::fill_rule::FillRule;
 use overlay_arrange::graph::Graph;
 use overlay_arrange::string_count::ShapeCountString;
-use overlay_builder::solver::Solver;
 use overlay_geom::error::OverlayError;
 use overlay_geom::integer::OverlayInt;
 use overlay_geom::number::IntNumber;
 use overlay_geom::path::IntPath;
+use overlay_geom::solver::Solver;
 use std::alloc::Allocator;
 
 impl<I: OverlayInt, A: Allocator + Clone> StringOverlay<I, A> {
@@ -40,14 +41,14 @@ impl<I: OverlayInt, A: Allocator + Clone> StringOverlay<I, A> {
         clip_rule: ClipRule,
     ) -> Result<Vec<IntPath<I, A>, A>, OverlayError>
         ensures clipped { IfOk result (λ v.
-            AreClipped most_rounds fill_rule clip_rule self.edges (paths_of_shape I.whole v.items)) }
+            AreClipped Rounds fill_rule clip_rule self.edges (paths_of_shape I.whole v.items)) }
         ensures failed { IsErrOf result OverlayError.Failed ↔ (self.failed ≡ true) }
-        ensures err { IfErr result (λ e. (e ≡ OverlayError.Failed) ⊎ MayRefuseSplitting most_rounds self.edges e) }
+        ensures err { IfErr result (λ e. (e ≡ OverlayError.Failed) ⊎ MayRefuseSplitting Rounds self.edges e) }
     {
         self.clip_string_lines_with_solver(fill_rule, clip_rule, Solver::ABSOLUTE)
     }
 
-    /// The same, where edges are split by this solver.
+    /// The same, where edges are split by this solver: `NotSettled` never comes with `Solver::SNAPPED`.
     pub fn clip_string_lines_with_solver(
         mut self,
         fill_rule: FillRule,
@@ -55,12 +56,11 @@ impl<I: OverlayInt, A: Allocator + Clone> StringOverlay<I, A> {
         solver: Solver,
     ) -> Result<Vec<IntPath<I, A>, A>, OverlayError>
         ensures clipped { IfOk result (λ v.
-            AreClipped most_rounds fill_rule clip_rule self.edges (paths_of_shape I.whole v.items)) }
+            AreClipped solver fill_rule clip_rule self.edges (paths_of_shape I.whole v.items)) }
         ensures failed { IsErrOf result OverlayError.Failed ↔ (self.failed ≡ true) }
-        ensures err { IfErr result (λ e. (e ≡ OverlayError.Failed) ⊎ MayRefuseSplitting most_rounds self.edges e) }
+        ensures err { IfErr result (λ e. (e ≡ OverlayError.Failed) ⊎ MayRefuseSplitting solver self.edges e) }
     {
-        let _ = solver;
-        self.core.arrange(&mut ())?;
+        self.core.arrange(solver, &mut ())?;
         let graph = self.core.content().graph_of_balanced(fill_rule)?;
         clipped(&graph, clip_rule)
     }

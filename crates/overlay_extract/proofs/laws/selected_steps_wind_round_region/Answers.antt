@@ -7,7 +7,7 @@ use Rattle.overlay_walk.specs.Steps.{filled_hand}
 use Rattle.overlay_extract.proofs.laws.selected_steps_wind_round_region.Goals as goal
 
 pub returns : goal.returns
-returns c = λ q limit most old new balanced arranged content p.
+returns c = λ q limit solver old new balanced arranged content p.
     selected_steps_wind (rules_hold q.fill q.rule) subj_of clip_of new
     (ruled_content limit new content arranged.reached.merged.ascending arranged.reached.settled
     (arranged.balanced balanced) q.fill q.rule)

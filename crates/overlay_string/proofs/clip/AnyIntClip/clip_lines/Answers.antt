@@ -1,8 +1,8 @@
--- What is passed on has these paths.
+-- The call with a solver answers so.
 use Rattle.overlay_string.proofs.clip.AnyIntClip.clip_lines.Goals as goal
 
 pub returns-clause-clipped : goal.returns-clause-clipped
-returns-clause-clipped g c = c.clip_source.ensures.clipped
+returns-clause-clipped g c = c.clip_lines_with_solver.ensures.clipped
 
 pub returns-clause-err : goal.returns-clause-err
-returns-clause-err g c = c.clip_source.ensures.err
+returns-clause-err g c = c.clip_lines_with_solver.ensures.err

@@ -4,7 +4,7 @@ use Rattle.std.proofs.lemmas.Result.{IfOk-weaker, IfErr-weaker}
 use Rattle.overlay_geom.specs.Paths.{paths_of_shape}
 use Rattle.overlay_geom.specs.Settled.{IsSettled}
 use Rattle.overlay_plane.specs.Carried.{edges_in}
-use Rattle.overlay_arrange.specs.Arranged.{IsArranged, MayRefuseSplitting, most_rounds}
+use Rattle.overlay_arrange.specs.Arranged.{IsArranged, MayRefuseSplitting}
 use Rattle.overlay_arrange.specs.Graphs.{Graph, graph_edges}
 use Rattle.overlay_arrange.specs.declared.string_count.ShapeCountString.{ShapeCountString}
 use Rattle.overlay_string.specs.ClipPaths.{ArePathsOf}
@@ -24,7 +24,7 @@ returns-clause-clipped g c =
     IfOk-weaker c.clipped.result _ _
     (λ v are. record {
       arrangement = arrangement;
-      arranged = subst (λ b. IsArranged most_rounds b.edges arrangement) c.self.view_is
+      arranged = subst (λ b. IsArranged c.args.solver b.edges arrangement) c.self.view_is
           c.in_ok-arrange.ensures.query.arranged;
       forward = λ k d lt. (c.in_ok-arrange.ensures.query.content.held k d lt).forward;
       paths_of = subst (λ es. ArePathsOf (clip_pieces c.args.fill_rule rule (edges_in es))
@@ -38,4 +38,4 @@ returns-clause-clipped g c =
 pub returns-clause-err : goal.returns-clause-err
 returns-clause-err g c =
     IfErr-weaker c.clipped.result _ _
-    (λ e is. inr (subst (MayRefuseSplitting most_rounds c.args.self.edges) (sym is) tt)) c.clipped.ensures.err
+    (λ e is. inr (subst (MayRefuseSplitting c.args.solver c.args.self.edges) (sym is) tt)) c.clipped.ensures.err

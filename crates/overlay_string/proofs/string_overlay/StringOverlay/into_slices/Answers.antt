@@ -2,7 +2,7 @@
 use Rattle.std.proofs.Common.{inr, sym, subst}
 use Rattle.std.proofs.lemmas.Result.{IfOk-weaker, IfErr-weaker}
 use Rattle.overlay_geom.specs.Paths.{plain_shapes}
-use Rattle.overlay_arrange.specs.Arranged.{MayRefuseSplitting, most_rounds}
+use Rattle.overlay_arrange.specs.Arranged.{MayRefuseSplitting}
 use Rattle.overlay_arrange.specs.Graphs.{graph_edges}
 use Rattle.overlay_string.specs.StringSlices.{IsSlicedWhole}
 use Rattle.overlay_string.proofs.string_overlay.StringOverlay.into_slices.Goals as goal
@@ -25,4 +25,4 @@ returns-clause-sliced g c =
 pub returns-clause-err : goal.returns-clause-err
 returns-clause-err g c =
     IfErr-weaker c.extract_shapes.result _ _
-    (λ e is. inr (subst (MayRefuseSplitting most_rounds c.args.self.edges) (sym is) tt)) c.extract_shapes.ensures.err
+    (λ e is. inr (subst (MayRefuseSplitting c.args.solver c.args.self.edges) (sym is) tt)) c.extract_shapes.ensures.err

@@ -1,0 +1,8 @@
+-- The call with a solver answers so.
+use Rattle.overlay_string.proofs.clip.AnyIntClip.clip_line.Goals as goal
+
+pub returns-clause-clipped : goal.returns-clause-clipped
+returns-clause-clipped g c = c.clip_line_with_solver.ensures.clipped
+
+pub returns-clause-err : goal.returns-clause-err
+returns-clause-err g c = c.clip_line_with_solver.ensures.err

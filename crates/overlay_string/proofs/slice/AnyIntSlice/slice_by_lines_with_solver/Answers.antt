@@ -1,0 +1,8 @@
+-- What is passed on has these paths.
+use Rattle.overlay_string.proofs.slice.AnyIntSlice.slice_by_lines_with_solver.Goals as goal
+
+pub returns-clause-sliced : goal.returns-clause-sliced
+returns-clause-sliced g c = c.slice_by_source_with_solver.ensures.sliced
+
+pub returns-clause-err : goal.returns-clause-err
+returns-clause-err g c = c.slice_by_source_with_solver.ensures.err
