@@ -16,6 +16,7 @@ use overlay_extract::hierarchy::extract_shape_hierarchy_with_trees_from;
 use overlay_geom::error::OverlayError;
 use overlay_geom::integer::OverlayInt;
 use overlay_geom::point::{IntPoint, in_range};
+use overlay_geom::solver::Solver;
 use std::alloc::Global;
 use std::process::Abort;
 
@@ -62,7 +63,7 @@ fn graph_of<I: OverlayInt + From<i16>>(
     let mut content = Content::with_capacity(alloc, 0)?;
     add_all(rt, &mut content, row.subj, kind, ShapeType::Subject)?;
     add_all(rt, &mut content, row.clip, kind, ShapeType::Clip)?;
-    content.arrange(&mut ())?;
+    content.arrange(Solver::ABSOLUTE, &mut ())?;
     assert!(rt; is_balanced(alloc, content.edges())?);
     content.graph(row.fill)
 }

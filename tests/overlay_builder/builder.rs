@@ -9,6 +9,7 @@ use overlay_geom::error::OverlayError;
 use overlay_geom::number::IntNumber;
 use overlay_geom::path::PathRef;
 use overlay_geom::point::{IntPoint, in_range};
+use overlay_geom::solver::Solver;
 use std::alloc::Global;
 use std::process::Abort;
 use std::test::Fail;
@@ -82,10 +83,10 @@ fn a_failed_core_refuses_until_it_is_cleared(rt: HostRuntime) -> Result<(), Fail
     let mut core: Core<i32> = BuilderCore::with_capacity(rt.alloc(), 4)?;
     core.set_failed(true);
     assert!(rt; core.check_usable() == Err(OverlayError::Failed));
-    assert!(rt; core.arrange(&mut ()) == Err(OverlayError::Failed));
+    assert!(rt; core.arrange(Solver::ABSOLUTE, &mut ()) == Err(OverlayError::Failed));
     core.clear();
     assert!(rt; core.check_usable() == Ok(()));
-    assert!(rt; core.arrange(&mut ()) == Ok(false));
+    assert!(rt; core.arrange(Solver::ABSOLUTE, &mut ()) == Ok(false));
     Ok(())
 }
 
@@ -97,7 +98,7 @@ fn paths_of_a_resource_are_added_and_arranged(rt: HostRuntime) -> Result<(), Fai
     let resource = PathRef::new(&path);
     core.add_paths(&resource, PathKind::Thinned, passing(ShapeType::Clip))?;
     assert!(rt; core.content().len() == 3);
-    assert!(rt; core.arrange(&mut ()) == Ok(false));
+    assert!(rt; core.arrange(Solver::ABSOLUTE, &mut ()) == Ok(false));
     assert!(rt; core.content().len() == 3);
     Ok(())
 }

@@ -15,6 +15,7 @@ use overlay_geom::error::OverlayError;
 use overlay_geom::integer::OverlayInt;
 use overlay_geom::path::{IntContour, IntShapes};
 use overlay_geom::point::{IntPoint, in_range};
+use overlay_geom::solver::Solver;
 use overlay_walk::buffer::BooleanExtractionBuffer;
 use std::alloc::Global;
 use std::process::Abort;
@@ -88,7 +89,7 @@ fn graph_of<I: OverlayInt + From<i16>>(
         PathKind::Thinned,
         passing(ShapeType::Subject),
     )?;
-    content.arrange(&mut ())?;
+    content.arrange(Solver::ABSOLUTE, &mut ())?;
     assert!(rt; is_balanced(alloc, content.edges())?);
     content.graph(fill_rule)
 }

@@ -10,6 +10,7 @@ use overlay_geom::error::OverlayError;
 use overlay_geom::number::IntNumber;
 use overlay_geom::path::{IntShape, IntShapes};
 use overlay_geom::point::IntPoint;
+use overlay_geom::solver::Solver;
 use std::alloc::Global;
 use std::process::Abort;
 
@@ -106,7 +107,7 @@ pub(crate) fn graph_of<I: IntNumber + From<i16>>(
     for string in strings {
         push_path(rt, &mut content, string, OF_STRING)?;
     }
-    content.arrange(&mut ())?;
+    content.arrange(Solver::ABSOLUTE, &mut ())?;
     assert!(rt; is_balanced(alloc, content.edges())?);
     content.graph(FillRule::NonZero)
 }

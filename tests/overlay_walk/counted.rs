@@ -9,6 +9,7 @@ use overlay_arrange::graph::Graph;
 use overlay_geom::error::OverlayError;
 use overlay_geom::number::IntNumber;
 use overlay_geom::point::IntPoint;
+use overlay_geom::solver::Solver;
 use overlay_walk::step::Step;
 use std::alloc::Global;
 use std::process::Abort;
@@ -58,7 +59,7 @@ pub(crate) fn graph_of<I: IntNumber + From<i16>>(
     for counted in edges {
         push(rt, &mut content, *counted)?;
     }
-    content.arrange(&mut ())?;
+    content.arrange(Solver::ABSOLUTE, &mut ())?;
     assert!(rt; is_balanced(alloc, content.edges())?);
     content.graph(FillRule::EvenOdd)
 }

@@ -3,6 +3,7 @@
 ghost use Rattle.std.specs.Prelude.{◌∷◌, [], All, IfOk};
 ghost use Rattle.overlay_geom.specs.Paths.{paths_of_shape};
 ghost use Rattle.overlay_geom.specs.Points.{plain_points, AllInRange};
+ghost use Rattle.overlay_geom.specs.declared.solver.Solver.TheVariants.{Rounds};
 ghost use Rattle.overlay_string.specs.OneShot.{shape_and_strings, AreClippedOfPaths};
 
 use overlay_arrange::fill_rule::FillRule;
@@ -22,7 +23,7 @@ pub fn parts_of_line<I: OverlayInt, A: Allocator + Clone>(
 ) -> Result<Vec<IntPath<I, A>, A>, OverlayError>
     requires shape { All (AllInRange I.limit) (paths_of_shape I.whole shape.now.items) }
     requires line { AllInRange I.limit (plain_points I.whole line) }
-    ensures { IfOk result (λ v. AreClippedOfPaths FillRule.NonZero clip_rule
+    ensures { IfOk result (λ v. AreClippedOfPaths Rounds FillRule.NonZero clip_rule
         (shape_and_strings (paths_of_shape I.whole shape.now.items) (plain_points I.whole line ∷ []))
         (paths_of_shape I.whole v.items)) }
 {

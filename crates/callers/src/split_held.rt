@@ -5,6 +5,7 @@ ghost use Rattle.std.specs.Prelude.{◌≡◌, true, IsErrOf};
 use overlay_arrange::count::ShapeCountBoolean;
 use overlay_builder::builder_core::BuilderCore;
 use overlay_geom::error::OverlayError;
+use overlay_geom::solver::Solver;
 use std::alloc::Global;
 
 /// Splits what a builder holds, and tells whether it cut any edge.
@@ -13,5 +14,5 @@ pub fn split_held(
 ) -> Result<bool, OverlayError>
     ensures { IsErrOf result OverlayError.Failed → core.old.failed ≡ true }
 {
-    core.arrange(&mut ())
+    core.arrange(Solver::ABSOLUTE, &mut ())
 }

@@ -1,12 +1,13 @@
 -- What a new builder, to which paths were added, answers of the paths.
-use Rattle.std.proofs.Common.{◌≡◌, inl, ℕ, Bool, false, List, map, ap₂, ◌∙◌}
+use Rattle.std.proofs.Common.{◌≡◌, inl, ℕ, Bool, false, List, map, ap₂, subst, ◌∙◌}
 use Rattle.std.specs.Prelude.{Result, Ok, Err, IfOk, IfErr, OnOk}
 use Rattle.std.specs.Int.{Width}
 use Rattle.overlay_geom.specs.declared.error.OverlayError.{OverlayError}
 use Rattle.overlay_geom.specs.declared.error.OverlayError.TheVariants.{Memory, NotSettled, TooManyEdges, Failed}
 use Rattle.overlay_geom.specs.Edges.{CountedEdge}
 use Rattle.overlay_geom.specs.Plane.{Point}
-use Rattle.overlay_arrange.specs.Arranged.{IsArranged, most_rounds}
+use Rattle.overlay_geom.specs.declared.solver.Solver.{Solver}
+use Rattle.overlay_arrange.specs.Arranged.{IsArranged}
 use Rattle.overlay_arrange.specs.Options.{AreOptions}
 use Rattle.overlay_arrange.specs.Vectors.{Vector, vector_of}
 use Rattle.overlay_arrange.specs.declared.fill_rule.FillRule.{FillRule}
@@ -45,47 +46,72 @@ asked_of_default area_width natural fill rule o are =
     }
 
 -- the result of a query on a content that the paths give is one of the paths
-pub result_of_paths : {V E : Type 0} (r : Result V E) (shapes : V → List (List (List Point))) (q : Asked)
+pub result_of_paths : {V E : Type 0} {s : Solver} (solver : Solver) → s ≡ solver →
+    (r : Result V E) (shapes : V → List (List (List Point))) (q : Asked)
     (paths : List GivenPath)
     (content edges : List CountedEdge) → HoldsPaths (added_paths false paths) content
-    → OnOk r (IsArranged most_rounds content edges)
-    → IfOk r (λ v. IsResult q edges (shapes v)) → IfOk r (λ v. IsResultOfPaths q paths (shapes v))
-result_of_paths (Ok v) shapes q paths content edges holds arranged is =
-    record { content = content; edges = edges; holds = holds; arranged = arranged; is_result = is }
-result_of_paths (Err e) shapes q paths content edges holds arranged is = tt
+    → OnOk r (IsArranged s content edges)
+    → IfOk r (λ v. IsResult q edges (shapes v)) → IfOk r (λ v. IsResultOfPaths solver q paths (shapes v))
+result_of_paths solver by (Ok v) shapes q paths content edges holds arranged is =
+    record {
+      content = content;
+      edges = edges;
+      holds = holds;
+      arranged = subst (λ t. IsArranged t content edges) by arranged;
+      is_result = is;
+    }
+result_of_paths solver by (Err e) shapes q paths content edges holds arranged is = tt
 
 -- so are its shapes and their links
-pub hierarchy_of_paths : {V E : Type 0} (r : Result V E) (shapes : V → List (List (List Point)))
+pub hierarchy_of_paths : {V E : Type 0} {s : Solver} (solver : Solver) → s ≡ solver →
+    (r : Result V E) (shapes : V → List (List (List Point)))
     (links : V → List ChildLink) (q : Asked) (paths : List GivenPath) (content edges : List CountedEdge) →
-    HoldsPaths (added_paths false paths) content → OnOk r (IsArranged most_rounds content edges) →
+    HoldsPaths (added_paths false paths) content → OnOk r (IsArranged s content edges) →
     IfOk r (λ v. IsHierarchy q edges (shapes v) (links v)) →
-    IfOk r (λ v. IsHierarchyOfPaths q paths (shapes v) (links v))
-hierarchy_of_paths (Ok v) shapes links q paths content edges holds arranged is =
-    record { content = content; edges = edges; holds = holds; arranged = arranged; is_hierarchy = is }
-hierarchy_of_paths (Err e) shapes links q paths content edges holds arranged is = tt
+    IfOk r (λ v. IsHierarchyOfPaths solver q paths (shapes v) (links v))
+hierarchy_of_paths solver by (Ok v) shapes links q paths content edges holds arranged is =
+    record {
+      content = content;
+      edges = edges;
+      holds = holds;
+      arranged = subst (λ t. IsArranged t content edges) by arranged;
+      is_hierarchy = is;
+    }
+hierarchy_of_paths solver by (Err e) shapes links q paths content edges holds arranged is = tt
 
 -- and its edges
-pub edges_of_paths : {V E : Type 0} (r : Result V E) (vectors : V → List Vector) (fill : FillRule)
+pub edges_of_paths : {V E : Type 0} {s : Solver} (solver : Solver) → s ≡ solver →
+    (r : Result V E) (vectors : V → List Vector) (fill : FillRule)
     (paths : List GivenPath) (content edges : List CountedEdge) → HoldsPaths (added_paths false paths) content
-    → OnOk r (IsArranged most_rounds content edges)
+    → OnOk r (IsArranged s content edges)
     → IfOk r (λ v. vectors v ≡ map (vector_of fill edges) edges)
-    → IfOk r (λ v. AreEdgesOfPaths fill paths (vectors v))
-edges_of_paths (Ok v) vectors fill paths content edges holds arranged listed =
-    record { content = content; edges = edges; holds = holds; arranged = arranged; listed = listed }
-edges_of_paths (Err e) vectors fill paths content edges holds arranged listed = tt
+    → IfOk r (λ v. AreEdgesOfPaths solver fill paths (vectors v))
+edges_of_paths solver by (Ok v) vectors fill paths content edges holds arranged listed =
+    record {
+      content = content;
+      edges = edges;
+      holds = holds;
+      arranged = subst (λ t. IsArranged t content edges) by arranged;
+      listed = listed;
+    }
+edges_of_paths solver by (Err e) vectors fill paths content edges holds arranged listed = tt
 
 -- the refusal of a query on the paths
-pub query_refused : {V : Type 0} (limit : ℕ) (paths : List GivenPath) (old new : Held CountedEdge)
+pub query_refused : {V : Type 0} {s : Solver} (solver : Solver) → s ≡ solver → (limit : ℕ) (paths : List GivenPath)
+    (old new : Held CountedEdge)
     (r : Result V OverlayError)
-    → HoldsPaths (added_paths false paths) old.edges → old.failed ≡ false → AnswersQuery limit most_rounds old new r
-    → IfErr r (MayRefusePaths paths)
-query_refused limit paths old new (Ok v) holds ready h = tt
-query_refused limit paths old new (Err e) holds ready h = refused_alone false paths limit old new e holds ready h
+    → HoldsPaths (added_paths false paths) old.edges → old.failed ≡ false → AnswersQuery limit s old new r
+    → IfErr r (MayRefusePaths solver paths)
+query_refused solver by limit paths old new (Ok v) holds ready h = tt
+query_refused {V = V} solver by limit paths old new (Err e) holds ready h =
+    refused_alone false solver paths limit old new e holds ready
+    (subst (λ t. AnswersQuery {V = V} limit t old new (Err e)) by h)
 
 -- where the paths can't be added, there is no answer
-pub adding_refused : (paths : List GivenPath) (e : OverlayError) → MayRefuseBuilder (added_paths false paths) e
-    → MayRefusePaths paths e
-adding_refused paths Memory may = tt
-adding_refused paths NotSettled may = absurd may
-adding_refused paths TooManyEdges may = inl may
-adding_refused paths Failed may = may
+pub adding_refused : (solver : Solver) (paths : List GivenPath) (e : OverlayError) →
+    MayRefuseBuilder (added_paths false paths) e
+    → MayRefusePaths solver paths e
+adding_refused solver paths Memory may = tt
+adding_refused solver paths NotSettled may = absurd may
+adding_refused solver paths TooManyEdges may = inl may
+adding_refused solver paths Failed may = may

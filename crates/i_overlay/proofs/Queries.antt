@@ -7,18 +7,17 @@ use Rattle.overlay_geom.specs.Edges.{CountedEdge}
 use Rattle.overlay_geom.specs.Merged.{HaveSameWindings}
 use Rattle.overlay_geom.specs.declared.error.OverlayError.{OverlayError}
 use Rattle.overlay_geom.specs.declared.error.OverlayError.TheVariants.{Memory}
-use Rattle.overlay_arrange.specs.Arranged.{most_rounds}
 use Rattle.overlay_builder.specs.Held.{Held, AnswersQuery}
 use Rattle.overlay_builder.proofs.Queries.{answers_after}
 use Rattle.i_overlay.specs.Builder.{Builder, held_by}
 use Rattle.i_overlay.specs.Queries.{BuilderAnswers, BuilderExtracts}
 
 module _ {U V W : Type 0} (limit : ℕ) {now old : Builder U} (view : old ≡ now) (mid : Held CountedEdge) (w : W)
-    (first : AnswersQuery limit most_rounds (held_by old) mid (Ok w)) (edges : List CountedEdge) (failed : Bool)
+    (first : AnswersQuery limit old.solver (held_by old) mid (Ok w)) (edges : List CountedEdge) (failed : Bool)
     (r : Result V OverlayError) (flag : failed ≡ is_err r) (refused : IfErr r (λ e. e ≡ Memory)) where
   query : edges ≡ mid.edges
-      → AnswersQuery limit most_rounds (held_by old) (record { edges = edges; failed = failed }) r
-  query same = answers_after limit most_rounds (held_by old) mid (record { edges = edges; failed = failed }) w first r
+      → AnswersQuery limit old.solver (held_by old) (record { edges = edges; failed = failed }) r
+  query same = answers_after limit old.solver (held_by old) mid (record { edges = edges; failed = failed }) w first r
       same flag refused
 
   -- more is asked of the edges, which stay

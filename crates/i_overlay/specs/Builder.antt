@@ -1,7 +1,8 @@
 -- What contracts see of an overlay builder, and what its calls do to it.
 use Rattle.std.specs.Prelude.{◌≡◌, ℕ, Bool, false, List, [], Option, Some}
 use Rattle.overlay_geom.specs.Edges.{CountedEdge}
-use Rattle.overlay_builder.specs.declared.solver.Solver.{Solver}
+use Rattle.overlay_geom.specs.declared.solver.Solver.{Solver}
+use Rattle.overlay_geom.specs.declared.solver.Solver.TheVariants.{Rounds}
 use Rattle.overlay_builder.specs.Held.{Held}
 use Rattle.overlay_arrange.specs.Options.{AreOptions}
 use Rattle.overlay_arrange.specs.declared.options.IntOverlayOptions.{IntOverlayOptions}
@@ -26,11 +27,12 @@ empty_builder options solver = record {
 }
 
 -- a builder as the constructors without settings make it, whatever it holds: it has not failed, and has the default
--- options and a buffer
+-- options, the default solver and a buffer
 pub record IsNewBuilder {U : Type 0} (natural : U → ℕ) (b : Builder U) : Type 0 where
   pub ready : b.failed ≡ false
   pub options : AreOptions natural false false false b.options
   pub buffer : b.boolean_buffer ≡ Some tt
+  pub by : b.solver ≡ Rounds
 
 -- the builder without its edges, which has not failed
 abbrev pub cleared : {U : Type 0} → Builder U → Builder U

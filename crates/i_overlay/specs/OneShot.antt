@@ -4,7 +4,8 @@ use Rattle.std.specs.Int.{Width}
 use Rattle.overlay_geom.specs.Plane.{Point}
 use Rattle.overlay_geom.specs.Edges.{CountedEdge}
 use Rattle.overlay_geom.specs.declared.error.OverlayError.{OverlayError}
-use Rattle.overlay_arrange.specs.Arranged.{IsArranged, most_rounds}
+use Rattle.overlay_geom.specs.declared.solver.Solver.{Solver}
+use Rattle.overlay_arrange.specs.Arranged.{IsArranged}
 use Rattle.overlay_arrange.specs.Vectors.{Vector, vector_of}
 use Rattle.overlay_arrange.specs.declared.fill_rule.FillRule.{FillRule}
 use Rattle.overlay_arrange.specs.declared.overlay_rule.OverlayRule.{OverlayRule}
@@ -28,31 +29,33 @@ asked_by_default area_width fill rule = record {
   area_width = area_width;
 }
 
--- the result over some arrangement of the edges that the paths give
-pub record IsResultOfPaths (q : Asked) (paths : List GivenPath) (result : List (List (List Point))) : Type 0 where
+-- the result over some arrangement, by the solver, of the edges that the paths give
+pub record IsResultOfPaths (solver : Solver) (q : Asked) (paths : List GivenPath)
+    (result : List (List (List Point))) : Type 0 where
   pub content : List CountedEdge
   pub edges : List CountedEdge
   pub holds : HoldsPaths (added_paths false paths) content
-  pub arranged : IsArranged most_rounds content edges
+  pub arranged : IsArranged solver content edges
   pub is_result : IsResult q edges result
 
--- the shapes and links over some arrangement of the edges that the paths give
-pub record IsHierarchyOfPaths (q : Asked) (paths : List GivenPath) (shapes : List (List (List Point)))
-    (links : List ChildLink) : Type 0 where
+-- the shapes and links over some arrangement, by the solver, of the edges that the paths give
+pub record IsHierarchyOfPaths (solver : Solver) (q : Asked) (paths : List GivenPath)
+    (shapes : List (List (List Point))) (links : List ChildLink) : Type 0 where
   pub content : List CountedEdge
   pub edges : List CountedEdge
   pub holds : HoldsPaths (added_paths false paths) content
-  pub arranged : IsArranged most_rounds content edges
+  pub arranged : IsArranged solver content edges
   pub is_hierarchy : IsHierarchy q edges shapes links
 
--- the edges in order of some arrangement of those that the paths give, with the sides that are filled
-pub record AreEdgesOfPaths (fill : FillRule) (paths : List GivenPath) (vectors : List Vector) : Type 0 where
+-- the edges in order of some arrangement, by the solver, of those that the paths give, with the sides that are filled
+pub record AreEdgesOfPaths (solver : Solver) (fill : FillRule) (paths : List GivenPath)
+    (vectors : List Vector) : Type 0 where
   pub content : List CountedEdge
   pub edges : List CountedEdge
   pub holds : HoldsPaths (added_paths false paths) content
-  pub arranged : IsArranged most_rounds content edges
+  pub arranged : IsArranged solver content edges
   pub listed : vectors ≡ map (vector_of fill edges) edges
 
 -- the paths may be refused so
-abbrev pub MayRefusePaths : List GivenPath → OverlayError → Type 0
-MayRefusePaths = MayRefuseAlone false most_rounds
+abbrev pub MayRefusePaths : Solver → List GivenPath → OverlayError → Type 0
+MayRefusePaths solver = MayRefuseAlone false solver

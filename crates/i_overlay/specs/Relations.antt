@@ -1,8 +1,9 @@
 -- What predicates of two resources answer that leave no builder: each by itself, or all told of one arrangement.
 use Rattle.std.specs.Prelude.{◌≡◌, ◌↔◌, Bool, false, ℤ, List, IsTrue}
 use Rattle.overlay_geom.specs.Edges.{CountedEdge}
+use Rattle.overlay_geom.specs.declared.solver.Solver.{Solver}
 use Rattle.overlay_plane.specs.Predicates.{IsWithin, IsFillable}
-use Rattle.overlay_arrange.specs.Arranged.{IsArranged, most_rounds}
+use Rattle.overlay_arrange.specs.Arranged.{IsArranged}
 use Rattle.overlay_arrange.specs.Rules.{is_filled}
 use Rattle.overlay_arrange.specs.declared.fill_rule.FillRule.{FillRule}
 use Rattle.overlay_builder.specs.GivenPaths.{GivenPath, added_paths}
@@ -11,14 +12,14 @@ use Rattle.overlay_relate.specs.PredicateBuilder.{PredicateBuilder}
 use Rattle.overlay_relate.specs.PredicateQueries.{AreRelations}
 use Rattle.overlay_relate.specs.declared.relations.Relations.{Relations}
 
--- the answer tells whether the relation holds of some arrangement of the edges that the paths give, under the fill
--- rule; its edges are planar, with balanced counts, as laws of predicates ask
-pub record TellsOfPaths (relation : (ℤ → Bool) → List CountedEdge → Type 0) (fill : FillRule) (paths : List GivenPath)
-    (answer : Bool) : Type 0 where
+-- the answer tells whether the relation holds of some arrangement, by the solver, of the edges that the paths give,
+-- under the fill rule; its edges are planar, with balanced counts, as laws of predicates ask
+pub record TellsOfPaths (solver : Solver) (relation : (ℤ → Bool) → List CountedEdge → Type 0) (fill : FillRule)
+    (paths : List GivenPath) (answer : Bool) : Type 0 where
   pub content : List CountedEdge
   pub edges : List CountedEdge
   pub holds : HoldsPaths (added_paths false paths) content
-  pub arranged : IsArranged most_rounds content edges
+  pub arranged : IsArranged solver content edges
   pub fillable : IsFillable (is_filled fill) edges
   pub tells : IsTrue answer ↔ relation (is_filled fill) edges
 
@@ -27,17 +28,20 @@ pub record TellsOfPaths (relation : (ℤ → Bool) → List CountedEdge → Type
 -- the answers tell whether the relations hold of some arrangement of the edges that the paths give, under the fill
 -- rule, whose edges are planar, with balanced counts; the last one tells also whether the subject lies within the clip
 -- in some arrangement of the paths exchanged
-pub record AreRelationsOfPaths (fill : FillRule) (paths exchanged : List GivenPath) (r : Relations) : Type 0 where
+pub record AreRelationsOfPaths (solver : Solver) (fill : FillRule) (paths exchanged : List GivenPath) (r : Relations) :
+    Type 0 where
   pub content : List CountedEdge
   pub edges : List CountedEdge
   pub holds : HoldsPaths (added_paths false paths) content
-  pub arranged : IsArranged most_rounds content edges
+  pub arranged : IsArranged solver content edges
   pub fillable : IsFillable (is_filled fill) edges
   pub relations : AreRelations (is_filled fill) edges r
-  pub within_exchanged : TellsOfPaths IsWithin fill exchanged r.covers
+  pub within_exchanged : TellsOfPaths solver IsWithin fill exchanged r.covers
 
--- a builder for predicates under the fill rule, which has not failed, holds just the paths
-pub record HasAddedUnder (fill : FillRule) (paths : List GivenPath) (b : PredicateBuilder) : Type 0 where
+-- a builder for predicates by the solver and under the fill rule, which has not failed, holds just the paths
+pub record HasAddedUnder (solver : Solver) (fill : FillRule) (paths : List GivenPath) (b : PredicateBuilder) : Type 0
+    where
   pub holds : HoldsPaths (added_paths false paths) b.edges
   pub ready : b.failed ≡ false
   pub rule : b.fill_rule ≡ fill
+  pub by : b.solver ≡ solver

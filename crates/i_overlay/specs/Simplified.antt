@@ -3,12 +3,12 @@ use Rattle.std.specs.Prelude.{◌≡◌, ◌≢◌, ◌⊎◌, Bool, List, [], �
 use Rattle.std.specs.List.{flat_map}
 use Rattle.overlay_geom.specs.Plane.{Point, steps_of}
 use Rattle.overlay_geom.specs.Edges.{CountedEdge}
+use Rattle.overlay_geom.specs.declared.solver.Solver.{Solver}
 use Rattle.overlay_plane.specs.ShapesAlone.{EachWindsOnceOrNot}
 use Rattle.overlay_plane.specs.ShapeWindings.{steps_of_shapes}
 use Rattle.overlay_arrange.specs.declared.fill_rule.FillRule.{FillRule}
 use Rattle.overlay_arrange.specs.declared.options.ContourDirection.{ContourDirection}
 use Rattle.overlay_arrange.specs.declared.options.ShapeType.TheVariants.{Subject}
-use Rattle.overlay_arrange.specs.Arranged.{most_rounds}
 use Rattle.overlay_builder.specs.GivenPaths.{paths_for}
 use Rattle.overlay_extract.specs.Results.{Asked, filled_asked, IsResult, IsContoursResult, WindsRoundRegion}
 use Rattle.overlay_simplify.specs.Alone.{IsArrangedAlone}
@@ -65,11 +65,11 @@ pub record IsSimplifiedSource (q : Asked) (keep : Bool) (paths : List (List Poin
   pub without_minimum : q.min_output_area ≡ 0 → IsSimplified q keep paths es shapes
   pub with_minimum : q.min_output_area ≢ 0 → IsResult q es shapes
 
--- the same over some arrangement of its paths alone
-pub record IsSimplifiedAlone (q : Asked) (keep : Bool) (paths : List (List Point))
+-- the same over some arrangement, by the solver, of its paths alone
+pub record IsSimplifiedAlone (solver : Solver) (q : Asked) (keep : Bool) (paths : List (List Point))
     (shapes : List (List (List Point))) : Type 0 where
   pub edges : List CountedEdge
-  pub arranged : IsArrangedAlone keep most_rounds (paths_for Subject paths) edges
+  pub arranged : IsArrangedAlone keep solver (paths_for Subject paths) edges
   pub simplified : IsSimplifiedSource q keep paths edges shapes
 
 -- ---- of contours in one list, where these edges are left of theirs

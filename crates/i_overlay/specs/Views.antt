@@ -2,6 +2,7 @@
 use Rattle.std.specs.Prelude.{◌≡◌, ◌≢◌, ℕ, List, []}
 use Rattle.std.specs.Int.{Width}
 use Rattle.overlay_geom.specs.Edges.{CountedEdge}
+use Rattle.overlay_geom.specs.declared.solver.Solver.{Solver}
 use Rattle.overlay_arrange.specs.Arranged.{IsArranged}
 use Rattle.overlay_arrange.specs.Graphs.{Graph, graph_edges}
 use Rattle.overlay_arrange.specs.declared.fill_rule.FillRule.{FillRule}
@@ -23,9 +24,10 @@ abbrev pub asked_of : {C U : Type 0} → Width → (U → ℕ) → Viewed C U �
 asked_of area_width natural v rule = asked area_width natural v.graph.fill_rule rule v.options
 
 -- a view of an arrangement with some edge, of a builder that held these edges and had these options
-pub record IsView {C U : Type 0} (most : ℕ) (rule : FillRule) (options : IntOverlayOptions U) (held : List CountedEdge)
+pub record IsView {C U : Type 0} (solver : Solver) (rule : FillRule) (options : IntOverlayOptions U)
+    (held : List CountedEdge)
     (view : Viewed C U) : Type 0 where
-  pub arranged : IsArranged most held (viewed_edges view)
+  pub arranged : IsArranged solver held (viewed_edges view)
   pub some_edge : viewed_edges view ≢ []
   pub filled : view.graph.fill_rule ≡ rule
   pub optioned : view.options ≡ options

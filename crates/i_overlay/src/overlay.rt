@@ -99,7 +99,7 @@ impl<I: OverlayInt, A: Allocator + Clone> Overlay<I, A> {
         ensures listed { IfOk result (λ v.
             map (plain_vector I.whole) v.items ≡ map (vector_of fill_rule self.new.edges) self.new.edges) }
     {
-        self.core.arrange(&mut ())?;
+        self.core.arrange(self.solver, &mut ())?;
         let listed = self.list(fill_rule);
         self.core.set_failed(listed.is_err());
         listed
@@ -144,7 +144,7 @@ impl<I: OverlayInt, A: Allocator + Clone> Overlay<I, A> {
             self.new.edges (plain_shapes I.whole v.items)) }
         ensures empty { self.new.edges ≡ [] → IfOk result (λ v. v.items ≡ []) }
     {
-        self.core.arrange(&mut ())?;
+        self.core.arrange(self.solver, &mut ())?;
         let shapes = self.extract(overlay_rule, fill_rule);
         self.core.set_failed(shapes.is_err());
         shapes
@@ -174,7 +174,7 @@ impl<I: OverlayInt, A: Allocator + Clone> Overlay<I, A> {
         ensures no_ranges { OnErr result (output.new.ranges.items ≡ []) }
     {
         emptied(output);
-        self.core.arrange(&mut ())?;
+        self.core.arrange(self.solver, &mut ())?;
         let written = self.extract_into(overlay_rule, fill_rule, output);
         self.core.set_failed(written.is_err());
         written

@@ -3,6 +3,7 @@
 ghost use Rattle.std.specs.Prelude.{All, IfOk, IfErr};
 ghost use Rattle.overlay_arrange.specs.declared.fill_rule.FillRule.TheVariants.{EvenOdd};
 ghost use Rattle.overlay_geom.specs.Points.{AllInRange};
+ghost use Rattle.overlay_geom.specs.declared.solver.Solver.TheVariants.{Rounds};
 ghost use Rattle.overlay_builder.specs.GivenPaths.{subject_and_clip};
 ghost use Rattle.overlay_plane.specs.Predicates.{Intersects, InteriorsIntersect, Touches, PointIntersects};
 ghost use Rattle.overlay_plane.specs.Predicates.{IsWithin, IsDisjoint};
@@ -31,9 +32,10 @@ pub trait IntRelate<I: OverlayInt>: IntShapeResource<I> {
     ) -> Result<bool, OverlayError>
         requires self_in_range { All (AllInRange I.limit) (Self.paths self.now) }
         requires other_in_range { All (AllInRange I.limit) (R1.paths other.now) }
-        ensures answer { IfOk result (TellsOfPaths Intersects EvenOdd
+        ensures answer { IfOk result (TellsOfPaths Rounds Intersects EvenOdd
             (subject_and_clip (Self.paths self.now) (R1.paths other.now))) }
-        ensures err { IfErr result (MayRefusePaths (subject_and_clip (Self.paths self.now) (R1.paths other.now))) };
+        ensures err { IfErr result (MayRefusePaths Rounds (subject_and_clip (Self.paths self.now)
+            (R1.paths other.now))) };
 
     /// Whether both fill some point off the edges.
     fn interiors_intersect<R1: IntShapeResource<I>, A: Allocator + Clone>(
@@ -43,9 +45,10 @@ pub trait IntRelate<I: OverlayInt>: IntShapeResource<I> {
     ) -> Result<bool, OverlayError>
         requires self_in_range { All (AllInRange I.limit) (Self.paths self.now) }
         requires other_in_range { All (AllInRange I.limit) (R1.paths other.now) }
-        ensures answer { IfOk result (TellsOfPaths InteriorsIntersect EvenOdd
+        ensures answer { IfOk result (TellsOfPaths Rounds InteriorsIntersect EvenOdd
             (subject_and_clip (Self.paths self.now) (R1.paths other.now))) }
-        ensures err { IfErr result (MayRefusePaths (subject_and_clip (Self.paths self.now) (R1.paths other.now))) };
+        ensures err { IfErr result (MayRefusePaths Rounds (subject_and_clip (Self.paths self.now)
+            (R1.paths other.now))) };
 
     /// Whether the two have a common point, and their interiors have none.
     fn touches<R1: IntShapeResource<I>, A: Allocator + Clone>(
@@ -55,9 +58,10 @@ pub trait IntRelate<I: OverlayInt>: IntShapeResource<I> {
     ) -> Result<bool, OverlayError>
         requires self_in_range { All (AllInRange I.limit) (Self.paths self.now) }
         requires other_in_range { All (AllInRange I.limit) (R1.paths other.now) }
-        ensures answer { IfOk result (TellsOfPaths Touches EvenOdd
+        ensures answer { IfOk result (TellsOfPaths Rounds Touches EvenOdd
             (subject_and_clip (Self.paths self.now) (R1.paths other.now))) }
-        ensures err { IfErr result (MayRefusePaths (subject_and_clip (Self.paths self.now) (R1.paths other.now))) };
+        ensures err { IfErr result (MayRefusePaths Rounds (subject_and_clip (Self.paths self.now)
+            (R1.paths other.now))) };
 
     /// Whether the two meet in single points alone.
     fn point_intersects<R1: IntShapeResource<I>, A: Allocator + Clone>(
@@ -67,9 +71,10 @@ pub trait IntRelate<I: OverlayInt>: IntShapeResource<I> {
     ) -> Result<bool, OverlayError>
         requires self_in_range { All (AllInRange I.limit) (Self.paths self.now) }
         requires other_in_range { All (AllInRange I.limit) (R1.paths other.now) }
-        ensures answer { IfOk result (TellsOfPaths PointIntersects EvenOdd
+        ensures answer { IfOk result (TellsOfPaths Rounds PointIntersects EvenOdd
             (subject_and_clip (Self.paths self.now) (R1.paths other.now))) }
-        ensures err { IfErr result (MayRefusePaths (subject_and_clip (Self.paths self.now) (R1.paths other.now))) };
+        ensures err { IfErr result (MayRefusePaths Rounds (subject_and_clip (Self.paths self.now)
+            (R1.paths other.now))) };
 
     /// Whether this resource lies within the other one.
     fn within<R1: IntShapeResource<I>, A: Allocator + Clone>(
@@ -79,9 +84,10 @@ pub trait IntRelate<I: OverlayInt>: IntShapeResource<I> {
     ) -> Result<bool, OverlayError>
         requires self_in_range { All (AllInRange I.limit) (Self.paths self.now) }
         requires other_in_range { All (AllInRange I.limit) (R1.paths other.now) }
-        ensures answer { IfOk result (TellsOfPaths IsWithin EvenOdd
+        ensures answer { IfOk result (TellsOfPaths Rounds IsWithin EvenOdd
             (subject_and_clip (Self.paths self.now) (R1.paths other.now))) }
-        ensures err { IfErr result (MayRefusePaths (subject_and_clip (Self.paths self.now) (R1.paths other.now))) };
+        ensures err { IfErr result (MayRefusePaths Rounds (subject_and_clip (Self.paths self.now)
+            (R1.paths other.now))) };
 
     /// Whether the two have no common point.
     fn disjoint<R1: IntShapeResource<I>, A: Allocator + Clone>(
@@ -91,9 +97,10 @@ pub trait IntRelate<I: OverlayInt>: IntShapeResource<I> {
     ) -> Result<bool, OverlayError>
         requires self_in_range { All (AllInRange I.limit) (Self.paths self.now) }
         requires other_in_range { All (AllInRange I.limit) (R1.paths other.now) }
-        ensures answer { IfOk result (TellsOfPaths IsDisjoint EvenOdd
+        ensures answer { IfOk result (TellsOfPaths Rounds IsDisjoint EvenOdd
             (subject_and_clip (Self.paths self.now) (R1.paths other.now))) }
-        ensures err { IfErr result (MayRefusePaths (subject_and_clip (Self.paths self.now) (R1.paths other.now))) };
+        ensures err { IfErr result (MayRefusePaths Rounds (subject_and_clip (Self.paths self.now)
+            (R1.paths other.now))) };
 
     /// Whether the other resource lies within this one: `within` of the two exchanged.
     fn covers<R1: IntShapeResource<I>, A: Allocator + Clone>(
@@ -103,9 +110,10 @@ pub trait IntRelate<I: OverlayInt>: IntShapeResource<I> {
     ) -> Result<bool, OverlayError>
         requires self_in_range { All (AllInRange I.limit) (Self.paths self.now) }
         requires other_in_range { All (AllInRange I.limit) (R1.paths other.now) }
-        ensures answer { IfOk result (TellsOfPaths IsWithin EvenOdd
+        ensures answer { IfOk result (TellsOfPaths Rounds IsWithin EvenOdd
             (subject_and_clip (R1.paths other.now) (Self.paths self.now))) }
-        ensures err { IfErr result (MayRefusePaths (subject_and_clip (R1.paths other.now) (Self.paths self.now))) };
+        ensures err { IfErr result (MayRefusePaths Rounds (subject_and_clip (R1.paths other.now)
+            (Self.paths self.now))) };
 }
 
 impl<I: OverlayInt, R0: IntShapeResource<I>> IntRelate<I> for R0 {

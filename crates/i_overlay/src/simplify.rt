@@ -2,11 +2,11 @@
 
 ghost use Rattle.std.specs.Prelude.{All, IfOk, IfErr};
 ghost use Rattle.overlay_arrange.specs.declared.options.ShapeType.TheVariants.{Subject};
-ghost use Rattle.overlay_arrange.specs.Arranged.{most_rounds};
 ghost use Rattle.overlay_builder.specs.GivenPaths.{paths_for};
 ghost use Rattle.overlay_extract.specs.Results.{asked};
 ghost use Rattle.overlay_geom.specs.Paths.{plain_shapes};
 ghost use Rattle.overlay_geom.specs.Points.{AllInRange};
+ghost use Rattle.overlay_geom.specs.declared.solver.Solver.TheVariants.{Rounds};
 ghost use Rattle.overlay_simplify.specs.Alone.{MayRefuseAlone};
 ghost use Rattle.i_overlay.specs.Simplified.{IsSimplifiedAlone};
 
@@ -33,10 +33,10 @@ pub trait Simplify<I: OverlayInt>: IntShapeResource<I> {
         options: IntOverlayOptions<I::WideUInt>,
     ) -> Result<IntShapes<I, A>, OverlayError>
         requires { All (AllInRange I.limit) (Self.paths self.now) }
-        ensures result { IfOk result (λ v. IsSimplifiedAlone
+        ensures result { IfOk result (λ v. IsSimplifiedAlone Rounds
             (asked I.Wide.width I.WideUInt.natural fill_rule OverlayRule.Subject options)
             options.preserve_input_collinear (Self.paths self.now) (plain_shapes I.whole v.items)) }
-        ensures err { IfErr result (MayRefuseAlone options.preserve_input_collinear most_rounds
+        ensures err { IfErr result (MayRefuseAlone options.preserve_input_collinear Rounds
             (paths_for Subject (Self.paths self.now))) };
 }
 
@@ -48,10 +48,10 @@ impl<I: OverlayInt, R0: IntShapeResource<I>> Simplify<I> for R0 {
         options: IntOverlayOptions<I::WideUInt>,
     ) -> Result<IntShapes<I, A>, OverlayError>
         requires { All (AllInRange I.limit) (R0.paths self.now) }
-        ensures result { IfOk result (λ v. IsSimplifiedAlone
+        ensures result { IfOk result (λ v. IsSimplifiedAlone Rounds
             (asked I.Wide.width I.WideUInt.natural fill_rule OverlayRule.Subject options)
             options.preserve_input_collinear (R0.paths self.now) (plain_shapes I.whole v.items)) }
-        ensures err { IfErr result (MayRefuseAlone options.preserve_input_collinear most_rounds
+        ensures err { IfErr result (MayRefuseAlone options.preserve_input_collinear Rounds
             (paths_for Subject (R0.paths self.now))) }
     {
         let mut overlay = Overlay::new_custom(alloc, 0, options, Solver::ABSOLUTE)?;

@@ -3,6 +3,7 @@
 ghost use Rattle.std.specs.Prelude.{All, IfOk, IfErr};
 ghost use Rattle.overlay_geom.specs.Paths.{plain_shapes};
 ghost use Rattle.overlay_geom.specs.Points.{AllInRange};
+ghost use Rattle.overlay_geom.specs.declared.solver.Solver.TheVariants.{Rounds};
 ghost use Rattle.i_overlay.specs.OneShot.{asked_by_default, IsResultOfPaths, MayRefusePaths};
 ghost use Rattle.overlay_builder.specs.GivenPaths.{subject_and_clip};
 
@@ -31,10 +32,11 @@ pub trait SingleIntOverlay<I: OverlayInt>: IntShapeResource<I> {
     ) -> Result<IntShapes<I, A>, OverlayError>
         requires self_in_range { All (AllInRange I.limit) (Self.paths self.now) }
         requires other_in_range { All (AllInRange I.limit) (R1.paths other.now) }
-        ensures result { IfOk result (λ v. IsResultOfPaths
+        ensures result { IfOk result (λ v. IsResultOfPaths Rounds
             (asked_by_default I.Wide.width fill_rule overlay_rule)
             (subject_and_clip (Self.paths self.now) (R1.paths other.now)) (plain_shapes I.whole v.items)) }
-        ensures err { IfErr result (MayRefusePaths (subject_and_clip (Self.paths self.now) (R1.paths other.now))) };
+        ensures err { IfErr result (MayRefusePaths Rounds (subject_and_clip (Self.paths self.now)
+            (R1.paths other.now))) };
 }
 
 impl<I: OverlayInt, R0: IntShapeResource<I>> SingleIntOverlay<I> for R0 {

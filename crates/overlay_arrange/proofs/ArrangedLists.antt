@@ -9,7 +9,8 @@ use Rattle.overlay_geom.specs.Merged.{IsMerged}
 use Rattle.overlay_geom.specs.Settled.{IsSettled}
 use Rattle.overlay_geom.specs.declared.solver.Solver.{Solver}
 use Rattle.overlay_geom.specs.declared.solver.Solver.TheVariants.{Rounds}
-use Rattle.overlay_arrange.specs.Arranged.{most_rounds, IsArranged, IsArrangedCarrying, IsSplitCarrying, MayRefuseSplitting}
+use Rattle.overlay_arrange.specs.Arranged.{most_rounds, IsArranged, IsArrangedCarrying, IsSplitCarrying}
+use Rattle.overlay_arrange.specs.Arranged.{MayRefuseSplitting}
 use Rattle.overlay_arrange.specs.Content.{IsContent}
 use Rattle.overlay_arrange.proofs.RoundsTaken.{Leaves}
 use Rattle.overlay_plane.proofs.AfterRounds.{arrangements_keep_balance, arranged_stays_arranged, no_rounds_again}
@@ -69,7 +70,8 @@ arranged_answer limit solver (Err e) old new content h = h
 settles_whole : (limit most : ℕ) (old : List CountedEdge) → 2 ≤ most → IsContent limit old → MeetInWholePoints old →
     ¬ (StaysUnsettled most old)
 settles_whole limit most old several content whole stays =
-    let few = whole_meetings_are_exact.few Rounds stays.rounds old (forward_content limit old content) whole stays.cut in
+    let few = whole_meetings_are_exact.few Rounds stays.rounds old (forward_content limit old content) whole
+    stays.cut in
     omega (arith, few, stays.all_taken)
 
 -- a refusal of rounds is one of bringing the edges into an arrangement
@@ -127,7 +129,8 @@ module _ {C : Type 0} (merges : C → C → C → Type 0) (splits reverses : C �
       IsMerged (edges_in old) (edges_in kept) → ¬ (IsSettled (edges_in kept)) → CarriesMerged merges old kept →
       edges_in left ≡ cut_edges (edges_in kept) →
       AreCutAlong splits reverses (computed_chain (edges_in kept)) kept left →
-      IsSplitCarrying merges splits reverses Rounds fewer left new → IsSplitCarrying merges splits reverses Rounds most old new
+      IsSplitCarrying merges splits reverses Rounds fewer left new →
+      IsSplitCarrying merges splits reverses Rounds most old new
   carried_on limit fewer most old kept left new le content merged unsettled carries left_is cut h =
       let through = cutting_through (edges_in old) (edges_in kept) (forward_content limit (edges_in kept) content)
       merged unsettled in

@@ -10,7 +10,8 @@ use Rattle.overlay_plane.specs.Arrangements.{IsReachedBy, IsSplit, StaysUnsettle
 use Rattle.overlay_plane.specs.Rounds.{Round, IsRound, pieces_of}
 
 -- a merged list that is settled was split without a round
-pub split_at_once : (most : ℕ) (old new : List CountedEdge) → IsMerged old new → IsSettled new → IsSplit Rounds most old new
+pub split_at_once : (most : ℕ) (old new : List CountedEdge) → IsMerged old new → IsSettled new →
+    IsSplit Rounds most old new
 split_at_once most old new merged settled = record {
   rounds = [];
   few = omega arith;
@@ -77,8 +78,8 @@ unsettled_on fewer most old left e (r, is, left_is) given =
 pub heavy_on : (limit fewer most : ℕ) (old left : List CountedEdge) → fewer + 1 ≤ most → Leaves old left →
     WeighsTooMuch Rounds fewer limit left → WeighsTooMuch Rounds most limit old
 heavy_on limit fewer most old left le (r, is, left_is) given =
-    let h : WeighsTooMuch Rounds fewer limit (pieces_of r) = subst (λ (es : List CountedEdge). WeighsTooMuch Rounds fewer limit es)
-    (sym left_is) given in
+    let h : WeighsTooMuch Rounds fewer limit (pieces_of r) = subst
+    (λ (es : List CountedEdge). WeighsTooMuch Rounds fewer limit es) (sym left_is) given in
     record { rounds = r ∷ h.rounds; some = omega arith; few = omega (arith, h.few); cut = (is, h.cut); heavy = h.heavy }
 
 -- it weighs too much at once, so the list does after one round

@@ -84,7 +84,8 @@ module _ {X S E V : Type 0} (weigh : List E → ℕ) (steps : S → Option X →
 
 -- ---- views
 
-module _ {B S : Type 0} (held_by : B → Held CountedEdge) (limit : ℕ) (solver : Solver) (old : Held CountedEdge) (new : B) (seen : S)
+module _ {B S : Type 0} (held_by : B → Held CountedEdge) (limit : ℕ) (solver : Solver) (old : Held CountedEdge)
+    (new : B) (seen : S)
     (first : AnswersQuery limit solver old (held_by new) (Ok seen)) where
   -- once a view of an answer has ended, the builder is as after any query
   pub view_ended : {V : Type 0} {edges_of : V → List CountedEdge} {shown : Option V} {later : B} → later ≡ new →

@@ -53,7 +53,8 @@ AddsGivenAsAsked {X = X} weigh steps iter Adds WeighsTooMuch old new result =
 -- ---- viewing
 
 -- a builder after a view of it has ended: it is as after any other query, and holds the edges that the view showed
-pub record EndsView {V : Type 0} (limit : ℕ) (solver : Solver) (edges_of : V → List CountedEdge) (old new : Held CountedEdge)
+pub record EndsView {V : Type 0} (limit : ℕ) (solver : Solver) (edges_of : V → List CountedEdge)
+    (old new : Held CountedEdge)
     (result : Result (Option V) OverlayError) : Type 0 where
   pub query : AnswersQuery limit solver old new result
   pub shown : IfOk result (λ o. shown_edges edges_of o ≡ new.edges)

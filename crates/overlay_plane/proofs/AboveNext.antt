@@ -5,7 +5,7 @@ use Rattle.std.proofs.Common.{Contains, refl, sym, ap, ◌∙◌, subst}
 use Rattle.std.specs.List.{filter}
 use Rattle.std.proofs.lemmas.Bool.{both_ways, and_parts, and_from, false_from_ne_true, not-true}
 use Rattle.std.proofs.lemmas.Int.{by_lt_z}
-use Rattle.overlay_geom.specs.Plane.{Step, Edge, edge_of, edge_eq, total}
+use Rattle.overlay_geom.specs.Plane.{Step, Edge, edge_of, edge_eq}
 use Rattle.overlay_geom.specs.Edges.{CountedEdge, ends_of}
 use Rattle.overlay_geom.proofs.Signs.{linear}
 use Rattle.overlay_geom.proofs.Orders.{edge_eq-from_ends, edge_eq-exchanged}

@@ -1,6 +1,6 @@
 -- Along each walk that steps are cut into, any of the walks has one winding on the filled sides: along a later walk the
 -- orbit before it winds alike on both sides, along an earlier one what it leaves does.
-use Rattle.std.proofs.Common.{◌≡◌, ⊎_elim, ℤ, pos, ◌+ℤ◌, List, [], ◌∷◌, Contains, refl, sym, ◌∙◌}
+use Rattle.std.proofs.Common.{◌≡◌, ⊎_elim, ℤ, pos, ◌+ℤ◌, List, ◌∷◌, Contains, refl, sym, ◌∙◌}
 use Rattle.std.proofs.Common.{subst}
 use Rattle.std.proofs.lemmas.Bool.{both_ways}
 use Rattle.overlay_geom.specs.Plane.{Step}

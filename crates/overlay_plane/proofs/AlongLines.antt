@@ -74,7 +74,7 @@ crossed false true true false f g = let no = g refl refl in cc
 crossed false true false true f g = let no = g refl refl in cc
 crossed false false s h f g = refl
 
--- ---- along a line
+-- ---- sides
 
 -- the sides of p from two edges on one line are in proportion to their widths
 sides_in_proportion : (e : Edge) (q r : Point) (p : PlanePoint) → IsOnLine e q → IsOnLine e r →
@@ -104,38 +104,62 @@ sign_back false u v e = omega (arith, ints)
 pub nothing_left : (z : ℤ) → pos 0 ≡ z -ℤ z
 nothing_left z = omega linear
 
-module _ (e : Edge) (p : PlanePoint) (wide : pos 0 <ℤ width e) where
-  -- a forward edge on the line of e is strictly below p by where its ends lie
-  pub below_on_line : (q r : Point) → IsOnLine e q → IsOnLine e r → q.x ≤ℤ r.x →
+-- ---- steps across p
+
+-- p is above a step across it, from q to r, exactly where it is above the line of e
+abbrev pub IsCrossedAlike : Edge → PlanePoint → Point → Point → Type 0
+IsCrossedAlike e p q r = is_left_of p q ≡ false → is_left_of p r ≡ true →
+    int_lt (pos 0) (side (record { a = q; b = r }) p) ≡ int_lt (pos 0) (side e p)
+
+module _ (e : Edge) (p : PlanePoint) where
+  -- such a forward edge is strictly below p by where its ends lie
+  pub below_where_alike : (q r : Point) → q.x ≤ℤ r.x → IsCrossedAlike e p q r →
       one_if (is_strictly_below (record { a = q; b = r }) p) ≡ left_above e p r -ℤ left_above e p q
-  below_on_line q r on_q on_r order =
+  below_where_alike q r order alike =
       ap (λ t. one_if (t && is_left_of p r && int_lt (pos 0) (side (record { a = q; b = r }) p)))
       (int_le-not (q.x *ℤ p.d) p.x)
       ∙ crossed (is_left_of p q) (is_left_of p r) (int_lt (pos 0) (side (record { a = q; b = r }) p))
-      (int_lt (pos 0) (side e p))
-      (left_further p q r order)
-      (λ right left. let grows = grows_across p q r right left in
-      same_sign (width e) (side (record { a = q; b = r }) p) (r.x -ℤ q.x) (side e p) wide (omega linear)
-      (sides_in_proportion e q r p on_q on_r))
+      (int_lt (pos 0) (side e p)) (left_further p q r order) alike
 
-  -- so is a step there, with its sign
-  pub winding_part-on_line : (q r : Point) → IsOnLine e q → IsOnLine e r →
+  -- so is such a step, with its sign
+  pub winding_part-where_alike : (q r : Point) → IsCrossedAlike e p q r → IsCrossedAlike e p r q →
       total (winding_part p) (steps_between q r) ≡ left_above e p r -ℤ left_above e p q
-  winding_part-on_line q r on_q on_r = by_equal (point_eq q r) refl
+  winding_part-where_alike q r alike alike_back = by_equal (point_eq q r) refl
     where
       by_way : (t : Bool) → point_lt q r ≡ t →
           cond (is_strictly_below (cond t (record { a = q; b = r }) (record { a = r; b = q })) p)
           (cond t (pos 1) (negsuc 0)) (pos 0) ≡ left_above e p r -ℤ left_above e p q
-      by_way true forward = below_on_line q r on_q on_r (starts_first (record { a = q; b = r }) forward)
+      by_way true forward = below_where_alike q r (starts_first (record { a = q; b = r }) forward) alike
       by_way false back =
           sign_back (is_strictly_below (record { a = r; b = q }) p) (left_above e p q) (left_above e p r)
-          (below_on_line r q on_r on_q (not_smaller q r back))
+          (below_where_alike r q (not_smaller q r back) alike_back)
 
       by_equal : (t : Bool) → point_eq q r ≡ t →
           total (winding_part p) (cond t [] (record { from = q; to = r } ∷ [])) ≡ left_above e p r -ℤ left_above e p q
       by_equal true same = nothing_left (left_above e p r) ∙ ap (λ v. left_above e p r -ℤ left_above e p v)
           (sym (point_eq-same q r same))
       by_equal false apart = +ℤ_idr (winding_part p (record { from = q; to = r })) ∙ by_way (point_lt q r) refl
+
+-- ---- along a line
+
+module _ (e : Edge) (p : PlanePoint) (wide : pos 0 <ℤ width e) where
+  -- p is above a step on the line of e exactly where it is above the line
+  on_line-alike : (q r : Point) → IsOnLine e q → IsOnLine e r → IsCrossedAlike e p q r
+  on_line-alike q r on_q on_r right left =
+      let grows = grows_across p q r right left in
+      same_sign (width e) (side (record { a = q; b = r }) p) (r.x -ℤ q.x) (side e p) wide (omega linear)
+      (sides_in_proportion e q r p on_q on_r)
+
+  -- a forward edge on the line of e is strictly below p by where its ends lie
+  pub below_on_line : (q r : Point) → IsOnLine e q → IsOnLine e r → q.x ≤ℤ r.x →
+      one_if (is_strictly_below (record { a = q; b = r }) p) ≡ left_above e p r -ℤ left_above e p q
+  below_on_line q r on_q on_r order = below_where_alike e p q r order (on_line-alike q r on_q on_r)
+
+  -- so is a step there, with its sign
+  pub winding_part-on_line : (q r : Point) → IsOnLine e q → IsOnLine e r →
+      total (winding_part p) (steps_between q r) ≡ left_above e p r -ℤ left_above e p q
+  winding_part-on_line q r on_q on_r = winding_part-where_alike e p q r (on_line-alike q r on_q on_r)
+      (on_line-alike r q on_r on_q)
 
 -- a vertical edge is strictly below nothing
 pub vertical_below : (p : PlanePoint) (q r : Point) → q.x ≡ r.x → is_strictly_below (record { a = q; b = r }) p ≡ false

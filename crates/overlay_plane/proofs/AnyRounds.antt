@@ -1,6 +1,6 @@
--- What the rounds of each solver have in common: they merge edges that are not settled, and lead each edge through whole
--- points at most 1/2 away from its own.
-use Rattle.std.proofs.Common.{◌≡◌, inl, inr, List, [], ◌∷◌, Contains, sym, subst, ap, ◌∙◌}
+-- What the rounds of each solver have in common: they merge edges that are not settled, and lead each edge through
+-- whole points at most 1/2 away from its own.
+use Rattle.std.proofs.Common.{◌≡◌, inl, inr, List, [], ◌∷◌, Contains, sym, subst, ◌∙◌}
 use Rattle.std.proofs.lemmas.List.Elements.{All-contains}
 use Rattle.overlay_geom.specs.Edges.{CountedEdge, ends_of}
 use Rattle.overlay_geom.specs.Merged.{IsMerged}
@@ -10,7 +10,6 @@ use Rattle.overlay_geom.specs.Settled.{IsSettled}
 use Rattle.overlay_geom.specs.declared.solver.Solver.{Solver}
 use Rattle.overlay_geom.specs.declared.solver.Solver.TheVariants.{Rounds, Snapping}
 use Rattle.overlay_geom.proofs.Rounded.{nearest_point-rounding}
-use Rattle.overlay_plane.specs.EdgeLists.{IsForwardBy}
 use Rattle.overlay_plane.specs.Meetings.{MeetsAnother, MeetInWholePoints}
 use Rattle.overlay_plane.specs.RoundLists.{AreEachRounds, AreRounds, IsRoundBy}
 use Rattle.overlay_plane.specs.Rounds.{Round, IsRound, IsCutAt, pieces_of}

@@ -1,7 +1,7 @@
 -- Edges cut through points on their lines wind as before: along a line the signs of steps strictly below a point
 -- telescope.
 use Rattle.std.proofs.Common.{◌≡◌, ⊎_elim, Bool, true, false, cond, ◌&&◌, ℤ, pos, ◌-ℤ◌, ◌*ℤ◌, ◌<ℤ◌, int_lt, List, []}
-use Rattle.std.proofs.Common.{◌∷◌, ◌++◌, sym, ap, ◌∙◌}
+use Rattle.std.proofs.Common.{◌∷◌, ◌++◌, Contains, sym, ap, ◌∙◌}
 use Rattle.std.specs.List.{All, flat_map}
 use Rattle.std.specs.Ordering.{int_eq}
 use Rattle.std.proofs.lemmas.Bool.{and_parts, or_cases}
@@ -15,7 +15,6 @@ use lib.IntN.{*ℤ-zero}
 use Rattle.overlay_geom.proofs.Identities.{solve, number, ◌⊕◌, ◌⊗◌, ◌⊖◌, ◌≗◌}
 use Rattle.overlay_geom.proofs.Signs.{linear, zero_of_mul-zero, mul-zero}
 use Rattle.overlay_plane.specs.Heights.{width}
-use Rattle.overlay_plane.specs.EdgeLists.{IsForwardBy}
 use Rattle.overlay_plane.specs.Regions.{one_if}
 use Rattle.overlay_plane.specs.Cutting.{piece_along, pieces_through, AreOnLine, CuttingOnALineKeepsWindings}
 use Rattle.overlay_plane.specs.Cutting.{CuttingOnLinesKeepsWindings}
@@ -80,19 +79,24 @@ cutting_on_a_line_keeps_windings e forward vs on p = winding-chain_on_line e for
     ∙ sym (winding-chain_on_line e forward [] (All-nil (IsOnLine e)) p)
     ∙ ap (λ ss. winding ss p) (append-nil (steps_between e.a e.b))
 
--- the pieces of an edge make together the windings of the edge
+-- the chain of an edge through its points winds round p as the edge does
+abbrev pub WindsAsBefore : (CountedEdge → List Point) → PlanePoint → CountedEdge → Type 0
+WindsAsBefore points p e = winding (steps_through e.a (points e ++ e.b ∷ [])) p ≡ one_if
+    (is_strictly_below (ends_of e) p)
+
+-- the pieces of an edge make together the windings of the edge round a point round which its chain winds as the edge
 pieces_wind : (count : CountedEdge → ℤ) (points : CountedEdge → List Point) →
     ((e : CountedEdge) (s : Step) → count (piece_along e s) ≡ sign_of s *ℤ count e) →
-    (p : PlanePoint) (e : CountedEdge) → point_lt e.a e.b ≡ true → AreOnLine points e →
+    (p : PlanePoint) (e : CountedEdge) → WindsAsBefore points p e →
     winding_by count (pieces_through points e) p ≡ cond (is_strictly_below (ends_of e) p) (count e) (pos 0)
-pieces_wind count points each p e forward on =
+pieces_wind count points each p e winds =
     total-map (λ f. cond (is_strictly_below (ends_of f) p) (count f) (pos 0)) (piece_along e) chain
     ∙ total-same (λ s. cond (is_strictly_below (edge_of s) p) (count (piece_along e s)) (pos 0))
     (λ s. count e *ℤ winding_part p s) chain
     (λ s at. ap (λ z. cond (is_strictly_below (edge_of s) p) z (pos 0)) (each e s)
     ∙ taken_out (is_strictly_below (edge_of s) p) (sign_of s) (count e))
     ∙ total-times (count e) (winding_part p) chain
-    ∙ ap (λ z. count e *ℤ z) (winding-chain_on_line (ends_of e) forward (points e) on p)
+    ∙ ap (λ z. count e *ℤ z) winds
     ∙ times_one (is_strictly_below (ends_of e) p) (count e)
   where
     chain : List Step
@@ -102,21 +106,24 @@ pieces_wind count points each p e forward on =
     times_one true c = solve 1 (λ c. c ⊗ number (pos 1) ≗ c) tt c
     times_one false c = *ℤ-zero c
 
--- so a list whose edges are cut makes the windings of the list
-winding_by-cut : (count : CountedEdge → ℤ) (points : CountedEdge → List Point) (es : List CountedEdge) →
-    ((e : CountedEdge) (s : Step) → count (piece_along e s) ≡ sign_of s *ℤ count e) → IsForwardBy ends_of es →
-    All (AreOnLine points) es →
-    (p : PlanePoint) → winding_by count (flat_map (pieces_through points) es) p ≡ winding_by count es p
-winding_by-cut count points es each forward on p =
+-- so a list whose edges are cut makes the windings of the list there
+pub winding_by-cut : (count : CountedEdge → ℤ) (points : CountedEdge → List Point) (es : List CountedEdge) →
+    ((e : CountedEdge) (s : Step) → count (piece_along e s) ≡ sign_of s *ℤ count e) →
+    (p : PlanePoint) → ((e : CountedEdge) → Contains es e → WindsAsBefore points p e) →
+    winding_by count (flat_map (pieces_through points) es) p ≡ winding_by count es p
+winding_by-cut count points es each p winds =
     total-flat_map (λ f. cond (is_strictly_below (ends_of f) p) (count f) (pos 0)) (pieces_through points) es
     ∙ total-same (λ e. winding_by count (pieces_through points e) p)
     (λ e. cond (is_strictly_below (ends_of e) p) (count e) (pos 0)) es
-    (λ e at. pieces_wind count points each p e (All-contains (λ e. point_lt e.a e.b ≡ true) es e forward at)
-    (All-contains (AreOnLine points) es e on at))
+    (λ e at. pieces_wind count points each p e (winds e at))
 
 -- the law of edges cut on their lines
 pub cutting_on_lines_keeps_windings : CuttingOnLinesKeepsWindings
 cutting_on_lines_keeps_windings es points forward on = record {
-  subj = winding_by-cut subj_of points es subj_of_piece forward on;
-  clip = winding_by-cut clip_of points es clip_of_piece forward on;
+  subj = λ p. winding_by-cut subj_of points es subj_of_piece p (winds p);
+  clip = λ p. winding_by-cut clip_of points es clip_of_piece p (winds p);
 }
+  where
+    winds : (p : PlanePoint) (e : CountedEdge) → Contains es e → WindsAsBefore points p e
+    winds p e at = winding-chain_on_line (ends_of e) (All-contains (λ e. point_lt e.a e.b ≡ true) es e forward at)
+        (points e) (All-contains (AreOnLine points) es e on at) p

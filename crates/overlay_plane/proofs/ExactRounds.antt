@@ -13,7 +13,7 @@ use Rattle.overlay_plane.specs.Arrangements.{IsReachedBy, IsExact, WholeMeetings
 use Rattle.overlay_plane.specs.Cutting.{AreOnLine}
 use Rattle.overlay_plane.specs.EdgeLists.{IsForwardBy}
 use Rattle.overlay_plane.specs.Meetings.{MeetInWholePoints}
-use Rattle.overlay_plane.specs.RoundLists.{AreRounds, IsRoundBy}
+use Rattle.overlay_plane.specs.RoundLists.{AreRounds}
 use Rattle.overlay_plane.specs.Rounds.{Round, IsRound, MovesNone, MovesSome, MovingRounds, whole_cuts}
 use Rattle.overlay_plane.specs.Rounds.{pieces_of}
 use Rattle.overlay_plane.specs.Rounds.MovingRounds.{none, exact, moving}

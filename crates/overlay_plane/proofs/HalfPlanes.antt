@@ -92,7 +92,8 @@ module _ (h : HalfPlane) where
       (links_in_half old r rounds.0 ls in_half)
 
   -- and edges do
-  edges_in_rounds : (old : List CountedEdge) (rs : List Round) → AreEachRounds IsAnyRound old rs → All (IsEdgeInHalf h) old →
+  edges_in_rounds : (old : List CountedEdge) (rs : List Round) → AreEachRounds IsAnyRound old rs →
+      All (IsEdgeInHalf h) old →
       All (IsEdgeInHalf h) (after_rounds old rs)
   edges_in_rounds old [] rounds all = all
   edges_in_rounds old (r ∷ rs) rounds all =

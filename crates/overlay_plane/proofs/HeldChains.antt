@@ -16,7 +16,8 @@ use Rattle.overlay_plane.proofs.NearChains.{chain_stays_near}
 
 -- the law of the chains of an arrangement
 pub arrangements_hold_chains : ArrangementsHoldChains
-arrangements_hold_chains solver rounds k old new forward reached moved = let cut = any_rounds solver old rounds reached.cut in
+arrangements_hold_chains solver rounds k old new forward reached moved =
+    let cut = any_rounds solver old rounds reached.cut in
     record {
       keep_ends = All-weaker (λ e. point_lt e.a e.b ≡ true) (λ e. Leads e.a (chain_through rounds e) e.b)
           (λ e runs. chain_keeps_ends rounds e) old forward;

@@ -188,7 +188,10 @@ pub mod SnapChains
 pub mod SnapLists
 pub mod SnapPieces
 pub mod SnapSteps
+pub mod SnapStops
+pub mod SnapWindings
 pub mod SnappedEdges
+pub mod SnapsNear
 pub mod SnapsSettle
 pub mod SortedStarts
 pub mod SortedSteps
@@ -197,9 +200,11 @@ pub mod SpokeRays
 pub mod SpokeSigns
 pub mod SpokeTurns
 pub mod SpokeWindings
+pub mod SquareSides
 pub mod StartWindings
 pub mod StepPoints
 pub mod StepTotals
+pub mod StepsAcross
 pub mod StepsAlong
 pub mod StraightOn
 pub mod Stretches
@@ -216,6 +221,7 @@ pub mod WalkedEdges
 pub mod Walks
 pub mod WalksApart
 pub mod WalksOfCuts
+pub mod WayAlong
 pub mod WaysToEnds
 pub mod WeighedLinks
 pub mod WhereEdgesStart
@@ -223,3 +229,4 @@ pub mod WholeChains
 pub mod WholeCuts
 pub mod WholeOnEdges
 pub mod WholePlaces
+pub mod WithinHalf

@@ -133,8 +133,8 @@ long_along e forward = false_from_ne_true _ (λ same. both_ways (point_lt e.a e.
     (false_from_ne_true _ (λ less. before_is_other e.a e.a ((Decides-point_lt e.a e.a).0 less) refl refl))) forward)
 
 -- the chain that a forward edge has become is near it
-pub chain_stays_near : (old : List CountedEdge) (rs : List Round) (k : ℕ) → AreEachRounds IsAnyRound old rs → MovingRounds rs k →
-    (e : CountedEdge) → point_lt e.a e.b ≡ true →
+pub chain_stays_near : (old : List CountedEdge) (rs : List Round) (k : ℕ) → AreEachRounds IsAnyRound old rs →
+    MovingRounds rs k → (e : CountedEdge) → point_lt e.a e.b ≡ true →
     All (λ t. IsNear k (ends_of e) t.from × IsNear k (ends_of e) t.to) (chain_through rs e)
 chain_stays_near old rs k rounds moved e forward = All-map
     (λ t. IsNear k (ends_of e) t.from × IsNear k (ends_of e) t.to) step_of

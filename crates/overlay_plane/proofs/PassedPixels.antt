@@ -74,8 +74,9 @@ module _ (whole : ℤ) (some : pos 0 <ℤ whole) where
         (weighed_rounds (t.m +ℤ t.n) (nearest e.y e.d) (h.by *ℤ e.y) whole t.weights.some (at_y e h)))
 
     -- and where it does as y is, x being rounded
-    pub passed_as_y_moves : ChangesSides (nearest e.x e.d) (nearest p.x p.d) (nearest q.x q.d) (h.by *ℤ e.y) (f.by *ℤ p.y)
-        (g.by *ℤ q.y) (nearest e.y e.d) (nearest p.y p.d) (nearest q.y q.d) → PassesPixel p q (nearest_point e)
+    pub passed_as_y_moves : ChangesSides (nearest e.x e.d) (nearest p.x p.d) (nearest q.x q.d) (h.by *ℤ e.y)
+        (f.by *ℤ p.y) (g.by *ℤ q.y) (nearest e.y e.d) (nearest p.y p.d) (nearest q.y q.d) →
+        PassesPixel p q (nearest_point e)
     passed_as_y_moves t = passes p q f g t.m t.n t.weights (nearest_point e)
         (mixtures_round whole t.m t.n (f.by *ℤ p.x) (g.by *ℤ q.x) (nearest p.x p.d) (nearest q.x q.d) t.weights
         (at_x p f) (at_x q g) (nearest e.x e.d) some t.level)

@@ -1,4 +1,5 @@
--- Points of the plane mixed by weights round to the whole point that their rounded points, mixed by weights alike, make.
+-- Points of the plane mixed by weights round to the whole point that their rounded points, mixed by weights alike,
+-- make.
 use Rattle.std.proofs.Common.{◌≡◌, ℤ, pos, ◌+ℤ◌, ◌-ℤ◌, ◌*ℤ◌, ◌<ℤ◌, ◌≤ℤ◌, ap}
 use Rattle.std.proofs.lemmas.Int.{by_lt_z}
 use Rattle.overlay_geom.specs.Plane.{Point, PlanePoint, SamePlace, in_plane}

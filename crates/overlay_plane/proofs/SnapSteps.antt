@@ -71,8 +71,9 @@ module _ (old : List CountedEdge) (r : Round) (forward : IsForwardBy ends_of old
         (λ first. (
           nearest_point p,
           inl refl,
-          there.alone p (on_between (ends_of f) f_forward k l p there.on_p there.on_q (on_line_of (ends_of f) (ends_of e)
-              p e_forward back here.on_p.on_line) first up_to_l) first up_to_l here.hot_p,
+          there.alone p (on_between (ends_of f) f_forward k l p there.on_p there.on_q
+              (on_line_of (ends_of f) (ends_of e) p e_forward back here.on_p.on_line) first up_to_l) first up_to_l
+              here.hot_p,
         ))
       where
         -- both edges lead forward

@@ -35,8 +35,9 @@ IsEdgeInHalf h e = IsInHalf h e.a × IsInHalf h e.b
 
 -- the chain of an edge in a half plane stays in it, so that of an upright or a level one stays on its line
 abbrev pub ChainsStayInHalfPlanes : Type 0
-ChainsStayInHalfPlanes = (solver : Solver) (rounds : List Round) (old : List CountedEdge) → AreRounds solver old rounds →
-    (h : HalfPlane) (e : CountedEdge) → IsEdgeInHalf h e → All (IsStepInHalf h) (chain_through rounds e)
+ChainsStayInHalfPlanes = (solver : Solver) (rounds : List Round) (old : List CountedEdge) →
+    AreRounds solver old rounds → (h : HalfPlane) (e : CountedEdge) → IsEdgeInHalf h e →
+    All (IsStepInHalf h) (chain_through rounds e)
 
 -- an arrangement of edges in a half plane stays in it, so no point of it lies outside a box of all their ends
 abbrev pub ArrangementsStayInHalfPlanes : Type 0

@@ -7,7 +7,8 @@ use Rattle.overlay_plane.specs.Meetings.{MeetInWholePoints}
 use Rattle.overlay_plane.specs.Rounds.{Round, IsRound, pieces_of}
 use Rattle.overlay_plane.specs.Snaps.{IsSnap}
 
--- the round that snap rounding takes: a cutting round where the merged edges meet in whole points alone, and else a snap
+-- the round that snap rounding takes: a cutting round where the merged edges meet in whole points alone, and else a
+-- snap
 abbrev pub IsSnapRound : List CountedEdge → Round → Type 0
 IsSnapRound old r = (MeetInWholePoints r.edges × IsRound old r) ⊎ ((¬ (MeetInWholePoints r.edges)) × IsSnap old r)
 

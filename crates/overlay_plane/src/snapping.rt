@@ -2,7 +2,7 @@
 
 ghost use Rattle.overlay_plane.specs.PixelSteps.{MeetingStepsPassPixels};
 ghost use Rattle.overlay_plane.specs.SnapPoints.{PixelsMetByTest, SnappingIsASnap};
-ghost use Rattle.overlay_plane.specs.Snaps.{SnapsSettle};
+ghost use Rattle.overlay_plane.specs.Snaps.{SnapsKeepWindings, SnapsSettle, SnapsStayNear};
 
 /// Where the steps between rounded points meet, the pieces between the points do, or one of them passes through the
 /// pixel of an end of the other step.
@@ -13,6 +13,16 @@ pub fn meeting_steps_pass_pixels()
 /// The edges that a snap leaves, merged, are settled.
 pub fn snaps_settle()
     ensures { SnapsSettle }
+{}
+
+/// Each chain of a snap stays within half a unit of its edge, in x and in y, and the edge of its chain.
+pub fn snaps_stay_near()
+    ensures { SnapsStayNear }
+{}
+
+/// A snap keeps the windings at each point whose unit square no edge meets.
+pub fn snaps_keep_windings()
+    ensures { SnapsKeepWindings }
 {}
 
 /// One cross product tells whether an edge meets the pixel of a whole point.

@@ -55,7 +55,8 @@ module _ (b : Bounds) (rounds : List Round) (old new : List CountedEdge) (reache
       (subst (λ (f : Edge). across axis f.b ≡ c) (sym line.ends) to)
       (subst (λ (f : Edge). ¬ (along axis f.a ≡ along axis f.b)) (sym line.ends) apart)
       (All-contains (λ e. Leads e.a (chain_through rounds e) e.b) old line.edge keep_ends line.entry)
-      (λ t at. marked_chains_stay Rounds rounds old new forward reached line.edge line.entry (inl line.marked) t at) z d some
+      (λ t at. marked_chains_stay Rounds rounds old new forward reached line.edge line.entry (inl line.marked) t
+          at) z d some
       (subst (λ (f : Edge). IsBetween z (along axis f.a *ℤ d) (along axis f.b *ℤ d)) (sym line.ends) between)
 
   -- an upright line is covered from the top of the box to its bottom

@@ -9,6 +9,7 @@ use Rattle.overlay_extract.specs.ChildLinks.{plain_link}
 use Rattle.overlay_extract.specs.Results.{asked}
 use Rattle.overlay_extract.specs.declared.child_link.ChildLink.{ChildLink as LinkTaken}
 use Rattle.overlay_geom.specs.Plane.{Point}
+use Rattle.overlay_geom.specs.declared.solver.Solver.TheVariants.{Rounds}
 use Rattle.i_overlay.specs.OneShot.{IsHierarchyOfPaths}
 use Rattle.polyover_c.specs.Asked.{rule_of, fill_of, options_of, AreChoices}
 use Rattle.polyover_c.specs.Given.{Contours, paths_of, paths_given, AreGiven}
@@ -28,7 +29,7 @@ pub hierarchy_answered : {I U : Type 0} (whole : I → ℤ) (limit rule fill : �
     (flat : LinkedFlat I) → rule < 7 → fill < 4 → AreChoices options → AreGiven whole limit subject →
     AreGiven whole limit clip → r ≡ rule_of rule → f ≡ fill_of fill → o ≡ options_of options →
     p ≡ paths_of whole subject → q ≡ paths_of whole clip →
-    IsHierarchyOfPaths (asked width natural f r o) (subject_and_clip p q) shapes (map plain_link links) →
+    IsHierarchyOfPaths Rounds (asked width natural f r o) (subject_and_clip p q) shapes (map plain_link links) →
     AreFlattened whole shapes flat.shapes → flat.links ≡ map link_of links →
     AreFlatLinked (IsLinkedOverlay whole limit width natural rule fill options subject clip) whole flat
 hierarchy_answered whole limit rule fill options subject clip width natural r f o p q shapes links flat known_rule
@@ -40,11 +41,11 @@ hierarchy_answered whole limit rule fill options subject clip width natural r f 
         known = (known_rule, (known_fill, known));
         subject_given = s;
         clip_given = c;
-        is_hierarchy = subst (IsHierarchyOfPaths wanted (paths_given whole subject clip) shapes)
+        is_hierarchy = subst (IsHierarchyOfPaths Rounds wanted (paths_given whole subject clip) shapes)
             (sym (ap (map link_at) same_links ∙ links_at links))
-            (subst (λ paths. IsHierarchyOfPaths wanted paths shapes (map plain_link links))
+            (subst (λ paths. IsHierarchyOfPaths Rounds wanted paths shapes (map plain_link links))
             (ap₂ subject_and_clip same_p same_q)
-            (subst (λ a. IsHierarchyOfPaths a (subject_and_clip p q) shapes (map plain_link links))
+            (subst (λ a. IsHierarchyOfPaths Rounds a (subject_and_clip p q) shapes (map plain_link links))
             (ap₂ (λ x y. asked width natural x y o) same_f same_r
             ∙ ap (asked width natural (fill_of fill) (rule_of rule)) same_o) is));
       };

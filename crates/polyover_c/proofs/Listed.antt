@@ -11,6 +11,7 @@ use Rattle.overlay_geom.proofs.JoinedLists.{joined_push}
 use Rattle.overlay_geom.proofs.Mapped.{mapped_more}
 use Rattle.overlay_geom.specs.Plane.{Point}
 use Rattle.overlay_geom.specs.declared.error.OverlayError.{OverlayError}
+use Rattle.overlay_geom.specs.declared.solver.Solver.TheVariants.{Rounds}
 use Rattle.i_overlay.specs.OneShot.{AreEdgesOfPaths, MayRefusePaths}
 use Rattle.polyover_arrays.specs.declared.fault.Fault.{Fault}
 use Rattle.polyover_c.proofs.Refusals.{unread, without_memory, unanswered}
@@ -24,7 +25,7 @@ use Rattle.polyover_c.specs.declared.status.Status.TheVariants.{Memory}
 
 module _ {I : Type 0} (whole : I → ℤ) (limit fill : ℕ) (subject clip : Contours I) where
   abbrev may : OverlayError → Type 0
-  may = MayRefusePaths (paths_given whole subject clip)
+  may = MayRefusePaths Rounds (paths_given whole subject clip)
 
   pub contours_unlisted : (f : Fault) → fill < 4 → AreUnread whole limit subject clip f →
       IsListingRefused whole limit fill subject clip (status_of_fault f)
@@ -36,23 +37,23 @@ module _ {I : Type 0} (whole : I → ℤ) (limit fill : ℕ) (subject clip : Con
 
   pub listing_refused : (e : OverlayError) (p q : List (List Point)) → fill < 4 → AreGiven whole limit subject →
       AreGiven whole limit clip → p ≡ paths_of whole subject → q ≡ paths_of whole clip →
-      MayRefusePaths (subject_and_clip p q) e →
+      MayRefusePaths Rounds (subject_and_clip p q) e →
       IsListingRefused whole limit fill subject clip (status_of_error e)
   listing_refused e p q known s c same_p same_q refused =
       unanswered whole limit (IsUnknownFill fill) (fill < 4) subject clip may (λ failed. failed) e known s c
-      (subst (λ paths. MayRefusePaths paths e) (ap₂ subject_and_clip same_p same_q) refused)
+      (subst (λ paths. MayRefusePaths Rounds paths e) (ap₂ subject_and_clip same_p same_q) refused)
 
   pub edges_answered : (f : FillRule) (p q : List (List Point)) (vectors : List Vector) (arrays : EdgeArrays I) →
       fill < 4 → AreGiven whole limit subject → AreGiven whole limit clip → f ≡ fill_of fill →
-      p ≡ paths_of whole subject → q ≡ paths_of whole clip → AreEdgesOfPaths f (subject_and_clip p q) vectors →
+      p ≡ paths_of whole subject → q ≡ paths_of whole clip → AreEdgesOfPaths Rounds f (subject_and_clip p q) vectors →
       AreListed whole vectors arrays → AreEdgesIn whole limit fill subject clip arrays
   edges_answered f p q vectors arrays known s c same_f same_p same_q are listed = record {
     known = known;
     subject_given = s;
     clip_given = c;
     vectors = vectors;
-    answer = subst (λ y. AreEdgesOfPaths y (paths_given whole subject clip) vectors) same_f
-        (subst (λ paths. AreEdgesOfPaths f paths vectors) (ap₂ subject_and_clip same_p same_q) are);
+    answer = subst (λ y. AreEdgesOfPaths Rounds y (paths_given whole subject clip) vectors) same_f
+        (subst (λ paths. AreEdgesOfPaths Rounds f paths vectors) (ap₂ subject_and_clip same_p same_q) are);
     listed = listed;
   }
 

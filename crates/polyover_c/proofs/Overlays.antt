@@ -8,6 +8,7 @@ use Rattle.overlay_builder.specs.GivenPaths.{subject_and_clip}
 use Rattle.overlay_extract.specs.Results.{asked}
 use Rattle.overlay_geom.specs.Plane.{Point}
 use Rattle.overlay_geom.specs.declared.error.OverlayError.{OverlayError}
+use Rattle.overlay_geom.specs.declared.solver.Solver.TheVariants.{Rounds}
 use Rattle.i_overlay.specs.OneShot.{IsResultOfPaths, MayRefusePaths}
 use Rattle.polyover_arrays.specs.declared.fault.Fault.{Fault}
 use Rattle.polyover_c.proofs.Refusals.{unread, without_memory, unanswered}
@@ -23,7 +24,7 @@ use Rattle.polyover_c.specs.declared.status.Status.TheVariants.{Memory}
 module _ {I U : Type 0} (whole : I → ℤ) (limit rule fill : ℕ) (options : OptionNumbers U)
     (subject clip : Contours I) where
   abbrev may : OverlayError → Type 0
-  may = MayRefusePaths (paths_given whole subject clip)
+  may = MayRefusePaths Rounds (paths_given whole subject clip)
 
   abbrev are_known : Type 0
   are_known = AreKnown rule fill options
@@ -44,18 +45,19 @@ module _ {I U : Type 0} (whole : I → ℤ) (limit rule fill : ℕ) (options : O
 
   pub overlay_refused : (e : OverlayError) (p q : List (List Point)) → rule < 7 → fill < 4 → AreChoices options →
       AreGiven whole limit subject → AreGiven whole limit clip → p ≡ paths_of whole subject → q ≡ paths_of whole clip →
-      MayRefusePaths (subject_and_clip p q) e →
+      MayRefusePaths Rounds (subject_and_clip p q) e →
       IsOverlayRefused whole limit rule fill options subject clip (status_of_error e)
   overlay_refused e p q known_rule known_fill known s c same_p same_q refused =
       unanswered whole limit is_unknown are_known subject clip may (λ failed. failed) e
       (known_rule, (known_fill, known)) s c
-      (subst (λ paths. MayRefusePaths paths e) (ap₂ subject_and_clip same_p same_q) refused)
+      (subst (λ paths. MayRefusePaths Rounds paths e) (ap₂ subject_and_clip same_p same_q) refused)
 
   pub overlay_answered : (width : Width) (natural : U → ℕ) (r : OverlayRule) (f : FillRule) (o : IntOverlayOptions U)
       (p q : List (List Point)) (shapes : List (List (List Point))) (flat : Flat I) → rule < 7 → fill < 4 →
       AreChoices options → AreGiven whole limit subject → AreGiven whole limit clip → r ≡ rule_of rule →
       f ≡ fill_of fill → o ≡ options_of options → p ≡ paths_of whole subject → q ≡ paths_of whole clip →
-      IsResultOfPaths (asked width natural f r o) (subject_and_clip p q) shapes → AreFlattened whole shapes flat →
+      IsResultOfPaths Rounds (asked width natural f r o) (subject_and_clip p q) shapes →
+      AreFlattened whole shapes flat →
       IsFlat (IsOverlay whole limit width natural rule fill options subject clip) whole flat
   overlay_answered width natural r f o p q shapes flat known_rule known_fill known s c same_r same_f same_o same_p
       same_q is flattened = record {
@@ -64,10 +66,10 @@ module _ {I U : Type 0} (whole : I → ℤ) (limit rule fill : ℕ) (options : O
           known = (known_rule, (known_fill, known));
           subject_given = s;
           clip_given = c;
-          is_result = subst (λ paths. IsResultOfPaths
+          is_result = subst (λ paths. IsResultOfPaths Rounds
               (asked width natural (fill_of fill) (rule_of rule) (options_of options)) paths shapes)
               (ap₂ subject_and_clip same_p same_q)
-              (subst (λ a. IsResultOfPaths a (subject_and_clip p q) shapes)
+              (subst (λ a. IsResultOfPaths Rounds a (subject_and_clip p q) shapes)
               (ap₂ (λ x y. asked width natural x y o) same_f same_r
               ∙ ap (asked width natural (fill_of fill) (rule_of rule)) same_o) is);
         };

@@ -5,6 +5,7 @@ use Rattle.overlay_builder.specs.GivenPaths.{subject_and_clip}
 use Rattle.overlay_geom.specs.Plane.{Point}
 use Rattle.overlay_geom.specs.declared.error.OverlayError.{OverlayError}
 use Rattle.overlay_geom.specs.declared.error.OverlayError.TheVariants as error
+use Rattle.overlay_geom.specs.declared.solver.Solver.TheVariants.{Rounds}
 use Rattle.overlay_relate.specs.declared.relations.Relations.{Relations}
 use Rattle.i_overlay.specs.OneShot.{MayRefusePaths}
 use Rattle.i_overlay.specs.Relations.{AreRelationsOfPaths}
@@ -29,7 +30,7 @@ module _ {I : Type 0} (whole : I → ℤ) (limit fill : ℕ) (subject clip : Con
 
   -- why the relations are not told
   abbrev may : OverlayError → Type 0
-  may = MayRefusePaths (paths_given whole subject clip)
+  may = MayRefusePaths Rounds (paths_given whole subject clip)
 
   never_failed : ¬ (may error.Failed)
   never_failed failed = failed
@@ -40,13 +41,13 @@ module _ {I : Type 0} (whole : I → ℤ) (limit fill : ℕ) (subject clip : Con
 
   -- what the query refuses, of what is read
   refused_of : (e : OverlayError) (p q : List (List Point)) → p ≡ paths_of whole subject → q ≡ paths_of whole clip →
-      MayRefusePaths (subject_and_clip p q) e → may e
+      MayRefusePaths Rounds (subject_and_clip p q) e → may e
   refused_of e p q same_p same_q refused =
-      subst (λ paths. MayRefusePaths paths e) (ap₂ subject_and_clip same_p same_q) refused
+      subst (λ paths. MayRefusePaths Rounds paths e) (ap₂ subject_and_clip same_p same_q) refused
 
   pub relating_refused : (e : OverlayError) (p q : List (List Point)) → fill < 4 → AreGiven whole limit subject →
       AreGiven whole limit clip → p ≡ paths_of whole subject → q ≡ paths_of whole clip →
-      MayRefusePaths (subject_and_clip p q) e →
+      MayRefusePaths Rounds (subject_and_clip p q) e →
       IsRelatingRefused whole limit fill subject clip (status_of_error e)
   relating_refused e p q known s c same_p same_q refused =
       unanswered whole limit (IsUnknownFill fill) (fill < 4) subject clip may never_failed e known s c
@@ -55,18 +56,18 @@ module _ {I : Type 0} (whole : I → ℤ) (limit fill : ℕ) (subject clip : Con
   pub bits_told : (f : FillRule) (p q : List (List Point)) (r : Relations) (bits : ℕ) → fill < 4 →
       AreGiven whole limit subject → AreGiven whole limit clip → f ≡ fill_of fill → p ≡ paths_of whole subject →
       q ≡ paths_of whole clip →
-      AreRelationsOfPaths f (subject_and_clip p q) (subject_and_clip q p) r →
+      AreRelationsOfPaths Rounds f (subject_and_clip p q) (subject_and_clip q p) r →
       bits ≡ bits_of r → AreRelated whole limit fill subject clip bits
   bits_told f p q r bits known s c same_f same_p same_q hold same = record {
     known = known;
     subject_given = s;
     clip_given = c;
     relations = r;
-    hold = subst (λ y. AreRelationsOfPaths y (paths_given whole subject clip) (paths_given whole clip subject)
+    hold = subst (λ y. AreRelationsOfPaths Rounds y (paths_given whole subject clip) (paths_given whole clip subject)
         r) same_f
-        (subst (λ paths. AreRelationsOfPaths f (paths_given whole subject clip) paths r)
+        (subst (λ paths. AreRelationsOfPaths Rounds f (paths_given whole subject clip) paths r)
         (ap₂ subject_and_clip same_q same_p)
-        (subst (λ paths. AreRelationsOfPaths f paths (subject_and_clip q p) r)
+        (subst (λ paths. AreRelationsOfPaths Rounds f paths (subject_and_clip q p) r)
         (ap₂ subject_and_clip same_p same_q) hold));
     bits = same;
   }

@@ -1,7 +1,6 @@
 -- What the answer of a simplification says of the arrays, and its refusals.
 use Rattle.std.proofs.Common.{◌≡◌, ◌<◌, ℕ, ℤ, List, false, lit<, sym, subst, ap}
 use Rattle.std.specs.Int.{Width}
-use Rattle.overlay_arrange.specs.Arranged.{most_rounds}
 use Rattle.overlay_arrange.specs.declared.fill_rule.FillRule.{FillRule}
 use Rattle.overlay_arrange.specs.declared.options.IntOverlayOptions.{IntOverlayOptions}
 use Rattle.overlay_arrange.specs.declared.options.ShapeType.TheVariants.{Subject}
@@ -11,6 +10,7 @@ use Rattle.overlay_extract.specs.Results.{asked}
 use Rattle.overlay_geom.specs.Plane.{Point}
 use Rattle.overlay_geom.specs.declared.error.OverlayError.{OverlayError}
 use Rattle.overlay_geom.specs.declared.error.OverlayError.TheVariants as error
+use Rattle.overlay_geom.specs.declared.solver.Solver.TheVariants.{Rounds}
 use Rattle.overlay_simplify.specs.Alone.{MayRefuseAlone}
 use Rattle.i_overlay.specs.Simplified.{IsSimplifiedAlone}
 use Rattle.polyover_arrays.specs.Reading.{HaveFault}
@@ -40,15 +40,15 @@ module _ {I U : Type 0} (whole : I → ℤ) (limit fill : ℕ) (options : Option
 
   -- what the query refuses, of what is read
   read_refused : (e : OverlayError) (o : IntOverlayOptions U) (p : List (List Point)) → o ≡ options_of options →
-      p ≡ paths_of whole given → MayRefuseAlone o.preserve_input_collinear most_rounds (paths_for Subject p) e →
-      MayRefuseAlone false most_rounds (paths_for Subject (paths_of whole given)) e
-  read_refused e o p same_o same_p may = subst (λ q. MayRefuseAlone false most_rounds (paths_for Subject q) e) same_p
-      (subst (λ keep. MayRefuseAlone keep most_rounds (paths_for Subject p) e)
+      p ≡ paths_of whole given → MayRefuseAlone o.preserve_input_collinear Rounds (paths_for Subject p) e →
+      MayRefuseAlone false Rounds (paths_for Subject (paths_of whole given)) e
+  read_refused e o p same_o same_p may = subst (λ q. MayRefuseAlone false Rounds (paths_for Subject q) e) same_p
+      (subst (λ keep. MayRefuseAlone keep Rounds (paths_for Subject p) e)
       (ap (λ m. m.preserve_input_collinear) same_o) may)
 
   pub simplifying_refused : (e : OverlayError) (o : IntOverlayOptions U) (p : List (List Point)) → fill < 4 →
       AreChoices options → AreGiven whole limit given → o ≡ options_of options → p ≡ paths_of whole given →
-      MayRefuseAlone o.preserve_input_collinear most_rounds (paths_for Subject p) e →
+      MayRefuseAlone o.preserve_input_collinear Rounds (paths_for Subject p) e →
       IsSimplifyingRefused whole limit fill options given (status_of_error e)
   simplifying_refused error.Memory o p known_fill known are same_o same_p may =
       ((lit< tt, (known_fill, known)), (are, tt))
@@ -61,7 +61,7 @@ module _ {I U : Type 0} (whole : I → ℤ) (limit fill : ℕ) (options : Option
   pub contours_simplified : (width : Width) (natural : U → ℕ) (f : FillRule) (o : IntOverlayOptions U)
       (p : List (List Point)) (shapes : List (List (List Point))) (flat : Flat I) → fill < 4 → AreChoices options →
       AreGiven whole limit given → f ≡ fill_of fill → o ≡ options_of options → p ≡ paths_of whole given →
-      IsSimplifiedAlone (asked width natural f rule.Subject o) o.preserve_input_collinear p shapes →
+      IsSimplifiedAlone Rounds (asked width natural f rule.Subject o) o.preserve_input_collinear p shapes →
       AreFlattened whole shapes flat →
       IsFlat (IsSimplification whole limit width natural fill options given) whole flat
   contours_simplified width natural f o p shapes flat known_fill known are same_f same_o same_p is flattened = record {
@@ -69,11 +69,13 @@ module _ {I U : Type 0} (whole : I → ℤ) (limit fill : ℕ) (options : Option
     answer = record {
       known = (lit< tt, (known_fill, known));
       are_given = are;
-      simplified = subst (λ y. IsSimplifiedAlone (asked width natural y rule.Subject (options_of options)) false
+      simplified = subst (λ y. IsSimplifiedAlone Rounds (asked width natural y rule.Subject (options_of options)) false
           (paths_of whole given) shapes) same_f
-          (subst (λ q. IsSimplifiedAlone (asked width natural f rule.Subject (options_of options)) false q shapes)
+          (subst (λ q. IsSimplifiedAlone Rounds (asked width natural f rule.Subject (options_of options)) false q
+          shapes)
           same_p
-          (subst (λ m. IsSimplifiedAlone (asked width natural f rule.Subject m) m.preserve_input_collinear p shapes)
+          (subst (λ m. IsSimplifiedAlone Rounds (asked width natural f rule.Subject m) m.preserve_input_collinear p
+          shapes)
           same_o is));
     };
     flattened = flattened;

@@ -4,6 +4,7 @@ use Rattle.std.specs.Int.{Width}
 use Rattle.overlay_arrange.specs.declared.fill_rule.FillRule.{FillRule}
 use Rattle.overlay_geom.specs.Plane.{Point}
 use Rattle.overlay_geom.specs.declared.error.OverlayError.{OverlayError}
+use Rattle.overlay_geom.specs.declared.solver.Solver.TheVariants.{Rounds}
 use Rattle.overlay_string.specs.OneShot.{shape_and_strings, MayRefusePaths}
 use Rattle.overlay_string.specs.StringSlices.{AreSlicedOfPaths}
 use Rattle.polyover_arrays.specs.declared.fault.Fault.{Fault}
@@ -20,7 +21,7 @@ use Rattle.polyover_c.specs.declared.status.Status.TheVariants.{Memory}
 
 module _ {I : Type 0} (whole : I → ℤ) (limit fill : ℕ) (subject lines : Contours I) where
   abbrev may : OverlayError → Type 0
-  may = MayRefusePaths (shape_and_lines whole subject lines)
+  may = MayRefusePaths Rounds (shape_and_lines whole subject lines)
 
   pub contours_unsliced : (f : Fault) → fill < 4 → AreUnread whole limit subject lines f →
       IsSlicingRefused whole limit fill subject lines (status_of_fault f)
@@ -32,15 +33,16 @@ module _ {I : Type 0} (whole : I → ℤ) (limit fill : ℕ) (subject lines : Co
 
   pub slicing_refused : (e : OverlayError) (p q : List (List Point)) → fill < 4 → AreGiven whole limit subject →
       AreGiven whole limit lines → p ≡ paths_of whole subject → q ≡ paths_of whole lines →
-      MayRefusePaths (shape_and_strings p q) e → IsSlicingRefused whole limit fill subject lines (status_of_error e)
+      MayRefusePaths Rounds (shape_and_strings p q) e → IsSlicingRefused whole limit fill subject lines
+      (status_of_error e)
   slicing_refused e p q known s l same_p same_q refused =
       unanswered whole limit (IsUnknownFill fill) (fill < 4) subject lines may (λ failed. failed) e known s l
-      (subst (λ paths. MayRefusePaths paths e) (ap₂ shape_and_strings same_p same_q) refused)
+      (subst (λ paths. MayRefusePaths Rounds paths e) (ap₂ shape_and_strings same_p same_q) refused)
 
   pub subject_sliced : (width : Width) (f : FillRule) (p q : List (List Point)) (shapes : List (List (List Point)))
       (flat : Flat I) → fill < 4 → AreGiven whole limit subject → AreGiven whole limit lines → f ≡ fill_of fill →
       p ≡ paths_of whole subject → q ≡ paths_of whole lines →
-      AreSlicedOfPaths width f (shape_and_strings p q) shapes → AreFlattened whole shapes flat →
+      AreSlicedOfPaths Rounds width f (shape_and_strings p q) shapes → AreFlattened whole shapes flat →
       IsFlat (AreSlices whole limit width fill subject lines) whole flat
   subject_sliced width f p q shapes flat known s l same_f same_p same_q are flattened = record {
     shapes = shapes;
@@ -48,8 +50,8 @@ module _ {I : Type 0} (whole : I → ℤ) (limit fill : ℕ) (subject lines : Co
       known = known;
       subject_given = s;
       lines_given = l;
-      sliced = subst (λ y. AreSlicedOfPaths width y (shape_and_lines whole subject lines) shapes) same_f
-          (subst (λ paths. AreSlicedOfPaths width f paths shapes) (ap₂ shape_and_strings same_p same_q) are);
+      sliced = subst (λ y. AreSlicedOfPaths Rounds width y (shape_and_lines whole subject lines) shapes) same_f
+          (subst (λ paths. AreSlicedOfPaths Rounds width f paths shapes) (ap₂ shape_and_strings same_p same_q) are);
     };
     flattened = flattened;
   }

@@ -1,6 +1,7 @@
 -- How a clip of arrays ends.
 use Rattle.std.specs.Prelude.{◌≡◌, ◌==◌, ◌<◌, ◌≤◌, ◌⊎◌, ℕ, ℤ, List}
 use Rattle.overlay_geom.specs.Plane.{Point}
+use Rattle.overlay_geom.specs.declared.solver.Solver.TheVariants.{Rounds}
 use Rattle.overlay_string.specs.OneShot.{AreClippedOfPaths, MayRefusePaths}
 use Rattle.overlay_string.specs.declared.clip_rule.ClipRule.{ClipRule}
 use Rattle.polyover_c.specs.Asked.{fill_of}
@@ -32,7 +33,7 @@ pub record AreClips {I : Type 0} (whole : I → ℤ) (limit fill : ℕ) (options
   pub known : AreClipNumbers fill options
   pub shape_given : AreGiven whole limit shape
   pub lines_given : AreGiven whole limit lines
-  pub clipped : AreClippedOfPaths (fill_of fill) (clip_rule_of options) (shape_and_lines whole shape lines) paths
+  pub clipped : AreClippedOfPaths Rounds (fill_of fill) (clip_rule_of options) (shape_and_lines whole shape lines) paths
 
 -- the first number that stands for nothing is told by the status
 abbrev pub IsUnknownClip : ℕ → ClipOptions → Status → Type 0
@@ -43,7 +44,7 @@ IsUnknownClip fill options s = ((s ≡ BadFill) × (4 ≤ fill))
 -- shape first; else the query is refused
 abbrev pub IsClipRefused : {I : Type 0} → (I → ℤ) → ℕ → ℕ → ClipOptions → Contours I → Contours I → Status → Type 0
 IsClipRefused whole limit fill options shape lines = AreBothRefused whole limit (IsUnknownClip fill options)
-    (AreClipNumbers fill options) shape lines (MayRefusePaths (shape_and_lines whole shape lines))
+    (AreClipNumbers fill options) shape lines (MayRefusePaths Rounds (shape_and_lines whole shape lines))
 
 -- how it ends
 abbrev pub ClipEnds : {I : Type 0} → (I → ℤ) → ℕ → ℕ → ClipOptions → Contours I → Contours I → PathRoom I →

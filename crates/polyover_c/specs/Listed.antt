@@ -9,6 +9,7 @@ use Rattle.polyover_c.specs.Given.{Contours, paths_given, AreGiven}
 use Rattle.polyover_c.specs.Put.{IsPutSo, EndsInto}
 use Rattle.polyover_c.specs.Refusals.{IsQueryRefused}
 use Rattle.polyover_c.specs.declared.status.Status.{Status}
+use Rattle.overlay_geom.specs.declared.solver.Solver.TheVariants.{Rounds}
 
 -- edges in arrays: of each the coordinates of both ends, and its fill bits
 pub record EdgeArrays (I : Type 0) : Type 0 where
@@ -62,13 +63,13 @@ pub record AreEdgesIn {I : Type 0} (whole : I → ℤ) (limit fill : ℕ) (subje
   pub subject_given : AreGiven whole limit subject
   pub clip_given : AreGiven whole limit clip
   pub vectors : List Vector
-  pub answer : AreEdgesOfPaths (fill_of fill) (paths_given whole subject clip) vectors
+  pub answer : AreEdgesOfPaths Rounds (fill_of fill) (paths_given whole subject clip) vectors
   pub listed : AreListed whole vectors arrays
 
 -- there are none so
 abbrev pub IsListingRefused : {I : Type 0} → (I → ℤ) → ℕ → ℕ → Contours I → Contours I → Status → Type 0
 IsListingRefused whole limit fill subject clip =
-    IsQueryRefused whole limit fill subject clip (MayRefusePaths (paths_given whole subject clip))
+    IsQueryRefused whole limit fill subject clip (MayRefusePaths Rounds (paths_given whole subject clip))
 
 -- how it ends: with edges that are put into the arrays, or it is refused
 abbrev pub ListingEnds : {I : Type 0} → (I → ℤ) → ℕ → ℕ → Contours I → Contours I → EdgeRoom I → EdgeRoom I →

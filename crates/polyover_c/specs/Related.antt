@@ -9,6 +9,7 @@ use Rattle.polyover_c.specs.Given.{Contours, paths_given, AreGiven}
 use Rattle.polyover_c.specs.Refusals.{IsQueryRefused}
 use Rattle.polyover_c.specs.declared.status.Status.{Status}
 use Rattle.polyover_c.specs.declared.status.Status.TheVariants.{Done}
+use Rattle.overlay_geom.specs.declared.solver.Solver.TheVariants.{Rounds}
 
 -- a bit for each relation that holds
 abbrev pub bits_of : Relations → ℕ
@@ -21,14 +22,14 @@ pub record AreRelated {I : Type 0} (whole : I → ℤ) (limit fill : ℕ) (subje
   pub subject_given : AreGiven whole limit subject
   pub clip_given : AreGiven whole limit clip
   pub relations : Relations
-  pub hold : AreRelationsOfPaths (fill_of fill) (paths_given whole subject clip) (paths_given whole clip subject)
+  pub hold : AreRelationsOfPaths Rounds (fill_of fill) (paths_given whole subject clip) (paths_given whole clip subject)
       relations
   pub bits : sum ≡ bits_of relations
 
 -- nothing is told so
 abbrev pub IsRelatingRefused : {I : Type 0} → (I → ℤ) → ℕ → ℕ → Contours I → Contours I → Status → Type 0
 IsRelatingRefused whole limit fill subject clip = IsQueryRefused whole limit fill subject clip
-    (MayRefusePaths (paths_given whole subject clip))
+    (MayRefusePaths Rounds (paths_given whole subject clip))
 
 -- how it ends: with `Done` the bits are written, else they stay
 abbrev pub RelatingEnds : {I : Type 0} → (I → ℤ) → ℕ → ℕ → Contours I → Contours I → ℕ → ℕ → Status → Type 0

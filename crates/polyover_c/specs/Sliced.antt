@@ -2,6 +2,7 @@
 use Rattle.std.specs.Prelude.{◌<◌, ℕ, ℤ, List}
 use Rattle.std.specs.Int.{Width}
 use Rattle.overlay_geom.specs.Plane.{Point}
+use Rattle.overlay_geom.specs.declared.solver.Solver.TheVariants.{Rounds}
 use Rattle.overlay_string.specs.OneShot.{MayRefusePaths}
 use Rattle.overlay_string.specs.StringSlices.{AreSlicedOfPaths}
 use Rattle.polyover_c.specs.Asked.{fill_of}
@@ -17,13 +18,13 @@ pub record AreSlices {I : Type 0} (whole : I → ℤ) (limit : ℕ) (width : Wid
   pub known : fill < 4
   pub subject_given : AreGiven whole limit subject
   pub lines_given : AreGiven whole limit lines
-  pub sliced : AreSlicedOfPaths width (fill_of fill) (shape_and_lines whole subject lines) shapes
+  pub sliced : AreSlicedOfPaths Rounds width (fill_of fill) (shape_and_lines whole subject lines) shapes
 
 -- a slicing is refused so: the fill rule's number stands for nothing; else the arrays have a fault, those of the
 -- subject first; else the query is refused
 abbrev pub IsSlicingRefused : {I : Type 0} → (I → ℤ) → ℕ → ℕ → Contours I → Contours I → Status → Type 0
 IsSlicingRefused whole limit fill subject lines =
-    IsQueryRefused whole limit fill subject lines (MayRefusePaths (shape_and_lines whole subject lines))
+    IsQueryRefused whole limit fill subject lines (MayRefusePaths Rounds (shape_and_lines whole subject lines))
 
 -- how it ends
 abbrev pub SlicingEnds : {I : Type 0} → (I → ℤ) → ℕ → Width → ℕ → Contours I → Contours I → Room I → Room I → Status →

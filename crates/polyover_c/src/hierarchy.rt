@@ -7,6 +7,7 @@ ghost use Rattle.overlay_extract.specs.Results.{asked};
 ghost use Rattle.overlay_geom.specs.Flat.{paths_in, shapes_in};
 ghost use Rattle.overlay_geom.specs.FlatShapes.{AreShapesPacked};
 ghost use Rattle.overlay_geom.specs.Points.{AllInRange};
+ghost use Rattle.overlay_geom.specs.declared.solver.Solver.TheVariants.{Rounds};
 ghost use Rattle.i_overlay.specs.OneShot.{IsHierarchyOfPaths, MayRefusePaths};
 ghost use Rattle.polyover_c.specs.Given.{contours_of};
 ghost use Rattle.polyover_c.specs.Hierarchies.{IsLinkedOverlay, HierarchyEnds};
@@ -108,14 +109,15 @@ fn hierarchy_shapes<I: OverlayInt>(
     requires subject_in_range { All (AllInRange I.limit)
         (paths_in I.whole subject.now.points.items subject.now.ranges.items) }
     requires clip_in_range { All (AllInRange I.limit) (paths_in I.whole clip.now.points.items clip.now.ranges.items) }
-    ensures result { IfOk result (λ h. IsHierarchyOfPaths (asked I.Wide.width I.WideUInt.natural fill rule options)
+    ensures result { IfOk result (λ h. IsHierarchyOfPaths Rounds (asked I.Wide.width I.WideUInt.natural fill rule
+        options)
         (subject_and_clip (paths_in I.whole subject.now.points.items subject.now.ranges.items)
         (paths_in I.whole clip.now.points.items clip.now.ranges.items))
         (shapes_in I.whole h.shapes.points.items h.shapes.contour_ranges.items h.shapes.shape_ranges.items)
         (map plain_link h.links.items)) }
     ensures packed { IfOk result
         (λ h. AreShapesPacked h.shapes.points.items h.shapes.contour_ranges.items h.shapes.shape_ranges.items) }
-    ensures err { IfErr result (MayRefusePaths
+    ensures err { IfErr result (MayRefusePaths Rounds
         (subject_and_clip (paths_in I.whole subject.now.points.items subject.now.ranges.items)
         (paths_in I.whole clip.now.points.items clip.now.ranges.items))) }
 {

@@ -6,6 +6,7 @@ ghost use Rattle.overlay_extract.specs.Results.{asked};
 ghost use Rattle.overlay_geom.specs.Flat.{paths_in};
 ghost use Rattle.overlay_geom.specs.Paths.{plain_shapes};
 ghost use Rattle.overlay_geom.specs.Points.{AllInRange};
+ghost use Rattle.overlay_geom.specs.declared.solver.Solver.TheVariants.{Rounds};
 ghost use Rattle.i_overlay.specs.OneShot.{IsResultOfPaths, MayRefusePaths};
 ghost use Rattle.polyover_c.specs.Given.{contours_of};
 ghost use Rattle.polyover_c.specs.Written.{IsFlat, flat_shapes, shape_room};
@@ -94,10 +95,10 @@ fn overlay_shapes<I: OverlayInt>(
     requires subject_in_range { All (AllInRange I.limit)
         (paths_in I.whole subject.now.points.items subject.now.ranges.items) }
     requires clip_in_range { All (AllInRange I.limit) (paths_in I.whole clip.now.points.items clip.now.ranges.items) }
-    ensures result { IfOk result (λ v. IsResultOfPaths (asked I.Wide.width I.WideUInt.natural fill rule options)
+    ensures result { IfOk result (λ v. IsResultOfPaths Rounds (asked I.Wide.width I.WideUInt.natural fill rule options)
         (subject_and_clip (paths_in I.whole subject.now.points.items subject.now.ranges.items)
         (paths_in I.whole clip.now.points.items clip.now.ranges.items)) (plain_shapes I.whole v.items)) }
-    ensures err { IfErr result (MayRefusePaths
+    ensures err { IfErr result (MayRefusePaths Rounds
         (subject_and_clip (paths_in I.whole subject.now.points.items subject.now.ranges.items)
         (paths_in I.whole clip.now.points.items clip.now.ranges.items))) }
 {

@@ -5,6 +5,7 @@ ghost use Rattle.overlay_arrange.specs.Rules.{bit};
 ghost use Rattle.overlay_builder.specs.GivenPaths.{subject_and_clip};
 ghost use Rattle.overlay_geom.specs.Flat.{paths_in};
 ghost use Rattle.overlay_geom.specs.Points.{AllInRange};
+ghost use Rattle.overlay_geom.specs.declared.solver.Solver.TheVariants.{Rounds};
 ghost use Rattle.i_overlay.specs.OneShot.{MayRefusePaths};
 ghost use Rattle.i_overlay.specs.Relations.{AreRelationsOfPaths};
 ghost use Rattle.polyover_c.specs.Given.{contours_of};
@@ -99,12 +100,12 @@ fn relations_between<I: OverlayInt>(
         (paths_in I.whole subject.now.points.items subject.now.ranges.items) }
     requires clip_in_range { All (AllInRange I.limit) (paths_in I.whole clip.now.points.items clip.now.ranges.items) }
     ensures { MatchResult result
-        (AreRelationsOfPaths fill
+        (AreRelationsOfPaths Rounds fill
         (subject_and_clip (paths_in I.whole subject.now.points.items subject.now.ranges.items)
         (paths_in I.whole clip.now.points.items clip.now.ranges.items))
         (subject_and_clip (paths_in I.whole clip.now.points.items clip.now.ranges.items)
         (paths_in I.whole subject.now.points.items subject.now.ranges.items)))
-        (MayRefusePaths
+        (MayRefusePaths Rounds
         (subject_and_clip (paths_in I.whole subject.now.points.items subject.now.ranges.items)
         (paths_in I.whole clip.now.points.items clip.now.ranges.items))) }
 {

@@ -10,7 +10,8 @@ use Rattle.overlay_geom.specs.Edges.{CountedEdge, weight}
 use Rattle.overlay_geom.specs.Plane.{Point}
 use Rattle.overlay_geom.specs.declared.error.OverlayError.{OverlayError}
 use Rattle.overlay_geom.specs.declared.error.OverlayError.TheVariants.{Memory, NotSettled, TooManyEdges, Failed}
-use Rattle.overlay_arrange.specs.Arranged.{MayRefuseSplitting, most_rounds}
+use Rattle.overlay_geom.specs.declared.solver.Solver.TheVariants.{Rounds}
+use Rattle.overlay_arrange.specs.Arranged.{MayRefuseSplitting}
 use Rattle.overlay_arrange.specs.declared.fill_rule.FillRule.{FillRule}
 use Rattle.overlay_builder.specs.PathLists.{AddedPath, MayRefusePath, HoldsPaths, MayRefuseBuilder}
 use Rattle.overlay_builder.specs.PathLists.AddsPaths.{no_path}
@@ -110,10 +111,10 @@ module _ (cs : List GivenContour) (k : ℕ) (c : GivenContour) (within : k < len
 -- what a clip answers of the paths that a builder holds
 pub clip_answered : {V : Type 0} (shown : V → List (List Point)) (fill : FillRule) (rule : ClipRule)
     (paths : List (AddedPath CountedEdge)) (b : StringBuilder ℕ) → HoldsJust paths b → (r : Result V OverlayError)
-    → IfOk r (λ v. AreClipped most_rounds fill rule b.edges (shown v)) → (IsErrOf r Failed ↔ (b.failed ≡ true))
-    → IfErr r (λ e. (e ≡ Failed) ⊎ MayRefuseSplitting most_rounds b.edges e)
-    → MatchResult r (λ v. AreClippedOfPaths fill rule paths (shown v)) (λ e. MayRefusePaths paths e)
+    → IfOk r (λ v. AreClipped Rounds fill rule b.edges (shown v)) → (IsErrOf r Failed ↔ (b.failed ≡ true))
+    → IfErr r (λ e. (e ≡ Failed) ⊎ MayRefuseSplitting Rounds b.edges e)
+    → MatchResult r (λ v. AreClippedOfPaths Rounds fill rule paths (shown v)) (λ e. MayRefusePaths Rounds paths e)
 clip_answered shown fill rule paths b h (Ok v) clipped failed refused =
     record { content = b.edges; holds = h.holds; clipped = clipped }
 clip_answered shown fill rule paths b h (Err e) clipped failed refused =
-    clip_refused paths b.edges b.failed h.holds h.ready (Err e) failed refused
+    clip_refused Rounds paths b.edges b.failed h.holds h.ready (Err e) failed refused

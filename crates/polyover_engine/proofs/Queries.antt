@@ -5,9 +5,9 @@ use Rattle.std.specs.Int.{w128}
 use Rattle.overlay_geom.specs.declared.error.OverlayError.{OverlayError}
 use Rattle.overlay_geom.specs.Edges.{CountedEdge}
 use Rattle.overlay_geom.specs.Plane.{Point}
+use Rattle.overlay_geom.specs.declared.solver.Solver.TheVariants.{Rounds}
 use Rattle.overlay_arrange.specs.Vectors.{Vector, vector_of}
 use Rattle.overlay_arrange.specs.declared.fill_rule.FillRule.{FillRule}
-use Rattle.overlay_arrange.specs.Arranged.{most_rounds}
 use Rattle.overlay_builder.specs.Held.{Held, AnswersQuery}
 use Rattle.i_overlay.specs.Builder.{Builder, held_by}
 use Rattle.overlay_extract.specs.PlacedResults.{IsHierarchy}
@@ -26,13 +26,14 @@ module _ (cs : List GivenPath) (b : Builder ℕ) (h : HasAdded cs b) where
   -- what a query for the edges answers
   pub edges_answered : {V : Type 0} (limit : ℕ) (vectors : V → List Vector) (fill : FillRule) (new : Held CountedEdge)
       (answer : Result V OverlayError)
-      → AnswersQuery limit most_rounds (held_by b) new answer
+      → AnswersQuery limit b.solver (held_by b) new answer
       → IfOk answer (λ v. vectors v ≡ map (vector_of fill new.edges) new.edges)
-      → MatchResult answer (λ v. AreEdgesOfPaths fill cs (vectors v)) (λ e. MayRefusePaths cs e)
-  edges_answered limit vectors fill new (Ok v) query listed = edges_of_paths {E = OverlayError} (Ok v) vectors fill cs
+      → MatchResult answer (λ v. AreEdgesOfPaths Rounds fill cs (vectors v)) (λ e. MayRefusePaths Rounds cs e)
+  edges_answered limit vectors fill new (Ok v) query listed = edges_of_paths {E = OverlayError} Rounds h.made.by (Ok v)
+      vectors fill cs
       b.edges new.edges h.holds query.arranged listed
   edges_answered limit vectors fill new (Err e) query listed =
-      query_refused limit cs (held_by b) new (Err e) h.holds h.made.ready query
+      query_refused Rounds h.made.by limit cs (held_by b) new (Err e) h.holds h.made.ready query
 
 module _ (cs : List GivenPath) (query : OverlayQuery) (b : Builder ℕ) (h : IsAskedBuilder cs query b) where
   -- what a builder is asked for
@@ -41,26 +42,29 @@ module _ (cs : List GivenPath) (query : OverlayQuery) (b : Builder ℕ) (h : IsA
 
   -- what an overlay answers
   pub shapes_answered : {V : Type 0} (limit : ℕ) (shapes : V → List (List (List Point))) (new : Held CountedEdge)
-      (answer : Result V OverlayError) → AnswersQuery limit most_rounds (held_by b) new answer →
+      (answer : Result V OverlayError) → AnswersQuery limit b.solver (held_by b) new answer →
       IfOk answer (λ v. IsResult asked_of new.edges (shapes v)) →
-      MatchResult answer (λ v. IsResultOfPaths (asked_by query) cs (shapes v)) (λ e. MayRefusePaths cs e)
+      MatchResult answer (λ v. IsResultOfPaths Rounds (asked_by query) cs (shapes v)) (λ e. MayRefusePaths Rounds cs e)
   shapes_answered limit shapes new (Ok v) answers result =
-      result_of_paths {E = OverlayError} (Ok v) shapes (asked_by query) cs b.edges new.edges h.holds answers.arranged
+      result_of_paths {E = OverlayError} Rounds h.by (Ok v) shapes (asked_by query) cs b.edges new.edges h.holds
+          answers.arranged
       (subst (λ q. IsResult q new.edges (shapes v)) h.asked result)
   shapes_answered limit shapes new (Err e) answers result =
-      query_refused limit cs (held_by b) new (Err e) h.holds h.ready answers
+      query_refused Rounds h.by limit cs (held_by b) new (Err e) h.holds h.ready answers
 
   -- and what it answers that tells of the links too
   pub hierarchy_answered : {V : Type 0} (limit : ℕ) (shapes : V → List (List (List Point)))
       (links : V → List ChildLink) (new : Held CountedEdge) (answer : Result V OverlayError) →
-      AnswersQuery limit most_rounds (held_by b) new answer →
+      AnswersQuery limit b.solver (held_by b) new answer →
       IfOk answer (λ v. IsHierarchy asked_of new.edges (shapes v) (links v)) →
-      MatchResult answer (λ v. IsHierarchyOfPaths (asked_by query) cs (shapes v) (links v)) (λ e. MayRefusePaths cs e)
+      MatchResult answer (λ v. IsHierarchyOfPaths Rounds (asked_by query) cs (shapes v) (links v))
+      (λ e. MayRefusePaths Rounds cs e)
   hierarchy_answered limit shapes links new (Ok v) answers result =
-      hierarchy_of_paths {E = OverlayError} (Ok v) shapes links (asked_by query) cs b.edges new.edges h.holds
+      hierarchy_of_paths {E = OverlayError} Rounds h.by (Ok v) shapes links (asked_by query) cs b.edges new.edges
+          h.holds
       answers.arranged (subst (λ q. IsHierarchy q new.edges (shapes v) (links v)) h.asked result)
   hierarchy_answered limit shapes links new (Err e) answers result =
-      query_refused limit cs (held_by b) new (Err e) h.holds h.ready answers
+      query_refused Rounds h.by limit cs (held_by b) new (Err e) h.holds h.ready answers
 
 -- the text answers what was read, where the reader tells it
 pub answers_read : (given : Option (List ℕ)) (bytes text written : List ℕ) (fs : GivenFigures) (query : Query)

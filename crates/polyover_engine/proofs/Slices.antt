@@ -8,6 +8,7 @@ use Rattle.overlay_geom.specs.Plane.{Point}
 use Rattle.overlay_geom.specs.Points.{AllInRange}
 use Rattle.overlay_geom.specs.declared.error.OverlayError.{OverlayError}
 use Rattle.overlay_geom.specs.Numbers.{greatest_of_64_bits}
+use Rattle.overlay_geom.specs.declared.solver.Solver.TheVariants.{Rounds}
 use Rattle.overlay_arrange.specs.Paths.{GivenPath}
 use Rattle.overlay_arrange.specs.declared.fill_rule.FillRule.{FillRule}
 use Rattle.overlay_arrange.specs.declared.options.ShapeType.{ShapeType}
@@ -39,8 +40,8 @@ subject_in_range (c ∷ cs) h =
 -- what slicing answers of some paths, it answers of the same paths
 pub slices_answered : {V : Type 0} (shown : V → List (List (List Point))) (fill : FillRule)
     (given paths : List (AddedPath CountedEdge)) → given ≡ paths → (r : Result V OverlayError)
-    → IfOk r (λ v. AreSlicedOfPaths w128 fill given (shown v)) → IfErr r (MayRefusePaths given)
-    → MatchResult r (λ v. AreSlicedOfPaths w128 fill paths (shown v)) (λ e. MayRefusePaths paths e)
+    → IfOk r (λ v. AreSlicedOfPaths Rounds w128 fill given (shown v)) → IfErr r (MayRefusePaths Rounds given)
+    → MatchResult r (λ v. AreSlicedOfPaths Rounds w128 fill paths (shown v)) (λ e. MayRefusePaths Rounds paths e)
 slices_answered shown fill given paths same (Ok v) sliced refused =
-    subst (λ l. AreSlicedOfPaths w128 fill l (shown v)) same sliced
-slices_answered shown fill given paths same (Err e) sliced refused = subst (λ l. MayRefusePaths l e) same refused
+    subst (λ l. AreSlicedOfPaths Rounds w128 fill l (shown v)) same sliced
+slices_answered shown fill given paths same (Err e) sliced refused = subst (λ l. MayRefusePaths Rounds l e) same refused

@@ -14,6 +14,7 @@ use Rattle.overlay_relate.specs.Exchanged.{exchanged_paths}
 use Rattle.overlay_relate.specs.declared.location.PointLocation.{PointLocation}
 use Rattle.overlay_relate.specs.declared.relations.Relations.{Relations}
 use Rattle.overlay_geom.specs.Plane.{Point}
+use Rattle.overlay_geom.specs.declared.solver.Solver.TheVariants.{Rounds}
 use Rattle.overlay_arrange.specs.Vectors.{Vector}
 use Rattle.i_overlay.specs.OneShot.{AreEdgesOfPaths, IsHierarchyOfPaths, IsResultOfPaths, MayRefusePaths}
 use Rattle.i_overlay.specs.Relations.{AreRelationsOfPaths}
@@ -57,19 +58,21 @@ pub record TellWhere (fs : GivenFigures) (answers : List PointLocation) : Type 0
 
 -- the text answers the query on the figures
 abbrev pub Answers : GivenFigures → Query → List ℕ → Type 0
-Answers fs (Edges fill) text = (vs : List Vector) × AreEdgesOfPaths fill (paths_of fs) vs × (text ≡ edge_lines vs)
-Answers fs (Overlay query) text = (shapes : List (List (List Point))) × IsResultOfPaths (asked_by query)
+Answers fs (Edges fill) text = (vs : List Vector) × AreEdgesOfPaths Rounds fill (paths_of fs) vs ×
+    (text ≡ edge_lines vs)
+Answers fs (Overlay query) text = (shapes : List (List (List Point))) × IsResultOfPaths Rounds (asked_by query)
     (paths_of fs) shapes × (text ≡ lines_of_shapes shapes)
 Answers fs (Hierarchy query) text = (shapes : List (List (List Point))) × (links : List ChildLink)
-    × IsHierarchyOfPaths (asked_by query) (paths_of fs) shapes links
+    × IsHierarchyOfPaths Rounds (asked_by query) (paths_of fs) shapes links
     × (text ≡ lines_of_shapes shapes ++ link_lines links)
 Answers fs (Relate fill) text = (answers : Relations)
-    × AreRelationsOfPaths fill (paths_of fs) (exchanged_paths (paths_of fs)) answers × (text ≡ relation_lines answers)
+    × AreRelationsOfPaths Rounds fill (paths_of fs) (exchanged_paths (paths_of fs)) answers ×
+    (text ≡ relation_lines answers)
 Answers fs (ClipLines query) text = (paths : List (List Point))
-    × AreClippedOfPaths query.fill_rule (clip_rule_of query.options) (shape_and_lines fs) paths
+    × AreClippedOfPaths Rounds query.fill_rule (clip_rule_of query.options) (shape_and_lines fs) paths
     × (text ≡ lines_of_paths paths)
 Answers fs (Slice fill) text = (shapes : List (List (List Point)))
-    × AreSlicedOfPaths w128 fill (shape_and_lines fs) shapes × (text ≡ lines_of_shapes shapes)
+    × AreSlicedOfPaths Rounds w128 fill (shape_and_lines fs) shapes × (text ≡ lines_of_shapes shapes)
 Answers fs (Tiles query) text = (shapes : List (List (List Point)))
     × AreTiles w128 query.fill_rule query.width query.height (subject_of fs.contours) shapes
     × (text ≡ lines_of_shapes shapes)
@@ -78,10 +81,10 @@ Answers fs Locate text = (answers : List PointLocation) × TellWhere fs answers 
 
 -- the query may be refused so: as the builder is, or for want of memory alone
 abbrev pub MayRefuseQuery : GivenFigures → Query → OverlayError → Type 0
-MayRefuseQuery fs (Edges fill) e = MayRefusePaths (paths_of fs) e
-MayRefuseQuery fs (Overlay query) e = MayRefusePaths (paths_of fs) e
-MayRefuseQuery fs (Hierarchy query) e = MayRefusePaths (paths_of fs) e
-MayRefuseQuery fs (Relate fill) e = MayRefusePaths (paths_of fs) e
+MayRefuseQuery fs (Edges fill) e = MayRefusePaths Rounds (paths_of fs) e
+MayRefuseQuery fs (Overlay query) e = MayRefusePaths Rounds (paths_of fs) e
+MayRefuseQuery fs (Hierarchy query) e = MayRefusePaths Rounds (paths_of fs) e
+MayRefuseQuery fs (Relate fill) e = MayRefusePaths Rounds (paths_of fs) e
 MayRefuseQuery fs (ClipLines query) e = MayRefuseStrings (shape_and_lines fs) e
 MayRefuseQuery fs (Slice fill) e = MayRefuseStrings (shape_and_lines fs) e
 MayRefuseQuery fs (Tiles query) e = MayRefuseTiles query.width query.height (subject_of fs.contours) e

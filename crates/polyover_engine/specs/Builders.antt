@@ -6,6 +6,7 @@ use Rattle.i_overlay.specs.Builder.{Builder, IsNewBuilder}
 use Rattle.overlay_builder.specs.GivenPaths.{GivenPath, added_paths}
 use Rattle.overlay_builder.specs.PathLists.{HoldsPaths}
 use Rattle.polyover_text.specs.declared.query.OverlayQuery.{OverlayQuery}
+use Rattle.overlay_geom.specs.declared.solver.Solver.TheVariants.{Rounds}
 
 -- a builder as the constructors without settings make it holds just the contours
 pub record HasAdded (cs : List GivenPath) (b : Builder ℕ) : Type 0 where
@@ -24,8 +25,9 @@ asked_by q = record {
   area_width = w128;
 }
 
--- a builder that holds just the contours, and has the options that the query sets
+-- a builder that holds just the contours, and has the default solver and the options that the query sets
 pub record IsAskedBuilder (cs : List GivenPath) (query : OverlayQuery) (b : Builder ℕ) : Type 0 where
   pub holds : HoldsPaths (added_paths false cs) b.edges
   pub ready : b.failed ≡ false
+  pub by : b.solver ≡ Rounds
   pub asked : asked w128 (λ n. n) query.fill_rule query.overlay_rule b.options ≡ asked_by query

@@ -2,6 +2,7 @@
 
 ghost use Rattle.std.specs.Prelude.{◌≡◌, MatchResult, string_bytes};
 ghost use Rattle.overlay_geom.specs.Paths.{paths_of_shape};
+ghost use Rattle.overlay_geom.specs.declared.solver.Solver.TheVariants.{Rounds};
 ghost use Rattle.overlay_string.specs.OneShot.{AreClippedOfPaths, MayRefusePaths};
 ghost use Rattle.polyover_text.specs.Points.{FiguresInRange};
 ghost use Rattle.polyover_text.specs.Statements.{figures_at};
@@ -43,9 +44,10 @@ fn clipped_lines<A: Allocator + Clone>(
 ) -> Result<Vec<IntPath<i64, A>, A>, OverlayError>
     requires { FiguresInRange (figures_at figures.now) }
     ensures { MatchResult result
-        (λ v. AreClippedOfPaths query.fill_rule (clip_rule_of query.options) (shape_and_lines (figures_at figures.now))
+        (λ v. AreClippedOfPaths Rounds query.fill_rule (clip_rule_of query.options)
+        (shape_and_lines (figures_at figures.now))
         (paths_of_shape (λ z. z) v.items))
-        (λ e. MayRefusePaths (shape_and_lines (figures_at figures.now)) e) }
+        (λ e. MayRefusePaths Rounds (shape_and_lines (figures_at figures.now)) e) }
 {
     let mut overlay = with_subject_shape(alloc, &figures.contours)?;
     overlay.add_string_paths(&figures.lines)?;

@@ -3,6 +3,7 @@
 ghost use Rattle.std.specs.Prelude.{MatchResult, All, map, string_bytes};
 ghost use Rattle.overlay_geom.specs.Points.{AllInRange};
 ghost use Rattle.overlay_geom.specs.Numbers.{greatest_of_64_bits};
+ghost use Rattle.overlay_geom.specs.declared.solver.Solver.TheVariants.{Rounds};
 ghost use Rattle.overlay_arrange.specs.Vectors.{plain_vector};
 ghost use Rattle.i_overlay.specs.OneShot.{AreEdgesOfPaths, MayRefusePaths};
 ghost use Rattle.polyover_engine.specs.Answers.{Answers, EndsUnanswered};
@@ -44,9 +45,9 @@ fn arranged_edges<A: Allocator + Clone>(
 ) -> Result<Vec<DataVectorEdge<i64, ()>, A>, OverlayError>
     requires { All (λ c. AllInRange greatest_of_64_bits c.points) (contour_paths (contours_at contours.now)) }
     ensures { MatchResult result
-        (λ v. AreEdgesOfPaths fill_rule (contour_paths (contours_at contours.now))
+        (λ v. AreEdgesOfPaths Rounds fill_rule (contour_paths (contours_at contours.now))
         (map (plain_vector (λ z. z)) v.items))
-        (λ e. MayRefusePaths (contour_paths (contours_at contours.now)) e) }
+        (λ e. MayRefusePaths Rounds (contour_paths (contours_at contours.now)) e) }
 {
     let mut builder = with_contours(alloc, contours)?;
     builder.build_separate_vectors(fill_rule)

@@ -4,6 +4,7 @@ ghost use Rattle.std.specs.Prelude.{◌≡◌, ◌++◌, MatchResult, All, map, 
 ghost use Rattle.overlay_geom.specs.Flat.{shapes_in};
 ghost use Rattle.overlay_geom.specs.Points.{AllInRange};
 ghost use Rattle.overlay_geom.specs.Numbers.{greatest_of_64_bits};
+ghost use Rattle.overlay_geom.specs.declared.solver.Solver.TheVariants.{Rounds};
 ghost use Rattle.overlay_extract.specs.ChildLinks.{plain_link};
 ghost use Rattle.i_overlay.specs.OneShot.{IsHierarchyOfPaths, MayRefusePaths};
 ghost use Rattle.polyover_engine.specs.Answers.{Answers, EndsUnanswered, link_lines};
@@ -47,10 +48,10 @@ fn overlay_hierarchy<A: Allocator + Clone>(
 ) -> Result<FlatShapeHierarchy<i64, A>, OverlayError>
     requires { All (λ c. AllInRange greatest_of_64_bits c.points) (contour_paths (contours_at contours.now)) }
     ensures { MatchResult result
-        (λ h. IsHierarchyOfPaths (asked_by query) (contour_paths (contours_at contours.now))
+        (λ h. IsHierarchyOfPaths Rounds (asked_by query) (contour_paths (contours_at contours.now))
         (shapes_in (λ z. z) h.shapes.points.items h.shapes.contour_ranges.items h.shapes.shape_ranges.items)
         (map plain_link h.links.items))
-        (λ e. MayRefusePaths (contour_paths (contours_at contours.now)) e) }
+        (λ e. MayRefusePaths Rounds (contour_paths (contours_at contours.now)) e) }
 {
     let mut builder = asked_builder(alloc, contours, query)?;
     builder.overlay_hierarchy(query.overlay_rule, query.fill_rule)

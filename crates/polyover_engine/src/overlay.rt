@@ -4,6 +4,7 @@ ghost use Rattle.std.specs.Prelude.{MatchResult, All, string_bytes};
 ghost use Rattle.overlay_geom.specs.Points.{AllInRange};
 ghost use Rattle.overlay_geom.specs.Paths.{plain_shapes};
 ghost use Rattle.overlay_geom.specs.Numbers.{greatest_of_64_bits};
+ghost use Rattle.overlay_geom.specs.declared.solver.Solver.TheVariants.{Rounds};
 ghost use Rattle.i_overlay.specs.OneShot.{IsResultOfPaths, MayRefusePaths};
 ghost use Rattle.polyover_engine.specs.Answers.{Answers, EndsUnanswered};
 ghost use Rattle.polyover_engine.specs.Builders.{asked_by};
@@ -44,9 +45,9 @@ fn overlay_shapes<A: Allocator + Clone>(
 ) -> Result<IntShapes<i64, A>, OverlayError>
     requires { All (λ c. AllInRange greatest_of_64_bits c.points) (contour_paths (contours_at contours.now)) }
     ensures { MatchResult result
-        (λ v. IsResultOfPaths (asked_by query) (contour_paths (contours_at contours.now))
+        (λ v. IsResultOfPaths Rounds (asked_by query) (contour_paths (contours_at contours.now))
         (plain_shapes (λ z. z) v.items))
-        (λ e. MayRefusePaths (contour_paths (contours_at contours.now)) e) }
+        (λ e. MayRefusePaths Rounds (contour_paths (contours_at contours.now)) e) }
 {
     let mut builder = asked_builder(alloc, contours, query)?;
     builder.overlay(query.overlay_rule, query.fill_rule)

@@ -3,6 +3,7 @@
 ghost use Rattle.std.specs.Prelude.{MatchResult, All, false};
 ghost use Rattle.overlay_geom.specs.Points.{AllInRange};
 ghost use Rattle.overlay_geom.specs.Numbers.{greatest_of_64_bits};
+ghost use Rattle.overlay_geom.specs.declared.solver.Solver.TheVariants.{Rounds};
 ghost use Rattle.i_overlay.specs.Relations.{HasAddedUnder};
 ghost use Rattle.polyover_text.specs.Grammar.{contour_paths};
 ghost use Rattle.polyover_text.specs.Statements.{contours_at};
@@ -25,7 +26,7 @@ pub(crate) fn with_contours<A: Allocator + Clone>(
 ) -> Result<PredicateOverlay<i64, A>, OverlayError>
     requires { All (λ c. AllInRange greatest_of_64_bits c.points) (contour_paths (contours_at contours.now)) }
     ensures { MatchResult result
-        (λ overlay. HasAddedUnder fill_rule (contour_paths (contours_at contours.now)) overlay)
+        (λ overlay. HasAddedUnder Rounds fill_rule (contour_paths (contours_at contours.now)) overlay)
         (λ e. MayRefuseBuilder (added_paths false (contour_paths (contours_at contours.now))) e) }
 {
     let mut overlay = PredicateOverlay::<i64, A>::new(alloc, 0)?;

@@ -3,6 +3,7 @@
 ghost use Rattle.std.specs.Prelude.{MatchResult, All, string_bytes};
 ghost use Rattle.overlay_geom.specs.Points.{AllInRange};
 ghost use Rattle.overlay_geom.specs.Numbers.{greatest_of_64_bits};
+ghost use Rattle.overlay_geom.specs.declared.solver.Solver.TheVariants.{Rounds};
 ghost use Rattle.i_overlay.specs.OneShot.{MayRefusePaths};
 ghost use Rattle.i_overlay.specs.Relations.{AreRelationsOfPaths};
 ghost use Rattle.overlay_relate.specs.Exchanged.{exchanged_paths};
@@ -45,9 +46,9 @@ fn relations<A: Allocator + Copy>(
 ) -> Result<Relations, OverlayError>
     requires { All (λ c. AllInRange greatest_of_64_bits c.points) (contour_paths (contours_at contours.now)) }
     ensures { MatchResult result
-        (λ r. AreRelationsOfPaths fill_rule (contour_paths (contours_at contours.now))
+        (λ r. AreRelationsOfPaths Rounds fill_rule (contour_paths (contours_at contours.now))
         (exchanged_paths (contour_paths (contours_at contours.now))) r)
-        (λ e. MayRefusePaths (contour_paths (contours_at contours.now)) e) }
+        (λ e. MayRefusePaths Rounds (contour_paths (contours_at contours.now)) e) }
 {
     let mut overlay = with_contours(alloc, contours, fill_rule)?;
     overlay.relations()

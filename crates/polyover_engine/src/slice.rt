@@ -3,6 +3,7 @@
 ghost use Rattle.std.specs.Prelude.{MatchResult, string_bytes};
 ghost use Rattle.std.specs.Int.{w128};
 ghost use Rattle.overlay_geom.specs.Paths.{plain_shapes};
+ghost use Rattle.overlay_geom.specs.declared.solver.Solver.TheVariants.{Rounds};
 ghost use Rattle.overlay_string.specs.OneShot.{MayRefusePaths};
 ghost use Rattle.overlay_string.specs.StringSlices.{AreSlicedOfPaths};
 ghost use Rattle.polyover_text.specs.Points.{FiguresInRange};
@@ -45,9 +46,9 @@ fn sliced_subject<A: Allocator + Copy>(
 ) -> Result<IntShapes<i64, A>, OverlayError>
     requires { FiguresInRange (figures_at figures.now) }
     ensures { MatchResult result
-        (λ v. AreSlicedOfPaths w128 fill_rule (shape_and_lines (figures_at figures.now))
+        (λ v. AreSlicedOfPaths Rounds w128 fill_rule (shape_and_lines (figures_at figures.now))
         (plain_shapes (λ z. z) v.items))
-        (λ e. MayRefusePaths (shape_and_lines (figures_at figures.now)) e) }
+        (λ e. MayRefusePaths Rounds (shape_and_lines (figures_at figures.now)) e) }
 {
     let subject = BorrowedSubject::new(alloc, &figures.contours)?;
     subject.slice_by_paths(alloc, &figures.lines, fill_rule)

@@ -2,7 +2,6 @@
 
 ghost use Rattle.std.specs.Prelude.{◌≡◌, ◌∷◌, [], All, Some, IfOk, OnOk, IsOkUnless};
 ghost use Rattle.overlay_arrange.specs.declared.options.ShapeType.TheVariants.{Subject};
-ghost use Rattle.overlay_arrange.specs.Arranged.{most_rounds};
 ghost use Rattle.overlay_builder.specs.GivenPaths.{paths_for};
 ghost use Rattle.overlay_extract.specs.Results.{asked, IsResult};
 ghost use Rattle.overlay_geom.specs.Paths.{plain_shapes};
@@ -34,7 +33,7 @@ impl<I: OverlayInt, A: Allocator + Clone> Overlay<I, A> {
         fill_rule: FillRule,
     ) -> Result<IntShapes<I, A>, OverlayError>
         requires { All (AllInRange I.limit) (R0.paths resource.now) }
-        ensures alone { AnswersAlone I.limit most_rounds self.old.options.preserve_input_collinear
+        ensures alone { AnswersAlone I.limit self.old.solver self.old.options.preserve_input_collinear
             (paths_for Subject (R0.paths resource.now)) (held_by self.new) result }
         ensures result { IfOk result (λ v. IsResult
             (asked I.Wide.width I.WideUInt.natural fill_rule OverlayRule.Subject self.old.options)
@@ -58,13 +57,13 @@ impl<I: OverlayInt, A: Allocator + Clone> Overlay<I, A> {
         resource: &R0,
     ) -> Result<(), OverlayError>
         requires { All (AllInRange I.limit) (R0.paths resource.now) }
-        ensures alone { AnswersAlone I.limit most_rounds self.old.options.preserve_input_collinear
+        ensures alone { AnswersAlone I.limit self.old.solver self.old.options.preserve_input_collinear
             (paths_for Subject (R0.paths resource.now)) (held_by self.new) result }
         ensures kept { self.new ≡ record self.old { edges = self.new.edges; failed = self.new.failed } }
     {
         self.viewed = None;
         let keeps_points = self.options.preserve_input_collinear;
-        arrange_alone(&mut self.core, resource, keeps_points)
+        arrange_alone(&mut self.core, self.solver, resource, keeps_points)
     }
 
     /// Holds the contour alone, arranged, and tells what becomes of it.
@@ -74,7 +73,7 @@ impl<I: OverlayInt, A: Allocator + Clone> Overlay<I, A> {
         fill_rule: FillRule,
     ) -> Result<Outcome, OverlayError>
         requires { AllInRange I.limit (plain_points I.whole contour.now) }
-        ensures alone { AnswersAlone I.limit most_rounds self.old.options.preserve_input_collinear
+        ensures alone { AnswersAlone I.limit self.old.solver self.old.options.preserve_input_collinear
             (paths_for Subject (plain_points I.whole contour.now ∷ [])) (held_by self.new) result }
         ensures outcome { IfOk result (IsOutcome self.old.options.preserve_input_collinear fill_rule
             self.old.options.output_direction (plain_points I.whole contour.now) self.new.edges) }
@@ -83,7 +82,7 @@ impl<I: OverlayInt, A: Allocator + Clone> Overlay<I, A> {
         self.viewed = None;
         let keeps_points = self.options.preserve_input_collinear;
         let direction = self.options.output_direction;
-        outcome_of_contour(&mut self.core, contour, keeps_points, fill_rule, direction)
+        outcome_of_contour(&mut self.core, self.solver, contour, keeps_points, fill_rule, direction)
     }
 
     /// Makes a buffer where there is none. The only refusal is `Memory`.

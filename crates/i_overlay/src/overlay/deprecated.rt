@@ -4,7 +4,6 @@
 
 ghost use Rattle.std.specs.Prelude.{◌≡◌, ◌∷◌, [], All, false, Some, IfOk, IfErr, OnOk};
 ghost use Rattle.overlay_arrange.specs.declared.options.ShapeType.TheVariants.{Subject};
-ghost use Rattle.overlay_arrange.specs.Arranged.{most_rounds};
 ghost use Rattle.overlay_extract.specs.Results.{asked, IsResult};
 ghost use Rattle.overlay_geom.specs.Flat.{paths_in};
 ghost use Rattle.overlay_geom.specs.Paths.{paths_of_shape, paths_of_shapes, counted_paths, plain_shapes};
@@ -250,7 +249,8 @@ impl<I: OverlayInt, A: Allocator + Clone> Overlay<I, A> {
         fill_rule: FillRule,
     ) -> Result<IntShapes<I, A>, OverlayError>
         requires { All (AllInRange I.limit) (counted_paths (paths_of_shapes I.whole shapes.now)) }
-        ensures alone { AnswersAlone I.limit most_rounds self.old.options.preserve_input_collinear (paths_for Subject
+        ensures alone { AnswersAlone I.limit self.old.solver self.old.options.preserve_input_collinear
+            (paths_for Subject
             (counted_paths (paths_of_shapes I.whole shapes.now))) (held_by self.new) result }
         ensures result { IfOk result (λ v. IsResult
             (asked I.Wide.width I.WideUInt.natural fill_rule OverlayRule.Subject self.old.options)

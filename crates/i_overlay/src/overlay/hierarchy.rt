@@ -44,7 +44,7 @@ impl<I: OverlayInt, A: Allocator + Clone> Overlay<I, A> {
         ensures packed { IfOk result
             (λ h. AreShapesPacked h.shapes.points.items h.shapes.contour_ranges.items h.shapes.shape_ranges.items) }
     {
-        self.core.arrange(&mut ())?;
+        self.core.arrange(self.solver, &mut ())?;
         let hierarchy = self.extract_hierarchy(overlay_rule, fill_rule);
         self.core.set_failed(hierarchy.is_err());
         hierarchy

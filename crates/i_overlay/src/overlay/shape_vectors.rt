@@ -39,7 +39,7 @@ impl<I: OverlayInt, A: Allocator + Clone> Overlay<I, A> {
             (asked I.Wide.width I.WideUInt.natural fill_rule overlay_rule self.old.options)
             self.new.edges (plain_vector_shapes I.whole v.items)) }
     {
-        self.core.arrange(&mut ())?;
+        self.core.arrange(self.solver, &mut ())?;
         let shapes = self.extract_shape_vectors(fill_rule, overlay_rule);
         self.core.set_failed(shapes.is_err());
         shapes

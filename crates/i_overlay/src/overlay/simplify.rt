@@ -5,7 +5,6 @@ ghost use Rattle.std.specs.Prelude.{◌≡◌, ◌↔◌, ◌∷◌, [], All, le
 ghost use Rattle.std.specs.Prelude.{IfOk, OnOk, IsOkUnless};
 ghost use Rattle.overlay_arrange.specs.Content.{IsAscending};
 ghost use Rattle.overlay_arrange.specs.declared.options.ShapeType.TheVariants.{Subject};
-ghost use Rattle.overlay_arrange.specs.Arranged.{most_rounds};
 ghost use Rattle.overlay_builder.specs.GivenPaths.{paths_for};
 ghost use Rattle.overlay_extract.specs.Results.{asked};
 ghost use Rattle.overlay_geom.specs.Paths.{paths_of_shape, plain_shapes};
@@ -46,7 +45,7 @@ impl<I: OverlayInt, A: Allocator + Clone> Overlay<I, A> {
         fill_rule: FillRule,
     ) -> Result<IntShapes<I, A>, OverlayError>
         requires points { All (AllInRange I.limit) (R0.paths resource.now) }
-        ensures alone { AnswersAlone I.limit most_rounds self.old.options.preserve_input_collinear
+        ensures alone { AnswersAlone I.limit self.old.solver self.old.options.preserve_input_collinear
             (paths_for Subject (R0.paths resource.now)) (held_by self.new) result }
         ensures simplified { IfOk result (λ v. IsSimplifiedSource
             (asked I.Wide.width I.WideUInt.natural fill_rule OverlayRule.Subject self.old.options)
@@ -85,7 +84,7 @@ impl<I: OverlayInt, A: Allocator + Clone> Overlay<I, A> {
         fill_rule: FillRule,
     ) -> Result<Option<IntShapes<I, A>>, OverlayError>
         requires points { AllInRange I.limit (plain_points I.whole contour.now) }
-        ensures alone { AnswersAlone I.limit most_rounds self.old.options.preserve_input_collinear
+        ensures alone { AnswersAlone I.limit self.old.solver self.old.options.preserve_input_collinear
             (paths_for Subject (plain_points I.whole contour.now ∷ [])) (held_by self.new) result }
         ensures simplified { IfOk result (λ o. IsSimplified
             (asked I.Wide.width I.WideUInt.natural fill_rule OverlayRule.Subject self.old.options)
@@ -123,7 +122,7 @@ impl<I: OverlayInt, A: Allocator + Clone> Overlay<I, A> {
         fill_rule: FillRule,
     ) -> Result<Option<IntShapes<I, A>>, OverlayError>
         requires points { All (AllInRange I.limit) (paths_of_shape I.whole shape.now) }
-        ensures alone { AnswersAlone I.limit most_rounds self.old.options.preserve_input_collinear
+        ensures alone { AnswersAlone I.limit self.old.solver self.old.options.preserve_input_collinear
             (paths_for Subject (paths_of_shape I.whole shape.now)) (held_by self.new) result }
         ensures simplified { IfOk result (λ o. IsSimplified
             (asked I.Wide.width I.WideUInt.natural fill_rule OverlayRule.Subject self.old.options)
@@ -161,7 +160,7 @@ impl<I: OverlayInt, A: Allocator + Clone> Overlay<I, A> {
         fill_rule: FillRule,
     ) -> Result<IntShapes<I, A>, OverlayError>
         requires { AllInRange I.limit (plain_points I.whole contour.now) }
-        ensures alone { AnswersAlone I.limit most_rounds self.old.options.preserve_input_collinear
+        ensures alone { AnswersAlone I.limit self.old.solver self.old.options.preserve_input_collinear
             (paths_for Subject (plain_points I.whole contour.now ∷ [])) (held_by self.new) result }
         ensures simplified { IfOk result (λ v. IsSimplifiedContour
             (asked I.Wide.width I.WideUInt.natural fill_rule OverlayRule.Subject self.old.options)

@@ -3,7 +3,6 @@
 ghost use Rattle.std.specs.Prelude.{◌≡◌, ◌≢◌, [], All, length, false, Some, IfOk, OnOk, OnErr, IsOkUnless};
 ghost use Rattle.overlay_arrange.specs.Content.{IsAscending};
 ghost use Rattle.overlay_arrange.specs.declared.options.ShapeType.TheVariants.{Subject};
-ghost use Rattle.overlay_arrange.specs.Arranged.{most_rounds};
 ghost use Rattle.overlay_builder.specs.GivenPaths.{paths_for};
 ghost use Rattle.overlay_extract.specs.Results.{asked};
 ghost use Rattle.overlay_geom.specs.Flat.{part_in, first_range, paths_in};
@@ -45,7 +44,8 @@ impl<I: OverlayInt, A: Allocator + Clone> Overlay<I, A> {
     ) -> Result<(), OverlayError>
         requires points { All (AllInRange I.limit)
             (paths_in I.whole flat_buffer.old.points.items flat_buffer.old.ranges.items) }
-        ensures alone { AnswersAlone I.limit most_rounds self.old.options.preserve_input_collinear (paths_for Subject
+        ensures alone { AnswersAlone I.limit self.old.solver self.old.options.preserve_input_collinear
+            (paths_for Subject
             (paths_in I.whole flat_buffer.old.points.items flat_buffer.old.ranges.items)) (held_by self.new) result }
         ensures simplified { OnOk result (AreSimplified
             (asked I.Wide.width I.WideUInt.natural fill_rule OverlayRule.Subject self.old.options)
@@ -87,7 +87,8 @@ impl<I: OverlayInt, A: Allocator + Clone> Overlay<I, A> {
         fill_rule: FillRule,
     ) -> Result<Outcome, OverlayError>
         requires { All (AllInRange I.limit) (paths_in I.whole contours.now.points.items contours.now.ranges.items) }
-        ensures alone { AnswersAlone I.limit most_rounds self.old.options.preserve_input_collinear (paths_for Subject
+        ensures alone { AnswersAlone I.limit self.old.solver self.old.options.preserve_input_collinear
+            (paths_for Subject
             (paths_in I.whole contours.now.points.items contours.now.ranges.items)) (held_by self.new) result }
         ensures outcome { IfOk result (IsOutcomeOfAll self.old.options.preserve_input_collinear fill_rule
             self.old.options.output_direction

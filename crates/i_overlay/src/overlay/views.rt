@@ -3,7 +3,7 @@
 ghost use Rattle.std.specs.Prelude.{◌≡◌, IfOk, IfSome};
 ghost use Rattle.std.specs.Borrow.{sem};
 ghost use Rattle.std.specs.Io.BufRead.{Rests};
-ghost use Rattle.overlay_arrange.specs.Arranged.{IsArranged, most_rounds};
+ghost use Rattle.overlay_arrange.specs.Arranged.{IsArranged};
 ghost use Rattle.overlay_builder.specs.BuilderCalls.{EndsView};
 ghost use Rattle.overlay_builder.specs.Held.{shown_edges};
 ghost use Rattle.i_overlay.specs.Builder.{held_by};
@@ -32,13 +32,13 @@ impl<I: OverlayInt, A: Allocator + Clone> Overlay<I, A> {
         fill_rule: FillRule,
     ) -> Result<Option<OverlayGraph<'_, I, (), A>>, OverlayError>
         ensures arranged { IfOk result
-            (λ o. IsArranged most_rounds self.old.edges (shown_edges (λ v. viewed_edges v.viewed.now) o)) }
+            (λ o. IsArranged self.old.solver self.old.edges (shown_edges (λ v. viewed_edges v.viewed.now) o)) }
         ensures view { IfOk result (λ o. IfSome o
-            (λ v. IsView most_rounds fill_rule self.old.options self.old.edges v.viewed.now)) }
+            (λ v. IsView self.old.solver fill_rule self.old.options self.old.edges v.viewed.now)) }
         ensures* after { sem 𝓛 (Rests
             (the_row I.row A.row I.Wide.row I.WideUInt.row I.IntNumber I.Wide.WideIntNumber I.WideUInt.UIntNumber
             A.Allocator)
-            self.entry (λ new. EndsView I.limit most_rounds (λ v. viewed_edges v.viewed.now) (held_by self.old)
+            self.entry (λ new. EndsView I.limit self.old.solver (λ v. viewed_edges v.viewed.now) (held_by self.old)
             (held_by new) result × (new ≡ record self.old { edges = new.edges; failed = new.failed }))) }
     {
         let viewed = self.arranged_graph(fill_rule)?;
@@ -60,7 +60,7 @@ impl<I: OverlayInt, A: Allocator + Clone> Overlay<I, A> {
         ensures rule { IfOk result (λ v. v.graph.fill_rule ≡ fill_rule) }
         ensures options { IfOk result (λ v. v.options ≡ self.old.options) }
     {
-        self.core.arrange(&mut ())?;
+        self.core.arrange(self.solver, &mut ())?;
         let graph = self.graph_filled_by(fill_rule);
         self.core.set_failed(graph.is_err());
         Ok(ViewedGraph::new(graph?, self.options))

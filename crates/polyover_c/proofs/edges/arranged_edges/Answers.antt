@@ -3,6 +3,7 @@ use Rattle.std.proofs.Common.{map}
 use Rattle.overlay_arrange.specs.Vectors.{plain_vector}
 use Rattle.overlay_builder.specs.GivenPaths.{subject_and_clip}
 use Rattle.overlay_geom.specs.Flat.{paths_in}
+use Rattle.overlay_geom.specs.declared.solver.Solver.TheVariants.{Rounds}
 use Rattle.i_overlay.specs.Builder.{held_by}
 use Rattle.i_overlay.proofs.OneShots.{edges_of_paths, query_refused}
 use Rattle.polyover_c.proofs.edges.arranged_edges.Goals as goal
@@ -13,7 +14,8 @@ returns-clause-edges g c =
     let paths = subject_and_clip (paths_in whole c.args.subject.now.points.items c.args.subject.now.ranges.items)
     (paths_in whole c.args.clip.now.points.items c.args.clip.now.ranges.items) in
     let query = c.build_separate_vectors in
-    edges_of_paths query.result (λ v. map (plain_vector whole) v.items) c.args.fill paths
+    edges_of_paths Rounds c.in_ok-overlay.ensures.made.by query.result (λ v. map (plain_vector whole) v.items)
+    c.args.fill paths
     c.in_ok-overlay.overlay.edges query.new.self.edges c.in_ok-overlay.ensures.ok query.ensures.answers.query.arranged
     query.ensures.listed
 
@@ -23,5 +25,6 @@ returns-clause-err g c =
     let paths = subject_and_clip (paths_in whole c.args.subject.now.points.items c.args.subject.now.ranges.items)
     (paths_in whole c.args.clip.now.points.items c.args.clip.now.ranges.items) in
     let query = c.build_separate_vectors in
-    query_refused g.I.IntNumber.limit paths (held_by c.in_ok-overlay.overlay) (held_by query.new.self) query.result
+    query_refused Rounds c.in_ok-overlay.ensures.made.by g.I.IntNumber.limit paths (held_by c.in_ok-overlay.overlay)
+    (held_by query.new.self) query.result
     c.in_ok-overlay.ensures.ok c.in_ok-overlay.ensures.made.ready query.ensures.answers.query

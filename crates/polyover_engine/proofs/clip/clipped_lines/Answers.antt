@@ -4,6 +4,7 @@ use Rattle.std.proofs.lemmas.Result.{err_from_is_err_and}
 use Rattle.overlay_geom.specs.Paths.{paths_of_shape}
 use Rattle.overlay_geom.specs.Points.{AllInRange}
 use Rattle.overlay_geom.specs.Numbers.{greatest_of_64_bits}
+use Rattle.overlay_geom.specs.declared.solver.Solver.TheVariants.{Rounds}
 use Rattle.overlay_string.specs.OneShot.{AreClippedOfPaths, MayRefusePaths}
 use Rattle.overlay_string.specs.StringBuilder.{StringBuilderAdds}
 use Rattle.overlay_string.specs.StringPaths.{shape_contours, open_strings}
@@ -59,8 +60,8 @@ returns g c =
     let added = subst (λ l. StringBuilderAdds {V = Unit {0}} (open_strings (paths_of_shape (λ z. z) l)) old new (Ok tt))
     c.deref-2.ensures.value c.in_ok-add_string_paths.ensures in
     subst (λ rule. MatchResult c.clip_string_lines.result
-    (λ v. AreClippedOfPaths c.args.query.fill_rule rule (shape_and_lines fs) (paths_of_shape (λ z. z) v.items))
-    (λ e. MayRefusePaths (shape_and_lines fs) e)) c.clip_rule.ensures
+    (λ v. AreClippedOfPaths Rounds c.args.query.fill_rule rule (shape_and_lines fs) (paths_of_shape (λ z. z) v.items))
+    (λ e. MayRefusePaths Rounds (shape_and_lines fs) e)) c.clip_rule.ensures
     (clip_answered (λ v. paths_of_shape (λ z. z) v.items) c.args.query.fill_rule c.clip_rule.result
     (shape_and_lines fs) new
     (record {

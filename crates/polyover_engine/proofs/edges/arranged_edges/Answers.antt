@@ -6,6 +6,7 @@ use Rattle.polyover_text.specs.Statements.{contours_at}
 use Rattle.i_overlay.proofs.OneShots.{adding_refused}
 use Rattle.polyover_engine.proofs.Queries.{edges_answered}
 use Rattle.polyover_engine.proofs.edges.arranged_edges.Goals as goal
+use Rattle.overlay_geom.specs.declared.solver.Solver.TheVariants.{Rounds}
 
 pub returns : goal.returns
 returns g c =
@@ -16,4 +17,4 @@ returns g c =
 pub returns-in_err-builder : goal.returns-in_err-builder
 returns-in_err-builder g c =
     let p = err_from_is_err_and c.from_residual.result c.from_residual.ensures.1 in
-    rw (p.1, p.2) (adding_refused (contour_paths (contours_at c.args.contours.now)) _ c.in_err-builder.ensures)
+    rw (p.1, p.2) (adding_refused Rounds (contour_paths (contours_at c.args.contours.now)) _ c.in_err-builder.ensures)

@@ -3,6 +3,7 @@ use Rattle.std.proofs.Common.{map}
 use Rattle.std.proofs.lemmas.Result.{err_from_is_err_and}
 use Rattle.overlay_extract.specs.ChildLinks.{plain_link}
 use Rattle.overlay_geom.specs.Flat.{shapes_in}
+use Rattle.overlay_geom.specs.declared.solver.Solver.TheVariants.{Rounds}
 use Rattle.polyover_text.specs.Grammar.{contour_paths}
 use Rattle.polyover_text.specs.Statements.{contours_at}
 use Rattle.i_overlay.proofs.OneShots.{adding_refused}
@@ -20,4 +21,4 @@ returns g c =
 pub returns-in_err-builder : goal.returns-in_err-builder
 returns-in_err-builder g c =
     let p = err_from_is_err_and c.from_residual.result c.from_residual.ensures.1 in
-    rw (p.1, p.2) (adding_refused (contour_paths (contours_at c.args.contours.now)) _ c.in_err-builder.ensures)
+    rw (p.1, p.2) (adding_refused Rounds (contour_paths (contours_at c.args.contours.now)) _ c.in_err-builder.ensures)

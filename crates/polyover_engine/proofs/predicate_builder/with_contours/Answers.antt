@@ -5,6 +5,7 @@ use Rattle.std.proofs.lemmas.Result.{err_from_is_err_and}
 use Rattle.overlay_geom.specs.Edges.{AddsContour}
 use Rattle.overlay_geom.specs.Points.{AllInRange}
 use Rattle.overlay_geom.specs.Numbers.{greatest_of_64_bits}
+use Rattle.overlay_geom.specs.declared.solver.Solver.TheVariants.{Rounds}
 use Rattle.overlay_arrange.specs.Content.{edge_for}
 use Rattle.overlay_builder.specs.GivenPaths.{ContourWeighsTooMuch}
 use Rattle.polyover_text.specs.Grammar.{contour_paths}
@@ -66,7 +67,7 @@ loop-given-preserved g c =
 pub returns : goal.returns
 returns g c =
     let cs = contour_paths (contours_at c.args.contours.now) in
-    subst (λ l. HasAddedUnder c.args.fill_rule l c.loop-given.overlay)
+    subst (λ l. HasAddedUnder Rounds c.args.fill_rule l c.loop-given.overlay)
     (take_all c.loop-given.given-index cs
     (omega (
       arith,

@@ -6,14 +6,15 @@ use Rattle.polyover_text.specs.Statements.{contours_at}
 use Rattle.i_overlay.proofs.OneShots.{adding_refused}
 use Rattle.i_overlay.proofs.ToldRelations.{covering_exchanged, relations_or_refused}
 use Rattle.polyover_engine.proofs.relations.relations.Goals as goal
+use Rattle.overlay_geom.specs.declared.solver.Solver.TheVariants.{Rounds}
 
 pub returns-in_err-overlay : goal.returns-in_err-overlay
 returns-in_err-overlay g c =
     let e = err_from_is_err_and c.from_residual.result c.from_residual.ensures.1 in
-    rw (e.1, e.2) (adding_refused (contour_paths (contours_at c.args.contours.now)) _ c.in_err-overlay.ensures)
+    rw (e.1, e.2) (adding_refused Rounds (contour_paths (contours_at c.args.contours.now)) _ c.in_err-overlay.ensures)
 
 pub returns : goal.returns
 returns g c =
     let cs = contour_paths (contours_at c.args.contours.now) in
-    relations_or_refused c.relations.result _ c.args.fill_rule cs (exchanged_paths cs) c.in_ok-overlay.overlay
-    c.relations.new.self c.in_ok-overlay.ensures (covering_exchanged c.args.fill_rule cs) c.relations.ensures
+    relations_or_refused Rounds c.relations.result _ c.args.fill_rule cs (exchanged_paths cs) c.in_ok-overlay.overlay
+    c.relations.new.self c.in_ok-overlay.ensures (covering_exchanged Rounds c.args.fill_rule cs) c.relations.ensures

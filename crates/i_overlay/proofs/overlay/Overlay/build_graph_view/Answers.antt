@@ -1,7 +1,7 @@
 -- The view shows the edges that the builder holds, and ends as any query.
 use Rattle.std.proofs.Common.{◌≡◌, IfSome, true, [], refl, sym, ap, subst, ◌∙◌}
 use Rattle.overlay_plane.specs.Carried.{edges_in}
-use Rattle.overlay_arrange.specs.Arranged.{IsArranged, most_rounds}
+use Rattle.overlay_arrange.specs.Arranged.{IsArranged}
 use Rattle.overlay_arrange.specs.Graphs.{carried_vector}
 use Rattle.i_overlay.specs.Builder.{held_by}
 use Rattle.i_overlay.specs.Views.{IsView, viewed_edges}
@@ -18,7 +18,8 @@ returns-in-Some g c =
     let new = c.arranged_graph.new.self in
     let made = c.in_ok-viewed.ensures in
     let seen = c.in_ok-viewed.viewed in
-    let view = is_view limit most_rounds c.args.self.now new seen made.answers.query made.edges c.args.fill_rule
+    let view = is_view limit c.args.self.now.solver c.args.self.now new seen made.answers.query made.edges
+    c.args.fill_rule
     (some_read (carried_vector g.I.IntNumber.whole _) c.edges.result.now seen.graph.edges
     (c.edges.ensures.carried ∙ ap (λ k. k.edges) c.graph.ensures.graph) (sym c.is_empty-has_edges.ensures
     ∙ c.if-has_edges.true))
@@ -28,17 +29,19 @@ returns-in-Some g c =
         refl,
         (λ _. tt),
         (
-          view_ended held_by limit most_rounds (held_by c.args.self.now) new seen made.answers.query c.self.view_is
+          view_ended held_by limit c.args.self.now.solver (held_by c.args.self.now) new seen made.answers.query
+          c.self.view_is
               seen_is,
           subst (λ b. b ≡ record c.args.self.now { edges = b.edges; failed = b.failed }) (sym c.self.view_is)
               made.answers.kept,
         ),
       ),
       record {
-        arranged = subst (λ o. IfSome o (λ v. IsArranged most_rounds c.args.self.now.edges (viewed_edges v)))
+        arranged = subst (λ o. IfSome o (λ v. IsArranged c.args.self.now.solver c.args.self.now.edges (viewed_edges v)))
             c.in-Some.is
             view.arranged;
-        view = subst (λ o. IfSome o (IsView most_rounds c.args.fill_rule c.args.self.now.options c.args.self.now.edges))
+        view = subst (λ o. IfSome o (IsView c.args.self.now.solver c.args.fill_rule c.args.self.now.options
+            c.args.self.now.edges))
             c.in-Some.is view;
         after = tt;
       },
@@ -61,14 +64,15 @@ returns-in_default g c =
         refl,
         (λ _. tt),
         (
-          view_ended held_by limit most_rounds (held_by c.args.self.now) new seen made.answers.query c.self.view_is
+          view_ended held_by limit c.args.self.now.solver (held_by c.args.self.now) new seen made.answers.query
+          c.self.view_is
               (sym none),
           subst (λ b. b ≡ record c.args.self.now { edges = b.edges; failed = b.failed }) (sym c.self.view_is)
               made.answers.kept,
         ),
       ),
       record {
-        arranged = subst (IsArranged most_rounds c.args.self.now.edges) none made.answers.query.arranged;
+        arranged = subst (IsArranged c.args.self.now.solver c.args.self.now.edges) none made.answers.query.arranged;
         view = tt;
         after = tt;
       },

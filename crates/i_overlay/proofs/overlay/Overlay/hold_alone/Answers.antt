@@ -6,6 +6,7 @@ use Rattle.i_overlay.proofs.HeldAlone.{balanced_alone}
 use Rattle.i_overlay.proofs.overlay.Overlay.hold_alone.Goals as goal
 
 pub invariant_of-self : goal.invariant_of-self
-invariant_of-self g c = balanced_alone g.I.IntNumber.limit c.self.inside.options.preserve_input_collinear
+invariant_of-self g c = balanced_alone g.I.IntNumber.limit c.self.inside.solver
+    c.self.inside.options.preserve_input_collinear
     (paths_for Subject (g.R0.IntShapeResource.paths c.args.resource.now))
     (plain_held c.arrange_alone.new.core) c.arrange_alone.result c.arrange_alone.ensures

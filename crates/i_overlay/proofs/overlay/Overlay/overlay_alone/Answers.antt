@@ -14,7 +14,7 @@ use Rattle.i_overlay.proofs.overlay.Overlay.overlay_alone.Goals as goal
 
 pub returns-clause-alone : goal.returns-clause-alone
 returns-clause-alone g c =
-    alone_after g.I.IntNumber.limit c.args.self.now.options.preserve_input_collinear
+    alone_after g.I.IntNumber.limit c.args.self.now.solver c.args.self.now.options.preserve_input_collinear
     (paths_for Subject (g.R0.IntShapeResource.paths c.args.resource.now))
     (held_by c.hold_alone.new.self) (plain_held c.set_failed.new.self) c.in_ok-hold_alone.field-0
     c.in_ok-hold_alone.ensures.alone c.extract-shapes.result

@@ -18,7 +18,7 @@ use Rattle.i_overlay.proofs.overlay.Overlay.simplify_contour.Goals as goal
 
 pub returns-clause-alone : goal.returns-clause-alone
 returns-clause-alone g c =
-    alone_after g.I.IntNumber.limit c.args.self.now.options.preserve_input_collinear
+    alone_after g.I.IntNumber.limit c.args.self.now.solver c.args.self.now.options.preserve_input_collinear
     (paths_for Subject (plain_points g.I.IntNumber.whole c.args.contour.now ∷ []))
     (held_by c.outcome_alone.new.self) (plain_held c.set_failed.new.self) c.in_ok-outcome.outcome
     c.in_ok-outcome.ensures.alone c.answer-answer.result

@@ -11,7 +11,8 @@ use Rattle.overlay_builder.proofs.builder_core.BuilderCore.arrange.Goals as goal
 pub returns-clause-cut : goal.returns-clause-cut
 returns-clause-cut g c =
     subst (λ h. IfOk c.arrange-arranged.result
-    (λ is_cut. (is_cut ≡ false) ↔ IsReachedBy c.args.solver [] (edges_in h.edges) (edges_in c.arrange-arranged.new.self)))
+    (λ is_cut. (is_cut ≡ false) ↔ IsReachedBy c.args.solver [] (edges_in h.edges)
+    (edges_in c.arrange-arranged.new.self)))
     c.self.view_is c.arrange-arranged.ensures.cut
 
 pub returns-clause-query : goal.returns-clause-query
