@@ -50,7 +50,14 @@ pub fn outcome_of_contour<I: IntNumber, A: Allocator + Clone>(
         (plain_points I.whole contour.now) (edges_in core.new.edges)) }
 {
     core.clear();
-    let outcome = add_and_test(core, solver, contour, keeps_points, fill_rule, output_direction);
+    let outcome = add_and_test(
+        core,
+        solver,
+        contour,
+        keeps_points,
+        fill_rule,
+        output_direction,
+    );
     core.set_failed(outcome.is_err());
     outcome
 }
