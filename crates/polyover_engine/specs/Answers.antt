@@ -74,7 +74,7 @@ Answers fs (ClipLines query) text = (paths : List (List Point))
 Answers fs (Slice fill) text = (shapes : List (List (List Point)))
     × AreSlicedOfPaths Rounds w128 fill (shape_and_lines fs) shapes × (text ≡ lines_of_shapes shapes)
 Answers fs (Tiles query) text = (shapes : List (List (List Point)))
-    × AreTiles w128 query.fill_rule query.width query.height (subject_of fs.contours) shapes
+    × AreTiles Rounds w128 query.fill_rule query.width query.height (subject_of fs.contours) shapes
     × (text ≡ lines_of_shapes shapes)
 Answers fs Contains text = (answers : List Bool) × TellInside fs answers × (text ≡ flat_map truth_line answers)
 Answers fs Locate text = (answers : List PointLocation) × TellWhere fs answers × (text ≡ flat_map location_line answers)
@@ -87,7 +87,7 @@ MayRefuseQuery fs (Hierarchy query) e = MayRefusePaths Rounds (paths_of fs) e
 MayRefuseQuery fs (Relate fill) e = MayRefusePaths Rounds (paths_of fs) e
 MayRefuseQuery fs (ClipLines query) e = MayRefuseStrings (shape_and_lines fs) e
 MayRefuseQuery fs (Slice fill) e = MayRefuseStrings (shape_and_lines fs) e
-MayRefuseQuery fs (Tiles query) e = MayRefuseTiles query.width query.height (subject_of fs.contours) e
+MayRefuseQuery fs (Tiles query) e = MayRefuseTiles Rounds query.width query.height (subject_of fs.contours) e
 MayRefuseQuery fs Contains e = e ≡ Memory
 MayRefuseQuery fs Locate e = e ≡ Memory
 

@@ -6,6 +6,7 @@ use Rattle.std.specs.Prelude.{All}
 use Rattle.overlay_geom.specs.Paths.{plain_shapes}
 use Rattle.overlay_geom.specs.Points.{AllInRange}
 use Rattle.overlay_geom.specs.Numbers.{greatest_of_64_bits}
+use Rattle.overlay_geom.specs.declared.solver.Solver.TheVariants.{Rounds}
 use Rattle.overlay_tiles.specs.Grids.{FitsGrid}
 use Rattle.overlay_tiles.specs.Spans.{points_of_paths}
 use Rattle.overlay_tiles.specs.Tiles.{AreTiles, MayRefuseTiles}
@@ -47,8 +48,8 @@ returns-in_err-tiles g c =
     let shape = c.in_ok-subject.ensures.ok ∙ ap (λ l. subject_of (contours_at l)) c.deref.ensures.value in
     let p = err_from_is_err_and c.from_residual-in_err-tiles.result c.from_residual-in_err-tiles.ensures.1 in
     rw (p.1, p.2)
-    (subst (λ paths. MayRefuseTiles c.args.query.width c.args.query.height paths c.in_err-tiles.field-0.0) shape
-    (subst (λ cells. MayRefuseTiles cells.width cells.height
+    (subst (λ paths. MayRefuseTiles Rounds c.args.query.width c.args.query.height paths c.in_err-tiles.field-0.0) shape
+    (subst (λ cells. MayRefuseTiles Rounds cells.width cells.height
     (points_of_each c.in_ok-subject.subject.contours.items) c.in_err-tiles.field-0.0) c.grid_of-grid.ensures
     c.in_err-tiles.ensures.err))
 
@@ -57,8 +58,9 @@ returns g c =
     let shape = c.in_ok-subject.ensures.ok ∙ ap (λ l. subject_of (contours_at l)) c.deref.ensures.value in
     let tiles = plain_shapes (λ z. z) c.in_ok-tiles.tiles.items in (
       tiles,
-      subst (λ paths. AreTiles w128 c.args.query.fill_rule c.args.query.width c.args.query.height paths tiles) shape
-          (subst (λ cells. AreTiles w128 c.args.query.fill_rule cells.width cells.height
+      subst (λ paths. AreTiles Rounds w128 c.args.query.fill_rule c.args.query.width c.args.query.height paths tiles)
+      shape
+          (subst (λ cells. AreTiles Rounds w128 c.args.query.fill_rule cells.width cells.height
           (points_of_each c.in_ok-subject.subject.contours.items) tiles) c.grid_of-grid.ensures
           c.in_ok-tiles.ensures.sliced),
       c.in_ok-shapes_text.ensures ∙ ap (λ l. lines_of_shapes (plain_shapes (λ z. z) l)) c.deref-2.ensures.value,
