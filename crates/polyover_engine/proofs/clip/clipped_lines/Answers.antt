@@ -27,7 +27,7 @@ returns-in_err-overlay g c =
     let fs = figures_at c.args.figures.now in
     let p = err_from_is_err_and c.from_residual.result c.from_residual.ensures.1 in
     rw (p.1, p.2)
-    (builder_refused (shape_and_lines fs) _
+    (builder_refused Rounds (shape_and_lines fs) _
     (first_paths_refused (shape_contours (subject_of fs.contours)) (open_strings fs.lines) _
     (subst (λ l. MayRefuseBuilder (shape_contours (subject_of (contours_at l))) c.in_err-overlay.field-0.0)
     c.deref.ensures.value c.in_err-overlay.ensures)))
@@ -41,7 +41,7 @@ returns-in_err-add_string_paths g c =
     let p = err_from_is_err_and c.from_residual-in_err-add_string_paths.result
     c.from_residual-in_err-add_string_paths.ensures.1 in
     rw (p.1, p.2)
-    (builder_refused (shape_and_lines fs) _
+    (builder_refused Rounds (shape_and_lines fs) _
     (second_paths_refused (shape_contours (subject_of fs.contours)) (open_strings fs.lines) old
     c.add_string_paths.new.self held.holds.added held.ready c.in_err-add_string_paths.field-0.0
     (subst (λ l. StringBuilderAdds {V = Unit {0}} (open_strings (paths_of_shape (λ z. z) l)) old
