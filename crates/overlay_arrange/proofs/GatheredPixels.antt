@@ -1,9 +1,9 @@
 -- A loop over edges that gathers the hot points whose pixels each meets: what an edge adds, and what all of them do.
-use Rattle.std.proofs.Common.{◌≡◌, ◌⊎◌, ⊎_elim, inl, inr, ℕ, ◌+◌, ◌<◌, ◌≤◌, Bool, true, List, [], ◌∷◌, ◌++◌, AllPairs}
-use Rattle.std.proofs.Common.{All, Contains, filter, length, get_or, pos, refl, sym, ap, ◌∙◌, subst, arith}
+use Rattle.std.proofs.Common.{◌≡◌, ⊎_elim, inl, inr, ℕ, ◌+◌, ◌<◌, ◌≤◌, true, List, [], ◌∷◌, ◌++◌, AllPairs}
+use Rattle.std.proofs.Common.{Contains, filter, length, get_or, pos, sym, ap, ◌∙◌, subst, arith}
 use Rattle.std.proofs.lemmas.List.{append-nil, append_assoc, get_or_default}
 use Rattle.std.proofs.lemmas.List.Elements.{All-contains, Contains-append_cases, Contains-append_left}
-use Rattle.std.proofs.lemmas.List.Elements.{Contains-append_right, Contains-push}
+use Rattle.std.proofs.lemmas.List.Elements.{Contains-append_right}
 use Rattle.std.proofs.lemmas.List.Kept.{AllPairs-cons}
 use Rattle.overlay_geom.specs.Plane.{Point}
 use Rattle.overlay_geom.specs.Edges.{CountedEdge, ends_of}
@@ -120,54 +120,54 @@ module _ (es : List CountedEdge) (vs : List Point) where
 
   module _ (i : ℕ) (e : CountedEdge) (at_e : IsAt es i e) (near : List ℕ) (ranks : AreRanksNear vs e near)
       {old new : List Meeting} (before : AreSnappedBefore es vs i old) (adds : AddsMet i e (points_at vs near) old new)
-      where
-    -- a point at one of the ranks is one of the points
-    at_rank : (v : Point) → Contains (points_at vs near) v → Contains vs v
-    at_rank v at =
-        let k = Contains-from_map (λ k. get_or vs k origin) near v at in
-        let inside = ranks.within k.0 k.1 in
-        (k.0, inside, get_or_default vs k.0 v origin inside ∙ k.2)
+    where
+      -- a point at one of the ranks is one of the points
+      at_rank : (v : Point) → Contains (points_at vs near) v → Contains vs v
+      at_rank v at =
+          let k = Contains-from_map (λ k. get_or vs k origin) near v at in
+          let inside = ranks.within k.0 k.1 in
+          (k.0, inside, get_or_default vs k.0 v origin inside ∙ k.2)
 
-    -- and one whose pixel the edge meets is at one of the ranks
-    has_rank : (v : Point) → Contains vs v → meets_pixel (ends_of e) v ≡ true → Contains (points_at vs near) v
-    has_rank v at meets = subst (Contains (points_at vs near)) (get_or_default vs at.0 origin v at.1 ∙ at.2)
-        (Contains-map (λ k. get_or vs k origin) near at.0 (ranks.all at.0 v (at.1, at.2) meets))
+      -- and one whose pixel the edge meets is at one of the ranks
+      has_rank : (v : Point) → Contains vs v → meets_pixel (ends_of e) v ≡ true → Contains (points_at vs near) v
+      has_rank v at meets = subst (Contains (points_at vs near)) (get_or_default vs at.0 origin v at.1 ∙ at.2)
+          (Contains-map (λ k. get_or vs k origin) near at.0 (ranks.all at.0 v (at.1, at.2) meets))
 
-    -- so one edge more is snapped
-    pub one_snapped : AreSnappedBefore es vs (i + 1) new
-    one_snapped = record {
-      led = λ m at. ⊎_elim
-          (λ there. let l = before.led m there in (let lt = l.0 in omega (arith, lt), l.1))
-          (λ led. let l = adds.led m led in (
-            (let is = l.0 in omega (arith, is)),
-            (e, subst (λ n. IsAt es n e) (sym l.0) at_e, at_rank m.point l.1, l.2),
-          ))
-          (Contains-append_cases old adds.more m (subst (λ ms. Contains ms m) adds.added at));
-      all = λ k f lt at_f v at meets. ⊎_elim (λ (is : k ≡ i). here k f at_f v at meets is)
-          (λ (less : k < i). ⊎_elim (λ end. inl end) (λ there. inr (subst (λ ms. Contains ms (record { place = k; point = v }))
-          (sym adds.added) (Contains-append_left old adds.more (record { place = k; point = v }) there)))
-          (before.all k f less at_f v at meets)) (at_or_before k i lt);
-    }
-      where
-        here : (k : ℕ) (f : CountedEdge) → IsAt es k f → (v : Point) → Contains vs v →
-            meets_pixel (ends_of f) v ≡ true → k ≡ i → IsEndOrMet new k f v
-        here k f at_f v at meets is =
-            let same : f ≡ e = one_entry es i f e (subst (λ n. IsAt es n f) is at_f) at_e in
-            let met : meets_pixel (ends_of e) v ≡ true =
-            subst (λ u. meets_pixel (ends_of u) v ≡ true) same meets in
-            ⊎_elim (λ end. inl (subst (λ u. IsEndOf u v) (sym same) end))
-            (λ there. inr (subst (λ ms. Contains ms (record { place = k; point = v })) (sym adds.added)
-            (subst (λ n. Contains (old ++ adds.more) (record { place = n; point = v })) (sym is)
-            (Contains-append_right old adds.more (record { place = i; point = v }) there))))
-            (adds.all v (has_rank v at met) met)
+      -- so one edge more is snapped
+      pub one_snapped : AreSnappedBefore es vs (i + 1) new
+      one_snapped = record {
+        led = λ m at. ⊎_elim
+            (λ there. let l = before.led m there in (let lt = l.0 in omega (arith, lt), l.1))
+            (λ led. let l = adds.led m led in (
+              (let is = l.0 in omega (arith, is)),
+              (e, subst (λ n. IsAt es n e) (sym l.0) at_e, at_rank m.point l.1, l.2),
+            ))
+            (Contains-append_cases old adds.more m (subst (λ ms. Contains ms m) adds.added at));
+        all = λ k f lt at_f v at meets. ⊎_elim (λ (is : k ≡ i). here k f at_f v at meets is)
+            (λ (less : k < i). ⊎_elim (λ end. inl end) (λ there. inr (subst (λ ms. Contains ms (record { place = k; point = v }))
+            (sym adds.added) (Contains-append_left old adds.more (record { place = k; point = v }) there)))
+            (before.all k f less at_f v at meets)) (at_or_before k i lt);
+      }
+        where
+          here : (k : ℕ) (f : CountedEdge) → IsAt es k f → (v : Point) → Contains vs v →
+              meets_pixel (ends_of f) v ≡ true → k ≡ i → IsEndOrMet new k f v
+          here k f at_f v at meets is =
+              let same : f ≡ e = one_entry es i f e (subst (λ n. IsAt es n f) is at_f) at_e in
+              let met : meets_pixel (ends_of e) v ≡ true =
+              subst (λ u. meets_pixel (ends_of u) v ≡ true) same meets in
+              ⊎_elim (λ end. inl (subst (λ u. IsEndOf u v) (sym same) end))
+              (λ there. inr (subst (λ ms. Contains ms (record { place = k; point = v })) (sym adds.added)
+              (subst (λ n. Contains (old ++ adds.more) (record { place = n; point = v })) (sym is)
+              (Contains-append_right old adds.more (record { place = i; point = v }) there))))
+              (adds.all v (has_rank v at met) met)
 
-    -- and the meetings still stand by their places
-    pub by_place_more : AreByPlace old → AreByPlace new
-    by_place_more up = subst AreByPlace (sym adds.added)
-        (pairs_joined (λ (m n : Meeting). m.place ≤ n.place) old adds.more up
-        (pairs_of_entries (λ (m n : Meeting). m.place ≤ n.place) adds.more
-        (λ m n at_m at_n. let a = (adds.led m at_m).0 in let b = (adds.led n at_n).0 in omega (arith, a, b)))
-        (λ m n at_m at_n. let a = (before.led m at_m).0 in let b = (adds.led n at_n).0 in omega (arith, a, b)))
+      -- and the meetings still stand by their places
+      pub by_place_more : AreByPlace old → AreByPlace new
+      by_place_more up = subst AreByPlace (sym adds.added)
+          (pairs_joined (λ (m n : Meeting). m.place ≤ n.place) old adds.more up
+          (pairs_of_entries (λ (m n : Meeting). m.place ≤ n.place) adds.more
+          (λ m n at_m at_n. let a = (adds.led m at_m).0 in let b = (adds.led n at_n).0 in omega (arith, a, b)))
+          (λ m n at_m at_n. let a = (before.led m at_m).0 in let b = (adds.led n at_n).0 in omega (arith, a, b)))
 
   -- where all edges are, the meetings are those of snap rounding
   pub all_snapped : (n : ℕ) {ms : List Meeting} → length es ≤ n → AreHotPoints es vs → AreSnappedBefore es vs n ms →

@@ -17,10 +17,7 @@ use overlay_geom::vector::cross_at;
 use std::cmp::Ordering;
 
 /// Whether some point of the edge rounds to the point.
-pub(crate) fn meets_pixel<I: IntNumber, C: EdgeCount>(
-    e: &CountedEdge<I, C>,
-    v: IntPoint<I>,
-) -> bool
+pub(crate) fn meets_pixel<I: IntNumber, C: EdgeCount>(e: &CountedEdge<I, C>, v: IntPoint<I>) -> bool
     requires { IsHeld I.limit (plain_edge I.whole C.counts e.now) }
     ensures { result ≡ meets_pixel (ends_of (plain_edge I.whole C.counts e.now)) (plain_point I.whole v) }
 {

@@ -61,10 +61,7 @@ fn find_ranks<I: IntNumber, C: EdgeCount, A: Allocator>(
 }
 
 /// Between which ranks the points stand that lie neither left nor right of the edge.
-fn span_of<I: IntNumber, C: EdgeCount>(
-    hot: &[IntPoint<I>],
-    e: &CountedEdge<I, C>,
-) -> (usize, usize)
+fn span_of<I: IntNumber, C: EdgeCount>(hot: &[IntPoint<I>], e: &CountedEdge<I, C>) -> (usize, usize)
     requires one { IsHeld I.limit (plain_edge I.whole C.counts e.now) }
     requires ascending { ArePointsAscending (plain_points I.whole hot.now) }
     ensures { IsSpanOf (plain_points I.whole hot.now) (plain_edge I.whole C.counts e.now) result.0 result.1 }

@@ -1,7 +1,7 @@
 -- The test passes for the first points alone.
-use Rattle.std.proofs.Common.{◌≡◌, int_lt, rules}
+use Rattle.std.proofs.Common.{◌≡◌, rules}
 use Rattle.std.specs.Ordering.{is_lt, int_cmp}
-use Rattle.std.proofs.Common.{ap, ◌∙◌}
+use Rattle.std.proofs.Common.{◌∙◌}
 use Rattle.std.proofs.lemmas.List.Sorted.{IsPartitionPoint-from_clause}
 use Rattle.overlay_geom.proofs.Comparisons.{is_lt-int_cmp}
 use Rattle.overlay_arrange.proofs.HotRanks.{is_left, left-parted, split_left}

@@ -1,5 +1,5 @@
 -- Each edge adds its points.
-use Rattle.std.proofs.Common.{◌<◌, Contains, length, subst, sym, arith}
+use Rattle.std.proofs.Common.{◌<◌, Contains, length, subst, arith}
 use Rattle.std.proofs.lemmas.List.{length-map}
 use Rattle.overlay_geom.specs.Points.{plain_point, plain_points}
 use Rattle.overlay_geom.proofs.Mapped.{All-mapped_at}
@@ -8,7 +8,7 @@ use Rattle.overlay_arrange.specs.Content.{plain_edge, plain_edges, IsHeld}
 use Rattle.overlay_arrange.specs.HotPoints.{points_at, AddsMet}
 use Rattle.overlay_arrange.specs.Meetings.{plain_meetings}
 use Rattle.overlay_arrange.proofs.GatheredMeetings.{placed_in_mapped}
-use Rattle.overlay_arrange.proofs.GatheredPixels.{all_snapped, by_place_more, none_snapped, one_snapped}
+use Rattle.overlay_arrange.proofs.GatheredPixels.{all_snapped, by_place_more, one_snapped}
 use Rattle.overlay_arrange.proofs.snap.gather_snapped.Goals as goal
 
 pub find_ranks-requires-clause-one : goal.find_ranks-requires-clause-one
