@@ -144,7 +144,8 @@ module _ (es : List CountedEdge) (vs : List Point) where
             ))
             (Contains-append_cases old adds.more m (subst (λ ms. Contains ms m) adds.added at));
         all = λ k f lt at_f v at meets. ⊎_elim (λ (is : k ≡ i). here k f at_f v at meets is)
-            (λ (less : k < i). ⊎_elim (λ end. inl end) (λ there. inr (subst (λ ms. Contains ms (record { place = k; point = v }))
+            (λ (less : k < i). ⊎_elim (λ end. inl end)
+            (λ there. inr (subst (λ ms. Contains ms (record { place = k; point = v }))
             (sym adds.added) (Contains-append_left old adds.more (record { place = k; point = v }) there)))
             (before.all k f less at_f v at meets)) (at_or_before k i lt);
       }

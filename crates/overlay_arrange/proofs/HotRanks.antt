@@ -127,7 +127,8 @@ pub met_in_span : (e : CountedEdge) (v : Point) → e.a.x ≤ℤ e.b.x → meets
     (e.a.x ≤ℤ v.x) × (v.x ≤ℤ e.b.x)
 met_in_span e v forward meets = by ((Decides-meets_pixel (ends_of e) v).0 meets)
   where
-    by : (((v ≡ e.a) ⊎ (v ≡ e.b)) ⊎ (IsInBox (ends_of e) v × (line_meets (ends_of e) v ≡ true))) → (e.a.x ≤ℤ v.x) × (v.x ≤ℤ e.b.x)
+    by : (((v ≡ e.a) ⊎ (v ≡ e.b)) ⊎ (IsInBox (ends_of e) v × (line_meets (ends_of e) v ≡ true))) →
+        (e.a.x ≤ℤ v.x) × (v.x ≤ℤ e.b.x)
     by (inl (inl is)) = subst (λ (u : Point). (e.a.x ≤ℤ u.x) × (u.x ≤ℤ e.b.x)) (sym is) (omega linear, forward)
     by (inl (inr is)) = subst (λ (u : Point). (e.a.x ≤ℤ u.x) × (u.x ≤ℤ e.b.x)) (sym is) (forward, omega linear)
     by (inr (box, line)) = ⊎_elim (λ up. up) (λ down. (let a = down.0 in let b = down.1 in

@@ -19,8 +19,8 @@ use overlay_geom::number::IntNumber;
 use overlay_geom::point::IntPoint;
 use std::alloc::Allocator;
 
-/// The hot points whose pixels each edge meets, as its meetings, by the places of the edges. An edge's own ends are left
-/// out. The only refusal is `Memory`.
+/// The hot points whose pixels each edge meets, as its meetings, by the places of the edges. An edge's own ends are
+/// left out. The only refusal is `Memory`.
 pub(crate) fn gather_snapped<I: IntNumber, C: EdgeCount, A: Allocator + Clone>(
     alloc: A,
     edges: &[CountedEdge<I, C>],

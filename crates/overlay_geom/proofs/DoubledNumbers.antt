@@ -80,8 +80,8 @@ module _ (n w : Width) (m : ℕ) (c x y u v : ℤ) (widened : Widened n w m x y 
       let less : m < 2 ^ hbits w = omega (arith, room) in
       let left = Exact-widened n w m x u less widened.x_fits widened.x_within widened.x_widened in
       let right = Exact-widened n w m y v less widened.y_fits widened.y_within widened.y_widened in
-      Exact-stored w (m + m) (x +ℤ y) (to_z w (of_z w u) +ℤ to_z w (of_z w v)) room (Within-plus m x y widened.x_within widened.y_within)
-      (rw (left.same, right.same) refl)
+      Exact-stored w (m + m) (x +ℤ y) (to_z w (of_z w u) +ℤ to_z w (of_z w v)) room
+      (Within-plus m x y widened.x_within widened.y_within) (rw (left.same, right.same) refl)
 
   sum_fits : FitsSigned w (x +ℤ y)
   sum_fits = Within-fits w (m + m) (x +ℤ y) widened.room summed.within

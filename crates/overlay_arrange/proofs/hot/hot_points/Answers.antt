@@ -17,7 +17,8 @@ returns-clause-ok g c =
     let listed : plain_points whole c.push_points.new.points.items ≡ ends_and_met es ms c.requires =
     c.in_ok-push_points.ensures.ok
     ∙ ap (λ (vs : List Point). vs ++ map (λ (m : Meeting). m.point) ms)
-    (c.in_ok-push_ends.ensures.ok ∙ ap (λ vs. plain_points whole vs ++ flat_map both_ends es) c.new-points.ensures.items)
-    in are_hot_points es ms c.requires sorted
+    (c.in_ok-push_ends.ensures.ok
+    ∙ ap (λ vs. plain_points whole vs ++ flat_map both_ends es) c.new-points.ensures.items) in
+    are_hot_points es ms c.requires sorted
     (subst (λ (us : List Point). HaveSameMembers us sorted) listed c.in_ok-sort_points.ensures.members)
     c.in_ok-sort_points.ensures.ascending

@@ -21,8 +21,8 @@ returns-clause-members g c =
     let left : c.dedup_by.new.self.items ≡ dedup (do_tie whole) sorted =
     dedup_same _ (do_tie whole) _ (λ v w r f v' w' k.
     let answer : r ≡ point_eq (plain_point whole v) (plain_point whole w) = search rules in
-    (answer ∙ point_eq-is_tie (plain_point whole v) (plain_point whole w), search rules, search rules, search rules)) sorted _
-    c.dedup_by.ensures.filtered in
+    (answer ∙ point_eq-is_tie (plain_point whole v) (plain_point whole w), search rules, search rules, search rules))
+    sorted _ c.dedup_by.ensures.filtered in
     subst (λ vs. HaveSameMembers (plain_points whole c.args.points.now.items) (plain_points whole vs)) (sym left)
     (members-deduped whole g.met.I.IntNumber.same c.args.points.now.items sorted c.sort_by.ensures.permutation)
 
@@ -33,8 +33,8 @@ returns-clause-ascending g c =
     let left : c.dedup_by.new.self.items ≡ dedup (do_tie whole) sorted =
     dedup_same _ (do_tie whole) _ (λ v w r f v' w' k.
     let answer : r ≡ point_eq (plain_point whole v) (plain_point whole w) = search rules in
-    (answer ∙ point_eq-is_tie (plain_point whole v) (plain_point whole w), search rules, search rules, search rules)) sorted _
-    c.dedup_by.ensures.filtered in
+    (answer ∙ point_eq-is_tie (plain_point whole v) (plain_point whole w), search rules, search rules, search rules))
+    sorted _ c.dedup_by.ensures.filtered in
     subst (λ vs. ArePointsAscending (plain_points whole vs)) (sym left)
     (ascending-deduped whole sorted (c.in_ok-sort_by.ensures.sorted (is_smaller whole) (is_smaller-order whole)
     (answers_always _ _ _ (λ f a r h k.
