@@ -17,10 +17,7 @@ use overlay_geom::vector::cross_at;
 use std::cmp::Ordering;
 
 /// Whether some point of the edge rounds to the point.
-pub(crate) fn meets_pixel<I: IntNumber, C: EdgeCount>(
-    e: &CountedEdge<I, C>,
-    v: IntPoint<I>,
-) -> bool
+pub(crate) fn meets_pixel<I: IntNumber, C: EdgeCount>(e: &CountedEdge<I, C>, v: IntPoint<I>) -> bool
     requires { IsHeld I.limit (plain_edge I.whole C.counts e.now) }
     ensures { result ≡ meets_pixel (ends_of (plain_edge I.whole C.counts e.now)) (plain_point I.whole v) }
 {
@@ -64,8 +61,8 @@ fn line_meets<I: IntNumber, C: EdgeCount>(e: &CountedEdge<I, C>, v: IntPoint<I>)
     }
 }
 
-/// Whether a number that so compares with the upper bound of an edge that is not upright keeps to it: an edge that
-/// rises does not reach the bound.
+/// Whether a number that compares so with the upper bound of an edge that is not upright keeps to it. Where the edge
+/// rises it stays below the bound.
 fn is_inside<I: IntNumber, C: EdgeCount>(e: &CountedEdge<I, C>, high: Ordering) -> bool
     ensures { result ≡ cond (int_lt (I.whole e.now.a.y) (I.whole e.now.b.y)) (is_lt high) (is_le high) }
 {
