@@ -25,6 +25,7 @@ pub mod HeldWeight
 pub mod LedThrough
 pub mod LedToEnds
 pub mod MeetingRuns
+pub mod MeetingsOnLines
 pub mod MergedContent
 pub mod NearChanged
 pub mod NearEdges
@@ -45,6 +46,8 @@ pub mod Searches
 pub mod SettledFronts
 pub mod SettledLists
 pub mod SideBits
+pub mod SnappedThrough
+pub mod SolverRounds
 pub mod Sweepable
 pub mod StartsTogether
 pub mod StripOrder
