@@ -22,12 +22,13 @@ use Rattle.overlay_arrange.proofs.LedThrough.{points_in_order}
 -- a point whose pixel an edge in range meets is in range
 pub met_in_range : (limit : ℕ) (e : CountedEdge) (v : Point) → IsHeld limit e → meets_pixel (ends_of e) v ≡ true →
     InRange limit v
-met_in_range limit e v held met = ⊎_elim (λ is. subst (InRange limit) (sym is) held.a_in_range)
-    (λ other. ⊎_elim (λ is. subst (InRange limit) (sym is) held.b_in_range)
+met_in_range limit e v held met = ⊎_elim
+    (λ end. ⊎_elim (λ is. subst (InRange limit) (sym is) held.a_in_range)
+    (λ is. subst (InRange limit) (sym is) held.b_in_range) end)
     (λ inside. record {
       x = within_between limit v.x e.a.x e.b.x held.a_in_range.x held.b_in_range.x inside.0.0;
       y = within_between limit v.y e.a.y e.b.y held.a_in_range.y held.b_in_range.y inside.0.1;
-    }) other)
+    })
     ((Decides-meets_pixel (ends_of e) v).0 met)
 
 module _ (limit : ℕ) (es : List CountedEdge) (held : All (IsHeld limit) es) (ms : List Meeting)
