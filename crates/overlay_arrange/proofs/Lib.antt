@@ -47,6 +47,7 @@ pub mod SettledFronts
 pub mod SettledLists
 pub mod SideBits
 pub mod SnappedThrough
+pub mod SnapsTaken
 pub mod SolverRounds
 pub mod Sweepable
 pub mod StartsTogether
