@@ -6,6 +6,7 @@ use overlay_arrange::fill_rule::FillRule;
 use overlay_arrange::vector::{SUBJ_LEFT, SUBJ_RIGHT, SideFill};
 use overlay_geom::error::OverlayError;
 use overlay_geom::number::IntNumber;
+use overlay_geom::solver::Solver;
 use std::alloc::Global;
 use std::process::Abort;
 use std::test::Fail;
@@ -19,7 +20,7 @@ fn check<I: IntNumber>(
     is_balanced: bool,
     wanted: &[SideFill],
 ) -> Result<(), OverlayError> {
-    content.arrange(&mut ())?;
+    content.arrange(Solver::Rounds, &mut ())?;
     for tree_from in [0, usize::MAX] {
         let fills = fills_with_trees_from(alloc, content.edges(), FillRule::NonZero, tree_from)?;
         assert!(rt; &fills[..] == wanted);

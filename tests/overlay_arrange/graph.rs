@@ -10,6 +10,7 @@ use overlay_arrange::vector::{DataVectorEdge, SUBJ_LEFT, SUBJ_RIGHT, SideFill};
 use overlay_geom::error::OverlayError;
 use overlay_geom::number::IntNumber;
 use overlay_geom::point::IntPoint;
+use overlay_geom::solver::Solver;
 use std::alloc::Global;
 use std::process::Abort;
 use std::test::Fail;
@@ -35,7 +36,7 @@ fn square<I: IntNumber>(
         edge(zero, zero, two, zero, -1),
     ];
     let mut content = with_edges(rt, alloc, &edges)?;
-    content.arrange(&mut ())?;
+    content.arrange(Solver::Rounds, &mut ())?;
     Ok(content)
 }
 
@@ -115,7 +116,7 @@ fn no_edges(rt: HostRuntime) -> Result<(), Fail> {
         rt.alloc(),
         0,
     )?;
-    content.arrange(&mut ())?;
+    content.arrange(Solver::Rounds, &mut ())?;
     let graph = content.graph(FillRule::NonZero)?;
     assert!(rt; graph.edges().is_empty());
     Ok(())

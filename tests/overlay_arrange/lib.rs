@@ -6,6 +6,7 @@ mod edges;
 mod fills;
 mod graph;
 mod rounds;
+mod snapping;
 mod string_count;
 mod tallies;
 mod truncated;

@@ -10,6 +10,7 @@ use overlay_builder::path::{PathKind, add_path};
 use overlay_geom::error::OverlayError;
 use overlay_geom::number::IntNumber;
 use overlay_geom::point::{IntPoint, in_range};
+use overlay_geom::solver::Solver;
 use std::alloc::Global;
 use std::process::Abort;
 use std::test::Fail;
@@ -94,7 +95,7 @@ fn check_contour<I: IntNumber + PartialEq>(
     wanted: &[CountedEdge<I, ShapeCountBoolean>],
 ) -> Result<(), OverlayError> {
     let mut content = with_subject(rt, alloc, contour)?;
-    content.arrange(&mut ())?;
+    content.arrange(Solver::Rounds, &mut ())?;
     assert!(rt; content.edges() == wanted);
     Ok(())
 }
@@ -145,7 +146,7 @@ fn check<I: IntNumber + PartialEq>(
     wanted: &[CountedEdge<I, ShapeCountBoolean>],
 ) -> Result<(), OverlayError> {
     let mut content = with_edges(rt, alloc, edges)?;
-    content.arrange(&mut ())?;
+    content.arrange(Solver::Rounds, &mut ())?;
     assert!(rt; content.edges() == wanted);
     Ok(())
 }
@@ -261,6 +262,6 @@ fn a_round_may_weigh_too_much(rt: HostRuntime) -> Result<(), Fail> {
     // Cut into two, the edges weigh twice as much.
     let edges = [edge(0i32, 0, 2, 2, 1073741823), edge(0, 2, 2, 0, 1)];
     let mut content = with_edges(&rt, rt.alloc(), &edges)?;
-    assert_eq!(rt; content.arrange(&mut ()), Err(OverlayError::TooManyEdges));
+    assert_eq!(rt; content.arrange(Solver::Rounds, &mut ()), Err(OverlayError::TooManyEdges));
     Ok(())
 }

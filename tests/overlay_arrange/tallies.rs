@@ -9,6 +9,7 @@ use overlay_arrange::edge::{CountedEdge, compare_points};
 use overlay_geom::error::OverlayError;
 use overlay_geom::number::IntNumber;
 use overlay_geom::point::IntPoint;
+use overlay_geom::solver::Solver;
 use std::alloc::Global;
 use std::process::Abort;
 use std::test::Fail;
@@ -112,7 +113,7 @@ fn check(
         push(rt, &mut content, a, b)?;
     }
     let mut calls = Tally::default();
-    content.arrange(&mut calls)?;
+    content.arrange(Solver::Rounds, &mut calls)?;
     assert!(rt; calls == wanted_calls);
     assert!(rt; content.edges().len() == wanted.len());
     for (edge, want) in content.edges().iter().zip(wanted) {

@@ -12,9 +12,8 @@ use Rattle.overlay_geom.specs.declared.solver.Solver.TheVariants.{Rounds}
 use Rattle.overlay_arrange.specs.Arranged.{most_rounds, IsArranged, IsArrangedCarrying, IsSplitCarrying}
 use Rattle.overlay_arrange.specs.Arranged.{MayRefuseSplitting}
 use Rattle.overlay_arrange.specs.Content.{IsContent}
-use Rattle.overlay_arrange.proofs.RoundsTaken.{Leaves}
+use Rattle.overlay_arrange.proofs.SolverRounds.{TakesRound}
 use Rattle.overlay_plane.proofs.AfterRounds.{arrangements_keep_balance, arranged_stays_arranged, no_rounds_again}
-use Rattle.overlay_plane.proofs.CuttingRounds.{cutting_is_a_round, cutting_through}
 use Rattle.overlay_plane.proofs.DerivedLists.{given_weaker}
 use Rattle.overlay_plane.proofs.Entries.{Contains-map}
 use Rattle.overlay_plane.proofs.ExactRounds.{whole_meetings_are_exact}
@@ -22,8 +21,7 @@ use Rattle.overlay_plane.proofs.HeldChains.{arrangements_hold_chains}
 use Rattle.overlay_plane.proofs.MovedPoints.{moving_rounds}
 use Rattle.overlay_plane.specs.Arrangements.{IsReachedBy, IsSplit, StaysUnsettled, WeighsTooMuch}
 use Rattle.overlay_plane.specs.Carried.{Carried, edges_in}
-use Rattle.overlay_plane.specs.CutPoints.{cut_edges}
-use Rattle.overlay_plane.specs.DerivedData.{AreGiven, ArePieces, AreCutAlong, CarriesMerged, GivesPiece, computed_chain}
+use Rattle.overlay_plane.specs.DerivedData.{AreGiven, ArePieces, AreCutAlong, CarriesMerged, GivesPiece}
 use Rattle.overlay_plane.specs.DerivedData.{done, round}
 use Rattle.overlay_plane.specs.EdgeLists.{IsForwardBy}
 use Rattle.overlay_plane.specs.Meetings.{MeetInWholePoints}
@@ -32,13 +30,6 @@ use Rattle.overlay_plane.specs.Rounds.{chain_of, pieces_of}
 -- the edges of a content lead forward
 pub forward_content : (limit : ℕ) (es : List CountedEdge) → IsContent limit es → IsForwardBy ends_of es
 forward_content limit es content = λ k d l. (content.held k d l).forward
-
--- a merged content that is not settled is cut by a round
-pub leaves_cut : (limit : ℕ) (old es new : List CountedEdge) → IsContent limit es → IsMerged old es → ¬ (IsSettled es) →
-    new ≡ cut_edges es → Leaves old new
-leaves_cut limit old es new content merged unsettled is =
-    let round = cutting_is_a_round old es (forward_content limit es content) merged unsettled in
-    (round.0, round.1, (cc))
 
 -- a content that was split is arranged
 abbrev pub arranged_of_split : (limit : ℕ) (solver : Solver) (old new : List CountedEdge) → IsContent limit old →
@@ -70,8 +61,8 @@ arranged_answer limit solver (Err e) old new content h = h
 settles_whole : (limit most : ℕ) (old : List CountedEdge) → 2 ≤ most → IsContent limit old → MeetInWholePoints old →
     ¬ (StaysUnsettled most old)
 settles_whole limit most old several content whole stays =
-    let few = whole_meetings_are_exact.few Rounds stays.rounds old (forward_content limit old content) whole
-    stays.cut in
+    let few = whole_meetings_are_exact.few Rounds stays.rounds old (forward_content limit old content) whole stays.cut
+    in
     omega (arith, few, stays.all_taken)
 
 -- a refusal of rounds is one of bringing the edges into an arrangement
@@ -110,47 +101,40 @@ refused_answer limit solver (Err e) old content unsettled heavy usable =
 
 module _ {C : Type 0} (merges : C → C → C → Type 0) (splits reverses : C → C → Type 0) where
   -- a merged content that is settled was split without a round
-  pub carried_at_once : (most : ℕ) (old new : List (Carried C)) → IsMerged (edges_in old) (edges_in new) →
-      IsSettled (edges_in new) →
-      CarriesMerged merges old new → IsSplitCarrying merges splits reverses Rounds most old new
+  pub carried_at_once : {solver : Solver} (most : ℕ) (old new : List (Carried C)) →
+      IsMerged (edges_in old) (edges_in new) → IsSettled (edges_in new) →
+      CarriesMerged merges old new → IsSplitCarrying merges splits reverses solver most old new
   carried_at_once most old new merged settled carries = record {
     split = record {
       rounds = [];
       few = omega arith;
-      reached =
-          record { cut = tt; merged = merged; settled = settled };
+      reached = record { cut = tt; merged = merged; settled = settled };
     };
     derived = done carries;
   }
 
-  -- a content that is merged, cut, and then split was split with one round more
-  pub carried_on : (limit fewer most : ℕ) (old kept left new : List (Carried C)) → fewer + 1 ≤ most →
-      IsContent limit (edges_in kept) →
-      IsMerged (edges_in old) (edges_in kept) → ¬ (IsSettled (edges_in kept)) → CarriesMerged merges old kept →
-      edges_in left ≡ cut_edges (edges_in kept) →
-      AreCutAlong splits reverses (computed_chain (edges_in kept)) kept left →
-      IsSplitCarrying merges splits reverses Rounds fewer left new →
-      IsSplitCarrying merges splits reverses Rounds most old new
-  carried_on limit fewer most old kept left new le content merged unsettled carries left_is cut h =
-      let through = cutting_through (edges_in old) (edges_in kept) (forward_content limit (edges_in kept) content)
-      merged unsettled in
-      let r = through.0 in
-      let cuts = through.1 in
-      let later : IsReachedBy Rounds h.split.rounds (pieces_of r) (edges_in new) =
-      subst (λ (es : List CountedEdge). IsReachedBy Rounds h.split.rounds es (edges_in new)) (left_is ∙ sym cuts.leaves)
+  -- a content that is merged, led along chains in a round, and then split was split with one round more
+  pub carried_on : (solver : Solver) (fewer most : ℕ) (old kept left new : List (Carried C))
+      (chain : CountedEdge → List Step) → fewer + 1 ≤ most →
+      TakesRound solver (edges_in old) (edges_in kept) (edges_in left) chain → CarriesMerged merges old kept →
+      AreCutAlong splits reverses chain kept left →
+      IsSplitCarrying merges splits reverses solver fewer left new →
+      IsSplitCarrying merges splits reverses solver most old new
+  carried_on solver fewer most old kept left new chain le takes carries cut h =
+      let later : IsReachedBy solver h.split.rounds (pieces_of takes.taken) (edges_in new) =
+      subst (λ (es : List CountedEdge). IsReachedBy solver h.split.rounds es (edges_in new)) (sym takes.leaves)
       h.split.reached in
       record {
         split = record {
-          rounds = r ∷ h.split.rounds;
+          rounds = takes.taken ∷ h.split.rounds;
           few = omega (arith, h.split.few);
-          reached = record { cut = (cuts.is, later.cut); merged = later.merged; settled = later.settled };
+          reached = record { cut = (takes.is, later.cut); merged = later.merged; settled = later.settled };
         };
-        derived = round (sym cuts.edges) carries
-            (given_weaker (ArePieces splits reverses (computed_chain (edges_in kept)))
-            (ArePieces splits reverses (chain_of r))
+        derived = round (sym takes.edges) carries
+            (given_weaker (ArePieces splits reverses chain) (ArePieces splits reverses (chain_of takes.taken))
             (λ x part at_x pieces. subst (λ (ss : List Step). AreGiven (GivesPiece splits reverses (length ss ≡ 1) x) ss
             part)
-            (sym (cuts.chains x.edge (Contains-map (λ (y : Carried C). y.edge) kept x at_x))) pieces) cut) h.derived;
+            (sym (takes.chains x.edge (Contains-map (λ (y : Carried C). y.edge) kept x at_x))) pieces) cut) h.derived;
       }
 
   -- where an answer says that a content was split, it is arranged

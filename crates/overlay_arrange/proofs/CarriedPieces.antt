@@ -9,10 +9,10 @@ use Rattle.overlay_geom.specs.Plane.{Point, Step, point_eq, point_lt, steps_betw
 use Rattle.overlay_geom.specs.Edges.{CountedEdge}
 use Rattle.overlay_plane.specs.Carried.{Carried}
 use Rattle.overlay_plane.specs.Cutting.{piece_along}
-use Rattle.overlay_plane.specs.DerivedData.{AreGiven, none, ArePieces, GivesPiece, computed_chain}
+use Rattle.overlay_plane.specs.DerivedData.{AreGiven, none, ArePieces, GivesPiece}
 use Rattle.overlay_plane.proofs.DerivedLists.{given_both, given_one, given_weaker}
 use Rattle.overlay_arrange.specs.Content.{edge_with, point_cmp}
-use Rattle.overlay_arrange.specs.Cut.{AddsGiven, StaysWhole}
+use Rattle.overlay_arrange.specs.Cut.{chain_by, AddsGiven, LeadingPoints, StaysWhole}
 use Rattle.overlay_arrange.proofs.Pieces.{back_where_greater, on_where_less, same_where_equal, piece_back, piece_forth}
 
 -- ---- what is added
@@ -140,22 +140,21 @@ module _ {C : Type 0} (splits reverses : C → C → Type 0) (is_whole : Bool) (
 
 -- ---- the pieces of an edge
 
--- pieces added along the chain that is computed of an edge are the edge's pieces, through whichever points that chain
--- was found
-pub pieces_added : {C : Type 0} (splits reverses : C → C → Type 0) (es : List CountedEdge) (x : Carried C)
+-- pieces added along the chain of an edge are the edge's pieces, through whichever points that chain was found
+pub pieces_added : {C : Type 0} (splits reverses : C → C → Type 0) (points : LeadingPoints) (x : Carried C)
     (vs : List Point) {old new : List (Carried C)} →
-    steps_through x.edge.a (vs ++ x.edge.b ∷ []) ≡ computed_chain es x.edge →
-    StaysWhole x.edge vs ↔ (length (computed_chain es x.edge) ≡ 1) →
+    steps_through x.edge.a (vs ++ x.edge.b ∷ []) ≡ chain_by points x.edge →
+    StaysWhole x.edge vs ↔ (length (chain_by points x.edge) ≡ 1) →
     AddsGiven (GivesPiece splits reverses (StaysWhole x.edge vs) x) (steps_through x.edge.a (vs ++ x.edge.b ∷ [])) old
     new →
-    AddsGiven (ArePieces splits reverses (computed_chain es)) (x ∷ []) old new
-pieces_added splits reverses es x vs {old} {new} chain whole adds =
-    let gives = GivesPiece splits reverses (length (computed_chain es x.edge) ≡ 1) x in
+    AddsGiven (ArePieces splits reverses (chain_by points)) (x ∷ []) old new
+pieces_added splits reverses points x vs {old} {new} chain whole adds =
+    let gives = GivesPiece splits reverses (length (chain_by points x.edge) ≡ 1) x in
     let alike = subst (λ ss. AddsGiven gives ss old new) chain
-    (adds_alike splits reverses (StaysWhole x.edge vs) (length (computed_chain es x.edge) ≡ 1) whole x adds) in
+    (adds_alike splits reverses (StaysWhole x.edge vs) (length (chain_by points x.edge) ≡ 1) whole x adds) in
     record {
       more = alike.more;
-      given = given_one (ArePieces splits reverses (computed_chain es)) x alike.more
+      given = given_one (ArePieces splits reverses (chain_by points)) x alike.more
           alike.given;
       added = alike.added;
     }

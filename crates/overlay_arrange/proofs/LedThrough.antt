@@ -1,4 +1,4 @@
--- The points of an edge's meetings, taken in their order along it, make the chain that is computed of it.
+-- The points of an edge's meetings, taken in their order along it, make the chain through the points that lead it.
 use Rattle.std.proofs.Common.{◌≡◌, ⊎_elim, inl, inr, ℕ, ◌+◌, ◌-◌, ◌<◌, ◌≤◌, true, List, [], ◌∷◌, ◌++◌, All, Contains}
 use Rattle.std.proofs.Common.{length, map, drop, get_or, slice_range, refl, sym, ap, ◌∙◌, subst, arith}
 use Rattle.std.specs.Prelude.{◌↔◌}
@@ -8,22 +8,19 @@ use Rattle.std.proofs.lemmas.List.Elements.{All-contains, All-weaker}
 use Rattle.overlay_geom.specs.Plane.{Point, Edge, point_lt, steps_through}
 use Rattle.overlay_geom.specs.Edges.{CountedEdge, ends_of}
 use Rattle.overlay_geom.specs.Points.{InRange}
-use Rattle.overlay_geom.proofs.OneLine.{holds_start, holds_end}
-use Rattle.overlay_geom.proofs.PointOrder.{IsBefore}
 use Rattle.overlay_plane.specs.CutPoints.{comes_first, cut_points, met_at}
-use Rattle.overlay_plane.specs.DerivedData.{computed_chain}
 use Rattle.overlay_plane.specs.EdgeLists.{IsForwardBy}
 use Rattle.overlay_plane.specs.InOrder.{in_order}
 use Rattle.overlay_plane.proofs.AlongOrder.{IsUpToAlong, along-order}
-use Rattle.overlay_plane.proofs.CutChains.{IsEndOrIn, same_chain_through}
+use Rattle.overlay_plane.proofs.CutChains.{same_chain_through}
 use Rattle.overlay_plane.proofs.Entries.{all_of_entries, Contains-from_flat_map, Contains-from_map, Contains-map}
 use Rattle.overlay_plane.proofs.InOrderLists.{Contains-in_order, Contains-put_in_order, Each-in_weak_order}
 use Rattle.overlay_plane.proofs.LaterEntries.{Each}
 use Rattle.overlay_plane.proofs.WholeChains.{ends_where_one_step, one_step_through}
-use Rattle.overlay_plane.proofs.WholeOnEdges.{forward_from_test}
 use Rattle.overlay_arrange.specs.Content.{IsHeld}
-use Rattle.overlay_arrange.specs.Cut.{AreLedAlongLines, IsOnLineOf, StaysWhole}
-use Rattle.overlay_arrange.specs.Meetings.{AreMeetings, ArePointsAt, IsAt, IsRunAt, Meeting}
+use Rattle.overlay_arrange.specs.Cut.{chain_by, LeadingPoints, StaysWhole}
+use Rattle.overlay_arrange.specs.Meetings.{AreInRange, AreLedAlong, AreMeetings, ArePointsAt, IsAt, IsEndOrMet}
+use Rattle.overlay_arrange.specs.Meetings.{IsRunAt, Meeting}
 use Rattle.overlay_arrange.proofs.CutContents.{cut_points_in_range}
 use Rattle.overlay_arrange.proofs.GatheredMeetings.{one_entry}
 
@@ -84,68 +81,70 @@ points_of_run ms i e low high us vs run are order = record { from = from; all = 
 
 -- ---- the chain through them
 
--- the edge is led through these points along the chain that is computed of it
-pub record IsLedThrough (limit : ℕ) (es : List CountedEdge) (e : CountedEdge) (vs : List Point) : Type 0 where
-  pub chain : steps_through e.a (vs ++ e.b ∷ []) ≡ computed_chain es e
-  pub whole : StaysWhole e vs ↔ (length (computed_chain es e) ≡ 1)
-  pub on_line : All (IsOnLineOf e) vs ↔ AreLedAlongLines es e
-  pub in_range : All (InRange limit) vs
+-- the edge is led through these points along the chain through the others
+pub record IsLedThrough (points : LeadingPoints) (e : CountedEdge) (vs : List Point) : Type 0 where
+  pub chain : steps_through e.a (vs ++ e.b ∷ []) ≡ chain_by points e
+  pub whole : StaysWhole e vs ↔ (length (chain_by points e) ≡ 1)
 
-module _ (limit : ℕ) (es : List CountedEdge) (held : All (IsHeld limit) es) (i : ℕ) (e : CountedEdge)
-    (at_e : IsAt es i e) where
+-- the points of an edge's meetings are in their order along it
+pub points_in_order : (ms : List Meeting) (i : ℕ) (e : Edge) (vs : List Point) → ArePointsAt ms i e vs →
+    Each (IsUpToAlong e) vs
+points_in_order ms i e vs points = subst (Each (IsUpToAlong e)) (sym points.order)
+    (Each-in_weak_order (comes_first e) (IsUpToAlong e) (along-order e) points.points)
+
+-- and in range where all meetings are
+pub points_in_range : (limit : ℕ) (ms : List Meeting) (i : ℕ) (e : Edge) (vs : List Point) → AreInRange limit ms →
+    ArePointsAt ms i e vs → All (InRange limit) vs
+points_in_range limit ms i e vs in_range points = all_of_entries (InRange limit) vs
+    (λ v at. All-contains (λ (m : Meeting). InRange limit m.point) ms (record { place = i; point = v }) in_range
+    (points.from v at))
+
+-- an edge is led through the points of its meetings
+pub led_through : (limit : ℕ) (points : LeadingPoints) (i : ℕ) (e : CountedEdge) → IsHeld limit e →
+    (ms : List Meeting) (vs : List Point) → ArePointsAt ms i (ends_of e) vs →
+    steps_through e.a (vs ++ e.b ∷ []) ≡ chain_by points e → IsLedThrough points e vs
+led_through limit points i e held ms vs at chain = record {
+  chain = chain;
+  whole = (
+    λ all. ap length (sym chain) ∙ one_step_through (ends_of e) held.forward vs all
+        (points_in_order ms i (ends_of e) vs at),
+    λ one. ends_where_one_step e.a e.b vs (ap length chain ∙ one),
+  );
+}
+
+-- ---- where the edges meet
+
+module _ (limit : ℕ) (es : List CountedEdge) (held : All (IsHeld limit) es) (ms : List Meeting)
+    (meetings : AreMeetings es ms) where
   -- the edges run forward
-  forward : IsForwardBy ends_of es
+  pub forward : IsForwardBy ends_of es
   forward = All-weaker (IsHeld limit) (λ f. point_lt f.a f.b ≡ true) (λ f h. h.forward) es held
 
-  -- and e is held
-  held_e : IsHeld limit e
-  held_e = subst (IsHeld limit) at_e.1 (held i e at_e.0)
+  -- a meeting of an edge is one of its computed points
+  pub computed_of : (i : ℕ) (e : CountedEdge) → IsAt es i e → (v : Point) →
+      Contains ms (record { place = i; point = v }) → Contains (cut_points es e) v
+  computed_of i e at_e v at =
+      let led = meetings.led (record { place = i; point = v }) at in
+      subst (λ d. Contains (cut_points es d) v) (one_entry es i led.0 e led.1 at_e) led.2
 
-  -- and leads from its smaller end to its larger one
-  leads : IsBefore e.a e.b
-  leads = forward_from_test (ends_of e) held_e.forward
+  -- each computed point of an edge is one of its meetings, or an end of it
+  pub all_computed : (i : ℕ) (e : CountedEdge) → IsAt es i e → (v : Point) → Contains (cut_points es e) v →
+      IsEndOrMet ms i e v
+  all_computed i e at_e v at =
+      let from = Contains-from_flat_map (λ f. met_at (ends_of e) (ends_of f)) es v
+      (Contains-in_order (comes_first (ends_of e)) (flat_map (λ f. met_at (ends_of e) (ends_of f)) es) v at) in
+      meetings.all i from.1.0 e from.0 at_e (from.1.1, from.1.2) (inl at_e.0) v from.2
 
-  -- so an edge is led through the points of its meetings
-  pub led_through : (ms : List Meeting) (vs : List Point) → AreMeetings es ms → ArePointsAt ms i (ends_of e) vs →
-      IsLedThrough limit es e vs
-  led_through ms vs meetings points = record {
-    chain = chain;
-    whole = (
-      λ all. ap length (sym chain) ∙ one_step_through (ends_of e) held_e.forward vs all in_their_order,
-      λ one. ends_where_one_step e.a e.b vs (ap length chain ∙ one),
-    );
-    on_line = (
-      λ all. all_of_entries (IsOnLineOf e) (cut_points es e) (λ v at. on_line_of all v (all_computed v at)),
-      λ all. all_of_entries (IsOnLineOf e) vs (λ v at. All-contains (IsOnLineOf e) (cut_points es e) v all
-          (computed_of v at)),
-    );
-    in_range = all_of_entries (InRange limit) vs
-        (λ v at. All-contains (InRange limit) (cut_points es e) v (cut_points_in_range limit es e held_e)
-        (computed_of v at));
-  }
-    where
-      in_their_order : Each (IsUpToAlong (ends_of e)) vs
-      in_their_order = subst (Each (IsUpToAlong (ends_of e))) (sym points.order)
-          (Each-in_weak_order (comes_first (ends_of e)) (IsUpToAlong (ends_of e)) (along-order (ends_of e))
-          points.points)
+  -- the meetings make the chains through the computed points
+  pub meetings_lead_along : AreLedAlong es ms (cut_points es)
+  meetings_lead_along i e at_e vs points = same_chain_through es forward e (i, at_e.0, at_e.1) vs
+      (points_in_order ms i (ends_of e) vs points) (λ v at. computed_of i e at_e v (points.from v at))
+      (λ v at. ⊎_elim (λ end. ⊎_elim (λ is. inl is) (λ is. inr (inl is)) end)
+      (λ there. inr (inr (points.all v there))) (all_computed i e at_e v at))
 
-      computed_of : (v : Point) → Contains vs v → Contains (cut_points es e) v
-      computed_of v at =
-          let led = meetings.led (record { place = i; point = v }) (points.from v at) in
-          subst (λ d. Contains (cut_points es d) v) (one_entry es i led.0 e led.1 at_e) led.2
-
-      all_computed : (v : Point) → Contains (cut_points es e) v → IsEndOrIn e.a e.b vs v
-      all_computed v at =
-          let from = Contains-from_flat_map (λ f. met_at (ends_of e) (ends_of f)) es v
-          (Contains-in_order (comes_first (ends_of e)) (flat_map (λ f. met_at (ends_of e) (ends_of f)) es) v at) in
-          ⊎_elim (λ end. ⊎_elim (λ is. inl is) (λ is. inr (inl is)) end) (λ there. inr (inr (points.all v there)))
-          (meetings.all i from.1.0 e from.0 at_e (from.1.1, from.1.2) (inl at_e.0) v from.2)
-
-      -- an end of e, and a point on its line, lie there
-      on_line_of : All (IsOnLineOf e) vs → (v : Point) → IsEndOrIn e.a e.b vs v → IsOnLineOf e v
-      on_line_of all v (inl is) = subst (IsOnLineOf e) (sym is) (holds_start (ends_of e) leads).on_line
-      on_line_of all v (inr (inl is)) = subst (IsOnLineOf e) (sym is) (holds_end (ends_of e) leads).on_line
-      on_line_of all v (inr (inr there)) = All-contains (IsOnLineOf e) vs v all there
-
-      chain : steps_through e.a (vs ++ e.b ∷ []) ≡ computed_chain es e
-      chain = same_chain_through es forward e (i, at_e.0, at_e.1) vs in_their_order computed_of all_computed
+  -- and lie in range
+  pub meetings_in_range : AreInRange limit ms
+  meetings_in_range = all_of_entries (λ (m : Meeting). InRange limit m.point) ms (λ m at.
+      let led = meetings.led m at in
+      All-contains (InRange limit) (cut_points es led.0) m.point
+      (cut_points_in_range limit es led.0 (subst (IsHeld limit) led.1.1 (held m.place led.0 led.1.0))) led.2)

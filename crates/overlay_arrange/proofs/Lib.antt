@@ -28,6 +28,7 @@ pub mod HotRanks
 pub mod LedThrough
 pub mod LedToEnds
 pub mod MeetingRuns
+pub mod MeetingsOnLines
 pub mod MergedContent
 pub mod NearChanged
 pub mod NearEdges
@@ -49,9 +50,11 @@ pub mod Searches
 pub mod SettledFronts
 pub mod SettledLists
 pub mod SideBits
+pub mod SnappedThrough
+pub mod SnapsTaken
+pub mod SolverRounds
 pub mod SortedPoints
 pub mod StartsTogether
 pub mod StripOrder
 pub mod Sweepable
-mod SweptFills
 pub mod WholeMeetings

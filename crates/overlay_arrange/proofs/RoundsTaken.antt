@@ -4,14 +4,16 @@ use Rattle.std.proofs.lemmas.Bool.{false≢true}
 use Rattle.overlay_geom.specs.Edges.{CountedEdge, weight}
 use Rattle.overlay_geom.specs.Merged.{IsMerged}
 use Rattle.overlay_geom.specs.Settled.{IsSettled}
+use Rattle.overlay_geom.specs.declared.solver.Solver.{Solver}
 use Rattle.overlay_geom.specs.declared.solver.Solver.TheVariants.{Rounds}
 use Rattle.overlay_geom.proofs.MergedOnce.{IsMerged-unique}
 use Rattle.overlay_plane.specs.Arrangements.{IsReachedBy, IsSplit, StaysUnsettled, WeighsTooMuch}
-use Rattle.overlay_plane.specs.Rounds.{Round, IsRound, pieces_of}
+use Rattle.overlay_plane.specs.RoundLists.{IsRoundBy}
+use Rattle.overlay_plane.specs.Rounds.{Round, pieces_of}
 
 -- a merged list that is settled was split without a round
-pub split_at_once : (most : ℕ) (old new : List CountedEdge) → IsMerged old new → IsSettled new →
-    IsSplit Rounds most old new
+pub split_at_once : {solver : Solver} (most : ℕ) (old new : List CountedEdge) → IsMerged old new → IsSettled new →
+    IsSplit solver most old new
 split_at_once most old new merged settled = record {
   rounds = [];
   few = omega arith;
@@ -19,14 +21,14 @@ split_at_once most old new merged settled = record {
 }
 
 -- and the answer that it was not cut is right
-pub uncut_where_settled : {old new : List CountedEdge} → IsMerged old new → IsSettled new →
-    (false ≡ false) ↔ IsReachedBy Rounds [] old new
+pub uncut_where_settled : {solver : Solver} {old new : List CountedEdge} → IsMerged old new → IsSettled new →
+    (false ≡ false) ↔ IsReachedBy solver [] old new
 uncut_where_settled merged settled = (λ same. record { cut = tt; merged = merged; settled = settled }, λ reached. refl)
 
 -- where the merged list is not settled, no list is reached without a round
-pub cut_where_unsettled : {old left new : List CountedEdge} → IsMerged old left → ¬ (IsSettled left) →
-    (true ≡ false) ↔ IsReachedBy Rounds [] old new
-cut_where_unsettled {old} {left} {new} merged unsettled = (
+pub cut_where_unsettled : {solver : Solver} {old left new : List CountedEdge} → IsMerged old left →
+    ¬ (IsSettled left) → (true ≡ false) ↔ IsReachedBy solver [] old new
+cut_where_unsettled {solver} {old} {left} {new} merged unsettled = (
   λ same. absurd (false≢true (sym same)),
   λ reached. absurd (unsettled (subst IsSettled (IsMerged-unique old new left reached.merged merged) reached.settled)),
 )
@@ -43,16 +45,16 @@ unsettled_at_once most old left none merged unsettled = record {
   unsettled = unsettled;
 }
 
--- a round cuts the first list and leaves the second
-abbrev pub Leaves : List CountedEdge → List CountedEdge → Type 0
-Leaves old left = (r : Round) × IsRound old r × (pieces_of r ≡ left)
+-- a round of the solver cuts the first list and leaves the second
+abbrev pub Leaves : Solver → List CountedEdge → List CountedEdge → Type 0
+Leaves solver old left = (r : Round) × IsRoundBy solver old r × (pieces_of r ≡ left)
 
 -- what a first round leaves was split, so the list was
-pub split_on : (fewer most : ℕ) (old left new : List CountedEdge) → fewer + 1 ≤ most → Leaves old left →
-    IsSplit Rounds fewer left new → IsSplit Rounds most old new
-split_on fewer most old left new le (r, is, left_is) h =
-    let reached : IsReachedBy Rounds h.rounds (pieces_of r) new = subst
-    (λ (es : List CountedEdge). IsReachedBy Rounds h.rounds es new) (sym left_is) h.reached in
+pub split_on : (solver : Solver) (fewer most : ℕ) (old left new : List CountedEdge) → fewer + 1 ≤ most →
+    Leaves solver old left → IsSplit solver fewer left new → IsSplit solver most old new
+split_on solver fewer most old left new le (r, is, left_is) h =
+    let reached : IsReachedBy solver h.rounds (pieces_of r) new = subst
+    (λ (es : List CountedEdge). IsReachedBy solver h.rounds es new) (sym left_is) h.reached in
     record {
       rounds = r ∷ h.rounds;
       few = omega (arith, h.few);
@@ -60,7 +62,7 @@ split_on fewer most old left new le (r, is, left_is) h =
     }
 
 -- it stays unsettled, so the list does
-pub unsettled_on : (fewer most : ℕ) (old left : List CountedEdge) → fewer + 1 ≡ most → Leaves old left →
+pub unsettled_on : (fewer most : ℕ) (old left : List CountedEdge) → fewer + 1 ≡ most → Leaves Rounds old left →
     StaysUnsettled fewer left → StaysUnsettled most old
 unsettled_on fewer most old left e (r, is, left_is) given =
     let h : StaysUnsettled fewer (pieces_of r) = subst (λ (es : List CountedEdge). StaysUnsettled fewer es)
@@ -75,17 +77,17 @@ unsettled_on fewer most old left e (r, is, left_is) given =
     }
 
 -- it weighs too much in a later round, so the list does
-pub heavy_on : (limit fewer most : ℕ) (old left : List CountedEdge) → fewer + 1 ≤ most → Leaves old left →
-    WeighsTooMuch Rounds fewer limit left → WeighsTooMuch Rounds most limit old
-heavy_on limit fewer most old left le (r, is, left_is) given =
-    let h : WeighsTooMuch Rounds fewer limit (pieces_of r) = subst
-    (λ (es : List CountedEdge). WeighsTooMuch Rounds fewer limit es) (sym left_is) given in
+pub heavy_on : (solver : Solver) (limit fewer most : ℕ) (old left : List CountedEdge) → fewer + 1 ≤ most →
+    Leaves solver old left → WeighsTooMuch solver fewer limit left → WeighsTooMuch solver most limit old
+heavy_on solver limit fewer most old left le (r, is, left_is) given =
+    let h : WeighsTooMuch solver fewer limit (pieces_of r) = subst
+    (λ (es : List CountedEdge). WeighsTooMuch solver fewer limit es) (sym left_is) given in
     record { rounds = r ∷ h.rounds; some = omega arith; few = omega (arith, h.few); cut = (is, h.cut); heavy = h.heavy }
 
 -- it weighs too much at once, so the list does after one round
-pub heavy_at_once : (limit most : ℕ) (old left : List CountedEdge) → 1 ≤ most → Leaves old left → limit ≤ weight left →
-    WeighsTooMuch Rounds most limit old
-heavy_at_once limit most old left le (r, is, left_is) heavy = record {
+pub heavy_at_once : (solver : Solver) (limit most : ℕ) (old left : List CountedEdge) → 1 ≤ most →
+    Leaves solver old left → limit ≤ weight left → WeighsTooMuch solver most limit old
+heavy_at_once solver limit most old left le (r, is, left_is) heavy = record {
   rounds = r ∷ [];
   some = omega arith;
   few = le;

@@ -160,32 +160,6 @@ module _ (es : List CountedEdge) (forward : IsForwardBy ends_of es) where
   pub whole_meetings_on_lines : All (AreLedAlongLines es) es ↔ MeetInWholePoints es
   whole_meetings_on_lines = (whole_where_on_lines, on_lines_where_whole)
 
--- ---- a loop that asks of each edge whether it is led along its line
-
--- at first none has been found that is not
-pub none_rounded : {X : Type 0} (P : X → Type 0) → (false ≡ false) ↔ All P []
-none_rounded P = (λ same. All-nil P, λ all. refl)
-
-module _ {X Y : Type 0} (P : Y → Type 0) (f : X → Y) (xs : List X) (i : ℕ) (x : X) (lt : i < length xs)
-    (is : x ≡ get_or xs i x) where
-  -- one more that is led along its line changes no answer
-  pub one_more_along : (is_rounded more : Bool) → (is_rounded ≡ false) ↔ All P (map f (take i xs)) → P (f x) →
-      more ≡ is_rounded →
-      (more ≡ false) ↔ All P (map f (take (i + 1) xs))
-  one_more_along is_rounded more so_far along same = (
-    λ none. All-mapped_more P f xs i x lt is (so_far.0 (sym same ∙ none)) along,
-    λ all. same ∙ so_far.1 (All-first P (map f (take i xs)) (f x ∷ [])
-        (subst (All P) (mapped_more f xs i x lt is) all)),
-  )
-
-  -- and one that is not is an answer
-  pub one_more_off : (more : Bool) → ¬ (P (f x)) → more ≡ true → (more ≡ false) ↔ All P (map f (take (i + 1) xs))
-  one_more_off more off found = (
-    λ none. absurd (both_ways more none found),
-    λ all. absurd (off (All-head P (f x) []
-        (All-rest P (map f (take i xs)) (f x ∷ []) (subst (All P) (mapped_more f xs i x lt is) all)))),
-  )
-
 -- ---- what a round leaves that rounds no point
 
 -- merged edges that are not settled, and meet in whole points alone, leave pieces that, merged, are settled

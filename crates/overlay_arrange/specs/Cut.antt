@@ -1,7 +1,7 @@
 -- What the functions that cut edges answer: whether an edge stays whole, whether it is led along its line, and the
 -- pieces that are added.
-use Rattle.std.specs.Prelude.{◌≡◌, ◌⊎◌, ◌++◌, pos, List, All}
-use Rattle.overlay_geom.specs.Plane.{Point, cross_at}
+use Rattle.std.specs.Prelude.{◌≡◌, ◌⊎◌, ◌++◌, ◌∷◌, [], pos, List, All}
+use Rattle.overlay_geom.specs.Plane.{Point, Step, cross_at, steps_through}
 use Rattle.overlay_geom.specs.Edges.{CountedEdge}
 use Rattle.overlay_plane.specs.CutPoints.{cut_points}
 use Rattle.overlay_plane.specs.DerivedData.{AreGiven}
@@ -9,6 +9,14 @@ use Rattle.overlay_plane.specs.DerivedData.{AreGiven}
 -- v is an end of the edge
 abbrev pub IsEndOf : CountedEdge → Point → Type 0
 IsEndOf e v = (v ≡ e.a) ⊎ (v ≡ e.b)
+
+-- the points through which each edge is led
+abbrev pub LeadingPoints : Type 0
+LeadingPoints = CountedEdge → List Point
+
+-- the chain of an edge through them
+abbrev pub chain_by : LeadingPoints → CountedEdge → List Step
+chain_by points e = steps_through e.a (points e ++ e.b ∷ [])
 
 -- the chain through the points is the edge itself
 abbrev pub StaysWhole : CountedEdge → List Point → Type 0

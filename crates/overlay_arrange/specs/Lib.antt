@@ -16,6 +16,7 @@ pub mod Rules
 pub mod Runs
 pub mod Settle
 pub mod SnapMeetings
+pub mod Snapping
 pub mod Starts
 pub mod Stores
 pub mod Vectors

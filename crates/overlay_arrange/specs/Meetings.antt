@@ -1,11 +1,12 @@
 -- The whole points through which the edges of a list are led, each with the place of its edge.
-use Rattle.std.specs.Prelude.{◌≡◌, ◌⊎◌, ℕ, ◌<◌, ◌≤◌, ℤ, ◌<ℤ◌, List, map, length, slice_index_or, AllPairs, Contains}
-use Rattle.overlay_geom.specs.Plane.{Point, Edge}
+use Rattle.std.specs.Prelude.{◌≡◌, ◌⊎◌, ℕ, ◌<◌, ◌≤◌, ℤ, ◌<ℤ◌, List, [], ◌∷◌, ◌++◌, map, length, slice_index_or}
+use Rattle.std.specs.Prelude.{All, AllPairs, Contains}
+use Rattle.overlay_geom.specs.Plane.{Point, Edge, steps_through}
 use Rattle.overlay_geom.specs.Edges.{CountedEdge, ends_of}
-use Rattle.overlay_geom.specs.Points.{plain_point}
+use Rattle.overlay_geom.specs.Points.{plain_point, InRange}
 use Rattle.overlay_plane.specs.CutPoints.{comes_first, cut_points, met_at}
 use Rattle.overlay_plane.specs.InOrder.{in_order}
-use Rattle.overlay_arrange.specs.Cut.{IsEndOf}
+use Rattle.overlay_arrange.specs.Cut.{chain_by, IsEndOf, IsOnLineOf, LeadingPoints}
 use Rattle.overlay_arrange.specs.Settle.{AreSettled}
 use Rattle.overlay_arrange.specs.declared.meetings.Meeting.{Meeting as HeldMeeting}
 
@@ -95,3 +96,16 @@ pub record ArePointsAt (ms : List Meeting) (i : ℕ) (e : Edge) (vs : List Point
   pub all : (v : Point) → Contains ms (record { place = i; point = v }) → Contains vs v
   pub points : List Point
   pub order : vs ≡ in_order (comes_first e) points
+
+-- the meetings lie in the coordinate range
+abbrev pub AreInRange : ℕ → List Meeting → Type 0
+AreInRange limit ms = All (λ m. InRange limit m.point) ms
+
+-- the meetings of each edge, in their order along it, make the chain through its points
+abbrev pub AreLedAlong : List CountedEdge → List Meeting → LeadingPoints → Type 0
+AreLedAlong es ms points = (i : ℕ) (e : CountedEdge) → IsAt es i e → (vs : List Point) →
+    ArePointsAt ms i (ends_of e) vs → steps_through e.a (vs ++ e.b ∷ []) ≡ chain_by points e
+
+-- the meeting lies on the line of the edge at its place
+abbrev pub IsOnItsLine : List CountedEdge → Meeting → Type 0
+IsOnItsLine es m = (e : CountedEdge) → IsAt es m.place e → IsOnLineOf e m.point

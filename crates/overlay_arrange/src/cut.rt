@@ -1,7 +1,7 @@
-//! A round of cutting: each edge becomes the pieces of a chain through the whole points in which
-//! the others meet it.
+//! Cutting: each edge becomes the pieces of a chain through whole points, those in which the others meet it, or the hot
+//! points whose pixels it meets.
 
-ghost use Rattle.std.specs.Prelude.{◌≡◌, ◌⊎◌, ◌↔◌, ◌^◌, ◌<◌, ◌≤◌, ◌++◌, ◌∷◌, [], IsTrue, All};
+ghost use Rattle.std.specs.Prelude.{◌≡◌, ◌⊎◌, ◌↔◌, ◌^◌, ◌<◌, ◌≤◌, ◌++◌, ◌∷◌, [], IsTrue, All, flat_map};
 ghost use Rattle.std.specs.Prelude.{false, map, IfOk, IfErr, OnOk, IsOkUnless, IsErrOf};
 ghost use Rattle.std.specs.Prelude.{MatchBool, option_map, option_to_list, cond, int_le, int_lt};
 ghost use Rattle.std.specs.Ordering.{is_lt};
@@ -11,22 +11,26 @@ ghost use Rattle.overlay_geom.specs.Plane.{steps_between, steps_through};
 ghost use Rattle.overlay_geom.specs.Points.{plain_point, plain_points, InRange, AllInRange};
 ghost use Rattle.overlay_plane.specs.Carried.{edges_in};
 ghost use Rattle.overlay_plane.specs.CutPoints.{comes_first, cut_edges};
-ghost use Rattle.overlay_plane.specs.Cutting.{piece_along};
+ghost use Rattle.overlay_plane.specs.Cutting.{piece_along, pieces_through};
 ghost use Rattle.overlay_plane.specs.DerivedData.{AreCutAlong, AreGiven, GivesPiece, computed_chain};
 ghost use Rattle.overlay_plane.specs.InOrder.{in_order};
 ghost use Rattle.overlay_plane.specs.Meetings.{MeetInWholePoints};
+ghost use Rattle.overlay_plane.specs.SnapPoints.{snap_points, snapped_edges};
 ghost use Rattle.overlay_arrange.specs.Content.{plain_edge, plain_edges, carried_edge, carried_edges};
 ghost use Rattle.overlay_arrange.specs.Content.{IsHeld, IsContent, IsAscending};
-ghost use Rattle.overlay_arrange.specs.Cut.{AddsGiven, IsOnLineOf, StaysWhole};
-ghost use Rattle.overlay_arrange.specs.Meetings.{plain_meetings, AreByPlace, AreMeetings, ArePointsAt};
+ghost use Rattle.overlay_arrange.specs.Cut.{chain_by, AddsGiven, LeadingPoints, StaysWhole};
+ghost use Rattle.overlay_arrange.specs.Meetings.{plain_meetings, AreByPlace, AreInRange, AreLedAlong, AreMeetings};
+ghost use Rattle.overlay_arrange.specs.Meetings.{ArePointsAt};
+ghost use Rattle.overlay_arrange.specs.SnapMeetings.{AreSnapMeetings};
 ghost use Rattle.overlay_arrange.specs.Stores.{IsStoreReached};
 
 use crate::content::Content;
 use crate::count::EdgeCount;
-use crate::crossing::{is_end_of, is_on_line};
+use crate::crossing::is_end_of;
 use crate::edge::{CountedEdge, compare_points};
 use crate::meetings::{Meeting, gather, run_at};
 use crate::strips::strips_of;
+use crate::whole::are_whole;
 use overlay_geom::error::OverlayError;
 use overlay_geom::number::IntNumber;
 use overlay_geom::point::IntPoint;
@@ -81,46 +85,69 @@ impl<I: IntNumber, C: EdgeCount, A: Allocator> Content<I, C, A> {
         ensures too_many { IsErrOf result OverlayError.TooManyEdges → 2 ^ 31 ≤ weight (cut_edges (edges_in self.old)) }
         ensures only { IfErr result (λ e. (e ≡ OverlayError.Memory) ⊎ (e ≡ OverlayError.TooManyEdges)) }
     {
+        let is_whole = are_whole(self.edges(), &meetings);
         let alloc = self.allocator().clone()?;
-        let (pieces, is_rounded) = cut_edges(alloc, self.edges(), &meetings, store)?;
+        let pieces = cut_edges(alloc, self.edges(), &meetings, store)?;
         let before = mem::replace(self, pieces);
-        Ok((is_rounded, before))
+        Ok((!is_whole, before))
+    }
+
+    /// Cuts each edge into the pieces of the chain through the hot points whose pixels it meets. The meetings are
+    /// these, by their places. They are dropped. If it is refused the content is left open.
+    #[tactic(auto, using(crate::proofs::ReachedStores::never_written))]
+    pub(crate) fn snap_at(
+        &mut self,
+        meetings: Vec<Meeting<I>, A>,
+        store: &mut C::Store,
+    ) -> Result<(), OverlayError>
+    where
+        A: Clone,
+        requires meetings { AreSnapMeetings (edges_in self.old) (plain_meetings I.whole meetings.items) }
+        requires order { AreByPlace (plain_meetings I.whole meetings.items) }
+        ensures ok { OnOk result (edges_in self.new ≡ snapped_edges (edges_in self.old)) }
+        ensures carried { OnOk result (AreCutAlong C.splits C.reverses
+            (chain_by (snap_points (edges_in self.old))) self.old self.new) }
+        ensures store { IsStoreReached C.writes store.old store.new }
+        ensures too_many { IsErrOf result OverlayError.TooManyEdges
+            → 2 ^ 31 ≤ weight (snapped_edges (edges_in self.old)) }
+        ensures only { IfErr result (λ e. (e ≡ OverlayError.Memory) ⊎ (e ≡ OverlayError.TooManyEdges)) }
+    {
+        let alloc = self.allocator().clone()?;
+        *self = cut_edges(alloc, self.edges(), &meetings, store)?;
+        Ok(())
     }
 }
 
-/// The pieces of all edges, of each one along its chain, and whether some point of a chain was rounded.
-/// The meetings are those of the edges, by their places.
+/// The pieces of all edges, of each one along the chain through its meetings. These stand by their places.
 #[tactic(auto, using(crate::proofs::ReachedStores::never_written))]
 fn cut_edges<I: IntNumber, C: EdgeCount, A: Allocator + Clone>(
     alloc: A,
     edges: &[CountedEdge<I, C>],
     meetings: &[Meeting<I>],
     store: &mut C::Store,
-) -> Result<(Content<I, C, A>, bool), OverlayError>
+) -> Result<Content<I, C, A>, OverlayError>
     requires content { IsContent I.limit (plain_edges I.whole C.counts edges.now) }
-    requires ascending { IsAscending (plain_edges I.whole C.counts edges.now) }
-    requires meetings { AreMeetings (plain_edges I.whole C.counts edges.now) (plain_meetings I.whole meetings.now) }
+    requires in_range { AreInRange I.limit (plain_meetings I.whole meetings.now) }
     requires order { AreByPlace (plain_meetings I.whole meetings.now) }
-    ensures ok { IfOk result (λ cut. edges_in cut.0 ≡ cut_edges (plain_edges I.whole C.counts edges.now)) }
-    ensures carried { IfOk result (λ cut. AreCutAlong C.splits C.reverses
-        (computed_chain (plain_edges I.whole C.counts edges.now)) (carried_edges I.whole C.counts edges.now) cut.0) }
-    ensures rounded { IfOk result (λ cut. (cut.1 ≡ false)
-        ↔ MeetInWholePoints (plain_edges I.whole C.counts edges.now)) }
+    ensures ok { let es = plain_edges I.whole C.counts edges.now in
+        IfOk result (λ cut. (points : LeadingPoints) → AreLedAlong es (plain_meetings I.whole meetings.now) points
+        → edges_in cut ≡ flat_map (pieces_through points) es) }
+    ensures carried { let es = plain_edges I.whole C.counts edges.now in
+        IfOk result (λ cut. (points : LeadingPoints) → AreLedAlong es (plain_meetings I.whole meetings.now) points
+        → AreCutAlong C.splits C.reverses (chain_by points) (carried_edges I.whole C.counts edges.now) cut) }
     ensures store { IsStoreReached C.writes store.old store.new }
-    ensures too_many { IsErrOf result OverlayError.TooManyEdges
-        → 2 ^ 31 ≤ weight (cut_edges (plain_edges I.whole C.counts edges.now)) }
+    ensures too_many { let es = plain_edges I.whole C.counts edges.now in
+        IsErrOf result OverlayError.TooManyEdges
+        → (points : LeadingPoints) → AreLedAlong es (plain_meetings I.whole meetings.now) points
+        → 2 ^ 31 ≤ weight (flat_map (pieces_through points) es) }
     ensures only { IfErr result (λ e. (e ≡ OverlayError.Memory) ⊎ (e ≡ OverlayError.TooManyEdges)) }
 {
     let mut pieces = Content::with_capacity(alloc.clone()?, edges.len())?;
-    let mut is_rounded = false;
     for (i, e) in edges.iter().enumerate() {
         let points = points_at(alloc.clone()?, meetings, i, e)?;
         push_pieces(&mut pieces, e, &points, store)?;
-        if !are_on_line(e, &points) {
-            is_rounded = true;
-        }
     }
-    Ok((pieces, is_rounded))
+    Ok(pieces)
 }
 
 /// Adds the pieces of an edge along the chain from its smaller end to its larger one through the
@@ -234,21 +261,6 @@ fn stays_whole<I: IntNumber, C: EdgeCount>(e: &CountedEdge<I, C>, points: &[IntP
 {
     for v in points {
         if !is_end_of(e, *v) {
-            return false;
-        }
-    }
-    true
-}
-
-/// Whether each of the points lies on the edge's line.
-fn are_on_line<I: IntNumber, C: EdgeCount>(e: &CountedEdge<I, C>, points: &[IntPoint<I>]) -> bool
-    requires held { IsHeld I.limit (plain_edge I.whole C.counts e.now) }
-    requires points { AllInRange I.limit (plain_points I.whole points.now) }
-    ensures { IsTrue result
-        ↔ All (IsOnLineOf (plain_edge I.whole C.counts e.now)) (plain_points I.whole points.now) }
-{
-    for v in points {
-        if !is_on_line(e, *v) {
             return false;
         }
     }

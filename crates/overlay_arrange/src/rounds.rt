@@ -1,8 +1,8 @@
-//! Splitting: rounds of merging and cutting, until edges meet in ends alone.
+//! Splitting: rounds of merging and cutting, until edges meet in ends alone, or one snap.
 
 ghost use Rattle.std.specs.Prelude.{◌≡◌, ◌≢◌, ◌↔◌, ◌^◌, false, []};
 ghost use Rattle.std.specs.Prelude.{Err, None, IfOk, IfErr, IfSome, OnOk, IsErrOf, IsOkUnless};
-ghost use Rattle.overlay_arrange.specs.Arranged.{most_rounds, IsArranged, IsArrangedCarrying, IsSplitCarrying};
+ghost use Rattle.overlay_arrange.specs.Arranged.{IsArranged, IsArrangedCarrying, IsSplitCarrying};
 ghost use Rattle.overlay_arrange.specs.Arranged.{MayRefuseSplitting};
 ghost use Rattle.overlay_arrange.specs.Changed.{AreOpenIn};
 ghost use Rattle.overlay_arrange.specs.Content.{IsAscending};
@@ -28,21 +28,21 @@ use std::alloc::Allocator;
 const ROUNDS: u32 = 64;
 
 impl<I: IntNumber, C: EdgeCount, A: Allocator + Clone> Content<I, C, A> {
-    /// Brings the edges into an arrangement: equal edges are merged, and as long as two different
-    /// ones meet in a point that is not an end of both, each edge is cut where others meet it, at
-    /// most 64 times. Each meeting point is rounded to one whole point, at most 1/2 away in x and
-    /// in y. What the edges carry is merged, split and reversed with them: merged two by two
-    /// where equal edges become one, split once for each round that cuts an edge into two pieces or
-    /// more, and reversed where a piece runs against its edge. What was arranged before stays as
-    /// it is.
+    /// Brings the edges into an arrangement: equal edges are merged, and where two different ones meet in a point that
+    /// is not an end of both, edges are led through whole points at most 1/2 away in x and in y. By `Solver::Rounds`
+    /// each edge is cut where others meet it, at most 64 times, and each meeting point is rounded to one whole point.
+    /// By `Solver::Snapping` each edge is led, once, through the hot points whose pixels it meets, where some point has
+    /// to be rounded. What the edges carry is merged, split and reversed with them: merged two by two where equal edges
+    /// become one, split once for each round that cuts an edge into two pieces or more, and reversed where a piece runs
+    /// against its edge. What was arranged before stays as it is.
     ///
     /// Returns whether some round cut the edges; if none did they met in ends alone, but for equal
     /// ones, before.
     ///
-    /// Refusals, after which the content is left open: `NotSettled` where the edges are not
-    /// settled after 64 rounds, `TooManyEdges` where a round brings the weight to 2^31, `Memory`.
-    /// What was arranged before is refused for want of memory alone; `NotSettled` does not come
-    /// where edges meet only in whole points or overlap.
+    /// Refusals, after which the content is left open: `NotSettled` where the edges are not settled after 64 rounds,
+    /// `TooManyEdges` where a round brings the weight to 2^31, `Memory`. What was arranged before is refused for want
+    /// of memory alone; `NotSettled` does not come by `Solver::Snapping`, nor where edges meet only in whole points or
+    /// overlap.
     pub fn arrange(&mut self, solver: Solver, store: &mut C::Store) -> Result<bool, OverlayError>
         ensures arranged { OnOk result (IsArranged solver (edges_in self.old) (edges_in self.new)) }
         ensures carried { OnOk result (IsArrangedCarrying C.merges C.splits C.reverses solver self.old self.new) }
@@ -51,23 +51,12 @@ impl<I: IntNumber, C: EdgeCount, A: Allocator + Clone> Content<I, C, A> {
         ensures store { IsStoreReached C.writes store.old store.new }
         ensures err { IfErr result (MayRefuseSplitting solver (edges_in self.old)) }
     {
-        match solver {
-            Solver::Rounds => self.arrange_in_rounds(store),
-            Solver::Snapping => Err(OverlayError::Memory),
-        }
-    }
-
-    fn arrange_in_rounds(&mut self, store: &mut C::Store) -> Result<bool, OverlayError>
-        ensures arranged { OnOk result (IsArranged Rounds (edges_in self.old) (edges_in self.new)) }
-        ensures carried { OnOk result (IsArrangedCarrying C.merges C.splits C.reverses Rounds self.old self.new) }
-        ensures cut { IfOk result (λ is_cut. (is_cut ≡ false)
-            ↔ IsReachedBy Rounds [] (edges_in self.old) (edges_in self.new)) }
-        ensures store { IsStoreReached C.writes store.old store.new }
-        ensures err { IfErr result (MayRefuseSplitting Rounds (edges_in self.old)) }
-    {
         // (its contract says that the edges are in range, and weigh less than 2^31)
         self.note_limits();
-        self.split(ROUNDS, store)
+        match solver {
+            Solver::Rounds => self.split(ROUNDS, store),
+            Solver::Snapping => self.snap(store),
+        }
     }
 
     /// Merges the edges, and cuts them so many times at most, until they are settled. Returns
@@ -125,7 +114,7 @@ impl<I: IntNumber, C: EdgeCount, A: Allocator + Clone> Content<I, C, A> {
     /// The whole points through which the edges lead one another, by the places of the edges that they lead, and which
     /// edges are open; or none where any two different edges meet in ends alone. What is known of the list before is
     /// dropped. The edges ascend, as they do once merged. The only refusal is `Memory`.
-    fn open_meetings(
+    pub(crate) fn open_meetings(
         &self,
         before: Option<Settling<I, C, A>>,
     ) -> Result<Option<(Vec<Meeting<I>, A>, Vec<bool, A>)>, OverlayError>

@@ -1,13 +1,12 @@
 -- The pieces so far and those of the edges to come make the whole: what adds the latter to the former cuts all edges.
--- No point was rounded where the edges so far are led along their lines.
-use Rattle.std.proofs.Common.{◌≡◌, ◌↔◌, ◌++◌, false, List, All, take, drop}
+use Rattle.std.proofs.Common.{◌≡◌, ◌++◌, List, drop}
 use Rattle.std.specs.List.{flat_map}
 use Rattle.overlay_plane.specs.Carried.{Carried, edges_in}
-use Rattle.overlay_plane.specs.CutPoints.{cut_points, cut_edges}
 use Rattle.overlay_plane.specs.Cutting.{pieces_through}
-use Rattle.overlay_plane.specs.DerivedData.{ArePieces, AreCutAlong, computed_chain}
+use Rattle.overlay_plane.specs.DerivedData.{ArePieces, AreCutAlong}
 use Rattle.overlay_arrange.specs.Content.{plain_edges, carried_edges}
-use Rattle.overlay_arrange.specs.Cut.{AddsGiven, AreLedAlongLines}
+use Rattle.overlay_arrange.specs.Cut.{chain_by, AddsGiven, LeadingPoints}
+use Rattle.overlay_arrange.specs.Meetings.{plain_meetings, AreLedAlong}
 use Rattle.overlay_arrange.specs.Stores.{IsStoreReached}
 use Rattle.overlay_arrange.proofs.cut.cut_edges.Given as goal
 
@@ -17,10 +16,11 @@ invariant-loop-i g l =
     let carried = carried_edges g.I.IntNumber.whole g.C.EdgeCount.counts in
     let splits = g.C.EdgeCount.splits in
     let reverses = g.C.EdgeCount.reverses in
-    (edges_in l.pieces ++ flat_map (pieces_through (cut_points (plain l.edges))) (plain (drop l.i l.edges)) ≡ cut_edges
-    (plain l.edges))
-    × ((new : List (Carried g.row.C.Denot)) →
-    AddsGiven (ArePieces splits reverses (computed_chain (plain l.edges))) (carried (drop l.i l.edges)) l.pieces new →
-    AreCutAlong splits reverses (computed_chain (plain l.edges)) (carried l.edges) new)
-    × ((l.is_rounded ≡ false) ↔ All (AreLedAlongLines (plain l.edges)) (plain (take l.i l.edges)))
+    let Leads = AreLedAlong (plain l.edges) (plain_meetings g.I.IntNumber.whole l.meetings) in
+    ((points : LeadingPoints) → Leads points →
+    edges_in l.pieces ++ flat_map (pieces_through points) (plain (drop l.i l.edges))
+    ≡ flat_map (pieces_through points) (plain l.edges))
+    × ((points : LeadingPoints) → Leads points → (new : List (Carried g.row.C.Denot)) →
+    AddsGiven (ArePieces splits reverses (chain_by points)) (carried (drop l.i l.edges)) l.pieces new →
+    AreCutAlong splits reverses (chain_by points) (carried l.edges) new)
     × IsStoreReached g.C.EdgeCount.writes l.initial.store l.store

@@ -1,20 +1,32 @@
 -- Where the merged list is settled no round is taken; else the cut is one, and the rest is split with the rounds that
 -- are left.
-use Rattle.std.proofs.Common.{◌≡◌, ◌-◌, ◌↔◌, Option, Some, None, refl, sym, ◌∙◌, arith}
+use Rattle.std.proofs.Common.{◌≡◌, ℕ, ◌-◌, ◌↔◌, List, Option, Some, None, refl, sym, ◌∙◌, arith}
 use Rattle.std.proofs.lemmas.Result.{err_from_is_err_and}
-use Rattle.overlay_arrange.proofs.ArrangedLists.{forward_content, leaves_cut, carried_at_once, carried_on}
+use Rattle.overlay_arrange.proofs.ArrangedLists.{forward_content, carried_at_once, carried_on}
 use Rattle.overlay_arrange.proofs.RoundsTaken.{split_at_once, unsettled_at_once, split_on, unsettled_on, heavy_on}
-use Rattle.overlay_arrange.proofs.RoundsTaken.{heavy_at_once, uncut_where_settled, cut_where_unsettled}
+use Rattle.overlay_arrange.proofs.RoundsTaken.{heavy_at_once, uncut_where_settled, cut_where_unsettled, Leaves}
 use Rattle.overlay_arrange.proofs.ReachedStores.{reached_on}
+use Rattle.overlay_arrange.proofs.SolverRounds.{cut_in_rounds, leaves_of_taken}
 use Rattle.overlay_arrange.proofs.WholeMeetings.{settled_where_whole}
+use Rattle.overlay_geom.specs.Edges.{CountedEdge}
+use Rattle.overlay_geom.specs.Merged.{IsMerged}
 use Rattle.overlay_geom.specs.Settled.{IsSettled}
+use Rattle.overlay_geom.specs.declared.solver.Solver.TheVariants.{Rounds}
 use Rattle.overlay_plane.specs.Carried.{edges_in}
 use Rattle.overlay_plane.specs.CutPoints.{cut_edges}
+use Rattle.overlay_plane.specs.DerivedData.{computed_chain}
+use Rattle.overlay_arrange.specs.Content.{IsContent}
 use Rattle.overlay_arrange.proofs.content.Content.+split_since.Goals as goal
 
 -- edges of which the meetings are found are not settled
 not_settled : {X : Type 0} {found : Option X} {x : X} {P : Type 0} → found ≡ Some x → (found ≡ None) ↔ P → ¬ P
 not_settled is law settled = let none = sym is ∙ law.1 settled in absurd (cc)
+
+-- a merged content that is not settled is cut by a round
+leaves_cut : (limit : ℕ) (old es new : List CountedEdge) → IsContent limit es → IsMerged old es → ¬ (IsSettled es) →
+    new ≡ cut_edges es → Leaves Rounds old new
+leaves_cut limit old es new content merged unsettled is = leaves_of_taken Rounds old es new (computed_chain es)
+    (cut_in_rounds old es (forward_content limit es content) merged unsettled new is)
 
 pub open_meetings-requires-clause-ascending : goal.open_meetings-requires-clause-ascending
 open_meetings-requires-clause-ascending g n c = c.in_ok-merge.ensures.ok.ascending
@@ -36,14 +48,14 @@ returns-in_err-is_rounded-clause-too_many g n c = λ same.
     (cut_edges (edges_in c.merge.new.self)) c.merge.ensures.content c.in_ok-merge.ensures.ok
     (not_settled c.in-Some.is c.in_ok-meetings.ensures.settled)
     refl in
-    heavy_at_once 2147483648 c.args.rounds _ _ (omega arith) first (c.in_err-is_rounded.ensures.too_many (cc))
+    heavy_at_once Rounds 2147483648 c.args.rounds _ _ (omega arith) first (c.in_err-is_rounded.ensures.too_many (cc))
 
 pub returns-in_ok-split_since-clause-split : goal.returns-in_ok-split_since-clause-split
 returns-in_ok-split_since-clause-split g n c =
     let first = leaves_cut g.I.IntNumber.limit (edges_in c.args.self.now) (edges_in c.merge.new.self)
     (edges_in c.cut_at.new.self) c.merge.ensures.content c.in_ok-merge.ensures.ok
     (not_settled c.in-Some.is c.in_ok-meetings.ensures.settled) c.in_ok-is_rounded.ensures.ok in
-    split_on (c.args.rounds - 1) c.args.rounds _ _ _ (omega arith) first c.in_ok-split_since.ensures.split
+    split_on Rounds (c.args.rounds - 1) c.args.rounds _ _ _ (omega arith) first c.in_ok-split_since.ensures.split
 
 pub returns-in_default-clause-cut : goal.returns-in_default-clause-cut
 returns-in_default-clause-cut g n c = uncut_where_settled c.in_ok-merge.ensures.ok
@@ -70,7 +82,7 @@ returns-in_err-split_since-clause-too_many g n c = λ same.
     let first = leaves_cut g.I.IntNumber.limit (edges_in c.args.self.now) (edges_in c.merge.new.self)
     (edges_in c.cut_at.new.self) c.merge.ensures.content c.in_ok-merge.ensures.ok
     (not_settled c.in-Some.is c.in_ok-meetings.ensures.settled) c.in_ok-is_rounded.ensures.ok in
-    heavy_on 2147483648 (c.args.rounds - 1) c.args.rounds _ _ (omega arith) first
+    heavy_on Rounds 2147483648 (c.args.rounds - 1) c.args.rounds _ _ (omega arith) first
     (c.in_err-split_since.ensures.too_many (cc))
 
 pub returns-in_default-clause-carried : goal.returns-in_default-clause-carried
@@ -81,11 +93,14 @@ returns-in_default-clause-carried g n c =
 
 pub returns-in_ok-split_since-clause-carried : goal.returns-in_ok-split_since-clause-carried
 returns-in_ok-split_since-clause-carried g n c =
-    carried_on g.C.EdgeCount.merges g.C.EdgeCount.splits g.C.EdgeCount.reverses g.I.IntNumber.limit
+    carried_on g.C.EdgeCount.merges g.C.EdgeCount.splits g.C.EdgeCount.reverses Rounds
     (c.args.rounds - 1) c.args.rounds
-    c.args.self.now c.merge.new.self c.cut_at.new.self _ (omega arith) c.merge.ensures.content c.in_ok-merge.ensures.ok
-    (not_settled c.in-Some.is c.in_ok-meetings.ensures.settled)
-    c.in_ok-merge.ensures.carried c.in_ok-is_rounded.ensures.ok c.in_ok-is_rounded.ensures.carried
+    c.args.self.now c.merge.new.self c.cut_at.new.self _ (computed_chain (edges_in c.merge.new.self)) (omega arith)
+    (cut_in_rounds (edges_in c.args.self.now) (edges_in c.merge.new.self)
+    (forward_content g.I.IntNumber.limit (edges_in c.merge.new.self) c.merge.ensures.content) c.in_ok-merge.ensures.ok
+    (not_settled c.in-Some.is c.in_ok-meetings.ensures.settled) (edges_in c.cut_at.new.self)
+    c.in_ok-is_rounded.ensures.ok)
+    c.in_ok-merge.ensures.carried c.in_ok-is_rounded.ensures.carried
     c.in_ok-split_since.ensures.carried
 
 -- where no point was rounded, the pieces, merged, are settled
@@ -101,7 +116,7 @@ returns-in_ok-merge-2-clause-split g n c =
     (forward_content g.I.IntNumber.limit (edges_in c.merge.new.self) c.merge.ensures.content) c.in_ok-merge.ensures.ok
     unsettled (c.in_ok-is_rounded.ensures.rounded.0 c.if-is_rounded.false) c.in_ok-is_rounded.ensures.ok
     c.in_ok-merge-2.ensures.ok in
-    split_on (c.args.rounds - 1) c.args.rounds _ _ _ (omega arith) first
+    split_on Rounds (c.args.rounds - 1) c.args.rounds _ _ _ (omega arith) first
     (split_at_once (c.args.rounds - 1) _ _ c.in_ok-merge-2.ensures.ok settled)
 
 pub returns-in_ok-merge-2-clause-cut : goal.returns-in_ok-merge-2-clause-cut
@@ -117,10 +132,13 @@ returns-in_ok-merge-2-clause-carried g n c =
     (forward_content g.I.IntNumber.limit (edges_in c.merge.new.self) c.merge.ensures.content) c.in_ok-merge.ensures.ok
     unsettled (c.in_ok-is_rounded.ensures.rounded.0 c.if-is_rounded.false) c.in_ok-is_rounded.ensures.ok
     c.in_ok-merge-2.ensures.ok in
-    carried_on g.C.EdgeCount.merges g.C.EdgeCount.splits g.C.EdgeCount.reverses g.I.IntNumber.limit
+    carried_on g.C.EdgeCount.merges g.C.EdgeCount.splits g.C.EdgeCount.reverses Rounds
     (c.args.rounds - 1) c.args.rounds
-    c.args.self.now c.merge.new.self c.cut_at.new.self _ (omega arith) c.merge.ensures.content c.in_ok-merge.ensures.ok
-    unsettled c.in_ok-merge.ensures.carried c.in_ok-is_rounded.ensures.ok c.in_ok-is_rounded.ensures.carried
+    c.args.self.now c.merge.new.self c.cut_at.new.self _ (computed_chain (edges_in c.merge.new.self)) (omega arith)
+    (cut_in_rounds (edges_in c.args.self.now) (edges_in c.merge.new.self)
+    (forward_content g.I.IntNumber.limit (edges_in c.merge.new.self) c.merge.ensures.content) c.in_ok-merge.ensures.ok
+    unsettled (edges_in c.cut_at.new.self) c.in_ok-is_rounded.ensures.ok)
+    c.in_ok-merge.ensures.carried c.in_ok-is_rounded.ensures.carried
     (carried_at_once g.C.EdgeCount.merges g.C.EdgeCount.splits g.C.EdgeCount.reverses (c.args.rounds - 1)
     c.cut_at.new.self c.merge-else-is_rounded.new.self
     c.in_ok-merge-2.ensures.ok settled c.in_ok-merge-2.ensures.carried)

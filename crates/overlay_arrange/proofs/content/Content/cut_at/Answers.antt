@@ -1,17 +1,70 @@
 -- What is cut is the content as contracts see it, and what it was is given out.
-use Rattle.std.proofs.Common.{◌≡◌, ◌↔◌, false, sym, subst}
+use Rattle.std.proofs.Common.{◌≡◌, Bool, true, false, not, refl, sym, subst, ap, ◌∙◌, List, ◌≤◌}
+use Rattle.std.specs.List.{flat_map}
+use Rattle.std.proofs.lemmas.Result.{err_from_is_err_and}
+use Rattle.overlay_geom.specs.Edges.{CountedEdge, weight}
 use Rattle.overlay_plane.specs.Carried.{edges_in}
+use Rattle.overlay_plane.specs.CutPoints.{cut_points}
+use Rattle.overlay_plane.specs.Cutting.{pieces_through}
 use Rattle.overlay_plane.specs.DerivedData.{AreCutAlong, computed_chain}
-use Rattle.overlay_plane.specs.Meetings.{MeetInWholePoints}
+use Rattle.overlay_arrange.specs.Content.{plain_edges}
+use Rattle.overlay_arrange.specs.Meetings.{plain_meetings, AreLedAlong}
+use Rattle.overlay_arrange.proofs.LedThrough.{meetings_in_range, meetings_lead_along}
 use Rattle.overlay_arrange.proofs.content.Content.cut_at.Goals as goal
+
+pub cut_edges-requires-clause-in_range : goal.cut_edges-requires-clause-in_range
+cut_edges-requires-clause-in_range g c =
+    rw c.deref-2.ensures.value
+    (meetings_in_range g.I.IntNumber.limit (edges_in c.args.self.now) c.edges-2.ensures.content.held
+    (plain_meetings g.I.IntNumber.whole c.args.meetings.items) c.requires.meetings)
+
+pub returns-clause-ok : goal.returns-clause-ok
+returns-clause-ok g c =
+    let points = cut_points (edges_in c.args.self.now) in
+    let leads : AreLedAlong (plain_edges g.I.IntNumber.whole g.C.EdgeCount.counts c.edges-2.result.now)
+    (plain_meetings g.I.IntNumber.whole c.deref-2.result.now) points =
+    rw (c.deref-2.ensures.value, c.edges-2.ensures.plain)
+    (meetings_lead_along g.I.IntNumber.limit (edges_in c.args.self.now) c.edges-2.ensures.content.held
+    (plain_meetings g.I.IntNumber.whole c.args.meetings.items) c.requires.meetings) in
+    ap edges_in c.replace-before.ensures.after ∙ c.in_ok-pieces.ensures.ok points leads
+    ∙ ap (flat_map (pieces_through points)) c.edges-2.ensures.plain
 
 pub returns-clause-carried : goal.returns-clause-carried
 returns-clause-carried g c =
+    let points = cut_points (edges_in c.args.self.now) in
+    let leads : AreLedAlong (plain_edges g.I.IntNumber.whole g.C.EdgeCount.counts c.edges-2.result.now)
+    (plain_meetings g.I.IntNumber.whole c.deref-2.result.now) points =
+    rw (c.deref-2.ensures.value, c.edges-2.ensures.plain)
+    (meetings_lead_along g.I.IntNumber.limit (edges_in c.args.self.now) c.edges-2.ensures.content.held
+    (plain_meetings g.I.IntNumber.whole c.args.meetings.items) c.requires.meetings) in
     subst (AreCutAlong g.C.EdgeCount.splits g.C.EdgeCount.reverses (computed_chain (edges_in c.args.self.now))
     c.args.self.now) (sym c.replace-before.ensures.after)
-    (rw (c.edges.ensures.plain, c.edges.ensures.edges) at c.in_ok-pieces.ensures.carried)
+    (rw c.edges-2.ensures.edges at (c.in_ok-pieces.ensures.carried points leads))
+
+pub returns-in_err-pieces-clause-too_many : goal.returns-in_err-pieces-clause-too_many
+returns-in_err-pieces-clause-too_many g c = λ same.
+    let points = cut_points (edges_in c.args.self.now) in
+    let leads : AreLedAlong (plain_edges g.I.IntNumber.whole g.C.EdgeCount.counts c.edges-2.result.now)
+    (plain_meetings g.I.IntNumber.whole c.deref-2.result.now) points =
+    rw (c.deref-2.ensures.value, c.edges-2.ensures.plain)
+    (meetings_lead_along g.I.IntNumber.limit (edges_in c.args.self.now) c.edges-2.ensures.content.held
+    (plain_meetings g.I.IntNumber.whole c.args.meetings.items) c.requires.meetings) in
+    let passed = err_from_is_err_and c.from_residual-in_err-pieces.result c.from_residual-in_err-pieces.ensures.1 in
+    subst (λ (es : List CountedEdge). 2147483648 ≤ weight es)
+        (ap (flat_map (pieces_through points)) c.edges-2.ensures.plain)
+    (c.in_err-pieces.ensures.too_many (cc) points leads)
+
+pub cut_edges-requires-clause-order : goal.cut_edges-requires-clause-order
+cut_edges-requires-clause-order g c = rw c.deref-2.ensures.value c.requires.order
+
+-- what is not rounded is whole
+not_false : (b : Bool) → not b ≡ false → b ≡ true
+not_false true same = refl
+not_false false same = sym same
 
 pub returns-clause-rounded : goal.returns-clause-rounded
 returns-clause-rounded g c =
-    subst (λ es. (c.in_ok-pieces.is_rounded ≡ false) ↔ MeetInWholePoints es) c.edges.ensures.plain
-    c.in_ok-pieces.ensures.rounded
+    let law = rw c.edges.ensures.plain at c.are_whole-is_whole.ensures in (
+      λ none. law.0 (not_false c.are_whole-is_whole.result none),
+      λ whole. ap not (law.1 whole),
+    )

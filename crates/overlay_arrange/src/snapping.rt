@@ -1,0 +1,74 @@
+//! Snap rounding: edges that meet elsewhere than in ends are each led, once, through the hot points whose pixels they
+//! meet.
+
+ghost use Rattle.std.specs.Prelude.{◌≡◌, ◌⊎◌, ◌↔◌, ◌^◌, false, [], IfOk, IfErr, OnOk, IsErrOf};
+ghost use Rattle.overlay_geom.specs.declared.solver.Solver.TheVariants.{Snapping};
+ghost use Rattle.overlay_plane.specs.Arrangements.{IsReachedBy, IsSplit, WeighsTooMuch};
+ghost use Rattle.overlay_plane.specs.Carried.{edges_in};
+ghost use Rattle.overlay_arrange.specs.Arranged.{IsSplitCarrying};
+ghost use Rattle.overlay_arrange.specs.Content.{IsAscending};
+ghost use Rattle.overlay_arrange.specs.Meetings.{plain_meetings, AreByPlace, AreMeetings};
+ghost use Rattle.overlay_arrange.specs.Snapping.{AreHeavyPieces, IsLedOnce};
+ghost use Rattle.overlay_arrange.specs.Stores.{IsStoreReached};
+
+use crate::content::Content;
+use crate::count::EdgeCount;
+use crate::meetings::Meeting;
+use crate::snapped_meetings::snapped_meetings;
+use crate::whole::are_whole;
+use overlay_geom::error::OverlayError;
+use overlay_geom::number::IntNumber;
+use std::alloc::Allocator;
+
+impl<I: IntNumber, C: EdgeCount, A: Allocator + Clone> Content<I, C, A> {
+    /// Merges the edges; unless they meet in ends alone then, leads each through whole points, and merges the pieces,
+    /// which meet in ends alone. Where all meeting points are whole, each edge is led through those in which the others
+    /// meet it, and else through the hot points whose pixels it meets. Returns whether edges were led so.
+    ///
+    /// Refusals, after which the content is left open: `TooManyEdges` where the pieces weigh 2^31, `Memory`.
+    pub(crate) fn snap(&mut self, store: &mut C::Store) -> Result<bool, OverlayError>
+        ensures split { OnOk result (IsSplit Snapping 1 (edges_in self.old) (edges_in self.new)) }
+        ensures carried { OnOk result (IsSplitCarrying C.merges C.splits C.reverses Snapping 1 self.old self.new) }
+        ensures cut { IfOk result (λ is_cut. (is_cut ≡ false)
+            ↔ IsReachedBy Snapping [] (edges_in self.old) (edges_in self.new)) }
+        ensures store { IsStoreReached C.writes store.old store.new }
+        ensures too_many { IsErrOf result OverlayError.TooManyEdges
+            → WeighsTooMuch Snapping 1 (2 ^ 31) (edges_in self.old) }
+        ensures only { IfErr result (λ e. (e ≡ OverlayError.Memory) ⊎ (e ≡ OverlayError.TooManyEdges)) }
+    {
+        // (its contract says that the edges lead forward)
+        self.note_limits();
+        self.merge(store)?;
+        let Some((meetings, _)) = self.open_meetings(None)? else {
+            return Ok(false);
+        };
+        self.lead_once(meetings, store)?;
+        self.merge(store)?;
+        Ok(true)
+    }
+    /// Leads each edge through whole points, once: where all meeting points are whole, through those in which the
+    /// others meet it, and else through the hot points whose pixels it meets. The edges ascend, and the meetings are
+    /// theirs, by their places. If it is refused the content is left open.
+    #[tactic(auto, using(crate::proofs::ReachedStores::never_written))]
+    fn lead_once(
+        &mut self,
+        meetings: Vec<Meeting<I>, A>,
+        store: &mut C::Store,
+    ) -> Result<(), OverlayError>
+        requires ascending { IsAscending (edges_in self.old) }
+        requires meetings { AreMeetings (edges_in self.old) (plain_meetings I.whole meetings.items) }
+        requires order { AreByPlace (plain_meetings I.whole meetings.items) }
+        ensures ok { OnOk result (IsLedOnce C.splits C.reverses self.old self.new) }
+        ensures store { IsStoreReached C.writes store.old store.new }
+        ensures too_many { IsErrOf result OverlayError.TooManyEdges → AreHeavyPieces (2 ^ 31) (edges_in self.old) }
+        ensures only { IfErr result (λ e. (e ≡ OverlayError.Memory) ⊎ (e ≡ OverlayError.TooManyEdges)) }
+    {
+        if are_whole(self.edges(), &meetings) {
+            self.cut_at(meetings, store)?;
+            return Ok(());
+        }
+        let alloc = self.allocator().clone()?;
+        let snapped = snapped_meetings(alloc, self.edges(), &meetings)?;
+        self.snap_at(snapped, store)
+    }
+}
