@@ -10,13 +10,13 @@ use Rattle.i_overlay.specs.Views.{Viewed, IsView, viewed_edges}
 
 module _ {C U : Type 0} (limit : ℕ) (solver : Solver) (old new : Builder U) (seen : Viewed C U)
     (first : AnswersQuery limit solver (held_by old) (held_by new) (Ok seen)) (same : viewed_edges seen ≡ new.edges)
-    where
-  -- what is shown is a view of what the builder held
-  pub is_view : (rule : FillRule) → viewed_edges seen ≢ [] → seen.graph.fill_rule ≡ rule → seen.options ≡ old.options
-      → IsView solver rule old.options old.edges seen
-  is_view rule some filled optioned = record {
-    arranged = subst (IsArranged solver old.edges) (sym same) first.arranged;
-    some_edge = some;
-    filled = filled;
-    optioned = optioned;
-  }
+  where
+    -- what is shown is a view of what the builder held
+    pub is_view : (rule : FillRule) → viewed_edges seen ≢ [] → seen.graph.fill_rule ≡ rule → seen.options ≡ old.options
+        → IsView solver rule old.options old.edges seen
+    is_view rule some filled optioned = record {
+      arranged = subst (IsArranged solver old.edges) (sym same) first.arranged;
+      some_edge = some;
+      filled = filled;
+      optioned = optioned;
+    }

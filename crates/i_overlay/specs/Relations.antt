@@ -40,8 +40,8 @@ pub record AreRelationsOfPaths (solver : Solver) (fill : FillRule) (paths exchan
 
 -- a builder for predicates by the solver and under the fill rule, which has not failed, holds just the paths
 pub record HasAddedUnder (solver : Solver) (fill : FillRule) (paths : List GivenPath) (b : PredicateBuilder) : Type 0
-    where
-  pub holds : HoldsPaths (added_paths false paths) b.edges
-  pub ready : b.failed ≡ false
-  pub rule : b.fill_rule ≡ fill
-  pub by : b.solver ≡ solver
+  where
+    pub holds : HoldsPaths (added_paths false paths) b.edges
+    pub ready : b.failed ≡ false
+    pub rule : b.fill_rule ≡ fill
+    pub by : b.solver ≡ solver

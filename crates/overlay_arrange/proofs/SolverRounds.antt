@@ -27,12 +27,12 @@ use Rattle.overlay_arrange.proofs.WholeMeetings.{settled_where_whole}
 -- the solver takes a round of the list, which merges it into these edges, leads each along its chain, and leaves the
 -- pieces
 pub record TakesRound (solver : Solver) (old es left : List CountedEdge) (chain : CountedEdge → List Step) : Type 0
-    where
-  pub taken : Round
-  pub is : IsRoundBy solver old taken
-  pub leaves : pieces_of taken ≡ left
-  pub edges : taken.edges ≡ es
-  pub chains : (e : CountedEdge) → Contains es e → chain_of taken e ≡ chain e
+  where
+    pub taken : Round
+    pub is : IsRoundBy solver old taken
+    pub leaves : pieces_of taken ≡ left
+    pub edges : taken.edges ≡ es
+    pub chains : (e : CountedEdge) → Contains es e → chain_of taken e ≡ chain e
 
 -- so it leaves these pieces
 pub leaves_of_taken : (solver : Solver) (old es left : List CountedEdge) (chain : CountedEdge → List Step) →

@@ -47,7 +47,7 @@ module _ (cs : List GivenPath) (query : OverlayQuery) (b : Builder ℕ) (h : IsA
       MatchResult answer (λ v. IsResultOfPaths Rounds (asked_by query) cs (shapes v)) (λ e. MayRefusePaths Rounds cs e)
   shapes_answered limit shapes new (Ok v) answers result =
       result_of_paths {E = OverlayError} Rounds h.by (Ok v) shapes (asked_by query) cs b.edges new.edges h.holds
-          answers.arranged
+      answers.arranged
       (subst (λ q. IsResult q new.edges (shapes v)) h.asked result)
   shapes_answered limit shapes new (Err e) answers result =
       query_refused Rounds h.by limit cs (held_by b) new (Err e) h.holds h.ready answers
@@ -61,7 +61,7 @@ module _ (cs : List GivenPath) (query : OverlayQuery) (b : Builder ℕ) (h : IsA
       (λ e. MayRefusePaths Rounds cs e)
   hierarchy_answered limit shapes links new (Ok v) answers result =
       hierarchy_of_paths {E = OverlayError} Rounds h.by (Ok v) shapes links (asked_by query) cs b.edges new.edges
-          h.holds
+      h.holds
       answers.arranged (subst (λ q. IsHierarchy q new.edges (shapes v) (links v)) h.asked result)
   hierarchy_answered limit shapes links new (Err e) answers result =
       query_refused Rounds h.by limit cs (held_by b) new (Err e) h.holds h.ready answers

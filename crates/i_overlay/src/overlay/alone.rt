@@ -82,7 +82,14 @@ impl<I: OverlayInt, A: Allocator + Clone> Overlay<I, A> {
         self.viewed = None;
         let keeps_points = self.options.preserve_input_collinear;
         let direction = self.options.output_direction;
-        outcome_of_contour(&mut self.core, self.solver, contour, keeps_points, fill_rule, direction)
+        outcome_of_contour(
+            &mut self.core,
+            self.solver,
+            contour,
+            keeps_points,
+            fill_rule,
+            direction,
+        )
     }
 
     /// Makes a buffer where there is none. The only refusal is `Memory`.

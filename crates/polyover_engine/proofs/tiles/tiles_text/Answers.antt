@@ -59,7 +59,7 @@ returns g c =
     let tiles = plain_shapes (λ z. z) c.in_ok-tiles.tiles.items in (
       tiles,
       subst (λ paths. AreTiles Rounds w128 c.args.query.fill_rule c.args.query.width c.args.query.height paths tiles)
-      shape
+          shape
           (subst (λ cells. AreTiles Rounds w128 c.args.query.fill_rule cells.width cells.height
           (points_of_each c.in_ok-subject.subject.contours.items) tiles) c.grid_of-grid.ensures
           c.in_ok-tiles.ensures.sliced),

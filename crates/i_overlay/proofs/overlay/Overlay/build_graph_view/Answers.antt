@@ -30,7 +30,7 @@ returns-in-Some g c =
         (λ _. tt),
         (
           view_ended held_by limit c.args.self.now.solver (held_by c.args.self.now) new seen made.answers.query
-          c.self.view_is
+              c.self.view_is
               seen_is,
           subst (λ b. b ≡ record c.args.self.now { edges = b.edges; failed = b.failed }) (sym c.self.view_is)
               made.answers.kept,
@@ -65,7 +65,7 @@ returns-in_default g c =
         (λ _. tt),
         (
           view_ended held_by limit c.args.self.now.solver (held_by c.args.self.now) new seen made.answers.query
-          c.self.view_is
+              c.self.view_is
               (sym none),
           subst (λ b. b ≡ record c.args.self.now { edges = b.edges; failed = b.failed }) (sym c.self.view_is)
               made.answers.kept,

@@ -51,7 +51,7 @@ returns-in_err-pieces-clause-too_many g c = λ same.
     (plain_meetings g.I.IntNumber.whole c.args.meetings.items) c.requires.meetings) in
     let passed = err_from_is_err_and c.from_residual-in_err-pieces.result c.from_residual-in_err-pieces.ensures.1 in
     subst (λ (es : List CountedEdge). 2147483648 ≤ weight es)
-        (ap (flat_map (pieces_through points)) c.edges-2.ensures.plain)
+    (ap (flat_map (pieces_through points)) c.edges-2.ensures.plain)
     (c.in_err-pieces.ensures.too_many (cc) points leads)
 
 pub cut_edges-requires-clause-order : goal.cut_edges-requires-clause-order

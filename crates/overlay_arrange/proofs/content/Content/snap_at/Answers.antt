@@ -47,5 +47,5 @@ returns-in_err-self-clause-too_many g c = λ same.
     (plain_meetings g.I.IntNumber.whole c.args.meetings.items) c.requires.meetings) in
     let passed = err_from_is_err_and c.from_residual-in_err-self.result c.from_residual-in_err-self.ensures.1 in
     subst (λ (es : List CountedEdge). 2147483648 ≤ weight es)
-        (ap (flat_map (pieces_through points)) c.edges.ensures.plain)
+    (ap (flat_map (pieces_through points)) c.edges.ensures.plain)
     (c.in_err-self.ensures.too_many (cc) points leads)
