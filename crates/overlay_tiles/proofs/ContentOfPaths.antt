@@ -1,6 +1,6 @@
 -- The edges that the paths of a shape and open strings give: what all points have both ends of each have, it leads
 -- forward, and a line between two points gives one with a mark.
-use Rattle.std.proofs.Common.{◌≡◌, ◌⊎◌, ⊎_elim, true, false, cond, List, [], ◌∷◌, Contains, map}
+use Rattle.std.proofs.Common.{◌≡◌, ⊎_elim, true, false, cond, List, [], ◌∷◌, Contains, map}
 use Rattle.std.proofs.Common.{sym, ap, subst}
 use Rattle.std.specs.List.{All}
 use Rattle.std.proofs.lemmas.Bool.{both_ways, false_from_ne_true}
