@@ -71,13 +71,15 @@ refused_so : (limit : ℕ) (solver : Solver) (old : List CountedEdge) (e : Overl
 refused_so limit solver old Memory content unsettled heavy usable = tt
 refused_so limit solver old NotSettled content unsettled heavy usable =
     let by_rounds = (unsettled refl).0 in
-    let stays = (unsettled refl).1 in
-    (by_rounds, record {
-      unsettled = stays;
-      not_whole = λ whole. settles_whole limit (most_rounds Rounds) old (omega arith) content whole stays;
-      not_arranged = λ was. no_rounds_again was.0 Rounds was.2 stays.rounds was.1 old was.3 stays.cut
-          (omega (arith, stays.all_taken));
-    })
+    let stays = (unsettled refl).1 in (
+      by_rounds,
+      record {
+        unsettled = stays;
+        not_whole = λ whole. settles_whole limit (most_rounds Rounds) old (omega arith) content whole stays;
+        not_arranged = λ was. no_rounds_again was.0 Rounds was.2 stays.rounds was.1 old was.3 stays.cut
+            (omega (arith, stays.all_taken));
+      },
+    )
 refused_so limit solver old TooManyEdges content unsettled heavy usable = let weighs = heavy refl in record {
   heavy = weighs;
   not_arranged = λ was. no_rounds_again was.0 solver was.2 weighs.rounds was.1 old was.3 weighs.cut weighs.some;
