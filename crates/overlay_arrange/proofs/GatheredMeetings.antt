@@ -37,7 +37,7 @@ placed_in_mapped f xs i x within is = (
 )
 
 -- a place before the one after i is i, or comes before i
-at_or_before : (k i : ℕ) → k < i + 1 → (k ≡ i) ⊎ (k < i)
+pub at_or_before : (k i : ℕ) → k < i + 1 → (k ≡ i) ⊎ (k < i)
 at_or_before k i lt = eq-or-lt_of_le (let le : k ≤ i = omega (arith, lt) in le)
 
 -- one of the two places comes before place i; or the one is i, and the other one is among the places js

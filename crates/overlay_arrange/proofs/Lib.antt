@@ -19,9 +19,12 @@ pub mod FarEdges
 pub mod FilledVectors
 pub mod FirstEdges
 pub mod GatheredMeetings
+pub mod GatheredPixels
 pub mod HeightOrder
 pub mod HeldRuns
 pub mod HeldWeight
+pub mod HotLists
+pub mod HotRanks
 pub mod LedThrough
 pub mod LedToEnds
 pub mod MeetingRuns
@@ -32,6 +35,7 @@ pub mod NearEdges
 pub mod OpenPairs
 pub mod PairMeetings
 pub mod Pieces
+pub mod PixelBounds
 pub mod PushedReversed
 pub mod PutPlaces
 pub mod ReachedStores
@@ -49,8 +53,9 @@ pub mod SideBits
 pub mod SnappedThrough
 pub mod SnapsTaken
 pub mod SolverRounds
-pub mod Sweepable
+pub mod SortedPoints
 pub mod StartsTogether
 pub mod StripOrder
+pub mod Sweepable
 mod SweptFills
 pub mod WholeMeetings

@@ -1,5 +1,5 @@
--- What snap rounding makes of merged edges that are not settled: where all meeting points are whole it cuts the edges in
--- these, and else it leads each through the hot points whose pixels it meets.
+-- What snap rounding makes of merged edges that are not settled: where all meeting points are whole it cuts the edges
+-- in these, and else it leads each through the hot points whose pixels it meets.
 use Rattle.std.specs.Prelude.{◌≡◌, ℕ, ◌≤◌, List, flat_map}
 use Rattle.overlay_geom.specs.Edges.{CountedEdge, weight}
 use Rattle.overlay_plane.specs.Carried.{Carried, edges_in}

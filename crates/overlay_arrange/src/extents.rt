@@ -73,7 +73,7 @@ fn ordered<I: IntNumber>(y: I, z: I) -> (I, I)
 }
 
 /// Whether the first number is less than the second one.
-fn is_less<I: IntNumber>(y: I, z: I) -> bool
+pub(crate) fn is_less<I: IntNumber>(y: I, z: I) -> bool
     ensures { result ≡ int_lt (I.whole y) (I.whole z) }
 {
     y.compare(z).is_lt()

@@ -49,7 +49,7 @@ pub(crate) fn find_near_behind<I: IntNumber, C: EdgeCount, A: Allocator>(
 }
 
 /// Takes all places from the one up to the other one.
-fn take_run<A: Allocator>(
+pub(crate) fn take_run<A: Allocator>(
     near: &mut Vec<usize, A>,
     from: usize,
     to: usize,

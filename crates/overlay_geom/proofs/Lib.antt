@@ -7,6 +7,7 @@ pub mod Comparisons
 pub mod Cross
 pub mod Crossing
 pub mod Divided
+pub mod DoubledNumbers
 pub mod Entries
 pub mod FlatPaths
 pub mod FlatShapes

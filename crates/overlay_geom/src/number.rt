@@ -111,6 +111,12 @@ pub trait IntNumber: Copy {
         ensures value { Self.Wide.whole result ≡ whole ax *ℤ whole by -ℤ whole ay *ℤ whole bx }
         ensures fits { Within Self.Wide.limit (Self.Wide.whole result) };
 
+    /// Returns how twice a cross product compares with the sum of two differences of coordinates in range.
+    fn compare_doubled(cross: Self::Wide, x: Self, y: Self) -> Ordering
+        requires x { Within (2 * limit) (whole x) }
+        requires y { Within (2 * limit) (whole y) }
+        ensures { result ≡ int_cmp (pos 2 *ℤ Self.Wide.whole cross) (whole x +ℤ whole y) };
+
     /// Returns half of the number without its sign, rounded down: the area of a contour, in squared
     /// units, from its double area.
     fn halved_area(double_area: Self::Wide) -> Self::WideUInt

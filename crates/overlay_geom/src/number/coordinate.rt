@@ -43,6 +43,14 @@ impl IntNumber for i16 {
         i32::from(ax) * i32::from(by) - i32::from(ay) * i32::from(bx)
     }
 
+    fn compare_doubled(cross: i32, x: i16, y: i16) -> Ordering {
+        let sum = i32::from(x) + i32::from(y);
+        match cross.cmp(&(sum / 2)) {
+            Ordering::Equal => 0.cmp(&(sum % 2)),
+            other => other,
+        }
+    }
+
     fn halved_area(double_area: i32) -> u32 {
         double_area.unsigned_abs() / 2
     }
@@ -86,6 +94,14 @@ impl IntNumber for i32 {
         i64::from(ax) * i64::from(by) - i64::from(ay) * i64::from(bx)
     }
 
+    fn compare_doubled(cross: i64, x: i32, y: i32) -> Ordering {
+        let sum = i64::from(x) + i64::from(y);
+        match cross.cmp(&(sum / 2)) {
+            Ordering::Equal => 0.cmp(&(sum % 2)),
+            other => other,
+        }
+    }
+
     fn halved_area(double_area: i64) -> u64 {
         double_area.unsigned_abs() / 2
     }
@@ -127,6 +143,14 @@ impl IntNumber for i64 {
 
     fn cross(ax: i64, ay: i64, bx: i64, by: i64) -> i128 {
         i128::from(ax) * i128::from(by) - i128::from(ay) * i128::from(bx)
+    }
+
+    fn compare_doubled(cross: i128, x: i64, y: i64) -> Ordering {
+        let sum = i128::from(x) + i128::from(y);
+        match cross.cmp(&(sum / 2)) {
+            Ordering::Equal => 0.cmp(&(sum % 2)),
+            other => other,
+        }
     }
 
     fn halved_area(double_area: i128) -> u128 {

@@ -1,4 +1,5 @@
--- Where the merged list is settled no round is taken; else the edges are led once, and what is left, merged, is settled.
+-- Where the merged list is settled no round is taken; else the edges are led once, and what is left, merged, is
+-- settled.
 use Rattle.std.proofs.Common.{◌≡◌, ◌↔◌, Option, Some, None, sym, ◌∙◌}
 use Rattle.std.proofs.lemmas.Result.{err_from_is_err_and}
 use Rattle.overlay_geom.specs.Settled.{IsSettled}

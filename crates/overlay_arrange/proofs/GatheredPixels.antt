@@ -1,0 +1,186 @@
+-- A loop over edges that gathers the hot points whose pixels each meets: what an edge adds, and what all of them do.
+use Rattle.std.proofs.Common.{◌≡◌, ⊎_elim, inl, inr, ℕ, ◌+◌, ◌<◌, ◌≤◌, true, List, [], ◌∷◌, ◌++◌, AllPairs}
+use Rattle.std.proofs.Common.{Contains, filter, length, get_or, pos, sym, ap, ◌∙◌, subst, arith}
+use Rattle.std.proofs.lemmas.List.{append-nil, append_assoc, get_or_default}
+use Rattle.std.proofs.lemmas.List.Elements.{All-contains, Contains-append_cases, Contains-append_left}
+use Rattle.std.proofs.lemmas.List.Elements.{Contains-append_right}
+use Rattle.std.proofs.lemmas.List.Kept.{AllPairs-cons}
+use Rattle.overlay_geom.specs.Plane.{Point}
+use Rattle.overlay_geom.specs.Edges.{CountedEdge, ends_of}
+use Rattle.overlay_geom.proofs.Entries.{Contains-cases, Contains-head, Contains-later}
+use Rattle.overlay_geom.proofs.Merging.{AllPairs-head, AllPairs-tail}
+use Rattle.overlay_plane.specs.CutPoints.{comes_first}
+use Rattle.overlay_plane.specs.SnapPoints.{hot_points, meets_pixel}
+use Rattle.overlay_plane.proofs.Entries.{all_of_entries, Contains-filter, Contains-from_filter, Contains-from_map}
+use Rattle.overlay_plane.proofs.Entries.{Contains-map}
+use Rattle.overlay_plane.proofs.InOrderLists.{Contains-in_order, Contains-put_in_order}
+use Rattle.overlay_arrange.specs.Cut.{IsEndOf}
+use Rattle.overlay_arrange.specs.HotPoints.{points_at, AddsMet, AreHotPoints, AreRanksNear, AreSnappedBefore}
+use Rattle.overlay_arrange.specs.Meetings.{AreByPlace, IsAt, IsEndOrMet, Meeting}
+use Rattle.overlay_arrange.specs.SnapMeetings.{AreSnapMeetings}
+use Rattle.overlay_arrange.proofs.GatheredMeetings.{at_or_before, one_entry}
+use Rattle.overlay_arrange.proofs.PairMeetings.{only_entry}
+
+-- ---- pairs of two lists
+
+-- what holds of any two entries holds of each and each later one
+pairs_of_entries : {X : Type 0} (R : X → X → Type 0) (xs : List X) →
+    ((x y : X) → Contains xs x → Contains xs y → R x y) → AllPairs R xs
+pairs_of_entries R xs h i j d less within =
+    h (get_or xs i d) (get_or xs j d) (entry i (omega (arith, less, within))) (entry j within)
+  where
+    entry : (k : ℕ) → k < length xs → Contains xs (get_or xs k d)
+    entry k lt = (k, lt, get_or_default xs k (get_or xs k d) d lt)
+
+-- what holds of the pairs of two lists, and of each entry of the one and each of the other one, holds of those of both
+pairs_joined : {X : Type 0} (R : X → X → Type 0) (xs ys : List X) → AllPairs R xs → AllPairs R ys →
+    ((x y : X) → Contains xs x → Contains ys y → R x y) → AllPairs R (xs ++ ys)
+pairs_joined R [] ys h k between = k
+pairs_joined R (x ∷ xs) ys h k between = AllPairs-cons R x (xs ++ ys)
+    (all_of_entries (R x) (xs ++ ys) (λ z at. ⊎_elim (λ old. All-contains (R x) xs z (AllPairs-head R x xs h) old)
+    (λ new. between x z (Contains-head x xs) new) (Contains-append_cases xs ys z at)))
+    (pairs_joined R xs ys (AllPairs-tail R x xs h) k
+    (λ a b in_a in_b. between a b (Contains-later x xs a in_a) in_b))
+
+-- ---- what an edge adds
+
+module _ (i : ℕ) (e : CountedEdge) where
+  -- no points add nothing
+  pub nothing_met : (ms : List Meeting) → AddsMet i e [] ms ms
+  nothing_met ms = record {
+    more = [];
+    added = sym (append-nil ms);
+    led = λ m at. absurd (omega (arith, at.1));
+    all = λ v at. absurd (omega (arith, at.1));
+  }
+
+  -- a point whose pixel is not met but at an end adds nothing
+  pub point_passed : (v : Point) (ms : List Meeting) → (meets_pixel (ends_of e) v ≡ true → IsEndOf e v) →
+      AddsMet i e (v ∷ []) ms ms
+  point_passed v ms end = record {
+    more = [];
+    added = sym (append-nil ms);
+    led = λ m at. absurd (omega (arith, at.1));
+    all = λ w at meets. let is = only_entry v w at in
+        inl (subst (IsEndOf e) is (end (subst (λ u. meets_pixel (ends_of e) u ≡ true) (sym is) meets)));
+  }
+
+  -- one whose pixel is met is added
+  pub point_met : (v : Point) (old new : List Meeting) → meets_pixel (ends_of e) v ≡ true →
+      new ≡ old ++ record { place = i; point = v } ∷ [] → AddsMet i e (v ∷ []) old new
+  point_met v old new meets is = record {
+    more = pushed ∷ [];
+    added = is;
+    led = λ m at. let same : pushed ≡ m = ⊎_elim (λ one. one) (λ none. absurd (omega (arith, none.1)))
+        (Contains-cases pushed [] m at) in (
+          sym (ap (λ (n : Meeting). n.place) same),
+          subst (Contains (v ∷ [])) (ap (λ (n : Meeting). n.point) same) (Contains-head v []),
+          subst (λ u. meets_pixel (ends_of e) u ≡ true) (ap (λ (n : Meeting). n.point) same) meets,
+        );
+    all = λ w at meets_w. inr (subst (λ u. Contains (pushed ∷ []) (record { place = i; point = u }))
+        (only_entry v w at) (Contains-head pushed []));
+  }
+    where
+      pushed : Meeting
+      pushed = record { place = i; point = v }
+
+  -- some points are looked at, and then others
+  pub met_joined : (us vs : List Point) {old mid new : List Meeting} → AddsMet i e us old mid → AddsMet i e vs mid new →
+      AddsMet i e (us ++ vs) old new
+  met_joined us vs {old} first second = record {
+    more = first.more ++ second.more;
+    added = second.added ∙ ap (λ ms. ms ++ second.more) first.added ∙ append_assoc old first.more second.more;
+    led = λ m at. ⊎_elim
+        (λ one. let l = first.led m one in (l.0, Contains-append_left us vs m.point l.1, l.2))
+        (λ other. let l = second.led m other in (l.0, Contains-append_right us vs m.point l.1, l.2))
+        (Contains-append_cases first.more second.more m at);
+    all = λ v at meets. ⊎_elim
+        (λ one. ⊎_elim (λ end. inl end) (λ there. inr (Contains-append_left first.more second.more (met v) there))
+        (first.all v one meets))
+        (λ other. ⊎_elim (λ end. inl end) (λ there. inr (Contains-append_right first.more second.more (met v) there))
+        (second.all v other meets)) (Contains-append_cases us vs v at);
+  }
+    where
+      met : Point → Meeting
+      met v = record { place = i; point = v }
+
+-- ---- what all edges add
+
+-- the point that stands for none
+abbrev pub origin : Point
+origin = record { x = pos 0; y = pos 0 }
+
+module _ (es : List CountedEdge) (vs : List Point) where
+  -- at first nothing is gathered
+  pub none_snapped : AreSnappedBefore es vs 0 []
+  none_snapped = record {
+    led = λ m at. absurd (omega (arith, at.1));
+    all = λ i e lt. absurd (omega (arith, lt));
+  }
+
+  module _ (i : ℕ) (e : CountedEdge) (at_e : IsAt es i e) (near : List ℕ) (ranks : AreRanksNear vs e near)
+      {old new : List Meeting} (before : AreSnappedBefore es vs i old) (adds : AddsMet i e (points_at vs near) old new)
+    where
+      -- a point at one of the ranks is one of the points
+      at_rank : (v : Point) → Contains (points_at vs near) v → Contains vs v
+      at_rank v at =
+          let k = Contains-from_map (λ k. get_or vs k origin) near v at in
+          let inside = ranks.within k.0 k.1 in
+          (k.0, inside, get_or_default vs k.0 v origin inside ∙ k.2)
+
+      -- and one whose pixel the edge meets is at one of the ranks
+      has_rank : (v : Point) → Contains vs v → meets_pixel (ends_of e) v ≡ true → Contains (points_at vs near) v
+      has_rank v at meets = subst (Contains (points_at vs near)) (get_or_default vs at.0 origin v at.1 ∙ at.2)
+          (Contains-map (λ k. get_or vs k origin) near at.0 (ranks.all at.0 v (at.1, at.2) meets))
+
+      -- so one edge more is snapped
+      pub one_snapped : AreSnappedBefore es vs (i + 1) new
+      one_snapped = record {
+        led = λ m at. ⊎_elim
+            (λ there. let l = before.led m there in (let lt = l.0 in omega (arith, lt), l.1))
+            (λ led. let l = adds.led m led in (
+              (let is = l.0 in omega (arith, is)),
+              (e, subst (λ n. IsAt es n e) (sym l.0) at_e, at_rank m.point l.1, l.2),
+            ))
+            (Contains-append_cases old adds.more m (subst (λ ms. Contains ms m) adds.added at));
+        all = λ k f lt at_f v at meets. ⊎_elim (λ (is : k ≡ i). here k f at_f v at meets is)
+            (λ (less : k < i). ⊎_elim (λ end. inl end)
+            (λ there. inr (subst (λ ms. Contains ms (record { place = k; point = v }))
+            (sym adds.added) (Contains-append_left old adds.more (record { place = k; point = v }) there)))
+            (before.all k f less at_f v at meets)) (at_or_before k i lt);
+      }
+        where
+          here : (k : ℕ) (f : CountedEdge) → IsAt es k f → (v : Point) → Contains vs v →
+              meets_pixel (ends_of f) v ≡ true → k ≡ i → IsEndOrMet new k f v
+          here k f at_f v at meets is =
+              let same : f ≡ e = one_entry es i f e (subst (λ n. IsAt es n f) is at_f) at_e in
+              let met : meets_pixel (ends_of e) v ≡ true =
+              subst (λ u. meets_pixel (ends_of u) v ≡ true) same meets in
+              ⊎_elim (λ end. inl (subst (λ u. IsEndOf u v) (sym same) end))
+              (λ there. inr (subst (λ ms. Contains ms (record { place = k; point = v })) (sym adds.added)
+              (subst (λ n. Contains (old ++ adds.more) (record { place = n; point = v })) (sym is)
+              (Contains-append_right old adds.more (record { place = i; point = v }) there))))
+              (adds.all v (has_rank v at met) met)
+
+      -- and the meetings still stand by their places
+      pub by_place_more : AreByPlace old → AreByPlace new
+      by_place_more up = subst AreByPlace (sym adds.added)
+          (pairs_joined (λ (m n : Meeting). m.place ≤ n.place) old adds.more up
+          (pairs_of_entries (λ (m n : Meeting). m.place ≤ n.place) adds.more
+          (λ m n at_m at_n. let a = (adds.led m at_m).0 in let b = (adds.led n at_n).0 in omega (arith, a, b)))
+          (λ m n at_m at_n. let a = (before.led m at_m).0 in let b = (adds.led n at_n).0 in omega (arith, a, b)))
+
+  -- where all edges are, the meetings are those of snap rounding
+  pub all_snapped : (n : ℕ) {ms : List Meeting} → length es ≤ n → AreHotPoints es vs → AreSnappedBefore es vs n ms →
+      AreSnapMeetings es ms
+  all_snapped n past hot gathered = record {
+    led = λ m at. let l = (gathered.led m at).1 in (
+      l.0,
+      l.1,
+      Contains-put_in_order (comes_first (ends_of l.0)) (filter (meets_pixel (ends_of l.0)) (hot_points es)) m.point
+          (Contains-filter (meets_pixel (ends_of l.0)) (hot_points es) m.point (hot.members.back m.point l.2) l.3),
+    );
+    all = λ i e at v c. let kept = Contains-from_filter (meets_pixel (ends_of e)) (hot_points es) v
+        (Contains-in_order (comes_first (ends_of e)) (filter (meets_pixel (ends_of e)) (hot_points es)) v c) in
+        gathered.all i e (let lt = at.0 in omega (arith, lt, past)) at v (hot.members.forth v kept.0) kept.1;
+  }

@@ -1,0 +1,103 @@
+-- Between which bounds twice a cross product lies where the line of an edge passes through a pixel: the bounds as sums
+-- of two differences of coordinates, and the test of the line as comparisons with them.
+use Rattle.std.proofs.Common.{◌≡◌, Bool, true, false, cond, ◌&&◌, ℤ, pos, ◌+ℤ◌, ◌-ℤ◌, ◌*ℤ◌, int_lt, int_le}
+use Rattle.std.proofs.Common.{refl, sym, ap, ap₂, ◌∙◌, arith}
+use Rattle.std.proofs.lemmas.Int.{ints}
+use Rattle.std.specs.Ordering.{is_lt, is_le, is_gt, is_ge, int_cmp}
+use Rattle.std.specs.declared.cmp.Ordering.{Ordering}
+use Rattle.overlay_geom.specs.Plane.{Point, Edge, cross_at}
+use Rattle.overlay_geom.proofs.Comparisons.{is_lt-int_cmp, is_gt-int_cmp, is_le-int_cmp}
+use Rattle.overlay_geom.proofs.Signs.{linear}
+use Rattle.overlay_plane.specs.SnapPoints.{half_girth, line_meets}
+use Rattle.overlay_plane.proofs.CrossingPoints.{abs_up, abs_down}
+use Rattle.overlay_plane.proofs.Tests.{ge_from_test, lt_from_test}
+
+-- ---- the bounds
+
+module _ (e : Edge) (x y : ℤ) where
+  -- of an edge that rises
+  pub high_where_rises : int_lt e.a.y e.b.y ≡ true → x ≡ e.b.x -ℤ e.a.x → y ≡ e.b.y -ℤ e.a.y → x +ℤ y ≡ half_girth e
+  high_where_rises rises x_is y_is =
+      let up = lt_from_test e.a.y e.b.y rises in
+      let height = abs_up (e.b.y -ℤ e.a.y) (omega linear) in
+      rw (x_is, y_is, height) refl
+
+  pub low_where_rises : int_lt e.a.y e.b.y ≡ true → x ≡ e.a.x -ℤ e.b.x → y ≡ e.a.y -ℤ e.b.y →
+      x +ℤ y ≡ pos 0 -ℤ half_girth e
+  low_where_rises rises x_is y_is =
+      let up = lt_from_test e.a.y e.b.y rises in
+      let height = abs_up (e.b.y -ℤ e.a.y) (omega linear) in
+      rw height (omega linear)
+
+  -- and of one that does not
+  pub high_where_falls : int_lt e.a.y e.b.y ≡ false → x ≡ e.b.x -ℤ e.a.x → y ≡ e.a.y -ℤ e.b.y → x +ℤ y ≡ half_girth e
+  high_where_falls falls x_is y_is =
+      let down = ge_from_test e.a.y e.b.y falls in
+      let height = abs_down (e.b.y -ℤ e.a.y) (omega linear) in
+      rw height (omega linear)
+
+  pub low_where_falls : int_lt e.a.y e.b.y ≡ false → x ≡ e.a.x -ℤ e.b.x → y ≡ e.b.y -ℤ e.a.y →
+      x +ℤ y ≡ pos 0 -ℤ half_girth e
+  low_where_falls falls x_is y_is =
+      let down = ge_from_test e.a.y e.b.y falls in
+      let height = abs_down (e.b.y -ℤ e.a.y) (omega linear) in
+      rw height (omega linear)
+
+-- ---- the test of the line
+
+-- a comparison answers that the first number is at least the second one where it is
+is_ge-int_cmp : (x y : ℤ) → is_ge (int_cmp x y) ≡ int_le y x
+is_ge-int_cmp x y = grind (arith, ints)
+
+module _ (e : Edge) (v : Point) (cross : ℤ) (value : cross ≡ cross_at e.a e.b v) (low high : Ordering)
+    (to_low : low ≡ int_cmp (pos 2 *ℤ cross) (pos 0 -ℤ half_girth e))
+    (to_high : high ≡ int_cmp (pos 2 *ℤ cross) (half_girth e)) where
+  -- twice the cross product
+  abbrev twice : ℤ
+  twice = pos 2 *ℤ cross_at e.a e.b v
+
+  low_is : low ≡ int_cmp twice (pos 0 -ℤ half_girth e)
+  low_is = to_low ∙ ap (λ z. int_cmp (pos 2 *ℤ z) (pos 0 -ℤ half_girth e)) value
+
+  high_is : high ≡ int_cmp twice (half_girth e)
+  high_is = to_high ∙ ap (λ z. int_cmp (pos 2 *ℤ z) (half_girth e)) value
+
+  -- whether the upper bound is kept to
+  abbrev is_kept : Bool
+  is_kept = cond (int_lt e.a.y e.b.y) (is_lt high) (is_le high)
+
+  is_kept-tells : is_kept ≡ cond (int_lt e.a.y e.b.y) (int_lt twice (half_girth e)) (int_le twice (half_girth e))
+  is_kept-tells = ap₂ (λ s t. cond (int_lt e.a.y e.b.y) s t)
+      (ap is_lt high_is ∙ is_lt-int_cmp twice (half_girth e))
+      (ap is_le high_is ∙ is_le-int_cmp twice (half_girth e))
+
+  -- the test reads the comparisons of an edge that is not upright
+  wide_test : is_gt low && is_kept ≡ (int_lt (pos 0 -ℤ half_girth e) twice
+      && cond (int_lt e.a.y e.b.y) (int_lt twice (half_girth e)) (int_le twice (half_girth e)))
+  wide_test = ap₂ (λ s t. s && t) (ap is_gt low_is ∙ is_gt-int_cmp twice (pos 0 -ℤ half_girth e)) is_kept-tells
+
+  -- and of an upright one
+  upright_test : is_ge low && is_lt high ≡ (int_le (pos 0 -ℤ half_girth e) twice && int_lt twice (half_girth e))
+  upright_test = ap₂ (λ s t. s && t) (ap is_ge low_is ∙ is_ge-int_cmp twice (pos 0 -ℤ half_girth e))
+      (ap is_lt high_is ∙ is_lt-int_cmp twice (half_girth e))
+
+  -- so the whole test does
+  test : cond (int_lt e.a.x e.b.x) (is_gt low && is_kept) (is_ge low && is_lt high) ≡ line_meets e v
+  test = ap₂ (λ s t. cond (int_lt e.a.x e.b.x) s t) wide_test upright_test
+
+  module _ (wide first : Bool) (wide_is : wide ≡ int_lt e.a.x e.b.x) where
+    pub wide_met : wide ≡ true → first ≡ is_gt low → first ≡ true → (r : Bool) → r ≡ is_kept → r ≡ line_meets e v
+    wide_met is first_is met r r_is = r_is
+        ∙ ap₂ (λ s t. cond s (t && is_kept) (is_ge low && is_lt high)) (sym is ∙ wide_is) (sym met ∙ first_is) ∙ test
+
+    pub wide_missed : wide ≡ true → first ≡ is_gt low → first ≡ false → first ≡ line_meets e v
+    wide_missed is first_is missed = missed
+        ∙ ap₂ (λ s t. cond s (t && is_kept) (is_ge low && is_lt high)) (sym is ∙ wide_is) (sym missed ∙ first_is) ∙ test
+
+    pub upright_met : wide ≡ false → first ≡ is_ge low → first ≡ true → (r : Bool) → r ≡ is_lt high → r ≡ line_meets e v
+    upright_met is first_is met r r_is = r_is
+        ∙ ap₂ (λ s t. cond s (is_gt low && is_kept) (t && is_lt high)) (sym is ∙ wide_is) (sym met ∙ first_is) ∙ test
+
+    pub upright_missed : wide ≡ false → first ≡ is_ge low → first ≡ false → first ≡ line_meets e v
+    upright_missed is first_is missed = missed
+        ∙ ap₂ (λ s t. cond s (is_gt low && is_kept) (t && is_lt high)) (sym is ∙ wide_is) (sym missed ∙ first_is) ∙ test

@@ -1,0 +1,24 @@
+-- The ends of the edges and the points of the meetings are the hot points, which the sort keeps.
+use Rattle.std.proofs.Common.{◌≡◌, ◌++◌, List, map, flat_map, ap, ◌∙◌, subst}
+use Rattle.overlay_geom.specs.Plane.{Point}
+use Rattle.overlay_geom.specs.Points.{plain_points}
+use Rattle.overlay_arrange.specs.Content.{plain_edges}
+use Rattle.overlay_arrange.specs.HotPoints.{HaveSameMembers}
+use Rattle.overlay_arrange.specs.Meetings.{plain_meetings, Meeting}
+use Rattle.overlay_arrange.proofs.HotLists.{are_hot_points, both_ends, ends_and_met}
+use Rattle.overlay_arrange.proofs.hot.hot_points.Goals as goal
+
+pub returns-clause-ok : goal.returns-clause-ok
+returns-clause-ok g c =
+    let whole = g.I.IntNumber.whole in
+    let es = plain_edges whole g.C.EdgeCount.counts c.args.edges.now in
+    let ms = plain_meetings whole c.args.meetings.now in
+    let sorted = plain_points whole c.sort_points.new.points.items in
+    let listed : plain_points whole c.push_points.new.points.items ≡ ends_and_met es ms c.requires =
+    c.in_ok-push_points.ensures.ok
+    ∙ ap (λ (vs : List Point). vs ++ map (λ (m : Meeting). m.point) ms)
+    (c.in_ok-push_ends.ensures.ok
+    ∙ ap (λ vs. plain_points whole vs ++ flat_map both_ends es) c.new-points.ensures.items) in
+    are_hot_points es ms c.requires sorted
+    (subst (λ (us : List Point). HaveSameMembers us sorted) listed c.in_ok-sort_points.ensures.members)
+    c.in_ok-sort_points.ensures.ascending

@@ -1,0 +1,80 @@
+//! The hot points of a list of edges: their ends, and the whole points nearest those in which they meet.
+
+ghost use Rattle.std.specs.Prelude.{◌≡◌, [], ◌∷◌, ◌++◌, map, flat_map, IfOk, OnOk, IsOkUnless};
+ghost use Rattle.overlay_geom.specs.Points.{plain_points};
+ghost use Rattle.overlay_arrange.specs.Content.{plain_edges};
+ghost use Rattle.overlay_arrange.specs.HotPoints.{AreHotPoints, ArePointsAscending, HaveSameMembers};
+ghost use Rattle.overlay_arrange.specs.Meetings.{plain_meetings, AreMeetings};
+
+use crate::count::EdgeCount;
+use crate::edge::{CountedEdge, compare_points};
+use crate::meetings::Meeting;
+use overlay_geom::edge_pair::is_same;
+use overlay_geom::error::OverlayError;
+use overlay_geom::number::IntNumber;
+use overlay_geom::point::IntPoint;
+use std::alloc::Allocator;
+
+/// The hot points of the edges, each once, by x and then by y. The meetings are those of all edges. The only refusal is
+/// `Memory`.
+pub(crate) fn hot_points<I: IntNumber, C: EdgeCount, A: Allocator>(
+    alloc: A,
+    edges: &[CountedEdge<I, C>],
+    meetings: &[Meeting<I>],
+) -> Result<Vec<IntPoint<I>, A>, OverlayError>
+    requires { AreMeetings (plain_edges I.whole C.counts edges.now) (plain_meetings I.whole meetings.now) }
+    ensures ok { IfOk result (λ points. AreHotPoints
+        (plain_edges I.whole C.counts edges.now) (plain_points I.whole points.items)) }
+    ensures err { IsOkUnless result OverlayError.Memory }
+{
+    let mut points = Vec::new(alloc);
+    push_ends(&mut points, edges)?;
+    push_points(&mut points, meetings)?;
+    sort_points(&mut points)?;
+    Ok(points)
+}
+
+/// Adds the ends of the edges.
+fn push_ends<I: IntNumber, C: EdgeCount, A: Allocator>(
+    points: &mut Vec<IntPoint<I>, A>,
+    edges: &[CountedEdge<I, C>],
+) -> Result<(), OverlayError>
+    ensures ok { OnOk result (plain_points I.whole points.new.items ≡ plain_points I.whole points.old.items
+        ++ flat_map (λ e. e.a ∷ e.b ∷ []) (plain_edges I.whole C.counts edges.now)) }
+    ensures err { IsOkUnless result OverlayError.Memory }
+{
+    for i in 0..edges.len() {
+        points.push(edges[i].a)?;
+        points.push(edges[i].b)?;
+    }
+    Ok(())
+}
+
+/// Adds the points of the meetings.
+fn push_points<I: IntNumber, A: Allocator>(
+    points: &mut Vec<IntPoint<I>, A>,
+    meetings: &[Meeting<I>],
+) -> Result<(), OverlayError>
+    ensures ok { OnOk result (plain_points I.whole points.new.items ≡ plain_points I.whole points.old.items
+        ++ map (λ m. m.point) (plain_meetings I.whole meetings.now)) }
+    ensures err { IsOkUnless result OverlayError.Memory }
+{
+    for i in 0..meetings.len() {
+        points.push(meetings[i].point)?;
+    }
+    Ok(())
+}
+
+/// Puts the points by x and then by y, and drops those that are there before.
+fn sort_points<I: IntNumber, A: Allocator>(
+    points: &mut Vec<IntPoint<I>, A>,
+) -> Result<(), OverlayError>
+    ensures members { OnOk result (HaveSameMembers
+        (plain_points I.whole points.old.items) (plain_points I.whole points.new.items)) }
+    ensures ascending { OnOk result (ArePointsAscending (plain_points I.whole points.new.items)) }
+    ensures err { IsOkUnless result OverlayError.Memory }
+{
+    points.sort_by(|v, w| compare_points(*v, *w))?;
+    points.dedup_by(|v, w| is_same(*v, *w));
+    Ok(())
+}

@@ -1,0 +1,100 @@
+//! Whether an edge meets the pixel of a whole point: whether some point of the edge rounds to it.
+
+ghost use Rattle.std.specs.Prelude.{◌≡◌, pos, ◌*ℤ◌, ◌-ℤ◌, int_lt, int_le, cond};
+ghost use Rattle.std.specs.Ordering.{int_cmp, is_lt, is_le};
+ghost use Rattle.overlay_geom.specs.Edges.{ends_of};
+ghost use Rattle.overlay_geom.specs.Points.{plain_point, InRange};
+ghost use Rattle.overlay_plane.specs.SnapPoints.{half_girth, is_amid, is_in_box, line_meets, meets_pixel};
+ghost use Rattle.overlay_arrange.specs.Content.{plain_edge, IsHeld};
+
+use crate::count::EdgeCount;
+use crate::edge::CountedEdge;
+use crate::extents::is_less;
+use overlay_geom::edge_pair::is_same;
+use overlay_geom::number::IntNumber;
+use overlay_geom::point::IntPoint;
+use overlay_geom::vector::cross_at;
+use std::cmp::Ordering;
+
+/// Whether some point of the edge rounds to the point.
+pub(crate) fn meets_pixel<I: IntNumber, C: EdgeCount>(e: &CountedEdge<I, C>, v: IntPoint<I>) -> bool
+    requires { IsHeld I.limit (plain_edge I.whole C.counts e.now) }
+    ensures { result ≡ meets_pixel (ends_of (plain_edge I.whole C.counts e.now)) (plain_point I.whole v) }
+{
+    is_same(v, e.a) || is_same(v, e.b) || (is_in_box(e, v) && line_meets(e, v))
+}
+
+/// Whether the point lies in the bounding box of the edge.
+fn is_in_box<I: IntNumber, C: EdgeCount>(e: &CountedEdge<I, C>, v: IntPoint<I>) -> bool
+    ensures { result ≡ is_in_box (ends_of (plain_edge I.whole C.counts e.now)) (plain_point I.whole v) }
+{
+    is_amid(v.x, e.a.x, e.b.x) && is_amid(v.y, e.a.y, e.b.y)
+}
+
+/// Whether the coordinate lies between two others, in whichever order, or is one of them.
+fn is_amid<I: IntNumber>(z: I, u: I, v: I) -> bool
+    ensures { result ≡ is_amid (I.whole z) (I.whole u) (I.whole v) }
+{
+    (is_at_most(u, z) && is_at_most(z, v)) || (is_at_most(v, z) && is_at_most(z, u))
+}
+
+/// Whether the first coordinate is no greater than the second one.
+fn is_at_most<I: IntNumber>(y: I, z: I) -> bool
+    ensures { result ≡ int_le (I.whole y) (I.whole z) }
+{
+    y.compare(z).is_le()
+}
+
+/// Whether the line of the edge passes through the pixel of the point.
+fn line_meets<I: IntNumber, C: EdgeCount>(e: &CountedEdge<I, C>, v: IntPoint<I>) -> bool
+    requires edge { IsHeld I.limit (plain_edge I.whole C.counts e.now) }
+    requires point { InRange I.limit (plain_point I.whole v) }
+    ensures { result ≡ line_meets (ends_of (plain_edge I.whole C.counts e.now)) (plain_point I.whole v) }
+{
+    let cross = cross_at(e.a, e.b, v);
+    let low = order_to_low(e, cross);
+    let high = order_to_high(e, cross);
+    if is_less(e.a.x, e.b.x) {
+        low.is_gt() && is_inside(e, high)
+    } else {
+        low.is_ge() && high.is_lt()
+    }
+}
+
+/// Whether a number that compares so with the upper bound of an edge that is not upright keeps to it. Where the edge
+/// rises it stays below the bound.
+fn is_inside<I: IntNumber, C: EdgeCount>(e: &CountedEdge<I, C>, high: Ordering) -> bool
+    ensures { result ≡ cond (int_lt (I.whole e.now.a.y) (I.whole e.now.b.y)) (is_lt high) (is_le high) }
+{
+    if is_less(e.a.y, e.b.y) {
+        high.is_lt()
+    } else {
+        high.is_le()
+    }
+}
+
+/// How twice the number compares with the width and the height of the edge together.
+fn order_to_high<I: IntNumber, C: EdgeCount>(e: &CountedEdge<I, C>, cross: I::Wide) -> Ordering
+    requires { IsHeld I.limit (plain_edge I.whole C.counts e.now) }
+    ensures { result ≡ int_cmp (pos 2 *ℤ I.Wide.whole cross)
+        (half_girth (ends_of (plain_edge I.whole C.counts e.now))) }
+{
+    if is_less(e.a.y, e.b.y) {
+        I::compare_doubled(cross, e.b.x.minus(e.a.x), e.b.y.minus(e.a.y))
+    } else {
+        I::compare_doubled(cross, e.b.x.minus(e.a.x), e.a.y.minus(e.b.y))
+    }
+}
+
+/// How it compares with them negated.
+fn order_to_low<I: IntNumber, C: EdgeCount>(e: &CountedEdge<I, C>, cross: I::Wide) -> Ordering
+    requires { IsHeld I.limit (plain_edge I.whole C.counts e.now) }
+    ensures { result ≡ int_cmp (pos 2 *ℤ I.Wide.whole cross)
+        (pos 0 -ℤ half_girth (ends_of (plain_edge I.whole C.counts e.now))) }
+{
+    if is_less(e.a.y, e.b.y) {
+        I::compare_doubled(cross, e.a.x.minus(e.b.x), e.a.y.minus(e.b.y))
+    } else {
+        I::compare_doubled(cross, e.a.x.minus(e.b.x), e.b.y.minus(e.a.y))
+    }
+}

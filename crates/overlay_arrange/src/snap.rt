@@ -1,0 +1,126 @@
+//! The whole points through which snap rounding leads the edges of a list: the hot points whose pixels they meet.
+
+ghost use Rattle.std.specs.Prelude.{◌≡◌, ◌∷◌, [], ◌<◌, ◌<ℤ◌, ◌≤ℤ◌, All, length, IfOk, OnOk, IsOkUnless};
+ghost use Rattle.overlay_geom.specs.Points.{plain_point, plain_points};
+ghost use Rattle.overlay_arrange.specs.Content.{plain_edge, plain_edges, IsHeld};
+ghost use Rattle.overlay_arrange.specs.HotPoints.{points_at, AddsMet, AreHotPoints, ArePointsAscending, AreRanksNear};
+ghost use Rattle.overlay_arrange.specs.HotPoints.{IsSpanOf, IsSplitAt};
+ghost use Rattle.overlay_arrange.specs.Meetings.{plain_meetings, AreByPlace};
+ghost use Rattle.overlay_arrange.specs.SnapMeetings.{AreSnapMeetings};
+
+use crate::count::EdgeCount;
+use crate::crossing::is_end_of;
+use crate::edge::CountedEdge;
+use crate::meetings::Meeting;
+use crate::near::take_run;
+use crate::pixel::meets_pixel;
+use overlay_geom::error::OverlayError;
+use overlay_geom::number::IntNumber;
+use overlay_geom::point::IntPoint;
+use std::alloc::Allocator;
+
+/// The hot points whose pixels each edge meets, as its meetings, by the places of the edges. An edge's own ends are
+/// left out. The only refusal is `Memory`.
+pub(crate) fn gather_snapped<I: IntNumber, C: EdgeCount, A: Allocator + Clone>(
+    alloc: A,
+    edges: &[CountedEdge<I, C>],
+    hot: &[IntPoint<I>],
+) -> Result<Vec<Meeting<I>, A>, OverlayError>
+    requires held { All (IsHeld I.limit) (plain_edges I.whole C.counts edges.now) }
+    requires hot { AreHotPoints (plain_edges I.whole C.counts edges.now) (plain_points I.whole hot.now) }
+    ensures ok { IfOk result (λ meetings. AreSnapMeetings
+        (plain_edges I.whole C.counts edges.now) (plain_meetings I.whole meetings.items)) }
+    ensures order { IfOk result (λ meetings. AreByPlace (plain_meetings I.whole meetings.items)) }
+    ensures err { IsOkUnless result OverlayError.Memory }
+{
+    let mut near = Vec::new(alloc.clone()?);
+    let mut meetings = Vec::new(alloc);
+    for i in 0..edges.len() {
+        let e = &edges[i];
+        find_ranks(&mut near, hot, e)?;
+        push_snapped(&mut meetings, i, e, hot, &near)?;
+    }
+    Ok(meetings)
+}
+
+/// Finds the ranks of the hot points whose pixels the edge may meet: those in its span.
+fn find_ranks<I: IntNumber, C: EdgeCount, A: Allocator>(
+    near: &mut Vec<usize, A>,
+    hot: &[IntPoint<I>],
+    e: &CountedEdge<I, C>,
+) -> Result<(), OverlayError>
+    requires one { IsHeld I.limit (plain_edge I.whole C.counts e.now) }
+    requires ascending { ArePointsAscending (plain_points I.whole hot.now) }
+    ensures ok { OnOk result (AreRanksNear
+        (plain_points I.whole hot.now) (plain_edge I.whole C.counts e.now) near.new.items) }
+    ensures err { IsOkUnless result OverlayError.Memory }
+{
+    let (low, high) = span_of(hot, e);
+    near.clear();
+    take_run(near, low, high)
+}
+
+/// Between which ranks the points stand that lie neither left nor right of the edge.
+fn span_of<I: IntNumber, C: EdgeCount>(hot: &[IntPoint<I>], e: &CountedEdge<I, C>) -> (usize, usize)
+    requires one { IsHeld I.limit (plain_edge I.whole C.counts e.now) }
+    requires ascending { ArePointsAscending (plain_points I.whole hot.now) }
+    ensures { IsSpanOf (plain_points I.whole hot.now) (plain_edge I.whole C.counts e.now) result.0 result.1 }
+{
+    (count_left_of(hot, e.a.x), count_up_to(hot, e.b.x))
+}
+
+/// How many points lie left of x: those before all others.
+fn count_left_of<I: IntNumber>(hot: &[IntPoint<I>], x: I) -> usize
+    requires { ArePointsAscending (plain_points I.whole hot.now) }
+    ensures { IsSplitAt (λ v. v.x <ℤ I.whole x) (λ v. I.whole x ≤ℤ v.x) (plain_points I.whole hot.now) result }
+{
+    hot.partition_point(|v| v.x.compare(x).is_lt())
+}
+
+/// How many do not lie right of x.
+fn count_up_to<I: IntNumber>(hot: &[IntPoint<I>], x: I) -> usize
+    requires { ArePointsAscending (plain_points I.whole hot.now) }
+    ensures { IsSplitAt (λ v. v.x ≤ℤ I.whole x) (λ v. I.whole x <ℤ v.x) (plain_points I.whole hot.now) result }
+{
+    hot.partition_point(|v| v.x.compare(x).is_le())
+}
+
+/// Adds those of the points at the ranks whose pixels the edge at place i meets, as its meetings.
+fn push_snapped<I: IntNumber, C: EdgeCount, A: Allocator>(
+    meetings: &mut Vec<Meeting<I>, A>,
+    i: usize,
+    e: &CountedEdge<I, C>,
+    hot: &[IntPoint<I>],
+    ranks: &[usize],
+) -> Result<(), OverlayError>
+    requires one { IsHeld I.limit (plain_edge I.whole C.counts e.now) }
+    requires within { All (λ k. k < length hot.now) ranks.now }
+    ensures ok { OnOk result (AddsMet i (plain_edge I.whole C.counts e.now)
+        (points_at (plain_points I.whole hot.now) ranks.now)
+        (plain_meetings I.whole meetings.old.items) (plain_meetings I.whole meetings.new.items)) }
+    ensures err { IsOkUnless result OverlayError.Memory }
+{
+    for k in 0..ranks.len() {
+        let rank = ranks[k];
+        push_where_met(meetings, i, e, hot[rank])?;
+    }
+    Ok(())
+}
+
+/// Adds the point if the edge at place i meets its pixel, unless it is an end of the edge.
+fn push_where_met<I: IntNumber, C: EdgeCount, A: Allocator>(
+    meetings: &mut Vec<Meeting<I>, A>,
+    i: usize,
+    e: &CountedEdge<I, C>,
+    v: IntPoint<I>,
+) -> Result<(), OverlayError>
+    requires { IsHeld I.limit (plain_edge I.whole C.counts e.now) }
+    ensures ok { OnOk result (AddsMet i (plain_edge I.whole C.counts e.now) (plain_point I.whole v ∷ [])
+        (plain_meetings I.whole meetings.old.items) (plain_meetings I.whole meetings.new.items)) }
+    ensures err { IsOkUnless result OverlayError.Memory }
+{
+    if meets_pixel(e, v) && !is_end_of(e, v) {
+        meetings.push(Meeting { place: i, point: v })?;
+    }
+    Ok(())
+}
