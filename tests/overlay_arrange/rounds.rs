@@ -262,6 +262,9 @@ fn a_round_may_weigh_too_much(rt: HostRuntime) -> Result<(), Fail> {
     // Cut into two, the edges weigh twice as much.
     let edges = [edge(0i32, 0, 2, 2, 1073741823), edge(0, 2, 2, 0, 1)];
     let mut content = with_edges(&rt, rt.alloc(), &edges)?;
-    assert_eq!(rt; content.arrange(Solver::Rounds, &mut ()), Err(OverlayError::TooManyEdges));
+    assert_eq!(rt;
+        content.arrange(Solver::Rounds, &mut ()),
+        Err(OverlayError::TooManyEdges)
+    );
     Ok(())
 }

@@ -106,7 +106,7 @@ fn a_settled_list_is_not_snapped(rt: HostRuntime) -> Result<(), Fail> {
     let edges = [edge(0i32, 0, 3, 1, 1), edge(1, -5, 1, 0, 1)];
     let mut content = with_edges(&rt, rt.alloc(), &edges)?;
     assert!(rt; !content.arrange(Solver::Snapping, &mut ())?);
-    assert!(rt; content.edges() == edges);
+    assert!(rt; content.edges() == edges.as_slice());
     Ok(())
 }
 
@@ -253,9 +253,7 @@ fn a_snap_may_weigh_too_much(rt: HostRuntime) -> Result<(), Fail> {
 }
 
 // A zipper in this memory.
-fn zipper_in<A: Allocator>(
-    alloc: A,
-) -> Result<Content<i32, ShapeCountBoolean, A>, OverlayError> {
+fn zipper_in<A: Allocator>(alloc: A) -> Result<Content<i32, ShapeCountBoolean, A>, OverlayError> {
     let mut content = Content::with_capacity(alloc, 0)?;
     for edge in zipper(-66i32, [-1, 0, 1, 2], 66, 67) {
         content.push(edge)?;

@@ -27,7 +27,6 @@ mod pixel;
 mod rounds;
 pub mod settle;
 mod snap;
-mod snapped_meetings;
 mod snapping;
 pub mod sort_runs;
 mod spans;

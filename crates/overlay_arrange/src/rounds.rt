@@ -28,21 +28,23 @@ use std::alloc::Allocator;
 const ROUNDS: u32 = 64;
 
 impl<I: IntNumber, C: EdgeCount, A: Allocator + Clone> Content<I, C, A> {
-    /// Brings the edges into an arrangement: equal edges are merged, and where two different ones meet in a point that
-    /// is not an end of both, edges are led through whole points at most 1/2 away in x and in y. By `Solver::Rounds`
-    /// each edge is cut where others meet it, at most 64 times, and each meeting point is rounded to one whole point.
-    /// By `Solver::Snapping` each edge is led, once, through the hot points whose pixels it meets, where some point has
-    /// to be rounded. What the edges carry is merged, split and reversed with them: merged two by two where equal edges
-    /// become one, split once for each round that cuts an edge into two pieces or more, and reversed where a piece runs
-    /// against its edge. What was arranged before stays as it is.
+    /// Brings the edges into an arrangement: equal edges are merged, and where two different ones
+    /// meet in a point that is not an end of both, edges are led through whole points at most 1/2
+    /// away in x and in y. By `Solver::Rounds` each edge is cut where others meet it, at most 64
+    /// times, and each meeting point is rounded to one whole point. By `Solver::Snapping` each edge
+    /// is led, once, through the hot points whose pixels it meets, where some point has to be
+    /// rounded. What the edges carry is merged, split and reversed with them: merged two by two
+    /// where equal edges become one, split once for each round that cuts an edge into two pieces or
+    /// more, and reversed where a piece runs against its edge. What was arranged before stays as
+    /// it is.
     ///
     /// Returns whether some round cut the edges; if none did they met in ends alone, but for equal
     /// ones, before.
     ///
-    /// Refusals, after which the content is left open: `NotSettled` where the edges are not settled after 64 rounds,
-    /// `TooManyEdges` where a round brings the weight to 2^31, `Memory`. What was arranged before is refused for want
-    /// of memory alone; `NotSettled` does not come by `Solver::Snapping`, nor where edges meet only in whole points or
-    /// overlap.
+    /// Refusals, after which the content is left open: `NotSettled` where the edges are not
+    /// settled after 64 rounds, `TooManyEdges` where a round brings the weight to 2^31, `Memory`.
+    /// What was arranged before is refused for lack of memory alone; `NotSettled` does not come by
+    /// `Solver::Snapping`, nor where edges meet only in whole points or overlap.
     pub fn arrange(&mut self, solver: Solver, store: &mut C::Store) -> Result<bool, OverlayError>
         ensures arranged { OnOk result (IsArranged solver (edges_in self.old) (edges_in self.new)) }
         ensures carried { OnOk result (IsArrangedCarrying C.merges C.splits C.reverses solver self.old self.new) }

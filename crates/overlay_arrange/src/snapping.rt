@@ -1,20 +1,22 @@
 //! Snap rounding: edges that meet elsewhere than in ends are each led, once, through the hot points whose pixels they
 //! meet.
 
-ghost use Rattle.std.specs.Prelude.{◌≡◌, ◌⊎◌, ◌↔◌, ◌^◌, false, [], IfOk, IfErr, OnOk, IsErrOf};
+ghost use Rattle.std.specs.Prelude.{◌≡◌, ◌⊎◌, ◌↔◌, ◌^◌, false, [], IfOk, IfErr, OnOk, IsErrOf, IsOkUnless};
 ghost use Rattle.overlay_geom.specs.declared.solver.Solver.TheVariants.{Snapping};
 ghost use Rattle.overlay_plane.specs.Arrangements.{IsReachedBy, IsSplit, WeighsTooMuch};
 ghost use Rattle.overlay_plane.specs.Carried.{edges_in};
 ghost use Rattle.overlay_arrange.specs.Arranged.{IsSplitCarrying};
 ghost use Rattle.overlay_arrange.specs.Content.{IsAscending};
 ghost use Rattle.overlay_arrange.specs.Meetings.{plain_meetings, AreByPlace, AreMeetings};
+ghost use Rattle.overlay_arrange.specs.SnapMeetings.{AreSnapMeetings};
 ghost use Rattle.overlay_arrange.specs.Snapping.{AreHeavyPieces, IsLedOnce};
 ghost use Rattle.overlay_arrange.specs.Stores.{IsStoreReached};
 
 use crate::content::Content;
 use crate::count::EdgeCount;
+use crate::hot::hot_points;
 use crate::meetings::Meeting;
-use crate::snapped_meetings::snapped_meetings;
+use crate::snap::gather_snapped;
 use crate::whole::are_whole;
 use overlay_geom::error::OverlayError;
 use overlay_geom::number::IntNumber;
@@ -67,8 +69,24 @@ impl<I: IntNumber, C: EdgeCount, A: Allocator + Clone> Content<I, C, A> {
             self.cut_at(meetings, store)?;
             return Ok(());
         }
-        let alloc = self.allocator().clone()?;
-        let snapped = snapped_meetings(alloc, self.edges(), &meetings)?;
+        let snapped = self.snapped_meetings(meetings)?;
         self.snap_at(snapped, store)
+    }
+
+    /// The hot points whose pixels the edges meet, as their meetings, by their places. Those in which the edges meet
+    /// one another are given, and dropped. The only refusal is `Memory`.
+    fn snapped_meetings(
+        &self,
+        meetings: Vec<Meeting<I>, A>,
+    ) -> Result<Vec<Meeting<I>, A>, OverlayError>
+        requires { AreMeetings (edges_in self.now) (plain_meetings I.whole meetings.items) }
+        ensures ok { IfOk result (λ snapped.
+            AreSnapMeetings (edges_in self.now) (plain_meetings I.whole snapped.items)) }
+        ensures order { IfOk result (λ snapped. AreByPlace (plain_meetings I.whole snapped.items)) }
+        ensures err { IsOkUnless result OverlayError.Memory }
+    {
+        let edges = self.edges();
+        let hot = hot_points(self.allocator().clone()?, edges, &meetings)?;
+        gather_snapped(self.allocator().clone()?, edges, &hot)
     }
 }
