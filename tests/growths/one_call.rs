@@ -25,9 +25,9 @@ use std::alloc::Allocator;
 use std::process::Abort;
 use std::test::Fail;
 
-const RULE: FillRule = FillRule::NonZero;
+pub(crate) const RULE: FillRule = FillRule::NonZero;
 
-const INSIDE: ClipRule = ClipRule {
+pub(crate) const INSIDE: ClipRule = ClipRule {
     invert: false,
     boundary_included: false,
 };
@@ -83,7 +83,7 @@ fn overlays_in_one_call(rt: HostRuntime) -> Result<(), Fail> {
 }
 
 // How many paths or shapes a call gives whose growths are refused.
-fn count_of<T: Drop, A: Allocator, C: Fn() -> Answer<Vec<T, A>> + Drop>(
+pub(crate) fn count_of<T: Drop, A: Allocator, C: Fn() -> Answer<Vec<T, A>> + Drop>(
     trial: &Trial<'_, impl Abort>,
     name: &str,
     call: C,

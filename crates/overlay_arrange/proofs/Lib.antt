@@ -57,4 +57,5 @@ pub mod SortedPoints
 pub mod StartsTogether
 pub mod StripOrder
 pub mod Sweepable
+mod SweptFills
 pub mod WholeMeetings
