@@ -16,10 +16,11 @@ use std::test::Fail;
 // Two needles, whose long sides cross so flatly that each round moves their crossing on by one unit: 66 rounds would
 // settle them.
 const FIRST: [(i16, i16); 3] = [(2, 0), (0, 66), (2, -66)];
+
 const SECOND: [(i16, i16); 3] = [(1, 0), (0, 67), (-1, 0)];
 
 // A builder of the needles by a solver: the first one is the subject, and the second one the clip.
-fn needles<I: OverlayInt + From<i16>>(
+fn needles<I: OverlayInt + From<i16> + PartialEq>(
     rt: &impl Abort,
     alloc: Global,
     solver: Solver,
@@ -28,18 +29,15 @@ fn needles<I: OverlayInt + From<i16>>(
     let second = contour_of::<I>(alloc, &SECOND)?;
     assert_in_range(rt, &first);
     assert_in_range(rt, &second);
-    Overlay::from_subj_and_clip_custom(
-        alloc,
-        &first,
-        &second,
-        IntOverlayOptions::default(),
-        solver,
-    )
+    Overlay::from_subj_and_clip_custom(alloc, &first, &second, IntOverlayOptions::default(), solver)
 }
 
 // The union of the needles. The crossings of their sides round to (0, 65), by hand: the sides of the first one are led
 // through it, and the second one becomes the edge from there to (-1, 0), and the one from (-1, 0) to (1, 0).
-fn union<I: OverlayInt + From<i16>>(rt: &impl Abort, alloc: Global) -> Result<(), OverlayError> {
+fn union<I: OverlayInt + From<i16> + PartialEq>(
+    rt: &impl Abort,
+    alloc: Global,
+) -> Result<(), OverlayError> {
     let mut by_rounds = needles::<I>(rt, alloc, Solver::ABSOLUTE)?;
     let refused = by_rounds.overlay(OverlayRule::Union, FillRule::NonZero);
     assert!(rt; matches!(refused, Err(OverlayError::NotSettled)));
@@ -52,7 +50,10 @@ fn union<I: OverlayInt + From<i16>>(rt: &impl Abort, alloc: Global) -> Result<()
 }
 
 // What a second query finds: the arrangement, which both solvers leave as it is.
-fn once_more<I: OverlayInt + From<i16>>(rt: &impl Abort, alloc: Global) -> Result<(), OverlayError> {
+fn once_more<I: OverlayInt + From<i16> + PartialEq>(
+    rt: &impl Abort,
+    alloc: Global,
+) -> Result<(), OverlayError> {
     let mut builder = needles::<I>(rt, alloc, Solver::SNAPPED)?;
     let first = builder.build_separate_vectors(FillRule::NonZero)?;
     builder.solver = Solver::ABSOLUTE;
@@ -62,7 +63,10 @@ fn once_more<I: OverlayInt + From<i16>>(rt: &impl Abort, alloc: Global) -> Resul
 }
 
 // Two squares, whose sides cross in whole points, are answered alike by both solvers.
-fn whole<I: OverlayInt + From<i16>>(rt: &impl Abort, alloc: Global) -> Result<(), OverlayError> {
+fn whole<I: OverlayInt + From<i16> + PartialEq>(
+    rt: &impl Abort,
+    alloc: Global,
+) -> Result<(), OverlayError> {
     let left = contour_of::<I>(alloc, &[(0, 0), (4, 0), (4, 4), (0, 4)])?;
     let right = contour_of::<I>(alloc, &[(2, 2), (6, 2), (6, 6), (2, 6)])?;
     assert_in_range(rt, &left);
@@ -72,21 +76,28 @@ fn whole<I: OverlayInt + From<i16>>(rt: &impl Abort, alloc: Global) -> Result<()
     let mut snapped = Overlay::from_subj_and_clip_custom(alloc, &left, &right, options, solver)?;
     let mut by_rounds = Overlay::from_subj_and_clip(alloc, &left, &right)?;
     let shapes = snapped.overlay(OverlayRule::Xor, FillRule::EvenOdd)?;
-    assert!(rt; shapes.len() == 2 && shapes == by_rounds.overlay(OverlayRule::Xor, FillRule::EvenOdd)?);
+    assert!(rt;
+        shapes.len() == 2 && shapes == by_rounds.overlay(OverlayRule::Xor, FillRule::EvenOdd)?
+    );
     Ok(())
 }
 
 // How the needles lie to each other: they share their parts from (0, 65) to (1, 0), and the first one fills none of the
 // second.
-fn relations<I: OverlayInt + From<i16>>(rt: &impl Abort, alloc: Global) -> Result<(), OverlayError> {
+fn relations<I: OverlayInt + From<i16> + PartialEq>(
+    rt: &impl Abort,
+    alloc: Global,
+) -> Result<(), OverlayError> {
     let first = contour_of::<I>(alloc, &FIRST)?;
     let second = contour_of::<I>(alloc, &SECOND)?;
     assert_in_range(rt, &first);
     assert_in_range(rt, &second);
     let rule = FillRule::NonZero;
     let solver = Solver::SNAPPED;
-    let mut pair = PredicateOverlay::from_subj_and_clip_custom(alloc, &first, &second, rule, solver)?;
-    assert!(rt; pair.intersects()? && !pair.within()? && !pair.disjoint()?);
+    let mut pair = PredicateOverlay::from_subj_and_clip_custom(
+        alloc, &first, &second, rule, solver,
+    )?;
+    assert!(rt; pair.touches()? && !pair.within()?);
     Ok(())
 }
 
