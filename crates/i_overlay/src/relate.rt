@@ -1,15 +1,19 @@
 //! How two resources lie to each other: predicates in one call, and the builder that answers them, one or all.
 
-ghost use Rattle.std.specs.Prelude.{All, IfOk, IfErr};
+ghost use Rattle.std.specs.Prelude.{◌≡◌, false, All, IfOk, IfErr};
 ghost use Rattle.overlay_arrange.specs.declared.fill_rule.FillRule.TheVariants.{EvenOdd};
 ghost use Rattle.overlay_geom.specs.Points.{AllInRange};
 ghost use Rattle.overlay_geom.specs.declared.solver.Solver.TheVariants.{Rounds};
-ghost use Rattle.overlay_builder.specs.GivenPaths.{subject_and_clip};
+ghost use Rattle.overlay_builder.specs.GivenPaths.{subject_and_clip, added_paths};
+ghost use Rattle.overlay_builder.specs.PathLists.{HoldsPaths, MayRefuseBuilder};
 ghost use Rattle.overlay_plane.specs.Predicates.{Intersects, InteriorsIntersect, Touches, PointIntersects};
 ghost use Rattle.overlay_plane.specs.Predicates.{IsWithin, IsDisjoint};
+ghost use Rattle.overlay_relate.specs.PredicateBuilder.{empty_builder};
 ghost use Rattle.i_overlay.specs.OneShot.{MayRefusePaths};
 ghost use Rattle.i_overlay.specs.Relations.{TellsOfPaths};
 
+use crate::fill_rule::FillRule;
+use crate::solver::Solver;
 use overlay_geom::error::OverlayError;
 use overlay_geom::integer::OverlayInt;
 use overlay_geom::resource::IntShapeResource;
@@ -122,7 +126,7 @@ impl<I: OverlayInt, R0: IntShapeResource<I>> IntRelate<I> for R0 {
         alloc: A,
         other: &R1,
     ) -> Result<bool, OverlayError> {
-        let mut overlay = PredicateOverlay::from_subj_and_clip(alloc, self, other)?;
+        let mut overlay = pair_of(alloc, self, other)?;
         overlay.intersects()
     }
 
@@ -131,7 +135,7 @@ impl<I: OverlayInt, R0: IntShapeResource<I>> IntRelate<I> for R0 {
         alloc: A,
         other: &R1,
     ) -> Result<bool, OverlayError> {
-        let mut overlay = PredicateOverlay::from_subj_and_clip(alloc, self, other)?;
+        let mut overlay = pair_of(alloc, self, other)?;
         overlay.interiors_intersect()
     }
 
@@ -140,7 +144,7 @@ impl<I: OverlayInt, R0: IntShapeResource<I>> IntRelate<I> for R0 {
         alloc: A,
         other: &R1,
     ) -> Result<bool, OverlayError> {
-        let mut overlay = PredicateOverlay::from_subj_and_clip(alloc, self, other)?;
+        let mut overlay = pair_of(alloc, self, other)?;
         overlay.touches()
     }
 
@@ -149,7 +153,7 @@ impl<I: OverlayInt, R0: IntShapeResource<I>> IntRelate<I> for R0 {
         alloc: A,
         other: &R1,
     ) -> Result<bool, OverlayError> {
-        let mut overlay = PredicateOverlay::from_subj_and_clip(alloc, self, other)?;
+        let mut overlay = pair_of(alloc, self, other)?;
         overlay.point_intersects()
     }
 
@@ -158,7 +162,7 @@ impl<I: OverlayInt, R0: IntShapeResource<I>> IntRelate<I> for R0 {
         alloc: A,
         other: &R1,
     ) -> Result<bool, OverlayError> {
-        let mut overlay = PredicateOverlay::from_subj_and_clip(alloc, self, other)?;
+        let mut overlay = pair_of(alloc, self, other)?;
         overlay.within()
     }
 
@@ -176,7 +180,30 @@ impl<I: OverlayInt, R0: IntShapeResource<I>> IntRelate<I> for R0 {
         alloc: A,
         other: &R1,
     ) -> Result<bool, OverlayError> {
-        let mut exchanged = PredicateOverlay::from_subj_and_clip(alloc, other, self)?;
+        let mut exchanged = pair_of(alloc, other, self)?;
         exchanged.within()
     }
+}
+
+// A builder for predicates of the subject and the clip, under the rule EvenOdd, by the default solver.
+fn pair_of<I: OverlayInt, R0: IntShapeResource<I>, R1: IntShapeResource<I>, A: Allocator + Clone>(
+    alloc: A,
+    subj: &R0,
+    clip: &R1,
+) -> Result<PredicateOverlay<I, A>, OverlayError>
+    requires subj_in_range { All (AllInRange I.limit) (R0.paths subj.now) }
+    requires clip_in_range { All (AllInRange I.limit) (R1.paths clip.now) }
+    ensures ok { IfOk result (λ o. HoldsPaths (added_paths false
+        (subject_and_clip (R0.paths subj.now) (R1.paths clip.now))) o.edges) }
+    ensures made { IfOk result (λ o. o ≡ record (empty_builder EvenOdd Rounds) { edges = o.edges }) }
+    ensures err { IfErr result (MayRefuseBuilder (added_paths false
+        (subject_and_clip (R0.paths subj.now) (R1.paths clip.now)))) }
+{
+    PredicateOverlay::from_subj_and_clip_custom(
+        alloc,
+        subj,
+        clip,
+        FillRule::EvenOdd,
+        Solver::ABSOLUTE,
+    )
 }

@@ -31,6 +31,7 @@ pub(crate) fn with_contours<A: Allocator + Clone>(
 {
     let mut overlay = PredicateOverlay::<i64, A>::new(alloc, 0)?;
     overlay.fill_rule = fill_rule;
+    overlay.solver = Solver::ABSOLUTE;
     for given in contours {
         let contour = &given.contour;
         overlay.add_contour(&contour.points, contour.shape_type)?;

@@ -4,5 +4,5 @@ use Rattle.i_overlay.proofs.overlay.Overlay.from_subj.Goals as goal
 
 pub returns-clause-made : goal.returns-clause-made
 returns-clause-made g c =
-    made_new g.I.WideUInt.UIntNumber.natural c.default.result _ c.default.ensures c.from_subj_custom.result
+    made_new g.I.WideUInt.UIntNumber.natural c.default.result c.default.ensures c.from_subj_custom.result
     c.from_subj_custom.ensures.made
