@@ -102,5 +102,5 @@ one_more_added cs k c old new h within here adds light kept = record {
       h.made.options.input_kept adds)
       light;
   made = subst (IsNewBuilder (λ n. n)) (sym kept)
-      (record { ready = h.made.ready; options = h.made.options; buffer = h.made.buffer });
+      (record { ready = h.made.ready; options = h.made.options; buffer = h.made.buffer; by = h.made.by });
 }

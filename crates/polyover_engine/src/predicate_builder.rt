@@ -12,6 +12,7 @@ ghost use Rattle.overlay_builder.specs.GivenPaths.{added_paths};
 
 use i_overlay::fill_rule::FillRule;
 use i_overlay::relate::PredicateOverlay;
+use i_overlay::solver::Solver;
 use overlay_geom::error::OverlayError;
 use polyover_text::figures::NumberedContour;
 use std::alloc::Allocator;

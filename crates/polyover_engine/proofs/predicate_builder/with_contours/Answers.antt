@@ -23,6 +23,7 @@ loop-given-init g c =
       holds = no_path_held _ (ap (λ o. o.edges) held ∙ ap (λ o. o.edges) made);
       ready = ap (λ o. o.failed) held ∙ ap (λ o. o.failed) made;
       rule = refl;
+      by = refl;
     }
 
 pub add_contour-requires : goal.add_contour-requires
@@ -62,6 +63,7 @@ loop-given-preserved g c =
           e.added.light;
       ready = ap (λ o. o.failed) e.kept ∙ held.ready;
       rule = ap (λ o. o.fill_rule) e.kept ∙ held.rule;
+      by = ap (λ o. o.solver) e.kept ∙ held.by;
     }
 
 pub returns : goal.returns
