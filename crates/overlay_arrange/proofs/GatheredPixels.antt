@@ -32,7 +32,7 @@ pairs_of_entries R xs h i j d less within =
     entry : (k : ℕ) → k < length xs → Contains xs (get_or xs k d)
     entry k lt = (k, lt, get_or_default xs k (get_or xs k d) d lt)
 
--- what holds of the pairs of two lists, and of each entry of the one and each of the other one, holds of those of both
+-- a relation of the pairs of each list, and of each entry of xs with each of ys, holds of the pairs of the joined list
 pairs_joined : {X : Type 0} (R : X → X → Type 0) (xs ys : List X) → AllPairs R xs → AllPairs R ys →
     ((x y : X) → Contains xs x → Contains ys y → R x y) → AllPairs R (xs ++ ys)
 pairs_joined R [] ys h k between = k

@@ -22,13 +22,13 @@ pub record AreHotPoints (es : List CountedEdge) (vs : List Point) : Type 0 where
 
 -- ---- searching
 
--- the entries before place k are of the one kind, and those from it on of the other one
-pub record IsSplitAt {X : Type 0} (One Other : X → Type 0) (xs : List X) (k : ℕ) : Type 0 where
+-- `First` holds of each of the first k entries, and `Rest` of each entry after them
+pub record IsSplitAt {X : Type 0} (First Rest : X → Type 0) (xs : List X) (k : ℕ) : Type 0 where
   pub within : k ≤ length xs
-  pub before : (j : ℕ) (x : X) → j < k → IsAt xs j x → One x
-  pub from : (j : ℕ) (x : X) → k ≤ j → IsAt xs j x → Other x
+  pub before : (j : ℕ) (x : X) → j < k → IsAt xs j x → First x
+  pub from : (j : ℕ) (x : X) → k ≤ j → IsAt xs j x → Rest x
 
--- from the one rank up to the other one stand the points between whose x the edge e lies
+-- each point whose x-coordinate lies within those of the edge e has a rank from `low` to below `high`
 pub record IsSpanOf (vs : List Point) (e : CountedEdge) (low high : ℕ) : Type 0 where
   pub ordered : low ≤ high
   pub within : high ≤ length vs

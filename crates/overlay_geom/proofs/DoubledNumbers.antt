@@ -17,7 +17,7 @@ use mir.Val.{hbits}
 -- ---- halves
 
 module _ (c s q r : ℤ) (whole : q *ℤ pos 2 +ℤ r ≡ s) (rest : unsigned_abs r < 2) where
-  -- a number that is not half of the other one compares with it as with half of it
+  -- where c is not q, 2c compares with s as c compares with q, the half of s
   pub doubled-compared : (o : Ordering) → o ≡ int_cmp c q → o ≢ Equal → o ≡ int_cmp (pos 2 *ℤ c) s
   doubled-compared o compared isnt = int_cmp_is (pos 2 *ℤ c) s o (by o isnt (int_ranked c q o compared))
     where

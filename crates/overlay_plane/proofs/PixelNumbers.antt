@@ -17,7 +17,7 @@ pub record AreWeights (m n : ℤ) : Type 0 where
   pub second : pos 0 ≤ℤ n
   pub some : pos 0 <ℤ (m +ℤ n)
 
--- the order of x and the mixture of x1 and x2 is another one than that of the whole numbers to which they round
+-- x and the mixture of x1 and x2 change their order when they are rounded to v and to the mixture of v1 and v2
 abbrev pub OrderChanges : ℤ → ℤ → ℤ → ℤ → ℤ → ℤ → ℤ → ℤ → Type 0
 OrderChanges m n x x1 x2 v v1 v2 =
     ((((m +ℤ n) *ℤ x) <ℤ (m *ℤ x1 +ℤ n *ℤ x2)) × ((m *ℤ v1 +ℤ n *ℤ v2) ≤ℤ ((m +ℤ n) *ℤ v)))

@@ -87,7 +87,7 @@ module _ (old : List CountedEdge) (r : Round) (forward : IsForwardBy ends_of old
         back : IsAlong (ends_of f) (ends_of e)
         back = along_exchanged (ends_of e) (ends_of f) e_forward along
 
-        -- each piece starts up to the common point, and so up to where the other one ends
+        -- the piece from k starts no later than the common point, and so no later than q, the end of the other piece
         up_to_q : IsUpToPlace k q
         up_to_q = place_up_to_through k (mixed c) q (first_up_to_mixed k l there.in_order c)
             (place_up_to_through (mixed c) (mixed b) q (place_of_same (mixed c) (mixed b) (sym same_x, sym same_y))

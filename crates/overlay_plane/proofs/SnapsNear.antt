@@ -218,7 +218,7 @@ module _ (r : Round) (rounding : (p : PlanePoint) → r.whole_at p ≡ nearest_p
     abbrev IsLater : PlanePoint → Type 0
     IsLater x = (way (ends_of e) m *ℤ x.d) <ℤ (way (ends_of e) x *ℤ m.d)
 
-    -- it does the one or the other
+    -- each point comes no later than m, or later
     no_later_or_later : (x : PlanePoint) → IsNoLater x ⊎ IsLater x
     no_later_or_later x = by_lt_z (way (ends_of e) m *ℤ x.d) (way (ends_of e) x *ℤ m.d) (λ later. inr later)
         (λ no_later. inl no_later)

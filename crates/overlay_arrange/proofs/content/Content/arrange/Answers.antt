@@ -31,7 +31,7 @@ returns-in-Snapping-clause-carried g c = rw c.in-Snapping.is
     (arranged_carrying g.C.EdgeCount.merges g.C.EdgeCount.splits g.C.EdgeCount.reverses g.I.IntNumber.limit Snapping
     c.snap.result _ _ c.note_limits.ensures c.snap.ensures.carried)
 
--- a refusal for memory or weight alone is no other one
+-- an answer that is refused for memory or weight alone has one of these two errors
 refused_with : {T : Type 0} (answer : Result T OverlayError) (e : OverlayError) →
     IfErr answer (λ f. (f ≡ Memory) ⊎ (f ≡ TooManyEdges)) → answer ≡ Err e → (e ≡ Memory) ⊎ (e ≡ TooManyEdges)
 refused_with answer e only is = subst (λ r. IfErr r (λ f. (f ≡ Memory) ⊎ (f ≡ TooManyEdges))) is only
