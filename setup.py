@@ -25,12 +25,23 @@ def library() -> Path:
     return found
 
 
+def copy_page(folder: Path) -> None:
+    """Copies the page (docs/play) and the package of JavaScript that it asks, where `make -C js` has built that."""
+    engine = HERE / "js"
+    if (engine / "polyover.wasm").is_file():
+        shutil.copytree(HERE / "docs" / "play", folder, ignore=shutil.ignore_patterns("*.md"), dirs_exist_ok=True)
+        (folder / "engine").mkdir(exist_ok=True)
+        for file in (*engine.glob("*.js"), engine / "polyover.wasm"):
+            shutil.copy(file, folder / "engine")
+
+
 class Held(build_py):
-    """Puts the library beside the modules."""
+    """Puts the library, and the page where it can be asked, beside the modules."""
 
     def run(self) -> None:
         super().run()
         shutil.copyfile(library(), Path(self.build_lib) / "polyover" / NAME)
+        copy_page(Path(self.build_lib) / "polyover" / "play")
 
 
 class Platform(bdist_wheel):

@@ -122,7 +122,7 @@ def check_in_cells(shapes, width, height):
 
 
 def check_links(text, shapes):
-    """Each shape is in a hole of another one at most once, and then inside that hole."""
+    """Each shape is in a hole of another at most once, and then inside that hole."""
     links = [[int(it) for it in line.split()[1:]] for line in text.splitlines() if line.startswith("link")]
     owners = [(number, place) for number, shape in enumerate(shapes) for place in range(len(shape))]
     contours = contours_in(shapes)
@@ -234,7 +234,7 @@ def are_good_options(rest):
 
 
 def is_good_line(words):
-    """Whether the words, of which there are some, are a line of the grammar."""
+    """Whether the words, at least one, are a line of the grammar."""
     name, rest = words[0], words[1:]
     if name == "run":
         return bool(rest) and is_good_query(rest)

@@ -198,7 +198,7 @@ def nested(random):
 
 
 def tilted(random):
-    """A grid of lines across the range, a little turned, over a few contours of which it is the clip or the lines."""
+    """A grid of lines across the range, a little turned, as the clip or the lines over a few contours."""
     wide, lean = random.choice(((1000, 100), (LARGEST - 1, LARGEST // 10))), random.randint(2, 6)
     half, slope = wide
     bars = [[(-half, y - slope), (half, y + slope), (half, y + slope + half // 9), (-half, y - slope + half // 9)]

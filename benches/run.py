@@ -131,7 +131,7 @@ def with_command(text, command):
 
 
 def seeded_input(kind, edges, options):
-    """The input of a kind with about so many edges; the same for the same seed."""
+    """The input of a kind with about `edges` edges; the same for the same seed."""
     name = f"{kind}_{edges}"
     contours = KINDS[kind](edges, options.extent, Random(f"{options.seed} {name}"))
     return Input(name, kind, input_text(contours, COMMANDS[options.command]))

@@ -85,7 +85,7 @@ fn add_rectangle(alloc: Global, all: &mut Vec<Contour<i64, Global>>, place: usiz
     Ok(())
 }
 
-// Rectangles, each so many steps wide.
+// Rectangles of a width in steps.
 fn rectangles(alloc: Global, edges: usize, width: usize) -> Result<Vec<Contour<i64, Global>>> {
     let mut all = Vec::new(alloc);
     for place in 0..edges / 8 {
@@ -247,7 +247,7 @@ def read_options():
     """The options of the command line."""
     parser = argparse.ArgumentParser(description=__doc__, formatter_class=argparse.RawDescriptionHelpFormatter)
     parser.add_argument("--edges", type=int, nargs="+", default=[100, 1000, 10000, 100000])
-    parser.add_argument("--runs", type=int, default=5, metavar="N", help="so many runs of each")
+    parser.add_argument("--runs", type=int, default=5, metavar="N", help="number of runs of each")
     parser.add_argument("--only", nargs="+", choices=KINDS, default=list(KINDS), metavar="KIND")
     parser.add_argument("--write", type=Path, metavar="PROGRAM", help="leave the program here")
     parser.add_argument("--program", type=Path, help="time a program that --write left")

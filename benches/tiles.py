@@ -1,5 +1,5 @@
 #!/usr/bin/env python3
-"""Times examples/tiles on a made map, with so many workers after one another, and prints a table in Markdown.
+"""Times examples/tiles on a made map, with each number of workers in turn, and prints a table in Markdown.
 
 The map is two layers of triangles, counterclockwise, each in files of a part of it from the lowest to the highest.
 """
@@ -32,7 +32,7 @@ def layers_of(given):
 
 
 def write_layers(layers, count, folder):
-    """The words that name the files of both layers, each written to so many files."""
+    """The words that name the files of both layers, each written to some files."""
     words = []
     for name, contours in layers.items():
         words.append(f"--{name}")

@@ -31,7 +31,7 @@ def processor_time(program, text):
 def main():
     parser = argparse.ArgumentParser(description=__doc__, formatter_class=argparse.RawDescriptionHelpFormatter)
     add_program_option(parser)
-    parser.add_argument("--time", type=int, default=1, metavar="N", help="so many runs, of which the median counts")
+    parser.add_argument("--time", type=int, default=1, metavar="N", help="number of runs; the median counts")
     parser.add_argument("--quiet", action="store_true", help="print no answer (none is printed anyway)")
     given = parser.parse_args()
     program = program_of(parser, given)

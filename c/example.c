@@ -8,18 +8,16 @@ int main(void) {
     const int64_t right[] = {2, 2, 6, 2, 6, 6, 2, 6};
     const size_t four[] = {4};
     const polyover_contours subject = {left, 8, four, 1}, clip = {right, 8, four, 1};
-    const polyover_options options = {0};
-    int64_t coordinates[64];
-    size_t contour_ends[8], shape_ends[8];
-    polyover_counts counts;
-    polyover_status status = polyover_overlay(POLYOVER_INTERSECT, POLYOVER_NON_ZERO, &options, &subject, &clip,
-                                              coordinates, 64, contour_ends, 8, shape_ends, 8, &counts);
+    polyover_result result;
+    const polyover_status status =
+        polyover_overlay_result(POLYOVER_INTERSECT, POLYOVER_NON_ZERO, NULL, &subject, &clip, &result);
     if (status != POLYOVER_OK) {
-        fprintf(stderr, "status %u\n", status);
+        fprintf(stderr, "%s\n", polyover_status_text(status));
         return 1;
     }
-    for (size_t at = 0; at < counts.coordinates; at += 2) {
-        printf("%lld %lld\n", (long long)coordinates[at], (long long)coordinates[at + 1]);
+    for (size_t at = 0; at < result.coordinate_count; at += 2) {
+        printf("%lld %lld\n", (long long)result.coordinates[at], (long long)result.coordinates[at + 1]);
     }
+    polyover_free(&result);
     return 0;
 }

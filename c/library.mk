@@ -16,12 +16,13 @@ ASSEMBLY ?= $(HERE)/$(PROCESSOR)/polyover.s
 OBJCOPY ?= $(shell $(CC) -print-prog-name=objcopy)
 ARCHIVER ?= $(shell $(CC) -print-prog-name=ar)
 
-# The version stands in the header alone; the first number of it is that of the shared library.
+# The version stands in the header alone; the first number of it is that of the shared library, and so is the second one
+# while the first is 0.
 said = $(shell sed -n 's/^\#define POLYOVER_VERSION_$(1) //p' $(HEADER))
 MAJOR := $(call said,MAJOR)
 VERSION := $(MAJOR).$(call said,MINOR).$(call said,PATCH)
 SHARED := libpolyover.so.$(VERSION)
-SONAME := libpolyover.so.$(MAJOR)
+SONAME := libpolyover.so.$(MAJOR)$(if $(filter 0,$(MAJOR)),.$(call said,MINOR))
 IN_C := $(patsubst $(HERE)/%.c,$(OUT)/%.o,$(HERE)/heap.c $(wildcard $(HERE)/library*.c))
 
 .DELETE_ON_ERROR:

@@ -7,15 +7,16 @@ typedef struct {
     size_t count;
 } TEST(edge_room);
 
-static polyover_status TEST(listed)(TEST(edge_room) *room, polyover_fill fill, const CONTOURS *subject,
-                                    const CONTOURS *clip, size_t coordinates, size_t fills) {
+static polyover_status TEST(listed_by)(TEST(edge_room) *room, polyover_fill fill, polyover_solver solver,
+                                       const CONTOURS *subject, const CONTOURS *clip, size_t coordinates,
+                                       size_t fills) {
     for (size_t at = 0; at < 64; at++) {
         room->coordinates[at] = 77;
     }
     memset(room->fills, 77, 16);
     room->count = 77;
-    polyover_status status = NAME(polyover_edges)(fill, subject, clip, room->coordinates, coordinates, room->fills,
-                                                  fills, &room->count);
+    polyover_status status = NAME(polyover_edges)(fill, solver, subject, clip, room->coordinates, coordinates,
+                                                  room->fills, fills, &room->count);
     size_t written = status == POLYOVER_OK ? room->count : 0;
     for (size_t at = 4 * written; at < 64; at++) {
         CHECK(room->coordinates[at] == 77);
@@ -25,6 +26,11 @@ static polyover_status TEST(listed)(TEST(edge_room) *room, polyover_fill fill, c
     }
     CHECK(status == POLYOVER_OK || status == POLYOVER_TOO_SMALL || room->count == 77);
     return status;
+}
+
+static polyover_status TEST(listed)(TEST(edge_room) *room, polyover_fill fill, const CONTOURS *subject,
+                                    const CONTOURS *clip, size_t coordinates, size_t fills) {
+    return TEST(listed_by)(room, fill, POLYOVER_SNAPPED, subject, clip, coordinates, fills);
 }
 
 static void TEST(edges)(void) {
@@ -51,7 +57,8 @@ static void TEST(edges)(void) {
     CHECK(room.count == 3 && memcmp(room.coordinates, of_all, sizeof of_all) == 0);
     CHECK(room.fills[0] == POLYOVER_CLIP_LEFT && room.fills[1] == POLYOVER_CLIP_RIGHT);
     CHECK(room.fills[2] == POLYOVER_CLIP_LEFT);
-    CHECK(NAME(polyover_edges)(POLYOVER_EVEN_ODD, &none, &none, NULL, 0, NULL, 0, &room.count) == POLYOVER_OK);
+    CHECK(NAME(polyover_edges)(POLYOVER_EVEN_ODD, POLYOVER_ROUNDS, &none, &none, NULL, 0, NULL, 0, &room.count) ==
+          POLYOVER_OK);
     CHECK(room.count == 0);
 }
 
@@ -61,7 +68,9 @@ static void TEST(listing_refused)(void) {
     const CONTOURS square = {TEST(subject_at), 8, four, 1}, bad = {TEST(subject_at), 8, falling, 2};
     const CONTOURS far = {beyond, 8, four, 1}, none = {NULL, 0, NULL, 0};
     TEST(edge_room) room;
-    CHECK(TEST(listed)(&room, 4, &bad, &far, 0, 0) == POLYOVER_BAD_FILL);
+    CHECK(TEST(listed_by)(&room, 4, 2, &bad, &far, 0, 0) == POLYOVER_BAD_FILL);
+    CHECK(TEST(listed_by)(&room, 3, 2, &bad, &far, 0, 0) == POLYOVER_BAD_OPTION);
+    CHECK(TEST(listed_by)(&room, 3, UINT32_MAX, &square, &square, 64, 16) == POLYOVER_BAD_OPTION);
     CHECK(TEST(listed)(&room, 3, &bad, &far, 0, 0) == POLYOVER_BAD_ENDS);
     CHECK(TEST(listed)(&room, 3, &far, &bad, 0, 0) == POLYOVER_OUT_OF_RANGE);
     CHECK(TEST(listed)(&room, 3, &square, &bad, 0, 0) == POLYOVER_BAD_ENDS);

@@ -8,8 +8,8 @@ static polyover_status TEST(sliced_into)(TEST(room) *room, const NUMBER *lines, 
     static const size_t four[] = {4};
     const CONTOURS subject = {TEST(square_at), 8, four, 1}, paths = {lines, count, ends, end_count};
     TEST(fill_room)(room);
-    return NAME(polyover_slice)(POLYOVER_NON_ZERO, &subject, &paths, room->coordinates, coordinates, room->contour_ends,
-                                contours, room->shape_ends, shapes, &room->counts);
+    return NAME(polyover_slice)(POLYOVER_NON_ZERO, POLYOVER_SNAPPED, &subject, &paths, room->coordinates, coordinates,
+                                room->contour_ends, contours, room->shape_ends, shapes, &room->counts);
 }
 
 static void TEST(slices)(void) {
@@ -44,13 +44,18 @@ static void TEST(slices)(void) {
     CHECK(TEST(sliced_into)(&room, across, 4, two, 1, 16, 2, 2) == POLYOVER_OK);
 }
 
-static polyover_status TEST(slice_asked)(TEST(room) *room, polyover_fill fill, const CONTOURS *subject,
-                                         const CONTOURS *lines) {
+static polyover_status TEST(slice_by)(TEST(room) *room, polyover_fill fill, polyover_solver solver,
+                                      const CONTOURS *subject, const CONTOURS *lines) {
     TEST(fill_room)(room);
-    polyover_status status = NAME(polyover_slice)(fill, subject, lines, room->coordinates, 64, room->contour_ends, 8,
-                                                  room->shape_ends, 8, &room->counts);
+    polyover_status status = NAME(polyover_slice)(fill, solver, subject, lines, room->coordinates, 64,
+                                                  room->contour_ends, 8, room->shape_ends, 8, &room->counts);
     CHECK(status == POLYOVER_OK || (TEST(is_untouched)(room) && TEST(has_counts)(room, 77, 77, 77)));
     return status;
+}
+
+static polyover_status TEST(slice_asked)(TEST(room) *room, polyover_fill fill, const CONTOURS *subject,
+                                         const CONTOURS *lines) {
+    return TEST(slice_by)(room, fill, POLYOVER_SNAPPED, subject, lines);
 }
 
 static void TEST(slice_statuses)(void) {
@@ -75,6 +80,9 @@ static void TEST(slice_statuses)(void) {
     CHECK(TEST(has_counts)(&room, 0, 0, 0));
     CHECK(TEST(slice_asked)(&room, 4, &bad, &out) == POLYOVER_BAD_FILL);
     CHECK(TEST(slice_asked)(&room, UINT32_MAX, &square, &inside) == POLYOVER_BAD_FILL);
+    CHECK(TEST(slice_by)(&room, 4, 2, &bad, &out) == POLYOVER_BAD_FILL);
+    CHECK(TEST(slice_by)(&room, 3, 2, &bad, &out) == POLYOVER_BAD_OPTION);
+    CHECK(TEST(slice_by)(&room, 3, UINT32_MAX, &square, &inside) == POLYOVER_BAD_OPTION);
     CHECK(TEST(slice_asked)(&room, 3, &bad, &out) == POLYOVER_BAD_ENDS);
     CHECK(TEST(slice_asked)(&room, 3, &out, &back) == POLYOVER_OUT_OF_RANGE);
     CHECK(TEST(slice_asked)(&room, 3, &square, &back) == POLYOVER_BAD_ENDS);
@@ -122,7 +130,7 @@ static int TEST(has_paths)(const TEST(path_room) *room, size_t coordinates, size
     return room->counts.coordinates == coordinates && room->counts.paths == paths;
 }
 
-static const polyover_clip_options TEST(inside) = {0, 0}, TEST(closure) = {0, 1}, TEST(outside) = {1, 0};
+static const polyover_clip_options TEST(inside) = {0}, TEST(closure) = {.boundary = 1}, TEST(outside) = {.invert = 1};
 
 static void TEST(clips)(void) {
     const NUMBER upright[] = {0, -15, 0, 15}, there[] = {0, -10, 0, 10}, left[] = {0, -15, 0, -10, 0, 10, 0, 15};
@@ -176,7 +184,7 @@ static void TEST(clip_statuses)(void) {
     const size_t four[] = {4}, three[] = {3}, two[] = {2}, falling[] = {2, 1};
     const CONTOURS square = {TEST(subject_at), 8, four, 1}, bad = {TEST(subject_at), 8, three, 1};
     const CONTOURS whole = {far, 4, two, 1}, out = {beyond, 4, two, 1}, back = {far, 4, falling, 2};
-    const polyover_clip_options invert = {2, 0}, boundary = {0, UINT32_MAX};
+    const polyover_clip_options invert = {.invert = 2}, boundary = {.boundary = UINT32_MAX}, solver = {.solver = 2};
     TEST(path_room) room;
     CHECK(TEST(clip_asked)(&room, POLYOVER_EVEN_ODD, TEST(inside), &square, &whole, 64, 8) == POLYOVER_OK);
     CHECK(TEST(has_paths)(&room, 4, 1) && memcmp(room.coordinates, part, sizeof part) == 0);
@@ -188,8 +196,15 @@ static void TEST(clip_statuses)(void) {
     CHECK(TEST(clip_asked)(&room, UINT32_MAX, TEST(inside), &square, &whole, 64, 8) == POLYOVER_BAD_FILL);
     CHECK(TEST(clip_asked)(&room, 3, invert, &bad, &out, 64, 8) == POLYOVER_BAD_OPTION);
     CHECK(TEST(clip_asked)(&room, 3, boundary, &bad, &out, 64, 8) == POLYOVER_BAD_OPTION);
+    CHECK(TEST(clip_asked)(&room, 3, solver, &bad, &out, 64, 8) == POLYOVER_BAD_OPTION);
     CHECK(TEST(clip_asked)(&room, 3, TEST(closure), &bad, &out, 64, 8) == POLYOVER_BAD_ENDS);
     CHECK(TEST(clip_asked)(&room, 3, TEST(closure), &out, &back, 64, 8) == POLYOVER_OUT_OF_RANGE);
     CHECK(TEST(clip_asked)(&room, 3, TEST(closure), &square, &back, 64, 8) == POLYOVER_BAD_ENDS);
     CHECK(TEST(clip_asked)(&room, 3, TEST(closure), &square, &out, 64, 8) == POLYOVER_OUT_OF_RANGE);
+    /* (no options: the parts inside) */
+    CHECK(NAME(polyover_clip)(POLYOVER_EVEN_ODD, NULL, &square, &whole, room.coordinates, 64, room.ends, 8,
+                              &room.counts) == POLYOVER_OK);
+    CHECK(TEST(has_paths)(&room, 4, 1) && memcmp(room.coordinates, part, sizeof part) == 0);
+    CHECK(NAME(polyover_clip)(3, NULL, &bad, &out, room.coordinates, 64, room.ends, 8, &room.counts) ==
+          POLYOVER_BAD_ENDS);
 }

@@ -94,16 +94,20 @@ static polyover_status TEST(linked)(polyover_rule rule, polyover_fill fill, cons
 }
 
 static void TEST(hierarchy_statuses)(void) {
-    const OPTIONS by_default = {0}, direction = {.direction = 2}, keep = {.keep = 2}, ogc = {.ogc = UINT32_MAX};
+    const OPTIONS by_default = {0}, direction = {.direction = 2}, keep = {.keep = 2}, solver = {.solver = 2};
+    const OPTIONS touching = {.touching = UINT32_MAX};
     const NUMBER beyond[] = {0, 0, LIMIT, 0, -LIMIT - 1, 4, 0, 4}, far[] = {-LIMIT, -LIMIT, LIMIT, -LIMIT, 0, LIMIT};
     const size_t four[] = {4}, three[] = {3}, falling[] = {4, 3};
     const CONTOURS square = {TEST(subject_at), 8, four, 1}, bad = {TEST(subject_at), 8, falling, 2};
     const CONTOURS out = {beyond, 8, four, 1}, whole = {far, 6, three, 1}, none = {NULL, 0, NULL, 0};
-    CHECK(TEST(linked)(7, 4, &ogc, &bad, &out) == POLYOVER_BAD_RULE);
-    CHECK(TEST(linked)(6, UINT32_MAX, &ogc, &bad, &out) == POLYOVER_BAD_FILL);
+    CHECK(TEST(linked)(7, 4, &touching, &bad, &out) == POLYOVER_BAD_RULE);
+    CHECK(TEST(linked)(6, UINT32_MAX, &touching, &bad, &out) == POLYOVER_BAD_FILL);
     CHECK(TEST(linked)(6, 3, &direction, &bad, &out) == POLYOVER_BAD_OPTION);
     CHECK(TEST(linked)(6, 3, &keep, &bad, &out) == POLYOVER_BAD_OPTION);
-    CHECK(TEST(linked)(6, 3, &ogc, &bad, &out) == POLYOVER_BAD_OPTION);
+    CHECK(TEST(linked)(6, 3, &touching, &bad, &out) == POLYOVER_BAD_OPTION);
+    CHECK(TEST(linked)(6, 3, &solver, &bad, &out) == POLYOVER_BAD_OPTION);
+    CHECK(TEST(linked)(6, 3, NULL, &bad, &out) == POLYOVER_BAD_ENDS);
+    CHECK(TEST(linked)(6, 3, NULL, &square, &square) == POLYOVER_OK);
     CHECK(TEST(linked)(6, 3, &by_default, &bad, &out) == POLYOVER_BAD_ENDS);
     CHECK(TEST(linked)(6, 3, &by_default, &out, &bad) == POLYOVER_OUT_OF_RANGE);
     CHECK(TEST(linked)(6, 3, &by_default, &square, &bad) == POLYOVER_BAD_ENDS);

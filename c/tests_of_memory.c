@@ -45,6 +45,7 @@ static void check(int holds, const char *what, size_t at, int line) {
 typedef struct {
     polyover_rule rule;
     polyover_fill fill;
+    polyover_solver solver;
     polyover_options options;
     polyover_clip_options kept;
     polyover_contours subject;
@@ -84,8 +85,8 @@ static polyover_status simplify(const asked *of, room *to) {
 }
 
 static polyover_status slice(const asked *of, room *to) {
-    return polyover_slice(of->fill, &of->subject, &of->clip, to->coordinates, 64, to->contour_ends, 16, to->shape_ends,
-                          16, &to->counts);
+    return polyover_slice(of->fill, of->solver, &of->subject, &of->clip, to->coordinates, 64, to->contour_ends, 16,
+                          to->shape_ends, 16, &to->counts);
 }
 
 static polyover_status clip(const asked *of, room *to) {
@@ -94,11 +95,12 @@ static polyover_status clip(const asked *of, room *to) {
 }
 
 static polyover_status relate(const asked *of, room *to) {
-    return polyover_relate(of->fill, &of->subject, &of->clip, &to->relations);
+    return polyover_relate(of->fill, of->solver, &of->subject, &of->clip, &to->relations);
 }
 
 static polyover_status edges(const asked *of, room *to) {
-    return polyover_edges(of->fill, &of->subject, &of->clip, to->coordinates, 64, to->bytes, 16, &to->count);
+    return polyover_edges(of->fill, of->solver, &of->subject, &of->clip, to->coordinates, 64, to->bytes, 16,
+                          &to->count);
 }
 
 static polyover_status locate(const asked *of, room *to) {
@@ -109,6 +111,52 @@ static polyover_status locate(const asked *of, room *to) {
 static polyover_status resolved(const asked *of, room *to) {
     (void)to;
     return polyover_resolved(&of->subject);
+}
+
+/* A result that is refused has no item; leaks are told at the end by the sanitizer. */
+static polyover_status let_go(polyover_status status, polyover_result *result) {
+    size_t items = result->coordinate_count + result->contour_count + result->shape_count + result->link_count +
+                   result->fill_count;
+    check((items == 0) == (status != POLYOVER_OK), "a result has items where it is answered", granted, __LINE__);
+    polyover_free(result);
+    return status;
+}
+
+static polyover_status overlay_result(const asked *of, room *to) {
+    (void)to;
+    polyover_result result;
+    return let_go(polyover_overlay_result(of->rule, of->fill, &of->options, &of->subject, &of->clip, &result), &result);
+}
+
+static polyover_status hierarchy_result(const asked *of, room *to) {
+    (void)to;
+    polyover_result result;
+    return let_go(polyover_hierarchy_result(of->rule, of->fill, &of->options, &of->subject, &of->clip, &result),
+                  &result);
+}
+
+static polyover_status simplify_result(const asked *of, room *to) {
+    (void)to;
+    polyover_result result;
+    return let_go(polyover_simplify_result(of->fill, &of->options, &of->subject, &result), &result);
+}
+
+static polyover_status slice_result(const asked *of, room *to) {
+    (void)to;
+    polyover_result result;
+    return let_go(polyover_slice_result(of->fill, of->solver, &of->subject, &of->clip, &result), &result);
+}
+
+static polyover_status clip_result(const asked *of, room *to) {
+    (void)to;
+    polyover_result result;
+    return let_go(polyover_clip_result(of->fill, &of->kept, &of->subject, &of->clip, &result), &result);
+}
+
+static polyover_status edges_result(const asked *of, room *to) {
+    (void)to;
+    polyover_result result;
+    return let_go(polyover_edges_result(of->fill, of->solver, &of->subject, &of->clip, &result), &result);
 }
 
 /* The status of a call to which so many requests are granted. What is not answered changes nothing. */
@@ -152,6 +200,10 @@ static const int64_t beyond[] = {0, 0, 4, 0, 4, INT64_MAX};
 static const size_t four[] = {4}, three[] = {3}, falling[] = {4, 3};
 static const polyover_contours far = {beyond, 6, three, 1}, bad = {right, 8, falling, 2};
 
+static void choose_solver(asked *of, polyover_solver solver) {
+    of->solver = of->options.solver = of->kept.solver = solver;
+}
+
 static asked squares(void) {
     asked of = {.rule = POLYOVER_XOR, .fill = POLYOVER_NON_ZERO, .point_coordinates = 6, .location_room = 3};
     of.subject = (polyover_contours){left, 8, four, 1};
@@ -160,9 +212,13 @@ static asked squares(void) {
 }
 
 static void answered(void) {
-    const call all[] = {overlay, hierarchy, simplify, slice, clip, relate, edges, locate, resolved};
-    const asked of = squares();
+    const call all[] = {overlay, hierarchy, simplify, slice, clip, relate, edges, locate, resolved, overlay_result,
+                        hierarchy_result, simplify_result, slice_result, clip_result, edges_result};
+    asked of = squares();
     for (size_t at = 0; at < COUNT(all); at++) {
+        choose_solver(&of, POLYOVER_SNAPPED);
+        REFUSE_EACH(all[at], &of);
+        choose_solver(&of, POLYOVER_ROUNDS);
         REFUSE_EACH(all[at], &of);
     }
 }
@@ -178,8 +234,16 @@ static void numbers(void) {
     TESTED_FIRST(simplify, &of, POLYOVER_BAD_OPTION);
     of.kept.invert = 2;
     TESTED_FIRST(clip, &of, POLYOVER_BAD_OPTION);
+    of.options.keep = of.kept.invert = 0;
+    choose_solver(&of, 2);
+    const call by_solver[] = {overlay, hierarchy, simplify, slice, clip, relate, edges, overlay_result,
+                              hierarchy_result, simplify_result, slice_result, clip_result, edges_result};
+    for (size_t at = 0; at < COUNT(by_solver); at++) {
+        TESTED_FIRST(by_solver[at], &of, POLYOVER_BAD_OPTION);
+    }
     of.fill = 4;
-    const call filled[] = {overlay, hierarchy, simplify, slice, clip, relate, edges};
+    const call filled[] = {overlay, hierarchy, simplify, slice, clip, relate, edges, overlay_result,
+                           hierarchy_result, simplify_result, slice_result, clip_result, edges_result};
     for (size_t at = 0; at < COUNT(filled); at++) {
         TESTED_FIRST(filled[at], &of, POLYOVER_BAD_FILL);
     }
@@ -190,7 +254,9 @@ static void numbers(void) {
 
 /* Contours with faults: those of the subject come first. */
 static void faults(void) {
-    const call one[] = {simplify, locate, resolved}, two[] = {overlay, hierarchy, slice, clip, relate, edges};
+    const call one[] = {simplify, locate, resolved, simplify_result};
+    const call two[] = {overlay, hierarchy, slice, clip, relate, edges, overlay_result, hierarchy_result,
+                        slice_result, clip_result, edges_result};
     asked of = squares();
     of.clip = bad;
     for (size_t at = 0; at < COUNT(two); at++) {

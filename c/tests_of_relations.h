@@ -8,7 +8,7 @@ static polyover_relations TEST(related)(const NUMBER *subject, const NUMBER *cli
     const NUMBER second[] = {clip[0], clip[1], clip[2], clip[1], clip[2], clip[3], clip[0], clip[3]};
     const CONTOURS given = {first, 8, four, 1}, other = {second, 8, four, 1};
     polyover_relations relations = 77;
-    CHECK(NAME(polyover_relate)(fill, &given, &other, &relations) == POLYOVER_OK);
+    CHECK(NAME(polyover_relate)(fill, POLYOVER_SNAPPED, &given, &other, &relations) == POLYOVER_OK);
     return relations;
 }
 
@@ -29,12 +29,37 @@ static void TEST(relations)(void) {
     CHECK(TEST(related)(all, all, POLYOVER_NON_ZERO) == (overlaps | POLYOVER_WITHIN | POLYOVER_COVERS));
 }
 
-static polyover_status TEST(not_related)(polyover_fill fill, const CONTOURS *subject, const CONTOURS *clip) {
+/* Two small triangles, of which the second one falls to a line; times 4 they are told as they are. */
+static void TEST(small_triangles)(void) {
+    const NUMBER first[] = {1, 2, 2, 0, 3, 2}, second[] = {0, 0, 3, 2, 2, 1};
+    NUMBER first_by_4[6], second_by_4[6];
+    for (size_t at = 0; at < 6; at++) {
+        first_by_4[at] = 4 * first[at];
+        second_by_4[at] = 4 * second[at];
+    }
+    const size_t three[] = {3};
+    const CONTOURS subject = {first, 6, three, 1}, clip = {second, 6, three, 1};
+    const CONTOURS subject_by_4 = {first_by_4, 6, three, 1}, clip_by_4 = {second_by_4, 6, three, 1};
+    for (polyover_solver solver = POLYOVER_SNAPPED; solver <= POLYOVER_ROUNDS; solver++) {
+        polyover_relations relations = 77;
+        CHECK(NAME(polyover_relate)(POLYOVER_NON_ZERO, solver, &subject, &clip, &relations) == POLYOVER_OK);
+        CHECK(relations == POLYOVER_DISJOINT);
+        CHECK(NAME(polyover_relate)(POLYOVER_NON_ZERO, solver, &subject_by_4, &clip_by_4, &relations) == POLYOVER_OK);
+        CHECK(relations == (POLYOVER_INTERSECTS | POLYOVER_INTERIORS_INTERSECT));
+    }
+}
+
+static polyover_status TEST(not_related_by)(polyover_fill fill, polyover_solver solver, const CONTOURS *subject,
+                                            const CONTOURS *clip) {
     polyover_relations relations = 77;
-    polyover_status status = NAME(polyover_relate)(fill, subject, clip, &relations);
+    polyover_status status = NAME(polyover_relate)(fill, solver, subject, clip, &relations);
     CHECK(status == POLYOVER_OK || relations == 77);
     CHECK(status != POLYOVER_OK || relations == POLYOVER_DISJOINT);
     return status;
+}
+
+static polyover_status TEST(not_related)(polyover_fill fill, const CONTOURS *subject, const CONTOURS *clip) {
+    return TEST(not_related_by)(fill, POLYOVER_SNAPPED, subject, clip);
 }
 
 static void TEST(relating_refused)(void) {
@@ -44,6 +69,9 @@ static void TEST(relating_refused)(void) {
     const CONTOURS far = {beyond, 8, four, 1}, none = {NULL, 0, NULL, 0};
     CHECK(TEST(not_related)(4, &bad, &far) == POLYOVER_BAD_FILL);
     CHECK(TEST(not_related)(UINT32_MAX, &square, &square) == POLYOVER_BAD_FILL);
+    CHECK(TEST(not_related_by)(4, 2, &bad, &far) == POLYOVER_BAD_FILL);
+    CHECK(TEST(not_related_by)(3, 2, &bad, &far) == POLYOVER_BAD_OPTION);
+    CHECK(TEST(not_related_by)(3, UINT32_MAX, &square, &square) == POLYOVER_BAD_OPTION);
     CHECK(TEST(not_related)(3, &bad, &far) == POLYOVER_BAD_ENDS);
     CHECK(TEST(not_related)(3, &far, &bad) == POLYOVER_OUT_OF_RANGE);
     CHECK(TEST(not_related)(3, &square, &bad) == POLYOVER_BAD_ENDS);

@@ -149,18 +149,21 @@ static polyover_status TEST(asked)(TEST(room) *room, polyover_rule rule, polyove
 }
 
 static void TEST(refusals)(void) {
-    const OPTIONS by_default = {0}, direction = {.direction = 2}, keep = {.keep = 2}, ogc = {.ogc = UINT32_MAX};
+    const OPTIONS by_default = {0}, direction = {.direction = 2}, keep = {.keep = 2}, solver = {.solver = 2};
+    const OPTIONS touching = {.touching = UINT32_MAX};
     const NUMBER beyond[] = {0, 0, LIMIT, 0, -LIMIT - 1, 4, 0, 4};
     const size_t four[] = {4}, three[] = {3};
     const CONTOURS square = {TEST(subject_at), 8, four, 1}, bad = {TEST(subject_at), 8, three, 1};
     const CONTOURS far = {beyond, 8, four, 1}, none = {NULL, 0, NULL, 0};
     TEST(room) room;
-    CHECK(TEST(asked)(&room, 7, 4, &ogc, &bad, &far) == POLYOVER_BAD_RULE);
+    CHECK(TEST(asked)(&room, 7, 4, &touching, &bad, &far) == POLYOVER_BAD_RULE);
     CHECK(TEST(asked)(&room, UINT32_MAX, 0, &by_default, &square, &square) == POLYOVER_BAD_RULE);
-    CHECK(TEST(asked)(&room, 6, 4, &ogc, &bad, &far) == POLYOVER_BAD_FILL);
+    CHECK(TEST(asked)(&room, 6, 4, &touching, &bad, &far) == POLYOVER_BAD_FILL);
     CHECK(TEST(asked)(&room, 6, 3, &direction, &bad, &far) == POLYOVER_BAD_OPTION);
     CHECK(TEST(asked)(&room, 6, 3, &keep, &bad, &far) == POLYOVER_BAD_OPTION);
-    CHECK(TEST(asked)(&room, 6, 3, &ogc, &bad, &far) == POLYOVER_BAD_OPTION);
+    CHECK(TEST(asked)(&room, 6, 3, &touching, &bad, &far) == POLYOVER_BAD_OPTION);
+    CHECK(TEST(asked)(&room, 6, 3, &solver, &bad, &far) == POLYOVER_BAD_OPTION);
+    CHECK(TEST(asked)(&room, 6, 3, NULL, &bad, &far) == POLYOVER_BAD_ENDS);
     CHECK(TEST(asked)(&room, 6, 3, &by_default, &bad, &far) == POLYOVER_BAD_ENDS);
     CHECK(TEST(asked)(&room, 6, 3, &by_default, &far, &bad) == POLYOVER_OUT_OF_RANGE);
     CHECK(TEST(asked)(&room, 6, 3, &by_default, &square, &bad) == POLYOVER_BAD_ENDS);
@@ -174,12 +177,14 @@ static void TEST(refusals)(void) {
 }
 
 static void TEST(options)(void) {
-    /* a square with a point on an edge, and two squares that touch in a corner of a hole */
-    const NUMBER longer[] = {0, 0, 2, 0, 4, 0, 4, 4, 0, 4};
-    const NUMBER holes[] = {0, 0, 9, 0, 9, 9, 0, 9, 2, 2, 2, 4, 4, 4, 4, 2, 4, 4, 4, 6, 6, 6, 6, 4};
-    const size_t five[] = {5}, three[] = {4, 8, 12};
-    const CONTOURS square = {longer, 10, five, 1}, none = {NULL, 0, NULL, 0}, touching = {holes, 24, three, 3};
-    const OPTIONS by_default = {0}, keep = {.keep = 1}, ogc = {.ogc = 1}, large = SMALLEST(17), equal = SMALLEST(16);
+    /* a square with a point on an edge, and one with a hole that touches its left side */
+    const NUMBER longer[] = {0, 0, 2, 0, 4, 0, 4, 4, 0, 4}, holed[] = {0, 0, 6, 0, 6, 6, 0, 6, 0, 3, 2, 4, 2, 2};
+    const NUMBER valid[] = {0, 0, 6, 0, 6, 6, 0, 6, 0, 3, 2, 4, 2, 2};
+    const NUMBER twice[] = {0, 3, 0, 0, 6, 0, 6, 6, 0, 6, 0, 3, 2, 4, 2, 2};
+    const size_t five[] = {5}, two[] = {4, 7};
+    const CONTOURS square = {longer, 10, five, 1}, none = {NULL, 0, NULL, 0}, touched = {holed, 14, two, 2};
+    const OPTIONS by_default = {0}, keep = {.keep = 1}, touching = {.touching = 1};
+    const OPTIONS large = SMALLEST(17), equal = SMALLEST(16);
     TEST(room) room;
     CHECK(TEST(asked)(&room, POLYOVER_SUBJECT, POLYOVER_NON_ZERO, &by_default, &square, &none) == POLYOVER_OK);
     CHECK(TEST(has_counts)(&room, 8, 1, 1));
@@ -190,8 +195,12 @@ static void TEST(options)(void) {
     /* (input points on one line are dropped all the same) */
     CHECK(TEST(asked)(&room, POLYOVER_SUBJECT, POLYOVER_NON_ZERO, &keep, &square, &none) == POLYOVER_OK);
     CHECK(TEST(has_counts)(&room, 8, 1, 1));
-    CHECK(TEST(asked)(&room, POLYOVER_SUBJECT, POLYOVER_NON_ZERO, &ogc, &touching, &none) == POLYOVER_OK);
-    CHECK(TEST(has_counts)(&room, 24, 3, 1));
+    CHECK(TEST(asked)(&room, POLYOVER_SUBJECT, POLYOVER_EVEN_ODD, &by_default, &touched, &none) == POLYOVER_OK);
+    CHECK(TEST(has_counts)(&room, 14, 2, 1) && memcmp(room.coordinates, valid, sizeof valid) == 0);
+    CHECK(TEST(asked)(&room, POLYOVER_SUBJECT, POLYOVER_EVEN_ODD, NULL, &touched, &none) == POLYOVER_OK);
+    CHECK(TEST(has_counts)(&room, 14, 2, 1) && memcmp(room.coordinates, valid, sizeof valid) == 0);
+    CHECK(TEST(asked)(&room, POLYOVER_SUBJECT, POLYOVER_EVEN_ODD, &touching, &touched, &none) == POLYOVER_OK);
+    CHECK(TEST(has_counts)(&room, 16, 1, 1) && memcmp(room.coordinates, twice, sizeof twice) == 0);
 }
 
 static polyover_status TEST(simplified)(TEST(room) *room, polyover_fill fill, const OPTIONS *options,
@@ -209,12 +218,15 @@ static void TEST(simplifying)(void) {
     const size_t four[] = {4}, three[] = {3};
     const CONTOURS square = {TEST(subject_at), 8, four, 1}, cross = {crossing, 8, four, 1}, far = {beyond, 6, three, 1};
     const CONTOURS bad = {crossing, 8, three, 1};
-    const OPTIONS by_default = {0}, clockwise = {.direction = 1}, unknown = {.direction = 2}, large = SMALLEST(17);
+    const OPTIONS by_default = {0}, clockwise = {.direction = 1}, large = SMALLEST(17);
+    const OPTIONS unknown[] = {{.direction = 2}, {.keep = 2}, {.touching = 2}, {.solver = 2}};
     TEST(room) room;
     CHECK(TEST(simplified)(&room, POLYOVER_NON_ZERO, &by_default, &square, 64) == POLYOVER_OK);
     CHECK(TEST(has_counts)(&room, 8, 1, 1));
     CHECK(memcmp(room.coordinates, TEST(subject_at), 8 * sizeof(NUMBER)) == 0);
     CHECK(room.contour_ends[0] == 4 && room.shape_ends[0] == 1);
+    CHECK(TEST(simplified)(&room, POLYOVER_NON_ZERO, NULL, &square, 64) == POLYOVER_OK);
+    CHECK(memcmp(room.coordinates, TEST(subject_at), 8 * sizeof(NUMBER)) == 0);
     CHECK(TEST(simplified)(&room, POLYOVER_NON_ZERO, &clockwise, &square, 64) == POLYOVER_OK);
     CHECK(TEST(has_counts)(&room, 8, 1, 1));
     CHECK(memcmp(room.coordinates, TEST(subject_at), 8 * sizeof(NUMBER)) != 0);
@@ -226,9 +238,12 @@ static void TEST(simplifying)(void) {
     CHECK(TEST(has_counts)(&room, 12, 2, 2));
     CHECK(TEST(simplified)(&room, POLYOVER_NON_ZERO, &by_default, &cross, 11) == POLYOVER_TOO_SMALL);
     CHECK(TEST(has_counts)(&room, 12, 2, 2));
-    CHECK(TEST(simplified)(&room, 4, &unknown, &bad, 64) == POLYOVER_BAD_FILL);
-    CHECK(TEST(simplified)(&room, 3, &unknown, &bad, 64) == POLYOVER_BAD_OPTION);
+    for (size_t at = 0; at < 4; at++) {
+        CHECK(TEST(simplified)(&room, 4, &unknown[at], &bad, 64) == POLYOVER_BAD_FILL);
+        CHECK(TEST(simplified)(&room, 3, &unknown[at], &bad, 64) == POLYOVER_BAD_OPTION);
+    }
     CHECK(TEST(simplified)(&room, 3, &by_default, &bad, 64) == POLYOVER_BAD_ENDS);
+    CHECK(TEST(simplified)(&room, 3, NULL, &bad, 64) == POLYOVER_BAD_ENDS);
     CHECK(TEST(simplified)(&room, 3, &by_default, &far, 64) == POLYOVER_OUT_OF_RANGE);
 }
 
@@ -242,6 +257,10 @@ static void TEST(simplifying)(void) {
 
 #include "tests_of_links.h"
 
+#include "tests_of_solvers.h"
+
+#include "tests_of_results.h"
+
 static void TEST(all)(void) {
     TEST(ranges)();
     TEST(ends)();
@@ -252,6 +271,7 @@ static void TEST(all)(void) {
     TEST(options)();
     TEST(simplifying)();
     TEST(relations)();
+    TEST(small_triangles)();
     TEST(relating_refused)();
     TEST(locations)();
     TEST(locating_refused)();
@@ -264,4 +284,8 @@ static void TEST(all)(void) {
     TEST(clip_statuses)();
     TEST(hierarchies)();
     TEST(hierarchy_statuses)();
+    TEST(solvers)();
+    TEST(results)();
+    TEST(results_by_default)();
+    TEST(results_refused)();
 }

@@ -3,8 +3,8 @@
  * What each call promises is proved of the Rattle code behind it (crates/polyover_c); docs/C.md says how to build it.
  *
  * Coordinates are whole numbers, x to the right and y up, x before y in each array: a point takes two items, and each
- * `coordinate_count` counts numbers. The coordinate range is from -4611686018427387903 to 4611686018427387903; in the
- * calls whose names end in _32, from -1073741823 to 1073741823.
+ * `coordinate_count` counts numbers. The coordinate range is from POLYOVER_COORDINATE_MIN to POLYOVER_COORDINATE_MAX;
+ * in the calls whose names end in _32, from POLYOVER_COORDINATE_MIN_32 to POLYOVER_COORDINATE_MAX_32.
  *
  * A contour is closed by the edge from its last point to its first one. `ends` holds for each contour, in order, how
  * many points there are up to its end, those of the contours before it included: no item is below the one before it,
@@ -13,9 +13,10 @@
  * Points of a contour on one line with their two neighbours are dropped, one by one, before its edges are made, in all
  * calls but `polyover_in_range`, `polyover_resolved` and `polyover_locate`.
  *
- * All arrays and structs are the caller's; nothing is kept after a call, and nothing is to be freed. Each array behind
- * a `const` is only read. An array of length 0 may be a null pointer, a struct may not. What a call writes to lies
- * apart from all else that it is given.
+ * All arrays and structs are the caller's, and nothing is kept after a call; only what a `polyover_result` holds is
+ * to be freed. Each array behind a `const` is only read. An array of length 0 may be a null pointer, and so may
+ * options, for which the default ones are taken then; no other struct may be. What a call writes to lies apart from
+ * all else that it is given.
  *
  * No call keeps a state, so calls on several threads are safe, as long as nothing is written to what one of them reads.
  * Memory is taken by malloc, realloc and free, so no call is for a signal handler.
@@ -28,9 +29,15 @@
 
 /* The version: docs/C.md says what changes when it does. */
 #define POLYOVER_VERSION_MAJOR 0
-#define POLYOVER_VERSION_MINOR 1
+#define POLYOVER_VERSION_MINOR 2
 #define POLYOVER_VERSION_PATCH 0
-#define POLYOVER_VERSION "0.1.0"
+#define POLYOVER_VERSION "0.2.0"
+
+/* The ends of the coordinate range. */
+#define POLYOVER_COORDINATE_MAX INT64_C(4611686018427387903)
+#define POLYOVER_COORDINATE_MIN (-POLYOVER_COORDINATE_MAX)
+#define POLYOVER_COORDINATE_MAX_32 INT32_C(1073741823)
+#define POLYOVER_COORDINATE_MIN_32 (-POLYOVER_COORDINATE_MAX_32)
 
 #ifdef __cplusplus
 extern "C" {
@@ -48,9 +55,9 @@ enum {
     POLYOVER_NOT_RESOLVED = 4, /* two steps of a contour share a point that is not an end of both */
     POLYOVER_BAD_RULE = 5,     /* no overlay rule has the number */
     POLYOVER_BAD_FILL = 6,     /* no fill rule has the number */
-    POLYOVER_BAD_OPTION = 7,   /* a direction, keep, ogc, invert or boundary that is neither 0 nor 1 */
-    /* edges still meet in points that are no ends of both after 64 rounds of splitting: some that cross very flatly do;
-     * with each coordinate doubled, or times more, they may be settled */
+    POLYOVER_BAD_OPTION = 7,   /* a direction, keep, touching, invert, boundary or solver that is neither 0 nor 1 */
+    /* after 64 rounds of splitting edges still meet in points that are no ends of both: some that cross very flatly do.
+     * It comes of POLYOVER_ROUNDS alone; POLYOVER_SNAPPED splits these edges too. */
     POLYOVER_NOT_SETTLED = 8,
     /* the edges weigh 2^31 or more: those of contours and lines, or the pieces that a round of splitting gives */
     POLYOVER_TOO_MANY_EDGES = 9,
@@ -78,6 +85,20 @@ enum {
     POLYOVER_NEGATIVE = 3  /* windings below 0 */
 };
 
+/* How edges are split where they meet, until they meet in ends alone. Either way, edges that meet in whole points
+ * alone, or overlap, are split just there, and nothing moves. */
+typedef uint32_t polyover_solver;
+enum {
+    /* The default: by snap rounding. Each edge is led, once, through the whole points near it that are an end of an
+     * edge, or nearest to a point in which edges meet. It moves at most 1/2 in x and in y. This always ends:
+     * POLYOVER_NOT_SETTLED never comes. */
+    POLYOVER_SNAPPED = 0,
+    /* In rounds, as version 0.1 did: each cuts edges in the points where they meet, rounded, and moves them at most 1/2
+     * in x and in y. Where 64 rounds leave edges that still meet elsewhere, POLYOVER_NOT_SETTLED comes. That may cost
+     * much: 75 edges, copies of one pentagon moved by 1 to 4 units, take 11 seconds and 137 MB. */
+    POLYOVER_ROUNDS = 1
+};
+
 /* How a subject and a clip lie to each other: a bit for each relation. The closed region of one is what it fills, with
  * the edges on a side of which it does. */
 typedef uint32_t polyover_relations;
@@ -95,6 +116,7 @@ enum {
 };
 
 /* Where a point lies. */
+typedef uint8_t polyover_location;
 enum {
     POLYOVER_OUTSIDE = 0, /* on no edge, and outside */
     POLYOVER_INSIDE = 1,  /* on no edge, and inside */
@@ -109,12 +131,13 @@ enum {
     POLYOVER_CLIP_RIGHT = 8
 };
 
-/* How an answer looks. All zero is the default. */
+/* How an answer looks, and how edges are split. All zero is the default, for which a null pointer stands too: it gives
+ * valid polygons, as OGC defines them. */
 typedef struct {
     uint32_t direction; /* of outlines: 0 counter-clockwise, 1 clockwise; holes run the other way */
     uint32_t keep;      /* 1: points of the answer on one line with their two neighbours are kept; 0: dropped */
-    uint32_t ogc;       /* 1: no contour visits a point twice; 0: it may */
-    uint32_t reserved;  /* not read */
+    uint32_t touching;  /* 0: no contour visits a point twice, as in valid polygons; 1: it may */
+    polyover_solver solver;
     /* contours of a smaller area than min_area_high * 2^64 + min_area_low, in squared units, are left out, and so are
      * holes for which no shape is left; 0 keeps all */
     uint64_t min_area_high;
@@ -125,8 +148,8 @@ typedef struct {
 typedef struct {
     uint32_t direction;
     uint32_t keep;
-    uint32_t ogc;
-    uint32_t reserved;
+    uint32_t touching;
+    polyover_solver solver;
     uint64_t min_area;
 } polyover_options_32;
 
@@ -158,10 +181,12 @@ typedef struct {
 typedef polyover_contours polyover_paths;
 typedef polyover_contours_32 polyover_paths_32;
 
-/* Which parts of lines a clip keeps. All zero keeps those that lie inside the shape, which it fills on both sides. */
+/* Which parts of lines a clip keeps, and how edges are split. All zero is the default, for which a null pointer stands
+ * too: it keeps the parts that lie inside the shape, which it fills on both sides. */
 typedef struct {
     uint32_t invert;   /* 1: those outside, which it fills on no side; 0: those inside */
     uint32_t boundary; /* 1: also those on the boundary, which it fills on one side; 0: not these */
+    polyover_solver solver;
 } polyover_clip_options;
 
 /* How much a clip leaves: what its arrays hold, or have to. */
@@ -176,6 +201,10 @@ typedef struct {
     size_t parent_contour; /* the hole: its place among the contours of all shapes */
     size_t child_shape;    /* the shape that lies in it */
 } polyover_link;
+
+/* A text in English that says what the status means, and one for numbers that are no status. It is never null, and is
+ * not to be freed. */
+const char *polyover_status_text(polyover_status status);
 
 /* 1 if each coordinate is in the coordinate range, else 0. It takes no memory. */
 uint32_t polyover_in_range(const int64_t *coordinates, size_t coordinate_count);
@@ -200,7 +229,7 @@ polyover_status polyover_resolved_32(const polyover_contours_32 *contours);
  * Tested first, in this order: POLYOVER_BAD_RULE, POLYOVER_BAD_FILL, POLYOVER_BAD_OPTION; then of the subject, and then
  * of the clip, POLYOVER_BAD_ENDS and POLYOVER_OUT_OF_RANGE. Each of these comes exactly where it must, and no other
  * status in its place. Edges that meet in a point that is not whole are cut at a whole point at most 1/2 away in x and
- * in y. POLYOVER_NOT_SETTLED, POLYOVER_TOO_MANY_EDGES and POLYOVER_MEMORY are left.
+ * in y. POLYOVER_NOT_SETTLED, by POLYOVER_ROUNDS alone, POLYOVER_TOO_MANY_EDGES and POLYOVER_MEMORY are left.
  */
 polyover_status polyover_overlay(polyover_rule rule, polyover_fill fill, const polyover_options *options,
                                  const polyover_contours *subject, const polyover_contours *clip,
@@ -226,19 +255,20 @@ polyover_status polyover_simplify_32(polyover_fill fill, const polyover_options_
                                      size_t coordinate_room, size_t *contour_ends, size_t contour_room,
                                      size_t *shape_ends, size_t shape_room, polyover_counts *counts);
 
-/* How the subject and the clip lie to each other under the fill rule. On POLYOVER_OK *relations is the sum of the bits
- * of the relations that hold; after any other status it stays.
+/* How the subject and the clip lie to each other under the fill rule, split by the solver. On POLYOVER_OK *relations is
+ * the sum of the bits of the relations that hold; after any other status it stays.
  *
  * All are told of one arrangement of the contours, in which edges that meet are cut as by `polyover_overlay`, at points
  * that are rounded: so of shapes as small as a few units they may differ from the relations of the contours as they
  * are. Of (1, 2), (2, 0), (3, 2) and (0, 0), (3, 2), (2, 1) POLYOVER_DISJOINT is told, though (2, 1) is inside the
- * first one; with each coordinate doubled it is not. To come nearer, multiply all coordinates by a power of two.
+ * first one; with each coordinate times 4 it is not. To come nearer, multiply all coordinates by a power of two.
  *
- * Tested first, in this order: POLYOVER_BAD_FILL; then of the subject, and then of the clip, POLYOVER_BAD_ENDS and
- * POLYOVER_OUT_OF_RANGE. POLYOVER_NOT_SETTLED, POLYOVER_TOO_MANY_EDGES and POLYOVER_MEMORY are left. */
-polyover_status polyover_relate(polyover_fill fill, const polyover_contours *subject, const polyover_contours *clip,
-                                polyover_relations *relations);
-polyover_status polyover_relate_32(polyover_fill fill, const polyover_contours_32 *subject,
+ * Tested first, in this order: POLYOVER_BAD_FILL; POLYOVER_BAD_OPTION, for the solver; then of the subject, and then of
+ * the clip, POLYOVER_BAD_ENDS and POLYOVER_OUT_OF_RANGE. POLYOVER_NOT_SETTLED, by POLYOVER_ROUNDS alone,
+ * POLYOVER_TOO_MANY_EDGES and POLYOVER_MEMORY are left. */
+polyover_status polyover_relate(polyover_fill fill, polyover_solver solver, const polyover_contours *subject,
+                                const polyover_contours *clip, polyover_relations *relations);
+polyover_status polyover_relate_32(polyover_fill fill, polyover_solver solver, const polyover_contours_32 *subject,
                                    const polyover_contours_32 *clip, polyover_relations *relations);
 
 /* Where each of the points, x before y in `coordinates`, lies in the contours, which are one shape: a point is inside
@@ -254,12 +284,12 @@ polyover_status polyover_relate_32(polyover_fill fill, const polyover_contours_3
  * there are more points than `location_room`. Then memory is taken: POLYOVER_NOT_RESOLVED and POLYOVER_MEMORY are left.
  */
 polyover_status polyover_locate(const polyover_contours *shape, const int64_t *coordinates, size_t coordinate_count,
-                                uint8_t *locations, size_t location_room, size_t *unresolved);
+                                polyover_location *locations, size_t location_room, size_t *unresolved);
 polyover_status polyover_locate_32(const polyover_contours_32 *shape, const int32_t *coordinates,
-                                   size_t coordinate_count, uint8_t *locations, size_t location_room,
+                                   size_t coordinate_count, polyover_location *locations, size_t location_room,
                                    size_t *unresolved);
 
-/* The edges of the arrangement of the subject and the clip: all edges of both, cut where they meet (as by
+/* The edges of the arrangement of the subject and the clip: all edges of both, cut by the solver where they meet (as by
  * `polyover_overlay`), of equal ones one, in order by their first and then by their second end. The first end is the
  * smaller one, by x and then by y. Edges are left out whose counts are zero: steps there and back.
  *
@@ -269,10 +299,10 @@ polyover_status polyover_locate_32(const polyover_contours_32 *shape, const int3
  * comes exactly where one of the arrays has no room for that: they stay as they are, and *count tells what it takes.
  * After any other status nothing is changed, *count neither. What is tested first, and what is left, is as of
  * `polyover_relate`. */
-polyover_status polyover_edges(polyover_fill fill, const polyover_contours *subject, const polyover_contours *clip,
-                               int64_t *coordinates, size_t coordinate_room, uint8_t *fills, size_t fill_room,
-                               size_t *count);
-polyover_status polyover_edges_32(polyover_fill fill, const polyover_contours_32 *subject,
+polyover_status polyover_edges(polyover_fill fill, polyover_solver solver, const polyover_contours *subject,
+                               const polyover_contours *clip, int64_t *coordinates, size_t coordinate_room,
+                               uint8_t *fills, size_t fill_room, size_t *count);
+polyover_status polyover_edges_32(polyover_fill fill, polyover_solver solver, const polyover_contours_32 *subject,
                                   const polyover_contours_32 *clip, int32_t *coordinates, size_t coordinate_room,
                                   uint8_t *fills, size_t fill_room, size_t *count);
 
@@ -297,18 +327,20 @@ polyover_status polyover_hierarchy_32(polyover_rule rule, polyover_fill fill, co
                                       polyover_link *links, size_t link_room, polyover_counts *counts,
                                       size_t *link_count);
 
-/* The shapes into which open paths, `lines`, cut what the contours of the subject fill. A shape is its outline,
- * counter-clockwise, and then its holes, clockwise. Points on one line where edges were cut stay in them. A part of a
- * line that ends inside cuts nothing: it goes, and the point in which it meets an edge stays. A path of one point or
- * none is none.
+/* The shapes into which open paths, `lines`, cut what the contours of the subject fill, split by the solver. A shape is
+ * its outline, counter-clockwise, and then its holes, clockwise. Points on one line where edges were cut stay in them.
+ * A part of a line that ends inside cuts nothing: it goes, and the point in which it meets an edge stays. A path of one
+ * point or none is none.
  *
- * Arrays, counts and statuses are as in `polyover_overlay`. Tested first, in this order: POLYOVER_BAD_FILL; then of the
- * subject, and then of the lines, POLYOVER_BAD_ENDS and POLYOVER_OUT_OF_RANGE. POLYOVER_NOT_SETTLED,
- * POLYOVER_TOO_MANY_EDGES, which counts the steps of lines too, POLYOVER_TOO_SMALL and POLYOVER_MEMORY are left. */
-polyover_status polyover_slice(polyover_fill fill, const polyover_contours *subject, const polyover_paths *lines,
-                               int64_t *coordinates, size_t coordinate_room, size_t *contour_ends,
-                               size_t contour_room, size_t *shape_ends, size_t shape_room, polyover_counts *counts);
-polyover_status polyover_slice_32(polyover_fill fill, const polyover_contours_32 *subject,
+ * Arrays, counts and statuses are as in `polyover_overlay`. Tested first, in this order: POLYOVER_BAD_FILL;
+ * POLYOVER_BAD_OPTION, for the solver; then of the subject, and then of the lines, POLYOVER_BAD_ENDS and
+ * POLYOVER_OUT_OF_RANGE. POLYOVER_NOT_SETTLED, by POLYOVER_ROUNDS alone, POLYOVER_TOO_MANY_EDGES, which counts the
+ * steps of lines too, POLYOVER_TOO_SMALL and POLYOVER_MEMORY are left. */
+polyover_status polyover_slice(polyover_fill fill, polyover_solver solver, const polyover_contours *subject,
+                               const polyover_paths *lines, int64_t *coordinates, size_t coordinate_room,
+                               size_t *contour_ends, size_t contour_room, size_t *shape_ends, size_t shape_room,
+                               polyover_counts *counts);
+polyover_status polyover_slice_32(polyover_fill fill, polyover_solver solver, const polyover_contours_32 *subject,
                                   const polyover_paths_32 *lines, int32_t *coordinates, size_t coordinate_room,
                                   size_t *contour_ends, size_t contour_room, size_t *shape_ends, size_t shape_room,
                                   polyover_counts *counts);
@@ -324,9 +356,11 @@ polyover_status polyover_slice_32(polyover_fill fill, const polyover_contours_32
  * them stay. POLYOVER_TOO_SMALL comes exactly where one of the arrays has no room for that: they stay as they are, and
  * counts tells what it takes. After any other status nothing is changed, counts neither.
  *
- * Tested first, in this order: POLYOVER_BAD_FILL; POLYOVER_BAD_OPTION, for an invert or boundary that is neither 0 nor
- * 1; then of the shape, and then of the lines, POLYOVER_BAD_ENDS and POLYOVER_OUT_OF_RANGE. POLYOVER_NOT_SETTLED,
- * POLYOVER_TOO_MANY_EDGES, which counts the steps of lines too, and POLYOVER_MEMORY are left. */
+ * Tested first, in this order: POLYOVER_BAD_FILL; POLYOVER_BAD_OPTION, for an invert, boundary or solver that is
+ * neither 0 nor 1; then of the shape, and then of the lines, POLYOVER_BAD_ENDS and POLYOVER_OUT_OF_RANGE.
+ * POLYOVER_NOT_SETTLED, by POLYOVER_ROUNDS alone, POLYOVER_TOO_MANY_EDGES, which counts the steps of lines too, and
+ * POLYOVER_MEMORY are left.
+ */
 polyover_status polyover_clip(polyover_fill fill, const polyover_clip_options *options, const polyover_contours *shape,
                               const polyover_paths *lines, int64_t *coordinates, size_t coordinate_room,
                               size_t *path_ends, size_t path_room, polyover_path_counts *counts);
@@ -334,6 +368,78 @@ polyover_status polyover_clip_32(polyover_fill fill, const polyover_clip_options
                                  const polyover_contours_32 *shape, const polyover_paths_32 *lines,
                                  int32_t *coordinates, size_t coordinate_room, size_t *path_ends, size_t path_room,
                                  polyover_path_counts *counts);
+
+/* An answer in memory that the library takes, so that nothing has to be known of its size, and one call gives it. All
+ * fields are only read. An array that has no part in the answer has no items; the pointer of an array without items is
+ * not to be read. `polyover_free` gives the memory back. */
+typedef struct {
+    const int64_t *coordinates; /* x before y; of edges, x and y of the first and of the second end of each */
+    size_t coordinate_count;    /* it counts numbers */
+    const size_t *contour_ends; /* how many points there are up to the end of each contour; of a clip, of each path */
+    size_t contour_count;
+    const size_t *shape_ends; /* how many contours there are up to the end of each shape */
+    size_t shape_count;
+    const polyover_link *links; /* which shapes lie in which holes */
+    size_t link_count;
+    const uint8_t *fills; /* which sides of each edge are filled */
+    size_t fill_count;
+} polyover_result;
+
+/* The same at 32 bits. */
+typedef struct {
+    const int32_t *coordinates;
+    size_t coordinate_count;
+    const size_t *contour_ends;
+    size_t contour_count;
+    const size_t *shape_ends;
+    size_t shape_count;
+    const polyover_link *links;
+    size_t link_count;
+    const uint8_t *fills;
+    size_t fill_count;
+} polyover_result_32;
+
+/* The calls above that write an answer into arrays, with a result in the place of arrays and counts. On POLYOVER_OK
+ * *result is that answer, number for number; after any other status none of its arrays has an item. So it may always be
+ * freed. What *result was before is neither read nor freed. Statuses and the order in which they are tested are those
+ * of the call with arrays, but for POLYOVER_TOO_SMALL, which does not come. */
+polyover_status polyover_overlay_result(polyover_rule rule, polyover_fill fill, const polyover_options *options,
+                                        const polyover_contours *subject, const polyover_contours *clip,
+                                        polyover_result *result);
+polyover_status polyover_overlay_result_32(polyover_rule rule, polyover_fill fill, const polyover_options_32 *options,
+                                           const polyover_contours_32 *subject, const polyover_contours_32 *clip,
+                                           polyover_result_32 *result);
+polyover_status polyover_simplify_result(polyover_fill fill, const polyover_options *options,
+                                         const polyover_contours *contours, polyover_result *result);
+polyover_status polyover_simplify_result_32(polyover_fill fill, const polyover_options_32 *options,
+                                            const polyover_contours_32 *contours, polyover_result_32 *result);
+polyover_status polyover_hierarchy_result(polyover_rule rule, polyover_fill fill, const polyover_options *options,
+                                          const polyover_contours *subject, const polyover_contours *clip,
+                                          polyover_result *result);
+polyover_status polyover_hierarchy_result_32(polyover_rule rule, polyover_fill fill,
+                                             const polyover_options_32 *options, const polyover_contours_32 *subject,
+                                             const polyover_contours_32 *clip, polyover_result_32 *result);
+polyover_status polyover_slice_result(polyover_fill fill, polyover_solver solver, const polyover_contours *subject,
+                                      const polyover_paths *lines, polyover_result *result);
+polyover_status polyover_slice_result_32(polyover_fill fill, polyover_solver solver,
+                                         const polyover_contours_32 *subject, const polyover_paths_32 *lines,
+                                         polyover_result_32 *result);
+polyover_status polyover_clip_result(polyover_fill fill, const polyover_clip_options *options,
+                                     const polyover_contours *shape, const polyover_paths *lines,
+                                     polyover_result *result);
+polyover_status polyover_clip_result_32(polyover_fill fill, const polyover_clip_options *options,
+                                        const polyover_contours_32 *shape, const polyover_paths_32 *lines,
+                                        polyover_result_32 *result);
+polyover_status polyover_edges_result(polyover_fill fill, polyover_solver solver, const polyover_contours *subject,
+                                      const polyover_contours *clip, polyover_result *result);
+polyover_status polyover_edges_result_32(polyover_fill fill, polyover_solver solver,
+                                         const polyover_contours_32 *subject, const polyover_contours_32 *clip,
+                                         polyover_result_32 *result);
+
+/* Gives back the memory of a result, by free, and leaves it without items: to free it twice does no harm. A null
+ * pointer is taken, and so is a result that is all zero. */
+void polyover_free(polyover_result *result);
+void polyover_free_32(polyover_result_32 *result);
 
 #ifdef __cplusplus
 }

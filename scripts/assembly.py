@@ -1,7 +1,7 @@
 #!/usr/bin/env python3
 """Leaves the assembly of the library for a processor, which any C compiler for it assembles (c/library.mk).
 
-    assembly.py FILE.s [--processor x86_64|aarch64] [--proved]
+    assembly.py FILE.s [--processor x86_64|aarch64|wasm64] [--proved]
 
 It is made of the proved module, where `.ci/library` has left that and nothing is newer; else of one without a proof,
 which takes a minute more (unproved.py). With --proved the library is proved first if it is not, some 40 minutes. It
@@ -23,35 +23,56 @@ CHECKED = ROOT / "out" / "checked" / f"{LIBRARY}.bc"
 PROVED, UNPROVED = "of the proved module", "of an unproved module"
 
 
+QUOTED = re.compile(r'@"([^"]+)"')
+
+
+def plainly_named(text: str) -> str:
+    """The text of a module with numbers in the place of names that take quotes."""
+    numbers: dict[str, int] = {}
+    return QUOTED.sub(lambda name: f"@it.{numbers.setdefault(name[1], len(numbers))}", text)
+
+
 @dataclass(frozen=True)
 class Processor:
-    """What a module says of the processor that it is compiled for; the least one of its kind."""
+    """What a module says of the processor that it is compiled for; the least one of its kind. Some assemblers read
+    plain names alone."""
 
     triple: str
     layout: str
-    cpu: str
+    least: str
+    code: tuple[str, ...] = ("-fPIC",)
+    is_plain: bool = False
 
     def flags(self) -> tuple[str, ...]:
         """The flags of the toolchain's compiler."""
-        return f"--target={self.triple}", "--no-default-config", f"-march={self.cpu}", "-x", "ir"
+        return f"--target={self.triple}", "--no-default-config", self.least, "-x", "ir"
 
     def of(self, text: str) -> str:
         """The text of a module, for this processor."""
         text = re.sub(r'^target datalayout = ".*"$', f'target datalayout = "{self.layout}"', text, 1, re.M)
         text = re.sub(r'^target triple = ".*"$', f'target triple = "{self.triple}"', text, 1, re.M)
-        return re.sub(r'"target-(?:cpu|features)"="[^"]*" ?', "", text)
+        text = re.sub(r'"target-(?:cpu|features)"="[^"]*" ?', "", text)
+        return plainly_named(text) if self.is_plain else text
 
 
 PROCESSORS = {
     "x86_64": Processor(
         "x86_64-unknown-linux-gnu",
         "e-m:e-p270:32:32-p271:32:32-p272:64:64-i64:64-i128:128-f80:128-n8:16:32:64-S128",
-        "x86-64",
+        "-march=x86-64",
     ),
     "aarch64": Processor(
         "aarch64-unknown-linux-gnu",
         "e-m:e-p270:32:32-p271:32:32-p272:64:64-i8:8:32-i16:16:32-i64:64-i128:128-n32:64-S128-Fn32",
-        "armv8-a",
+        "-march=armv8-a",
+    ),
+    # (WebAssembly, for js/Makefile)
+    "wasm64": Processor(
+        "wasm64-unknown-unknown",
+        "e-m:e-p:64:64-p10:8:8-p20:8:8-i64:64-i128:128-n32:64-S128-ni:1:10:20",
+        "-mcpu=generic",
+        (),
+        is_plain=True,
     ),
 }
 
@@ -106,7 +127,8 @@ def leave(file: Path, processor: str, is_proved: bool) -> None:
         leave_library(CHECKED)
     text = text_of(MODULE) if made_of == PROVED else library_text(CHECKED)
     file.parent.mkdir(parents=True, exist_ok=True)
-    compiled(text, PROCESSORS[processor], file, "-fPIC", "-ffunction-sections", "-fno-addrsig", "-S")
+    target = PROCESSORS[processor]
+    compiled(text, target, file, *target.code, "-ffunction-sections", "-fno-addrsig", "-S")
     file.write_text(head + file.read_text())
 
 

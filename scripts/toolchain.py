@@ -44,7 +44,7 @@ def text_of(module: Path) -> str:
 
 
 def link_all(source: Path, target: Path, *others: str) -> None:
-    """A folder of links to what another one holds, but for the names of `others`."""
+    """Makes a folder of links to the entries of `source`, but for those named in `others`."""
     target.mkdir()
     for each in source.iterdir():
         if each.name not in others:

@@ -1,5 +1,5 @@
 #!/usr/bin/env python3
-"""The version, which stands in include/polyover.h; fails where another place has another one."""
+"""The version, which stands in include/polyover.h; fails where another place differs."""
 
 import re
 import sys
@@ -8,6 +8,8 @@ from toolchain import ROOT
 
 PLACES = {
     "python/polyover/__init__.py": r'^__version__ = "(.*)"$',
+    "js/package.json": r'^  "version": "(.*)",$',
+    "c/CMakeLists.txt": r"^find_package\(polyover (\S+) REQUIRED\)$",
     "include/polyover.h": r'^#define POLYOVER_VERSION "(.*)"$',
     "CHANGELOG.md": r"^## (.*)$",
 }

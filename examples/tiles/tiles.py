@@ -35,7 +35,7 @@ def answer_of(program, text):
 
 
 def answers_by_parallel(given, texts):
-    """The answers by GNU parallel, which runs so many programs at a time; inputs and answers are files."""
+    """The answers by GNU parallel, which runs `workers` programs at a time; inputs and answers are files."""
     words = ["parallel", "--will-cite", "--jobs", str(given.workers), "--halt", "now,fail=1", "--ungroup"]
     with tempfile.TemporaryDirectory() as folder:
         inputs = [Path(folder, str(place)) for place in range(len(texts))]
@@ -49,7 +49,7 @@ def answers_by_parallel(given, texts):
 
 
 def answers_by_dask(given, texts):
-    """The answers by the Dask cluster with this scheduler, or else by one of so many workers on this machine."""
+    """The answers by the Dask cluster with this scheduler, or else by `workers` processes on this machine."""
     return given.client.gather(given.client.map(functools.partial(answer_of, given.program), texts, pure=False))
 
 
@@ -127,7 +127,7 @@ def options():
     parser.add_argument("--rule", default="Intersect", help="the rule of `run overlay` (Intersect)")
     parser.add_argument("--fill", default="NonZero", help="what a file's contours fill (NonZero)")
     parser.add_argument("--engine", choices=ENGINES, default="parallel")
-    parser.add_argument("--workers", type=int, default=os.cpu_count(), metavar="N", help="so many runs at a time")
+    parser.add_argument("--workers", type=int, default=os.cpu_count(), metavar="N", help="number of runs at a time")
     parser.add_argument("--scheduler", metavar="ADDRESS", help="of a Dask cluster; without it one is started here")
     program = os.environ.get("POLYOVER_PROGRAM") or str(BUILT)
     parser.add_argument("--program", default=program, help="the path of polyover, on each worker")

@@ -9,7 +9,7 @@ from .reading import contours_of, lines_of
 from .scaled import Scaled
 from .shapes import Paths, Shapes
 
-__version__ = "0.1.0"
+__version__ = "0.2.0"
 
 __all__ = [
     "BadInput",

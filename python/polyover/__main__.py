@@ -11,10 +11,12 @@ from typing import Any, Callable, Sequence
 from . import runs
 from .answers import say, warnings_as_lines
 from .errors import PolyoverError
-from .files import STANDARD
+from .files import STANDARD, leave
+from .one_file import page_in_one
 from .picture import WIDTH
+from .play import page, serve
 from .running import run
-from .text import FILLS, RULES
+from .text import FILLS, RULES, SNAPPED, SOLVERS
 
 LEAST_WIDTH = 400
 EXAMPLES = {
@@ -75,6 +77,9 @@ def add_files(command: argparse.ArgumentParser, name: str) -> None:
     command.add_argument("--digits", type=digits_in, default=7, metavar="N", help=digits)
     fills = "which windings of rings count, as they run; else polygons cover what is in their outline and in no hole"
     command.add_argument("--fill", choices=list(FILLS), help=fills)
+    if name != "locate":
+        splits = "how edges are split: by snap rounding, which the library alone has, or in rounds (snapped)"
+        command.add_argument("--solver", choices=SOLVERS, default=SNAPPED, help=splits)
     skips = "leave out, and count, rings of less than three points and lines of less than two"
     command.add_argument("--skip-invalid", action="store_true", help=skips)
 
@@ -104,8 +109,26 @@ def add_options(commands: dict[str, argparse.ArgumentParser]) -> None:
 
 
 def run_program(_: argparse.Namespace) -> int:
-    """An input of the program on standard input, answered as the program does"""
+    """Answers an input of the program on standard input, as the program does"""
     return run()
+
+
+def run_play(given: argparse.Namespace) -> None:
+    """The page on which contours are drawn, served on this machine alone, or left as one file"""
+    if given.out:
+        leave([(page_in_one(page()), given.out)])
+    else:
+        serve(given.port)
+
+
+def add_play(commands: Any) -> None:
+    """The command for the page, and its words."""
+    about = {"help": run_play.__doc__, "description": f"{run_play.__doc__}."}
+    command = commands.add_parser("play", **about)
+    command.add_argument("--out", metavar="FILE", help="where the page goes, in one file that needs no server")
+    port = "where it is served; 0 for any port that is free (0)"
+    command.add_argument("--port", type=int, default=0, metavar="N", help=port)
+    command.set_defaults(run=run_play)
 
 
 def version() -> str:
@@ -131,6 +154,7 @@ def parsed(words: Sequence[str] | None) -> argparse.Namespace:
         add_answers(command, name)
     add_options(commands.choices)
     commands.add_parser("run", help=run_program.__doc__).set_defaults(run=run_program)
+    add_play(commands)
     return parser.parse_args(words)
 
 

@@ -1,4 +1,4 @@
-"""Each call as the program answers it."""
+"""Each call as the program answers it, which splits edges in rounds, whatever solver is named."""
 
 from __future__ import annotations
 
@@ -8,7 +8,7 @@ from .contour import double_area
 from .errors import NotResolved
 from .grid import misfit
 from .program import BadLine, answer
-from .text import FILLS, RELATIONS, RULES, coordinate, edges_in, lines_of, paths_in, shapes_in
+from .text import FILLS, RELATIONS, ROUNDS, RULES, coordinate, edges_in, lines_of, paths_in, shapes_in
 
 NAME = "program"
 
@@ -54,32 +54,32 @@ def simplify(subject: Any, fill: str, look: Any) -> list[Any]:
 def is_simple(contour: list[Any]) -> bool:
     """Whether no point comes twice, and the edges of the arrangement are the steps: none is left out or cut."""
     steps = {tuple(sorted(step)) for step in zip(contour, contour[1:] + contour[:1])}
-    return len(set(contour)) == len(contour) and steps == {edge[:2] for edge in edges([contour], (), "nonzero")}
+    return len(set(contour)) == len(contour) and steps == {edge[:2] for edge in edges([contour], (), "nonzero", ROUNDS)}
 
 
-def edges(subject: Any, clip: Any, fill: str) -> list[Any]:
+def edges(subject: Any, clip: Any, fill: str, _: str) -> list[Any]:
     """The edges of the arrangement."""
     return edges_in(asked_of_two(f"edges {FILLS[fill]}", subject, clip))
 
 
-def relate(subject: Any, clip: Any, fill: str) -> dict[str, bool]:
+def relate(subject: Any, clip: Any, fill: str, _: str) -> dict[str, bool]:
     """The truth of each relation."""
     told = asked_of_two(f"relate {FILLS[fill]}", subject, clip).split()
     return {name: told[2 * at + 1] == "true" for at, name in enumerate(RELATIONS)}
 
 
-def clip(shape: Any, lines: Any, fill: str, invert: bool, boundary: bool) -> list[Any]:
+def clip(shape: Any, lines: Any, fill: str, invert: bool, boundary: bool, _: str) -> list[Any]:
     """The parts of open paths that are kept."""
     chosen = " invert" * bool(invert) + " boundary" * bool(boundary)
     return paths_in(asked_of_lines(f"clip {FILLS[fill]}{chosen}", shape, lines))
 
 
-def slice(shape: Any, lines: Any, fill: str) -> list[Any]:  # pylint: disable=redefined-builtin
+def slice(shape: Any, lines: Any, fill: str, _: str) -> list[Any]:  # pylint: disable=redefined-builtin
     """The shapes into which open paths cut a shape."""
     return shapes_in(asked_of_lines(f"slice {FILLS[fill]}", shape, lines))[0]
 
 
-def tiles(shape: Any, width: int, height: int, fill: str) -> list[Any]:
+def tiles(shape: Any, width: int, height: int, fill: str, _: str) -> list[Any]:
     """The shapes into which the cells of a grid cut a shape."""
     try:
         return shapes_in(asked_of_lines(f"tiles {FILLS[fill]} {width} {height}", shape, []))[0]

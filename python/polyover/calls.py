@@ -11,30 +11,36 @@ from .contour import room_of, shifted
 from .errors import BadInput, NotSettled, PolyoverWarning
 from .flat import Flat, FlatShapes, is_whole_path
 from .shapes import Paths, Shapes
-from .text import FILLS, RULES, coordinate, known, whole
+from .text import FILLS, RULES, SNAPPED, SOLVERS, coordinate, known, whole
 from .told import Told
 
 AREA_LIMIT = 2**127 - 1
-# (by how many powers of two relations are told coarser where splitting does not settle)
+# (by how many powers of two relations are told coarser where rounds do not settle)
 COARSER = 8
 MORE = "members of # points beyond x and y are left out"
 
 
 class Look(NamedTuple):
-    """How the answer of an overlay looks."""
+    """How the answer of an overlay looks, and how its edges are split."""
 
     ogc: bool
     clockwise: bool
     keep: bool
     minimum_area: int
+    solver: str = SNAPPED
 
 
-def look_of(ogc: bool, clockwise: bool, keep: bool, minimum_area: Any) -> Look:
+def look_of(ogc: bool, clockwise: bool, keep: bool, minimum_area: Any, solver: str) -> Look:
     """How an answer looks by these options."""
     area = whole(minimum_area)
     if not 0 <= area <= AREA_LIMIT:
         raise BadInput(f"the minimum area {minimum_area} is not from 0 to {AREA_LIMIT}")
-    return Look(ogc, clockwise, keep, area)
+    return Look(ogc, clockwise, keep, area, solver_of(solver))
+
+
+def solver_of(solver: object) -> str:
+    """The name of a solver."""
+    return known(SOLVERS, solver, "solver")
 
 
 def asked(call: str) -> Any:
@@ -49,10 +55,11 @@ def backend(call: str = "overlay") -> str:
 
 def shapes_of(call: str, arrays: bool, *given: Any) -> Shapes | FlatShapes:
     """The shapes that a call answers, in lists or in arrays."""
-    answer = getattr(asked(call), call)
+    by = asked(call)
+    answer = getattr(by, call)
     if not arrays:
         return Shapes(answer(*given))
-    return answer(*given, by_library.flat_shapes) if by_library.can(call) else FlatShapes.of(answer(*given))
+    return answer(*given, by_library.flat_shapes) if by is by_library else FlatShapes.of(answer(*given))
 
 
 def flat_of(paths: list[Any]) -> Flat:
@@ -152,11 +159,15 @@ def overlay(
     clockwise: bool = False,
     keep: bool = False,
     minimum_area: int = 0,
+    solver: str = SNAPPED,
     arrays: bool = False,
 ) -> Any:
-    """The shapes round the region where the rules hold of two lists of contours: each its outline and its holes. With
-    `arrays` they are `FlatShapes`, in arrays."""
-    look = look_of(ogc, clockwise, keep, minimum_area)
+    """Returns the shapes round the region where the rules hold of two lists of contours. A shape is its outline, then
+    its holes. With `arrays` they are `FlatShapes`.
+
+    The solver, of this call and the others, tells how edges are split where they meet: "snapped", by snap rounding, or
+    "rounds". The program has rounds alone."""
+    look = look_of(ogc, clockwise, keep, minimum_area, solver)
     rule, fill = known(RULES, rule, "rule"), known(FILLS, fill, "fill rule")
     subject, clip = listed("subject", subject), listed("clip", clip)
     with placed(subject=subject, clip=clip):
@@ -173,10 +184,11 @@ def hierarchy(
     clockwise: bool = False,
     keep: bool = False,
     minimum_area: int = 0,
+    solver: str = SNAPPED,
 ) -> tuple[Shapes, list[tuple[int, int, int]]]:
-    """The same shapes, and a triple for each shape in a hole of another one: the other shape, the place of the hole
-    among all contours, and the shape, counted from 0."""
-    look = look_of(ogc, clockwise, keep, minimum_area)
+    """Returns the shapes of `overlay`, and a triple for each shape in a hole of another: the number of the other shape,
+    of the hole among all contours, and of the shape, counted from 0."""
+    look = look_of(ogc, clockwise, keep, minimum_area, solver)
     rule, fill = known(RULES, rule, "rule"), known(FILLS, fill, "fill rule")
     subject, clip = listed("subject", subject), listed("clip", clip)
     with placed(subject=subject, clip=clip):
@@ -192,41 +204,46 @@ def simplify(
     clockwise: bool = False,
     keep: bool = False,
     minimum_area: int = 0,
+    solver: str = SNAPPED,
     arrays: bool = False,
 ) -> Any:
-    """The shapes round what the contours fill: of `overlay` with the rule subject, but that one simple contour stays as
+    """Returns the shapes round the filled region, as `overlay` with the rule subject does. One simple contour stays as
     it is given, or is reversed, unless there is a minimum area."""
-    look = look_of(ogc, clockwise, keep, minimum_area)
+    look = look_of(ogc, clockwise, keep, minimum_area, solver)
     fill, subject = known(FILLS, fill, "fill rule"), listed("subject", subject)
     with placed(subject=subject):
         return shapes_of("simplify", arrays, subject, fill, look)
 
 
-def edges(subject: Any, clip: Any = (), fill: str = "nonzero") -> list[tuple[Any, Any, int]]:
-    """The edges of the arrangement, in order: two points, and the sum of the bits of the filled sides."""
+def edges(
+    subject: Any, clip: Any = (), fill: str = "nonzero", *, solver: str = SNAPPED
+) -> list[tuple[Any, Any, int]]:
+    """Returns the edges of the arrangement in order: two points, and the sum of the bits of the filled sides."""
     fill, subject, clip = known(FILLS, fill, "fill rule"), listed("subject", subject), listed("clip", clip)
+    solver = solver_of(solver)
     with placed(subject=subject, clip=clip):
-        return list(asked("edges").edges(subject, clip, fill))
+        return list(asked("edges").edges(subject, clip, fill, solver))
 
 
-def relations_as_given(subject: list[Any], clip: list[Any], fill: str) -> dict[str, bool]:
-    """Which relations hold of the arrangement of the contours as they are."""
-    return dict(asked("relate").relate(subject, clip, fill))
+def relations_as_given(subject: list[Any], clip: list[Any], fill: str, solver: str) -> dict[str, bool]:
+    """Returns which relations hold of the arrangement of the contours as they are."""
+    return dict(asked("relate").relate(subject, clip, fill, solver))
 
 
-def relate(subject: Any, clip: Any, fill: str = "nonzero") -> dict[str, bool]:
-    """Which relations hold: a dictionary from the seven names to truths.
+def relate(subject: Any, clip: Any, fill: str = "nonzero", *, solver: str = SNAPPED) -> dict[str, bool]:
+    """Returns which relations hold: a dictionary from the seven names to truths.
 
-    They are told of the arrangement of the coordinates times the greatest power of two that keeps them in the range,
-    whose chains stay within half a unit of that scale of their edges for each round that moved a point. Where splitting
-    does not settle there, a smaller power is taken, with a warning; NotSettled comes where the least, 1, does not."""
+    They hold of the arrangement of the coordinates times the greatest power of two that keeps them in the range. Its
+    chains stay within half a unit of that scale of their edges, for each round that moved a point. Where rounds do not
+    settle there, a smaller power is taken, with a warning; NotSettled comes where even 1 does not settle."""
     fill, subject, clip = known(FILLS, fill, "fill rule"), listed("subject", subject), listed("clip", clip)
+    solver = solver_of(solver)
     with placed(subject=subject, clip=clip):
         whole_points = [[[(coordinate(x), coordinate(y)) for x, y in path] for path in it] for it in (subject, clip)]
     finest = power = room_of([path for paths in whole_points for path in paths])
     while True:
         try:
-            told = relations_as_given(shifted(whole_points[0], power), shifted(whole_points[1], power), fill)
+            told = relations_as_given(shifted(whole_points[0], power), shifted(whole_points[1], power), fill, solver)
         except NotSettled:
             if power == 0:
                 raise
@@ -245,13 +262,15 @@ def clip(
     *,
     invert: bool = False,
     boundary: bool = False,
+    solver: str = SNAPPED,
     arrays: bool = False,
 ) -> Any:
-    """The parts of open paths inside the shape, with `invert` those outside, and with `boundary` those along it too.
-    With `arrays` they are `Flat`, in arrays."""
+    """Returns the parts of open paths inside the shape, with `invert` outside, with `boundary` also along its boundary.
+    With `arrays` they are `Flat`."""
     fill, shape, lines = known(FILLS, fill, "fill rule"), listed("shape", shape), listed("lines", lines)
+    solver = solver_of(solver)
     with placed(shape=shape, lines=lines):
-        given = shape, lines, fill, invert, boundary
+        given = shape, lines, fill, invert, boundary, solver
         if not arrays:
             return Paths(asked("clip").clip(*given))
         is_there = by_library.can("clip")
@@ -259,32 +278,35 @@ def clip(
 
 
 def slice(  # pylint: disable=redefined-builtin
-    shape: Any, lines: Any, fill: str = "nonzero", *, arrays: bool = False
+    shape: Any, lines: Any, fill: str = "nonzero", *, solver: str = SNAPPED, arrays: bool = False
 ) -> Any:
-    """The shapes into which open paths cut a shape, with `arrays` in arrays."""
+    """Returns the shapes into which open paths cut a shape, with `arrays` as `FlatShapes`."""
     fill, shape, lines = known(FILLS, fill, "fill rule"), listed("shape", shape), listed("lines", lines)
+    solver = solver_of(solver)
     with placed(shape=shape, lines=lines):
-        return shapes_of("slice", arrays, shape, lines, fill)
+        return shapes_of("slice", arrays, shape, lines, fill, solver)
 
 
-def tiles(shape: Any, width: int, height: int, fill: str = "nonzero", *, arrays: bool = False) -> Any:
-    """The shapes into which the cells of a grid, which has a node at (0, 0), cut a shape: each lies in one cell. With
-    `arrays` they are in arrays."""
-    fill, shape = known(FILLS, fill, "fill rule"), listed("shape", shape)
+def tiles(
+    shape: Any, width: int, height: int, fill: str = "nonzero", *, solver: str = SNAPPED, arrays: bool = False
+) -> Any:
+    """Returns the shapes into which the cells of a grid cut a shape, each in one cell. A node of the grid is at (0, 0).
+    With `arrays` they are `FlatShapes`."""
+    fill, solver, shape = known(FILLS, fill, "fill rule"), solver_of(solver), listed("shape", shape)
     sides = coordinate(width), coordinate(height)
     with placed(shape=shape):
-        return shapes_of("tiles", arrays, shape, *sides, fill)
+        return shapes_of("tiles", arrays, shape, *sides, fill, solver)
 
 
 def is_resolved(shape: Any) -> bool:
-    """Whether `locate` takes the contours: whether two steps of one share points only where they are ends of both."""
+    """Returns whether `locate` takes the contours: steps of each share points only where these are ends of both."""
     shape = listed("shape", shape)
     with placed(shape=shape):
         return bool(asked("is_resolved").is_resolved(shape))
 
 
 def locate(shape: Any, points: Iterable[Any]) -> list[str]:
-    """Where each point lies in the contours, which are joined by exclusive or: "inside", "boundary" or "outside"."""
+    """Returns where each point lies: "inside", "boundary" or "outside". Contours are joined by exclusive or."""
     shape, queries = listed("shape", shape), listed("points", [points])
     with placed(shape=shape, points=queries):
         return list(asked("locate").locate(shape, queries[0]))

@@ -17,7 +17,7 @@ LEAST = 1e-290
 
 
 def numpy_for(count: int) -> Any:
-    """NumPy, where it pays for so many points, and is there."""
+    """NumPy, where it is there and pays for `count` points."""
     if count < FEW or "numpy" not in sys.modules and count < MANY:
         return None
     try:

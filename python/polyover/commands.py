@@ -1,4 +1,4 @@
-"""Inputs of the program, read and answered by the module's calls as the program reads and answers them."""
+"""Inputs of the program, read and answered by the module's calls as the program reads and answers them: in rounds."""
 
 from __future__ import annotations
 
@@ -7,7 +7,7 @@ from typing import Any, Callable
 
 from . import calls
 from .program import BadLine
-from .text import FILLS, LIMIT, RULES, points_in, printed_path, printed_shapes
+from .text import FILLS, LIMIT, ROUNDS, RULES, points_in, printed_path, printed_shapes
 
 KINDS = ("subject", "clip", "line", "point")
 NAMES = {word: name for words in (RULES, FILLS) for name, word in words.items()}
@@ -72,7 +72,8 @@ def figures_in(text: str) -> tuple[Figures, list[str]]:
 def options_in(words: list[str]) -> dict[str, Any]:
     """The options of an overlay, by name."""
     area = int(words[words.index("min") + 1]) if "min" in words else 0
-    return {**{name: name in words for name in ("ogc", "clockwise", "keep")}, "minimum_area": area}
+    chosen = {name: name in words for name in ("ogc", "clockwise", "keep")}
+    return {**chosen, "minimum_area": area, "solver": ROUNDS}
 
 
 def printed_overlay(figures: Figures, words: list[str]) -> str:
@@ -90,30 +91,32 @@ def printed_hierarchy(figures: Figures, words: list[str]) -> str:
 
 def printed_edges(figures: Figures, words: list[str]) -> str:
     """The edges of the arrangement."""
-    found = calls.edges(figures["subject"], figures["clip"], NAMES[words[0]])
+    found = calls.edges(figures["subject"], figures["clip"], NAMES[words[0]], solver=ROUNDS)
     return "".join(f"edge {ax} {ay} {bx} {by} {fill}\n" for (ax, ay), (bx, by), fill in found)
 
 
 def printed_relations(figures: Figures, words: list[str]) -> str:
     """The seven relations."""
-    told = calls.relations_as_given(figures["subject"], figures["clip"], NAMES[words[0]])
+    told = calls.relations_as_given(figures["subject"], figures["clip"], NAMES[words[0]], ROUNDS)
     return "".join(f"{name} {str(holds).lower()}\n" for name, holds in told.items())
 
 
 def printed_clip(figures: Figures, words: list[str]) -> str:
     """The paths that a clip leaves."""
     chosen = {name: name in words for name in ("invert", "boundary")}
-    return "".join(map(printed_path, calls.clip(figures["subject"], figures["line"], NAMES[words[0]], **chosen)))
+    paths = calls.clip(figures["subject"], figures["line"], NAMES[words[0]], **chosen, solver=ROUNDS)
+    return "".join(map(printed_path, paths))
 
 
 def printed_slices(figures: Figures, words: list[str]) -> str:
     """The shapes into which paths cut the subject."""
-    return printed_shapes(calls.slice(figures["subject"], figures["line"], NAMES[words[0]]))
+    return printed_shapes(calls.slice(figures["subject"], figures["line"], NAMES[words[0]], solver=ROUNDS))
 
 
 def printed_tiles(figures: Figures, words: list[str]) -> str:
     """The shapes into which a grid cuts the subject."""
-    return printed_shapes(calls.tiles(figures["subject"], int(words[1]), int(words[2]), NAMES[words[0]]))
+    sides = int(words[1]), int(words[2])
+    return printed_shapes(calls.tiles(figures["subject"], *sides, NAMES[words[0]], solver=ROUNDS))
 
 
 def located(figures: Figures) -> list[str]:

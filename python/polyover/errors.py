@@ -10,7 +10,7 @@ class OutOfMemory(PolyoverError):
 
 
 class NotSettled(PolyoverError):
-    """After 64 rounds of splitting edges still meet in points that are no ends. Doubled coordinates may settle."""
+    """After 64 rounds of splitting edges still meet in points that are no ends. Snap rounding splits them."""
 
 
 class TooManyEdges(PolyoverError):

@@ -25,12 +25,22 @@ def buffer_of(thing: Any) -> memoryview | None:
     return found if found.c_contiguous else None
 
 
-def is_whole_path(thing: Any) -> bool:
-    """Whether a thing is an array of points: two int64 in a row, C-contiguous."""
+def whole_path(thing: Any) -> memoryview | None:
+    """The buffer of an array of points: two int64 in a row, C-contiguous; none of other things."""
     found = buffer_of(thing)
-    if found is None or found.format not in WHOLE or found.itemsize != 8:
-        return False
-    return found.ndim == 2 and (found.shape or ())[1] == 2
+    if found is None or found.ndim != 2 or found.format not in WHOLE or found.itemsize != 8:
+        return None
+    return found if (found.shape or ())[1] == 2 else None
+
+
+def row_of(points: memoryview) -> memoryview:
+    """An array of points as one row; a buffer without an item can't be cast."""
+    return points.cast("B").cast("q") if points.nbytes else memoryview(array("q"))
+
+
+def is_whole_path(thing: Any) -> bool:
+    """Whether a thing is such an array."""
+    return whole_path(thing) is not None
 
 
 def checked_buffer(what: str, thing: Any, formats: tuple[str, ...]) -> memoryview:
@@ -73,6 +83,13 @@ class Flat:
         counts = [0, *self.counts.tolist()]
         if counts != sorted(counts) or len(self.numbers) != 2 * counts[-1]:
             raise BadInput("ends: they do not rise from 0 to the number of points")
+
+    @classmethod
+    def answered(cls, numbers: memoryview, counts: memoryview) -> Flat:
+        """The contours, or paths, of an answer of the library, whose ends are not tested."""
+        made = cls.__new__(cls)
+        made.numbers, made.counts = numbers, counts
+        return made
 
     @property
     def coordinates(self) -> memoryview:

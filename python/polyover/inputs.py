@@ -12,7 +12,7 @@ from .library import library
 from .picture import Picture
 from .program import BadLine, answer
 from .reasons import BadLineBecause, checked, reason_of
-from .text import FILLS, edges_in, paths_in, shapes_in
+from .text import FILLS, ROUNDS, edges_in, paths_in, shapes_in
 
 CLIP_COMMANDS = ("overlay", "hierarchy", "edges", "relate")
 SHAPE_COMMANDS = ("overlay", "hierarchy", "slice", "tiles")
@@ -75,11 +75,11 @@ def nodes_of(figures: dict[str, Any], words: list[str]) -> set[Any]:
     """The ends of the edges of the arrangement of subject and clip, and of the lines where the command takes them."""
     fill = next((NAMES[word] for word in words if word in FILLS.values()), "evenodd")
     clip = figures["clip"] if words[0] in CLIP_COMMANDS else []
-    nodes = {point for edge in calls.edges(figures["subject"], clip, fill) for point in edge[:2]}
+    nodes = {point for edge in calls.edges(figures["subject"], clip, fill, solver=ROUNDS) for point in edge[:2]}
     lines = lines_in(figures, words)
     if lines:
         for is_outside in (False, True):
-            paths = calls.clip(figures["subject"], lines, fill, invert=is_outside, boundary=True)
+            paths = calls.clip(figures["subject"], lines, fill, invert=is_outside, boundary=True, solver=ROUNDS)
             nodes.update(point for path in paths for point in path)
     return nodes
 

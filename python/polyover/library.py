@@ -2,10 +2,9 @@
 
 from __future__ import annotations
 
-import mmap
 import os
 from array import array
-from ctypes import CDLL, POINTER, Structure, addressof, byref, c_char, c_size_t, c_uint32, c_uint64, c_void_p, sizeof
+from ctypes import CDLL, POINTER, Structure, byref, c_size_t, c_ubyte, c_uint32, c_uint64, c_void_p, sizeof
 from enum import IntEnum
 from functools import lru_cache
 from pathlib import Path
@@ -15,7 +14,7 @@ from typing import Any, Callable
 
 from . import program
 from .errors import BadInput, LibraryMissing, NotSettled, OutOfMemory, PolyoverError, TooManyEdges
-from .flat import Flat, address_of, is_whole_path
+from .flat import Flat, address_of, row_of, whole_path
 from .text import coordinate
 
 VARIABLE = "POLYOVER_LIBRARY"
@@ -23,7 +22,6 @@ HELD = Path(__file__).resolve().with_name("libpolyover.so")
 # (a wheel holds the library; a clone has it where scripts/build, or make -C c, leaves it)
 BUILT = str(HELD if HELD.is_file() else HELD.parents[2] / "out" / HELD.name)
 COORDINATES, SIZES, BYTES = "q", "Q" if sizeof(c_size_t) == 8 else "I", "B"
-MUCH = 2**17
 
 
 class Status(IntEnum):
@@ -53,8 +51,8 @@ class Options(Structure):
     _fields_ = [
         ("direction", c_uint32),
         ("keep", c_uint32),
-        ("ogc", c_uint32),
-        ("reserved", c_uint32),
+        ("touching", c_uint32),
+        ("solver", c_uint32),
         ("min_area_high", c_uint64),
         ("min_area_low", c_uint64),
     ]
@@ -63,19 +61,69 @@ class Options(Structure):
 class ClipOptions(Structure):
     """Which parts of lines a clip keeps."""
 
-    _fields_ = [("invert", c_uint32), ("boundary", c_uint32)]
+    _fields_ = [("invert", c_uint32), ("boundary", c_uint32), ("solver", c_uint32)]
 
 
-class Counts(Structure):
-    """How much an answer of shapes has."""
+class Result(Structure):
+    """An answer in memory of the library: arrays, and how many numbers, or links, each has."""
 
-    _fields_ = [("coordinates", c_size_t), ("contours", c_size_t), ("shapes", c_size_t)]
+    _fields_ = [
+        ("coordinates", c_void_p),
+        ("coordinate_count", c_size_t),
+        ("contour_ends", c_void_p),
+        ("contour_count", c_size_t),
+        ("shape_ends", c_void_p),
+        ("shape_count", c_size_t),
+        ("links", c_void_p),
+        ("link_count", c_size_t),
+        ("fills", c_void_p),
+        ("fill_count", c_size_t),
+    ]
 
 
-class PathCounts(Structure):
-    """How much an answer of paths has."""
+class Held:
+    """An answer of the library, where it is: its arrays are memoryviews, and its memory is freed once none is left."""
 
-    _fields_ = [("coordinates", c_size_t), ("paths", c_size_t)]
+    def __init__(self, free: Callable[[Any], None]) -> None:
+        self.free, self.result = free, Result()
+        self.pointer = byref(self.result)
+
+    def __del__(self) -> None:
+        self.free(self.pointer)
+
+    def numbers(self, kind: str, place: int | None, count: int) -> memoryview:
+        """That many numbers of a kind at a place."""
+        if not count:
+            return memoryview(array(kind))
+        items: Any = (c_ubyte * (count * array(kind).itemsize)).from_address(place or 0)
+        # (what looks at these items keeps them, and they keep the answer)
+        items.answer = self
+        return memoryview(items).cast("B").cast(kind)
+
+    @property
+    def coordinates(self) -> memoryview:
+        """The coordinates, x before y."""
+        return self.numbers(COORDINATES, self.result.coordinates, self.result.coordinate_count)
+
+    @property
+    def contour_ends(self) -> memoryview:
+        """How many points there are up to the end of each contour, or of each path."""
+        return self.numbers(SIZES, self.result.contour_ends, self.result.contour_count)
+
+    @property
+    def shape_ends(self) -> memoryview:
+        """How many contours there are up to the end of each shape."""
+        return self.numbers(SIZES, self.result.shape_ends, self.result.shape_count)
+
+    @property
+    def links(self) -> memoryview:
+        """Three numbers for each link."""
+        return self.numbers(SIZES, self.result.links, 3 * self.result.link_count)
+
+    @property
+    def fills(self) -> memoryview:
+        """The bits of the filled sides of each edge."""
+        return self.numbers(BYTES, self.result.fills, self.result.fill_count)
 
 
 class Contours(Structure):
@@ -96,51 +144,23 @@ class Contours(Structure):
         super().__init__(coordinates, len(numbers), places, len(ends))
 
 
-class Room:
-    """An array for an answer: so many items, each of some numbers. Of many only those written to take memory."""
-
-    def __init__(self, kind: str, count: int, numbers: int = 1) -> None:
-        self.kind = kind
-        size = max(1, count * numbers * array(kind).itemsize)
-        try:
-            self.space: bytearray | mmap.mmap = bytearray(size) if size < MUCH else reserved(size)
-        except OSError:
-            raise OutOfMemory(OutOfMemory.__doc__) from None
-        self.arguments = addressof(c_char.from_buffer(self.space)), count
-
-    def view(self, count: int) -> memoryview:
-        """That many of the first numbers, where they are."""
-        return memoryview(self.space)[: count * array(self.kind).itemsize].cast(self.kind)
-
-    def first(self, count: int) -> Any:
-        """The first numbers, so many."""
-        numbers = array(self.kind)
-        numbers.frombytes(memoryview(self.space)[: count * numbers.itemsize])
-        return numbers
-
-
 ARRAY = (c_void_p, c_size_t)
-CONTOURS, COUNT = POINTER(Contours), POINTER(c_size_t)
-TWO = (c_uint32, CONTOURS, CONTOURS)
+CONTOURS, RESULT = POINTER(Contours), POINTER(Result)
+TWO = (c_uint32, c_uint32, CONTOURS, CONTOURS)
 OVERLAY = (c_uint32, c_uint32, POINTER(Options), CONTOURS, CONTOURS)
-SHAPES = ARRAY * 3
 FUNCTIONS = {
     "polyover_in_range": ARRAY,
-    "polyover_overlay": (*OVERLAY, *SHAPES, POINTER(Counts)),
-    "polyover_simplify": (c_uint32, POINTER(Options), CONTOURS, *SHAPES, POINTER(Counts)),
-    "polyover_hierarchy": (*OVERLAY, *SHAPES, *ARRAY, POINTER(Counts), COUNT),
-    "polyover_edges": (*TWO, *ARRAY, *ARRAY, COUNT),
+    "polyover_overlay_result": (*OVERLAY, RESULT),
+    "polyover_simplify_result": (c_uint32, POINTER(Options), CONTOURS, RESULT),
+    "polyover_hierarchy_result": (*OVERLAY, RESULT),
+    "polyover_edges_result": (*TWO, RESULT),
+    "polyover_clip_result": (c_uint32, POINTER(ClipOptions), CONTOURS, CONTOURS, RESULT),
+    "polyover_slice_result": (*TWO, RESULT),
+    "polyover_free": (RESULT,),
     "polyover_relate": (*TWO, POINTER(c_uint32)),
-    "polyover_clip": (c_uint32, POINTER(ClipOptions), CONTOURS, CONTOURS, *ARRAY, *ARRAY, POINTER(PathCounts)),
-    "polyover_slice": (*TWO, *SHAPES, POINTER(Counts)),
     "polyover_resolved": (CONTOURS,),
-    "polyover_locate": (CONTOURS, *ARRAY, *ARRAY, COUNT),
+    "polyover_locate": (CONTOURS, *ARRAY, *ARRAY, POINTER(c_size_t)),
 }
-
-
-def reserved(size: int) -> mmap.mmap:
-    """So many bytes, each of which takes memory once it is written to."""
-    return mmap.mmap(-1, size, flags=mmap.MAP_PRIVATE | mmap.MAP_ANONYMOUS)
 
 
 def address(items: Any) -> int:
@@ -148,15 +168,15 @@ def address(items: Any) -> int:
     return int(items.buffer_info()[0])
 
 
-def passed(argument: Any) -> tuple[Any, ...]:
+def passed(argument: Any) -> Any:
     """An argument as C takes it."""
-    if isinstance(argument, Room):
-        return argument.arguments
-    return (argument if isinstance(argument, int) else byref(argument),)
+    return byref(argument) if isinstance(argument, (Structure, c_uint32, c_size_t)) else argument
 
 
 def check(status: int) -> None:
     """Raises what a status stands for, if it is not OK."""
+    if status == 0:
+        return
     if status not in set(Status):
         raise PolyoverError(f"the library answers the status {status}")
     known = Status(status)
@@ -164,8 +184,7 @@ def check(status: int) -> None:
         raise FAULTS[known](FAULTS[known].__doc__)
     if known in WRONG:
         raise BadInput(f"the library answers {known.name}")
-    if known != Status.OK:
-        raise PolyoverError(f"the library answers the status {known}")
+    raise PolyoverError(f"the library answers the status {known}")
 
 
 class Library:
@@ -179,7 +198,7 @@ class Library:
         self.names = {name for name in FUNCTIONS if hasattr(self.functions, name)}
         for name in self.names:
             function = getattr(self.functions, name)
-            function.argtypes, function.restype = FUNCTIONS[name], c_uint32
+            function.argtypes, function.restype = FUNCTIONS[name], None if name == "polyover_free" else c_uint32
 
     def numbers(self, given: list[Any]) -> Any:
         """An array of coordinates, which are whole numbers in the coordinate range."""
@@ -193,46 +212,45 @@ class Library:
 
     def contours(self, paths: Any) -> Contours:
         """Contours, or open paths, as the library takes them: arrays without a copy, where all is in one."""
-        if not isinstance(paths, Flat) and any(map(is_whole_path, paths)):
-            paths = self.joined(list(paths))
         if isinstance(paths, Flat):
-            found = Contours(paths.numbers, paths.counts)
-            if not self.functions.polyover_in_range(found.coordinates or 0, len(paths.numbers)):
-                raise BadInput("coordinates are out of range")
-            return found
+            return self.in_range(Contours(paths.numbers, paths.counts))
+        buffers = [whole_path(path) for path in paths]
+        if any(found is not None for found in buffers):
+            return self.joined(paths, buffers)
         numbers, ends = [], []
         for path in paths:
             numbers += [number for x, y in path for number in (x, y)]
             ends.append(len(numbers) // 2)
         return Contours(self.numbers(numbers), array(SIZES, ends))
 
-    def joined(self, paths: list[Any]) -> Flat:
-        """Arrays of points, and lists of them, in one array; an array alone as it is."""
-        if len(paths) == 1:
-            return Flat(paths[0], [len(paths[0])])
+    def joined(self, paths: Any, buffers: list[memoryview | None]) -> Contours:
+        """Arrays of points, of which each has a buffer, and lists of them, in one array; an array alone as it is."""
+        if len(buffers) == 1 and buffers[0] is not None:
+            return self.in_range(Contours(row_of(buffers[0]), array(SIZES, [len(buffers[0])])))
         numbers, ends = array(COORDINATES), array(SIZES)
-        for path in paths:
-            if is_whole_path(path):
-                numbers.frombytes(memoryview(path).cast("B"))
-            else:
+        for path, found in zip(paths, buffers):
+            if found is None:
                 numbers.extend(self.numbers([number for x, y in path for number in (x, y)]))
+            elif found.nbytes:
+                numbers.frombytes(found.cast("B"))
             ends.append(len(numbers) // 2)
-        return Flat(numbers, ends)
+        return self.in_range(Contours(numbers, ends))
+
+    def in_range(self, contours: Contours) -> Contours:
+        """The contours, whose coordinates are tested."""
+        if not self.functions.polyover_in_range(contours.coordinates or 0, contours.coordinate_count):
+            raise BadInput("coordinates are out of range")
+        return contours
 
     def call(self, name: str, *arguments: Any) -> int:
         """The status with which a function ends."""
-        return int(getattr(self.functions, name)(*(part for each in arguments for part in passed(each))))
+        return int(getattr(self.functions, name)(*map(passed, arguments)))
 
-    def answer(self, name: str, given: Any, rooms_for: Callable[..., list[Room]], *counts: Any) -> list[Room]:
-        """The room that a function has written to; it has set the counts. Where the room for those given is too small,
-        it is asked again with what it takes."""
-        for _ in range(2):
-            rooms = rooms_for(*counts)
-            status = self.call(name, *given, *rooms, *counts)
-            if status != Status.TOO_SMALL:
-                break
-        check(status)
-        return rooms
+    def answer(self, name: str, *given: Any) -> Held:
+        """What a function answers; or raises what its status stands for."""
+        held = Held(self.functions.polyover_free)
+        check(self.call(name, *given, held.pointer))
+        return held
 
 
 @lru_cache(maxsize=None)
@@ -246,6 +264,6 @@ def library() -> Library | None:
     module or in out/; or none where none is."""
     named = os.environ.get(VARIABLE)
     if named:
-        return loaded(os.path.abspath(named))
+        return loaded(named if os.path.isabs(named) else os.path.abspath(named))
     is_wanted = not os.environ.get(program.VARIABLE)
     return loaded(BUILT) if is_wanted and os.path.isfile(BUILT) else None

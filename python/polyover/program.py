@@ -10,6 +10,8 @@ from .errors import BadInput, NotSettled, OutOfMemory, PolyoverError, ProgramMis
 
 VARIABLE = "POLYOVER_PROGRAM"
 BUILT = Path(__file__).resolve().parents[2] / "crates" / "polyover" / "out" / "polyover"
+# (what the program, which splits in rounds alone, says more where they do not settle)
+LIBRARY = "The program has no snap rounding: the library has, of a release's wheel, of scripts/build or of make -C c."
 REFUSALS = {"E1": OutOfMemory, "E2": NotSettled, "E3": TooManyEdges}
 
 
@@ -25,7 +27,7 @@ def program() -> Path:
     """The path of the program: the one that POLYOVER_PROGRAM names, or else the one that `rt run` built."""
     path = Path(os.environ.get(VARIABLE) or BUILT).absolute()
     if not path.is_file():
-        raise ProgramMissing(f"no program at {path}: build it (README.md, \"Run it\"), or name one by {VARIABLE}")
+        raise ProgramMissing(f"no program at {path}: build it (README.md, \"From source\"), or name one by {VARIABLE}")
     return path
 
 
@@ -37,7 +39,7 @@ def answer(text: str) -> str:
         return ran.stdout.decode()
     if ran.returncode == 1 and said[:1] == ["refused"]:
         refusal = REFUSALS[said[1]]
-        raise refusal(refusal.__doc__)
+        raise refusal(f"{refusal.__doc__} {LIBRARY}" if refusal is NotSettled else refusal.__doc__)
     if ran.returncode == 2 and said[:1] == ["line"]:
         raise BadLine(int(said[1].rstrip(":")))
     raise PolyoverError(f"{program()}: status {ran.returncode} {' '.join(said)}")

@@ -8,13 +8,13 @@ from typing import Any, Callable, Sequence
 
 from . import calls, files, geojson
 from .answers import feature_of, leave, null_feature, say, told_where_it_takes_long
-from .errors import BadInput, NotSettled
+from .errors import BadInput
 from .files import File
 from .geojson import Feature
 from .inputs import picture_of
 from .nearby import Nearby, boxes_meet, lines_near
 from .picture import Picture
-from .reading import Lines, Polygons
+from .reading import Polygons
 from .scaled import Scaled
 
 KEEPING = ("intersect", "difference")
@@ -26,8 +26,8 @@ def fill_of(given: Any) -> str:
 
 
 def look_of(given: Any, scaled: Scaled) -> dict[str, Any]:
-    """The smallest area that is kept, in units of the scale."""
-    return {"minimum_area": ceil(Fraction(given.min_area) * scaled.scale**2)}
+    """The smallest area that is kept, in units of the scale, and how edges are split."""
+    return {"minimum_area": ceil(Fraction(given.min_area) * scaled.scale**2), "solver": given.solver}
 
 
 def polygons_of(given: Any, file: File, parts: Sequence[Any] | None = None) -> Polygons:
@@ -59,7 +59,7 @@ def tell_other_crs(first: File, second: File) -> None:
 
 
 def run_overlay(given: Any) -> None:
-    """The overlay of two files"""
+    """Overlays the polygons of two files"""
     first, second = two_of_polygons(given)
     if given.keep and given.rule not in KEEPING:
         raise BadInput(f"--keep goes with the rules {' and '.join(KEEPING)}: of others many features give one piece")
@@ -90,27 +90,21 @@ def kept_pieces(given: Any, scaled: Scaled, first: File, second: File) -> list[d
     features = []
     clip = scaled.whole(polygons_of(given, second))
     for each in first.features:
-        polygons = polygons_of(given, first, each.parts)
-        subject = scaled.whole(polygons)
+        subject = scaled.whole(polygons_of(given, first, each.parts))
         near = [contour for contour in clip if boxes_meet(contour, subject)]
-        try:
-            asked = calls.overlay(subject, near, given.rule, fill_of(given), **look_of(given, scaled))
-            shapes = scaled.shapes(asked)
-        except NotSettled:
-            # (which tries finer scales, with a warning)
-            other = polygons_of(given, second)
-            shapes = scaled.overlay(polygons, other, given.rule, fill_of(given), **look_of(given, scaled))
+        asked = calls.overlay(subject, near, given.rule, fill_of(given), **look_of(given, scaled))
+        shapes = scaled.shapes(asked)
         if shapes:
             features.append(feature_of(geojson.polygons(shapes), each.members))
     return features
 
 
 def run_relate(given: Any) -> None:
-    """How two files lie to each other"""
+    """Tells which relations hold between the polygons of two files"""
     first, second = two_of_polygons(given)
     both = polygons_of(given, first), polygons_of(given, second)
     with told_where_it_takes_long(f"relations of {len(paths_of(first))} and {len(paths_of(second))} rings"):
-        relations = Scaled.of_digits(given.digits).relate(*both, fill_of(given))
+        relations = Scaled.of_digits(given.digits).relate(*both, fill_of(given), solver=given.solver)
     files.leave([(files.json_text(relations), given.out)])
 
 
@@ -118,7 +112,7 @@ def run_relate(given: Any) -> None:
 
 
 def run_clip(given: Any) -> None:
-    """The lines of a file, feature by feature, clipped by the polygons of another one"""
+    """Clips the lines of a file, feature by feature, by the polygons of a second file"""
     area = files.polygons_of(given.subject, given.skip_invalid)
     roads = files.lines_of(given.other, given.skip_invalid, tells_nulls=False)
     tell_other_crs(area, roads)
@@ -131,7 +125,7 @@ def run_clip(given: Any) -> None:
         shape = Nearby(scaled.whole(polygons_of(given, area)))
         scaled.whole(roads.lines)
         for each in roads.features:
-            paths = clipped(given, scaled, shape, area, each)
+            paths = clipped(given, scaled, shape, each)
             picture.add_paths("answer", paths)
             if each.is_null:
                 features.append(null_feature(each))
@@ -140,32 +134,25 @@ def run_clip(given: Any) -> None:
     leave(given, features, picture, roads)
 
 
-def clipped(given: Any, scaled: Scaled, shape: Nearby, area: File, each: Feature) -> Any:
+def clipped(given: Any, scaled: Scaled, shape: Nearby, each: Feature) -> Any:
     """The parts of the lines of a feature that are kept."""
     if not each.parts:
         return []
-    options = {"invert": given.invert, "boundary": given.boundary}
+    options = {"invert": given.invert, "boundary": given.boundary, "solver": given.solver}
     lines = [scaled.whole_path(path) for path in each.paths]
-    try:
-        return scaled.paths(calls.clip(shape.part(lines), lines, fill_of(given), **options))
-    except NotSettled:
-        # (which tries finer scales, with a warning)
-        return scaled.clip(polygons_of(given, area), Lines(each.parts), fill_of(given), **options)
+    return scaled.paths(calls.clip(shape.part(lines), lines, fill_of(given), **options))
 
 
 def run_slice(given: Any) -> None:
-    """The polygons of a file, feature by feature, sliced along the lines of another one"""
+    """Slices the polygons of a file, feature by feature, along the lines of a second file"""
     walls = files.lines_of(given.other, given.skip_invalid)
     scaled = Scaled.of_digits(given.digits)
     lines = scaled.whole(walls.lines)
 
     def cut(polygons: Polygons) -> Any:
         contours = scaled.whole(polygons)
-        try:
-            return scaled.shapes(calls.slice(contours, lines_near(lines, contours), fill_of(given)))
-        except NotSettled:
-            # (which tries finer scales, with a warning)
-            return scaled.slice(polygons, walls.lines, fill_of(given))
+        near = lines_near(lines, contours)
+        return scaled.shapes(calls.slice(contours, near, fill_of(given), solver=given.solver))
 
     answer_features(given, "slices", cut, walls, is_parted=True)
 
@@ -174,17 +161,21 @@ def run_slice(given: Any) -> None:
 
 
 def run_simplify(given: Any) -> None:
-    """The polygons of a file, feature by feature, as valid ones that cover the same"""
+    """Makes the polygons of a file valid, feature by feature"""
     scaled = Scaled.of_digits(given.digits)
     look = look_of(given, scaled)
     answer_features(given, "simplified", lambda area: scaled.overlay(area, (), "subject", fill_of(given), **look))
 
 
 def run_tiles(given: Any) -> None:
-    """The polygons of a file, feature by feature, cut along a grid"""
+    """Cuts the polygons of a file along a grid, feature by feature"""
     scaled = Scaled.of_digits(given.digits)
     sides = Fraction(given.wide), Fraction(given.high)
-    answer_features(given, "tiles", lambda area: scaled.tiles(area, *sides, fill_of(given)), is_parted=True)
+
+    def cut(polygons: Polygons) -> Any:
+        return scaled.tiles(polygons, *sides, fill_of(given), solver=given.solver)
+
+    answer_features(given, "tiles", cut, is_parted=True)
 
 
 def answer_features(
@@ -211,7 +202,7 @@ def answer_features(
 
 
 def run_locate(given: Any) -> None:
-    """Where the points of a file lie in the polygons of another one: as the property location of each feature"""
+    """Locates the points of a file in the polygons of a second file, as the property location of each feature"""
     area = files.polygons_of(given.subject, given.skip_invalid)
     places = files.points_of(given.other)
     tell_other_crs(area, places)
@@ -249,7 +240,7 @@ def located(places: File, each: Feature, found: Any) -> dict[str, Any]:
 
 
 def run_svg(given: Any) -> None:
-    """The picture of an input of the program"""
+    """Draws an input of the program and its answer"""
     text = files.text_of(given.input)
     with told_where_it_takes_long("picture"):
         picture = picture_of(text, given.nodes)

@@ -2,24 +2,21 @@
 
 from __future__ import annotations
 
-import warnings
 from fractions import Fraction
 from itertools import islice
-from typing import Any, Callable, Iterable, Sequence
+from typing import Any, Iterable, Sequence
 
 from . import calls
 from .columns import whole_points
-from .contour import WholePath, WholePoint, extent_of
-from .errors import BadInput, NotSettled, PolyoverWarning
+from .contour import WholePath, WholePoint
+from .errors import BadInput
 from .flat import Flat
 from .geojson import is_geometry
 from .numbers import ratio_of
 from .reading import Lines, Polygons, lines_in, polygons_in
 from .shapes import Paths, Shapes
-from .text import LIMIT
 from .told import Told
 
-FINER = 1024
 Group = Any
 
 
@@ -51,8 +48,7 @@ class Scaled:
 
     So a coordinate is taken at most half a unit from where it is, which is `lost` in the floats' own unit; an answer is
     given back as the floats nearest to its whole points. The calls are those of the module, and take a geometry
-    (GeoJSON, or what has `__geo_interface__`) in the place of a list of contours or paths too. Where splitting does not
-    settle, a call is tried again at a scale 1,024 times as fine, as long as coordinates are in range, with a warning.
+    (GeoJSON, or what has `__geo_interface__`) in the place of a list of contours or paths too.
     """
 
     def __init__(self, scale: Any, origin: Sequence[Any] = (0, 0)) -> None:
@@ -66,7 +62,7 @@ class Scaled:
 
     @classmethod
     def of_digits(cls, digits: int, origin: Sequence[Any] = (0, 0)) -> Scaled:
-        """With so many digits behind the decimal point."""
+        """Returns the scale with `digits` digits behind the decimal point."""
         return cls(Fraction(10) ** digits, origin)
 
     @property
@@ -127,10 +123,6 @@ class Scaled:
         """Edges with points of floats."""
         return [(self.point(start), self.point(end), fills) for start, end, fills in edges]
 
-    def finer(self) -> Scaled:
-        """The same at a scale 1,024 times as fine."""
-        return Scaled(self.scale * FINER, self.origin)
-
     def contours_of(self, thing: object, *, skip_invalid: bool = False) -> list[list[Any]]:
         """The contours of all polygons of a geometry, for the fill rule nonzero at this scale, with points of floats.
 
@@ -138,79 +130,48 @@ class Scaled:
         contours = polygons_in(thing, skip_invalid=skip_invalid).contours(self.whole_path)
         return [[self.point(each) for each in whole] if given is None else given for whole, given in contours]
 
-    def _fits(self, *groups: Group) -> bool:
-        try:
-            return all(extent_of(self.whole(group)) <= LIMIT for group in groups)
-        except BadInput:
-            return False
-
-    def _settled(self, call: Callable[..., Any], **groups: Group) -> Any:
-        """What the call answers of the groups of paths with whole points, at the first scale at which it settles."""
-        at, given = self, {name: taken(name, group) for name, group in groups.items()}
-        while True:
-            try:
-                return call(at, *(at.whole(group, name) for name, group in given.items()))
-            except NotSettled:
-                finer = at.finer()
-                if not finer._fits(*given.values()):
-                    raise
-                told = f"splitting did not settle at the scale {at.scale}: tried again at {finer.scale}"
-                warnings.warn(told, PolyoverWarning, stacklevel=3)
-            at = finer
-
-    def _look(self, at: Scaled, look: dict[str, Any]) -> dict[str, Any]:
-        """The options of an overlay at another scale: the minimum area is in squares of this scale's unit."""
-        if at is self or "minimum_area" not in look:
-            return look
-        return {**look, "minimum_area": int(look["minimum_area"] * (at.scale / self.scale) ** 2)}
+    def _taken(self, name: str, group: Group) -> list[WholePath]:
+        """What was given for a group of paths, with whole points."""
+        return self.whole(taken(name, group), name)
 
     def overlay(self, subject: Group, clip: Group = (), rule: str = "union", fill: str = "nonzero", **look: Any) -> Any:
         """As `polyover.overlay`."""
-
-        def answer(at: Scaled, *both: Any) -> Any:
-            return at.shapes(calls.overlay(both[0], both[1], rule, fill, **self._look(at, look)))
-
-        return self._settled(answer, subject=subject, clip=clip)
+        both = self._taken("subject", subject), self._taken("clip", clip)
+        return self.shapes(calls.overlay(*both, rule, fill, **look))
 
     def hierarchy(
         self, subject: Group, clip: Group = (), rule: str = "union", fill: str = "nonzero", **look: Any
     ) -> Any:
         """As `polyover.hierarchy`."""
-
-        def answer(at: Scaled, *both: Any) -> Any:
-            shapes, links = calls.hierarchy(both[0], both[1], rule, fill, **self._look(at, look))
-            return at.shapes(shapes), links
-
-        return self._settled(answer, subject=subject, clip=clip)
+        both = self._taken("subject", subject), self._taken("clip", clip)
+        shapes, links = calls.hierarchy(*both, rule, fill, **look)
+        return self.shapes(shapes), links
 
     def simplify(self, subject: Group, fill: str = "nonzero", **look: Any) -> Any:
         """As `polyover.simplify`."""
-        return self._settled(lambda at, s: at.shapes(calls.simplify(s, fill, **self._look(at, look))), subject=subject)
+        return self.shapes(calls.simplify(self._taken("subject", subject), fill, **look))
 
-    def edges(self, subject: Group, clip: Group = (), fill: str = "nonzero") -> Any:
+    def edges(self, subject: Group, clip: Group = (), fill: str = "nonzero", **options: Any) -> Any:
         """As `polyover.edges`."""
-        return self._settled(lambda at, s, c: at.filled(calls.edges(s, c, fill)), subject=subject, clip=clip)
+        both = self._taken("subject", subject), self._taken("clip", clip)
+        return self.filled(calls.edges(*both, fill, **options))
 
-    def relate(self, subject: Group, clip: Group, fill: str = "nonzero") -> Any:
+    def relate(self, subject: Group, clip: Group, fill: str = "nonzero", **options: Any) -> Any:
         """As `polyover.relate`, of the coordinates as they are taken at this scale."""
-        return self._settled(lambda at, s, c: calls.relate(s, c, fill), subject=subject, clip=clip)
+        return calls.relate(self._taken("subject", subject), self._taken("clip", clip), fill, **options)
 
     def clip(self, shape: Group, lines: Group, fill: str = "nonzero", **options: Any) -> Any:
         """As `polyover.clip`."""
-        return self._settled(lambda at, s, l: at.paths(calls.clip(s, l, fill, **options)), shape=shape, lines=lines)
+        return self.paths(calls.clip(self._taken("shape", shape), self._taken("lines", lines), fill, **options))
 
-    def slice(self, shape: Group, lines: Group, fill: str = "nonzero") -> Any:
+    def slice(self, shape: Group, lines: Group, fill: str = "nonzero", **options: Any) -> Any:
         """As `polyover.slice`."""
-        return self._settled(lambda at, s, l: at.shapes(calls.slice(s, l, fill)), shape=shape, lines=lines)
+        return self.shapes(calls.slice(self._taken("shape", shape), self._taken("lines", lines), fill, **options))
 
-    def tiles(self, shape: Group, width: Any, height: Any, fill: str = "nonzero") -> Any:
+    def tiles(self, shape: Group, width: Any, height: Any, fill: str = "nonzero", **options: Any) -> Any:
         """As `polyover.tiles`: a cell's width and height, times the scale, are rounded, and a node is at the origin."""
-
-        def answer(at: Scaled, given: Any) -> Any:
-            wide, high = at.sides(width, height)
-            return at.shapes(calls.tiles(given, wide, high, fill))
-
-        return self._settled(answer, shape=shape)
+        sides = self.sides(width, height)
+        return self.shapes(calls.tiles(self._taken("shape", shape), *sides, fill, **options))
 
     def sides(self, width: Any, height: Any) -> WholePoint:
         """The whole width and height of a cell."""
@@ -218,12 +179,11 @@ class Scaled:
 
     def is_resolved(self, shape: Group) -> bool:
         """As `polyover.is_resolved`."""
-        return calls.is_resolved(self.whole(taken("shape", shape), "shape"))
+        return calls.is_resolved(self._taken("shape", shape))
 
     def locate(self, shape: Group, points: Iterable[Any]) -> list[str]:
         """As `polyover.locate`."""
-        queries = taken("points", [points])
-        return calls.locate(self.whole(taken("shape", shape), "shape"), self.whole(queries, "points")[0])
+        return calls.locate(self._taken("shape", shape), self._taken("points", [points])[0])
 
 
 def float_of(value: Fraction) -> float | None:

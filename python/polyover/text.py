@@ -3,7 +3,7 @@
 from __future__ import annotations
 
 from operator import index
-from typing import Any, Iterable, Mapping
+from typing import Any, Collection, Iterable
 
 from .errors import BadInput
 
@@ -20,11 +20,14 @@ RULES = {
     "xor": "Xor",
 }
 FILLS = {"evenodd": "EvenOdd", "nonzero": "NonZero", "positive": "Positive", "negative": "Negative"}
+# (how edges are split where they meet, by the numbers of the library)
+SOLVERS = ("snapped", "rounds")
+SNAPPED, ROUNDS = SOLVERS
 RELATIONS = ("intersects", "interiors_intersect", "touches", "point_intersects", "within", "disjoint", "covers")
 
 
-def known(words: Mapping[str, str], name: object, what: str) -> str:
-    """The name of a rule, which is one of those that have a word."""
+def known(words: Collection[str], name: object, what: str) -> str:
+    """The name of a rule or a solver, which is one of those that there are."""
     if not isinstance(name, str) or name not in words:
         raise BadInput(f"unknown {what} {name!r}: one of {', '.join(words)}")
     return name

@@ -98,10 +98,26 @@ class Addresses(unittest.TestCase):
         given = array("q", [0, 0, 4, 0, 4, 4])
         passed = library.library().contours(polyover.Flat(given, [3]))
         self.assertEqual(passed.coordinates, given.buffer_info()[0])
-        found = by_library.overlay([SQUARE], (), "union", "nonzero", polyover.calls.look_of(True, False, False, 0))
+        look = polyover.calls.look_of(True, False, False, 0, "snapped")
+        found = by_library.overlay([SQUARE], (), "union", "nonzero", look)
         self.assertEqual(len(found), 1)
         answer = polyover.overlay([SQUARE], arrays=True).contours.numbers
         self.assertNotIsInstance(answer.obj, array)
+
+    def test_memory_stays_as_long_as_an_array(self):
+        asked, freed = library.library(), []
+        numbers = by_library.RULE_NUMBERS["union"], by_library.FILL_NUMBERS["nonzero"]
+        look = by_library.options(polyover.calls.look_of(True, False, False, 0, "snapped"))
+        both = asked.contours([SQUARE]), asked.contours([OTHER])
+        held = asked.answer("polyover_overlay_result", *numbers, look, *both)
+        held.free = lambda pointer, free=held.free: freed.append(free(pointer))
+        arrays = [held.coordinates, memoryview(held.contour_ends), held.shape_ends[:1]]
+        expected = [each.tolist() for each in arrays]
+        del held
+        while arrays:
+            self.assertEqual((freed, [each.tolist() for each in arrays]), ([], expected[: len(arrays)]))
+            arrays.pop()
+        self.assertEqual(freed, [None])
 
 
 @with_program

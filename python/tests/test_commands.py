@@ -94,7 +94,7 @@ class Inputs(unittest.TestCase):
             (square + "run overlay Union NonZero min -1\n", "line 2: min takes a whole number from 0 to 17014"),
             (square + "run relate NonZero ogc\n", "line 2: 'ogc': no word is left for it"),
             (square + "run tiles NonZero 3\n", "line 2: tiles takes two whole numbers"),
-            (square + "run tiles NonZero 0 3\n", "line 2: the grid does not fit"),
+            (square + "run tiles NonZero 0 3\n", "line 2: the grid does not fit|cells of 0 by 3 do not fit"),
             (square + "run Edges NonZero\n", "line 2: the command is edges, not Edges"),
             (square + "run\n", "line 2: the command is one of .*: missing"),
             ("subject 0 0 4\n" + square, "line 1: 3 numbers: x and y take two for each point"),

@@ -14,7 +14,7 @@ from polyover import by_library, by_program, library
 from polyover.calls import Look
 from polyover.commands import printed
 from polyover.program import BadLine, answer, program
-from polyover.text import FILLS, RULES
+from polyover.text import FILLS, ROUNDS, RULES, SOLVERS
 
 from .inputs import COMMANDS, ROOT, cases_of_program, inputs_of
 from .rows import OTHER, SQUARE, UNSETTLED
@@ -36,13 +36,14 @@ class Declared(unittest.TestCase):
     def test_numbers(self):
         self.assertEqual(self.numbers("POLYOVER_", [each.name for each in library.Status]), list(library.Status))
         self.assertEqual(self.numbers("POLYOVER_", RULES), list(by_library.RULE_NUMBERS.values()))
+        self.assertEqual(self.numbers("POLYOVER_", SOLVERS), list(by_library.SOLVER_NUMBERS.values()))
         fills = ["even_odd", "non_zero", "positive", "negative"]
         self.assertEqual([name.replace("_", "") for name in fills], list(FILLS))
         self.assertEqual(self.numbers("POLYOVER_", fills), list(by_library.FILL_NUMBERS.values()))
 
     def test_structs(self):
-        names = {"options": "Options", "clip_options": "ClipOptions", "counts": "Counts", "path_counts": "PathCounts"}
-        for name, here in {**names, "contours": "Contours"}.items():
+        names = {"options": "Options", "clip_options": "ClipOptions", "result": "Result", "contours": "Contours"}
+        for name, here in names.items():
             found = re.search(rf"typedef struct \{{([^}}]*)\}} polyover_{name};", HEADER)
             if found:
                 fields = re.findall(r"(\w+);", re.sub(r"/\*.*?\*/", "", found[1], flags=re.S))
@@ -121,7 +122,8 @@ class Asked(unittest.TestCase):
             with self.assertRaises(fault):
                 library.check(status)
         with self.assertRaises(polyover.NotSettled):
-            by_library.overlay(UNSETTLED, (), "subject", "nonzero", PLAIN)
+            by_library.overlay(UNSETTLED, (), "subject", "nonzero", PLAIN._replace(solver=ROUNDS))
+        self.assertEqual(len(by_library.overlay(UNSETTLED, (), "subject", "nonzero", PLAIN)), 1)
 
 
 def fault_or(call, *given):
@@ -141,24 +143,24 @@ def contours(chance, size, most):
 
 
 def made(chance):
-    """The arguments of each call, by its name, over made contours."""
+    """The arguments of each call, by its name, over made contours, in rounds, as the program splits."""
     size = chance.choice((4, 20, 1000, LIMIT // 2, LIMIT))
     subject, clip, lines = (contours(chance, size, 3) for _ in range(3))
     points = [(chance.randint(0, size), chance.randint(0, size)) for _ in range(5)]
     triangles = [[(0, 0), (each, 1), (1, each)] for each in range(2, chance.randint(3, 6))] + subject[: size == 4]
     fill, rule = chance.choice(list(FILLS)), chance.choice(list(RULES))
     area, least = (chance.choice((0, 0, 3, 2**64 + 1, 2**127 - 1)) for _ in range(2))
-    look = Look(chance.random() < 0.5, chance.random() < 0.5, chance.random() < 0.5, area)
+    look = Look(chance.random() < 0.5, chance.random() < 0.5, chance.random() < 0.5, area, ROUNDS)
     sides = [chance.choice((-1, 0, 1, 3, size // 3 + 1, size // 900 + 1, LIMIT)) for _ in range(2)]
     return {
         "overlay": (subject, clip, rule, fill, look),
         "hierarchy": (subject, clip, rule, fill, look),
         "simplify": (chance.choice((subject, subject[:1], triangles[-1:])), fill, look._replace(minimum_area=least)),
-        "edges": (subject, clip, fill),
-        "relate": (subject, clip, fill),
-        "clip": (subject, lines, fill, look.keep, look.ogc),
-        "slice": (subject, lines, fill),
-        "tiles": (subject, *sides, fill),
+        "edges": (subject, clip, fill, ROUNDS),
+        "relate": (subject, clip, fill, ROUNDS),
+        "clip": (subject, lines, fill, look.keep, look.ogc, ROUNDS),
+        "slice": (subject, lines, fill, ROUNDS),
+        "tiles": (subject, *sides, fill, ROUNDS),
         "is_resolved": (chance.choice((subject, triangles)),),
         "locate": (triangles, points),
     }

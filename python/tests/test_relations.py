@@ -46,10 +46,10 @@ class Finest(unittest.TestCase):
         self.assertTrue(polyover.relate([square], [square])["covers"])
         self.assertTrue(polyover.relate([[(0, 0)]], [])["disjoint"])
 
-    def test_coarser_where_splitting_does_not_settle(self):
+    def test_coarser_where_rounds_do_not_settle(self):
         asked = []
 
-        def refusing(subject, clip, fill):
+        def refusing(subject, clip, fill, _):
             asked.append(max(x for path in subject for x, _ in path))
             if len(asked) < 3:
                 raise polyover.NotSettled("no")

@@ -2,7 +2,6 @@
 
 import random
 import unittest
-import warnings
 from decimal import Decimal
 from fractions import Fraction
 from itertools import product
@@ -10,7 +9,7 @@ from itertools import product
 import polyover
 from polyover.text import LIMIT
 
-from .rows import NESTED, UNSETTLED
+from .rows import NESTED
 
 try:
     import numpy
@@ -19,7 +18,7 @@ except ImportError:
 
 
 class ScaledFloats(unittest.TestCase):
-    """What is taken, what is given back, and what is tried again."""
+    """What is taken, and what is given back."""
 
     def test_half_a_unit_is_lost_at_most(self):
         scaled = polyover.Scaled.of_digits(2, (10, -10))
@@ -61,12 +60,9 @@ class ScaledFloats(unittest.TestCase):
         self.assertEqual(len(polyover.Scaled(4).overlay(iter([iter(points)]))), 1)
 
     def test_the_minimum_area_is_that_of_the_scale(self):
-        far = [(x + 5000.0, y + 0.0) for x, y in ((0, 0), (3, 0), (3, 3), (0, 3))]
-        contours = [[(float(x), float(y)) for x, y in contour] for contour in UNSETTLED]
-        with warnings.catch_warnings():
-            warnings.simplefilter("ignore")
-            counts = [len(polyover.Scaled(1).overlay([*contours, far], minimum_area=area)) for area in (9, 10)]
-        self.assertEqual(counts[0], counts[1] + 1)
+        square = [(0.0, 0.0), (1.5, 0.0), (1.5, 1.5), (0.0, 1.5)]
+        counts = [len(polyover.Scaled(2).overlay([square], minimum_area=area)) for area in (9, 10)]
+        self.assertEqual(counts, [1, 0])
 
     def test_whole_numbers_come_back(self):
         scaled = polyover.Scaled(1000)
@@ -91,20 +87,6 @@ class ScaledFloats(unittest.TestCase):
         self.assertEqual({x for x, _ in left[0]} | {x for x, _ in right[0]}, {0.0, 0.5, 1.0})
         with self.assertRaisesRegex(polyover.BadInput, "do not fit"):
             scaled.tiles([square], 0.001, 0.5)
-
-    def test_finer_where_splitting_does_not_settle(self):
-        contours = [[(float(x), float(y)) for x, y in contour] for contour in UNSETTLED]
-        with warnings.catch_warnings(record=True) as told:
-            warnings.simplefilter("always")
-            shapes = polyover.Scaled(1).overlay(contours, fill="nonzero")
-        self.assertEqual(len(told), 1)
-        self.assertIn("tried again at 1024", str(told[0].message))
-        self.assertTrue(shapes)
-
-    def test_no_finer_scale_than_the_range_allows(self):
-        scaled = polyover.Scaled(2**53)
-        contours = [[(float(x), float(y)) for x, y in contour] for contour in UNSETTLED]
-        self.assertFalse(scaled.finer()._fits(contours))  # pylint: disable=protected-access
 
     def test_what_is_no_number(self):
         for value in (float("nan"), float("inf"), "one"):

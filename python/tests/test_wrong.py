@@ -20,6 +20,15 @@ class Wrong(unittest.TestCase):
         with self.assertRaisesRegex(polyover.BadInput, "unknown fill rule 'odd'"):
             polyover.overlay([SQUARE], fill="odd")
 
+    def test_unknown_solvers(self):
+        of_two = ("overlay", "hierarchy", "edges", "relate", "clip", "slice")
+        asked = {**dict.fromkeys(of_two, ([SQUARE], [SQUARE])), "simplify": ([SQUARE],), "tiles": ([SQUARE], 1, 1)}
+        for name, given in asked.items():
+            for owner in (polyover, polyover.Scaled(1)):
+                for solver in ("snap", "Rounds", None, 0):
+                    with self.assertRaisesRegex(ValueError, f"unknown solver {solver!r}: one of snapped, rounds"):
+                        getattr(owner, name)(*given, solver=solver)
+
     def test_coordinates(self):
         with self.assertRaisesRegex(polyover.BadInput, "no whole number"):
             polyover.overlay([[(0.5, 0), (1, 0), (1, 1)]])
@@ -52,7 +61,7 @@ class Wrong(unittest.TestCase):
 
     def test_refusals(self):
         with self.assertRaises(polyover.NotSettled):
-            polyover.overlay([UNSETTLED[0], UNSETTLED[1]], (), "clip")
+            polyover.overlay([UNSETTLED[0], UNSETTLED[1]], (), "clip", solver="rounds")
 
     def test_contour_that_meets_itself(self):
         with self.assertRaises(polyover.NotResolved) as found:

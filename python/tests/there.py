@@ -17,7 +17,7 @@ def is_there(found):
 
 HAS_LIBRARY, HAS_PROGRAM = is_there(library.library), is_there(program)
 with_library = skipUnless(HAS_LIBRARY, "no library for C (make -C c)")
-with_program = skipUnless(HAS_PROGRAM, "no program (README.md, \"Run it\")")
+with_program = skipUnless(HAS_PROGRAM, "no program (README.md, \"From source\")")
 with_both = skipUnless(HAS_LIBRARY and HAS_PROGRAM, "no library for C (make -C c), or no program beside it")
 
 

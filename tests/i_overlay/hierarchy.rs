@@ -1,5 +1,6 @@
 //! Which shape lies in which hole, at each coordinate type and in both output directions.
 
+use crate::alone::rows_are_alone;
 use crate::contours::{Points, add_contours, shapes_of};
 use crate::rows::{Row, builder_of};
 use crate::trees::gives_hierarchy;
@@ -8,6 +9,7 @@ use i_overlay::fill_rule::FillRule;
 use i_overlay::hierarchy::{ChildLink, FlatShapeHierarchy};
 use i_overlay::overlay::{ContourDirection, IntOverlayOptions, Overlay, ShapeType};
 use i_overlay::overlay_rule::OverlayRule;
+use i_overlay::solver::Solver;
 use overlay_geom::error::OverlayError;
 use overlay_geom::integer::OverlayInt;
 use std::alloc::Global;
@@ -180,7 +182,16 @@ fn shows<I: OverlayInt + PartialEq + From<i16>>(
     Ok(hierarchy.shapes.to_shapes()? == wanted && hierarchy.links == links)
 }
 
-/// The builder and a view of it tell the same, by trees and by lists, and a copy is equal.
+// The winding of a shape in this direction.
+fn turn_of(direction: ContourDirection) -> i64 {
+    match direction {
+        ContourDirection::CounterClockwise => 1,
+        ContourDirection::Clockwise => -1,
+    }
+}
+
+/// The builder and a view of it tell the same, by trees and by lists and by snapping, a copy is equal, and each shape
+/// winds by itself.
 pub(crate) fn check<I: OverlayInt + PartialEq + From<i16>>(
     rt: &impl Abort,
     alloc: Global,
@@ -190,6 +201,10 @@ pub(crate) fn check<I: OverlayInt + PartialEq + From<i16>>(
     let mut overlay = builder_of::<I>(rt, alloc, &linked.row, options)?;
     let hierarchy = overlay.overlay_hierarchy(linked.row.rule, linked.row.fill)?;
     assert!(rt; shows(alloc, &hierarchy, linked)?);
+    assert!(rt; rows_are_alone(alloc, linked.row.wanted, turn_of(options.output_direction))?);
+    let mut snapped = builder_of::<I>(rt, alloc, &linked.row, options)?;
+    snapped.solver = Solver::SNAPPED;
+    assert!(rt; snapped.overlay_hierarchy(linked.row.rule, linked.row.fill)? == hierarchy);
     assert!(rt; hierarchy.clone()? == hierarchy);
     assert!(rt; gives_hierarchy(rt, alloc, &linked.row, options, &hierarchy)?);
     let Some(view) = overlay.build_graph_view(linked.row.fill)? else {

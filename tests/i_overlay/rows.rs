@@ -53,8 +53,8 @@ fn answers<I: OverlayInt + PartialEq + From<i16>>(
     Ok(shapes == wanted)
 }
 
-// Whether a builder with the row's contours answers its shapes, and answers them again, and whether they come with
-// trees alone and with lists alone.
+// Whether a builder with the row's contours answers its shapes by each solver, and by rounds answers them again, and
+// whether they come with trees alone and with lists alone.
 fn holds<I: OverlayInt + PartialEq + From<i16>>(
     rt: &impl Abort,
     alloc: Global,
@@ -64,8 +64,11 @@ fn holds<I: OverlayInt + PartialEq + From<i16>>(
     let mut overlay = builder_of(rt, alloc, row, options)?;
     let first = answers::<I>(alloc, &mut overlay, row) == Ok(true);
     let again = answers::<I>(alloc, &mut overlay, row) == Ok(true);
+    let mut snapped = builder_of(rt, alloc, row, options)?;
+    snapped.solver = Solver::SNAPPED;
+    let by_snapping = answers::<I>(alloc, &mut snapped, row) == Ok(true);
     let by_each = gives_shapes::<I>(rt, alloc, row, options) == Ok(true);
-    Ok(first && again && by_each)
+    Ok(first && again && by_snapping && by_each)
 }
 
 /// Checks the row with the default options.

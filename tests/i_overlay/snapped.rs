@@ -9,6 +9,7 @@ use i_overlay::relate::PredicateOverlay;
 use i_overlay::solver::Solver;
 use overlay_geom::error::OverlayError;
 use overlay_geom::integer::OverlayInt;
+use overlay_geom::path::IntShapes;
 use std::alloc::Global;
 use std::process::Abort;
 use std::test::Fail;
@@ -18,6 +19,18 @@ use std::test::Fail;
 const FIRST: [(i16, i16); 3] = [(2, 0), (0, 66), (2, -66)];
 
 const SECOND: [(i16, i16); 3] = [(1, 0), (0, 67), (-1, 0)];
+
+// One contour that runs round both needles, and between them twice along one edge, which cancels out.
+const AROUND_BOTH: [(i16, i16); 8] = [
+    (2, 0),
+    (0, 66),
+    (2, -66),
+    (-1, 0),
+    (1, 0),
+    (0, 67),
+    (-1, 0),
+    (2, -66),
+];
 
 // A builder of the needles by a solver: the first one is the subject, and the second one the clip.
 fn needles<I: OverlayInt + From<i16> + PartialEq>(
@@ -101,6 +114,72 @@ fn relations<I: OverlayInt + From<i16> + PartialEq>(
     Ok(())
 }
 
+// Whether these are the contours of one shape that the needles are simplified to.
+fn is_union<I: OverlayInt + From<i16> + PartialEq>(
+    alloc: Global,
+    shapes: &IntShapes<I, Global>,
+) -> Result<bool, OverlayError> {
+    let outline = contour_of::<I>(alloc, &[(0, 65), (-1, 0), (1, 0), (2, -66), (2, 0)])?;
+    Ok(shapes.len() == 1 && shapes[0].len() == 1 && shapes[0][0].as_slice() == outline.as_slice())
+}
+
+// Simplified as one shape, and as a resource, the needles are refused by the default solver, rounds, and united by
+// snap rounding.
+fn simplified<I: OverlayInt + From<i16> + PartialEq>(
+    rt: &impl Abort,
+    alloc: Global,
+) -> Result<(), OverlayError> {
+    let mut shape = Vec::new(alloc);
+    shape.push(contour_of::<I>(alloc, &FIRST)?)?;
+    shape.push(contour_of::<I>(alloc, &SECOND)?)?;
+    assert_in_range(rt, &shape);
+    let rule = FillRule::NonZero;
+    let options = IntOverlayOptions::default();
+    let mut by_rounds = Overlay::new(alloc, 8)?;
+    assert!(rt; by_rounds.solver == Solver::ABSOLUTE);
+    assert!(rt;
+        matches!(
+            by_rounds.simplify_shape(&shape, rule),
+            Err(OverlayError::NotSettled)
+        )
+    );
+    assert!(rt;
+        matches!(
+            by_rounds.simplify_source(&shape, rule),
+            Err(OverlayError::NotSettled)
+        )
+    );
+    let mut snapped = Overlay::new_custom(alloc, 8, options, Solver::SNAPPED)?;
+    let Some(shapes) = snapped.simplify_shape(&shape, rule)? else {
+        assert!(rt; false, "they stay as they are");
+        return Ok(());
+    };
+    assert!(rt; is_union(alloc, &shapes)?);
+    assert!(rt; is_union(alloc, &snapped.simplify_source(&shape, rule)?)?);
+    Ok(())
+}
+
+// So the contour is simplified to the same shape.
+fn one_contour<I: OverlayInt + From<i16> + PartialEq>(
+    rt: &impl Abort,
+    alloc: Global,
+) -> Result<(), OverlayError> {
+    let contour = contour_of::<I>(alloc, &AROUND_BOTH)?;
+    assert_in_range(rt, &contour);
+    let rule = FillRule::NonZero;
+    let options = IntOverlayOptions::default();
+    let mut by_rounds = Overlay::new(alloc, 8)?;
+    let refused = by_rounds.simplify_contour(&contour, rule);
+    assert!(rt; matches!(refused, Err(OverlayError::NotSettled)));
+    let mut snapped = Overlay::new_custom(alloc, 8, options, Solver::SNAPPED)?;
+    let Some(shapes) = snapped.simplify_contour(&contour, rule)? else {
+        assert!(rt; false, "it stays as it is");
+        return Ok(());
+    };
+    assert!(rt; is_union(alloc, &shapes)?);
+    Ok(())
+}
+
 #[test]
 fn needles_are_united(rt: HostRuntime) -> Result<(), Fail> {
     each_wide!(rt, union)
@@ -119,4 +198,14 @@ fn whole_crossings_do_not_move(rt: HostRuntime) -> Result<(), Fail> {
 #[test]
 fn needles_are_related(rt: HostRuntime) -> Result<(), Fail> {
     each_wide!(rt, relations)
+}
+
+#[test]
+fn needles_are_simplified(rt: HostRuntime) -> Result<(), Fail> {
+    each_wide!(rt, simplified)
+}
+
+#[test]
+fn one_contour_is_simplified(rt: HostRuntime) -> Result<(), Fail> {
+    each_wide!(rt, one_contour)
 }

@@ -5,4 +5,5 @@ mod clip;
 mod clip_calls;
 mod points;
 mod slice;
+mod solvers;
 mod views;

@@ -2,4 +2,5 @@
 
 mod fits;
 mod points;
+mod solvers;
 mod tiles;

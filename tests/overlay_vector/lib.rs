@@ -7,6 +7,7 @@ mod counted;
 mod edges;
 mod rows;
 mod shapes;
+mod solvers;
 mod sources;
 mod stores;
 mod traced;

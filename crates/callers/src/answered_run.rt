@@ -9,7 +9,7 @@ use polyover_engine::read_turns::ReadTurns;
 use polyover_engine::write_turns::WriteTurns;
 use std::alloc::Allocator;
 
-/// Whether an answer was written.
+/// Returns whether an answer was written.
 pub fn is_answered<A: Allocator + Clone, R: ReadTurns, W: WriteTurns>(
     alloc: A,
     reader: &mut R,

@@ -15,7 +15,7 @@ use overlay_relate::containment::IntPointContainment;
 use overlay_relate::location::PointLocation;
 use std::alloc::Allocator;
 
-/// Where each of the points lies among the shapes.
+/// Returns where each point lies among the shapes.
 pub fn locate<I: OverlayInt, A: Allocator + Clone>(
     alloc: A,
     shapes: &IntShapes<I, A>,

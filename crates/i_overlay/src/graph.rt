@@ -56,9 +56,9 @@ impl<I: OverlayInt, A: Allocator + Clone> OverlayGraph<'_, I, (), A> {
         extract_shapes(self.viewed.graph(), overlay_rule, options, buffer)
     }
 
-    /// The same shapes in one list, and the links from them to the shapes that lie in their holes, as
-    /// `Overlay::overlay_hierarchy` gives them. The buffer lends its room; what it holds changes no answer. The
-    /// only refusal is `Memory`.
+    /// Returns the shapes in one list, and a link for each shape that lies in a hole, as
+    /// `Overlay::overlay_hierarchy` does. The buffer lends its room; what it holds changes no answer. The only
+    /// refusal is `Memory`.
     pub fn extract_shape_hierarchy(
         &self,
         overlay_rule: OverlayRule,
@@ -120,8 +120,8 @@ impl<I: OverlayInt, D: OverlayEdgeData, A: Allocator + Clone> OverlayGraph<'_, I
         self.extract_vector_shapes_with_store(overlay_rule, buffer, &mut D::Store::default())
     }
 
-    /// The same shapes, with a store of the caller's for what `reversed` does. The only refusal is `Memory`, and
-    /// then the store has what was done until then.
+    /// Returns the shapes of `extract_vector_shapes`, with the caller's store for `reversed`. The only refusal is
+    /// `Memory`, and then the store has what was done until then.
     pub fn extract_vector_shapes_with_store(
         &self,
         overlay_rule: OverlayRule,
@@ -159,9 +159,9 @@ impl<I: OverlayInt, D: OverlayEdgeData, A: Allocator + Clone> OverlayGraph<'_, I
         self.extract_vectors_with_store(&mut D::Store::default())
     }
 
-    /// The same edges, with the store of their data at hand. The store stays as it is: each edge is seen
-    /// from its smaller to its larger end, as the graph holds it, so that no data is reversed. The only
-    /// refusal is `Memory`.
+    /// Returns the edges of `extract_vectors`, with the store of their data at hand. The store stays as it is:
+    /// each edge is seen from its smaller to its larger end, as the graph holds it, so that no data is reversed.
+    /// The only refusal is `Memory`.
     pub fn extract_vectors_with_store(
         &self,
         store: &mut D::Store,

@@ -1,4 +1,4 @@
-//! Shapes in one list, and which of them lie in holes of which.
+//! Shapes in one list, and links from holes to the shapes in them.
 
 pub use overlay_extract::child_link::ChildLink;
 pub use overlay_extract::hierarchy::FlatShapeHierarchy;

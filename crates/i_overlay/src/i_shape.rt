@@ -1,4 +1,4 @@
-//! Paths, shapes and what has paths, under the paths of the crate that they come from in Rust.
+//! Paths, shapes and resources, under the paths of the crate that they come from in Rust.
 
 /// Contours and shapes whose points stand in one list.
 pub mod flat {
@@ -22,7 +22,7 @@ pub mod int {
     }
 }
 
-/// What has paths.
+/// Resources: values that have paths.
 pub mod source {
     /// Whole numbers.
     pub mod int {

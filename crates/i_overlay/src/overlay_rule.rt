@@ -1,3 +1,3 @@
-//! Overlay rules: of which points the result consists.
+//! Overlay rules: the points that the result takes.
 
 pub use overlay_arrange::overlay_rule::OverlayRule;

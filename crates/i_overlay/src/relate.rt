@@ -1,19 +1,15 @@
 //! How two resources lie to each other: predicates in one call, and the builder that answers them, one or all.
 
-ghost use Rattle.std.specs.Prelude.{◌≡◌, false, All, IfOk, IfErr};
+ghost use Rattle.std.specs.Prelude.{All, IfOk, IfErr};
 ghost use Rattle.overlay_arrange.specs.declared.fill_rule.FillRule.TheVariants.{EvenOdd};
 ghost use Rattle.overlay_geom.specs.Points.{AllInRange};
 ghost use Rattle.overlay_geom.specs.declared.solver.Solver.TheVariants.{Rounds};
-ghost use Rattle.overlay_builder.specs.GivenPaths.{subject_and_clip, added_paths};
-ghost use Rattle.overlay_builder.specs.PathLists.{HoldsPaths, MayRefuseBuilder};
+ghost use Rattle.overlay_builder.specs.GivenPaths.{subject_and_clip};
 ghost use Rattle.overlay_plane.specs.Predicates.{Intersects, InteriorsIntersect, Touches, PointIntersects};
 ghost use Rattle.overlay_plane.specs.Predicates.{IsWithin, IsDisjoint};
-ghost use Rattle.overlay_relate.specs.PredicateBuilder.{empty_builder};
 ghost use Rattle.i_overlay.specs.OneShot.{MayRefusePaths};
 ghost use Rattle.i_overlay.specs.Relations.{TellsOfPaths};
 
-use crate::fill_rule::FillRule;
-use crate::solver::Solver;
 use overlay_geom::error::OverlayError;
 use overlay_geom::integer::OverlayInt;
 use overlay_geom::resource::IntShapeResource;
@@ -28,7 +24,7 @@ use std::alloc::Allocator;
 ///
 /// Refusals are `Memory`, `NotSettled` and `TooManyEdges`; nothing of the caller's is changed.
 pub trait IntRelate<I: OverlayInt>: IntShapeResource<I> {
-    /// Whether the two have a common point.
+    /// Returns whether the two have a common point.
     fn intersects<R1: IntShapeResource<I>, A: Allocator + Clone>(
         &self,
         alloc: A,
@@ -41,7 +37,7 @@ pub trait IntRelate<I: OverlayInt>: IntShapeResource<I> {
         ensures err { IfErr result (MayRefusePaths Rounds (subject_and_clip (Self.paths self.now)
             (R1.paths other.now))) };
 
-    /// Whether both fill some point off the edges.
+    /// Returns whether both fill some point off the edges.
     fn interiors_intersect<R1: IntShapeResource<I>, A: Allocator + Clone>(
         &self,
         alloc: A,
@@ -54,7 +50,7 @@ pub trait IntRelate<I: OverlayInt>: IntShapeResource<I> {
         ensures err { IfErr result (MayRefusePaths Rounds (subject_and_clip (Self.paths self.now)
             (R1.paths other.now))) };
 
-    /// Whether the two have a common point, and their interiors have none.
+    /// Returns whether the two have a common point, and their interiors have none.
     fn touches<R1: IntShapeResource<I>, A: Allocator + Clone>(
         &self,
         alloc: A,
@@ -67,7 +63,7 @@ pub trait IntRelate<I: OverlayInt>: IntShapeResource<I> {
         ensures err { IfErr result (MayRefusePaths Rounds (subject_and_clip (Self.paths self.now)
             (R1.paths other.now))) };
 
-    /// Whether the two meet in single points alone.
+    /// Returns whether the two meet in single points alone.
     fn point_intersects<R1: IntShapeResource<I>, A: Allocator + Clone>(
         &self,
         alloc: A,
@@ -80,7 +76,7 @@ pub trait IntRelate<I: OverlayInt>: IntShapeResource<I> {
         ensures err { IfErr result (MayRefusePaths Rounds (subject_and_clip (Self.paths self.now)
             (R1.paths other.now))) };
 
-    /// Whether this resource lies within the other one.
+    /// Returns whether this resource lies within the other.
     fn within<R1: IntShapeResource<I>, A: Allocator + Clone>(
         &self,
         alloc: A,
@@ -93,7 +89,7 @@ pub trait IntRelate<I: OverlayInt>: IntShapeResource<I> {
         ensures err { IfErr result (MayRefusePaths Rounds (subject_and_clip (Self.paths self.now)
             (R1.paths other.now))) };
 
-    /// Whether the two have no common point.
+    /// Returns whether the two have no common point.
     fn disjoint<R1: IntShapeResource<I>, A: Allocator + Clone>(
         &self,
         alloc: A,
@@ -106,7 +102,7 @@ pub trait IntRelate<I: OverlayInt>: IntShapeResource<I> {
         ensures err { IfErr result (MayRefusePaths Rounds (subject_and_clip (Self.paths self.now)
             (R1.paths other.now))) };
 
-    /// Whether the other resource lies within this one: `within` of the two exchanged.
+    /// Returns whether the other resource lies within this resource: `within` of the two exchanged.
     fn covers<R1: IntShapeResource<I>, A: Allocator + Clone>(
         &self,
         alloc: A,
@@ -126,7 +122,7 @@ impl<I: OverlayInt, R0: IntShapeResource<I>> IntRelate<I> for R0 {
         alloc: A,
         other: &R1,
     ) -> Result<bool, OverlayError> {
-        let mut overlay = pair_of(alloc, self, other)?;
+        let mut overlay = PredicateOverlay::from_subj_and_clip(alloc, self, other)?;
         overlay.intersects()
     }
 
@@ -135,7 +131,7 @@ impl<I: OverlayInt, R0: IntShapeResource<I>> IntRelate<I> for R0 {
         alloc: A,
         other: &R1,
     ) -> Result<bool, OverlayError> {
-        let mut overlay = pair_of(alloc, self, other)?;
+        let mut overlay = PredicateOverlay::from_subj_and_clip(alloc, self, other)?;
         overlay.interiors_intersect()
     }
 
@@ -144,7 +140,7 @@ impl<I: OverlayInt, R0: IntShapeResource<I>> IntRelate<I> for R0 {
         alloc: A,
         other: &R1,
     ) -> Result<bool, OverlayError> {
-        let mut overlay = pair_of(alloc, self, other)?;
+        let mut overlay = PredicateOverlay::from_subj_and_clip(alloc, self, other)?;
         overlay.touches()
     }
 
@@ -153,7 +149,7 @@ impl<I: OverlayInt, R0: IntShapeResource<I>> IntRelate<I> for R0 {
         alloc: A,
         other: &R1,
     ) -> Result<bool, OverlayError> {
-        let mut overlay = pair_of(alloc, self, other)?;
+        let mut overlay = PredicateOverlay::from_subj_and_clip(alloc, self, other)?;
         overlay.point_intersects()
     }
 
@@ -162,7 +158,7 @@ impl<I: OverlayInt, R0: IntShapeResource<I>> IntRelate<I> for R0 {
         alloc: A,
         other: &R1,
     ) -> Result<bool, OverlayError> {
-        let mut overlay = pair_of(alloc, self, other)?;
+        let mut overlay = PredicateOverlay::from_subj_and_clip(alloc, self, other)?;
         overlay.within()
     }
 
@@ -180,30 +176,7 @@ impl<I: OverlayInt, R0: IntShapeResource<I>> IntRelate<I> for R0 {
         alloc: A,
         other: &R1,
     ) -> Result<bool, OverlayError> {
-        let mut exchanged = pair_of(alloc, other, self)?;
+        let mut exchanged = PredicateOverlay::from_subj_and_clip(alloc, other, self)?;
         exchanged.within()
     }
-}
-
-// A builder for predicates of the subject and the clip, under the rule EvenOdd, by the default solver.
-fn pair_of<I: OverlayInt, R0: IntShapeResource<I>, R1: IntShapeResource<I>, A: Allocator + Clone>(
-    alloc: A,
-    subj: &R0,
-    clip: &R1,
-) -> Result<PredicateOverlay<I, A>, OverlayError>
-    requires subj_in_range { All (AllInRange I.limit) (R0.paths subj.now) }
-    requires clip_in_range { All (AllInRange I.limit) (R1.paths clip.now) }
-    ensures ok { IfOk result (λ o. HoldsPaths (added_paths false
-        (subject_and_clip (R0.paths subj.now) (R1.paths clip.now))) o.edges) }
-    ensures made { IfOk result (λ o. o ≡ record (empty_builder EvenOdd Rounds) { edges = o.edges }) }
-    ensures err { IfErr result (MayRefuseBuilder (added_paths false
-        (subject_and_clip (R0.paths subj.now) (R1.paths clip.now)))) }
-{
-    PredicateOverlay::from_subj_and_clip_custom(
-        alloc,
-        subj,
-        clip,
-        FillRule::EvenOdd,
-        Solver::ABSOLUTE,
-    )
 }

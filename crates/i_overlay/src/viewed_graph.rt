@@ -12,8 +12,8 @@ use overlay_geom::integer::OverlayInt;
 use std::alloc::Allocator;
 use std::marker::Model;
 
-/// The graph of an arrangement at every point of which as many steps enter as leave, of the subject and
-/// of the clip; and the options by which contours are extracted from it.
+/// The graph of an arrangement with balanced counts: as many steps of the subject, and of the clip, enter each
+/// point as leave it. With it stand the options of its extractions.
 #[derive(Drop)]
 pub struct ViewedGraph<I: OverlayInt, C: EdgeCount, A: Allocator> {
     graph: BalancedGraph<I, C, A>,

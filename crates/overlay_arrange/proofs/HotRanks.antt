@@ -1,13 +1,13 @@
 -- Points in their order: where those begin that do not lie left of x, or that lie right of it, and those in the span of
 -- an edge.
-use Rattle.std.proofs.Common.{◌≡◌, ◌⊎◌, ⊎_elim, inl, inr, ℕ, ◌<◌, ◌≤◌, Bool, true, false, ℤ, ◌<ℤ◌, ◌≤ℤ◌, int_lt, int_le}
+use Rattle.std.proofs.Common.{◌≡◌, ⊎_elim, ℕ, ◌<◌, ◌≤◌, Bool, true, false, ℤ, ◌<ℤ◌, ◌≤ℤ◌, int_lt, int_le}
 use Rattle.std.proofs.Common.{List, length, get_or, map, sym, ◌∙◌, subst, arith}
 use Rattle.std.specs.List.Sorted.{IsPartitionedBy, IsPartitionPoint}
 use Rattle.std.proofs.lemmas.Bool.{cases_lt}
 use Rattle.std.proofs.lemmas.List.{get_or_default, get_or-map, length-map}
 use Rattle.std.proofs.Math.Nat.{eq-or-lt_of_le}
 use Rattle.overlay_geom.specs.Plane.{Point, point_lt}
-use Rattle.overlay_geom.specs.Edges.{CountedEdge, ends_of}
+use Rattle.overlay_geom.specs.Edges.{CountedEdge}
 use Rattle.overlay_geom.specs.Points.{plain_point, plain_points}
 use Rattle.overlay_geom.specs.declared.point.IntPoint.{IntPoint}
 use Rattle.overlay_geom.proofs.Entries.{some_entry}
@@ -16,11 +16,8 @@ use Rattle.overlay_geom.proofs.PointOrder.{Decides-point_lt}
 use Rattle.overlay_geom.proofs.Signs.{linear}
 use Rattle.overlay_plane.proofs.Tests.{ge_from_test, gt_from_test, le_from_test, lt_from_test, test_from_le}
 use Rattle.overlay_plane.proofs.Tests.{test_from_lt}
-use Rattle.overlay_plane.specs.SnapPoints.{line_meets, meets_pixel}
-use Rattle.overlay_plane.proofs.PixelTests.{Decides-meets_pixel, IsInBox}
-use Rattle.overlay_arrange.specs.HotPoints.{ArePointsAscending, AreRanksNear, IsSpanOf, IsSplitAt}
+use Rattle.overlay_arrange.specs.HotPoints.{ArePointsAscending, IsSpanOf, IsSplitAt}
 use Rattle.overlay_arrange.specs.Meetings.{IsAt}
-use Rattle.overlay_arrange.specs.Near.{AreBetween}
 
 -- ---- splits
 
@@ -55,6 +52,21 @@ module _ {I : Type 0} (whole : I → ℤ) (vs : List (IntPoint I)) (up : ArePoin
       ((Decides-point_lt (plain_point whole (get_or vs j d)) (plain_point whole (get_or vs k d))).0
       (AllPairs-unmap (λ v w. point_lt v w ≡ true) (plain_point whole) vs up j k d less within)).x)
       (eq-or-lt_of_le le)
+
+  -- a point between two places lies between the points there
+  pub amid_points : (from k to : ℕ) (a b : IntPoint I) (v : Point) → from ≤ k → k ≤ to → to < length vs →
+      a ≡ get_or vs from a → b ≡ get_or vs to b → IsAt (plain_points whole vs) k v →
+      (whole a.x ≤ℤ v.x) × (v.x ≤ℤ whole b.x)
+  amid_points from k to a b v past up_to within a_is b_is at_v = (
+    subst (λ (u : Point). whole a.x ≤ℤ u.x) (is a)
+        (subst (λ (u : IntPoint I). whole u.x ≤ℤ whole (get_or vs k a).x) (sym a_is)
+        (no_less from k a past (omega (arith, up_to, within)))),
+    subst (λ (u : Point). u.x ≤ℤ whole b.x) (is b)
+        (subst (λ (u : IntPoint I). whole (get_or vs k b).x ≤ℤ whole u.x) (sym b_is) (no_less k to b up_to within)),
+  )
+    where
+      is : (d : IntPoint I) → plain_point whole (get_or vs k d) ≡ v
+      is d = sym (get_or-map (plain_point whole) vs k d v (omega (arith, up_to, within))) ∙ at_v.1
 
   module _ (x : ℤ) where
     -- the point lies left of x, or not right of it
@@ -119,27 +131,3 @@ module _ (vs : List Point) (e : CountedEdge) (low high : ℕ) (forward : e.a.x �
           let a = left.before high v back at in
           let b = right.from high v (omega arith) at in
           omega (linear, a, b, forward)
-
--- ---- pixels
-
--- a point whose pixel an edge meets lies in the edge's span
-pub met_in_span : (e : CountedEdge) (v : Point) → e.a.x ≤ℤ e.b.x → meets_pixel (ends_of e) v ≡ true →
-    (e.a.x ≤ℤ v.x) × (v.x ≤ℤ e.b.x)
-met_in_span e v forward meets = by ((Decides-meets_pixel (ends_of e) v).0 meets)
-  where
-    by : (((v ≡ e.a) ⊎ (v ≡ e.b)) ⊎ (IsInBox (ends_of e) v × (line_meets (ends_of e) v ≡ true))) →
-        (e.a.x ≤ℤ v.x) × (v.x ≤ℤ e.b.x)
-    by (inl (inl is)) = subst (λ (u : Point). (e.a.x ≤ℤ u.x) × (u.x ≤ℤ e.b.x)) (sym is) (omega linear, forward)
-    by (inl (inr is)) = subst (λ (u : Point). (e.a.x ≤ℤ u.x) × (u.x ≤ℤ e.b.x)) (sym is) (forward, omega linear)
-    by (inr (box, line)) = ⊎_elim (λ up. up) (λ down. (let a = down.0 in let b = down.1 in
-        (omega (linear, a, b, forward), omega (linear, a, b, forward)))) box.0
-
--- so all ranks of the span are those of the points whose pixels it may meet
-pub ranks_of_span : (vs : List Point) (e : CountedEdge) (low high : ℕ) (ranks : List ℕ) → e.a.x ≤ℤ e.b.x →
-    IsSpanOf vs e low high → AreBetween low high ranks → AreRanksNear vs e ranks
-ranks_of_span vs e low high ranks forward span between = record {
-  within = λ k at. let b = between.within k at in let less = b.1 in let in_all = span.within in
-      omega (arith, less, in_all);
-  all = λ k v at meets. let x = met_in_span e v forward meets in let there = span.all k v at x.0 x.1 in
-      between.all k there.0 there.1;
-}

@@ -21,6 +21,7 @@ pub mod FirstEdges
 pub mod GatheredMeetings
 pub mod GatheredPixels
 pub mod HeightOrder
+pub mod HeightRuns
 pub mod HeldRuns
 pub mod HeldWeight
 pub mod HotLists
@@ -34,10 +35,13 @@ pub mod NearChanged
 pub mod NearEdges
 pub mod OpenPairs
 pub mod PairMeetings
+pub mod PassedCorners
 pub mod Pieces
 pub mod PixelBounds
+pub mod PlacedExtents
 pub mod PushedReversed
 pub mod PutPlaces
+pub mod RankSearches
 pub mod ReachedStores
 pub mod ReversedCounts
 pub mod RoundsTaken
@@ -54,6 +58,7 @@ pub mod SnappedThrough
 pub mod SnapsTaken
 pub mod SolverRounds
 pub mod SortedPoints
+pub mod SpanWithin
 pub mod StartsTogether
 pub mod StripOrder
 pub mod Sweepable

@@ -1,12 +1,11 @@
 -- Extents strip by strip: with one more, and with those of the last strip in another order; and what a search by strips
 -- passes over.
 use Rattle.std.proofs.Common.{◌≡◌, ⊎_elim, inl, inr, ◌⊎◌, ℕ, ◌+◌, ◌*◌, ◌-◌, ◌/◌, ◌%◌, ◌<◌, ◌≤◌, List, [], ◌∷◌, ◌++◌}
-use Rattle.std.proofs.Common.{length, map, get_or, AllPairs, Contains, ◌<ℤ◌, ◌≤ℤ◌, refl, sym, ap, ◌∙◌, subst, arith}
+use Rattle.std.proofs.Common.{length, get_or, AllPairs, Contains, ◌<ℤ◌, ◌≤ℤ◌, refl, sym, ap, ◌∙◌, subst, arith}
 use Rattle.std.specs.List.Sorted.{IsPermutation}
 use Rattle.std.proofs.lemmas.Bool.{cases_lt}
 use Rattle.std.proofs.lemmas.Nat.{div-add-mod'}
 use Rattle.std.proofs.lemmas.List.{append_assoc, get_or_default, get_or_push, get_or-append-add, length-append}
-use Rattle.std.proofs.lemmas.List.{length-map, map-append}
 use Rattle.std.proofs.lemmas.List.{append-nil}
 use Rattle.std.proofs.lemmas.List.Sorted.{Contains-permutation, IsPermutation-refl, IsPermutation-sym}
 use Rattle.std.proofs.lemmas.List.Sorted.{IsPermutation-trans}
@@ -15,39 +14,28 @@ use Rattle.std.proofs.Math.ListN.{get_or-append}
 use Rattle.std.proofs.Math.Nat.{add-mod_right, add-mul, div-eq_of_lt-le, div-lt_iff_lt-mul, div-mul-le_self}
 use Rattle.std.proofs.Math.Nat.{eq-or-lt_of_le, le-div_iff_mul-le}
 use Rattle.std.proofs.Math.Nat.{mod-eq_of_lt, mod-lt, mul-le-mul_right}
-use Rattle.overlay_geom.specs.Edges.{CountedEdge}
-use Rattle.overlay_geom.specs.Numbered.{Numbered, numbered}
-use Rattle.overlay_geom.proofs.Numbered.{numbered_more, items_numbered}
 use Rattle.overlay_geom.proofs.Signs.{linear}
-use Rattle.overlay_arrange.specs.Extents.{Extent, extent_at, extent_of, extents_of, AreByHeights, AreInStrips}
+use Rattle.overlay_arrange.specs.Extents.{Extent, AreByHeights, AreInStrips}
 use Rattle.overlay_arrange.specs.Meetings.{IsAt}
 use Rattle.overlay_arrange.specs.Near.{AreApartFrom}
 use Rattle.overlay_arrange.proofs.ExtentBlocks.{same_block}
 use Rattle.overlay_arrange.proofs.GatheredMeetings.{one_entry}
 
--- the extents of one edge more
-extents_more : (es : List CountedEdge) (e : CountedEdge) → extents_of (es ++ e ∷ []) ≡ extents_of es
-    ++ extent_of e (length es) ∷ []
-extents_more es e =
-    ap (map extent_at) (numbered_more 0 es e)
-    ∙ map-append extent_at (numbered 0 es) (record { item = e; place = 0 + length es } ∷ [])
-    ∙ ap (λ n. extents_of es ++ extent_of e n ∷ []) (let same : 0 + length es ≡ length es = omega arith in same)
-
--- with the extent of the next edge behind them they are in strips
-strips_pushed : (width : ℕ) (ss : List Extent) (e : CountedEdge) → AreInStrips width ss →
-    AreInStrips width (ss ++ extent_of e (length ss) ∷ [])
-strips_pushed width ss e are k s at_s = ⊎_elim here before
-    (eq-or-lt_of_le (let l = length-append ss (extent_of e (length ss) ∷ []) in let lt = at_s.0 in
+-- with an extent at its place behind them they are in strips
+strips_pushed : (width : ℕ) (ss : List Extent) (t : Extent) → t.first ≡ length ss → t.last ≡ length ss →
+    AreInStrips width ss → AreInStrips width (ss ++ t ∷ [])
+strips_pushed width ss t first last are k s at_s = ⊎_elim here before
+    (eq-or-lt_of_le (let l = length-append ss (t ∷ []) in let lt = at_s.0 in
     let le : k ≤ length ss = omega (arith, l, lt) in le))
   where
     here : k ≡ length ss → (s.first / width ≡ k / width) × (s.last ≡ s.first)
     here same =
-        let is : extent_of e (length ss) ≡ s = sym (get_or_push ss (extent_of e (length ss)) s k (sym same)) ∙ at_s.1 in
-        subst (λ (t : Extent). (t.first / width ≡ k / width) × (t.last ≡ t.first)) is
-        (ap (λ n. n / width) (sym same), refl)
+        let is : t ≡ s = sym (get_or_push ss t s k (sym same)) ∙ at_s.1 in
+        subst (λ (u : Extent). (u.first / width ≡ k / width) × (u.last ≡ u.first)) is
+        (ap (λ n. n / width) (first ∙ sym same), last ∙ sym first)
 
     before : k < length ss → (s.first / width ≡ k / width) × (s.last ≡ s.first)
-    before less = are k s (less, sym (get_or-append ss (extent_of e (length ss) ∷ []) s k less) ∙ at_s.1)
+    before less = are k s (less, sym (get_or-append ss (t ∷ []) s k less) ∙ at_s.1)
 
 -- what stands in the second part of a list stands there further on
 in_second : (xs ys : List Extent) (k : ℕ) (s : Extent) → length xs ≤ k → IsAt (xs ++ ys) k s → Contains ys s
@@ -136,12 +124,12 @@ module _ (width : ℕ) (some : 0 < width) where
 
 -- ---- strip by strip
 
--- the extents of edges: of finished strips, and of the strip so far
-pub record StripsSoFar (width : ℕ) (es : List CountedEdge) (xs ys : List Extent) : Type 0 where
-  pub permutation : IsPermutation (extents_of es) (xs ++ ys)
+-- the given extents: those in finished strips, and those in the strip so far
+pub record StripsSoFar (width : ℕ) (given xs ys : List Extent) : Type 0 where
+  pub permutation : IsPermutation given (xs ++ ys)
   pub strips : AreInStrips width (xs ++ ys)
   pub heights : AreByHeights width xs
-  pub count : length xs + length ys ≡ length es
+  pub count : length xs + length ys ≡ length given
   pub begun : length xs % width ≡ 0
   pub few : length ys ≤ width
 
@@ -156,26 +144,23 @@ none_so_far width some = record {
   few = omega arith;
 }
 
-module _ (width : ℕ) (es : List CountedEdge) (xs ys : List Extent) (so_far : StripsSoFar width es xs ys) where
-  -- one edge more
-  pub so_far_pushed : (e : CountedEdge) (place : ℕ) → place ≡ length es → length ys < width →
-      StripsSoFar width (es ++ e ∷ []) xs (ys ++ extent_of e place ∷ [])
-  so_far_pushed e place is less =
-      let joined = append_assoc xs ys (extent_of e place ∷ []) in
+module _ (width : ℕ) (given xs ys : List Extent) (so_far : StripsSoFar width given xs ys) where
+  -- one more, at its place
+  pub so_far_pushed : (s : Extent) → s.first ≡ length given → s.last ≡ length given → length ys < width →
+      StripsSoFar width (given ++ s ∷ []) xs (ys ++ s ∷ [])
+  so_far_pushed s first last less =
+      let joined = append_assoc xs ys (s ∷ []) in
       let count = so_far.count in
-      let all : length (xs ++ ys) ≡ place = length-append xs ys ∙ count ∙ sym is in record {
-        permutation = subst (λ zs. IsPermutation zs (xs ++ (ys ++ extent_of e place ∷ [])))
-            (sym (extents_more es e ∙ ap (λ n. extents_of es ++ extent_of e n ∷ []) (sym is)))
-            (subst (IsPermutation (extents_of es ++ extent_of e place ∷ [])) joined
-            (IsPermutation-append_left (extent_of e place ∷ []) (extents_of es) (xs ++ ys) so_far.permutation));
+      let all : length given ≡ length (xs ++ ys) = sym (length-append xs ys ∙ count) in record {
+        permutation = subst (IsPermutation (given ++ s ∷ [])) joined
+            (IsPermutation-append_left (s ∷ []) given (xs ++ ys) so_far.permutation);
         strips = subst (AreInStrips width) joined
-            (subst (λ n. AreInStrips width ((xs ++ ys) ++ extent_of e n ∷ [])) all
-            (strips_pushed width (xs ++ ys) e so_far.strips));
+            (strips_pushed width (xs ++ ys) s (first ∙ all) (last ∙ all) so_far.strips);
         heights = so_far.heights;
-        count = (let l = length-append ys (extent_of e place ∷ []) in let m = length-append es (e ∷ []) in
+        count = (let l = length-append ys (s ∷ []) in let m = length-append given (s ∷ []) in
             omega (arith, l, m, count));
         begun = so_far.begun;
-        few = (let l = length-append ys (extent_of e place ∷ []) in omega (arith, l, less));
+        few = (let l = length-append ys (s ∷ []) in omega (arith, l, less));
       }
 
   module _ (some : 0 < width) (zs : List Extent) (moved : IsPermutation ys zs)
@@ -187,31 +172,23 @@ module _ (width : ℕ) (es : List CountedEdge) (xs ys : List Extent) (so_far : S
     pub all_by_heights : AreByHeights width (xs ++ zs)
     all_by_heights = heights_closed width some xs zs so_far.begun up so_far.heights
 
-    pub all_there : IsPermutation (extents_of es) (xs ++ zs)
-    all_there = IsPermutation-trans (extents_of es) (xs ++ ys) (xs ++ zs) so_far.permutation
+    pub all_there : IsPermutation given (xs ++ zs)
+    all_there = IsPermutation-trans given (xs ++ ys) (xs ++ zs) so_far.permutation
         (IsPermutation-append_right xs ys zs moved)
 
     -- it is finished where it is full
-    pub so_far_closed : length ys ≡ width → StripsSoFar width es (xs ++ zs) []
+    pub so_far_closed : length ys ≡ width → StripsSoFar width given (xs ++ zs) []
     so_far_closed full =
         let l = length-append xs zs in let m = length_permutation ys zs moved in
         let count = so_far.count in
         let longer : length (xs ++ zs) ≡ length xs + width = omega (arith, l, m, full) in record {
-          permutation = subst (IsPermutation (extents_of es)) (sym (append-nil (xs ++ zs))) all_there;
+          permutation = subst (IsPermutation given) (sym (append-nil (xs ++ zs))) all_there;
           strips = subst (AreInStrips width) (sym (append-nil (xs ++ zs))) all_in_strips;
           heights = all_by_heights;
           count = omega (arith, l, m, count);
           begun = ap (λ n. n % width) longer ∙ add-mod_right (length xs) width ∙ so_far.begun;
           few = omega arith;
         }
-
--- there is one for each edge
-pub as_many : (es : List CountedEdge) (ss : List Extent) → IsPermutation (extents_of es) ss → length ss ≡ length es
-as_many es ss moved =
-    length_permutation (extents_of es) ss moved
-    ∙ length-map (numbered 0 es) extent_at
-    ∙ sym (length-map (numbered 0 es) (λ (n : Numbered CountedEdge). n.item))
-    ∙ ap length (items_numbered 0 es)
 
 -- ---- searching
 

@@ -1,14 +1,15 @@
--- Between which heights and which places edges lie, and blocks of so many of these extents.
+-- Between which heights and which places edges or points lie, and blocks of so many of these extents.
 use Rattle.std.specs.Prelude.{◌≡◌, ◌⊎◌, ℕ, ◌<◌, ◌≤◌, ◌/◌, cond, ℤ, ◌<ℤ◌, ◌≤ℤ◌, int_lt, List, map, length}
 use Rattle.std.specs.Prelude.{slice_index_or}
 use Rattle.std.specs.List.Sorted.{IsPermutation}
+use Rattle.overlay_geom.specs.Plane.{Point}
 use Rattle.overlay_geom.specs.Edges.{CountedEdge}
 use Rattle.overlay_geom.specs.Numbered.{Numbered, numbered}
 use Rattle.overlay_arrange.specs.Meetings.{IsAt}
 use Rattle.overlay_arrange.specs.declared.extents.Extent.{Extent as HeldExtent}
 use Rattle.overlay_arrange.specs.declared.strips.Strips.{Strips}
 
--- the least and the greatest height of edges, and the first and the last one of their places
+-- the least and the greatest height of edges or points, and the first and the last one of their places
 pub record Extent : Type 0 where
   pub low : ℤ
   pub high : ℤ
@@ -30,6 +31,17 @@ extent_at n = extent_of n.item n.place
 -- those of the edges of a list, each at its place
 abbrev pub extents_of : List CountedEdge → List Extent
 extents_of es = map extent_at (numbered 0 es)
+
+-- that of the point at a place
+abbrev pub extent_of_point : Point → ℕ → Extent
+extent_of_point v place = record { low = v.y; high = v.y; first = place; last = place }
+
+abbrev pub extent_at_point : Numbered Point → Extent
+extent_at_point n = extent_of_point n.item n.place
+
+-- those of the points of a list, each at its place
+abbrev pub extents_of_points : List Point → List Extent
+extents_of_points vs = map extent_at_point (numbered 0 vs)
 
 -- the extent at a program's numbers, and each one of a list
 abbrev pub plain_extent : {I : Type 0} → (I → ℤ) → HeldExtent I → Extent
@@ -62,7 +74,11 @@ pub record AreInBlocks (ss of_8 of_64 of_512 of_4096 of_32768 : List Extent) : T
   pub by_4096 : AreBlocks 4096 ss of_4096
   pub by_32768 : AreBlocks 32768 ss of_32768
 
--- each extent is that of an edge, and stands in the strip, of so many, in which its edge does
+-- each extent has its own place alone
+abbrev pub AreAtPlaces : List Extent → Type 0
+AreAtPlaces ss = (k : ℕ) (s : Extent) → IsAt ss k s → (s.first ≡ k) × (s.last ≡ k)
+
+-- each extent has one place, and stands in the strip, of so many, in which this place lies
 abbrev pub AreInStrips : ℕ → List Extent → Type 0
 AreInStrips width ss = (k : ℕ) (s : Extent) → IsAt ss k s → (s.first / width ≡ k / width) × (s.last ≡ s.first)
 
@@ -86,3 +102,10 @@ AreHeldStripsOf whole es strips =
     AreStripsOf es strips.width (plain_extents whole strips.edges.items) (plain_extents whole strips.of_8.items)
     (plain_extents whole strips.of_64.items) (plain_extents whole strips.of_512.items)
     (plain_extents whole strips.of_4096.items) (plain_extents whole strips.of_32768.items)
+
+-- the extents of the points, strip by strip, of so many each
+pub record ArePointsByStrips (vs : List Point) (width : ℕ) (ss : List Extent) : Type 0 where
+  pub some : 0 < width
+  pub permutation : IsPermutation (extents_of_points vs) ss
+  pub strips : AreInStrips width ss
+  pub heights : AreByHeights width ss

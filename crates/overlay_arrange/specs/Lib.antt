@@ -12,6 +12,7 @@ pub mod Meetings
 pub mod Near
 pub mod Options
 pub mod Paths
+pub mod PixelRuns
 pub mod Rules
 pub mod Runs
 pub mod Settle

@@ -1,14 +1,16 @@
-//! Between which heights and which places edges lie: a box in the order of their places.
+//! Between which heights and which places edges or points lie: a box in the order of their places.
 
 ghost use Rattle.std.specs.Prelude.{◌≡◌, ◌↔◌, int_lt, cond, IsTrue};
+ghost use Rattle.overlay_geom.specs.Points.{plain_point};
 ghost use Rattle.overlay_arrange.specs.Content.{plain_edge};
-ghost use Rattle.overlay_arrange.specs.Extents.{extent_of, plain_extent, Encloses, IsApart};
+ghost use Rattle.overlay_arrange.specs.Extents.{extent_of, extent_of_point, plain_extent, Encloses, IsApart};
 
 use crate::count::EdgeCount;
 use crate::edge::CountedEdge;
 use overlay_geom::number::IntNumber;
+use overlay_geom::point::IntPoint;
 
-/// The least and the greatest height of edges, and the first and the last one of their places.
+/// The least and the greatest height of edges or points, and the first and the last one of their places.
 #[derive(Clone, Copy)]
 pub(crate) struct Extent<I> {
     /// The least height.
@@ -32,6 +34,18 @@ pub(crate) fn extent_of<I: IntNumber, C: EdgeCount>(
     Extent {
         low,
         high,
+        first: place,
+        last: place,
+    }
+}
+
+/// The extent of the point at a place.
+pub(crate) fn extent_of_point<I: IntNumber>(v: IntPoint<I>, place: usize) -> Extent<I>
+    ensures { plain_extent I.whole result ≡ extent_of_point (plain_point I.whole v) place }
+{
+    Extent {
+        low: v.y,
+        high: v.y,
         first: place,
         last: place,
     }

@@ -24,6 +24,7 @@ mod near;
 pub mod options;
 pub mod overlay_rule;
 mod pixel;
+mod pixel_runs;
 mod rounds;
 pub mod settle;
 mod snap;

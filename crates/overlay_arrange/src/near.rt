@@ -102,7 +102,7 @@ fn find_by_blocks<I: IntNumber, A: Allocator>(
 }
 
 /// The place so far on, or the last one where that is less.
-fn on_by(at: usize, count: usize, last: usize) -> usize
+pub(crate) fn on_by(at: usize, count: usize, last: usize) -> usize
     requires { at ≤ last }
     ensures from { at ≤ result }
     ensures up_to { result ≤ last }

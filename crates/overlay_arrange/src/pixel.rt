@@ -74,7 +74,10 @@ fn is_inside<I: IntNumber, C: EdgeCount>(e: &CountedEdge<I, C>, high: Ordering) 
 }
 
 /// How twice the number compares with the width and the height of the edge together.
-fn order_to_high<I: IntNumber, C: EdgeCount>(e: &CountedEdge<I, C>, cross: I::Wide) -> Ordering
+pub(crate) fn order_to_high<I: IntNumber, C: EdgeCount>(
+    e: &CountedEdge<I, C>,
+    cross: I::Wide,
+) -> Ordering
     requires { IsHeld I.limit (plain_edge I.whole C.counts e.now) }
     ensures { result ≡ int_cmp (pos 2 *ℤ I.Wide.whole cross)
         (half_girth (ends_of (plain_edge I.whole C.counts e.now))) }
@@ -87,7 +90,10 @@ fn order_to_high<I: IntNumber, C: EdgeCount>(e: &CountedEdge<I, C>, cross: I::Wi
 }
 
 /// How it compares with them negated.
-fn order_to_low<I: IntNumber, C: EdgeCount>(e: &CountedEdge<I, C>, cross: I::Wide) -> Ordering
+pub(crate) fn order_to_low<I: IntNumber, C: EdgeCount>(
+    e: &CountedEdge<I, C>,
+    cross: I::Wide,
+) -> Ordering
     requires { IsHeld I.limit (plain_edge I.whole C.counts e.now) }
     ensures { result ≡ int_cmp (pos 2 *ℤ I.Wide.whole cross)
         (pos 0 -ℤ half_girth (ends_of (plain_edge I.whole C.counts e.now))) }

@@ -3,6 +3,7 @@
 ghost use Rattle.std.specs.Prelude.{◌≡◌, ◌∷◌, [], ◌<◌, ◌<ℤ◌, ◌≤ℤ◌, All, length, IfOk, OnOk, IsOkUnless};
 ghost use Rattle.overlay_geom.specs.Points.{plain_point, plain_points};
 ghost use Rattle.overlay_arrange.specs.Content.{plain_edge, plain_edges, IsHeld};
+ghost use Rattle.overlay_arrange.specs.Extents.{plain_extents, ArePointsByStrips};
 ghost use Rattle.overlay_arrange.specs.HotPoints.{points_at, AddsMet, AreHotPoints, ArePointsAscending, AreRanksNear};
 ghost use Rattle.overlay_arrange.specs.HotPoints.{IsSpanOf, IsSplitAt};
 ghost use Rattle.overlay_arrange.specs.Meetings.{plain_meetings, AreByPlace};
@@ -11,9 +12,12 @@ ghost use Rattle.overlay_arrange.specs.SnapMeetings.{AreSnapMeetings};
 use crate::count::EdgeCount;
 use crate::crossing::is_end_of;
 use crate::edge::CountedEdge;
+use crate::extents::Extent;
 use crate::meetings::Meeting;
-use crate::near::take_run;
+use crate::near::on_by;
 use crate::pixel::meets_pixel;
+use crate::pixel_runs::push_run;
+use crate::strips::{SAMPLES, points_by_strips, strip_width};
 use overlay_geom::error::OverlayError;
 use overlay_geom::number::IntNumber;
 use overlay_geom::point::IntPoint;
@@ -33,31 +37,63 @@ pub(crate) fn gather_snapped<I: IntNumber, C: EdgeCount, A: Allocator + Clone>(
     ensures order { IfOk result (λ meetings. AreByPlace (plain_meetings I.whole meetings.items)) }
     ensures err { IsOkUnless result OverlayError.Memory }
 {
+    let width = strip_width(length_of_spans(edges, hot));
+    let strips = points_by_strips(alloc.clone()?, hot, width)?;
     let mut near = Vec::new(alloc.clone()?);
     let mut meetings = Vec::new(alloc);
     for i in 0..edges.len() {
         let e = &edges[i];
-        find_ranks(&mut near, hot, e)?;
+        find_ranks(&mut near, hot, width, &strips, e)?;
         push_snapped(&mut meetings, i, e, hot, &near)?;
     }
     Ok(meetings)
 }
 
-/// Finds the ranks of the hot points whose pixels the edge may meet: those in its span.
+/// How many points are neither left nor right of so many edges together, which stand at equal distances. It is no more
+/// than a guess at all of them.
+fn length_of_spans<I: IntNumber, C: EdgeCount>(
+    edges: &[CountedEdge<I, C>],
+    hot: &[IntPoint<I>],
+) -> usize
+    requires held { All (IsHeld I.limit) (plain_edges I.whole C.counts edges.now) }
+    requires ascending { ArePointsAscending (plain_points I.whole hot.now) }
+{
+    let distance = (edges.len() / SAMPLES).saturating_add(1);
+    let mut length: usize = 0;
+    for k in 0..SAMPLES {
+        let i = k.saturating_mul(distance);
+        if i < edges.len() {
+            let (low, high) = span_of(hot, &edges[i]);
+            length = length.saturating_add(high - low);
+        }
+    }
+    length
+}
+
+/// Finds the ranks of the hot points whose pixels the edge may meet: in each strip of its span, of those near its line.
 fn find_ranks<I: IntNumber, C: EdgeCount, A: Allocator>(
     near: &mut Vec<usize, A>,
     hot: &[IntPoint<I>],
+    width: usize,
+    strips: &[Extent<I>],
     e: &CountedEdge<I, C>,
 ) -> Result<(), OverlayError>
     requires one { IsHeld I.limit (plain_edge I.whole C.counts e.now) }
     requires ascending { ArePointsAscending (plain_points I.whole hot.now) }
+    requires strips { ArePointsByStrips (plain_points I.whole hot.now) width (plain_extents I.whole strips.now) }
     ensures ok { OnOk result (AreRanksNear
         (plain_points I.whole hot.now) (plain_edge I.whole C.counts e.now) near.new.items) }
     ensures err { IsOkUnless result OverlayError.Memory }
 {
     let (low, high) = span_of(hot, e);
     near.clear();
-    take_run(near, low, high)
+    let mut at = low / width * width;
+    while at < high {
+        let end = on_by(at, width, hot.len());
+        push_run(near, strips, e, hot[at].x, hot[end - 1].x, at, end)?;
+        at = end;
+    }
+    Ok(())
 }
 
 /// Between which ranks the points stand that lie neither left nor right of the edge.

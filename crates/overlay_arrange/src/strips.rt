@@ -1,18 +1,20 @@
-//! The extents of the edges of a list in strips of neighbours, and of blocks of them.
+//! The extents of the edges of a list, or of its points, in strips of neighbours, and of blocks of those of edges.
 
 ghost use Rattle.std.specs.Prelude.{◌≡◌, ◌<◌, ◌≤ℤ◌, List, [], ◌++◌, All, AllPairs, IfOk, OnOk, IsOkUnless};
 ghost use Rattle.std.specs.List.Sorted.{IsPermutation};
+ghost use Rattle.overlay_geom.specs.Points.{plain_points};
 ghost use Rattle.overlay_arrange.specs.Content.{plain_edges, IsAscending, IsHeld};
-ghost use Rattle.overlay_arrange.specs.Extents.{extents_of, plain_extents, AreBlocks, AreByHeights};
-ghost use Rattle.overlay_arrange.specs.Extents.{AreHeldStripsOf, AreInStrips};
+ghost use Rattle.overlay_arrange.specs.Extents.{extents_of, extents_of_points, plain_extents, AreBlocks, AreByHeights};
+ghost use Rattle.overlay_arrange.specs.Extents.{AreAtPlaces, AreHeldStripsOf, AreInStrips, ArePointsByStrips};
 ghost use Rattle.overlay_arrange.specs.declared.extents.Extent.{Extent};
 
 use crate::count::EdgeCount;
 use crate::edge::CountedEdge;
-use crate::extents::{Extent, extent_of, joined};
+use crate::extents::{Extent, extent_of, extent_of_point, joined};
 use crate::spans::length_of_runs;
 use overlay_geom::error::OverlayError;
 use overlay_geom::number::IntNumber;
+use overlay_geom::point::IntPoint;
 use std::alloc::Allocator;
 
 // A strip is of so many neighbours at least, and at most.
@@ -20,7 +22,7 @@ const LEAST: usize = 64;
 
 const MOST: usize = 65536;
 // So many edges are asked how long their runs are.
-const SAMPLES: usize = 64;
+pub(crate) const SAMPLES: usize = 64;
 // So many extents are a block.
 const BLOCK: usize = 8;
 
@@ -55,7 +57,7 @@ pub(crate) fn strips_of<I: IntNumber, C: EdgeCount, A: Allocator + Clone>(
     ensures err { IsOkUnless result OverlayError.Memory }
 {
     let width = strip_width(length_of_runs(edges, SAMPLES));
-    let extents = extents_by_strips(alloc.clone()?, edges, width)?;
+    let extents = edges_by_strips(alloc.clone()?, edges, width)?;
     let of_8 = extents_of_blocks(alloc.clone()?, &extents)?;
     let of_64 = extents_of_blocks(alloc.clone()?, &of_8)?;
     let of_512 = extents_of_blocks(alloc.clone()?, &of_64)?;
@@ -74,7 +76,7 @@ pub(crate) fn strips_of<I: IntNumber, C: EdgeCount, A: Allocator + Clone>(
 
 /// How many neighbours are to be a strip: the more, the longer the runs of the edges are. A search goes through each
 /// strip of an edge's run, and in it past those at other heights.
-fn strip_width(runs: usize) -> usize
+pub(crate) fn strip_width(runs: usize) -> usize
     ensures { 0 < result }
 {
     let mut width = LEAST;
@@ -85,28 +87,93 @@ fn strip_width(runs: usize) -> usize
 }
 
 /// The extents of the edges, strip by strip, and in each strip by their least heights.
-fn extents_by_strips<I: IntNumber, C: EdgeCount, A: Allocator + Clone>(
+fn edges_by_strips<I: IntNumber, C: EdgeCount, A: Allocator + Clone>(
     alloc: A,
     edges: &[CountedEdge<I, C>],
     width: usize,
 ) -> Result<Vec<Extent<I>, A>, OverlayError>
-    requires some { 0 < width }
-    ensures permutation { IfOk result (λ extents. IsPermutation
-        (extents_of (plain_edges I.whole C.counts edges.now)) (plain_extents I.whole extents.items)) }
-    ensures strips { IfOk result (λ extents. AreInStrips width (plain_extents I.whole extents.items)) }
-    ensures heights { IfOk result (λ extents. AreByHeights width (plain_extents I.whole extents.items)) }
+    requires { 0 < width }
+    ensures permutation { IfOk result (λ sorted. IsPermutation
+        (extents_of (plain_edges I.whole C.counts edges.now)) (plain_extents I.whole sorted.items)) }
+    ensures strips { IfOk result (λ sorted. AreInStrips width (plain_extents I.whole sorted.items)) }
+    ensures heights { IfOk result (λ sorted. AreByHeights width (plain_extents I.whole sorted.items)) }
     ensures err { IsOkUnless result OverlayError.Memory }
 {
-    let mut extents = Vec::with_capacity(alloc.clone()?, edges.len())?;
-    let mut strip = Vec::with_capacity(alloc, width.min(edges.len()))?;
+    let extents = extents_of_edges(alloc.clone()?, edges)?;
+    by_strips(alloc, &extents, width)
+}
+
+/// The extents of the points, strip by strip, and in each strip by their heights.
+pub(crate) fn points_by_strips<I: IntNumber, A: Allocator + Clone>(
+    alloc: A,
+    points: &[IntPoint<I>],
+    width: usize,
+) -> Result<Vec<Extent<I>, A>, OverlayError>
+    requires { 0 < width }
+    ensures ok { IfOk result (λ sorted.
+        ArePointsByStrips (plain_points I.whole points.now) width (plain_extents I.whole sorted.items)) }
+    ensures err { IsOkUnless result OverlayError.Memory }
+{
+    let extents = extents_of_points(alloc.clone()?, points)?;
+    by_strips(alloc, &extents, width)
+}
+
+/// The extents of the edges, each at its place.
+fn extents_of_edges<I: IntNumber, C: EdgeCount, A: Allocator>(
+    alloc: A,
+    edges: &[CountedEdge<I, C>],
+) -> Result<Vec<Extent<I>, A>, OverlayError>
+    ensures ok { IfOk result (λ extents.
+        plain_extents I.whole extents.items ≡ extents_of (plain_edges I.whole C.counts edges.now)) }
+    ensures err { IsOkUnless result OverlayError.Memory }
+{
+    let mut extents = Vec::with_capacity(alloc, edges.len())?;
     for (place, e) in edges.iter().enumerate() {
-        strip.push(extent_of(e, place))?;
+        extents.push(extent_of(e, place))?;
+    }
+    Ok(extents)
+}
+
+/// The extents of the points, each at its place.
+fn extents_of_points<I: IntNumber, A: Allocator>(
+    alloc: A,
+    points: &[IntPoint<I>],
+) -> Result<Vec<Extent<I>, A>, OverlayError>
+    ensures ok { IfOk result (λ extents.
+        plain_extents I.whole extents.items ≡ extents_of_points (plain_points I.whole points.now)) }
+    ensures err { IsOkUnless result OverlayError.Memory }
+{
+    let mut extents = Vec::with_capacity(alloc, points.len())?;
+    for (place, v) in points.iter().enumerate() {
+        extents.push(extent_of_point(*v, place))?;
+    }
+    Ok(extents)
+}
+
+/// The extents, each of which is at its place, strip by strip, and in each strip by their least heights.
+fn by_strips<I: IntNumber, A: Allocator + Clone>(
+    alloc: A,
+    extents: &[Extent<I>],
+    width: usize,
+) -> Result<Vec<Extent<I>, A>, OverlayError>
+    requires some { 0 < width }
+    requires places { AreAtPlaces (plain_extents I.whole extents.now) }
+    ensures permutation { IfOk result (λ sorted. IsPermutation
+        (plain_extents I.whole extents.now) (plain_extents I.whole sorted.items)) }
+    ensures strips { IfOk result (λ sorted. AreInStrips width (plain_extents I.whole sorted.items)) }
+    ensures heights { IfOk result (λ sorted. AreByHeights width (plain_extents I.whole sorted.items)) }
+    ensures err { IsOkUnless result OverlayError.Memory }
+{
+    let mut sorted = Vec::with_capacity(alloc.clone()?, extents.len())?;
+    let mut strip = Vec::with_capacity(alloc, width.min(extents.len()))?;
+    for extent in extents {
+        strip.push(*extent)?;
         if strip.len() == width {
-            close_strip(&mut extents, &mut strip)?;
+            close_strip(&mut sorted, &mut strip)?;
         }
     }
-    close_strip(&mut extents, &mut strip)?;
-    Ok(extents)
+    close_strip(&mut sorted, &mut strip)?;
+    Ok(sorted)
 }
 
 /// Moves the extents of a strip behind the others, by their least heights.

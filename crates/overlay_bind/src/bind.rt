@@ -64,11 +64,10 @@ pub fn bind_contours<I: IntNumber, A: Allocator + Clone, S: Scan<I, usize>>(
     Ok(shapes)
 }
 
-/// A list as long as that of the contours, of which some stand in shapes from the start: those have the
-/// shape's number in `known`. At each other one, where `known` has None, stands the number that is found for
-/// it by the contour that has the next edge, among the edges that are filled on the side, below its anchor:
-/// the one that is known of that contour, or the one that is found for it. It is None where there is no such
-/// edge, or where none is found for that contour. What stands at the others is left open.
+/// Returns a list with a number, or None, for each contour. Contours that stand in shapes from the start have
+/// their number in `known`; what stands at these is open. For each other contour it is the number that is known
+/// of, or found for, the contour with the next edge below its anchor, among the edges that are filled on the side.
+/// It is None where there is no such edge, or where none is found for that contour.
 ///
 /// So by `Side::Above` holes find their parents, and by `Side::Below`, with the holes' numbers as known,
 /// an island the hole round it. The contours are as for [`bind_contours`]. The only refusal is `Memory`.

@@ -39,7 +39,7 @@ pub fn filled_above_edges<I: IntNumber, A: Allocator>(
     Ok(edges)
 }
 
-/// The same, walk by walk.
+/// Returns these edges, walk by walk.
 fn edges_walk_by_walk<I: IntNumber, A: Allocator>(
     alloc: A,
     contours: &[Contour<I, A>],

@@ -26,7 +26,7 @@ pub fn shapes_known<I: IntNumber, A: Allocator>(
     Ok(known)
 }
 
-/// How many of the contours are outlines.
+/// Returns how many of the contours are outlines.
 pub fn shape_count<I: IntNumber, A: Allocator>(contours: &[Contour<I, A>]) -> usize
     ensures { result ≡ length (filter (λ c. is_outline c.role) (plain_contours I.whole contours.now)) }
 {

@@ -10,8 +10,8 @@ use overlay_geom::integer::OverlayInt;
 use std::alloc::Allocator;
 use std::marker::Model;
 
-/// The graph of an arrangement at every point of which as many counted steps enter as leave, of the subject and of the
-/// clip. What else an edge carries, as the marks of strings, is no count.
+/// The graph of an arrangement with balanced counts: as many steps of the subject, and of the clip, enter each
+/// point as leave it. Marks of strings are no counts.
 #[derive(Drop)]
 pub struct BalancedGraph<I: OverlayInt, C: EdgeCount, A: Allocator> {
     graph: Graph<I, C, A>,

@@ -1,4 +1,4 @@
-//! What builders share: closed and open paths become counted edges, and the core that holds them.
+//! The parts that builders share: closed and open paths as counted edges, and the core that holds them.
 #![tactic(auto)]
 
 pub mod balanced_graph;

@@ -32,7 +32,7 @@ pub enum PathKind {
     Thinned,
 }
 
-/// What an edge carries that one step of a path passes.
+/// The value of an edge that one step of a path passes.
 #[derive(Clone, Copy)]
 pub struct StepCounts<C> {
     /// Where the step runs from the edge's smaller to its larger end.
@@ -225,7 +225,7 @@ fn add_thinned<I: IntNumber, C: EdgeCount, A: Allocator + Clone>(
     Ok(bent.len() < points.len())
 }
 
-/// How a contour is taken: as it is where its points are to be kept, and thinned elsewhere.
+/// Returns how a contour is taken: as it is where its points are to be kept, else thinned.
 pub fn contour_kind(keeps_points: bool) -> PathKind
     ensures { result ≡ contour_kind keeps_points }
 {

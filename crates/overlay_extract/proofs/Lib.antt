@@ -4,5 +4,10 @@ pub mod Hierarchies
 pub mod LinkOrder
 pub mod LinksFound
 pub mod NoShapes
+pub mod OneBound
+pub mod OneCut
+pub mod OneOverlay
+pub mod OneStart
 pub mod PointsOnce
 pub mod Results
+pub mod SameAscending

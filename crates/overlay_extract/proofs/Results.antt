@@ -25,7 +25,7 @@ use Rattle.overlay_bind.proofs.PlacedShapes.{placed_have}
 use Rattle.overlay_extract.proofs.PointsOnce.{shown_once}
 
 -- what is taken as it is given is the same
-same_contours : (given taken : List (List Point)) → AllZip (λ g t. t ≡ g) given taken → taken ≡ given
+pub same_contours : (given taken : List (List Point)) → AllZip (λ g t. t ≡ g) given taken → taken ≡ given
 same_contours given taken each = each_same given taken each
 
 pub same_shapes : (given taken : List (List (List Point))) → AreKeptOrThinned true given taken → taken ≡ given

@@ -1,4 +1,5 @@
 pub mod ChildLinks
+pub mod Determined
 pub mod InShapes
 pub mod Laws
 pub mod Links

@@ -21,9 +21,8 @@ use overlay_walk::contour::Contour;
 use overlay_walk::step::Step;
 use std::alloc::Allocator;
 
-/// The shapes of which the contours stand at these places. The points are those at which the steps begin;
-/// unless they are to be kept, those on one line with their two neighbours are dropped. The only refusal is
-/// `Memory`.
+/// Returns the shapes whose contours stand at these places. The points are those at which the steps begin; unless
+/// they are to be kept, those on one line with their two neighbours are dropped. The only refusal is `Memory`.
 pub fn assembled<I: IntNumber, A: Allocator + Clone>(
     alloc: A,
     contours: &[Contour<I, A>],

@@ -9,7 +9,7 @@ use overlay_geom::error::OverlayError;
 use std::alloc::Allocator;
 use std::cmp::Ordering;
 
-/// A shape that lies in a hole of another one. Links are ordered by their fields in order.
+/// A shape that lies in a hole of another. Links are ordered by their fields in order.
 #[derive(Debug, Clone, Copy, PartialEq, Eq, PartialOrd, Ord)]
 pub struct ChildLink {
     /// The number of the shape to which the hole belongs, counted from 0.
@@ -20,8 +20,8 @@ pub struct ChildLink {
     pub child_shape_index: usize,
 }
 
-/// How two links compare in the order that is derived: by the number of the parent shape, then by the place
-/// of the hole, then by the number of the shape in it. It is the law that the order of the fields is this
+/// Returns how two links compare in the order that is derived: by the number of the parent shape, then by the
+/// place of the hole, then by the number of the shape in it. It is the law that the order of the fields is this
 /// one, and agrees with `==`.
 pub fn order_of_links(k: &ChildLink, l: &ChildLink) -> Ordering
     ensures order { result ≡ link_order (plain_link k.now) (plain_link l.now) }

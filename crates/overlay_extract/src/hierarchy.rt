@@ -1,4 +1,4 @@
-//! Shapes in one list, and which of them lie in holes of which.
+//! Shapes in one list, and links from holes to the shapes in them.
 
 ghost use Rattle.std.specs.Prelude.{◌≡◌, [], map, IfOk, IsOk, IsOkUnless};
 ghost use Rattle.overlay_geom.specs.Flat.{shapes_in};
@@ -31,7 +31,7 @@ use std::alloc::Allocator;
 pub struct FlatShapeHierarchy<I, A: Allocator> {
     /// The shapes.
     pub shapes: FlatShapesBuffer<I, A>,
-    /// For each shape that lies in a hole of another one the link that tells of it, in order.
+    /// A link for each shape that lies in a hole of another, in order.
     pub links: Vec<ChildLink, A>,
 }
 

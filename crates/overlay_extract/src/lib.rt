@@ -9,3 +9,4 @@ pub mod hierarchy;
 mod in_shapes;
 pub mod laws;
 mod links;
+pub mod only_answers;

@@ -18,10 +18,10 @@ use overlay_geom::number::IntNumber;
 use overlay_walk::contour::Contour;
 use std::alloc::Allocator;
 
-/// The links of contours that all stand in shapes, shape by shape, in order: for each shape in a hole of
-/// another one that other one, the place of the hole among the contours, and the shape. The live edges are
-/// kept in a tree where there are `tree_from` holes or more, and else in a list; the answer is the same. The
-/// only refusal is `Memory`.
+/// The links of contours that all stand in shapes, shape by shape, in order: for each shape in a hole of another
+/// the other shape, the place of the hole among the contours, and the shape. The live edges are kept in a tree
+/// where there are `tree_from` holes or more, and else in a list; the answer is the same. The only refusal is
+/// `Memory`.
 pub(crate) fn links<I: IntNumber, A: Allocator + Clone>(
     alloc: A,
     contours: &[Contour<I, A>],

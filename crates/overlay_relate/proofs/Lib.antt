@@ -22,6 +22,7 @@ pub mod Located
 pub mod NextEdge
 pub mod NextEnds
 pub mod OnEdges
+pub mod OneLocation
 pub mod OnWalls
 pub mod Parities
 pub mod PredicateBuilders

@@ -1,4 +1,5 @@
 pub mod Answers
+pub mod Determined
 pub mod EdgeTests
 pub mod Exchanged
 pub mod Found

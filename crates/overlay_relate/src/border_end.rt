@@ -2,7 +2,7 @@
 
 use overlay_geom::point::IntPoint;
 
-/// An end of an edge of which one shape alone fills one side alone.
+/// An end of an edge that one shape alone fills, on one side alone.
 #[derive(Debug, Clone, Copy)]
 pub(crate) struct BorderEnd<I> {
     /// The end.

@@ -25,7 +25,7 @@ pub(crate) enum EdgeTest {
     ClipOutside,
 }
 
-/// Whether some edge passes the test. They are looked at in order, up to the first one that does.
+/// Returns whether some edge passes the test. They are looked at in order, up to the first one that does.
 pub(crate) fn some_passes<I, D>(edges: &[DataVectorEdge<I, D>], test: EdgeTest) -> bool
     ensures { result ≡ list_any (bits_pass test) (map (λ v. v.fill) edges.now) }
 {

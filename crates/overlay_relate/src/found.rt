@@ -29,7 +29,7 @@ pub(crate) struct Found {
 }
 
 impl Found {
-    /// Whether the predicate holds of these edges.
+    /// Returns whether the predicate holds of these edges.
     pub(crate) fn answer(self, predicate: Predicate) -> bool
         ensures { result ≡ answer_by self predicate }
     {
@@ -43,7 +43,7 @@ impl Found {
         }
     }
 
-    /// Whether each relation holds of these edges.
+    /// Returns whether each relation holds of these edges.
     pub(crate) fn relations(self) -> Relations
         ensures { result ≡ relations_by self }
     {

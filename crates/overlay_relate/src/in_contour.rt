@@ -18,9 +18,8 @@ use overlay_geom::point::IntPoint;
 use overlay_tree::either::EitherScan;
 use std::alloc::Allocator;
 
-/// Where each of the points lies in the contour, in their order. The edges that are live are kept in a tree
-/// where the contour has `tree_from` edges or more, and else in a list; the answer is the same. The only
-/// refusal is `Memory`.
+/// Returns where each point lies in the contour, in order. Live edges are kept in a tree where the contour has
+/// `tree_from` edges or more, else in a list; the answer is the same. The only refusal is `Memory`.
 pub fn locate_in_contour<I: IntNumber, A: Allocator + Clone>(
     alloc: A,
     contour: &[IntPoint<I>],

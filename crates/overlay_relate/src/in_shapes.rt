@@ -19,8 +19,8 @@ use overlay_geom::path::{IntContour, IntShape};
 use overlay_geom::point::IntPoint;
 use std::alloc::Allocator;
 
-/// Where each of the points lies in the shape, in their order, with trees for contours of `tree_from` edges or
-/// more. The only refusal is `Memory`.
+/// Returns where each point lies in the shape, in order, with trees for contours of `tree_from` edges or more. The
+/// only refusal is `Memory`.
 pub fn locate_in_shape<I: IntNumber, A: Allocator, B: Allocator + Clone>(
     alloc: B,
     contours: &[IntContour<I, A>],
@@ -40,8 +40,8 @@ pub fn locate_in_shape<I: IntNumber, A: Allocator, B: Allocator + Clone>(
     in_given_order(alloc, points, &queries, &located)
 }
 
-/// Where each of the points lies among the shapes, in their order, with trees for contours of `tree_from` edges or
-/// more. The only refusal is `Memory`.
+/// Returns where each point lies among the shapes, in order, with trees for contours of `tree_from` edges or more.
+/// The only refusal is `Memory`.
 pub fn locate_in_shapes<I: IntNumber, A: Allocator, B: Allocator + Clone>(
     alloc: B,
     shapes: &[IntShape<I, A>],
@@ -61,7 +61,7 @@ pub fn locate_in_shapes<I: IntNumber, A: Allocator, B: Allocator + Clone>(
     in_given_order(alloc, points, &queries, &located)
 }
 
-/// Where each of the points, which stand by their abscissas, lies among the shapes. The only refusal is `Memory`.
+/// Returns where each of the points, sorted by x, lies among the shapes. The only refusal is `Memory`.
 fn located_in_shapes<I: IntNumber, A: Allocator, B: Allocator + Clone>(
     alloc: B,
     shapes: &[IntShape<I, A>],
@@ -83,8 +83,8 @@ fn located_in_shapes<I: IntNumber, A: Allocator, B: Allocator + Clone>(
     Ok(located)
 }
 
-/// Joins to where the points, which stand by their abscissas, lie among some shapes, where they lie in one more. Only
-/// those are asked that do not lie beside it. The only refusal is `Memory`.
+/// Joins the locations of the points, sorted by x, in one more shape to those among some shapes. Only points that
+/// do not lie beside it are asked. The only refusal is `Memory`.
 fn join_shape<I: IntNumber, A: Allocator, B: Allocator + Clone>(
     alloc: B,
     located: &mut Vec<PointLocation, B>,
@@ -113,7 +113,7 @@ fn join_shape<I: IntNumber, A: Allocator, B: Allocator + Clone>(
     Ok(())
 }
 
-/// Where each of the points, which stand by their abscissas, lies in the shape. The only refusal is `Memory`.
+/// Returns where each of the points, sorted by x, lies in the shape. The only refusal is `Memory`.
 fn located_in_shape<I: IntNumber, A: Allocator, B: Allocator + Clone>(
     alloc: B,
     contours: &[IntContour<I, A>],
@@ -135,8 +135,8 @@ fn located_in_shape<I: IntNumber, A: Allocator, B: Allocator + Clone>(
     Ok(located)
 }
 
-/// Joins to where the points, which stand by their abscissas, lie in some contours of a shape, where they lie in one
-/// more. Only those are asked that do not lie beside it. The only refusal is `Memory`.
+/// Joins the locations of the points, sorted by x, in one more contour of a shape to those in some contours. Only
+/// points that do not lie beside it are asked. The only refusal is `Memory`.
 fn join_contour<I: IntNumber, B: Allocator + Clone>(
     alloc: B,
     located: &mut Vec<PointLocation, B>,

@@ -1,4 +1,4 @@
-//! What the two questions about a point have to do with one another.
+//! The law that joins the two questions about a point.
 
 ghost use Rattle.overlay_relate.specs.Laws.{InsideOffEdges};
 

@@ -12,6 +12,7 @@ pub mod in_shapes;
 mod joined;
 pub mod laws;
 pub mod location;
+pub mod only_relations;
 mod predicate;
 pub mod predicate_laws;
 pub mod predicate_overlay;

@@ -16,12 +16,11 @@ mod predicates;
 
 pub use overlay_arrange::options::ShapeType;
 
-/// A builder that holds counted edges of a subject and of a clip, of which predicates are asked: how the
-/// two shapes lie to each other. Points on one line with their two neighbours are always dropped from
-/// what is added.
+/// A builder of counted edges of a subject and a clip that answers predicates: how the two shapes lie to each
+/// other. Points on one line with their two neighbours are always dropped from what is added.
 ///
-/// A query finds at once what answers each predicate. It is kept: until something is added, or `fill_rule`
-/// is another one, further queries look at no edge, whatever `solver` is then.
+/// A query answers all predicates at once. The builder keeps the answers: until something is added, or `fill_rule`
+/// changes, further queries look at no edge, whatever `solver` is.
 ///
 /// A query that is refused leaves the builder failed: every call that returns a result then answers
 /// `Failed`, until `clear` or `reinit_with_subj_and_clip`.

@@ -21,7 +21,7 @@ pub(crate) struct Query<I> {
     pub place: usize,
 }
 
-/// The points by their abscissas, each with its place. The only refusal is `Memory`.
+/// Returns the points sorted by x, each with its place. The only refusal is `Memory`.
 pub(crate) fn queries_by_x<I: IntNumber, A: Allocator>(
     alloc: A,
     points: &[IntPoint<I>],

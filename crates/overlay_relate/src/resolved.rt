@@ -18,9 +18,9 @@ use overlay_geom::number::IntNumber;
 use overlay_geom::point::IntPoint;
 use std::alloc::Allocator;
 
-/// Whether two steps at different places of the contour never share a point that isn't an end of both: so for no
-/// points, true. The points are in range. It tells what `overlay_geom::resolved::is_resolved` does, but takes memory,
-/// and sorts the edges of the steps to look at near ones alone. The only refusal is `Memory`.
+/// Returns whether two steps at different places of the contour never share a point that isn't an end of both: so
+/// for no points, true. The points are in range. It tells what `overlay_geom::resolved::is_resolved` does, but
+/// takes memory, and sorts the edges of the steps to look at near ones alone. The only refusal is `Memory`.
 pub fn is_resolved_in<I: IntNumber, A: Allocator + Clone>(
     alloc: A,
     contour: &[IntPoint<I>],
@@ -34,8 +34,8 @@ pub fn is_resolved_in<I: IntNumber, A: Allocator + Clone>(
     are_apart(alloc, &sorted)
 }
 
-/// Whether edges in order, equal ones side by side, meet in ends alone. Two equal ones do not. The only refusal is
-/// `Memory`.
+/// Returns whether edges in order, equal ones side by side, meet in ends alone. Two equal ones do not. The only
+/// refusal is `Memory`.
 fn are_apart<I: IntNumber, A: Allocator + Clone>(
     alloc: A,
     edges: &[CountedEdge<I, ShapeCountBoolean>],
@@ -52,7 +52,7 @@ fn are_apart<I: IntNumber, A: Allocator + Clone>(
     }
 }
 
-/// Whether each edge comes before the next one.
+/// Returns whether each edge comes before the next one.
 fn ascend<I: IntNumber>(edges: &[CountedEdge<I, ShapeCountBoolean>]) -> bool
     ensures { IsTrue result ↔ IsAscending (edges_once I.whole edges.now) }
 {

@@ -1,4 +1,4 @@
-//! Which of the points that are asked for may lie in contours, by their abscissas.
+//! Runs of points, sorted by x, that may lie in contours.
 
 ghost use Rattle.std.specs.Prelude.{◌≤◌, ◌≤ℤ◌, [], ◌∷◌};
 ghost use Rattle.overlay_geom.specs.Points.{plain_points};
@@ -10,8 +10,8 @@ use overlay_geom::path::IntContour;
 use overlay_geom::point::IntPoint;
 use std::alloc::Allocator;
 
-/// From which place on the points stand, and up to which, that do not lie left of the whole contour, or right of it.
-/// The points stand by their abscissas.
+/// From which place on the points stand, and up to which, that do not lie left of the whole contour, or right of
+/// it. The points are sorted by x.
 pub(crate) fn run_over<I: IntNumber>(
     contour: &[IntPoint<I>],
     points: &[IntPoint<I>],
@@ -64,7 +64,7 @@ fn hull(run: (usize, usize), other: (usize, usize)) -> (usize, usize)
     (start, end)
 }
 
-/// The least and the greatest abscissa of points among which one has the abscissa x.
+/// The least and the greatest x-coordinate of points, where one has x.
 fn span_of<I: IntNumber>(x: I, points: &[IntPoint<I>]) -> (I, I)
     ensures { IsSpan (plain_points I.whole points.now) (I.whole result.0) (I.whole result.1) }
 {

@@ -16,8 +16,8 @@ use overlay_geom::error::OverlayError;
 use overlay_geom::number::IntNumber;
 use std::alloc::Allocator;
 
-/// Whether some point is an end of an edge of which the subject alone fills one side alone, and of one
-/// of which the clip alone does. The only refusal is `Memory`.
+/// Returns whether some point is an end of an edge that the subject alone fills on one side alone, and of an edge
+/// that the clip alone fills so. The only refusal is `Memory`.
 pub(crate) fn has_shared_end<I: IntNumber, C: EdgeCount, A: Allocator + Clone>(
     graph: &Graph<I, C, A>,
 ) -> Result<bool, OverlayError>

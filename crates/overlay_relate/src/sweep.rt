@@ -30,8 +30,8 @@ use overlay_scan::scan::Scan;
 use std::alloc::Allocator;
 use std::cmp::Ordering;
 
-/// Where each of the points lies by the edges of a resolved contour, in their order. The scan is empty at
-/// first; what it holds afterwards is left open. The only refusal is `Memory`.
+/// Returns where each point lies by the edges of a resolved contour, in their order. The scan is empty at first;
+/// what it holds afterwards is left open. The only refusal is `Memory`.
 pub(crate) fn locate_by_sweep<I: IntNumber, A: Allocator + Clone, S: Scan<I, usize>>(
     alloc: A,
     scan: &mut S,
@@ -121,7 +121,7 @@ fn put_next<I: IntNumber, A: Allocator, S: Scan<I, usize>>(
     Ok(())
 }
 
-/// Whether it is told of the place that it is inside there.
+/// Returns whether it is told of the place that it is inside there.
 fn is_told(inside: &[bool], place: usize) -> bool
     ensures { result ≡ slice_index_or inside.now place false }
 {

@@ -44,7 +44,7 @@ fn wall_of<I: IntNumber>(e: &IntEdge<I>) -> IntEdge<I>
     }
 }
 
-/// How two walls compare: by their lower ends, then by their upper ones.
+/// Returns how two walls compare: by their lower ends, then by their upper ones.
 fn compare_walls<I: IntNumber>(v: &IntEdge<I>, w: &IntEdge<I>) -> Ordering
     ensures { is_lt result ≡ edge_lt (plain_edge I.whole v.now) (plain_edge I.whole w.now) }
 {
@@ -54,7 +54,7 @@ fn compare_walls<I: IntNumber>(v: &IntEdge<I>, w: &IntEdge<I>) -> Ordering
     }
 }
 
-/// Whether the point is on one of the walls of a contour.
+/// Returns whether the point is on one of the walls of a contour.
 pub(crate) fn is_on_wall<I: IntNumber>(walls: &[IntEdge<I>], p: IntPoint<I>) -> bool
     requires { AreContourWalls (plain_edges I.whole walls.now) }
     ensures { IsTrue result ↔ IsOnSomeWall (plain_edges I.whole walls.now) (plain_point I.whole p) }

@@ -3,6 +3,7 @@ pub mod ClosedPoints
 pub mod DirectionRead
 pub mod LeastPoints
 pub mod OnceSorted
+pub mod OneOutcome
 pub mod Outcomes
 pub mod ReversedContours
 pub mod SimpleEdges

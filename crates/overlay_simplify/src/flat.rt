@@ -1,6 +1,6 @@
 //! A contour in a flat buffer, and what is left of it.
 
-ghost use Rattle.std.specs.Prelude.{◌≡◌, length};
+ghost use Rattle.std.specs.Prelude.{◌≡◌, [], length};
 ghost use Rattle.overlay_geom.specs.Flat.{part_in, first_range, paths_in};
 ghost use Rattle.overlay_geom.specs.Points.{plain_points};
 ghost use Rattle.overlay_simplify.specs.Outcome.{contours_left};
@@ -10,8 +10,8 @@ use overlay_geom::flat::contours::FlatContoursBuffer;
 use overlay_geom::number::IntNumber;
 use std::alloc::Allocator;
 
-/// Leaves in the buffer what is left of its one contour, of which this becomes: as it stands, with its
-/// points reversed where they stand, or no contour. No memory is taken.
+/// Leaves in the buffer the outcome of its one contour: as it stands, with its points reversed where they stand,
+/// or no contour and no point. No memory is taken.
 pub fn leave_contour<I: IntNumber, B: Allocator>(
     buffer: &mut FlatContoursBuffer<I, B>,
     outcome: Outcome,
@@ -20,6 +20,7 @@ pub fn leave_contour<I: IntNumber, B: Allocator>(
     ensures left { paths_in I.whole buffer.new.points.items buffer.new.ranges.items
         ≡ contours_left outcome (plain_points I.whole
         (part_in buffer.old.points.items (first_range buffer.old.ranges.items))) }
+    ensures no_points { buffer.new.ranges.items ≡ [] → buffer.new.points.items ≡ [] }
     ensures same_points { outcome ≡ Outcome.AsGiven → buffer.new.points.items ≡ buffer.old.points.items }
     ensures same_ranges { outcome ≡ Outcome.AsGiven → buffer.new.ranges.items ≡ buffer.old.ranges.items }
 {

@@ -1,4 +1,4 @@
-//! What becomes of a contour where it is simplified.
+//! The outcome of simplifying a contour.
 
 ghost use Rattle.std.specs.Prelude.{◌≡◌};
 ghost use Rattle.overlay_simplify.specs.Outcome.{outcome_of};
@@ -6,7 +6,7 @@ ghost use Rattle.overlay_simplify.specs.Outcome.{outcome_of};
 use overlay_arrange::fill_rule::FillRule;
 use overlay_arrange::options::ContourDirection;
 
-/// What becomes of a contour.
+/// The outcome of a contour.
 #[derive(Debug, Clone, Copy, PartialEq)]
 pub enum Outcome {
     /// It is not simple as it was added, so that it has to be cut.
@@ -19,8 +19,8 @@ pub enum Outcome {
     Reversed,
 }
 
-/// What becomes of a simple contour that runs in this direction: under `Positive` a clockwise one is empty,
-/// and under `Negative` a counterclockwise one; any other is turned to the output direction.
+/// Returns the outcome of a simple contour that runs in this direction: under `Positive` a clockwise contour is
+/// empty, and under `Negative` a counterclockwise contour; any other is turned to the output direction.
 pub fn outcome_of(
     fill_rule: FillRule,
     output_direction: ContourDirection,

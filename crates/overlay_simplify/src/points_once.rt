@@ -12,7 +12,7 @@ use overlay_geom::number::IntNumber;
 use overlay_geom::point::IntPoint;
 use std::alloc::Allocator;
 
-/// Whether no point stands twice in the list. The only refusal is `Memory`.
+/// Returns whether no point stands twice in the list. The only refusal is `Memory`.
 pub fn has_each_point_once<I: IntNumber, A: Allocator>(
     alloc: A,
     points: &[IntPoint<I>],

@@ -13,8 +13,8 @@ use overlay_geom::path::{IntContour, IntShapes};
 use overlay_geom::point::IntPoint;
 use std::alloc::Allocator;
 
-/// The shapes that are left of a contour of which this becomes: the one of the contour, as it is given or
-/// reversed, or none. The only refusal is `Memory`.
+/// Returns the shapes of a contour with this outcome: its one shape, as it is given or reversed, or none. The only
+/// refusal is `Memory`.
 pub fn shapes_left<I: IntNumber, A: Allocator + Clone>(
     alloc: A,
     contour: &[IntPoint<I>],

@@ -1,4 +1,4 @@
-//! Whether a contour is simple as it was added, and what becomes of it.
+//! Whether a contour is simple as it was added, and its outcome.
 
 ghost use Rattle.std.specs.Prelude.{◌≡◌, ◌≢◌, ◌↔◌, [], ◌∷◌, IsTrue, IfOk, OnOk, IfErr, IsOkUnless};
 ghost use Rattle.overlay_arrange.specs.Content.{IsContent};

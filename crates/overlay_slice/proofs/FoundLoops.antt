@@ -48,7 +48,7 @@ module _ (fills : ℤ → Bool) (count : CountedEdge → ℤ) (es : List Counted
 
   -- ---- the sides by the other hand
 
-  backs_listed : AreFilledSides fills count es right (map reversed_step sides)
+  pub backs_listed : AreFilledSides fills count es right (map reversed_step sides)
   backs_listed = record { sides = are; all = all }
     where
       are : (s : Step) → Contains (map reversed_step sides) s → IsFilledSide fills count es right s

@@ -18,6 +18,9 @@ pub mod LoopWindings
 pub mod LostHoles
 pub mod NextSides
 pub mod OnceBySides
+pub mod OneRepeat
+pub mod OneSlicing
+pub mod OneWalk
 pub mod OrbitTours
 pub mod RoledLoops
 pub mod SideLists

@@ -2,6 +2,7 @@ pub mod Bound
 pub mod ClosedWalks
 pub mod FilledSides
 pub mod Loops
+pub mod OneSlicing
 pub mod Repeats
 pub mod SidesByBits
 pub mod Sliced

@@ -8,7 +8,8 @@ use overlay_bind::anchor::lowest_step;
 use overlay_geom::number::IntNumber;
 use overlay_walk::step::{Step, is_forward};
 
-/// Whether the loop, which has its filled side on its left, passes the edge of its anchor with this side above.
+/// Returns whether the loop, which has its filled side on its left, passes the edge of its anchor with this side
+/// above.
 pub fn is_filled_above_anchor<I: IntNumber>(walk: &[Step<I>]) -> bool
     requires some { 0 < length walk.now }
     requires long { All (IsLong I.limit) (plain_steps I.whole walk.now) }

@@ -16,10 +16,10 @@ use overlay_geom::point::IntPoint;
 use overlay_walk::step::Step;
 use std::alloc::Allocator;
 
-/// Cuts a closed walk into loops, each of which visits no point twice. Where the walk comes back to a point, what it
-/// walked since it left that point is a loop, of which the step from the point stands last; what is left at the end is
-/// the last loop, and begins where the walk does. Two steps there and back make no loop, and are dropped. The only
-/// refusal is `Memory`.
+/// Cuts a closed walk into loops that visit no point twice. Where the walk comes back to a point, the steps since
+/// it left that point are a loop, with the step from the point last; what is left at the end is the last loop, and
+/// begins where the walk does. Two steps there and back make no loop, and are dropped. The only refusal is
+/// `Memory`.
 pub fn cut_loops<I: IntNumber, A: Allocator + Clone>(
     alloc: A,
     walk: &[Step<I>],

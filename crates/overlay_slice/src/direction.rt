@@ -9,8 +9,8 @@ use overlay_geom::number::IntNumber;
 use overlay_geom::path::{IntShape, IntShapes};
 use std::alloc::Allocator;
 
-/// Brings shapes into the output direction, of which each contour has its filled side on the left: where it is
-/// clockwise the points of each contour then stand in the opposite order.
+/// Brings shapes whose contours have their filled side on the left into the output direction: where it is
+/// clockwise, each contour's points stand in the opposite order then.
 pub fn bring_in_direction<I: IntNumber, A: Allocator>(
     shapes: &mut IntShapes<I, A>,
     direction: ContourDirection,

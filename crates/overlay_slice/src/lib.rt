@@ -8,6 +8,7 @@ pub mod direction;
 pub mod filled_sides;
 pub mod laws;
 pub mod loops;
+pub mod only_slices;
 pub mod orbits;
 pub mod roles;
 mod sides;

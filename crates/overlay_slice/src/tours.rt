@@ -1,4 +1,4 @@
-//! The tours of which orbits consist: closed walks from the smallest point of an orbit back to it.
+//! The tours of orbits: closed walks from the smallest point of an orbit back to it.
 
 ghost use Rattle.std.specs.Prelude.{◌≡◌, ◌<◌, ◌≤◌, ◌++◌, [], ◌∷◌, false, length, All, IfOk, OnOk, IsOkUnless};
 ghost use Rattle.overlay_geom.specs.Plane.{point_lt};

@@ -5,6 +5,7 @@ pub mod ClippedOnce
 pub mod FirstPieces
 pub mod JoinedPaths
 pub mod KeptPieces
+pub mod OneClip
 pub mod OneShots
 pub mod OpenLists
 pub mod PartedPieces

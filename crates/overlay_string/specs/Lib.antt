@@ -1,6 +1,7 @@
 pub mod ClipPaths
 pub mod ClipPieces
 pub mod Laws
+pub mod OneClip
 pub mod OneShot
 pub mod OpenPlaces
 pub mod PieceOrder

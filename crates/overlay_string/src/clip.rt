@@ -19,14 +19,14 @@ use overlay_geom::resource::borrowed::BorrowedContours;
 use overlay_geom::solver::Solver;
 use std::alloc::Allocator;
 
-/// Strings clipped by this resource, whose paths are the closed contours of a shape, of which points on one line are
-/// dropped. The points of both are in the coordinate range. Each answer is that of `clip_string_lines_with_solver` on a
-/// new builder. A call without a solver takes `Solver::ABSOLUTE`.
+/// Clips strings by this resource, whose paths are the closed contours of a shape; points of these on one line are
+/// dropped. The points of both are in the coordinate range. Each answer is that of `clip_string_lines_with_solver`
+/// on a new builder. A call without a solver takes `Solver::ABSOLUTE`.
 ///
 /// Refusals are `Memory`, `NotSettled` (never with `Solver::SNAPPED`) and `TooManyEdges`; nothing of the caller's is
 /// changed.
 pub trait IntClip<I: OverlayInt>: IntShapeResource<I> {
-    /// What is left of the string from the first point of the line to the second one.
+    /// Returns the kept parts of the string from the first point of the line to the second.
     fn clip_line<A: Allocator + Clone>(
         &self,
         alloc: A,
@@ -42,7 +42,7 @@ pub trait IntClip<I: OverlayInt>: IntShapeResource<I> {
         ensures err { IfErr result (MayRefusePaths Rounds
             (shape_and_strings (Self.paths self.now) (plain_points I.whole line ∷ []))) };
 
-    /// The same, where edges are split by this solver.
+    /// As `clip_line`, with edges split by `solver`.
     fn clip_line_with_solver<A: Allocator + Clone>(
         &self,
         alloc: A,
@@ -59,7 +59,7 @@ pub trait IntClip<I: OverlayInt>: IntShapeResource<I> {
         ensures err { IfErr result (MayRefusePaths solver
             (shape_and_strings (Self.paths self.now) (plain_points I.whole line ∷ []))) };
 
-    /// What is left of the strings from the first point of each line to its second one.
+    /// Returns the kept parts of the strings from the first point of each line to its second.
     fn clip_lines<A: Allocator + Clone>(
         &self,
         alloc: A,
@@ -75,7 +75,7 @@ pub trait IntClip<I: OverlayInt>: IntShapeResource<I> {
         ensures err { IfErr result (MayRefusePaths Rounds
             (shape_and_strings (Self.paths self.now) (paths_of_lines I.whole lines.now))) };
 
-    /// The same, where edges are split by this solver.
+    /// As `clip_lines`, with edges split by `solver`.
     fn clip_lines_with_solver<A: Allocator + Clone>(
         &self,
         alloc: A,
@@ -92,7 +92,7 @@ pub trait IntClip<I: OverlayInt>: IntShapeResource<I> {
         ensures err { IfErr result (MayRefusePaths solver
             (shape_and_strings (Self.paths self.now) (paths_of_lines I.whole lines.now))) };
 
-    /// What is left of the open string through the points of the path.
+    /// Returns the kept parts of the open string through the points of the path.
     fn clip_path<B: Allocator, A: Allocator + Clone>(
         &self,
         alloc: A,
@@ -108,7 +108,7 @@ pub trait IntClip<I: OverlayInt>: IntShapeResource<I> {
         ensures err { IfErr result (MayRefusePaths Rounds
             (shape_and_strings (Self.paths self.now) (plain_points I.whole path.now.items ∷ []))) };
 
-    /// The same, where edges are split by this solver.
+    /// As `clip_path`, with edges split by `solver`.
     fn clip_path_with_solver<B: Allocator, A: Allocator + Clone>(
         &self,
         alloc: A,
@@ -125,7 +125,7 @@ pub trait IntClip<I: OverlayInt>: IntShapeResource<I> {
         ensures err { IfErr result (MayRefusePaths solver
             (shape_and_strings (Self.paths self.now) (plain_points I.whole path.now.items ∷ []))) };
 
-    /// What is left of the open strings through the points of each path.
+    /// Returns the kept parts of the open strings through the points of each path.
     fn clip_paths<B: Allocator, A: Allocator + Clone>(
         &self,
         alloc: A,
@@ -141,7 +141,7 @@ pub trait IntClip<I: OverlayInt>: IntShapeResource<I> {
         ensures err { IfErr result (MayRefusePaths Rounds
             (shape_and_strings (Self.paths self.now) (paths_of_shape I.whole paths.now))) };
 
-    /// The same, where edges are split by this solver.
+    /// As `clip_paths`, with edges split by `solver`.
     fn clip_paths_with_solver<B: Allocator, A: Allocator + Clone>(
         &self,
         alloc: A,
@@ -158,7 +158,7 @@ pub trait IntClip<I: OverlayInt>: IntShapeResource<I> {
         ensures err { IfErr result (MayRefusePaths solver
             (shape_and_strings (Self.paths self.now) (paths_of_shape I.whole paths.now))) };
 
-    /// What is left of all paths of the other resource, each an open string.
+    /// Returns the kept parts of all paths of the other resource, each an open string.
     fn clip_source<R1: IntShapeResource<I>, A: Allocator + Clone>(
         &self,
         alloc: A,
@@ -174,7 +174,7 @@ pub trait IntClip<I: OverlayInt>: IntShapeResource<I> {
         ensures err { IfErr result (MayRefusePaths Rounds
             (shape_and_strings (Self.paths self.now) (R1.paths source.now))) };
 
-    /// The same, where edges are split by this solver.
+    /// As `clip_source`, with edges split by `solver`.
     fn clip_source_with_solver<R1: IntShapeResource<I>, A: Allocator + Clone>(
         &self,
         alloc: A,

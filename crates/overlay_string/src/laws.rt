@@ -7,7 +7,7 @@ pub fn paths_take_each_piece_once()
     ensures { PathsTakeEachPieceOnce }
 {}
 
-/// What a clip gives inside the shape, what an inverted one gives outside of it, both without the boundary, and the
+/// The paths of a clip inside the shape, those of an inverted clip outside it, both without the boundary, and the
 /// pieces on the boundary take together each piece of the strings once.
 pub fn each_piece_is_clipped_once()
     ensures { EachPieceIsClippedOnce }

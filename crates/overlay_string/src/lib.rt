@@ -8,6 +8,7 @@ mod joined_paths;
 mod kept_pieces;
 pub mod laws;
 pub mod lines;
+pub mod only_clips;
 mod open_pieces;
 mod piece;
 mod role;

@@ -9,7 +9,7 @@ use overlay_builder::path::{PathKind, StepCounts};
 /// As what a path is added.
 #[derive(Debug, Clone, Copy, PartialEq, Eq)]
 pub enum PathRole {
-    /// A closed contour of the shape, of which points on one line are dropped.
+    /// A closed contour of the shape, without points on one line.
     Shape,
     /// A string from its first point to its last one.
     OpenString,
@@ -17,7 +17,7 @@ pub enum PathRole {
     ClosedString,
 }
 
-/// How the points of such a path are taken.
+/// Returns how the points of such a path are taken.
 pub fn kind_in(role: PathRole) -> PathKind
     ensures { result ≡ kind_in role }
 {
@@ -28,7 +28,7 @@ pub fn kind_in(role: PathRole) -> PathKind
     }
 }
 
-/// What an edge carries that a step of such a path passes.
+/// Returns the counts of an edge that a step of such a path passes.
 pub fn passing_in(role: PathRole) -> StepCounts<ShapeCountString>
     ensures { result ≡ passing_in role }
 {

@@ -19,9 +19,10 @@ use overlay_geom::resource::borrowed::BorrowedContours;
 use overlay_geom::solver::Solver;
 use std::alloc::Allocator;
 
-/// This resource, whose paths are the closed contours of a shape, of which points on one line are dropped, sliced along
-/// open strings. The points of both are in the coordinate range. Each answer is that of `StringGraph::extract_shapes`
-/// on a view of a new builder, or no shapes where there is no edge. A call without a solver takes `Solver::ABSOLUTE`.
+/// Slices this resource, whose paths are the closed contours of a shape, along open strings; points of the
+/// contours on one line are dropped. The points of both are in the coordinate range. Each answer is that of
+/// `StringGraph::extract_shapes` on a view of a new builder, or no shapes where there is no edge. A call without a
+/// solver takes `Solver::ABSOLUTE`.
 ///
 /// Refusals are `Memory`, `NotSettled` (never with `Solver::SNAPPED`) and `TooManyEdges`; nothing of the caller's is
 /// changed.
@@ -41,7 +42,7 @@ pub trait IntSlice<I: OverlayInt>: IntShapeResource<I> {
         ensures err { IfErr result (MayRefusePaths Rounds
             (shape_and_strings (Self.paths self.now) (plain_points I.whole line ∷ []))) };
 
-    /// The same, where edges are split by this solver.
+    /// As `slice_by_line`, with edges split by `solver`.
     fn slice_by_line_with_solver<A: Allocator + Clone>(
         &self,
         alloc: A,
@@ -72,7 +73,7 @@ pub trait IntSlice<I: OverlayInt>: IntShapeResource<I> {
         ensures err { IfErr result (MayRefusePaths Rounds
             (shape_and_strings (Self.paths self.now) (paths_of_lines I.whole lines.now))) };
 
-    /// The same, where edges are split by this solver.
+    /// As `slice_by_lines`, with edges split by `solver`.
     fn slice_by_lines_with_solver<A: Allocator + Clone>(
         &self,
         alloc: A,
@@ -103,7 +104,7 @@ pub trait IntSlice<I: OverlayInt>: IntShapeResource<I> {
         ensures err { IfErr result (MayRefusePaths Rounds
             (shape_and_strings (Self.paths self.now) (plain_points I.whole path.now.items ∷ []))) };
 
-    /// The same, where edges are split by this solver.
+    /// As `slice_by_path`, with edges split by `solver`.
     fn slice_by_path_with_solver<B: Allocator, A: Allocator + Clone>(
         &self,
         alloc: A,
@@ -134,7 +135,7 @@ pub trait IntSlice<I: OverlayInt>: IntShapeResource<I> {
         ensures err { IfErr result (MayRefusePaths Rounds
             (shape_and_strings (Self.paths self.now) (paths_of_shape I.whole paths.now))) };
 
-    /// The same, where edges are split by this solver.
+    /// As `slice_by_paths`, with edges split by `solver`.
     fn slice_by_paths_with_solver<B: Allocator, A: Allocator + Clone>(
         &self,
         alloc: A,
@@ -164,7 +165,7 @@ pub trait IntSlice<I: OverlayInt>: IntShapeResource<I> {
         ensures err { IfErr result (MayRefusePaths Rounds
             (shape_and_strings (Self.paths self.now) (R1.paths source.now))) };
 
-    /// The same, where edges are split by this solver.
+    /// As `slice_by_source`, with edges split by `solver`.
     fn slice_by_source_with_solver<R1: IntShapeResource<I>, A: Allocator + Clone>(
         &self,
         alloc: A,

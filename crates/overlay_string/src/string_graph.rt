@@ -27,8 +27,8 @@ impl<I: OverlayInt, A: Allocator + Clone> StringGraph<'_, I, A> {
     /// The shapes into which the strings cut the shape: of each its outline first, counterclockwise, and then its
     /// holes, clockwise. None is too small, and no point is dropped from them.
     ///
-    /// Each side of an edge, string or not, that the shape fills is passed once, but for those on both sides of which
-    /// the same slice lies: a string that ends inside the shape cuts nothing there. No contour visits a point twice.
+    /// Each side of an edge, string or not, that the shape fills is passed once, unless one slice lies on both
+    /// sides of the edge: a string that ends inside the shape cuts nothing there. No contour visits a point twice.
     /// The only refusal is `Memory`.
     pub fn extract_shapes(&self, string_rule: StringRule) -> Result<IntShapes<I, A>, OverlayError>
         ensures sliced { IfOk result (λ v. IsSlicedWhole I.Wide.width self.now.graph.now.fill_rule
@@ -38,10 +38,10 @@ impl<I: OverlayInt, A: Allocator + Clone> StringGraph<'_, I, A> {
         self.extract_shapes_custom(string_rule, IntOverlayOptions::default())
     }
 
-    /// The same shapes, in the direction `output_direction` and without the contours whose area is below
-    /// `min_output_area`. Of the holes that stay all go to the shape that stays, where it is the only one; where
-    /// several stay, each goes to its parent among what is left, and one without a parent is left out. No other option
-    /// is read. The only refusal is `Memory`.
+    /// Returns the shapes of `extract_shapes`, in the direction `output_direction` and without the contours whose
+    /// area is below `min_output_area`. Of the holes that stay all go to the shape that stays, where it is the
+    /// only one; where several stay, each goes to its parent among what is left, and one without a parent is left
+    /// out. No other option is read. The only refusal is `Memory`.
     pub fn extract_shapes_custom(
         &self,
         string_rule: StringRule,

@@ -1,6 +1,6 @@
 //! The rule by which shapes are extracted from a shape and its strings.
 
-/// What is done to a shape by strings.
+/// The ways in which strings cut a shape.
 #[derive(Debug, Clone, Copy, PartialEq, Eq)]
 pub enum StringRule {
     /// It is cut along them.

@@ -11,12 +11,12 @@ use overlay_geom::integer::OverlayInt;
 use overlay_geom::number::IntNumber;
 use overlay_geom::resource::IntShapeResource;
 
-/// A grid of cells, a node of which is at (0, 0): its lines are at the multiples of the width and of the height.
+/// A grid of cells with a node at (0, 0): its lines are at the multiples of the width and of the height.
 #[derive(Debug, Clone, Copy)]
 pub struct Grid<I> {
-    /// How wide a cell is.
+    /// Width of a cell.
     pub width: I,
-    /// How high a cell is.
+    /// Height of a cell.
     pub height: I,
 }
 

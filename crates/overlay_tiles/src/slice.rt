@@ -20,9 +20,9 @@ use overlay_string::lines::BorrowedLines;
 use overlay_string::slice::IntSlice;
 use std::alloc::Allocator;
 
-/// The resource, whose paths are the closed contours of a shape, of which points on one line are dropped, sliced along
-/// the lines of the grid across the box of all its points, as by `slice_by_lines`. The points are in the coordinate
-/// range, and the grid fits, as `grid_fits` tells.
+/// Slices the resource, whose paths are the closed contours of a shape, along the lines of the grid across the
+/// bounding box of all its points, as `slice_by_lines` does. Points of the contours on one line are dropped. The
+/// points are in the coordinate range, and the grid fits, as `grid_fits` tells.
 ///
 /// Edges are split by `Solver::ABSOLUTE`. Refusals are `Memory`, `NotSettled` and `TooManyEdges`; nothing of the
 /// caller's is changed.
@@ -43,7 +43,7 @@ pub fn slice_by_grid<I: OverlayInt, R0: IntShapeResource<I>, A: Allocator + Clon
     slice_by_grid_with_solver(alloc, resource, grid, fill_rule, Solver::ABSOLUTE)
 }
 
-/// The same, where edges are split by this solver: `NotSettled` never comes with `Solver::SNAPPED`.
+/// As `slice_by_grid`, with edges split by `solver`: `NotSettled` never comes with `Solver::SNAPPED`.
 pub fn slice_by_grid_with_solver<I: OverlayInt, R0: IntShapeResource<I>, A: Allocator + Clone>(
     alloc: A,
     resource: &R0,

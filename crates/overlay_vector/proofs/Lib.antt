@@ -5,6 +5,7 @@ pub mod JoinedContours
 pub mod JoinedRuns
 pub mod JoinedWindings
 pub mod ListedVectors
+pub mod OneVectorShapes
 pub mod Sums
 pub mod TurnedFills
 pub mod VectorShapes

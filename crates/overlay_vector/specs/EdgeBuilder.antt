@@ -2,6 +2,7 @@
 use Rattle.std.specs.Prelude.{◌≡◌, ℕ, Bool, true, false, List, [], Option, None}
 use Rattle.overlay_geom.specs.Edges.{CountedEdge}
 use Rattle.overlay_geom.specs.declared.solver.Solver.{Solver}
+use Rattle.overlay_geom.specs.declared.solver.Solver.TheVariants.{Rounds}
 use Rattle.overlay_plane.specs.Carried.{Carried, edges_in}
 use Rattle.overlay_arrange.specs.Arranged.{IsArrangedCarrying}
 use Rattle.overlay_arrange.specs.EdgeData.{AreMerged, IsPiece, IsReversed}
@@ -21,8 +22,10 @@ pub record EdgeBuilder (U D S : Type 0) : Type 0 where
   pub store : S
   pub failed : Bool
 
--- a new builder: it keeps points on one line in the output alone, has no buffer and no edges, and has not failed
+-- a new builder: it splits by rounds, keeps points on one line in the output alone, has no buffer and no edges, and has
+-- not failed
 pub record IsNewEdgeBuilder {U D S : Type 0} (natural : U → ℕ) (b : EdgeBuilder U D S) : Type 0 where
+  pub by : b.solver ≡ Rounds
   pub options : AreOptions natural false true false b.options
   pub buffer : b.boolean_buffer ≡ None
   pub edges : b.edges ≡ []

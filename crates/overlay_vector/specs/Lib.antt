@@ -6,6 +6,7 @@ pub mod HeldEdges
 pub mod JoinedRuns
 pub mod Joining
 pub mod ListedVectors
+pub mod OneVectorShapes
 pub mod SideFills
 pub mod VectorContours
 pub mod VectorShapes

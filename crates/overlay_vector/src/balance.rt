@@ -23,7 +23,7 @@ struct Sums {
     clip: i64,
 }
 
-/// Whether the counts of the edges are balanced: as many steps of the subject enter each point as leave
+/// Returns whether the counts of the edges are balanced: as many steps of the subject enter each point as leave
 /// it, and as many of the clip.
 pub(crate) fn is_balanced<I: IntNumber, C: EdgeCount>(edges: &[CountedEdge<I, C>]) -> bool
     requires { IsContent I.limit (plain_edges I.whole C.counts edges.now) }
@@ -37,7 +37,7 @@ pub(crate) fn is_balanced<I: IntNumber, C: EdgeCount>(edges: &[CountedEdge<I, C>
     true
 }
 
-/// Whether as many steps enter each end of an edge as leave it.
+/// Returns whether as many steps enter each end of an edge as leave it.
 fn is_balanced_at_ends<I: IntNumber, C: EdgeCount>(
     edges: &[CountedEdge<I, C>],
     edge: &CountedEdge<I, C>,
@@ -50,7 +50,7 @@ fn is_balanced_at_ends<I: IntNumber, C: EdgeCount>(
     is_balanced_at(edges, edge.a) && is_balanced_at(edges, edge.b)
 }
 
-/// Whether as many steps enter the point as leave it.
+/// Returns whether as many steps enter the point as leave it.
 fn is_balanced_at<I: IntNumber, C: EdgeCount>(
     edges: &[CountedEdge<I, C>],
     point: IntPoint<I>,
@@ -63,7 +63,7 @@ fn is_balanced_at<I: IntNumber, C: EdgeCount>(
     sums.subj == 0 && sums.clip == 0
 }
 
-/// How many steps enter the point, less how many leave it.
+/// Returns how many steps enter the point, less how many leave it.
 fn sums_at<I: IntNumber, C: EdgeCount>(edges: &[CountedEdge<I, C>], point: IntPoint<I>) -> Sums
     requires { IsContent I.limit (plain_edges I.whole C.counts edges.now) }
     ensures subj { result.subj
@@ -97,7 +97,7 @@ fn with_edge<I: IntNumber, C: EdgeCount>(
     }
 }
 
-/// How many of so many steps along the edge enter the point, less how many leave it.
+/// Returns how many of `count` steps along the edge enter the point, less how many leave it.
 fn along<I: IntNumber, C: EdgeCount>(
     count: i32,
     edge: &CountedEdge<I, C>,
@@ -111,7 +111,7 @@ fn along<I: IntNumber, C: EdgeCount>(
     at(count, edge.b, point) - at(count, edge.a, point)
 }
 
-/// So many where the end is at the point, and none elsewhere.
+/// The count where the end is at the point, and 0 elsewhere.
 fn at<I: IntNumber>(count: i32, end: IntPoint<I>, point: IntPoint<I>) -> i64
     ensures value { result ≡ cond (point_eq (plain_point I.whole end) (plain_point I.whole point)) count (pos 0) }
     ensures small { Within (2 ^ 31) result }

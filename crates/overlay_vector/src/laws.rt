@@ -1,6 +1,7 @@
 //! Laws of edges with data.
 
 ghost use Rattle.overlay_vector.specs.JoinedRuns.{JoinedEdgesStandForTheirs};
+ghost use Rattle.overlay_vector.specs.OneVectorShapes.{VectorShapesShowOneList, OneListOfVectorShapes};
 ghost use Rattle.overlay_vector.specs.SideFills.{TurningTwiceKeepsFills};
 
 use overlay_arrange::data::OverlayEdgeData;
@@ -14,4 +15,11 @@ pub fn joined_edges_stand_for_theirs<D: OverlayEdgeData>()
 /// Filled sides that are reversed twice are their four bits.
 pub fn reversed_twice_keeps_four_bits()
     ensures { TurningTwiceKeepsFills }
+{}
+
+/// Over the edges of an arrangement two answers as shapes of edges with data, asked for alike, show one list of shapes,
+/// each step with its filled sides and data; and where edges stay, and data has one way back, they are equal.
+pub fn one_list_of_vector_shapes<D: OverlayEdgeData>()
+    ensures shown { VectorShapesShowOneList D.reverses D.eq }
+    ensures kept { OneListOfVectorShapes D.reverses D.eq }
 {}

@@ -16,9 +16,9 @@ use overlay_geom::error::OverlayError;
 use overlay_geom::number::IntNumber;
 use std::alloc::Allocator;
 
-/// The edges of the graph on exactly one side of which the rules hold, that of the graph and the overlay
-/// rule, in their order, each with its filled sides, seen from its smaller to its larger end, and its data.
-/// The only refusal is `Memory`.
+/// Returns the edges of the graph with the region of its rule and the overlay rule on exactly one side, in order,
+/// each with its filled sides, seen from its smaller to its larger end, and its data. The only refusal is
+/// `Memory`.
 pub fn selected_vectors<I: IntNumber, D: OverlayEdgeData, A: Allocator + Clone>(
     graph: &Graph<I, CountWithData<D>, A>,
     overlay_rule: OverlayRule,

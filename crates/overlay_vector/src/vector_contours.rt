@@ -28,7 +28,7 @@ use overlay_walk::contour::Contour;
 use overlay_walk::step::{Step, is_forward};
 use std::alloc::Allocator;
 
-/// The shapes of which the contours, along edges of the graph, stand at these places. Each step has the filled
+/// Returns the shapes whose contours, along edges of the graph, stand at these places. Each step has the filled
 /// sides and the data of its edge, both turned round where it leads from the larger end; unless edges are to be
 /// kept, neighbours are joined. The only refusal is `Memory`.
 #[tactic(auto, using(overlay_arrange::proofs::ReachedStores::never_written))]

@@ -15,10 +15,10 @@ use overlay_geom::point::IntPoint;
 use overlay_geom::vector::IntVector;
 use std::alloc::Allocator;
 
-/// Those of the walks, in their order, that have three points or more and reach the minimum area, in
-/// squared units of the coordinates: half of the double area without its sign, rounded down, is the
-/// minimum or greater. The double area is the sum of the cross products of neighbouring points, wrapped
-/// to the numbers of the wide type. The only refusal is `Memory`.
+/// Returns the walks, in order, that have three points or more and reach the minimum area, in squared units of the
+/// coordinates: half of the double area without its sign, rounded down, is the minimum or greater. The double area
+/// is the sum of the cross products of neighbouring points, wrapped to the numbers of the wide type. The only
+/// refusal is `Memory`.
 pub fn large_walks<I: IntNumber, A: Allocator>(
     alloc: A,
     walks: Vec<Vec<Step<I>, A>, A>,
@@ -38,7 +38,7 @@ pub fn large_walks<I: IntNumber, A: Allocator>(
     Ok(large)
 }
 
-/// Whether the walk has three points or more and reaches the minimum area.
+/// Returns whether the walk has three points or more and reaches the minimum area.
 pub(crate) fn reaches<I: IntNumber>(walk: &[Step<I>], min_output_area: I::WideUInt) -> bool
     requires { All (IsLong I.limit) (plain_steps I.whole walk.now) }
     ensures { result ≡ reaches I.Wide.width (I.WideUInt.natural min_output_area) (plain_steps I.whole walk.now) }

@@ -29,7 +29,7 @@ impl Role {
         }
     }
 
-    /// Whether the contour is an outline.
+    /// Returns whether the contour is an outline.
     pub fn is_outline(self) -> bool
         ensures { result ≡ is_outline (plain_role self) }
     {

@@ -12,8 +12,8 @@ use crate::step::{Step, is_forward};
 use overlay_arrange::options::ContourDirection;
 use overlay_geom::number::IntNumber;
 
-/// Whether the filled side of the step is the upper one of its edge. It is the step's left side where
-/// the direction is counterclockwise, else its right one.
+/// Returns whether the filled side of the step is the upper one of its edge. It is the step's left side where the
+/// direction is counterclockwise, else its right one.
 pub fn is_filled_above<I: IntNumber>(step: &Step<I>, direction: ContourDirection) -> bool
     ensures { result ≡ is_filled_above (filled_hand direction) (plain_step I.whole step.now) }
 {
@@ -23,7 +23,7 @@ pub fn is_filled_above<I: IntNumber>(step: &Step<I>, direction: ContourDirection
     }
 }
 
-/// Whether the walk is a hole: it begins with an edge that is filled above.
+/// Returns whether the walk is a hole: it begins with an edge that is filled above.
 pub fn is_hole<I: IntNumber>(walk: &[Step<I>], direction: ContourDirection) -> bool
     ensures { result ≡ is_hole (filled_hand direction) (plain_steps I.whole walk.now) }
 {

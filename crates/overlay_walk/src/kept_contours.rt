@@ -26,14 +26,13 @@ use overlay_geom::error::OverlayError;
 use overlay_geom::number::{IntNumber, UIntNumber, WideIntNumber};
 use std::alloc::Allocator;
 
-/// The contours that the selected steps of the graph are cut into: those along the edges on exactly one
-/// side of which the rules hold, that of the graph and the overlay rule, with this side on the left where
-/// the output direction is counterclockwise, else on the right. With `ogc` they are cut in groups, as
-/// [`cut_in_groups`](crate::groups::cut_in_groups) tells; without it each walk is an outline, which turns
-/// through its filled side, or a hole whose shape is to be found, which turns through its empty one. Those
-/// are given that have three points or more and reach the minimum area of the options, a hole of an
-/// outline's group only with its outline. The counts of the edges are balanced. Without `ogc` each step has
-/// the number of its edge in the graph.
+/// Returns the contours that the selected steps of the graph are cut into: steps along edges with the region of
+/// the graph's rule and the overlay rule on exactly one side. This side is on the left where the output direction
+/// is counterclockwise, else on the right. With `ogc` they are cut in groups, as
+/// [`cut_in_groups`](crate::groups::cut_in_groups) tells; without it each walk is an outline, which turns through
+/// its filled side, or a hole whose shape is to be found, which turns through its empty one. Those are given that
+/// have three points or more and reach the minimum area of the options, a hole of an outline's group only with its
+/// outline. The counts of the edges are balanced. Without `ogc` each step has the number of its edge in the graph.
 ///
 /// The buffer lends its room. The only refusal is `Memory`, after which the buffer may be left without
 /// room.

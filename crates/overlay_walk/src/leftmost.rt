@@ -33,7 +33,7 @@ pub fn places_by_start<I: IntNumber, A: Allocator + Clone>(
     numbers_of(alloc, &edges)
 }
 
-/// Whether the step at a place runs forward; there need not be one.
+/// Returns whether the step at a place runs forward; there need not be one.
 fn runs_forward<I: IntNumber>(steps: &[Step<I>], place: usize) -> bool {
     match steps.get(place) {
         Some(step) => is_forward(step),
@@ -73,7 +73,7 @@ fn numbers_of<I: IntNumber, A: Allocator>(
     Ok(numbers)
 }
 
-/// How many of the places are taken, up to the first open one, where those up to a number of them are.
+/// Returns how many places are taken up to the first open place. The first `passed` are taken.
 pub fn first_open(places: &[usize], taken: &[bool], passed: usize) -> usize
     requires within { All (λ k. k < length taken.now) places.now }
     requires passed { ArePassed taken.now places.now passed }

@@ -40,8 +40,8 @@ pub(crate) enum TurnPart {
 }
 
 impl<I: IntNumber> Ray<I> {
-    /// Whether the ray meets p before q. What lies in the direction of its start comes last. All
-    /// points are in range.
+    /// Returns whether the ray meets p before q. What lies in the direction of its start comes last. All points
+    /// are in range.
     pub fn meets_before(self, p: IntPoint<I>, q: IntPoint<I>) -> bool
         requires node { InRange I.limit (plain_point I.whole self.node) }
         requires start { InRange I.limit (plain_point I.whole self.start) }
@@ -162,9 +162,9 @@ impl<I: IntNumber> NearestVector<I> {
         NearestVector { ray, nearest: None }
     }
 
-    /// Whether the ray meets the point, which is in range, before each of those added so far; then
-    /// it is the one held from now on. So it is where the ray's node and start differ: else the ray
-    /// begins in no direction, and meets no point first.
+    /// Returns whether the ray meets the point, which is in range, before each of those added so far; then it is
+    /// the one held from now on. So it is where the ray's node and start differ: else the ray begins in no
+    /// direction, and meets no point first.
     pub fn add(&mut self, point: IntPoint<I>) -> bool
         requires { InRange I.limit (plain_point I.whole point) }
         ensures nearer { (seen : List Point) → HasSeen self.old seen

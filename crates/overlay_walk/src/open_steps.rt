@@ -155,7 +155,7 @@ fn sort_steps<I: IntNumber, A: Allocator>(steps: &mut Vec<Step<I>, A>) -> Result
     Ok(())
 }
 
-/// Whether two steps lead between the same points.
+/// Returns whether two steps lead between the same points.
 fn is_same<I: IntNumber>(s: Step<I>, t: Step<I>) -> bool
     ensures { result ≡ step_eq (plain_step I.whole s) (plain_step I.whole t) }
 {

@@ -1,4 +1,4 @@
-//! The selected steps: those along edges on exactly one side of which the overlay rule holds.
+//! The selected steps: those along edges with the region on exactly one side.
 
 ghost use Rattle.std.specs.Prelude.{◌≡◌, ◌++◌, map, flat_map, option_map, option_to_list};
 ghost use Rattle.std.specs.Prelude.{List, slice_get, Some, All, IfSome, OnOk, IsOkUnless};

@@ -31,11 +31,10 @@ use overlay_geom::error::OverlayError;
 use overlay_geom::number::{IntNumber, UIntNumber, WideIntNumber};
 use std::alloc::Allocator;
 
-/// The walks that the selected steps of the graph are cut into: those along the edges on exactly one
-/// side of which the rules hold, that of the graph and the overlay rule, with this side on the left
-/// where the direction is counterclockwise, else on the right. Outlines turn through their filled side,
-/// holes through their empty one. Each step has the number of its edge in the graph. The counts of the
-/// edges are balanced.
+/// Returns the walks that the selected steps of the graph are cut into: steps along edges with the region of the
+/// graph's rule and the overlay rule on exactly one side. This side is on the left where the direction is
+/// counterclockwise, else on the right. Outlines turn through their filled side, holes through their empty one.
+/// Each step has the number of its edge in the graph. The counts of the edges are balanced.
 ///
 /// The buffer lends its room. The only refusal is `Memory`, after which the buffer may be left without
 /// room.
@@ -62,9 +61,9 @@ pub fn selected_walks<I: IntNumber, C: EdgeCount, A: Allocator + Clone>(
     Ok(walks)
 }
 
-/// The contours that the selected steps of the graph are cut into with groups, of which those are given that
-/// reach the minimum area, as [`cut_in_groups`] tells; the steps are those of [`selected_walks`]. No contour
-/// visits a point twice. The counts of the edges are balanced.
+/// Returns the contours that the selected steps of the graph are cut into with groups, those that reach the
+/// minimum area, as [`cut_in_groups`] tells; the steps are those of [`selected_walks`]. No contour visits a point
+/// twice. The counts of the edges are balanced.
 ///
 /// The buffer lends its room. The only refusal is `Memory`, after which the buffer may be left without
 /// room.

@@ -16,11 +16,11 @@ pub struct Step<I> {
     pub from: IntPoint<I>,
     /// Where it ends.
     pub to: IntPoint<I>,
-    /// The place of its edge in the list of edges of which the steps are made.
+    /// The place of its edge in the list from which the steps are made.
     pub edge: usize,
 }
 
-/// Whether the step leads from its edge's smaller end to the larger one.
+/// Returns whether the step leads from its edge's smaller end to the larger one.
 pub fn is_forward<I: IntNumber>(step: &Step<I>) -> bool
     ensures { result ≡ is_forward (plain_step I.whole step.now) }
 {

@@ -7,8 +7,8 @@ ghost use Rattle.polyover_arrays.specs.Reading.{AreContours, ArePoints, AreWithi
 use crate::fault::Fault;
 use overlay_geom::number::IntNumber;
 
-/// Returns whether the ends part so many coordinates into contours: the coordinates are an even count, no end is below
-/// the one before it, and the last end is the count of points; without ends there is no coordinate.
+/// Returns whether the ends part `coordinates` coordinates into contours: the coordinates are an even count, no
+/// end is below the one before it, and the last end is the count of points; without ends there is no coordinate.
 pub fn are_ends(ends: &[usize], coordinates: usize) -> bool
     ensures { result ≡ are_ends ends.now coordinates }
 {

@@ -1,6 +1,8 @@
 -- How a call ends whose answer is put into arrays.
-use Rattle.std.proofs.Common.{inl, inr, refl}
+use Rattle.std.proofs.Common.{◌≡◌, ℕ, inl, inr, refl, sym, subst}
+use Rattle.polyover_c.specs.Held.{HeldArrays, IsGiven}
 use Rattle.polyover_c.specs.Put.{EndsInto}
+use Rattle.polyover_c.specs.Statuses.{code_of}
 use Rattle.polyover_c.specs.declared.status.Status.{Status}
 
 module _ {F R : Type 0} (IsAnswer : F → Type 0) (AreWritten : F → R → R → Status → Type 0)
@@ -13,3 +15,9 @@ module _ {F R : Type 0} (IsAnswer : F → Type 0) (AreWritten : F → R → R �
   -- or it is refused, and nothing changes
   pub refused_ends : (old : R) (s : Status) → refused s → EndsInto IsAnswer AreWritten refused old old s
   refused_ends old s is = inr (refl, is)
+
+-- what is handed out is what a call ends with
+pub given : {I : Type 0} (ends : HeldArrays I → Status → Type 0) (held arrays : HeldArrays I) (s : Status) (code : ℕ) →
+    ends held s → arrays ≡ held → code ≡ code_of s → IsGiven ends arrays code
+given ends held arrays s code so same told =
+    record { status = s; so = subst (λ a. ends a s) (sym same) so; told = told }

@@ -11,49 +11,55 @@ use Rattle.overlay_geom.proofs.JoinedLists.{joined_push}
 use Rattle.overlay_geom.proofs.Mapped.{mapped_more}
 use Rattle.overlay_geom.specs.Plane.{Point}
 use Rattle.overlay_geom.specs.declared.error.OverlayError.{OverlayError}
-use Rattle.overlay_geom.specs.declared.solver.Solver.TheVariants.{Rounds}
+use Rattle.overlay_geom.specs.declared.solver.Solver.{Solver}
 use Rattle.i_overlay.specs.OneShot.{AreEdgesOfPaths, MayRefusePaths}
 use Rattle.polyover_arrays.specs.declared.fault.Fault.{Fault}
 use Rattle.polyover_c.proofs.Refusals.{unread, without_memory, unanswered}
-use Rattle.polyover_c.specs.Asked.{fill_of}
+use Rattle.polyover_c.specs.Asked.{fill_of, solver_of}
 use Rattle.polyover_c.specs.Given.{Contours, paths_of, paths_given, AreGiven, AreUnread}
 use Rattle.polyover_c.specs.Listed.{EdgeArrays, AreListed, AreEdgesIn, IsListingRefused, ends_of_vector}
-use Rattle.polyover_c.specs.Refusals.{IsUnknownFill}
+use Rattle.polyover_c.specs.Refusals.{AreQueryNumbers, IsUnknownQuery}
 use Rattle.polyover_c.specs.Statuses.{status_of_fault, status_of_error}
 use Rattle.polyover_c.specs.declared.status.Status.{Status}
 use Rattle.polyover_c.specs.declared.status.Status.TheVariants.{Memory}
 
-module _ {I : Type 0} (whole : I → ℤ) (limit fill : ℕ) (subject clip : Contours I) where
+module _ {I : Type 0} (whole : I → ℤ) (limit fill solver : ℕ) (subject clip : Contours I) where
   abbrev may : OverlayError → Type 0
-  may = MayRefusePaths Rounds (paths_given whole subject clip)
+  may = MayRefusePaths (solver_of solver) (paths_given whole subject clip)
 
-  pub contours_unlisted : (f : Fault) → fill < 4 → AreUnread whole limit subject clip f →
-      IsListingRefused whole limit fill subject clip (status_of_fault f)
-  contours_unlisted = unread whole limit (IsUnknownFill fill) (fill < 4) subject clip may tt
+  pub contours_unlisted : (f : Fault) → fill < 4 → solver < 2 → AreUnread whole limit subject clip f →
+      IsListingRefused whole limit fill solver subject clip (status_of_fault f)
+  contours_unlisted f known_fill known = unread whole limit (IsUnknownQuery fill solver) (AreQueryNumbers fill solver)
+      subject clip may tt f (known_fill, known)
 
-  pub memory_unlisted : (s : Status) → fill < 4 → AreGiven whole limit subject → AreGiven whole limit clip →
-      s ≡ Memory → IsListingRefused whole limit fill subject clip s
-  memory_unlisted = without_memory whole limit (IsUnknownFill fill) (fill < 4) subject clip may tt
+  pub memory_unlisted : (s : Status) → fill < 4 → solver < 2 → AreGiven whole limit subject →
+      AreGiven whole limit clip → s ≡ Memory → IsListingRefused whole limit fill solver subject clip s
+  memory_unlisted s known_fill known = without_memory whole limit (IsUnknownQuery fill solver)
+      (AreQueryNumbers fill solver) subject clip may tt s (known_fill, known)
 
-  pub listing_refused : (e : OverlayError) (p q : List (List Point)) → fill < 4 → AreGiven whole limit subject →
-      AreGiven whole limit clip → p ≡ paths_of whole subject → q ≡ paths_of whole clip →
-      MayRefusePaths Rounds (subject_and_clip p q) e →
-      IsListingRefused whole limit fill subject clip (status_of_error e)
-  listing_refused e p q known s c same_p same_q refused =
-      unanswered whole limit (IsUnknownFill fill) (fill < 4) subject clip may (λ failed. failed) e known s c
-      (subst (λ paths. MayRefusePaths Rounds paths e) (ap₂ subject_and_clip same_p same_q) refused)
+  pub listing_refused : (e : OverlayError) (t : Solver) (p q : List (List Point)) → fill < 4 → solver < 2 →
+      AreGiven whole limit subject → AreGiven whole limit clip → t ≡ solver_of solver → p ≡ paths_of whole subject →
+      q ≡ paths_of whole clip → MayRefusePaths t (subject_and_clip p q) e →
+      IsListingRefused whole limit fill solver subject clip (status_of_error e)
+  listing_refused e t p q known_fill known s c same_t same_p same_q refused =
+      unanswered whole limit (IsUnknownQuery fill solver) (AreQueryNumbers fill solver) subject clip may
+      (λ failed. failed) e (known_fill, known) s c
+      (subst (λ y. MayRefusePaths y (paths_given whole subject clip) e) same_t
+      (subst (λ paths. MayRefusePaths t paths e) (ap₂ subject_and_clip same_p same_q) refused))
 
-  pub edges_answered : (f : FillRule) (p q : List (List Point)) (vectors : List Vector) (arrays : EdgeArrays I) →
-      fill < 4 → AreGiven whole limit subject → AreGiven whole limit clip → f ≡ fill_of fill →
-      p ≡ paths_of whole subject → q ≡ paths_of whole clip → AreEdgesOfPaths Rounds f (subject_and_clip p q) vectors →
-      AreListed whole vectors arrays → AreEdgesIn whole limit fill subject clip arrays
-  edges_answered f p q vectors arrays known s c same_f same_p same_q are listed = record {
-    known = known;
+  pub edges_answered : (f : FillRule) (t : Solver) (p q : List (List Point)) (vectors : List Vector)
+      (arrays : EdgeArrays I) → fill < 4 → solver < 2 → AreGiven whole limit subject → AreGiven whole limit clip →
+      f ≡ fill_of fill → t ≡ solver_of solver → p ≡ paths_of whole subject → q ≡ paths_of whole clip →
+      AreEdgesOfPaths t f (subject_and_clip p q) vectors →
+      AreListed whole vectors arrays → AreEdgesIn whole limit fill solver subject clip arrays
+  edges_answered f t p q vectors arrays known_fill known s c same_f same_t same_p same_q are listed = record {
+    known = (known_fill, known);
     subject_given = s;
     clip_given = c;
     vectors = vectors;
-    answer = subst (λ y. AreEdgesOfPaths Rounds y (paths_given whole subject clip) vectors) same_f
-        (subst (λ paths. AreEdgesOfPaths Rounds f paths vectors) (ap₂ subject_and_clip same_p same_q) are);
+    answer = subst (λ y. AreEdgesOfPaths y (fill_of fill) (paths_given whole subject clip) vectors) same_t
+        (subst (λ y. AreEdgesOfPaths t y (paths_given whole subject clip) vectors) same_f
+        (subst (λ paths. AreEdgesOfPaths t f paths vectors) (ap₂ subject_and_clip same_p same_q) are));
     listed = listed;
   }
 

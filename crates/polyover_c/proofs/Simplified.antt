@@ -10,13 +10,13 @@ use Rattle.overlay_extract.specs.Results.{asked}
 use Rattle.overlay_geom.specs.Plane.{Point}
 use Rattle.overlay_geom.specs.declared.error.OverlayError.{OverlayError}
 use Rattle.overlay_geom.specs.declared.error.OverlayError.TheVariants as error
-use Rattle.overlay_geom.specs.declared.solver.Solver.TheVariants.{Rounds}
+use Rattle.overlay_geom.specs.declared.solver.Solver.{Solver}
 use Rattle.overlay_simplify.specs.Alone.{MayRefuseAlone}
 use Rattle.i_overlay.specs.Simplified.{IsSimplifiedAlone}
 use Rattle.polyover_arrays.specs.Reading.{HaveFault}
 use Rattle.polyover_arrays.specs.declared.fault.Fault.{Fault}
 use Rattle.polyover_arrays.specs.declared.fault.Fault.TheVariants as fault
-use Rattle.polyover_c.specs.Asked.{fill_of, options_of, AreChoices}
+use Rattle.polyover_c.specs.Asked.{fill_of, solver_of, options_of, AreChoices}
 use Rattle.polyover_c.specs.Given.{Contours, paths_of, AreGiven}
 use Rattle.polyover_c.specs.Simplified.{IsSimplification, IsSimplifyingRefused}
 use Rattle.polyover_c.specs.Statuses.{status_of_fault, status_of_error}
@@ -39,44 +39,53 @@ module _ {I U : Type 0} (whole : I → ℤ) (limit fill : ℕ) (options : Option
       ((lit< tt, (known_fill, known)), (are, tt))
 
   -- what the query refuses, of what is read
-  read_refused : (e : OverlayError) (o : IntOverlayOptions U) (p : List (List Point)) → o ≡ options_of options →
-      p ≡ paths_of whole given → MayRefuseAlone o.preserve_input_collinear Rounds (paths_for Subject p) e →
-      MayRefuseAlone false Rounds (paths_for Subject (paths_of whole given)) e
-  read_refused e o p same_o same_p may = subst (λ q. MayRefuseAlone false Rounds (paths_for Subject q) e) same_p
-      (subst (λ keep. MayRefuseAlone keep Rounds (paths_for Subject p) e)
-      (ap (λ m. m.preserve_input_collinear) same_o) may)
+  read_refused : (e : OverlayError) (o : IntOverlayOptions U) (t : Solver) (p : List (List Point)) →
+      o ≡ options_of options → t ≡ solver_of options.solver → p ≡ paths_of whole given →
+      MayRefuseAlone o.preserve_input_collinear t (paths_for Subject p) e →
+      MayRefuseAlone false (solver_of options.solver) (paths_for Subject (paths_of whole given)) e
+  read_refused e o t p same_o same_t same_p may =
+      subst (λ y. MayRefuseAlone false y (paths_for Subject (paths_of whole given)) e) same_t
+      (subst (λ q. MayRefuseAlone false t (paths_for Subject q) e) same_p
+      (subst (λ keep. MayRefuseAlone keep t (paths_for Subject p) e)
+      (ap (λ m. m.preserve_input_collinear) same_o) may))
 
-  pub simplifying_refused : (e : OverlayError) (o : IntOverlayOptions U) (p : List (List Point)) → fill < 4 →
-      AreChoices options → AreGiven whole limit given → o ≡ options_of options → p ≡ paths_of whole given →
-      MayRefuseAlone o.preserve_input_collinear Rounds (paths_for Subject p) e →
+  pub simplifying_refused : (e : OverlayError) (o : IntOverlayOptions U) (t : Solver) (p : List (List Point)) →
+      fill < 4 → AreChoices options → AreGiven whole limit given → o ≡ options_of options →
+      t ≡ solver_of options.solver → p ≡ paths_of whole given →
+      MayRefuseAlone o.preserve_input_collinear t (paths_for Subject p) e →
       IsSimplifyingRefused whole limit fill options given (status_of_error e)
-  simplifying_refused error.Memory o p known_fill known are same_o same_p may =
+  simplifying_refused error.Memory o t p known_fill known are same_o same_t same_p may =
       ((lit< tt, (known_fill, known)), (are, tt))
-  simplifying_refused error.NotSettled o p known_fill known are same_o same_p may =
-      ((lit< tt, (known_fill, known)), (are, read_refused error.NotSettled o p same_o same_p may))
-  simplifying_refused error.TooManyEdges o p known_fill known are same_o same_p may =
-      ((lit< tt, (known_fill, known)), (are, read_refused error.TooManyEdges o p same_o same_p may))
-  simplifying_refused error.Failed o p known_fill known are same_o same_p may = absurd may
+  simplifying_refused error.NotSettled o t p known_fill known are same_o same_t same_p may =
+      ((lit< tt, (known_fill, known)), (are, read_refused error.NotSettled o t p same_o same_t same_p may))
+  simplifying_refused error.TooManyEdges o t p known_fill known are same_o same_t same_p may =
+      ((lit< tt, (known_fill, known)), (are, read_refused error.TooManyEdges o t p same_o same_t same_p may))
+  simplifying_refused error.Failed o t p known_fill known are same_o same_t same_p may = absurd may
 
-  pub contours_simplified : (width : Width) (natural : U → ℕ) (f : FillRule) (o : IntOverlayOptions U)
+  pub contours_simplified : (width : Width) (natural : U → ℕ) (f : FillRule) (o : IntOverlayOptions U) (t : Solver)
       (p : List (List Point)) (shapes : List (List (List Point))) (flat : Flat I) → fill < 4 → AreChoices options →
-      AreGiven whole limit given → f ≡ fill_of fill → o ≡ options_of options → p ≡ paths_of whole given →
-      IsSimplifiedAlone Rounds (asked width natural f rule.Subject o) o.preserve_input_collinear p shapes →
+      AreGiven whole limit given → f ≡ fill_of fill → o ≡ options_of options → t ≡ solver_of options.solver →
+      p ≡ paths_of whole given →
+      IsSimplifiedAlone t (asked width natural f rule.Subject o) o.preserve_input_collinear p shapes →
       AreFlattened whole shapes flat →
       IsFlat (IsSimplification whole limit width natural fill options given) whole flat
-  contours_simplified width natural f o p shapes flat known_fill known are same_f same_o same_p is flattened = record {
-    shapes = shapes;
-    answer = record {
-      known = (lit< tt, (known_fill, known));
-      are_given = are;
-      simplified = subst (λ y. IsSimplifiedAlone Rounds (asked width natural y rule.Subject (options_of options)) false
-          (paths_of whole given) shapes) same_f
-          (subst (λ q. IsSimplifiedAlone Rounds (asked width natural f rule.Subject (options_of options)) false q
-          shapes)
-          same_p
-          (subst (λ m. IsSimplifiedAlone Rounds (asked width natural f rule.Subject m) m.preserve_input_collinear p
-          shapes)
-          same_o is));
-    };
-    flattened = flattened;
-  }
+  contours_simplified width natural f o t p shapes flat known_fill known are same_f same_o same_t same_p is
+      flattened = record {
+        shapes = shapes;
+        answer = record {
+          known = (lit< tt, (known_fill, known));
+          are_given = are;
+          simplified = subst (λ y. IsSimplifiedAlone y
+              (asked width natural (fill_of fill) rule.Subject (options_of options)) false (paths_of whole given)
+              shapes)
+              same_t
+              (subst (λ y. IsSimplifiedAlone t (asked width natural y rule.Subject (options_of options)) false
+              (paths_of whole given) shapes) same_f
+              (subst (λ q. IsSimplifiedAlone t (asked width natural f rule.Subject (options_of options)) false q shapes)
+              same_p
+              (subst (λ m. IsSimplifiedAlone t (asked width natural f rule.Subject m) m.preserve_input_collinear p
+              shapes)
+              same_o is)));
+        };
+        flattened = flattened;
+      }

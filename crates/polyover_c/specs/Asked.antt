@@ -6,6 +6,8 @@ use Rattle.overlay_arrange.specs.declared.options.ContourDirection.TheVariants.{
 use Rattle.overlay_arrange.specs.declared.options.IntOverlayOptions.{IntOverlayOptions}
 use Rattle.overlay_arrange.specs.declared.overlay_rule.OverlayRule.{OverlayRule}
 use Rattle.overlay_arrange.specs.declared.overlay_rule.OverlayRule.TheVariants as rule
+use Rattle.overlay_geom.specs.declared.solver.Solver.{Solver}
+use Rattle.overlay_geom.specs.declared.solver.Solver.TheVariants.{Rounds, Snapping}
 use Rattle.polyover_c.specs.declared.numbers.OptionNumbers.{OptionNumbers}
 use Rattle.polyover_c.specs.declared.status.Status.{Status}
 use Rattle.polyover_c.specs.declared.status.Status.TheVariants.{Done, Memory, BadEnds, OutOfRange}
@@ -21,6 +23,10 @@ rule_of n = get_or
 abbrev pub fill_of : ℕ → FillRule
 fill_of n = get_or (EvenOdd ∷ NonZero ∷ Positive ∷ []) n Negative
 
+-- the solver with the number, where it is below 2: snap rounding has 0
+abbrev pub solver_of : ℕ → Solver
+solver_of n = get_or (Snapping ∷ []) n Rounds
+
 -- the options with the numbers, where those that are a choice are below 2; input points on one line are dropped
 abbrev pub options_of : {U : Type 0} → OptionNumbers U → IntOverlayOptions U
 options_of n = record {
@@ -28,14 +34,15 @@ options_of n = record {
   output_direction = if n.direction == 0 then CounterClockwise else Clockwise;
   preserve_output_collinear = n.keep == 1;
   min_output_area = n.min_area;
-  ogc = n.ogc == 1;
+  ogc = n.touching == 0;
 }
 
 -- each choice has a number below 2
 pub record AreChoices {U : Type 0} (n : OptionNumbers U) : Type 0 where
   pub direction : n.direction < 2
   pub keep : n.keep < 2
-  pub ogc : n.ogc < 2
+  pub touching : n.touching < 2
+  pub solver : n.solver < 2
 
 -- the numbers of an overlay all stand for something
 abbrev pub AreKnown : {U : Type 0} → ℕ → ℕ → OptionNumbers U → Type 0

@@ -3,10 +3,9 @@ use Rattle.std.specs.Prelude.{ℕ, ℤ, List}
 use Rattle.std.specs.Int.{Width}
 use Rattle.overlay_extract.specs.Results.{asked}
 use Rattle.overlay_geom.specs.Plane.{Point}
-use Rattle.overlay_geom.specs.declared.solver.Solver.TheVariants.{Rounds}
 use Rattle.overlay_plane.specs.Islands.{ChildLink}
 use Rattle.i_overlay.specs.OneShot.{IsHierarchyOfPaths}
-use Rattle.polyover_c.specs.Asked.{rule_of, fill_of, options_of, AreKnown}
+use Rattle.polyover_c.specs.Asked.{rule_of, fill_of, solver_of, options_of, AreKnown}
 use Rattle.polyover_c.specs.Given.{Contours, paths_given, AreGiven}
 use Rattle.polyover_c.specs.Linked.{LinkedRoom, EndsWithLinked}
 use Rattle.polyover_c.specs.Overlays.{IsOverlayRefused}
@@ -21,8 +20,9 @@ pub record IsLinkedOverlay {I U : Type 0} (whole : I → ℤ) (limit : ℕ) (wid
   pub known : AreKnown rule fill options
   pub subject_given : AreGiven whole limit subject
   pub clip_given : AreGiven whole limit clip
-  pub is_hierarchy : IsHierarchyOfPaths Rounds (asked width natural (fill_of fill) (rule_of rule) (options_of options))
-      (paths_given whole subject clip) shapes links
+  pub is_hierarchy : IsHierarchyOfPaths (solver_of options.solver)
+      (asked width natural (fill_of fill) (rule_of rule) (options_of options)) (paths_given whole subject clip) shapes
+      links
 
 -- how it ends: it is refused as an overlay is
 abbrev pub HierarchyEnds : {I U : Type 0} → (I → ℤ) → ℕ → Width → (U → ℕ) → ℕ → ℕ → OptionNumbers U → Contours I →

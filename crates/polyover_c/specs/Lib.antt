@@ -1,6 +1,8 @@
 pub mod Asked
 pub mod Clipped
 pub mod Given
+pub mod Held
+pub mod Holding
 pub mod Hierarchies
 pub mod Lines
 pub mod Linked

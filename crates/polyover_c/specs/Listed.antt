@@ -1,15 +1,14 @@
 -- The edges of an arrangement in arrays of a caller.
-use Rattle.std.specs.Prelude.{◌≡◌, ◌<◌, ◌≤◌, ℕ, ℤ, List, [], ◌∷◌, length, map}
+use Rattle.std.specs.Prelude.{◌≡◌, ◌≤◌, ℕ, ℤ, List, [], ◌∷◌, length, map}
 use Rattle.std.specs.List.{flat_map}
 use Rattle.overlay_arrange.specs.Vectors.{Vector}
 use Rattle.i_overlay.specs.OneShot.{AreEdgesOfPaths, MayRefusePaths}
 use Rattle.polyover_arrays.specs.Arrays.{written_over}
-use Rattle.polyover_c.specs.Asked.{fill_of}
+use Rattle.polyover_c.specs.Asked.{fill_of, solver_of}
 use Rattle.polyover_c.specs.Given.{Contours, paths_given, AreGiven}
 use Rattle.polyover_c.specs.Put.{IsPutSo, EndsInto}
-use Rattle.polyover_c.specs.Refusals.{IsQueryRefused}
+use Rattle.polyover_c.specs.Refusals.{AreQueryNumbers, IsQueryRefused}
 use Rattle.polyover_c.specs.declared.status.Status.{Status}
-use Rattle.overlay_geom.specs.declared.solver.Solver.TheVariants.{Rounds}
 
 -- edges in arrays: of each the coordinates of both ends, and its fill bits
 pub record EdgeArrays (I : Type 0) : Type 0 where
@@ -55,24 +54,24 @@ AreEdgesPut arrays old new = IsPutSo (HasEdgeRoom arrays old.arrays)
     (record { arrays = edges_written arrays old.arrays; count = length arrays.fills })
     (record { arrays = old.arrays; count = length arrays.fills }) new
 
--- the fill rule is known, both are given, and the edges of some arrangement of the contours of both stand in the
--- arrays, with the sides that are filled under the fill rule with the number
-pub record AreEdgesIn {I : Type 0} (whole : I → ℤ) (limit fill : ℕ) (subject clip : Contours I)
+-- the numbers are known, both are given, and the edges of some arrangement, by the solver, of the contours of both
+-- stand in the arrays, with the sides that are filled under the fill rule
+pub record AreEdgesIn {I : Type 0} (whole : I → ℤ) (limit fill solver : ℕ) (subject clip : Contours I)
     (arrays : EdgeArrays I) : Type 0 where
-  pub known : fill < 4
+  pub known : AreQueryNumbers fill solver
   pub subject_given : AreGiven whole limit subject
   pub clip_given : AreGiven whole limit clip
   pub vectors : List Vector
-  pub answer : AreEdgesOfPaths Rounds (fill_of fill) (paths_given whole subject clip) vectors
+  pub answer : AreEdgesOfPaths (solver_of solver) (fill_of fill) (paths_given whole subject clip) vectors
   pub listed : AreListed whole vectors arrays
 
 -- there are none so
-abbrev pub IsListingRefused : {I : Type 0} → (I → ℤ) → ℕ → ℕ → Contours I → Contours I → Status → Type 0
-IsListingRefused whole limit fill subject clip =
-    IsQueryRefused whole limit fill subject clip (MayRefusePaths Rounds (paths_given whole subject clip))
+abbrev pub IsListingRefused : {I : Type 0} → (I → ℤ) → ℕ → ℕ → ℕ → Contours I → Contours I → Status → Type 0
+IsListingRefused whole limit fill solver subject clip = IsQueryRefused whole limit fill solver subject clip
+    (MayRefusePaths (solver_of solver) (paths_given whole subject clip))
 
 -- how it ends: with edges that are put into the arrays, or it is refused
-abbrev pub ListingEnds : {I : Type 0} → (I → ℤ) → ℕ → ℕ → Contours I → Contours I → EdgeRoom I → EdgeRoom I →
+abbrev pub ListingEnds : {I : Type 0} → (I → ℤ) → ℕ → ℕ → ℕ → Contours I → Contours I → EdgeRoom I → EdgeRoom I →
     Status → Type 0
-ListingEnds whole limit fill subject clip = EndsInto (AreEdgesIn whole limit fill subject clip) AreEdgesPut
-    (IsListingRefused whole limit fill subject clip)
+ListingEnds whole limit fill solver subject clip = EndsInto (AreEdgesIn whole limit fill solver subject clip)
+    AreEdgesPut (IsListingRefused whole limit fill solver subject clip)

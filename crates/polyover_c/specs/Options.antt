@@ -9,10 +9,17 @@ abbrev pub options_64 : Options64 → OptionNumbers ℕ
 options_64 o = record {
   direction = o.direction;
   keep = o.keep;
-  ogc = o.ogc;
+  touching = o.touching;
+  solver = o.solver;
   min_area = o.min_area_high * 2 ^ 64 + o.min_area_low;
 }
 
 -- those at 32 bits
 abbrev pub options_32 : Options32 → OptionNumbers ℕ
-options_32 o = record { direction = o.direction; keep = o.keep; ogc = o.ogc; min_area = o.min_area }
+options_32 o = record {
+  direction = o.direction;
+  keep = o.keep;
+  touching = o.touching;
+  solver = o.solver;
+  min_area = o.min_area;
+}

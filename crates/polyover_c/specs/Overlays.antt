@@ -3,9 +3,8 @@ use Rattle.std.specs.Prelude.{ℕ, ℤ, List}
 use Rattle.std.specs.Int.{Width}
 use Rattle.overlay_extract.specs.Results.{asked}
 use Rattle.overlay_geom.specs.Plane.{Point}
-use Rattle.overlay_geom.specs.declared.solver.Solver.TheVariants.{Rounds}
 use Rattle.i_overlay.specs.OneShot.{IsResultOfPaths, MayRefusePaths}
-use Rattle.polyover_c.specs.Asked.{rule_of, fill_of, options_of, AreKnown, IsUnknown}
+use Rattle.polyover_c.specs.Asked.{rule_of, fill_of, solver_of, options_of, AreKnown, IsUnknown}
 use Rattle.polyover_c.specs.Given.{Contours, paths_given, AreGiven}
 use Rattle.polyover_c.specs.Refusals.{AreBothRefused}
 use Rattle.polyover_c.specs.Written.{Room, EndsWithShapes}
@@ -13,14 +12,14 @@ use Rattle.polyover_c.specs.declared.numbers.OptionNumbers.{OptionNumbers}
 use Rattle.polyover_c.specs.declared.status.Status.{Status}
 
 -- all that is given stands for something, and the shapes are the result that the numbers ask for, of the contours of
--- both
+-- both, split by the solver that they ask for
 pub record IsOverlay {I U : Type 0} (whole : I → ℤ) (limit : ℕ) (width : Width) (natural : U → ℕ) (rule fill : ℕ)
     (options : OptionNumbers U) (subject clip : Contours I) (shapes : List (List (List Point))) : Type 0 where
   pub known : AreKnown rule fill options
   pub subject_given : AreGiven whole limit subject
   pub clip_given : AreGiven whole limit clip
-  pub is_result : IsResultOfPaths Rounds (asked width natural (fill_of fill) (rule_of rule) (options_of options))
-      (paths_given whole subject clip) shapes
+  pub is_result : IsResultOfPaths (solver_of options.solver)
+      (asked width natural (fill_of fill) (rule_of rule) (options_of options)) (paths_given whole subject clip) shapes
 
 -- an overlay is refused so: a number stands for nothing; else the contours have a fault, those of the subject first;
 -- else the query is refused
@@ -28,7 +27,7 @@ abbrev pub IsOverlayRefused : {I U : Type 0} → (I → ℤ) → ℕ → ℕ →
     Status → Type 0
 IsOverlayRefused whole limit rule fill options subject clip = AreBothRefused whole limit
     (IsUnknown rule fill options) (AreKnown rule fill options) subject clip
-    (MayRefusePaths Rounds (paths_given whole subject clip))
+    (MayRefusePaths (solver_of options.solver) (paths_given whole subject clip))
 
 -- how it ends
 abbrev pub OverlayEnds : {I U : Type 0} → (I → ℤ) → ℕ → Width → (U → ℕ) → ℕ → ℕ → OptionNumbers U → Contours I →

@@ -7,7 +7,7 @@ ghost use Rattle.polyover_c.specs.WrittenPaths.{AreFlatPaths, flat_paths, path_r
 
 use crate::clip_options::{ClipOptions, clip_rule_of};
 use crate::given::{Contours, read_both};
-use crate::numbers::fill_of;
+use crate::numbers::{fill_of, known_solver};
 use crate::path_answer::{PathAnswer, flattened_paths, put_paths};
 use crate::path_counts::PathCounts;
 use crate::status::Status;
@@ -42,7 +42,7 @@ pub(crate) fn clip_arrays<I: OverlayInt>(
 
 // The parts of the lines that a clip by the shape keeps, as arrays.
 #[tactic(auto, using(crate::proofs::Clipped::contours_unclipped, crate::proofs::Clipped::memory_refused, crate::proofs::Clipped::clip_refused, crate::proofs::Clipped::lines_clipped))]
-fn clip_answer<I: OverlayInt>(
+pub(crate) fn clip_answer<I: OverlayInt>(
     alloc: Global,
     fill: u32,
     options: ClipOptions,
@@ -60,8 +60,11 @@ fn clip_answer<I: OverlayInt>(
 {
     let fill = fill_of(fill)?;
     let rule = clip_rule_of(options)?;
+    let solver = known_solver(options.solver);
     let read = read_both(alloc, shape, lines)?;
-    let paths = read.first.clip_source(alloc, &read.second, fill, rule)?;
+    let paths = read
+        .first
+        .clip_source_with_solver(alloc, &read.second, fill, rule, solver)?;
     let answer = flattened_paths(alloc, &paths)?;
     Ok(answer)
 }

@@ -5,17 +5,17 @@ ghost use Rattle.overlay_arrange.specs.Vectors.{plain_vector};
 ghost use Rattle.overlay_builder.specs.GivenPaths.{subject_and_clip};
 ghost use Rattle.overlay_geom.specs.Flat.{paths_in};
 ghost use Rattle.overlay_geom.specs.Points.{AllInRange};
-ghost use Rattle.overlay_geom.specs.declared.solver.Solver.TheVariants.{Rounds};
 ghost use Rattle.i_overlay.specs.OneShot.{AreEdgesOfPaths, MayRefusePaths};
 ghost use Rattle.polyover_c.specs.Given.{contours_of};
 ghost use Rattle.polyover_c.specs.Listed.{AreEdgesIn, AreEdgesPut, AreListed, edge_room, flat_edges};
 ghost use Rattle.polyover_c.specs.Listed.{IsListingRefused, ListingEnds};
 
 use crate::given::{Contours, read_both};
-use crate::numbers::fill_of;
+use crate::numbers::{fill_of, solver_of};
 use crate::status::Status;
 use i_overlay::fill_rule::FillRule;
-use i_overlay::overlay::Overlay;
+use i_overlay::overlay::{IntOverlayOptions, Overlay};
+use i_overlay::solver::Solver;
 use i_overlay::vector::edge::DataVectorEdge;
 use overlay_geom::error::OverlayError;
 use overlay_geom::flat::contours::FlatContoursBuffer;
@@ -26,9 +26,9 @@ use std::alloc::Global;
 
 // Edges as arrays: of each the coordinates of both ends, and its fill bits.
 #[derive(Drop)]
-struct ListedEdges<I> {
-    coordinates: Vec<I, Global>,
-    fills: Vec<u8, Global>,
+pub(crate) struct ListedEdges<I> {
+    pub(crate) coordinates: Vec<I, Global>,
+    pub(crate) fills: Vec<u8, Global>,
 }
 
 /// The edges of the arrangement of both shapes, with the sides that are filled under the fill rule with the number, put
@@ -37,20 +37,21 @@ struct ListedEdges<I> {
 pub(crate) fn edges_arrays<I: OverlayInt>(
     alloc: Global,
     fill: u32,
+    solver: u32,
     subject: &Contours<I>,
     clip: &Contours<I>,
     coordinates: &mut [I],
     fills: &mut [u8],
     count: &mut usize,
 ) -> Status
-    ensures { ListingEnds I.whole I.limit fill
+    ensures { ListingEnds I.whole I.limit fill solver
         (contours_of subject.now.coordinates.now subject.now.ends.now)
         (contours_of clip.now.coordinates.now clip.now.ends.now)
         (edge_room coordinates.old fills.old count.old)
         (edge_room coordinates.new fills.new count.new)
         result }
 {
-    match edges_listed(alloc, fill, subject, clip) {
+    match edges_listed(alloc, fill, solver, subject, clip) {
         Ok(listed) => put(&listed, coordinates, fills, count),
         Err(status) => status,
     }
@@ -80,24 +81,26 @@ fn put<I: IntNumber>(
 
 // The edges as arrays, or why there are none.
 #[tactic(auto, using(crate::proofs::Listed::contours_unlisted, crate::proofs::Listed::memory_unlisted, crate::proofs::Listed::listing_refused, crate::proofs::Listed::edges_answered))]
-fn edges_listed<I: OverlayInt>(
+pub(crate) fn edges_listed<I: OverlayInt>(
     alloc: Global,
     fill: u32,
+    solver: u32,
     subject: &Contours<I>,
     clip: &Contours<I>,
 ) -> Result<ListedEdges<I>, Status>
     ensures { MatchResult result
-        (λ l. AreEdgesIn I.whole I.limit fill
+        (λ l. AreEdgesIn I.whole I.limit fill solver
         (contours_of subject.now.coordinates.now subject.now.ends.now)
         (contours_of clip.now.coordinates.now clip.now.ends.now)
         (flat_edges l.coordinates.items l.fills.items))
-        (IsListingRefused I.whole I.limit fill
+        (IsListingRefused I.whole I.limit fill solver
         (contours_of subject.now.coordinates.now subject.now.ends.now)
         (contours_of clip.now.coordinates.now clip.now.ends.now)) }
 {
     let fill = fill_of(fill)?;
+    let solver = solver_of(solver)?;
     let read = read_both(alloc, subject, clip)?;
-    let edges = arranged_edges(alloc, &read.first, &read.second, fill)?;
+    let edges = arranged_edges(alloc, &read.first, &read.second, fill, solver)?;
     let listed = listed(alloc, &edges)?;
     Ok(listed)
 }
@@ -108,18 +111,20 @@ fn arranged_edges<I: OverlayInt>(
     subject: &FlatContoursBuffer<I, Global>,
     clip: &FlatContoursBuffer<I, Global>,
     fill: FillRule,
+    solver: Solver,
 ) -> Result<Vec<DataVectorEdge<I, ()>, Global>, OverlayError>
     requires subject_in_range { All (AllInRange I.limit)
         (paths_in I.whole subject.now.points.items subject.now.ranges.items) }
     requires clip_in_range { All (AllInRange I.limit) (paths_in I.whole clip.now.points.items clip.now.ranges.items) }
-    ensures edges { IfOk result (λ v. AreEdgesOfPaths Rounds fill
+    ensures edges { IfOk result (λ v. AreEdgesOfPaths solver fill
         (subject_and_clip (paths_in I.whole subject.now.points.items subject.now.ranges.items)
         (paths_in I.whole clip.now.points.items clip.now.ranges.items)) (map (plain_vector I.whole) v.items)) }
-    ensures err { IfErr result (MayRefusePaths Rounds
+    ensures err { IfErr result (MayRefusePaths solver
         (subject_and_clip (paths_in I.whole subject.now.points.items subject.now.ranges.items)
         (paths_in I.whole clip.now.points.items clip.now.ranges.items))) }
 {
-    let mut overlay = Overlay::from_subj_and_clip(alloc, subject, clip)?;
+    let options = IntOverlayOptions::default();
+    let mut overlay = Overlay::from_subj_and_clip_custom(alloc, subject, clip, options, solver)?;
     overlay.build_separate_vectors(fill)
 }
 

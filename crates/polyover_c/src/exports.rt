@@ -2,6 +2,8 @@
 
 pub mod clip;
 pub mod edges;
+pub mod held_32;
+pub mod held_64;
 pub mod hierarchy;
 pub mod locate;
 pub mod relate;

@@ -43,7 +43,7 @@ pub extern "C" fn polyover_resolved_32(alloc: Global, shape: &Contours32) -> u32
 /// The shapes of the overlay that the rules and options ask for, put into the arrays, and their counts: the code of a
 /// status.
 #[unsafe(no_mangle)]
-pub extern "C" fn polyover_overlay_32(
+pub extern "C" fn polyover_overlay_with_32(
     alloc: Global,
     rule: u32,
     fill: u32,
@@ -66,7 +66,8 @@ pub extern "C" fn polyover_overlay_32(
     let numbers = OptionNumbers {
         direction: options.direction,
         keep: options.keep,
-        ogc: options.ogc,
+        touching: options.touching,
+        solver: options.solver,
         min_area: options.min_area,
     };
     let subject = Contours {
@@ -95,7 +96,7 @@ pub extern "C" fn polyover_overlay_32(
 /// The shapes that the contours are simplified to, as the fill rule and options ask, put into the arrays, and their
 /// counts: the code of a status.
 #[unsafe(no_mangle)]
-pub extern "C" fn polyover_simplify_32(
+pub extern "C" fn polyover_simplify_with_32(
     alloc: Global,
     fill: u32,
     options: &Options32,
@@ -115,7 +116,8 @@ pub extern "C" fn polyover_simplify_32(
     let numbers = OptionNumbers {
         direction: options.direction,
         keep: options.keep,
-        ogc: options.ogc,
+        touching: options.touching,
+        solver: options.solver,
         min_area: options.min_area,
     };
     let given = Contours {

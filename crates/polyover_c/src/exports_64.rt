@@ -43,7 +43,7 @@ pub extern "C" fn polyover_resolved(alloc: Global, shape: &Contours64) -> u32
 /// The shapes of the overlay that the rules and options ask for, put into the arrays, and their counts: the code of a
 /// status.
 #[unsafe(no_mangle)]
-pub extern "C" fn polyover_overlay(
+pub extern "C" fn polyover_overlay_with(
     alloc: Global,
     rule: u32,
     fill: u32,
@@ -66,7 +66,8 @@ pub extern "C" fn polyover_overlay(
     let numbers = OptionNumbers {
         direction: options.direction,
         keep: options.keep,
-        ogc: options.ogc,
+        touching: options.touching,
+        solver: options.solver,
         min_area: area_of(options.min_area_high, options.min_area_low),
     };
     let subject = Contours {
@@ -95,7 +96,7 @@ pub extern "C" fn polyover_overlay(
 /// The shapes that the contours are simplified to, as the fill rule and options ask, put into the arrays, and their
 /// counts: the code of a status.
 #[unsafe(no_mangle)]
-pub extern "C" fn polyover_simplify(
+pub extern "C" fn polyover_simplify_with(
     alloc: Global,
     fill: u32,
     options: &Options64,
@@ -115,7 +116,8 @@ pub extern "C" fn polyover_simplify(
     let numbers = OptionNumbers {
         direction: options.direction,
         keep: options.keep,
-        ogc: options.ogc,
+        touching: options.touching,
+        solver: options.solver,
         min_area: area_of(options.min_area_high, options.min_area_low),
     };
     let given = Contours {

@@ -7,7 +7,6 @@ ghost use Rattle.overlay_extract.specs.Results.{asked};
 ghost use Rattle.overlay_geom.specs.Flat.{paths_in, shapes_in};
 ghost use Rattle.overlay_geom.specs.FlatShapes.{AreShapesPacked};
 ghost use Rattle.overlay_geom.specs.Points.{AllInRange};
-ghost use Rattle.overlay_geom.specs.declared.solver.Solver.TheVariants.{Rounds};
 ghost use Rattle.i_overlay.specs.OneShot.{IsHierarchyOfPaths, MayRefusePaths};
 ghost use Rattle.polyover_c.specs.Given.{contours_of};
 ghost use Rattle.polyover_c.specs.Hierarchies.{IsLinkedOverlay, HierarchyEnds};
@@ -18,7 +17,7 @@ use crate::counts::Counts;
 use crate::given::{Contours, read_both};
 use crate::linked_answer::{LinkedAnswer, flattened_hierarchy, put_linked};
 use crate::links::Link;
-use crate::numbers::{OptionNumbers, fill_of, options_of, rule_of};
+use crate::numbers::{OptionNumbers, fill_of, known_solver, options_of, rule_of};
 use crate::status::Status;
 use i_overlay::fill_rule::FillRule;
 use i_overlay::hierarchy::FlatShapeHierarchy;
@@ -69,7 +68,7 @@ pub(crate) fn hierarchy_arrays<I: OverlayInt>(
 
 // The overlay that the numbers ask for, with the links between its shapes, as arrays.
 #[tactic(auto, using(crate::proofs::Overlays::contours_refused, crate::proofs::Overlays::memory_refused, crate::proofs::Overlays::overlay_refused, crate::proofs::Hierarchies::hierarchy_answered))]
-fn hierarchy_answer<I: OverlayInt>(
+pub(crate) fn hierarchy_answer<I: OverlayInt>(
     alloc: Global,
     rule: u32,
     fill: u32,
@@ -89,9 +88,18 @@ fn hierarchy_answer<I: OverlayInt>(
 {
     let rule = rule_of(rule)?;
     let fill = fill_of(fill)?;
-    let options = options_of(options)?;
+    let settings = options_of(options)?;
+    let solver = known_solver(options.solver);
     let read = read_both(alloc, subject, clip)?;
-    let hierarchy = hierarchy_shapes(alloc, &read.first, &read.second, rule, fill, options)?;
+    let hierarchy = hierarchy_shapes(
+        alloc,
+        &read.first,
+        &read.second,
+        rule,
+        fill,
+        settings,
+        solver,
+    )?;
     let answer = flattened_hierarchy(alloc, &hierarchy)?;
     Ok(answer)
 }
@@ -104,12 +112,13 @@ fn hierarchy_shapes<I: OverlayInt>(
     rule: OverlayRule,
     fill: FillRule,
     options: IntOverlayOptions<I::WideUInt>,
+    solver: Solver,
 ) -> Result<FlatShapeHierarchy<I, Global>, OverlayError>
     requires input { options.preserve_input_collinear ≡ false }
     requires subject_in_range { All (AllInRange I.limit)
         (paths_in I.whole subject.now.points.items subject.now.ranges.items) }
     requires clip_in_range { All (AllInRange I.limit) (paths_in I.whole clip.now.points.items clip.now.ranges.items) }
-    ensures result { IfOk result (λ h. IsHierarchyOfPaths Rounds (asked I.Wide.width I.WideUInt.natural fill rule
+    ensures result { IfOk result (λ h. IsHierarchyOfPaths solver (asked I.Wide.width I.WideUInt.natural fill rule
         options)
         (subject_and_clip (paths_in I.whole subject.now.points.items subject.now.ranges.items)
         (paths_in I.whole clip.now.points.items clip.now.ranges.items))
@@ -117,16 +126,10 @@ fn hierarchy_shapes<I: OverlayInt>(
         (map plain_link h.links.items)) }
     ensures packed { IfOk result
         (λ h. AreShapesPacked h.shapes.points.items h.shapes.contour_ranges.items h.shapes.shape_ranges.items) }
-    ensures err { IfErr result (MayRefusePaths Rounds
+    ensures err { IfErr result (MayRefusePaths solver
         (subject_and_clip (paths_in I.whole subject.now.points.items subject.now.ranges.items)
         (paths_in I.whole clip.now.points.items clip.now.ranges.items))) }
 {
-    let mut overlay = Overlay::from_subj_and_clip_custom(
-        alloc,
-        subject,
-        clip,
-        options,
-        Solver::ABSOLUTE,
-    )?;
+    let mut overlay = Overlay::from_subj_and_clip_custom(alloc, subject, clip, options, solver)?;
     overlay.overlay_hierarchy(rule, fill)
 }

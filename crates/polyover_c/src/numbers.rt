@@ -1,22 +1,25 @@
 //! Rules and options by the numbers that C knows them by.
 
 ghost use Rattle.std.specs.Prelude.{◌≡◌, ◌<◌, ◌≤◌, MatchResult};
-ghost use Rattle.polyover_c.specs.Asked.{rule_of, fill_of, options_of, AreChoices};
+ghost use Rattle.polyover_c.specs.Asked.{rule_of, fill_of, solver_of, options_of, AreChoices};
 ghost use Rattle.polyover_c.specs.declared.status.Status.TheVariants.{BadRule, BadFill, BadOption};
 
 use crate::status::Status;
 use i_overlay::fill_rule::FillRule;
 use i_overlay::overlay::{ContourDirection, IntOverlayOptions};
 use i_overlay::overlay_rule::OverlayRule;
+use i_overlay::solver::Solver;
 use overlay_geom::number::UIntNumber;
 
 /// Options as numbers: the direction of outlines, 0 for counter-clockwise and 1 for clockwise; whether points on one
-/// line are kept, and whether no contour may visit a point twice, 1 or 0; and the smallest area that is kept.
+/// line are kept, and whether a contour may visit a point twice, 1 or 0; how edges are split, 0 by snap rounding and 1
+/// in rounds; and the smallest area that is kept.
 #[derive(Clone, Copy)]
 pub(crate) struct OptionNumbers<U> {
     pub(crate) direction: u32,
     pub(crate) keep: u32,
-    pub(crate) ogc: u32,
+    pub(crate) touching: u32,
+    pub(crate) solver: u32,
     pub(crate) min_area: U,
 }
 
@@ -49,6 +52,29 @@ pub(crate) fn fill_of(number: u32) -> Result<FillRule, Status>
     }
 }
 
+/// The solver with the number; `BadOption` from 2 on.
+pub(crate) fn solver_of(number: u32) -> Result<Solver, Status>
+    ensures { MatchResult result (λ r. (number < 2) × (r ≡ solver_of number)) (λ s. (s ≡ BadOption) × (2 ≤ number)) }
+{
+    match number {
+        0 => Ok(Solver::SNAPPED),
+        1 => Ok(Solver::ABSOLUTE),
+        _ => Err(Status::BadOption),
+    }
+}
+
+/// The solver with the number, which is known.
+pub(crate) fn known_solver(number: u32) -> Solver
+    requires { number < 2 }
+    ensures { result ≡ solver_of number }
+{
+    if number == 0 {
+        Solver::SNAPPED
+    } else {
+        Solver::ABSOLUTE
+    }
+}
+
 /// The options with the numbers; `BadOption` where a choice has a number from 2 on.
 pub(crate) fn options_of<U: UIntNumber>(
     numbers: OptionNumbers<U>,
@@ -56,7 +82,7 @@ pub(crate) fn options_of<U: UIntNumber>(
     ensures { MatchResult result (λ o. AreChoices numbers × (o ≡ options_of numbers))
         (λ s. (s ≡ BadOption) × ¬ (AreChoices numbers)) }
 {
-    if numbers.direction > 1 || numbers.keep > 1 || numbers.ogc > 1 {
+    if numbers.direction > 1 || numbers.keep > 1 || numbers.touching > 1 || numbers.solver > 1 {
         return Err(Status::BadOption);
     }
     let output_direction = if numbers.direction == 0 {
@@ -69,6 +95,6 @@ pub(crate) fn options_of<U: UIntNumber>(
         output_direction,
         preserve_output_collinear: numbers.keep == 1,
         min_output_area: numbers.min_area,
-        ogc: numbers.ogc == 1,
+        ogc: numbers.touching == 0,
     })
 }

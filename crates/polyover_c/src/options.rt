@@ -10,10 +10,10 @@ pub struct Options64 {
     pub direction: u32,
     /// 1 where points on one line with their two neighbours are kept, else 0.
     pub keep: u32,
-    /// 1 where no contour may visit a point twice, else 0.
-    pub ogc: u32,
-    /// 0; it is not read.
-    pub reserved: u32,
+    /// 0 where no contour visits a point twice, 1 where it may.
+    pub touching: u32,
+    /// How edges are split where they meet: 0 by snap rounding, 1 in rounds.
+    pub solver: u32,
     /// The smallest area of a contour that is kept, in units of 2^64; 0 in both keeps all.
     pub min_area_high: u64,
     /// What is left of that area.
@@ -28,10 +28,10 @@ pub struct Options32 {
     pub direction: u32,
     /// 1 where points on one line with their two neighbours are kept, else 0.
     pub keep: u32,
-    /// 1 where no contour may visit a point twice, else 0.
-    pub ogc: u32,
-    /// 0; it is not read.
-    pub reserved: u32,
+    /// 0 where no contour visits a point twice, 1 where it may.
+    pub touching: u32,
+    /// How edges are split where they meet: 0 by snap rounding, 1 in rounds.
+    pub solver: u32,
     /// The smallest area of a contour that is kept; 0 keeps all.
     pub min_area: u64,
 }

@@ -6,7 +6,6 @@ ghost use Rattle.overlay_extract.specs.Results.{asked};
 ghost use Rattle.overlay_geom.specs.Flat.{paths_in};
 ghost use Rattle.overlay_geom.specs.Paths.{plain_shapes};
 ghost use Rattle.overlay_geom.specs.Points.{AllInRange};
-ghost use Rattle.overlay_geom.specs.declared.solver.Solver.TheVariants.{Rounds};
 ghost use Rattle.i_overlay.specs.OneShot.{IsResultOfPaths, MayRefusePaths};
 ghost use Rattle.polyover_c.specs.Given.{contours_of};
 ghost use Rattle.polyover_c.specs.Written.{IsFlat, flat_shapes, shape_room};
@@ -15,7 +14,7 @@ ghost use Rattle.polyover_c.specs.Overlays.{IsOverlay, IsOverlayRefused, Overlay
 use crate::answer::{Answer, flattened, put};
 use crate::counts::Counts;
 use crate::given::{Contours, read_both};
-use crate::numbers::{OptionNumbers, fill_of, options_of, rule_of};
+use crate::numbers::{OptionNumbers, fill_of, known_solver, options_of, rule_of};
 use crate::status::Status;
 use i_overlay::fill_rule::FillRule;
 use i_overlay::overlay::{IntOverlayOptions, Overlay};
@@ -56,7 +55,7 @@ pub(crate) fn overlay_arrays<I: OverlayInt>(
 
 // The overlay that the numbers ask for, as arrays.
 #[tactic(auto, using(crate::proofs::Overlays::contours_refused, crate::proofs::Overlays::memory_refused, crate::proofs::Overlays::overlay_refused, crate::proofs::Overlays::overlay_answered))]
-fn overlay_answer<I: OverlayInt>(
+pub(crate) fn overlay_answer<I: OverlayInt>(
     alloc: Global,
     rule: u32,
     fill: u32,
@@ -75,9 +74,18 @@ fn overlay_answer<I: OverlayInt>(
 {
     let rule = rule_of(rule)?;
     let fill = fill_of(fill)?;
-    let options = options_of(options)?;
+    let settings = options_of(options)?;
+    let solver = known_solver(options.solver);
     let read = read_both(alloc, subject, clip)?;
-    let shapes = overlay_shapes(alloc, &read.first, &read.second, rule, fill, options)?;
+    let shapes = overlay_shapes(
+        alloc,
+        &read.first,
+        &read.second,
+        rule,
+        fill,
+        settings,
+        solver,
+    )?;
     let answer = flattened(alloc, &shapes)?;
     Ok(answer)
 }
@@ -90,24 +98,19 @@ fn overlay_shapes<I: OverlayInt>(
     rule: OverlayRule,
     fill: FillRule,
     options: IntOverlayOptions<I::WideUInt>,
+    solver: Solver,
 ) -> Result<IntShapes<I, Global>, OverlayError>
     requires input { options.preserve_input_collinear ≡ false }
     requires subject_in_range { All (AllInRange I.limit)
         (paths_in I.whole subject.now.points.items subject.now.ranges.items) }
     requires clip_in_range { All (AllInRange I.limit) (paths_in I.whole clip.now.points.items clip.now.ranges.items) }
-    ensures result { IfOk result (λ v. IsResultOfPaths Rounds (asked I.Wide.width I.WideUInt.natural fill rule options)
+    ensures result { IfOk result (λ v. IsResultOfPaths solver (asked I.Wide.width I.WideUInt.natural fill rule options)
         (subject_and_clip (paths_in I.whole subject.now.points.items subject.now.ranges.items)
         (paths_in I.whole clip.now.points.items clip.now.ranges.items)) (plain_shapes I.whole v.items)) }
-    ensures err { IfErr result (MayRefusePaths Rounds
+    ensures err { IfErr result (MayRefusePaths solver
         (subject_and_clip (paths_in I.whole subject.now.points.items subject.now.ranges.items)
         (paths_in I.whole clip.now.points.items clip.now.ranges.items))) }
 {
-    let mut overlay = Overlay::from_subj_and_clip_custom(
-        alloc,
-        subject,
-        clip,
-        options,
-        Solver::ABSOLUTE,
-    )?;
+    let mut overlay = Overlay::from_subj_and_clip_custom(alloc, subject, clip, options, solver)?;
     overlay.overlay(rule, fill)
 }

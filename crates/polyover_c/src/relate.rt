@@ -5,14 +5,13 @@ ghost use Rattle.overlay_arrange.specs.Rules.{bit};
 ghost use Rattle.overlay_builder.specs.GivenPaths.{subject_and_clip};
 ghost use Rattle.overlay_geom.specs.Flat.{paths_in};
 ghost use Rattle.overlay_geom.specs.Points.{AllInRange};
-ghost use Rattle.overlay_geom.specs.declared.solver.Solver.TheVariants.{Rounds};
 ghost use Rattle.i_overlay.specs.OneShot.{MayRefusePaths};
 ghost use Rattle.i_overlay.specs.Relations.{AreRelationsOfPaths};
 ghost use Rattle.polyover_c.specs.Given.{contours_of};
 ghost use Rattle.polyover_c.specs.Related.{AreRelated, IsRelatingRefused, RelatingEnds, bits_of};
 
 use crate::given::{Contours, read_both};
-use crate::numbers::fill_of;
+use crate::numbers::{fill_of, solver_of};
 use crate::status::Status;
 use i_overlay::fill_rule::FillRule;
 use i_overlay::relate::{PredicateOverlay, Relations};
@@ -49,16 +48,17 @@ fn bit_if(holds: bool, value: u32) -> u32
 pub(crate) fn relate_arrays<I: OverlayInt>(
     alloc: Global,
     fill: u32,
+    solver: u32,
     subject: &Contours<I>,
     clip: &Contours<I>,
     relations: &mut u32,
 ) -> Status
-    ensures { RelatingEnds I.whole I.limit fill
+    ensures { RelatingEnds I.whole I.limit fill solver
         (contours_of subject.now.coordinates.now subject.now.ends.now)
         (contours_of clip.now.coordinates.now clip.now.ends.now)
         relations.old relations.new result }
 {
-    match relation_bits(alloc, fill, subject, clip) {
+    match relation_bits(alloc, fill, solver, subject, clip) {
         Ok(bits) => {
             *relations = bits;
             Status::Done
@@ -72,20 +72,22 @@ pub(crate) fn relate_arrays<I: OverlayInt>(
 fn relation_bits<I: OverlayInt>(
     alloc: Global,
     fill: u32,
+    solver: u32,
     subject: &Contours<I>,
     clip: &Contours<I>,
 ) -> Result<u32, Status>
     ensures { MatchResult result
-        (AreRelated I.whole I.limit fill
+        (AreRelated I.whole I.limit fill solver
         (contours_of subject.now.coordinates.now subject.now.ends.now)
         (contours_of clip.now.coordinates.now clip.now.ends.now))
-        (IsRelatingRefused I.whole I.limit fill
+        (IsRelatingRefused I.whole I.limit fill solver
         (contours_of subject.now.coordinates.now subject.now.ends.now)
         (contours_of clip.now.coordinates.now clip.now.ends.now)) }
 {
     let fill = fill_of(fill)?;
+    let solver = solver_of(solver)?;
     let read = read_both(alloc, subject, clip)?;
-    let relations = relations_between(alloc, &read.first, &read.second, fill)?;
+    let relations = relations_between(alloc, &read.first, &read.second, fill, solver)?;
     Ok(bits(relations))
 }
 
@@ -95,26 +97,23 @@ fn relations_between<I: OverlayInt>(
     subject: &FlatContoursBuffer<I, Global>,
     clip: &FlatContoursBuffer<I, Global>,
     fill: FillRule,
+    solver: Solver,
 ) -> Result<Relations, OverlayError>
     requires subject_in_range { All (AllInRange I.limit)
         (paths_in I.whole subject.now.points.items subject.now.ranges.items) }
     requires clip_in_range { All (AllInRange I.limit) (paths_in I.whole clip.now.points.items clip.now.ranges.items) }
     ensures { MatchResult result
-        (AreRelationsOfPaths Rounds fill
+        (AreRelationsOfPaths solver fill
         (subject_and_clip (paths_in I.whole subject.now.points.items subject.now.ranges.items)
         (paths_in I.whole clip.now.points.items clip.now.ranges.items))
         (subject_and_clip (paths_in I.whole clip.now.points.items clip.now.ranges.items)
         (paths_in I.whole subject.now.points.items subject.now.ranges.items)))
-        (MayRefusePaths Rounds
+        (MayRefusePaths solver
         (subject_and_clip (paths_in I.whole subject.now.points.items subject.now.ranges.items)
         (paths_in I.whole clip.now.points.items clip.now.ranges.items))) }
 {
     let mut overlay = PredicateOverlay::from_subj_and_clip_custom(
-        alloc,
-        subject,
-        clip,
-        fill,
-        Solver::ABSOLUTE,
+        alloc, subject, clip, fill, solver,
     )?;
     overlay.relations()
 }

@@ -1,6 +1,14 @@
 //! The shapes that contours in arrays are simplified to.
 
-ghost use Rattle.std.specs.Prelude.{◌≡◌, MatchResult};
+ghost use Rattle.std.specs.Prelude.{◌≡◌, All, IfOk, IfErr, MatchResult};
+ghost use Rattle.overlay_arrange.specs.declared.options.ShapeType.TheVariants.{Subject};
+ghost use Rattle.overlay_builder.specs.GivenPaths.{paths_for};
+ghost use Rattle.overlay_extract.specs.Results.{asked};
+ghost use Rattle.overlay_geom.specs.Flat.{paths_in};
+ghost use Rattle.overlay_geom.specs.Paths.{plain_shapes};
+ghost use Rattle.overlay_geom.specs.Points.{AllInRange};
+ghost use Rattle.overlay_simplify.specs.Alone.{MayRefuseAlone};
+ghost use Rattle.i_overlay.specs.Simplified.{IsSimplifiedAlone};
 ghost use Rattle.polyover_c.specs.Given.{contours_of};
 ghost use Rattle.polyover_c.specs.Simplified.{IsSimplification, IsSimplifyingRefused, SimplifyingEnds};
 ghost use Rattle.polyover_c.specs.Written.{IsFlat, flat_shapes, shape_room};
@@ -8,10 +16,16 @@ ghost use Rattle.polyover_c.specs.Written.{IsFlat, flat_shapes, shape_room};
 use crate::answer::{Answer, flattened, put};
 use crate::counts::Counts;
 use crate::given::Contours;
-use crate::numbers::{OptionNumbers, fill_of, options_of};
+use crate::numbers::{OptionNumbers, fill_of, known_solver, options_of};
 use crate::status::Status;
-use i_overlay::simplify::Simplify;
+use i_overlay::fill_rule::FillRule;
+use i_overlay::overlay::{IntOverlayOptions, Overlay};
+use i_overlay::overlay_rule::OverlayRule;
+use i_overlay::solver::Solver;
+use overlay_geom::error::OverlayError;
+use overlay_geom::flat::contours::FlatContoursBuffer;
 use overlay_geom::integer::OverlayInt;
+use overlay_geom::path::IntShapes;
 use polyover_arrays::read::read_contours;
 use std::alloc::Global;
 
@@ -41,7 +55,7 @@ pub(crate) fn simplify_arrays<I: OverlayInt>(
 
 // The shapes that the contours are simplified to, as arrays.
 #[tactic(auto, using(crate::proofs::Simplified::contours_refused, crate::proofs::Simplified::memory_refused, crate::proofs::Simplified::simplifying_refused, crate::proofs::Simplified::contours_simplified))]
-fn simplify_answer<I: OverlayInt>(
+pub(crate) fn simplify_answer<I: OverlayInt>(
     alloc: Global,
     fill: u32,
     options: OptionNumbers<I::WideUInt>,
@@ -55,9 +69,29 @@ fn simplify_answer<I: OverlayInt>(
         (contours_of given.now.coordinates.now given.now.ends.now)) }
 {
     let fill = fill_of(fill)?;
-    let options = options_of(options)?;
+    let settings = options_of(options)?;
+    let solver = known_solver(options.solver);
     let contours = read_contours(alloc, given.coordinates, given.ends)?;
-    let shapes = contours.simplify(alloc, fill, options)?;
+    let shapes = simplified_shapes(alloc, &contours, fill, settings, solver)?;
     let answer = flattened(alloc, &shapes)?;
     Ok(answer)
+}
+
+// The shapes that the contours are simplified to.
+fn simplified_shapes<I: OverlayInt>(
+    alloc: Global,
+    contours: &FlatContoursBuffer<I, Global>,
+    fill: FillRule,
+    options: IntOverlayOptions<I::WideUInt>,
+    solver: Solver,
+) -> Result<IntShapes<I, Global>, OverlayError>
+    requires { All (AllInRange I.limit) (paths_in I.whole contours.now.points.items contours.now.ranges.items) }
+    ensures result { IfOk result (λ v. IsSimplifiedAlone solver
+        (asked I.Wide.width I.WideUInt.natural fill OverlayRule.Subject options) options.preserve_input_collinear
+        (paths_in I.whole contours.now.points.items contours.now.ranges.items) (plain_shapes I.whole v.items)) }
+    ensures err { IfErr result (MayRefuseAlone options.preserve_input_collinear solver
+        (paths_for Subject (paths_in I.whole contours.now.points.items contours.now.ranges.items))) }
+{
+    let mut overlay = Overlay::new_custom(alloc, 0, options, solver)?;
+    overlay.simplify_source(contours, fill)
 }

@@ -8,7 +8,7 @@ ghost use Rattle.polyover_c.specs.Written.{IsFlat, flat_shapes, shape_room};
 use crate::answer::{Answer, flattened, put};
 use crate::counts::Counts;
 use crate::given::{Contours, read_both};
-use crate::numbers::fill_of;
+use crate::numbers::{fill_of, solver_of};
 use crate::status::Status;
 use i_overlay::string::slice::IntSlice;
 use overlay_geom::integer::OverlayInt;
@@ -19,6 +19,7 @@ use std::alloc::Global;
 pub(crate) fn slice_arrays<I: OverlayInt>(
     alloc: Global,
     fill: u32,
+    solver: u32,
     subject: &Contours<I>,
     lines: &Contours<I>,
     coordinates: &mut [I],
@@ -26,14 +27,14 @@ pub(crate) fn slice_arrays<I: OverlayInt>(
     shape_ends: &mut [usize],
     counts: &mut Counts,
 ) -> Status
-    ensures { SlicingEnds I.whole I.limit I.Wide.width fill
+    ensures { SlicingEnds I.whole I.limit I.Wide.width fill solver
         (contours_of subject.now.coordinates.now subject.now.ends.now)
         (contours_of lines.now.coordinates.now lines.now.ends.now)
         (shape_room coordinates.old contour_ends.old shape_ends.old counts.old)
         (shape_room coordinates.new contour_ends.new shape_ends.new counts.new)
         result }
 {
-    match slice_answer(alloc, fill, subject, lines) {
+    match slice_answer(alloc, fill, solver, subject, lines) {
         Ok(answer) => put(&answer, coordinates, contour_ends, shape_ends, counts),
         Err(status) => status,
     }
@@ -41,24 +42,28 @@ pub(crate) fn slice_arrays<I: OverlayInt>(
 
 // The shapes into which the lines slice the subject, as arrays.
 #[tactic(auto, using(crate::proofs::Sliced::contours_unsliced, crate::proofs::Sliced::memory_refused, crate::proofs::Sliced::slicing_refused, crate::proofs::Sliced::subject_sliced))]
-fn slice_answer<I: OverlayInt>(
+pub(crate) fn slice_answer<I: OverlayInt>(
     alloc: Global,
     fill: u32,
+    solver: u32,
     subject: &Contours<I>,
     lines: &Contours<I>,
 ) -> Result<Answer<I>, Status>
     ensures { MatchResult result
-        (λ a. IsFlat (AreSlices I.whole I.limit I.Wide.width fill
+        (λ a. IsFlat (AreSlices I.whole I.limit I.Wide.width fill solver
         (contours_of subject.now.coordinates.now subject.now.ends.now)
         (contours_of lines.now.coordinates.now lines.now.ends.now)) I.whole
         (flat_shapes a.coordinates.items a.contour_ends.items a.shape_ends.items))
-        (IsSlicingRefused I.whole I.limit fill
+        (IsSlicingRefused I.whole I.limit fill solver
         (contours_of subject.now.coordinates.now subject.now.ends.now)
         (contours_of lines.now.coordinates.now lines.now.ends.now)) }
 {
     let fill = fill_of(fill)?;
+    let solver = solver_of(solver)?;
     let read = read_both(alloc, subject, lines)?;
-    let shapes = read.first.slice_by_source(alloc, &read.second, fill)?;
+    let shapes = read
+        .first
+        .slice_by_source_with_solver(alloc, &read.second, fill, solver)?;
     let answer = flattened(alloc, &shapes)?;
     Ok(answer)
 }

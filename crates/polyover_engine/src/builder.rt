@@ -35,7 +35,7 @@ pub fn with_contours<A: Allocator + Clone>(
     Ok(overlay)
 }
 
-/// The same, with the options that the query sets.
+/// Returns the builder of the contours with the options that the query sets.
 pub fn asked_builder<A: Allocator + Clone>(
     alloc: A,
     contours: &[NumberedContour<A>],

@@ -15,7 +15,7 @@ use std::alloc::Allocator;
 /// Reads everything from the reader, and writes the answer to the writer.
 ///
 /// Faults are found in this order: the whole input is read, all its lines are parsed, the command runs, the whole
-/// answer is written. Want of memory may come in any of these steps but the last, in the place of what would follow.
+/// answer is written. `Memory` may come in any of these steps but the last, in place of what would follow.
 ///
 /// The reader may be any `Read`, the writer any `Write`.
 #[tactic(auto, using(crate::proofs::Endings::ends_untouched, crate::proofs::Endings::ends_writing))]

@@ -1,4 +1,4 @@
-//! The shapes of an overlay, and which of them lie in holes of which.
+//! The shapes of an overlay, and links from holes to the shapes in them.
 
 ghost use Rattle.std.specs.Prelude.{◌≡◌, ◌++◌, MatchResult, All, map, IfOk, OnOk, string_bytes};
 ghost use Rattle.overlay_geom.specs.Flat.{shapes_in};

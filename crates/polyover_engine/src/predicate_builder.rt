@@ -12,7 +12,6 @@ ghost use Rattle.overlay_builder.specs.GivenPaths.{added_paths};
 
 use i_overlay::fill_rule::FillRule;
 use i_overlay::relate::PredicateOverlay;
-use i_overlay::solver::Solver;
 use overlay_geom::error::OverlayError;
 use polyover_text::figures::NumberedContour;
 use std::alloc::Allocator;
@@ -32,7 +31,6 @@ pub(crate) fn with_contours<A: Allocator + Clone>(
 {
     let mut overlay = PredicateOverlay::<i64, A>::new(alloc, 0)?;
     overlay.fill_rule = fill_rule;
-    overlay.solver = Solver::ABSOLUTE;
     for given in contours {
         let contour = &given.contour;
         overlay.add_contour(&contour.points, contour.shape_type)?;

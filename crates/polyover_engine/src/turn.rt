@@ -8,7 +8,7 @@ use std::io::ErrorKind;
 /// How one turn of reading or writing ended.
 #[derive(Clone, Copy)]
 pub enum Turn {
-    /// So many bytes were read, or taken.
+    /// Number of bytes that were read, or taken.
     Done(usize),
     /// It was interrupted, and is to be tried again.
     Interrupted,

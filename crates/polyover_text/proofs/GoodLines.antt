@@ -118,7 +118,7 @@ IsPlain l = (l ≡ []) ⊎ (((c : GivenPath) × GivesContour l c) ⊎ (((ps : Li
     ⊎ ((p : Point) × GivesPoint l p)))
 
 -- so is each line among figures
-among_figures : (n : ℕ) (before : List Line) (l : Line) (after : List Line) (fs : GivenFigures) →
+pub among_figures : (n : ℕ) (before : List Line) (l : Line) (after : List Line) (fs : GivenFigures) →
     AreFigures n (before ++ l ∷ after) fs → IsPlain l
 among_figures n [] l after fs (blank h) = inl refl
 among_figures n [] l after fs (contour first h) = inr (inl (_, first))
@@ -166,7 +166,7 @@ command_begins l query (tiles named) = (_, refl)
 command_begins l query contains = (_, refl)
 command_begins l query locate = (_, refl)
 
-command_is_not_plain : (l : Line) (query : Query) → IsCommand l query → ¬ (IsPlain l)
+pub command_is_not_plain : (l : Line) (query : Query) → IsCommand l query → ¬ (IsPlain l)
 command_is_not_plain l query h plain = let begins = command_begins l query h in
     run_is_not_plain begins.0 (subst IsPlain begins.1 plain)
 
@@ -198,7 +198,8 @@ last_of_input ls l fs query h = last_from_parts ls h.before h.after l h.line fs 
     h.command h.blank
 
 -- figures hold no command
-no_command_among : (ls : List Line) (fs gs : GivenFigures) (query : Query) → Asks ls fs query → AreFigures 1 ls gs → ⊥
+pub no_command_among : (ls : List Line) (fs gs : GivenFigures) (query : Query) → Asks ls fs query →
+    AreFigures 1 ls gs → ⊥
 no_command_among ls fs gs query h figures =
     command_is_not_plain h.line query h.command
     (among_figures 1 h.before h.line h.after gs (subst (λ x. AreFigures 1 x gs) h.parts figures))

@@ -6,6 +6,9 @@ pub mod GoodLines
 pub mod InRange
 pub mod NextWord
 pub mod Numbers
+pub mod OneBadLine
+pub mod OneCommand
+pub mod OneInput
 pub mod OptionLists
 pub mod PointLists
 pub mod Printing

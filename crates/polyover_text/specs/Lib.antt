@@ -2,6 +2,7 @@ pub mod ClipOptions
 pub mod Grammar
 pub mod Inputs
 pub mod Lines
+pub mod OneInput
 pub mod Options
 pub mod Points
 pub mod Printed

@@ -9,6 +9,6 @@ use std::alloc::Allocator;
 pub struct Contour<A: Allocator> {
     /// The shape.
     pub shape_type: ShapeType,
-    /// The points, of which the first follows the last.
+    /// The points; the first follows the last.
     pub points: Vec<IntPoint<i64>, A>,
 }

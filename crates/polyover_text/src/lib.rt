@@ -15,6 +15,7 @@ mod lines;
 pub mod link_text;
 pub mod location_text;
 mod number;
+pub mod one_input;
 pub mod options;
 pub mod path_text;
 mod points;

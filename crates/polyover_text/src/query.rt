@@ -21,9 +21,9 @@ pub enum Query {
     Edges(FillRule),
     /// The shapes of an overlay.
     Overlay(OverlayQuery),
-    /// The shapes of an overlay, and which of them lie in holes of which.
+    /// The shapes of an overlay, and links from holes to the shapes in them.
     Hierarchy(OverlayQuery),
-    /// How the subject and the clip lie to each other under this rule.
+    /// The relations of the subject and the clip under this rule.
     Relate(FillRule),
     /// The parts of the lines that a clip by the subject keeps.
     ClipLines(ClipQuery),
@@ -63,8 +63,8 @@ pub struct ClipQuery {
 pub struct TilesQuery {
     /// Which windings are filled.
     pub fill_rule: FillRule,
-    /// How wide a cell is.
+    /// Width of a cell.
     pub width: i64,
-    /// How high a cell is.
+    /// Height of a cell.
     pub height: i64,
 }

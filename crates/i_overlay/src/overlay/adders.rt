@@ -1,4 +1,4 @@
-//! What is added to a builder: closed contours, one by one or all paths of a resource.
+//! Adding closed contours to a builder, one by one or all paths of a resource.
 
 ghost use Rattle.std.specs.Prelude.{◌≡◌, List, All};
 ghost use Rattle.std.specs.Iterator.{Drains, IsFinite};
@@ -71,13 +71,12 @@ impl<I: OverlayInt, A: Allocator + Clone> Overlay<I, A> {
     /// Adds all paths of the resource in order, each as `add_contour` does. The points are in the
     /// coordinate range.
     ///
-    /// Refusals: `Failed` before anything else, and then nothing is changed; `TooManyEdges` at a
-    /// path that would bring the weight to 2^31; `Memory` at some path, it is not said which. After
-    /// these two exactly the paths before that one are added, and the builder has not failed: a query
-    /// answers for what it held and these paths. To go on after `Memory`, `clear` it, or call `reinit_..`,
-    /// and add all that it is to hold anew: were the same resource added again, the paths that are in
-    /// would count twice. Or add path by path with `add_contour`, where a refusal adds nothing of its path,
-    /// and go on at the refused one.
+    /// Refusals: `Failed` before anything else, and then nothing is changed; `TooManyEdges` at a path that would
+    /// bring the weight to 2^31; `Memory` at some path. After these two exactly the paths before the refused path
+    /// are added, and the builder has not failed: a query answers for its edges before and these paths. To go on
+    /// after `Memory`, `clear` it, or call `reinit_..`, and add all anew, since paths that were added would count
+    /// twice. Or add path by path with `add_contour`, where a refusal adds nothing of its path, and go on at the
+    /// refused one.
     pub fn add_source<R0: IntShapeResource<I>>(
         &mut self,
         resource: &R0,

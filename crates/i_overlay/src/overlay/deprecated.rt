@@ -219,8 +219,8 @@ impl<I: OverlayInt, A: Allocator + Clone> Overlay<I, A> {
         self.add_source(&BorrowedShapes { shapes }, shape_type)
     }
 
-    /// Adds the contours of a flat buffer in order, as `add_source` does the paths of a resource. A
-    /// range that is not inside the points of the buffer is an empty path, of which nothing is added.
+    /// Adds the contours of a flat buffer in order, as `add_source` does the paths of a resource. A range that is
+    /// not inside the points of the buffer is an empty path, and adds nothing.
     ///
     /// Deprecated: `add_source` takes its place.
     pub fn add_flat_buffer<B: Allocator>(

@@ -1,4 +1,4 @@
-//! What is added to a builder for predicates: closed contours, one by one or all paths of a resource.
+//! Adding closed contours to a builder for predicates, one by one or all paths of a resource.
 
 ghost use Rattle.std.specs.Prelude.{◌≡◌, false, List, All};
 ghost use Rattle.std.specs.Iterator.{Drains, IsFinite};

@@ -2,6 +2,7 @@
 
 ghost use Rattle.std.specs.Prelude.{◌≡◌, All, false, IfOk, IfErr, IsOkUnless};
 ghost use Rattle.overlay_geom.specs.Points.{AllInRange};
+ghost use Rattle.overlay_geom.specs.declared.solver.Solver.TheVariants.{Rounds};
 ghost use Rattle.overlay_builder.specs.GivenPaths.{subject_and_clip, added_paths};
 ghost use Rattle.overlay_builder.specs.PathLists.{HoldsPaths, MayRefuseBuilder};
 ghost use Rattle.overlay_relate.specs.PredicateBuilder.{empty_builder};
@@ -16,10 +17,10 @@ use overlay_geom::resource::IntShapeResource;
 use std::alloc::Allocator;
 
 impl<I: OverlayInt, A: Allocator + Clone> PredicateOverlay<I, A> {
-    /// An empty builder with room for `capacity` edges, the rule EvenOdd and the default solver. The
-    /// only refusal is `Memory`.
+    /// Returns an empty builder with room for `capacity` edges, the rule EvenOdd and the default solver
+    /// (`Solver::ABSOLUTE`). The only refusal is `Memory`.
     pub fn new(alloc: A, capacity: usize) -> Result<Self, OverlayError>
-        ensures ok { IfOk result (λ o. o ≡ empty_builder FillRule.EvenOdd o.solver) }
+        ensures ok { IfOk result (λ o. o ≡ empty_builder FillRule.EvenOdd Rounds) }
         ensures err { IsOkUnless result OverlayError.Memory }
     {
         PredicateOverlay::with_settings(alloc, capacity, FillRule::EvenOdd, Solver::ABSOLUTE)
@@ -38,7 +39,7 @@ impl<I: OverlayInt, A: Allocator + Clone> PredicateOverlay<I, A> {
         requires clip_in_range { All (AllInRange I.limit) (R1.paths clip.now) }
         ensures ok { IfOk result (λ o. HoldsPaths (added_paths false
             (subject_and_clip (R0.paths subj.now) (R1.paths clip.now))) o.edges) }
-        ensures made { IfOk result (λ o. o ≡ record (empty_builder FillRule.EvenOdd o.solver) { edges = o.edges }) }
+        ensures made { IfOk result (λ o. o ≡ record (empty_builder FillRule.EvenOdd Rounds) { edges = o.edges }) }
         ensures err { IfErr result (MayRefuseBuilder (added_paths false
             (subject_and_clip (R0.paths subj.now) (R1.paths clip.now)))) }
     {

@@ -19,8 +19,8 @@ use overlay_geom::integer::OverlayInt;
 use std::alloc::Allocator;
 
 impl<I: OverlayInt, A: Allocator + Clone> PredicateOverlay<I, A> {
-    /// Splits the edges where they meet, and tells whether some point lies in the closed regions of both
-    /// shapes under `fill_rule`: each is what the shape fills, and the edges on a side of which it does.
+    /// Splits the edges where they meet, and tells whether some point lies in the closed regions of both shapes
+    /// under `fill_rule`: each is the filled points, and the edges with a filled side.
     ///
     /// The edges are split by `solver`. By `Solver::ABSOLUTE` equal edges are merged in each round, and each
     /// edge is cut where others meet it; a meeting point that is not whole is rounded to one whole point, at
@@ -29,9 +29,9 @@ impl<I: OverlayInt, A: Allocator + Clone> PredicateOverlay<I, A> {
     /// edges which are held afterwards, which lead forward, meet in ends alone and have balanced counts; where
     /// there are none it is `false`.
     ///
-    /// The first query finds what answers all six predicates. Until something is added a further one under
-    /// the same rule, by either solver, looks at no edge and takes no memory; under another rule it looks at
-    /// the sides that shapes fill once more, and splits nothing.
+    /// The first query finds what answers all six predicates. Until something is added a further query under the
+    /// same rule, by either solver, looks at no edge and takes no memory; under another rule it looks at the sides
+    /// that shapes fill once more, and splits nothing.
     ///
     /// Refusals: `Failed` before anything else, and then nothing is changed; `NotSettled` (never with
     /// `Solver::SNAPPED`) where edges still meet in points that are no ends of both after 64 rounds;
@@ -59,9 +59,9 @@ impl<I: OverlayInt, A: Allocator + Clone> PredicateOverlay<I, A> {
         self.ask(Predicate::Touch)
     }
 
-    /// Splits the edges where they meet, and tells whether the shapes intersect, and no edge has sides
-    /// that the one fills and sides that the other fills: they meet in single points alone. Splitting and
-    /// refusals are those of `intersects`.
+    /// Splits the edges where they meet, and tells whether the shapes intersect, and no edge has a side that the
+    /// subject fills and a side that the clip fills: they meet in single points alone. Splitting and refusals are
+    /// those of `intersects`.
     pub fn point_intersects(&mut self) -> Result<bool, OverlayError>
         ensures { TellsRelation I.limit PointIntersects self.old self.new result }
     {

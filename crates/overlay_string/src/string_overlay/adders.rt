@@ -1,4 +1,4 @@
-//! What is added to a builder for strings: closed contours of the shape, one by one or all paths of a resource.
+//! Adding closed contours of the shape to a builder for strings, one by one or all paths of a resource.
 
 ghost use Rattle.std.specs.Prelude.{◌≡◌, List, All};
 ghost use Rattle.std.specs.Iterator.{Drains, IsFinite};

@@ -48,7 +48,7 @@ impl<I: OverlayInt, A: Allocator + Clone> StringOverlay<I, A> {
         self.clip_string_lines_with_solver(fill_rule, clip_rule, Solver::ABSOLUTE)
     }
 
-    /// The same, where edges are split by this solver: `NotSettled` never comes with `Solver::SNAPPED`.
+    /// As `clip_string_lines`, with edges split by `solver`: `NotSettled` never comes with `Solver::SNAPPED`.
     pub fn clip_string_lines_with_solver(
         mut self,
         fill_rule: FillRule,

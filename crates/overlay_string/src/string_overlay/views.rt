@@ -51,7 +51,7 @@ impl<I: OverlayInt, A: Allocator + Clone> StringOverlay<I, A> {
         self.build_graph_view_with_solver(fill_rule, Solver::ABSOLUTE)
     }
 
-    /// The same, where edges are split by this solver: `NotSettled` never comes with `Solver::SNAPPED`.
+    /// As `build_graph_view`, with edges split by `solver`: `NotSettled` never comes with `Solver::SNAPPED`.
     pub fn build_graph_view_with_solver(
         &mut self,
         fill_rule: FillRule,

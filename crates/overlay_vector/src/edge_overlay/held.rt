@@ -22,7 +22,7 @@ impl<I: OverlayInt, D: OverlayEdgeData, A: Allocator> EdgeOverlay<I, D, A> {
         Edges::new(self.core.content().edges())
     }
 
-    /// Whether the edges are balanced: as many steps of the subject enter each point as leave it, and as
+    /// Returns whether the edges are balanced: as many steps of the subject enter each point as leave it, and as
     /// many of the clip. It takes no memory, and time with the square of the number of edges.
     pub fn is_balanced(&self) -> bool
         ensures { IsTrue result ↔ HasBalancedCounts (edges_in self.now.edges) }

@@ -17,7 +17,7 @@ use std::alloc::Global;
 /// The parts of the lines, which are open paths, that a clip by what the contours of the shape fill under the fill rule
 /// keeps, as the options ask, put into the arrays, and their counts: the code of a status.
 #[unsafe(no_mangle)]
-pub extern "C" fn polyover_clip(
+pub extern "C" fn polyover_clip_with(
     alloc: Global,
     fill: u32,
     options: &ClipOptions,
@@ -57,7 +57,7 @@ pub extern "C" fn polyover_clip(
 
 /// The same at 32 bits.
 #[unsafe(no_mangle)]
-pub extern "C" fn polyover_clip_32(
+pub extern "C" fn polyover_clip_with_32(
     alloc: Global,
     fill: u32,
     options: &ClipOptions,

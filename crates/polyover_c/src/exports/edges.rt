@@ -17,13 +17,14 @@ use std::alloc::Global;
 pub extern "C" fn polyover_edges(
     alloc: Global,
     fill: u32,
+    solver: u32,
     subject: &Contours64,
     clip: &Contours64,
     coordinates: &mut [i64],
     fills: &mut [u8],
     count: &mut usize,
 ) -> u32
-    ensures { (s : Status) × ListingEnds (λ z. z) 4611686018427387903 fill
+    ensures { (s : Status) × ListingEnds (λ z. z) 4611686018427387903 fill solver
         (contours_of subject.now.coordinates.now subject.now.ends.now)
         (contours_of clip.now.coordinates.now clip.now.ends.now)
         (edge_room coordinates.old fills.old count.old)
@@ -38,7 +39,17 @@ pub extern "C" fn polyover_edges(
         coordinates: clip.coordinates,
         ends: clip.ends,
     };
-    edges_arrays(alloc, fill, &subject, &clip, coordinates, fills, count).code()
+    edges_arrays(
+        alloc,
+        fill,
+        solver,
+        &subject,
+        &clip,
+        coordinates,
+        fills,
+        count,
+    )
+    .code()
 }
 
 /// The same of 32-bit coordinates.
@@ -46,13 +57,14 @@ pub extern "C" fn polyover_edges(
 pub extern "C" fn polyover_edges_32(
     alloc: Global,
     fill: u32,
+    solver: u32,
     subject: &Contours32,
     clip: &Contours32,
     coordinates: &mut [i32],
     fills: &mut [u8],
     count: &mut usize,
 ) -> u32
-    ensures { (s : Status) × ListingEnds (λ z. z) 1073741823 fill
+    ensures { (s : Status) × ListingEnds (λ z. z) 1073741823 fill solver
         (contours_of subject.now.coordinates.now subject.now.ends.now)
         (contours_of clip.now.coordinates.now clip.now.ends.now)
         (edge_room coordinates.old fills.old count.old)
@@ -67,5 +79,15 @@ pub extern "C" fn polyover_edges_32(
         coordinates: clip.coordinates,
         ends: clip.ends,
     };
-    edges_arrays(alloc, fill, &subject, &clip, coordinates, fills, count).code()
+    edges_arrays(
+        alloc,
+        fill,
+        solver,
+        &subject,
+        &clip,
+        coordinates,
+        fills,
+        count,
+    )
+    .code()
 }

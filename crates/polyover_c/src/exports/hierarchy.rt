@@ -21,7 +21,7 @@ use std::alloc::Global;
 /// The shapes of the overlay that the rules and options ask for, and for each of them that lies in a hole of another
 /// one the link that tells of it, put into the arrays, and their counts: the code of a status.
 #[unsafe(no_mangle)]
-pub extern "C" fn polyover_hierarchy(
+pub extern "C" fn polyover_hierarchy_with(
     alloc: Global,
     rule: u32,
     fill: u32,
@@ -46,7 +46,8 @@ pub extern "C" fn polyover_hierarchy(
     let numbers = OptionNumbers {
         direction: options.direction,
         keep: options.keep,
-        ogc: options.ogc,
+        touching: options.touching,
+        solver: options.solver,
         min_area: area_of(options.min_area_high, options.min_area_low),
     };
     let subject = Contours {
@@ -76,7 +77,7 @@ pub extern "C" fn polyover_hierarchy(
 
 /// The same at 32 bits.
 #[unsafe(no_mangle)]
-pub extern "C" fn polyover_hierarchy_32(
+pub extern "C" fn polyover_hierarchy_with_32(
     alloc: Global,
     rule: u32,
     fill: u32,
@@ -101,7 +102,8 @@ pub extern "C" fn polyover_hierarchy_32(
     let numbers = OptionNumbers {
         direction: options.direction,
         keep: options.keep,
-        ogc: options.ogc,
+        touching: options.touching,
+        solver: options.solver,
         min_area: options.min_area,
     };
     let subject = Contours {

@@ -17,11 +17,12 @@ use std::alloc::Global;
 pub extern "C" fn polyover_relate(
     alloc: Global,
     fill: u32,
+    solver: u32,
     subject: &Contours64,
     clip: &Contours64,
     relations: &mut u32,
 ) -> u32
-    ensures { (s : Status) × RelatingEnds (λ z. z) 4611686018427387903 fill
+    ensures { (s : Status) × RelatingEnds (λ z. z) 4611686018427387903 fill solver
         (contours_of subject.now.coordinates.now subject.now.ends.now)
         (contours_of clip.now.coordinates.now clip.now.ends.now)
         relations.old relations.new s × (result ≡ code_of s) }
@@ -34,7 +35,7 @@ pub extern "C" fn polyover_relate(
         coordinates: clip.coordinates,
         ends: clip.ends,
     };
-    relate_arrays(alloc, fill, &subject, &clip, relations).code()
+    relate_arrays(alloc, fill, solver, &subject, &clip, relations).code()
 }
 
 /// The same of 32-bit coordinates.
@@ -42,11 +43,12 @@ pub extern "C" fn polyover_relate(
 pub extern "C" fn polyover_relate_32(
     alloc: Global,
     fill: u32,
+    solver: u32,
     subject: &Contours32,
     clip: &Contours32,
     relations: &mut u32,
 ) -> u32
-    ensures { (s : Status) × RelatingEnds (λ z. z) 1073741823 fill
+    ensures { (s : Status) × RelatingEnds (λ z. z) 1073741823 fill solver
         (contours_of subject.now.coordinates.now subject.now.ends.now)
         (contours_of clip.now.coordinates.now clip.now.ends.now)
         relations.old relations.new s × (result ≡ code_of s) }
@@ -59,5 +61,5 @@ pub extern "C" fn polyover_relate_32(
         coordinates: clip.coordinates,
         ends: clip.ends,
     };
-    relate_arrays(alloc, fill, &subject, &clip, relations).code()
+    relate_arrays(alloc, fill, solver, &subject, &clip, relations).code()
 }

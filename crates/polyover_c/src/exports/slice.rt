@@ -20,6 +20,7 @@ use std::alloc::Global;
 pub extern "C" fn polyover_slice(
     alloc: Global,
     fill: u32,
+    solver: u32,
     subject: &Contours64,
     lines: &Contours64,
     coordinates: &mut [i64],
@@ -27,7 +28,7 @@ pub extern "C" fn polyover_slice(
     shape_ends: &mut [usize],
     counts: &mut Counts,
 ) -> u32
-    ensures { (s : Status) × SlicingEnds (λ z. z) 4611686018427387903 w128 fill
+    ensures { (s : Status) × SlicingEnds (λ z. z) 4611686018427387903 w128 fill solver
         (contours_of subject.now.coordinates.now subject.now.ends.now)
         (contours_of lines.now.coordinates.now lines.now.ends.now)
         (shape_room coordinates.old contour_ends.old shape_ends.old counts.old)
@@ -45,6 +46,7 @@ pub extern "C" fn polyover_slice(
     slice_arrays(
         alloc,
         fill,
+        solver,
         &subject,
         &lines,
         coordinates,
@@ -60,6 +62,7 @@ pub extern "C" fn polyover_slice(
 pub extern "C" fn polyover_slice_32(
     alloc: Global,
     fill: u32,
+    solver: u32,
     subject: &Contours32,
     lines: &Contours32,
     coordinates: &mut [i32],
@@ -67,7 +70,7 @@ pub extern "C" fn polyover_slice_32(
     shape_ends: &mut [usize],
     counts: &mut Counts,
 ) -> u32
-    ensures { (s : Status) × SlicingEnds (λ z. z) 1073741823 w64 fill
+    ensures { (s : Status) × SlicingEnds (λ z. z) 1073741823 w64 fill solver
         (contours_of subject.now.coordinates.now subject.now.ends.now)
         (contours_of lines.now.coordinates.now lines.now.ends.now)
         (shape_room coordinates.old contour_ends.old shape_ends.old counts.old)
@@ -85,6 +88,7 @@ pub extern "C" fn polyover_slice_32(
     slice_arrays(
         alloc,
         fill,
+        solver,
         &subject,
         &lines,
         coordinates,

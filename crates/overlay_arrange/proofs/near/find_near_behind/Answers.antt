@@ -1,12 +1,13 @@
 -- The whole run is taken, or searched.
 use Rattle.std.proofs.Common.{length, sym, ap, subst, arith}
 use Rattle.std.proofs.lemmas.List.{length-map}
+use Rattle.std.proofs.lemmas.List.Sorted.{length_permutation}
 use Rattle.std.proofs.lemmas.Result.{on_ok_weaker}
 use Rattle.overlay_arrange.specs.Content.{plain_edge, plain_edges}
-use Rattle.overlay_arrange.specs.Extents.{Extent, plain_extent, plain_extents}
+use Rattle.overlay_arrange.specs.Extents.{Extent, extent_of, extents_of, plain_extent, plain_extents}
 use Rattle.overlay_arrange.specs.Near.{run_of, IsSearchedTo}
 use Rattle.overlay_arrange.proofs.NearEdges.{run_near, searched_near}
-use Rattle.overlay_arrange.proofs.StripOrder.{as_many}
+use Rattle.overlay_arrange.proofs.PlacedExtents.{as_many_placed}
 use Rattle.overlay_arrange.proofs.near.find_near_behind.Goals as goal
 
 pub returns-then-end-from-lt-FEW-clause-ok : goal.returns-then-end-from-lt-FEW-clause-ok
@@ -22,13 +23,14 @@ find_by_blocks-requires-clause-within g c =
     let plain = plain_edge whole g.C.EdgeCount.counts in
     let extents = c.args.strips.now.edges.items in
     let last = ap (λ (s : Extent). s.last) c.run_of.ensures in
-    let count = as_many (plain_edges whole g.C.EdgeCount.counts c.args.edges.now) (plain_extents whole extents)
-    c.requires.strips.permutation in
+    let es = plain_edges whole g.C.EdgeCount.counts c.args.edges.now in
+    let moved = length_permutation (extents_of es) (plain_extents whole extents) c.requires.strips.permutation in
+    let count = as_many_placed extent_of es in
     let l = length-map extents (plain_extent whole) in
     let m = length-map c.args.edges.now plain in
     let ordered = c.run_end-end.ensures.ordered in
     let up_to = c.run_end-end.ensures.within in
-    omega (arith, last, count, l, m, ordered, up_to)
+    omega (arith, last, moved, count, l, m, ordered, up_to)
 
 pub returns-else-end-from-lt-FEW-clause-ok : goal.returns-else-end-from-lt-FEW-clause-ok
 returns-else-end-from-lt-FEW-clause-ok g c =

@@ -1,15 +1,111 @@
--- All ranks of the span are taken.
-use Rattle.std.proofs.lemmas.Result.{on_ok_weaker}
-use Rattle.overlay_geom.specs.Points.{plain_points}
+-- Each strip of the span is searched.
+use Rattle.std.proofs.Common.{◌≡◌, ◌⊎◌, ⊎_elim, inl, inr, ℕ, ◌+◌, ◌-◌, ◌*◌, ◌/◌, ◌%◌, ◌<◌, ◌≤◌, ℤ, length, get_or}
+use Rattle.std.proofs.Common.{sym, ap, ◌∙◌, subst, arith}
+use Rattle.std.proofs.lemmas.List.{length-map}
+use Rattle.std.proofs.lemmas.List.Sorted.{length_permutation}
+use Rattle.std.proofs.Math.Nat.{add-mod_right, div-mul-le_self, mul-mod_left}
+use Rattle.overlay_geom.specs.Points.{plain_point, plain_points}
+use Rattle.overlay_geom.specs.declared.point.IntPoint.{IntPoint}
 use Rattle.overlay_geom.proofs.PointOrder.{Decides-point_lt}
 use Rattle.overlay_arrange.specs.Content.{plain_edge}
-use Rattle.overlay_arrange.proofs.HotRanks.{ranks_of_span}
+use Rattle.overlay_arrange.specs.Extents.{extent_of_point, extents_of_points, plain_extent, plain_extents}
+use Rattle.overlay_arrange.specs.PixelRuns.{AddsRun}
+use Rattle.overlay_arrange.proofs.HotRanks.{amid_points}
+use Rattle.overlay_arrange.proofs.PlacedExtents.{as_many_placed}
+use Rattle.overlay_arrange.proofs.RankSearches.{AreRanksBefore, IsStripEnd, search_begun, search_done, strip_searched}
+use Rattle.overlay_arrange.proofs.RankSearches.{strip_upwards}
 use Rattle.overlay_arrange.proofs.snap.find_ranks.Goals as goal
+
+pub loop-at-init : goal.loop-at-init
+loop-at-init g c =
+    let whole = g.I.IntNumber.whole in
+    let vs = plain_points whole c.args.hot.now in
+    let e = plain_edge whole g.C.EdgeCount.counts c.args.e.now in
+    let width = c.args.width in
+    let low = c.span_of-low.result.0 in
+    let high = c.span_of-low.result.1 in
+    let start = low / width * width in
+    let count = length-map c.args.hot.now (plain_point whole) in
+    let before : start ≤ low = div-mul-le_self low width in (
+      (let ordered = c.span_of-low.ensures.ordered in let up_to = c.span_of-low.ensures.within in
+          omega (arith, before, ordered, up_to, count)),
+      inl (mul-mod_left (low / width) width),
+      subst (AreRanksBefore vs e (plain_extents whole c.args.strips.now) start) (sym c.clear.ensures.items)
+          (search_begun vs e width (plain_extents whole c.args.strips.now) c.requires.strips low high
+          ((Decides-point_lt e.a e.b).0 c.requires.one.forward).x c.span_of-low.ensures start
+          (mul-mod_left (low / width) width) before),
+    )
+
+pub push_run-requires-clause-within : goal.push_run-requires-clause-within
+push_run-requires-clause-within g c =
+    let whole = g.I.IntNumber.whole in
+    let vs = plain_points whole c.args.hot.now in
+    let strips = c.args.strips.now in
+    let up_to = c.on_by-end.ensures.up_to in
+    let of_points = length-map c.args.hot.now (plain_point whole) in
+    let of_strips = length-map strips (plain_extent whole) in
+    let moved = length_permutation (extents_of_points vs) (plain_extents whole strips) c.requires.strips.permutation in
+    let count = as_many_placed extent_of_point vs in
+    omega (arith, up_to, of_points, of_strips, moved, count)
+
+-- the place looked at begins a strip
+begins : (width all at high : ℕ) → IsStripEnd width all at → at < high → high ≤ all → at % width ≡ 0
+begins width all at high ends less within = ⊎_elim (λ begun. begun)
+    (λ (is : at ≡ all). absurd (omega (arith, is, less, within))) ends
+
+pub push_run-requires-clause-upwards : goal.push_run-requires-clause-upwards
+push_run-requires-clause-upwards g c =
+    let whole = g.I.IntNumber.whole in
+    let vs = plain_points whole c.args.hot.now in
+    let at = c.loop-at.at in
+    let count = length-map c.args.hot.now (plain_point whole) in
+    strip_upwards vs (plain_edge whole g.C.EdgeCount.counts c.args.e.now) c.args.width
+    (plain_extents whole c.args.strips.now) c.requires.strips at c.on_by-end.result
+    (begins c.args.width (length vs) at c.span_of-low.result.1 c.loop-at.invariant.1 c.loop-at-test.true
+    c.span_of-low.ensures.within)
+    (⊎_elim (λ (all : c.on_by-end.result ≡ length c.args.hot.now). inl (omega (arith, all, count))) (λ next. inr next)
+    c.on_by-end.ensures.ends) c.on_by-end.ensures.no_further
+
+pub loop-at-preserved : goal.loop-at-preserved
+loop-at-preserved g c =
+    let whole = g.I.IntNumber.whole in
+    let hot = c.args.hot.now in
+    let vs = plain_points whole hot in
+    let e = plain_edge whole g.C.EdgeCount.counts c.args.e.now in
+    let ss = plain_extents whole c.args.strips.now in
+    let width = c.args.width in
+    let at = c.loop-at.at in
+    let end = c.on_by-end.result in
+    let count = length-map hot (plain_point whole) in
+    let less = c.loop-at-test.true in
+    let begun = begins width (length vs) at c.span_of-low.result.1 c.loop-at.invariant.1 less
+    c.span_of-low.ensures.within in
+    let up_to = c.on_by-end.ensures.up_to in
+    let added : ℤ → ℤ → Type 0 = λ left right. AddsRun left right e ss at end c.loop-at.near.items
+    c.push_run.new.near.items in
+    let adds = subst (λ (a : IntPoint _). added (whole a.x) (whole c.index-hot-end.result.x)) (sym c.index-hot-at.is)
+    (subst (λ (b : IntPoint _). added (whole (get_or hot at c.index-hot-at.result).x) (whole b.x))
+    (sym c.index-hot-end.is) c.in_ok-push_run.ensures.ok) in
+    let ends : (end ≡ length vs) ⊎ (end ≡ at + width) = ⊎_elim
+    (λ (all : end ≡ length hot). inl (omega (arith, all, count))) (λ next. inr next) c.on_by-end.ensures.ends in (
+      omega (arith, up_to),
+      ⊎_elim (λ (all : end ≡ length vs). inr all)
+          (λ (next : end ≡ at + width). inl (ap (λ n. n % width) next ∙ add-mod_right at width ∙ begun)) ends,
+      strip_searched vs e width ss c.requires.strips at end begun ends (whole c.index-hot-at.result.x)
+          (whole c.index-hot-end.result.x) c.loop-at.near.items c.push_run.new.near.items adds
+          (λ k v past inside at_v. amid_points whole hot c.requires.ascending at k (end - 1) c.index-hot-at.result
+          c.index-hot-end.result v past (omega (arith, inside)) (omega (arith, up_to, inside)) c.index-hot-at.is
+          c.index-hot-end.is at_v) c.loop-at.invariant.2,
+    )
 
 pub returns-clause-ok : goal.returns-clause-ok
 returns-clause-ok g c =
-    let e = plain_edge g.I.IntNumber.whole g.C.EdgeCount.counts c.args.e.now in
-    on_ok_weaker c.take_run.result
-    (ranks_of_span (plain_points g.I.IntNumber.whole c.args.hot.now) e _ _ c.take_run.new.near.items
-    ((Decides-point_lt e.a e.b).0 c.requires.one.forward).x c.span_of-low.ensures)
-    c.take_run.ensures.ok
+    let whole = g.I.IntNumber.whole in
+    let vs = plain_points whole c.args.hot.now in
+    let e = plain_edge whole g.C.EdgeCount.counts c.args.e.now in
+    let ss = plain_extents whole c.args.strips.now in
+    search_done vs e c.args.width ss c.requires.strips c.span_of-low.result.0 c.span_of-low.result.1
+    ((Decides-point_lt e.a e.b).0 c.requires.one.forward).x c.span_of-low.ensures c.loop-at.at c.loop-at.near.items
+    c.loop-at-test.false c.loop-at.invariant.1
+    (length_permutation (extents_of_points vs) ss c.requires.strips.permutation ∙ as_many_placed extent_of_point vs)
+    c.loop-at.invariant.2

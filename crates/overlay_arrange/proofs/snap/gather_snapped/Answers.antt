@@ -1,10 +1,11 @@
 -- Each edge adds its points.
-use Rattle.std.proofs.Common.{◌<◌, Contains, length, subst, arith}
+use Rattle.std.proofs.Common.{◌<◌, Contains, length, sym, subst, arith}
 use Rattle.std.proofs.lemmas.List.{length-map}
 use Rattle.overlay_geom.specs.Points.{plain_point, plain_points}
 use Rattle.overlay_geom.proofs.Mapped.{All-mapped_at}
 use Rattle.overlay_plane.proofs.Entries.{all_of_entries}
 use Rattle.overlay_arrange.specs.Content.{plain_edge, plain_edges, IsHeld}
+use Rattle.overlay_arrange.specs.Extents.{plain_extents, ArePointsByStrips}
 use Rattle.overlay_arrange.specs.HotPoints.{points_at, AddsMet}
 use Rattle.overlay_arrange.specs.Meetings.{plain_meetings}
 use Rattle.overlay_arrange.proofs.GatheredMeetings.{placed_in_mapped}
@@ -16,6 +17,13 @@ find_ranks-requires-clause-one g c =
     All-mapped_at (IsHeld g.I.IntNumber.limit) (plain_edge g.I.IntNumber.whole g.C.EdgeCount.counts) c.args.edges.now
     c.loop-i.i c.index-edges-i.result c.loop-i-test.true c.index-edges-i.is c.requires.held
 
+pub find_ranks-requires-clause-strips : goal.find_ranks-requires-clause-strips
+find_ranks-requires-clause-strips g c =
+    let whole = g.I.IntNumber.whole in
+    let vs = plain_points whole c.args.hot.now in
+    subst (λ ss. ArePointsByStrips vs c.strip_width-width.result (plain_extents whole ss))
+    (sym c.deref.ensures.value) c.in_ok-strips.ensures.ok
+
 pub push_snapped-requires-clause-one : goal.push_snapped-requires-clause-one
 push_snapped-requires-clause-one g c =
     All-mapped_at (IsHeld g.I.IntNumber.limit) (plain_edge g.I.IntNumber.whole g.C.EdgeCount.counts) c.args.edges.now
@@ -23,9 +31,10 @@ push_snapped-requires-clause-one g c =
 
 pub push_snapped-requires-clause-within : goal.push_snapped-requires-clause-within
 push_snapped-requires-clause-within g c =
-    all_of_entries (λ k. k < length c.args.hot.now) c.deref.result.now
+    all_of_entries (λ k. k < length c.args.hot.now) c.deref-in-loop-i.result.now
     (λ k at. let l = length-map c.args.hot.now (plain_point g.I.IntNumber.whole) in
-    let less = c.in_ok-find_ranks.ensures.ok.within k (subst (λ ks. Contains ks k) c.deref.ensures.value at) in
+    let has = subst (λ ks. Contains ks k) c.deref-in-loop-i.ensures.value at in
+    let less = c.in_ok-find_ranks.ensures.ok.within k has in
     omega (arith, l, less))
 
 pub loop-i-preserved : goal.loop-i-preserved
@@ -40,7 +49,7 @@ loop-i-preserved g c =
     let at_e = placed_in_mapped plain c.args.edges.now i c.index-edges-i.result c.loop-i-test.true
     c.index-edges-i.is in
     let adds = subst (λ ks. AddsMet i e (points_at vs ks) (plain_meetings whole c.loop-i.meetings.items)
-    (plain_meetings whole c.push_snapped.new.meetings.items)) c.deref.ensures.value
+    (plain_meetings whole c.push_snapped.new.meetings.items)) c.deref-in-loop-i.ensures.value
     c.in_ok-push_snapped.ensures.ok in (
       one_snapped es vs i e at_e near c.in_ok-find_ranks.ensures.ok c.loop-i.invariant.0 adds,
       by_place_more es vs i e at_e near c.in_ok-find_ranks.ensures.ok c.loop-i.invariant.0 adds c.loop-i.invariant.1,

@@ -1,5 +1,5 @@
--- The points of the contour are written over by themselves reversed.
-use Rattle.std.proofs.Common.{sym, ap, ◌∙◌}
+-- The points of the contour are written over by themselves reversed; its range stays where it does.
+use Rattle.std.proofs.Common.{sym, ap, ◌∙◌, length, arith}
 use Rattle.std.specs.Prelude.{reverse}
 use Rattle.overlay_geom.specs.Flat.{part_in, first_range}
 use Rattle.overlay_geom.specs.Points.{plain_points}
@@ -15,3 +15,15 @@ returns-in-Reversed-clause-left g c =
     (c.reverse.ensures.after ∙ ap reverse c.as_first_contour_mut.ensures.value)
     ∙ ap (λ o. contours_left o (plain_points whole (part_in b.points.items (first_range b.ranges.items))))
     (sym c.in-Reversed.is)
+
+pub returns-in-AsGiven-clause-no_points : goal.returns-in-AsGiven-clause-no_points
+returns-in-AsGiven-clause-no_points g c = λ none.
+    let one = c.requires in
+    let long = ap length none in
+    absurd (omega (arith, one, long))
+
+pub returns-in-Reversed-clause-no_points : goal.returns-in-Reversed-clause-no_points
+returns-in-Reversed-clause-no_points g c = λ none.
+    let one = c.requires in
+    let long = ap length none in
+    absurd (omega (arith, one, long))

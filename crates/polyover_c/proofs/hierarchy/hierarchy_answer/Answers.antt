@@ -10,4 +10,4 @@ returns-in_err-read g c =
     rw (e.1, e.2) (contours_refused g.I.IntNumber.whole g.I.IntNumber.limit c.args.rule c.args.fill c.args.options
     (contours_of c.args.subject.now.coordinates.now c.args.subject.now.ends.now)
     (contours_of c.args.clip.now.coordinates.now c.args.clip.now.ends.now) c.in_err-read.field-0.0
-    c.in_ok-rule.ensures.0 c.in_ok-fill.ensures.0 c.in_ok-options.ensures.0 c.in_err-read.ensures.err)
+    c.in_ok-rule.ensures.0 c.in_ok-fill.ensures.0 c.in_ok-settings.ensures.0 c.in_err-read.ensures.err)

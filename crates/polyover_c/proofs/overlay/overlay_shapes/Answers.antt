@@ -6,7 +6,6 @@ use Rattle.overlay_builder.specs.PathLists.{HoldsPaths}
 use Rattle.overlay_extract.specs.Results.{asked, IsResult}
 use Rattle.overlay_geom.specs.Flat.{paths_in}
 use Rattle.overlay_geom.specs.Paths.{plain_shapes}
-use Rattle.overlay_geom.specs.declared.solver.Solver.TheVariants.{Rounds}
 use Rattle.i_overlay.specs.Builder.{held_by}
 use Rattle.i_overlay.proofs.OneShots.{result_of_paths, query_refused}
 use Rattle.polyover_c.proofs.overlay.overlay_shapes.Goals as goal
@@ -20,7 +19,7 @@ returns-clause-result g c =
     let natural = g.I.WideUInt.UIntNumber.natural in
     let made = c.in_ok-overlay.ensures in
     let new = c.overlay.new.self in
-    result_of_paths Rounds (ap (λ m. m.solver) made.made) c.overlay.result (λ v. plain_shapes whole v.items)
+    result_of_paths c.args.solver (ap (λ m. m.solver) made.made) c.overlay.result (λ v. plain_shapes whole v.items)
     (asked width natural c.args.fill c.args.rule c.args.options) paths c.in_ok-overlay.overlay.edges new.edges
     (subst (λ keep. HoldsPaths (added_paths keep paths) c.in_ok-overlay.overlay.edges) c.requires.input made.ok)
     c.overlay.ensures.answers.query.arranged
@@ -33,7 +32,8 @@ returns-clause-err g c =
     let paths = subject_and_clip (paths_in whole c.args.subject.now.points.items c.args.subject.now.ranges.items)
     (paths_in whole c.args.clip.now.points.items c.args.clip.now.ranges.items) in
     let made = c.in_ok-overlay.ensures in
-    query_refused Rounds (ap (λ m. m.solver) made.made) g.I.IntNumber.limit paths (held_by c.in_ok-overlay.overlay)
+    query_refused c.args.solver (ap (λ m. m.solver) made.made) g.I.IntNumber.limit paths
+    (held_by c.in_ok-overlay.overlay)
     (held_by c.overlay.new.self)
     c.overlay.result
     (subst (λ keep. HoldsPaths (added_paths keep paths) c.in_ok-overlay.overlay.edges) c.requires.input made.ok)

@@ -23,7 +23,7 @@ loop-given-init g c =
       holds = no_path_held _ (ap (λ o. o.edges) held ∙ ap (λ o. o.edges) made);
       ready = ap (λ o. o.failed) held ∙ ap (λ o. o.failed) made;
       rule = refl;
-      by = refl;
+      by = ap (λ o. o.solver) held ∙ ap (λ o. o.solver) made;
     }
 
 pub add_contour-requires : goal.add_contour-requires

@@ -1,0 +1,49 @@
+/* The results of library_results.c at one width, by the names at it: CONTOURS, PATHS, OPTIONS, RESULT, NAME(call). */
+
+/* (these are proved) */
+polyover_status NAME(polyover_overlay_result_with)(polyover_rule rule, polyover_fill fill, const OPTIONS *options,
+                                                   const CONTOURS *subject, const CONTOURS *clip, RESULT *result);
+polyover_status NAME(polyover_simplify_result_with)(polyover_fill fill, const OPTIONS *options,
+                                                    const CONTOURS *contours, RESULT *result);
+polyover_status NAME(polyover_hierarchy_result_with)(polyover_rule rule, polyover_fill fill, const OPTIONS *options,
+                                                     const CONTOURS *subject, const CONTOURS *clip, RESULT *result);
+polyover_status NAME(polyover_clip_result_with)(polyover_fill fill, const polyover_clip_options *options,
+                                                const CONTOURS *shape, const PATHS *lines, RESULT *result);
+
+polyover_status NAME(polyover_overlay_result)(polyover_rule rule, polyover_fill fill, const OPTIONS *options,
+                                              const CONTOURS *subject, const CONTOURS *clip, RESULT *result) {
+    const OPTIONS by_default = {0};
+    return NAME(polyover_overlay_result_with)(rule, fill, options ? options : &by_default, subject, clip,
+                                              result);
+}
+
+polyover_status NAME(polyover_simplify_result)(polyover_fill fill, const OPTIONS *options, const CONTOURS *contours,
+                                               RESULT *result) {
+    const OPTIONS by_default = {0};
+    return NAME(polyover_simplify_result_with)(fill, options ? options : &by_default, contours, result);
+}
+
+polyover_status NAME(polyover_hierarchy_result)(polyover_rule rule, polyover_fill fill, const OPTIONS *options,
+                                                const CONTOURS *subject, const CONTOURS *clip, RESULT *result) {
+    const OPTIONS by_default = {0};
+    return NAME(polyover_hierarchy_result_with)(rule, fill, options ? options : &by_default, subject, clip,
+                                                result);
+}
+
+polyover_status NAME(polyover_clip_result)(polyover_fill fill, const polyover_clip_options *options,
+                                           const CONTOURS *shape, const PATHS *lines, RESULT *result) {
+    const polyover_clip_options by_default = {0};
+    return NAME(polyover_clip_result_with)(fill, options ? options : &by_default, shape, lines, result);
+}
+
+void NAME(polyover_free)(RESULT *result) {
+    if (result == NULL) {
+        return;
+    }
+    free_array(result->coordinates, result->coordinate_count);
+    free_array(result->contour_ends, result->contour_count);
+    free_array(result->shape_ends, result->shape_count);
+    free_array(result->links, result->link_count);
+    free_array(result->fills, result->fill_count);
+    *result = (RESULT){0};
+}

@@ -1,0 +1,30 @@
+/* The part of results that is C: options that are null are the defaults, and what a result holds is freed. */
+#include <stdlib.h>
+
+#include "polyover.h"
+
+/* An array without items takes no memory. */
+static void free_array(const void *items, size_t count) {
+    if (count != 0) {
+        free((void *)items);
+    }
+}
+
+#define CONTOURS polyover_contours
+#define PATHS polyover_paths
+#define OPTIONS polyover_options
+#define RESULT polyover_result
+#define NAME(call) call
+#include "library_of_results.h"
+
+#undef CONTOURS
+#undef PATHS
+#undef OPTIONS
+#undef RESULT
+#undef NAME
+#define CONTOURS polyover_contours_32
+#define PATHS polyover_paths_32
+#define OPTIONS polyover_options_32
+#define RESULT polyover_result_32
+#define NAME(call) call##_32
+#include "library_of_results.h"

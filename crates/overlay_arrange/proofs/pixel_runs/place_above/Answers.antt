@@ -1,0 +1,46 @@
+-- The middle one is passed below, so those from it on are.
+use Rattle.std.proofs.Common.{◌+◌, ◌-◌, ◌/◌, ◌<◌, length, sym, subst, arith}
+use Rattle.std.proofs.Math.Nat.{div-add-mod}
+use Rattle.overlay_arrange.specs.Content.{plain_edge}
+use Rattle.overlay_arrange.specs.Extents.{plain_extent, plain_extents}
+use Rattle.overlay_arrange.specs.PixelRuns.{PassesBelow}
+use Rattle.overlay_arrange.specs.declared.extents.Extent.{Extent as HeldExtent}
+use Rattle.overlay_arrange.proofs.GatheredMeetings.{placed_in_mapped}
+use Rattle.overlay_arrange.proofs.HeightRuns.{below_from, none_below}
+use Rattle.overlay_arrange.proofs.pixel_runs.place_above.Goals as goal
+
+pub loop-low-init : goal.loop-low-init
+loop-low-init g c = let ordered = c.requires.ordered in (
+  omega arith,
+  omega (arith, ordered),
+  omega arith,
+  none_below (plain_edge g.I.IntNumber.whole g.C.EdgeCount.counts c.args.e.now) (g.I.IntNumber.whole c.args.x)
+      (plain_extents g.I.IntNumber.whole c.args.strips.now) c.args.from c.args.to,
+)
+
+pub loop-low-preserved-then-passes_below : goal.loop-low-preserved-then-passes_below
+loop-low-preserved-then-passes_below g c =
+    let whole = g.I.IntNumber.whole in
+    let e = plain_edge whole g.C.EdgeCount.counts c.args.e.now in
+    let strips = c.args.strips.now in
+    let ss = plain_extents whole strips in
+    let low = c.loop-low.low in
+    let high = c.loop-low.high in
+    let middle = low + (high - low) / 2 in
+    let past = c.loop-low.invariant.0 in
+    let up_to = c.loop-low.invariant.2 in
+    let less = c.loop-low-test.true in
+    let within = c.requires.within in
+    let half = div-add-mod (high - low) 2 in
+    let inside : middle < high = omega (arith, half, less) in
+    let there : middle < length strips = omega (arith, inside, up_to, within) in
+    let s = c.index-strips-middle.result in
+    let at_s = placed_in_mapped (plain_extent whole) strips middle s there c.index-strips-middle.is in (
+      omega (arith, past),
+      omega arith,
+      omega (arith, inside, up_to),
+      below_from e (whole c.args.x) ss c.args.from c.args.to c.requires.upwards middle (plain_extent whole s) at_s
+          (omega (arith, past))
+          (subst (λ (t : HeldExtent _). PassesBelow e (whole c.args.x) (whole t.low)) (sym c.index-strips-middle.is)
+          (c.passes_below.ensures c.if-passes_below.true)),
+    )

@@ -1,0 +1,205 @@
+//! The points of a strip whose pixels an edge may meet. They stand by their heights, so they are a run: those before it
+//! lie below the edge, and those behind it above.
+
+ghost use Rattle.std.specs.Prelude.{◌≡◌, ◌⊎◌, ℕ, ◌<◌, ◌≤◌, ℤ, pos, ◌*ℤ◌, ◌-ℤ◌, ◌≤ℤ◌, length, cond, int_lt, IsTrue};
+ghost use Rattle.std.specs.Prelude.{OnOk, IsOkUnless};
+ghost use Rattle.overlay_geom.specs.Edges.{ends_of};
+ghost use Rattle.overlay_geom.specs.Points.{plain_point, InRange};
+ghost use Rattle.overlay_arrange.specs.Content.{plain_edge, IsHeld};
+ghost use Rattle.overlay_arrange.specs.Extents.{Extent as PlainExtent, plain_extents};
+ghost use Rattle.overlay_arrange.specs.Meetings.{IsAt};
+ghost use Rattle.overlay_arrange.specs.PixelRuns.{AddsPlaces, AddsRun, ArePassedAbove, ArePassedBelow, AreUpwards};
+ghost use Rattle.overlay_arrange.specs.PixelRuns.{is_far_above, is_far_below, IsAmidX, PassesAbove, PassesBelow};
+
+use crate::count::EdgeCount;
+use crate::edge::CountedEdge;
+use crate::extents::{Extent, is_less};
+use crate::pixel::{order_to_high, order_to_low};
+use overlay_geom::error::OverlayError;
+use overlay_geom::number::IntNumber;
+use overlay_geom::point::IntPoint;
+use overlay_geom::vector::cross_at;
+use std::alloc::Allocator;
+
+/// Adds the places of those of the points of a strip, from one place up to another one, whose pixels the edge may meet.
+/// Their x-coordinates lie between two.
+pub(crate) fn push_run<I: IntNumber, C: EdgeCount, A: Allocator>(
+    near: &mut Vec<usize, A>,
+    strips: &[Extent<I>],
+    e: &CountedEdge<I, C>,
+    left: I,
+    right: I,
+    from: usize,
+    to: usize,
+) -> Result<(), OverlayError>
+    requires one { IsHeld I.limit (plain_edge I.whole C.counts e.now) }
+    requires ordered { from ≤ to }
+    requires within { to ≤ length strips.now }
+    requires upwards { AreUpwards (plain_extents I.whole strips.now) from to }
+    ensures ok { OnOk result (AddsRun (I.whole left) (I.whole right) (plain_edge I.whole C.counts e.now)
+        (plain_extents I.whole strips.now) from to near.old.items near.new.items) }
+    ensures err { IsOkUnless result OverlayError.Memory }
+{
+    let (first, last) = x_along(e, left, right);
+    let low = place_not_below(strips, e, first, from, to);
+    let high = place_above(strips, e, last, low, to);
+    push_places(near, strips, low, high)
+}
+
+/// Adds the places of the extents from one on up to another one.
+fn push_places<I: IntNumber, A: Allocator>(
+    near: &mut Vec<usize, A>,
+    strips: &[Extent<I>],
+    from: usize,
+    to: usize,
+) -> Result<(), OverlayError>
+    requires ordered { from ≤ to }
+    requires within { to ≤ length strips.now }
+    ensures ok { OnOk result
+        (AddsPlaces (plain_extents I.whole strips.now) from to near.old.items near.new.items) }
+    ensures err { IsOkUnless result OverlayError.Memory }
+{
+    for k in from..to {
+        near.push(strips[k].first)?;
+    }
+    Ok(())
+}
+
+/// Between two x-coordinates, as far as they lie in the span of the edge: from where on it rises, and up to where.
+fn x_along<I: IntNumber, C: EdgeCount>(e: &CountedEdge<I, C>, left: I, right: I) -> (I, I)
+    requires { IsHeld I.limit (plain_edge I.whole C.counts e.now) }
+    ensures first { IsAmidX (plain_edge I.whole C.counts e.now) (I.whole result.0) }
+    ensures last { IsAmidX (plain_edge I.whole C.counts e.now) (I.whole result.1) }
+    ensures between { let f = plain_edge I.whole C.counts e.now in
+        (x : ℤ) → I.whole left ≤ℤ x → x ≤ℤ I.whole right → IsAmidX f x
+        → (pos 0 ≤ℤ ((f.b.y -ℤ f.a.y) *ℤ (x -ℤ I.whole result.0)))
+        × (pos 0 ≤ℤ ((f.b.y -ℤ f.a.y) *ℤ (I.whole result.1 -ℤ x))) }
+{
+    let first = x_within(e, left);
+    let last = x_within(e, right);
+    if is_less(e.a.y, e.b.y) {
+        (first, last)
+    } else {
+        (last, first)
+    }
+}
+
+/// The x-coordinate nearest a given one in the span of the edge.
+fn x_within<I: IntNumber, C: EdgeCount>(e: &CountedEdge<I, C>, x: I) -> I
+    ensures { let f = plain_edge I.whole C.counts e.now in
+        I.whole result ≡ cond (int_lt (I.whole x) f.a.x) f.a.x (cond (int_lt f.b.x (I.whole x)) f.b.x (I.whole x)) }
+{
+    if is_less(x, e.a.x) {
+        e.a.x
+    } else if is_less(e.b.x, x) {
+        e.b.x
+    } else {
+        x
+    }
+}
+
+/// A place up to which the points of a strip lie below the edge, those from x on in its way.
+fn place_not_below<I: IntNumber, C: EdgeCount>(
+    strips: &[Extent<I>],
+    e: &CountedEdge<I, C>,
+    x: I,
+    from: usize,
+    to: usize,
+) -> usize
+    requires one { IsHeld I.limit (plain_edge I.whole C.counts e.now) }
+    requires amid { IsAmidX (plain_edge I.whole C.counts e.now) (I.whole x) }
+    requires ordered { from ≤ to }
+    requires within { to ≤ length strips.now }
+    requires upwards { AreUpwards (plain_extents I.whole strips.now) from to }
+    ensures ordered { from ≤ result }
+    ensures within { result ≤ to }
+    ensures below { ArePassedAbove (plain_edge I.whole C.counts e.now) (I.whole x)
+        (plain_extents I.whole strips.now) from result }
+{
+    let mut low = from;
+    let mut high = to;
+    while low < high {
+        let middle = low + (high - low) / 2;
+        if passes_above(e, x, strips[middle].low) {
+            low = middle + 1;
+        } else {
+            high = middle;
+        }
+    }
+    low
+}
+
+/// A place from which on the points of a strip lie above the edge, those up to x in its way.
+fn place_above<I: IntNumber, C: EdgeCount>(
+    strips: &[Extent<I>],
+    e: &CountedEdge<I, C>,
+    x: I,
+    from: usize,
+    to: usize,
+) -> usize
+    requires one { IsHeld I.limit (plain_edge I.whole C.counts e.now) }
+    requires amid { IsAmidX (plain_edge I.whole C.counts e.now) (I.whole x) }
+    requires ordered { from ≤ to }
+    requires within { to ≤ length strips.now }
+    requires upwards { AreUpwards (plain_extents I.whole strips.now) from to }
+    ensures ordered { from ≤ result }
+    ensures within { result ≤ to }
+    ensures above { ArePassedBelow (plain_edge I.whole C.counts e.now) (I.whole x)
+        (plain_extents I.whole strips.now) result to }
+{
+    let mut low = from;
+    let mut high = to;
+    while low < high {
+        let middle = low + (high - low) / 2;
+        if passes_below(e, x, strips[middle].low) {
+            high = middle;
+        } else {
+            low = middle + 1;
+        }
+    }
+    high
+}
+
+/// Whether the edge is seen to pass above the pixels of all points up to a height, from x on in its way.
+fn passes_above<I: IntNumber, C: EdgeCount>(e: &CountedEdge<I, C>, x: I, y: I) -> bool
+    requires one { IsHeld I.limit (plain_edge I.whole C.counts e.now) }
+    requires amid { IsAmidX (plain_edge I.whole C.counts e.now) (I.whole x) }
+    ensures { IsTrue result → PassesAbove (plain_edge I.whole C.counts e.now) (I.whole x) (I.whole y) }
+{
+    if is_less(y, e.a.y) {
+        is_less(y, e.b.y) || is_far_below(e, IntPoint::new(x, y))
+    } else {
+        is_less(y, e.b.y) && is_far_below(e, IntPoint::new(x, y))
+    }
+}
+
+/// Whether the edge is seen to pass below the pixels of all points from a height on, up to x in its way.
+fn passes_below<I: IntNumber, C: EdgeCount>(e: &CountedEdge<I, C>, x: I, y: I) -> bool
+    requires one { IsHeld I.limit (plain_edge I.whole C.counts e.now) }
+    requires amid { IsAmidX (plain_edge I.whole C.counts e.now) (I.whole x) }
+    ensures { IsTrue result → PassesBelow (plain_edge I.whole C.counts e.now) (I.whole x) (I.whole y) }
+{
+    if is_less(e.a.y, y) {
+        is_less(e.b.y, y) || is_far_above(e, IntPoint::new(x, y))
+    } else {
+        is_less(e.b.y, y) && is_far_above(e, IntPoint::new(x, y))
+    }
+}
+
+/// Whether the point lies so far below the line of the edge that this passes above its pixel.
+fn is_far_below<I: IntNumber, C: EdgeCount>(e: &CountedEdge<I, C>, v: IntPoint<I>) -> bool
+    requires edge { IsHeld I.limit (plain_edge I.whole C.counts e.now) }
+    requires point { InRange I.limit (plain_point I.whole v) }
+    ensures { result ≡ is_far_below (ends_of (plain_edge I.whole C.counts e.now)) (plain_point I.whole v) }
+{
+    order_to_low(e, cross_at(e.a, e.b, v)).is_lt()
+}
+
+/// Whether the point lies so far above it that it passes below its pixel.
+fn is_far_above<I: IntNumber, C: EdgeCount>(e: &CountedEdge<I, C>, v: IntPoint<I>) -> bool
+    requires edge { IsHeld I.limit (plain_edge I.whole C.counts e.now) }
+    requires point { InRange I.limit (plain_point I.whole v) }
+    ensures { result ≡ is_far_above (ends_of (plain_edge I.whole C.counts e.now)) (plain_point I.whole v) }
+{
+    order_to_high(e, cross_at(e.a, e.b, v)).is_gt()
+}

@@ -1,0 +1,9 @@
+-- The laws are proved in proofs/OneLocation.antt.
+use Rattle.overlay_relate.proofs.OneLocation.{one_location_in, one_location_among}
+use Rattle.overlay_relate.proofs.only_relations.one_location.Goals as goal
+
+pub returns-clause-shape : goal.returns-clause-shape
+returns-clause-shape c = one_location_in
+
+pub returns-clause-shapes : goal.returns-clause-shapes
+returns-clause-shapes c = one_location_among

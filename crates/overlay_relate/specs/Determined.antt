@@ -1,0 +1,25 @@
+-- Locations and relations are the only ones.
+use Rattle.std.specs.Prelude.{◌≡◌, ℤ, Bool, List}
+use Rattle.overlay_geom.specs.Plane.{Point}
+use Rattle.overlay_geom.specs.Edges.{CountedEdge}
+use Rattle.overlay_relate.specs.Answers.{AnswersWhere}
+use Rattle.overlay_relate.specs.Locations.{IsLocatedIn, IsLocatedAmong}
+use Rattle.overlay_relate.specs.PredicateQueries.{AreRelations}
+use Rattle.overlay_relate.specs.declared.location.PointLocation.{PointLocation}
+use Rattle.overlay_relate.specs.declared.relations.Relations.{Relations}
+
+-- two lists of locations of the same points, in one shape, are one
+abbrev pub OneLocationIn : Type 0
+OneLocationIn = (shape : List (List Point)) (queries : List Point) (first second : List PointLocation) →
+    AnswersWhere (IsLocatedIn shape) queries first → AnswersWhere (IsLocatedIn shape) queries second → first ≡ second
+
+-- and among shapes
+abbrev pub OneLocationAmong : Type 0
+OneLocationAmong = (shapes : List (List (List Point))) (queries : List Point) (first second : List PointLocation) →
+    AnswersWhere (IsLocatedAmong shapes) queries first → AnswersWhere (IsLocatedAmong shapes) queries second →
+    first ≡ second
+
+-- two answers that tell of one arrangement are one
+abbrev pub OneAnswerOfRelations : Type 0
+OneAnswerOfRelations = (filled : ℤ → Bool) (es : List CountedEdge) (first second : Relations) →
+    AreRelations filled es first → AreRelations filled es second → first ≡ second

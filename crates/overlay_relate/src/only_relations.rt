@@ -1,0 +1,14 @@
+//! Locations and relations are the only ones that their contracts allow.
+
+ghost use Rattle.overlay_relate.specs.Determined.{OneLocationIn, OneLocationAmong, OneAnswerOfRelations};
+
+/// Two lists of locations of the same points, in one shape or among the same shapes, are equal.
+pub fn one_location()
+    ensures shape { OneLocationIn }
+    ensures shapes { OneLocationAmong }
+{}
+
+/// Two answers that tell of the relations of one arrangement are equal.
+pub fn one_answer_of_relations()
+    ensures { OneAnswerOfRelations }
+{}

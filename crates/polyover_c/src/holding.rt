@@ -1,0 +1,139 @@
+//! Answers of arrays, handed out.
+
+ghost use Rattle.polyover_c.specs.Given.{contours_of};
+ghost use Rattle.polyover_c.specs.Held.{arrays_of};
+ghost use Rattle.polyover_c.specs.Holding.{ClipsAreHeld, EdgesAreHeld, HierarchyIsHeld, OverlayIsHeld};
+ghost use Rattle.polyover_c.specs.Holding.{SimplificationIsHeld, SlicesAreHeld};
+
+use crate::clip::clip_answer;
+use crate::clip_options::ClipOptions;
+use crate::edges::edges_listed;
+use crate::given::Contours;
+use crate::held::{Outcome, hold_edges, hold_linked, hold_nothing, hold_paths, hold_shapes};
+use crate::hierarchy::hierarchy_answer;
+use crate::numbers::OptionNumbers;
+use crate::overlay::overlay_answer;
+use crate::simplify::simplify_answer;
+use crate::slice::slice_answer;
+use overlay_geom::integer::OverlayInt;
+use std::alloc::Global;
+
+/// The shapes of the overlay that the numbers ask for.
+#[tactic(auto, using(crate::proofs::Endings::put_ends, crate::proofs::Endings::refused_ends))]
+pub(crate) fn overlay_held<'a, I: OverlayInt + 'a>(
+    alloc: Global,
+    rule: u32,
+    fill: u32,
+    options: OptionNumbers<I::WideUInt>,
+    subject: &Contours<I>,
+    clip: &Contours<I>,
+) -> Outcome<'a, I>
+    ensures { OverlayIsHeld I.whole I.limit I.Wide.width I.WideUInt.natural rule fill options
+        (contours_of subject.now.coordinates.now subject.now.ends.now)
+        (contours_of clip.now.coordinates.now clip.now.ends.now)
+        (arrays_of result.held) result.status }
+{
+    match overlay_answer(alloc, rule, fill, options, subject, clip) {
+        Ok(answer) => hold_shapes(answer),
+        Err(status) => hold_nothing(status),
+    }
+}
+
+/// The shapes that the contours are simplified to.
+#[tactic(auto, using(crate::proofs::Endings::put_ends, crate::proofs::Endings::refused_ends))]
+pub(crate) fn simplification_held<'a, I: OverlayInt + 'a>(
+    alloc: Global,
+    fill: u32,
+    options: OptionNumbers<I::WideUInt>,
+    given: &Contours<I>,
+) -> Outcome<'a, I>
+    ensures { SimplificationIsHeld I.whole I.limit I.Wide.width I.WideUInt.natural fill options
+        (contours_of given.now.coordinates.now given.now.ends.now)
+        (arrays_of result.held) result.status }
+{
+    match simplify_answer(alloc, fill, options, given) {
+        Ok(answer) => hold_shapes(answer),
+        Err(status) => hold_nothing(status),
+    }
+}
+
+/// The shapes of the overlay that the numbers ask for, with the links between them.
+#[tactic(auto, using(crate::proofs::Endings::put_ends, crate::proofs::Endings::refused_ends))]
+pub(crate) fn hierarchy_held<'a, I: OverlayInt + 'a>(
+    alloc: Global,
+    rule: u32,
+    fill: u32,
+    options: OptionNumbers<I::WideUInt>,
+    subject: &Contours<I>,
+    clip: &Contours<I>,
+) -> Outcome<'a, I>
+    ensures { HierarchyIsHeld I.whole I.limit I.Wide.width I.WideUInt.natural rule fill options
+        (contours_of subject.now.coordinates.now subject.now.ends.now)
+        (contours_of clip.now.coordinates.now clip.now.ends.now)
+        (arrays_of result.held) result.status }
+{
+    match hierarchy_answer(alloc, rule, fill, options, subject, clip) {
+        Ok(answer) => hold_linked(answer),
+        Err(status) => hold_nothing(status),
+    }
+}
+
+/// The shapes into which the lines, which are open paths, slice the subject.
+#[tactic(auto, using(crate::proofs::Endings::put_ends, crate::proofs::Endings::refused_ends))]
+pub(crate) fn slices_held<'a, I: OverlayInt + 'a>(
+    alloc: Global,
+    fill: u32,
+    solver: u32,
+    subject: &Contours<I>,
+    lines: &Contours<I>,
+) -> Outcome<'a, I>
+    ensures { SlicesAreHeld I.whole I.limit I.Wide.width fill solver
+        (contours_of subject.now.coordinates.now subject.now.ends.now)
+        (contours_of lines.now.coordinates.now lines.now.ends.now)
+        (arrays_of result.held) result.status }
+{
+    match slice_answer(alloc, fill, solver, subject, lines) {
+        Ok(answer) => hold_shapes(answer),
+        Err(status) => hold_nothing(status),
+    }
+}
+
+/// The parts of the lines, which are open paths, that a clip by the shape keeps.
+#[tactic(auto, using(crate::proofs::Endings::put_ends, crate::proofs::Endings::refused_ends))]
+pub(crate) fn clips_held<'a, I: OverlayInt + 'a>(
+    alloc: Global,
+    fill: u32,
+    options: ClipOptions,
+    shape: &Contours<I>,
+    lines: &Contours<I>,
+) -> Outcome<'a, I>
+    ensures { ClipsAreHeld I.whole I.limit fill options
+        (contours_of shape.now.coordinates.now shape.now.ends.now)
+        (contours_of lines.now.coordinates.now lines.now.ends.now)
+        (arrays_of result.held) result.status }
+{
+    match clip_answer(alloc, fill, options, shape, lines) {
+        Ok(answer) => hold_paths(answer),
+        Err(status) => hold_nothing(status),
+    }
+}
+
+/// The edges of the arrangement of both shapes, with the sides that are filled.
+#[tactic(auto, using(crate::proofs::Endings::put_ends, crate::proofs::Endings::refused_ends))]
+pub(crate) fn edges_held<'a, I: OverlayInt + 'a>(
+    alloc: Global,
+    fill: u32,
+    solver: u32,
+    subject: &Contours<I>,
+    clip: &Contours<I>,
+) -> Outcome<'a, I>
+    ensures { EdgesAreHeld I.whole I.limit fill solver
+        (contours_of subject.now.coordinates.now subject.now.ends.now)
+        (contours_of clip.now.coordinates.now clip.now.ends.now)
+        (arrays_of result.held) result.status }
+{
+    match edges_listed(alloc, fill, solver, subject, clip) {
+        Ok(answer) => hold_edges(answer),
+        Err(status) => hold_nothing(status),
+    }
+}

@@ -1,0 +1,47 @@
+/** The calls that give an answer, by their languages. */
+
+import { COMMANDS } from "../commands.js";
+import { pointCount, noFigures } from "../drawing.js";
+import { commandWords, figureLines } from "../text.js";
+import { cOf } from "./c.js";
+import { javascriptOf } from "./javascript.js";
+import { pythonOf } from "./python.js";
+import { rattleOf } from "./rattle.js";
+
+/** Calls are written of at most this many points. */
+const MOST = 2000;
+const TOO_MANY = `(of more than ${MOST.toLocaleString("en")} points no call is written: save them)`;
+
+/** The lines of the program. */
+function programOf({ figures, asked }) {
+  const lines = figureLines(figures, COMMANDS[asked.command].takes);
+  return [...lines, `run ${commandWords(asked).join(" ")}`, ""].join("\n");
+}
+
+/** @type {{name: string, label: string, write: (drawing: any) => string}[]} */
+export const LANGUAGES = [
+  { name: "python", label: "Python", write: pythonOf },
+  { name: "c", label: "C", write: cOf },
+  { name: "javascript", label: "JavaScript", write: javascriptOf },
+  { name: "rattle", label: "Rattle", write: rattleOf },
+  { name: "program", label: "Program", write: programOf },
+];
+
+/** In which the answer of a call may differ from that of the page. */
+export function noteOf(/** @type {string} */ name, /** @type {import("../commands.js").Asked} */ asked) {
+  if (name !== "program") return "";
+  const notes = [
+    asked.command === "simplify" && "It has no command simplify: one simple contour may begin at another point.",
+    asked.solver === "snapped" && asked.command !== "locate" && "It splits edges in rounds.",
+  ];
+  return notes.filter(Boolean).join(" ");
+}
+
+/** The call in a language that gives the answer to a drawing. */
+export function callOf(/** @type {string} */ name, /** @type {import("../state.js").Drawing} */ drawing) {
+  const { takes } = COMMANDS[drawing.asked.command];
+  const figures = { ...noFigures(), ...Object.fromEntries(takes.map((kind) => [kind, drawing.figures[kind]])) };
+  if (pointCount(figures) > MOST) return TOO_MANY;
+  const language = LANGUAGES.find((each) => each.name === name) ?? LANGUAGES[0];
+  return language.write({ ...drawing, figures });
+}

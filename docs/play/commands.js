@@ -1,0 +1,130 @@
+/**
+ * The commands, what each of them takes and answers, and the words for rules in each language.
+ *
+ * @typedef {import("./drawing.js").Kind} Kind
+ * @typedef {"overlay" | "hierarchy" | "simplify" | "relate" | "clip" | "slice" | "locate" | "edges"} Name
+ * @typedef {"shapes" | "paths" | "edges" | "relations" | "locations"} AnswerKind
+ * @typedef {{takes: Kind[], answers: AnswerKind, says: string, options: string[]}} Command
+ *
+ * @typedef {object} Asked  all that is asked for; a command reads its own part
+ * @property {Name} command
+ * @property {string} rule  a key of RULES
+ * @property {string} fill  a key of FILLS
+ * @property {"snapped" | "rounds"} solver
+ * @property {boolean} valid  no contour visits a point twice
+ * @property {boolean} clockwise
+ * @property {boolean} keep
+ * @property {number} minimumArea
+ * @property {boolean} invert
+ * @property {boolean} boundary
+ */
+
+const LOOK = ["valid", "clockwise", "keep", "minimumArea"];
+
+/** @type {Record<string, Command>} */
+export const COMMANDS = {
+  overlay: {
+    takes: ["subject", "clip"],
+    answers: "shapes",
+    says: "The shapes round the region where the rules hold.",
+    options: ["rule", "fill", "solver", ...LOOK],
+  },
+  hierarchy: {
+    takes: ["subject", "clip"],
+    answers: "shapes",
+    says: "The same shapes, and which of them lie in holes of which.",
+    options: ["rule", "fill", "solver", ...LOOK],
+  },
+  simplify: {
+    takes: ["subject"],
+    answers: "shapes",
+    says: "The shapes round what the subject fills; one simple contour stays as it is.",
+    options: ["fill", "solver", ...LOOK],
+  },
+  relate: {
+    takes: ["subject", "clip"],
+    answers: "relations",
+    says: "How subject and clip lie to each other.",
+    options: ["fill", "solver"],
+  },
+  clip: {
+    takes: ["subject", "line"],
+    answers: "paths",
+    says: "The parts of the lines inside the subject.",
+    options: ["fill", "solver", "invert", "boundary"],
+  },
+  slice: {
+    takes: ["subject", "line"],
+    answers: "shapes",
+    says: "The shapes into which the lines cut the subject.",
+    options: ["fill", "solver"],
+  },
+  locate: {
+    takes: ["subject", "point"],
+    answers: "locations",
+    says: "Where each point lies: inside, on the boundary or outside.",
+    options: [],
+  },
+  edges: {
+    takes: ["subject", "clip"],
+    answers: "edges",
+    says: "The edges of the arrangement, after snapping, and the sides that are filled.",
+    options: ["fill", "solver"],
+  },
+};
+
+/** The overlay rules: what each takes, and its words. */
+export const RULES = {
+  union: { label: "Union", program: "Union", c: "POLYOVER_UNION" },
+  intersect: { label: "Intersect", program: "Intersect", c: "POLYOVER_INTERSECT" },
+  difference: { label: "Difference", program: "Difference", c: "POLYOVER_DIFFERENCE" },
+  inverse_difference: {
+    label: "Inverse difference",
+    program: "InverseDifference",
+    c: "POLYOVER_INVERSE_DIFFERENCE",
+  },
+  xor: { label: "Exclusive or", program: "Xor", c: "POLYOVER_XOR" },
+  subject: { label: "Subject", program: "Subject", c: "POLYOVER_SUBJECT" },
+  clip: { label: "Clip", program: "Clip", c: "POLYOVER_CLIP" },
+};
+
+/** The fill rules: which windings each fills, and its words. */
+export const FILLS = {
+  nonzero: { label: "Nonzero", program: "NonZero", c: "POLYOVER_NON_ZERO" },
+  evenodd: { label: "Even-odd", program: "EvenOdd", c: "POLYOVER_EVEN_ODD" },
+  positive: { label: "Positive", program: "Positive", c: "POLYOVER_POSITIVE" },
+  negative: { label: "Negative", program: "Negative", c: "POLYOVER_NEGATIVE" },
+};
+
+/** The relations, in the order in which they are told. */
+export const RELATIONS = [
+  "intersects",
+  "interiors_intersect",
+  "touches",
+  "point_intersects",
+  "within",
+  "disjoint",
+  "covers",
+];
+
+/** Where a point lies, by its number. */
+export const LOCATIONS = ["outside", "inside", "boundary"];
+
+/** @type {Asked} */
+export const DEFAULTS = {
+  command: "overlay",
+  rule: "union",
+  fill: "nonzero",
+  solver: "snapped",
+  valid: true,
+  clockwise: false,
+  keep: false,
+  minimumArea: 0,
+  invert: false,
+  boundary: false,
+};
+
+/** The name whose word of the program is this one, or undefined. */
+export function nameOf(/** @type {Record<string, {program: string}>} */ table, /** @type {string} */ word) {
+  return Object.keys(table).find((name) => table[name].program === word);
+}

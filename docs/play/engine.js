@@ -1,0 +1,150 @@
+/**
+ * The library in a worker, asked for one answer at a time. The latest drawing wins: one that comes while the worker is
+ * at work waits, and takes the place of the one that waits already.
+ */
+
+import { COMMANDS } from "./commands.js";
+import { edgesIn, groupsIn, nodesOf, pathsIn } from "./answers.js";
+import { KINDS } from "./drawing.js";
+
+/** After this many milliseconds an answer that nobody waits for is ended with its worker. */
+const PATIENCE = 1500;
+
+/**
+ * What a page in one file holds in the place of the files beside it: the address of the worker, and the library.
+ *
+ * @type {{worker: string, library: string} | undefined}
+ */
+const held = /** @type {any} */ (globalThis).POLYOVER_HELD;
+
+/** The bytes of a text in base64. */
+const bytesOf = (/** @type {string} */ text) => Uint8Array.from(atob(text), (letter) => letter.charCodeAt(0));
+
+/** The paths of a kind in arrays. */
+function flat(/** @type {number[][][]} */ paths) {
+  const ends = new Uint32Array(paths.length);
+  let count = 0;
+  paths.forEach((path, at) => {
+    count += path.length;
+    ends[at] = count;
+  });
+  const coordinates = new Float64Array(2 * count);
+  let next = 0;
+  for (const path of paths) {
+    for (const [x, y] of path) {
+      coordinates[next] = x;
+      coordinates[next + 1] = y;
+      next += 2;
+    }
+  }
+  return { coordinates, ends };
+}
+
+/** What the worker is told of a drawing. */
+function messageOf(/** @type {import("./state.js").Drawing} */ drawing, /** @type {boolean} */ isArranged) {
+  const { takes } = COMMANDS[drawing.asked.command];
+  const figures = Object.fromEntries(
+    KINDS.map((kind) => [kind, flat(takes.includes(kind) ? drawing.figures[kind] : [])]),
+  );
+  return { figures, asked: drawing.asked, isArranged };
+}
+
+/** An answer of the worker as the page shows it. */
+function answerOf(told, /** @type {import("./state.js").Drawing} */ drawing) {
+  const answer = { kind: told.kind, time: told.time, drawing };
+  if (told.kind === "shapes") {
+    answer.shapes = groupsIn(pathsIn(told.coordinates, told.ends), told.shapeEnds);
+    if (told.links) answer.links = told.links;
+  } else if (told.kind === "paths") answer.paths = pathsIn(told.coordinates, told.ends);
+  else if (told.kind === "edges") answer.edges = edgesIn(told.coordinates, told.fills);
+  else Object.assign(answer, told);
+  if (told.arrangement) {
+    answer.arrangement = edgesIn(told.arrangement.coordinates, told.arrangement.fills);
+    const pieces = told.pieces.flatMap((each) => pathsIn(each.coordinates, each.ends));
+    answer.nodes = nodesOf(answer.arrangement, pieces);
+  }
+  return answer;
+}
+
+export class Engine {
+  /** Has `take` called with each answer. */
+  constructor(/** @type {(answer: import("./answers.js").Answer) => void} */ take) {
+    this.take = take;
+    /** @type {[import("./state.js").Drawing, boolean] | null} */
+    this.asked = null;
+    /** @type {[import("./state.js").Drawing, boolean] | null} */
+    this.next = null;
+    this.began = 0;
+    this.timer = 0;
+    this.start();
+  }
+
+  /** Whether an answer is still to come. */
+  get isBusy() {
+    return this.asked !== null;
+  }
+
+  /** Starts a worker, which loads the library. */
+  start() {
+    const address = held?.worker ?? new URL("./worker.js", import.meta.url);
+    this.worker = new Worker(address, { type: "module" });
+    this.isReady = false;
+    this.worker.onmessage = ({ data }) => (data === "ready" ? this.begin() : this.receive(data));
+    this.worker.onerror = (event) => {
+      event.preventDefault();
+      this.receive({ kind: "fault", name: "Missing", message: MISSING, time: 0 });
+    };
+    this.worker.postMessage({ library: held ? bytesOf(held.library) : null });
+  }
+
+  /** Counts the time of an answer from now on: the library is loaded. */
+  begin() {
+    this.isReady = true;
+    this.began = performance.now();
+    this.wait();
+  }
+
+  /** Asks for the answer to a drawing, with the edges of the arrangement where they are shown. */
+  ask(/** @type {import("./state.js").Drawing} */ drawing, isArranged = false) {
+    this.next = [drawing, isArranged];
+    if (this.asked) this.wait();
+    else this.send();
+  }
+
+  /** Ends the answer that is on its way, once it took too long, if another one is waited for. */
+  wait() {
+    if (!this.isReady || !this.asked || !this.next || this.timer) return;
+    const left = Math.max(0, PATIENCE - (performance.now() - this.began));
+    this.timer = window.setTimeout(() => this.restart(), left);
+  }
+
+  /** Ends the answer that is on its way. */
+  restart() {
+    window.clearTimeout(this.timer);
+    this.timer = 0;
+    if (!this.asked || !this.next) return;
+    this.worker?.terminate();
+    this.start();
+    this.send();
+  }
+
+  /** Sends what is asked next. */
+  send() {
+    window.clearTimeout(this.timer);
+    this.timer = 0;
+    this.asked = this.next;
+    this.next = null;
+    if (!this.asked) return;
+    this.began = performance.now();
+    this.worker?.postMessage(messageOf(...this.asked));
+  }
+
+  /** Takes an answer of the worker. */
+  receive(told) {
+    const asked = this.asked;
+    this.send();
+    if (asked) this.take(answerOf(told, asked[0]));
+  }
+}
+
+const MISSING = "The library is not beside this page: docs/play/README.md says how it is opened.";

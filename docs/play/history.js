@@ -1,0 +1,59 @@
+/**
+ * What was there before, to go back to, and what was undone, to go on to.
+ *
+ * @template T
+ */
+export class History {
+  /** The number of steps that can be undone. */
+  static MOST = 500;
+
+  /** @param {T} present */
+  constructor(present) {
+    this.present = present;
+    /** @type {T[]} */
+    this.past = [];
+    /** @type {T[]} */
+    this.future = [];
+    /** @type {T | null} */
+    this.before = null;
+  }
+
+  /** Makes a step to what is there next. */
+  step(/** @type {T} */ next) {
+    this.past.push(this.before ?? this.present);
+    this.past.splice(0, this.past.length - History.MOST);
+    this.before = null;
+    this.future = [];
+    this.present = next;
+  }
+
+  /** Goes on within a step, as while a point is dragged; `settle` ends it. */
+  slide(/** @type {T} */ next) {
+    this.before ??= this.present;
+    this.present = next;
+  }
+
+  /** Ends a step that went on by `slide`. */
+  settle() {
+    if (this.before !== null && this.before !== this.present) this.step(this.present);
+    this.before = null;
+  }
+
+  /** Goes back by a step. Returns whether there was one. */
+  undo() {
+    this.settle();
+    if (!this.past.length) return false;
+    this.future.push(this.present);
+    this.present = /** @type {T} */ (this.past.pop());
+    return true;
+  }
+
+  /** Makes the step again that was undone last. Returns whether there was one. */
+  redo() {
+    this.settle();
+    if (!this.future.length) return false;
+    this.past.push(this.present);
+    this.present = /** @type {T} */ (this.future.pop());
+    return true;
+  }
+}

@@ -1,0 +1,176 @@
+/** The page: what is drawn, asked of the library after each change, and shown. */
+
+import { beginAnswers } from "./answer_panel.js";
+import { Board } from "./board.js";
+import { beginCalls } from "./call_panel.js";
+import { DEFAULTS } from "./commands.js";
+import { beginControls, isLive } from "./controls.js";
+import { LIVE_POINTS, pointCount } from "./drawing.js";
+import { Engine } from "./engine.js";
+import { EXAMPLES } from "./examples.js";
+import { copy, isGeojson, save } from "./files.js";
+import { answerGeojson, figuresOfGeojson, geojsonOf } from "./geojson.js";
+import { Hand } from "./hand.js";
+import { Keys } from "./keys.js";
+import { drawingOfHash, hashOf } from "./link.js";
+import { byId, element, fillSelect } from "./page.js";
+import { State } from "./state.js";
+import { svgOf } from "./svg.js";
+import { BadText, commandWords, drawingIn, textOf } from "./text.js";
+import { beginTheme, switchTheme } from "./theme.js";
+
+const state = new State();
+const canvas = /** @type {HTMLCanvasElement} */ (byId("board"));
+const board = new Board(canvas, state);
+const keys = new Keys(new Hand(board));
+const engine = new Engine((answer) => {
+  state.answer = answer;
+  state.piece = null;
+  state.tell("answer");
+  state.tell("piece");
+});
+
+// ---- asking
+
+/** Asks the library for the answer to what is drawn. */
+function ask() {
+  const { looks } = state;
+  engine.ask(state.drawing, looks.nodes || looks.sides);
+}
+
+/** The same, where the answer follows each move; else a button stands there. */
+function askLive() {
+  if (isLive(state.figures)) return ask();
+  const count = pointCount(state.figures).toLocaleString("en");
+  const said = `${count} points: beyond ${LIVE_POINTS.toLocaleString("en")} the answer comes when it is asked for. `;
+  byId("summary").replaceChildren(said, element("button", { type: "button", id: "ask-now", onclick: ask }, "Answer"));
+}
+
+// ---- what is opened
+
+/** Shows another drawing. */
+function show(/** @type {Partial<import("./state.js").Drawing>} */ drawing, looks = {}) {
+  keys.escape();
+  Object.assign(state.looks, { nodes: false, sides: false, snapping: "after", step: 1, ...looks });
+  state.step(drawing);
+  state.tell("looks");
+  board.fit();
+}
+
+/** Shows an example. */
+function showExample(/** @type {string} */ name) {
+  const example = EXAMPLES.find((each) => each.name === name);
+  if (!example) return;
+  const { figures, asked } = drawingIn(example.text);
+  show({ figures, asked: { ...DEFAULTS, ...asked, solver: example.solver ?? "snapped" }, digits: 0 }, example.looks);
+  byId("example").title = example.says;
+}
+
+/** Shows what a file holds: a text of the program, or GeoJSON. */
+async function openFile(/** @type {File} */ file) {
+  try {
+    const text = await file.text();
+    if (isGeojson(file.name, text)) show(figuresOfGeojson(text));
+    else {
+      const { figures, asked } = drawingIn(text);
+      show({ figures, asked: asked ?? state.asked, digits: 0 });
+    }
+  } catch (fault) {
+    if (!(fault instanceof BadText)) throw fault;
+    tell(`${file.name}: ${fault.message}`);
+  }
+}
+
+/** Says over the board what could not be opened, until something else is drawn. */
+function tell(/** @type {string} */ text) {
+  byId("notice").textContent = text;
+  byId("notice").hidden = false;
+}
+
+/** Shows the drawing that the address holds. Returns whether it holds one. */
+function openLink() {
+  try {
+    const drawing = drawingOfHash(location.hash);
+    if (drawing) show(drawing);
+    return drawing !== null;
+  } catch (fault) {
+    if (!(fault instanceof BadText)) throw fault;
+    tell(`The link: ${fault.message}`);
+    return false;
+  }
+}
+
+// ---- what is saved
+
+const SAVED = {
+  geojson: () => save("drawing.geojson", geojsonOf(state.drawing), "application/geo+json"),
+  text: () => save("drawing.txt", textOf(state.drawing)),
+  answer: () => {
+    if (!state.answer) return;
+    const text = answerGeojson(state.answer, state.figures, state.drawing.digits);
+    save("answer.geojson", text, "application/geo+json");
+  },
+  svg: () => {
+    const { input, answer, over, nodes } = board.marks();
+    const title = `run ${commandWords(state.asked).join(" ")}`;
+    save("drawing.svg", svgOf([...input, ...answer, ...over, ...nodes], board.view, title), "image/svg+xml");
+  },
+};
+
+/** Copies the link that holds the drawing, and shows it as the page's address. */
+async function copyLink() {
+  history.replaceState(null, "", `#${hashOf(state.drawing)}`);
+  const isDone = await copy(location.href);
+  byId("link").textContent = isDone ? "Copied" : "In the address";
+  setTimeout(() => (byId("link").textContent = "Link"), 1500);
+}
+
+// ---- the page
+
+fillSelect(byId("example"), [["", "Choose ..."], ...EXAMPLES.map(({ name, label }) => [name, label])]);
+byId("example").addEventListener("change", (event) => showExample(/** @type {any} */ (event.target).value));
+byId("open").addEventListener("click", () => byId("file").click());
+byId("file").addEventListener("change", async (event) => {
+  const input = /** @type {HTMLInputElement} */ (event.target);
+  if (input.files?.[0]) await openFile(input.files[0]);
+  input.value = "";
+});
+document.querySelectorAll("[data-save]").forEach((button) =>
+  button.addEventListener("click", () => {
+    SAVED[/** @type {HTMLElement} */ (button).dataset.save ?? ""]?.();
+    byId("save").removeAttribute("open");
+  }),
+);
+document.addEventListener("pointerdown", ({ target }) => {
+  if (!byId("save").contains(/** @type {Node} */ (target))) byId("save").removeAttribute("open");
+});
+byId("link").addEventListener("click", copyLink);
+byId("theme-switch").addEventListener("click", () => (switchTheme(), board.recolour()));
+byId("help-open").addEventListener("click", () => /** @type {HTMLDialogElement} */ (byId("help")).showModal());
+window.addEventListener("hashchange", openLink);
+window.addEventListener("dragover", (event) => event.preventDefault());
+window.addEventListener("drop", (event) => {
+  event.preventDefault();
+  if (event.dataTransfer?.files[0]) openFile(event.dataTransfer.files[0]);
+});
+
+beginTheme(() => board.recolour());
+board.recolour();
+beginControls(state, board, keys);
+beginAnswers(state, board);
+beginCalls(state);
+state.on("drawing", () => {
+  byId("notice").hidden = true;
+  askLive();
+});
+state.on("looks", ask);
+if (!openLink()) {
+  const { textContent: said, hidden } = byId("notice");
+  /** @type {HTMLSelectElement} */ (byId("example")).value = "picture";
+  showExample("picture");
+  if (!hidden) tell(said ?? "");
+}
+state.history.past = [];
+state.tell("drawing");
+// (for tests, and for who wants to look behind the page)
+/** @type {any} */ (globalThis).polyover = { state, board, engine };

@@ -1,0 +1,44 @@
+/**
+ * The colours of the page's theme, which `theme.css` states, by the names of the marks. In the light theme they are
+ * those of the pictures of `python3 -m polyover svg`.
+ */
+
+const NAMES = [
+  "subject",
+  "clip",
+  "answer",
+  "line",
+  "point",
+  "inside",
+  "boundary",
+  "outside",
+  "edge",
+  "before",
+  "node",
+  "ground",
+  "grid",
+  "axis",
+  "label",
+  "accent",
+];
+
+/** @returns {Record<string, string>} the colours of the theme that is shown */
+export function coloursOf(/** @type {Element} */ element) {
+  const style = getComputedStyle(element);
+  return Object.fromEntries(NAMES.map((name) => [name, style.getPropertyValue(`--${name}`).trim()]));
+}
+
+/** The colours of pictures that are saved: those of the light theme. */
+export const PRINTED = {
+  subject: "#3b6fb6",
+  clip: "#d9822b",
+  answer: "#2e8b57",
+  line: "#7a4fa3",
+  point: "#111111",
+  inside: "#2e8b57",
+  boundary: "#c9a227",
+  outside: "#b03a3a",
+  edge: "#444444",
+  before: "#b0306a",
+  node: "#111111",
+};

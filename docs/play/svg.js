@@ -1,0 +1,108 @@
+/**
+ * Writes the marks of a scene as a picture, in the size in which it is seen, with a legend as the pictures of
+ * `python3 -m polyover svg` have it.
+ */
+
+import { PRINTED } from "./palette.js";
+import { legendOf } from "./scene.js";
+import { gridStep, multiples } from "./view.js";
+
+const LEGEND = 190;
+const TICK = 5;
+
+const rounded = (/** @type {number} */ value) => Math.round(value * 100) / 100;
+const escaped = (/** @type {string} */ text) =>
+  text.replaceAll("&", "&amp;").replaceAll("<", "&lt;").replaceAll(">", "&gt;").replaceAll('"', "&quot;");
+
+/** The way of a path through the picture. */
+const wayOf = (view, path) =>
+  path.map(([x, y], at) => `${at ? "L" : "M"}${view.toPixels(x, y).map(rounded).join(" ")}`).join("");
+
+/** How each type of mark is written, by its colour. */
+const WRITTEN = {
+  area: (view, mark, colour) =>
+    `<path d="${mark.paths.map((path) => `${wayOf(view, path)}Z`).join("")}" fill="${colour}" ` +
+    `fill-opacity="${mark.strength}" fill-rule="${mark.fillRule}" stroke="${mark.width ? colour : "none"}" ` +
+    `stroke-width="${mark.width}" stroke-linejoin="round"/>`,
+  outline: (view, mark, colour) =>
+    each(mark, (path) => `<path d="${wayOf(view, path)}Z" fill="none" stroke="${colour}" stroke-dasharray="6 4"/>`),
+  path: (view, mark, colour) =>
+    each(
+      mark,
+      (path) => `<path d="${wayOf(view, path)}" fill="none" stroke="${colour}" stroke-width="${mark.width}"/>`,
+    ),
+  dot: (view, mark, colour) => each(mark, ([point]) => circle(view, point, mark.width ?? 3.5, `fill="${colour}"`)),
+  ring: (view, mark, colour) => each(mark, ([point]) => circle(view, point, 5, `fill="none" stroke="${colour}"`)),
+  hop: (view, mark, colour) =>
+    each(mark, (path) => `<path d="${wayOf(view, path)}" stroke="${colour}" stroke-dasharray="2 2"/>`),
+  tick: (view, mark, colour) =>
+    each(mark, ([a, b]) => {
+      const point = [0, 1].map((at) => a[at] + (b[at] - a[at]) * mark.along);
+      const [left, top] = view.toPixels(point[0], point[1]);
+      const reach = (TICK * mark.side) / (Math.hypot(b[0] - a[0], b[1] - a[1]) || 1);
+      const way = [left, top, -(b[1] - a[1]) * reach, -(b[0] - a[0]) * reach].map(rounded);
+      return `<path d="M${way[0]} ${way[1]}l${way[2]} ${way[3]}" stroke="${colour}" stroke-width="2.4"/>`;
+    }),
+};
+
+const each = (mark, write) => mark.paths.filter((path) => path.length).map(write).join("");
+
+function circle(view, point, radius, paint) {
+  const [left, top] = view.toPixels(point[0], point[1]).map(rounded);
+  return `<circle cx="${left}" cy="${top}" r="${radius}" ${paint}/>`;
+}
+
+/** The lines of the grid, and their coordinates. */
+function gridOf(view) {
+  const [left, high] = view.toPoint(0, 0);
+  const right = left + view.paneWidth / view.scale;
+  const low = high - view.height / view.scale;
+  const step = gridStep(view.scale, 50);
+  const uprights = multiples(left, right, step).map((x) => {
+    const at = rounded(view.toPixels(x, 0)[0]);
+    const label = `<text stroke="none" x="${at}" y="${view.height - 6}" text-anchor="middle">${x}</text>`;
+    return `<path d="M${at} 0V${view.height}"/>${label}`;
+  });
+  const levels = multiples(low, high, step).map((y) => {
+    const at = rounded(view.toPixels(0, y)[1]);
+    return `<path d="M0 ${at}H${view.paneWidth}"/><text stroke="none" x="4" y="${at - 3}">${y}</text>`;
+  });
+  return `<g stroke="#dddddd" stroke-width="1" fill="#666666">${[...uprights, ...levels].join("")}</g>`;
+}
+
+/** The title, and what each colour stands for. */
+function legend(view, title, marks) {
+  const x = view.paneWidth + 12;
+  const lines = legendOf(marks).map(([name, kind], at) => {
+    const y = 46 + 20 * (at + 1);
+    const colour = PRINTED[name];
+    const sign = {
+      area:
+        `<rect x="${x}" y="${y - 9}" width="14" height="10" fill="${colour}" fill-opacity="0.5" ` +
+        `stroke="${colour}"/>`,
+      path: `<path d="M${x} ${y - 4}h14" stroke="${colour}" stroke-width="2"/>`,
+      dot: `<circle cx="${x + 7}" cy="${y - 4}" r="3.5" fill="${colour}"/>`,
+    }[kind];
+    return `${sign}<text x="${x + 22}" y="${y}">${name}</text>`;
+  });
+  return [`<text x="${x}" y="46" font-weight="bold">${escaped(title)}</text>`, ...lines].join("\n");
+}
+
+/** The text of a picture of some marks. */
+export function svgOf(/** @type {import("./scene.js").Mark[]} */ marks, view, /** @type {string} */ title) {
+  const wide = view.paneWidth + LEGEND;
+  return [
+    `<svg xmlns="http://www.w3.org/2000/svg" width="${wide}" height="${view.height}" ` +
+      `viewBox="0 0 ${wide} ${view.height}" font-family="sans-serif" font-size="11">`,
+    `<title>${escaped(title)}</title>`,
+    `<rect width="${wide}" height="${view.height}" fill="#ffffff"/>`,
+    `<clipPath id="pane"><rect width="${view.paneWidth}" height="${view.height}"/></clipPath>`,
+    '<g clip-path="url(#pane)">',
+    gridOf(view),
+    ...marks.map((mark) => WRITTEN[mark.type](view, mark, PRINTED[mark.colour])),
+    "</g>",
+    legend(view, title, marks),
+    "</svg>",
+    "",
+  ].join("\n");
+}

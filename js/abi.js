@@ -1,0 +1,332 @@
+/**
+ * The library for C as WebAssembly has it: the one file that knows its structs, arguments and statuses
+ * (include/polyover.h). All sizes and addresses have 64 bits, and are BigInts in the calls.
+ */
+
+import { BadInput, NotResolved, NotSettled, OutOfMemory, PolyoverError, TooManyEdges } from "./errors.js";
+
+export const RULES = ["subject", "clip", "intersect", "union", "difference", "inverse_difference", "xor"];
+export const FILLS = ["evenodd", "nonzero", "positive", "negative"];
+export const SOLVERS = ["snapped", "rounds"];
+export const LOCATIONS = ["outside", "inside", "boundary"];
+export const RELATIONS = [
+  "intersects",
+  "interiorsIntersect",
+  "touches",
+  "pointIntersects",
+  "within",
+  "disjoint",
+  "covers",
+];
+/** The greatest coordinate, in 64 bits and in 32. */
+export const LIMIT = 2n ** 62n - 1n;
+export const LIMIT_32 = 2 ** 30 - 1;
+const STATUSES = [
+  "OK",
+  "MEMORY",
+  "BAD_ENDS",
+  "OUT_OF_RANGE",
+  "NOT_RESOLVED",
+  "BAD_RULE",
+  "BAD_FILL",
+  "BAD_OPTION",
+  "NOT_SETTLED",
+  "TOO_MANY_EDGES",
+  "TOO_SMALL",
+];
+const FAULTS = { MEMORY: OutOfMemory, NOT_SETTLED: NotSettled, TOO_MANY_EDGES: TooManyEdges };
+/** The arrays of a result, each an address and a count; a link has three sizes. */
+const ARRAYS = ["coordinates", "contourEnds", "shapeEnds", "links", "fills"];
+const LINK = 3;
+// the sizes of structs, in bytes
+const SIZE = 8;
+const CONTOURS = 4 * SIZE;
+const OPTIONS = 32;
+const CLIP_OPTIONS = 12;
+const RESULT = 2 * SIZE * ARRAYS.length;
+const MOST_64 = 2n ** 64n - 1n;
+
+/** Raises what a status stands for, if it is not OK. */
+function check(status) {
+  const name = STATUSES[status];
+  if (name === "OK") {
+    return;
+  }
+  if (name in FAULTS) {
+    throw new FAULTS[name]();
+  }
+  const fault = name === undefined || name === "TOO_SMALL" ? PolyoverError : BadInput;
+  throw new fault(`the library answers ${name ?? `the status ${status}`}`);
+}
+
+/** The name of a call at a width. */
+function suffixed(name, kind) {
+  return kind === Int32Array ? `${name}_32` : name;
+}
+
+/** A number of a group that is none, or out of range: which group it is of, where it stands there, and itself. */
+export class Misplaced extends BadInput {
+  constructor(group, at, value) {
+    super(`${group}: number ${at}, ${value}, is no whole number in the range`);
+    Object.assign(this, { group, at, value });
+  }
+}
+
+/** Memory of the module that is held while a call runs. */
+class Held {
+  constructor(library) {
+    this.library = library;
+    this.taken = [];
+  }
+
+  /** The address of so many bytes; 0 for none. */
+  take(bytes) {
+    if (bytes === 0) {
+      return 0;
+    }
+    const at = this.library.calls.take(BigInt(bytes));
+    if (at === 0n) {
+      throw new OutOfMemory();
+    }
+    this.taken.push(at);
+    return Number(at);
+  }
+
+  /** Gives all of it back. */
+  giveAll() {
+    for (const at of this.taken) {
+      this.library.calls.give(at);
+    }
+  }
+}
+
+/** An array of the module: where it is, and how many items it has. */
+class Row {
+  constructor(held, kind, count) {
+    this.kind = kind;
+    this.count = count;
+    this.at = held.take(count * kind.BYTES_PER_ELEMENT);
+    this.memory = held.library.memory;
+  }
+
+  /** Its items, where they are; only until the module takes memory again. */
+  view() {
+    return new this.kind(this.memory.buffer, this.at, this.count);
+  }
+
+  /** As two arguments of a call. */
+  get arguments() {
+    return [BigInt(this.at), BigInt(this.count)];
+  }
+}
+
+/**
+ * The module as an instance. A call is asked with groups of paths, `{name, numbers, ends}`, of one kind: all are
+ * Int32Array, or each a BigInt64Array or a Float64Array of whole numbers, or of floats that `grid` makes whole,
+ * `{startX, startY, scale}`. Coordinates are answered as the kind that `kind` names. Rules, fill rules and solvers are
+ * numbers, places in the lists above.
+ */
+export class Library {
+  constructor(instance) {
+    this.calls = instance.exports;
+    this.memory = instance.exports.memory;
+  }
+
+  /** What some work gives, which holds memory as long as it runs. */
+  hold(work) {
+    const held = new Held(this);
+    try {
+      return work(held);
+    } finally {
+      held.giveAll();
+    }
+  }
+
+  // ---- what is given
+
+  /** The numbers of a group in memory, as whole numbers. */
+  numbers(held, { name, numbers }, grid) {
+    const row = new Row(held, numbers.constructor, numbers.length);
+    row.view().set(numbers);
+    if (numbers instanceof Float64Array) {
+      const good = grid
+        ? this.calls.whole_of_floats(...row.arguments, grid.startX, grid.startY, grid.scale)
+        : this.calls.whole_of_safe(...row.arguments);
+      if (good !== BigInt(row.count)) {
+        throw new Misplaced(name, Number(good), numbers[Number(good)]);
+      }
+    }
+    return row;
+  }
+
+  /** The address of the struct of a group, whose coordinates are times 2 to the power. */
+  contours(held, group, grid, power = 0) {
+    const numbers = this.numbers(held, group, grid);
+    if (power > 0) {
+      this.calls.raise(...numbers.arguments, power);
+    }
+    const ends = new Row(held, BigUint64Array, group.ends.length);
+    const struct = new Row(held, BigUint64Array, CONTOURS / SIZE);
+    // (sizes by their halves, which takes no BigInts)
+    const halves = new Uint32Array(this.memory.buffer, ends.at, 2 * ends.count);
+    for (let number = 0; number < ends.count; number++) {
+      halves[2 * number] = group.ends[number];
+      halves[2 * number + 1] = 0;
+    }
+    struct.view().set([...numbers.arguments, ...ends.arguments]);
+    return BigInt(struct.at);
+  }
+
+  /** The address of the options of an overlay. */
+  options(held, look, kind) {
+    const at = held.take(OPTIONS);
+    const struct = new DataView(this.memory.buffer, at, OPTIONS);
+    const words = [look.clockwise, look.keep, look.touching, look.solver];
+    words.forEach((word, number) => struct.setUint32(4 * number, Number(word), true));
+    const { minimumArea } = look;
+    if (kind === Int32Array) {
+      struct.setBigUint64(16, minimumArea < MOST_64 ? minimumArea : MOST_64, true);
+    } else {
+      struct.setBigUint64(16, minimumArea >> 64n, true);
+      struct.setBigUint64(24, minimumArea & MOST_64, true);
+    }
+    return BigInt(at);
+  }
+
+  /** The address of the options of a clip. */
+  clipOptions(held, { invert, boundary, solver }) {
+    const at = held.take(CLIP_OPTIONS);
+    new Uint32Array(this.memory.buffer, at, CLIP_OPTIONS / 4).set([Number(invert), Number(boundary), solver]);
+    return BigInt(at);
+  }
+
+  // ---- answers
+
+  /** The arrays of a result: coordinates of the kind that is asked for, ends and links of 32 bits. */
+  arrays(at, { kind, grid }) {
+    const words = [...new BigUint64Array(this.memory.buffer, at, RESULT / SIZE)];
+    const found = ARRAYS.map((name, number) => [name, Number(words[2 * number]), Number(words[2 * number + 1])]);
+    return Object.fromEntries(
+      found.map(([name, pointer, count]) => {
+        // (the pointer of an array without items is none)
+        const place = count === 0 ? 0 : pointer;
+        if (name === "coordinates") {
+          return [name, this.coordinates(place, count, kind, grid)];
+        }
+        if (name === "fills") {
+          return [name, new Uint8Array(this.memory.buffer, place, count).slice()];
+        }
+        return [name, this.sizes(place, name === "links" ? LINK * count : count)];
+      }),
+    );
+  }
+
+  /** So many coordinates of an answer. */
+  coordinates(at, count, kind, grid) {
+    if (kind === Float64Array) {
+      const { startX, startY, scale } = grid ?? { startX: 0, startY: 0, scale: 1 };
+      this.calls.floats_of_whole(BigInt(at), BigInt(count), startX, startY, scale);
+    }
+    return new kind(this.memory.buffer, at, count).slice();
+  }
+
+  /** So many sizes, none of which is above 2^32. */
+  sizes(at, count) {
+    const halves = new Uint32Array(this.memory.buffer, at, 2 * count);
+    const found = new Uint32Array(count);
+    for (let number = 0; number < count; number++) {
+      found[number] = halves[2 * number];
+    }
+    return found;
+  }
+
+  /** The arrays that a call answers whose arguments before its groups are given. */
+  answer(name, asked, before) {
+    return this.hold((held) => {
+      const given = before(held);
+      const groups = asked.groups.map((group) => this.contours(held, group, asked.grid));
+      const at = held.take(RESULT);
+      check(this.calls[suffixed(name, asked.kind)](...given, ...groups, BigInt(at)));
+      try {
+        return this.arrays(at, asked);
+      } finally {
+        this.calls[suffixed("polyover_free", asked.kind)](BigInt(at));
+      }
+    });
+  }
+
+  // ---- the calls
+
+  overlay(asked, rule, fill, look) {
+    return this.answer("polyover_overlay_result", asked, (held) => [rule, fill, this.options(held, look, asked.kind)]);
+  }
+
+  hierarchy(asked, rule, fill, look) {
+    return this.answer("polyover_hierarchy_result", asked, (held) => [
+      rule,
+      fill,
+      this.options(held, look, asked.kind),
+    ]);
+  }
+
+  simplify(asked, fill, look) {
+    return this.answer("polyover_simplify_result", asked, (held) => [fill, this.options(held, look, asked.kind)]);
+  }
+
+  slice(asked, fill, solver) {
+    return this.answer("polyover_slice_result", asked, () => [fill, solver]);
+  }
+
+  clip(asked, fill, how) {
+    return this.answer("polyover_clip_result", asked, (held) => [fill, this.clipOptions(held, how)]);
+  }
+
+  edges(asked, fill, solver) {
+    return this.answer("polyover_edges_result", asked, () => [fill, solver]);
+  }
+
+  /** The bits of the relations that hold, of coordinates of 64 bits times 2 to the power. */
+  relate({ groups, grid }, fill, solver, power) {
+    return this.hold((held) => {
+      const both = groups.map((group) => this.contours(held, group, grid, power));
+      const found = new Row(held, Uint32Array, 1);
+      check(this.calls.polyover_relate(fill, solver, ...both, BigInt(found.at)));
+      return found.view()[0];
+    });
+  }
+
+  /** The greatest distance of a coordinate of 64 bits from 0. */
+  extent({ groups, grid }) {
+    const found = groups.map((group) =>
+      this.hold((held) => BigInt.asUintN(64, this.calls.extent(...this.numbers(held, group, grid).arguments))),
+    );
+    return found.reduce((most, each) => (each > most ? each : most), 0n);
+  }
+
+  isResolved({ groups: [shape], kind, grid }) {
+    return this.hold((held) => {
+      const status = this.calls[suffixed("polyover_resolved", kind)](this.contours(held, shape, grid));
+      if (STATUSES[status] !== "NOT_RESOLVED") {
+        check(status);
+      }
+      return STATUSES[status] === "OK";
+    });
+  }
+
+  /** A number for each point: its place in LOCATIONS. */
+  locate({ groups: [shape, points], kind, grid }) {
+    return this.hold((held) => {
+      const contours = this.contours(held, shape, grid);
+      const numbers = this.numbers(held, points, grid);
+      const found = new Row(held, Uint8Array, numbers.count / 2);
+      const unresolved = new Row(held, BigUint64Array, 1);
+      const given = [contours, ...numbers.arguments, ...found.arguments, BigInt(unresolved.at)];
+      const status = this.calls[suffixed("polyover_locate", kind)](...given);
+      if (STATUSES[status] === "NOT_RESOLVED") {
+        throw new NotResolved(Number(unresolved.view()[0]));
+      }
+      check(status);
+      return found.view().slice();
+    });
+  }
+}

@@ -1,0 +1,192 @@
+/** The calls: contours, paths and points in, shapes, paths, edges, relations and locations out. */
+
+import { FILLS, LIMIT, Library, Misplaced, RELATIONS, RULES } from "./abi.js";
+import { edgesIn, linesIn, linksIn, locationsIn, shapesIn } from "./answers.js";
+import { BadInput } from "./errors.js";
+import { isGeometry, partsOf } from "./geojson.js";
+import { alike, chosen, grouped, kindOfNumbers, listed, outOfRange, placed, pointsOf, shown } from "./given.js";
+
+const LOOK = ["clockwise", "keep", "touching", "minimumArea", "solver"];
+const OVERLAY = ["rule", "fill", ...LOOK, "answer"];
+const SIMPLIFY = ["fill", ...LOOK, "answer"];
+const CLIP = ["fill", "invert", "boundary", "solver", "answer"];
+const FILLED = ["fill", "solver", "answer"];
+const DIFFERENCE = RULES.indexOf("difference");
+const NONZERO = FILLS.indexOf("nonzero");
+const PLAIN = { clockwise: false, keep: false, touching: false, minimumArea: 0n, solver: 0 };
+
+/**
+ * The calls, on coordinates that are whole numbers; `scaled` gives the same ones on floats.
+ *
+ * A group of contours or lines is a list of lists of points `[x, y]`, numbers or BigInts, a `Flat`, or GeoJSON.
+ * Polygons of GeoJSON are taken by contours that wind once round what they cover: nonzero and positive fill it. An
+ * answer has the form of the first group, unless the option `answer` names one: "lists", "arrays" or "geojson".
+ */
+export class Polyover {
+  #library;
+  #grid;
+
+  constructor(instance, grid) {
+    this.#library = instance instanceof Library ? instance : new Library(instance);
+    this.#grid = grid;
+  }
+
+  /**
+   * The same calls on floats, which are taken as whole numbers: each less the origin's, times the scale, and rounded.
+   * So a coordinate is taken at most half a unit, `1 / (2 * scale)`, from where it is.
+   */
+  scaled(scale, origin = [0, 0]) {
+    if (typeof scale !== "number" || !(scale > 0) || !Number.isFinite(scale)) {
+      throw new BadInput(`the scale ${shown(scale)} is no finite number above 0`);
+    }
+    if (!Array.isArray(origin) || origin.length !== 2 || !origin.every(Number.isFinite)) {
+      throw new BadInput(`the origin ${shown(origin)} is no point of two finite numbers`);
+    }
+    return new Polyover(this.#library, { startX: origin[0], startY: origin[1], scale });
+  }
+
+  /** The shapes round the region where the rules hold of two groups of contours. */
+  overlay(subject, clip = [], options = {}) {
+    const { rule, fill, answer, ...look } = chosen(options, OVERLAY);
+    return this.#asked([this.#contours("subject", subject), this.#contours("clip", clip)], answer, (asked, form) =>
+      shapesIn(this.#library.overlay(asked, rule, fill, look), form),
+    );
+  }
+
+  /**
+   * The same shapes, and a triple for each shape in a hole of another one: the other shape, the place of the hole among
+   * all contours, and the shape, counted from 0.
+   */
+  hierarchy(subject, clip = [], options = {}) {
+    const { rule, fill, answer, ...look } = chosen(options, OVERLAY);
+    const groups = [this.#contours("subject", subject), this.#contours("clip", clip)];
+    return this.#asked(groups, answer, (asked, form) => {
+      const found = this.#library.hierarchy(asked, rule, fill, look);
+      return { shapes: shapesIn(found, form), links: linksIn(found.links, form) };
+    });
+  }
+
+  /** The shapes round what the contours fill; one simple contour stays as it is given, or is reversed. */
+  simplify(subject, options = {}) {
+    const { fill, answer, ...look } = chosen(options, SIMPLIFY);
+    return this.#asked([this.#contours("subject", subject)], answer, (asked, form) =>
+      shapesIn(this.#library.simplify(asked, fill, look), form),
+    );
+  }
+
+  /** Which relations hold: an object from the seven names to truths, told at the finest scale in the range. */
+  relate(subject, clip, options = {}) {
+    const { fill, solver } = chosen(options, ["fill", "solver"]);
+    const groups = [this.#contours("subject", subject), this.#contours("clip", clip)];
+    return this.#asked(groups, "lists", (asked) => {
+      const whole = { ...asked, groups: alike(asked.groups, Float64Array, asked.grid) };
+      const extent = this.#library.extent(whole);
+      const power = extent === 0n || extent > LIMIT ? 0 : (LIMIT / extent).toString(2).length - 1;
+      const bits = this.#library.relate(whole, fill, solver, power);
+      return Object.fromEntries(RELATIONS.map((name, at) => [name, ((bits >> at) & 1) === 1]));
+    });
+  }
+
+  /** The parts of open paths inside the shape; with `invert` those outside, with `boundary` those along it too. */
+  clip(shape, lines, options = {}) {
+    const { fill, answer, ...how } = chosen(options, CLIP);
+    return this.#asked([this.#contours("shape", shape), this.#lines(lines)], answer, (asked, form) =>
+      linesIn(this.#library.clip(asked, fill, how), form),
+    );
+  }
+
+  /** The shapes into which open paths cut a shape. */
+  slice(shape, lines, options = {}) {
+    const { fill, solver, answer } = chosen(options, FILLED);
+    return this.#asked([this.#contours("shape", shape), this.#lines(lines)], answer, (asked, form) =>
+      shapesIn(this.#library.slice(asked, fill, solver), form),
+    );
+  }
+
+  /** Where each point lies in contours that are joined by exclusive or: "inside", "boundary" or "outside". */
+  locate(shape, points, options = {}) {
+    const { answer } = chosen(options, ["answer"]);
+    const queries = isGeometry(points) ? pointsOf(parts("points", points, "points")) : pointsOf(points);
+    return this.#asked([this.#contours("shape", shape), queries], answer ?? queries.form, (asked, form) =>
+      locationsIn(this.#library.locate(asked), form),
+    );
+  }
+
+  /** The edges of the arrangement, in order: two points, and the sum of the bits of the filled sides. */
+  edges(subject, clip = [], options = {}) {
+    const { fill, solver, answer } = chosen(options, FILLED);
+    return this.#asked([this.#contours("subject", subject), this.#contours("clip", clip)], answer, (asked, form) =>
+      edgesIn(this.#library.edges(asked, fill, solver), form),
+    );
+  }
+
+  /** Whether `locate` takes the contours: whether two steps of one share points only where they are ends of both. */
+  isResolved(shape) {
+    return this.#asked([this.#contours("shape", shape)], "lists", (asked) => this.#library.isResolved(asked));
+  }
+
+  // ---- what is given
+
+  /** What an answer is of groups; a fault of a number names its place. */
+  #asked(groups, answer, answered) {
+    const kind = kindOfNumbers(groups, this.#grid);
+    const asked = { groups: alike(groups, kind, this.#grid), kind, grid: this.#grid };
+    try {
+      return answered(asked, answer ?? groups[0].form);
+    } catch (fault) {
+      const found = fault instanceof Misplaced ? fault : fault instanceof BadInput ? outOfRange(groups) : undefined;
+      throw found ? placed(found, groups, this.#grid) : fault;
+    }
+  }
+
+  #contours(name, thing) {
+    return isGeometry(thing) ? this.#covered(name, partsOf("polygons", thing, name)) : grouped(name, thing);
+  }
+
+  #lines(thing) {
+    if (!isGeometry(thing)) {
+      return grouped("lines", thing);
+    }
+    return { ...listed("lines", parts("lines", thing, "lines")), form: "geojson" };
+  }
+
+  /** The contours of polygons, as whole numbers: outlines run counter-clockwise and holes clockwise. */
+  #covered(name, polygons) {
+    const found = polygons.map(({ place, part: [outline, ...holes] }) => this.#coveredBy(place, outline, holes));
+    return { name, form: "geojson", isWhole: true, ...joined(found) };
+  }
+
+  /** The contours of a polygon: they wind once round what its outline winds round, and none of its holes does. */
+  #coveredBy(place, outline, holes) {
+    const groups = [listed(place, [outline])];
+    if (holes.length > 0) {
+      groups.push(listed(`${place}, holes`, holes));
+    }
+    return this.#asked(groups, "arrays", (asked) => {
+      const whole = { ...asked, kind: BigInt64Array };
+      return holes.length > 0
+        ? this.#library.overlay(whole, DIFFERENCE, NONZERO, PLAIN)
+        : this.#library.simplify(whole, NONZERO, PLAIN);
+    });
+  }
+}
+
+/** The parts of geometries of a kind, without their places. */
+function parts(kind, thing, name) {
+  return partsOf(kind, thing, name).map(({ part }) => part);
+}
+
+/** Contours in several arrays as those of one group. */
+function joined(found) {
+  const numbers = new BigInt64Array(found.reduce((sum, { coordinates }) => sum + coordinates.length, 0));
+  const ends = [];
+  let count = 0;
+  for (const { coordinates, contourEnds } of found) {
+    numbers.set(coordinates, count);
+    for (const end of contourEnds) {
+      ends.push(count / 2 + end);
+    }
+    count += coordinates.length;
+  }
+  return { numbers, ends: Uint32Array.from(ends) };
+}

@@ -1,0 +1,105 @@
+/** Geometries of GeoJSON as paths: of polygons their rings, of lines their points. */
+
+import { BadInput } from "./errors.js";
+import { shown } from "./given.js";
+
+const POLYGONS = ["Polygon", "MultiPolygon"];
+const LINES = ["LineString", "MultiLineString"];
+const POINTS = ["Point", "MultiPoint"];
+const KINDS = [...POLYGONS, ...LINES, ...POINTS];
+const WANTED = { polygons: POLYGONS, lines: LINES, points: POINTS };
+const LEAST = { polygons: 3, lines: 2 };
+
+/** Whether a thing is given as a geometry, and not as a list of paths. */
+export function isGeometry(thing) {
+  return typeof thing === "object" && thing !== null && typeof thing.type === "string";
+}
+
+function list(place, thing) {
+  if (!Array.isArray(thing)) {
+    throw new BadInput(`${place}: ${shown(thing)} in the place of a list`);
+  }
+  return thing;
+}
+
+/** The geometries in a thing that are no collections, each with its place. */
+function* geometries(thing, place) {
+  if (!isGeometry(thing)) {
+    throw new BadInput(`${place}: ${shown(thing)} is no geometry`);
+  }
+  if (thing.type === "FeatureCollection") {
+    for (const [at, each] of list(`${place}: features`, thing.features).entries()) {
+      yield* geometries(each, `${place}: feature ${at + 1}`);
+    }
+  } else if (thing.type === "GeometryCollection") {
+    for (const [at, each] of list(`${place}: geometries`, thing.geometries).entries()) {
+      yield* geometries(each, `${place}, geometry ${at + 1}`);
+    }
+  } else if (thing.type !== "Feature") {
+    yield [thing, place];
+  } else if (thing.geometry !== null) {
+    yield* geometries(thing.geometry, place);
+  }
+}
+
+/** A point of two finite numbers; what it has beyond x and y is left out. */
+function pointAt(place, point) {
+  if (!Array.isArray(point) || point.length < 2 || !Number.isFinite(point[0]) || !Number.isFinite(point[1])) {
+    throw new BadInput(`${place}: ${shown(point)} is no point of two finite numbers`);
+  }
+  return [point[0], point[1]];
+}
+
+/** The points of a ring or line; a ring does not repeat its first one at its end. */
+function pathAt(place, path, kind) {
+  const points = list(place, path).map((point, at) => pointAt(`${place}, point ${at + 1}`, point));
+  const [first, last] = [points[0], points[points.length - 1]];
+  if (kind === "polygons" && points.length > 1 && first[0] === last[0] && first[1] === last[1]) {
+    points.pop();
+  }
+  if (points.length < LEAST[kind]) {
+    throw new BadInput(`${place}: ${points.length} points, and it takes at least ${LEAST[kind]}`);
+  }
+  return points;
+}
+
+/**
+ * The parts of all geometries of a kind, each `{place, part}`: of "polygons" a part is a list of rings, of "lines" a
+ * list of points, of "points" a point. Others are passed over, unless there are others alone.
+ */
+export function partsOf(kind, thing, name) {
+  const parts = [];
+  let isFound = false;
+  let passed;
+  for (const [geometry, place] of geometries(thing, name)) {
+    if (!KINDS.includes(geometry.type)) {
+      throw new BadInput(`${place}: ${shown(geometry.type)} is no geometry`);
+    }
+    if (!WANTED[kind].includes(geometry.type)) {
+      passed ??= `${place}: ${geometry.type} in the place of ${WANTED[kind].join(" or ")}`;
+      continue;
+    }
+    isFound = true;
+    const items = list(`${place}: coordinates`, geometry.coordinates);
+    const isMulti = geometry.type.startsWith("Multi");
+    const each = isMulti ? items : items.length > 0 ? [items] : [];
+    each.forEach((item, at) => {
+      const where = isMulti ? `${place}, ${at + 1}` : place;
+      parts.push({ place: where, part: partAt(kind, where, item) });
+    });
+  }
+  if (passed !== undefined && !isFound) {
+    throw new BadInput(passed);
+  }
+  return parts;
+}
+
+function partAt(kind, place, item) {
+  if (kind === "points") {
+    return pointAt(place, item);
+  }
+  if (kind === "lines") {
+    return pathAt(place, item, kind);
+  }
+  return list(place, item).map((ring, at) => pathAt(`${place}, ring ${at + 1}`, ring, kind));
+}

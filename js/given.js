@@ -1,0 +1,262 @@
+/** What is given to a call: groups of contours, paths or points, and options. */
+
+import { FILLS, LIMIT, LIMIT_32, Misplaced, RULES, SOLVERS } from "./abi.js";
+import { BadInput } from "./errors.js";
+import { Flat, isNumbers } from "./flat.js";
+
+const AREA_LIMIT = 2n ** 127n - 1n;
+
+/** A value in a message, not too long. */
+export function shown(value) {
+  let text;
+  try {
+    text = typeof value === "bigint" ? `${value}n` : (JSON.stringify(value) ?? String(value));
+  } catch {
+    text = String(value);
+  }
+  return text.length > 60 ? `${text.slice(0, 57)}..` : text;
+}
+
+// ---- options
+
+/** The value of an option that is one of some names, as the number of its place. */
+function placeIn(names, what) {
+  return (value) => {
+    const at = names.indexOf(value);
+    if (at < 0) {
+      throw new BadInput(`unknown ${what} ${shown(value)}: one of ${names.join(", ")}`);
+    }
+    return at;
+  };
+}
+
+/** The value of an option that is true or false. */
+function truth(name) {
+  return (value) => {
+    if (typeof value !== "boolean") {
+      throw new BadInput(`${name}: ${shown(value)} is neither true nor false`);
+    }
+    return value;
+  };
+}
+
+/** A minimum area: a whole number of squared units. */
+function area(value) {
+  const isWhole = typeof value === "bigint" || Number.isSafeInteger(value);
+  if (!isWhole || value < 0 || BigInt(value) > AREA_LIMIT) {
+    throw new BadInput(`the minimum area ${shown(value)} is no whole number from 0 to ${AREA_LIMIT}`);
+  }
+  return BigInt(value);
+}
+
+const ANSWERS = ["lists", "arrays", "geojson"];
+const OPTIONS = {
+  rule: ["union", placeIn(RULES, "rule")],
+  fill: ["nonzero", placeIn(FILLS, "fill rule")],
+  solver: ["snapped", placeIn(SOLVERS, "solver")],
+  touching: [false, truth("touching")],
+  clockwise: [false, truth("clockwise")],
+  keep: [false, truth("keep")],
+  minimumArea: [0, area],
+  invert: [false, truth("invert")],
+  boundary: [false, truth("boundary")],
+  answer: [undefined, (value) => (value === undefined ? value : ANSWERS[placeIn(ANSWERS, "answer")(value)])],
+};
+
+/** The options of a call, each of which has one of these names, with the defaults of those not given. */
+export function chosen(options, names) {
+  if (typeof options !== "object" || options === null || Array.isArray(options)) {
+    throw new BadInput(`options: ${shown(options)} in the place of an object`);
+  }
+  for (const name of Object.keys(options)) {
+    if (!names.includes(name)) {
+      throw new BadInput(`unknown option ${shown(name)}: one of ${names.join(", ")}`);
+    }
+  }
+  const values = names.map((name) => [name, options[name] ?? OPTIONS[name][0]]);
+  return Object.fromEntries(values.map(([name, value]) => [name, OPTIONS[name][1](value)]));
+}
+
+// ---- groups
+
+/** The kind of the paths in a group. */
+function kindOf(name) {
+  return name === "lines" ? "line" : "contour";
+}
+
+/** The numbers of lists of points: floats, or BigInts where any of them is one. */
+function listedNumbers(name, paths, count) {
+  let numbers = new Float64Array(2 * count);
+  let at = 0;
+  for (let number = 0; number < paths.length; number++) {
+    const path = paths[number];
+    for (let place = 0; place < path.length; place++, at += 2) {
+      const point = path[place];
+      if (!Array.isArray(point) || point.length !== 2) {
+        const where = `${pathPlace(name, number)}, point ${place + 1}`;
+        throw new BadInput(`${where}: ${shown(point)} is no point of two numbers`);
+      }
+      const [x, y] = point;
+      if (typeof x === "number" && typeof y === "number" && numbers instanceof Float64Array) {
+        numbers[at] = x;
+        numbers[at + 1] = y;
+        continue;
+      }
+      for (const each of point) {
+        if (typeof each !== "number" && typeof each !== "bigint") {
+          throw new BadInput(`${pathPlace(name, number)}, point ${place + 1}: ${shown(each)} is no number`);
+        }
+      }
+      numbers = asBigInts(numbers, at, name);
+      numbers[at] = bigOf(x, name, at);
+      numbers[at + 1] = bigOf(y, name, at + 1);
+    }
+  }
+  return numbers;
+}
+
+/** The first numbers as BigInts. */
+function asBigInts(numbers, count, name) {
+  if (numbers instanceof BigInt64Array) {
+    return numbers;
+  }
+  const found = new BigInt64Array(numbers.length);
+  for (let at = 0; at < count; at++) {
+    found[at] = bigOf(numbers[at], name, at);
+  }
+  return found;
+}
+
+/** A number as a BigInt in the range. */
+function bigOf(value, name, at) {
+  if (typeof value === "number" && !Number.isSafeInteger(value)) {
+    throw new Misplaced(name, at, value);
+  }
+  const found = BigInt(value);
+  if (found > LIMIT || found < -LIMIT) {
+    throw new Misplaced(name, at, value);
+  }
+  return found;
+}
+
+/** Where a path stands in a group; the points that are located are one group by themselves. */
+function pathPlace(name, number) {
+  return name === "points" ? name : `${name}: ${kindOf(name)} ${number + 1}`;
+}
+
+/** Lists of points as a group. */
+export function listed(name, paths) {
+  if (typeof paths !== "object" || paths === null || typeof paths[Symbol.iterator] !== "function") {
+    throw new BadInput(`${name}: ${shown(paths)} in the place of a list of ${kindOf(name)}s`);
+  }
+  const all = [...paths];
+  const ends = new Uint32Array(all.length);
+  let count = 0;
+  all.forEach((path, number) => {
+    if (!Array.isArray(path)) {
+      throw new BadInput(`${pathPlace(name, number)}: ${shown(path)} in the place of a list of points`);
+    }
+    count += path.length;
+    ends[number] = count;
+  });
+  try {
+    return { name, form: "lists", numbers: listedNumbers(name, all, count), ends };
+  } catch (fault) {
+    throw fault instanceof Misplaced ? placed(fault, [{ name, numbers: [], ends }]) : fault;
+  }
+}
+
+/** Contours or paths as a group: lists of points, or `Flat`. */
+export function grouped(name, paths) {
+  if (paths instanceof Flat) {
+    return { name, form: "arrays", numbers: paths.coordinates, ends: paths.ends };
+  }
+  return listed(name, paths);
+}
+
+/** Points as a group: a list of them, or a typed array of x and y in turn. */
+export function pointsOf(points) {
+  if (isNumbers(points)) {
+    if (points.length % 2 !== 0) {
+      throw new BadInput(`points: ${points.length} is an odd count of coordinates`);
+    }
+    return { name: "points", form: "arrays", numbers: points, ends: new Uint32Array([points.length / 2]) };
+  }
+  if (typeof points !== "object" || points === null || typeof points[Symbol.iterator] !== "function") {
+    throw new BadInput(`points: ${shown(points)} in the place of a list of points`);
+  }
+  return listed("points", [[...points]]);
+}
+
+// ---- the kind of coordinates
+
+/**
+ * The kind of coordinates in which groups are asked and answered: that of the groups that have any. Those of GeoJSON
+ * were floats, though `isWhole` says that they are whole numbers now.
+ */
+export function kindOfNumbers(groups, grid) {
+  if (grid) {
+    return Float64Array;
+  }
+  const filled = groups.filter((group) => group.numbers.length > 0);
+  const asked = filled.length > 0 ? filled : groups;
+  const kinds = asked.map((group) => (group.isWhole ? Float64Array : group.numbers.constructor));
+  if (kinds.every((kind) => kind === Int32Array)) {
+    return Int32Array;
+  }
+  return kinds.includes(BigInt64Array) ? BigInt64Array : Float64Array;
+}
+
+/** Groups whose coordinates are all of 32 bits where that is the kind, and else floats and BigInts alone. */
+export function alike(groups, kind, grid) {
+  return groups.map((group) => {
+    const { numbers } = group;
+    if (kind === Int32Array) {
+      return numbers.length === 0 ? { ...group, numbers: new Int32Array(0) } : group;
+    }
+    const isTurned = numbers instanceof Int32Array || (grid && !group.isWhole && numbers instanceof BigInt64Array);
+    return isTurned ? { ...group, numbers: Float64Array.from(numbers, Number) } : group;
+  });
+}
+
+/** Names the place of the first number of groups that is out of range; gives none where all are in it. */
+export function outOfRange(groups) {
+  for (const { name, numbers } of groups) {
+    const limit = numbers instanceof Int32Array ? LIMIT_32 : numbers instanceof BigInt64Array ? LIMIT : undefined;
+    const at = limit === undefined ? -1 : numbers.findIndex((value) => value > limit || value < -limit);
+    if (at >= 0) {
+      return new Misplaced(name, at, numbers[at]);
+    }
+  }
+  return undefined;
+}
+
+/** Where a number of a group stands, in words: its path and point, from 1. */
+export function placed(fault, groups, grid) {
+  const { ends, numbers, name } = groups.find((group) => group.name === fault.group);
+  const point = Math.floor(fault.at / 2);
+  const path = ends.findIndex((end) => end > point);
+  const start = path > 0 ? ends[path - 1] : 0;
+  const where = `${pathPlace(name, path)}, point ${point - start + 1}`;
+  return new BadInput(`${where}: ${wrongOf(fault.value, numbers, grid)}`);
+}
+
+/** In what a coordinate is wrong. */
+function wrongOf(value, numbers, grid) {
+  if (typeof value === "number" && !Number.isFinite(value)) {
+    return `${value} is no finite number`;
+  }
+  if (grid) {
+    return `${value} at this scale is out of range: at most ${LIMIT} from 0`;
+  }
+  if (typeof value === "number" && !Number.isInteger(value)) {
+    return `${value} is no whole number: scaled() takes floats`;
+  }
+  if (numbers instanceof Int32Array) {
+    return `${value} is out of range: at most ${LIMIT_32} from 0 in an Int32Array`;
+  }
+  if (typeof value === "number") {
+    return `${value} is out of range: a number is at most ${Number.MAX_SAFE_INTEGER} from 0, a BigInt ${LIMIT}`;
+  }
+  return `${value} is out of range: at most ${LIMIT} from 0`;
+}

@@ -1,0 +1,290 @@
+/** Boolean operations on polygons with whole coordinates, by the library for C as WebAssembly. */
+
+/** The coordinates of an answer: BigInts where any that were given are. */
+export type Coordinate = number | bigint;
+/** A point of an answer: x to the right, y up. */
+export type Point<N extends Coordinate = number> = [x: N, y: N];
+/** A typed array of coordinates. */
+export type Numbers = BigInt64Array | Int32Array | Float64Array;
+/** Counts of points or contours up to the end of each path or shape. */
+export type Ends = readonly number[] | Uint32Array | BigUint64Array | BigInt64Array | Int32Array;
+/** A geometry, a feature or a collection of GeoJSON. */
+export interface GeoJSON {
+  type: string;
+  [member: string]: unknown;
+}
+export interface MultiPolygon extends GeoJSON {
+  type: "MultiPolygon";
+  coordinates: number[][][][];
+}
+export interface MultiLineString extends GeoJSON {
+  type: "MultiLineString";
+  coordinates: number[][][];
+}
+
+/** A contour, which the edge from its last point to its first closes, or an open path: its points, x before y. */
+export type Path = readonly (readonly Coordinate[])[];
+/** What a call takes as contours or as lines. */
+export type Paths = Iterable<Path> | Flat | GeoJSON;
+/** What a call takes as points. */
+export type Points = Path | Numbers | GeoJSON;
+
+export type Rule = "subject" | "clip" | "intersect" | "union" | "difference" | "inverse_difference" | "xor";
+export type Fill = "evenodd" | "nonzero" | "positive" | "negative";
+/** How edges that cross are split: by snap rounding, or in rounds, which needles may refuse with `NotSettled`. */
+export type Solver = "snapped" | "rounds";
+/** The form of an answer; that of the first group where none is named. */
+export type Form = "lists" | "arrays" | "geojson";
+export type Location = "outside" | "inside" | "boundary";
+
+export interface SolverOptions {
+  /** "snapped" if it is not given. */
+  solver?: Solver;
+}
+export interface FillOptions extends SolverOptions {
+  /** "nonzero" if it is not given. */
+  fill?: Fill;
+}
+export interface AnswerOptions<F extends Form> {
+  answer?: F;
+}
+export interface LookOptions extends FillOptions {
+  /** Outlines run clockwise, and holes the other way. */
+  clockwise?: boolean;
+  /** Points of the answer on one line with their two neighbours are kept. */
+  keep?: boolean;
+  /** A contour may visit a point twice; if not, shapes are valid polygons by OGC. */
+  touching?: boolean;
+  /** Contours of a smaller area are left out: a whole number, in squared units of the whole coordinates. */
+  minimumArea?: number | bigint;
+}
+export interface OverlayOptions extends LookOptions {
+  /** "union" if it is not given. */
+  rule?: Rule;
+}
+export interface ClipOptions extends FillOptions {
+  /** The parts outside are kept, in place of those inside. */
+  invert?: boolean;
+  /** The parts along the boundary are kept too. */
+  boundary?: boolean;
+}
+
+/** Shapes: each has its outline first, and then its holes. */
+export type Shapes<N extends Coordinate = number> = Point<N>[][][];
+/** The shape to which the hole belongs, the place of the hole among all contours, and the shape that lies in it. */
+export type Link = [parentShape: number, parentContour: number, childShape: number];
+/** Two ends, and the sum of the filled sides: 1 subject left, 2 subject right, 4 clip left, 8 clip right. */
+export type Edge<N extends Coordinate = number> = [from: Point<N>, to: Point<N>, sides: number];
+export interface FlatEdges {
+  /** Four numbers for each edge: x and y of its first end, and of its second. */
+  coordinates: Numbers;
+  /** The sum of the filled sides of each edge. */
+  fills: Uint8Array;
+}
+export interface Relations {
+  intersects: boolean;
+  interiorsIntersect: boolean;
+  touches: boolean;
+  pointIntersects: boolean;
+  within: boolean;
+  disjoint: boolean;
+  covers: boolean;
+}
+
+/** The form of what was given. */
+export type FormOf<P> = P extends Flat ? "arrays" : P extends { type: string } ? "geojson" : "lists";
+/** The coordinates of what was given. */
+export type NumberOf<P> = P extends readonly []
+  ? never
+  : P extends Flat
+  ? Coordinate
+  : P extends Iterable<readonly (readonly (infer N)[])[]>
+  ? Extract<N, Coordinate>
+  : number;
+export interface ShapesAs<N extends Coordinate> {
+  lists: Shapes<N>;
+  arrays: FlatShapes;
+  geojson: MultiPolygon;
+}
+export interface LinesAs<N extends Coordinate> {
+  lists: Point<N>[][];
+  arrays: Flat;
+  geojson: MultiLineString;
+}
+export interface EdgesAs<N extends Coordinate> {
+  lists: Edge<N>[];
+  arrays: FlatEdges;
+  geojson: Edge<N>[];
+}
+export interface LinksAs {
+  lists: Link[];
+  /** Three numbers for each link. */
+  arrays: Uint32Array;
+  geojson: Link[];
+}
+export interface LocationsAs {
+  lists: Location[];
+  /** A number for each point: its place in `LOCATIONS`. */
+  arrays: Uint8Array;
+  geojson: Location[];
+}
+
+/** Contours or open paths in two arrays. */
+export class Flat implements Iterable<Point<Coordinate>[]> {
+  /** Raises BadInput where the arrays are of another kind, or the ends do not rise to the number of points. */
+  constructor(coordinates: Numbers, ends: Ends);
+  /** The points, x before y in a row. */
+  readonly coordinates: Numbers;
+  /** How many points there are up to the end of each path. */
+  readonly ends: Uint32Array;
+  /** How many paths there are. */
+  get length(): number;
+  /** The points of a path. */
+  path(number: number): Point<Coordinate>[];
+  [Symbol.iterator](): Iterator<Point<Coordinate>[]>;
+}
+
+/** Shapes in arrays. */
+export class FlatShapes implements Iterable<Point<Coordinate>[][]> {
+  constructor(contours: Flat, shapeEnds: Ends);
+  readonly contours: Flat;
+  /** How many contours there are up to the end of each shape. */
+  readonly shapeEnds: Uint32Array;
+  /** How many shapes there are. */
+  get length(): number;
+  [Symbol.iterator](): Iterator<Point<Coordinate>[][]>;
+}
+
+/** The calls. */
+export class Polyover {
+  /** Over an instance of the module of WebAssembly; `load` makes it. */
+  constructor(instance: WebAssembly.Instance);
+  /** The same calls on floats: each less the origin's, times the scale, and rounded. Raises BadInput. */
+  scaled(scale: number, origin?: readonly number[]): Polyover;
+  /** The shapes round the region where the rules hold of two groups of contours. */
+  overlay<P extends Paths, Q extends Paths = [], F extends Form = FormOf<P>>(
+    subject: P,
+    clip?: Q,
+    options?: OverlayOptions & AnswerOptions<F>,
+  ): ShapesAs<NumberOf<P> | NumberOf<Q>>[F];
+  /** The same shapes, and a link for each shape in a hole of another one. */
+  hierarchy<P extends Paths, Q extends Paths = [], F extends Form = FormOf<P>>(
+    subject: P,
+    clip?: Q,
+    options?: OverlayOptions & AnswerOptions<F>,
+  ): { shapes: ShapesAs<NumberOf<P> | NumberOf<Q>>[F]; links: LinksAs[F] };
+  /** The shapes round what the contours fill; one simple contour stays as it is given, or is reversed. */
+  simplify<P extends Paths, F extends Form = FormOf<P>>(
+    subject: P,
+    options?: LookOptions & AnswerOptions<F>,
+  ): ShapesAs<NumberOf<P>>[F];
+  /** Which relations hold, told at the finest scale in the range. */
+  relate(subject: Paths, clip: Paths, options?: FillOptions): Relations;
+  /** The parts of open paths inside the shape, or as the options say. */
+  clip<P extends Paths, Q extends Paths, F extends Form = FormOf<P>>(
+    shape: P,
+    lines: Q,
+    options?: ClipOptions & AnswerOptions<F>,
+  ): LinesAs<NumberOf<P> | NumberOf<Q>>[F];
+  /** The shapes into which open paths cut a shape. */
+  slice<P extends Paths, Q extends Paths, F extends Form = FormOf<P>>(
+    shape: P,
+    lines: Q,
+    options?: FillOptions & AnswerOptions<F>,
+  ): ShapesAs<NumberOf<P> | NumberOf<Q>>[F];
+  /** Where each point lies in contours that are joined by exclusive or. NotResolved comes where one meets itself. */
+  locate<P extends Points, F extends Form = P extends Numbers ? "arrays" : "lists">(
+    shape: Paths,
+    points: P,
+    options?: AnswerOptions<F>,
+  ): LocationsAs[F];
+  /** The edges of the arrangement, in order. */
+  edges<P extends Paths, Q extends Paths = [], F extends Form = FormOf<P>>(
+    subject: P,
+    clip?: Q,
+    options?: FillOptions & AnswerOptions<F>,
+  ): EdgesAs<NumberOf<P> | NumberOf<Q>>[F];
+  /** Whether `locate` takes the contours. */
+  isResolved(shape: Paths): boolean;
+}
+
+/** The calls in a worker: each answers a promise of what `Polyover`'s answers, or is rejected with its error. */
+export class RemotePolyover {
+  /** The same calls on floats, in the same worker. */
+  scaled(scale: number, origin?: readonly number[]): RemotePolyover;
+  /** Ends the worker, and with it a call that runs: promises that wait are rejected with WorkerEnded. */
+  end(): void;
+  overlay<P extends Paths, Q extends Paths = [], F extends Form = FormOf<P>>(
+    subject: P,
+    clip?: Q,
+    options?: OverlayOptions & AnswerOptions<F>,
+  ): Promise<ShapesAs<NumberOf<P> | NumberOf<Q>>[F]>;
+  hierarchy<P extends Paths, Q extends Paths = [], F extends Form = FormOf<P>>(
+    subject: P,
+    clip?: Q,
+    options?: OverlayOptions & AnswerOptions<F>,
+  ): Promise<{ shapes: ShapesAs<NumberOf<P> | NumberOf<Q>>[F]; links: LinksAs[F] }>;
+  simplify<P extends Paths, F extends Form = FormOf<P>>(
+    subject: P,
+    options?: LookOptions & AnswerOptions<F>,
+  ): Promise<ShapesAs<NumberOf<P>>[F]>;
+  relate(subject: Paths, clip: Paths, options?: FillOptions): Promise<Relations>;
+  clip<P extends Paths, Q extends Paths, F extends Form = FormOf<P>>(
+    shape: P,
+    lines: Q,
+    options?: ClipOptions & AnswerOptions<F>,
+  ): Promise<LinesAs<NumberOf<P> | NumberOf<Q>>[F]>;
+  slice<P extends Paths, Q extends Paths, F extends Form = FormOf<P>>(
+    shape: P,
+    lines: Q,
+    options?: FillOptions & AnswerOptions<F>,
+  ): Promise<ShapesAs<NumberOf<P> | NumberOf<Q>>[F]>;
+  locate<P extends Points, F extends Form = P extends Numbers ? "arrays" : "lists">(
+    shape: Paths,
+    points: P,
+    options?: AnswerOptions<F>,
+  ): Promise<LocationsAs[F]>;
+  edges<P extends Paths, Q extends Paths = [], F extends Form = FormOf<P>>(
+    subject: P,
+    clip?: Q,
+    options?: FillOptions & AnswerOptions<F>,
+  ): Promise<EdgesAs<NumberOf<P> | NumberOf<Q>>[F]>;
+  isResolved(shape: Paths): Promise<boolean>;
+}
+
+export interface LoadOptions {
+  /** Where the module is, its bytes, or a module that is compiled; the file beside this one if it is not given. */
+  wasm?: string | URL | BufferSource | WebAssembly.Module;
+  /** Whether the calls run in a worker. */
+  worker?: boolean;
+}
+/** The calls, once the module is loaded; rejected with LibraryMissing where it cannot be. */
+export function load(options?: LoadOptions & { worker?: false }): Promise<Polyover>;
+export function load(options: LoadOptions & { worker: true }): Promise<RemotePolyover>;
+
+/** The words for where a point lies, in the order of their numbers. */
+export const LOCATIONS: readonly Location[];
+/** Shapes as a geometry of GeoJSON. */
+export function multiPolygon(shapes: Iterable<Iterable<Path>>): MultiPolygon;
+/** Paths as a geometry of GeoJSON. */
+export function multiLineString(paths: Iterable<Path>): MultiLineString;
+
+/** A call does not answer; each of the others is one. */
+export class PolyoverError extends Error {}
+/** Memory was refused. */
+export class OutOfMemory extends PolyoverError {}
+/** After 64 rounds of splitting edges still meet in points that are no ends. */
+export class NotSettled extends PolyoverError {}
+/** The edges count 2^31 or more. */
+export class TooManyEdges extends PolyoverError {}
+/** A contour of a shape in which points are located meets itself. */
+export class NotResolved extends PolyoverError {
+  /** Its number, from 0. */
+  readonly contour: number;
+}
+/** What was given cannot be asked. */
+export class BadInput extends PolyoverError {}
+/** The module of WebAssembly is not there, or cannot be loaded. */
+export class LibraryMissing extends PolyoverError {}
+/** The worker was ended before it answered. */
+export class WorkerEnded extends PolyoverError {}

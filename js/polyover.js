@@ -1,0 +1,57 @@
+/**
+ * Boolean operations on polygons with whole coordinates, by the library for C as WebAssembly.
+ *
+ *     import { load } from "polyover";
+ *     const polyover = await load();
+ *     polyover.overlay([[[0, 0], [4, 0], [4, 4], [0, 4]]], [[[2, 2], [6, 2], [6, 6], [2, 6]]], { rule: "intersect" });
+ */
+
+import { Polyover } from "./calls.js";
+import { LibraryMissing } from "./errors.js";
+import { RemotePolyover } from "./remote.js";
+
+export { LOCATIONS } from "./abi.js";
+export { multiLineString, multiPolygon } from "./answers.js";
+export { Polyover } from "./calls.js";
+export * from "./errors.js";
+export { Flat, FlatShapes } from "./flat.js";
+export { RemotePolyover } from "./remote.js";
+
+const BESIDE = "./polyover.wasm";
+
+/** The bytes of a file, where the system of files is there, or of what a URL answers. */
+async function bytesAt(url) {
+  if (url.protocol === "file:" && typeof process !== "undefined" && process.versions?.node) {
+    const { readFile } = await import("node:fs/promises");
+    return readFile(url);
+  }
+  const answer = await fetch(url);
+  if (!answer.ok) {
+    throw new Error(`${url}: ${answer.status}`);
+  }
+  return answer.arrayBuffer();
+}
+
+/** The module of WebAssembly: one that is compiled, its bytes, or where it is. */
+async function compiled(wasm) {
+  if (wasm instanceof WebAssembly.Module) {
+    return wasm;
+  }
+  try {
+    const isBytes = wasm instanceof ArrayBuffer || ArrayBuffer.isView(wasm);
+    return await WebAssembly.compile(isBytes ? wasm : await bytesAt(new URL(wasm, import.meta.url)));
+  } catch (fault) {
+    throw new LibraryMissing(`the module of WebAssembly cannot be loaded: ${fault.message}`);
+  }
+}
+
+/**
+ * The calls, once the module of WebAssembly is loaded.
+ *
+ * `wasm` is where it is, its bytes, or a module that is compiled; if it is not given, the file beside this one. With
+ * `worker` the calls run in a worker, and answer promises; `end()` ends it, and with it a call that runs.
+ */
+export async function load({ wasm = BESIDE, worker = false } = {}) {
+  const module = await compiled(wasm);
+  return worker ? RemotePolyover.over(module) : new Polyover(await WebAssembly.instantiate(module, {}));
+}

@@ -1,0 +1,119 @@
+/** The calls in a worker, which answer promises. */
+
+import { BadInput, ERRORS, PolyoverError, WorkerEnded } from "./errors.js";
+import { packed, unpacked } from "./packing.js";
+
+const CALLS = ["overlay", "hierarchy", "simplify", "relate", "clip", "slice", "locate", "edges", "isResolved"];
+
+/** A worker of the browser, or one of Node with its ways. */
+async function workerAt(url) {
+  if (typeof Worker !== "undefined") {
+    return new Worker(url, { type: "module" });
+  }
+  const { Worker: NodeWorker } = await import("node:worker_threads");
+  const worker = new NodeWorker(url);
+  worker.on("message", (data) => worker.onmessage?.({ data }));
+  worker.on("error", (fault) => worker.onerror?.(fault));
+  return worker;
+}
+
+/** A worker, and the calls that it has not answered yet. While there are none it does not keep Node running. */
+class Channel {
+  #worker;
+  #waiting = new Map();
+  #number = 0;
+  #ended = false;
+
+  constructor(worker) {
+    this.#worker = worker;
+    worker.onmessage = ({ data }) => this.#answered(data);
+    worker.onerror = (fault) => this.end(new PolyoverError(`the worker failed: ${fault.message}`));
+  }
+
+  ask(message) {
+    if (this.#ended) {
+      return Promise.reject(new WorkerEnded());
+    }
+    const number = this.#number++;
+    return new Promise((resolve, reject) => {
+      try {
+        this.#worker.postMessage({ number, ...message });
+      } catch (fault) {
+        throw new BadInput(`what was given cannot be sent to a worker: ${fault.message}`);
+      }
+      this.#waiting.set(number, { resolve, reject });
+      this.#worker.ref?.();
+    });
+  }
+
+  /** Settles the promise of one call. An answer that arrives after `end` has none left: `end` rejected it. */
+  #answered({ number, answer, fault }) {
+    if (this.#ended) {
+      return;
+    }
+    const { resolve, reject } = this.#waiting.get(number);
+    this.#waiting.delete(number);
+    if (this.#waiting.size === 0) {
+      this.#worker.unref?.();
+    }
+    if (fault) {
+      const kind = ERRORS[fault.name] ?? PolyoverError;
+      const error = kind === ERRORS.NotResolved ? new kind(fault.contour) : new kind(fault.message);
+      reject(error);
+    } else {
+      resolve(unpacked(answer));
+    }
+  }
+
+  end(reason = new WorkerEnded()) {
+    this.#ended = true;
+    this.#worker.terminate();
+    for (const { reject } of this.#waiting.values()) {
+      reject(reason);
+    }
+    this.#waiting.clear();
+  }
+}
+
+/** The calls of `Polyover`, each of which answers a promise. They run in a worker, one after another. */
+export class RemotePolyover {
+  #channel;
+  #grid;
+
+  constructor(channel, grid) {
+    this.#channel = channel;
+    this.#grid = grid;
+  }
+
+  /** The calls over a module of WebAssembly, in a worker that is made for it. */
+  static async over(module, worker) {
+    const channel = new Channel(worker ?? (await workerAt(new URL("./worker.js", import.meta.url))));
+    await channel.ask({ module });
+    return new RemotePolyover(channel);
+  }
+
+  /** The same calls on floats, in the same worker; see `Polyover.scaled`. */
+  scaled(scale, origin = [0, 0]) {
+    return new RemotePolyover(this.#channel, [scale, origin]);
+  }
+
+  /** Ends the worker, and with it a call that runs: the promises that wait are rejected with WorkerEnded. */
+  end() {
+    this.#channel.end();
+  }
+
+  /** What a call of that name answers. */
+  call(name, given) {
+    return this.#channel.ask({ name, grid: this.#grid, given: given.map(packed) });
+  }
+}
+
+for (const name of CALLS) {
+  Object.defineProperty(RemotePolyover.prototype, name, {
+    value(...given) {
+      return this.call(name, given);
+    },
+    writable: true,
+    configurable: true,
+  });
+}

@@ -1,0 +1,37 @@
+// What polyover.d.ts says of the calls: `tsc --strict --noEmit` takes it, but for the lines that are expected to fail.
+import { BadInput, Flat, FlatShapes, load, multiPolygon, NotResolved } from "../polyover.js";
+import type { Edge, Link, Location, MultiPolygon, Polyover, Relations, RemotePolyover, Shapes } from "../polyover.js";
+
+const square = [[0, 0], [4, 0], [4, 4], [0, 4]];
+
+export async function asked(): Promise<void> {
+  const polyover: Polyover = await load();
+  const lists: Shapes = polyover.overlay([square], [square], { rule: "xor", fill: "evenodd", minimumArea: 3n });
+  const arrays: FlatShapes = polyover.overlay(new Flat(new Int32Array(8), [4]));
+  const named: FlatShapes = polyover.simplify([square], { answer: "arrays", solver: "rounds" });
+  const geometry: MultiPolygon = polyover.scaled(100).overlay({ type: "Polygon", coordinates: [] });
+  const found: { shapes: Shapes; links: Link[] } = polyover.hierarchy([square]);
+  const relations: Relations = polyover.relate([square], arrays.contours);
+  const places: Location[] = polyover.locate([square], [[1, 1]]);
+  const numbers: Uint8Array = polyover.locate([square], new Float64Array(2));
+  const big: Shapes<bigint> = polyover.overlay([[[0n, 0n], [4n, 0n], [4n, 4n]]]);
+  const edges: Edge[] = polyover.edges([square]);
+  const parts: Flat = polyover.clip(arrays.contours, [square], { invert: true });
+  const is: boolean = polyover.isResolved([square]);
+  const remote: RemotePolyover = await load({ worker: true });
+  const later: Shapes = await remote.overlay([square], [], { touching: true });
+  remote.end();
+  console.log(lists, named, geometry, found, relations, places, numbers, edges, parts, is, later, big);
+  console.log(multiPolygon(lists));
+
+  // @ts-expect-error: there is no such rule
+  polyover.overlay([square], [], { rule: "join" });
+  // @ts-expect-error: and no such option
+  polyover.simplify([square], { ogc: true });
+  // @ts-expect-error: contours are lists of points, in a list
+  polyover.overlay(square);
+}
+
+export function told(fault: unknown): string {
+  return fault instanceof NotResolved ? `${fault.contour}` : fault instanceof BadInput ? fault.message : "";
+}

@@ -1,0 +1,144 @@
+/** Wrong arguments: each is told by its class, and by the place where it stands. */
+
+import assert from "node:assert/strict";
+import test from "node:test";
+import { BadInput, Flat, FlatShapes, LibraryMissing, NotResolved, PolyoverError, load } from "../polyover.js";
+import { polyover, rows } from "./there.js";
+
+const { SQUARE, OTHER } = rows;
+const BOX = { type: "Polygon", coordinates: [[[0, 0], [4, 0], [4, 4], [0, 4], [0, 0]]] };
+
+/** That a call raises BadInput with these words. */
+function refused(call, words) {
+  assert.throws(call, (fault) => {
+    assert.ok(fault instanceof BadInput && fault instanceof PolyoverError && fault instanceof Error);
+    assert.equal(fault.name, "BadInput");
+    assert.ok(fault.message.includes(words), `${fault.message} has no ${words}`);
+    return true;
+  });
+}
+
+/** A contour with a point in the place of one of the square's. */
+function withPoint(point) {
+  return [SQUARE, [[0, 0], [1, 1], point]];
+}
+
+test("what is no list of contours", () => {
+  for (const thing of [3, null, "0 0 4 4", true, () => 0, Symbol("no")]) {
+    refused(() => polyover.overlay(thing), "in the place of a list of contours");
+    refused(() => polyover.clip([SQUARE], thing), "in the place of a list of lines");
+  }
+  refused(() => polyover.overlay([SQUARE, 3]), "subject: contour 2: 3 in the place of a list of points");
+  refused(() => polyover.overlay(SQUARE), "subject: contour 1, point 1: 0 is no point of two numbers");
+  refused(() => polyover.clip([SQUARE], [SQUARE, 3]), "lines: line 2: 3");
+  refused(() => polyover.locate([SQUARE], 3), "points: 3 in the place of a list of points");
+  refused(() => polyover.locate([SQUARE], [[1, 1], 3]), "points, point 2: 3");
+  refused(() => polyover.locate([SQUARE], new Float64Array(3)), "odd count");
+});
+
+test("what is no point", () => {
+  for (const point of [[], [1], [1, 2, 3], "11", null, { x: 1, y: 2 }]) {
+    refused(() => polyover.overlay([], withPoint(point)), "clip: contour 2, point 3:");
+  }
+  for (const point of [["1", 2], [undefined, 1], [1, null], [true, 1], [{}, 1], [1n, "2"]]) {
+    refused(() => polyover.relate(withPoint(point), []), "subject: contour 2, point 3:");
+  }
+});
+
+test("what is no whole number in the range", () => {
+  refused(() => polyover.overlay(withPoint([0.5, 1])), "contour 2, point 3: 0.5 is no whole number: scaled()");
+  for (const value of [NaN, Infinity, -Infinity]) {
+    refused(() => polyover.overlay(withPoint([1, value])), `contour 2, point 3: ${value} is no finite number`);
+    refused(() => polyover.scaled(10).overlay(withPoint([1, value])), `point 3: ${value} is no finite number`);
+  }
+  for (const value of [2 ** 53, -(2 ** 53), 1e300]) {
+    refused(() => polyover.simplify(withPoint([value, 1])), `${value} is out of range`);
+  }
+  for (const value of [2n ** 62n, -(2n ** 62n), 2n ** 64n, 10n ** 30n]) {
+    refused(() => polyover.edges(withPoint([1, value])), `contour 2, point 3: ${value} is out of range`);
+  }
+  refused(() => polyover.scaled(2 ** 62).overlay(withPoint([1, 1])), "4 at this scale is out of range");
+  const most = 2n ** 62n - 1n;
+  assert.equal(polyover.overlay([[[-most, -most], [most, -most], [most, most], [-most, most]]]).length, 1);
+});
+
+test("arrays that are out of range, or do not fit", () => {
+  const wide = new Int32Array([0, 0, 1, 2 ** 30, 5, 5]);
+  refused(() => polyover.overlay(new Flat(wide, [3])), "contour 1, point 2: 1073741824 is out of range");
+  const big = new BigInt64Array([0n, 0n, 1n, 1n, 2n ** 62n, 5n]);
+  refused(() => polyover.isResolved(new Flat(big, [1, 3])), "contour 2, point 2: 4611686018427387904 is out of range");
+  refused(() => polyover.locate([SQUARE], big), "points, point 3");
+  refused(() => new Flat([0, 0], [1]), "coordinates: no");
+  refused(() => new Flat(new Uint8Array(2), [1]), "coordinates: no");
+  refused(() => new Flat(new Float64Array(4), [1]), "they rise to 1, and there are 2 points");
+  refused(() => new Flat(new Float64Array(3), [1]), "they rise to 1");
+  refused(() => new Flat(new Float64Array(4), [2, 1]), "1 is below the one before it");
+  refused(() => new Flat(new Float64Array(2), [-1]), "-1 is no count");
+  refused(() => new Flat(new Float64Array(2), [0.5]), "0.5 is no count");
+  refused(() => new Flat(new Float64Array(2), 1), "ends: no list");
+  refused(() => new FlatShapes(new Flat(new Float64Array(2), [1]), [2]), "they rise to 2, and there are 1 contours");
+});
+
+test("wrong options", () => {
+  refused(() => polyover.overlay([], [], { rule: "join" }), 'unknown rule "join": one of subject,');
+  refused(() => polyover.overlay([], [], { fill: 1 }), "unknown fill rule 1");
+  refused(() => polyover.overlay([], [], { solver: "exact" }), 'unknown solver "exact"');
+  refused(() => polyover.overlay([], [], { answer: "text" }), 'unknown answer "text"');
+  refused(() => polyover.overlay([], [], { ogc: true }), 'unknown option "ogc"');
+  refused(() => polyover.overlay([], [], 3), "options: 3 in the place of an object");
+  refused(() => polyover.overlay([], [], "union"), "options:");
+  refused(() => polyover.simplify([], { rule: "union" }), 'unknown option "rule"');
+  for (const name of ["clockwise", "keep", "touching"]) {
+    refused(() => polyover.hierarchy([], [], { [name]: 1 }), `${name}: 1 is neither true nor false`);
+  }
+  refused(() => polyover.clip([], [], { invert: "yes" }), "invert:");
+  for (const minimumArea of [-1, 0.5, NaN, "1", -1n, 2n ** 127n, 2 ** 53]) {
+    refused(() => polyover.overlay([], [], { minimumArea }), "the minimum area");
+  }
+  for (const scale of [0, -1, NaN, Infinity, "10", 10n, undefined]) {
+    refused(() => polyover.scaled(scale), "the scale");
+  }
+  for (const origin of [[0], [0, NaN], 3, [0n, 0n], null]) {
+    refused(() => polyover.scaled(1, origin), "the origin");
+  }
+});
+
+test("wrong geometries", () => {
+  const words = [
+    [{ type: "Circle" }, '"Circle" is no geometry'],
+    [{ type: "Point", coordinates: [0, 0] }, "Point in the place of Polygon or MultiPolygon"],
+    [{ type: "Polygon" }, "coordinates: undefined in the place of a list"],
+    [{ type: "Polygon", coordinates: [[[0, 0], [1, 1], [0, 0]]] }, "ring 1: 2 points"],
+    [{ type: "Polygon", coordinates: [[[0, 0], [1], [0, 1]]] }, "ring 1, point 2: [1] is no point"],
+    [{ type: "MultiPolygon", coordinates: [BOX.coordinates, 3] }, "subject, 2: 3 in the place of a list"],
+    [{ type: "FeatureCollection" }, "features: undefined"],
+    [{ type: "FeatureCollection", features: [{ type: "Feature", geometry: 3 }] }, "feature 1: 3 is no geometry"],
+  ];
+  for (const [thing, told] of words) {
+    refused(() => polyover.overlay(thing), told);
+  }
+  refused(() => polyover.clip([SQUARE], BOX), "lines: Polygon in the place of LineString or MultiLineString");
+  refused(() => polyover.overlay({ ...BOX, coordinates: [[[0, 0], [0.5, 1], [1, 0]]] }), "0.5 is no whole number");
+});
+
+test("a contour that meets itself is told by its number", () => {
+  const crossed = [[0, 0], [4, 4], [4, 0], [0, 4]];
+  assert.throws(
+    () => polyover.locate([SQUARE, OTHER, crossed], [[1, 1]]),
+    (fault) => fault instanceof NotResolved && fault.contour === 2 && fault.name === "NotResolved",
+  );
+});
+
+test("a module that is not there, or none", async () => {
+  for (const wasm of ["./none.wasm", new Uint8Array(8), new URL("file:///nowhere.wasm"), 3]) {
+    await assert.rejects(load({ wasm }), LibraryMissing);
+  }
+});
+
+test("after a fault the calls answer as before, and no memory is lost", () => {
+  const before = polyover.overlay([SQUARE], [OTHER], { rule: "xor" });
+  for (let times = 0; times < 2000; times++) {
+    assert.throws(() => polyover.overlay([SQUARE], withPoint([0.5, 0])), BadInput);
+  }
+  assert.deepEqual(polyover.overlay([SQUARE], [OTHER], { rule: "xor" }), before);
+});

@@ -1,0 +1,1 @@
+"""Tests of the page (docs/play) in a headless Chromium; .ci/browser runs them."""

@@ -1,0 +1,261 @@
+"""The page in a browser: what a test does with it, and what it sees."""
+
+import atexit
+import json
+import os
+import socket
+import threading
+import time
+from functools import lru_cache
+from pathlib import Path
+
+from selenium import webdriver
+from selenium.webdriver.chrome.service import Service
+
+from polyover.play import HOST, page, server_of
+
+ROOT = Path(__file__).resolve().parents[2]
+CHROMIUM, DRIVER = "/usr/bin/chromium", "/usr/bin/chromedriver"
+# (the page is never in the background, and no page that was left is kept)
+WORDS = (
+    "--headless=new",
+    "--no-sandbox",
+    "--disable-gpu",
+    "--force-device-scale-factor=1",
+    "--disable-renderer-backgrounding",
+    "--disable-backgrounding-occluded-windows",
+    "--disable-background-timer-throttling",
+    "--disable-background-networking",
+    "--disable-features=BackForwardCache",
+)
+PATIENCE = 30
+SETTLED = "return !polyover.engine.isBusy && polyover.state.answer?.drawing === polyover.state.drawing"
+SHOWN = """
+    const { kind, shapes, links, paths, edges, relations, locations, name, nodes } = polyover.state.answer;
+    return { kind, shapes, links, paths, edges, relations, locations, name, nodes };
+"""
+COLOUR = """
+    const [x, y] = arguments, { board } = polyover;
+    board.paint();
+    const [left, top] = board.view.toPixels(x, y).map((each) => Math.round(each * board.dense));
+    return [...board.canvas.getContext("2d").getImageData(left, top, 1, 1).data];
+"""
+PLACE = """
+    const [x, y] = arguments, { board } = polyover;
+    const { left, top } = board.canvas.getBoundingClientRect();
+    const [right, down] = board.view.toPixels(x, y);
+    return [left + right, top + down];
+"""
+
+
+def recorded(server):
+    """The paths that a server is asked for, as they come."""
+    paths = []
+    finish = server.finish_request
+
+    def finish_request(request, client):
+        head = request.recv(4096, socket.MSG_PEEK).split(b" ")
+        paths.append(head[1].decode() if len(head) > 1 else "")
+        finish(request, client)
+
+    server.finish_request = finish_request
+    return paths
+
+
+class Browser:
+    """A browser that shows the page, which is served on this machine."""
+
+    def __init__(self):
+        self.server = server_of(page())
+        self.paths = recorded(self.server)
+        threading.Thread(target=self.server.serve_forever, daemon=True).start()
+        self.base = f"http://{HOST}:{self.server.server_address[1]}/"
+        options = webdriver.ChromeOptions()
+        options.binary_location = CHROMIUM
+        for word in WORDS:
+            options.add_argument(word)
+        options.set_capability("goog:loggingPrefs", {"browser": "ALL", "performance": "ALL"})
+        self.driver = webdriver.Chrome(service=Service(DRIVER, log_output=os.devnull), options=options)
+        self.driver.set_script_timeout(PATIENCE)
+
+    def end(self):
+        """Ends the browser and the server."""
+        self.driver.quit()
+        self.server.shutdown()
+
+    # ---- what is opened
+
+    def size(self, width=1200, height=800, is_dark=False):
+        """Gives the window a size, and the system a theme."""
+        metrics = {"width": width, "height": height, "deviceScaleFactor": 1, "mobile": False}
+        self.driver.execute_cdp_cmd("Emulation.setDeviceMetricsOverride", metrics)
+        theme = {"name": "prefers-color-scheme", "value": "dark" if is_dark else "light"}
+        self.driver.execute_cdp_cmd("Emulation.setEmulatedMedia", {"features": [theme]})
+
+    def load(self, part="", address=None):
+        """Loads the page anew, with a hash, and waits for its first answer."""
+        self.driver.get("about:blank")
+        self.driver.get((address or self.base) + part)
+        self.wait()
+
+    def open(self, part):
+        """Shows the drawing of a hash, in the page that is loaded if it is."""
+        if not self.run("return location.href").startswith(self.base):
+            return self.load(part)
+        script = """
+            polyover.state.take({ tool: "edit" });
+            polyover.state.look({ beside: false });
+            history.replaceState(null, "", arguments[0]);
+            window.dispatchEvent(new HashChangeEvent("hashchange"));
+        """
+        self.run(script, part)
+        return self.wait()
+
+    def example(self, name):
+        """Shows an example."""
+        script = """
+            const select = document.getElementById("example");
+            select.value = arguments[0];
+            select.dispatchEvent(new Event("change"));
+        """
+        self.run(script, name)
+        self.wait()
+
+    def choose(self, name, value):
+        """Gives a field of what is asked, or shown, a value."""
+        script = """
+            const [name, value] = arguments;
+            const field = document.getElementById("ask").elements.namedItem(name);
+            if (typeof value === "boolean") field.checked = value;
+            else field.value = value;
+            field.dispatchEvent(new Event("change"));
+        """
+        self.run(script, name, value)
+        self.wait()
+
+    # ---- what is seen
+
+    def run(self, script, *words):
+        """What a script answers."""
+        return self.driver.execute_script(script, *words)
+
+    def until(self, script):
+        """Waits until a script answers what is true."""
+        end = time.monotonic() + PATIENCE
+        while not self.run(script):
+            if time.monotonic() > end:
+                raise AssertionError(f"not within {PATIENCE} seconds: {script}")
+            time.sleep(0.02)
+
+    def wait(self):
+        """Waits until the answer is that of what is drawn, and is told."""
+        self.until("return Boolean(globalThis.polyover)")
+        self.until(SETTLED)
+        self.driver.execute_async_script("requestAnimationFrame(() => requestAnimationFrame(arguments[0]))")
+
+    def answer(self):
+        """The answer, once it is that of what is drawn."""
+        self.wait()
+        return {name: value for name, value in self.run(SHOWN).items() if value is not None}
+
+    def figures(self):
+        """What is drawn."""
+        return self.run("return polyover.state.figures")
+
+    def text(self, name):
+        """The text of an element."""
+        return self.run("return document.getElementById(arguments[0]).textContent", name)
+
+    def colour(self, x, y):
+        """The colour of the board at a point: red, green, blue and how opaque it is."""
+        return self.run(COLOUR, x, y)
+
+    def messages(self):
+        """What the console holds, since it was asked last."""
+        return self.driver.get_log("browser")
+
+    def requests(self):
+        """The addresses that were asked for, since this was asked last."""
+        found = [json.loads(each["message"])["message"] for each in self.driver.get_log("performance")]
+        return [each["params"]["request"]["url"] for each in found if each["method"] == "Network.requestWillBeSent"]
+
+    # ---- the hand
+
+    def mouse(self, kind, x, y, button="left", clicks=1):
+        """An event of the mouse at a point of the drawing."""
+        left, top = self.run(PLACE, x, y)
+        held = {"left": 1, "right": 2}[button] if kind != "mouseReleased" else 0
+        event = {"type": kind, "x": left, "y": top, "button": button, "buttons": held, "clickCount": clicks}
+        if kind == "mouseMoved" and button == "none":
+            event |= {"buttons": 0}
+        self.driver.execute_cdp_cmd("Input.dispatchMouseEvent", event)
+
+    def drag(self, start, *others):
+        """Drags from a point through others."""
+        self.mouse("mousePressed", *start)
+        for each in others:
+            self.mouse("mouseMoved", *each)
+        self.mouse("mouseReleased", *(others or [start])[-1])
+        self.wait()
+
+    def click(self, x, y, button="left"):
+        """Clicks at a point."""
+        self.mouse("mousePressed", x, y, button)
+        self.mouse("mouseReleased", x, y, button)
+        self.wait()
+
+    def hover(self, x, y):
+        """Moves the pointer to a point."""
+        left, top = self.run(PLACE, x, y)
+        event = {"type": "mouseMoved", "x": left, "y": top, "button": "none", "buttons": 0}
+        self.driver.execute_cdp_cmd("Input.dispatchMouseEvent", event)
+        self.wait()
+
+    def press(self, selector):
+        """Presses a button of the page."""
+        self.run("document.querySelector(arguments[0]).click()", selector)
+        self.wait()
+
+    def keys(self, *keys):
+        """Presses keys on the board."""
+        script = """
+            const canvas = polyover.board.canvas;
+            canvas.focus();
+            for (const key of arguments) canvas.dispatchEvent(new KeyboardEvent("keydown", { key, bubbles: true }));
+        """
+        self.run(script, *keys)
+        self.wait()
+
+    def saved(self, what):
+        """The text that is saved under a name of the menu."""
+        script = """
+            const [what, done] = arguments, made = URL.createObjectURL, click = HTMLAnchorElement.prototype.click;
+            HTMLAnchorElement.prototype.click = () => {};
+            URL.createObjectURL = (blob) => (blob.text().then(done), made.call(URL, blob));
+            document.querySelector(`[data-save="${what}"]`).click();
+            URL.createObjectURL = made;
+            HTMLAnchorElement.prototype.click = click;
+        """
+        return self.driver.execute_async_script(script, what)
+
+    def give(self, name, text):
+        """Opens a file of a name and a text."""
+        script = """
+            const [name, text, done] = arguments;
+            const given = new DataTransfer();
+            given.items.add(new File([text], name));
+            const field = document.getElementById("file");
+            field.files = given.files;
+            field.dispatchEvent(new Event("change"));
+            setTimeout(done, 200);
+        """
+        self.driver.execute_async_script(script, name, text)
+        self.wait()
+
+
+@lru_cache
+def browser():
+    """The browser of all tests."""
+    made = Browser()
+    atexit.register(made.end)
+    return made

@@ -1,0 +1,131 @@
+"""Answers of the page: of each example, and of each command with its options, they are those of the program, which
+splits in rounds; snapped ones are compared with Python's in test_files.py."""
+
+import re
+import unittest
+
+from polyover.commands import printed
+from polyover.errors import NotSettled
+from polyover.text import RELATIONS, printed_path, printed_shapes
+
+from .page import ROOT, browser
+
+NAMES = re.compile(r'^ +name: "(\w+)",$', re.MULTILINE)
+EXAMPLES = NAMES.findall((ROOT / "docs" / "play" / "examples.js").read_text())
+# (until it has one, the library answers by rounds)
+HAS_SOLVER = "POLYOVER_ROUNDS" in (ROOT / "include" / "polyover.h").read_text()
+OPTIONS = {
+    "overlay": [{"rule": "xor", "clockwise": True}, {"rule": "difference", "keep": True, "fill": "evenodd"}],
+    "hierarchy": [{"rule": "subject", "fill": "evenodd", "valid": False}],
+    "simplify": [{"minimumArea": "8"}],
+    "relate": [{"fill": "negative"}],
+    "clip": [{"invert": True}, {"boundary": True}],
+    "slice": [{"fill": "evenodd"}],
+    "locate": [{}],
+    "edges": [{"fill": "positive"}],
+}
+# (the program has rounds alone)
+BEFORE = {
+    "solver": "rounds",
+    "fill": "nonzero",
+    "valid": True,
+    "clockwise": False,
+    "keep": False,
+    "minimumArea": "0",
+    "invert": False,
+    "boundary": False,
+}
+DRAWN = (
+    "subject=0+0+10+0+10+8+0+8&subject=2+2+2+6+6+6+6+2&clip=4+-2+14+3+5+11&line=-2+3+12+4&line=2+6+6+6+9+9"
+    "&point=1+1&point=4+4&point=10+4&run=overlay+Union+NonZero+ogc"
+)
+
+
+def text_of(answer):
+    """An answer as the program prints it."""
+    kind = answer["kind"]
+    if kind == "shapes":
+        links = "".join(f"link {' '.join(map(str, link))}\n" for link in answer.get("links", []))
+        return printed_shapes(answer["shapes"]) + links
+    if kind == "paths":
+        return "".join(map(printed_path, answer["paths"]))
+    if kind == "edges":
+        return "".join(f"edge {ax} {ay} {bx} {by} {fill}\n" for (ax, ay), (bx, by), fill in answer["edges"])
+    if kind == "relations":
+        return "".join(f"{name} {str(answer['relations'][name]).lower()}\n" for name in RELATIONS)
+    return "".join(f"{place}\n" for place in answer["locations"])
+
+
+class Answers(unittest.TestCase):
+    """What the page answers."""
+
+    @classmethod
+    def setUpClass(cls):
+        cls.page = browser()
+        cls.page.size()
+        cls.page.load()
+
+    def called(self):
+        """The lines of the program that the page writes for its answer."""
+        self.page.press('[data-language="program"]')
+        return self.page.text("call")
+
+    def test_examples(self):
+        self.assertGreaterEqual(len(EXAMPLES), 13)
+        for name in EXAMPLES:
+            with self.subTest(name):
+                self.page.example(name)
+                self.page.choose("solver", "rounds")
+                answer, text = self.page.answer(), self.called()
+                if name in ("refused", "needles"):
+                    self.assertEqual(answer["name"], "NotSettled")
+                    self.assertRaises(NotSettled, printed, text)
+                    continue
+                self.assertEqual(text_of(answer), printed(text))
+
+    @unittest.skipUnless(HAS_SOLVER, "the library has no solver to choose")
+    def test_needles_are_answered_by_snapping(self):
+        self.page.example("refused")
+        self.page.press("#answer button")
+        answer = self.page.answer()
+        self.assertEqual(answer["kind"], "shapes")
+        self.page.example("needles")
+        self.assertEqual(self.page.answer(), answer)
+
+    def test_commands(self):
+        self.page.open(f"#{DRAWN}")
+        for command, several in OPTIONS.items():
+            for options in several:
+                with self.subTest(command, **options):
+                    self.page.choose("command", command)
+                    for name, value in {**BEFORE, **options}.items():
+                        self.page.choose(name, value)
+                    self.assertEqual(text_of(self.page.answer()), printed(self.called()))
+
+    def test_simple_contour_stays(self):
+        self.page.open("#subject=1+1+3+1+2+4&run=simplify+NonZero+ogc")
+        self.assertEqual(self.page.answer()["shapes"], [[[[1, 1], [3, 1], [2, 4]]]])
+
+    def test_unresolved_contour_is_a_fault(self):
+        self.page.open("#subject=0+0+4+4+4+0+0+4&point=1+1&run=locate")
+        self.assertEqual(self.page.answer()["name"], "NotResolved")
+        self.assertIn("contour 0", self.page.text("answer"))
+
+    def test_nothing(self):
+        self.page.press("#clear")
+        for command in OPTIONS:
+            self.page.choose("command", command)
+            self.assertNotEqual(self.page.answer()["kind"], "fault")
+
+    def test_nodes_and_sides(self):
+        self.page.open("#subject=0+0+4+0+4+4+0+4&clip=2+2+6+2+6+6+2+6&run=overlay+Union+NonZero")
+        self.page.choose("nodes", True)
+        corners = {(0, 0), (4, 0), (4, 4), (0, 4), (2, 2), (6, 2), (6, 6), (2, 6), (4, 2), (2, 4)}
+        self.assertEqual({tuple(node) for node in self.page.answer()["nodes"]}, corners)
+        self.page.open("#subject=0+0+4+0+4+4+0+4&line=2+-1+2+3&run=slice+NonZero")
+        self.page.choose("sides", True)
+        self.assertIn([2, 0], self.page.answer()["nodes"])
+
+
+if __name__ == "__main__":
+    unittest.main()

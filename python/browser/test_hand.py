@@ -1,0 +1,128 @@
+"""The hand on the board: points that are drawn, moved, added and deleted, by the mouse and by keys."""
+
+import unittest
+
+from .page import browser
+
+SQUARES = "#subject=0+0+4+0+4+4+0+4&clip=2+2+6+2+6+6+2+6&run=overlay+Intersect+NonZero+ogc"
+SQUARE = [[0, 0], [4, 0], [4, 4], [0, 4]]
+
+
+class Hand(unittest.TestCase):
+    """What is drawn after each gesture, and what is answered."""
+
+    def setUp(self):
+        self.page = browser()
+        self.page.size()
+        self.page.open(SQUARES)
+
+    def test_drag_a_point(self):
+        self.assertEqual(self.page.answer()["shapes"], [[[[2, 4], [2, 2], [4, 2], [4, 4]]]])
+        self.page.drag((2, 2), (1.5, 1.7), (0.9, 1.2), (1.1, 0.8))
+        self.assertEqual(self.page.figures()["clip"], [[[1, 1], [6, 2], [6, 6], [2, 6]]])
+        self.assertNotEqual(self.page.answer()["shapes"], [[[[2, 4], [2, 2], [4, 2], [4, 4]]]])
+        self.page.press("#undo-step")
+        self.assertEqual(self.page.figures()["clip"], [[[2, 2], [6, 2], [6, 6], [2, 6]]])
+        self.page.press("#redo-step")
+        self.assertEqual(self.page.figures()["clip"][0][0], [1, 1])
+
+    def test_points_snap_to_the_grid(self):
+        self.page.choose("step", "5")
+        self.page.drag((2, 2), (3, 2), (3.2, 1.1))
+        self.assertEqual(self.page.figures()["clip"][0][0], [5, 0])
+
+    def test_drag_a_contour(self):
+        self.page.drag((5, 5), (5.5, 5), (7, 4))
+        self.assertEqual(self.page.figures()["clip"], [[[4, 1], [8, 1], [8, 5], [4, 5]]])
+
+    def test_drag_an_edge_adds_a_point(self):
+        self.page.drag((0, 2), (-1, 2), (-2, 2))
+        self.assertEqual(self.page.figures()["subject"], [[*SQUARE, [-2, 2]]])
+
+    def test_delete(self):
+        self.page.click(6, 6, "right")
+        self.assertEqual(self.page.figures()["clip"], [[[2, 2], [6, 2], [2, 6]]])
+        self.page.press('[data-tool="delete"]')
+        self.page.click(0, 0)
+        self.assertEqual(self.page.figures()["subject"], [[[4, 0], [4, 4], [0, 4]]])
+        self.page.click(4, 1.5)
+        self.assertEqual(self.page.figures()["subject"], [])
+        for _ in range(3):
+            self.page.press("#undo-step")
+        self.assertEqual(self.page.figures()["subject"], [SQUARE])
+
+    def test_draw(self):
+        self.page.press('[data-kind="subject"]')
+        for point in ((5, 0), (7, 0), (7, 1), (5, 0)):
+            self.page.click(*point)
+        self.assertEqual(self.page.figures()["subject"], [SQUARE, [[5, 0], [7, 0], [7, 1]]])
+        self.page.press('[data-kind="line"]')
+        for point in ((-1, 1), (3, 1), (3, 5)):
+            self.page.click(*point)
+        self.page.press("#undo-step")
+        self.page.press("#finish")
+        self.assertEqual(self.page.figures()["line"], [[[-1, 1], [3, 1]]])
+        self.page.press('[data-kind="point"]')
+        self.page.click(1, 1)
+        self.assertEqual(self.page.figures()["point"], [[[1, 1]]])
+
+    def test_keys(self):
+        self.page.keys("n", "ArrowLeft", "ArrowDown")
+        self.assertEqual(self.page.figures()["subject"][0][0], [-1, -1])
+        self.page.keys("n", "i")
+        self.assertEqual(len(self.page.figures()["subject"][0]), 5)
+        self.page.keys("Delete")
+        self.assertEqual(len(self.page.figures()["subject"][0]), 4)
+        self.page.keys("p", "Backspace")
+        self.assertEqual(len(self.page.figures()["subject"]) + len(self.page.figures()["clip"]), 1)
+        self.page.keys("2", "ArrowLeft", " ", "ArrowRight", " ", "ArrowUp", " ", "Enter")
+        drawn = self.page.figures()["clip"][-1]
+        self.assertEqual([drawn[2][0] - drawn[0][0], drawn[2][1] - drawn[0][1]], [1, 1])
+
+    def test_look_at_a_shape(self):
+        self.page.example("hierarchy")
+        self.page.hover(6.5, 0.8)
+        self.assertIn("Shape 0: area", self.page.text("tip"))
+        self.page.hover(9.5, 9)
+        self.assertIn("in a hole of shape 1", self.page.text("tip"))
+
+    def test_zoom_and_move(self):
+        before = self.page.run("return polyover.board.view.scale")
+        self.page.press("#zoom-in")
+        self.assertAlmostEqual(self.page.run("return polyover.board.view.scale"), before * 1.4)
+        self.page.drag((-1, -1), (0, -1), (1, 0))
+        self.assertEqual(self.page.figures()["subject"], [SQUARE])
+        self.page.press("#zoom-fit")
+        self.assertAlmostEqual(self.page.run("return polyover.board.view.scale"), before)
+
+    def test_coarser(self):
+        self.page.press("#coarser")
+        self.assertEqual(self.page.figures()["subject"], [[[0, 0], [2, 0], [2, 2], [0, 2]]])
+        self.page.press("#finer")
+        self.assertEqual(self.page.figures()["subject"], [SQUARE])
+
+    def test_many_points_stay_fluid(self):
+        script = """
+            const { state } = polyover;
+            const ring = (count, x) => Array.from({ length: count }, (_, at) => {
+                const turn = (2 * Math.PI * at) / count, far = 1e6 * (1 + 0.2 * Math.sin(40 * turn));
+                return [Math.round(x + far * Math.cos(turn)), Math.round(far * Math.sin(turn))];
+            });
+            const [subject, clip] = [[ring(arguments[0], 0)], [ring(arguments[0], 3e5)]];
+            state.step({ figures: { ...state.figures, subject, clip } });
+            polyover.board.fit();
+        """
+        self.page.run(script, 10000)
+        self.page.wait()
+        self.page.drag((1e6, 0), (1.1e6, 1e5), (1.2e6, 2e5), (1.3e6, 1e5))
+        self.assertEqual(self.page.answer()["kind"], "shapes")
+        took = self.page.run("const now = performance.now(); polyover.board.paint(); return performance.now() - now")
+        self.assertLess(took, 500)
+        self.page.run(script, 10001)
+        self.page.until("return document.getElementById('ask-now') !== null")
+        self.page.press("#ask-now")
+        self.assertEqual(self.page.answer()["kind"], "shapes")
+
+
+if __name__ == "__main__":
+    unittest.main()

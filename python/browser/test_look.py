@@ -1,0 +1,182 @@
+"""How the page looks, and what it asks for: nothing of any host, and no message in the console."""
+
+import re
+import subprocess
+import sys
+import tempfile
+import unittest
+from http.client import HTTPConnection
+from pathlib import Path
+
+from .page import ROOT, browser
+
+SQUARES = "#subject=0+0+4+0+4+4+0+4&clip=2+2+6+2+6+6+2+6&run=overlay+Intersect+NonZero+ogc"
+TEXTS = {".js", ".css", ".html"}
+ADDRESS = re.compile(r"https?://[^\s\"'`)]+")
+# (of the language of pictures, which nobody asks for)
+NAMES = {"http://www.w3.org/2000/svg"}
+WIDTHS = ((1600, 1000), (1000, 760), (400, 860))
+OVERFLOW = "return [document.documentElement.scrollWidth, innerWidth]"
+# parts that have to be seen whole
+SEEN = "#board, #summary, #ask, #answer, #call, #example, #link, #save, [data-tool], [data-kind]"
+OUT_OF_SIGHT = f"""
+    return [...document.querySelectorAll("{SEEN}")]
+        .filter((each) => {{
+            const {{ left, right, width, height }} = each.getBoundingClientRect();
+            return left < 0 || right > innerWidth + 0.5 || !width || !height;
+        }})
+        .map((each) => each.outerHTML.slice(0, 80));
+"""
+# the least contrast of a text with its ground, by WCAG, among some parts of the page
+CONTRAST = """
+    const numbers = (colour) => colour.match(/[0-9.]+/g).map(Number);
+    const shine = ([r, g, b]) => [r, g, b]
+        .map((each) => each / 255)
+        .map((each) => (each <= 0.03928 ? each / 12.92 : ((each + 0.055) / 1.055) ** 2.4))
+        .reduce((sum, each, at) => sum + each * [0.2126, 0.7152, 0.0722][at], 0);
+    const ground = (each) => {
+        const found = numbers(getComputedStyle(each).backgroundColor);
+        return found.length > 3 && found[3] === 0 ? ground(each.parentElement) : found;
+    };
+    const parts = "h1, h2, button:not(:disabled), select, label, .says, .quiet, .size, pre, .summary";
+    return [...document.querySelectorAll(parts)]
+        .filter((each) => each.getBoundingClientRect().width)
+        .map((each) => {
+            const [text, under] = [numbers(getComputedStyle(each).color), ground(each)].map(shine);
+            return [(Math.max(text, under) + 0.05) / (Math.min(text, under) + 0.05), each.outerHTML.slice(0, 80)];
+        })
+        .sort(([a], [b]) => a - b)[0];
+"""
+
+
+class Look(unittest.TestCase):
+    """The page at several widths, in both themes."""
+
+    def setUp(self):
+        self.page = browser()
+
+    def test_widths_and_themes(self):
+        for width, height in WIDTHS:
+            for is_dark in (False, True):
+                with self.subTest(width=width, is_dark=is_dark):
+                    self.page.size(width, height, is_dark)
+                    self.page.load(SQUARES)
+                    across, room = self.page.run(OVERFLOW)
+                    self.assertLessEqual(across, room)
+                    self.assertEqual(self.page.run(OUT_OF_SIGHT), [])
+                    contrast, part = self.page.run(CONTRAST)
+                    self.assertGreaterEqual(contrast, 4.5, part)
+
+    def test_theme_is_switched(self):
+        self.page.size()
+        self.page.open(SQUARES)
+        light = self.page.colour(-0.5, 5.5)
+        self.page.press("#theme-switch")
+        dark = self.page.colour(-0.5, 5.5)
+        self.assertGreater(sum(light[:3]), 600)
+        self.assertLess(sum(dark[:3]), 200)
+        self.page.press("#theme-switch")
+        self.assertEqual(self.page.colour(-0.5, 5.5), light)
+
+    def test_drawn_colours(self):
+        self.page.size()
+        self.page.open(SQUARES)
+        ground, subject, clip, both = (self.page.colour(*at) for at in ((5.5, 0.5), (0.5, 0.5), (5.5, 5.5), (3.5, 3.5)))
+        self.assertEqual(ground[:3], [255, 255, 255])
+        # (blue, orange, and green over both)
+        self.assertGreater(subject[2], subject[0] + 20)
+        self.assertGreater(clip[0], clip[2] + 20)
+        self.assertGreater(both[1], max(both[0], both[2]))
+
+    def test_beside(self):
+        self.page.size()
+        self.page.open(SQUARES)
+        over = self.page.colour(3.5, 3.5)
+        self.page.choose("beside", True)
+        beside = self.page.colour(3.5, 3.5)
+        self.assertNotEqual(over, beside)
+        right = self.page.run(
+            """
+            const { board } = polyover, [x, y] = board.view.toPixels(3.5, 3.5);
+            return [...board.canvas.getContext("2d").getImageData(x + board.view.paneWidth, y, 1, 1).data];
+            """
+        )
+        self.assertGreater(right[1], max(right[0], right[2]))
+
+    def test_summary_is_told(self):
+        self.page.size()
+        self.page.open(SQUARES)
+        self.assertEqual(self.page.text("summary"), "overlay: 1 shape, 0 holes, area 4")
+        self.assertEqual(self.page.run("return document.getElementById('summary').ariaLive"), "polite")
+
+    def test_every_control_has_a_name(self):
+        nameless = """
+            return [...document.querySelectorAll("button, select, input:not([hidden]), canvas")]
+                .filter((each) => !(each.textContent.trim() && each.matches("button")))
+                .filter((each) => !each.ariaLabel && !each.labels?.length)
+                .map((each) => each.outerHTML.slice(0, 80));
+        """
+        self.assertEqual(self.page.run(nameless), [])
+
+
+class Alone(unittest.TestCase):
+    """What the page asks for."""
+
+    def test_nothing_of_any_host(self):
+        page = browser()
+        page.requests()
+        page.messages()
+        page.size()
+        page.load(SQUARES)
+        page.choose("command", "edges")
+        page.drag((2, 2), (1, 1))
+        asked = [each for each in page.requests() if not each.startswith(("data:", "about:"))]
+        self.assertEqual([each for each in asked if not each.startswith(page.base)], [])
+        self.assertIn("/engine/polyover.wasm", page.paths)
+        self.assertEqual(page.messages(), [])
+
+    def test_no_file_names_a_host(self):
+        folders = ROOT / "docs" / "play", ROOT / "js"
+        for file in (each for folder in folders for each in folder.glob("**/*") if each.suffix in TEXTS):
+            if "node_modules" not in file.parts and "tests" not in file.parts:
+                found = [each for each in ADDRESS.findall(file.read_text()) if each not in NAMES]
+                self.assertEqual(found, [], file)
+
+    def test_one_file(self):
+        page = browser()
+        with tempfile.TemporaryDirectory() as folder:
+            file = Path(folder) / "play.html"
+            words = [sys.executable, "-m", "polyover", "play", "--out", str(file)]
+            subprocess.run(words, cwd=ROOT / "python", check=True)
+            page.requests()
+            page.messages()
+            page.size()
+            page.load(SQUARES, file.as_uri())
+            self.assertEqual(page.answer()["shapes"], [[[[2, 4], [2, 2], [4, 2], [4, 4]]]])
+            page.drag((2, 2), (1, 1))
+            self.assertEqual(page.figures()["clip"][0][0], [1, 1])
+            asked = [each for each in page.requests() if not each.startswith(("data:", "about:"))]
+            self.assertEqual({each.partition("#")[0] for each in asked}, {file.as_uri()})
+            self.assertEqual(page.messages(), [])
+
+    def test_the_server_answers_for_the_page_alone(self):
+        host, port = browser().server.server_address
+        self.assertEqual(host, "127.0.0.1")
+        paths = {
+            "/": 200,
+            "/engine/polyover.js": 200,
+            "/engine/": 404,
+            "/calls/": 404,
+            "/../PYTHON.md": 404,
+            "/%2e%2e/PYTHON.md": 404,
+            "/engine/../../docs/PYTHON.md": 404,
+        }
+        for path, status in paths.items():
+            connection = HTTPConnection(host, port)
+            connection.request("GET", path)
+            self.assertEqual(connection.getresponse().status, status, path)
+            connection.close()
+
+
+if __name__ == "__main__":
+    unittest.main()

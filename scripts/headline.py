@@ -1,0 +1,336 @@
+#!/usr/bin/env python3
+"""Writes docs/HEADLINE.md: the contract of `overlay`, and each definition that its winding clause stands on.
+
+    scripts/headline.py           fails where the page is not what the script would write
+    scripts/headline.py --write   writes the page
+
+The definitions are found by their names: from those that the winding clause cites to those that each of them cites.
+TOLD has them in reading order, each with a sentence, and STD has what they take of Rattle's library. The script fails
+where either list lacks a name or has one too many. Run it at the top of the repository.
+"""
+
+import re
+import sys
+from dataclasses import dataclass, field
+from pathlib import Path
+
+from specs import CRATES
+
+PAGE = Path("docs", "HEADLINE.md")
+CALL = CRATES / "i_overlay" / "src" / "overlay.rt"
+RESULT = ("overlay_extract.specs.Results", "IsResult")
+QUERY = ("i_overlay.specs.Queries", "BuilderExtracts")
+# what the winding clause of the contract cites itself
+ROOTS = [
+    ("overlay_extract.specs.Results", "WindsRoundRegion"),
+    ("overlay_plane.specs.ShapeWindings", "steps_of_shapes"),
+    ("overlay_walk.specs.Asked", "asked"),
+    ("overlay_geom.specs.Paths", "plain_shapes"),
+]
+HEAD = re.compile(r"(?:abbrev pub|pub record|pub data) (\w+)")
+IMPORT = re.compile(r"(?:pub )?use Rattle\.([\w.]+)\.\{(.*)\}$")
+WORD = re.compile(r"[^\s(){};,.]+")
+COLUMNS = 120
+
+# (heading, [(name, sentence)])
+TOLD = [
+    ("Points, steps and edges", [
+        ("Point", "A point with whole coordinates, as every point of an input and of an answer is."),
+        ("PlanePoint", "A point (x / d, y / d) of the plane, with whole x, y and d, where d is positive."),
+        ("Step", "The way straight on from one whole point to another: a half-edge."),
+        ("Edge", "A segment, whose end `a` is the smaller one."),
+        ("point_eq", "Tells whether two whole points are one."),
+        ("point_lt", "Tells whether p is smaller than q: by x, and for equal x by y."),
+        ("is_forward", "Tells whether a step goes from its smaller to its larger end."),
+        ("edge_of", "The edge that a step walks along."),
+        ("sign_of", "1 for a step from the smaller end to the larger, -1 for a step back."),
+        ("steps_between", "The step between two points; equal points have none."),
+        ("steps_through", "The steps from a point through a list of points."),
+        ("steps_of", "The steps of a closed contour: each point to the next, and the last to the first."),
+        ("steps_of_shapes", "The steps of all contours of all shapes."),
+    ]),
+    ("On an edge, and below a point", [
+        ("line_form", "The cross product of the vectors from `a` to `b` and from `a` to (x / d, y / d), times d."),
+        ("side", "Positive where p lies to the left of the way from `a` to `b`, negative to the right, 0 on the line."),
+        ("IsBetween", "z lies between u and v, or is one of them."),
+        ("IsOn", "p lies on the closed segment."),
+        ("IsOff", "p lies on none of the edges."),
+        ("is_strictly_below", "Tells whether a ray straight down from p crosses the edge: p is above the line, and its "
+         "x lies in the edge's span, whose right end is left out so that a corner counts once."),
+    ]),
+    ("Windings", [
+        ("total", "The sum of a function over a list."),
+        ("total_below", "The sum of a count over the edges that lie below p."),
+        ("winding", "How often steps wind round p: the signs of the steps below p, summed. Counterclockwise counts 1."),
+        ("Counts", "How often the subject and the clip pass an edge from `a` to `b`, less how often back. The two "
+         "marks are set by strings alone."),
+        ("CountedEdge", "An edge with its counts, as the builder holds it."),
+        ("ends_of", "The edge without its counts."),
+        ("subj_of", "How often the subject passes the edge."),
+        ("clip_of", "How often the clip passes the edge."),
+        ("winding_by", "The winding of the subject, or of the clip, at p: its counts below p, summed."),
+    ]),
+    ("Rules", [
+        ("FillRule", "The four fill rules."),
+        ("is_filled", "Tells whether a winding is filled under a fill rule."),
+        ("OverlayRule", "The seven overlay rules."),
+        ("rule_holds", "Tells whether the overlay rule takes a point that the subject fills or not, and the clip fills "
+         "or not."),
+        ("rules_hold", "Tells whether both rules hold of a winding of the subject and a winding of the clip."),
+    ]),
+    ("What is asked for", [
+        ("ContourDirection", "The direction in which outlines run; holes run the other way."),
+        ("IntOverlayOptions", "The options of a builder."),
+        ("Asked", "The two rules and the options, as the definitions read them."),
+        ("asked", "What the arguments of `overlay` and the builder's options ask for."),
+        ("region_asked", "The region asked for: where both rules hold of the windings."),
+        ("Hand", "A side of a step: left or right."),
+        ("is_left_hand", "Tells whether the side is the left one."),
+        ("filled_hand", "The side of each step on which the region lies: the left one for counterclockwise output."),
+        ("filled_asked", "That side, for the direction that the options ask for."),
+    ]),
+    ("The winding clause", [
+        ("once_round", "1 for counterclockwise output, -1 for clockwise."),
+        ("wanted_winding", "The winding that is wanted at p: once round the region, and 0 elsewhere."),
+        ("WindsRoundRegion", "At each point of the plane off the edges the steps have the winding that is wanted."),
+    ]),
+    ("How the program's values are read", [
+        ("IntPoint", "A point of the program."),
+        ("plain_point", "The whole point of a program's point; `whole` gives the number of a coordinate."),
+        ("plain_points", "The whole points of a list."),
+        ("paths_of_shape", "The whole points of each contour of a shape."),
+        ("plain_shapes", "The whole points of each contour of each shape."),
+    ]),
+]
+# what the definitions take of Rattle's library
+STD = {
+    "≡": "equal", "⊎": "or", "All": "holds of each entry of a list",
+    "Bool": "true or false", "true": "", "false": "", "cond": "the first where a test is true, else the second",
+    "not": "", "&&": "", "||": "", "==": "equality of natural numbers, as a test",
+    "ℕ": "natural numbers", "%": "remainder", "nat_abs": "a whole number without its sign", "ℤ": "whole numbers",
+    "pos": "`pos n` is n", "negsuc": "`negsuc n` is -(n + 1)", "+ℤ": "", "-ℤ": "", "*ℤ": "", "<ℤ": "", "≤ℤ": "",
+    "int_lt": "less, as a test", "int_le": "at most, as a test", "int_eq": "equality of whole numbers, as a test",
+    "List": "lists", "[]": "the empty list", "∷": "an entry before a list", "++": "two lists, one behind the other",
+    "map": "a function of each entry",
+    "flat_map": "the lists that a function gives of each entry, one behind the other",
+    "Vec": "a vector of the program, whose field `items` is its list", "Width": "a number of bits",
+}
+TOP = """# The headline, whole
+
+Made by `scripts/headline.py --write`. The gate compares this page with the sources.
+
+The headline of [README](../README.md#what-is-guaranteed) is one clause of the contract of `Overlay::overlay`. Whoever
+believes the prover, and reads the definitions below, knows what that clause says: nothing else enters it. The order is
+that of reading: each definition cites only those above it and Rattle's library.
+
+## The contract
+
+`self.new.edges` is the arrangement that the builder holds after the call, and `result` is the answer. The second clause
+speaks of both; `winds`, the first field of `IsResult`, is the headline.
+"""
+NOTATION = """## Notation
+
+A name that begins with a capital is a statement or a type; any other is a function or a value. `A → B` is a function,
+or "A implies B"; `(x : X) → ..` is "for each x"; `A × B` is "both". `λ x. ..` is a function. `record { .. }` is a
+record, and `r.f` its field f. The definitions take from Rattle's library, beside signs that mean the usual:
+"""
+REST = """## What the rest of the contract adds
+
+Each field stands here with its comment, and the definitions that it stands on beside those above, by file.
+`scripts/specs.py CRATE ..` prints their comments. [DEFINITIONS](DEFINITIONS.md) tells them in plain words.
+"""
+
+
+@dataclass
+class Block:
+    """A definition: its module and name, its comment, its text below that, and where it is imported from."""
+
+    module: str
+    name: str
+    comment: list[str] = field(default_factory=list)
+    text: list[str] = field(default_factory=list)
+
+
+class Specs:
+    """The definitions of all crates by module and name, and each module's imports."""
+
+    def __init__(self) -> None:
+        self.blocks: dict[tuple[str, str], Block] = {}
+        self.imports: dict[str, dict[str, tuple[str, str]]] = {}
+        for file in sorted(CRATES.glob("*/specs/*.antt")):
+            self.read(f"{file.parts[1]}.specs.{file.stem}", file.read_text().split("\n"))
+
+    def read(self, module: str, lines: list[str]) -> None:
+        """Reads a file, whose definitions stand apart by empty lines."""
+        imports = self.imports[module] = {}
+        block = Block(module, "")
+        for line in lines:
+            if found := IMPORT.match(line):
+                for both in found[2].split(","):
+                    name, _, used = both.strip().partition(" as ")
+                    imports[used or name] = (found[1], name)
+            elif not line:
+                block = Block(module, "")
+            elif not block.name and line.startswith("--"):
+                block.comment.append(line.removeprefix("--").strip())
+            else:
+                if not block.name and (head := HEAD.match(line)):
+                    block.name = head[1]
+                    self.blocks[module, head[1]] = block
+                block.text.append(line)
+
+    def cited(self, block: Block, text: str) -> list[tuple[str, str]]:
+        """The module and the name of each definition, or of Rattle's library, that a text of a block's module cites."""
+        code = "\n".join(it for it in text.split("\n") if not it.lstrip().startswith("--"))
+        words = {*WORD.findall(code), *re.findall(r"\w+", code)}
+        found = [(block.module, it) for it in words if (block.module, it) in self.blocks and it != block.name]
+        for used, source in self.imports[block.module].items():
+            if all(part in words for part in used.split("◌") if part):
+                found.append(source)
+        return found
+
+    def closure(self, begun: list[tuple[str, str]]) -> list[tuple[str, str]]:
+        """What definitions stand on, themselves included."""
+        found, left = [], list(begun)
+        while left:
+            key = left.pop()
+            while key not in self.blocks and key[1] in self.imports.get(key[0], {}):
+                key = self.imports[key[0]][key[1]]
+            if key not in found:
+                found.append(key)
+                block = self.blocks.get(key)
+                left += self.cited(block, "\n".join(block.text)) if block else []
+        return found
+
+
+def declared(module: str, name: str) -> list[str]:
+    """The declaration of a type of the program, without its comments."""
+    crate = module.split(".")[0]
+    for file in sorted(Path(CRATES, crate, "src").rglob("*.rt")):
+        if found := re.search(rf"^pub (?:enum|struct) {name}\b.*?^}}", file.read_text(), re.M | re.S):
+            return [it for it in found[0].split("\n") if not it.strip().startswith("//")]
+    raise SystemExit(f"headline: {module} declares no {name}")
+
+
+def told(specs: Specs, found: list[tuple[str, str]]) -> str:
+    """The definitions of the winding clause, under their headings."""
+    names = {name: (module, name) for module, name in found}
+    out = ""
+    for heading, items in TOLD:
+        out += f"\n## {heading}\n"
+        for name, sentence in items:
+            module = names[name][0]
+            block = specs.blocks.get(names[name])
+            kind, text = ("text", block.text) if block else ("rust", declared(module, name))
+            out += f"\n{wrapped(f'`{name}`: {sentence}')}\n\n```{kind}\n" + "\n".join(text) + "\n```\n"
+    return out
+
+
+def wrapped(text: str, dent: str = "") -> str:
+    """A text, broken into lines of the repository."""
+    lines, line = [], ""
+    for word in text.split(" "):
+        if line and len(line) + 1 + len(word) > COLUMNS:
+            lines, line = [*lines, line], dent + word
+        else:
+            line = f"{line} {word}" if line else word
+    return "\n".join([*lines, line])
+
+
+def fields_of(block: Block) -> list[tuple[str, str, list[str]]]:
+    """A record's fields in order: the comment or heading above each, its name, and its lines."""
+    fields, comment = [], []
+    for line in block.text[1:]:
+        text = line.strip()
+        if text.startswith("--"):
+            comment = [] if text.startswith("-- ----") else [*comment, text.removeprefix("--").strip()]
+        elif text.startswith("pub "):
+            fields.append((" ".join(comment), text.split()[1], [text]))
+            comment = []
+        elif fields:
+            fields[-1][2].append(text)
+    return fields
+
+
+def rest(specs: Specs, key: tuple[str, str], known: list[tuple[str, str]], skipped: str = "") -> str:
+    """What each field of a record adds to what is known already."""
+    out, block, known = "", specs.blocks[key], list(known)
+    for comment, name, lines in fields_of(block):
+        if name == skipped:
+            continue
+        found = [it for it in specs.closure(specs.cited(block, "\n".join(lines))) if it in specs.blocks]
+        added = sorted(it for it in found if it not in known and it != key)
+        known += added
+        out += f"\n#### `{name}`\n\n" + (wrapped(f"{comment[0].upper()}{comment[1:]}.") + "\n\n" if comment else "")
+        out += "```text\n" + "\n".join(lines) + "\n```\n" + listed(added)
+    return out
+
+
+def listed(added: list[tuple[str, str]]) -> str:
+    """Names of definitions, by file."""
+    files: dict[str, list[str]] = {}
+    for module, name in added:
+        files.setdefault(module, []).append(name)
+    out = f"\nIt adds {len(added)} definition{'s' * (len(added) != 1)}:\n\n" if added else ""
+    for module, names in files.items():
+        crate, _, stem = module.split(".")
+        link = f"[{crate}/{stem}](../crates/{crate}/specs/{stem}.antt)"
+        out += wrapped(f"- {link}: " + ", ".join(f"`{it}`" for it in names), "  ") + "\n"
+    return out
+
+
+def notation() -> str:
+    """What is taken of Rattle's library."""
+    words = [f"`{name}` ({meaning})" for name, meaning in STD.items() if meaning]
+    return f"\n{NOTATION}\n{wrapped(', '.join(words))}.\n"
+
+
+def check_names(specs: Specs, found: list[tuple[str, str]]) -> None:
+    """Fails where the lists of the script have not just the names that the clause stands on."""
+    ours = {name for module, name in found if not module.startswith("std.") and is_told(specs, module, name)}
+    std = {name.strip("◌") for module, name in found if module.startswith("std.")}
+    for known, are, what in ((set(STD), std, "STD"), ({it for _, items in TOLD for it, _ in items}, ours, "TOLD")):
+        if known != are:
+            raise SystemExit(f"headline: {what} lacks {sorted(are - known)}, and has too much {sorted(known - are)}")
+
+
+def is_told(specs: Specs, module: str, name: str) -> bool:
+    """Whether a name has a declaration of its own; cases of types stand in that of their type."""
+    return (module, name) in specs.blocks or ".declared." in module and "TheVariants" not in module
+
+
+def contract() -> str:
+    """The contract of the call."""
+    found = re.search(r"^    pub fn overlay\(.*?(?=^    \{)", CALL.read_text(), re.M | re.S)
+    return "\n".join(it.removeprefix("    ") for it in found[0].rstrip().split("\n"))
+
+
+def made() -> str:
+    """The page."""
+    specs = Specs()
+    found = specs.closure(ROOTS)
+    check_names(specs, found)
+    record = "\n".join(specs.blocks[RESULT].text)
+    first = record.split("\n  -- and each shape")[0]
+    count = sum(1 for it in found if it in specs.blocks)
+    lines = sum(len(specs.blocks[it].text) for it in found if it in specs.blocks)
+    out = f"{TOP}\n```rust\n{contract()}\n```\n\n```text\n{first}\n  ..\n```\n"
+    out += f"\nThe winding clause stands on {count} definitions of {lines} lines, and on types of the program.\n"
+    out += notation() + told(specs, found)
+    out += f"\n{REST}\n### `{RESULT[1]}`\n" + rest(specs, RESULT, found, "winds")
+    return out + f"\n### `{QUERY[1]}`\n" + rest(specs, QUERY, found)
+
+
+def main() -> int:
+    """Writes the page, or compares it."""
+    page = made()
+    if "--write" in sys.argv[1:]:
+        PAGE.write_text(page)
+    elif not PAGE.is_file() or PAGE.read_text() != page:
+        print(f"headline: {PAGE} is not made of the sources: run scripts/headline.py --write")
+        return 1
+    return 0
+
+
+if __name__ == "__main__":
+    sys.exit(main())
