@@ -20,8 +20,8 @@ use overlay_walk::step::Step;
 use std::alloc::Allocator;
 use std::cmp::Ordering;
 
-/// The anchors of the walks that stand in no shape from the start, in their order, each with the index
-/// of its walk. The only refusal is `Memory`.
+/// Returns the anchors of the walks whose shape is not yet known, in the order of anchors, each with the index of its
+/// walk. The only refusal is `Memory`.
 pub fn hole_anchors<I: IntNumber, A: Allocator>(
     alloc: A,
     contours: &[Contour<I, A>],
@@ -44,7 +44,7 @@ pub fn hole_anchors<I: IntNumber, A: Allocator>(
     Ok(anchors)
 }
 
-/// The anchor of a walk with this index: the lowest of its edges at its leftmost lowest point.
+/// Returns the anchor of a walk: the lowest of its edges at its leftmost lowest point. It gets the walk's index.
 fn anchor_of<I: IntNumber>(walk: &[Step<I>], index: usize) -> NumberedEdge<I>
     requires some { 0 < length walk.now }
     requires long { All (IsLong I.limit) (plain_steps I.whole walk.now) }
@@ -54,7 +54,7 @@ fn anchor_of<I: IntNumber>(walk: &[Step<I>], index: usize) -> NumberedEdge<I>
     edge_along(&lowest_step(walk), index)
 }
 
-/// The step along the lowest edge at the leftmost lowest point of a walk.
+/// Returns the step along the lowest edge at the leftmost lowest point of a walk.
 pub fn lowest_step<I: IntNumber>(walk: &[Step<I>]) -> Step<I>
     requires some { 0 < length walk.now }
     requires long { All (IsLong I.limit) (plain_steps I.whole walk.now) }
@@ -71,7 +71,7 @@ pub fn lowest_step<I: IntNumber>(walk: &[Step<I>]) -> Step<I>
     lowest
 }
 
-// `Less` exactly where the edge of the first step is anchored before that of the second.
+// Compares the edges of two steps: `Less` exactly where the first is anchored before the second.
 fn compare_steps<I: IntNumber>(s: Step<I>, t: Step<I>) -> Ordering
     requires one { IsLong I.limit (plain_step I.whole s) }
     requires other { IsLong I.limit (plain_step I.whole t) }

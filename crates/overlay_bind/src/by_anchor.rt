@@ -15,8 +15,8 @@ use overlay_walk::numbered_edge::NumberedEdge;
 use std::alloc::Allocator;
 use std::cmp::Ordering;
 
-/// Sorts the edges by their smaller ends, and those from one point from the lower slope to the higher
-/// one. The only refusal is `Memory`.
+/// Sorts the edges by their smaller ends, and edges from one point by slope, lowest first. The only refusal is
+/// `Memory`.
 pub fn sort_by_anchor<I: IntNumber, A: Allocator>(
     edges: &mut Vec<NumberedEdge<I>, A>,
 ) -> Result<(), OverlayError>
@@ -28,8 +28,7 @@ pub fn sort_by_anchor<I: IntNumber, A: Allocator>(
     Ok(())
 }
 
-/// `Less` exactly where the first edge is anchored before the second: by their smaller ends, and from one
-/// point by their slopes.
+/// Compares two anchors by their smaller ends, then by slope: `Less` exactly where the first comes before the second.
 pub fn compare_anchors<I: IntNumber>(e: &NumberedEdge<I>, f: &NumberedEdge<I>) -> Ordering
     ensures { is_lt result ≡ is_anchored_before (numbered_entry I.whole e.now).edge
         (numbered_entry I.whole f.now).edge }

@@ -20,8 +20,8 @@ use overlay_walk::numbered_edge::NumberedEdge;
 use overlay_walk::step::Step;
 use std::alloc::Allocator;
 
-/// The filled-above edges of all walks, in the order of their smaller ends, each with the index of its
-/// walk. The only refusal is `Memory`.
+/// Returns the filled-above edges of all walks, in the order of their smaller ends, each with the index of its walk.
+/// The only refusal is `Memory`.
 pub fn filled_above_edges<I: IntNumber, A: Allocator>(
     alloc: A,
     contours: &[Contour<I, A>],
@@ -39,7 +39,7 @@ pub fn filled_above_edges<I: IntNumber, A: Allocator>(
     Ok(edges)
 }
 
-/// Returns these edges, walk by walk.
+/// Returns the filled-above edges of all walks, walk by walk.
 fn edges_walk_by_walk<I: IntNumber, A: Allocator>(
     alloc: A,
     contours: &[Contour<I, A>],
@@ -59,7 +59,7 @@ fn edges_walk_by_walk<I: IntNumber, A: Allocator>(
     Ok(edges)
 }
 
-/// Adds the filled-above edges of a walk with this index.
+/// Adds the filled-above edges of a walk, each with the walk's index.
 fn push_filled<I: IntNumber, A: Allocator>(
     edges: &mut Vec<NumberedEdge<I>, A>,
     walk: &[Step<I>],

@@ -18,13 +18,13 @@ use overlay_scan::scan::Scan;
 use overlay_walk::contour::Contour;
 use std::alloc::Allocator;
 
-/// For each outline, in their order, the place among the contours of the hole round it: the hole that has
-/// the next filled-below edge below the outline's anchor, or the hole round the outline that has it. It is
-/// None where there is no such edge, or where no hole is round the outline that has it.
+/// Returns for each outline, in order, the place of the hole round it among the contours. The next filled-below edge
+/// below the outline's anchor decides. If a hole has that edge, it is this hole; if an outline has it, the hole round
+/// that outline. The result is None if there is no such edge, or if that outline has no hole round it.
 ///
-/// The contours are as for [`bind_contours`](crate::bind::bind_contours), in any order; where those of each
-/// shape stand together, the shapes one after another, a place counts through the contours of all shapes.
-/// The scan is empty at first; what it holds afterwards is left open. The only refusal is `Memory`.
+/// The contours are as for [`bind_contours`](crate::bind::bind_contours), in any order. Where the contours of each
+/// shape stand together, shape after shape, a place counts through the contours of all shapes. The scan is empty at
+/// first; its content afterwards is left open. The only refusal is `Memory`.
 pub fn holes_round<I: IntNumber, A: Allocator + Clone, S: Scan<I, usize>>(
     alloc: A,
     scan: &mut S,
@@ -50,7 +50,7 @@ pub fn holes_round<I: IntNumber, A: Allocator + Clone, S: Scan<I, usize>>(
     at_outlines(alloc, contours, &found)
 }
 
-/// For each contour its place, if it is a hole, or None for an outline. The only refusal is `Memory`.
+/// Returns for each contour its place if it is a hole, or None if it is an outline. The only refusal is `Memory`.
 pub fn hole_places<I: IntNumber, A: Allocator>(
     alloc: A,
     contours: &[Contour<I, A>],
@@ -69,7 +69,7 @@ pub fn hole_places<I: IntNumber, A: Allocator>(
     Ok(places)
 }
 
-// What stands at the outlines' places, in order.
+// Returns the entries at the outlines' places, in order.
 fn at_outlines<I: IntNumber, A: Allocator>(
     alloc: A,
     contours: &[Contour<I, A>],

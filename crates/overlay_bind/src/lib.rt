@@ -1,4 +1,4 @@
-//! Binding: the shapes in which holes stand, the holes round islands, and the places of contours in their shapes.
+//! Binding: the shapes that holes belong to, the holes round islands, and the places of contours in their shapes.
 #![tactic(auto)]
 
 pub mod anchor;

@@ -1,4 +1,4 @@
-//! Contours, placed in the shapes to which they are bound, and those of an overlay.
+//! Contours placed in the shapes to which they are bound, and the placed contours of an overlay.
 
 ghost use Rattle.std.specs.Prelude.{All, IfOk, IsOkUnless};
 ghost use Rattle.overlay_plane.specs.Balance.{HasBalancedCounts};
@@ -26,18 +26,18 @@ use overlay_walk::contour::Contour;
 use overlay_walk::kept_contours::kept_contours;
 use std::alloc::Allocator;
 
-/// Contours, and their places in shapes.
+/// Contours and their places in shapes.
 #[derive(Drop)]
 pub struct PlacedContours<I, A: Allocator> {
-    /// The contours, as they are found.
+    /// The contours, in the order in which they are found.
     pub contours: Vec<Contour<I, A>, A>,
-    /// For each shape the places of its contours among all, its outline first.
+    /// For each shape the places of its contours among all contours, its outline first.
     pub places: Vec<Vec<usize, A>, A>,
 }
 
-/// The contours round the region where the rules hold, and their places in the shapes that are found for
-/// them. The live edges are kept in a tree where there are `tree_from` shapes or more, and else in a list; the
-/// answer is the same. The only refusal is `Memory`.
+/// Returns the contours round the region where the rules hold, and their places in the shapes found for them. With
+/// `tree_from` or more shapes the live edges are kept in a tree, else in a list; the answer does not depend on it. The
+/// only refusal is `Memory`.
 pub fn placed_contours<I: IntNumber, C: EdgeCount, A: Allocator + Clone>(
     graph: &Graph<I, C, A>,
     overlay_rule: OverlayRule,
@@ -58,8 +58,8 @@ pub fn placed_contours<I: IntNumber, C: EdgeCount, A: Allocator + Clone>(
     Ok(PlacedContours { contours, places })
 }
 
-/// The places of the contours in the shapes that are found for them. The live edges are kept in a tree where there are
-/// `tree_from` shapes or more, and else in a list; the answer is the same. The only refusal is `Memory`.
+/// Returns the places of the contours in the shapes found for them. With `tree_from` or more shapes the live edges are
+/// kept in a tree, else in a list; the answer does not depend on it. The only refusal is `Memory`.
 pub fn bound_places<I: IntNumber, C: EdgeCount, A: Allocator + Clone>(
     graph: &Graph<I, C, A>,
     contours: &[Contour<I, A>],

@@ -13,18 +13,18 @@ use overlay_geom::number::IntNumber;
 use overlay_walk::contour::{Contour, Role};
 use std::alloc::Allocator;
 
-/// Which holes of a shape.
+/// A kind of holes of a shape.
 #[derive(Clone, Copy)]
 pub enum Holes {
-    /// Those of its outline's own group.
+    /// The holes of its outline's own group.
     OfGroups,
-    /// Those for which it is found.
+    /// The holes for which the shape is found.
     Found,
 }
 
-/// For each shape, in the order of the outlines, the places of its contours among all: of its outline, of
-/// the holes of the outline's own group, and then of those for which it is found, each in their order. A
-/// hole for which no shape is found stands nowhere. The only refusal is `Memory`.
+/// Returns for each shape, in the order of the outlines, the places of its contours among all contours. The outline
+/// comes first, then the holes of its group, then the holes for which the shape is found, each kind in order. A hole
+/// without a shape is left out. The only refusal is `Memory`.
 pub fn shape_places<I: IntNumber, A: Allocator + Clone>(
     alloc: A,
     contours: &[Contour<I, A>],
@@ -41,7 +41,7 @@ pub fn shape_places<I: IntNumber, A: Allocator + Clone>(
     Ok(places)
 }
 
-// For each outline a list of its place alone.
+// Returns for each outline a list that holds only its place.
 fn outline_places<I: IntNumber, A: Allocator + Clone>(
     alloc: A,
     contours: &[Contour<I, A>],
@@ -61,7 +61,7 @@ fn outline_places<I: IntNumber, A: Allocator + Clone>(
     Ok(places)
 }
 
-// Adds a list of this place alone.
+// Adds a list that holds only this place.
 fn push_alone<A: Allocator>(
     alloc: A,
     places: &mut Vec<Vec<usize, A>, A>,
@@ -77,7 +77,7 @@ fn push_alone<A: Allocator>(
     Ok(())
 }
 
-// Adds the places of these holes to those of their shapes.
+// Adds the places of these holes to the lists of their shapes.
 fn add_holes<I: IntNumber, A: Allocator>(
     places: &mut Vec<Vec<usize, A>, A>,
     contours: &[Contour<I, A>],
@@ -100,7 +100,7 @@ fn add_holes<I: IntNumber, A: Allocator>(
     Ok(())
 }
 
-// The number of the shape in which a contour is a hole of this kind.
+// Returns the number of the shape in which a contour is a hole of this kind, if it is one.
 fn number_as(role: Role, found: Option<usize>, holes: Holes) -> Option<usize>
     ensures { result ≡ number_as holes (plain_role role) found }
 {
@@ -111,7 +111,7 @@ fn number_as(role: Role, found: Option<usize>, holes: Holes) -> Option<usize>
     }
 }
 
-// Adds the place to those of the shape with this number, if there is one.
+// Adds the place to the list of the shape with this number, if there is a number.
 fn push_place<A: Allocator>(
     places: &mut Vec<Vec<usize, A>, A>,
     number: Option<usize>,

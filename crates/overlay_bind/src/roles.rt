@@ -1,4 +1,4 @@
-//! The shapes in which contours stand from the start, and how many shapes there are.
+//! The shapes of contours as far as they are known from the start, and the number of shapes.
 
 ghost use Rattle.std.specs.Prelude.{◌≡◌, length, filter, IfOk, IsOkUnless};
 ghost use Rattle.overlay_plane.specs.BoundContours.{known_in};
@@ -10,8 +10,8 @@ use overlay_geom::number::IntNumber;
 use overlay_walk::contour::Contour;
 use std::alloc::Allocator;
 
-/// For each contour the number of the shape in which it stands from the start, or None for a hole whose
-/// shape is to be found. The only refusal is `Memory`.
+/// Returns for each contour the number of its shape if it is known from the start, or None for a hole whose shape is
+/// still to be found. The only refusal is `Memory`.
 pub fn shapes_known<I: IntNumber, A: Allocator>(
     alloc: A,
     contours: &[Contour<I, A>],
@@ -26,7 +26,7 @@ pub fn shapes_known<I: IntNumber, A: Allocator>(
     Ok(known)
 }
 
-/// Returns how many of the contours are outlines.
+/// Returns the number of outlines.
 pub fn shape_count<I: IntNumber, A: Allocator>(contours: &[Contour<I, A>]) -> usize
     ensures { result ≡ length (filter (λ c. is_outline c.role) (plain_contours I.whole contours.now)) }
 {

@@ -1,4 +1,4 @@
-//! The scans in which holes and islands are bound: a list or a tree, by the number of parents.
+//! The scans that bind holes and islands: a list or a tree, depending on the number of parents.
 
 ghost use Rattle.std.specs.Prelude.{◌≡◌, ◌≤◌, ◌↔◌, true, not, length, filter};
 ghost use Rattle.overlay_plane.specs.RoledContours.{is_outline};
@@ -12,11 +12,11 @@ use overlay_tree::either::EitherScan;
 use overlay_walk::contour::Contour;
 use std::alloc::Allocator;
 
-/// The number of parents from which on their live edges are kept in a tree: shapes for holes, and holes for
-/// islands. From there on the bound on visits counts; of fewer parents a list is short.
+/// The number of parents from which on live edges are kept in a tree. Parents are shapes for holes, and holes for
+/// islands. With fewer parents the list is short.
 pub const TREE_FROM_PARENTS: usize = 32;
 
-/// No live edges yet, in a tree where the contours have `tree_from` outlines or more, and else in a list.
+/// Makes a scan without edges for binding holes: a tree if the contours have `tree_from` or more outlines, else a list.
 pub fn scan_for_holes<I: IntNumber, A: Allocator>(
     alloc: A,
     contours: &[Contour<I, A>],
@@ -29,7 +29,7 @@ pub fn scan_for_holes<I: IntNumber, A: Allocator>(
     EitherScan::for_count(alloc, shape_count(contours), tree_from)
 }
 
-/// No live edges yet, in a tree where the contours have `tree_from` holes or more, and else in a list.
+/// Makes a scan without edges for binding islands: a tree if the contours have `tree_from` or more holes, else a list.
 pub fn scan_for_islands<I: IntNumber, A: Allocator>(
     alloc: A,
     contours: &[Contour<I, A>],

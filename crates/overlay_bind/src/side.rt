@@ -1,7 +1,6 @@
 //! The two sides of an edge.
 
-/// A side of an edge that is not vertical; of a vertical one the upper side is the left one of the walk
-/// from its lower end.
+/// A side of an edge. The upper side of a vertical edge is the left side of the step from its lower end.
 #[derive(Debug, Clone, Copy, PartialEq, Eq)]
 pub enum Side {
     /// The upper side.

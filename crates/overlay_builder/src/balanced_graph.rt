@@ -1,4 +1,4 @@
-//! The graph of an arrangement in which the counts are balanced.
+//! The graph of an arrangement with balanced counts.
 
 ghost use Rattle.std.specs.Prelude.{◌≡◌};
 ghost use Rattle.overlay_plane.specs.Balance.{HasBalancedCounts};
@@ -10,8 +10,8 @@ use overlay_geom::integer::OverlayInt;
 use std::alloc::Allocator;
 use std::marker::Model;
 
-/// The graph of an arrangement with balanced counts: as many steps of the subject, and of the clip, enter each
-/// point as leave it. Marks of strings are no counts.
+/// The graph of an arrangement with balanced counts: at each point, equally many steps of the subject enter and leave,
+/// and equally many of the clip. Marks of strings are not counts.
 #[derive(Drop)]
 pub struct BalancedGraph<I: OverlayInt, C: EdgeCount, A: Allocator> {
     graph: Graph<I, C, A>,
@@ -29,7 +29,7 @@ impl<I: OverlayInt, C: EdgeCount, A: Allocator> Model for BalancedGraph<I, C, A>
 }
 
 impl<I: OverlayInt, C: EdgeCount, A: Allocator> BalancedGraph<I, C, A> {
-    /// The graph, whose counts are balanced.
+    /// Wraps the graph, whose counts are balanced.
     pub fn new(graph: Graph<I, C, A>) -> Self
         requires { HasBalancedCounts (graph_edges graph) }
         ensures { result ≡ graph }
@@ -37,7 +37,7 @@ impl<I: OverlayInt, C: EdgeCount, A: Allocator> BalancedGraph<I, C, A> {
         BalancedGraph { graph }
     }
 
-    /// The graph.
+    /// Returns the graph.
     pub fn graph(&self) -> &Graph<I, C, A>
         ensures graph { result.now ≡ self.now }
         ensures balanced { HasBalancedCounts (graph_edges self.now) }

@@ -1,4 +1,4 @@
-//! The counts of an edge that a contour of the subject, or of the clip, passes once.
+//! The counts of an edge that a contour of the subject or of the clip passes once.
 
 ghost use Rattle.std.specs.Prelude.{◌≡◌};
 ghost use Rattle.overlay_arrange.specs.Content.{count_for};
@@ -9,7 +9,7 @@ use overlay_arrange::count::ShapeCountBoolean;
 use overlay_arrange::data::CountWithData;
 use overlay_arrange::options::ShapeType;
 
-/// The counts of an edge that the shape passes `count` times.
+/// Returns the counts of an edge that the shape passes `count` times.
 fn count_for(shape_type: ShapeType, count: i32) -> ShapeCountBoolean
     ensures { result ≡ count_for shape_type count }
 {
@@ -25,7 +25,7 @@ fn count_for(shape_type: ShapeType, count: i32) -> ShapeCountBoolean
     }
 }
 
-/// Returns the counts of an edge that a step of the subject, or of the clip, passes: 1 where the step runs from
+/// Returns the counts of an edge that a step of the subject or of the clip passes. They are 1 where the step runs from
 /// its smaller to its larger end, and -1 where it runs back.
 pub fn passing(shape_type: ShapeType) -> StepCounts<ShapeCountBoolean>
     ensures { result ≡ passing shape_type }
@@ -36,7 +36,7 @@ pub fn passing(shape_type: ShapeType) -> StepCounts<ShapeCountBoolean>
     }
 }
 
-/// Returns the counts of `passing` for edges that may carry data, without data.
+/// Returns the counts of `passing` without data, for edges that may carry data.
 pub fn passing_without_data(shape_type: ShapeType) -> StepCounts<CountWithData<()>>
     ensures { result ≡ passing_without_data shape_type }
 {
@@ -47,7 +47,7 @@ pub fn passing_without_data(shape_type: ShapeType) -> StepCounts<CountWithData<(
     }
 }
 
-/// The counts, and no data.
+/// Returns the counts without data.
 fn without_data(count: ShapeCountBoolean) -> CountWithData<()>
     ensures { result ≡ without_data count }
 {

@@ -1,4 +1,4 @@
-//! The core that builders share: the counted edges, and whether a query was refused.
+//! The core that builders share: counted edges, and a mark of a refused query.
 
 ghost use Rattle.std.specs.Prelude.{◌≡◌, ◌↔◌, ◌^◌, ◌<◌, false, [], if◌then◌else◌, All};
 ghost use Rattle.std.specs.Prelude.{Ok, Err, IfOk, OnOk, OnErr, IsOkUnless, IsErrOf};
@@ -27,8 +27,8 @@ use overlay_geom::solver::Solver;
 use std::alloc::Allocator;
 use std::marker::Model;
 
-/// The counted edges that a builder holds, and whether a query of it was refused since they were
-/// last dropped: then it answers `Failed`.
+/// The counted edges of a builder, and a mark that a query was refused since the edges were last dropped. While the
+/// mark is set, calls refuse with `Failed`.
 #[derive(Drop)]
 pub struct BuilderCore<I: IntNumber, C: EdgeCount, A: Allocator> {
     content: Content<I, C, A>,
@@ -45,7 +45,7 @@ impl<I: IntNumber, C: EdgeCount, A: Allocator> Model for BuilderCore<I, C, A> {
 }
 
 impl<I: IntNumber, C: EdgeCount, A: Allocator> BuilderCore<I, C, A> {
-    /// A core without edges, with room for `capacity` of them. The only refusal is `Memory`.
+    /// Makes a core without edges, with room for `capacity` edges. The only refusal is `Memory`.
     pub fn with_capacity(alloc: A, capacity: usize) -> Result<Self, OverlayError>
         ensures empty { IfOk result (λ b. b ≡ nothing_held) }
         ensures err { IsOkUnless result OverlayError.Memory }
@@ -56,7 +56,7 @@ impl<I: IntNumber, C: EdgeCount, A: Allocator> BuilderCore<I, C, A> {
         })
     }
 
-    /// Drops the edges and mends a failed core. It takes no memory.
+    /// Drops the edges and clears the mark of a refused query. It takes no memory.
     pub fn clear(&mut self)
         ensures { self.new ≡ nothing_held }
     {
@@ -64,7 +64,7 @@ impl<I: IntNumber, C: EdgeCount, A: Allocator> BuilderCore<I, C, A> {
         self.is_failed = false;
     }
 
-    /// The edges, in the coordinate range and lighter than 2^31.
+    /// Returns the edges, which are in the coordinate range and lighter than 2^31.
     pub fn content(&self) -> &Content<I, C, A>
         ensures edges { result.now ≡ self.now.edges }
         ensures content { IsContent I.limit (edges_in self.now.edges) }
@@ -73,12 +73,12 @@ impl<I: IntNumber, C: EdgeCount, A: Allocator> BuilderCore<I, C, A> {
         &self.content
     }
 
-    /// Adds the edge between two points, in the coordinate range, that carries `given`; where the first
-    /// point is the larger one, the reversed of that, and else the store stays. Between equal points there is
-    /// none. The counts of `given` weigh less than 2^31.
+    /// Adds the edge between two points in the coordinate range, carrying `given`. Where the first point is the larger
+    /// one, the edge carries the reverse of `given`; otherwise the store stays. Equal points add no edge. The counts of
+    /// `given` weigh less than 2^31.
     ///
-    /// Refusals, which leave the core and the store as they were: `Failed` before anything else,
-    /// `TooManyEdges` where the weight would come to 2^31, `Memory`.
+    /// Refusals leave the core and the store as they were: `Failed`, tested first, `TooManyEdges` where the weight
+    /// would reach 2^31, and `Memory`.
     pub fn add_step(
         &mut self,
         from: IntPoint<I>,
@@ -104,7 +104,7 @@ impl<I: IntNumber, C: EdgeCount, A: Allocator> BuilderCore<I, C, A> {
         added
     }
 
-    /// Refuses by `Failed` where a query was refused since the edges were last dropped.
+    /// Refuses with `Failed` where a query was refused since the edges were last dropped.
     pub fn check_usable(&self) -> Result<(), OverlayError>
         ensures { result ≡ (if self.now.failed then Err OverlayError.Failed else Ok tt) }
     {
@@ -114,7 +114,7 @@ impl<I: IntNumber, C: EdgeCount, A: Allocator> BuilderCore<I, C, A> {
         Ok(())
     }
 
-    /// Notes whether a query was refused.
+    /// Sets or clears the mark of a refused query.
     pub fn set_failed(&mut self, is_failed: bool)
         ensures { self.new ≡ record self.old { failed = is_failed } }
     {
@@ -123,10 +123,10 @@ impl<I: IntNumber, C: EdgeCount, A: Allocator> BuilderCore<I, C, A> {
 }
 
 impl<I: IntNumber, C: EdgeCount, A: Allocator + Clone> BuilderCore<I, C, A> {
-    /// Adds a path, as `add_path` does. Returns whether a point of it was left out.
+    /// Adds a path by the function `add_path`. Returns whether a point of it was left out.
     ///
-    /// Refusals, which leave the core as it was: `Failed` before anything else, `TooManyEdges` where
-    /// the weight would come to 2^31, `Memory`.
+    /// Refusals leave the core as it was: `Failed`, tested first, `TooManyEdges` where the weight would reach 2^31, and
+    /// `Memory`.
     pub fn add_path(
         &mut self,
         points: &[IntPoint<I>],
@@ -147,12 +147,11 @@ impl<I: IntNumber, C: EdgeCount, A: Allocator + Clone> BuilderCore<I, C, A> {
         added
     }
 
-    /// Adds all paths of the resource in order, each as `add_path` does. The points are in the
-    /// coordinate range.
+    /// Adds all paths of the resource in order, each by `add_path`. The points are in the coordinate range.
     ///
-    /// Refusals: `Failed` before anything else, and then nothing is changed; `TooManyEdges` at a
-    /// path that would bring the weight to 2^31; `Memory` at some path, it is not said which. After
-    /// these two exactly the paths before that one are added.
+    /// Refuses with `Failed`, tested first, which changes nothing. Refuses with `TooManyEdges` at a path that would
+    /// bring the weight to 2^31, and with `Memory` at some path. After these two, exactly the paths before it are
+    /// added.
     pub fn add_paths<R0: IntShapeResource<I>>(
         &mut self,
         resource: &R0,
@@ -172,7 +171,7 @@ impl<I: IntNumber, C: EdgeCount, A: Allocator + Clone> BuilderCore<I, C, A> {
         Ok(())
     }
 
-    /// Brings the edges into an arrangement by this solver, and returns whether some were cut. A refusal leaves the
+    /// Brings the edges into an arrangement by this solver, and returns whether an edge was cut. A refusal leaves the
     /// core failed.
     pub fn arrange(&mut self, solver: Solver, store: &mut C::Store) -> Result<bool, OverlayError>
         ensures query { AnswersQuery I.limit solver (plain_held self.old) (plain_held self.new) result }

@@ -21,27 +21,27 @@ use overlay_geom::thin::thinned;
 use std::alloc::Allocator;
 use std::cmp::Ordering;
 
-/// How the points of a path are taken.
+/// Way in which the points of a path are taken.
 #[derive(Debug, Clone, Copy, PartialEq)]
 pub enum PathKind {
-    /// As they are; no step leads from the last point to the first.
+    /// All points; no step leads from the last point to the first.
     Open,
-    /// As they are; a step leads from the last point to the first.
+    /// All points; a step leads from the last point to the first.
     Closed,
-    /// Without those on one line with their two neighbours; a step leads from the last to the first.
+    /// The points without those collinear with their two neighbours; a step leads from the last point to the first.
     Thinned,
 }
 
-/// The value of an edge that one step of a path passes.
+/// The counts that a step adds to its edge.
 #[derive(Clone, Copy)]
 pub struct StepCounts<C> {
-    /// Where the step runs from the edge's smaller to its larger end.
+    /// The counts where the step runs from the edge's smaller to its larger end.
     pub along: C,
-    /// Where it runs back.
+    /// The counts where the step runs back.
     pub back: C,
 }
 
-// The counted edge of the step between two points, if they differ.
+// Returns the counted edge of the step between two points, if they differ.
 fn step_edge<I: IntNumber, C: EdgeCount>(
     from: IntPoint<I>,
     to: IntPoint<I>,
@@ -89,8 +89,8 @@ fn push_step<I: IntNumber, C: EdgeCount, A: Allocator>(
     Ok(())
 }
 
-// Adds the edges of the steps from a point through a list of points, and of one back to it if asked;
-// a part of them if it is refused.
+// Adds the edges of the steps from a point through a list of points, and of the step back to it if `is_closed`. On a
+// refusal some of them may stay.
 fn push_through<I: IntNumber, C: EdgeCount, A: Allocator>(
     content: &mut Content<I, C, A>,
     first: IntPoint<I>,
@@ -122,7 +122,7 @@ fn push_through<I: IntNumber, C: EdgeCount, A: Allocator>(
     Ok(())
 }
 
-// Adds the edges of a path's steps, or, where they are refused, none of them.
+// Adds the edges of a path's steps, or none of them on a refusal.
 fn push_path<I: IntNumber, C: EdgeCount, A: Allocator>(
     content: &mut Content<I, C, A>,
     points: &[IntPoint<I>],
@@ -150,12 +150,11 @@ fn push_path<I: IntNumber, C: EdgeCount, A: Allocator>(
     pushed
 }
 
-/// Adds the edges of a path's steps to a content, one edge for each step that leads from a point to a
-/// different one, with what `passing` says. Returns whether a point of the path was left out, as may
-/// be where it is thinned. The points are in the coordinate range, and a step weighs less than 2^31.
+/// Adds the edges of a path's steps to the content: an edge for each step between two different points, with its counts
+/// in `passing`. Returns whether a point of the path was left out, which happens only to a thinned path. The points are
+/// in the coordinate range, and a step weighs less than 2^31.
 ///
-/// Refusals, which leave the content as it was: `TooManyEdges` where its weight would come to 2^31,
-/// `Memory`.
+/// Refusals leave the content as it was: `TooManyEdges` where its weight would reach 2^31, and `Memory`.
 pub fn add_path<I: IntNumber, C: EdgeCount, A: Allocator + Clone>(
     content: &mut Content<I, C, A>,
     points: &[IntPoint<I>],
@@ -180,7 +179,7 @@ pub fn add_path<I: IntNumber, C: EdgeCount, A: Allocator + Clone>(
     }
 }
 
-// Adds the edges of a path's steps; no point of it is left out.
+// Adds the edges of a path's steps, and leaves no point out.
 fn add_given<I: IntNumber, C: EdgeCount, A: Allocator>(
     content: &mut Content<I, C, A>,
     points: &[IntPoint<I>],
@@ -202,8 +201,7 @@ fn add_given<I: IntNumber, C: EdgeCount, A: Allocator>(
     Ok(false)
 }
 
-// Adds the edges of a contour's steps without the points on one line with their two neighbours, and
-// returns whether there were such points.
+// Adds the edges of a thinned contour's steps, and returns whether thinning left points out.
 fn add_thinned<I: IntNumber, C: EdgeCount, A: Allocator + Clone>(
     content: &mut Content<I, C, A>,
     points: &[IntPoint<I>],
@@ -225,7 +223,7 @@ fn add_thinned<I: IntNumber, C: EdgeCount, A: Allocator + Clone>(
     Ok(bent.len() < points.len())
 }
 
-/// Returns how a contour is taken: as it is where its points are to be kept, else thinned.
+/// Returns the way in which a contour is taken: with all points where they are kept, else thinned.
 pub fn contour_kind(keeps_points: bool) -> PathKind
     ensures { result ≡ contour_kind keeps_points }
 {

@@ -1,4 +1,4 @@
-//! The points of a path that an iterator gives.
+//! The points that an iterator gives.
 
 ghost use Rattle.std.specs.Prelude.{IfOk, IsOkUnless};
 ghost use Rattle.std.specs.Iterator.{Drains, IsFinite};
@@ -8,7 +8,7 @@ use overlay_geom::number::IntNumber;
 use overlay_geom::point::IntPoint;
 use std::alloc::Allocator;
 
-/// The points that the iterator gives, in order. The only refusal is `Memory`.
+/// Returns the points that the iterator gives, in order. The only refusal is `Memory`.
 pub fn gathered<I: IntNumber, A: Allocator, P: Iterator<Item = IntPoint<I>> + Drop>(
     alloc: A,
     iter: P,

@@ -1,4 +1,4 @@
-//! A single step as a counted edge, with what it carries.
+//! A single step as a counted edge, with the data it carries.
 
 ghost use Rattle.std.specs.Prelude.{◌≡◌, ◌^◌, ◌<◌, ◌⊎◌, IfErr, OnOk, OnErr, IsErrOf};
 ghost use Rattle.overlay_geom.specs.Counts.{weight_of_counts};
@@ -14,9 +14,8 @@ use overlay_geom::point::IntPoint;
 use std::alloc::Allocator;
 use std::cmp::Ordering;
 
-/// Adds the edge of the step between two points, if they differ: it carries what is given, or, where the
-/// step runs back, the reversed of that, and else the store stays. A refusal leaves the content and the store as
-/// they were.
+/// Adds the edge of the step between two points, if they differ. It carries `given`. Where the step runs back, it
+/// carries the reverse of `given`; otherwise the store stays. A refusal leaves the content and the store as they were.
 pub(crate) fn push_step<I: IntNumber, C: EdgeCount, A: Allocator>(
     content: &mut Content<I, C, A>,
     from: IntPoint<I>,

@@ -1,3 +1,3 @@
-//! The setting of how edges are split where they meet.
+//! Settings of how edges are split where they meet.
 
 pub use overlay_geom::solver::Solver;

@@ -1,4 +1,4 @@
-//! Shapes put together of contours: each outline, and then the holes that stand in its shape.
+//! Shapes assembled from contours: each outline, followed by the holes of its shape.
 
 ghost use Rattle.std.specs.Prelude.{◌≡◌, ◌<◌, length, map, All, IfOk, IsOkUnless};
 ghost use Rattle.std.specs.List.{AllZip};
@@ -21,8 +21,8 @@ use overlay_walk::contour::Contour;
 use overlay_walk::step::Step;
 use std::alloc::Allocator;
 
-/// Returns the shapes whose contours stand at these places. The points are those at which the steps begin; unless
-/// they are to be kept, those on one line with their two neighbours are dropped. The only refusal is `Memory`.
+/// Returns the shapes with the contours at these places. The points of a contour are the starts of its steps. Unless
+/// `keeps_points`, points collinear with their two neighbours are dropped. The only refusal is `Memory`.
 pub fn assembled<I: IntNumber, A: Allocator + Clone>(
     alloc: A,
     contours: &[Contour<I, A>],
@@ -43,7 +43,7 @@ pub fn assembled<I: IntNumber, A: Allocator + Clone>(
     Ok(shapes)
 }
 
-// The shape of which the contours stand at these places.
+// Returns the shape with the contours at these places.
 fn shape_at<I: IntNumber, A: Allocator + Clone>(
     alloc: A,
     contours: &[Contour<I, A>],
@@ -64,8 +64,8 @@ fn shape_at<I: IntNumber, A: Allocator + Clone>(
     }
     Ok(shape)
 }
-/// The points at which the steps of the walk begin, without those on one line with their two
-/// neighbours unless they are to be kept. The only refusal is `Memory`.
+/// Returns the points at which the steps of the walk begin. Unless `keeps_points`, points collinear with their two
+/// neighbours are dropped. The only refusal is `Memory`.
 pub fn contour<I: IntNumber, A: Allocator + Clone>(
     alloc: A,
     walk: &[Step<I>],
@@ -83,7 +83,7 @@ pub fn contour<I: IntNumber, A: Allocator + Clone>(
     thinned(alloc, &points)
 }
 
-// The points at which the steps of the walk begin.
+// Returns the points at which the steps of the walk begin.
 fn points_of<I: IntNumber, A: Allocator>(
     alloc: A,
     walk: &[Step<I>],

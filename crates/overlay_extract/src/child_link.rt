@@ -9,10 +9,10 @@ use overlay_geom::error::OverlayError;
 use std::alloc::Allocator;
 use std::cmp::Ordering;
 
-/// A shape that lies in a hole of another. Links are ordered by their fields in order.
+/// A shape that lies in a hole of another shape. Links are ordered by their fields, in the order of the fields.
 #[derive(Debug, Clone, Copy, PartialEq, Eq, PartialOrd, Ord)]
 pub struct ChildLink {
-    /// The number of the shape to which the hole belongs, counted from 0.
+    /// The number of the shape that has the hole, counted from 0.
     pub parent_shape_index: usize,
     /// The place of the hole among the contours of all shapes, counted from 0.
     pub parent_contour_index: usize,
@@ -20,9 +20,8 @@ pub struct ChildLink {
     pub child_shape_index: usize,
 }
 
-/// Returns how two links compare in the order that is derived: by the number of the parent shape, then by the
-/// place of the hole, then by the number of the shape in it. It is the law that the order of the fields is this
-/// one, and agrees with `==`.
+/// Compares two links in the derived order: by the number of the parent shape, then by the place of the hole, then by
+/// the number of the child shape. This is the law of that order, which agrees with `==`.
 pub fn order_of_links(k: &ChildLink, l: &ChildLink) -> Ordering
     ensures order { result ≡ link_order (plain_link k.now) (plain_link l.now) }
     ensures before { is_lt result ≡ is_link_before k.now l.now }
@@ -31,7 +30,7 @@ pub fn order_of_links(k: &ChildLink, l: &ChildLink) -> Ordering
     k.cmp(l)
 }
 
-/// Puts the links in order. The only refusal is `Memory`, after which they stand in some order.
+/// Sorts the links. The only refusal is `Memory`, after which they stand in some order.
 pub(crate) fn sort_links<A: Allocator>(links: &mut Vec<ChildLink, A>) -> Result<(), OverlayError>
     ensures permutation { IsPermutation links.old.items links.new.items }
     ensures order { OnOk result (AreInOrder links.new.items) }

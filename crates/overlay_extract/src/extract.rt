@@ -1,4 +1,4 @@
-//! The contours round the region where rules hold: bound to shapes, or in one list.
+//! The contours round the region where rules hold: bound to shapes, or in a list.
 
 ghost use Rattle.std.specs.Prelude.{◌≡◌, [], map, All, IfOk, OnOk, OnErr, IsOkUnless};
 ghost use Rattle.std.specs.List.{AllZip};
@@ -30,11 +30,11 @@ use overlay_walk::selected_walks::selected_walks;
 use overlay_walk::step::Step;
 use std::alloc::Allocator;
 
-/// The shapes round the region where the rules hold, that of the graph and the overlay rule, of the
-/// windings that the graph's edges make: the outline of each, and then its holes, both in the order in
-/// which they are found. With `ogc` no contour visits a point twice, and the holes of an outline's own group
-/// come before the others of its shape. Contours below the minimum area are left out, a hole of an outline's
-/// group with its outline. The buffer lends its room. The only refusal is `Memory`.
+/// Returns the shapes round the region where the graph's fill rule and the overlay rule hold of the windings of the
+/// graph's edges. Each shape is its outline and then its holes, both in the order in which they are found. With `ogc`
+/// no contour visits a point twice, and the holes of an outline's own group come before the other holes of its shape.
+/// Contours below the minimum area are left out; an outline left out takes the holes of its group with it. The buffer
+/// lends its room. The only refusal is `Memory`.
 pub fn extract_shapes<I: IntNumber, C: EdgeCount, A: Allocator + Clone>(
     graph: &Graph<I, C, A>,
     overlay_rule: OverlayRule,
@@ -50,8 +50,8 @@ pub fn extract_shapes<I: IntNumber, C: EdgeCount, A: Allocator + Clone>(
     extract_shapes_with_trees_from(graph, overlay_rule, options, buffer, TREE_FROM_PARENTS)
 }
 
-/// The shapes that [`extract_shapes`] gives, for a limit of the caller's: where there are `tree_from` shapes or
-/// more their live edges are kept in a tree, and else in a list. The only refusal is `Memory`.
+/// Returns the shapes that [`extract_shapes`] gives, with a limit given by the caller. With `tree_from` or more shapes
+/// the live edges are kept in a tree, else in a list. The only refusal is `Memory`.
 pub fn extract_shapes_with_trees_from<I: IntNumber, C: EdgeCount, A: Allocator + Clone>(
     graph: &Graph<I, C, A>,
     overlay_rule: OverlayRule,
@@ -71,10 +71,9 @@ pub fn extract_shapes_with_trees_from<I: IntNumber, C: EdgeCount, A: Allocator +
     assembled(alloc, &placed.contours, &placed.places, keeps_points)
 }
 
-/// The contours round the region where the rules hold, as they are found, one behind the other in the
-/// output. They are cut without groups, whatever the options say. Contours below the minimum area are
-/// left out. What the output held is dropped. The buffer lends its room. The only refusal is `Memory`,
-/// and then the output is empty.
+/// Writes the contours round the region where the rules hold to the output, in the order in which they are found. They
+/// are cut without groups, whatever the options say. Contours below the minimum area are left out. The earlier content
+/// of the output is dropped. The buffer lends its room. The only refusal is `Memory`, after which the output is empty.
 pub fn extract_contours<I: IntNumber, C: EdgeCount, A: Allocator + Clone, B: Allocator>(
     graph: &Graph<I, C, A>,
     overlay_rule: OverlayRule,
@@ -108,7 +107,7 @@ pub fn emptied<I: IntNumber, B: Allocator>(output: &mut FlatContoursBuffer<I, B>
     output.ranges.clear();
 }
 
-// Writes the contours into the output, which is empty at first. Where it is refused some may stand.
+// Writes the contours to the output, which is empty at first. On a refusal some of them may stay.
 fn write_contours<I: IntNumber, C: EdgeCount, A: Allocator + Clone, B: Allocator>(
     graph: &Graph<I, C, A>,
     overlay_rule: OverlayRule,
@@ -152,8 +151,7 @@ fn add_contours<I: IntNumber, A: Allocator + Clone, B: Allocator>(
     Ok(())
 }
 
-// The walks that the selected steps of the graph are cut into without groups, as far as they reach the
-// minimum area.
+// Returns the walks of the graph's selected steps, cut without groups, that reach the minimum area.
 fn kept_walks<I: IntNumber, C: EdgeCount, A: Allocator + Clone>(
     graph: &Graph<I, C, A>,
     overlay_rule: OverlayRule,

@@ -1,4 +1,4 @@
-//! Shapes in one list, and links from holes to the shapes in them.
+//! Shapes in a flat buffer, and links from holes to the shapes in them.
 
 ghost use Rattle.std.specs.Prelude.{◌≡◌, [], map, IfOk, IsOk, IsOkUnless};
 ghost use Rattle.overlay_geom.specs.Flat.{shapes_in};
@@ -25,19 +25,19 @@ use overlay_geom::number::IntNumber;
 use overlay_walk::buffer::BooleanExtractionBuffer;
 use std::alloc::Allocator;
 
-/// Shapes in one list, and the links from them to the shapes that lie in their holes.
+/// Shapes in a flat buffer, and links to the shapes that lie in their holes.
 #[derive(Drop)]
 #[derive_where(Debug, PartialEq, Eq; I)]
 pub struct FlatShapeHierarchy<I, A: Allocator> {
     /// The shapes.
     pub shapes: FlatShapesBuffer<I, A>,
-    /// A link for each shape that lies in a hole of another, in order.
+    /// A link for each shape that lies in a hole of another shape, in order.
     pub links: Vec<ChildLink, A>,
 }
 
 impl<I: IntNumber, A: Allocator + Clone> FlatShapeHierarchy<I, A> {
-    /// No shapes, and no links. Their memory will be that of the allocator; none is taken yet. It is refused
-    /// only where a copy of the allocator is.
+    /// Makes a hierarchy without shapes and links, which will take its memory from the allocator. It takes none yet. It
+    /// is refused only where a copy of the allocator is refused.
     pub fn default(alloc: A) -> Result<Self, OverlayError>
         ensures points { IfOk result (λ h. h.shapes.points.items ≡ []) }
         ensures contour_ranges { IfOk result (λ h. h.shapes.contour_ranges.items ≡ []) }
@@ -51,8 +51,7 @@ impl<I: IntNumber, A: Allocator + Clone> FlatShapeHierarchy<I, A> {
         Ok(FlatShapeHierarchy { shapes, links })
     }
 
-    /// Returns an equal hierarchy: the same points, ranges and links, in lists of its own. The only refusal
-    /// is `Memory`.
+    /// Returns a copy with the same points, ranges and links. The only refusal is `Memory`.
     pub fn clone(&self) -> Result<Self, OverlayError>
         ensures points { IfOk result (λ h. h.shapes.points.items ≡ self.now.shapes.points.items) }
         ensures contour_ranges { IfOk result
@@ -69,12 +68,12 @@ impl<I: IntNumber, A: Allocator + Clone> FlatShapeHierarchy<I, A> {
     }
 }
 
-/// The shapes that [`extract_shapes`](crate::extract::extract_shapes) gives, in one list with nothing
-/// between them, and the links from them to the shapes that lie in their holes.
+/// Returns the shapes that [`extract_shapes`](crate::extract::extract_shapes) gives, packed without gaps, and the links
+/// to the shapes that lie in their holes.
 ///
-/// A shape lies in a hole where the next filled-below edge below its outline's leftmost lowest point is one
-/// of the hole, or of the outline of another shape that lies in it. Contours are looked at as they are before
-/// points on one line are dropped. The buffer lends its room. The only refusal is `Memory`.
+/// Let e be the next filled-below edge below the leftmost lowest point of a shape's outline. The shape lies in a hole
+/// if e belongs to the hole, or to the outline of another shape in it. Collinear points count here. The buffer lends
+/// its room. The only refusal is `Memory`.
 pub fn extract_shape_hierarchy<I: IntNumber, C: EdgeCount, A: Allocator + Clone>(
     graph: &Graph<I, C, A>,
     overlay_rule: OverlayRule,
@@ -93,9 +92,8 @@ pub fn extract_shape_hierarchy<I: IntNumber, C: EdgeCount, A: Allocator + Clone>
     extract_shape_hierarchy_with_trees_from(graph, overlay_rule, options, buffer, TREE_FROM_PARENTS)
 }
 
-/// The hierarchy that [`extract_shape_hierarchy`] gives, for a limit of the caller's: where there are `tree_from`
-/// shapes or more, or holes, their live edges are kept in a tree, and else in a list. The only refusal is
-/// `Memory`.
+/// Returns the hierarchy that [`extract_shape_hierarchy`] gives, with a limit given by the caller. With `tree_from` or
+/// more shapes, or holes, their live edges are kept in a tree, else in a list. The only refusal is `Memory`.
 pub fn extract_shape_hierarchy_with_trees_from<I: IntNumber, C: EdgeCount, A: Allocator + Clone>(
     graph: &Graph<I, C, A>,
     overlay_rule: OverlayRule,

@@ -12,8 +12,8 @@ use overlay_geom::number::IntNumber;
 use overlay_walk::contour::{Contour, Role};
 use std::alloc::Allocator;
 
-/// The contours at these places, shape by shape: of each the first is its outline, and the others are holes
-/// of the outline's group. The only refusal is `Memory`.
+/// Returns the contours at these places, shape by shape. The first contour of each shape is its outline, and the others
+/// are holes of the outline's group. The only refusal is `Memory`.
 pub(crate) fn in_shapes<I: IntNumber, A: Allocator + Clone>(
     alloc: A,
     contours: &[Contour<I, A>],
@@ -32,7 +32,7 @@ pub(crate) fn in_shapes<I: IntNumber, A: Allocator + Clone>(
     Ok(ordered)
 }
 
-// Adds the contours at these places as those of the shape with this number.
+// Adds the contours at these places, as those of the shape with this number.
 fn push_shape<I: IntNumber, A: Allocator + Clone>(
     alloc: &A,
     ordered: &mut Vec<Contour<I, A>, A>,
@@ -55,7 +55,7 @@ fn push_shape<I: IntNumber, A: Allocator + Clone>(
     Ok(())
 }
 
-// What the contour at this place of the shape with this number is: its outline comes first.
+// Returns the role of the contour at this place in the shape with this number: the outline comes first.
 fn role_at(number: usize, place: usize) -> Role
     ensures { plain_role result ≡ role_at number place }
 {

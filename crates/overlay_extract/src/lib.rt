@@ -1,5 +1,5 @@
-//! The contours round the region where rules hold of a graph's windings, in shapes or in one list, and which shapes
-//! lie in holes of which.
+//! The contours round the region where rules hold of a graph's windings, in shapes or in a list, and the hole that each
+//! shape lies in.
 #![tactic(auto)]
 
 pub mod assemble;

@@ -1,4 +1,4 @@
-//! The links of contours that stand in shapes.
+//! The links of contours placed in shapes.
 
 ghost use Rattle.std.specs.Prelude.{◌≡◌, ◌<◌, length, map, option_map, All, IfOk, IfSome, IsOkUnless};
 ghost use Rattle.overlay_plane.specs.BoundContours.{walks_in};
@@ -18,9 +18,9 @@ use overlay_geom::number::IntNumber;
 use overlay_walk::contour::Contour;
 use std::alloc::Allocator;
 
-/// The links of contours that all stand in shapes, shape by shape, in order: for each shape in a hole of another
-/// the other shape, the place of the hole among the contours, and the shape. The live edges are kept in a tree
-/// where there are `tree_from` holes or more, and else in a list; the answer is the same. The only refusal is
+/// Returns the links of contours that all stand in shapes, shape by shape, in order. Each shape in a hole of another
+/// shape has a link: the other shape, the place of the hole among the contours, and the shape. With `tree_from` or more
+/// holes the live edges are kept in a tree, else in a list; the answer does not depend on it. The only refusal is
 /// `Memory`.
 pub(crate) fn links<I: IntNumber, A: Allocator + Clone>(
     alloc: A,
@@ -43,7 +43,7 @@ pub(crate) fn links<I: IntNumber, A: Allocator + Clone>(
     Ok(links)
 }
 
-// The links of the shapes to the holes round them, in the order of the shapes.
+// Returns the links of the shapes to the holes round them, in the order of the shapes.
 fn links_by<I: IntNumber, A: Allocator>(
     alloc: A,
     contours: &[Contour<I, A>],
@@ -63,7 +63,7 @@ fn links_by<I: IntNumber, A: Allocator>(
     Ok(links)
 }
 
-// The link of a shape to the hole at this place, if there is one and it stands in a shape.
+// Returns the link of a shape to the hole at this place, if there is a hole and it belongs to a shape.
 fn link_at<I: IntNumber, A: Allocator>(
     contours: &[Contour<I, A>],
     child: usize,

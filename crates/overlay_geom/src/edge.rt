@@ -8,13 +8,12 @@ use crate::number::IntNumber;
 use crate::point::IntPoint;
 use std::cmp::Ordering;
 
-/// An edge between two points, held with the smaller end first: the one with the smaller x, and at
-/// equal x the one with the smaller y.
+/// An edge between two different points, held with the smaller end first. Points are ordered by x, then by y.
 #[derive(Debug, Clone, Copy, PartialEq, Eq)]
 pub struct IntEdge<I> {
-    /// Its smaller end.
+    /// The smaller end.
     pub a: IntPoint<I>,
-    /// Its larger end.
+    /// The larger end.
     pub b: IntPoint<I>,
 }
 
@@ -28,7 +27,7 @@ pub fn compare_points<I: IntNumber>(p: IntPoint<I>, q: IntPoint<I>) -> Ordering
     }
 }
 
-/// Returns the edge of the step between two points in range, if they differ.
+/// Returns the edge between two points in range, or nothing where the points are equal.
 pub fn edge_between<I: IntNumber>(from: IntPoint<I>, to: IntPoint<I>) -> Option<IntEdge<I>>
     requires from { InRange I.limit (plain_point I.whole from) }
     requires to { InRange I.limit (plain_point I.whole to) }

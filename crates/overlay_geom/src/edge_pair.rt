@@ -1,4 +1,4 @@
-//! Whether two edges meet in ends alone.
+//! Tests whether two edges meet in ends alone.
 
 ghost use Rattle.std.specs.Prelude.{◌≡◌, ◌↔◌, pos, IsTrue};
 ghost use Rattle.std.specs.Ordering.{int_cmp};
@@ -14,19 +14,18 @@ use crate::point::IntPoint;
 use crate::vector::cross_at;
 use std::cmp::Ordering;
 
-/// Where an edge lies by the line of another one.
+/// Position of an edge relative to the line through another edge.
 #[derive(Clone, Copy)]
 pub enum Place {
-    /// Both ends lie on the line.
+    /// Both ends lie on the line: the edges are collinear.
     Along,
     /// Both ends lie strictly on one side.
     Beside,
-    /// It goes from one side to the other, or to or from the line.
+    /// The ends lie on different sides, or exactly one of them lies on the line.
     Across,
 }
 
-/// Returns whether every point that the two edges have in common is an end of both. An edge does
-/// not meet itself so.
+/// Returns whether every point that the two edges share is an end of both. For an edge and itself it returns false.
 pub fn meet_in_ends<I: IntNumber>(e: IntEdge<I>, f: IntEdge<I>) -> bool
     requires one { IsLongEdge I.limit (plain_edge I.whole e) }
     requires other { IsLongEdge I.limit (plain_edge I.whole f) }
@@ -39,7 +38,7 @@ pub fn meet_in_ends<I: IntNumber>(e: IntEdge<I>, f: IntEdge<I>) -> bool
     }
 }
 
-/// Returns where f lies by the line of e.
+/// Returns the position of `f` relative to the line through `e`.
 pub fn place_by<I: IntNumber>(e: IntEdge<I>, f: IntEdge<I>) -> Place
     requires one { IsLongEdge I.limit (plain_edge I.whole e) }
     requires other { IsLongEdge I.limit (plain_edge I.whole f) }
@@ -56,8 +55,8 @@ pub fn place_by<I: IntNumber>(e: IntEdge<I>, f: IntEdge<I>) -> Place
     }
 }
 
-// To which side one turns from the way from v to p into that from v to q: greater is left, equal
-// is straight or back.
+// Returns the turn from the direction v to p into the direction v to q: `Greater` is left, `Less` is right, `Equal` is
+// straight on or back.
 fn turn<I: IntNumber>(v: IntPoint<I>, p: IntPoint<I>, q: IntPoint<I>) -> Ordering
     requires v { InRange I.limit (plain_point I.whole v) }
     requires p { InRange I.limit (plain_point I.whole p) }
@@ -68,21 +67,21 @@ fn turn<I: IntNumber>(v: IntPoint<I>, p: IntPoint<I>, q: IntPoint<I>) -> Orderin
     cross_at(v, p, q).sign()
 }
 
-// Whether two edges on one line share more than an end.
+// Returns whether two collinear edges share more than an end.
 fn overlaps<I: IntNumber>(e: IntEdge<I>, f: IntEdge<I>) -> bool
     ensures { result ≡ do_overlap (plain_edge I.whole e) (plain_edge I.whole f) }
 {
     compare_points(e.a, f.b).is_lt() && compare_points(f.a, e.b).is_lt()
 }
 
-// Whether an end of the one edge is an end of the other one.
+// Returns whether the two edges share an end.
 fn shares_end<I: IntNumber>(e: IntEdge<I>, f: IntEdge<I>) -> bool
     ensures { result ≡ share_end (plain_edge I.whole e) (plain_edge I.whole f) }
 {
     is_same(e.a, f.a) || is_same(e.a, f.b) || is_same(e.b, f.a) || is_same(e.b, f.b)
 }
 
-/// Returns whether two points are one.
+/// Returns whether two points are equal.
 pub fn is_same<I: IntNumber>(p: IntPoint<I>, q: IntPoint<I>) -> bool
     ensures { result ≡ point_eq (plain_point I.whole p) (plain_point I.whole q) }
 {

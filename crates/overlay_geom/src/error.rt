@@ -6,20 +6,20 @@ ghost use Rattle.std.specs.Prelude.{◌≡◌};
 use std::alloc::{AllocError, AllocFailed};
 use thiserror::Error;
 
-/// Why a call refused to answer.
+/// Reason why a call refused.
 #[derive(Debug, PartialEq, Eq, Drop, Error)]
 pub enum OverlayError {
     /// Memory for a growth was refused.
     #[error("out of memory")]
     Memory,
-    /// After 64 rounds of splitting two different edges meet in a point that is not an end of both.
+    /// After 64 rounds of splitting, two different edges still meet in a point that is not an end of both.
     #[error("splitting did not settle")]
     NotSettled,
-    /// An addition, or a round of splitting, would bring the weight, the counts of all edges without
-    /// sign, to 2^31.
+    /// An addition or a round of splitting would bring the total weight to 2^31. The weight sums the absolute counts of
+    /// all edges.
     #[error("too many edges")]
     TooManyEdges,
-    /// An earlier query was refused, and the builder was not cleared since.
+    /// An earlier query was refused, and the builder was not cleared since then.
     #[error("builder failed")]
     Failed,
 }

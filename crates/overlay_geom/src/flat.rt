@@ -1,4 +1,4 @@
-//! Contours and shapes whose points stand in one list.
+//! Contours and shapes whose points are held in a single list.
 
 ghost use Rattle.std.specs.Prelude.{◌≡◌, ◌≤◌, IfOk, IsOkUnless};
 ghost use Rattle.overlay_geom.specs.Flat.{range_within, part_in};
@@ -10,7 +10,7 @@ use crate::error::OverlayError;
 use std::alloc::Allocator;
 use std::ops::Range;
 
-// The range itself if it is inside a list of this length, else one without places.
+// Returns the range itself if it lies inside a list of length `count`, else an empty range.
 fn range_within(range: &Range<usize>, count: usize) -> Range<usize>
     ensures value { result ≡ range_within count range.now }
     ensures begins { result.start ≤ result.end }
@@ -23,7 +23,7 @@ fn range_within(range: &Range<usize>, count: usize) -> Range<usize>
     }
 }
 
-// The items at the places of the range; none if it is not inside the list.
+// Returns the items in the range, or none if the range is not inside the list.
 fn part_in<'a, T>(items: &'a [T], range: &Range<usize>) -> &'a [T]
     ensures { result.now ≡ part_in items.now range.now }
 {
@@ -31,7 +31,7 @@ fn part_in<'a, T>(items: &'a [T], range: &Range<usize>) -> &'a [T]
     &items[within.start..within.end]
 }
 
-/// The items of the list in a list of their own. The only refusal is `Memory`.
+/// Returns a copy of the items in a new list. The only refusal is `Memory`.
 pub fn copied<T: Copy, A: Allocator>(alloc: A, items: &[T]) -> Result<Vec<T, A>, OverlayError>
     ensures ok { IfOk result (λ v. v.items ≡ items.now) }
     ensures only { IsOkUnless result OverlayError.Memory }
@@ -41,7 +41,7 @@ pub fn copied<T: Copy, A: Allocator>(alloc: A, items: &[T]) -> Result<Vec<T, A>,
     Ok(list)
 }
 
-// The ranges of the list in a list of their own.
+// Returns a copy of the ranges in a new list.
 fn copied_ranges<A: Allocator>(
     alloc: A,
     ranges: &[Range<usize>],

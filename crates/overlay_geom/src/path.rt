@@ -1,14 +1,13 @@
-//! Paths, contours and shapes, as lists of points, and a path that borrows its points.
+//! Paths, contours and shapes as lists of points, and a path that borrows its points.
 
 ghost use Rattle.std.specs.Prelude.{◌≡◌};
 
 use crate::point::IntPoint;
 
-/// The points of a path, in order from its first to its last one.
+/// The points of a path, in order from first to last.
 pub type IntPath<I, A> = Vec<IntPoint<I>, A>;
 
-/// The points of a closed contour, in order. Its last point is followed by its first one, which
-/// is not repeated.
+/// The points of a closed contour, in order. The first point follows the last again and is not repeated.
 pub type IntContour<I, A> = Vec<IntPoint<I>, A>;
 
 /// A shape: its outline, followed by its holes.
@@ -17,8 +16,8 @@ pub type IntShape<I, A> = Vec<IntContour<I, A>, A>;
 /// Several shapes.
 pub type IntShapes<I, A> = Vec<IntShape<I, A>, A>;
 
-/// A line, from its first end to its second one. Where a call says so, the smaller end stands first:
-/// the one with the smaller x, and at equal x the one with the smaller y.
+/// A line, from its first end to its second end. Where a call says so, the smaller end stands first; points are ordered
+/// by x, then by y.
 pub type IntLine<I> = [IntPoint<I>; 2];
 
 /// A path that borrows its points.
@@ -29,7 +28,7 @@ pub struct PathRef<'a, I> {
 }
 
 impl<'a, I> PathRef<'a, I> {
-    /// Returns the path through these points, in their order.
+    /// Makes the path through `points`, in their order.
     pub fn new(points: &'a [IntPoint<I>]) -> Self
         ensures { result.points.now ≡ points.now }
     {

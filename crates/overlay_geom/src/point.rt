@@ -1,4 +1,4 @@
-//! Points with whole coordinates, and the test whether they are in range.
+//! Points with whole coordinates, and the test whether points are in range.
 
 ghost use Rattle.std.specs.Prelude.{◌≡◌, ◌↔◌, IsTrue};
 ghost use Rattle.std.specs.Ordering.{ordering_then};
@@ -10,14 +10,14 @@ use std::cmp::Ordering;
 /// A point with whole coordinates, x to the right and y up. Points are ordered by x, then by y.
 #[derive(Debug, Clone, Copy, PartialEq, Eq, PartialOrd, Ord)]
 pub struct IntPoint<I> {
-    /// How far the point lies to the right of (0, 0).
+    /// The x-coordinate, to the right.
     pub x: I,
-    /// How far the point lies above (0, 0).
+    /// The y-coordinate, upwards.
     pub y: I,
 }
 
 impl<I> IntPoint<I> {
-    /// Returns the point with these coordinates, in range or not.
+    /// Makes the point with these coordinates, in range or not.
     pub fn new(x: I, y: I) -> Self
         ensures { result ≡ record { x = x; y = y } }
     {
@@ -25,8 +25,8 @@ impl<I> IntPoint<I> {
     }
 }
 
-/// How two points compare in the order that is derived: by x, then by y. It is the law that the
-/// order of the fields is this one; `==` is equality of both coordinates.
+/// Compares two points in the derived order: by x, then by y. This is the law of that order. `==` compares both
+/// coordinates.
 pub fn order_of_points<I: Ord>(p: &IntPoint<I>, q: &IntPoint<I>) -> Ordering
     ensures { result ≡ ordering_then (I.Ord.cmp p.now.x q.now.x) (I.Ord.cmp p.now.y q.now.y) }
 {
@@ -34,7 +34,7 @@ pub fn order_of_points<I: Ord>(p: &IntPoint<I>, q: &IntPoint<I>) -> Ordering
 }
 
 impl<I: IntNumber> IntPoint<I> {
-    // Whether both coordinates are in the coordinate range.
+    // Returns whether both coordinates are in range.
     fn is_in_range(self) -> bool
         ensures { IsTrue result ↔ InRange I.limit (plain_point I.whole self) }
     {
@@ -42,8 +42,8 @@ impl<I: IntNumber> IntPoint<I> {
     }
 }
 
-/// Returns whether every point is in the coordinate range, `|c| <= 2^(B-2) - 1` for B bits: so for
-/// no points, true. It takes no memory.
+/// Returns whether every point is in the coordinate range, `|c| <= 2^(B-2) - 1` for B bits. For no points it returns
+/// true. It takes no memory.
 pub fn in_range<I: IntNumber>(points: &[IntPoint<I>]) -> bool
     ensures { IsTrue result ↔ AllInRange I.limit (plain_points I.whole points.now) }
 {

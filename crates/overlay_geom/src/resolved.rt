@@ -1,4 +1,4 @@
-//! Whether a contour is resolved.
+//! Tests whether a contour is resolved.
 
 ghost use Rattle.std.specs.Prelude.{◌↔◌, ◌++◌, [], ◌∷◌, All, IsTrue};
 ghost use Rattle.overlay_geom.specs.Points.{plain_point, plain_points, InRange, AllInRange};
@@ -11,9 +11,8 @@ use crate::edge_pair::meet_in_ends;
 use crate::number::IntNumber;
 use crate::point::IntPoint;
 
-/// Returns whether two steps at different places of a contour never share a point that isn't an end
-/// of both: so for no points, true. The points are in range. It takes no memory, and tests all pairs
-/// of steps.
+/// Returns whether each point that two different steps of a contour share is an end of both. For no points it returns
+/// true. The points are in range. It takes no memory, and tests all pairs of steps.
 pub fn is_resolved<I: IntNumber>(points: &[IntPoint<I>]) -> bool
     requires { AllInRange I.limit (plain_points I.whole points.now) }
     ensures { IsTrue result ↔ IsResolved (plain_points I.whole points.now) }
@@ -24,7 +23,7 @@ pub fn is_resolved<I: IntNumber>(points: &[IntPoint<I>]) -> bool
     }
 }
 
-// Whether the steps from a point through a contour's points, and back to it, meet in ends alone.
+// Returns whether the steps from `first` through the contour's points and back to it meet in ends alone.
 fn is_round_resolved<I: IntNumber>(first: IntPoint<I>, contour: &[IntPoint<I>]) -> bool
     requires first { InRange I.limit (plain_point I.whole first) }
     requires contour { AllInRange I.limit (plain_points I.whole contour.now) }
@@ -41,8 +40,8 @@ fn is_round_resolved<I: IntNumber>(first: IntPoint<I>, contour: &[IntPoint<I>]) 
     true
 }
 
-// Whether the step between two points, if there is one, meets the steps from its end through the
-// later points to the last one in ends alone.
+// Returns whether the step from `from` to `to`, if the points differ, meets the later steps in ends alone. Those lead
+// from `to` through the later points to `last`.
 fn step_meets_later<I: IntNumber>(
     from: IntPoint<I>,
     to: IntPoint<I>,
@@ -63,7 +62,7 @@ fn step_meets_later<I: IntNumber>(
     }
 }
 
-// Whether the edge meets the steps from a point through others to the last one in ends alone.
+// Returns whether the edge meets the steps from `start` through the points to `last` in ends alone.
 fn meets_steps<I: IntNumber>(
     e: IntEdge<I>,
     start: IntPoint<I>,
@@ -87,7 +86,7 @@ fn meets_steps<I: IntNumber>(
     meets_step(e, from, last)
 }
 
-// Whether the edge meets the step between two points, if there is one, in ends alone.
+// Returns whether the edge meets the step between two points in ends alone. It is true where the points are equal.
 fn meets_step<I: IntNumber>(e: IntEdge<I>, from: IntPoint<I>, to: IntPoint<I>) -> bool
     requires edge { IsLongEdge I.limit (plain_edge I.whole e) }
     requires from { InRange I.limit (plain_point I.whole from) }

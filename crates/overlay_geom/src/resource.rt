@@ -1,4 +1,4 @@
-//! What has paths: a contour, a shape, several shapes, or a path that borrows its points.
+//! Sources of paths: a contour, a shape, several shapes, or a path that borrows its points.
 
 ghost use Rattle.std.specs.Prelude.{◌≡◌, ◌<◌, ◌∷◌, [], List, length, Some};
 ghost use Rattle.std.specs.List.{slice_get};
@@ -13,16 +13,16 @@ use crate::path::{IntContour, IntShape, IntShapes, PathRef};
 use crate::point::IntPoint;
 use std::alloc::Allocator;
 
-/// What has paths, one after another, numbered from 0.
+/// A source of paths, numbered from 0.
 pub trait IntShapeResource<I: IntNumber> {
     // The whole points of each path.
     ghost paths: { Self → List (List Point) };
 
-    /// Returns how many paths there are.
+    /// Returns the number of paths.
     fn path_count(&self) -> usize
         ensures { result ≡ length (paths self.now) };
 
-    /// Returns the points of the path with this number. It is below `path_count`.
+    /// Returns the points of path `index`, which is below `path_count`.
     fn path(&self, index: usize) -> &[IntPoint<I>]
         requires { index < length (paths self.now) }
         ensures { slice_get (paths self.now) index ≡ Some (plain_points I.whole result.now) };
@@ -46,12 +46,12 @@ impl<I: IntNumber, A: Allocator> IntShapeResource<I> for IntContour<I, A> {
 impl<I: IntNumber, A: Allocator> IntShapeResource<I> for IntShape<I, A> {
     ghost paths = { λ s. paths_of_shape I.whole s.items };
 
-    /// Returns how many contours the shape has.
+    /// Returns the number of contours of the shape.
     fn path_count(&self) -> usize {
         self.len()
     }
 
-    /// Returns the points of the contour with this number.
+    /// Returns the points of contour `index`.
     fn path(&self, index: usize) -> &[IntPoint<I>] {
         &self[index]
     }
@@ -60,13 +60,12 @@ impl<I: IntNumber, A: Allocator> IntShapeResource<I> for IntShape<I, A> {
 impl<I: IntNumber, A: Allocator> IntShapeResource<I> for IntShapes<I, A> {
     ghost paths = { λ ss. counted_paths (paths_of_shapes I.whole ss.items) };
 
-    /// Returns how many contours the shapes have together, at most `usize::MAX`.
+    /// Returns the number of contours of all shapes together, at most `usize::MAX`.
     fn path_count(&self) -> usize {
         count_contours(self)
     }
 
-    /// Returns the points of the contour with this number, where contours are counted through all
-    /// shapes, in order.
+    /// Returns the points of contour `index`, counted through all shapes in order.
     fn path(&self, index: usize) -> &[IntPoint<I>] {
         contour_at(self, index)
     }
@@ -80,14 +79,14 @@ impl<'a, I: IntNumber> IntShapeResource<I> for PathRef<'a, I> {
         1
     }
 
-    /// Returns the borrowed points, those of its path 0.
+    /// Returns the borrowed points, as path 0.
     fn path(&self, index: usize) -> &[IntPoint<I>] {
         let _ = index;
         self.points
     }
 }
 
-/// How many contours the shapes have together, at most `usize::MAX`.
+/// Returns the number of contours of all shapes together, at most `usize::MAX`.
 fn count_contours<I: IntNumber, A: Allocator>(shapes: &[IntShape<I, A>]) -> usize
     ensures { result ≡ length (counted_paths (paths_of_shapes I.whole shapes.now)) }
 {
@@ -98,7 +97,7 @@ fn count_contours<I: IntNumber, A: Allocator>(shapes: &[IntShape<I, A>]) -> usiz
     count
 }
 
-/// The points of the contour with this number, where contours are counted through all shapes.
+/// Returns the points of contour `index`, counted through all shapes in order.
 fn contour_at<I: IntNumber, A: Allocator>(shapes: &[IntShape<I, A>], index: usize) -> &[IntPoint<I>]
     requires { index < length (paths_of_shapes I.whole shapes.now) }
     ensures { slice_get (paths_of_shapes I.whole shapes.now) index

@@ -1,4 +1,4 @@
-//! Closed lists of points without the points that lie on one line with their neighbours.
+//! Thinning of closed lists of points: removal of collinear points.
 
 ghost use Rattle.std.specs.Prelude.{◌↔◌, ◌≤◌, [], ◌∷◌, ◌++◌, length, slice_range, IfOk, IsOkUnless, IsTrue};
 ghost use Rattle.overlay_geom.specs.Points.{plain_point, plain_points, InRange, AllInRange};
@@ -11,8 +11,8 @@ use crate::point::IntPoint;
 use crate::vector::cross_at;
 use std::alloc::Allocator;
 
-/// The closed list without the points that lie on one line with their two neighbours: they are
-/// dropped one by one until none is left.
+/// Returns the closed list without the points that are collinear with their two neighbours. It drops them one by one
+/// until none is left.
 pub fn thinned<I: IntNumber, A: Allocator>(
     alloc: A,
     points: &[IntPoint<I>],
@@ -30,8 +30,8 @@ pub fn thinned<I: IntNumber, A: Allocator>(
     Ok(bent)
 }
 
-// The points without those that lie on one line with the points before and after them, each one
-// dropped before the next one is read.
+// Returns the points without those that are collinear with the points before and after them. Each point is dropped
+// before the next is read.
 fn bent_inside<I: IntNumber, A: Allocator>(
     alloc: A,
     points: &[IntPoint<I>],
@@ -51,7 +51,7 @@ fn bent_inside<I: IntNumber, A: Allocator>(
     Ok(bent)
 }
 
-// Takes off the last point while it lies on one line with the one before it and the next point to come.
+// Removes last points while they are collinear with the point before them and `next`.
 fn pop_straight<I: IntNumber, A: Allocator>(bent: &mut Vec<IntPoint<I>, A>, next: IntPoint<I>)
     requires bent { IsBentInside (plain_points I.whole bent.old.items) }
     requires in_range { AllInRange I.limit (plain_points I.whole bent.old.items) }
@@ -66,8 +66,8 @@ fn pop_straight<I: IntNumber, A: Allocator>(bent: &mut Vec<IntPoint<I>, A>, next
     }
 }
 
-// From where to where the points are left once those are dropped one by one that lie on one line
-// with their two neighbours. Only the two ends can lie so, and of fewer than three points all do.
+// Returns the range of the points that are left once all points collinear with their two neighbours are dropped, one by
+// one. Only the two ends can be collinear so. Of fewer than three points none is left.
 fn bent_part<I: IntNumber>(points: &[IntPoint<I>]) -> (usize, usize)
     requires bent { IsBentInside (plain_points I.whole points.now) }
     requires in_range { AllInRange I.limit (plain_points I.whole points.now) }
@@ -90,7 +90,7 @@ fn bent_part<I: IntNumber>(points: &[IntPoint<I>]) -> (usize, usize)
     (from, from)
 }
 
-// Whether the three points lie on one line.
+// Returns whether the three points are collinear.
 fn is_straight<I: IntNumber>(u: IntPoint<I>, v: IntPoint<I>, w: IntPoint<I>) -> bool
     requires first { InRange I.limit (plain_point I.whole u) }
     requires second { InRange I.limit (plain_point I.whole v) }

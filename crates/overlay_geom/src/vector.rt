@@ -10,17 +10,17 @@ use crate::number::IntNumber;
 use crate::point::IntPoint;
 use std::ops::Sub;
 
-/// The way from one point to another, in the units of the coordinates.
+/// The vector from one point to another, in the units of the coordinates.
 #[derive(Debug, Clone, Copy, PartialEq, Eq)]
 pub struct IntVector<I> {
-    /// How far the way leads to the right.
+    /// Length to the right.
     pub x: I,
-    /// How far the way leads up.
+    /// Length upwards.
     pub y: I,
 }
 
 impl<I> IntVector<I> {
-    /// Returns the vector with these coordinates.
+    /// Makes the vector with these coordinates.
     pub fn new(x: I, y: I) -> Self
         ensures { result ≡ record { x = x; y = y } }
     {
@@ -29,9 +29,9 @@ impl<I> IntVector<I> {
 }
 
 impl<I: IntNumber> IntVector<I> {
-    /// Returns the cross product with another vector, `x * v.y - y * v.x`: positive where `v` points
-    /// to the left of this one, negative where it points to the right, 0 where they are parallel.
-    /// Both are differences of points in range, so it is exact.
+    /// Returns the cross product with another vector, `x * v.y - y * v.x`. It is positive where `v` points to the left
+    /// of this vector, negative to the right, and 0 where they are parallel. Both are differences of points in range,
+    /// so it is exact.
     pub fn cross_product(self, v: IntVector<I>) -> I::Wide
         requires this { InRange (2 * I.limit) (plain_way I.whole self) }
         requires other { InRange (2 * I.limit) (plain_way I.whole v) }
@@ -60,9 +60,8 @@ impl<I: IntNumber> Sub for IntPoint<I> {
     }
 }
 
-/// Returns the cross product of the ways from v to p and from v to q: positive where q lies to the
-/// left of the way from v to p, negative to the right, 0 where the three points lie on one line. It
-/// can be negated.
+/// Returns the cross product of the vectors from v to p and from v to q. It is positive where q lies to the left of the
+/// line from v to p, negative to the right, and 0 where the three points are collinear. It can be negated.
 pub fn cross_at<I: IntNumber>(v: IntPoint<I>, p: IntPoint<I>, q: IntPoint<I>) -> I::Wide
     requires v { InRange I.limit (plain_point I.whole v) }
     requires p { InRange I.limit (plain_point I.whole p) }

@@ -2,8 +2,7 @@
 
 ghost use Rattle.overlay_plane.specs.Adding.{AddingAddsWindings};
 
-/// An added contour adds its winding to those of its side, thinned or not, and nothing to those of
-/// the other.
+/// An added contour adds its winding to those of its side, thinned or not. It adds nothing to the other side.
 pub fn adding_adds_windings()
     ensures { AddingAddsWindings }
 {}

@@ -1,4 +1,4 @@
-//! Arrangements: what follows from the rounds by which they are reached.
+//! Arrangements: laws that follow from the rounds by which they are reached.
 
 ghost use Rattle.overlay_plane.specs.Arrangements.{ArrangementsHoldChains, WholeMeetingsAreExact};
 ghost use Rattle.overlay_plane.specs.Arrangements.{ArrangementsKeepBalance, ArrangedStaysArranged};
@@ -9,8 +9,8 @@ pub fn arrangements_hold_chains()
     ensures { ArrangementsHoldChains }
 {}
 
-/// Where edges meet only in whole points or overlap, what rounds reach is reached by one at most,
-/// which moves no point and changes no winding.
+/// Where edges meet only in whole points or overlap, rounds reach at most one list. It moves no point and changes no
+/// winding.
 pub fn whole_meetings_are_exact()
     ensures { WholeMeetingsAreExact }
 {}
@@ -25,7 +25,7 @@ pub fn arranged_stays_arranged()
     ensures { ArrangedStaysArranged }
 {}
 
-/// An arrangement has an edge along each step of the chain of an edge with a mark, and it has the mark too.
+/// An arrangement has an edge along each step of a marked edge's chain, and that edge has the mark too.
 pub fn marked_chains_stay()
     ensures { MarkedChainsStay }
 {}

@@ -1,11 +1,11 @@
-//! Balanced counts: where they come from, and what keeps them.
+//! Balanced counts: their sources, and the operations that keep them.
 
 ghost use Rattle.overlay_plane.specs.Balance.{ChainsTelescope, ContoursAreBalanced};
 ghost use Rattle.overlay_plane.specs.Balance.{AddedContoursAreBalanced, JoiningKeepsBalance};
 ghost use Rattle.overlay_plane.specs.Balance.{AddingKeepsBalance, MergingKeepsBalance};
 
-/// What a number given to each point rises by along a chain of steps is what it rises by from the
-/// chain's start to its end.
+/// Along a chain of steps, a number given to each point rises in total by its difference between the chain's end and
+/// start.
 pub fn chains_telescope()
     ensures { ChainsTelescope }
 {}
@@ -15,12 +15,12 @@ pub fn contours_are_balanced()
     ensures { ContoursAreBalanced }
 {}
 
-/// The counted edges that an added contour becomes have balanced counts.
+/// The counted edges of an added contour have balanced counts.
 pub fn added_contours_are_balanced()
     ensures { AddedContoursAreBalanced }
 {}
 
-/// A list without edges has balanced counts, and two lists joined have them where both do.
+/// A list without edges has balanced counts, and two joined lists have them where both do.
 pub fn joining_keeps_balance()
     ensures { JoiningKeepsBalance }
 {}

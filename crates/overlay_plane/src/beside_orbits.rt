@@ -8,22 +8,24 @@ ghost use Rattle.overlay_plane.specs.BesideOrbits.{AlternatingStepsAreBalanced};
 ghost use Rattle.overlay_plane.specs.BesideOrbits.{ClosedPartsAreBalanced};
 ghost use Rattle.overlay_plane.specs.LeftmostSteps.{LeftmostStepsExist, NothingBeforeTheSteps};
 
-/// The winding on a hand's side goes over from a step to its next step by the hand.
+/// A step and its next step by a hand have an equal winding on the hand's side.
 pub fn one_winding_to_the_next()
     ensures { OneWindingToTheNext }
 {}
 
-/// Along an orbit by a hand the winding on the hand's side is one number.
+/// Along an orbit by a hand, the winding on the hand's side is constant.
 pub fn one_winding_along_orbits()
     ensures { OneWindingAlongOrbits }
 {}
 
-/// Across a step the winding rises by how often it is taken, less how often it is taken back.
+/// Across a step the winding rises by the number of times that it is taken, less the number of times that its reverse
+/// is.
 pub fn winding_across_a_step()
     ensures { WindingAcrossAStep }
 {}
 
-/// Across a step that is taken once the winding rises by 1, across another of the set not at all.
+/// In steps that alternate, each once, the winding rises by 1 across a step that is taken. Across any other step of the
+/// set it does not change.
 pub fn winding_across_alternating_steps()
     ensures { WindingAcrossAlternatingSteps }
 {}
@@ -43,18 +45,18 @@ pub fn alternating_steps_are_balanced()
     ensures { AlternatingStepsAreBalanced }
 {}
 
-/// What a closed test takes has balanced counts, and what it leaves.
+/// The steps that a closed test takes have balanced counts, and so do those that it leaves.
 pub fn closed_parts_are_balanced()
     ensures { ClosedPartsAreBalanced }
 {}
 
-/// Steps taken have a leftmost lowest end, and a top edge and a lowest one there.
+/// Steps taken have a leftmost lowest end, and a top edge and a lowest edge there.
 pub fn leftmost_steps_exist()
     ensures { LeftmostStepsExist }
 {}
 
-/// Up to the leftmost lowest point of the steps taken, above their top edge there and below their
-/// lowest one, their winding is 0.
+/// The winding of the steps taken is 0 up to their leftmost lowest point, above their top edge there, and below their
+/// lowest edge.
 pub fn nothing_before_the_steps()
     ensures { NothingBeforeTheSteps }
 {}

@@ -1,4 +1,4 @@
-//! Which shape a hole belongs to: anchors, the next edge below them, and parents.
+//! The shape that a hole belongs to: anchors, the next edge below them, and parents.
 
 ghost use Rattle.overlay_plane.specs.Anchors.{AnchorsExist, AnchorsLeadOn, BelowAnAnchorIsUnder, LowerAtIsUnder};
 ghost use Rattle.overlay_plane.specs.Binding.{HolesHaveNext, NextIsAnchoredBefore};
@@ -9,20 +9,18 @@ pub fn anchors_exist()
     ensures { AnchorsExist }
 {}
 
-/// The anchor of a contour that walks along no edge twice, and whose edges meet in ends alone, is not
-/// vertical.
+/// A contour that walks along no edge twice, and whose edges meet in ends alone, has an anchor that is not vertical.
 pub fn anchors_lead_on()
     ensures { AnchorsLeadOn }
 {}
 
-/// Among edges that meet in ends alone, what is below an anchor is under its edge, just right of its
-/// point.
+/// Among edges that meet in ends alone, an edge below an anchor is under the anchor's edge just right of its point.
 pub fn below_an_anchor_is_under()
     ensures { BelowAnAnchorIsUnder }
 {}
 
-/// Of two edges over an abscissa that meet in ends alone the one that is lower there, by height and then by slope, is
-/// under the other just right of it.
+/// Of two edges over one x-coordinate that meet in ends alone, the lower is under the other just right of it. Edges
+/// compare by height there, then by slope.
 pub fn lower_at_is_under()
     ensures { LowerAtIsUnder }
 {}
@@ -32,12 +30,12 @@ pub fn holes_have_next()
     ensures { HolesHaveNext }
 {}
 
-/// So each hole that selected steps are cut into has a parent, and is none that has no parent.
+/// Each hole that selected steps are cut into has a parent, so none is without a parent.
 pub fn holes_have_parents()
     ensures { HolesHaveParents }
 {}
 
-/// Among contours, the one that has the next edge below a hole is anchored before it.
+/// Among contours, the contour with the next edge below a hole is anchored before the hole.
 pub fn next_is_anchored_before()
     ensures { NextIsAnchoredBefore }
 {}

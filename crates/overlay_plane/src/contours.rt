@@ -1,14 +1,15 @@
-//! The cut of steps into walks: of steps that alternate into contours.
+//! Cuts of steps into walks, and of alternating steps into contours.
 
 ghost use Rattle.overlay_plane.specs.Contours.{CutsLeaveCuttable, CutsExist, CutsTakeEachOnce, CutsAreOrbits};
 ghost use Rattle.overlay_plane.specs.Contours.{OrbitsAreContours, CutsAreContours};
 
-/// Steps that can be cut lead on by the hand that any of them tells, and what an orbit by that hand leaves can be cut.
+/// Steps that can be cut lead on by the hand that any of them tells. The steps that an orbit by that hand leaves can be
+/// cut again.
 pub fn cuts_leave_cuttable()
     ensures { CutsLeaveCuttable }
 {}
 
-/// There is a cut of steps that can be cut.
+/// Steps that can be cut have a cut.
 pub fn cuts_exist()
     ensures { CutsExist }
 {}
@@ -18,7 +19,7 @@ pub fn cuts_take_each_once()
     ensures { CutsTakeEachOnce }
 {}
 
-/// Where the steps alternate, what the first walks leave alternates, and the next walk is the orbit of its start.
+/// Where the steps alternate, the rest after the first walks alternates, and the next walk is the orbit of its start.
 pub fn cuts_are_orbits()
     ensures { CutsAreOrbits }
 {}
@@ -28,7 +29,7 @@ pub fn orbits_are_contours()
     ensures { OrbitsAreContours }
 {}
 
-/// The walks that a cut of steps that alternate gives are closed contours.
+/// The walks of a cut of steps that alternate are closed contours.
 pub fn cuts_are_contours()
     ensures { CutsAreContours }
 {}

@@ -2,8 +2,8 @@
 
 ghost use Rattle.overlay_plane.specs.GreatestBelow.{WindingAboveTheGreatestBelow};
 
-/// The winding at a point is the one above the greatest edge strictly below it, where there is such
-/// an edge, and 0 where no edge is strictly below.
+/// The winding at a point is the winding above the greatest edge strictly below it. It is 0 where no edge is strictly
+/// below.
 pub fn winding_above_the_greatest_below()
     ensures { WindingAboveTheGreatestBelow }
 {}

@@ -1,6 +1,6 @@
 //! The mathematics of the plane that the overlay crates rest on: edges over a vertical line, balance, windings,
-//! regions, nodes and orbits. Each function here does nothing when it runs: its contract is a law, and the check proves
-//! it.
+//! regions, nodes and orbits. Each function here does nothing when it runs: its contract is a law, which the check
+//! proves.
 #![tactic(auto)]
 
 pub mod adding;

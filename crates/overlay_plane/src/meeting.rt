@@ -1,4 +1,4 @@
-//! Where edges meet.
+//! Meeting points of edges.
 
 ghost use Rattle.overlay_plane.specs.Meetings.{SettledByMeetingPoints};
 ghost use Rattle.overlay_plane.specs.Arrangements.{CuttingIsARound};
@@ -8,8 +8,7 @@ pub fn settled_by_meeting_points()
     ensures { SettledByMeetingPoints }
 {}
 
-/// Merged edges cut through the points that are computed pair by pair are what a cutting round
-/// leaves.
+/// Merged edges cut through the points computed pair by pair are the result of a cutting round.
 pub fn cutting_is_a_round()
     ensures { CuttingIsARound }
 {}

@@ -2,8 +2,8 @@
 
 ghost use Rattle.overlay_plane.specs.WindingsBeside.{OneWindingToTheNextStep};
 
-/// From a step to the next one by a hand the winding on the side of that hand is the same, for
-/// any balanced count of the set's edges.
+/// A step and its next step by a hand have equal windings on that hand's side, for any balanced count of the set's
+/// edges.
 pub fn one_winding_to_the_next_step()
     ensures { OneWindingToTheNextStep }
 {}

@@ -1,4 +1,4 @@
-//! Orbits of a hand in a set of steps that leads on by it.
+//! Orbits by a hand, in a set of steps that leads on by it.
 
 ghost use Rattle.overlay_plane.specs.Orbits.{OrbitsExist, OrbitsAreCycles, OrbitsHaveThreeSteps};
 ghost use Rattle.overlay_plane.specs.Orbits.{OrbitsAreUnique, OrbitsAreApart, OrbitsAreClosed};
@@ -10,7 +10,7 @@ pub fn orbits_exist()
     ensures { OrbitsExist }
 {}
 
-/// An orbit visits each of its steps once, and holds with each step its next step and the step before it.
+/// An orbit visits each of its steps once. With each step it has the next step and the step before.
 pub fn orbits_are_cycles()
     ensures { OrbitsAreCycles }
 {}
@@ -35,17 +35,17 @@ pub fn orbits_are_closed()
     ensures { OrbitsAreClosed }
 {}
 
-/// What an orbit of steps that alternate leaves alternates.
+/// The steps that an orbit leaves of steps that alternate do so too.
 pub fn orbits_leave_the_rest()
     ensures { OrbitsLeaveTheRest }
 {}
 
-/// An orbit of what closed parts leave is an orbit of the whole set.
+/// An orbit of the steps that closed parts leave is an orbit of the whole set.
 pub fn orbits_of_the_rest()
     ensures { OrbitsOfTheRest }
 {}
 
-/// A walk along an orbit comes to no step twice before it comes to its first step again, and is then the orbit.
+/// A walk along an orbit comes to no step twice before it comes to its first step again. Then it is the orbit.
 pub fn orbits_grow()
     ensures { OrbitsGrow }
 {}

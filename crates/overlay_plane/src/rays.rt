@@ -2,8 +2,8 @@
 
 ghost use Rattle.overlay_plane.specs.Rays.{RaysInCyclicOrder};
 
-/// By either hand, rays round a point are met in a strict order that is the same from wherever the turn starts, and
-/// that the other hand reverses.
+/// Rays round a point are met in a strict cyclic order by either hand, wherever the turn starts. The hands have
+/// opposite orders.
 pub fn rays_in_cyclic_order()
     ensures { RaysInCyclicOrder }
 {}

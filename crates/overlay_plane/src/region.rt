@@ -2,8 +2,8 @@
 
 ghost use Rattle.overlay_plane.specs.Regions.{RegionOverEdgesTaken, RegionFromSelectedSigns, RegionBelowAnEdge};
 
-/// Of edges taken over an abscissa with all under them, the signs of those across which a rule's
-/// truth changes add up to its truth at the sums of their counts.
+/// Takes edges over an x-coordinate with all edges under them, and the signs of those across which a rule's truth
+/// changes. These signs add up to the rule's truth at the sums of the counts.
 pub fn region_over_edges_taken()
     ensures { RegionOverEdgesTaken }
 {}

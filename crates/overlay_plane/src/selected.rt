@@ -2,8 +2,8 @@
 
 ghost use Rattle.overlay_plane.specs.SelectedSteps.{SelectedStepsAlternate, SelectedStepsOfEdges};
 
-/// The steps along edges on exactly one side of which a rule holds, each with that side on the
-/// left, or each on the right, alternate round every node.
+/// Takes the steps along edges on exactly one side of which a rule holds, all with that side on the left or all on the
+/// right. They alternate round every node.
 pub fn selected_steps_alternate()
     ensures { SelectedStepsAlternate }
 {}

@@ -2,12 +2,12 @@
 
 ghost use Rattle.overlay_plane.specs.Windings.{OneWindingAlongASide, OneWindingAtInnerPoints};
 
-/// The counts of the edges under an edge have one sum wherever it runs: the winding below it.
+/// The counts of the edges under an edge have one sum along the whole edge: the winding below it.
 pub fn one_winding_along_a_side()
     ensures { OneWindingAlongASide }
 {}
 
-/// The winding at a point of an edge that is not vertical, but at its ends, is the winding below it.
+/// The winding at an inner point of an edge that is not vertical is the winding below the edge.
 pub fn one_winding_at_inner_points()
     ensures { OneWindingAtInnerPoints }
 {}

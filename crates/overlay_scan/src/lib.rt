@@ -1,4 +1,4 @@
-//! A sweep's list of live edges, from bottom to top.
+//! The live edges of a sweep in a list, from bottom to top.
 #![tactic(auto)]
 
 pub mod laws;

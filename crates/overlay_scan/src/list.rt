@@ -22,26 +22,26 @@ use std::cmp::Ordering;
 /// An edge of the list, and its value.
 #[derive(Clone, Copy)]
 pub struct LiveEdge<I, V> {
-    /// Its smaller end, by x and then by y.
+    /// The smaller end, by x and then by y.
     pub a: IntPoint<I>,
-    /// Its larger end.
+    /// The larger end.
     pub b: IntPoint<I>,
-    /// What was inserted with it.
+    /// The value inserted with the edge.
     pub value: V,
 }
 
-/// A [`Scan`] that keeps its edges in a list. Look-ups go by halves, from where the last one ended. An edge that has
-/// ended is still held until another one takes its place, or until many have ended.
+/// A [`Scan`] that keeps its edges in a list. A look-up is a binary search that begins where the last one ended. An
+/// ended edge stays in the list until a new edge takes its place, or until many edges have ended.
 #[derive(Drop)]
 pub struct ScanList<I: IntNumber, V: Copy, A: Allocator> {
-    // the edges over the line, and some that have ended
+    // the edges over the line, and some ended edges
     live: LiveEdges<I, V, A>,
-    // the x that was moved to last, and none after `clear`
+    // the last x that the line moved to, and none after `clear`
     reached: Option<I>,
 }
 
 impl<I: IntNumber, V: Copy, A: Allocator> ScanList<I, V, A> {
-    /// No edges. Their memory will be that of the allocator; none is taken yet.
+    /// Makes a scan without edges, which will take its memory from the allocator. It takes none yet.
     pub fn default(alloc: A) -> Self
         ensures { plain_sweep I.whole result ≡ empty_sweep }
     {
@@ -62,7 +62,7 @@ impl<I: IntNumber, V: Copy, A: Allocator> ScanList<I, V, A> {
         self.live.value_below(place)
     }
 
-    // Puts in an entry by an order at x.
+    // Inserts an entry by an order at x.
     fn put_in<F: Fn(IntLine<I>) -> Ordering>(
         &mut self,
         x: I,
@@ -151,7 +151,7 @@ impl<I: IntNumber, V: Copy, A: Allocator> Scan<I, V> for ScanList<I, V, A> {
     }
 }
 
-/// The line as an edge of a list, with what is inserted with it.
+/// Makes a live edge of a line and its value.
 pub fn live_edge<I: IntNumber, V: Copy>(line: IntLine<I>, value: V) -> LiveEdge<I, V>
     ensures { plain_entry I.whole result ≡ record { edge = plain_line I.whole line; value = value } }
 {
@@ -159,14 +159,14 @@ pub fn live_edge<I: IntNumber, V: Copy>(line: IntLine<I>, value: V) -> LiveEdge<
     LiveEdge { a, b, value }
 }
 
-/// Whether the edge ends at or before x.
+/// Returns whether the edge ends at or before x.
 pub fn has_ended<I: IntNumber, V: Copy>(f: &LiveEdge<I, V>, x: I) -> bool
     ensures { result ≡ not (int_lt (I.whole x) (I.whole f.now.b.x)) }
 {
     !x.compare(f.b.x).is_lt()
 }
 
-/// `Less` for a line that is under the edge, and `Greater` for another.
+/// Returns `Less` for a line under the edge, else `Greater`.
 pub fn order_to<I: IntNumber, V: Copy>(line: IntLine<I>, e: &LiveEdge<I, V>) -> Ordering
     requires one { IsInRange I.limit (plain_line I.whole line) }
     requires other { IsInRange I.limit (plain_entry I.whole e.now).edge }
@@ -180,9 +180,9 @@ pub fn order_to<I: IntNumber, V: Copy>(line: IntLine<I>, e: &LiveEdge<I, V>) -> 
     }
 }
 
-/// Returns whether f is under e, where both are over one x and meet in ends alone: this is seen where
-/// the one starts that starts later. Where e is vertical and f is over its start, it returns whether f
-/// is below that start, or starts there.
+/// Returns whether f is under e, where both are over one x and meet in ends alone. It compares them at the start of the
+/// edge that starts later. Where e is vertical and f is over its start, it returns whether f passes below that start or
+/// starts there.
 pub fn is_under<I: IntNumber, V: Copy>(f: &LiveEdge<I, V>, e: &LiveEdge<I, V>) -> bool
     requires one { IsInRange I.limit (plain_entry I.whole f.now).edge }
     requires other { IsInRange I.limit (plain_entry I.whole e.now).edge }
@@ -195,7 +195,7 @@ pub fn is_under<I: IntNumber, V: Copy>(f: &LiveEdge<I, V>, e: &LiveEdge<I, V>) -
     }
 }
 
-// Whether f passes below the start of e, or starts there to the right of e.
+// Returns whether f passes below the start of e, or starts there to the right of e.
 fn is_lower_at_start<I: IntNumber, V: Copy>(f: &LiveEdge<I, V>, e: &LiveEdge<I, V>) -> bool
     requires one { IsInRange I.limit (plain_entry I.whole f.now).edge }
     requires other { IsInRange I.limit (plain_entry I.whole e.now).edge }

@@ -1,4 +1,4 @@
-//! Live edges, among which some that have ended are still held.
+//! Live edges in a list that may still hold ended edges.
 
 ghost use Rattle.std.specs.Prelude.{◌≡◌, ◌≤◌, [], ◌∷◌, ◌++◌, true, take, drop, filter, int_lt, length};
 ghost use Rattle.std.specs.Prelude.{None, OnOk, OnErr, IsOkUnless, option_map};
@@ -17,21 +17,21 @@ use std::alloc::Allocator;
 use std::cmp::Ordering;
 use std::marker::Model;
 
-// So many edges that have ended may stand side by side where a search passes.
+// Greatest number of ended edges side by side that a search passes.
 const MOST_ENDED: usize = 8;
-// So many edges are put in, beside as many as are live, before those that have ended are dropped.
+// Number of edges that may be inserted, beyond the count of live edges, before the ended edges are dropped.
 const SPARE: usize = 16;
 
-/// Edges from bottom to top, of which some may have ended. An edge that is put in where an ended one stands takes its
-/// place. Those that have ended are dropped where many of them stand side by side, and where as many edges were put in
-/// as there were live ones.
+/// Edges from bottom to top, some of them perhaps ended. An edge inserted at the place of an ended edge replaces it.
+/// Ended edges are dropped where many of them stand side by side. They are also dropped after a number of inserts that
+/// grows with the number of live edges.
 #[derive(Drop)]
 pub struct LiveEdges<I: IntNumber, V: Copy, A: Allocator> {
     // from bottom to top
     entries: Vec<LiveEdge<I, V>, A>,
-    // where the next search is guessed to end: where the last one did, or above the edge that was put in last
+    // the expected end of the next search: the end of the last search, or the place above the last inserted edge
     guess: usize,
-    // how many edges more are put in before those that have ended are dropped
+    // number of inserts left before the ended edges are dropped
     spare: usize,
 }
 
@@ -45,7 +45,7 @@ impl<I: IntNumber, V: Copy, A: Allocator> Model for LiveEdges<I, V, A> {
 }
 
 impl<I: IntNumber, V: Copy, A: Allocator> LiveEdges<I, V, A> {
-    /// No edges. It takes no memory.
+    /// Makes a list without edges. It takes no memory.
     pub fn new(alloc: A) -> Self
         ensures { result ≡ [] }
     {
@@ -56,7 +56,8 @@ impl<I: IntNumber, V: Copy, A: Allocator> LiveEdges<I, V, A> {
         }
     }
 
-    /// The place above the edges live at x that the order does not answer `Greater`. At most what has ended is dropped.
+    /// Returns the place above the edges live at x for which the order does not answer `Greater`. It may drop ended
+    /// edges.
     pub fn find<F: Fn(IntLine<I>) -> Ordering>(&mut self, x: I, order: &F) -> usize
         requires { IsCallableOn I.whole (F.pre order.now) (live_of I.whole (I.whole x) self.old) }
         ensures kept { live_of I.whole (I.whole x) self.new ≡ live_of I.whole (I.whole x) self.old }
@@ -70,7 +71,7 @@ impl<I: IntNumber, V: Copy, A: Allocator> LiveEdges<I, V, A> {
         place
     }
 
-    // The same, where what has ended is dropped before.
+    // Returns that place after it has dropped the ended edges.
     fn find_among_live<F: Fn(IntLine<I>) -> Ordering>(&mut self, x: I, order: &F) -> usize
         requires { IsCallableOn I.whole (F.pre order.now) (live_of I.whole (I.whole x) self.old) }
         ensures kept { live_of I.whole (I.whole x) self.new ≡ live_of I.whole (I.whole x) self.old }
@@ -83,7 +84,7 @@ impl<I: IntNumber, V: Copy, A: Allocator> LiveEdges<I, V, A> {
         }
     }
 
-    /// The value of the edge below a place, if there is one.
+    /// Returns the value of the edge below a place, if there is one.
     pub fn value_below(&self, place: usize) -> Option<V>
         requires { place ≤ length self.now }
         ensures { result ≡ option_map (λ f. f.value) (last_or None (take place self.now)) }
@@ -95,7 +96,7 @@ impl<I: IntNumber, V: Copy, A: Allocator> LiveEdges<I, V, A> {
         }
     }
 
-    /// Puts in an edge that is live at x at a place, and may drop what has ended. The only refusal is `Memory`, after
+    /// Inserts an edge that is live at x at a place, and may drop ended edges. The only refusal is `Memory`, after
     /// which the edges are as they were.
     pub fn put(&mut self, place: usize, edge: LiveEdge<I, V>, x: I) -> Result<(), OverlayError>
         requires within { place ≤ length self.old }
@@ -113,7 +114,7 @@ impl<I: IntNumber, V: Copy, A: Allocator> LiveEdges<I, V, A> {
         self.insert(place, edge, x)
     }
 
-    // The same, beside the edges that are there.
+    // Inserts an edge between the edges at a place, and drops ended edges where it is time.
     fn insert(&mut self, place: usize, edge: LiveEdge<I, V>, x: I) -> Result<(), OverlayError>
         requires within { place ≤ length self.old }
         requires live { int_lt (I.whole x) (I.whole edge.b.x) ≡ true }

@@ -1,4 +1,4 @@
-//! The list of live edges, as a sweep from left to right calls it.
+//! The interface of a sweep from left to right to its live edges.
 
 ghost use Rattle.std.specs.Prelude.{◌≡◌, Some, OnOk, OnErr, IsOkUnless};
 ghost use Rattle.overlay_geom.specs.Lines.{plain_line};
@@ -12,19 +12,18 @@ use overlay_geom::number::IntNumber;
 use overlay_geom::path::IntLine;
 use std::cmp::Ordering;
 
-/// The edges over a vertical line that moves from left to right, from bottom to top, each with a
-/// value. An edge is given by its two ends, the smaller one first.
+/// The edges over a vertical line that moves from left to right, in order from bottom to top, each with a value. An
+/// edge is given by its two ends, the smaller end first.
 ///
-/// Each call but `clear` moves the line to an x, which does not fall until `clear`. Edges that end
-/// at or before x are expired: they count no more, and the call drops them.
+/// Each call but `clear` moves the line to an x, which does not fall until `clear`. Edges that end at or before x are
+/// expired: they no longer count, and the call drops them.
 pub trait Scan<I: IntNumber, V: Copy> {
-    // The entries from bottom to top, and where the line is.
+    // The entries from bottom to top, and the position of the line.
     ghost content: { Self → Sweep V };
 
-    /// Moves to x and puts in an edge that is over x, `a.x <= x < b.x`, with its value: above the
-    /// edges that are under it just right of x, and below the others. It meets each live edge in
-    /// ends alone, and equals none. Its ends are in range. The only refusal is `Memory`, after
-    /// which the live edges are as they were.
+    /// Moves to x and inserts an edge over x, `a.x <= x < b.x`, with its value. The edge goes above the edges that are
+    /// under it just right of x, and below the others. It meets each live edge in ends alone, and equals none. Its ends
+    /// are in range. The only refusal is `Memory`, after which the live edges are as they were.
     fn insert(&mut self, edge: IntLine<I>, value: V, x: I) -> Result<(), OverlayError>
         requires state { IsSweep I.limit (content self.old) }
         requires moves { MayMoveTo (I.whole x) (content self.old) }
@@ -38,11 +37,11 @@ pub trait Scan<I: IntNumber, V: Copy> {
         ensures state { IsSweep I.limit (content self.new) }
         ensures only { IsOkUnless result OverlayError.Memory };
 
-    /// Moves to x, where the asked edge starts, and returns the value of the highest of the live edges
-    /// that are strictly below its start and of those that start there with a smaller slope, or
-    /// `default` where there is none. The asked edge leads from its smaller to its larger end, and may
-    /// be vertical: then each edge that starts there has a smaller slope. It meets each other live edge
-    /// in ends alone. Its ends are in range. It takes no memory.
+    /// Moves to x, where the asked edge starts, and returns the value of the highest live edge below it, or `default`
+    /// if there is none. Below it are the edges strictly below its start, and those that start there with a smaller
+    /// slope. The asked edge leads from its smaller to its larger end. It may be vertical: then each edge that starts
+    /// there has a smaller slope. It meets each other live edge in ends alone. Its ends are in range. It takes no
+    /// memory.
     fn first_less(&mut self, x: I, default: V, edge: IntLine<I>) -> V
         requires state { IsSweep I.limit (content self.old) }
         requires moves { MayMoveTo (I.whole x) (content self.old) }
@@ -53,9 +52,9 @@ pub trait Scan<I: IntNumber, V: Copy> {
         ensures content { content self.new ≡ moved_to (I.whole x) (content self.old) }
         ensures state { IsSweep I.limit (content self.new) };
 
-    /// Moves to x and returns the value of the highest live edge for which `order` does not answer
-    /// `Greater`, or `default` where there is none. From bottom to top `order` answers `Less`, then
-    /// `Equal`, then `Greater`. It takes no memory.
+    /// Moves to x and returns the value of the highest live edge for which `order` does not answer `Greater`, or
+    /// `default` if there is none. From bottom to top `order` answers `Less`, then `Equal`, then `Greater`. It takes no
+    /// memory.
     fn first_less_or_equal_by<F: Fn(IntLine<I>) -> Ordering + Drop>(
         &mut self,
         x: I,
@@ -72,7 +71,7 @@ pub trait Scan<I: IntNumber, V: Copy> {
         ensures content { content self.new ≡ moved_to (I.whole x) (content self.old) }
         ensures state { IsSweep I.limit (content self.new) };
 
-    /// Drops all edges, for a sweep from the start. It takes no memory.
+    /// Drops all edges and starts a new sweep. It takes no memory.
     fn clear(&mut self)
         ensures { content self.new ≡ empty_sweep };
 }

@@ -1,4 +1,4 @@
-//! Searches in a list in which some edges have ended.
+//! Binary searches in a list in which some edges have ended.
 
 ghost use Rattle.std.specs.Prelude.{◌≡◌, ◌-◌, ◌≤◌, ◌<◌, ◌∷◌, [], true, not, int_lt, length};
 ghost use Rattle.std.specs.Prelude.{drop, get_or, IfSome, IsSome};
@@ -13,15 +13,15 @@ use overlay_geom::number::IntNumber;
 use overlay_geom::path::IntLine;
 use std::cmp::Ordering;
 
-// Two places, between which another one is searched.
+// The lowest and the highest place that a search still considers.
 #[derive(Clone, Copy)]
 struct Bounds {
     low: usize,
     high: usize,
 }
 
-/// The place above the live entries that the order does not answer `Greater`, guessed to be at a place. There is none
-/// where more than `most` entries that have ended stand side by side.
+/// Returns the place above the live entries for which the order does not answer `Greater`; the search begins at
+/// `guess`. It returns `None` where more than `most` ended entries stand side by side.
 pub fn search<I: IntNumber, V: Copy, F: Fn(IntLine<I>) -> Ordering>(
     entries: &[LiveEdge<I, V>],
     guess: usize,
@@ -41,7 +41,7 @@ pub fn search<I: IntNumber, V: Copy, F: Fn(IntLine<I>) -> Ordering>(
     Some(bounds.low)
 }
 
-// Where the search begins. Where the entry below the guess is live and passes, the next live one is asked.
+// Returns the first bounds. Where the entry below the guess is live and passes, it also tests the next live entry.
 fn begun<I: IntNumber, V: Copy, F: Fn(IntLine<I>) -> Ordering>(
     entries: &[LiveEdge<I, V>],
     guess: usize,
@@ -62,7 +62,7 @@ fn begun<I: IntNumber, V: Copy, F: Fn(IntLine<I>) -> Ordering>(
     }
 }
 
-// What the entry below the guess tells, if it is live.
+// Returns the bounds that the entry below the guess gives, if it is live, else all places.
 fn guessed<I: IntNumber, V: Copy, F: Fn(IntLine<I>) -> Ordering>(
     entries: &[LiveEdge<I, V>],
     guess: usize,
@@ -95,7 +95,7 @@ fn guessed<I: IntNumber, V: Copy, F: Fn(IntLine<I>) -> Ordering>(
     }
 }
 
-// The part below a place between the bounds, or the part above it, by the next live entry from there on.
+// Returns the bounds below `middle`, or those above it, by the next live entry from `middle` on.
 fn narrowed<I: IntNumber, V: Copy, F: Fn(IntLine<I>) -> Ordering>(
     entries: &[LiveEdge<I, V>],
     bounds: Bounds,
@@ -130,7 +130,7 @@ fn narrowed<I: IntNumber, V: Copy, F: Fn(IntLine<I>) -> Ordering>(
     }
 }
 
-// The first place from one on, up to another, whose entry is live, or that other one.
+// Returns the first place in `from..to` whose entry is live, or `to` if there is none.
 fn next_live<I: IntNumber, V: Copy>(
     entries: &[LiveEdge<I, V>],
     from: usize,
@@ -153,7 +153,7 @@ fn next_live<I: IntNumber, V: Copy>(
     k
 }
 
-// Whether the order does not answer `Greater` for the entry's line.
+// Returns whether the order does not answer `Greater` for the entry's line.
 fn passes<I: IntNumber, V: Copy, F: Fn(IntLine<I>) -> Ordering>(
     order: &F,
     f: &LiveEdge<I, V>,

@@ -1,4 +1,4 @@
-//! The way down through a tree.
+//! Descents through a tree.
 
 ghost use Rattle.std.specs.Prelude.{◌≡◌, ◌+◌, ◌≤◌, ◌<◌, ◌∷◌, [], length, slice_get, Some};
 ghost use Rattle.std.specs.declared.cmp.Ordering.{Ordering};
@@ -15,17 +15,17 @@ use overlay_scan::list::{LiveEdge, has_ended};
 use std::alloc::Allocator;
 use std::cmp::Ordering;
 
-/// What the way down through a tree came to.
+/// Result of a descent through a tree.
 #[derive(Clone, Copy)]
 pub enum End<V> {
-    /// An entry that has ended. It is taken out, and the way begins again.
+    /// An ended entry. It is taken out, and the descent begins again.
     Ended(NodeIndex),
     /// The value of the highest live entry that is not above, if there is one.
     Found(Option<V>),
 }
 
 impl<V: Copy> End<V> {
-    // The same, where an entry with this value was passed on a side.
+    // Returns the end of the whole descent, where it has passed an entry with this value on a side.
     fn above(self, side: Side, value: V) -> End<V>
         ensures { result ≡ end_above side value self }
     {
@@ -39,18 +39,18 @@ impl<V: Copy> End<V> {
     }
 }
 
-/// The tree that a way down leaves, and what it came to.
+/// The tree that a descent leaves, and the end of the descent.
 #[derive(Clone, Copy)]
 pub struct Descent<V> {
-    /// The top of the tree.
+    /// The root of the tree.
     pub root: Option<NodeIndex>,
-    /// What the way came to.
+    /// The end of the descent.
     pub end: End<V>,
 }
 
 impl<I: IntNumber, V: Copy, A: Allocator> ScanNodes<I, V, A> {
-    /// Goes down to the place between the live entries that the order does not answer `Greater` and those above them,
-    /// and puts a node in there, if one is given. An entry that has ended at x and is met on the way is taken out
+    /// Descends to the place between the live entries for which the order does not answer `Greater` and those above. It
+    /// inserts the node `put` there, if one is given. If it meets an entry that has ended at x, it takes that out
     /// instead.
     pub fn descend<F: Fn(IntLine<I>) -> Ordering>(
         &mut self,
@@ -95,7 +95,7 @@ impl<I: IntNumber, V: Copy, A: Allocator> ScanNodes<I, V, A> {
         Descent { root, end }
     }
 
-    // Visits a node: its entry.
+    // Visits a node and returns its entry.
     fn visit(&mut self, i: NodeIndex) -> LiveEdge<I, V>
         requires { i.place < length self.old.links }
         ensures entry { slice_get self.old.entries i.place ≡ Some result }
@@ -108,7 +108,7 @@ impl<I: IntNumber, V: Copy, A: Allocator> ScanNodes<I, V, A> {
     }
 }
 
-// The side on which the way goes on beside a line.
+// Returns the side of a line on which the descent goes on.
 fn side_for<I: IntNumber, F: Fn(IntLine<I>) -> Ordering>(
     order: &F,
     a: IntPoint<I>,

@@ -17,7 +17,7 @@ use overlay_scan::scan::Scan;
 use std::alloc::Allocator;
 use std::cmp::Ordering;
 
-/// A [`Scan`] of either kind: a list or a tree. What is answered is the same; a tree visits few edges for each answer.
+/// A [`Scan`] in a list or in a tree. Both give equal answers; a tree visits few edges for each answer.
 #[derive(Drop)]
 pub enum EitherScan<I: IntNumber, V: Copy, A: Allocator> {
     /// A list.
@@ -27,8 +27,8 @@ pub enum EitherScan<I: IntNumber, V: Copy, A: Allocator> {
 }
 
 impl<I: IntNumber, V: Copy, A: Allocator> EitherScan<I, V, A> {
-    /// No edges, in a tree where `count` reaches `tree_from`, and else in a list. Their memory will be that of
-    /// the allocator; none is taken yet.
+    /// Makes a scan without edges: a tree where `count` reaches `tree_from`, else a list. It will take its memory from
+    /// the allocator, and takes none yet.
     pub fn for_count(alloc: A, count: usize, tree_from: usize) -> Self
         ensures empty { either_sweep I.whole result ≡ empty_sweep }
         ensures tree { (is_tree result ≡ true) ↔ (tree_from ≤ count) }

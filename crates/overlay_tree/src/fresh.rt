@@ -11,18 +11,18 @@ use overlay_geom::number::IntNumber;
 use overlay_scan::list::LiveEdge;
 use std::alloc::Allocator;
 
-/// A node that is in no tree, and the first one that may be used again after it.
+/// A node that is in no tree, and the first reusable node after it.
 #[derive(Clone, Copy)]
 pub struct Fresh {
     /// The node.
     pub node: NodeIndex,
-    /// The first node that may be used again.
+    /// The first reusable node.
     pub free: Option<NodeIndex>,
 }
 
 impl<I: IntNumber, V: Copy, A: Allocator> ScanNodes<I, V, A> {
-    /// A node for an entry: the first one that may be used again, or one more. The only refusal is `Memory`, after
-    /// which the nodes are as they were.
+    /// Returns a node for an entry: the first reusable node, or a new node. The only refusal is `Memory`, after which
+    /// the nodes are as they were.
     pub fn fresh(
         &mut self,
         free: Option<NodeIndex>,

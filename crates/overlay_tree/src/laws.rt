@@ -1,11 +1,11 @@
-//! How many visits calls make together.
+//! Law of the total number of visits.
 
 ghost use Rattle.overlay_tree.specs.Runs.{RunsAreQuick};
 
 use overlay_geom::number::IntNumber;
 
-/// Look-ups and inserts from an empty tree on make together at most twice as many visits as there are calls and edges
-/// put in, for each binary digit of the number of these edges, and one.
+/// Bounds the visits of look-ups and inserts, beginning with an empty tree. Calls that insert n edges visit at most 2 d
+/// entries for each call and each inserted edge, where n + 1 < 2^d.
 pub fn runs_are_quick<I: IntNumber, V: Copy>()
     ensures { RunsAreQuick I.whole V }
 {}

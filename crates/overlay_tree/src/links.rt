@@ -1,4 +1,4 @@
-//! How nodes are named, and how they are linked.
+//! Names of nodes, and the links between nodes.
 
 ghost use Rattle.std.specs.Prelude.{◌≡◌, ◌↔◌, true};
 ghost use Rattle.overlay_tree.specs.Sides.{linked, on, opposite};
@@ -6,38 +6,38 @@ ghost use Rattle.overlay_tree.specs.Sides.{linked, on, opposite};
 /// The name of a node.
 #[derive(Clone, Copy)]
 pub struct NodeIndex {
-    /// Where the node is in the list.
+    /// The node's place in the list.
     pub place: usize,
 }
 
-/// One of the two sides of a node: what is below it in a sweep is on its left.
+/// A side of a node: the entries below it in a sweep are on its left.
 #[derive(Clone, Copy)]
 pub enum Side {
-    /// What comes before it in order.
+    /// The entries before the node in order.
     Left,
-    /// What comes after it.
+    /// The entries after the node in order.
     Right,
 }
 
-/// The nodes at the tops of the two sides of a node, and the height of the tree that it is the top of.
+/// The roots of a node's left and right subtree, and the height of the tree below the node.
 #[derive(Clone, Copy)]
 pub struct Links {
-    /// The top of what comes before it in order.
+    /// The root of the entries before the node.
     pub left: Option<NodeIndex>,
-    /// The top of what comes after it.
+    /// The root of the entries after the node.
     pub right: Option<NodeIndex>,
-    /// How many nodes there are on the longest way down, with this one.
+    /// Number of nodes on the longest way down, this node included.
     pub height: usize,
 }
 
-/// The links of a node with nothing on either side.
+/// The links of a node without subtrees.
 pub const ALONE: Links = Links {
     left: None,
     right: None,
     height: 1,
 };
 
-/// Whether these are the same node, or both none.
+/// Returns whether the two are equal nodes, or both none.
 pub fn is_same(one: Option<NodeIndex>, other: Option<NodeIndex>) -> bool
     ensures { (result ≡ true) ↔ (one ≡ other) }
 {
@@ -49,7 +49,7 @@ pub fn is_same(one: Option<NodeIndex>, other: Option<NodeIndex>) -> bool
 }
 
 impl Side {
-    /// The other side.
+    /// Returns the other side.
     pub fn other(self) -> Side
         ensures { result ≡ opposite self }
     {
@@ -61,7 +61,7 @@ impl Side {
 }
 
 impl Links {
-    /// Links to the near node on the given side, and to the far one on the other.
+    /// Makes links with `near` on the given side and `far` on the other side.
     pub fn new(side: Side, near: Option<NodeIndex>, far: Option<NodeIndex>, height: usize) -> Links
         ensures { result ≡ linked side near far height }
     {
@@ -79,7 +79,7 @@ impl Links {
         }
     }
 
-    /// The node on the given side.
+    /// Returns the node on the given side.
     pub fn on(self, side: Side) -> Option<NodeIndex>
         ensures { result ≡ on side self }
     {

@@ -1,4 +1,4 @@
-//! The nodes of a tree in a list, each with an entry, and with links to the nodes below it.
+//! The nodes of a tree in a list, each with an entry and with links to the nodes below it.
 
 ghost use Rattle.std.specs.Prelude.{◌≡◌, ◌+◌, ◌<◌, [], ◌++◌, ◌∷◌, Some, IfSome, IfOk, OnOk, OnErr, IsOkUnless, length};
 ghost use Rattle.std.specs.Prelude.{◌↔◌, true, slice_get, slice_set};
@@ -23,7 +23,7 @@ struct Node<I, V> {
     links: Links,
 }
 
-/// The nodes, of which only [`ScanNodes::entry`] reads an entry. It counts its calls, for contracts.
+/// The nodes of a tree. Only [`ScanNodes::entry`] reads an entry; it counts its calls, for contracts.
 #[derive(Drop)]
 pub struct ScanNodes<I: IntNumber, V: Copy, A: Allocator> {
     nodes: Vec<Node<I, V>, A>,
@@ -44,7 +44,7 @@ impl<I: IntNumber, V: Copy, A: Allocator> Model for ScanNodes<I, V, A> {
 }
 
 impl<I: IntNumber, V: Copy, A: Allocator> ScanNodes<I, V, A> {
-    /// No nodes. It takes no memory.
+    /// Makes a list without nodes. It takes no memory.
     pub fn new(alloc: A) -> Self
         ensures links { result.links ≡ [] }
         ensures entries { result.entries ≡ [] }
@@ -56,7 +56,7 @@ impl<I: IntNumber, V: Copy, A: Allocator> ScanNodes<I, V, A> {
         }
     }
 
-    /// Visits a node: its entry's line and value. This is counted.
+    /// Visits a node: returns its entry's line and value, and counts the visit.
     pub fn entry(&mut self, i: NodeIndex) -> (IntLine<I>, V)
         requires { i.place < length self.old.links }
         ensures entry { IsEntryAt self.old.entries i.place result }
@@ -69,7 +69,7 @@ impl<I: IntNumber, V: Copy, A: Allocator> ScanNodes<I, V, A> {
         ([entry.a, entry.b], entry.value)
     }
 
-    /// The links of a node.
+    /// Returns the links of a node.
     pub fn links(&self, i: NodeIndex) -> Links
         requires { i.place < length self.now.links }
         ensures { slice_get self.now.links i.place ≡ Some result }
@@ -77,7 +77,7 @@ impl<I: IntNumber, V: Copy, A: Allocator> ScanNodes<I, V, A> {
         self.nodes[i.place].links
     }
 
-    /// The height of a tree, by what its top stores.
+    /// Returns the height of a tree, as its root stores it.
     pub fn height(&self, root: Option<NodeIndex>) -> usize
         requires { IfSome root (λ i. i.place < length self.now.links) }
         ensures { (t : _) → root ≡ root_of t → Stands self.now.links t → result ≡ height t }
@@ -88,7 +88,7 @@ impl<I: IntNumber, V: Copy, A: Allocator> ScanNodes<I, V, A> {
         }
     }
 
-    /// Whether a tree has the top and the height that it had.
+    /// Returns whether a tree has kept its root and its height.
     pub fn is_kept(&self, root: Option<NodeIndex>, was: Option<NodeIndex>, high: usize) -> bool
         requires { IfSome root (λ i. i.place < length self.now.links) }
         ensures { (t : _) → root ≡ root_of t → Stands self.now.links t
@@ -97,8 +97,8 @@ impl<I: IntNumber, V: Copy, A: Allocator> ScanNodes<I, V, A> {
         is_same(root, was) && self.height(root) == high
     }
 
-    /// Links a node to two trees whose heights differ by at most one: the near one on the given side, and the far one
-    /// on the other. Both stand, and share no node.
+    /// Links a node to two trees whose heights differ by at most one: `near` on the given side, `far` on the other
+    /// side. The two trees share no node.
     pub fn link(
         &mut self,
         i: NodeIndex,
@@ -117,7 +117,7 @@ impl<I: IntNumber, V: Copy, A: Allocator> ScanNodes<I, V, A> {
         self.nodes[i.place].links = Links::new(side, near, far, height);
     }
 
-    /// Links a node that is in no tree to the next one that may be used again.
+    /// Links a node that is in no tree to the next reusable node.
     pub fn set_unused(&mut self, i: NodeIndex, next: Option<NodeIndex>)
         requires { i.place < length self.old.links }
         ensures links { self.new.links ≡ slice_set self.old.links i.place (unused_before next) }
@@ -131,7 +131,7 @@ impl<I: IntNumber, V: Copy, A: Allocator> ScanNodes<I, V, A> {
         };
     }
 
-    /// Gives a node that is in no tree another entry, and nothing on either side.
+    /// Gives a node that is in no tree another entry, and no subtrees.
     pub fn use_again(&mut self, i: NodeIndex, entry: LiveEdge<I, V>)
         requires { i.place < length self.old.links }
         ensures enough { length self.old.entries ≡ length self.old.links }
@@ -145,8 +145,7 @@ impl<I: IntNumber, V: Copy, A: Allocator> ScanNodes<I, V, A> {
         };
     }
 
-    /// One more node, with an entry and nothing on either side. The only refusal is `Memory`, after which the nodes are
-    /// as they were.
+    /// Adds a node with an entry and no subtrees. The only refusal is `Memory`, after which the nodes are as they were.
     pub fn push(&mut self, entry: LiveEdge<I, V>) -> Result<NodeIndex, OverlayError>
         ensures enough { length self.old.entries ≡ length self.old.links }
         ensures place { IfOk result (λ i. i.place ≡ length self.old.links) }
@@ -164,7 +163,7 @@ impl<I: IntNumber, V: Copy, A: Allocator> ScanNodes<I, V, A> {
         Ok(NodeIndex { place })
     }
 
-    /// Forgets all nodes.
+    /// Drops all nodes.
     pub fn clear(&mut self)
         ensures links { self.new.links ≡ [] }
         ensures entries { self.new.entries ≡ [] }

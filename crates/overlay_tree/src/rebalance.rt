@@ -1,4 +1,4 @@
-//! How a tree is balanced again, by links and heights alone.
+//! Rebalancing of a tree, by links and heights alone.
 
 ghost use Rattle.std.specs.Prelude.{◌≡◌};
 ghost use Rattle.overlay_tree.specs.Trees.{Tree, AreParts, HasParts, IsTooHigh, IsRebalanced};
@@ -9,8 +9,8 @@ use overlay_geom::number::IntNumber;
 use std::alloc::Allocator;
 
 impl<I: IntNumber, V: Copy, A: Allocator> ScanNodes<I, V, A> {
-    /// The tree of a node and of two trees whose heights differ by at most two: the near one goes on the given side of
-    /// the node, and the far one on the other. Both stand, and share no node.
+    /// Joins a node and two trees whose heights differ by at most two, and returns the root. `near` goes on the given
+    /// side of the node, `far` on the other side. The two trees share no node.
     pub fn balance(
         &mut self,
         i: NodeIndex,
@@ -36,7 +36,7 @@ impl<I: IntNumber, V: Copy, A: Allocator> ScanNodes<I, V, A> {
         }
     }
 
-    // The same where the one tree is higher by two.
+    // Joins a node and two trees where `high` is higher than `low` by two.
     fn lower(
         &mut self,
         i: NodeIndex,

@@ -1,4 +1,4 @@
-//! Ways down through a tree until one meets no entry that has ended.
+//! Repeated descents through a tree, until a descent meets no ended entry.
 
 ghost use Rattle.std.specs.Prelude.{◌≡◌, ℕ, List, length};
 ghost use Rattle.overlay_scan.specs.Scan.{IsCallableOn};
@@ -14,21 +14,21 @@ use overlay_geom::path::IntLine;
 use std::alloc::Allocator;
 use std::cmp::Ordering;
 
-/// What is left of a tree, and what was found in it.
+/// The tree that is left, and the value found in it.
 #[derive(Clone, Copy)]
 pub struct Settled<V> {
-    /// The top of the tree.
+    /// The root of the tree.
     pub root: Option<NodeIndex>,
-    /// The first node that may be used again.
+    /// The first reusable node.
     pub free: Option<NodeIndex>,
     /// The value of the highest live entry that is not above, if there is one.
     pub value: Option<V>,
 }
 
 impl<I: IntNumber, V: Copy, A: Allocator> ScanNodes<I, V, A> {
-    /// Goes down as often as an entry that has ended at x is met, and once more. The last time a node is put in, if one
-    /// is given: above the live entries that the order does not answer `Greater`. The nodes of the entries that have
-    /// ended may then be used again.
+    /// Descends until it meets no entry that has ended at x. The last descent inserts the node `put`, if one is given,
+    /// above the live entries for which the order does not answer `Greater`. The nodes of ended entries become
+    /// reusable.
     pub fn settle<F: Fn(IntLine<I>) -> Ordering>(
         &mut self,
         root: Option<NodeIndex>,

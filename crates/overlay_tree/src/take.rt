@@ -1,4 +1,4 @@
-//! How a node is taken out of a tree, by links and heights alone.
+//! Removal of a node from a tree, by links and heights alone.
 
 ghost use Rattle.std.specs.Prelude.{◌≡◌, ◌++◌, Some};
 ghost use Rattle.overlay_tree.specs.Trees.{Tree, Fork, items, HasTree, IsTreeAt, IsReplaced, IsFirstTaken};
@@ -9,7 +9,7 @@ use overlay_geom::number::IntNumber;
 use std::alloc::Allocator;
 
 impl<I: IntNumber, V: Copy, A: Allocator> ScanNodes<I, V, A> {
-    /// Takes the top node out of a tree, and returns the top of what is left.
+    /// Takes the root out of a tree, and returns the root of the rest.
     pub fn take_out(&mut self, i: NodeIndex) -> Option<NodeIndex>
         requires { (l : Tree) × (r : Tree) × IsTreeAt self.old.links (Some i) (Fork l i.place r) }
         ensures tree { (l r : Tree) → IsTreeAt self.old.links (Some i) (Fork l i.place r)
@@ -26,7 +26,7 @@ impl<I: IntNumber, V: Copy, A: Allocator> ScanNodes<I, V, A> {
         self.balance(first, Side::Right, rest, links.left)
     }
 
-    // Takes the first node out of a tree, and returns it and the top of what is left.
+    // Takes the first node out of a tree, and returns it and the root of the rest.
     fn take_first(&mut self, i: NodeIndex) -> (NodeIndex, Option<NodeIndex>)
         requires { HasTree self.old.links (Some i) }
         ensures tree { (t : Tree) → IsTreeAt self.old.links (Some i) t

@@ -22,16 +22,16 @@ use std::alloc::Allocator;
 use std::cmp::Ordering;
 use std::marker::Model;
 
-/// A [`Scan`] that keeps its edges in a balanced tree. An edge that has ended is dropped where a look-up or an insert
-/// meets it on its way down.
+/// A [`Scan`] that keeps its edges in a balanced tree. A look-up or an insert drops an ended edge when it meets it on
+/// its way down.
 #[derive(Drop)]
 pub struct ScanTree<I: IntNumber, V: Copy, A: Allocator> {
     nodes: ScanNodes<I, V, A>,
-    // the top of the tree
+    // the root of the tree
     root: Option<NodeIndex>,
-    // the first node that may be used again
+    // the first reusable node
     free: Option<NodeIndex>,
-    // the x that was moved to last, and none after `clear`
+    // the last x that the line moved to, and none after `clear`
     reached: Option<I>,
 }
 
@@ -53,7 +53,7 @@ impl<I: IntNumber, V: Copy, A: Allocator> Model for ScanTree<I, V, A> {
 }
 
 impl<I: IntNumber, V: Copy, A: Allocator> ScanTree<I, V, A> {
-    /// No edges. Their memory will be that of the allocator; none is taken yet.
+    /// Makes a scan without edges, which will take its memory from the allocator. It takes none yet.
     pub fn default(alloc: A) -> Self
         ensures empty { held_sweep I.whole result ≡ empty_sweep }
         ensures visits { result.visits ≡ 0 }
@@ -81,7 +81,7 @@ impl<I: IntNumber, V: Copy, A: Allocator> ScanTree<I, V, A> {
         settled.value
     }
 
-    // Puts in an entry by an order at x.
+    // Inserts an entry by an order at x.
     fn put_in<F: Fn(IntLine<I>) -> Ordering>(
         &mut self,
         x: I,

@@ -1,10 +1,10 @@
-//! How many entries were visited. It exists in proofs alone: it takes no memory, and its methods do nothing.
+//! Number of visits of entries. It exists in proofs alone: it takes no memory, and its methods do nothing.
 ghost use Rattle.std.specs.Prelude.{◌≡◌, ℕ, ◌+◌};
 ghost use Rattle.std.specs.Borrow.{ftrue};
 
 use std::marker::Model;
 
-/// A number of visits, without a greatest one.
+/// A number of visits, without a greatest value.
 #[derive(Drop)]
 pub struct Visits {
     pub ghost count: { ℕ },
@@ -15,14 +15,14 @@ impl Model for Visits {
 }
 
 impl Visits {
-    /// No visit yet.
+    /// Makes the count of no visits.
     pub fn none() -> Visits
         ensures { result.count ≡ 0 }
     {
         Visits {}
     }
 
-    /// These visits, and one more.
+    /// Returns the count plus one.
     pub fn and_one(&self) -> Visits
         ensures { result.count ≡ self.now.count + 1 }
     {

@@ -1,4 +1,4 @@
-//! Contours whose points stand in one list.
+//! Contours whose points are held in a single list.
 
 ghost use Rattle.std.specs.Prelude.{◌≡◌, ◌≤◌, ◌==◌, ◌++◌, ◌∷◌, [], length, vec_capacity};
 ghost use Rattle.std.specs.Prelude.{IfOk, IsOk, OnOk, OnErr, IsOkUnless};
@@ -15,20 +15,20 @@ use crate::resource::IntShapeResource;
 use std::alloc::Allocator;
 use std::ops::Range;
 
-/// Contours whose points stand in one list, each contour as a range of it. A range that is not inside
-/// the points is an empty contour.
+/// Contours whose points are held in a single list; each contour is a range of it. A range that is not inside the
+/// points stands for an empty contour.
 #[derive(Drop)]
 #[derive_where(Debug, PartialEq, Eq; I)]
 pub struct FlatContoursBuffer<I, A: Allocator> {
     /// The points of all contours.
     pub points: Vec<IntPoint<I>, A>,
-    /// The places of each contour's points, contour by contour.
+    /// The range of each contour's points, contour by contour.
     pub ranges: Vec<Range<usize>, A>,
 }
 
 impl<I: IntNumber, A: Allocator + Clone> FlatContoursBuffer<I, A> {
-    /// No contours. Their memory will be that of the allocator; none is taken yet. It is refused only
-    /// where a copy of the allocator is.
+    /// Makes a buffer without contours, which will take its memory from the allocator. It takes none yet. It is refused
+    /// only where a copy of the allocator is refused.
     pub fn default(alloc: A) -> Result<Self, OverlayError>
         ensures points { IfOk result (λ b. b.points.items ≡ []) }
         ensures ranges { IfOk result (λ b. b.ranges.items ≡ []) }
@@ -42,7 +42,7 @@ impl<I: IntNumber, A: Allocator + Clone> FlatContoursBuffer<I, A> {
         })
     }
 
-    /// Returns the contours in a buffer of their own, by the same points and ranges.
+    /// Returns a copy of the buffer, with the same points and ranges.
     pub fn clone(&self) -> Result<Self, OverlayError>
         ensures points { IfOk result (λ b. b.points.items ≡ self.now.points.items) }
         ensures ranges { IfOk result (λ b. b.ranges.items ≡ self.now.ranges.items) }
@@ -62,7 +62,7 @@ impl<I: IntNumber, A: Allocator> FlatContoursBuffer<I, A> {
         self.ranges.len() == 1
     }
 
-    /// Returns the points of the first contour; without a contour, none.
+    /// Returns the points of the first contour, or none if there is no contour.
     pub fn as_first_contour(&self) -> &[IntPoint<I>]
         ensures { result.now ≡ part_in self.now.points.items (first_range self.now.ranges.items) }
     {
@@ -70,7 +70,7 @@ impl<I: IntNumber, A: Allocator> FlatContoursBuffer<I, A> {
         part_in(&self.points, &first)
     }
 
-    /// Lends the points of the first contour, to be written over; without a contour, none.
+    /// Lends the points of the first contour, to be written over; lends none if there is no contour.
     pub fn as_first_contour_mut(&mut self) -> &mut [IntPoint<I>]
         ensures* writes_back { sem 𝓛 (LendsFirst I.row A.row A.Allocator self.entry result) }
         ensures value { result.now ≡ part_in self.old.points.items (first_range self.old.ranges.items) }
@@ -80,8 +80,8 @@ impl<I: IntNumber, A: Allocator> FlatContoursBuffer<I, A> {
         self.points.slice_mut(within)
     }
 
-    /// Drops all contours, and takes room for so many points and so many contours. If that is refused,
-    /// the buffer is empty all the same.
+    /// Drops all contours, and takes room for `points` points and `contours` contours. The buffer is empty even if that
+    /// is refused.
     pub fn clear_and_reserve(&mut self, points: usize, contours: usize) -> Result<(), OverlayError>
         ensures points { self.new.points.items ≡ [] }
         ensures ranges { self.new.ranges.items ≡ [] }
@@ -96,9 +96,9 @@ impl<I: IntNumber, A: Allocator> FlatContoursBuffer<I, A> {
         Ok(())
     }
 
-    /// Adds these points as the last contour, behind the points that are there. If all ranges were inside
-    /// the points, they are so again, and the contours are those before and this one. If it is refused,
-    /// the buffer stays as it is. The only refusal is `Memory`.
+    /// Adds `contour` as the last contour, behind the points already held. If all ranges were inside the points, they
+    /// still are, and the contours are the earlier ones and `contour`. On a refusal the buffer stays as it is. The only
+    /// refusal is `Memory`.
     pub fn add_contour(&mut self, contour: &[IntPoint<I>]) -> Result<(), OverlayError>
         ensures points { OnOk result (self.new.points.items ≡ self.old.points.items ++ contour.now) }
         ensures ranges { OnOk result (self.new.ranges.items
@@ -121,7 +121,7 @@ impl<I: IntNumber, A: Allocator> FlatContoursBuffer<I, A> {
         Ok(())
     }
 
-    // The first range; without one, a range without places.
+    // Returns the first range, or an empty range if there is none.
     fn first_range(&self) -> Range<usize>
         ensures { result ≡ first_range self.now.ranges.items }
     {
@@ -135,12 +135,12 @@ impl<I: IntNumber, A: Allocator> FlatContoursBuffer<I, A> {
 impl<I: IntNumber, A: Allocator> IntShapeResource<I> for FlatContoursBuffer<I, A> {
     ghost paths = { λ b. paths_in I.whole b.points.items b.ranges.items };
 
-    /// Returns how many ranges there are.
+    /// Returns the number of ranges.
     fn path_count(&self) -> usize {
         self.ranges.len()
     }
 
-    /// Returns the points of the contour with this number; none if its range is not inside the points.
+    /// Returns the points of contour `index`, or none if its range is not inside the points.
     fn path(&self, index: usize) -> &[IntPoint<I>] {
         part_in(&self.points, &self.ranges[index])
     }

@@ -1,4 +1,4 @@
-//! Shapes whose points stand in one list.
+//! Shapes whose points are held in a single list.
 
 ghost use Rattle.std.specs.Prelude.{◌≡◌, ◌≤◌, ◌++◌, ◌∷◌, [], length, vec_capacity};
 ghost use Rattle.std.specs.Prelude.{IfOk, IsOk, OnOk, IsOkUnless};
@@ -14,22 +14,22 @@ use crate::point::IntPoint;
 use std::alloc::Allocator;
 use std::ops::Range;
 
-/// Shapes whose points stand in one list: each contour is a range of the points, and each shape a range
-/// of the contours. A range that is not inside its list is without points, or without contours.
+/// Shapes whose points are held in a single list: each contour is a range of the points, and each shape a range of the
+/// contours. A range that is not inside its list stands for an empty contour or shape.
 #[derive(Drop)]
 #[derive_where(Debug, PartialEq, Eq; I)]
 pub struct FlatShapesBuffer<I, A: Allocator> {
     /// The points of all contours.
     pub points: Vec<IntPoint<I>, A>,
-    /// The places of each contour's points, contour by contour.
+    /// The range of each contour's points, contour by contour.
     pub contour_ranges: Vec<Range<usize>, A>,
-    /// The places of each shape's contours, shape by shape.
+    /// The range of each shape's contours, shape by shape.
     pub shape_ranges: Vec<Range<usize>, A>,
 }
 
 impl<I: IntNumber, A: Allocator + Clone> FlatShapesBuffer<I, A> {
-    /// No shapes. Their memory will be that of the allocator; none is taken yet. It is refused only where
-    /// a copy of the allocator is.
+    /// Makes a buffer without shapes, which will take its memory from the allocator. It takes none yet. It is refused
+    /// only where a copy of the allocator is refused.
     pub fn default(alloc: A) -> Result<Self, OverlayError>
         ensures points { IfOk result (λ b. b.points.items ≡ []) }
         ensures contour_ranges { IfOk result (λ b. b.contour_ranges.items ≡ []) }
@@ -46,7 +46,7 @@ impl<I: IntNumber, A: Allocator + Clone> FlatShapesBuffer<I, A> {
         })
     }
 
-    /// No shapes, with room for so many points, contours and shapes.
+    /// Makes a buffer without shapes, with room for `points` points, `contours` contours and `shapes` shapes.
     pub fn with_capacity(
         alloc: A,
         points: usize,
@@ -71,8 +71,8 @@ impl<I: IntNumber, A: Allocator + Clone> FlatShapesBuffer<I, A> {
         })
     }
 
-    /// The shapes in one list: their contours and points in their order, with nothing between them. So
-    /// [`to_shapes`](Self::to_shapes) gives them back. The only refusal is `Memory`.
+    /// Packs the shapes into a buffer: contours and points in their order, without gaps. So
+    /// [`to_shapes`](Self::to_shapes) gives the shapes back. The only refusal is `Memory`.
     pub fn from_shapes<B: Allocator>(
         alloc: A,
         shapes: &[IntShape<I, B>],
@@ -90,7 +90,7 @@ impl<I: IntNumber, A: Allocator + Clone> FlatShapesBuffer<I, A> {
         Ok(buffer)
     }
 
-    /// Returns the shapes in a buffer of their own, by the same points and ranges.
+    /// Returns a copy of the buffer, with the same points and ranges.
     pub fn clone(&self) -> Result<Self, OverlayError>
         ensures points { IfOk result (λ b. b.points.items ≡ self.now.points.items) }
         ensures contour_ranges { IfOk result (λ b. b.contour_ranges.items ≡ self.now.contour_ranges.items) }
@@ -108,8 +108,7 @@ impl<I: IntNumber, A: Allocator + Clone> FlatShapesBuffer<I, A> {
         })
     }
 
-    /// Returns the shapes as lists of contours, each with the points of its range, in the order of the
-    /// ranges.
+    /// Returns the shapes as lists of contours, in the order of the ranges. Each contour has the points of its range.
     pub fn to_shapes(&self) -> Result<IntShapes<I, A>, OverlayError>
         ensures ok { IfOk result (λ ss. plain_shapes I.whole ss.items
             ≡ shapes_in I.whole self.now.points.items self.now.contour_ranges.items self.now.shape_ranges.items) }
@@ -125,7 +124,7 @@ impl<I: IntNumber, A: Allocator + Clone> FlatShapesBuffer<I, A> {
 }
 
 impl<I: IntNumber, A: Allocator> FlatShapesBuffer<I, A> {
-    // Adds these contours as the last shape. If it is refused, some of them may stand behind those that were there.
+    // Adds `shape` as the last shape. On a refusal some of its contours may stay behind those already held.
     fn push_shape<B: Allocator>(&mut self, shape: &[IntContour<I, B>]) -> Result<(), OverlayError>
         ensures contours { OnOk result (ArePathsAdded I.whole self.old.points.items self.old.contour_ranges.items
             (paths_of_shape I.whole shape.now) self.new.points.items self.new.contour_ranges.items) }
@@ -140,8 +139,8 @@ impl<I: IntNumber, A: Allocator> FlatShapesBuffer<I, A> {
     }
 }
 
-// Adds the points of the contours behind the points, and the range of each behind the ranges. If it is
-// refused, some may stand there.
+// Appends the points of all contours to `points`, and the range of each contour to `ranges`. On a refusal some of them
+// may stay.
 fn push_contours<I: IntNumber, A: Allocator, B: Allocator>(
     points: &mut Vec<IntPoint<I>, A>,
     ranges: &mut Vec<Range<usize>, A>,
@@ -157,8 +156,7 @@ fn push_contours<I: IntNumber, A: Allocator, B: Allocator>(
     Ok(())
 }
 
-// Adds the points behind the points, and their range behind the ranges. If it is refused, the points may
-// stand there.
+// Appends the contour's points to `points`, and their range to `ranges`. On a refusal the points may stay.
 fn push_contour<I: IntNumber, A: Allocator>(
     points: &mut Vec<IntPoint<I>, A>,
     ranges: &mut Vec<Range<usize>, A>,
@@ -175,7 +173,7 @@ fn push_contour<I: IntNumber, A: Allocator>(
     Ok(())
 }
 
-// A contour for each range, of the points at its places.
+// Returns a contour for each range, with the points in that range.
 fn contours_of<I: IntNumber, A: Allocator + Clone>(
     alloc: &A,
     points: &[IntPoint<I>],
@@ -192,7 +190,7 @@ fn contours_of<I: IntNumber, A: Allocator + Clone>(
     Ok(contours)
 }
 
-// A shape for each range of contours, which are ranges of the points.
+// Returns a shape for each range of contours; each contour is a range of the points.
 fn shapes_of<I: IntNumber, A: Allocator + Clone>(
     alloc: &A,
     points: &[IntPoint<I>],

@@ -1,4 +1,4 @@
-//! The numbers that coordinates are made of.
+//! The coordinate types `i16`, `i32` and `i64`.
 
 ghost use Rattle.std.proofs.Common.{lit≤};
 ghost use Rattle.overlay_geom.specs.Numbers.{greatest_of_64_bits};
@@ -7,7 +7,7 @@ use crate::number::IntNumber;
 use crate::number::part_way::nearest_on_way;
 use std::cmp::Ordering;
 
-// The greatest coordinate of 64 bits, 2^62 - 1: `greatest_of_64_bits`.
+// The greatest 64-bit coordinate in range, 2^62 - 1: `greatest_of_64_bits`.
 const GREATEST_OF_64_BITS: i64 = 4611686018427387903;
 
 impl IntNumber for i16 {

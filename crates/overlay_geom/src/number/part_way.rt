@@ -1,13 +1,13 @@
-//! The coordinate that lies a part of the way from one to another. The product of a difference of
-//! coordinates and a cross product has up to 190 bits; where it has more than 128, it is divided as it is built up.
+//! Rounded interpolation between two coordinates. The product of a coordinate difference and a cross product has up to
+//! 190 bits. Where it exceeds 128 bits, it is divided while it is built up.
 
 ghost use Rattle.std.specs.Prelude.{◌≡◌, ◌+◌, ◌*◌, ◌^◌, ◌<◌, ◌≤◌};
 ghost use Rattle.std.specs.Prelude.{pos, neg_ℤ, ◌+ℤ◌, ◌-ℤ◌, ◌*ℤ◌, ◌<ℤ◌, ◌≤ℤ◌};
 ghost use Rattle.overlay_geom.specs.Numbers.{Within, greatest_of_64_bits};
 ghost use Rattle.overlay_geom.specs.Rounding.{nearest};
 
-/// Returns the coordinate nearest the one that lies `t / d` of the way from one to another, the
-/// greater of two equally near ones.
+/// Returns the coordinate nearest to the point `t / d` of the way from `from` to `to`. Of two equally near coordinates
+/// it returns the greater.
 pub(crate) fn nearest_on_way(from: i64, to: i64, t: i128, d: i128) -> i64
     requires from { Within greatest_of_64_bits from }
     requires to { Within greatest_of_64_bits to }
@@ -25,7 +25,7 @@ pub(crate) fn nearest_on_way(from: i64, to: i64, t: i128, d: i128) -> i64
     }
 }
 
-// The whole number nearest `q + r / d`, the greater of two equally near ones.
+// Returns the whole number nearest to `q + r / d`, and the greater of two equally near.
 fn half_up(q: u64, r: u128, d: u128) -> u64
     requires room { q < 2 ^ 63 }
     requires fits { d < 2 ^ 127 }
@@ -35,7 +35,7 @@ fn half_up(q: u64, r: u128, d: u128) -> u64
     if 2 * r >= d { q + 1 } else { q }
 }
 
-// The whole number nearest `q + r / d`, the smaller of two equally near ones.
+// Returns the whole number nearest to `q + r / d`, and the smaller of two equally near.
 fn half_down(q: u64, r: u128, d: u128) -> u64
     requires room { q < 2 ^ 63 }
     requires fits { d < 2 ^ 127 }
@@ -45,7 +45,7 @@ fn half_down(q: u64, r: u128, d: u128) -> u64
     if 2 * r > d { q + 1 } else { q }
 }
 
-// The quotient and the remainder of `n * t` by `d`, by one division where the product is a number of 128 bits.
+// Returns the quotient and the remainder of `n * t` by `d`. It divides once where the product fits 128 bits.
 fn times_quotient(n: u64, t: u128, d: u128) -> (u64, u128)
     requires count { n < 2 ^ 63 }
     requires fits { d < 2 ^ 127 }
@@ -61,7 +61,7 @@ fn times_quotient(n: u64, t: u128, d: u128) -> (u64, u128)
     }
 }
 
-// The same, one bit of `n` at a time.
+// Returns the quotient and the remainder of `n * t` by `d`, computed bit by bit of `n`.
 fn doubled_quotient(n: u64, t: u128, d: u128) -> (u64, u128)
     requires count { n < 2 ^ 63 }
     requires fits { d < 2 ^ 127 }
@@ -83,7 +83,7 @@ fn doubled_quotient(n: u64, t: u128, d: u128) -> (u64, u128)
     }
 }
 
-// The same value with a remainder below the divisor, from one below twice the divisor.
+// Carries `r` into `q`: turns a remainder below `2 * d` into a remainder below `d`. The value `q * d + r` stays.
 fn carried(q: u64, r: u128, d: u128) -> (u64, u128)
     requires room { q < 2 ^ 63 }
     requires twice { r < d + d }

@@ -1,4 +1,4 @@
-//! The unsigned numbers that areas are measured in.
+//! The unsigned types that measure areas.
 
 use crate::number::UIntNumber;
 

@@ -1,4 +1,4 @@
-//! The numbers that cross products are held in.
+//! The types that hold cross products.
 
 ghost use Rattle.std.specs.Int.{w32, w64, w128};
 
