@@ -1,4 +1,4 @@
--- Counted edges, the windings that they make, and the edges that an added contour becomes.
+-- Counted edges, their windings, and the edges of an added contour.
 use Rattle.std.specs.Prelude.{◌≡◌, ◌++◌, ℕ, Bool, false, ℤ, pos, ◌+ℤ◌, List, map, sum_by}
 use Rattle.overlay_geom.specs.Counts.{Counts, are_zero, weight_of_counts}
 use Rattle.overlay_geom.specs.Plane.{Point, PlanePoint, Step, Edge, midpoint, total_below, edge_of, sign_of, steps_of}
@@ -10,27 +10,27 @@ pub record CountedEdge : Type 0 where
   pub b : Point
   pub counts : Counts
 
--- its two ends, without the counts
+-- the two ends of an edge, without the counts
 abbrev pub ends_of : CountedEdge → Edge
 ends_of e = record { a = e.a; b = e.b }
 
--- those of each edge of the list
+-- the ends of each edge of the list
 abbrev pub all_ends : List CountedEdge → List Edge
 all_ends es = map ends_of es
 
--- how often the subject passes it
+-- how often the subject passes the edge
 abbrev pub subj_of : CountedEdge → ℤ
 subj_of e = e.counts.subj
 
--- and how often the clip does
+-- how often the clip passes the edge
 abbrev pub clip_of : CountedEdge → ℤ
 clip_of e = e.counts.clip
 
--- whether a string passes it from a to b
+-- a string passes the edge from a to b
 abbrev pub goes_along : CountedEdge → Bool
 goes_along e = e.counts.along
 
--- and whether one passes it from b to a
+-- a string passes the edge from b to a
 abbrev pub goes_against : CountedEdge → Bool
 goes_against e = e.counts.against
 
@@ -38,7 +38,7 @@ goes_against e = e.counts.against
 abbrev pub counts_nothing : CountedEdge → Bool
 counts_nothing e = are_zero e.counts
 
--- ---- what is added
+-- ---- added edges
 
 -- the edge of a subject's step
 abbrev pub subject_edge : Step → CountedEdge
@@ -56,14 +56,14 @@ clip_edge s = record {
   counts = record { subj = pos 0; clip = sign_of s; along = false; against = false };
 }
 
--- the content is the one before, followed by the edges of the contour's steps, as given or thinned
+-- the new content is the old content followed by the edges of the contour's steps, as given or thinned
 pub record AddsContour (keep_points : Bool) (edge_for : Step → CountedEdge) (given : List Point)
     (old new : List CountedEdge) : Type 0 where
   pub taken : List Point
   pub thinned : IsKeptOrThinned keep_points given taken
   pub content : new ≡ old ++ map edge_for (steps_of taken)
 
--- how much a list of edges weighs: what their counts weigh, summed
+-- the weight of a list of edges: the sum of the weights of their counts
 abbrev pub weight : List CountedEdge → ℕ
 weight es = sum_by (λ e. weight_of_counts e.counts) es
 
@@ -77,6 +77,6 @@ winding_by count es p = total_below ends_of count es p
 abbrev pub winding_below : (CountedEdge → ℤ) → List CountedEdge → CountedEdge → ℤ
 winding_below count es e = winding_by count es (midpoint (ends_of e))
 
--- the winding above an edge: the one below it, and its own count
+-- the winding above an edge: the winding below it plus its own count
 abbrev pub winding_above : (CountedEdge → ℤ) → List CountedEdge → CountedEdge → ℤ
 winding_above count es e = winding_below count es e +ℤ count e

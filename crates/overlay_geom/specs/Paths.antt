@@ -12,7 +12,7 @@ paths_of_shape whole contours = map (λ c. plain_points whole c.items) contours
 abbrev pub paths_of_shapes : {I A : Type 0} → (I → ℤ) → List (Vec (Vec (IntPoint I) A) A) → List (List Point)
 paths_of_shapes whole shapes = flat_map (λ s. paths_of_shape whole s.items) shapes
 
--- as many of the first paths as usize can count
+-- the first paths, as many as usize can count
 abbrev pub counted_paths : List (List Point) → List (List Point)
 counted_paths ps = take (2 ^ 64 - 1) ps
 

@@ -1,5 +1,5 @@
 -- Whole points, plane points with rational coordinates, steps between whole points and their edges, and windings as
--- sums along a ray downwards.
+-- sums along a downward ray.
 use Rattle.std.specs.Prelude.{◌≡◌, ◌⊎◌, Bool, cond, ◌&&◌, ◌||◌, ℤ, pos, negsuc, ◌+ℤ◌, ◌-ℤ◌, ◌*ℤ◌, ◌<ℤ◌, ◌≤ℤ◌, int_lt}
 use Rattle.std.specs.Prelude.{int_le}
 use Rattle.std.specs.Prelude.{List, [], ◌∷◌, ◌++◌, map, reverse, All}
@@ -17,12 +17,12 @@ pub record PlanePoint : Type 0 where
   pub d : ℤ
   pub positive : pos 0 <ℤ d
 
--- the walk straight on from one whole point to another
+-- the straight way from one whole point to another
 pub record Step : Type 0 where
   pub from : Point
   pub to : Point
 
--- the segment between two whole points, of which a is the smaller one
+-- the segment between two whole points, with the smaller end a
 pub record Edge : Type 0 where
   pub a : Point
   pub b : Point
@@ -31,7 +31,7 @@ pub record Edge : Type 0 where
 abbrev pub in_plane : Point → PlanePoint
 in_plane p = record { x = p.x; y = p.y; d = pos 1; positive = record { lt = tt } }
 
--- the two are one point
+-- the two points are equal
 abbrev pub point_eq : Point → Point → Bool
 point_eq p q = int_eq p.x q.x && int_eq p.y q.y
 
@@ -39,15 +39,15 @@ point_eq p q = int_eq p.x q.x && int_eq p.y q.y
 abbrev pub point_lt : Point → Point → Bool
 point_lt p q = int_lt p.x q.x || (int_eq p.x q.x && int_lt p.y q.y)
 
--- the two have the same ends
+-- the two edges have equal ends
 abbrev pub edge_eq : Edge → Edge → Bool
 edge_eq e f = point_eq e.a f.a && point_eq e.b f.b
 
--- the two lead from the same point to the same one
+-- the two steps have equal starts and equal ends
 abbrev pub step_eq : Step → Step → Bool
 step_eq s t = point_eq s.from t.from && point_eq s.to t.to
 
--- e comes before f in the order of edges: by the smaller ends, then by the larger ones
+-- e comes before f in the order of edges: by smaller ends, then by larger ends
 abbrev pub edge_lt : Edge → Edge → Bool
 edge_lt e f = point_lt e.a f.a || (point_eq e.a f.a && point_lt e.b f.b)
 
@@ -59,7 +59,7 @@ is_forward s = point_lt s.from s.to
 abbrev pub edge_of : Step → Edge
 edge_of s = cond (is_forward s) (record { a = s.from; b = s.to }) (record { a = s.to; b = s.from })
 
--- 1 for a step from the smaller to the larger point, and -1 for one back
+-- 1 for a step from the smaller to the larger point, and -1 for a step back
 abbrev pub sign_of : Step → ℤ
 sign_of s = cond (is_forward s) (pos 1) (negsuc 0)
 
@@ -67,7 +67,7 @@ sign_of s = cond (is_forward s) (pos 1) (negsuc 0)
 abbrev pub reversed_step : Step → Step
 reversed_step s = record { from = s.to; to = s.from }
 
--- the cross product of the ways from v to p and from v to q: positive where q lies to the left of the ray from v
+-- the cross product of the vectors from v to p and from v to q: positive where q lies to the left of the ray from v
 -- through p
 abbrev pub cross_at : Point → Point → Point → ℤ
 cross_at v p q = (p.x -ℤ v.x) *ℤ (q.y -ℤ v.y) -ℤ (p.y -ℤ v.y) *ℤ (q.x -ℤ v.x)
@@ -76,20 +76,20 @@ cross_at v p q = (p.x -ℤ v.x) *ℤ (q.y -ℤ v.y) -ℤ (p.y -ℤ v.y) *ℤ (q.
 abbrev pub line_form : Edge → ℤ → ℤ → ℤ → ℤ
 line_form e x y d = (e.b.x -ℤ e.a.x) *ℤ (y -ℤ e.a.y *ℤ d) -ℤ (e.b.y -ℤ e.a.y) *ℤ (x -ℤ e.a.x *ℤ d)
 
--- positive where p lies to the left of the walk from a to b, negative to the right, 0 on the line
+-- positive where p lies to the left of the line from a to b, negative to the right, 0 on the line
 abbrev pub side : Edge → PlanePoint → ℤ
 side e p = line_form e p.x p.y p.d
 
--- the edge is strictly below p: p.x is in the edge's span, of which the right end is no part, and p lies strictly to
--- the left of the walk from a to b
+-- the edge is strictly below p: p.x is in the edge's span without its right end, and p lies strictly to the left of the
+-- line from a to b
 abbrev pub is_strictly_below : Edge → PlanePoint → Bool
 is_strictly_below e p = int_le (e.a.x *ℤ p.d) p.x && int_lt p.x (e.b.x *ℤ p.d) && int_lt (pos 0) (side e p)
 
--- the two are one point of the plane
+-- the two are the same point of the plane
 abbrev pub SamePlace : PlanePoint → PlanePoint → Type 0
 SamePlace p q = (p.x *ℤ q.d ≡ q.x *ℤ p.d) × (p.y *ℤ q.d ≡ q.y *ℤ p.d)
 
--- the plane point is this whole point
+-- the plane point is equal to this whole point
 abbrev pub IsAt : Point → PlanePoint → Type 0
 IsAt v p = (p.x ≡ v.x *ℤ p.d) × (p.y ≡ v.y *ℤ p.d)
 
@@ -97,7 +97,7 @@ IsAt v p = (p.x ≡ v.x *ℤ p.d) × (p.y ≡ v.y *ℤ p.d)
 abbrev pub IsEnd : Edge → PlanePoint → Type 0
 IsEnd e p = IsAt e.a p ⊎ IsAt e.b p
 
--- z lies between the two, or is one of them
+-- z lies between u and v, or is equal to one of them
 abbrev pub IsBetween : ℤ → ℤ → ℤ → Type 0
 IsBetween z u v = ((u ≤ℤ z) × (z ≤ℤ v)) ⊎ ((v ≤ℤ z) × (z ≤ℤ u))
 
@@ -117,7 +117,7 @@ midpoint e = record { x = e.a.x +ℤ e.b.x; y = e.a.y +ℤ e.b.y; d = pos 2; pos
 
 -- ---- steps
 
--- the step between two points, and none between equal ones
+-- the step between two points, or none if they are equal
 abbrev pub steps_between : Point → Point → List Step
 steps_between p q = cond (point_eq p q) [] (record { from = p; to = q } ∷ [])
 

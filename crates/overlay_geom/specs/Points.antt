@@ -5,15 +5,15 @@ use Rattle.overlay_geom.specs.Plane.{Point}
 use Rattle.overlay_geom.specs.declared.point.IntPoint.{IntPoint}
 use Rattle.overlay_geom.specs.declared.vector.IntVector.{IntVector}
 
--- the whole point at the coordinates' numbers
+-- the whole point with the numbers of the coordinates
 abbrev pub plain_point : {I : Type 0} → (I → ℤ) → IntPoint I → Point
 plain_point whole p = record { x = whole p.x; y = whole p.y }
 
--- and of each point of a list
+-- the whole points of a list
 abbrev pub plain_points : {I : Type 0} → (I → ℤ) → List (IntPoint I) → List Point
 plain_points whole ps = map (plain_point whole) ps
 
--- the way of a vector: the whole point to which it leads from (0, 0)
+-- a vector as the whole point to which it leads from (0, 0)
 abbrev pub plain_way : {I : Type 0} → (I → ℤ) → IntVector I → Point
 plain_way whole v = record { x = whole v.x; y = whole v.y }
 

@@ -10,15 +10,15 @@ use Rattle.overlay_geom.specs.declared.edge.IntEdge.{IntEdge}
 use Rattle.overlay_geom.specs.declared.edge_pair.Place.{Place}
 use Rattle.overlay_geom.specs.declared.edge_pair.Place.TheVariants.{Along, Beside, Across}
 
--- how two points compare: by x, then by y
+-- the comparison of two points: by x, then by y
 abbrev pub point_cmp : Point → Point → Ordering
 point_cmp p q = cond (point_lt p q) Less (cond (point_lt q p) Greater Equal)
 
--- the edge between the whole points at an edge's numbers
+-- the edge between the whole points at an edge's ends
 abbrev pub plain_edge : {I : Type 0} → (I → ℤ) → IntEdge I → Edge
 plain_edge whole e = record { a = plain_point whole e.a; b = plain_point whole e.b }
 
--- and that of each edge of a list
+-- the edges between whole points of a list of edges
 abbrev pub plain_edges : {I : Type 0} → (I → ℤ) → List (IntEdge I) → List Edge
 plain_edges whole es = map (plain_edge whole) es
 
@@ -28,13 +28,13 @@ pub record IsLongEdge (limit : ℕ) (e : Edge) : Type 0 where
   pub a_in_range : InRange limit e.a
   pub b_in_range : InRange limit e.b
 
--- f lies so by e's line
+-- f has this position relative to e's line
 abbrev pub IsPlaced : Place → Edge → Edge → Type 0
 IsPlaced Along e f = IsAlong e f
 IsPlaced Beside e f = IsBeside e f
 IsPlaced Across e f = IsAcross e f
 
--- the edge between two points, and none between equal ones
+-- the edge between two points, or none if they are equal
 abbrev pub edges_between : Point → Point → List Edge
 edges_between p q = map edge_of (steps_between p q)
 
@@ -50,6 +50,6 @@ edges_of ps = map edge_of (steps_of ps)
 abbrev pub AreApart : List Edge → Type 0
 AreApart es = AllPairs MeetInEnds es
 
--- two steps at different places of the contour share only points that are ends of both
+-- two different steps of the contour share only points that are ends of both
 abbrev pub IsResolved : List Point → Type 0
 IsResolved ps = AreApart (edges_of ps)

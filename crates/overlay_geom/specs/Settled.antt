@@ -7,7 +7,7 @@ use Rattle.overlay_geom.specs.Edges.{CountedEdge, ends_of}
 abbrev pub IsCommon : Edge → Edge → PlanePoint → Type 0
 IsCommon e f p = IsOn e p × IsOn f p
 
--- every point that the two edges have in common is an end of both
+-- every point that the two edges share is an end of both
 abbrev pub MeetInEnds : Edge → Edge → Type 0
 MeetInEnds e f = (p : PlanePoint) → IsCommon e f p → IsEnd e p × IsEnd f p
 

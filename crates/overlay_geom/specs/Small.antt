@@ -1,4 +1,4 @@
--- Types whose values take little memory, so that an array of structs of a few of them fits.
+-- Types with small values, so that an array of structs of a few of them fits in memory.
 use Rattle.std.specs.Prelude.{◌≤◌}
 use prog.Memory.{size, align}
 use denote.Memory.{lone}

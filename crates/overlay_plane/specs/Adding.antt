@@ -1,15 +1,15 @@
--- An added contour adds its winding to the windings of its side, thinned or not, and nothing to those of the other.
+-- An added contour adds its winding to the windings of its side, thinned or not, and nothing to those of the other
+-- side.
 use Rattle.std.specs.Prelude.{◌≡◌, Bool, ℤ, ◌+ℤ◌, List}
 use Rattle.overlay_geom.specs.Plane.{Point, PlanePoint, steps_of, winding}
 use Rattle.overlay_geom.specs.Edges.{CountedEdge, subj_of, clip_of, subject_edge, clip_edge, winding_by, AddsContour}
 
--- the windings that one count makes have risen by that of the contour, and those that the other count makes are as
--- before
+-- the windings by one count have risen by the contour's winding, and those by the other count are unchanged
 pub record AddsWinding (risen kept : CountedEdge → ℤ) (given : List Point) (old new : List CountedEdge) : Type 0 where
   pub rises : (p : PlanePoint) → winding_by risen new p ≡ winding_by risen old p +ℤ winding (steps_of given) p
   pub stays : (p : PlanePoint) → winding_by kept new p ≡ winding_by kept old p
 
--- so it is where a subject's contour is added, and where a clip's is
+-- adding a contour of the subject does so, and so does adding a contour of the clip
 pub record AddingAddsWindings : Type 0 where
   pub subject : (keep : Bool) (given : List Point) (old new : List CountedEdge) →
       AddsContour keep subject_edge given old new →

@@ -8,12 +8,12 @@ use Rattle.overlay_plane.specs.Turn.Hand.{right}
 abbrev pub IsMetBetween : Point → Point → Point → Point → Type 0
 IsMetBetween v p m q = IsMetBefore right v p m q
 
--- the two points are seen from v in one direction
+-- p and q lie in one direction from v
 pub record AreOneWay (v p q : Point) : Type 0 where
   pub on_line : cross_at v p q ≡ pos 0
   pub ahead : pos 0 <ℤ (dot_at v p q)
 
--- the set of steps alternates round every node; no two of its steps there run along one ray, and none has no length
+-- the set of steps alternates round every node; no two steps there run along one ray, and each step has a length
 pub record Alternates (steps : List Step) : Type 0 where
   pub long : (s : Step) → Contains steps s → ¬ (s.from ≡ s.to)
   pub one_leaves : (s t : Step) → Contains steps s → Contains steps t → s.from ≡ t.from → AreOneWay s.from s.to t.to →

@@ -1,4 +1,4 @@
--- The arrangement of a list of counted edges: where a run of cutting rounds brings it, merged, in order and settled.
+-- The arrangement of a list of counted edges: the result of a run of cutting rounds, merged, in order and settled.
 use Rattle.std.specs.Prelude.{◌≡◌, ℕ, ◌≤◌, List, length}
 use Rattle.overlay_geom.specs.Edges.{CountedEdge, ends_of, weight}
 use Rattle.overlay_geom.specs.Merged.{IsMerged, HaveSameWindings}
@@ -13,13 +13,13 @@ use Rattle.overlay_plane.specs.Meetings.{MeetInWholePoints}
 use Rattle.overlay_plane.specs.RoundLists.{AreRounds}
 use Rattle.overlay_plane.specs.Rounds.{Round, IsRound, pieces_of, after_rounds, MovingRounds}
 
--- the second list is where these rounds of the solver bring the first: merged, in order and settled
+-- these rounds of the solver bring the first list to the second, which is merged, in order and settled
 pub record IsReachedBy (solver : Solver) (rounds : List Round) (old new : List CountedEdge) : Type 0 where
   pub cut : AreRounds solver old rounds
   pub merged : IsMerged (after_rounds old rounds) new
   pub settled : IsSettled new
 
--- the solver reaches the second list from the first one in `most` rounds or fewer
+-- the solver reaches the second list from the first in `most` rounds or fewer
 pub record IsSplit (solver : Solver) (most : ℕ) (old new : List CountedEdge) : Type 0 where
   pub rounds : List Round
   pub few : length rounds ≤ most
@@ -34,7 +34,7 @@ pub record StaysUnsettled (most : ℕ) (old : List CountedEdge) : Type 0 where
   pub merged : IsMerged (after_rounds old rounds) left
   pub unsettled : ¬ (IsSettled left)
 
--- the pieces that some round of the solver leaves, the last of `most` or one before it, weigh the limit or more
+-- the pieces that a round of the solver leaves weigh the limit or more; at most `most` rounds are taken
 pub record WeighsTooMuch (solver : Solver) (most limit : ℕ) (old : List CountedEdge) : Type 0 where
   pub rounds : List Round
   pub some : 1 ≤ length rounds
@@ -48,7 +48,7 @@ pub record IsExact (rounds : List Round) (k : ℕ) (old new : List CountedEdge) 
   pub none_moved : k ≡ 0
   pub windings : HaveSameWindings old new
 
--- ---- what follows
+-- ---- laws
 
 -- the chains of the edges from which an arrangement was reached hold
 abbrev pub ArrangementsHoldChains : Type 0
@@ -69,13 +69,13 @@ abbrev pub ArrangementsKeepBalance : Type 0
 ArrangementsKeepBalance = (solver : Solver) (rounds : List Round) (old new : List CountedEdge) →
     IsReachedBy solver rounds old new → HasBalancedCounts old → HasBalancedCounts new
 
--- an arrangement of an arrangement is the same list, whichever solvers reach the two
+-- an arrangement of an arrangement is an equal list, whichever solvers reach the two
 abbrev pub ArrangedStaysArranged : Type 0
 ArrangedStaysArranged = (first second : Solver) (rounds again : List Round) (old new newer : List CountedEdge) →
     IsReachedBy first rounds old new → IsReachedBy second again new newer → newer ≡ new
 
--- a merged list of forward edges that is not settled, cut through the points computed pair by pair, is what a cutting
--- round leaves
+-- a merged list of forward edges that is not settled, cut through the points computed pair by pair, is the result of a
+-- cutting round
 abbrev pub CuttingIsARound : Type 0
 CuttingIsARound = (old es : List CountedEdge) → IsForwardBy ends_of es → IsMerged old es → ¬ (IsSettled es) →
     (r : Round) × IsRound old r × (pieces_of r ≡ cut_edges es)

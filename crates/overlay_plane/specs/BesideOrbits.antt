@@ -1,5 +1,5 @@
--- Steps counted on the edges of an arrangement: the winding of some of the steps of a set that alternates, on either
--- side of each step of the set, and which of them have balanced counts.
+-- Steps counted on the edges of an arrangement: the winding of part of an alternating set on either side of each step,
+-- and the parts with balanced counts.
 use Rattle.std.specs.Prelude.{◌≡◌, Bool, false, cond, not, ℤ, pos, ◌+ℤ◌, ◌-ℤ◌, List, Contains, AllPairs, filter}
 use Rattle.overlay_geom.specs.Plane.{Step, Edge, edge_eq, step_eq, is_forward, edge_of, sign_of, reversed_step}
 use Rattle.overlay_geom.specs.Plane.{midpoint, total}
@@ -11,11 +11,11 @@ use Rattle.overlay_plane.specs.NextSteps.{LeadsOn, IsClosedUnderNext}
 use Rattle.overlay_plane.specs.EdgeLists.{IsBalanced}
 use Rattle.overlay_plane.specs.Regions.{IsPlanar, one_if}
 
--- how often the steps walk along the edge, less how often back along it
+-- how often the steps walk along the edge, minus how often they walk back along it
 abbrev pub count_along : List Step → Edge → ℤ
 count_along taken e = total (λ s. cond (edge_eq (edge_of s) e) (sign_of s) (pos 0)) taken
 
--- the same on an edge of a list
+-- that count for an edge of a list
 abbrev pub count_on : List Step → CountedEdge → ℤ
 count_on taken e = count_along taken (ends_of e)
 
@@ -33,11 +33,11 @@ winding_beside left es taken s = cond (is_forward s) (winding_over es taken (edg
 winding_beside right es taken s = cond (is_forward s) (winding_under es taken (edge_of s))
     (winding_over es taken (edge_of s))
 
--- how often the list holds the step
+-- how often the list contains the step
 abbrev pub times_held : List Step → Step → ℤ
 times_held taken s = total (λ t. one_if (step_eq t s)) taken
 
--- no step stands twice in the list
+-- no step occurs twice in the list
 abbrev pub HasEachOnce : List Step → Type 0
 HasEachOnce steps = AllPairs (λ s t. step_eq s t ≡ false) steps
 
@@ -53,13 +53,13 @@ pub record IsBalancedPart (es : List CountedEdge) (steps taken : List Step) : Ty
 
 -- ---- along orbits
 
--- on the hand's side the winding beside a step is that beside its next step by the hand
+-- on the hand's side, a step and its next step by the hand have equal windings
 abbrev pub OneWindingToTheNext : Type 0
 OneWindingToTheNext = (es : List CountedEdge) (steps taken : List Step) → WalksAlong es steps → Alternates steps →
     IsBalancedPart es steps taken → (hand : Hand) (s t : Step) → Contains steps s →
     IsNextStep steps hand s t → winding_beside hand es taken s ≡ winding_beside hand es taken t
 
--- along an orbit by a hand the winding on the hand's side is one number
+-- along an orbit by a hand, the winding on the hand's side is constant
 abbrev pub OneWindingAlongOrbits : Type 0
 OneWindingAlongOrbits = (es : List CountedEdge) (steps taken : List Step) → WalksAlong es steps → Alternates steps →
     IsBalancedPart es steps taken →
@@ -68,15 +68,15 @@ OneWindingAlongOrbits = (es : List CountedEdge) (steps taken : List Step) → Wa
 
 -- ---- across steps
 
--- across a step the winding on its left is that on its right, and how often the step is taken, less how often it is
+-- across a step the winding on its left is that on its right plus how often the step is taken, minus how often it is
 -- taken back
 abbrev pub WindingAcrossAStep : Type 0
 WindingAcrossAStep = (es : List CountedEdge) (taken : List Step) (s : Step) → ¬ (s.from ≡ s.to) →
     winding_beside left es taken s ≡
     winding_beside right es taken s +ℤ (times_held taken s -ℤ times_held taken (reversed_step s))
 
--- where the steps of a set that alternates are taken at most once: 1 more on the left of a step taken, and no more on
--- that of another step
+-- takes some steps of a set that alternates, each at most once. Across a step taken the winding on the left is 1 more
+-- than on the right, and across another step of the set it is equal
 pub record WindingAcrossSteps (es : List CountedEdge) (steps taken : List Step) : Type 0 where
   pub rises : HasEachOnce taken → (s : Step) → Contains taken s →
       winding_beside left es taken s ≡ winding_beside right es taken s +ℤ pos 1
@@ -90,7 +90,7 @@ WindingAcrossAlternatingSteps = (es : List CountedEdge) (steps taken : List Step
 
 -- ---- balanced counts
 
--- no step stands twice in an orbit
+-- no step occurs twice in an orbit
 abbrev pub OrbitsHaveEachOnce : Type 0
 OrbitsHaveEachOnce = (steps : List Step) (hand : Hand) → LeadsOn steps hand → (walk : List Step) →
     IsOrbit steps hand walk → HasEachOnce walk
@@ -105,7 +105,7 @@ abbrev pub AlternatingStepsAreBalanced : Type 0
 AlternatingStepsAreBalanced = (es : List CountedEdge) (steps : List Step) → WalksAlong es steps → Alternates steps →
     HasEachOnce steps → IsBalancedPart es steps steps
 
--- what a closed test takes has balanced counts, and what it leaves
+-- the steps that a closed test takes have balanced counts, and so do those that it leaves
 pub record HasBalancedParts (es : List CountedEdge) (steps : List Step) (taken : Step → Bool) : Type 0 where
   pub of_taken : IsBalancedPart es steps (filter taken steps)
   pub of_left : IsBalancedPart es steps (filter (λ s. not (taken s)) steps)

@@ -1,7 +1,6 @@
--- What is found below walks, each by the walk that has the next edge below its anchor. Which shape a hole belongs to is
--- found so, by the edges filled above: it is the one whose outline has that edge, or the one of the hole that has it.
--- And so is the hole round an island, by the edges filled below: these are filled above where the filled side of each
--- step is on the other hand.
+-- Numbers found below walks, each by the walk with the next edge below its anchor. Edges filled above give the shape
+-- that a hole belongs to: that of the outline with that edge, or of the hole with it. Edges filled below give the hole
+-- round an island; they are the edges filled above by the other hand.
 use Rattle.std.specs.Prelude.{◌≡◌, ℕ, ◌==◌, Bool, true, false, ℤ}
 use Rattle.std.specs.Prelude.{List, [], ◌∷◌, map, filter, All, Contains, slice_get, slice_index_or, Option, Some, None}
 use Rattle.std.specs.List.{flat_map}
@@ -18,16 +17,16 @@ abbrev pub is_hole : Hand → List Step → Bool
 is_hole filled [] = false
 is_hole filled (s ∷ ss) = is_filled_above filled s
 
--- the edges of a walk that are filled above, and those of all walks
+-- the filled-above edges of a walk, and those of all walks
 abbrev pub filled_above_edges : Hand → List Step → List Edge
 filled_above_edges filled walk = map edge_of (filter (is_filled_above filled) walk)
 
 abbrev pub all_filled_above : Hand → List (List Step) → List Edge
 all_filled_above filled walks = flat_map (filled_above_edges filled) walks
 
--- ---- what is found below a walk
+-- ---- numbers found below walks
 
--- next is the walk that has the next filled-above edge below the walk's anchor
+-- next is the walk with the next filled-above edge below the walk's anchor
 pub record IsNextWalk (filled : Hand) (walks : List (List Step)) (walk next : List Step) : Type 0 where
   pub anchor : Edge
   pub anchored : IsAnchor walk anchor
@@ -42,7 +41,7 @@ pub record HasNoneBelow (filled : Hand) (walks : List (List Step)) (walk : List 
   pub anchored : IsAnchor walk anchor
   pub none : (f : Edge) → Contains (all_filled_above filled walks) f → is_below_anchor anchor f ≡ false
 
--- so of what stands at places: the walk at place j is the next one of the walk at place i
+-- the walk at place j is the next walk of the walk at place i
 pub record HasNextAt (filled : Hand) (walks : List (List Step)) (i j : ℕ) : Type 0 where
   pub walk : List Step
   pub at : slice_get walks i ≡ Some walk
@@ -50,9 +49,8 @@ pub record HasNextAt (filled : Hand) (walks : List (List Step)) (i j : ℕ) : Ty
   pub next_at : slice_get walks j ≡ Some next
   pub is_next : IsNextWalk filled walks walk next
 
--- where some walks have numbers from the start, and each other one has the number of its next walk: this number is
--- found for the walk at place i by its next walk, or none is, where no edge is below it, or none is found for its next
--- walk
+-- some walks have known numbers, and each other walk takes the number of its next walk. This number, or none, is found
+-- for the walk at place i. None is found where no edge is below it, or where none is found for its next walk
 pub data IsFoundBelow (filled : Hand) (walks : List (List Step)) (known : List (Option ℕ)) : ℕ → Option ℕ → Type 0 where
   nothing : {i : ℕ} (walk : List Step) → slice_get walks i ≡ Some walk → HasNoneBelow filled walks walk →
       IsFoundBelow filled walks known i None
@@ -64,7 +62,7 @@ pub data IsFoundBelow (filled : Hand) (walks : List (List Step)) (known : List (
 
 -- ---- shapes
 
--- the number is the one found
+-- the number is the one in the option
 abbrev pub is_number : ℕ → Option ℕ → Bool
 is_number n None = false
 is_number n (Some m) = m == n
@@ -75,7 +73,7 @@ walks_of shapes = flat_map (λ shape. shape) shapes
 
 -- ---- laws
 
--- the walks are those that the selected steps of a ruled list are cut into
+-- the walks are a cut of the selected steps of a ruled list
 pub record AreCutFrom (holds : ℤ → ℤ → Bool) (subj clip : CountedEdge → ℤ) (es : List CountedEdge) (filled : Hand)
     (walks : List (List Step)) : Type 0 where
   pub ruled : IsRuled holds subj clip es
@@ -89,7 +87,7 @@ HolesHaveNext = (holds : ℤ → ℤ → Bool) (subj clip : CountedEdge → ℤ)
     is_hole filled hole ≡ true →
     (next : List Step) × IsNextWalk filled walks hole next
 
--- where the walks are contours, the next walk of a hole is anchored before it
+-- where the walks are contours, the next walk of a hole is anchored before the hole
 abbrev pub NextIsAnchoredBefore : Type 0
 NextIsAnchoredBefore = (filled : Hand) (walks : List (List Step)) → All IsContour walks → (hole next : List Step) →
     Contains walks hole →

@@ -1,5 +1,5 @@
--- The chain of steps that an added edge becomes in cutting rounds: where its vertices lie, and the counts that the
--- chains make.
+-- The chain of steps that an added edge becomes in cutting rounds: the position of its vertices, and the counts of the
+-- chains.
 use Rattle.std.specs.Prelude.{◌≡◌, ◌↔◌, ℕ, Bool, true, cond, ℤ, pos, ◌+ℤ◌, ◌-ℤ◌, ◌*ℤ◌, ◌≤ℤ◌, List, [], ◌∷◌, map}
 use Rattle.std.specs.Prelude.{flat_map, find, Option, Some, None, All, Any}
 use Rattle.overlay_geom.specs.Plane.{Point, PlanePoint, Step, Edge, edge_eq, edge_of, sign_of, is_forward, backward}
@@ -7,17 +7,17 @@ use Rattle.overlay_geom.specs.Plane.{IsOn, total}
 use Rattle.overlay_geom.specs.Edges.{CountedEdge, ends_of, subj_of, clip_of}
 use Rattle.overlay_plane.specs.Rounds.{Round, chain_of}
 
--- a step of the chain of an added edge: still held, or dropped by a round with an edge without counts
+-- a step of the chain of an added edge: still held, or dropped by a round together with an edge without counts
 pub data ChainLink : Type 0 where
   held : Step → ChainLink
   dropped : Step → ChainLink
 
--- the links that a step becomes, by the edge that the round holds at its place, if there is one
+-- the links of a step, by the edge that the round holds at its place, if there is one
 abbrev pub links_along : Round → Step → Option CountedEdge → List ChainLink
 links_along r s None = dropped s ∷ []
 links_along r s (Some e) = map held (cond (is_forward s) (chain_of r e) (backward (chain_of r e)))
 
--- the links that a link becomes in a round: a held step is replaced by the chain of its edge, a dropped one stays
+-- the links of a link after a round: the chain of its edge replaces a held step, and a dropped step stays
 abbrev pub links_after : Round → ChainLink → List ChainLink
 links_after r (held s) = links_along r s (find (λ e. edge_eq (ends_of e) (edge_of s)) r.edges)
 links_after r (dropped s) = dropped s ∷ []
@@ -36,7 +36,7 @@ step_of (dropped s) = s
 abbrev pub step_along : CountedEdge → Step
 step_along e = record { from = e.a; to = e.b }
 
--- the chain that an added edge has become
+-- the chain of an added edge after the rounds
 abbrev pub chain_through : List Round → CountedEdge → List Step
 chain_through rs e = map step_of (links_through rs (held (step_along e) ∷ []))
 
@@ -52,19 +52,19 @@ pub record IsNear (k : ℕ) (e : Edge) (v : Point) : Type 0 where
   pub near_x : IsWithinHalves k v.x p.x p.d
   pub near_y : IsWithinHalves k v.y p.y p.d
 
--- the steps lead from one point to another, each from where the one before it ends
+-- the steps lead from one point to another, each from the end of the step before
 pub data Leads : Point → List Step → Point → Type 0 where
   here : {p : Point} → Leads p [] p
   on_to : {p q r : Point} {ss : List Step} → Leads q ss r → Leads p (record { from = p; to = q } ∷ ss) r
 
--- the count that the chains of the added edges have along an edge: the signs of the steps along it, times the edges'
--- counts
+-- the count of the chains along an edge: the sum of the signs of the steps along it, times the counts of the added
+-- edges
 abbrev pub count_of_chains : (CountedEdge → ℤ) → List Round → List CountedEdge → Edge → ℤ
 count_of_chains count rounds old f = total
     (λ e. total (λ t. cond (edge_eq (edge_of t) f) (sign_of t *ℤ count e) (pos 0)) (chain_through rounds e)) old
 
--- the mark that an edge gives to a step of its chain: its own where the step runs forward, and the other one where it
--- runs back
+-- the mark that an edge gives to a step of its chain: its own mark where the step runs forward, the opposite mark where
+-- it runs back
 abbrev pub marks_along : CountedEdge → Step → Bool
 marks_along e t = cond (is_forward t) e.counts.along e.counts.against
 
@@ -75,8 +75,7 @@ marks_against e t = cond (is_forward t) e.counts.against e.counts.along
 abbrev pub IsMarkedBy : (CountedEdge → Step → Bool) → List Round → List CountedEdge → Edge → Type 0
 IsMarkedBy marks rounds old f = Any (λ e. Any (λ t. (edge_of t ≡ f) × (marks e t ≡ true)) (chain_through rounds e)) old
 
--- the chains of the added edges keep their ends and stay near, and they make the counts of the arrangement, and its
--- marks
+-- the chains of the added edges keep their ends and stay near, and they make the counts and marks of the arrangement
 pub record ChainsHold (rounds : List Round) (k : ℕ) (old new : List CountedEdge) : Type 0 where
   pub keep_ends : All (λ e. Leads e.a (chain_through rounds e) e.b) old
   pub stay_near : All (λ e. All (λ t. IsNear k (ends_of e) t.from × IsNear k (ends_of e) t.to) (chain_through rounds e))

@@ -1,26 +1,26 @@
--- Contours whose numbers are in order: the outlines are numbered as they stand, and each hole of a group has the number
--- of an outline before it.
+-- Contours numbered in order: the outlines are numbered as they come, and each hole of a group has the number of an
+-- outline before it.
 use Rattle.std.specs.Prelude.{◌≡◌, ◌<◌, ℕ, suc, List, [], ◌∷◌, filter, length}
 use Rattle.std.specs.Bool.{⊤}
 use Rattle.overlay_plane.specs.RoledContours.{Role, outline, own_hole, free_hole, Contour, is_outline}
 
--- where n outlines came before: the next outline has this number, and a hole of a group has a smaller one
+-- after n outlines, the next outline has number n, and a hole of a group has a smaller number
 abbrev pub IsNumber : ℕ → Role → Type 0
 IsNumber n (outline m) = m ≡ n
 IsNumber n (own_hole m) = m < n
 IsNumber n free_hole = ⊤
 
--- how many outlines came before what follows
+-- the number of outlines after one more contour
 abbrev pub after : ℕ → Role → ℕ
 after n (outline m) = suc n
 after n (own_hole m) = n
 after n free_hole = n
 
--- so the roles are numbered, from n on
+-- the roles are numbered so, from n on
 abbrev pub AreNumbers : ℕ → List Contour → Type 0
 AreNumbers n [] = ⊤
 AreNumbers n (c ∷ cs) = IsNumber n c.role × AreNumbers (after n c.role) cs
 
--- how many outlines there are
+-- the number of outlines
 abbrev pub outline_count : List Contour → ℕ
 outline_count cs = length (filter (λ c. is_outline c.role) cs)

@@ -1,5 +1,5 @@
--- The contours that selected steps are cut into wind once round each point where the rule holds, and zero times round
--- each other point; and so they do when thinned.
+-- The contours of a cut of selected steps wind once round each point where the rule holds, and zero times round each
+-- other point. Thinned contours do so too.
 use Rattle.std.specs.Prelude.{◌≡◌, Bool, cond, ℤ, pos, negsuc, List, map}
 use Rattle.std.specs.List.{AllZip, flat_map}
 use Rattle.overlay_geom.specs.Plane.{Point, PlanePoint, Step, steps_of, points_of, winding}
@@ -12,7 +12,7 @@ use Rattle.overlay_plane.specs.SelectedSteps.{selected_steps}
 use Rattle.overlay_plane.specs.BesideOrbits.{HasEachOnce}
 use Rattle.overlay_plane.specs.Contours.{IsCutInto, all_steps}
 
--- how often steps that have their filled side by the hand wind round what is filled
+-- the winding, round filled points, of steps that have their filled side by the hand
 abbrev pub once_round : Hand → ℤ
 once_round filled = cond (is_left_hand filled) (pos 1) (negsuc 0)
 
@@ -23,7 +23,7 @@ wanted_winding holds subj clip filled es p = cond (holds (winding_by subj es p) 
 
 -- ---- selected steps
 
--- the selected steps wind so
+-- the selected steps have these windings
 abbrev pub SelectedStepsWind : Type 0
 SelectedStepsWind = (holds : ℤ → ℤ → Bool) (subj clip : CountedEdge → ℤ) (es : List CountedEdge) →
     IsRuled holds subj clip es →
@@ -43,12 +43,12 @@ CutsKeepWindings = (hand_of : Step → Hand) (steps : List Step) → Alternates 
     (walks : List (List Step)) →
     IsCutInto hand_of steps walks → (p : PlanePoint) → winding (all_steps walks) p ≡ winding steps p
 
--- closed lists of points, each taken as given or thinned, wind as the lists given
+-- closed lists of points, each taken as given or thinned, have the windings of the given lists
 abbrev pub ThinnedContoursWindAlike : Type 0
 ThinnedContoursWindAlike = (keep : Bool) (given taken : List (List Point)) → AllZip (IsKeptOrThinned keep) given taken →
     (p : PlanePoint) → winding (flat_map steps_of taken) p ≡ winding (flat_map steps_of given) p
 
--- the steps of the contours that the selected steps are cut into wind so
+-- the steps of the contours of a cut of the selected steps have these windings
 abbrev pub ContoursWind : Type 0
 ContoursWind = (holds : ℤ → ℤ → Bool) (subj clip : CountedEdge → ℤ) (es : List CountedEdge) →
     IsRuled holds subj clip es → (filled : Hand) →
@@ -56,7 +56,7 @@ ContoursWind = (holds : ℤ → ℤ → Bool) (subj clip : CountedEdge → ℤ) 
     IsCutInto hand_of (selected_steps holds subj clip filled es) walks →
     (p : PlanePoint) → winding (all_steps walks) p ≡ wanted_winding holds subj clip filled es p
 
--- and so do the contours' points, as given or thinned
+-- the contours' points, as given or thinned, have these windings
 abbrev pub ResultsWind : Type 0
 ResultsWind = (holds : ℤ → ℤ → Bool) (subj clip : CountedEdge → ℤ) (es : List CountedEdge) →
     IsRuled holds subj clip es → (filled : Hand) →

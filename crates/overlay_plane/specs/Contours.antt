@@ -1,5 +1,5 @@
--- Steps cut into contours: while steps are left, the orbit of the step along the top edge at their leftmost lowest
--- point, by a hand that this step tells.
+-- Steps cut into contours: while steps are left, the next contour is the orbit of the step along the top edge at their
+-- leftmost lowest point. That step tells the hand.
 use Rattle.std.specs.Prelude.{◌≡◌, ℕ, ◌+◌, ◌<◌, ◌≤◌, Bool, cond, not, List, [], ◌∷◌, length, take, slice_index_or, All}
 use Rattle.std.specs.Prelude.{Contains, filter}
 use Rattle.std.specs.List.{flat_map}
@@ -14,12 +14,12 @@ use Rattle.overlay_plane.specs.LeftmostSteps.{NoneHasEndBefore, NoneTakenAbove}
 
 -- ---- hands, where `filled` is the hand of the filled side of each step
 
--- the upper side of the step's edge is its filled one
+-- the upper side of the step's edge is its filled side
 abbrev pub is_filled_above : Hand → Step → Bool
 is_filled_above filled s = cond (is_left_hand filled) (is_forward s) (not (is_forward s))
 
--- a contour that begins with an edge that is filled above is a hole, and turns by the hand of the empty side; an
--- outline turns by that of the filled one
+-- a contour that begins with an edge filled above is a hole, and turns by the hand of the empty side; an outline turns
+-- by the hand of the filled side
 abbrev pub outline_or_hole_hand : Hand → Step → Hand
 outline_or_hole_hand filled s = cond (is_filled_above filled s) (other_hand filled) filled
 
@@ -35,8 +35,8 @@ pub record IsStart (steps : List Step) (s : Step) : Type 0 where
 abbrev pub without : List Step → List Step → List Step
 without steps taken = filter (λ s. not (is_step_of taken s)) steps
 
--- the steps are cut into walks: while steps are left, the orbit of their start, in the steps left, by the hand that the
--- start tells
+-- the steps are cut into walks: while steps are left, the next walk is the orbit of their start, in the steps left, by
+-- the hand that the start tells
 pub data IsCutInto (hand_of : Step → Hand) : List Step → List (List Step) → Type 0 where
   done : IsCutInto hand_of [] []
   next : {steps : List Step} {s : Step} {ss : List Step} {rest : List (List Step)} → IsStart steps s →
@@ -49,7 +49,7 @@ pub data CanBeCut (hand_of : Step → Hand) (steps : List Step) : Type 0 where
   by_one_hand : (hand : Hand) → ((s : Step) → Contains steps s → hand_of s ≡ hand) → LeadsOn steps hand →
       CanBeCut hand_of steps
 
--- so they lead on by the hand that any of them tells, and what an orbit by that hand leaves can be cut
+-- steps that can be cut lead on by the hand that any of them tells, and the steps left by an orbit can be cut again
 pub record LeavesCuttable (hand_of : Step → Hand) (steps : List Step) (s : Step) : Type 0 where
   pub leads_on : LeadsOn steps (hand_of s)
   pub leaves : (walk : List Step) → IsOrbit steps (hand_of s) walk → CanBeCut hand_of (without steps walk)
@@ -75,20 +75,20 @@ pub record IsFirstWalk (hand_of : Step → Hand) (steps walk : List Step) : Type
   pub start : IsStart steps (step_round walk 0)
   pub orbit : IsOrbit steps (hand_of (step_round walk 0)) walk
 
--- what the first walks leave alternates, and the next walk is the orbit of its start
+-- the steps left by the first walks alternate, and the next walk is the orbit of their start
 abbrev pub CutsAreOrbits : Type 0
 CutsAreOrbits = (hand_of : Step → Hand) (steps : List Step) → Alternates steps → (walks : List (List Step)) →
     IsCutInto hand_of steps walks →
     (k : ℕ) → k < length walks → IsFirstWalk hand_of (without steps (all_steps (take k walks)))
     (slice_index_or walks k [])
 
--- there is a cut of steps that can be cut
+-- steps that can be cut have a cut
 abbrev pub CutsExist : Type 0
 CutsExist = (hand_of : Step → Hand) (steps : List Step) → CanBeCut hand_of steps →
     (walks : List (List Step)) × IsCutInto hand_of steps walks
 
--- the walk is a closed contour: three steps or more, all different; each leads to the next, and the last to the first;
--- they are the steps of its points
+-- the walk is a closed contour: three steps or more, all different, that are the steps of its points. Each leads to the
+-- next, and the last to the first
 pub record IsContour (walk : List Step) : Type 0 where
   pub three : 3 ≤ length walk
   pub leads_on : (k : ℕ) → (step_round walk (k + 1)).from ≡ (step_round walk k).to
@@ -100,7 +100,7 @@ abbrev pub OrbitsAreContours : Type 0
 OrbitsAreContours = (steps : List Step) → Alternates steps → (hand : Hand) (walk : List Step) →
     IsOrbit steps hand walk → IsContour walk
 
--- and so are the walks that a cut gives
+-- the walks of a cut are contours
 abbrev pub CutsAreContours : Type 0
 CutsAreContours = (hand_of : Step → Hand) (steps : List Step) → Alternates steps → (walks : List (List Step)) →
     IsCutInto hand_of steps walks → All IsContour walks

@@ -1,5 +1,5 @@
--- The whole points through which a cutting round leads an edge, computed pair by pair: where others cross it, and their
--- ends on it.
+-- The whole points through which a cutting round leads an edge, computed pair by pair: crossings with other edges, and
+-- ends of other edges on it.
 use Rattle.std.specs.Prelude.{Bool, cond, not, ◌&&◌, ◌||◌, ℤ, pos, nat_abs, ◌+ℤ◌, ◌-ℤ◌, ◌*ℤ◌, int_lt, int_le, List, []}
 use Rattle.std.specs.Prelude.{◌∷◌, filter, flat_map}
 use Rattle.std.specs.Ordering.{int_eq}
@@ -10,19 +10,19 @@ use Rattle.overlay_plane.specs.Cutting.{pieces_through}
 use Rattle.overlay_plane.specs.InOrder.{in_order}
 use Rattle.overlay_plane.specs.Nodes.{edge_turn}
 
--- the coordinate nearest the one that lies t / d of the way from u to v
+-- the coordinate nearest to the point t / d of the way from u to v
 abbrev pub part_way : ℤ → ℤ → ℤ → ℤ → ℤ
 part_way u v t d = nearest (u *ℤ d +ℤ (v -ℤ u) *ℤ t) d
 
--- how far e's start lies from f's line, in units of which the whole of e goes `across`
+-- the distance of e's start from f's line, in units in which e goes `across`
 abbrev pub to_line : Edge → Edge → ℤ
 to_line e f = pos (nat_abs (cross_at f.a f.b e.a))
 
--- how far the whole of e goes across f's direction
+-- the distance that e goes across f's direction, in the units of `to_line`
 abbrev pub across : Edge → Edge → ℤ
 across e f = pos (nat_abs (edge_turn f e))
 
--- the whole point nearest the one in which e crosses f's line
+-- the whole point nearest to the point where e crosses f's line
 abbrev pub crossing : Edge → Edge → Point
 crossing e f = record {
   x = part_way e.a.x e.b.x (to_line e f) (across e f);
@@ -39,12 +39,12 @@ are_beside e f =
     (int_lt (pos 0) (cross_at e.a e.b f.a) && int_lt (pos 0) (cross_at e.a e.b f.b))
     || (int_lt (cross_at e.a e.b f.a) (pos 0) && int_lt (cross_at e.a e.b f.b) (pos 0))
 
--- v is no smaller than e's smaller end, and no larger than its larger one
+-- v is at least e's smaller end, and at most its larger end
 abbrev pub is_between : Edge → Point → Bool
 is_between e v = not (point_lt v e.a) && not (point_lt e.b v)
 
--- the whole points through which f leads e: f's ends on e where the two lie on one line, and where they cross the point
--- nearest the crossing
+-- the whole points through which f leads e: f's ends on e where the two are collinear, and the point nearest to the
+-- crossing where they cross
 abbrev pub met_at : Edge → Edge → List Point
 met_at e f = cond (are_along e f) (filter (is_between e) (f.a ∷ f.b ∷ []))
     (cond (are_beside e f || are_beside f e) [] (crossing e f ∷ []))
@@ -57,6 +57,6 @@ comes_first e v w = int_lt v.x w.x || (int_eq v.x w.x && cond (int_le e.a.y e.b.
 abbrev pub cut_points : List CountedEdge → CountedEdge → List Point
 cut_points es e = in_order (comes_first (ends_of e)) (flat_map (λ f. met_at (ends_of e) (ends_of f)) es)
 
--- the edges of the list, each cut into the pieces of the chain through these points
+-- the edges of the list, each cut into the pieces of its chain through these points
 abbrev pub cut_edges : List CountedEdge → List CountedEdge
 cut_edges es = flat_map (pieces_through (cut_points es)) es

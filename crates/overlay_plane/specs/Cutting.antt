@@ -1,5 +1,5 @@
--- Edges cut into the pieces of a chain through whole points, which keeps balance, and windings where the points lie on
--- the edges' lines.
+-- Edges cut into the pieces of a chain through whole points. This keeps balance, and also windings where the points lie
+-- on the edges' lines.
 use Rattle.std.specs.Prelude.{◌≡◌, true, cond, pos, List, [], ◌∷◌, ◌++◌, map, flat_map, All}
 use Rattle.overlay_geom.specs.Counts.{reversed_counts}
 use Rattle.overlay_geom.specs.Plane.{Point, PlanePoint, Step, Edge, point_lt, side, in_plane, edge_of, is_forward}
@@ -9,8 +9,8 @@ use Rattle.overlay_geom.specs.Merged.{HaveSameWindings}
 use Rattle.overlay_plane.specs.EdgeLists.{IsForwardBy}
 use Rattle.overlay_plane.specs.Balance.{HasBalancedCounts}
 
--- the steps from an edge's smaller end to its larger one through points on its line wind as the step straight from the
--- one to the other
+-- the steps from an edge's smaller to its larger end, through points on its line, have the windings of the straight
+-- step
 abbrev pub CuttingOnALineKeepsWindings : Type 0
 CuttingOnALineKeepsWindings = (e : Edge) → point_lt e.a e.b ≡ true →
     (vs : List Point) → All (λ v. side e (in_plane v) ≡ pos 0) vs →
@@ -37,7 +37,7 @@ CuttingKeepsBalance = (es : List CountedEdge) (points : CountedEdge → List Poi
 abbrev pub AreOnLine : (CountedEdge → List Point) → CountedEdge → Type 0
 AreOnLine points e = All (λ v. side (ends_of e) (in_plane v) ≡ pos 0) (points e)
 
--- a list whose edges are cut through points on their lines makes the same windings
+-- a list whose edges are cut through points on their lines keeps its windings
 abbrev pub CuttingOnLinesKeepsWindings : Type 0
 CuttingOnLinesKeepsWindings = (es : List CountedEdge) (points : CountedEdge → List Point) → IsForwardBy ends_of es →
     All (AreOnLine points) es →

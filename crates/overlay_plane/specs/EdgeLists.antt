@@ -1,4 +1,4 @@
--- Lists whose entries have an edge each: which lead forward, meet in ends alone, or are balanced.
+-- Lists whose entries have an edge each: lists that lead forward, meet in ends alone, or are balanced.
 use Rattle.std.specs.Prelude.{◌≡◌, true, false, ℤ, pos, ◌-ℤ◌, ◌*ℤ◌, List, All, Contains}
 use Rattle.overlay_geom.specs.Plane.{Point, Edge, point_lt, edge_eq, total}
 use Rattle.overlay_geom.specs.Settled.{MeetInEnds}
@@ -11,6 +11,6 @@ IsForwardBy ends xs = All (λ x. point_lt (ends x).a (ends x).b ≡ true) xs
 abbrev pub MeetsAll : {X : Type 0} → (X → Edge) → List X → Edge → Type 0
 MeetsAll {X} ends xs e = (x : X) → Contains xs x → edge_eq e (ends x) ≡ false → MeetInEnds e (ends x)
 
--- the list is balanced: whatever number g gives to each point, what the counted edges rise by, summed, is 0
+-- the list is balanced: for every number g given to each point, the rises of the counted edges sum to 0
 abbrev pub IsBalanced : {X : Type 0} → (X → Edge) → (X → ℤ) → List X → Type 0
 IsBalanced ends count xs = (g : Point → ℤ) → total (λ x. count x *ℤ (g (ends x).b -ℤ g (ends x).a)) xs ≡ pos 0

@@ -1,4 +1,4 @@
--- How a subject and a clip lie to each other, told by the filled sides of the edges alone.
+-- Relations of a subject and a clip, told by the filled sides of the edges alone.
 use Rattle.std.specs.Prelude.{◌≡◌, ◌⊎◌, ◌↔◌, Bool, true, cond, not, ◌&&◌, ◌||◌, ℤ, List, Contains}
 use Rattle.overlay_geom.specs.Plane.{Point}
 use Rattle.overlay_geom.specs.Edges.{CountedEdge, subj_of, clip_of}
@@ -11,17 +11,17 @@ use Rattle.overlay_plane.specs.Regions.{holds_above, holds_below, IsRuled}
 abbrev pub SomeEdge : (CountedEdge → Bool) → List CountedEdge → Type 0
 SomeEdge test es = (e : CountedEdge) × Contains es e × (test e ≡ true)
 
--- each side of an edge is filled by the subject or not, and by the clip or not: the edge has sides that the one fills
--- and sides that the other fills
+-- the edge has a side that the subject fills and a side that the clip fills. Each side of an edge is filled or not, by
+-- the subject and by the clip
 abbrev pub has_both : (ℤ → Bool) → List CountedEdge → CountedEdge → Bool
 has_both filled es e = fills_a_side filled es subj_of e && fills_a_side filled es clip_of e
 
--- both fill the same side
+-- both fill one side of the edge
 abbrev pub has_common_side : (ℤ → Bool) → List CountedEdge → CountedEdge → Bool
 has_common_side filled es e = (fills_above filled es subj_of e && fills_above filled es clip_of e) ||
     (fills_below filled es subj_of e && fills_below filled es clip_of e)
 
--- the one shape fills exactly one side of the edge, and the other shape none
+-- the own shape fills exactly one side of the edge, and the other shape fills none
 abbrev pub is_border_of : (ℤ → Bool) → List CountedEdge → (own other : CountedEdge → ℤ) → CountedEdge → Bool
 is_border_of filled es own other e =
     cond (fills_above filled es own e) (not (fills_below filled es own e)) (fills_below filled es own e) && not
@@ -37,8 +37,8 @@ pokes_out filled es e =
 abbrev pub EndsAt : Point → CountedEdge → Type 0
 EndsAt v e = (e.a ≡ v) ⊎ (e.b ≡ v)
 
--- a shared end: an end of an edge of which the subject alone fills one side only, and of an edge of which the clip
--- alone does
+-- a shared end: an end of an edge where the subject alone fills exactly one side, and of an edge where the clip alone
+-- does
 pub record HasSharedEnd (filled : ℤ → Bool) (es : List CountedEdge) : Type 0 where
   pub end : Point
   pub of_subj : CountedEdge
@@ -50,7 +50,7 @@ pub record HasSharedEnd (filled : ℤ → Bool) (es : List CountedEdge) : Type 0
   pub subj_border : is_border_of filled es subj_of clip_of of_subj ≡ true
   pub clip_border : is_border_of filled es clip_of subj_of of_clip ≡ true
 
--- ---- the points tell what the edges tell
+-- ---- points and edges tell the same
 
 -- a rule holds somewhere off the edges exactly where it holds beside some edge
 abbrev pub RegionsReachEdges : Type 0
@@ -59,7 +59,7 @@ RegionsReachEdges = (holds : ℤ → ℤ → Bool) (subj clip : CountedEdge → 
     HoldsSomewhere holds subj clip es ↔ SomeEdge
     (λ e. holds_above holds subj clip es e || holds_below holds subj clip es e) es
 
--- the predicates as statements on points are statements on edges
+-- the predicates on points are equivalent to predicates on edges
 pub record EdgesTell (filled : ℤ → Bool) (es : List CountedEdge) : Type 0 where
   pub intersects : Intersects filled es ↔ (SomeEdge (has_both filled es) es ⊎ HasSharedEnd filled es)
   pub interiors_intersect : InteriorsIntersect filled es ↔ SomeEdge (has_common_side filled es) es
@@ -69,6 +69,6 @@ pub record EdgesTell (filled : ℤ → Bool) (es : List CountedEdge) : Type 0 wh
   pub within : IsWithin filled es
       ↔ (SomeEdge (fills_a_side filled es subj_of) es × (¬ (SomeEdge (pokes_out filled es) es)))
 
--- in a settled list without equal edges, with balanced counts
+-- this holds in a settled list without equal edges, with balanced counts
 abbrev pub EdgesTellPredicates : Type 0
 EdgesTellPredicates = (filled : ℤ → Bool) (es : List CountedEdge) → IsFillable filled es → EdgesTell filled es

@@ -1,5 +1,5 @@
--- Steps cut with groups, the orbits by the hand of the filled side, each cut once more by the hand of the empty
--- side: no contour so made visits a point twice, each lies in one group, and together they take each step once.
+-- Steps cut with groups: the orbits by the hand of the filled side, each cut once more by the hand of the empty side.
+-- No contour made so visits a point twice, each lies in one group, and together they take each step once.
 use Rattle.std.specs.Prelude.{◌≡◌, Bool, true, false, List, All, AllPairs, Contains, filter}
 use Rattle.std.specs.List.Sorted.{IsPermutation}
 use Rattle.overlay_geom.specs.Plane.{Point, Step, point_eq, points_of}
@@ -12,7 +12,7 @@ use Rattle.overlay_plane.specs.Binding.{is_hole}
 use Rattle.overlay_plane.specs.RoledContours.{Contour, IsCutInGroups}
 use Rattle.overlay_plane.specs.BoundContours.{walks_in}
 
--- no point stands twice in the list
+-- no point occurs twice in the list
 abbrev pub HasEachPointOnce : List Point → Type 0
 HasEachPointOnce points = AllPairs (λ p q. point_eq p q ≡ false) points
 
@@ -27,7 +27,7 @@ pub record IsSimpleContour (walk : List Step) : Type 0 where
   pub contour : IsContour walk
   pub points_once : HasEachPointOnce (points_of walk)
 
--- so it is inside a group
+-- a walk inside a group is such a contour
 abbrev pub WalksInsideGroupsAreSimple : Type 0
 WalksInsideGroupsAreSimple = (es : List CountedEdge) (steps : List Step) → WalksAlong es steps → Alternates steps →
     (filled : Hand) (walk : List Step) → IsInsideAGroup filled steps walk → IsSimpleContour walk
@@ -39,7 +39,7 @@ pub record IsInsideOne (filled : Hand) (groups : List (List Step)) (walk : List 
   pub hole : is_hole filled group ≡ true
   pub inside : IsOrbit group (other_hand filled) walk
 
--- where all steps of such groups are cut together, each orbit is one inside one of them
+-- where all steps of hole groups are cut together, each orbit lies inside one of them
 abbrev pub OrbitsOfHoleGroupsAreInsideOne : Type 0
 OrbitsOfHoleGroupsAreInsideOne = (es : List CountedEdge) (steps : List Step) → WalksAlong es steps → Alternates steps →
     (filled : Hand) (groups : List (List Step)) →

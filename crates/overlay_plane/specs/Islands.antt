@@ -1,5 +1,5 @@
--- The hole round an island, which is an outline: the hole that has the next filled-below edge below the island's
--- anchor, or the hole round the outline that has it; and the links from shapes to the islands in their holes.
+-- The hole round an island, and the links from shapes to the islands in their holes. An island is an outline. The hole
+-- round it has the next filled-below edge below the island's anchor, or is round the outline with that edge.
 use Rattle.std.specs.Prelude.{◌≡◌, ℕ, suc, ◌==◌, nat_lt, Bool, true, cond, ◌&&◌, ◌||◌, List, [], ◌∷◌, All}
 use Rattle.std.specs.Prelude.{AllPairs, length, take, filter}
 use Rattle.std.specs.Prelude.{Contains, slice_get, Option, Some, None}
@@ -10,7 +10,7 @@ use Rattle.overlay_plane.specs.RoledContours.{outline, own_hole, free_hole, Cont
 use Rattle.overlay_plane.specs.BoundContours.{walks_in}
 use Rattle.overlay_plane.specs.KeptContours.{CanBeBound}
 
--- for each contour, where the first one stands at place n, its place if it is a hole, or none
+-- for each contour its place if it is a hole, or none, where the first contour has place n
 abbrev pub place_if : Bool → ℕ → Option ℕ
 place_if begins n = cond begins None (Some n)
 
@@ -18,45 +18,44 @@ abbrev pub hole_places : ℕ → List Contour → List (Option ℕ)
 hole_places n [] = []
 hole_places n (c ∷ cs) = place_if (is_outline c.role) n ∷ hole_places (suc n) cs
 
--- the hole round the contour at place i, by the hole's place: the hole that has the next filled-below edge, or the hole
--- round the outline that has it; or that no hole is round it. What is filled below, with the filled side by one hand,
--- is filled above with it by the other
+-- the hole round the contour at place i, by its place, or none. It is the hole with the next filled-below edge, or the
+-- hole round the outline with that edge. An edge filled below by one hand is filled above by the other
 abbrev pub IsHoleRound : Hand → List Contour → ℕ → Option ℕ → Type 0
 IsHoleRound filled contours i hole =
     IsFoundBelow (other_hand filled) (walks_in contours) (hole_places 0 contours) i hole
 
--- the places of the outlines among contours that stand from place n on
+-- the places of the outlines among contours, where the first contour has place n
 abbrev pub outlines_from : ℕ → List Contour → List ℕ
 outlines_from n [] = []
 outlines_from n (c ∷ cs) = cond (is_outline c.role) (n ∷ outlines_from (suc n) cs) (outlines_from (suc n) cs)
 
--- for each outline, in their order, the place of the hole round it, or none
+-- for each outline, in order, the place of the hole round it, or none
 abbrev pub AreHolesRound : Hand → List Contour → List (Option ℕ) → Type 0
 AreHolesRound filled contours holes = AllZip (IsHoleRound filled contours) (outlines_from 0 contours) holes
 
 -- ---- links
 
--- a shape that lies in a hole of another one: the number of the other one, the hole's place among all contours, and the
+-- a shape in a hole of another shape: the number of the other shape, the hole's place among all contours, and the
 -- number of the shape
 pub record ChildLink : Type 0 where
   pub parent_shape : ℕ
   pub parent_contour : ℕ
   pub child_shape : ℕ
 
--- the order of links, by their fields in order
+-- the order of links: by their fields, in order
 abbrev pub link_lt : ChildLink → ChildLink → Bool
 link_lt k l = nat_lt k.parent_shape l.parent_shape || (k.parent_shape == l.parent_shape &&
     (nat_lt k.parent_contour l.parent_contour ||
     (k.parent_contour == l.parent_contour && nat_lt k.child_shape l.child_shape)))
 
--- each contour stands in a shape from the start: the number of an outline is how many outlines come before it, and none
--- is a hole whose shape is still to be found
+-- each contour has its shape from the start: the number of an outline is the number of outlines before it, and no
+-- hole's shape is still to be found
 pub record AreInShapes (contours : List Contour) : Type 0 where
   pub numbered : (i n : ℕ) (c : Contour) → slice_get contours i ≡ Some c → c.role ≡ outline n →
       n ≡ length (filter (λ d. is_outline d.role) (take i contours))
   pub none_free : (i : ℕ) (c : Contour) → slice_get contours i ≡ Some c → ¬ (c.role ≡ free_hole)
 
--- among contours that all stand in shapes the link tells of an outline and the hole round it
+-- among contours that all have shapes, the link connects an outline and the hole round it
 pub record IsLink (filled : Hand) (contours : List Contour) (l : ChildLink) : Type 0 where
   pub place : ℕ
   pub island : Contour
@@ -75,17 +74,17 @@ pub record AreLinks (filled : Hand) (contours : List Contour) (links : List Chil
 
 -- ---- laws
 
--- of contours that can be bound at most one hole is round each
+-- among contours that can be bound, at most one hole is round each
 abbrev pub OneHoleIsRound : Type 0
 OneHoleIsRound = (filled : Hand) (contours : List Contour) → CanBeBound filled (walks_in contours) → (i j k : ℕ) →
     IsHoleRound filled contours i (Some j) → IsHoleRound filled contours i (Some k) → j ≡ k
 
--- and not one and none
+-- no contour both has a hole round it and has none
 abbrev pub NoHoleIsNone : Type 0
 NoHoleIsNone = (filled : Hand) (contours : List Contour) → CanBeBound filled (walks_in contours) → (i k : ℕ) →
     IsHoleRound filled contours i (Some k) → ¬ (IsHoleRound filled contours i None)
 
--- so of contours that stand in shapes each shape is the child of at most one link
+-- among contours with shapes, each shape is the child of at most one link
 abbrev pub EachShapeIsChildOnce : Type 0
 EachShapeIsChildOnce = (filled : Hand) (contours : List Contour) → CanBeBound filled (walks_in contours) →
     AreInShapes contours → (k l : ChildLink) → IsLink filled contours k → IsLink filled contours l →

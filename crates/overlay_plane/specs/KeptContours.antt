@@ -1,6 +1,6 @@
--- What is kept of the contours that the selected steps of an arrangement are cut into, in groups or without: the
--- contours can be bound to shapes; and where all of them are kept no hole is lost, and the shapes to which they are
--- bound have each selected step once.
+-- The kept contours of a cut of the selected steps of an arrangement, with groups or without. The contours can be bound
+-- to shapes. Where all of them are kept, no hole is lost, and the shapes to which they are bound have each selected
+-- step once.
 use Rattle.std.specs.Prelude.{◌≡◌, ℕ, Bool, true, false, ℤ, List, length, All, AllPairs, Option, Some, None, slice_get}
 use Rattle.std.specs.Prelude.{slice_index_or}
 use Rattle.std.specs.List.Sorted.{IsPermutation}
@@ -20,8 +20,8 @@ use Rattle.overlay_plane.specs.BoundContours.{shapes_bound}
 use Rattle.overlay_plane.specs.Groups.{IsSimpleContour}
 use Rattle.overlay_plane.specs.ShapeWindings.{points_of_shapes, steps_of_shapes, AreKeptOrThinned}
 
--- what is asked of walks that are bound: each is a contour, and walks along no edge twice; no two of their edges that
--- are filled above are equal, nor two that are filled below; and different edges of them meet in ends alone
+-- walks that can be bound: each is a contour, and walks along no edge twice. No two of their filled-above edges are
+-- equal, nor two of their filled-below edges, and different edges meet in ends alone
 pub record CanBeBound (filled : Hand) (walks : List (List Step)) : Type 0 where
   pub contours : All IsContour walks
   pub single : All HasEachEdgeOnce walks
@@ -29,28 +29,27 @@ pub record CanBeBound (filled : Hand) (walks : List (List Step)) : Type 0 where
   pub distinct_below : AllPairs (λ e f. edge_eq e f ≡ false) (all_filled_above (other_hand filled) walks)
   pub settled : IsSettledBy edge_of (all_steps walks)
 
--- the contours are those that the selected steps of a ruled list are cut into, in groups or without, as far as they
--- pass the test
+-- the contours are those of a cut of the selected steps of a ruled list, with groups or without, that pass the test
 pub record AreKeptContours (holds : ℤ → ℤ → Bool) (subj clip : CountedEdge → ℤ) (es : List CountedEdge) (filled : Hand)
     (in_groups : Bool) (keeps : List Step → Bool) (contours : List Contour) : Type 0 where
   pub ruled : IsRuled holds subj clip es
   pub cut : IsCutBy in_groups filled keeps (selected_steps holds subj clip filled es) contours
 
--- they can be bound
+-- kept contours can be bound
 abbrev pub KeptContoursCanBeBound : Type 0
 KeptContoursCanBeBound = (holds : ℤ → ℤ → Bool) (subj clip : CountedEdge → ℤ) (es : List CountedEdge) (filled : Hand)
     (in_groups : Bool) (keeps : List Step → Bool) (contours : List Contour) →
     AreKeptContours holds subj clip es filled in_groups keeps contours →
     CanBeBound filled (walks_in contours)
 
--- and with groups none of them visits a point twice
+-- with groups, no kept contour visits a point twice
 abbrev pub KeptContoursAreSimple : Type 0
 KeptContoursAreSimple = (holds : ℤ → ℤ → Bool) (subj clip : CountedEdge → ℤ) (es : List CountedEdge) (filled : Hand)
     (keeps : List Step → Bool) (contours : List Contour) →
     AreKeptContours holds subj clip es filled true keeps contours →
     All IsSimpleContour (walks_in contours)
 
--- the walks of the shapes to which they are bound can be bound again, as for the holes round islands
+-- the walks of the shapes to which they are bound can be bound again, for the holes round islands
 abbrev pub KeptShapesCanBeBound : Type 0
 KeptShapesCanBeBound = (holds : ℤ → ℤ → Bool) (subj clip : CountedEdge → ℤ) (es : List CountedEdge) (filled : Hand)
     (in_groups : Bool) (keeps : List Step → Bool) (contours : List Contour) →
@@ -71,7 +70,7 @@ AllContoursTakeEachOnce = (holds : ℤ → ℤ → Bool) (subj clip : CountedEdg
     AreKeptContours holds subj clip es filled in_groups keeps contours → KeepsAll keeps →
     IsPermutation (selected_steps holds subj clip filled es) (all_steps (walks_in contours))
 
--- where there is one shape alone it is the parent of each hole: so the holes' parents are the shapes found
+-- a shape that stands alone is the parent of each hole, so the holes' parents are the shapes found
 abbrev pub AllParentsAreFound : Type 0
 AllParentsAreFound = (holds : ℤ → ℤ → Bool) (subj clip : CountedEdge → ℤ) (es : List CountedEdge) (filled : Hand)
     (in_groups : Bool) (keeps : List Step → Bool) (contours : List Contour) →
@@ -97,7 +96,7 @@ AllShapesHaveEachStep = (holds : ℤ → ℤ → Bool) (subj clip : CountedEdge 
     (selected_steps holds subj clip filled es)
     (steps_of_shapes (points_of_shapes (shapes_bound (contours_bound contours shapes))))
 
--- and wind, each contour as it is or thinned, once where the rule holds, and zero times elsewhere
+-- the shapes wind once where the rule holds, and zero times elsewhere, with each contour thinned or not
 abbrev pub AllShapesWind : Type 0
 AllShapesWind = (holds : ℤ → ℤ → Bool) (subj clip : CountedEdge → ℤ) (es : List CountedEdge) (filled : Hand)
     (in_groups : Bool) (keeps : List Step → Bool) (contours : List Contour) →

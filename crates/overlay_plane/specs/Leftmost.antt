@@ -1,10 +1,11 @@
--- The leftmost lowest point of what counts: left of it, and above and below what counts there, the winding is 0.
+-- The leftmost lowest point of the edges that count: the winding is 0 left of it, and above and below those edges
+-- there.
 use Rattle.std.specs.Prelude.{◌≡◌, ◌⊎◌, true, false, ℤ, pos, List, Contains}
 use Rattle.overlay_geom.specs.Plane.{Point, point_lt, in_plane}
 use Rattle.overlay_geom.specs.Edges.{CountedEdge, ends_of, winding_by, winding_below, winding_above}
 use Rattle.overlay_plane.specs.Nodes.{IsBalancedArrangement, turns_left}
 
--- edges that start before q count nothing
+-- edges that start before q have count 0
 abbrev pub CountsNothingBefore : (CountedEdge → ℤ) → List CountedEdge → Point → Type 0
 CountsNothingBefore count es q = (e : CountedEdge) → Contains es e → point_lt e.a q ≡ true → count e ≡ pos 0
 
@@ -12,7 +13,7 @@ CountsNothingBefore count es q = (e : CountedEdge) → Contains es e → point_l
 abbrev pub HasEndBefore : Point → CountedEdge → Type 0
 HasEndBefore q e = (point_lt e.a q ≡ true) ⊎ (point_lt e.b q ≡ true)
 
--- what starts in q above the edge counts nothing, and what starts there below it
+-- the edges that start in q above the edge have count 0, and so have those that start there below it
 abbrev pub CountsNothingAbove : (CountedEdge → ℤ) → List CountedEdge → Point → CountedEdge → Type 0
 CountsNothingAbove count es q e = (f : CountedEdge) → Contains es f → f.a ≡ q →
     turns_left (ends_of e) (ends_of f) ≡ true → count f ≡ pos 0
@@ -21,8 +22,8 @@ abbrev pub CountsNothingBelow : (CountedEdge → ℤ) → List CountedEdge → P
 CountsNothingBelow count es q e = (f : CountedEdge) → Contains es f → f.a ≡ q →
     turns_left (ends_of f) (ends_of e) ≡ true → count f ≡ pos 0
 
--- the windings up to q, on both sides of edges that have an end before it, above the top edge that counts there and
--- below the lowest one, are 0
+-- the winding is 0 up to q and on both sides of edges that have an end before it. It is 0 above the top edge that
+-- counts at q, and below the lowest
 pub record IsOutsideUpTo (count : CountedEdge → ℤ) (es : List CountedEdge) (q : Point) : Type 0 where
   pub at_points : (v : Point) → point_lt q v ≡ false → winding_by count es (in_plane v) ≡ pos 0
   pub below_earlier : (e : CountedEdge) → Contains es e → HasEndBefore q e → winding_below count es e ≡ pos 0

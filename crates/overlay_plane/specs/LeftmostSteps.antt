@@ -1,5 +1,5 @@
--- The leftmost lowest point of the steps taken: left of it, above their top edge there and below their lowest one,
--- their winding is 0.
+-- The leftmost lowest point of the steps taken: their winding is 0 left of it, above their top edge there, and below
+-- their lowest edge.
 use Rattle.std.specs.Prelude.{◌≡◌, ◌⊎◌, true, false, pos, List, Contains}
 use Rattle.overlay_geom.specs.Plane.{Point, Step, Edge, point_lt, edge_of}
 use Rattle.overlay_geom.specs.Edges.{CountedEdge, ends_of}
@@ -16,15 +16,15 @@ StepHasEndBefore q s = (point_lt s.from q ≡ true) ⊎ (point_lt s.to q ≡ tru
 abbrev pub NoneHasEndBefore : List Step → Point → Type 0
 NoneHasEndBefore taken q = (s : Step) → Contains taken s → ¬ (StepHasEndBefore q s)
 
--- no step taken walks along an edge that starts in q and leads above this one, or below it
+-- no step taken walks along an edge that starts in q and leads above this edge, or below it
 abbrev pub NoneTakenAbove : List Step → Point → Edge → Type 0
 NoneTakenAbove taken q e = (s : Step) → Contains taken s → (edge_of s).a ≡ q → turns_left e (edge_of s) ≡ false
 
 abbrev pub NoneTakenBelow : List Step → Point → Edge → Type 0
 NoneTakenBelow taken q e = (s : Step) → Contains taken s → (edge_of s).a ≡ q → turns_left (edge_of s) e ≡ false
 
--- the winding of the steps taken is 0 on both sides of edges and steps that have an end before q, above the edges at q
--- from their top one upwards, and below those from their lowest one downwards
+-- the winding of the steps taken is 0 on both sides of edges and steps with an end before q. At q it is 0 from their
+-- top edge upwards, and from their lowest edge downwards
 pub record IsOutsideOfSteps (es : List CountedEdge) (steps taken : List Step) (q : Point) : Type 0 where
   pub under_earlier : (e : CountedEdge) → Contains es e → HasEndBefore q e → winding_under es taken (ends_of e) ≡ pos 0
   pub over_earlier : (e : CountedEdge) → Contains es e → HasEndBefore q e → winding_over es taken (ends_of e) ≡ pos 0
@@ -44,7 +44,8 @@ NothingBeforeTheSteps = (es : List CountedEdge) (steps taken : List Step) → Wa
     IsBalancedPart es steps taken →
     (q : Point) → NoneHasEndBefore taken q → IsOutsideOfSteps es steps taken q
 
--- the leftmost lowest end of the steps taken, and the steps taken along their top edge there and along their lowest one
+-- the leftmost lowest end of the steps taken, and the steps taken along their top edge and along their lowest edge
+-- there
 pub record HasLeftmost (taken : List Step) : Type 0 where
   pub point : Point
   pub none_before : NoneHasEndBefore taken point

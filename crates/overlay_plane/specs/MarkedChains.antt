@@ -8,7 +8,8 @@ use Rattle.overlay_plane.specs.ChainLinks.{chain_through, marks_along, marks_aga
 use Rattle.overlay_plane.specs.EdgeLists.{IsForwardBy}
 use Rattle.overlay_plane.specs.Rounds.{Round}
 
--- the step, of the chain of the edge e, runs along an edge of the list, which has the marks that e gives to the step
+-- the step belongs to the chain of the edge e, and runs along an edge of the list with the marks that e gives to the
+-- step
 pub record IsMarkedStep (es : List CountedEdge) (e : CountedEdge) (t : Step) : Type 0 where
   pub edge : CountedEdge
   pub entry : Contains es edge

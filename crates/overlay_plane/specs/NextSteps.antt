@@ -1,5 +1,5 @@
--- Sets of steps in which the next step by a hand is one to one; sets that alternate are so by either hand; and parts
--- that hold with each step the next one are so again.
+-- Sets of steps in which the next step by a hand is one to one. Alternating sets are so by either hand, and so are
+-- parts that contain with each step its next step.
 use Rattle.std.specs.Prelude.{◌≡◌, ◌↔◌, Bool, false, not, List, Contains, filter}
 use Rattle.overlay_geom.specs.Plane.{Step}
 use Rattle.overlay_plane.specs.Turn.{Hand, is_met_before, IsNextStep}
@@ -7,8 +7,8 @@ use Rattle.overlay_plane.specs.Alternates.{AreOneWay, Alternates}
 
 -- ---- one next step
 
--- by the hand each step of the set leads on to another one, and no two to the same: at the end of each some step
--- leaves, no two have the same next step, none has both its ends in one point, and no two leave a point along one ray
+-- the set leads on by the hand: a step leaves the end of each step, and no two steps have the same next step. No step
+-- has equal ends, and no two leave a point along one ray
 pub record LeadsOn (steps : List Step) (hand : Hand) : Type 0 where
   pub long : (s : Step) → Contains steps s → ¬ (s.from ≡ s.to)
   pub one_leaves : (s t : Step) → Contains steps s → Contains steps t → s.from ≡ t.from → AreOneWay s.from s.to t.to →
@@ -17,7 +17,7 @@ pub record LeadsOn (steps : List Step) (hand : Hand) : Type 0 where
   pub apart : (s t u : Step) → Contains steps s → Contains steps t → IsNextStep steps hand s u →
       IsNextStep steps hand t u → s ≡ t
 
--- so each has one next step, and one only
+-- each step has exactly one next step
 pub record HasOneNext (steps : List Step) (hand : Hand) (s : Step) : Type 0 where
   pub next : Step
   pub is : IsNextStep steps hand s next
@@ -33,8 +33,8 @@ AlternatingStepsLeadOn = (steps : List Step) → Alternates steps → (hand : Ha
 
 -- ---- in steps that alternate
 
--- each step of the set has one next step by the hand and is that of one step; the next step is the neighbour among all
--- steps at the node: no step that arrives lies between
+-- each step of the set has one next step by the hand, and is the next step of one step. The next step is the neighbour
+-- among all steps at the node: no arriving step lies between
 pub record IsOneToOne (steps : List Step) (hand : Hand) : Type 0 where
   pub exists : (s : Step) → Contains steps s → (t : Step) × IsNextStep steps hand s t
   pub unique : (s t u : Step) → Contains steps s → IsNextStep steps hand s t → IsNextStep steps hand s u → t ≡ u
@@ -53,7 +53,7 @@ NextIsOneToOne = (steps : List Step) → Alternates steps → (hand : Hand) → 
 abbrev pub IsClosedUnderNext : List Step → Hand → (Step → Bool) → Type 0
 IsClosedUnderNext steps hand taken = (s t : Step) → Contains steps s → IsNextStep steps hand s t → taken s ≡ taken t
 
--- what a closed test takes alternates, and what it leaves
+-- the steps that a closed test takes alternate, and so do those that it leaves, with the same next steps
 pub record IsApartFromRest (steps : List Step) (hand : Hand) (taken : Step → Bool) : Type 0 where
   pub taken_alternate : Alternates (filter taken steps)
   pub left_alternate : Alternates (filter (λ s. not (taken s)) steps)
@@ -67,7 +67,7 @@ ClosedPartsAlternate = (steps : List Step) → Alternates steps → (hand : Hand
     IsClosedUnderNext steps hand taken →
     IsApartFromRest steps hand taken
 
--- what a closed test takes leads on, and what it leaves, with the same next steps
+-- the steps that a closed test takes lead on, and so do those that it leaves, with the same next steps
 pub record LeadsOnApart (steps : List Step) (hand : Hand) (part : Step → Bool) : Type 0 where
   pub part_leads_on : LeadsOn (filter part steps) hand
   pub rest_leads_on : LeadsOn (filter (λ s. not (part s)) steps) hand

@@ -1,11 +1,11 @@
--- The first part of an orbit, as a walk goes along it step by step: how it begins, grows and closes, and that it comes
--- to no step twice.
+-- The first part of an orbit, as a walk goes along it step by step: its beginning, growth and end. It comes to no step
+-- twice.
 use Rattle.std.specs.Prelude.{◌≡◌, ◌≢◌, ℕ, ◌+◌, ◌-◌, ◌<◌, ◌≤◌, List, [], ◌∷◌, ◌++◌, length, Contains}
 use Rattle.overlay_geom.specs.Plane.{Step}
 use Rattle.overlay_plane.specs.Turn.{Hand, IsNextStep, step_round, IsOrbit}
 use Rattle.overlay_plane.specs.NextSteps.{LeadsOn}
 
--- each step of the walk but the last is followed by its next step, and the first one has not come again
+-- each step of the walk but the last is followed by its next step, and the first step has not come again
 pub record IsOrbitSoFar (steps : List Step) (hand : Hand) (walk : List Step) : Type 0 where
   pub some : 0 < length walk
   pub inside : Contains steps (step_round walk 0)
@@ -15,8 +15,8 @@ pub record IsOrbitSoFar (steps : List Step) (hand : Hand) (walk : List Step) : T
 abbrev pub last_of : List Step → Step
 last_of walk = step_round walk (length walk - 1)
 
--- the walk's steps are different ones of the set, its last step's next step is the first one or a step that it has not
--- come to, and with the one it is an orbit, with the other the walk so far
+-- the walk's steps are different steps of the set. The next step after its last is its first step, which makes it an
+-- orbit, or a new step, which makes a longer first part
 pub record GoesRound (steps : List Step) (hand : Hand) (walk : List Step) : Type 0 where
   pub inside : (k : ℕ) → Contains steps (step_round walk k)
   pub once_each : (i j : ℕ) → i < length walk → j < length walk → step_round walk i ≡ step_round walk j → i ≡ j
@@ -26,7 +26,7 @@ pub record GoesRound (steps : List Step) (hand : Hand) (walk : List Step) : Type
   pub grows : (t : Step) → IsNextStep steps hand (last_of walk) t → t ≢ step_round walk 0 →
       IsOrbitSoFar steps hand (walk ++ t ∷ [])
 
--- a step of the set alone is an orbit so far, and each orbit so far goes on round
+-- a single step of the set is such a first part, and each first part goes on round
 pub record OrbitsGrow : Type 0 where
   pub begins : (steps : List Step) (hand : Hand) (s : Step) → Contains steps s → IsOrbitSoFar steps hand (s ∷ [])
   pub goes_round : (steps : List Step) (hand : Hand) → LeadsOn steps hand → (walk : List Step) →

@@ -10,7 +10,7 @@ use Rattle.overlay_plane.specs.ContourNumbers.{AreNumbers}
 use Rattle.overlay_plane.specs.RoledContours.{Contour, contours_from}
 use Rattle.overlay_plane.specs.Turn.{Hand}
 
--- each hole of the contours that selected steps are cut into has a parent, and is none that has no parent
+-- each hole of a cut of selected steps has a parent, so no hole is without a parent
 abbrev pub HolesHaveParents : Type 0
 HolesHaveParents = (holds : ℤ → ℤ → Bool) (subj clip : CountedEdge → ℤ) (es : List CountedEdge) (filled : Hand)
     (walks : List (List Step)) →

@@ -1,10 +1,10 @@
--- Two straight pieces between points of the plane, and the steps between the whole points nearest their ends: where the
--- steps meet, the pieces do, or one of them passes through the pixel of an end of the other step.
+-- Two straight pieces between points of the plane, and the steps between the whole points nearest to their ends. Where
+-- the steps meet, the pieces meet, or one passes through the pixel of an end of the other step.
 use Rattle.std.specs.Prelude.{◌≡◌, ◌⊎◌, ℤ, pos, ◌+ℤ◌, ◌*ℤ◌, ◌<ℤ◌, ◌≤ℤ◌}
 use Rattle.overlay_geom.specs.Plane.{Point, PlanePoint, SamePlace, in_plane}
 use Rattle.overlay_geom.specs.Rounding.{nearest_point}
 
--- the point that has these parts of the way between p and q
+-- weights m and n of a point between p and q
 pub record Between (p q : PlanePoint) : Type 0 where
   pub m : ℤ
   pub n : ℤ
@@ -12,7 +12,7 @@ pub record Between (p q : PlanePoint) : Type 0 where
   pub n_nonneg : pos 0 ≤ℤ n
   pub some : pos 0 <ℤ (m *ℤ p.d +ℤ n *ℤ q.d)
 
--- that point
+-- the point with these weights
 abbrev pub mixed : {p q : PlanePoint} → Between p q → PlanePoint
 mixed {p} {q} b = record {
   x = b.m *ℤ p.x +ℤ b.n *ℤ q.x;
@@ -21,7 +21,7 @@ mixed {p} {q} b = record {
   positive = b.some;
 }
 
--- the pieces from p to q and from k to l have a point in common
+-- the pieces from p to q and from k to l share a point
 abbrev pub PiecesMeet : PlanePoint → PlanePoint → PlanePoint → PlanePoint → Type 0
 PiecesMeet p q k l = (b : Between p q) × (c : Between k l) × SamePlace (mixed b) (mixed c)
 
@@ -29,7 +29,7 @@ PiecesMeet p q k l = (b : Between p q) × (c : Between k l) × SamePlace (mixed 
 abbrev pub PassesPixel : PlanePoint → PlanePoint → Point → Type 0
 PassesPixel p q v = (b : Between p q) × (nearest_point (mixed b) ≡ v)
 
--- the step between the whole points nearest p and q
+-- the steps between the whole points nearest to the ends of the two pieces share a point
 abbrev pub StepsMeet : PlanePoint → PlanePoint → PlanePoint → PlanePoint → Type 0
 StepsMeet p q k l = PiecesMeet (in_plane (nearest_point p)) (in_plane (nearest_point q))
     (in_plane (nearest_point k)) (in_plane (nearest_point l))

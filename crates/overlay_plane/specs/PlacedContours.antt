@@ -1,4 +1,4 @@
--- Where contours stand in the shapes to which they are bound.
+-- Places of contours in the shapes to which they are bound.
 use Rattle.std.specs.Prelude.{◌≡◌, ◌<◌, ℕ, List, [], map, length, All, slice_get, slice_index_or, Option, Some, None}
 use Rattle.std.specs.Prelude.{IfSome}
 use Rattle.overlay_geom.specs.Plane.{Step}
@@ -6,14 +6,14 @@ use Rattle.overlay_plane.specs.RoledContours.{Contour, free_hole}
 use Rattle.overlay_plane.specs.BoundContours.{walks_in, contours_bound, shapes_bound}
 use Rattle.overlay_plane.specs.ContourNumbers.{AreNumbers, outline_count}
 
--- what is asked of contours and the shapes that are found for them: each number is that of an outline
+-- the contours can be placed in the shapes found for them: each number is that of an outline
 pub record CanBePlaced (contours : List Contour) (shapes : List (Option ℕ)) : Type 0 where
   pub counted : length shapes ≡ length contours
   pub numbered : AreNumbers 0 contours
   pub found : (i : ℕ) (c : Contour) → slice_get contours i ≡ Some c → c.role ≡ free_hole →
       IfSome (slice_index_or shapes i None) (λ m. m < outline_count contours)
 
--- the walk at a place of contours, and the walks of shapes that are given by the places of their contours
+-- the walk at a place of contours, and the walks of shapes given by the places of their contours
 abbrev pub walk_at : List Contour → ℕ → List Step
 walk_at contours k = slice_index_or (walks_in contours) k []
 

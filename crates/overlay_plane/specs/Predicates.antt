@@ -1,5 +1,5 @@
--- How a subject and a clip lie to each other, as statements on the points of the plane. A shape is named by its count,
--- and what it fills by a test on windings.
+-- Relations of a subject and a clip, as statements on the points of the plane. A count names a shape, and a test on
+-- windings tells the points that it fills.
 use Rattle.std.specs.Prelude.{◌≡◌, ◌⊎◌, Bool, true, false, ◌&&◌, ◌||◌, ℤ, pos, List, Contains}
 use Rattle.overlay_geom.specs.Plane.{PlanePoint, IsOn, IsOff}
 use Rattle.overlay_geom.specs.Edges.{CountedEdge, ends_of, all_ends, subj_of, clip_of, winding_by, winding_below}
@@ -22,7 +22,7 @@ fills_below filled es shape e = filled (winding_below shape es e)
 abbrev pub fills_a_side : (ℤ → Bool) → List CountedEdge → (CountedEdge → ℤ) → CountedEdge → Bool
 fills_a_side filled es shape e = fills_above filled es shape e || fills_below filled es shape e
 
--- p lies on an edge of which the shape fills a side
+-- p lies on an edge with a side that the shape fills
 pub record IsBesideShape (filled : ℤ → Bool) (es : List CountedEdge) (shape : CountedEdge → ℤ)
     (p : PlanePoint) : Type 0 where
   pub edge : CountedEdge
@@ -53,12 +53,12 @@ InteriorsIntersect filled es =
 abbrev pub Touches : (ℤ → Bool) → List CountedEdge → Type 0
 Touches filled es = Intersects filled es × (¬ (InteriorsIntersect filled es))
 
--- the shapes meet, and no edge has sides that the one fills and sides that the other fills
+-- the shapes meet, and no edge has a side filled by the subject and a side filled by the clip
 abbrev pub PointIntersects : (ℤ → Bool) → List CountedEdge → Type 0
 PointIntersects filled es = Intersects filled es ×
     ((e : CountedEdge) → Contains es e → (fills_a_side filled es subj_of e && fills_a_side filled es clip_of e) ≡ false)
 
--- some point off the edges is filled by the inner shape, and each such point by the outer one
+-- some point off the edges is filled by the inner shape, and each such point is filled by the outer shape
 pub record LiesWithin (filled : ℤ → Bool) (es : List CountedEdge) (inner outer : CountedEdge → ℤ) : Type 0 where
   pub some : (p : PlanePoint) × IsOff (all_ends es) p × (fills_at filled es inner p ≡ true)
   pub each : (p : PlanePoint) → IsOff (all_ends es) p → fills_at filled es inner p ≡ true →
@@ -76,9 +76,9 @@ Covers filled es = LiesWithin filled es clip_of subj_of
 abbrev pub IsDisjoint : (ℤ → Bool) → List CountedEdge → Type 0
 IsDisjoint filled es = ¬ (Intersects filled es)
 
--- ---- what they are asked of
+-- ---- arrangements on which they are asked
 
--- a planar list with balanced counts, and a test that fails of winding 0
+-- a planar list with balanced counts, and a test that fails for winding 0
 pub record IsFillable (filled : ℤ → Bool) (es : List CountedEdge) : Type 0 where
   pub planar : IsPlanar es
   pub balanced : HasBalancedCounts es

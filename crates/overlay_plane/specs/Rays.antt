@@ -5,14 +5,14 @@ use Rattle.overlay_geom.specs.Plane.{Point}
 use Rattle.overlay_plane.specs.Turn.{Hand, other_hand, is_met_before, IsMetBefore}
 use Rattle.overlay_plane.specs.Alternates.{AreOneWay}
 
--- the two points are other ones than v, and seen from v in different directions
+-- the two points differ from v, and lie in different directions from v
 pub record Apart (v p q : Point) : Type 0 where
   pub first : ¬ (p ≡ v)
   pub second : ¬ (q ≡ v)
   pub other_ways : ¬ (AreOneWay v p q)
 
--- by the hand, rays round a point are met in a strict order, total on different directions, that the other hand
--- reverses and that is the same from wherever the turn starts
+-- by the hand, rays round a point are met in a strict order, total on different directions. The other hand reverses it,
+-- and it does not depend on where the turn starts
 pub record IsCyclicOrder (hand : Hand) : Type 0 where
   pub irreflexive : (v u p : Point) → is_met_before hand v u p p ≡ false
   pub asymmetric : (v u p q : Point) → ¬ (u ≡ v) → IsMetBefore hand v u p q → is_met_before hand v u q p ≡ false

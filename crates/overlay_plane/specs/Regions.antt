@@ -11,47 +11,47 @@ use Rattle.overlay_plane.specs.EdgeLists.{IsForwardBy, IsBalanced}
 abbrev pub one_if : Bool → ℤ
 one_if t = cond t (pos 1) (pos 0)
 
--- the rule holds of the windings above the edge, and of those below it
+-- the rule holds of the windings above the edge, and of the windings below it
 abbrev pub holds_above : (ℤ → ℤ → Bool) → (subj clip : CountedEdge → ℤ) → List CountedEdge → CountedEdge → Bool
 holds_above holds subj clip es e = holds (winding_above subj es e) (winding_above clip es e)
 
 abbrev pub holds_below : (ℤ → ℤ → Bool) → (subj clip : CountedEdge → ℤ) → List CountedEdge → CountedEdge → Bool
 holds_below holds subj clip es e = holds (winding_below subj es e) (winding_below clip es e)
 
--- 1 for an edge above which alone the rule holds, -1 for one below which alone it does, else 0
+-- 1 for an edge where the rule holds above alone, -1 where it holds below alone, else 0
 abbrev pub selected_sign : (ℤ → ℤ → Bool) → (subj clip : CountedEdge → ℤ) → List CountedEdge → CountedEdge → ℤ
 selected_sign holds subj clip es e =
     one_if (holds_above holds subj clip es e) -ℤ one_if (holds_below holds subj clip es e)
 
--- no two entries of the list have the same ends
+-- no two entries of the list have equal ends
 abbrev pub HasDistinctEnds : List CountedEdge → Type 0
 HasDistinctEnds es = AllPairs (λ e f. edge_eq (ends_of e) (ends_of f) ≡ false) es
 
--- the edges lead forward, meet in ends alone, and no two have the same ends
+-- the edges lead forward, meet in ends alone, and no two have equal ends
 pub record IsPlanar (es : List CountedEdge) : Type 0 where
   pub forward : IsForwardBy ends_of es
   pub settled : IsSettled es
   pub distinct : HasDistinctEnds es
 
--- the test takes entries whose edges cover the abscissa, and with each of them all under it
+-- the test takes entries whose edges cover the x-coordinate, and with each of them all entries under it
 pub record TakesDownward {X : Type 0} (ends : X → Edge) (xs : List X) (x d : ℤ) (taken : X → Bool) : Type 0 where
   pub over : (e : X) → Contains xs e → taken e ≡ true → covers (ends e) x d ≡ true
   pub downward : (e f : X) → Contains xs e → Contains xs f → taken e ≡ true → covers (ends f) x d ≡ true →
       is_under (ends f) (ends e) x d ≡ true → taken f ≡ true
 
--- a planar list with balanced counts, and a rule that does not hold of two windings 0
+-- a planar list with balanced counts, and a rule that fails for two windings 0
 pub record IsRuled (holds : ℤ → ℤ → Bool) (subj clip : CountedEdge → ℤ) (es : List CountedEdge) : Type 0 where
   pub planar : IsPlanar es
   pub subj_balanced : IsBalanced ends_of subj es
   pub clip_balanced : IsBalanced ends_of clip es
   pub none : holds (pos 0) (pos 0) ≡ false
 
--- the numbers that f gives of the entries taken, summed
+-- the sum of the numbers that f gives to the entries taken
 abbrev pub total_taken : {X : Type 0} → (X → Bool) → (X → ℤ) → List X → ℤ
 total_taken taken f xs = total (λ x. cond (taken x) (f x) (pos 0)) xs
 
--- where a test takes edges over an abscissa with all under them, their signs add up to 1 if the rule holds of the sums
--- of their counts, else to 0
+-- takes edges over an x-coordinate, with each of them all under it. Their signs add up to 1 if the rule holds of the
+-- sums of their counts, else to 0
 abbrev pub RegionOverEdgesTaken : Type 0
 RegionOverEdgesTaken = (holds : ℤ → ℤ → Bool) (subj clip : CountedEdge → ℤ) (es : List CountedEdge) →
     IsRuled holds subj clip es →
@@ -66,8 +66,8 @@ RegionFromSelectedSigns = (holds : ℤ → ℤ → Bool) (subj clip : CountedEdg
     IsRuled holds subj clip es → (p : PlanePoint) →
     winding_by (selected_sign holds subj clip es) es p ≡ one_if (holds (winding_by subj es p) (winding_by clip es p))
 
--- the signs of the edges under an edge, at an abscissa that it covers, add up to 1 where the rule holds below the edge,
--- else to 0
+-- the signs of the edges under an edge, at an x-coordinate that it covers, add up to 1 where the rule holds below the
+-- edge, else to 0
 abbrev pub RegionBelowAnEdge : Type 0
 RegionBelowAnEdge = (holds : ℤ → ℤ → Bool) (subj clip : CountedEdge → ℤ) (es : List CountedEdge) →
     IsRuled holds subj clip es →

@@ -1,6 +1,6 @@
--- The contours that selected steps are cut into, each with its role: an outline, a hole of an outline's own group, or a
--- hole whose shape is found by what lies below it. Without groups the walks are outlines and such holes; with groups
--- each outline's group is walked once more by the empty hand, so that no contour visits a point twice.
+-- The contours of a cut of selected steps, each with its role: an outline, a hole of an outline's own group, or a hole
+-- whose shape is found below it. Without groups the walks are outlines and such holes. With groups each outline's group
+-- is walked once more by the empty hand, so no contour visits a point twice.
 use Rattle.std.specs.Prelude.{◌≡◌, ℕ, suc, ◌==◌, Bool, true, false, cond, not, List, [], ◌∷◌, ◌++◌, map, filter, Option}
 use Rattle.std.specs.Prelude.{Some, None}
 use Rattle.std.specs.List.{AllZip, flat_map}
@@ -9,25 +9,25 @@ use Rattle.overlay_plane.specs.Binding.{is_hole}
 use Rattle.overlay_plane.specs.Contours.{IsCutInto, all_steps, outline_or_hole_hand}
 use Rattle.overlay_plane.specs.Turn.{Hand, other_hand}
 
--- what a contour is: the outline of the n-th shape, counted from 0; a hole that stands in the n-th shape from the
--- start, as one of its outline's group; or a hole whose shape is still to be found
+-- the role of a contour: the outline of the n-th shape, counted from 0; a hole of the n-th shape's outline's own group;
+-- or a hole whose shape is still to be found
 pub data Role : Type 0 where
   outline : ℕ → Role
   own_hole : ℕ → Role
   free_hole : Role
 
--- a contour, and what it is
+-- a contour, and its role
 pub record Contour : Type 0 where
   pub role : Role
   pub steps : List Step
 
--- the number of the shape in which a contour stands from the start
+-- the number of the contour's shape, if it is known from the start
 abbrev pub stands_in : Role → Option ℕ
 stands_in (outline n) = Some n
 stands_in (own_hole n) = Some n
 stands_in free_hole = None
 
--- it is an outline, the outline of the n-th shape, or a hole of that outline's group
+-- the contour is an outline, the outline of the n-th shape, or a hole of that outline's group
 abbrev pub is_outline : Role → Bool
 is_outline (outline n) = true
 is_outline (own_hole n) = false
@@ -38,7 +38,7 @@ is_own_hole_of n (outline m) = false
 is_own_hole_of n (own_hole m) = m == n
 is_own_hole_of n free_hole = false
 
--- it is a hole whose shape is to be found
+-- the contour is a hole whose shape is to be found
 abbrev pub is_free_hole : Role → Bool
 is_free_hole (outline n) = false
 is_free_hole (own_hole n) = false
@@ -53,14 +53,14 @@ hole_to_bind walk = record { role = free_hole; steps = walk }
 
 -- ---- without groups
 
--- the walks as contours, the outlines among them numbered from n on
+-- the walks as contours, with the outlines numbered from n on
 abbrev pub contours_from : Hand → ℕ → List (List Step) → List Contour
 contours_from filled n [] = []
 contours_from filled n (w ∷ ws) =
     cond (is_hole filled w) (hole_to_bind w ∷ contours_from filled n ws)
     (outline_of n w ∷ contours_from filled (suc n) ws)
 
--- the selected steps are cut into these contours, of which those are kept that pass the test
+-- the contours are those walks of a cut of the selected steps that pass the test
 pub record IsCut (filled : Hand) (keeps : List Step → Bool) (selected : List Step)
     (contours : List Contour) : Type 0 where
   pub walks : List (List Step)
@@ -71,8 +71,8 @@ pub record IsCut (filled : Hand) (keeps : List Step → Bool) (selected : List S
 
 -- ---- with groups
 
--- the walks of an outline's group, its outline first: the outline with those of its holes that pass the test, or
--- nothing where the outline does not pass it
+-- the kept walks of an outline's group, its outline first: the outline with its holes that pass the test, or nothing if
+-- the outline fails it
 abbrev pub kept_group : (List Step → Bool) → List (List Step) → List (List (List Step))
 kept_group keeps [] = []
 kept_group keeps (o ∷ hs) = cond (keeps o) ((o ∷ filter keeps hs) ∷ []) []
@@ -87,9 +87,9 @@ group_contours_from n [] = []
 group_contours_from n ([] ∷ gs) = group_contours_from n gs
 group_contours_from n ((o ∷ hs) ∷ gs) = outline_of n o ∷ map (hole_of_group n) hs ++ group_contours_from (suc n) gs
 
--- the selected steps are grouped by the filled hand; the group of each outline is cut by the empty hand, its outline
--- first; and so are the steps of all other groups together; of these contours those are kept that pass the test, a hole
--- of an outline's group only with its outline
+-- the selected steps are grouped by the filled hand. The empty hand cuts the group of each outline, its outline first,
+-- and the steps of all other groups together. Contours that pass the test are kept, and a hole of an outline's group
+-- only with its outline
 pub record IsCutInGroups (filled : Hand) (keeps : List Step → Bool) (selected : List Step)
     (contours : List Contour) : Type 0 where
   pub groups : List (List Step)
@@ -104,7 +104,7 @@ pub record IsCutInGroups (filled : Hand) (keeps : List Step → Bool) (selected 
 
 -- ---- by the option
 
--- the cut with groups, where it is asked for
+-- the cut, with groups or without
 abbrev pub IsCutBy : Bool → Hand → (List Step → Bool) → List Step → List Contour → Type 0
 IsCutBy true filled keeps selected contours = IsCutInGroups filled keeps selected contours
 IsCutBy false filled keeps selected contours = IsCut filled keeps selected contours

@@ -1,5 +1,5 @@
--- Cutting rounds: merged edges that are not settled are each replaced by the chain of steps through the points in which
--- others meet them.
+-- Cutting rounds: each merged edge of a list that is not settled is replaced by the chain of steps through its meeting
+-- points.
 use Rattle.std.specs.Prelude.{◌≡◌, ◌⊎◌, ℕ, zero, suc, ◌*ℤ◌, ◌<ℤ◌, List, [], ◌∷◌, ◌++◌, map, flat_map, All, AllPairs}
 use Rattle.std.specs.Prelude.{Any}
 use Rattle.overlay_geom.specs.Plane.{Point, PlanePoint, Step, SamePlace, IsAt, steps_through}
@@ -14,13 +14,13 @@ use Rattle.overlay_plane.specs.Meetings.{MeetsAnother}
 abbrev pub IsSmaller : PlanePoint → PlanePoint → Type 0
 IsSmaller p q = ((p.x *ℤ q.d) <ℤ (q.x *ℤ p.d)) ⊎ ((p.x *ℤ q.d ≡ q.x *ℤ p.d) × ((p.y *ℤ q.d) <ℤ (q.y *ℤ p.d)))
 
--- the points are exactly those in which another edge of the list meets e, each once, in their order along e
+-- the points are exactly the meeting points of e with another edge of the list, each once, in their order along e
 pub record IsCutAt (es : List CountedEdge) (e : CountedEdge) (ps : List PlanePoint) : Type 0 where
   pub ascending : AllPairs IsSmaller ps
   pub only : All (MeetsAnother es e) ps
   pub every : (p : PlanePoint) → MeetsAnother es e p → Any (SamePlace p) ps
 
--- a cutting round: the merged edges that it cuts, where it cuts each, and the whole point that it takes for a point of
+-- a cutting round: the merged edges, the points at which it cuts each of them, and the whole point for each point of
 -- the plane
 pub record Round : Type 0 where
   pub edges : List CountedEdge
@@ -39,7 +39,7 @@ chain_of r e = steps_through e.a (whole_cuts r e ++ e.b ∷ [])
 abbrev pub pieces_of : Round → List CountedEdge
 pieces_of r = flat_map (pieces_through (whole_cuts r)) r.edges
 
--- the round merges the edges, which are not settled, and cuts each of them where others meet it
+-- the round merges the edges, which are not settled, and cuts each of them at its meeting points
 pub record IsRound (old : List CountedEdge) (r : Round) : Type 0 where
   pub merged : IsMerged old r.edges
   pub unsettled : ¬ (IsSettled r.edges)
@@ -51,7 +51,7 @@ abbrev pub after_rounds : List CountedEdge → List Round → List CountedEdge
 after_rounds es [] = es
 after_rounds es (r ∷ rs) = after_rounds (pieces_of r) rs
 
--- the round takes some meeting point to another point, or takes none to another
+-- the round moves some meeting point, or moves none
 abbrev pub MovesSome : Round → Type 0
 MovesSome r = Any (λ e. Any (λ p. ¬ (IsAt (r.whole_at p) p)) (r.cuts e)) r.edges
 

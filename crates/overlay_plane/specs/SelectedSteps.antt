@@ -1,5 +1,5 @@
--- Selected steps: those of the edges on exactly one side of which a rule holds of the windings there, each with that
--- side on the left, or each with that side on the right: by the hand `filled`.
+-- Selected steps: steps of the edges with a rule that holds on exactly one side, of the windings there. Each step has
+-- that side by the hand `filled`: on the left, or on the right.
 use Rattle.std.specs.Prelude.{◌≡◌, Bool, not, cond, ℤ, List, [], ◌∷◌, Contains}
 use Rattle.std.specs.List.{flat_map}
 use Rattle.overlay_geom.specs.Plane.{Step, Edge}
@@ -9,11 +9,11 @@ use Rattle.overlay_plane.specs.Nodes.{IsBalancedArrangement}
 use Rattle.overlay_plane.specs.Regions.{holds_above, holds_below}
 use Rattle.overlay_plane.specs.Turn.{Hand, is_left_hand}
 
--- the step along an edge that has its upper side on the left, or its lower one
+-- the step along an edge that has its upper side, or its lower side, on the left
 abbrev pub step_with_left : Bool → Edge → Step
 step_with_left above e = cond above (record { from = e.a; to = e.b }) (record { from = e.b; to = e.a })
 
--- the step along an edge that has the side where the rule holds by the hand: the upper side, if it holds there
+-- the step along an edge that has by the hand the side where the rule holds: the upper side, if it holds there
 abbrev pub selected_step : (ℤ → ℤ → Bool) → (subj clip : CountedEdge → ℤ) → Hand → List CountedEdge → CountedEdge → Step
 selected_step holds subj clip filled es e =
     step_with_left (cond (is_left_hand filled) (holds_above holds subj clip es e) (holds_below holds subj clip es e))

@@ -8,7 +8,7 @@ use Rattle.overlay_geom.specs.Thinned.{IsKeptOrThinned}
 abbrev pub points_of_shapes : List (List (List Step)) → List (List (List Point))
 points_of_shapes shapes = map (map points_of) shapes
 
--- the steps of all contours of shapes that are given by their points
+-- the steps of all contours of shapes given by their points
 abbrev pub steps_of_shapes : List (List (List Point)) → List Step
 steps_of_shapes shapes = flat_map (flat_map steps_of) shapes
 

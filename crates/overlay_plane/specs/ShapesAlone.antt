@@ -12,28 +12,27 @@ use Rattle.overlay_plane.specs.BoundContours.{AreShapesFound, contours_bound, sh
 use Rattle.overlay_plane.specs.KeptContours.{AreKeptContours, KeepsAll}
 use Rattle.overlay_plane.specs.ShapeWindings.{points_of_shapes, AreKeptOrThinned, steps_of_shapes}
 
--- round each point of the plane the steps wind once, as steps with their filled side by the hand do, or zero times
+-- round each point of the plane the steps wind once, as steps with their filled side by the hand, or zero times
 abbrev pub WindsOnceOrNot : Hand → List Step → Type 0
 WindsOnceOrNot filled steps = (p : PlanePoint) → (winding steps p ≡ once_round filled) ⊎ (winding steps p ≡ pos 0)
 
--- the steps of the contours of each shape wind so
+-- the steps of each shape's contours wind once or zero times
 abbrev pub EachWindsOnceOrNot : Hand → List (List (List Point)) → Type 0
 EachWindsOnceOrNot filled shapes = All (λ shape. WindsOnceOrNot filled (flat_map steps_of shape)) shapes
 
--- on the filled sides of a walk's steps the winding of the steps taken is one number
+-- on the filled sides of a walk's steps, the winding of the steps taken is constant
 abbrev pub HasOneWinding : Hand → List CountedEdge → (taken walk : List Step) → Type 0
 HasOneWinding filled es taken walk = (s t : Step) → Contains walk s → Contains walk t →
     winding_beside filled es taken s ≡ winding_beside filled es taken t
 
--- beside two steps that an orbit leaves, of which one ends where the other one begins, the orbit winds alike, by each
--- hand
+-- an orbit has equal windings, by each hand, beside two steps that it leaves, where one ends where the other begins
 abbrev pub OneWindingPastOrbits : Type 0
 OneWindingPastOrbits = (es : List CountedEdge) (steps : List Step) → WalksAlong es steps → Alternates steps →
     (hand : Hand) (walk : List Step) → IsOrbit steps hand walk → (s t : Step) → Contains steps s → Contains steps t →
     ¬ (Contains walk s) → ¬ (Contains walk t) → s.to ≡ t.from →
     (side : Hand) → winding_beside side es walk s ≡ winding_beside side es walk t
 
--- the shapes to which all contours are bound wind so, each contour as it is or thinned
+-- the shapes to which all contours are bound wind once or zero times, with each contour thinned or not
 abbrev pub EachShapeWindsOnceOrNot : Type 0
 EachShapeWindsOnceOrNot = (holds : ℤ → ℤ → Bool) (subj clip : CountedEdge → ℤ) (es : List CountedEdge)
     (filled : Hand) (in_groups : Bool) (keeps : List Step → Bool) (contours : List Contour) →
@@ -43,7 +42,7 @@ EachShapeWindsOnceOrNot = (holds : ℤ → ℤ → Bool) (subj clip : CountedEdg
     AreKeptOrThinned as_given (points_of_shapes (shapes_bound (contours_bound contours shapes))) result →
     EachWindsOnceOrNot filled result
 
--- where shapes that wind so by themselves wind once or zero times together, no two of them wind there
+-- where such shapes wind once or zero times together, no two of them wind there
 abbrev pub NoTwoWindRoundOnePoint : Type 0
 NoTwoWindRoundOnePoint = (filled : Hand) (shapes : List (List (List Point))) → EachWindsOnceOrNot filled shapes →
     (p : PlanePoint) →

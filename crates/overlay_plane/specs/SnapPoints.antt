@@ -1,4 +1,4 @@
--- The hot points whose pixels an edge meets, computed: by one cross product each.
+-- The hot points whose pixels an edge meets, computed by one cross product each.
 use Rattle.std.specs.Prelude.{◌≡◌, ◌↔◌, Bool, true, cond, ◌&&◌, ◌||◌, ℤ, pos, ◌+ℤ◌, ◌-ℤ◌, ◌*ℤ◌, int_lt, int_le, List}
 use Rattle.std.specs.Prelude.{◌∷◌, filter, flat_map, nat_abs}
 use Rattle.overlay_geom.specs.Plane.{Point, PlanePoint, Edge, IsOn, point_eq, point_lt, cross_at}
@@ -13,7 +13,7 @@ use Rattle.overlay_plane.specs.InOrder.{in_order}
 use Rattle.overlay_plane.specs.Rounds.{Round, pieces_of}
 use Rattle.overlay_plane.specs.Snaps.{IsSnap}
 
--- z lies between two numbers, in whichever order, or is one of them
+-- z lies between u and v, in whichever order, or is equal to one of them
 abbrev pub is_amid : ℤ → ℤ → ℤ → Bool
 is_amid z u v = (int_le u z && int_le z v) || (int_le v z && int_le z u)
 
@@ -21,7 +21,7 @@ is_amid z u v = (int_le u z && int_le z v) || (int_le v z && int_le z u)
 abbrev pub is_in_box : Edge → Point → Bool
 is_in_box e v = is_amid v.x e.a.x e.b.x && is_amid v.y e.a.y e.b.y
 
--- how wide and high the bounding box of e is, together
+-- the width plus the height of the bounding box of e
 abbrev pub half_girth : Edge → ℤ
 half_girth e = (e.b.x -ℤ e.a.x) +ℤ pos (nat_abs (e.b.y -ℤ e.a.y))
 
@@ -44,7 +44,7 @@ abbrev pub PixelsMetByTest : Type 0
 PixelsMetByTest = (e : Edge) (v : Point) → point_lt e.a e.b ≡ true →
     (meets_pixel e v ≡ true) ↔ ((p : PlanePoint) × IsOn e p × (nearest_point p ≡ v))
 
--- the ends of the edges of a list, and the whole points nearest those in which they meet
+-- the ends of the edges of a list, and the whole points nearest to those where they meet
 abbrev pub hot_points : List CountedEdge → List Point
 hot_points es = flat_map (λ e. e.a ∷ e.b ∷ cut_points es e) es
 
@@ -56,7 +56,7 @@ snap_points es e = in_order (comes_first (ends_of e)) (filter (meets_pixel (ends
 abbrev pub snapped_edges : List CountedEdge → List CountedEdge
 snapped_edges es = flat_map (pieces_through (snap_points es)) es
 
--- a merged list of forward edges that is not settled, cut through the computed points, is what a snap leaves
+-- a merged list of forward edges that is not settled, cut through the computed points, is the result of a snap
 abbrev pub SnappingIsASnap : Type 0
 SnappingIsASnap = (old es : List CountedEdge) → IsForwardBy ends_of es → IsMerged old es → ¬ (IsSettled es) →
     (r : Round) × IsSnap old r × (pieces_of r ≡ snapped_edges es)

@@ -1,5 +1,5 @@
--- Snap rounding: merged edges that are not settled are each led, once, through all hot points whose pixels they meet.
--- The pixel of a whole point holds the points of the plane that round to it.
+-- Snap rounding: each merged edge of a list that is not settled is led, once, through all hot points whose pixels it
+-- meets. The pixel of a whole point holds the points of the plane that round to it.
 use Rattle.std.specs.Prelude.{◌≡◌, ◌⊎◌, pos, ◌-ℤ◌, ◌*ℤ◌, ◌<ℤ◌, ◌≤ℤ◌, List, All, AllPairs, Any, Contains}
 use Rattle.overlay_geom.specs.Plane.{Point, PlanePoint, Step, Edge, IsOn}
 use Rattle.overlay_geom.specs.Edges.{CountedEdge, ends_of, subj_of, clip_of, winding_by}
@@ -10,12 +10,12 @@ use Rattle.overlay_plane.specs.EdgeLists.{IsForwardBy}
 use Rattle.overlay_plane.specs.Meetings.{MeetsAnother}
 use Rattle.overlay_plane.specs.Rounds.{Round, IsSmaller, chain_of, pieces_of}
 
--- v is an end of an edge of the list, or the whole point nearest one in which two of them meet
+-- v is an end of an edge of the list, or the whole point nearest to a meeting point of two of them
 abbrev pub IsHot : List CountedEdge → Point → Type 0
 IsHot es v = Any (λ e. (v ≡ e.a) ⊎ (v ≡ e.b)) es
     ⊎ ((e : CountedEdge) × (p : PlanePoint) × Contains es e × MeetsAnother es e p × (nearest_point p ≡ v))
 
--- the points lie on e in their order along it, one in the pixel of each hot point whose pixel e meets
+-- the points lie on e in their order along it: one in the pixel of each hot point whose pixel e meets
 pub record IsSnappedAt (es : List CountedEdge) (e : CountedEdge) (ps : List PlanePoint) : Type 0 where
   pub ascending : AllPairs IsSmaller ps
   pub on : All (IsOn (ends_of e)) ps
@@ -34,7 +34,7 @@ pub record IsSnap (old : List CountedEdge) (r : Round) : Type 0 where
 
 -- ---- laws
 
--- what a snap leaves is settled once it is merged
+-- the merged edges of a snap are settled
 abbrev pub SnapsSettle : Type 0
 SnapsSettle = (old new : List CountedEdge) (r : Round) → IsForwardBy ends_of old → IsSnap old r →
     IsMerged (pieces_of r) new → IsSettled new
@@ -50,8 +50,8 @@ pub record AreWithinHalf (p q : PlanePoint) : Type 0 where
 abbrev pub IsOnStep : Step → PlanePoint → Type 0
 IsOnStep s q = IsOn (record { a = s.from; b = s.to }) q
 
--- each point of an edge's chain is within half a unit of a point of the edge, and each point of the edge of one of the
--- chain
+-- each point of an edge's chain is within half a unit of a point of the edge, and each point of the edge within half a
+-- unit of a point of the chain
 pub record StaysWithinHalf (r : Round) (e : CountedEdge) : Type 0 where
   pub chain_near : (s : Step) → Contains (chain_of r e) s → (q : PlanePoint) → IsOnStep s q →
       (p : PlanePoint) × IsOn (ends_of e) p × AreWithinHalf p q
@@ -63,7 +63,7 @@ abbrev pub SnapsStayNear : Type 0
 SnapsStayNear = (old : List CountedEdge) (r : Round) → IsForwardBy ends_of old → IsSnap old r →
     All (StaysWithinHalf r) r.edges
 
--- the edge has a point in the unit square round p, to which its left and lower sides belong
+-- the edge has a point in the unit square round p, which includes its left and lower sides
 pub record MeetsSquareRound (e : Edge) (p : PlanePoint) : Type 0 where
   pub q : PlanePoint
   pub on : IsOn e q

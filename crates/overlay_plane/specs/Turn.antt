@@ -14,23 +14,23 @@ abbrev pub other_hand : Hand → Hand
 other_hand left = right
 other_hand right = left
 
--- the hand is the left one
+-- the hand is the left hand
 abbrev pub is_left_hand : Hand → Bool
 is_left_hand left = true
 is_left_hand right = false
 
--- positive where a ray at v that turns by the hand from p comes to q before it has made a half turn;
--- from the back of an arriving step the way through its left side is clockwise
+-- positive where a ray at v that turns by the hand from p comes to q before it has made a half turn. From the back of
+-- an arriving step the way through its left side is clockwise
 abbrev pub turn : Hand → Point → Point → Point → ℤ
 turn left v p q = cross_at v q p
 turn right v p q = cross_at v p q
 
--- the inner product of the ways from v to p and from v to q
+-- the inner product of the vectors from v to p and from v to q
 abbrev pub dot_at : Point → Point → Point → ℤ
 dot_at v p q = (p.x -ℤ v.x) *ℤ (q.x -ℤ v.x) +ℤ (p.y -ℤ v.y) *ℤ (q.y -ℤ v.y)
 
--- where a ray at v that turns by the hand from u meets p: 0 within the first half turn, 1 straight ahead, 2 within the
--- second half turn, 3 at u again
+-- the part of the turn in which a ray at v that turns by the hand from u meets p. It is 0 within the first half turn, 1
+-- straight ahead, 2 within the second half turn, 3 at u again
 abbrev pub part_of_turn : Hand → Point → Point → Point → ℕ
 part_of_turn hand v u p = cond (int_lt (pos 0) (turn hand v u p)) 0
     (cond (int_lt (turn hand v u p) (pos 0)) 2 (cond (int_lt (dot_at v u p) (pos 0)) 1 3))
@@ -41,18 +41,17 @@ is_met_before hand v u p q =
     nat_lt (part_of_turn hand v u p) (part_of_turn hand v u q)
     || (part_of_turn hand v u p == part_of_turn hand v u q && int_lt (pos 0) (turn hand v p q))
 
--- the same as a fact
+-- a ray at v that turns by the hand from u meets p before q, as a fact
 abbrev pub IsMetBefore : Hand → Point → Point → Point → Point → Type 0
 IsMetBefore hand v u p q = is_met_before hand v u p q ≡ true
 
--- t is the step that leaves the end of s and that a ray there, turning by the hand from the way back along s, meets
--- first
+-- t is the first step that leaves the end of s, met by a ray that turns there by the hand from the way back along s
 pub record IsNextStep (steps : List Step) (hand : Hand) (s t : Step) : Type 0 where
   pub among : Contains steps t
   pub leaves : t.from ≡ s.to
   pub first : All (λ u. u.from ≡ s.to → is_met_before hand s.to s.from u.to t.to ≡ false) steps
 
--- what stands for a step where there is none
+-- a placeholder where there is no step
 abbrev pub no_step : Step
 no_step = record { from = record { x = pos 0; y = pos 0 }; to = record { x = pos 0; y = pos 0 } }
 
@@ -60,7 +59,7 @@ no_step = record { from = record { x = pos 0; y = pos 0 }; to = record { x = pos
 abbrev pub step_round : List Step → ℕ → Step
 step_round ss k = item_round ss no_step k
 
--- the walk is the orbit of its first step: each step is followed by its next step, until the first one comes again
+-- the walk is the orbit of its first step: each step is followed by its next step, until the first step comes again
 pub record IsOrbit (steps : List Step) (hand : Hand) (walk : List Step) : Type 0 where
   pub some : 0 < length walk
   pub goes_on : (k : ℕ) → k < length walk → IsNextStep steps hand (step_round walk k) (step_round walk (k + 1))
