@@ -311,7 +311,7 @@ def made() -> str:
     found = specs.closure(ROOTS)
     check_names(specs, found)
     record = "\n".join(specs.blocks[RESULT].text)
-    first = record.split("\n  -- and each shape")[0]
+    first = record.split("\n  -- each shape")[0]
     count = sum(1 for it in found if it in specs.blocks)
     lines = sum(len(specs.blocks[it].text) for it in found if it in specs.blocks)
     out = f"{TOP}\n```rust\n{contract()}\n```\n\n```text\n{first}\n  ..\n```\n"

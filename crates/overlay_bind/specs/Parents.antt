@@ -5,7 +5,7 @@ use Rattle.overlay_plane.specs.Binding.{IsFoundBelow}
 use Rattle.overlay_plane.specs.Turn.{Hand}
 pub use Rattle.overlay_scan.specs.Sweeps.{IsSwept}
 
--- the walk at place n has the number of its shape, or none, if it stands in no shape from the start
+-- the walk at place n, if its shape is not known from the start, has the number of its shape, or none
 abbrev pub HasShapeNumber : Hand → List (List Step) → List (Option ℕ) → List (Option ℕ) → ℕ → Type 0
 HasShapeNumber filled walks known shapes n = (w : List Step) → slice_get walks n ≡ Some w →
     slice_index_or known n None ≡ None →

@@ -1,4 +1,4 @@
--- Contours that are placed in shapes by two passes: the holes of outlines' groups, and then those whose shape is found.
+-- Contours placed in shapes in two passes: first the holes of outlines' groups, then the holes whose shape is found.
 use Rattle.std.specs.Prelude.{◌≡◌, ◌<◌, ℕ, List, [], ◌∷◌, ◌++◌, map, length, set, get_or, All, Option, Some}
 use Rattle.std.specs.Prelude.{None, Vec}
 use Rattle.overlay_geom.specs.Plane.{Step}
@@ -8,7 +8,7 @@ use Rattle.overlay_plane.specs.PlacedContours.{walk_at}
 use Rattle.overlay_bind.specs.declared.places.Holes.{Holes}
 use Rattle.overlay_bind.specs.declared.places.Holes.TheVariants.{OfGroups, Found}
 
--- the lists of places
+-- the lists of places, shape by shape
 abbrev pub place_lists : {A : Type 0} → List (Vec ℕ A) → List (List ℕ)
 place_lists places = map (λ ps. ps.items) places
 
@@ -16,12 +16,12 @@ place_lists places = map (λ ps. ps.items) places
 abbrev pub AreInside : ℕ → List (List ℕ) → Type 0
 AreInside count places = All (All (λ k. k < count)) places
 
--- the lists with the place behind those of the shape with the number, if there is one
+-- the lists with the place added to that of the shape with the number, if there is one
 abbrev pub with_place : Option ℕ → ℕ → List (List ℕ) → List (List ℕ)
 with_place None place lists = lists
 with_place (Some n) place lists = set lists n (get_or lists n [] ++ place ∷ [])
 
--- the number of the shape in which a contour is a hole of this kind, by its role and the shape that is found for it
+-- the number of the shape in which a contour is a hole of this kind, by its role and the shape found for it
 abbrev pub number_as : Holes → Role → Option ℕ → Option ℕ
 number_as OfGroups (outline n) found = None
 number_as OfGroups (own_hole n) found = Some n
@@ -35,7 +35,7 @@ abbrev pub holes_as : Holes → List BoundContour → ℕ → List (List Step)
 holes_as OfGroups bound n = own_holes bound n
 holes_as Found bound n = found_holes bound n
 
--- each shape has, behind what it had, its holes of this kind
+-- each shape's list is extended by its holes of this kind
 pub record HasHolesAdded (holes : Holes) (contours : List Contour) (bound : List BoundContour)
     (old new : List (List ℕ)) : Type 0 where
   pub counted : length new ≡ length old

@@ -1,5 +1,5 @@
 -- The entries of the sweep that binds: the filled-above edges of walks, and the anchors of the walks whose shapes are
--- to be found, each with the index of its walk.
+-- still to be found. Each has the index of its walk.
 use Rattle.std.specs.Prelude.{◌≡◌, ℕ, false, List, map, All, AllPairs, Contains, slice_get, slice_index_or}
 use Rattle.std.specs.Prelude.{Option, None, Some}
 use Rattle.overlay_geom.specs.Plane.{Step, Edge, edge_eq}
@@ -30,16 +30,16 @@ pub record AreFilledEntries (filled : Hand) (walks : List (List Step)) (fs : Lis
   pub distinct : AllPairs (λ f g. edge_eq f.edge g.edge ≡ false) fs
   pub order : IsByStart fs
 
--- the walk at place n, which stands in no shape from the start, and its anchor
+-- the shape of the walk at place n is not known from the start, and the edge is the walk's anchor
 pub record IsAnchored (known : List (Option ℕ)) (n : ℕ) (walk : List Step) (e : Edge) : Type 0 where
   pub is : slice_index_or known n None ≡ None
   pub anchor : IsAnchor walk e
 
--- the entry's walk is such a one, of which the entry's edge is the anchor
+-- the entry's walk is such a walk, and the entry's edge is its anchor
 abbrev pub IsHoleEntry : List (List Step) → List (Option ℕ) → Entry ℕ → Type 0
 IsHoleEntry walks known h = IsOfWalk walks h.value (λ w. IsAnchored known h.value w h.edge)
 
--- the entries are the anchors of the walks that stand in no shape from the start, in their order
+-- the entries are the anchors of the walks whose shapes are not known from the start, in the order of anchors
 pub record AreHoleEntries (walks : List (List Step)) (known : List (Option ℕ)) (hs : List (Entry ℕ)) : Type 0 where
   pub from : All (IsHoleEntry walks known) hs
   pub all : (n : ℕ) (w : List Step) → slice_get walks n ≡ Some w → slice_index_or known n None ≡ None →

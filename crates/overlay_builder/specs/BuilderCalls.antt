@@ -1,4 +1,4 @@
--- How calls answer that add one thing to a builder, or give a view of it, whatever else the builder has.
+-- Answers of calls that add something to a builder, or give a view of it, for all kinds of builders.
 use Rattle.std.specs.Prelude.{◌≡◌, ◌≢◌, ◌↔◌, ◌^◌, ◌<◌, ℕ, Bool, true, List, Option, Result, Err, IfOk, OnOk, OnErr}
 use Rattle.std.specs.Prelude.{IsErrOf}
 use Rattle.std.specs.Iterator.{Drains}
@@ -13,10 +13,10 @@ use Rattle.overlay_builder.specs.GivenPaths.{ContourWeighsTooMuch}
 use Rattle.overlay_builder.specs.Held.{Held, AnswersQuery, shown_edges}
 use Rattle.overlay_builder.specs.PathLists.{AddedPath, AddsOne, WouldWeighTooMuch}
 
--- ---- adding one thing
+-- ---- adding
 
--- a call that adds one thing, such as a contour or an edge, answers so, of what the builder held before and of what it
--- holds afterwards, by what adding it makes of edges, and of which edges it would bring the weight to 2^31
+-- the answer of a call that adds a single thing, such as a contour or an edge. `old` and `new` are the builder before
+-- and after, `Adds` the effect on edges, and `WeighsTooMuch` tells edges that it would bring to the weight 2^31
 pub record AddsOneAsAsked {E V : Type 0} (weigh : List E → ℕ) (Adds : List E → List E → Type 0)
     (WeighsTooMuch : List E → Type 0) (old new : Held E) (result : Result V OverlayError) : Type 0 where
   pub ok : OnOk result (Adds old.edges new.edges)
@@ -30,20 +30,20 @@ pub record AddsOneAsAsked {E V : Type 0} (weigh : List E → ℕ) (Adds : List E
   pub too_many : IsErrOf result TooManyEdges → WeighsTooMuch old.edges
   pub no_query : result ≢ Err NotSettled
 
--- one that adds a path does
+-- the answer of a call that adds a path
 abbrev pub AddsPathAsAsked : {E V : Type 0} → (List E → ℕ) → AddedPath E → Held E → Held E → Result V OverlayError →
     Type 0
 AddsPathAsAsked weigh path old new result =
     AddsOneAsAsked weigh (AddsOne path) (WouldWeighTooMuch weigh path) old new result
 
--- one that adds the contour of these points does; points on one line stay where they are to be kept
+-- the answer of a call that adds the contour of these points; collinear points stay where they are kept
 abbrev pub AddsContourAsAsked : {V : Type 0} → Bool → ShapeType → List Point → Held CountedEdge → Held CountedEdge →
     Result V OverlayError → Type 0
 AddsContourAsAsked keep_points shape_type points old new result =
     AddsOneAsAsked weight (AddsContour keep_points (edge_for shape_type) points)
     (ContourWeighsTooMuch keep_points shape_type points) old new result
 
--- one that adds what the items make that an iterator gives does
+-- the answer of a call that adds the items that an iterator gives
 abbrev pub AddsGivenAsAsked : {X S E V : Type 0} → (List E → ℕ) → (S → Option X → S → Type 0) → S →
     (List X → List E → List E → Type 0) → (List X → List E → Type 0) → Held E → Held E → Result V OverlayError → Type 0
 AddsGivenAsAsked {X = X} weigh steps iter Adds WeighsTooMuch old new result =
@@ -52,7 +52,8 @@ AddsGivenAsAsked {X = X} weigh steps iter Adds WeighsTooMuch old new result =
 
 -- ---- viewing
 
--- a builder after a view of it has ended: it is as after any other query, and holds the edges that the view showed
+-- a builder after a view of it has ended: its state is that after any other query, and it holds the edges that the view
+-- showed
 pub record EndsView {V : Type 0} (limit : ℕ) (solver : Solver) (edges_of : V → List CountedEdge)
     (old new : Held CountedEdge)
     (result : Result (Option V) OverlayError) : Type 0 where

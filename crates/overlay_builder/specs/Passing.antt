@@ -1,4 +1,4 @@
--- What an edge carries that a contour of the subject, or of the clip, passes once.
+-- The counts of an edge that a contour of the subject or of the clip passes once.
 use Rattle.std.specs.Prelude.{pos, negsuc}
 use Rattle.overlay_arrange.specs.Content.{count_for}
 use Rattle.overlay_arrange.specs.declared.count.ShapeCountBoolean.{ShapeCountBoolean}
@@ -10,11 +10,11 @@ use Rattle.overlay_builder.specs.declared.path.StepCounts.{StepCounts}
 abbrev pub passing : ShapeType → StepCounts ShapeCountBoolean
 passing shape_type = record { along = count_for shape_type (pos 1); back = count_for shape_type (negsuc 0) }
 
--- the counts, and no data
+-- the counts without data
 abbrev pub without_data : ShapeCountBoolean → CountWithData (Unit {0})
 without_data k = record { count = k; edge_data = tt }
 
--- the same of an edge that carries data, of which it has none
+-- those counts without data, for edges that may carry data
 abbrev pub passing_without_data : ShapeType → StepCounts (CountWithData (Unit {0}))
 passing_without_data shape_type =
     record { along = without_data (passing shape_type).along; back = without_data (passing shape_type).back }

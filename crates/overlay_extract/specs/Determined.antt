@@ -1,5 +1,5 @@
--- Each answer of an overlay is the only one over the edges of an arrangement: where points on one line stay, and else
--- up to which point of three on one line is dropped first.
+-- Each answer of an overlay is the only answer over the edges of an arrangement where collinear points stay. Elsewhere
+-- it depends only on which of three collinear points is dropped first.
 use Rattle.std.specs.Prelude.{◌≡◌, ℕ, Bool, true, List}
 use Rattle.std.specs.List.{AllZip}
 use Rattle.overlay_geom.specs.Plane.{Point}
@@ -23,13 +23,13 @@ pub record AreArrangedWithBalance (es : List CountedEdge) : Type 0 where
   pub arranged : IsArranged solver old es
   pub content : IsContent limit es
 
--- both show the contours of one list of shapes, in its order, each as it is, or thinned
+-- both show the contours of one list of shapes, in its order, each thinned or not
 pub record ShowOneList (keep : Bool) (first second : List (List (List Point))) : Type 0 where
   pub given : List (List (List Point))
   pub shown : AreKeptOrThinned keep given first
   pub shown_too : AreKeptOrThinned keep given second
 
--- both show one list of contours so
+-- both show one list of contours, each thinned or not
 pub record ShowOneContours (keep : Bool) (first second : List (List Point)) : Type 0 where
   pub given : List (List Point)
   pub shown : AllZip (IsKeptOrThinned keep) given first
@@ -37,13 +37,13 @@ pub record ShowOneContours (keep : Bool) (first second : List (List Point)) : Ty
 
 -- ---- shapes
 
--- two results that are asked for alike show one list of shapes
+-- two results asked for alike show one list of shapes
 abbrev pub ResultsShowOneList : Type 0
 ResultsShowOneList = (q : Asked) (es : List CountedEdge) → AreArrangedWithBalance es →
     (first second : List (List (List Point))) → IsResult q es first → IsResult q es second →
     ShowOneList q.preserve_output_collinear first second
 
--- so where points on one line stay they are one
+-- where collinear points stay they are equal
 abbrev pub OneResult : Type 0
 OneResult = (q : Asked) (es : List CountedEdge) → AreArrangedWithBalance es →
     (first second : List (List (List Point))) → q.preserve_output_collinear ≡ true → IsResult q es first →
@@ -51,13 +51,13 @@ OneResult = (q : Asked) (es : List CountedEdge) → AreArrangedWithBalance es �
 
 -- ---- contours in one list
 
--- two lists of contours that are asked for alike show one list
+-- two lists of contours asked for alike show one list
 abbrev pub ContoursShowOneList : Type 0
 ContoursShowOneList = (q : Asked) (es : List CountedEdge) → AreArrangedWithBalance es →
     (first second : List (List Point)) → IsContoursResult q es first → IsContoursResult q es second →
     ShowOneContours q.preserve_output_collinear first second
 
--- so where points on one line stay they are one
+-- where collinear points stay they are equal
 abbrev pub OneListOfContours : Type 0
 OneListOfContours = (q : Asked) (es : List CountedEdge) → AreArrangedWithBalance es →
     (first second : List (List Point)) → q.preserve_output_collinear ≡ true → IsContoursResult q es first →
@@ -65,7 +65,7 @@ OneListOfContours = (q : Asked) (es : List CountedEdge) → AreArrangedWithBalan
 
 -- ---- links
 
--- two hierarchies that are asked for alike have the same links
+-- two hierarchies asked for alike have equal links
 abbrev pub OneListOfLinks : Type 0
 OneListOfLinks = (q : Asked) (es : List CountedEdge) → AreArrangedWithBalance es →
     (first second : List (List (List Point))) (links others : List ChildLink) → IsHierarchy q es first links →

@@ -2,7 +2,7 @@
 use Rattle.std.specs.Prelude.{◌<◌, ℕ, ◌==◌, cond, List, All, length}
 use Rattle.overlay_plane.specs.RoledContours.{Role, outline, own_hole}
 
--- what the contour at a place of the shape with this number is: its outline comes first
+-- the role of the contour at a place of the shape with this number: the outline comes first
 abbrev pub role_at : ℕ → ℕ → Role
 role_at number i = cond (i == 0) (outline number) (own_hole number)
 

@@ -1,4 +1,4 @@
--- What a list of entries with points of the program stands for, and the test which of two edges is the lower one.
+-- Lists of entries with the program's points as entries with whole points, and the test of the lower of two edges.
 use Rattle.std.specs.Prelude.{◌≡◌, true, AllPairs, Bool, cond, not, ◌&&◌, ◌||◌, ℕ, ℤ, pos, int_lt, List, map}
 use Rattle.std.specs.Ordering.{int_eq}
 use Rattle.overlay_geom.specs.Plane.{Edge, cross_at}
@@ -10,7 +10,7 @@ use Rattle.overlay_scan.specs.declared.list.LiveEdge.{LiveEdge}
 abbrev pub plain_entry : {I V : Type 0} → (I → ℤ) → LiveEdge I V → Entry V
 plain_entry whole f = record { edge = record { a = plain_point whole f.a; b = plain_point whole f.b }; value = f.value }
 
--- and that of each entry of a list
+-- the plain entry of each entry of a list
 abbrev pub plain_entries : {I V : Type 0} → (I → ℤ) → List (LiveEdge I V) → List (Entry V)
 plain_entries whole fs = map (plain_entry whole) fs
 
@@ -24,10 +24,10 @@ abbrev pub is_lower_at_start : Edge → Edge → Bool
 is_lower_at_start f e = int_lt (pos 0) (cross_at f.a f.b e.a) || (int_eq (cross_at f.a f.b e.a) (pos 0) && int_lt
     (pos 0) (cross_at e.a f.b e.b))
 
--- f is lower than e just right of the start of the one that starts later
+-- f is lower than e just right of the start of the edge that starts later
 abbrev pub is_lower : Edge → Edge → Bool
 is_lower f e = cond (int_lt e.a.x f.a.x) (not (is_lower_at_start e f)) (is_lower_at_start f e)
 
--- an item passes if a later one does
+-- an item passes if a later item does
 abbrev pub PassBefore : {X : Type 0} → (X → Bool) → List X → Type 0
 PassBefore test xs = AllPairs (λ x y. test y ≡ true → test x ≡ true) xs

@@ -8,7 +8,7 @@ use Rattle.overlay_scan.specs.Scan.{Entry}
 use Rattle.overlay_scan.specs.HeldEntries.{live_of, Tells}
 use Rattle.overlay_scan.specs.declared.list.LiveEdge.{LiveEdge}
 
--- the live entries before low pass, those from high on do not, and the entry below low is live, if there is one
+-- the live entries before low pass, and those from high on do not; if there is an entry below low, it is live
 pub record IsBetween {I V : Type 0} (whole : I → ℤ) (post : List (IntPoint I) → Ordering → Type 0) (x : ℤ)
     (es : List (LiveEdge I V)) (low high : ℕ) : Type 0 where
   pub ordered : low ≤ high

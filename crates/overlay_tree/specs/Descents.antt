@@ -1,4 +1,4 @@
--- What a way down through a tree finds, and what it leaves.
+-- Results of a descent through a tree.
 use Rattle.std.specs.Prelude.{◌≡◌, Bool, false, cond, ℕ, ℤ, int_lt, List, [], ◌∷◌, ◌++◌, Option, Some}
 use Rattle.std.specs.Prelude.{None}
 use Rattle.std.specs.Prelude.{slice_get, filter_map}
@@ -26,28 +26,28 @@ abbrev pub alone : Option NodeIndex → Tree
 alone None = Leaf
 alone (Some i) = Fork Leaf i.place Leaf
 
--- a tree stands, and beside it the node that is to be put in, if there is one
+-- a tree stands, and beside it the node to be inserted, if there is one
 pub record CanDescend (ls : List Links) (root put : Option NodeIndex) (t : Tree) : Type 0 where
   pub at : IsTreeAt ls root t
   pub put_stands : Stands ls (alone put)
   pub other : (k : ℕ) → IsIn k (items t) → IsIn k (items (alone put)) → ⊥
 
--- the way leads to the left of an entry that is above
+-- the descent goes to the left of an entry that is above
 abbrev pub side_of : Ordering → Side
 side_of o = cond (is_gt o) Left Right
 
--- the value found below, or else that of the entry that was passed, where the way led on above it
+-- the value found below, or else the value of the passed entry where the descent went on above it
 abbrev pub passed_on : {V : Type 0} → Side → V → Option V → Option V
 passed_on Left value v = v
 passed_on Right value None = Some value
 passed_on Right value (Some v) = Some v
 
--- what the way came to, seen from such an entry
+-- the end of the descent, seen from such an entry
 abbrev pub end_above : {V : Type 0} → Side → V → End V → End V
 end_above side value (Ended j) = Ended j
 end_above side value (Found v) = Found (passed_on side value v)
 
--- in the place of some nodes in the middle of t stand others
+-- other nodes replace some nodes in the middle of t
 pub record IsExchanged (old new : List Links) (t : Tree) (root : Option NodeIndex)
     (out into before after : List ℕ) : Type 0 where
   pub same : items t ≡ before ++ (out ++ after)
@@ -73,7 +73,7 @@ module _ {I V : Type 0} (whole : I → ℤ) (post : List (IntPoint I) → Orderi
         PassBefore passes (live_entries whole x es (items t)) →
         IsParted passes (live_entries whole x es before) (live_entries whole x es after) v
 
-  -- the one or the other
+  -- an ended entry is taken out, or the node is inserted
   abbrev pub IsEndOf : List Links → List Links → Tree → Option NodeIndex → Option NodeIndex → End V → Type 0
   IsEndOf old new t put root (Ended j) = IsDropped old new t put root j.place
   IsEndOf old new t put root (Found v) = IsPassed old new t put root v

@@ -1,4 +1,4 @@
--- A tree, and beside it the nodes that may be used again.
+-- A tree, and beside it the reusable nodes.
 use Rattle.std.specs.Prelude.{◌≡◌, ℕ, zero, suc, ◌+◌, ◌*◌, ◌^◌, ◌<◌, ◌≤◌, List, [], ◌∷◌, ◌++◌, Option, Some, None, Bool}
 use Rattle.std.specs.Prelude.{slice_get, length, ℤ}
 use Rattle.std.specs.declared.cmp.Ordering.{Ordering}
@@ -12,34 +12,34 @@ use Rattle.overlay_tree.specs.declared.links.NodeIndex.{NodeIndex}
 use Rattle.overlay_tree.specs.Descents.{live_entries, alone, CanDescend}
 use Rattle.overlay_tree.specs.Trees.{Tree, Leaf, Fork, items, IsIn, AreDistinct, IsTreeAt, stored_height}
 
--- ---- the tree that stands below a root
+-- ---- the tree below a root
 
 abbrev pub fork_at : (Option NodeIndex → Tree) → ℕ → Option Links → Tree
 fork_at down i None = Leaf
 fork_at down i (Some links) = Fork (down links.left) i (down links.right)
 
--- its upper levels, so many
+-- the upper levels of the tree, at most n
 abbrev pub tree_of : ℕ → List Links → Option NodeIndex → Tree
 tree_of zero ls root = Leaf
 tree_of (suc n) ls None = Leaf
 tree_of (suc n) ls (Some i) = fork_at (tree_of n ls) i.place (slice_get ls i.place)
 
--- all of them
+-- the whole tree
 abbrev pub tree_at : List Links → Option NodeIndex → Tree
 tree_at ls root = tree_of (stored_height ls root) ls root
 
--- ---- the nodes that may be used again
+-- ---- the reusable nodes
 
 abbrev pub first_of : List ℕ → Option NodeIndex
 first_of [] = None
 first_of (i ∷ is) = Some (record { place = i })
 
--- each has the next one on its left
+-- each node has the next reusable node on its left
 abbrev pub IsChain : List Links → List ℕ → Type 0
 IsChain ls [] = Unit {0}
 IsChain ls (i ∷ is) = ((links : Links) × (slice_get ls i ≡ Some links) × (links.left ≡ first_of is)) × IsChain ls is
 
--- a tree stands, and other nodes may be used again
+-- a tree stands, and other nodes are reusable
 pub record IsForest (ls : List Links) (root free : Option NodeIndex) (t : Tree) (unused : List ℕ) : Type 0 where
   pub at : IsTreeAt ls root t
   pub free_is : free ≡ first_of unused
@@ -47,14 +47,14 @@ pub record IsForest (ls : List Links) (root free : Option NodeIndex) (t : Tree) 
   pub once : AreDistinct unused
   pub apart : (k : ℕ) → IsIn k (items t) → IsIn k unused → ⊥
 
--- the same, and a node that is in neither may be put in
+-- such a forest, and a node in neither part that may be inserted
 pub record CanSettle (ls : List Links) (root free put : Option NodeIndex) (t : Tree) (unused : List ℕ) : Type 0 where
   pub forest : IsForest ls root free t unused
   pub can : CanDescend ls root put t
   pub put_apart : (k : ℕ) → IsIn k unused → IsIn k (items (alone put)) → ⊥
 
--- the number of visits has not fallen, and has risen by at most 2(d + 1) times as many as n + 1 has binary digits,
--- where d of n are dropped
+-- the number of visits does not fall. It rises by at most 2(d + 1) times the number of binary digits of n + 1, where d
+-- of n entries are dropped
 pub record AreFewVisits (old new n d : ℕ) : Type 0 where
   pub never_fall : old ≤ new
   pub few : (digits : ℕ) → n + 1 < 2 ^ digits → new ≤ old + 2 * (d + 1) * digits
@@ -83,7 +83,7 @@ module _ {I V : Type 0} (whole : I → ℤ) (post : List (IntPoint I) → Orderi
   IsSettledSo visits_before visits_after new t put root free v = (found : IsFound new t put root free v)
       × AreFewVisits visits_before visits_after (length (items t)) found.dropped
 
--- a node that is in no tree has the entry, and the entries of the tree are as they were
+-- a node that is in no tree has the entry, and the entries of the tree are unchanged
 pub record IsFresh {I V : Type 0} (old new : List (LiveEdge I V)) (ls : List Links) (root : Option NodeIndex) (t : Tree)
     (free : Option NodeIndex) (node : NodeIndex) (entry : LiveEdge I V) : Type 0 where
   pub unused : List ℕ
@@ -91,6 +91,6 @@ pub record IsFresh {I V : Type 0} (old new : List (LiveEdge I V)) (ls : List Lin
   pub there : slice_get new node.place ≡ Some entry
   pub kept : (k : ℕ) → IsIn k (items t) → slice_get new k ≡ slice_get old k
 
--- some tree stands, and some nodes may be used again
+-- a tree stands, and other nodes are reusable
 abbrev pub HasForest : List Links → Option NodeIndex → Option NodeIndex → Type 0
 HasForest ls root free = (t : Tree) × (unused : List ℕ) × IsForest ls root free t unused

@@ -10,7 +10,7 @@ abbrev pub opposite : Side → Side
 opposite Left = Right
 opposite Right = Left
 
--- links to the near node on the given side, and to the far one on the other
+-- links to `near` on the given side, and to `far` on the other side
 abbrev pub linked : Side → Option NodeIndex → Option NodeIndex → ℕ → Links
 linked Left near far height = record { left = near; right = far; height = height }
 linked Right near far height = record { left = far; right = near; height = height }
@@ -20,6 +20,6 @@ abbrev pub on : Side → Links → Option NodeIndex
 on Left links = links.left
 on Right links = links.right
 
--- the links of an unused node before the next one
+-- the links of a reusable node before the next
 abbrev pub unused_before : Option NodeIndex → Links
 unused_before next = record { left = next; right = None; height = 0 }

@@ -1,4 +1,4 @@
--- What the nodes of a tree are seen as: their links and their entries, and how often an entry was visited.
+-- The model of the nodes of a tree: their links, their entries, and the number of visits of entries.
 use Rattle.std.specs.Prelude.{◌≡◌, ℕ, ◌∷◌, [], List, Some, slice_get}
 use Rattle.overlay_geom.specs.declared.point.IntPoint.{IntPoint}
 use Rattle.overlay_scan.specs.declared.list.LiveEdge.{LiveEdge}

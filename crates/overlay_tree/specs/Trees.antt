@@ -1,4 +1,4 @@
--- Binary trees of nodes, which are named by their places in a list, and how a tree stands there.
+-- Binary trees of nodes, named by their places in a list, and their representation by links there.
 use Rattle.std.specs.Prelude.{◌≡◌, ◌⊎◌, ℕ, ◌+◌, ◌≤◌, ◌<◌, max, List, [], ◌∷◌, ◌++◌, Option, Some, None, slice_get}
 use Rattle.std.specs.Prelude.{length}
 use Rattle.overlay_tree.specs.declared.links.Links.{Links}
@@ -10,12 +10,12 @@ pub data Tree : Type 0 where
   Leaf : Tree
   Fork : Tree → ℕ → Tree → Tree
 
--- the node at the top
+-- the root node
 abbrev pub root_of : Tree → Option NodeIndex
 root_of Leaf = None
 root_of (Fork l i r) = Some (record { place = i })
 
--- its nodes in order
+-- the tree's nodes in order
 abbrev pub items : Tree → List ℕ
 items Leaf = []
 items (Fork l i r) = items l ++ i ∷ items r
@@ -24,12 +24,12 @@ abbrev pub height : Tree → ℕ
 height Leaf = 0
 height (Fork l i r) = max (height l) (height r) + 1
 
--- the first tree on the given side of the node, and the second one on the other side
+-- the first tree on the given side of the node, and the second on the other side
 abbrev pub fork_on : Side → Tree → ℕ → Tree → Tree
 fork_on Left a i b = Fork a i b
 fork_on Right a i b = Fork b i a
 
--- neither number is more than this above the other
+-- each number is at most `by` above the other
 abbrev pub DifferByAtMost : ℕ → ℕ → ℕ → Type 0
 DifferByAtMost by m n = (m ≤ n + by) × (n ≤ m + by)
 
@@ -50,7 +50,7 @@ AreDistinct (i ∷ is) = (¬ IsIn i is) × AreDistinct is
 
 -- ---- in a list of links
 
--- each node of the tree is linked to the tops of its two sides, and stores the height
+-- each node of the tree is linked to the roots of its two sides, and stores the height
 abbrev pub Stands : List Links → Tree → Type 0
 Stands ls Leaf = Unit {0}
 Stands ls (Fork l i r) = (slice_get ls i ≡ Some (record {
@@ -67,7 +67,7 @@ pub record IsTreeAt (ls : List Links) (root : Option NodeIndex) (t : Tree) : Typ
   pub distinct : AreDistinct (items t)
   pub balanced : IsHeightBalanced t
 
--- two trees stand, which with one more node between them have no node twice; their heights differ by no more than this
+-- two trees stand, and with the node between them they have no node twice; their heights differ by at most `by`
 pub record AreParts (by : ℕ) (ls : List Links) (side : Side) (near : Option NodeIndex) (i : ℕ) (far : Option NodeIndex)
     (a b : Tree) : Type 0 where
   pub near_is : near ≡ root_of a
@@ -80,30 +80,29 @@ pub record AreParts (by : ℕ) (ls : List Links) (side : Side) (near : Option No
   pub inside : i < length ls
   pub differ : DifferByAtMost by (height a) (height b)
 
--- some two trees are so
+-- two such trees exist
 abbrev pub HasParts : ℕ → List Links → Side → Option NodeIndex → ℕ → Option NodeIndex → Type 0
 HasParts by ls side near i far = (a : Tree) × (b : Tree) × AreParts by ls side near i far a b
 
--- all other links are as they were
+-- all other links are unchanged
 pub record AreKeptBut (is : List ℕ) (old new : List Links) : Type 0 where
   pub others : (k : ℕ) → ¬ IsIn k is → slice_get new k ≡ slice_get old k
   pub length_kept : length new ≡ length old
 
--- a tree with these nodes stands at the root, and of the links only those of the first nodes have changed
+-- a tree with these nodes stands at the root, and only the links of the nodes `changed` have changed
 pub record IsRebuilt (changed : List ℕ) (old new : List Links) (root : Option NodeIndex) (is : List ℕ)
     (t : Tree) : Type 0 where
   pub at_root : IsTreeAt new root t
   pub same : items t ≡ is
   pub kept : AreKeptBut changed old new
 
--- the height h of what a node with sides of these heights settles to
+-- the height h after balancing a node whose sides have heights m and n
 pub record IsHeightAfter (m n h : ℕ) : Type 0 where
   pub not_lower : max m n ≤ h
   pub not_higher : h ≤ max m n + 1
   pub level : DifferByAtMost 1 m n → h ≡ max m n + 1
 
--- in place of two trees and a node between them, another tree of the same nodes stands at the root, and no other links
--- have changed
+-- another tree of the same nodes replaces two trees and a node between them at the root; no other links have changed
 pub record IsRebalanced (old new : List Links) (root : Option NodeIndex) (side : Side) (a : Tree) (i : ℕ)
     (b : Tree) : Type 0 where
   pub tree : Tree
@@ -116,8 +115,8 @@ pub record IsTooHigh (ls : List Links) (side : Side) (near : Option NodeIndex) (
   pub parts : AreParts 2 ls side near i far a b
   pub two_higher : height a ≡ height b + 2
 
--- in place of the tree t one of these nodes stands at the root; of the links only those of the first nodes have
--- changed, and the height by at most one
+-- a tree of these nodes replaces t at the root. Only the links of the nodes `changed` have changed, and the height by
+-- at most one
 pub record IsReplaced (changed : List ℕ) (old new : List Links) (t : Tree) (root : Option NodeIndex)
     (is : List ℕ) : Type 0 where
   pub tree : Tree
@@ -130,11 +129,11 @@ pub record IsFirstTaken (old new : List Links) (t : Tree) (first : ℕ) (rest : 
   pub same : items t ≡ first ∷ others
   pub replaced : IsReplaced (items t) old new t rest others
 
--- some tree stands below the root
+-- a tree stands below the root
 abbrev pub HasTree : List Links → Option NodeIndex → Type 0
 HasTree ls root = (t : Tree) × IsTreeAt ls root t
 
--- the height that the top stores
+-- the height that the root stores
 abbrev pub height_in : Option Links → ℕ
 height_in None = 0
 height_in (Some links) = links.height
