@@ -1,4 +1,5 @@
-//! Whether as many steps of the subject, and of the clip, enter each point as leave it.
+//! Test of balanced counts: at each point, equally many steps of the subject enter and leave, and equally many of the
+//! clip.
 
 ghost use Rattle.std.specs.Prelude.{◌≡◌, ◌^◌, ◌↔◌, ◌+ℤ◌, ◌++◌, pos, map, IsTrue, IfOk, OnOk, IsOkUnless};
 ghost use Rattle.std.specs.List.Sorted.{IsPermutation};
@@ -16,8 +17,8 @@ use overlay_geom::error::OverlayError;
 use overlay_geom::number::IntNumber;
 use std::alloc::Allocator;
 
-/// Whether the counts of the edges are balanced: as many steps of the subject enter each point as leave
-/// it, and as many of the clip. The only refusal is `Memory`.
+/// Returns whether the counts of the edges are balanced: at each point, equally many steps of the subject enter and
+/// leave, and equally many of the clip. The only refusal is `Memory`.
 pub fn is_balanced<I: IntNumber, C: EdgeCount, A: Allocator>(
     alloc: A,
     edges: &[CountedEdge<I, C>],
@@ -31,7 +32,8 @@ pub fn is_balanced<I: IntNumber, C: EdgeCount, A: Allocator>(
     Ok(cancel_out(&ends))
 }
 
-/// The ends of all edges with their counts: first the smaller ones, which a sort finds in order where the edges are.
+/// Returns the ends of all edges with their counts: first the smaller ends, which are already sorted where the edges
+/// are.
 fn counted_ends<I: IntNumber, C: EdgeCount, A: Allocator>(
     alloc: A,
     edges: &[CountedEdge<I, C>],
@@ -88,7 +90,7 @@ fn push_stops<I: IntNumber, C: EdgeCount, A: Allocator>(
     Ok(())
 }
 
-/// Whether the counts of the ends at each point add up to 0.
+/// Returns whether the counts of the ends at each point add up to 0.
 fn cancel_out<I: IntNumber>(ends: &[CountedEnd<I>]) -> bool
     requires { AreSummable (plain_ends I.whole ends.now) }
     ensures { IsTrue result ↔ CancelOut (plain_ends I.whole ends.now) }
@@ -111,14 +113,14 @@ fn cancel_out<I: IntNumber>(ends: &[CountedEnd<I>]) -> bool
     is_zero(sum)
 }
 
-/// Whether both sums are 0.
+/// Returns whether both sums are 0.
 fn is_zero(sum: Windings) -> bool
     ensures { IsTrue result ↔ (sum.subj ≡ pos 0) × (sum.clip ≡ pos 0) }
 {
     sum.subj == 0 && sum.clip == 0
 }
 
-/// The sums with the counts of one end more.
+/// Adds the counts of an end to the sums.
 fn with_end<I>(sum: Windings, end: &CountedEnd<I>) -> Windings
     requires subj { Within (2 ^ 33) (sum.subj +ℤ end.now.subj) }
     requires clip { Within (2 ^ 33) (sum.clip +ℤ end.now.clip) }

@@ -1,4 +1,4 @@
-//! The edges of a list that may meet another one elsewhere than in ends, by what is known of the list before.
+//! The edges of a list that may meet other edges elsewhere than in ends, found by comparison with the list before.
 
 ghost use Rattle.std.specs.Prelude.{◌≡◌, ◌≤◌, ◌<◌, ◌+◌, length, All, AllPairs, IsTrue, IfOk, IfSome, OnOk, IsOkUnless};
 ghost use Rattle.overlay_plane.specs.Carried.{edges_in};
@@ -17,19 +17,19 @@ use overlay_geom::error::OverlayError;
 use overlay_geom::number::IntNumber;
 use std::alloc::Allocator;
 
-/// A list of edges, and which of them meet another one elsewhere than in ends.
+/// A list of edges, and marks of those that meet other edges elsewhere than in ends.
 #[derive(Drop)]
 pub(crate) struct Settling<I: IntNumber, C: EdgeCount, A: Allocator> {
     /// The edges.
     pub edges: Content<I, C, A>,
-    /// Of each one, whether it is open: two edges of which neither is meet in ends alone.
+    /// For each edge, whether it is open. Two edges that are not open meet in ends alone.
     pub is_open: Vec<bool, A>,
 }
 
-/// The edges of a list that may meet another one elsewhere than in ends: any two others meet in ends alone.
+/// The edges of a list that may meet other edges elsewhere than in ends. Any two edges outside it meet in ends alone.
 #[derive(Drop)]
 pub(crate) struct Changed<I: Copy, C: Copy, A: Allocator> {
-    /// Their places, which ascend.
+    /// The places of these edges, in ascending order.
     pub places: Vec<usize, A>,
     /// The edges at these places.
     pub edges: Vec<CountedEdge<I, C>, A>,
@@ -37,10 +37,9 @@ pub(crate) struct Changed<I: Copy, C: Copy, A: Allocator> {
     pub strips: Strips<I, A>,
 }
 
-/// The edges of a list that may meet another one elsewhere than in ends, by what is known of the list before it: all
-/// but those whose ends are those of an edge before that is not open. None where there was no list before, or where
-/// they are more than half of the edges, so that all are as well looked at. The edges ascend. The only refusal is
-/// `Memory`.
+/// Returns the edges of a list that may meet other edges elsewhere than in ends. It leaves out each edge with the ends
+/// of an edge before that is not open. The result is None without a list before, or where more than half of the edges
+/// have changed; then all edges are compared. The edges ascend. The only refusal is `Memory`.
 pub(crate) fn changes_since<I: IntNumber, C: EdgeCount, A: Allocator + Clone>(
     alloc: A,
     edges: &[CountedEdge<I, C>],
@@ -69,8 +68,8 @@ pub(crate) fn changes_since<I: IntNumber, C: EdgeCount, A: Allocator + Clone>(
     }))
 }
 
-/// The places of the edges but of those whose ends are those of an edge of the list before that is not open. It goes
-/// through both lists, which ascend.
+/// Returns the places of the edges, without those with the ends of an edge of the list before that is not open. It
+/// walks through both lists, which ascend.
 fn changed_places<I: IntNumber, C: EdgeCount, A: Allocator>(
     alloc: A,
     edges: &[CountedEdge<I, C>],
@@ -94,8 +93,8 @@ fn changed_places<I: IntNumber, C: EdgeCount, A: Allocator>(
     Ok(places)
 }
 
-/// A place from the given one on: that of the first edge from there on that does not come before e, or one behind all
-/// of them. That it is the first one is not promised: `was_closed` tests what stands there.
+/// Returns the place of the first edge from `from` on that does not come before e, or the end of the list. That it is
+/// the first is not promised: `was_closed` tests the edge there.
 fn place_from<I: IntNumber, C: EdgeCount>(
     edges: &[CountedEdge<I, C>],
     from: usize,
@@ -110,8 +109,8 @@ fn place_from<I: IntNumber, C: EdgeCount>(
     at
 }
 
-/// Whether an edge stands at the place of the list before, has the ends of e, and is not open. Only that it is so where
-/// the answer is yes is promised: an edge taken for a changed one costs time alone.
+/// Returns whether the list before has an edge at the place, with the ends of e, that is not open. Only a true answer
+/// is promised: an edge wrongly taken as changed only costs time.
 fn was_closed<I: IntNumber, C: EdgeCount>(
     before: &[CountedEdge<I, C>],
     is_open: &[bool],
@@ -128,7 +127,7 @@ fn was_closed<I: IntNumber, C: EdgeCount>(
     !is_open[at] && compare_edges(&before[at], e).is_eq()
 }
 
-/// The edges at the places, in their order.
+/// Returns the edges at the places, in their order.
 fn edges_at<I: IntNumber, C: EdgeCount, A: Allocator>(
     alloc: A,
     edges: &[CountedEdge<I, C>],
@@ -146,8 +145,8 @@ fn edges_at<I: IntNumber, C: EdgeCount, A: Allocator>(
     Ok(found)
 }
 
-/// Finds the places of the later edges that the edge at place i may meet elsewhere than in ends. Where the changed ones
-/// are known, an edge that is none of them is held against them alone. The edges ascend.
+/// Finds the places of the later edges that the edge at place i may meet elsewhere than in ends. Where the changed
+/// edges are known, an unchanged edge is compared with these alone. The edges ascend.
 pub(crate) fn find_open<I: IntNumber, C: EdgeCount, A: Allocator>(
     near: &mut Vec<usize, A>,
     edges: &[CountedEdge<I, C>],
@@ -181,7 +180,7 @@ pub(crate) fn find_open<I: IntNumber, C: EdgeCount, A: Allocator>(
     }
 }
 
-/// Where in an ascending list the first number from i on stands, or how many numbers there are.
+/// Returns the place of the first number in an ascending list that is at least i, or the length of the list.
 fn first_from(places: &[usize], i: usize) -> usize
     requires { AllPairs (λ j k. j < k) places.now }
     ensures { IsFirstFrom places.now i result }
@@ -189,7 +188,7 @@ fn first_from(places: &[usize], i: usize) -> usize
     places.partition_point(|place| *place < i)
 }
 
-/// Puts in the place of each number the place that stands at it.
+/// Replaces each number in `near` by the entry of `places` at that number.
 fn put_places<A: Allocator>(near: &mut Vec<usize, A>, places: &[usize])
     requires { All (λ k. k < length places.now) near.old.items }
     ensures { ArePlacesAt places.now near.old.items near.new.items }

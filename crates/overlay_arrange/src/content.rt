@@ -25,14 +25,14 @@ use overlay_geom::number::IntNumber;
 use std::alloc::Allocator;
 use std::marker::Model;
 
-// The weight of a content stays below this.
+// Upper bound of the weight of a content, which it does not reach.
 const WEIGHT_LIMIT: u32 = 1 << 31;
 
 /// Counted edges in the coordinate range that weigh less than 2^31.
 #[derive(Drop)]
 pub struct Content<I: IntNumber, C: EdgeCount, A: Allocator> {
     edges: Vec<CountedEdge<I, C>, A>,
-    // the counts without sign, summed
+    // the sum of the absolute counts
     weight: u32,
 }
 
@@ -49,7 +49,7 @@ impl<I: IntNumber, C: EdgeCount, A: Allocator> Model for Content<I, C, A> {
 }
 
 impl<I: IntNumber, C: EdgeCount, A: Allocator> Content<I, C, A> {
-    /// No edges, with room for `capacity` of them.
+    /// Makes a content without edges, with room for `capacity` edges.
     pub fn with_capacity(alloc: A, capacity: usize) -> Result<Self, OverlayError>
         ensures empty { IfOk result (λ c. c ≡ []) }
         ensures err { IsOkUnless result OverlayError.Memory }
@@ -68,7 +68,7 @@ impl<I: IntNumber, C: EdgeCount, A: Allocator> Content<I, C, A> {
         self.weight = 0;
     }
 
-    /// How many edges there are.
+    /// Returns the number of edges.
     pub fn len(&self) -> usize
         ensures { result ≡ length self.now }
     {
@@ -83,12 +83,12 @@ impl<I: IntNumber, C: EdgeCount, A: Allocator> Content<I, C, A> {
         self.weight = weight_of(&self.edges);
     }
 
-    /// The allocator of the edges.
+    /// Returns the allocator of the edges.
     pub fn allocator(&self) -> &A {
         self.edges.allocator()
     }
 
-    /// Adds an edge, or, where it is refused, none. Its counts weigh less than 2^31.
+    /// Adds an edge, or nothing on a refusal. Its counts weigh less than 2^31.
     pub fn push(&mut self, edge: CountedEdge<I, C>) -> Result<(), OverlayError>
         requires held { IsHeld I.limit (plain_edge I.whole C.counts edge) }
         requires light { weight_of_counts (C.counts edge.count) < 2 ^ 31 }
@@ -107,8 +107,8 @@ impl<I: IntNumber, C: EdgeCount, A: Allocator> Content<I, C, A> {
         Ok(())
     }
 
-    /// Adds an edge that carries the reversed of what this one does, or, where it is refused, none, and
-    /// then the store is not called. Its counts weigh less than 2^31.
+    /// Adds an edge that carries the reverse of the value of `edge`. On a refusal it adds nothing and does not call the
+    /// store. The counts weigh less than 2^31.
     pub fn push_reversed(
         &mut self,
         edge: CountedEdge<I, C>,
@@ -140,8 +140,8 @@ impl<I: IntNumber, C: EdgeCount, A: Allocator> Content<I, C, A> {
         Ok(())
     }
 
-    /// Makes equal edges one with their counts summed and their data merged, drops those without
-    /// counts, and sorts the rest. If memory is refused the content is left open.
+    /// Merges equal edges: sums their counts and merges their data. Then it drops edges without counts and sorts the
+    /// rest. If memory is refused the content is left open.
     pub fn merge(&mut self, store: &mut C::Store) -> Result<(), OverlayError>
         ensures ok { OnOk result (IsMerged (edges_in self.old) (edges_in self.new)) }
         ensures carried { OnOk result (CarriesMerged C.merges self.old self.new) }
@@ -154,7 +154,7 @@ impl<I: IntNumber, C: EdgeCount, A: Allocator> Content<I, C, A> {
         merged
     }
 
-    /// The edges, each from its smaller to its larger end, in the coordinate range.
+    /// Returns the edges, each from its smaller to its larger end, in the coordinate range.
     pub fn edges(&self) -> &[CountedEdge<I, C>]
         ensures edges { carried_edges I.whole C.counts result.now ≡ self.now }
         ensures plain { plain_edges I.whole C.counts result.now ≡ edges_in self.now }
@@ -171,7 +171,7 @@ impl<I: IntNumber, C: EdgeCount, A: Allocator> Content<I, C, A> {
         let _ = self.edges();
     }
 
-    /// The graph of the edges under a fill rule. They are an arrangement. The only refusal is `Memory`.
+    /// Makes the graph of the edges under a fill rule. The edges are an arrangement. The only refusal is `Memory`.
     pub fn graph(&self, fill_rule: FillRule) -> Result<Graph<I, C, A>, OverlayError>
     where
         A: Clone,
@@ -183,8 +183,8 @@ impl<I: IntNumber, C: EdgeCount, A: Allocator> Content<I, C, A> {
         Graph::new(self.edges.allocator().clone()?, &self.edges, fill_rule)
     }
 
-    /// The same where the counts are balanced, as those of closed contours and what is arranged of them are: as many
-    /// steps enter each point as leave it, of the subject and of the clip. That is not tested. The only refusal is
+    /// Makes the graph of the edges with balanced counts, without testing the balance. The counts of closed contours
+    /// and of their arrangements are balanced: at each point equally many steps enter and leave. The only refusal is
     /// `Memory`.
     pub fn graph_of_balanced(&self, fill_rule: FillRule) -> Result<Graph<I, C, A>, OverlayError>
     where

@@ -1,67 +1,66 @@
-//! What an edge carries: how often paths pass it, and perhaps data.
+//! Values that edges carry: counts of how often paths pass the edge, and perhaps data.
 
 ghost use Rattle.std.specs.Prelude.{◌≡◌, ◌+◌, ◌^◌, ◌<◌};
 ghost use Rattle.overlay_geom.specs.Counts.{Counts, joined_counts, reversed_counts, are_zero};
 ghost use Rattle.overlay_geom.specs.Counts.{weight_of_counts};
 
-/// What an edge carries through an arrangement: how often paths pass it from its smaller to its
-/// larger end, less how often back, and perhaps data.
+/// The value that an edge carries through an arrangement. It counts how often paths pass the edge from its smaller to
+/// its larger end, minus how often they pass it back. It may hold data too.
 ///
-/// Where equal edges are merged their counts are summed; a piece that runs against its edge has
-/// the counts with the other sign. Data is merged, split and reversed with them, as a type says
-/// by `merges`, `splits` and `reverses`; `Content::arrange` says by these what each edge carries.
+/// Where equal edges are merged their counts are summed. A piece that runs against its edge has the counts with
+/// opposite signs. Data is merged, split and reversed with them, as a type tells by `merges`, `splits` and `reverses`.
+/// By these `Content::arrange` tells the value of each edge.
 pub trait EdgeCount: Copy {
-    /// What the data needs beside the edges; nothing for counts alone.
+    /// A store that the data needs beside the edges; `()` for counts alone.
     type Store;
 
-    // How one call of `merged`, `split` or `reversed` may leave the store: as it was, if a type says nothing
-    // else.
+    // How a call of `merged`, `split` or `reversed` may change the store; by default not at all.
     ghost writes: { Self.Store → Self.Store → Type 0 } = { λ s t. t ≡ s };
 
     // The counts as whole numbers.
     ghost counts: { Self → Counts };
 
-    // What merging two equal edges may make of what they carry.
+    // Possible results of merging the values of two equal edges.
     ghost merges: { Self → Self → Self → Type 0 };
 
-    // What a piece of an edge that is cut may carry.
+    // Possible values of a piece of an edge that is cut.
     ghost splits: { Self → Self → Type 0 };
 
-    // What a piece that runs against its edge may carry.
+    // Possible values of a piece that runs against its edge.
     ghost reverses: { Self → Self → Type 0 };
 
     /// Returns whether no path passes the edge.
     fn is_nothing(self) -> bool
         ensures { result ≡ are_zero (counts self) };
 
-    /// Returns how much the counts weigh: the counts without sign, and one for each direction of a
-    /// string, summed. They weigh less than 2^31.
+    /// Returns the weight of the counts: the sum of their absolute values, and 1 for each direction of a string. They
+    /// weigh less than 2^31.
     fn weight(self) -> u32
         requires { weight_of_counts (counts self) < 2 ^ 31 }
         ensures { result ≡ weight_of_counts (counts self) };
 
-    /// Returns how often the subject passes the edge.
+    /// Returns the number of times that the subject passes the edge.
     fn subj(self) -> i32
         ensures { result ≡ (counts self).subj };
 
-    /// Returns how often the clip passes the edge.
+    /// Returns the number of times that the clip passes the edge.
     fn clip(self) -> i32
         ensures { result ≡ (counts self).clip };
 
-    /// Returns what two equal edges carry together. They weigh less than 2^31 together.
+    /// Returns the merged value of two equal edges. Together they weigh less than 2^31.
     fn merged(self, other: Self, store: &mut Self::Store) -> Self
         requires { weight_of_counts (counts self) + weight_of_counts (counts other) < 2 ^ 31 }
         ensures counts { counts result ≡ joined_counts (counts self) (counts other) }
         ensures merges { merges self other result }
         ensures writes { writes store.old store.new };
 
-    /// Returns what a piece of an edge carries that is cut into several.
+    /// Returns the value of a piece of an edge that is cut into several pieces.
     fn split(self, store: &mut Self::Store) -> Self
         ensures counts { counts result ≡ counts self }
         ensures splits { splits self result }
         ensures writes { writes store.old store.new };
 
-    /// Returns what a piece carries that runs against its edge. The counts weigh less than 2^31.
+    /// Returns the value of a piece that runs against its edge. The counts weigh less than 2^31.
     fn reversed(self, store: &mut Self::Store) -> Self
         requires { weight_of_counts (counts self) < 2 ^ 31 }
         ensures counts { counts result ≡ reversed_counts (counts self) }
@@ -69,13 +68,13 @@ pub trait EdgeCount: Copy {
         ensures writes { writes store.old store.new };
 }
 
-/// How often the subject, and the clip, pass an edge from its smaller to its larger end, less how
-/// often back.
+/// The number of times that the subject, and the clip, pass an edge from its smaller to its larger end, minus the
+/// number of times back.
 #[derive(Debug, Clone, Copy, PartialEq, Eq)]
 pub struct ShapeCountBoolean {
-    /// How often the subject passes the edge.
+    /// The number for the subject.
     pub subj: i32,
-    /// How often the clip passes the edge.
+    /// The number for the clip.
     pub clip: i32,
 }
 

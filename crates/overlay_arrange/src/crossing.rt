@@ -1,4 +1,4 @@
-//! The whole points through which two edges lead one another.
+//! The whole points through which two edges lead each other.
 
 ghost use Rattle.std.specs.Prelude.{◌≡◌, ◌↔◌, ◌∷◌, [], filter, pos, nat_abs, IsTrue, OnOk, IsOkUnless};
 ghost use Rattle.overlay_geom.specs.Numbers.{Within};
@@ -22,9 +22,8 @@ use overlay_geom::point::IntPoint;
 use overlay_geom::vector::cross_at;
 use std::alloc::Allocator;
 
-/// Adds the whole points through which the edges e at place i and f at place j lead one another: the
-/// ends of each on the other where the two lie on one line, and where they cross the point nearest
-/// the crossing.
+/// Adds the whole points through which the edges e at place i and f at place j lead each other. Collinear edges give
+/// the ends of each on the other; crossing edges give the point nearest to the crossing.
 pub(crate) fn push_meetings<I: IntNumber, C: EdgeCount, A: Allocator>(
     meetings: &mut Vec<Meeting<I>, A>,
     i: usize,
@@ -45,7 +44,7 @@ pub(crate) fn push_meetings<I: IntNumber, C: EdgeCount, A: Allocator>(
     }
 }
 
-/// Adds the ends of each of the two edges that lie on the other one. They lie on one line.
+/// Adds the ends of each of two collinear edges that lie on the other edge.
 fn push_ends<I: IntNumber, C: EdgeCount, A: Allocator>(
     meetings: &mut Vec<Meeting<I>, A>,
     i: usize,
@@ -65,7 +64,7 @@ fn push_ends<I: IntNumber, C: EdgeCount, A: Allocator>(
     push_ends_between(meetings, j, f, e)
 }
 
-/// Adds the whole point nearest the one in which the two edges cross, if e goes across f's line too.
+/// Adds the whole point nearest to the crossing of the two edges, if e also goes across f's line.
 fn push_crossing<I: IntNumber, C: EdgeCount, A: Allocator>(
     meetings: &mut Vec<Meeting<I>, A>,
     i: usize,
@@ -89,8 +88,8 @@ fn push_crossing<I: IntNumber, C: EdgeCount, A: Allocator>(
     Ok(())
 }
 
-/// The whole point nearest the one in which the two edges cross: an end of the one on the line of
-/// the other one, where there is one.
+/// Returns the whole point nearest to the crossing of the two edges. If an end of one lies on the other's line, it is
+/// that end.
 fn common_point<I: IntNumber, C: EdgeCount>(
     e: &CountedEdge<I, C>,
     f: &CountedEdge<I, C>,
@@ -113,7 +112,7 @@ fn common_point<I: IntNumber, C: EdgeCount>(
     }
 }
 
-/// Whether the point lies on the edge's line.
+/// Returns whether the point lies on the edge's line.
 pub(crate) fn is_on_line<I: IntNumber, C: EdgeCount>(e: &CountedEdge<I, C>, v: IntPoint<I>) -> bool
     requires edge { IsHeld I.limit (plain_edge I.whole C.counts e.now) }
     requires point { InRange I.limit (plain_point I.whole v) }
@@ -123,7 +122,8 @@ pub(crate) fn is_on_line<I: IntNumber, C: EdgeCount>(e: &CountedEdge<I, C>, v: I
     cross_at(e.a, e.b, v).sign().is_eq()
 }
 
-/// The whole point nearest the one in which e crosses f's line: an end of e where it is on that line.
+/// Returns the whole point nearest to the point where e crosses f's line. If an end of e lies on that line, it is that
+/// end.
 fn crossing<I: IntNumber, C: EdgeCount>(e: &CountedEdge<I, C>, f: &CountedEdge<I, C>) -> IntPoint<I>
     requires one { IsHeld I.limit (plain_edge I.whole C.counts e.now) }
     requires other { IsHeld I.limit (plain_edge I.whole C.counts f.now) }
@@ -146,7 +146,7 @@ fn crossing<I: IntNumber, C: EdgeCount>(e: &CountedEdge<I, C>, f: &CountedEdge<I
     }
 }
 
-/// How far the number is from 0.
+/// Returns the absolute value of the number.
 fn magnitude<W: WideIntNumber>(number: W) -> W
     requires { Within W.limit (W.whole number) }
     ensures value { W.whole result ≡ pos (nat_abs (W.whole number)) }
@@ -159,7 +159,7 @@ fn magnitude<W: WideIntNumber>(number: W) -> W
     }
 }
 
-/// Adds the ends of f that lie between those of e.
+/// Adds the ends of f that lie between the ends of e.
 fn push_ends_between<I: IntNumber, C: EdgeCount, A: Allocator>(
     meetings: &mut Vec<Meeting<I>, A>,
     i: usize,
@@ -211,14 +211,14 @@ fn push_inside<I: IntNumber, C: EdgeCount, A: Allocator>(
     Ok(())
 }
 
-/// Whether the point is an end of the edge.
+/// Returns whether the point is an end of the edge.
 pub(crate) fn is_end_of<I: IntNumber, C: EdgeCount>(e: &CountedEdge<I, C>, v: IntPoint<I>) -> bool
     ensures { IsTrue result ↔ IsEndOf (plain_edge I.whole C.counts e.now) (plain_point I.whole v) }
 {
     is_same(v, e.a) || is_same(v, e.b)
 }
 
-/// Whether the point is no smaller than the edge's smaller end and no larger than its larger one.
+/// Returns whether the point is at least the edge's smaller end and at most its larger end.
 fn is_between<I: IntNumber, C: EdgeCount>(e: &CountedEdge<I, C>, v: IntPoint<I>) -> bool
     ensures { result ≡ is_between (ends_of (plain_edge I.whole C.counts e.now)) (plain_point I.whole v) }
 {

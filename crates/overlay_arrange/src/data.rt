@@ -7,50 +7,49 @@ ghost use Rattle.overlay_arrange.specs.declared.count.ShapeCountBoolean.{ShapeCo
 
 use crate::count::{EdgeCount, ShapeCountBoolean};
 
-/// Two equal edges that become one: their counts and their data.
+/// The counts and the data of two equal edges that are merged.
 #[derive(Clone, Copy)]
 pub struct EdgeDataMerge<C, D> {
-    /// How often paths pass the one edge.
+    /// The counts of the left edge.
     pub lhs_count: C,
-    /// How often paths pass the other edge.
+    /// The counts of the right edge.
     pub rhs_count: C,
-    /// The data of the one edge.
+    /// The data of the left edge.
     pub lhs_data: D,
-    /// The data of the other edge.
+    /// The data of the right edge.
     pub rhs_data: D,
 }
 
-/// Data that an edge carries through an overlay, as a colour or the number of a street.
+/// Data that an edge carries through an overlay, such as a colour or the number of a street.
 ///
-/// Where an edge with data is cut into two pieces or more, each piece has the `split` of its data,
-/// and a piece that runs against its edge the `reversed` of that; where equal edges are merged,
-/// `merge` gives the new data, of two at a time, in an order that is left open. An implementation
-/// says what each of the three may answer, and how it may leave the store.
+/// Where an edge is cut into two or more pieces, each piece has the `split` of its data. A piece that runs against its
+/// edge has the `reversed` of that. Where equal edges are merged, `merge` gives the new data of two at a time, in an
+/// order that is left open. An implementation tells the possible answers of the three, and how they may change the
+/// store.
 pub trait OverlayEdgeData: Copy + PartialEq {
-    /// What the three need beside the data, as a table in which new data is entered; `()` if
-    /// they need nothing.
+    /// A store that the three functions need beside the data, such as a table for new data; `()` if they need none.
     type Store: Default + Drop;
 
-    // How one call of the three may leave the store: as it was, if an implementation says nothing else.
+    // How a call of the three may change the store; by default not at all.
     ghost writes: { Self.Store → Self.Store → Type 0 } = { λ s t. t ≡ s };
 
-    // What merging may make of the counts and data of two equal edges.
+    // Possible results of merging the counts and data of two equal edges.
     ghost merges: { ShapeCountBoolean → Self → ShapeCountBoolean → Self → Self → Type 0 };
 
-    // What the data of a piece may be: the edge's, if an implementation says nothing else.
+    // Possible data of a piece; by default the data of the edge.
     ghost splits: { Self → Self → Type 0 } = { λ d p. p ≡ d };
 
-    // What the data of a piece that runs against its edge may be: likewise.
+    // Possible data of a piece that runs against its edge; by default the data of the edge.
     ghost reverses: { Self → Self → Type 0 } = { λ d t. t ≡ d };
 
-    /// Returns the data of the edge that two equal edges become. They weigh less than 2^31 together.
+    /// Returns the data of the merged edge of two equal edges. Together they weigh less than 2^31.
     fn merge(merge: EdgeDataMerge<ShapeCountBoolean, Self>, store: &mut Self::Store) -> Self
         requires { weight_of_counts (boolean_counts merge.lhs_count)
             + weight_of_counts (boolean_counts merge.rhs_count) < 2 ^ 31 }
         ensures merges { merges merge.lhs_count merge.lhs_data merge.rhs_count merge.rhs_data result }
         ensures writes { writes store.old store.new };
 
-    /// Returns the data of a piece of an edge that is cut into several.
+    /// Returns the data of a piece of an edge that is cut into several pieces.
     fn split(self, store: &mut Self::Store) -> Self
         ensures splits { splits self result }
         ensures writes { writes store.old store.new };
@@ -80,12 +79,12 @@ impl OverlayEdgeData for () {
     fn reversed(self, _store: &mut ()) {}
 }
 
-/// How often the subject, and the clip, pass an edge, and the data of the edge.
+/// The counts of an edge for the subject and the clip, and the data of the edge.
 #[derive(Clone, Copy)]
 pub struct CountWithData<D> {
-    /// How often the subject, and the clip, pass the edge.
+    /// The counts.
     pub count: ShapeCountBoolean,
-    /// What the edge carries.
+    /// The data.
     pub edge_data: D,
 }
 

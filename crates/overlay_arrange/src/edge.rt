@@ -9,18 +9,18 @@ use overlay_geom::number::IntNumber;
 use overlay_geom::point::IntPoint;
 use std::cmp::Ordering;
 
-/// An edge from its smaller to its larger end, and what it carries.
+/// An edge from its smaller to its larger end, and the value that it carries.
 #[derive(Debug, Clone, Copy, PartialEq, Eq)]
 pub struct CountedEdge<I, C> {
-    /// Its smaller end, by x and then by y.
+    /// The smaller end, by x and then by y.
     pub a: IntPoint<I>,
-    /// Its larger end.
+    /// The larger end.
     pub b: IntPoint<I>,
-    /// How often paths pass it from a to b, less how often back, and perhaps data.
+    /// The counts, and perhaps data: how often paths pass the edge from a to b, minus how often they pass it back.
     pub count: C,
 }
 
-/// How two edges compare: by their smaller ends, then by their larger ones.
+/// Compares two edges: by their smaller ends, then by their larger ends.
 pub fn compare_edges<I: IntNumber, C: EdgeCount>(
     e: &CountedEdge<I, C>,
     f: &CountedEdge<I, C>,

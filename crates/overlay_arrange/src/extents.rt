@@ -1,4 +1,4 @@
-//! Between which heights and which places edges or points lie: a box in the order of their places.
+//! Boxes of edges and points: a range of y-coordinates and a range of places in the list.
 
 ghost use Rattle.std.specs.Prelude.{◌≡◌, ◌↔◌, int_lt, cond, IsTrue};
 ghost use Rattle.overlay_geom.specs.Points.{plain_point};
@@ -10,12 +10,12 @@ use crate::edge::CountedEdge;
 use overlay_geom::number::IntNumber;
 use overlay_geom::point::IntPoint;
 
-/// The least and the greatest height of edges or points, and the first and the last one of their places.
+/// A box of edges or points: the range of their y-coordinates, and the range of their places in a list.
 #[derive(Clone, Copy)]
 pub(crate) struct Extent<I> {
-    /// The least height.
+    /// The least y-coordinate.
     pub low: I,
-    /// The greatest height.
+    /// The greatest y-coordinate.
     pub high: I,
     /// The first place.
     pub first: usize,
@@ -23,7 +23,7 @@ pub(crate) struct Extent<I> {
     pub last: usize,
 }
 
-/// The extent of the edge at a place.
+/// Returns the box of the edge at a place.
 pub(crate) fn extent_of<I: IntNumber, C: EdgeCount>(
     e: &CountedEdge<I, C>,
     place: usize,
@@ -39,7 +39,7 @@ pub(crate) fn extent_of<I: IntNumber, C: EdgeCount>(
     }
 }
 
-/// The extent of the point at a place.
+/// Returns the box of the point at a place.
 pub(crate) fn extent_of_point<I: IntNumber>(v: IntPoint<I>, place: usize) -> Extent<I>
     ensures { plain_extent I.whole result ≡ extent_of_point (plain_point I.whole v) place }
 {
@@ -51,7 +51,7 @@ pub(crate) fn extent_of_point<I: IntNumber>(v: IntPoint<I>, place: usize) -> Ext
     }
 }
 
-/// The least extent of all that has the one or the other one.
+/// Returns the least box that encloses both.
 pub(crate) fn joined<I: IntNumber>(s: Extent<I>, t: Extent<I>) -> Extent<I>
     ensures first { Encloses (plain_extent I.whole result) (plain_extent I.whole s) }
     ensures second { Encloses (plain_extent I.whole result) (plain_extent I.whole t) }
@@ -64,21 +64,21 @@ pub(crate) fn joined<I: IntNumber>(s: Extent<I>, t: Extent<I>) -> Extent<I>
     }
 }
 
-/// Whether the one lies wholly below or wholly before the other one.
+/// Returns whether the boxes share no height or no place.
 pub(crate) fn is_apart<I: IntNumber>(s: Extent<I>, t: Extent<I>) -> bool
     ensures { IsTrue result ↔ IsApart (plain_extent I.whole s) (plain_extent I.whole t) }
 {
     is_less(s.high, t.low) || is_less(t.high, s.low) || s.last < t.first || t.last < s.first
 }
 
-/// Whether the heights of the one lie wholly below those of the other one.
+/// Returns whether s lies wholly below t.
 pub(crate) fn is_under<I: IntNumber>(s: Extent<I>, t: Extent<I>) -> bool
     ensures { result ≡ int_lt (I.whole s.high) (I.whole t.low) }
 {
     is_less(s.high, t.low)
 }
 
-/// The lesser and the greater one of two numbers.
+/// Returns the two numbers, the lesser first.
 fn ordered<I: IntNumber>(y: I, z: I) -> (I, I)
     ensures low { I.whole result.0 ≡ cond (int_lt (I.whole y) (I.whole z)) (I.whole y) (I.whole z) }
     ensures high { I.whole result.1 ≡ cond (int_lt (I.whole y) (I.whole z)) (I.whole z) (I.whole y) }
@@ -86,7 +86,7 @@ fn ordered<I: IntNumber>(y: I, z: I) -> (I, I)
     if is_less(y, z) { (y, z) } else { (z, y) }
 }
 
-/// Whether the first number is less than the second one.
+/// Returns whether y is less than z.
 pub(crate) fn is_less<I: IntNumber>(y: I, z: I) -> bool
     ensures { result ≡ int_lt (I.whole y) (I.whole z) }
 {

@@ -22,14 +22,14 @@ use overlay_geom::number::IntNumber;
 use overlay_tree::either::EitherScan;
 use std::alloc::Allocator;
 
-// Where so many edges are live at once, by a sample, a tree is the quicker one: in a list an edge that is put in moves
-// half of them.
+// Number of edges that are live at once, estimated by a sample, from which on a tree is faster. An insert into a list
+// moves half of its edges.
 const MANY_LIVE: usize = 2_000;
-// So many edges are the sample.
+// Size of the sample.
 const SAMPLES: usize = 256;
 
-/// From how many edges on live ones are to be kept in a tree: from none on where many are live at once, and else at no
-/// number. An edge is live for as long as its run is, so runs are as long as many are live, one with another.
+/// Returns the number of edges from which on live edges are kept in a tree: 0 where many are live at once, else
+/// `usize::MAX`. An edge is live during its run, so the mean length of runs is the mean number of live edges.
 pub(crate) fn tree_from<I: IntNumber, C: EdgeCount>(edges: &[CountedEdge<I, C>]) -> usize
     requires content { IsContent I.limit (plain_edges I.whole C.counts edges.now) }
     requires ascending { IsAscending (plain_edges I.whole C.counts edges.now) }
@@ -41,9 +41,8 @@ pub(crate) fn tree_from<I: IntNumber, C: EdgeCount>(edges: &[CountedEdge<I, C>])
     }
 }
 
-/// The filled sides of every edge of an arrangement, in the order of the edges. The edges that are live are kept in a
-/// tree where there are `tree_from` edges or more, and else in a list; the answer is the same. The only refusal is
-/// `Memory`.
+/// Returns the filled sides of every edge of an arrangement, in the order of the edges. With `tree_from` or more edges
+/// the live edges are kept in a tree, else in a list; the answer does not depend on it. The only refusal is `Memory`.
 pub fn fills_with_trees_from<I: IntNumber, C: EdgeCount, A: Allocator + Clone>(
     alloc: A,
     edges: &[CountedEdge<I, C>],
@@ -61,12 +60,13 @@ pub fn fills_with_trees_from<I: IntNumber, C: EdgeCount, A: Allocator + Clone>(
     if balanced {
         fills_of_balanced(alloc, edges, rule, tree_from)
     } else {
-        // What edges carry may have any counts, and then no sweep tells the winding below an edge.
+        // Edges may carry any counts; without balance no sweep tells the winding below an edge.
         fills_by_rays(alloc, edges, rule)
     }
 }
 
-/// The same of edges whose counts are balanced, as those of closed contours are: that is not tested.
+/// Returns the filled sides of edges with balanced counts, such as those of closed contours. It does not test the
+/// balance.
 pub fn fills_of_balanced<I: IntNumber, C: EdgeCount, A: Allocator + Clone>(
     alloc: A,
     edges: &[CountedEdge<I, C>],
@@ -85,7 +85,7 @@ pub fn fills_of_balanced<I: IntNumber, C: EdgeCount, A: Allocator + Clone>(
     fills_by_sweep(alloc, &mut scan, edges, rule)
 }
 
-/// No live edges yet, in a tree where there are `tree_from` edges or more, and else in a list.
+/// Makes a scan without edges: a tree where there are `tree_from` or more edges, else a list.
 fn scan_for<I: IntNumber, C: EdgeCount, A: Allocator>(
     alloc: A,
     edges: &[CountedEdge<I, C>],

@@ -1,4 +1,4 @@
-//! The filled sides of an edge by a ray straight down from its midpoint, which counts the edges below.
+//! The filled sides of an edge, by a ray straight down from its midpoint that counts the edges below.
 
 ghost use Rattle.std.specs.Prelude.{◌≡◌, ◌&&◌, pos, ◌*ℤ◌, int_lt, int_le, map, IfOk, IsOkUnless};
 ghost use Rattle.overlay_geom.specs.Plane.{midpoint, side, is_strictly_below};
@@ -16,8 +16,8 @@ use overlay_geom::number::{IntNumber, WideIntNumber};
 use overlay_geom::vector::cross_at;
 use std::alloc::Allocator;
 
-/// The filled sides of every edge, in the order of the edges, be their counts balanced or not. The only
-/// refusal is `Memory`.
+/// Returns the filled sides of every edge, in the order of the edges, with balanced counts or not. The only refusal is
+/// `Memory`.
 pub(crate) fn fills_by_rays<I: IntNumber, C: EdgeCount, A: Allocator>(
     alloc: A,
     edges: &[CountedEdge<I, C>],
@@ -35,7 +35,7 @@ pub(crate) fn fills_by_rays<I: IntNumber, C: EdgeCount, A: Allocator>(
     Ok(fills)
 }
 
-/// Whether the midpoint of the edge f is in the span of the edge e, of which the right end is no part.
+/// Returns whether the midpoint of the edge f is in the span of the edge e without its right end.
 fn is_middle_in_span<I: IntNumber, C: EdgeCount>(
     e: &CountedEdge<I, C>,
     f: &CountedEdge<I, C>,
@@ -52,7 +52,7 @@ fn is_middle_in_span<I: IntNumber, C: EdgeCount>(
     from.is_le() && to.is_lt()
 }
 
-/// Whether the midpoint of the edge f lies strictly to the left of the edge e.
+/// Returns whether the midpoint of the edge f lies strictly to the left of the edge e.
 fn is_middle_left<I: IntNumber, C: EdgeCount>(e: &CountedEdge<I, C>, f: &CountedEdge<I, C>) -> bool
     requires e { IsHeld I.limit (plain_edge I.whole C.counts e.now) }
     requires f { IsHeld I.limit (plain_edge I.whole C.counts f.now) }
@@ -65,7 +65,7 @@ fn is_middle_left<I: IntNumber, C: EdgeCount>(e: &CountedEdge<I, C>, f: &Counted
     first.compare(second.negate()).is_gt()
 }
 
-/// Whether the edge e lies strictly below the midpoint of the edge f.
+/// Returns whether the edge e lies strictly below the midpoint of the edge f.
 fn is_below_middle<I: IntNumber, C: EdgeCount>(e: &CountedEdge<I, C>, f: &CountedEdge<I, C>) -> bool
     requires e { IsHeld I.limit (plain_edge I.whole C.counts e.now) }
     requires f { IsHeld I.limit (plain_edge I.whole C.counts f.now) }
@@ -75,7 +75,7 @@ fn is_below_middle<I: IntNumber, C: EdgeCount>(e: &CountedEdge<I, C>, f: &Counte
     is_middle_in_span(e, f) && is_middle_left(e, f)
 }
 
-/// The windings just below the midpoint of the edge.
+/// Returns the windings just below the midpoint of the edge.
 fn windings_below<I: IntNumber, C: EdgeCount>(
     edges: &[CountedEdge<I, C>],
     edge: &CountedEdge<I, C>,
@@ -96,7 +96,7 @@ fn windings_below<I: IntNumber, C: EdgeCount>(
     windings
 }
 
-/// The sides of the edge that are filled among the edges of the list.
+/// Returns the filled sides of the edge among the edges of the list.
 pub(crate) fn fill_of<I: IntNumber, C: EdgeCount>(
     edges: &[CountedEdge<I, C>],
     edge: &CountedEdge<I, C>,

@@ -1,9 +1,9 @@
-//! Fill rules: which windings are filled.
+//! Fill rules: the windings that are filled.
 
 ghost use Rattle.std.specs.Prelude.{◌≡◌};
 ghost use Rattle.overlay_arrange.specs.Rules.{is_filled};
 
-/// Which windings count as filled.
+/// The windings that count as filled.
 #[derive(Debug, Clone, Copy, PartialEq, Eq)]
 pub enum FillRule {
     /// Odd windings.
@@ -17,7 +17,7 @@ pub enum FillRule {
 }
 
 impl FillRule {
-    /// Whether the winding is filled.
+    /// Returns whether the winding is filled.
     pub(crate) fn fills(self, winding: i64) -> bool
         ensures { result ≡ is_filled self winding }
     {

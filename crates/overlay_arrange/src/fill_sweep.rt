@@ -23,7 +23,7 @@ use overlay_geom::number::IntNumber;
 use overlay_scan::scan::Scan;
 use std::alloc::Allocator;
 
-/// The filled sides of every edge, in the order of the edges. The scan is empty at first; what it holds
+/// Returns the filled sides of every edge, in the order of the edges. The scan is empty at first; its content
 /// afterwards is left open. The only refusal is `Memory`.
 pub(crate) fn fills_by_sweep<
     I: IntNumber,
@@ -56,9 +56,9 @@ pub(crate) fn fills_by_sweep<
     Ok(fills)
 }
 
-/// The filled sides of the edge to which the sweep comes next, which is put in with the windings above it,
-/// unless it is vertical. `above` has the windings above the edge before it, and then those above this one. The only
-/// refusal is `Memory`.
+/// Returns the filled sides of the next edge of the sweep, and inserts it with the windings above it unless it is
+/// vertical. `above` holds the windings above the edge before, and then those above this edge. The only refusal is
+/// `Memory`.
 fn next_fill<I: IntNumber, C: EdgeCount, S: Scan<I, Windings>>(
     scan: &mut S,
     starting: &[StartingEdge<I, C>],
@@ -88,8 +88,8 @@ fn next_fill<I: IntNumber, C: EdgeCount, S: Scan<I, Windings>>(
     Ok(bits_between(below, *above, rule))
 }
 
-/// The windings below the edge to which the sweep comes next: those above the edge before it, where both start in one
-/// point; else they are looked up.
+/// Returns the windings below the next edge of the sweep: those above the edge before where both start in one point,
+/// else those that the scan finds.
 fn windings_below<I: IntNumber, C: EdgeCount, S: Scan<I, Windings>>(
     scan: &mut S,
     starting: &[StartingEdge<I, C>],

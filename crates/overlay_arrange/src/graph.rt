@@ -1,4 +1,4 @@
-//! The graph of an arrangement: its edges in order, each with what it carries and its filled sides.
+//! The graph of an arrangement: its edges in order, each with its value and its filled sides.
 
 ghost use Rattle.std.specs.Prelude.{◌≡◌, map, length, IfOk, IsOkUnless};
 ghost use Rattle.overlay_geom.specs.Settled.{IsSettled};
@@ -18,8 +18,8 @@ use overlay_geom::number::IntNumber;
 use std::alloc::Allocator;
 use std::marker::Model;
 
-/// The edges of an arrangement in order, each with what it carries and with its filled sides under a
-/// fill rule. It is made once (`Content::graph`), and extractions read it.
+/// The edges of an arrangement in order, each with its value and its filled sides under a fill rule. `Content::graph`
+/// makes it once, and extractions read it.
 #[derive(Drop)]
 pub struct Graph<I: IntNumber, C: EdgeCount, A: Allocator> {
     fill_rule: FillRule,
@@ -44,7 +44,7 @@ impl<I: IntNumber, C: EdgeCount, A: Allocator> Model for Graph<I, C, A> {
 }
 
 impl<I: IntNumber, C: EdgeCount, A: Allocator + Clone> Graph<I, C, A> {
-    /// The graph of the edges of an arrangement. The only refusal is `Memory`.
+    /// Makes the graph of the edges of an arrangement. The only refusal is `Memory`.
     pub(crate) fn new(
         alloc: A,
         edges: &[CountedEdge<I, C>],
@@ -61,7 +61,7 @@ impl<I: IntNumber, C: EdgeCount, A: Allocator + Clone> Graph<I, C, A> {
         Graph::filled(alloc, edges, fill_rule, &fills)
     }
 
-    /// The same of edges whose counts are balanced, which is not tested.
+    /// Makes the graph of edges with balanced counts. It does not test the balance.
     pub(crate) fn of_balanced(
         alloc: A,
         edges: &[CountedEdge<I, C>],
@@ -79,7 +79,7 @@ impl<I: IntNumber, C: EdgeCount, A: Allocator + Clone> Graph<I, C, A> {
         Graph::filled(alloc, edges, fill_rule, &fills)
     }
 
-    // The graph of the edges with their filled sides.
+    // Makes the graph of the edges with these filled sides.
     fn filled(
         alloc: A,
         edges: &[CountedEdge<I, C>],
@@ -101,8 +101,8 @@ impl<I: IntNumber, C: EdgeCount, A: Allocator + Clone> Graph<I, C, A> {
 }
 
 impl<I: IntNumber, C: EdgeCount, A: Allocator> Graph<I, C, A> {
-    /// The edges in order, each from its smaller to its larger end, with what it carries, and with its
-    /// filled sides seen on this way. They are an arrangement.
+    /// Returns the edges in order, each from its smaller to its larger end, with its value and its filled sides, seen
+    /// in this direction. They are an arrangement.
     pub fn edges(&self) -> &[DataVectorEdge<I, C>]
         ensures carried { carried_vectors I.whole C.counts result.now ≡ self.now.edges }
         ensures filled { map (plain_vector I.whole) result.now
@@ -120,14 +120,14 @@ impl<I: IntNumber, C: EdgeCount, A: Allocator> Graph<I, C, A> {
         let _ = self.edges();
     }
 
-    /// The allocator of the edges.
+    /// Returns the allocator of the edges.
     pub fn allocator(&self) -> &A {
         self.edges.allocator()
     }
 }
 
 impl<I: IntNumber, C: EdgeCount, A: Allocator + Clone> Graph<I, C, A> {
-    /// The edges in order with their filled sides, without what they carry. The only refusal is
+    /// Returns the edges in order with their filled sides, without the values that they carry. The only refusal is
     /// `Memory`.
     pub fn separate_vectors(&self) -> Result<Vec<DataVectorEdge<I, ()>, A>, OverlayError>
         ensures ok { IfOk result (λ v. map (plain_vector I.whole) v.items
@@ -138,7 +138,7 @@ impl<I: IntNumber, C: EdgeCount, A: Allocator + Clone> Graph<I, C, A> {
     }
 }
 
-// The edges with these filled sides.
+// Returns the edges with these filled sides.
 fn with_fills<I: IntNumber, C: EdgeCount, A: Allocator>(
     alloc: A,
     edges: &[CountedEdge<I, C>],
@@ -162,7 +162,7 @@ fn with_fills<I: IntNumber, C: EdgeCount, A: Allocator>(
     Ok(filled)
 }
 
-// The edges with their filled sides alone.
+// Returns the edges with their filled sides alone.
 fn without_data<I: IntNumber, C: Copy, A: Allocator>(
     alloc: A,
     edges: &[DataVectorEdge<I, C>],

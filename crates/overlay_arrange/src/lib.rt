@@ -1,5 +1,5 @@
-//! The arrangement of contours: counted edges are merged, cut where they meet until they meet in
-//! ends alone, and given the sides that the shapes fill.
+//! The arrangement of contours. Counted edges are merged, cut until they meet in ends alone, and given the sides that
+//! the shapes fill.
 #![tactic(auto)]
 
 pub mod balance;

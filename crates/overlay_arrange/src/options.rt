@@ -1,17 +1,17 @@
-//! What is added, and how the answer is to look.
+//! Options of the input and of the answer.
 
 ghost use Rattle.std.specs.Prelude.{true, false};
 ghost use Rattle.overlay_arrange.specs.Options.{AreOptions};
 
 use overlay_geom::number::UIntNumber;
 
-/// Which of the two shapes a contour belongs to. The rules Difference, InverseDifference, Subject
-/// and Clip tell them apart; Union, Intersect and Xor answer the same when they are exchanged.
+/// The shape that a contour belongs to. The rules Difference, InverseDifference, Subject and Clip tell the two apart.
+/// Union, Intersect and Xor have equal answers when the two are exchanged.
 #[derive(Debug, Clone, Copy, PartialEq)]
 pub enum ShapeType {
     /// The shape that is worked on.
     Subject,
-    /// The shape that works on it.
+    /// The shape that works on the subject.
     Clip,
 }
 
@@ -24,19 +24,18 @@ pub enum ContourDirection {
     Clockwise,
 }
 
-/// How input points are taken and how output contours look. `U` is the unsigned number in which
-/// areas are measured.
+/// Options of how input points are taken and how output contours look. `U` is the unsigned type that measures areas.
 #[derive(Debug, Clone, Copy)]
 pub struct IntOverlayOptions<U> {
-    /// Whether input points on one line with their two neighbours stay; otherwise they are dropped.
+    /// Whether input points collinear with their two neighbours are kept; otherwise they are dropped.
     pub preserve_input_collinear: bool,
     /// The direction of outlines; holes run the other way.
     pub output_direction: ContourDirection,
-    /// Whether output points on one line with their two neighbours stay; otherwise they are dropped.
+    /// Whether output points collinear with their two neighbours are kept; otherwise they are dropped.
     pub preserve_output_collinear: bool,
-    /// The smallest area of a contour that is kept; 0 keeps all.
+    /// The smallest area of a contour that is kept; 0 keeps all contours.
     pub min_output_area: U,
-    /// Whether no output contour may visit a point twice.
+    /// Whether output contours may not visit a point twice.
     pub ogc: bool,
 }
 
@@ -55,7 +54,7 @@ impl<U: UIntNumber> Default for IntOverlayOptions<U> {
 }
 
 impl<U: UIntNumber> IntOverlayOptions<U> {
-    /// The default options, but input and output points on one line stay.
+    /// Returns the default options, but keeps collinear points of input and output.
     pub fn keep_all_points() -> Self
         ensures { AreOptions U.natural true true false result }
     {
@@ -65,7 +64,7 @@ impl<U: UIntNumber> IntOverlayOptions<U> {
         }
     }
 
-    /// The default options, but output points on one line stay.
+    /// Returns the default options, but keeps collinear output points.
     pub fn keep_output_points() -> Self
         ensures { AreOptions U.natural false true false result }
     {
@@ -75,7 +74,7 @@ impl<U: UIntNumber> IntOverlayOptions<U> {
         }
     }
 
-    /// The default options, but no output contour visits a point twice.
+    /// Returns the default options, but no output contour visits a point twice.
     pub fn ogc() -> Self
         ensures { AreOptions U.natural false false true result }
     {

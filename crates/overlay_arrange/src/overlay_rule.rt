@@ -1,33 +1,32 @@
-//! Overlay rules: of which points the result consists.
+//! Overlay rules: the points that the result consists of.
 
 ghost use Rattle.std.specs.Prelude.{◌≡◌};
 ghost use Rattle.overlay_arrange.specs.Rules.{rule_holds};
 
-/// Which points the result takes, by which of the two shapes fill them.
+/// The points that the result takes, depending on whether the subject and the clip fill them.
 ///
-/// Difference, InverseDifference, Subject and Clip tell the subject from the clip; Union, Intersect
-/// and Xor answer the same when the two are exchanged.
+/// Difference, InverseDifference, Subject and Clip tell the subject from the clip. Union, Intersect and Xor have equal
+/// answers when the two are exchanged.
 #[derive(Debug, Clone, Copy, PartialEq, Eq)]
 pub enum OverlayRule {
-    /// What the subject fills.
+    /// Points that the subject fills.
     Subject,
-    /// What the clip fills.
+    /// Points that the clip fills.
     Clip,
-    /// What both fill.
+    /// Points that both fill.
     Intersect,
-    /// What one of them fills, or both.
+    /// Points that at least one of them fills.
     Union,
-    /// What the subject fills and the clip does not.
+    /// Points that the subject fills and the clip does not.
     Difference,
-    /// What the clip fills and the subject does not.
+    /// Points that the clip fills and the subject does not.
     InverseDifference,
-    /// What exactly one of them fills.
+    /// Points that exactly one of them fills.
     Xor,
 }
 
 impl OverlayRule {
-    /// Whether the result takes a point that the subject fills, or not, and that the clip fills, or
-    /// not.
+    /// Returns whether the result takes a point, given whether the subject and whether the clip fill it.
     pub fn holds(self, subj: bool, clip: bool) -> bool
         ensures { result ≡ rule_holds self subj clip }
     {

@@ -24,27 +24,26 @@ use overlay_geom::number::IntNumber;
 use overlay_geom::solver::Solver;
 use std::alloc::Allocator;
 
-// How often edges are cut before they are given up as not settled: `most_rounds`.
+// Number of cutting rounds before the edges are given up as not settled: `most_rounds`.
 const ROUNDS: u32 = 64;
 
 impl<I: IntNumber, C: EdgeCount, A: Allocator + Clone> Content<I, C, A> {
-    /// Brings the edges into an arrangement: equal edges are merged, and where two different ones
-    /// meet in a point that is not an end of both, edges are led through whole points at most 1/2
-    /// away in x and in y. By `Solver::Rounds` each edge is cut where others meet it, at most 64
-    /// times, and each meeting point is rounded to one whole point. By `Solver::Snapping` each edge
-    /// is led, once, through the hot points whose pixels it meets, where some point has to be
-    /// rounded. What the edges carry is merged, split and reversed with them: merged two by two
-    /// where equal edges become one, split once for each round that cuts an edge into two pieces or
-    /// more, and reversed where a piece runs against its edge. What was arranged before stays as
+    /// Brings the edges into an arrangement. It merges equal edges. Where two different edges meet in a point that is
+    /// not an end of both, it leads edges through whole points at most 1/2 away in x and in y. An arrangement stays as
     /// it is.
     ///
-    /// Returns whether some round cut the edges; if none did they met in ends alone, but for equal
-    /// ones, before.
+    /// `Solver::Rounds` cuts each edge at its meeting points, at most 64 times, and rounds each meeting point to a
+    /// whole point. `Solver::Snapping` leads each edge, once, through the hot points whose pixels it meets, if some
+    /// point has to be rounded.
     ///
-    /// Refusals, after which the content is left open: `NotSettled` where the edges are not
-    /// settled after 64 rounds, `TooManyEdges` where a round brings the weight to 2^31, `Memory`.
-    /// What was arranged before is refused for lack of memory alone; `NotSettled` does not come by
-    /// `Solver::Snapping`, nor where edges meet only in whole points or overlap.
+    /// The values that edges carry follow: they are merged two by two where equal edges become one. They are split once
+    /// for each round that cuts an edge into two or more pieces, and reversed where a piece runs against its edge.
+    ///
+    /// Returns whether a round cut the edges. If none did, edges that were not equal met in ends alone before.
+    ///
+    /// Refusals leave the content open: `NotSettled` where the edges are not settled after 64 rounds, `TooManyEdges`
+    /// where a round brings the weight to 2^31, and `Memory`. An arrangement is refused only by `Memory`. `NotSettled`
+    /// never comes by `Solver::Snapping`, nor where edges meet only in whole points or overlap.
     pub fn arrange(&mut self, solver: Solver, store: &mut C::Store) -> Result<bool, OverlayError>
         ensures arranged { OnOk result (IsArranged solver (edges_in self.old) (edges_in self.new)) }
         ensures carried { OnOk result (IsArrangedCarrying C.merges C.splits C.reverses solver self.old self.new) }
@@ -61,8 +60,8 @@ impl<I: IntNumber, C: EdgeCount, A: Allocator + Clone> Content<I, C, A> {
         }
     }
 
-    /// Merges the edges, and cuts them so many times at most, until they are settled. Returns
-    /// whether it cut them. If it is refused the content is left open.
+    /// Merges the edges and cuts them, at most `rounds` times, until they are settled. Returns whether it cut them. A
+    /// refusal leaves the content open.
     pub fn split(&mut self, rounds: u32, store: &mut C::Store) -> Result<bool, OverlayError>
         ensures split { OnOk result (IsSplit Rounds rounds (edges_in self.old) (edges_in self.new)) }
         ensures carried { OnOk result (IsSplitCarrying C.merges C.splits C.reverses Rounds rounds self.old self.new) }
@@ -78,7 +77,7 @@ impl<I: IntNumber, C: EdgeCount, A: Allocator + Clone> Content<I, C, A> {
     }
 
     /// Splits the edges as `split` does. Where the list before the last cut is known, pairs that met in ends alone are
-    /// not looked at again.
+    /// not tested again.
     fn split_since(
         &mut self,
         rounds: u32,
@@ -113,8 +112,8 @@ impl<I: IntNumber, C: EdgeCount, A: Allocator + Clone> Content<I, C, A> {
         Ok(true)
     }
 
-    /// The whole points through which the edges lead one another, by the places of the edges that they lead, and which
-    /// edges are open; or none where any two different edges meet in ends alone. What is known of the list before is
+    /// Returns the whole points through which the edges lead each other, sorted by the places of their edges, and marks
+    /// of open edges. Returns None where any two different edges meet in ends alone. The record of the list before is
     /// dropped. The edges ascend, as they do once merged. The only refusal is `Memory`.
     pub(crate) fn open_meetings(
         &self,
@@ -138,7 +137,7 @@ impl<I: IntNumber, C: EdgeCount, A: Allocator + Clone> Content<I, C, A> {
         if count == edges.len() {
             return Ok(None);
         }
-        // (those before it meet all others in ends alone, and such meetings change nothing)
+        // (the edges before `count` meet all others in ends alone, and such meetings change nothing)
         let gathered = gather(self.allocator().clone()?, edges, &strips, &changed, count)?;
         Ok(Some(gathered))
     }

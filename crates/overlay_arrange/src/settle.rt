@@ -1,4 +1,4 @@
-//! Whether the edges of a list meet in ends alone.
+//! Tests whether the edges of a list meet in ends alone.
 
 ghost use Rattle.std.specs.Prelude.{◌↔◌, ◌<◌, length, All, IsTrue, IfOk, IfSome, IsOkUnless};
 ghost use Rattle.overlay_geom.specs.Edges.{ends_of};
@@ -21,8 +21,8 @@ use overlay_geom::error::OverlayError;
 use overlay_geom::number::IntNumber;
 use std::alloc::Allocator;
 
-/// Whether any two different edges share a point of the plane only where it is an end of both. The
-/// edges ascend. The only refusal is `Memory`.
+/// Returns whether any two different edges share a point of the plane only where it is an end of both. The edges
+/// ascend. The only refusal is `Memory`.
 pub fn is_settled<I: IntNumber, C: EdgeCount, A: Allocator + Clone>(
     alloc: A,
     edges: &[CountedEdge<I, C>],
@@ -38,8 +38,9 @@ pub fn is_settled<I: IntNumber, C: EdgeCount, A: Allocator + Clone>(
     Ok(count == edges.len())
 }
 
-/// How many edges at the front meet each later one in ends alone: all of them where the edges are settled. Where the
-/// changed ones are known, pairs of others are not looked at. The edges ascend. The only refusal is `Memory`.
+/// Returns the number of edges at the front that meet each later edge in ends alone. It is the number of all edges
+/// where they are settled. Where the changed edges are known, pairs of unchanged edges are not tested. The edges
+/// ascend. The only refusal is `Memory`.
 pub(crate) fn count_settled<I: IntNumber, C: EdgeCount, A: Allocator>(
     alloc: A,
     edges: &[CountedEdge<I, C>],
@@ -66,8 +67,8 @@ pub(crate) fn count_settled<I: IntNumber, C: EdgeCount, A: Allocator>(
     Ok(edges.len())
 }
 
-/// Whether the edge at place i meets each of the later ones in ends alone. Among these it may meet those at
-/// the places `near` alone.
+/// Returns whether the edge at place i meets each later edge in ends alone. It may meet only the later edges at the
+/// places `near` elsewhere.
 fn is_settled_from<I: IntNumber, C: EdgeCount>(
     edges: &[CountedEdge<I, C>],
     i: usize,
@@ -88,7 +89,7 @@ fn is_settled_from<I: IntNumber, C: EdgeCount>(
     true
 }
 
-/// Whether the two edges meet in ends alone. An edge does not meet itself so.
+/// Returns whether the two edges meet in ends alone. For an edge and itself it returns false.
 pub(crate) fn meet_in_ends<I: IntNumber, C: EdgeCount>(
     e: &CountedEdge<I, C>,
     f: &CountedEdge<I, C>,
@@ -101,7 +102,7 @@ pub(crate) fn meet_in_ends<I: IntNumber, C: EdgeCount>(
     edge_pair::meet_in_ends(IntEdge { a: e.a, b: e.b }, IntEdge { a: f.a, b: f.b })
 }
 
-/// Where f lies by the line of e.
+/// Returns the position of f relative to the line of e.
 pub(crate) fn place_by<I: IntNumber, C: EdgeCount>(
     e: &CountedEdge<I, C>,
     f: &CountedEdge<I, C>,

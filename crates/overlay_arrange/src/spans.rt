@@ -1,4 +1,4 @@
-//! Where the edges begin that start right of another one's end, and how many there are before them.
+//! Runs of edges: the edges that start up to the right end of an edge, and their number.
 
 ghost use Rattle.std.specs.Prelude.{◌<◌, ◌≤◌, ◌<ℤ◌, All, length};
 ghost use Rattle.overlay_arrange.specs.Content.{plain_edges, IsAscending, IsHeld};
@@ -8,10 +8,10 @@ use crate::count::EdgeCount;
 use crate::edge::CountedEdge;
 use overlay_geom::number::IntNumber;
 
-// So far behind an edge the end of its run is looked for first.
+// Length of the first step of the search for the end of a run.
 const FIRST: usize = 16;
 
-/// The place of the first edge from a place on that starts right of x, or how many edges there are. They ascend.
+/// Returns the place of the first edge from `from` on that starts right of x, or the number of edges. The edges ascend.
 pub(crate) fn run_end<I: IntNumber, C: EdgeCount>(
     edges: &[CountedEdge<I, C>],
     x: I,
@@ -26,8 +26,8 @@ pub(crate) fn run_end<I: IntNumber, C: EdgeCount>(
     from + edges[from..to].partition_point(|f| !x.compare(f.a.x).is_lt())
 }
 
-/// A place from the given one on where an edge starts right of x, or how many edges there are. Each step from place to
-/// place is twice as long as the one before, so it is not far behind the first such place.
+/// Returns a place from `from` on where an edge starts right of x, or the number of edges. Each step is twice as long
+/// as the step before, so the place is not far behind the first such place.
 fn place_right_of<I: IntNumber, C: EdgeCount>(
     edges: &[CountedEdge<I, C>],
     from: usize,
@@ -51,8 +51,8 @@ fn place_right_of<I: IntNumber, C: EdgeCount>(
     edges.len()
 }
 
-/// How long the runs of so many edges are together, which stand at equal distances. It is no more than a guess at all
-/// of them. They ascend.
+/// Returns the total length of the runs of `samples` edges at equal distances. It only serves as an estimate. The edges
+/// ascend.
 pub(crate) fn length_of_runs<I: IntNumber, C: EdgeCount>(
     edges: &[CountedEdge<I, C>],
     samples: usize,

@@ -1,4 +1,4 @@
-//! Edges that a sweep comes to.
+//! Edges in the order of a sweep.
 
 ghost use Rattle.std.specs.Prelude.{◌≡◌, true};
 ghost use Rattle.overlay_geom.specs.Plane.{point_lt};
@@ -7,12 +7,12 @@ ghost use Rattle.overlay_geom.specs.Points.{plain_point, InRange};
 use crate::edge::CountedEdge;
 use overlay_geom::number::IntNumber;
 
-/// An edge that a sweep comes to, and its place in the list from which it is.
+/// An edge of a sweep, and its place in the list that it comes from.
 #[derive(Drop)]
 pub(crate) struct StartingEdge<I: IntNumber, C: Copy> {
     /// The edge.
     pub edge: CountedEdge<I, C>,
-    /// Its place.
+    /// The edge's place.
     pub place: usize,
     pub ghost a_in_range: { InRange I.limit (plain_point I.whole edge.a) },
     pub ghost b_in_range: { InRange I.limit (plain_point I.whole edge.b) },

@@ -17,8 +17,8 @@ use overlay_geom::vector::cross_at;
 use std::alloc::Allocator;
 use std::cmp::Ordering;
 
-/// The edges by their smaller ends, and those from one point from the lower slope to the higher one. The
-/// only refusal is `Memory`.
+/// Returns the edges by their smaller ends, and edges from one point by slope, lowest first. The only refusal is
+/// `Memory`.
 pub(crate) fn edges_by_start<I: IntNumber, C: EdgeCount, A: Allocator>(
     alloc: A,
     edges: &[CountedEdge<I, C>],
@@ -34,7 +34,7 @@ pub(crate) fn edges_by_start<I: IntNumber, C: EdgeCount, A: Allocator>(
     Ok(starting)
 }
 
-/// The edges in their order, each with its place.
+/// Returns the edges in their order, each with its place.
 fn edges_with_places<I: IntNumber, C: EdgeCount, A: Allocator>(
     alloc: A,
     edges: &[CountedEdge<I, C>],
@@ -51,8 +51,7 @@ fn edges_with_places<I: IntNumber, C: EdgeCount, A: Allocator>(
     Ok(starting)
 }
 
-/// `Less` exactly where the first edge starts before the second: by their smaller ends, and from one point
-/// by their slopes.
+/// Compares two edges by their smaller ends, then by slope: `Less` exactly where the first starts before the second.
 fn compare_starts<I: IntNumber, C: Copy>(e: &StartingEdge<I, C>, f: &StartingEdge<I, C>) -> Ordering
     ensures { is_lt result ≡ is_anchored_before (starting_ends I.whole e.now) (starting_ends I.whole f.now) }
 {

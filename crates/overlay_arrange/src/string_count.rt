@@ -1,4 +1,4 @@
-//! String counts: how often the shape passes an edge, and in which directions a string does.
+//! String counts: how often the shape passes an edge, and the directions in which a string passes it.
 
 ghost use Rattle.std.specs.Prelude.{◌≡◌};
 ghost use Rattle.std.specs.Int.RustNames.{bit_or};
@@ -11,11 +11,11 @@ pub const STRING_ALONG: u8 = 1;
 /// The bit of a string that passes its edge from the larger to the smaller end.
 pub const STRING_AGAINST: u8 = 2;
 
-/// How often the shape passes an edge from its smaller to its larger end, less how often back, and
-/// in which directions a string passes it.
+/// The number of times that the shape passes an edge from its smaller to its larger end, minus the number of times
+/// back, and the directions in which a string passes it.
 #[derive(Debug, Clone, Copy, PartialEq, Eq)]
 pub struct ShapeCountString {
-    /// How often the shape passes the edge.
+    /// The number for the shape.
     pub subj: i32,
     /// The directions of the string: 0, `STRING_ALONG`, `STRING_AGAINST` or both bits. Higher bits
     /// are ignored.
@@ -23,14 +23,14 @@ pub struct ShapeCountString {
 }
 
 impl ShapeCountString {
-    /// Whether a string passes the edge from its smaller to its larger end.
+    /// Returns whether a string passes the edge from its smaller to its larger end.
     pub fn is_along(self) -> bool
         ensures { result ≡ (string_counts self).along }
     {
         self.clip & STRING_ALONG != 0
     }
 
-    /// Whether a string passes the edge from its larger to its smaller end.
+    /// Returns whether a string passes the edge from its larger to its smaller end.
     pub fn is_against(self) -> bool
         ensures { result ≡ (string_counts self).against }
     {
@@ -38,7 +38,7 @@ impl ShapeCountString {
     }
 }
 
-/// The directions of a string seen from the other end of its edge.
+/// Returns the directions of a string seen from the other end of its edge.
 fn reversed_directions(directions: u8) -> u8
     ensures { result ≡ reversed_directions directions }
 {

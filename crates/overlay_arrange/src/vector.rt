@@ -2,7 +2,7 @@
 
 use overlay_geom::point::IntPoint;
 
-/// Which sides of an edge the subject and the clip fill, as a sum of the four bits below.
+/// The sides of an edge that the subject and the clip fill: a sum of the four bits below.
 pub type SideFill = u8;
 
 /// The subject fills the left side of the edge.
@@ -17,12 +17,12 @@ pub const CLIP_RIGHT: SideFill = 8;
 /// An edge from a to b with its filled sides and its data.
 #[derive(Debug, Clone, Copy, PartialEq, Eq)]
 pub struct DataVectorEdge<I, D> {
-    /// Where the edge begins.
+    /// The start of the edge.
     pub a: IntPoint<I>,
-    /// Where the edge ends.
+    /// The end of the edge.
     pub b: IntPoint<I>,
-    /// The filled sides, seen on the way from a to b.
+    /// The filled sides, seen in the direction from a to b.
     pub fill: SideFill,
-    /// What the edge carries.
+    /// The value that the edge carries.
     pub edge_data: D,
 }

@@ -1,4 +1,4 @@
-//! Whether edges meet in whole points alone.
+//! Tests whether edges meet in whole points alone.
 
 ghost use Rattle.std.specs.Prelude.{◌↔◌, IsTrue, All};
 ghost use Rattle.overlay_plane.specs.Meetings.{MeetInWholePoints};
@@ -11,8 +11,8 @@ use crate::edge::CountedEdge;
 use crate::meetings::Meeting;
 use overlay_geom::number::IntNumber;
 
-/// Whether the edges meet in whole points alone, or overlap: each of their meetings, which are given, lies on the line
-/// of its edge, so none was rounded to another point.
+/// Returns whether the edges meet in whole points alone, or overlap. Then each of the given meetings lies on the line
+/// of its edge, so no point was rounded to another point.
 pub(crate) fn are_whole<I: IntNumber, C: EdgeCount>(
     edges: &[CountedEdge<I, C>],
     meetings: &[Meeting<I>],

@@ -1,4 +1,4 @@
-//! Windings on the two sides of an edge, and the fill bits that tell of them.
+//! Windings on the two sides of an edge, and the fill bits that follow from them.
 
 ghost use Rattle.std.specs.Prelude.{◌≡◌, ◌^◌, ◌≤◌, ◌+ℤ◌};
 ghost use Rattle.overlay_geom.specs.Numbers.{Within};
@@ -9,7 +9,7 @@ use crate::edge::CountedEdge;
 use crate::fill_rule::FillRule;
 use crate::vector::{CLIP_LEFT, CLIP_RIGHT, SUBJ_LEFT, SUBJ_RIGHT, SideFill};
 
-/// How often the subject, and the clip, wind round a point.
+/// The windings of the subject and of the clip round a point.
 #[derive(Debug, Clone, Copy)]
 pub(crate) struct Windings {
     pub subj: i64,
@@ -17,7 +17,7 @@ pub(crate) struct Windings {
 }
 
 impl Windings {
-    /// The windings beyond the edge: its counts are added.
+    /// Returns the windings beyond the edge: its counts are added.
     pub(crate) fn beyond<I, C: EdgeCount>(self, edge: &CountedEdge<I, C>) -> Windings
         requires subj { Within (2 ^ 31) self.subj }
         requires clip { Within (2 ^ 31) self.clip }
@@ -31,7 +31,7 @@ impl Windings {
     }
 }
 
-/// The bit of a side where it is filled, and 0 elsewhere.
+/// Returns the bit of a side if it is filled, else 0.
 fn bit_if(is_filled: bool, side: SideFill) -> SideFill
     ensures value { result ≡ bit is_filled side }
     ensures at_most { result ≤ side }
@@ -39,7 +39,7 @@ fn bit_if(is_filled: bool, side: SideFill) -> SideFill
     if is_filled { side } else { 0 }
 }
 
-/// The fill bits of an edge between the windings below it and those above it.
+/// Returns the fill bits of an edge between the windings below it and those above it.
 pub(crate) fn bits_between(below: Windings, above: Windings, rule: FillRule) -> SideFill
     ensures { result ≡ bits_of (record {
       subj_above = is_filled rule above.subj;
