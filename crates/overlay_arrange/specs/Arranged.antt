@@ -1,4 +1,4 @@
--- What is known of a list of counted edges that was brought into an arrangement, and of one that was not.
+-- Facts of a list of counted edges that was brought into an arrangement, and of a list that was not.
 use Rattle.std.specs.Prelude.{◌≡◌, ℕ, ◌≤◌, ◌^◌, List, length}
 use Rattle.overlay_geom.specs.Edges.{CountedEdge}
 use Rattle.overlay_geom.specs.declared.error.OverlayError.{OverlayError}
@@ -13,7 +13,7 @@ use Rattle.overlay_plane.specs.DerivedData.{AreDerived}
 use Rattle.overlay_plane.specs.Meetings.{MeetInWholePoints}
 use Rattle.overlay_plane.specs.Rounds.{Round, MovingRounds}
 
--- how many rounds the solver takes at most
+-- the greatest number of rounds that the solver takes
 abbrev pub most_rounds : Solver → ℕ
 most_rounds Rounds = 64
 most_rounds Snapping = 1
@@ -23,49 +23,49 @@ abbrev pub WasArranged : List CountedEdge → Type 0
 WasArranged es =
     (solver : Solver) × (before : List CountedEdge) × (earlier : List Round) × IsReachedBy solver earlier before es
 
--- the second list is an arrangement of the first one, reached by the solver's rounds
+-- the second list is an arrangement of the first, reached by the solver's rounds
 pub record IsArranged (solver : Solver) (old new : List CountedEdge) : Type 0 where
   pub rounds : List Round
   pub few : length rounds ≤ most_rounds solver
   pub reached : IsReachedBy solver rounds old new
-  -- so many of the rounds moved some point
+  -- the number of rounds that moved some point
   pub moving : ℕ
   pub moved : MovingRounds rounds moving
   -- the chains of the edges keep their ends, stay within half a unit for each moving round, and make the counts
   pub chains : ChainsHold rounds moving old new
-  -- where the edges meet only in whole points or overlap, one round does, no point is moved, and no winding changes
+  -- where the edges meet only in whole points or overlap, there is at most one round, no point moves, and no winding
+  -- changes
   pub exact : MeetInWholePoints old → IsExact rounds moving old new
   pub balanced : HasBalancedCounts old → HasBalancedCounts new
-  -- what was arranged before stays as it is
+  -- an arrangement stays as it is
   pub stays : WasArranged old → new ≡ old
 
--- the solver reaches the second list from the first one in `most` rounds or fewer, and what its edges carry is derived
--- along these rounds
+-- the solver reaches the second list from the first in `most` rounds or fewer, and the values of its edges derive along
+-- these rounds
 pub record IsSplitCarrying {C : Type 0} (merges : C → C → C → Type 0) (splits reverses : C → C → Type 0)
     (solver : Solver) (most : ℕ) (old new : List (Carried C)) : Type 0 where
   pub split : IsSplit solver most (edges_in old) (edges_in new)
   pub derived : AreDerived merges splits reverses split.rounds old new
 
--- the second list is an arrangement of the first one, and what its edges carry is derived along the rounds that led
--- there
+-- the second list is an arrangement of the first, and the values of its edges derive along the rounds that lead there
 pub record IsArrangedCarrying {C : Type 0} (merges : C → C → C → Type 0) (splits reverses : C → C → Type 0)
     (solver : Solver) (old new : List (Carried C)) : Type 0 where
   pub arranged : IsArranged solver (edges_in old) (edges_in new)
   pub derived : AreDerived merges splits reverses arranged.rounds old new
 
--- all cutting rounds leave edges that are not settled; they did not meet in whole points alone, and were no arrangement
--- already
+-- all cutting rounds leave edges that are not settled. The edges did not meet in whole points alone, and were not an
+-- arrangement already
 pub record CannotBeSettled (es : List CountedEdge) : Type 0 where
   pub unsettled : StaysUnsettled (most_rounds Rounds) es
   pub not_whole : ¬ (MeetInWholePoints es)
   pub not_arranged : ¬ (WasArranged es)
 
--- some round of the solver leaves pieces that weigh 2^31; the edges were no arrangement already
+-- a round of the solver leaves pieces that weigh 2^31; the edges were not an arrangement already
 pub record IsSplitTooMuch (solver : Solver) (es : List CountedEdge) : Type 0 where
   pub heavy : WeighsTooMuch solver (most_rounds solver) (2 ^ 31) es
   pub not_arranged : ¬ (WasArranged es)
 
--- the solver may refuse so to bring the edges into an arrangement: snap rounding never as not settled
+-- possible refusals to bring the edges into an arrangement; snap rounding never refuses as not settled
 abbrev pub MayRefuseSplitting : Solver → List CountedEdge → OverlayError → Type 0
 MayRefuseSplitting solver es Memory = Unit {0}
 MayRefuseSplitting solver es NotSettled = (solver ≡ Rounds) × CannotBeSettled es

@@ -18,23 +18,23 @@ use Rattle.overlay_arrange.specs.declared.edge.CountedEdge.{CountedEdge as HeldE
 abbrev pub edge_with : Point → Point → Counts → CountedEdge
 edge_with a b c = record { a = a; b = b; counts = c }
 
--- the counted edge at an edge's numbers
+-- the counted edge between whole points, for an edge of the program
 abbrev pub plain_edge : {I C : Type 0} → (I → ℤ) → (C → Counts) → HeldEdge I C → CountedEdge
 plain_edge whole counts e = edge_with (plain_point whole e.a) (plain_point whole e.b) (counts e.count)
 
--- and of each edge of a list
+-- the counted edges for a list of edges of the program
 abbrev pub plain_edges : {I C : Type 0} → (I → ℤ) → (C → Counts) → List (HeldEdge I C) → List CountedEdge
 plain_edges whole counts es = map (plain_edge whole counts) es
 
--- the counted edge at an edge's numbers, with what the edge carries
+-- the counted edge for an edge of the program, with the value that it carries
 abbrev pub carried_edge : {I C : Type 0} → (I → ℤ) → (C → Counts) → HeldEdge I C → Carried C
 carried_edge whole counts e = record { edge = plain_edge whole counts e; carries = e.count }
 
--- and of each edge of a list
+-- the carried edges for a list of edges of the program
 abbrev pub carried_edges : {I C : Type 0} → (I → ℤ) → (C → Counts) → List (HeldEdge I C) → List (Carried C)
 carried_edges whole counts es = map (carried_edge whole counts) es
 
--- how two edges compare: by their smaller ends, then by their larger ones
+-- the comparison of two edges: by their smaller ends, then by their larger ends
 abbrev pub edge_cmp : CountedEdge → CountedEdge → Ordering
 edge_cmp e f = cond (edge_lt (ends_of e) (ends_of f)) Less (cond (edge_lt (ends_of f) (ends_of e)) Greater Equal)
 
@@ -44,7 +44,7 @@ pub record IsHeld (limit : ℕ) (e : CountedEdge) : Type 0 where
   pub a_in_range : InRange limit e.a
   pub b_in_range : InRange limit e.b
 
--- a list of edges that a builder may hold: in range, and lighter than the limit
+-- a list of edges that a builder may hold: in range, and lighter than 2^31
 pub record IsContent (limit : ℕ) (es : List CountedEdge) : Type 0 where
   pub held : All (IsHeld limit) es
   pub light : weight es < 2 ^ 31
@@ -53,12 +53,12 @@ pub record IsContent (limit : ℕ) (es : List CountedEdge) : Type 0 where
 abbrev pub IsAscending : List CountedEdge → Type 0
 IsAscending es = AllPairs (λ e f. edge_lt (ends_of e) (ends_of f) ≡ true) es
 
--- what the subject's or the clip's step adds to the counts of its edge
+-- the counts of an edge that a step of the subject or of the clip passes `count` times
 abbrev pub count_for : ShapeType → ℤ → ShapeCountBoolean
 count_for Subject count = record { subj = count; clip = pos 0 }
 count_for Clip count = record { subj = pos 0; clip = count }
 
--- the counted edge of a step of the subject, or of the clip
+-- the counted edge of a step of the subject or of the clip
 abbrev pub edge_for : ShapeType → Step → CountedEdge
 edge_for t s =
     edge_with (edge_of s).a (edge_of s).b

@@ -1,5 +1,4 @@
--- What contracts see of a graph: the edges of an arrangement with what they carry, and the rule by which their sides
--- are filled.
+-- The model of a graph: the edges of an arrangement with their values, and the rule by which their sides are filled.
 use Rattle.std.specs.Prelude.{◌≡◌, ℕ, ℤ, List, map}
 use Rattle.overlay_geom.specs.Counts.{Counts}
 use Rattle.overlay_geom.specs.Points.{plain_point}
@@ -11,7 +10,7 @@ use Rattle.overlay_arrange.specs.Rules.{fill_bits}
 use Rattle.overlay_arrange.specs.declared.fill_rule.FillRule.{FillRule}
 use Rattle.overlay_arrange.specs.declared.vector.DataVectorEdge.{DataVectorEdge}
 
--- the fill rule, and the edges in order, each with what it carries
+-- the fill rule, and the edges in order, each with its value
 pub record Graph (C : Type 0) : Type 0 where
   pub fill_rule : FillRule
   pub edges : List (Carried C)
@@ -20,14 +19,13 @@ pub record Graph (C : Type 0) : Type 0 where
 abbrev pub graph_edges : {C : Type 0} → Graph C → List CountedEdge
 graph_edges g = edges_in g.edges
 
--- the edges are those of an arrangement: in the coordinate range and lighter than 2^31, in order, and they meet in ends
--- alone
+-- the edges form an arrangement: in the coordinate range and lighter than 2^31, in order, and meeting in ends alone
 pub record IsArrangement (limit : ℕ) (es : List CountedEdge) : Type 0 where
   pub content : IsContent limit es
   pub ascending : IsAscending es
   pub settled : IsSettled es
 
--- the counted edge at a vector's numbers, with what the vector carries; and those of a list
+-- the counted edge of a vector, with the value that the vector carries; and those of a list
 abbrev pub carried_vector : {I C : Type 0} → (I → ℤ) → (C → Counts) → DataVectorEdge I C → Carried C
 carried_vector whole counts v =
     record {
@@ -39,7 +37,7 @@ carried_vector whole counts v =
 abbrev pub carried_vectors : {I C : Type 0} → (I → ℤ) → (C → Counts) → List (DataVectorEdge I C) → List (Carried C)
 carried_vectors whole counts vs = map (carried_vector whole counts) vs
 
--- the edges are those of an arrangement, with these fill bits
+-- the edges form an arrangement, with these fill bits
 pub record AreFilledBy (limit : ℕ) (rule : FillRule) (es : List CountedEdge) (fills : List ℕ) : Type 0 where
   pub arranged : IsArrangement limit es
   pub filled : fills ≡ map (fill_bits rule es) es

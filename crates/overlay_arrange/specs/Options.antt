@@ -3,7 +3,7 @@ use Rattle.std.specs.Prelude.{◌≡◌, ℕ, Bool}
 use Rattle.overlay_arrange.specs.declared.options.ContourDirection.TheVariants.{CounterClockwise}
 use Rattle.overlay_arrange.specs.declared.options.IntOverlayOptions.{IntOverlayOptions}
 
--- input points stay, output points stay and contours are for OGC as named; outlines run counterclockwise, and every
+-- input points and output points stay as named, contours are for OGC as named, outlines run counterclockwise, and every
 -- area is kept
 pub record AreOptions {U : Type 0} (natural : U → ℕ) (input output is_ogc : Bool)
     (o : IntOverlayOptions U) : Type 0 where

@@ -15,14 +15,14 @@ is_filled NonZero w = not (int_eq w (pos 0))
 is_filled Positive w = int_lt (pos 0) w
 is_filled Negative w = int_lt w (pos 0)
 
--- which sides of an edge the subject and the clip fill
+-- the sides of an edge that the subject and the clip fill
 pub record Fills : Type 0 where
   pub subj_above : Bool
   pub subj_below : Bool
   pub clip_above : Bool
   pub clip_below : Bool
 
--- the sides of an edge of the list that are filled: by the windings just above it and just below it
+-- the filled sides of an edge of the list, by the windings just above it and just below it
 abbrev pub fills_of : FillRule → List CountedEdge → CountedEdge → Fills
 fills_of fill es e = record {
   subj_above = is_filled fill (winding_above subj_of es e);
@@ -31,7 +31,7 @@ fills_of fill es e = record {
   clip_below = is_filled fill (winding_below clip_of es e);
 }
 
--- the bit where the side is filled, and 0 elsewhere
+-- the bit if the side is filled, else 0
 abbrev pub bit : Bool → ℕ → ℕ
 bit b n = cond b n 0
 
@@ -43,7 +43,7 @@ bits_of f = bit f.subj_above 1 + bit f.subj_below 2 + bit f.clip_above 4 + bit f
 abbrev pub fill_bits : FillRule → List CountedEdge → CountedEdge → ℕ
 fill_bits fill es e = bits_of (fills_of fill es e)
 
--- the rule takes what the subject fills, or not, and the clip fills, or not
+-- the rule takes a point, by whether the subject and whether the clip fill it
 abbrev pub rule_holds : OverlayRule → Bool → Bool → Bool
 rule_holds Subject s c = s
 rule_holds Clip s c = c
@@ -53,6 +53,6 @@ rule_holds Difference s c = s && not c
 rule_holds InverseDifference s c = c && not s
 rule_holds Xor s c = cond s (not c) c
 
--- the rules hold of a winding of the subject and one of the clip
+-- the rules hold of a winding of the subject and a winding of the clip
 abbrev pub rules_hold : FillRule → OverlayRule → ℤ → ℤ → Bool
 rules_hold fill rule s c = rule_holds rule (is_filled fill s) (is_filled fill c)

@@ -1,7 +1,7 @@
--- What it is for two counted edges to be settled.
+-- The condition that two counted edges are settled.
 use Rattle.overlay_geom.specs.Edges.{CountedEdge, ends_of}
 use Rattle.overlay_geom.specs.Settled.{MeetInEnds}
 
--- the two meet in ends alone
+-- the two edges meet in ends alone
 abbrev pub AreSettled : CountedEdge → CountedEdge → Type 0
 AreSettled e f = MeetInEnds (ends_of e) (ends_of f)

@@ -1,4 +1,4 @@
--- The edges of a list in the order in which a sweep comes to them, and what it holds of them.
+-- The edges of a list in the order of a sweep, and the entries that the sweep holds.
 use Rattle.std.specs.Prelude.{◌≡◌, ℕ, ◌+◌, false, ℤ, List, map, AllPairs, slice_index_or}
 use Rattle.std.specs.List.Sorted.{IsPermutation}
 use Rattle.overlay_geom.specs.Counts.{Counts}
@@ -14,11 +14,11 @@ use Rattle.overlay_arrange.specs.Content.{plain_edge, IsContent}
 use Rattle.overlay_arrange.specs.declared.starting_edge.StartingEdge.{StartingEdge}
 use Rattle.overlay_arrange.specs.declared.windings.Windings.{Windings}
 
--- the ends of an edge that a sweep comes to
+-- the ends of an edge of the sweep
 abbrev pub starting_ends : {I C W U : Type 0} {i w u : _} → (I → ℤ) → StartingEdge I C W U i w u → Edge
 starting_ends whole s = record { a = plain_point whole s.edge.a; b = plain_point whole s.edge.b }
 
--- the counted edge at its numbers, and those of a list
+-- the counted edge of a starting edge, and those of a list
 abbrev pub plain_start : {I C W U : Type 0} {i w u : _} → (I → ℤ) → (C → Counts) → StartingEdge I C W U i w u →
     CountedEdge
 plain_start whole counts s = plain_edge whole counts s.edge
@@ -27,7 +27,7 @@ abbrev pub plain_starts : {I C W U : Type 0} {i w u : _} → (I → ℤ) → (C 
     List CountedEdge
 plain_starts whole counts ss = map (plain_start whole counts) ss
 
--- with its place in the list, and those of a list
+-- that edge with its place in the list, and those of a list
 abbrev pub numbered_start : {I C W U : Type 0} {i w u : _} → (I → ℤ) → (C → Counts) → StartingEdge I C W U i w u →
     Numbered CountedEdge
 numbered_start whole counts s = record { item = plain_start whole counts s; place = s.place }
@@ -36,7 +36,7 @@ abbrev pub numbered_starts : {I C W U : Type 0} {i w u : _} → (I → ℤ) →
     (C → Counts) → List (StartingEdge I C W U i w u) → List (Numbered CountedEdge)
 numbered_starts whole counts ss = map (numbered_start whole counts) ss
 
--- they are the edges of the list with their places, and none starts before one that stands before it
+-- they are the edges of the list with their places, ordered by start
 pub record AreByStart (es : List CountedEdge) (ns : List (Numbered CountedEdge)) : Type 0 where
   pub permutation : IsPermutation (numbered 0 es) ns
   pub order : AllPairs (λ m n. is_anchored_before (ends_of n.item) (ends_of m.item) ≡ false) ns
@@ -55,7 +55,7 @@ windings_below fs e = record { subj = winding_below subj_of fs e; clip = winding
 abbrev pub windings_above : List CountedEdge → CountedEdge → Windings
 windings_above fs e = record { subj = winding_above subj_of fs e; clip = winding_above clip_of fs e }
 
--- the windings are those above the edge right before a place, if there is one
+-- the windings are those above the edge right before a place, if there is such an edge
 abbrev pub AreAboveTheOneBefore : List CountedEdge → ℕ → Windings → Type 0
 AreAboveTheOneBefore fs i v = (k : ℕ) (e : CountedEdge) → k + 1 ≡ i → slice_index_or fs k e ≡ e →
     v ≡ windings_above fs e

@@ -35,7 +35,7 @@ pub struct IntOverlayOptions<U> {
     pub preserve_output_collinear: bool,
     /// The smallest area of a contour that is kept; 0 keeps all contours.
     pub min_output_area: U,
-    /// Whether output contours may not visit a point twice.
+    /// Whether each output contour visits a point at most once.
     pub ogc: bool,
 }
 
