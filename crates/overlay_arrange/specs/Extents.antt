@@ -1,4 +1,4 @@
--- Between which heights and which places edges or points lie, and blocks of so many of these extents.
+-- Boxes of edges and points, by their range of y-coordinates and their range of places, and blocks of such boxes.
 use Rattle.std.specs.Prelude.{◌≡◌, ◌⊎◌, ℕ, ◌<◌, ◌≤◌, ◌/◌, cond, ℤ, ◌<ℤ◌, ◌≤ℤ◌, int_lt, List, map, length}
 use Rattle.std.specs.Prelude.{slice_index_or}
 use Rattle.std.specs.List.Sorted.{IsPermutation}
@@ -9,14 +9,14 @@ use Rattle.overlay_arrange.specs.Meetings.{IsAt}
 use Rattle.overlay_arrange.specs.declared.extents.Extent.{Extent as HeldExtent}
 use Rattle.overlay_arrange.specs.declared.strips.Strips.{Strips}
 
--- the least and the greatest height of edges or points, and the first and the last one of their places
+-- a box: the least and the greatest y-coordinate of edges or points, and their first and last place
 pub record Extent : Type 0 where
   pub low : ℤ
   pub high : ℤ
   pub first : ℕ
   pub last : ℕ
 
--- that of the edge at a place: the lesser and the greater one of the heights of its ends
+-- the box of the edge at a place
 abbrev pub extent_of : CountedEdge → ℕ → Extent
 extent_of e place = record {
   low = cond (int_lt e.a.y e.b.y) e.a.y e.b.y;
@@ -28,45 +28,45 @@ extent_of e place = record {
 abbrev pub extent_at : Numbered CountedEdge → Extent
 extent_at n = extent_of n.item n.place
 
--- those of the edges of a list, each at its place
+-- the boxes of the edges of a list, each at its place
 abbrev pub extents_of : List CountedEdge → List Extent
 extents_of es = map extent_at (numbered 0 es)
 
--- that of the point at a place
+-- the box of the point at a place
 abbrev pub extent_of_point : Point → ℕ → Extent
 extent_of_point v place = record { low = v.y; high = v.y; first = place; last = place }
 
 abbrev pub extent_at_point : Numbered Point → Extent
 extent_at_point n = extent_of_point n.item n.place
 
--- those of the points of a list, each at its place
+-- the boxes of the points of a list, each at its place
 abbrev pub extents_of_points : List Point → List Extent
 extents_of_points vs = map extent_at_point (numbered 0 vs)
 
--- the extent at a program's numbers, and each one of a list
+-- the box of whole numbers for a box of the program, and those of a list
 abbrev pub plain_extent : {I : Type 0} → (I → ℤ) → HeldExtent I → Extent
 plain_extent whole s = record { low = whole s.low; high = whole s.high; first = s.first; last = s.last }
 
 abbrev pub plain_extents : {I : Type 0} → (I → ℤ) → List (HeldExtent I) → List Extent
 plain_extents whole ss = map (plain_extent whole) ss
 
--- the heights of the one lie wholly below those of the other one, or its places wholly before
+-- the boxes share no height, or no place
 abbrev pub IsApart : Extent → Extent → Type 0
 IsApart s t = (s.high <ℤ t.low) ⊎ ((t.high <ℤ s.low) ⊎ ((s.last < t.first) ⊎ (t.last < s.first)))
 
--- the heights and the places of the second extent are among those of the first one
+-- the first box encloses the second, in heights and in places
 pub record Encloses (s t : Extent) : Type 0 where
   pub low : s.low ≤ℤ t.low
   pub high : t.high ≤ℤ s.high
   pub first : s.first ≤ t.first
   pub last : t.last ≤ s.last
 
--- each extent is enclosed by that of its block of n
+-- the box of each block of n boxes encloses all of them
 abbrev pub AreBlocks : ℕ → List Extent → List Extent → Type 0
 AreBlocks n ss blocks = (k : ℕ) (s d : Extent) → IsAt ss k s →
     (k / n < length blocks) × Encloses (slice_index_or blocks (k / n) d) s
 
--- the extents are enclosed by those of their blocks
+-- the boxes of blocks enclose their boxes
 pub record AreInBlocks (ss of_8 of_64 of_512 of_4096 of_32768 : List Extent) : Type 0 where
   pub by_8 : AreBlocks 8 ss of_8
   pub by_64 : AreBlocks 64 ss of_64
@@ -74,20 +74,20 @@ pub record AreInBlocks (ss of_8 of_64 of_512 of_4096 of_32768 : List Extent) : T
   pub by_4096 : AreBlocks 4096 ss of_4096
   pub by_32768 : AreBlocks 32768 ss of_32768
 
--- each extent has its own place alone
+-- each box has its own place alone
 abbrev pub AreAtPlaces : List Extent → Type 0
 AreAtPlaces ss = (k : ℕ) (s : Extent) → IsAt ss k s → (s.first ≡ k) × (s.last ≡ k)
 
--- each extent has one place, and stands in the strip, of so many, in which this place lies
+-- each box has a single place, and is in the strip, `width` wide, of this place
 abbrev pub AreInStrips : ℕ → List Extent → Type 0
 AreInStrips width ss = (k : ℕ) (s : Extent) → IsAt ss k s → (s.first / width ≡ k / width) × (s.last ≡ s.first)
 
--- the extents of each strip, of so many, stand by their least heights
+-- the boxes of each strip, `width` wide, are sorted by their least heights
 abbrev pub AreByHeights : ℕ → List Extent → Type 0
 AreByHeights width ss = (j k : ℕ) (s t : Extent) → j ≤ k → j / width ≡ k / width → IsAt ss j s → IsAt ss k t →
     s.low ≤ℤ t.low
 
--- they are those of the edges, strip by strip, of so many each
+-- they are the boxes of the edges, in strips `width` wide
 pub record AreStripsOf (es : List CountedEdge) (width : ℕ) (ss of_8 of_64 of_512 of_4096 of_32768 : List Extent) :
     Type 0 where
   pub some : 0 < width
@@ -96,14 +96,14 @@ pub record AreStripsOf (es : List CountedEdge) (width : ℕ) (ss of_8 of_64 of_5
   pub heights : AreByHeights width ss
   pub blocks : AreInBlocks ss of_8 of_64 of_512 of_4096 of_32768
 
--- so are those that a program holds
+-- the program's strips are such boxes
 abbrev pub AreHeldStripsOf : {I A : Type 0} → (I → ℤ) → List CountedEdge → Strips I A → Type 0
 AreHeldStripsOf whole es strips =
     AreStripsOf es strips.width (plain_extents whole strips.edges.items) (plain_extents whole strips.of_8.items)
     (plain_extents whole strips.of_64.items) (plain_extents whole strips.of_512.items)
     (plain_extents whole strips.of_4096.items) (plain_extents whole strips.of_32768.items)
 
--- the extents of the points, strip by strip, of so many each
+-- they are the boxes of the points, in strips `width` wide
 pub record ArePointsByStrips (vs : List Point) (width : ℕ) (ss : List Extent) : Type 0 where
   pub some : 0 < width
   pub permutation : IsPermutation (extents_of_points vs) ss

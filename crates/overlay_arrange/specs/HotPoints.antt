@@ -6,12 +6,12 @@ use Rattle.overlay_geom.specs.Edges.{CountedEdge, ends_of}
 use Rattle.overlay_plane.specs.SnapPoints.{hot_points, meets_pixel}
 use Rattle.overlay_arrange.specs.Meetings.{Meeting, IsAt, IsEndOrMet}
 
--- the two lists have the same members
+-- the two lists have equal members
 pub record HaveSameMembers {X : Type 0} (xs ys : List X) : Type 0 where
   pub forth : (x : X) → Contains xs x → Contains ys x
   pub back : (x : X) → Contains ys x → Contains xs x
 
--- each point of the list is smaller than all later ones: by x, then by y
+-- each point of the list is smaller than all later points: by x, then by y
 abbrev pub ArePointsAscending : List Point → Type 0
 ArePointsAscending vs = AllPairs (λ v w. point_lt v w ≡ true) vs
 
@@ -34,7 +34,7 @@ pub record IsSpanOf (vs : List Point) (e : CountedEdge) (low high : ℕ) : Type 
   pub within : high ≤ length vs
   pub all : (k : ℕ) (v : Point) → IsAt vs k v → e.a.x ≤ℤ v.x → v.x ≤ℤ e.b.x → (low ≤ k) × (k < high)
 
--- ranks of points, with each one whose pixel the edge e meets
+-- ranks of points, including each point whose pixel the edge e meets
 pub record AreRanksNear (vs : List Point) (e : CountedEdge) (ranks : List ℕ) : Type 0 where
   pub within : (k : ℕ) → Contains ranks k → k < length vs
   pub all : (k : ℕ) (v : Point) → IsAt vs k v → meets_pixel (ends_of e) v ≡ true → Contains ranks k
@@ -45,7 +45,7 @@ points_at vs ranks = map (λ k. slice_index_or vs k (record { x = pos 0; y = pos
 
 -- ---- gathering
 
--- those of the points whose pixels the edge e at place i meets are added as its meetings; its ends may be left out
+-- the points whose pixels the edge e at place i meets are added as its meetings; its own ends may be left out
 pub record AddsMet (i : ℕ) (e : CountedEdge) (vs : List Point) (old new : List Meeting) : Type 0 where
   pub more : List Meeting
   pub added : new ≡ old ++ more
@@ -53,7 +53,7 @@ pub record AddsMet (i : ℕ) (e : CountedEdge) (vs : List Point) (old new : List
       (m.place ≡ i) × Contains vs m.point × (meets_pixel (ends_of e) m.point ≡ true)
   pub all : (v : Point) → Contains vs v → meets_pixel (ends_of e) v ≡ true → IsEndOrMet more i e v
 
--- the meetings are those of the edges before place n: the points whose pixels each meets
+-- the meetings are those of the edges before place n: the points whose pixels each edge meets
 pub record AreSnappedBefore (es : List CountedEdge) (vs : List Point) (n : ℕ) (ms : List Meeting) : Type 0 where
   pub led : (m : Meeting) → Contains ms m → (m.place < n)
       × ((e : CountedEdge) × IsAt es m.place e × Contains vs m.point × (meets_pixel (ends_of e) m.point ≡ true))

@@ -15,15 +15,15 @@ pub record Meeting : Type 0 where
   pub place : ℕ
   pub point : Point
 
--- the meeting at a meeting's numbers
+-- the meeting with a whole point, for a meeting of the program
 abbrev pub plain_meeting : {I : Type 0} → (I → ℤ) → HeldMeeting I → Meeting
 plain_meeting whole m = record { place = m.place; point = plain_point whole m.point }
 
--- and of each meeting of a list
+-- the meetings for a list of meetings of the program
 abbrev pub plain_meetings : {I : Type 0} → (I → ℤ) → List (HeldMeeting I) → List Meeting
 plain_meetings whole ms = map (plain_meeting whole) ms
 
--- v is an end of the edge e at place i, or one of its meetings
+-- v is an end of the edge e at place i, or a meeting of it
 abbrev pub IsEndOrMet : List Meeting → ℕ → CountedEdge → Point → Type 0
 IsEndOrMet ms i e v = IsEndOf e v ⊎ Contains ms (record { place = i; point = v })
 
@@ -35,7 +35,7 @@ pub record AddsPoints (i : ℕ) (e : CountedEdge) (vs : List Point) (old new : L
   pub led : (m : Meeting) → Contains new m → Contains old m ⊎ ((m.place ≡ i) × Contains vs m.point)
   pub all : (v : Point) → Contains vs v → IsEndOrMet new i e v
 
--- the points through which the edges e at place i and f at place j lead one another are added
+-- the points through which the edges e at place i and f at place j lead each other are added
 pub record AddsBoth (i : ℕ) (e : CountedEdge) (j : ℕ) (f : CountedEdge) (old new : List Meeting) : Type 0 where
   pub between : List Meeting
   pub one : AddsPoints i e (met_at (ends_of e) (ends_of f)) old between
@@ -53,23 +53,23 @@ pub record IsRunEnd (es : List CountedEdge) (x : ℤ) (first end : ℕ) : Type 0
   pub within : end ≤ length es
   pub right : (f : CountedEdge) → IsAt es end f → x <ℤ f.a.x
 
--- the edge at place i meets those after it, up to place j, in ends alone
+-- the edge at place i meets the edges after it, up to place j, in ends alone
 abbrev pub AreSettledUpTo : List CountedEdge → ℕ → ℕ → Type 0
 AreSettledUpTo es i j = (k : ℕ) (e f : CountedEdge) → i < k → k < j → IsAt es i e → IsAt es k f → AreSettled e f
 
--- the edges before place n meet each later one in ends alone
+-- the edges before place n meet each later edge in ends alone
 pub record AreSettledBefore (es : List CountedEdge) (n : ℕ) : Type 0 where
   pub within : n ≤ length es
   pub meet : (k : ℕ) → k < n → AreSettledUpTo es k (length es)
 
--- the meetings of the edges that stand at such pairs of places: all of them, but for the edges' own ends
+-- the meetings of the edges at such pairs of places: all of them, except perhaps the edges' own ends
 pub record AreGathered (es : List CountedEdge) (Pair : ℕ → ℕ → Type 0) (ms : List Meeting) : Type 0 where
   pub led : (m : Meeting) → Contains ms m →
       (e : CountedEdge) × IsAt es m.place e × Contains (cut_points es e) m.point
   pub all : (i j : ℕ) (e f : CountedEdge) → IsAt es i e → IsAt es j f → Pair i j → (v : Point) →
       Contains (met_at (ends_of e) (ends_of f)) v → IsEndOrMet ms i e v
 
--- one of the two places comes before place n
+-- at least one of the two places comes before place n
 abbrev pub HasBefore : ℕ → ℕ → ℕ → Type 0
 HasBefore n i j = (i < n) ⊎ (j < n)
 
@@ -77,13 +77,13 @@ HasBefore n i j = (i < n) ⊎ (j < n)
 abbrev pub AreMeetings : List CountedEdge → List Meeting → Type 0
 AreMeetings es ms = AreGathered es (HasBefore (length es)) ms
 
--- the meetings stand by their places
+-- the meetings are sorted by their places
 abbrev pub AreByPlace : List Meeting → Type 0
 AreByPlace ms = AllPairs (λ m n. m.place ≤ n.place) ms
 
 -- ---- taking
 
--- from the one place up to the other one stand the meetings of the edge at place i
+-- the meetings of the edge at place i are those from `low` up to `high`
 pub record IsRunAt (ms : List Meeting) (i low high : ℕ) : Type 0 where
   pub ordered : low ≤ high
   pub within : high ≤ length ms

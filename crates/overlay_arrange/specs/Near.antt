@@ -1,16 +1,16 @@
--- The later edges that an edge may meet, and a search for them by extents.
+-- The later edges that an edge may meet, and a search for them by boxes.
 use Rattle.std.specs.Prelude.{◌≡◌, ◌⊎◌, ℕ, ◌+◌, ◌-◌, ◌/◌, ◌%◌, ◌<◌, ◌≤◌, ◌<ℤ◌, List, Contains, length, slice_index_or}
 use Rattle.overlay_geom.specs.Edges.{CountedEdge}
 use Rattle.overlay_arrange.specs.Extents.{Extent, extent_of, IsApart}
 use Rattle.overlay_arrange.specs.Meetings.{IsAt}
 use Rattle.overlay_arrange.specs.Settle.{AreSettled}
 
--- the heights of the edge e, and the places from the one on up to the end of a run
+-- the box of the heights of the edge e, and of the places from `from` to the end of a run
 abbrev pub run_of : CountedEdge → ℕ → ℕ → Extent
 run_of e from end =
     record { low = (extent_of e from).low; high = (extent_of e from).high; first = from; last = end - 1 }
 
--- the heights of the edge e are less than those of f
+-- the edge e lies wholly below f
 abbrev pub IsUnder : CountedEdge → CountedEdge → Type 0
 IsUnder e f = (extent_of e 0).high <ℤ (extent_of f 0).low
 
@@ -18,20 +18,20 @@ IsUnder e f = (extent_of e 0).high <ℤ (extent_of f 0).low
 abbrev pub IsFar : CountedEdge → CountedEdge → Type 0
 IsFar e f = (e.b.x <ℤ f.a.x) ⊎ (IsUnder e f ⊎ IsUnder f e)
 
--- places of edges from the one on, with each one there that e does not meet in ends alone
+-- places of edges from `from` on, including each edge there that e does not meet in ends alone
 pub record AreNearBehind (es : List CountedEdge) (e : CountedEdge) (from : ℕ) (js : List ℕ) : Type 0 where
   pub within : (j : ℕ) → Contains js j → (from ≤ j) × (j < length es)
   pub all : (j : ℕ) (f : CountedEdge) → from ≤ j → IsAt es j f → Contains js j ⊎ AreSettled e f
 
--- places of edges after the one at place i, with each one that it does not meet in ends alone
+-- places of edges after place i, including each edge that the edge there does not meet in ends alone
 abbrev pub AreNear : List CountedEdge → ℕ → List ℕ → Type 0
 AreNear es i js = (e : CountedEdge) → IsAt es i e → AreNearBehind es e (i + 1) js
 
--- the extents from one place up to another one lie apart from s
+-- the boxes from `from` up to `to` lie apart from s
 abbrev pub AreApartFrom : List Extent → Extent → ℕ → ℕ → Type 0
 AreApartFrom ss s from to = (k : ℕ) (t : Extent) → from ≤ k → k < to → IsAt ss k t → IsApart s t
 
--- the extent does not lie apart from s, and j is its place
+-- the box does not lie apart from s, and j is its place
 pub record IsNearAt (ss : List Extent) (s : Extent) (j : ℕ) : Type 0 where
   pub place : ℕ
   pub extent : Extent
@@ -39,17 +39,17 @@ pub record IsNearAt (ss : List Extent) (s : Extent) (j : ℕ) : Type 0 where
   pub is : extent.first ≡ j
   pub near : ¬ (IsApart s extent)
 
--- the places of those of the extents before the one at place `at` that do not lie apart from s
+-- the places of the boxes before `at` that do not lie apart from s
 pub record IsSearchedTo (ss : List Extent) (s : Extent) (at : ℕ) (js : List ℕ) : Type 0 where
   pub from : (j : ℕ) → Contains js j → IsNearAt ss s j
   pub all : (k : ℕ) (t : Extent) → k < at → IsAt ss k t → IsApart s t ⊎ Contains js t.first
 
--- all places from the one up to the other one
+-- all places from `from` up to `to`
 pub record AreBetween (from to : ℕ) (js : List ℕ) : Type 0 where
   pub within : (j : ℕ) → Contains js j → (from ≤ j) × (j < to)
   pub all : (j : ℕ) → from ≤ j → j < to → Contains js j
 
--- at a place a block of so many extents begins, and lies apart from s
+-- a block of `size` boxes begins at the place, and lies apart from s
 pub record BeginsApart (blocks : List Extent) (size : ℕ) (s : Extent) (at : ℕ) : Type 0 where
   pub begins : at % size ≡ 0
   pub apart : (d : Extent) → IsApart s (slice_index_or blocks (at / size) d)

@@ -1,5 +1,5 @@
--- What snap rounding makes of merged edges that are not settled: where all meeting points are whole it cuts the edges
--- in these, and else it leads each through the hot points whose pixels it meets.
+-- Snap rounding of merged edges that are not settled. Where all meeting points are whole, it cuts the edges at these
+-- points. Else it leads each edge through the hot points whose pixels it meets.
 use Rattle.std.specs.Prelude.{◌≡◌, ℕ, ◌≤◌, List, flat_map}
 use Rattle.overlay_geom.specs.Edges.{CountedEdge, weight}
 use Rattle.overlay_plane.specs.Carried.{Carried, edges_in}
@@ -15,7 +15,7 @@ pub data AreLedBySnapping (es : List CountedEdge) : LeadingPoints → Type 0 whe
   cut : MeetInWholePoints es → AreLedBySnapping es (cut_points es)
   snapped : ¬ (MeetInWholePoints es) → AreLedBySnapping es (snap_points es)
 
--- the second list has the pieces of the edges of the first one, with what these carry
+-- the second list has the pieces of the edges of the first, with their values
 pub record IsLedOnce {C : Type 0} (splits reverses : C → C → Type 0) (old new : List (Carried C)) : Type 0 where
   pub points : LeadingPoints
   pub led : AreLedBySnapping (edges_in old) points
