@@ -1,4 +1,4 @@
-//! Binding: the shape in which each hole stands.
+//! Binding: the shape that each hole belongs to.
 
 ghost use Rattle.std.specs.Prelude.{◌≡◌, false, length, map, All, AllPairs, Some, IfOk, IsOkUnless};
 ghost use Rattle.overlay_geom.specs.Plane.{edge_of, edge_eq};
@@ -24,7 +24,7 @@ use overlay_scan::scan::Scan;
 use overlay_walk::contour::Contour;
 use std::alloc::Allocator;
 
-/// The number of the first shape, so often.
+/// Returns a list of `count` times the number of the first shape.
 fn all_in_first<A: Allocator>(alloc: A, count: usize) -> Result<Vec<Option<usize>, A>, OverlayError>
     ensures ok { IfOk result (λ v. (length v.items ≡ count) × All (λ s. s ≡ Some 0) v.items) }
     ensures err { IsOkUnless result OverlayError.Memory }
@@ -34,15 +34,15 @@ fn all_in_first<A: Allocator>(alloc: A, count: usize) -> Result<Vec<Option<usize
     Ok(numbers)
 }
 
-/// A list as long as that of the contours. At a hole whose shape is to be found stands the number of the
-/// shape in which it stands. Where there is one outline alone that is its shape. Else it is the one to which
-/// the contour with the next filled-above edge below the hole's anchor belongs: an outline or a hole of its
-/// group to its own shape, another hole to the one that is found for it. It is None for a hole with no such
-/// edge, or with that of a hole for which none is found. What stands at the others is left open.
+/// Returns a list with an entry for each contour. The entry of a hole whose shape is to be found is the number of its
+/// shape, or None. If there is one outline alone, it is that shape. Otherwise the contour with the next filled-above
+/// edge below the hole's anchor decides. An outline, or a hole of its group, gives its own shape; another hole gives
+/// the shape found for it. The entry is None if there is no such edge, or if no shape is found for that hole. The
+/// entries of other contours are left open.
 ///
-/// The contours' edges meet in ends alone; none walks along an edge twice, and no two edges that are filled
-/// above are equal, nor two that are filled below. The scan is empty at first; what it holds afterwards is
-/// left open. The only refusal is `Memory`.
+/// The contours' edges meet in ends alone, and none walks along an edge twice. No two filled-above edges are equal, nor
+/// two filled-below edges. The scan is empty at first; its content afterwards is left open. The only refusal is
+/// `Memory`.
 pub fn bind_contours<I: IntNumber, A: Allocator + Clone, S: Scan<I, usize>>(
     alloc: A,
     scan: &mut S,
@@ -64,13 +64,13 @@ pub fn bind_contours<I: IntNumber, A: Allocator + Clone, S: Scan<I, usize>>(
     Ok(shapes)
 }
 
-/// Returns a list with a number, or None, for each contour. Contours that stand in shapes from the start have
-/// their number in `known`; what stands at these is open. For each other contour it is the number that is known
-/// of, or found for, the contour with the next edge below its anchor, among the edges that are filled on the side.
-/// It is None where there is no such edge, or where none is found for that contour.
+/// Returns a list with a number, or None, for each contour. Contours with a known shape have their number in `known`;
+/// their entries are left open. Each other contour takes the number that is known of, or found for, the contour with
+/// the next edge below its anchor. Only edges filled on the side count. The entry is None if there is no such edge, or
+/// if none is found for that contour.
 ///
-/// So by `Side::Above` holes find their parents, and by `Side::Below`, with the holes' numbers as known,
-/// an island the hole round it. The contours are as for [`bind_contours`]. The only refusal is `Memory`.
+/// With `Side::Above` holes find their parents. With `Side::Below`, and the holes' places as known, an island finds the
+/// hole round it. The contours are as for [`bind_contours`]. The only refusal is `Memory`.
 pub fn find_shapes<I: IntNumber, A: Allocator + Clone, S: Scan<I, usize>>(
     alloc: A,
     scan: &mut S,
@@ -102,8 +102,8 @@ pub fn find_shapes<I: IntNumber, A: Allocator + Clone, S: Scan<I, usize>>(
     )
 }
 
-/// The direction in which contours run whose filled-above edges are those that are filled on the side
-/// where contours run in this one.
+/// Returns the direction of contours whose filled-above edges are those filled on the side, for contours in
+/// `direction`.
 fn filled_above_as(direction: ContourDirection, side: Side) -> ContourDirection
     ensures { filled_hand result ≡ hand_on_side side (filled_hand direction) }
 {

@@ -1,4 +1,4 @@
-//! The sweep over walks that finds the shapes of those that stand in none from the start.
+//! The sweep over walks that finds the shapes of walks whose shape is not yet known.
 
 ghost use Rattle.std.specs.Prelude.{◌≡◌, ◌≤◌, length, map, take, drop, slice_index_or, None};
 ghost use Rattle.std.specs.Prelude.{◌<ℤ◌, false, cond, nat_lt, All, AllPairs, IfOk, IsOkUnless};
@@ -26,9 +26,9 @@ use overlay_walk::contour::Contour;
 use overlay_walk::numbered_edge::NumberedEdge;
 use std::alloc::Allocator;
 
-/// For each walk that stands in no shape from the start (`known` has None there) the number of the shape
-/// that is found for it by its next filled-above edge, if one is. The scan is empty at first; what it
-/// holds afterwards is left open. The only refusal is `Memory`.
+/// Returns for each walk whose shape is not known (`known` has None there) the number of the shape found for it by its
+/// next filled-above edge, if there is one. The scan is empty at first; its content afterwards is left open. The only
+/// refusal is `Memory`.
 pub fn parents_by_sweep<I: IntNumber, A: Allocator + Clone, S: Scan<I, usize>>(
     alloc: A,
     scan: &mut S,
@@ -62,8 +62,8 @@ pub fn parents_by_sweep<I: IntNumber, A: Allocator + Clone, S: Scan<I, usize>>(
     Ok(parents)
 }
 
-/// Puts in the edges over x from an index on, each with its walk's index, and returns the index of the
-/// first edge that starts to the right of x. The only refusal is `Memory`.
+/// Inserts the edges over x from an index on, each with its walk's index, and returns the index of the first edge that
+/// starts to the right of x. The only refusal is `Memory`.
 fn insert_up_to<I: IntNumber, S: Scan<I, usize>>(
     scan: &mut S,
     edges: &[NumberedEdge<I>],
@@ -93,8 +93,7 @@ fn insert_up_to<I: IntNumber, S: Scan<I, usize>>(
     Ok(edges.len())
 }
 
-/// The index of the walk that has the highest edge of the scan below an anchor, or `none` where no
-/// edge is.
+/// Returns the index of the walk with the highest edge of the scan below an anchor, or `none` if there is no edge.
 fn walk_below<I: IntNumber, S: Scan<I, usize>>(
     scan: &mut S,
     anchor: &NumberedEdge<I>,
@@ -113,8 +112,8 @@ fn walk_below<I: IntNumber, S: Scan<I, usize>>(
     scan.first_less(anchor.a.x, none, [anchor.a, anchor.b])
 }
 
-/// The number of the shape of the walk with this index: of an outline its own, of a hole that of its
-/// parent. It is None past the walks.
+/// Returns the number of the walk's shape: an outline's own number, or the number of a hole's parent. It is None past
+/// the walks.
 fn shape_at(numbers: &[Option<usize>], parents: &[Option<usize>], walk: usize) -> Option<usize>
     requires { length parents.now ≡ length numbers.now }
     ensures { result ≡ cond (nat_lt walk (length numbers.now))

@@ -1,4 +1,4 @@
--- What an overlay is asked for, and the steps that it selects.
+-- The query of an overlay, and the steps that it selects.
 use Rattle.std.specs.Prelude.{ℕ, Bool, ℤ, List}
 use Rattle.std.specs.Int.{Width}
 use Rattle.overlay_geom.specs.Plane.{Step}
@@ -13,8 +13,8 @@ use Rattle.overlay_arrange.specs.declared.options.ContourDirection.{ContourDirec
 use Rattle.overlay_arrange.specs.declared.options.IntOverlayOptions.{IntOverlayOptions}
 use Rattle.overlay_walk.specs.Steps.{filled_hand}
 
--- what an overlay is asked for: the rules, and how the output is to look; and how many bits the type has in which
--- areas are summed
+-- the query of an overlay: the rules, the options of the output, and the number of bits of the type in which areas are
+-- summed
 pub record Asked : Type 0 where
   pub fill : FillRule
   pub rule : OverlayRule
@@ -24,7 +24,7 @@ pub record Asked : Type 0 where
   pub min_output_area : ℕ
   pub area_width : Width
 
--- what rules and options ask for
+-- the query by these rules and options
 abbrev pub asked : {U : Type 0} → Width → (U → ℕ) → FillRule → OverlayRule → IntOverlayOptions U → Asked
 asked area_width natural fill rule options = record {
   fill = fill;
@@ -36,18 +36,18 @@ asked area_width natural fill rule options = record {
   area_width = area_width;
 }
 
--- the two rules hold of a winding of the subject and one of the clip: the region asked for is where they hold of the
--- windings
+-- the two rules hold of a winding of the subject and a winding of the clip. The region asked for is where they hold of
+-- the windings
 abbrev pub region_asked : Asked → ℤ → ℤ → Bool
 region_asked q = rules_hold q.fill q.rule
 
--- the hand by which contours have the region: the left one where the output is counterclockwise, the right one where it
--- is clockwise
+-- the hand by which contours have the region: the left hand where the output is counterclockwise, the right hand where
+-- it is clockwise
 abbrev pub filled_asked : Asked → Hand
 filled_asked q = filled_hand q.output_direction
 
--- the selected steps of the edges: those of the edges on exactly one side of which the region is, each with that side
--- by that hand
+-- the selected steps of the edges: the steps along edges with the region on exactly one side, each with that side by
+-- that hand
 abbrev pub selected_of : Asked → List CountedEdge → List Step
 selected_of q es = selected_steps (region_asked q) subj_of clip_of (filled_asked q) es
 

@@ -15,7 +15,7 @@ plain_role (Outline n) = outline n
 plain_role (OwnHole n) = own_hole n
 plain_role FreeHole = free_hole
 
--- the contour at a contour's numbers, its walk alone, and the contours of a list
+-- the contour for a contour of the program, its walk alone, and the contours of a list
 abbrev pub plain_contour : {I A : Type 0} → (I → ℤ) → ContourTaken I A → Contour
 plain_contour whole c = record { role = plain_role c.role; steps = plain_steps whole c.steps.items }
 
@@ -25,7 +25,7 @@ walk_of whole c = plain_steps whole c.steps.items
 abbrev pub plain_contours : {I A : Type 0} → (I → ℤ) → List (ContourTaken I A) → List Contour
 plain_contours whole cs = map (plain_contour whole) cs
 
--- the walks of groups at their numbers
+-- the walks of groups of the program
 abbrev pub plain_groups : {I A : Type 0} → (I → ℤ) → List (Vec (Vec (StepTaken I) A) A) → List (List (List Step))
 plain_groups whole gs = map (λ ws. plain_walks whole ws.items) gs
 

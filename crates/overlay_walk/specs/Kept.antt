@@ -1,11 +1,11 @@
--- What is kept of steps that are walked.
+-- The state of steps that are walked.
 use Rattle.std.specs.Prelude.{◌≡◌, ℕ, Bool, ℤ, List, length, All}
 use Rattle.overlay_walk.specs.declared.step.Step.{Step as StepTaken}
 use Rattle.overlay_walk.specs.Places.{ArePlacesByStart, ArePassed}
 use Rattle.overlay_walk.specs.Steps.{plain_steps, IsByFrom, IsLong}
 
--- the steps, by the points that they leave, with a mark for each; their places, by where their edges start; and how
--- many of these are passed
+-- the steps sorted by the points that they leave, with a mark for each. Their places are sorted by the starts of their
+-- edges, and `passed` of these are known to be taken
 pub record AreKept {I : Type 0} (whole : I → ℤ) (limit : ℕ) (steps : List (StepTaken I)) (marks : List Bool)
     (places : List ℕ) (passed : ℕ) : Type 0 where
   pub marked : length marks ≡ length steps

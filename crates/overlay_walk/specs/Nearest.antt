@@ -1,4 +1,4 @@
--- A ray that turns round a node, and which point of a list it meets first.
+-- A ray that turns round a node, and the point of a list that it meets first.
 use Rattle.std.specs.Prelude.{◌≡◌, ℕ, false, Option, None, Some, List, [], ◌∷◌, ◌++◌, All}
 use Rattle.overlay_geom.specs.Plane.{Point}
 use Rattle.overlay_plane.specs.Turn.{Hand, is_met_before, IsMetBefore}
@@ -12,8 +12,8 @@ part_number Ahead = 1
 part_number SecondHalf = 2
 part_number Again = 3
 
--- of a list of points a ray at v that turns by the hand from u meets p first: it meets p before each point that stands
--- before p in the list, and before p none of those that stand after it
+-- a ray at v that turns by the hand from u meets p first of the points of a list. It meets p before each point ahead of
+-- p in the list, and none of the points behind p before p
 pub record IsMetFirst (hand : Hand) (v u : Point) (ps : List Point) (p : Point) : Type 0 where
   pub front : List Point
   pub back : List Point
@@ -33,11 +33,11 @@ pub record Nearest : Type 0 where
   pub start : Point
   pub nearest : Option Point
 
--- where no point is held
+-- the ray with no point held
 abbrev pub none_held : Hand → Point → Point → Nearest
 none_held hand node start = record { hand = hand; node = node; start = start; nearest = None }
 
--- the ray begins in a direction, and the point held is the one of the list that it meets first
+-- the ray has a direction, and the point held is the point of the list that it meets first
 pub record HasSeen (n : Nearest) (ps : List Point) : Type 0 where
   pub apart : ¬ (n.start ≡ n.node)
   pub nearest : IsNearestOf n.hand n.node n.start ps n.nearest

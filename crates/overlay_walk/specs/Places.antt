@@ -1,4 +1,4 @@
--- Places of a list of steps: which of them are open, what stands at them, and their order by where edges start.
+-- Places of a list of steps: open places, the steps at places, and the order of places by the starts of edges.
 use Rattle.std.specs.Prelude.{◌≡◌, ℕ, ◌<◌, ◌≤◌, Bool, true, false, not, ◌&&◌, ◌||◌, List, length, slice_index_or}
 use Rattle.std.specs.Prelude.{Option, Some, None, All, AllPairs, Contains}
 use Rattle.overlay_geom.specs.Plane.{Point, Step, Edge, point_lt, point_eq, edge_of}
@@ -13,41 +13,40 @@ is_open marks k = not (slice_index_or marks k true)
 abbrev pub step_at : List Step → ℕ → Step
 step_at ss k = slice_index_or ss k no_step
 
--- the edge e starts in a smaller point than f, or in the same and leads to the left of it
+-- the edge e starts in a smaller point than f, or in the same point and leads to the left of f
 abbrev pub starts_before : Edge → Edge → Bool
 starts_before e f = point_lt e.a f.a || (point_eq e.a f.a && turns_left f e)
 
--- so does the edge of the step at place j before that of the step at place k
+-- the edge of the step at place j starts so before that of the step at place k
 abbrev pub is_place_started_before : List Step → ℕ → ℕ → Bool
 is_place_started_before ss j k = starts_before (edge_of (step_at ss j)) (edge_of (step_at ss k))
 
--- the places of the steps, by where their edges start
+-- the places of the steps, sorted by the starts of their edges
 pub record ArePlacesByStart (ss : List Step) (places : List ℕ) : Type 0 where
   pub within : All (λ k. k < length ss) places
   pub all : (k : ℕ) → k < length ss → Contains places k
   pub order : AllPairs (λ j k. is_place_started_before ss k j ≡ false) places
 
--- of the places in the list none of the first n is open
+-- none of the first n places in the list is open
 pub record ArePassed (marks : List Bool) (places : List ℕ) (n : ℕ) : Type 0 where
   pub within : n ≤ length places
   pub shut : (i : ℕ) → i < n → is_open marks (slice_index_or places i 0) ≡ false
 
--- the places of the steps that leave the point are those from low up to high
+-- the steps that leave the point have the places from low up to high
 pub record IsRun (ss : List Step) (p : Point) (low high : ℕ) : Type 0 where
   pub ordered : low ≤ high
   pub within : high ≤ length ss
   pub leave : (k : ℕ) → low ≤ k → k < high → (step_at ss k).from ≡ p
   pub all : (k : ℕ) → k < length ss → (step_at ss k).from ≡ p → (low ≤ k) × (k < high)
 
--- the steps from low up to high leave no greater point than p, and that at high does, if there is one
+-- the steps from low up to high leave no greater point than p; if there is a step at high, it does
 pub record LeaveUpTo (ss : List Step) (p : Point) (low high : ℕ) : Type 0 where
   pub ordered : low ≤ high
   pub within : high ≤ length ss
   pub up_to : (k : ℕ) → low ≤ k → k < high → point_lt p (step_at ss k).from ≡ false
   pub ends : high < length ss → point_lt p (step_at ss high).from ≡ true
 
--- the place of the step that is met first, by a ray that turns by the hand at the end of s, among the open ones that
--- leave that end
+-- the place of the open step that leaves the end of s and is met first, by a ray that turns there by the hand
 pub record IsNextAt (ss : List Step) (marks : List Bool) (hand : Hand) (s : Step) (m : ℕ) : Type 0 where
   pub below : m < length ss
   pub untaken : is_open marks m ≡ true

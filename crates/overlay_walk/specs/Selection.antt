@@ -15,7 +15,7 @@ bits_hold_above rule fill = rule_holds rule (has_bit fill 0) (has_bit fill 2)
 abbrev pub bits_hold_below : OverlayRule → ℕ → Bool
 bits_hold_below rule fill = rule_holds rule (has_bit fill 1) (has_bit fill 3)
 
--- it holds on exactly one side
+-- the rule holds on exactly one side
 abbrev pub bits_select : OverlayRule → ℕ → Bool
 bits_select rule fill = cond (bits_hold_above rule fill) (not (bits_hold_below rule fill)) (bits_hold_below rule fill)
 
@@ -23,7 +23,7 @@ bits_select rule fill = cond (bits_hold_above rule fill) (not (bits_hold_below r
 abbrev pub ends : Vector → Edge
 ends v = record { a = v.a; b = v.b }
 
--- the step along the edge with that side on its left, or on its right, if there is one such side
+-- the step along the edge with that side on its left, or on its right, if there is such a side
 abbrev pub steps_by_bits : OverlayRule → Hand → Vector → List Step
 steps_by_bits rule filled v =
     cond (bits_select rule v.fill)

@@ -1,4 +1,4 @@
--- The edges of steps, each an entry whose value is the place of its step, and their order by where they start.
+-- The edges of steps as entries, each with the place of its step, and their order by start.
 use Rattle.std.specs.Prelude.{◌≡◌, ℕ, ◌<◌, false, List, length, map, All, AllPairs, Contains}
 use Rattle.overlay_geom.specs.Plane.{Step, edge_of}
 use Rattle.overlay_scan.specs.Scan.{Entry}
@@ -14,6 +14,6 @@ pub record HaveEdges (ss : List Step) (n : ℕ) (fs : List (Entry ℕ)) : Type 0
   pub from : All (IsEdgeAt ss) fs
   pub all : (k : ℕ) → k < n → Contains (map (λ f. f.value) fs) k
 
--- no edge starts before one that stands before it
+-- no edge starts before an edge ahead of it
 abbrev pub AreInStartOrder : List (Entry ℕ) → Type 0
 AreInStartOrder fs = AllPairs (λ f g. starts_before g.edge f.edge ≡ false) fs

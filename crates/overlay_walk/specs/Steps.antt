@@ -13,35 +13,35 @@ use Rattle.overlay_walk.specs.declared.hand.HandRule.{HandRule}
 use Rattle.overlay_walk.specs.declared.hand.HandRule.TheVariants.{OutlineOrHole, Always}
 use Rattle.overlay_walk.specs.declared.step.Step.{Step as StepTaken}
 
--- the hand
+-- the hand for a hand of the program
 abbrev pub plain_hand : HandTaken → Hand
 plain_hand Left = left
 plain_hand Right = right
 
--- the hand of the filled side where contours run in a direction: the left one where it is counterclockwise
+-- the hand of the filled side of contours in a direction: the left hand for counterclockwise
 abbrev pub filled_hand : ContourDirection → Hand
 filled_hand CounterClockwise = left
 filled_hand Clockwise = right
 
--- the hand by which a walk turns that begins with a step, as the rule says
+-- the hand by which a walk turns that begins with a step, by the rule
 abbrev pub hand_by : HandRule → Step → Hand
 hand_by (OutlineOrHole direction) s = outline_or_hole_hand (filled_hand direction) s
 hand_by (Always hand) s = plain_hand hand
 
--- the step at a step's numbers, and those of a list, and of walks
+-- the step for a step of the program, and those of a list
 abbrev pub plain_step : {I : Type 0} → (I → ℤ) → StepTaken I → Step
 plain_step whole s = record { from = plain_point whole s.from; to = plain_point whole s.to }
 
 abbrev pub plain_steps : {I : Type 0} → (I → ℤ) → List (StepTaken I) → List Step
 plain_steps whole ss = map (plain_step whole) ss
 
--- the step leads along the edge, with the upper side of it on its left or the lower one, and has this number
+-- the step leads along the edge, with its upper or its lower side on the left, and has this number
 pub record IsAlong {I : Type 0} (whole : I → ℤ) (number : ℕ) (e : Edge) (s : StepTaken I) : Type 0 where
   pub above : Bool
   pub along : plain_step whole s ≡ step_with_left above e
   pub numbered : s.edge ≡ number
 
--- the step leads along the edge that stands in the list at the place that it has as its number
+-- the step leads along the edge at the place that is its number
 pub record RunsAlong {I : Type 0} (whole : I → ℤ) (edges : List Edge) (s : StepTaken I) : Type 0 where
   pub edge : Edge
   pub stands : slice_get edges s.edge ≡ Some edge

@@ -1,10 +1,10 @@
--- Numbered edges as whole numbers, each an entry of a sweep whose value is the number.
+-- Numbered edges as entries of a sweep with whole points; the value is the number.
 use Rattle.std.specs.Prelude.{ℕ, ℤ, List, map}
 use Rattle.overlay_geom.specs.Points.{plain_point}
 use Rattle.overlay_scan.specs.Scan.{Entry}
 use Rattle.overlay_walk.specs.declared.numbered_edge.NumberedEdge.{NumberedEdge}
 
--- the entry at an edge's numbers, and those of a list
+-- the entry for a numbered edge, and those of a list
 abbrev pub numbered_entry : {I W U : Type 0} {i w u : _} → (I → ℤ) → NumberedEdge I W U i w u → Entry ℕ
 numbered_entry whole e = record {
   edge = record { a = plain_point whole e.a; b = plain_point whole e.b };

@@ -1,4 +1,4 @@
-//! The areas of walks, and which of them reach a minimum.
+//! The areas of walks, and the walks that reach a minimum area.
 
 ghost use Rattle.std.specs.Prelude.{◌≡◌, All, filter, IfOk, IsOkUnless};
 ghost use Rattle.std.specs.Int.{int_wrap};
@@ -16,9 +16,8 @@ use overlay_geom::vector::IntVector;
 use std::alloc::Allocator;
 
 /// Returns the walks, in order, that have three points or more and reach the minimum area, in squared units of the
-/// coordinates: half of the double area without its sign, rounded down, is the minimum or greater. The double area
-/// is the sum of the cross products of neighbouring points, wrapped to the numbers of the wide type. The only
-/// refusal is `Memory`.
+/// coordinates. The area is half of the absolute double area, rounded down. The double area is the sum of the cross
+/// products of neighbouring points, wrapped to the wide type. The only refusal is `Memory`.
 pub fn large_walks<I: IntNumber, A: Allocator>(
     alloc: A,
     walks: Vec<Vec<Step<I>, A>, A>,
@@ -46,8 +45,8 @@ pub(crate) fn reaches<I: IntNumber>(walk: &[Step<I>], min_output_area: I::WideUI
     walk.len() >= 3 && I::halved_area(double_area(walk)).is_at_least(min_output_area)
 }
 
-// Twice the area of the walk, positive where it runs counterclockwise, wrapped to the numbers of the
-// wide type. It is summed from the last point on.
+// Returns twice the area of the walk, positive where it runs counterclockwise, wrapped to the wide type. It sums from
+// the last point on.
 fn double_area<I: IntNumber>(walk: &[Step<I>]) -> I::Wide
     requires { All (IsLong I.limit) (plain_steps I.whole walk.now) }
     ensures { I.Wide.whole result
@@ -68,7 +67,7 @@ fn double_area<I: IntNumber>(walk: &[Step<I>]) -> I::Wide
     sum
 }
 
-// The cross product of two points, as vectors from the origin.
+// Returns the cross product of two points, as vectors from the origin.
 fn cross<I: IntNumber>(p: IntPoint<I>, q: IntPoint<I>) -> I::Wide
     requires p { InRange I.limit (plain_point I.whole p) }
     requires q { InRange I.limit (plain_point I.whole q) }

@@ -1,4 +1,4 @@
-//! Room that extractions use again.
+//! Memory that extractions use again.
 
 ghost use Rattle.std.specs.Prelude.{◌≡◌, [], None, IsOkUnless};
 
@@ -9,7 +9,7 @@ use std::alloc::Allocator;
 use std::marker::Model;
 use std::mem;
 
-/// Room for an extraction of contours, to be used again. It holds no step, so that it changes no answer.
+/// Memory for an extraction of contours, to be used again. It holds no step, so it changes no answer.
 #[derive(Drop)]
 pub struct BooleanExtractionBuffer<I: IntNumber, A: Allocator> {
     // without items
@@ -27,21 +27,21 @@ impl<I: IntNumber, A: Allocator> Model for BooleanExtractionBuffer<I, A> {
 }
 
 impl<I: IntNumber, A: Allocator> BooleanExtractionBuffer<I, A> {
-    /// An empty buffer. It takes no memory.
+    /// Makes an empty buffer. It takes no memory.
     pub fn default(alloc: A) -> Self {
         BooleanExtractionBuffer {
             room: Vec::new(alloc),
         }
     }
 
-    /// Takes the room, as a list without steps; the buffer is left with none.
+    /// Takes the memory, as a list without steps, and leaves the buffer without any.
     pub fn take_room(&mut self, alloc: A) -> Vec<Step<I>, A>
         ensures { result.items ≡ [] }
     {
         mem::replace(&mut self.room, Vec::new(alloc))
     }
 
-    /// Puts the room of a list in the place of the buffer's, and drops its steps.
+    /// Stores the memory of a list in the buffer, and drops its steps.
     pub fn put_room(&mut self, mut room: Vec<Step<I>, A>) {
         room.clear();
         self.room = room;
@@ -49,8 +49,8 @@ impl<I: IntNumber, A: Allocator> BooleanExtractionBuffer<I, A> {
 }
 
 impl<I: IntNumber, A: Allocator + Clone> BooleanExtractionBuffer<I, A> {
-    /// Takes the buffer that is there, or makes an empty one. None is there afterwards. The only refusal is `Memory`,
-    /// of a clone of the allocator.
+    /// Takes the buffer out of the slot, or makes an empty buffer if there is none. The slot is empty afterwards. The
+    /// only refusal is `Memory`, of a clone of the allocator.
     pub fn taken_from(slot: &mut Option<Self>, alloc: &A) -> Result<Self, OverlayError>
         ensures none { slot.new ≡ None }
         ensures err { IsOkUnless result OverlayError.Memory }

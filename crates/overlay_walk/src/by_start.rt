@@ -1,4 +1,4 @@
-//! The order of edges by where they start.
+//! The order of edges by their starts.
 
 ghost use Rattle.std.specs.Prelude.{◌≡◌, OnOk, IsOkUnless};
 ghost use Rattle.std.specs.List.Sorted.{IsPermutation};
@@ -15,8 +15,8 @@ use overlay_geom::vector::cross_at;
 use std::alloc::Allocator;
 use std::cmp::Ordering;
 
-/// Sorts the edges by their smaller ends, and those from one point from the top one down. The only
-/// refusal is `Memory`.
+/// Sorts the edges by their smaller ends, and edges from one point by slope, highest first. The only refusal is
+/// `Memory`.
 pub fn sort_by_start<I: IntNumber, A: Allocator>(
     edges: &mut Vec<NumberedEdge<I>, A>,
 ) -> Result<(), OverlayError>
@@ -28,7 +28,7 @@ pub fn sort_by_start<I: IntNumber, A: Allocator>(
     Ok(())
 }
 
-/// `Less` exactly where the first edge starts in a smaller point than the second, or in the same point
+/// Compares two edges by their starts: `Less` exactly where e starts in a smaller point than f, or in the same point
 /// and leads to the left of it.
 pub fn compare_starts<I: IntNumber>(e: &NumberedEdge<I>, f: &NumberedEdge<I>) -> Ordering
     ensures { is_lt result ≡ starts_before (numbered_entry I.whole e.now).edge (numbered_entry I.whole f.now).edge }

@@ -1,4 +1,4 @@
-//! Contours, and what they are.
+//! Contours and their roles.
 
 ghost use Rattle.std.specs.Prelude.{◌≡◌};
 ghost use Rattle.overlay_plane.specs.RoledContours.{stands_in, is_outline};
@@ -7,19 +7,19 @@ ghost use Rattle.overlay_walk.specs.GroupedContours.{plain_role};
 use crate::step::Step;
 use std::alloc::Allocator;
 
-/// What a contour is. Shapes are numbered from 0, by their outlines.
+/// The role of a contour. Shapes are numbered from 0, by their outlines.
 #[derive(Debug, Clone, Copy, PartialEq, Eq)]
 pub enum Role {
     /// The outline of the shape with this number.
     Outline(usize),
-    /// A hole that stands in this shape from the start, as one of its outline's group.
+    /// A hole of this shape from the start, in the group of its outline.
     OwnHole(usize),
     /// A hole whose shape is still to be found.
     FreeHole,
 }
 
 impl Role {
-    /// The number of the shape in which the contour stands from the start, if it does.
+    /// Returns the number of the contour's shape, if it is known from the start.
     pub fn shape(self) -> Option<usize>
         ensures { result ≡ stands_in (plain_role self) }
     {
@@ -37,11 +37,11 @@ impl Role {
     }
 }
 
-/// A closed walk, and what it is.
+/// A closed walk, and its role.
 #[derive(Drop)]
 pub struct Contour<I, A: Allocator> {
-    /// What it is.
+    /// The role of the contour.
     pub role: Role,
-    /// Its steps.
+    /// The steps of the contour.
     pub steps: Vec<Step<I>, A>,
 }

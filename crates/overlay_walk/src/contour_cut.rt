@@ -17,10 +17,10 @@ use overlay_geom::error::OverlayError;
 use overlay_geom::number::IntNumber;
 use std::alloc::Allocator;
 
-/// Walks all steps left: while there are any, the orbit of the step along the top edge at their leftmost
-/// lowest point, by the hand that the rule tells of this step. The steps alternate round every node, or
-/// the rule tells one hand, by which they lead on. At the end no step is left. The only refusal is
-/// `Memory`, after which the steps left are open.
+/// Cuts all steps left into walks. While steps are left, the next walk is the orbit of the step along the top edge at
+/// their leftmost lowest point, by the hand that the rule tells of it. The steps alternate round every node, or the
+/// rule tells one hand, by which they lead on. At the end no step is left. The only refusal is `Memory`, after which
+/// the steps left are open.
 pub fn cut_into_contours<I: IntNumber, A: Allocator + Clone>(
     alloc: A,
     steps: &mut OpenSteps<I, A>,
@@ -42,7 +42,7 @@ pub fn cut_into_contours<I: IntNumber, A: Allocator + Clone>(
     Ok(contours)
 }
 
-/// The hand that the rule tells of a step.
+/// Returns the hand that the rule tells of a step.
 fn hand_by<I: IntNumber>(rule: HandRule, start: Step<I>) -> Hand
     ensures { plain_hand result ≡ hand_by rule (plain_step I.whole start) }
 {
@@ -52,7 +52,7 @@ fn hand_by<I: IntNumber>(rule: HandRule, start: Step<I>) -> Hand
     }
 }
 
-/// The hand by which the contour that starts with a step turns.
+/// Returns the hand by which the contour turns that starts with this step.
 fn hand_of<I: IntNumber>(start: Step<I>, direction: ContourDirection) -> Hand
     ensures { plain_hand result ≡ outline_or_hole_hand (filled_hand direction) (plain_step I.whole start) }
 {
@@ -63,7 +63,7 @@ fn hand_of<I: IntNumber>(start: Step<I>, direction: ContourDirection) -> Hand
     }
 }
 
-/// The hand of the filled side of each step, where contours run in a direction.
+/// Returns the hand of the filled side of each step, for contours in this direction.
 pub(crate) fn filled_hand(direction: ContourDirection) -> Hand
     ensures { plain_hand result ≡ filled_hand direction }
 {
@@ -73,7 +73,7 @@ pub(crate) fn filled_hand(direction: ContourDirection) -> Hand
     }
 }
 
-/// The hand of its empty side.
+/// Returns the hand of the empty side of each step, for contours in this direction.
 pub(crate) fn empty_hand(direction: ContourDirection) -> Hand
     ensures { plain_hand result ≡ other_hand (filled_hand direction) }
 {

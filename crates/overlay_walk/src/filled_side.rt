@@ -1,4 +1,4 @@
-//! Where the filled side of a step is.
+//! The filled side of a step.
 
 ghost use Rattle.std.specs.Prelude.{◌≡◌};
 ghost use Rattle.overlay_geom.specs.Plane.{edge_of};
@@ -12,8 +12,8 @@ use crate::step::{Step, is_forward};
 use overlay_arrange::options::ContourDirection;
 use overlay_geom::number::IntNumber;
 
-/// Returns whether the filled side of the step is the upper one of its edge. It is the step's left side where the
-/// direction is counterclockwise, else its right one.
+/// Returns whether the filled side of the step is the upper side of its edge. It is the step's left side where the
+/// direction is counterclockwise, else its right side.
 pub fn is_filled_above<I: IntNumber>(step: &Step<I>, direction: ContourDirection) -> bool
     ensures { result ≡ is_filled_above (filled_hand direction) (plain_step I.whole step.now) }
 {
@@ -33,7 +33,7 @@ pub fn is_hole<I: IntNumber>(walk: &[Step<I>], direction: ContourDirection) -> b
     }
 }
 
-/// The edge along which a step leads, with a number.
+/// Returns the edge along which a step leads, with a number.
 pub fn edge_along<I: IntNumber>(step: &Step<I>, number: usize) -> NumberedEdge<I>
     requires { IsLong I.limit (plain_step I.whole step.now) }
     ensures { numbered_entry I.whole result ≡ record { edge = edge_of (plain_step I.whole step.now); value = number } }

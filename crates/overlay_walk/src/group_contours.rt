@@ -15,8 +15,8 @@ use overlay_geom::error::OverlayError;
 use overlay_geom::number::{IntNumber, UIntNumber, WideIntNumber};
 use std::alloc::Allocator;
 
-/// The walks of outlines' groups as contours, each outline with those of its holes that reach the minimum
-/// area; a group whose outline, its first walk, does not reach it gives none. The only refusal is `Memory`.
+/// Returns the walks of outlines' groups as contours: each outline that reaches the minimum area, with the holes of its
+/// group that reach it. The outline is the first walk of its group. The only refusal is `Memory`.
 pub(crate) fn group_contours<I: IntNumber, A: Allocator + Clone>(
     alloc: A,
     groups: Vec<Vec<Vec<Step<I>, A>, A>, A>,
@@ -43,7 +43,7 @@ pub(crate) fn group_contours<I: IntNumber, A: Allocator + Clone>(
     Ok(contours)
 }
 
-// Whether there is a first walk, and it reaches the minimum area.
+// Returns whether there is a first walk and it reaches the minimum area.
 fn first_reaches<I: IntNumber, A: Allocator>(
     walks: &[Vec<Step<I>, A>],
     min_output_area: I::WideUInt,

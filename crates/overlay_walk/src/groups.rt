@@ -1,5 +1,5 @@
-//! The cut with groups: the orbits by the hand of the filled side are groups, and what is cut of them once
-//! more, by the hand of the empty side, are contours that visit no point twice.
+//! The cut with groups. Groups are the orbits by the hand of the filled side. Each group is cut once more by the hand
+//! of the empty side, into contours that visit no point twice.
 
 ghost use Rattle.std.specs.Prelude.{◌≡◌, not, filter, All, IfOk, IsOkUnless};
 ghost use Rattle.std.specs.List.{AllZip, flat_map};
@@ -26,13 +26,16 @@ use overlay_geom::error::OverlayError;
 use overlay_geom::number::{IntNumber, UIntNumber, WideIntNumber};
 use std::alloc::Allocator;
 
-/// Walks all steps left, in groups: orbits by the hand of the filled side, which is the left one where the
-/// direction is counterclockwise. A group that begins with an edge that is filled below is an outline's: it is
-/// walked again by the hand of the empty side, from the same start, and what is left of it are holes of that
-/// shape. The steps of all other groups together are walked by that hand last, and their walks are holes whose
-/// shape is still to be found. Of the contours those are given that have three points or more and reach the
-/// minimum area, a hole of an outline's group only with its outline. The steps alternate round every node.
-/// The only refusal is `Memory`, after which the steps left are open.
+/// Walks all steps left, in groups: orbits by the hand of the filled side. This is the left hand where the direction is
+/// counterclockwise. The steps alternate round every node. The only refusal is `Memory`, after which the steps left are
+/// open.
+///
+/// A group that begins with an edge filled below belongs to an outline. It is walked again by the hand of the empty
+/// side, from the same start; the other walks in it are holes of that shape. The steps of all other groups together are
+/// walked by that hand last. Their walks are holes whose shape is still to be found.
+///
+/// Contours with three points or more that reach the minimum area are returned; a hole of an outline's group only with
+/// its outline.
 pub fn cut_in_groups<I: IntNumber, A: Allocator + Clone>(
     alloc: A,
     steps: &mut OpenSteps<I, A>,
@@ -58,7 +61,7 @@ pub fn cut_in_groups<I: IntNumber, A: Allocator + Clone>(
     Ok(contours)
 }
 
-// The groups that are outlines, and the steps of all groups that are holes.
+// Returns the groups that are outlines, and the steps of all groups that are holes.
 fn split_groups<I: IntNumber, A: Allocator + Clone>(
     alloc: A,
     groups: Vec<Vec<Step<I>, A>, A>,
@@ -82,7 +85,7 @@ fn split_groups<I: IntNumber, A: Allocator + Clone>(
     Ok((outline_groups, hole_steps))
 }
 
-// The walks of each group by a hand.
+// Returns the walks of each group by a hand.
 fn cut_each<I: IntNumber, A: Allocator + Clone>(
     alloc: A,
     groups: Vec<Vec<Step<I>, A>, A>,
@@ -103,7 +106,7 @@ fn cut_each<I: IntNumber, A: Allocator + Clone>(
     Ok(cut)
 }
 
-// The walks of steps by a hand.
+// Returns the walks of steps by a hand.
 fn cut_again<I: IntNumber, A: Allocator + Clone>(
     alloc: A,
     steps: Vec<Step<I>, A>,

@@ -1,4 +1,4 @@
-//! The two ways to turn at a node, and by which of them walks turn.
+//! The two ways to turn at a node, and the rule by which walks turn.
 
 use overlay_arrange::options::ContourDirection;
 
@@ -12,12 +12,12 @@ pub enum Hand {
     Right,
 }
 
-/// By which hand a walk turns, as the step that it starts with says.
+/// The rule that tells the hand of a walk by its first step.
 #[derive(Debug, Clone, Copy)]
 pub enum HandRule {
-    /// Where the direction is counterclockwise each step has its filled side on the left, else on the
-    /// right. A walk that starts along an edge that is filled above is a hole, and turns through its
-    /// empty side; each other is an outline, and turns through its filled side.
+    /// Each step has its filled side on the left where the direction is counterclockwise, else on the right. A walk
+    /// that starts along an edge filled above is a hole, and turns through its empty side. Each other walk is an
+    /// outline, and turns through its filled side.
     OutlineOrHole(ContourDirection),
     /// Each walk turns by this hand.
     Always(Hand),

@@ -1,4 +1,4 @@
-//! The contours that the selected steps of a graph are cut into, in groups or without, as far as they are kept.
+//! The kept contours of a cut of a graph's selected steps, with groups or without.
 
 ghost use Rattle.std.specs.Prelude.{◌≡◌, false, map, All, IfOk, IsOkUnless};
 ghost use Rattle.overlay_geom.specs.Edges.{all_ends};
@@ -26,16 +26,17 @@ use overlay_geom::error::OverlayError;
 use overlay_geom::number::{IntNumber, UIntNumber, WideIntNumber};
 use std::alloc::Allocator;
 
-/// Returns the contours that the selected steps of the graph are cut into: steps along edges with the region of
-/// the graph's rule and the overlay rule on exactly one side. This side is on the left where the output direction
-/// is counterclockwise, else on the right. With `ogc` they are cut in groups, as
-/// [`cut_in_groups`](crate::groups::cut_in_groups) tells; without it each walk is an outline, which turns through
-/// its filled side, or a hole whose shape is to be found, which turns through its empty one. Those are given that
-/// have three points or more and reach the minimum area of the options, a hole of an outline's group only with its
-/// outline. The counts of the edges are balanced. Without `ogc` each step has the number of its edge in the graph.
+/// Returns the contours of a cut of the graph's selected steps: steps along edges with the region of the graph's rule
+/// and the overlay rule on exactly one side. This side is on the left where the output direction is counterclockwise,
+/// else on the right.
 ///
-/// The buffer lends its room. The only refusal is `Memory`, after which the buffer may be left without
-/// room.
+/// With `ogc` they are cut in groups, as [`cut_in_groups`](crate::groups::cut_in_groups) tells. Without it each walk is
+/// an outline, which turns through its filled side, or a hole whose shape is to be found, which turns through its empty
+/// side. Contours with three points or more that reach the minimum area are returned; a hole of an outline's group only
+/// with its outline.
+///
+/// The counts of the edges are balanced. Without `ogc` each step has the number of its edge in the graph. The buffer
+/// lends its memory. The only refusal is `Memory`, after which the buffer may be left without memory.
 pub fn kept_contours<I: IntNumber, C: EdgeCount, A: Allocator + Clone>(
     graph: &Graph<I, C, A>,
     overlay_rule: OverlayRule,
@@ -62,7 +63,7 @@ pub fn kept_contours<I: IntNumber, C: EdgeCount, A: Allocator + Clone>(
     roled(graph.allocator().clone()?, large, direction)
 }
 
-// The walks as contours: the outlines, numbered from 0, and the holes, whose shape is to be found.
+// Returns the walks as contours: the outlines, numbered from 0, and the holes, whose shape is to be found.
 fn roled<I: IntNumber, A: Allocator>(
     alloc: A,
     walks: Vec<Vec<Step<I>, A>, A>,

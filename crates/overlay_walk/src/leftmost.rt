@@ -1,4 +1,4 @@
-//! The places of steps by where their edges start, and the first of them that is not taken.
+//! The places of steps by the starts of their edges, and the first of them that is not taken.
 
 ghost use Rattle.std.specs.Prelude.{◌≡◌, ◌<◌, true, length, map, slice_index_or, All, IfOk, IsOkUnless};
 ghost use Rattle.overlay_walk.specs.Places.{is_open, ArePassed, ArePlacesByStart};
@@ -16,8 +16,8 @@ use overlay_geom::error::OverlayError;
 use overlay_geom::number::IntNumber;
 use std::alloc::Allocator;
 
-/// The places of the steps, by where their edges start: by the smaller ends, and those from one point
-/// from the top edge down. The only refusal is `Memory`.
+/// Returns the places of the steps, sorted by the starts of their edges: by the smaller ends, and from one point by
+/// slope, highest first. The only refusal is `Memory`.
 pub fn places_by_start<I: IntNumber, A: Allocator + Clone>(
     alloc: A,
     steps: &[Step<I>],
@@ -33,7 +33,7 @@ pub fn places_by_start<I: IntNumber, A: Allocator + Clone>(
     numbers_of(alloc, &edges)
 }
 
-/// Returns whether the step at a place runs forward; there need not be one.
+/// Returns whether there is a step at the place and it runs forward.
 fn runs_forward<I: IntNumber>(steps: &[Step<I>], place: usize) -> bool {
     match steps.get(place) {
         Some(step) => is_forward(step),
@@ -41,7 +41,7 @@ fn runs_forward<I: IntNumber>(steps: &[Step<I>], place: usize) -> bool {
     }
 }
 
-/// The edges of the steps, each with its step's place.
+/// Returns the edges of the steps, each with its step's place.
 fn edges_along<I: IntNumber, A: Allocator>(
     alloc: A,
     steps: &[Step<I>],
@@ -58,7 +58,7 @@ fn edges_along<I: IntNumber, A: Allocator>(
     Ok(edges)
 }
 
-/// The numbers of the edges, in their order.
+/// Returns the numbers of the edges, in their order.
 fn numbers_of<I: IntNumber, A: Allocator>(
     alloc: A,
     edges: &[NumberedEdge<I>],
@@ -73,7 +73,7 @@ fn numbers_of<I: IntNumber, A: Allocator>(
     Ok(numbers)
 }
 
-/// Returns how many places are taken up to the first open place. The first `passed` are taken.
+/// Returns the number of taken places before the first open place. The first `passed` places are taken.
 pub fn first_open(places: &[usize], taken: &[bool], passed: usize) -> usize
     requires within { All (λ k. k < length taken.now) places.now }
     requires passed { ArePassed taken.now places.now passed }

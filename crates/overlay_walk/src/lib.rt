@@ -1,4 +1,4 @@
-//! Walks along the steps of an arrangement: the next step at a node, orbits, contours, and what they are.
+//! Walks along the steps of an arrangement: the next step at a node, orbits, contours and their roles.
 #![tactic(auto)]
 
 pub mod area;

@@ -1,4 +1,4 @@
-//! Round a node: which point a turning ray meets first.
+//! The order in which a turning ray meets points round a node.
 
 ghost use Rattle.std.specs.Prelude.{◌≡◌, ◌↔◌, [], ◌∷◌, ◌++◌, List, true, Some, pos, cond, int_lt};
 ghost use Rattle.std.specs.Ordering.{int_cmp};
@@ -15,14 +15,14 @@ use overlay_geom::vector::cross_at;
 use std::cmp::Ordering;
 use std::marker::Model;
 
-/// A ray round a node: it begins in the direction of a point and turns by a hand.
+/// A ray round a node: it begins in the direction of a point, and turns by a hand.
 #[derive(Debug, Clone, Copy)]
 pub struct Ray<I> {
     /// The node round which it turns.
     pub node: IntPoint<I>,
     /// The point from whose direction it begins to turn.
     pub start: IntPoint<I>,
-    /// The way in which it turns.
+    /// The hand by which it turns.
     pub hand: Hand,
 }
 
@@ -40,8 +40,8 @@ pub(crate) enum TurnPart {
 }
 
 impl<I: IntNumber> Ray<I> {
-    /// Returns whether the ray meets p before q. What lies in the direction of its start comes last. All points
-    /// are in range.
+    /// Returns whether the ray meets p before q. Points in the direction of its start come last. All points are in
+    /// range.
     pub fn meets_before(self, p: IntPoint<I>, q: IntPoint<I>) -> bool
         requires node { InRange I.limit (plain_point I.whole self.node) }
         requires start { InRange I.limit (plain_point I.whole self.start) }
@@ -59,7 +59,7 @@ impl<I: IntNumber> Ray<I> {
         }
     }
 
-    /// The part of the turn in which the ray meets p.
+    /// Returns the part of the turn in which the ray meets p.
     fn part_of(self, p: IntPoint<I>) -> TurnPart
         requires node { InRange I.limit (plain_point I.whole self.node) }
         requires start { InRange I.limit (plain_point I.whole self.start) }
@@ -75,7 +75,7 @@ impl<I: IntNumber> Ray<I> {
         }
     }
 
-    /// The part of the turn in which the ray meets p, which lies on the line of node and start.
+    /// Returns the part of the turn in which the ray meets p, which is collinear with node and start.
     fn part_on_line(self, p: IntPoint<I>) -> TurnPart
         requires node { InRange I.limit (plain_point I.whole self.node) }
         requires start { InRange I.limit (plain_point I.whole self.start) }
@@ -91,8 +91,8 @@ impl<I: IntNumber> Ray<I> {
         }
     }
 
-    /// Greater where the ray, on its way from p, comes to q before it has made a half turn, less
-    /// where later; equal where the node, p and q lie on one line.
+    /// Compares directions: `Greater` where the ray, on its way from p, comes to q within a half turn, `Less` where
+    /// later. It is `Equal` where the node, p and q are collinear.
     fn turn(self, p: IntPoint<I>, q: IntPoint<I>) -> Ordering
         requires node { InRange I.limit (plain_point I.whole self.node) }
         requires p { InRange I.limit (plain_point I.whole p) }
@@ -107,7 +107,7 @@ impl<I: IntNumber> Ray<I> {
         }
     }
 
-    /// The inner product of the ways from the node to p and to q.
+    /// Returns the inner product of the vectors from the node to p and to q.
     fn inner_product(self, p: IntPoint<I>, q: IntPoint<I>) -> I::Wide
         requires node { InRange I.limit (plain_point I.whole self.node) }
         requires p { InRange I.limit (plain_point I.whole p) }
@@ -117,14 +117,14 @@ impl<I: IntNumber> Ray<I> {
     {
         let to_p = p - self.node;
         let to_q = q - self.node;
-        // the cross product with the way to q turned to the left
+        // the cross product with the vector to q turned to the left
         let back_y = self.node.y.minus(q.y);
         I::cross(to_p.x, to_p.y, back_y, to_q.x)
     }
 }
 
-/// A ray round a node, and the point that it meets first of those added to it. Of points that it
-/// meets at once that is the one that was added first.
+/// A ray round a node, and the point that it meets first of those added. Of points met at once, it is the point added
+/// first.
 #[derive(Drop)]
 pub struct NearestVector<I: IntNumber> {
     ray: Ray<I>,
@@ -152,7 +152,7 @@ impl<I: IntNumber> Model for NearestVector<I> {
 }
 
 impl<I: IntNumber> NearestVector<I> {
-    /// The ray, and no point added yet. Its points are in range.
+    /// Makes the ray without added points. Its points are in range.
     pub fn new(ray: Ray<I>) -> Self
         requires node { InRange I.limit (plain_point I.whole ray.node) }
         requires start { InRange I.limit (plain_point I.whole ray.start) }
@@ -162,9 +162,9 @@ impl<I: IntNumber> NearestVector<I> {
         NearestVector { ray, nearest: None }
     }
 
-    /// Returns whether the ray meets the point, which is in range, before each of those added so far; then it is
-    /// the one held from now on. So it is where the ray's node and start differ: else the ray begins in no
-    /// direction, and meets no point first.
+    /// Returns whether the ray meets the point, which is in range, before each point added so far. Then it holds this
+    /// point from now on. This needs different points as the ray's node and start; else the ray has no direction and
+    /// meets no point first.
     pub fn add(&mut self, point: IntPoint<I>) -> bool
         requires { InRange I.limit (plain_point I.whole point) }
         ensures nearer { (seen : List Point) → HasSeen self.old seen

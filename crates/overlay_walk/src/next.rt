@@ -14,9 +14,8 @@ use overlay_arrange::edge::compare_points;
 use overlay_geom::number::IntNumber;
 use overlay_geom::point::IntPoint;
 
-/// The place of the step that a ray meets first which turns by the hand, at the end of a step from
-/// the way back along it, among the steps that leave that end and are not taken; or None where
-/// there is none.
+/// Returns the place of the next step at the end of a step, among the steps that leave that end and are not taken. A
+/// ray that turns by the hand from the way back along the step meets it first. The result is None where there is none.
 pub fn place_of_next<I: IntNumber>(
     steps: &[Step<I>],
     taken: &[bool],
@@ -44,7 +43,8 @@ pub fn place_of_next<I: IntNumber>(
     found
 }
 
-/// The places of the steps that leave a point: the first of them, and the one after the last, which is not far.
+/// Returns the places of the steps that leave a point: the first, and the place behind the last. It looks for the last
+/// step by step.
 fn run_from<I: IntNumber>(steps: &[Step<I>], p: IntPoint<I>) -> (usize, usize)
     requires { IsByFrom (plain_steps I.whole steps.now) }
     ensures { IsRun (plain_steps I.whole steps.now) (plain_point I.whole p) result.0 result.1 }
@@ -53,7 +53,7 @@ fn run_from<I: IntNumber>(steps: &[Step<I>], p: IntPoint<I>) -> (usize, usize)
     (low, run_end(steps, low, p))
 }
 
-/// The first place from the given one on whose step leaves a greater point, or how many steps there are.
+/// Returns the first place from `low` on whose step leaves a greater point, or the number of steps.
 fn run_end<I: IntNumber>(steps: &[Step<I>], low: usize, p: IntPoint<I>) -> usize
     requires { low ≤ length steps.now }
     ensures { LeaveUpTo (plain_steps I.whole steps.now) (plain_point I.whole p) low result }

@@ -7,13 +7,13 @@ ghost use Rattle.overlay_geom.specs.Points.{plain_point, InRange};
 use overlay_geom::number::IntNumber;
 use overlay_geom::point::IntPoint;
 
-/// An edge, from its smaller to its larger end, and the number of what leads along it: of a walk its index,
-/// of a step its place.
+/// An edge, from its smaller to its larger end, with the number of its walk or step: the walk's index, or the step's
+/// place.
 #[derive(Drop)]
 pub struct NumberedEdge<I: IntNumber> {
-    /// Its smaller end.
+    /// The smaller end.
     pub a: IntPoint<I>,
-    /// Its larger end.
+    /// The larger end.
     pub b: IntPoint<I>,
     /// The number.
     pub number: usize,

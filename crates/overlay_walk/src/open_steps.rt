@@ -1,4 +1,4 @@
-//! Steps to be walked, and which of them no walk has taken yet.
+//! Steps to be walked, with marks of those that walks have taken.
 
 ghost use Rattle.std.specs.Prelude.{◌≡◌, ◌↔◌, [], ◌∷◌, None, All, Any, Contains, IfOk, IfSome};
 ghost use Rattle.std.specs.Prelude.{OnOk, IsOkUnless};
@@ -22,16 +22,16 @@ use overlay_geom::number::IntNumber;
 use std::alloc::Allocator;
 use std::marker::Model;
 
-/// Steps between different points in range, and which of them are left to be walked.
+/// Steps between different points in range, with marks of those that are left.
 #[derive(Drop)]
 pub struct OpenSteps<I: IntNumber, A: Allocator> {
     // in the order of the points that they leave
     steps: Vec<Step<I>, A>,
-    // which of them a walk has taken
+    // marks of the steps that a walk has taken
     taken: Vec<bool, A>,
-    // their places, by where their edges start
+    // the places of the steps, by the starts of their edges
     places: Vec<usize, A>,
-    // how many of these places are known to be taken, from the first one on
+    // the number of these places, from the front, that are known to be taken
     passed: usize,
 }
 
@@ -49,7 +49,7 @@ impl<I: IntNumber, A: Allocator> Model for OpenSteps<I, A> {
 }
 
 impl<I: IntNumber, A: Allocator> OpenSteps<I, A> {
-    /// The room of the steps, to be used again, as a list without steps.
+    /// Returns the memory of the steps, to be used again, as a list without steps.
     pub fn into_room(self) -> Vec<Step<I>, A>
         ensures { result.items ≡ [] }
     {
@@ -58,8 +58,7 @@ impl<I: IntNumber, A: Allocator> OpenSteps<I, A> {
         room
     }
 
-    /// The step along the top edge at the leftmost lowest point of the steps left, or None where
-    /// none is left.
+    /// Returns the step along the top edge at the leftmost lowest point of the steps left, or None if none is left.
     pub fn start(&mut self) -> Option<Step<I>>
         ensures none { (result ≡ None) ↔ (self.old ≡ []) }
         ensures some { IfSome result (λ s. Contains self.old s) }
@@ -73,7 +72,7 @@ impl<I: IntNumber, A: Allocator> OpenSteps<I, A> {
         Some(self.steps[self.places[self.passed]])
     }
 
-    // Takes the next step by a hand after a step at whose end the steps left go on.
+    // Takes the next step by a hand after a step; one of the steps left leaves its end.
     fn take_next(&mut self, step: Step<I>, hand: Hand) -> Step<I>
         requires once { HasEachOnce (plain_steps I.whole self.old) }
         requires long { IsLong I.limit (plain_step I.whole step) }
@@ -96,7 +95,7 @@ impl<I: IntNumber, A: Allocator> OpenSteps<I, A> {
 }
 
 impl<I: IntNumber, A: Allocator + Clone> OpenSteps<I, A> {
-    /// All the steps, none of them taken. The only refusal is `Memory`.
+    /// Makes a list of all the steps, none of them taken. The only refusal is `Memory`.
     pub fn new(mut steps: Vec<Step<I>, A>) -> Result<Self, OverlayError>
         requires { All (IsLong I.limit) (plain_steps I.whole steps.items) }
         ensures all { IfOk result (λ o. IsPermutation steps.items o) }
@@ -114,10 +113,9 @@ impl<I: IntNumber, A: Allocator + Clone> OpenSteps<I, A> {
         })
     }
 
-    /// Takes the orbit of a step by a hand, in the steps left: each next step is the one that a ray
-    /// meets first which turns by the hand, at the end of the step, from the way back along it. The
-    /// steps left lead on by the hand: at the end of each one leaves, and no two have the same next
-    /// step. The only refusal is `Memory`; what is left then is left open.
+    /// Takes the orbit of a step by a hand, in the steps left. A ray that turns by the hand at the end of a step, from
+    /// the way back, meets the next step first. The steps left lead on by the hand: a step leaves the end of each, and
+    /// no two have the same next step. The only refusal is `Memory`, after which the steps left are open.
     pub fn walk(&mut self, start: Step<I>, hand: Hand) -> Result<Vec<Step<I>, A>, OverlayError>
         requires leads_on { LeadsOn (plain_steps I.whole self.old) (plain_hand hand) }
         requires once { HasEachOnce (plain_steps I.whole self.old) }
@@ -143,8 +141,8 @@ impl<I: IntNumber, A: Allocator + Clone> OpenSteps<I, A> {
     }
 }
 
-/// Puts the steps into the order of the points that they leave. Those that run forward come first before they are
-/// sorted: the steps along edges in order leave points in order then.
+/// Sorts the steps by the points that they leave. It first moves forward steps to the front: steps along sorted edges
+/// then leave sorted points.
 fn sort_steps<I: IntNumber, A: Allocator>(steps: &mut Vec<Step<I>, A>) -> Result<(), OverlayError>
     ensures permutation { IsPermutation steps.old.items steps.new.items }
     ensures order { OnOk result (IsByFrom (plain_steps I.whole steps.new.items)) }
@@ -155,7 +153,7 @@ fn sort_steps<I: IntNumber, A: Allocator>(steps: &mut Vec<Step<I>, A>) -> Result
     Ok(())
 }
 
-/// Returns whether two steps lead between the same points.
+/// Returns whether two steps lead between equal points.
 fn is_same<I: IntNumber>(s: Step<I>, t: Step<I>) -> bool
     ensures { result ≡ step_eq (plain_step I.whole s) (plain_step I.whole t) }
 {

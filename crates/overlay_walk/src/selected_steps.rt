@@ -1,4 +1,4 @@
-//! The selected steps: those along edges with the region on exactly one side.
+//! The selected steps: steps along edges with the region on exactly one side.
 
 ghost use Rattle.std.specs.Prelude.{◌≡◌, ◌++◌, map, flat_map, option_map, option_to_list};
 ghost use Rattle.std.specs.Prelude.{List, slice_get, Some, All, IfSome, OnOk, IsOkUnless};
@@ -18,8 +18,8 @@ use overlay_geom::error::OverlayError;
 use overlay_geom::number::IntNumber;
 use std::alloc::Allocator;
 
-/// Adds the selected steps of the edges, in their order, each with the number of its edge. The only
-/// refusal is `Memory`, and then some of them may stand.
+/// Adds the selected steps of the edges, in their order, each with the number of its edge. The only refusal is
+/// `Memory`, after which some of them may stay.
 pub fn push_selected<I: IntNumber, D: Copy, A: Allocator>(
     steps: &mut Vec<Step<I>, A>,
     edges: &[DataVectorEdge<I, D>],
@@ -59,9 +59,8 @@ fn push_step<I: IntNumber, D: Copy, A: Allocator>(
     Ok(())
 }
 
-// The step along the edge with this number that has the side where the rule holds on its left, or on
-// its right where the direction is clockwise. There is none where the rule holds on both sides, or on
-// neither.
+// Returns the step along the edge that has the side where the rule holds on its left, or on its right where the
+// direction is clockwise. It returns none where the rule holds on both sides or on neither.
 fn selected_step<I: IntNumber, D: Copy>(
     edge: DataVectorEdge<I, D>,
     number: usize,
@@ -84,7 +83,7 @@ fn selected_step<I: IntNumber, D: Copy>(
     Some(step_along(edge, number, goes_along))
 }
 
-// The step along the edge with this number from a to b, or back.
+// Returns the step along the edge from a to b, or back, with the edge's number.
 fn step_along<I: IntNumber, D: Copy>(
     edge: DataVectorEdge<I, D>,
     number: usize,
@@ -105,14 +104,14 @@ fn step_along<I: IntNumber, D: Copy>(
     }
 }
 
-// Whether the rule holds above an edge with these fill bits.
+// Returns whether the rule holds above an edge with these fill bits.
 fn holds_above(rule: OverlayRule, fill: SideFill) -> bool
     ensures { result ≡ bits_hold_above rule fill }
 {
     rule.holds(fill & SUBJ_LEFT != 0, fill & CLIP_LEFT != 0)
 }
 
-// Whether the rule holds below it.
+// Returns whether the rule holds below an edge with these fill bits.
 fn holds_below(rule: OverlayRule, fill: SideFill) -> bool
     ensures { result ≡ bits_hold_below rule fill }
 {

@@ -1,4 +1,4 @@
-//! The walks that the selected steps of a graph are cut into, and the contours with groups.
+//! The walks of a cut of a graph's selected steps, and the contours with groups.
 
 ghost use Rattle.std.specs.Prelude.{◌≡◌, [], All, IfOk, IsOkUnless};
 ghost use Rattle.std.specs.List.Sorted.{IsPermutation};
@@ -31,13 +31,12 @@ use overlay_geom::error::OverlayError;
 use overlay_geom::number::{IntNumber, UIntNumber, WideIntNumber};
 use std::alloc::Allocator;
 
-/// Returns the walks that the selected steps of the graph are cut into: steps along edges with the region of the
-/// graph's rule and the overlay rule on exactly one side. This side is on the left where the direction is
-/// counterclockwise, else on the right. Outlines turn through their filled side, holes through their empty one.
-/// Each step has the number of its edge in the graph. The counts of the edges are balanced.
+/// Returns the walks of a cut of the graph's selected steps: steps along edges with the region of the graph's rule and
+/// the overlay rule on exactly one side. This side is on the left where the direction is counterclockwise, else on the
+/// right. Outlines turn through their filled side, holes through their empty side. Each step has the number of its edge
+/// in the graph. The counts of the edges are balanced.
 ///
-/// The buffer lends its room. The only refusal is `Memory`, after which the buffer may be left without
-/// room.
+/// The buffer lends its memory. The only refusal is `Memory`, after which the buffer may be left without memory.
 pub fn selected_walks<I: IntNumber, C: EdgeCount, A: Allocator + Clone>(
     graph: &Graph<I, C, A>,
     overlay_rule: OverlayRule,
@@ -61,12 +60,11 @@ pub fn selected_walks<I: IntNumber, C: EdgeCount, A: Allocator + Clone>(
     Ok(walks)
 }
 
-/// Returns the contours that the selected steps of the graph are cut into with groups, those that reach the
-/// minimum area, as [`cut_in_groups`] tells; the steps are those of [`selected_walks`]. No contour visits a point
-/// twice. The counts of the edges are balanced.
+/// Returns the contours of a cut of the graph's selected steps with groups that reach the minimum area, as
+/// [`cut_in_groups`] tells. The steps are those of [`selected_walks`]. No contour visits a point twice. The counts of
+/// the edges are balanced.
 ///
-/// The buffer lends its room. The only refusal is `Memory`, after which the buffer may be left without
-/// room.
+/// The buffer lends its memory. The only refusal is `Memory`, after which the buffer may be left without memory.
 pub fn selected_contours<I: IntNumber, C: EdgeCount, A: Allocator + Clone>(
     graph: &Graph<I, C, A>,
     overlay_rule: OverlayRule,
@@ -91,8 +89,7 @@ pub fn selected_contours<I: IntNumber, C: EdgeCount, A: Allocator + Clone>(
     Ok(contours)
 }
 
-// The selected steps of the graph, none of them walked, in the room of a list; each with its edge's
-// number.
+// Returns the selected steps of the graph, none of them walked, each with its edge's number, in the memory of the list.
 fn open_selected<I: IntNumber, C: EdgeCount, A: Allocator + Clone>(
     graph: &Graph<I, C, A>,
     overlay_rule: OverlayRule,

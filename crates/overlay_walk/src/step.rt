@@ -12,22 +12,22 @@ use overlay_geom::point::IntPoint;
 /// A step along an edge, and the number of this edge.
 #[derive(Debug, Clone, Copy, PartialEq, Eq)]
 pub struct Step<I> {
-    /// Where it begins.
+    /// The start of the step.
     pub from: IntPoint<I>,
-    /// Where it ends.
+    /// The end of the step.
     pub to: IntPoint<I>,
     /// The place of its edge in the list from which the steps are made.
     pub edge: usize,
 }
 
-/// Returns whether the step leads from its edge's smaller end to the larger one.
+/// Returns whether the step leads from its edge's smaller end to the larger end.
 pub fn is_forward<I: IntNumber>(step: &Step<I>) -> bool
     ensures { result ≡ is_forward (plain_step I.whole step.now) }
 {
     compare_points(step.from, step.to).is_lt()
 }
 
-/// The ends of the edge along which the step leads, the smaller one first.
+/// Returns the ends of the edge along which the step leads, the smaller end first.
 pub(crate) fn ends_of<I: IntNumber>(step: Step<I>) -> (IntPoint<I>, IntPoint<I>)
     ensures start { plain_point I.whole result.0 ≡ (edge_of (plain_step I.whole step)).a }
     ensures end { plain_point I.whole result.1 ≡ (edge_of (plain_step I.whole step)).b }
