@@ -1,4 +1,4 @@
-//! Cutting: each edge becomes the pieces of a chain through whole points, those in which the others meet it, or the hot
+//! Cutting: each edge becomes the pieces of a chain through whole points. These are its meeting points, or the hot
 //! points whose pixels it meets.
 
 ghost use Rattle.std.specs.Prelude.{◌≡◌, ◌⊎◌, ◌↔◌, ◌^◌, ◌<◌, ◌≤◌, ◌++◌, ◌∷◌, [], IsTrue, All, flat_map};
@@ -39,9 +39,8 @@ use std::cmp::Ordering;
 use std::mem;
 
 impl<I: IntNumber, C: EdgeCount, A: Allocator> Content<I, C, A> {
-    /// Cuts each edge into the pieces of the chain through the whole points in which the others
-    /// meet it. Returns whether some point was rounded: if none was, the edges met only in whole points
-    /// or overlapped. The edges ascend. If it is refused the content is left open.
+    /// Cuts each edge into the pieces of the chain through its meeting points. Returns whether a point was rounded: if
+    /// none was, the edges met only in whole points or overlapped. The edges ascend. A refusal leaves the content open.
     #[tactic(auto, using(crate::proofs::ReachedStores::never_written))]
     pub fn cut(&mut self, store: &mut C::Store) -> Result<bool, OverlayError>
     where
@@ -62,8 +61,8 @@ impl<I: IntNumber, C: EdgeCount, A: Allocator> Content<I, C, A> {
         Ok(is_rounded)
     }
 
-    /// Cuts the edges where they meet, and answers as `cut` does, with the edges as they were before. The meetings are
-    /// those of the edges, by their places. They are dropped.
+    /// Cuts the edges at the given meetings, and answers as `cut` does, with the edges before the cut. The meetings are
+    /// those of the edges, sorted by their places. They are dropped.
     #[tactic(auto, using(crate::proofs::ReachedStores::never_written))]
     pub(crate) fn cut_at(
         &mut self,
@@ -92,8 +91,8 @@ impl<I: IntNumber, C: EdgeCount, A: Allocator> Content<I, C, A> {
         Ok((!is_whole, before))
     }
 
-    /// Cuts each edge into the pieces of the chain through the hot points whose pixels it meets. The meetings are
-    /// these, by their places. They are dropped. If it is refused the content is left open.
+    /// Cuts each edge into the pieces of the chain through the hot points whose pixels it meets. The meetings are these
+    /// points, sorted by their places. They are dropped. A refusal leaves the content open.
     #[tactic(auto, using(crate::proofs::ReachedStores::never_written))]
     pub(crate) fn snap_at(
         &mut self,
@@ -118,7 +117,7 @@ impl<I: IntNumber, C: EdgeCount, A: Allocator> Content<I, C, A> {
     }
 }
 
-/// The pieces of all edges, of each one along the chain through its meetings. These stand by their places.
+/// Returns the pieces of all edges, each along the chain through its meetings. These are sorted by their places.
 #[tactic(auto, using(crate::proofs::ReachedStores::never_written))]
 fn cut_edges<I: IntNumber, C: EdgeCount, A: Allocator + Clone>(
     alloc: A,
@@ -150,8 +149,7 @@ fn cut_edges<I: IntNumber, C: EdgeCount, A: Allocator + Clone>(
     Ok(pieces)
 }
 
-/// Adds the pieces of an edge along the chain from its smaller end to its larger one through the
-/// points.
+/// Adds the pieces of an edge along the chain from its smaller to its larger end through the points.
 fn push_pieces<I: IntNumber, C: EdgeCount, A: Allocator>(
     pieces: &mut Content<I, C, A>,
     e: &CountedEdge<I, C>,
@@ -213,8 +211,8 @@ fn push_piece<I: IntNumber, C: EdgeCount, A: Allocator>(
     Ok(())
 }
 
-/// The piece of the edge from one point of its chain to the next, if they differ. It carries what
-/// the edge does, or, where that is cut, a split of it; reversed where it runs against the edge.
+/// Returns the piece of the edge from one point of its chain to the next, if they differ. It carries the edge's value,
+/// or a split of it where the edge is cut, reversed where the piece runs against the edge.
 fn piece<I: IntNumber, C: EdgeCount>(
     e: &CountedEdge<I, C>,
     from: IntPoint<I>,
@@ -246,7 +244,7 @@ fn piece<I: IntNumber, C: EdgeCount>(
     }
 }
 
-/// What a piece carries that runs along its edge: what the edge does, where that stays whole.
+/// Returns the value of a piece that runs along its edge: the edge's own value where the edge stays whole.
 fn part_of<C: EdgeCount>(count: C, is_whole: bool, store: &mut C::Store) -> C
     ensures counts { C.counts result ≡ C.counts count }
     ensures splits { MatchBool is_whole (result ≡ count) (C.splits count result) }
@@ -255,7 +253,7 @@ fn part_of<C: EdgeCount>(count: C, is_whole: bool, store: &mut C::Store) -> C
     if is_whole { count } else { count.split(store) }
 }
 
-/// Whether the chain through the points is the edge itself: each of them is an end of it.
+/// Returns whether the chain through the points is the edge itself: each point is an end of it.
 fn stays_whole<I: IntNumber, C: EdgeCount>(e: &CountedEdge<I, C>, points: &[IntPoint<I>]) -> bool
     ensures { IsTrue result ↔ StaysWhole (plain_edge I.whole C.counts e.now) (plain_points I.whole points.now) }
 {
@@ -267,8 +265,8 @@ fn stays_whole<I: IntNumber, C: EdgeCount>(e: &CountedEdge<I, C>, points: &[IntP
     true
 }
 
-/// The points of the meetings of e, which is the edge at place i, in their order along it. The
-/// meetings stand by their places.
+/// Returns the points of the meetings of e, the edge at place i, in their order along it. The meetings are sorted by
+/// their places.
 fn points_at<I: IntNumber, C: EdgeCount, A: Allocator>(
     alloc: A,
     meetings: &[Meeting<I>],
@@ -286,7 +284,7 @@ fn points_at<I: IntNumber, C: EdgeCount, A: Allocator>(
     Ok(points)
 }
 
-/// The points of the meetings.
+/// Returns the points of the meetings.
 fn points_of<I: IntNumber, A: Allocator>(
     alloc: A,
     meetings: &[Meeting<I>],
@@ -302,7 +300,7 @@ fn points_of<I: IntNumber, A: Allocator>(
     Ok(points)
 }
 
-/// Puts the points into their order along the edge.
+/// Sorts the points by their order along the edge.
 fn sort_along<I: IntNumber, C: EdgeCount, A: Allocator>(
     points: &mut Vec<IntPoint<I>, A>,
     e: &CountedEdge<I, C>,
@@ -316,7 +314,7 @@ fn sort_along<I: IntNumber, C: EdgeCount, A: Allocator>(
     Ok(())
 }
 
-/// How two points compare along the edge: by x, then by y upwards or downwards, as the edge leads.
+/// Compares two points along the edge: by x, then by y upwards or downwards, as the edge leads.
 fn compare_along<I: IntNumber, C: EdgeCount>(
     e: &CountedEdge<I, C>,
     v: IntPoint<I>,
@@ -331,7 +329,7 @@ fn compare_along<I: IntNumber, C: EdgeCount>(
     }
 }
 
-/// How two heights compare, upwards or downwards as the edge leads.
+/// Compares two heights, upwards or downwards as the edge leads.
 fn compare_heights<I: IntNumber, C: EdgeCount>(e: &CountedEdge<I, C>, y: I, z: I) -> Ordering
     ensures { is_lt result ≡ cond (int_le (I.whole e.now.a.y) (I.whole e.now.b.y))
         (int_lt (I.whole y) (I.whole z)) (int_lt (I.whole z) (I.whole y)) }

@@ -1,4 +1,4 @@
-//! The hot points of a list of edges: their ends, and the whole points nearest those in which they meet.
+//! The hot points of a list of edges: their ends, and the whole points nearest to their meeting points.
 
 ghost use Rattle.std.specs.Prelude.{◌≡◌, [], ◌∷◌, ◌++◌, map, flat_map, IfOk, OnOk, IsOkUnless};
 ghost use Rattle.overlay_geom.specs.Points.{plain_points};
@@ -15,8 +15,8 @@ use overlay_geom::number::IntNumber;
 use overlay_geom::point::IntPoint;
 use std::alloc::Allocator;
 
-/// The hot points of the edges, each once, by x and then by y. The meetings are those of all edges. The only refusal is
-/// `Memory`.
+/// Returns the hot points of the edges, each once, by x and then by y. The meetings are those of all edges. The only
+/// refusal is `Memory`.
 pub(crate) fn hot_points<I: IntNumber, C: EdgeCount, A: Allocator>(
     alloc: A,
     edges: &[CountedEdge<I, C>],
@@ -65,7 +65,7 @@ fn push_points<I: IntNumber, A: Allocator>(
     Ok(())
 }
 
-/// Puts the points by x and then by y, and drops those that are there before.
+/// Sorts the points by x and then by y, and drops repeated points.
 fn sort_points<I: IntNumber, A: Allocator>(
     points: &mut Vec<IntPoint<I>, A>,
 ) -> Result<(), OverlayError>

@@ -1,4 +1,4 @@
-//! The whole points through which the edges of a list lead one another, gathered pair by pair.
+//! The whole points through which the edges of a list lead each other, gathered pair by pair.
 
 ghost use Rattle.std.specs.Prelude.{◌≡◌, ◌+◌, ◌<◌, true, length, All, IfOk, IfSome, OnOk, IsOkUnless};
 ghost use Rattle.std.specs.List.Sorted.{IsPermutation};
@@ -29,10 +29,10 @@ pub(crate) struct Meeting<I> {
     pub point: IntPoint<I>,
 }
 
-/// The whole points through which the edges lead one another, by the places of the edges that they
-/// lead, and which edges are open: two of which neither is meet in ends alone. An edge's own ends may be missing: they
-/// change nothing. The edges ascend, and those before the place `from` meet each later one in ends alone. Where the
-/// changed ones are known, pairs of others are not looked at.
+/// Returns the whole points through which the edges lead each other, sorted by the places of their edges, and marks of
+/// open edges. Two edges that are not open meet in ends alone. An edge's own ends may be missing, since they change
+/// nothing. The edges ascend, and those before the place `from` meet each later edge in ends alone. Where the changed
+/// edges are known, pairs of unchanged edges are not tested.
 pub(crate) fn gather<I: IntNumber, C: EdgeCount, A: Allocator + Clone>(
     alloc: A,
     edges: &[CountedEdge<I, C>],
@@ -64,8 +64,8 @@ pub(crate) fn gather<I: IntNumber, C: EdgeCount, A: Allocator + Clone>(
     Ok((meetings, is_open))
 }
 
-/// Adds the points through which the edge at place i and the later ones lead one another, and marks what is open. Among
-/// the later ones it may meet those at the places `near` alone elsewhere than in ends.
+/// Adds the points through which the edge at place i and the later edges lead each other, and marks open edges. It may
+/// meet only the later edges at the places `near` elsewhere than in ends.
 fn gather_from<I: IntNumber, C: EdgeCount, A: Allocator>(
     meetings: &mut Vec<Meeting<I>, A>,
     is_open: &mut Vec<bool, A>,
@@ -110,7 +110,7 @@ fn mark_open<A: Allocator>(is_open: &mut Vec<bool, A>, i: usize, j: usize)
     is_open[j] = true;
 }
 
-/// Puts the meetings by their places.
+/// Sorts the meetings by their places.
 fn sort_by_place<I: IntNumber, A: Allocator>(
     meetings: &mut Vec<Meeting<I>, A>,
 ) -> Result<(), OverlayError>
@@ -122,7 +122,7 @@ fn sort_by_place<I: IntNumber, A: Allocator>(
     Ok(())
 }
 
-/// Between which places the meetings of the edge at place i stand. They stand by their places.
+/// Returns the range of the meetings of the edge at place i. The meetings are sorted by their places.
 pub(crate) fn run_at<I: IntNumber>(meetings: &[Meeting<I>], i: usize) -> (usize, usize)
     requires { AreByPlace (plain_meetings I.whole meetings.now) }
     ensures { IsRunAt (plain_meetings I.whole meetings.now) i result.0 result.1 }

@@ -16,13 +16,14 @@ use overlay_geom::error::OverlayError;
 use overlay_geom::number::IntNumber;
 use std::alloc::Allocator;
 
-// A run of so few edges is taken whole.
+// Length of a run from which on it is searched by blocks; a shorter run is taken whole.
 const FEW: usize = 8;
-// So many extents are looked through at a time.
+// Number of boxes that are tested one by one at a time.
 const BLOCK: usize = 8;
 
-/// Finds the places of the edges from a place on that an edge may meet elsewhere than in ends: all that start up to its
-/// end, or those of them that do not lie at heights apart from its own. The edges ascend; it need not be one of them.
+/// Finds the places of the edges from `from` on that an edge may meet elsewhere than in ends. These are all that start
+/// up to its right end, or those of them whose heights are not apart from its own. The edges ascend; e need not be in
+/// the list.
 pub(crate) fn find_near_behind<I: IntNumber, C: EdgeCount, A: Allocator>(
     near: &mut Vec<usize, A>,
     edges: &[CountedEdge<I, C>],
@@ -48,7 +49,7 @@ pub(crate) fn find_near_behind<I: IntNumber, C: EdgeCount, A: Allocator>(
     }
 }
 
-/// Takes all places from the one up to the other one.
+/// Takes all places from `from` up to `to`.
 pub(crate) fn take_run<A: Allocator>(
     near: &mut Vec<usize, A>,
     from: usize,
@@ -65,7 +66,7 @@ pub(crate) fn take_run<A: Allocator>(
     Ok(())
 }
 
-/// Finds the places of the edges that do not lie apart from an extent. They are in the strips in which its places lie.
+/// Finds the places of the edges whose boxes do not lie apart from `of`. They are in the strips of its places.
 fn find_by_blocks<I: IntNumber, A: Allocator>(
     near: &mut Vec<usize, A>,
     strips: &Strips<I, A>,
@@ -101,7 +102,7 @@ fn find_by_blocks<I: IntNumber, A: Allocator>(
     Ok(())
 }
 
-/// The place so far on, or the last one where that is less.
+/// Returns the place `count` further on, or `last` if that is less.
 pub(crate) fn on_by(at: usize, count: usize, last: usize) -> usize
     requires { at ≤ last }
     ensures from { at ≤ result }
@@ -113,8 +114,8 @@ pub(crate) fn on_by(at: usize, count: usize, last: usize) -> usize
     if last - at < count { last } else { at + count }
 }
 
-/// Of so many extents, from the one at a place on, a block tells that they lie apart from another one, or their order:
-/// where the first one lies above, so do the others of its strip.
+/// Returns how many boxes from `at` on can be skipped: all of a block that misses `of`, or the rest of a strip whose
+/// next box lies above `of`.
 fn count_passed<I: IntNumber, A: Allocator>(
     strips: &Strips<I, A>,
     of: Extent<I>,
@@ -147,7 +148,7 @@ fn count_passed<I: IntNumber, A: Allocator>(
     }
 }
 
-/// Whether at a place a block of so many extents begins, and lies apart from another one.
+/// Returns whether a block of `size` boxes begins at the place and lies apart from `of`.
 fn begins_apart<I: IntNumber>(blocks: &[Extent<I>], size: usize, of: Extent<I>, at: usize) -> bool
     requires some { 0 < size }
     requires within { at / size < length blocks.now }
@@ -156,7 +157,7 @@ fn begins_apart<I: IntNumber>(blocks: &[Extent<I>], size: usize, of: Extent<I>, 
     at % size == 0 && is_apart(of, blocks[at / size])
 }
 
-/// Adds the places of those of the extents from one place up to another one that do not lie apart from an extent.
+/// Adds the places of the boxes from `from` up to `to` that do not lie apart from `of`.
 fn push_near<I: IntNumber, A: Allocator>(
     near: &mut Vec<usize, A>,
     of: Extent<I>,
@@ -180,7 +181,7 @@ fn push_near<I: IntNumber, A: Allocator>(
     Ok(())
 }
 
-/// The heights of the edge, and the places from the one on up to the end of a run.
+/// Returns the box of the edge's heights, and of the places from `from` to the end of a run.
 fn run_of<I: IntNumber, C: EdgeCount>(e: &CountedEdge<I, C>, from: usize, end: usize) -> Extent<I>
     requires { from < end }
     ensures { plain_extent I.whole result ≡ run_of (plain_edge I.whole C.counts e.now) from end }

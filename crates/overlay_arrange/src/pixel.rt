@@ -1,4 +1,4 @@
-//! Whether an edge meets the pixel of a whole point: whether some point of the edge rounds to it.
+//! Test whether an edge meets the pixel of a whole point: whether some point of the edge rounds to it.
 
 ghost use Rattle.std.specs.Prelude.{◌≡◌, pos, ◌*ℤ◌, ◌-ℤ◌, int_lt, int_le, cond};
 ghost use Rattle.std.specs.Ordering.{int_cmp, is_lt, is_le};
@@ -16,7 +16,7 @@ use overlay_geom::point::IntPoint;
 use overlay_geom::vector::cross_at;
 use std::cmp::Ordering;
 
-/// Whether some point of the edge rounds to the point.
+/// Returns whether some point of the edge rounds to the point.
 pub(crate) fn meets_pixel<I: IntNumber, C: EdgeCount>(e: &CountedEdge<I, C>, v: IntPoint<I>) -> bool
     requires { IsHeld I.limit (plain_edge I.whole C.counts e.now) }
     ensures { result ≡ meets_pixel (ends_of (plain_edge I.whole C.counts e.now)) (plain_point I.whole v) }
@@ -24,28 +24,28 @@ pub(crate) fn meets_pixel<I: IntNumber, C: EdgeCount>(e: &CountedEdge<I, C>, v: 
     is_same(v, e.a) || is_same(v, e.b) || (is_in_box(e, v) && line_meets(e, v))
 }
 
-/// Whether the point lies in the bounding box of the edge.
+/// Returns whether the point lies in the bounding box of the edge.
 fn is_in_box<I: IntNumber, C: EdgeCount>(e: &CountedEdge<I, C>, v: IntPoint<I>) -> bool
     ensures { result ≡ is_in_box (ends_of (plain_edge I.whole C.counts e.now)) (plain_point I.whole v) }
 {
     is_amid(v.x, e.a.x, e.b.x) && is_amid(v.y, e.a.y, e.b.y)
 }
 
-/// Whether the coordinate lies between two others, in whichever order, or is one of them.
+/// Returns whether the coordinate lies between u and v, in whichever order, or equals one of them.
 fn is_amid<I: IntNumber>(z: I, u: I, v: I) -> bool
     ensures { result ≡ is_amid (I.whole z) (I.whole u) (I.whole v) }
 {
     (is_at_most(u, z) && is_at_most(z, v)) || (is_at_most(v, z) && is_at_most(z, u))
 }
 
-/// Whether the first coordinate is no greater than the second one.
+/// Returns whether y is at most z.
 fn is_at_most<I: IntNumber>(y: I, z: I) -> bool
     ensures { result ≡ int_le (I.whole y) (I.whole z) }
 {
     y.compare(z).is_le()
 }
 
-/// Whether the line of the edge passes through the pixel of the point.
+/// Returns whether the line of the edge passes through the pixel of the point.
 fn line_meets<I: IntNumber, C: EdgeCount>(e: &CountedEdge<I, C>, v: IntPoint<I>) -> bool
     requires edge { IsHeld I.limit (plain_edge I.whole C.counts e.now) }
     requires point { InRange I.limit (plain_point I.whole v) }
@@ -61,8 +61,8 @@ fn line_meets<I: IntNumber, C: EdgeCount>(e: &CountedEdge<I, C>, v: IntPoint<I>)
     }
 }
 
-/// Whether a number that compares so with the upper bound of an edge that is not upright keeps to it. Where the edge
-/// rises it stays below the bound.
+/// Returns whether a number that compares as `high` with the upper bound of an edge keeps to the bound. The edge is not
+/// upright. Where it rises, the number stays below the bound.
 fn is_inside<I: IntNumber, C: EdgeCount>(e: &CountedEdge<I, C>, high: Ordering) -> bool
     ensures { result ≡ cond (int_lt (I.whole e.now.a.y) (I.whole e.now.b.y)) (is_lt high) (is_le high) }
 {
@@ -73,7 +73,7 @@ fn is_inside<I: IntNumber, C: EdgeCount>(e: &CountedEdge<I, C>, high: Ordering) 
     }
 }
 
-/// How twice the number compares with the width and the height of the edge together.
+/// Compares twice the number with the width plus the height of the edge.
 pub(crate) fn order_to_high<I: IntNumber, C: EdgeCount>(
     e: &CountedEdge<I, C>,
     cross: I::Wide,
@@ -89,7 +89,7 @@ pub(crate) fn order_to_high<I: IntNumber, C: EdgeCount>(
     }
 }
 
-/// How it compares with them negated.
+/// Compares twice the number with the negated width plus height of the edge.
 pub(crate) fn order_to_low<I: IntNumber, C: EdgeCount>(
     e: &CountedEdge<I, C>,
     cross: I::Wide,

@@ -1,5 +1,5 @@
-//! The points of a strip whose pixels an edge may meet. They stand by their heights, so they are a run: those before it
-//! lie below the edge, and those behind it above.
+//! The points of a strip whose pixels an edge may meet. They are sorted by height, so they are a run: the points before
+//! it lie below the edge, and those behind it above.
 
 ghost use Rattle.std.specs.Prelude.{◌≡◌, ◌⊎◌, ℕ, ◌<◌, ◌≤◌, ℤ, pos, ◌*ℤ◌, ◌-ℤ◌, ◌≤ℤ◌, length, cond, int_lt, IsTrue};
 ghost use Rattle.std.specs.Prelude.{OnOk, IsOkUnless};
@@ -21,8 +21,8 @@ use overlay_geom::point::IntPoint;
 use overlay_geom::vector::cross_at;
 use std::alloc::Allocator;
 
-/// Adds the places of those of the points of a strip, from one place up to another one, whose pixels the edge may meet.
-/// Their x-coordinates lie between two.
+/// Adds the places of the points of a strip, from `from` up to `to`, whose pixels the edge may meet. Their
+/// x-coordinates lie between `left` and `right`.
 pub(crate) fn push_run<I: IntNumber, C: EdgeCount, A: Allocator>(
     near: &mut Vec<usize, A>,
     strips: &[Extent<I>],
@@ -46,7 +46,7 @@ pub(crate) fn push_run<I: IntNumber, C: EdgeCount, A: Allocator>(
     push_places(near, strips, low, high)
 }
 
-/// Adds the places of the extents from one on up to another one.
+/// Adds the places of the boxes from `from` up to `to`.
 fn push_places<I: IntNumber, A: Allocator>(
     near: &mut Vec<usize, A>,
     strips: &[Extent<I>],
@@ -65,7 +65,7 @@ fn push_places<I: IntNumber, A: Allocator>(
     Ok(())
 }
 
-/// Between two x-coordinates, as far as they lie in the span of the edge: from where on it rises, and up to where.
+/// Returns the two x-coordinates, moved into the span of the edge, in the order in which the edge rises.
 fn x_along<I: IntNumber, C: EdgeCount>(e: &CountedEdge<I, C>, left: I, right: I) -> (I, I)
     requires { IsHeld I.limit (plain_edge I.whole C.counts e.now) }
     ensures first { IsAmidX (plain_edge I.whole C.counts e.now) (I.whole result.0) }
@@ -84,7 +84,7 @@ fn x_along<I: IntNumber, C: EdgeCount>(e: &CountedEdge<I, C>, left: I, right: I)
     }
 }
 
-/// The x-coordinate nearest a given one in the span of the edge.
+/// Returns the x-coordinate in the span of the edge that is nearest to x.
 fn x_within<I: IntNumber, C: EdgeCount>(e: &CountedEdge<I, C>, x: I) -> I
     ensures { let f = plain_edge I.whole C.counts e.now in
         I.whole result ≡ cond (int_lt (I.whole x) f.a.x) f.a.x (cond (int_lt f.b.x (I.whole x)) f.b.x (I.whole x)) }
@@ -98,7 +98,7 @@ fn x_within<I: IntNumber, C: EdgeCount>(e: &CountedEdge<I, C>, x: I) -> I
     }
 }
 
-/// A place up to which the points of a strip lie below the edge, those from x on in its way.
+/// Returns a place up to which the points of a strip lie below the edge, for points from x on in its rising direction.
 fn place_not_below<I: IntNumber, C: EdgeCount>(
     strips: &[Extent<I>],
     e: &CountedEdge<I, C>,
@@ -129,7 +129,7 @@ fn place_not_below<I: IntNumber, C: EdgeCount>(
     low
 }
 
-/// A place from which on the points of a strip lie above the edge, those up to x in its way.
+/// Returns a place from which on the points of a strip lie above the edge, for points up to x in its rising direction.
 fn place_above<I: IntNumber, C: EdgeCount>(
     strips: &[Extent<I>],
     e: &CountedEdge<I, C>,
@@ -160,7 +160,8 @@ fn place_above<I: IntNumber, C: EdgeCount>(
     high
 }
 
-/// Whether the edge is seen to pass above the pixels of all points up to a height, from x on in its way.
+/// Returns true only if the edge passes above the pixels of all points up to the height y, from x on in its rising
+/// direction.
 fn passes_above<I: IntNumber, C: EdgeCount>(e: &CountedEdge<I, C>, x: I, y: I) -> bool
     requires one { IsHeld I.limit (plain_edge I.whole C.counts e.now) }
     requires amid { IsAmidX (plain_edge I.whole C.counts e.now) (I.whole x) }
@@ -173,7 +174,8 @@ fn passes_above<I: IntNumber, C: EdgeCount>(e: &CountedEdge<I, C>, x: I, y: I) -
     }
 }
 
-/// Whether the edge is seen to pass below the pixels of all points from a height on, up to x in its way.
+/// Returns true only if the edge passes below the pixels of all points from the height y on, up to x in its rising
+/// direction.
 fn passes_below<I: IntNumber, C: EdgeCount>(e: &CountedEdge<I, C>, x: I, y: I) -> bool
     requires one { IsHeld I.limit (plain_edge I.whole C.counts e.now) }
     requires amid { IsAmidX (plain_edge I.whole C.counts e.now) (I.whole x) }
@@ -186,7 +188,7 @@ fn passes_below<I: IntNumber, C: EdgeCount>(e: &CountedEdge<I, C>, x: I, y: I) -
     }
 }
 
-/// Whether the point lies so far below the line of the edge that this passes above its pixel.
+/// Returns whether the point lies so far below the line of the edge that the line passes above its pixel.
 fn is_far_below<I: IntNumber, C: EdgeCount>(e: &CountedEdge<I, C>, v: IntPoint<I>) -> bool
     requires edge { IsHeld I.limit (plain_edge I.whole C.counts e.now) }
     requires point { InRange I.limit (plain_point I.whole v) }
@@ -195,7 +197,7 @@ fn is_far_below<I: IntNumber, C: EdgeCount>(e: &CountedEdge<I, C>, v: IntPoint<I
     order_to_low(e, cross_at(e.a, e.b, v)).is_lt()
 }
 
-/// Whether the point lies so far above it that it passes below its pixel.
+/// Returns whether the point lies so far above the line of the edge that the line passes below its pixel.
 fn is_far_above<I: IntNumber, C: EdgeCount>(e: &CountedEdge<I, C>, v: IntPoint<I>) -> bool
     requires edge { IsHeld I.limit (plain_edge I.whole C.counts e.now) }
     requires point { InRange I.limit (plain_point I.whole v) }

@@ -23,8 +23,8 @@ use overlay_geom::number::IntNumber;
 use overlay_geom::point::IntPoint;
 use std::alloc::Allocator;
 
-/// The hot points whose pixels each edge meets, as its meetings, by the places of the edges. An edge's own ends are
-/// left out. The only refusal is `Memory`.
+/// Returns the hot points whose pixels each edge meets, as its meetings, sorted by the places of the edges. An edge's
+/// own ends are left out. The only refusal is `Memory`.
 pub(crate) fn gather_snapped<I: IntNumber, C: EdgeCount, A: Allocator + Clone>(
     alloc: A,
     edges: &[CountedEdge<I, C>],
@@ -49,8 +49,8 @@ pub(crate) fn gather_snapped<I: IntNumber, C: EdgeCount, A: Allocator + Clone>(
     Ok(meetings)
 }
 
-/// How many points are neither left nor right of so many edges together, which stand at equal distances. It is no more
-/// than a guess at all of them.
+/// Returns the total number of points neither left nor right of an edge, over a sample of edges at equal distances. It
+/// only serves as an estimate.
 fn length_of_spans<I: IntNumber, C: EdgeCount>(
     edges: &[CountedEdge<I, C>],
     hot: &[IntPoint<I>],
@@ -70,7 +70,7 @@ fn length_of_spans<I: IntNumber, C: EdgeCount>(
     length
 }
 
-/// Finds the ranks of the hot points whose pixels the edge may meet: in each strip of its span, of those near its line.
+/// Finds the ranks of the hot points whose pixels the edge may meet: in each strip of its span, those near its line.
 fn find_ranks<I: IntNumber, C: EdgeCount, A: Allocator>(
     near: &mut Vec<usize, A>,
     hot: &[IntPoint<I>],
@@ -96,7 +96,7 @@ fn find_ranks<I: IntNumber, C: EdgeCount, A: Allocator>(
     Ok(())
 }
 
-/// Between which ranks the points stand that lie neither left nor right of the edge.
+/// Returns the range of ranks of the points that lie neither left nor right of the edge.
 fn span_of<I: IntNumber, C: EdgeCount>(hot: &[IntPoint<I>], e: &CountedEdge<I, C>) -> (usize, usize)
     requires one { IsHeld I.limit (plain_edge I.whole C.counts e.now) }
     requires ascending { ArePointsAscending (plain_points I.whole hot.now) }
@@ -105,7 +105,7 @@ fn span_of<I: IntNumber, C: EdgeCount>(hot: &[IntPoint<I>], e: &CountedEdge<I, C
     (count_left_of(hot, e.a.x), count_up_to(hot, e.b.x))
 }
 
-/// How many points lie left of x: those before all others.
+/// Returns the number of points left of x, which come before all others.
 fn count_left_of<I: IntNumber>(hot: &[IntPoint<I>], x: I) -> usize
     requires { ArePointsAscending (plain_points I.whole hot.now) }
     ensures { IsSplitAt (λ v. v.x <ℤ I.whole x) (λ v. I.whole x ≤ℤ v.x) (plain_points I.whole hot.now) result }
@@ -113,7 +113,7 @@ fn count_left_of<I: IntNumber>(hot: &[IntPoint<I>], x: I) -> usize
     hot.partition_point(|v| v.x.compare(x).is_lt())
 }
 
-/// How many do not lie right of x.
+/// Returns the number of points not right of x.
 fn count_up_to<I: IntNumber>(hot: &[IntPoint<I>], x: I) -> usize
     requires { ArePointsAscending (plain_points I.whole hot.now) }
     ensures { IsSplitAt (λ v. v.x ≤ℤ I.whole x) (λ v. I.whole x <ℤ v.x) (plain_points I.whole hot.now) result }
@@ -121,7 +121,7 @@ fn count_up_to<I: IntNumber>(hot: &[IntPoint<I>], x: I) -> usize
     hot.partition_point(|v| v.x.compare(x).is_le())
 }
 
-/// Adds those of the points at the ranks whose pixels the edge at place i meets, as its meetings.
+/// Adds the points at the ranks whose pixels the edge at place i meets, as its meetings.
 fn push_snapped<I: IntNumber, C: EdgeCount, A: Allocator>(
     meetings: &mut Vec<Meeting<I>, A>,
     i: usize,

@@ -23,11 +23,11 @@ use overlay_geom::number::IntNumber;
 use std::alloc::Allocator;
 
 impl<I: IntNumber, C: EdgeCount, A: Allocator + Clone> Content<I, C, A> {
-    /// Merges the edges; unless they meet in ends alone then, leads each through whole points, and merges the pieces,
-    /// which meet in ends alone. Where all meeting points are whole, each edge is led through those in which the others
-    /// meet it, and else through the hot points whose pixels it meets. Returns whether edges were led so.
+    /// Merges the edges, and returns false where they then meet in ends alone. Otherwise it leads each edge through
+    /// whole points, merges the pieces, which meet in ends alone, and returns true. Where all meeting points are whole,
+    /// each edge is led through its meeting points; else through the hot points whose pixels it meets.
     ///
-    /// Refusals, after which the content is left open: `TooManyEdges` where the pieces weigh 2^31, `Memory`.
+    /// Refusals leave the content open: `TooManyEdges` where the pieces weigh 2^31, and `Memory`.
     pub(crate) fn snap(&mut self, store: &mut C::Store) -> Result<bool, OverlayError>
         ensures split { OnOk result (IsSplit Snapping 1 (edges_in self.old) (edges_in self.new)) }
         ensures carried { OnOk result (IsSplitCarrying C.merges C.splits C.reverses Snapping 1 self.old self.new) }
@@ -48,9 +48,9 @@ impl<I: IntNumber, C: EdgeCount, A: Allocator + Clone> Content<I, C, A> {
         self.merge(store)?;
         Ok(true)
     }
-    /// Leads each edge through whole points, once: where all meeting points are whole, through those in which the
-    /// others meet it, and else through the hot points whose pixels it meets. The edges ascend, and the meetings are
-    /// theirs, by their places. If it is refused the content is left open.
+    /// Leads each edge through whole points, once. Where all meeting points are whole, it takes the edge's meeting
+    /// points; else the hot points whose pixels it meets. The edges ascend, and the meetings are theirs, sorted by
+    /// their places. A refusal leaves the content open.
     #[tactic(auto, using(crate::proofs::ReachedStores::never_written))]
     fn lead_once(
         &mut self,
@@ -73,8 +73,8 @@ impl<I: IntNumber, C: EdgeCount, A: Allocator + Clone> Content<I, C, A> {
         self.snap_at(snapped, store)
     }
 
-    /// The hot points whose pixels the edges meet, as their meetings, by their places. Those in which the edges meet
-    /// one another are given, and dropped. The only refusal is `Memory`.
+    /// Returns the hot points whose pixels the edges meet, as their meetings, sorted by their places. The given
+    /// meetings of the edges are dropped. The only refusal is `Memory`.
     fn snapped_meetings(
         &self,
         meetings: Vec<Meeting<I>, A>,

@@ -1,4 +1,4 @@
-//! The extents of the edges of a list, or of its points, in strips of neighbours, and of blocks of those of edges.
+//! The boxes of the edges or points of a list, in strips of neighbours, and the boxes of blocks of edges.
 
 ghost use Rattle.std.specs.Prelude.{◌≡◌, ◌<◌, ◌≤ℤ◌, List, [], ◌++◌, All, AllPairs, IfOk, OnOk, IsOkUnless};
 ghost use Rattle.std.specs.List.Sorted.{IsPermutation};
@@ -17,36 +17,37 @@ use overlay_geom::number::IntNumber;
 use overlay_geom::point::IntPoint;
 use std::alloc::Allocator;
 
-// A strip is of so many neighbours at least, and at most.
+// Least and greatest number of neighbours in a strip.
 const LEAST: usize = 64;
 
 const MOST: usize = 65536;
-// So many edges are asked how long their runs are.
+// Size of the sample for the length of runs.
 pub(crate) const SAMPLES: usize = 64;
-// So many extents are a block.
+// Number of boxes in a block.
 const BLOCK: usize = 8;
 
-/// The extents of the edges of a list, strip by strip, and those of the 8, 64, 512, 4096 and 32768 that begin at each
-/// multiple of this number. In a strip they stand by their least heights, so those of a block lie near one another.
+/// The boxes of the edges of a list, strip by strip, and the boxes of the blocks of 8, 64, 512, 4096 and 32768 of them.
+/// A block of n begins at each multiple of n. In a strip the boxes are sorted by their least heights, so boxes of a
+/// block are close together.
 #[derive(Drop)]
 pub(crate) struct Strips<I: Copy, A: Allocator> {
-    /// So many neighbours are a strip.
+    /// Number of neighbours in a strip.
     pub width: usize,
-    /// Those of the edges.
+    /// The boxes of the edges.
     pub edges: Vec<Extent<I>, A>,
-    /// Those of each 8 edges.
+    /// The boxes of each 8 edges.
     pub of_8: Vec<Extent<I>, A>,
-    /// Those of each 64 edges.
+    /// The boxes of each 64 edges.
     pub of_64: Vec<Extent<I>, A>,
-    /// Those of each 512 edges.
+    /// The boxes of each 512 edges.
     pub of_512: Vec<Extent<I>, A>,
-    /// Those of each 4096 edges.
+    /// The boxes of each 4096 edges.
     pub of_4096: Vec<Extent<I>, A>,
-    /// Those of each 32768 edges.
+    /// The boxes of each 32768 edges.
     pub of_32768: Vec<Extent<I>, A>,
 }
 
-/// The strips of the edges. The only refusal is `Memory`.
+/// Makes the strips of the edges. The only refusal is `Memory`.
 pub(crate) fn strips_of<I: IntNumber, C: EdgeCount, A: Allocator + Clone>(
     alloc: A,
     edges: &[CountedEdge<I, C>],
@@ -74,8 +75,8 @@ pub(crate) fn strips_of<I: IntNumber, C: EdgeCount, A: Allocator + Clone>(
     })
 }
 
-/// How many neighbours are to be a strip: the more, the longer the runs of the edges are. A search goes through each
-/// strip of an edge's run, and in it past those at other heights.
+/// Returns the width of strips, in neighbours: the longer the runs of the edges, the wider. A search visits each strip
+/// of an edge's run, and skips boxes at other heights in it.
 pub(crate) fn strip_width(runs: usize) -> usize
     ensures { 0 < result }
 {
@@ -86,7 +87,7 @@ pub(crate) fn strip_width(runs: usize) -> usize
     width
 }
 
-/// The extents of the edges, strip by strip, and in each strip by their least heights.
+/// Returns the boxes of the edges, strip by strip, and in each strip sorted by their least heights.
 fn edges_by_strips<I: IntNumber, C: EdgeCount, A: Allocator + Clone>(
     alloc: A,
     edges: &[CountedEdge<I, C>],
@@ -103,7 +104,7 @@ fn edges_by_strips<I: IntNumber, C: EdgeCount, A: Allocator + Clone>(
     by_strips(alloc, &extents, width)
 }
 
-/// The extents of the points, strip by strip, and in each strip by their heights.
+/// Returns the boxes of the points, strip by strip, and in each strip sorted by their heights.
 pub(crate) fn points_by_strips<I: IntNumber, A: Allocator + Clone>(
     alloc: A,
     points: &[IntPoint<I>],
@@ -118,7 +119,7 @@ pub(crate) fn points_by_strips<I: IntNumber, A: Allocator + Clone>(
     by_strips(alloc, &extents, width)
 }
 
-/// The extents of the edges, each at its place.
+/// Returns the boxes of the edges, each at its place.
 fn extents_of_edges<I: IntNumber, C: EdgeCount, A: Allocator>(
     alloc: A,
     edges: &[CountedEdge<I, C>],
@@ -134,7 +135,7 @@ fn extents_of_edges<I: IntNumber, C: EdgeCount, A: Allocator>(
     Ok(extents)
 }
 
-/// The extents of the points, each at its place.
+/// Returns the boxes of the points, each at its place.
 fn extents_of_points<I: IntNumber, A: Allocator>(
     alloc: A,
     points: &[IntPoint<I>],
@@ -150,7 +151,7 @@ fn extents_of_points<I: IntNumber, A: Allocator>(
     Ok(extents)
 }
 
-/// The extents, each of which is at its place, strip by strip, and in each strip by their least heights.
+/// Sorts the boxes strip by strip, in each strip by their least heights. Each box is at its place.
 fn by_strips<I: IntNumber, A: Allocator + Clone>(
     alloc: A,
     extents: &[Extent<I>],
@@ -176,7 +177,7 @@ fn by_strips<I: IntNumber, A: Allocator + Clone>(
     Ok(sorted)
 }
 
-/// Moves the extents of a strip behind the others, by their least heights.
+/// Moves the boxes of a strip behind the others, sorted by their least heights.
 fn close_strip<I: IntNumber, A: Allocator>(
     extents: &mut Vec<Extent<I>, A>,
     strip: &mut Vec<Extent<I>, A>,
@@ -192,7 +193,7 @@ fn close_strip<I: IntNumber, A: Allocator>(
     Ok(())
 }
 
-/// The extents of each block.
+/// Returns the box of each block.
 fn extents_of_blocks<I: IntNumber, A: Allocator>(
     alloc: A,
     extents: &[Extent<I>],
