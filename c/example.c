@@ -1,4 +1,4 @@
-/* The points of what two squares have in common. */
+/* Prints the points of the intersection of two squares. */
 #include <stdio.h>
 
 #include "polyover.h"

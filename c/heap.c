@@ -1,9 +1,9 @@
-/* What the library takes memory by: malloc, realloc and free, in the words of the code that the toolchain makes. */
+/* Memory functions of the library: malloc, realloc and free, under the names that the toolchain's code calls. */
 #include <stddef.h>
 #include <stdint.h>
 #include <stdlib.h>
 
-/* Memory, if it is there; else `at` is no null pointer either. */
+/* The answer to a request: whether there is memory, and a pointer that is never null. */
 struct answer {
     uint64_t is_there;
     void *at;

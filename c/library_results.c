@@ -1,9 +1,9 @@
-/* The part of results that is C: options that are null are the defaults, and what a result holds is freed. */
+/* The part of results in C: it replaces null options by the defaults, and frees the arrays of a result. */
 #include <stdlib.h>
 
 #include "polyover.h"
 
-/* An array without items takes no memory. */
+/* Frees an array; an array without items has no memory. */
 static void free_array(const void *items, size_t count) {
     if (count != 0) {
         free((void *)items);

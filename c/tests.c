@@ -45,7 +45,7 @@ static void check(int holds, const char *what, int line) {
 #define TEST(what) what##_at_32
 #include "tests_of_width.h"
 
-/* Each status has a text of its own, and all numbers that are none have another one. */
+/* Each status has its own text, and all other numbers share a further text. */
 static void texts(void) {
     const char *unknown = polyover_status_text(POLYOVER_TOO_SMALL + 1);
     CHECK(strcmp(unknown, "no status has the number") == 0);

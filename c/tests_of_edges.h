@@ -1,6 +1,6 @@
 /* Tests at one width of the edges of an arrangement; the names are those of tests_of_width.h. */
 
-/* Room for edges, filled before each call, so that what is written can be told. */
+/* Arrays for edges, filled with a pattern before each call, so that writes are seen. */
 typedef struct {
     NUMBER coordinates[64];
     uint8_t fills[16];
@@ -34,7 +34,7 @@ static polyover_status TEST(listed)(TEST(edge_room) *room, polyover_fill fill, c
 }
 
 static void TEST(edges)(void) {
-    /* two squares side by side: the edge between them is one, with both sides filled */
+    /* two squares side by side share a single edge, with both sides filled */
     const NUMBER beside[] = {4, 0, 8, 0, 8, 4, 4, 4};
     const NUMBER of_both[] = {0, 0, 0, 4, 0, 0, 4, 0, 0, 4, 4, 4, 4, 0, 4, 4, 4, 0, 8, 0, 4, 4, 8, 4, 8, 0, 8, 4};
     const uint8_t fills[] = {2, 1, 2, 9, 4, 8, 4};
@@ -50,7 +50,7 @@ static void TEST(edges)(void) {
     CHECK(TEST(listed)(&room, POLYOVER_NON_ZERO, &square, &other, 28, 7) == POLYOVER_OK);
     CHECK(TEST(listed)(&room, POLYOVER_NON_ZERO, &square, &other, 27, 7) == POLYOVER_TOO_SMALL && room.count == 7);
     CHECK(TEST(listed)(&room, POLYOVER_NON_ZERO, &square, &other, 28, 6) == POLYOVER_TOO_SMALL && room.count == 7);
-    /* (what fills nothing is there, with no bit) */
+    /* (an edge that fills no side is there, with no bit) */
     CHECK(TEST(listed)(&room, POLYOVER_NEGATIVE, &square, &other, 64, 16) == POLYOVER_OK);
     CHECK(room.count == 7 && room.fills[0] == 0 && room.fills[6] == 0);
     CHECK(TEST(listed)(&room, POLYOVER_EVEN_ODD, &none, &far, 64, 16) == POLYOVER_OK);

@@ -2,7 +2,7 @@
 
 static const NUMBER TEST(square_at)[] = {-10, 10, -10, -10, 10, -10, 10, 10};
 
-/* What slicing the square of 20 by lines gives, with room for so many items. */
+/* Slices the square of 20 by lines, into arrays of these lengths. */
 static polyover_status TEST(sliced_into)(TEST(room) *room, const NUMBER *lines, size_t count, const size_t *ends,
                                          size_t end_count, size_t coordinates, size_t contours, size_t shapes) {
     static const size_t four[] = {4};
@@ -23,7 +23,7 @@ static void TEST(slices)(void) {
     CHECK(memcmp(room.coordinates, lower, sizeof lower) == 0 && room.coordinates[16] == 77);
     CHECK(room.contour_ends[0] == 4 && room.contour_ends[1] == 8 && room.contour_ends[2] == 77);
     CHECK(room.shape_ends[0] == 1 && room.shape_ends[1] == 2 && room.shape_ends[2] == 77);
-    /* (a line that is closed cuts a hole, and a shape that fills it) */
+    /* (a closed line cuts a hole, and a shape that fills it) */
     CHECK(TEST(sliced_into)(&room, closed, 10, five, 1, 64, 8, 8) == POLYOVER_OK);
     CHECK(TEST(has_counts)(&room, 24, 3, 2));
     CHECK(memcmp(room.coordinates, ring, sizeof ring) == 0);
@@ -89,7 +89,7 @@ static void TEST(slice_statuses)(void) {
     CHECK(TEST(slice_asked)(&room, 3, &square, &out) == POLYOVER_OUT_OF_RANGE);
 }
 
-/* Room for paths, filled before each call. */
+/* Arrays for paths, filled with a pattern before each call. */
 typedef struct {
     NUMBER coordinates[64];
     size_t ends[8];
@@ -107,7 +107,7 @@ static int TEST(paths_untouched)(const TEST(path_room) *room) {
     return same;
 }
 
-/* What a clip of lines by a shape leaves, with room for so many items. */
+/* Clips lines by a shape, into arrays of these lengths. */
 static polyover_status TEST(clip_asked)(TEST(path_room) *room, polyover_fill fill, polyover_clip_options options,
                                         const CONTOURS *shape, const CONTOURS *lines, size_t coordinates,
                                         size_t paths) {

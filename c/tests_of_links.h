@@ -1,6 +1,6 @@
 /* The tests of shapes with links at one width; the names are those of tests_of_width.h. */
 
-/* Room for shapes and links, filled before each call. */
+/* Arrays for shapes and links, filled with a pattern before each call. */
 typedef struct {
     TEST(room) shapes;
     polyover_link links[8];

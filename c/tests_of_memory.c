@@ -1,5 +1,5 @@
-/* Tests of the calls for C where memory is refused: it is told only then, and in place of nothing that is tested first.
- * The linker hands each request of the library for memory to this file. */
+/* Tests of the calls for C where memory is refused. POLYOVER_MEMORY comes only then, and never in place of a status
+ * that is tested first. The linker hands each request of the library for memory to this file. */
 #include <stdio.h>
 #include <string.h>
 
@@ -10,7 +10,7 @@ void *__real_realloc(void *old, size_t size);
 
 static int passed = 0;
 static int failed = 0;
-/* how many requests are still granted, and how many were not */
+/* the number of requests that are still granted, and the number of refused requests */
 static size_t granted = SIZE_MAX;
 static size_t refused = 0;
 
@@ -41,7 +41,7 @@ static void check(int holds, const char *what, size_t at, int line) {
 
 #define COUNT(items) (sizeof items / sizeof items[0])
 
-/* What a call is asked for, and what it is asked of. */
+/* The arguments of a call. */
 typedef struct {
     polyover_rule rule;
     polyover_fill fill;
@@ -54,7 +54,7 @@ typedef struct {
     size_t location_room;
 } asked;
 
-/* Room for any answer, which is filled before each call. */
+/* Arrays for any answer, filled with a pattern before each call. */
 typedef struct {
     int64_t coordinates[64];
     size_t contour_ends[16];
@@ -113,7 +113,7 @@ static polyover_status resolved(const asked *of, room *to) {
     return polyover_resolved(&of->subject);
 }
 
-/* A result that is refused has no item; leaks are told at the end by the sanitizer. */
+/* Frees a result, after a check that a refused result has no item. The sanitizer reports leaks at the end. */
 static polyover_status let_go(polyover_status status, polyover_result *result) {
     size_t items = result->coordinate_count + result->contour_count + result->shape_count + result->link_count +
                    result->fill_count;
@@ -159,7 +159,7 @@ static polyover_status edges_result(const asked *of, room *to) {
     return let_go(polyover_edges_result(of->fill, of->solver, &of->subject, &of->clip, &result), &result);
 }
 
-/* The status of a call to which so many requests are granted. What is not answered changes nothing. */
+/* Returns the status of a call with this number of requests granted, after a check that a refusal changes nothing. */
 static polyover_status status_with(call made, const asked *of, size_t requests, int line) {
     static room before, to;
     memset(&before, 77, sizeof before);
@@ -172,7 +172,7 @@ static polyover_status status_with(call made, const asked *of, size_t requests, 
     return status;
 }
 
-/* Each request is refused in turn, with all behind it, until the call needs no more: then it is answered. */
+/* Refuses each request in turn, with all later requests, until the call needs no more and answers. */
 static void refuse_each(call made, const asked *of, int line) {
     polyover_status status;
     size_t requests = 0;
@@ -187,7 +187,7 @@ static void refuse_each(call made, const asked *of, int line) {
 
 #define REFUSE_EACH(made, of) refuse_each(made, of, __LINE__)
 
-/* The status comes with no request granted, and none is made. */
+/* Checks that the status comes without any request for memory. */
 static void tested_first(call made, const asked *of, polyover_status wanted, int line) {
     check(status_with(made, of, 0, line) == wanted, "the status is the one wanted", 0, line);
     check(refused == 0, "no memory is asked for", 0, line);
@@ -223,7 +223,7 @@ static void answered(void) {
     }
 }
 
-/* Numbers that stand for nothing; each call has contours with faults too, which are tested later. */
+/* Tests numbers without a meaning. Each call also has contours with faults, which are tested later. */
 static void numbers(void) {
     asked of = squares();
     of.subject = bad;
@@ -252,7 +252,7 @@ static void numbers(void) {
     TESTED_FIRST(hierarchy, &of, POLYOVER_BAD_RULE);
 }
 
-/* Contours with faults: those of the subject come first. */
+/* Tests contours with faults: those of the subject come first. */
 static void faults(void) {
     const call one[] = {simplify, locate, resolved, simplify_result};
     const call two[] = {overlay, hierarchy, slice, clip, relate, edges, overlay_result, hierarchy_result,

@@ -1,6 +1,6 @@
-/* Tests at one width of where points lie; the names are those of tests_of_width.h. */
+/* Tests at one width of the locations of points; the names are those of tests_of_width.h. */
 
-/* Room for locations, filled before each call, so that what is written can be told. */
+/* An array for locations, filled with a pattern before each call, so that writes are seen. */
 typedef struct {
     uint8_t locations[8];
     size_t unresolved;

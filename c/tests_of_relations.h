@@ -1,4 +1,4 @@
-/* Tests at one width of how shapes lie to each other; the names are those of tests_of_width.h. */
+/* Tests at one width of the relations of shapes; the names are those of tests_of_width.h. */
 
 /* The relations of two squares, told by their lower left and upper right corners. */
 static polyover_relations TEST(related)(const NUMBER *subject, const NUMBER *clip, polyover_fill fill) {
@@ -29,7 +29,7 @@ static void TEST(relations)(void) {
     CHECK(TEST(related)(all, all, POLYOVER_NON_ZERO) == (overlaps | POLYOVER_WITHIN | POLYOVER_COVERS));
 }
 
-/* Two small triangles, of which the second one falls to a line; times 4 they are told as they are. */
+/* Two small triangles. The second collapses to a line; multiplied by 4 they have their true relations. */
 static void TEST(small_triangles)(void) {
     const NUMBER first[] = {1, 2, 2, 0, 3, 2}, second[] = {0, 0, 3, 2, 2, 1};
     NUMBER first_by_4[6], second_by_4[6];

@@ -1,6 +1,6 @@
 /* The tests of results at one width; the names are those of tests_of_width.h, and RESULT is the type of results. */
 
-/* Room for any answer here. */
+/* Arrays for any answer here. */
 typedef struct {
     NUMBER coordinates[256];
     size_t contour_ends[32];
@@ -12,7 +12,7 @@ typedef struct {
     size_t count;
 } TEST(answer);
 
-/* What a call is asked of. */
+/* The arguments of a call. */
 typedef struct {
     polyover_rule rule;
     polyover_fill fill;
@@ -41,7 +41,7 @@ static int TEST(holds_nothing)(const RESULT *result) {
            result->link_count == 0 && result->fill_count == 0;
 }
 
-/* A result that was filled before, as one on the stack is. */
+/* A result with arbitrary content, as on the stack. */
 static RESULT TEST(some_result)(void) {
     RESULT result;
     memset(&result, 77, sizeof result);
@@ -56,7 +56,7 @@ static void TEST(freed)(RESULT *result) {
     NAME(polyover_free)(result);
 }
 
-/* Each of them asks a question by the call with arrays, and by the one with a result, and compares the answers. */
+/* Each of these makes a call with arrays and the call with a result, and compares the answers. */
 static void TEST(overlay_twice)(const TEST(question) *of) {
     TEST(answer) to;
     RESULT result = TEST(some_result)();
@@ -140,7 +140,7 @@ static void TEST(results)(void) {
     TEST(all_twice)(&of);
     of.fill = POLYOVER_NEGATIVE;
     TEST(all_twice)(&of);
-    /* (five squares, each in the one before, of which the even ones are filled, have two links) */
+    /* (five nested squares, filled by turns, have two links) */
     TEST(squares_at)(coordinates, ends, nested, 5);
     of = (TEST(question)){.rule = POLYOVER_SUBJECT, .fill = POLYOVER_EVEN_ODD, .kept = {.boundary = 1}};
     of.options.direction = of.options.keep = 1;
@@ -158,7 +158,7 @@ static void TEST(results)(void) {
     TEST(all_twice)(&of);
 }
 
-/* Null options are the defaults; each fill bit is that of one side. */
+/* Null options are the defaults; each fill bit belongs to one side. */
 static void TEST(results_by_default)(void) {
     const size_t four[] = {4}, two[] = {2};
     const NUMBER across[] = {-1, 2, 5, 2};

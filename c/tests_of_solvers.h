@@ -2,12 +2,12 @@
  *
  * Two needles, whose long sides cross so flatly that each round moves their crossing on by one unit: 66 rounds would
  * settle them. By snap rounding (0, 65) is led into the long sides, and the tips above it fall to lines. Then the first
- * needle is (2, 0), (0, 65), (1, 0), (2, -66), of twice the area 131, and the second one (0, 65), (-1, 0), (1, 0), of
+ * needle is (2, 0), (0, 65), (1, 0), (2, -66), of twice the area 131, and the second (0, 65), (-1, 0), (1, 0), of
  * twice the area 130. They share the edge from (0, 65) to (1, 0). */
 
 static const NUMBER TEST(needles_at)[] = {2, 0, 0, 66, 2, -66, 1, 0, 0, 67, -1, 0};
 
-/* Twice the area that one contour encloses, counter-clockwise. */
+/* Returns twice the area that a counter-clockwise contour encloses. */
 static NUMBER TEST(doubled_area)(const NUMBER *points, size_t coordinates) {
     NUMBER area = 0;
     for (size_t at = 0; at < coordinates; at += 2) {
@@ -43,7 +43,7 @@ static void TEST(shapes_by_solver)(const CONTOURS *first, const CONTOURS *second
 }
 
 static void TEST(lines_by_solver)(const CONTOURS *needle) {
-    /* the long side of the second needle, which runs along the first one up to (0, 65) */
+    /* the long side of the second needle, which runs along the first up to (0, 65) */
     const NUMBER along[] = {1, 0, 0, 65};
     const size_t two[] = {2};
     const CONTOURS line = {TEST(needles_at) + 6, 4, two, 1};
@@ -72,7 +72,7 @@ static void TEST(solvers)(void) {
     CHECK(relations == 77);
     CHECK(NAME(polyover_relate)(POLYOVER_NON_ZERO, POLYOVER_SNAPPED, &first, &second, &relations) == POLYOVER_OK);
     CHECK(relations == (POLYOVER_INTERSECTS | POLYOVER_TOUCHES));
-    /* (four sides of the first needle, and two more of the second one) */
+    /* (four sides of the first needle, and two more of the second) */
     CHECK(TEST(listed_by)(&edges, POLYOVER_NON_ZERO, POLYOVER_SNAPPED, &first, &second, 64, 16) == POLYOVER_OK);
     CHECK(edges.count == 6);
     CHECK(TEST(listed_by)(&edges, POLYOVER_NON_ZERO, POLYOVER_ROUNDS, &first, &second, 64, 16) ==

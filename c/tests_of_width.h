@@ -43,17 +43,17 @@ static void TEST(contours)(void) {
     const size_t three[] = {3}, four[] = {4}, both[] = {4, 8}, one[] = {8}, halves[] = {2, 4};
     CHECK(TEST(status)(crossing, 8, four, 1) == POLYOVER_NOT_RESOLVED);
     CHECK(TEST(status)(far, 6, three, 1) == POLYOVER_OK);
-    /* (of two points, there and back) */
+    /* (a contour of two points, there and back) */
     CHECK(TEST(status)(beside, 8, halves, 2) == POLYOVER_NOT_RESOLVED);
     CHECK(TEST(status)(beyond, 8, four, 1) == POLYOVER_OUT_OF_RANGE);
     /* (ends are tested before the range) */
     CHECK(TEST(status)(beyond, 8, three, 1) == POLYOVER_BAD_ENDS);
-    /* (each contour is looked at by itself) */
+    /* (each contour is tested by itself) */
     CHECK(TEST(status)(beside, 16, both, 2) == POLYOVER_OK);
     CHECK(TEST(status)(beside, 16, one, 1) == POLYOVER_NOT_RESOLVED);
 }
 
-/* Room for an answer, filled before each call, so that what is written can be told. */
+/* Arrays for an answer, filled with a pattern before each call, so that writes are seen. */
 typedef struct {
     NUMBER coordinates[64];
     size_t contour_ends[8];
@@ -91,7 +91,7 @@ static int TEST(has_counts)(const TEST(room) *room, size_t coordinates, size_t c
     return counts->coordinates == coordinates && counts->contours == contours && counts->shapes == shapes;
 }
 
-/* The overlay of the first square and another one, with room for so many items. */
+/* Overlays the first square and another square, into arrays of these lengths. */
 static polyover_status TEST(squares)(TEST(room) *room, const NUMBER *other, polyover_rule rule, const OPTIONS *options,
                                      size_t coordinates, size_t contours, size_t shapes) {
     static const size_t four[] = {4};
@@ -177,7 +177,7 @@ static void TEST(refusals)(void) {
 }
 
 static void TEST(options)(void) {
-    /* a square with a point on an edge, and one with a hole that touches its left side */
+    /* a square with a point on an edge, and a square with a hole that touches its left side */
     const NUMBER longer[] = {0, 0, 2, 0, 4, 0, 4, 4, 0, 4}, holed[] = {0, 0, 6, 0, 6, 6, 0, 6, 0, 3, 2, 4, 2, 2};
     const NUMBER valid[] = {0, 0, 6, 0, 6, 6, 0, 6, 0, 3, 2, 4, 2, 2};
     const NUMBER twice[] = {0, 3, 0, 0, 6, 0, 6, 6, 0, 6, 0, 3, 2, 4, 2, 2};
@@ -192,7 +192,7 @@ static void TEST(options)(void) {
     CHECK(TEST(has_counts)(&room, 8, 1, 1));
     CHECK(TEST(asked)(&room, POLYOVER_SUBJECT, POLYOVER_NON_ZERO, &large, &square, &none) == POLYOVER_OK);
     CHECK(TEST(has_counts)(&room, 0, 0, 0));
-    /* (input points on one line are dropped all the same) */
+    /* (collinear input points are dropped all the same) */
     CHECK(TEST(asked)(&room, POLYOVER_SUBJECT, POLYOVER_NON_ZERO, &keep, &square, &none) == POLYOVER_OK);
     CHECK(TEST(has_counts)(&room, 8, 1, 1));
     CHECK(TEST(asked)(&room, POLYOVER_SUBJECT, POLYOVER_EVEN_ODD, &by_default, &touched, &none) == POLYOVER_OK);
