@@ -21,7 +21,7 @@ push-next {E = E} f from to rest old new whole h e =
     ∙ ap (λ (l : List E). old ++ l) (sym (map-append f (steps_between from to) (steps_through to rest)))
     ∙ h
 
--- and with the last one what stands is the whole
+-- and with the last what stands is the whole
 pub push-last : {E : Type 0} (f : Step → E) (from to : Point) (old new whole : List E)
     → old ++ map f (steps_through from (to ∷ [])) ≡ whole
     → new ≡ old ++ map f (steps_between from to)

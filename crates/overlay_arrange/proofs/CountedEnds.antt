@@ -52,7 +52,7 @@ ends_light (e ∷ es) =
     let c = weight_reversed e.counts.clip in
     omega arith
 
--- first the smaller ends and then the larger ones are the ends of the edges
+-- first the smaller ends and then the larger are the ends of the edges
 apart : (es : List CountedEdge) → IsPermutation (all_counted_ends es) (starts_and_stops es)
 apart [] = IsPermutation-refl []
 apart (e ∷ es) =

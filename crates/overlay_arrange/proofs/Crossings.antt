@@ -1,5 +1,5 @@
--- Edges that go across one another's lines: how far along the one the other one crosses it, and the point through which
--- it leads it.
+-- Edges that go across each other's lines: how far along the one the other crosses it, and the point through which it
+-- leads it.
 use Rattle.std.proofs.Common.{◌≡◌, ◌≢◌, inl, inr, Bool, true, false, cond, not, ◌∷◌, [], refl, sym, ap, ◌∙◌}
 use Rattle.std.specs.Ordering.{is_ge}
 use Rattle.std.specs.declared.cmp.Ordering.{Ordering}
@@ -42,7 +42,7 @@ across_is_not_beside e f (inl (low, high, less)) (inr (right, too)) = omega line
 across_is_not_beside e f (inr (high, low, less)) (inl (left, too)) = omega linear
 across_is_not_beside e f (inr (high, low, less)) (inr (right, too)) = omega linear
 
--- two edges each of which goes across the other one's line lead one another through the point nearest their crossing
+-- two edges each of which goes across the other's line lead each other through the point nearest their crossing
 pub met_where_both_across : (e f : Edge) → IsAcross e f → IsAcross f e → met_at e f ≡ crossing e f ∷ []
 met_where_both_across e f forth back = met_across e f
     (record {

@@ -38,7 +38,7 @@ in_range_in_box limit e v held box = record {
   y = within_between limit v.y e.a.y e.b.y held.a_in_range.y held.b_in_range.y box.in_y;
 }
 
--- what holds of all that each entry gives holds of all that they give
+-- a fact of all that each entry gives holds of all that they give
 all_given : {X Y : Type 0} (P : Y → Type 0) (f : X → List Y) (xs : List X) → ((x : X) → All P (f x)) →
     All P (flat_map f xs)
 all_given P f [] each = All-nil P

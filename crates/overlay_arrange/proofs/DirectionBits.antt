@@ -14,7 +14,7 @@ by_bit P zero _ none one = none
 by_bit P (suc zero) _ none one = one
 by_bit P (suc (suc n)) below none one = absurd (omega arith)
 
--- what holds of two bits, each 0 or 1, holds of two bits of numbers
+-- a fact of two bits, each 0 or 1, holds of two bits of numbers
 pub by_bits : (P : ℕ → ℕ → Type 0) (m i n k : ℕ) → P 0 0 → P 0 1 → P 1 0 → P 1 1 → P (bit_at m i) (bit_at n k)
 by_bits P m i n k neither second first both =
     by_bit (λ b. P b (bit_at n k)) (bit_at m i) (bit_at-lt m i)
@@ -47,7 +47,7 @@ has_bit-masked n k =
 pub has_bit-mask : (n : ℕ) → not (nat_eq (bit_and n 2) 0) ≡ has_bit n 1
 has_bit-mask n = has_bit-masked n 1
 
--- the low bit moved up and the second one moved down are the reversed directions
+-- the low bit moved up and the second moved down are the reversed directions
 pub reversed-by_shifts : (n : ℕ) → bit_or (bit_and n 1 * 2 % 256) (bit_and n 2 / 2) ≡ reversed_directions n
 reversed-by_shifts n =
     ap₂ (λ low high. bit_or (low * 2 % 256) (high / 2)) (and_pow n 0) (and_pow n 1)

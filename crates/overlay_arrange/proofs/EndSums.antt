@@ -21,7 +21,7 @@ use Rattle.overlay_plane.proofs.Totals.{total-zero}
 use Rattle.overlay_scan.proofs.EntriesByStart.{at_front}
 use Rattle.overlay_arrange.specs.Ends.{CountedEnd, end_weight}
 
--- points of which neither is before the other are one
+-- points of which neither is before the other are equal
 pub neither_before : (p q : Point) → point_lt p q ≡ false → point_lt q p ≡ false → p ≡ q
 neither_before p q one other = by (point_eq p q) refl
   where

@@ -149,7 +149,7 @@ module _ (ss blocks : List Extent) (i : ℕ) (some : AreBlocksUpTo ss blocks i) 
             subst (λ (u : Extent). Encloses u t) (sym (get_or-append blocks (s ∷ []) d (k / 8) found.0)) found.1,
           )
 
-  -- where none begins, the place's block is the last one
+  -- where none begins, the place's block is the last
   pub last_block : ¬ (i % 8 ≡ 0) → i / 8 < length blocks
   last_block goes_on =
       let whole = div-add-mod i 8 in

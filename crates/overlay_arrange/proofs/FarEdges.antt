@@ -1,4 +1,4 @@
--- Edges of which the one lies wholly below the other one, or starts right of its end, meet in ends alone.
+-- Edges of which the one lies wholly below the other, or starts right of its end, meet in ends alone.
 use Rattle.std.proofs.Common.{◌⊎◌, inl, inr, ℕ, Bool, true, false, cond, ◌<ℤ◌, ◌≤ℤ◌, int_lt, refl}
 use Rattle.std.specs.Bool.{Decides}
 use Rattle.std.proofs.lemmas.Bool.{false≢true}
@@ -31,7 +31,7 @@ span e = let found = by (int_lt e.a.y e.b.y)
     by false d = by_lt_z e.a.y e.b.y (λ less. absurd (false≢true (d.1 less)))
         (λ at_least. (omega linear, omega linear, omega linear, omega linear))
 
--- an edge whose heights are less than the other one's is below it
+-- an edge whose heights are less than the other's is below it
 below_where_under : (e f : CountedEdge) → IsUnder e f → IsBelow (ends_of e) (ends_of f)
 below_where_under e f less =
     let of_e = span e in
@@ -44,7 +44,7 @@ apart_where_under : (e f : CountedEdge) → IsUnder e f ⊎ IsUnder f e → AreA
 apart_where_under e f (inl under) = inl (below_where_under e f under)
 apart_where_under e f (inr above) = inr (below_where_under f e above)
 
--- edges far from one another meet in ends alone
+-- edges far from each other meet in ends alone
 pub settled_where_far : (limit : ℕ) (e f : CountedEdge) → IsHeld limit e → IsHeld limit f → IsFar e f → AreSettled e f
 settled_where_far limit e f e_held f_held (inl right) = starting_right limit e f e_held f_held right
 settled_where_far limit e f e_held f_held (inr apart) = λ p common.

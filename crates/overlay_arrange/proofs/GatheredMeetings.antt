@@ -1,4 +1,4 @@
--- A loop over pairs of ascending edges that gathers the points through which they lead one another: what a pair adds,
+-- A loop over pairs of ascending edges that gathers the points through which they lead each other: what a pair adds,
 -- and which pairs may be left out.
 use Rattle.std.proofs.Common.{◌≡◌, ◌⊎◌, ⊎_elim, inl, inr, ℕ, ◌+◌, ◌<◌, ◌≤◌, List, [], ◌∷◌, ◌++◌, All, Contains, length}
 use Rattle.std.proofs.Common.{map}
@@ -40,7 +40,7 @@ placed_in_mapped f xs i x within is = (
 pub at_or_before : (k i : ℕ) → k < i + 1 → (k ≡ i) ⊎ (k < i)
 at_or_before k i lt = eq-or-lt_of_le (let le : k ≤ i = omega (arith, lt) in le)
 
--- one of the two places comes before place i; or the one is i, and the other one is among the places js
+-- one of the two places comes before place i; or the one is i, and the other is among the places js
 abbrev pub IsLookedAt : ℕ → List ℕ → ℕ → ℕ → Type 0
 IsLookedAt i js k l = HasBefore i k l ⊎ (((k ≡ i) × Contains js l) ⊎ ((l ≡ i) × Contains js k))
 
@@ -53,7 +53,7 @@ module _ (es : List CountedEdge) where
         (λ (lt : j < 0). absurd (omega (arith, lt))) before;
   }
 
-  -- what is gathered of some pairs is gathered of others, if those lead one another nowhere but to their ends, or were
+  -- what is gathered of some pairs is gathered of others, if those lead each other nowhere but to their ends, or were
   -- looked at
   pub gathered_of_more : {Some More : ℕ → ℕ → Type 0} {ms : List Meeting} → AreGathered es Some ms →
       ((k l : ℕ) (g h : CountedEdge) → IsAt es k g → IsAt es l h → More k l → Some k l ⊎ LeadsNowhere g h) →
@@ -83,7 +83,7 @@ module _ (es : List CountedEdge) where
     -- the pair of e and the edge at place j is looked at
     module _ (js : List ℕ) (j : ℕ) (f : CountedEdge) (at_f : IsAt es j f) {old new : List Meeting}
         (gathered : AreGathered es (IsLookedAt i js) old) (adds : AddsBoth i e j f old new) where
-      -- a point through which the second edge leads the first one is one of its computed points
+      -- a point through which the second edge leads the first is one of its computed points
       computed : (k l : ℕ) (g h : CountedEdge) → IsAt es k g → IsAt es l h → (m : Meeting) → m.place ≡ k →
           Contains (met_at (ends_of g) (ends_of h)) m.point →
           (d : CountedEdge) × IsAt es m.place d × Contains (cut_points es d) m.point
@@ -100,7 +100,7 @@ module _ (es : List CountedEdge) where
       kept k v at = adds.other.kept (record { place = k; point = v })
           (adds.one.kept (record { place = k; point = v }) at)
 
-      -- the two edges lead one another through what was added
+      -- the two edges lead each other through what was added
       forth : (k l : ℕ) (g h : CountedEdge) → IsAt es k g → IsAt es l h → k ≡ i → l ≡ j →
           (v : Point) → IsLedBy g h v → IsEndOrMet new k g v
       forth k l g h at_g at_h k_is l_is v at =

@@ -23,7 +23,7 @@ use Rattle.overlay_arrange.proofs.PairMeetings.{only_entry}
 
 -- ---- pairs of two lists
 
--- what holds of any two entries holds of each and each later one
+-- a fact of any two entries holds of each and each later one
 pairs_of_entries : {X : Type 0} (R : X → X → Type 0) (xs : List X) →
     ((x y : X) → Contains xs x → Contains xs y → R x y) → AllPairs R xs
 pairs_of_entries R xs h i j d less within =

@@ -18,7 +18,7 @@ module _ {I C : Type 0} (whole : I → ℤ) (counts : C → Counts) where
   pub weight_held : (es : List (HeldEdge I C)) → weight (plain_edges whole counts es) ≡ sum_by held_weight es
   weight_held es = fold-map (λ a e. a + edge_weight e) (plain_edge whole counts) 0 es
 
-  -- the edges so far and the next one weigh no more than all
+  -- the edges so far and the next weigh no more than all
   pub weight_so_far : (es : List (HeldEdge I C)) (i : ℕ) (e : HeldEdge I C) → i < length es → e ≡ get_or es i e →
       weight (plain_edges whole counts (take i es)) + held_weight e ≤ weight (plain_edges whole counts es)
   weight_so_far es i e within at =

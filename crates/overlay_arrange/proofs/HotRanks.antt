@@ -76,7 +76,7 @@ module _ {I : Type 0} (whole : I → ℤ) (vs : List (IntPoint I)) (up : ArePoin
     abbrev pub is_up_to : IntPoint I → Bool
     is_up_to v = int_le (whole v.x) x
 
-    -- the points that do are the first ones
+    -- the points that do are the first
     pub left-parted : IsPartitionedBy is_left vs
     left-parted j k d le within less =
         let a = no_less j k d le within in

@@ -13,7 +13,7 @@ use Rattle.overlay_geom.proofs.Mapped.{AllPairs-map}
 use Rattle.overlay_arrange.specs.Meetings.{plain_meeting, plain_meetings, AreByPlace, IsAt, IsRunAt, Meeting}
 use Rattle.overlay_arrange.specs.declared.meetings.Meeting.{Meeting as HeldMeeting}
 
--- the comparison answers `Less` where the first number is below the second one
+-- the comparison answers `Less` where the first number is below the second
 pub is_lt-nat_cmp : (x y : ℕ) → is_lt (nat_cmp x y) ≡ nat_lt x y
 is_lt-nat_cmp x y = grind arith
 

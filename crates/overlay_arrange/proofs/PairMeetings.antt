@@ -1,4 +1,4 @@
--- The meetings of two edges with one another: what pushing points adds, and what there is to add where the two lie in a
+-- The meetings of two edges with each other: what pushing points adds, and what there is to add where the two lie in a
 -- given way.
 use Rattle.std.proofs.Common.{◌≡◌, ◌≢◌, ⊎_elim, inl, inr, ℕ, Bool, List, [], ◌∷◌, ◌++◌, Contains, filter, refl, sym, ap}
 use Rattle.std.proofs.Common.{◌∙◌, subst, arith}
@@ -84,7 +84,7 @@ module _ (i : ℕ) (e : CountedEdge) where
 -- ---- what there is to add
 
 module _ (i : ℕ) (e : CountedEdge) (j : ℕ) (f : CountedEdge) where
-  -- where neither leads the other one anywhere there is nothing
+  -- where neither leads the other anywhere there is nothing
   none_added : (ms : List Meeting) → met_at (ends_of e) (ends_of f) ≡ [] → met_at (ends_of f) (ends_of e) ≡ [] →
       AddsBoth i e j f ms ms
   none_added ms forth back = record {
@@ -93,7 +93,7 @@ module _ (i : ℕ) (e : CountedEdge) (j : ℕ) (f : CountedEdge) where
     other = subst (λ vs. AddsPoints j f vs ms ms) (sym back) (no_points_added j f ms);
   }
 
-  -- so it is where the one lies beside the other one's line
+  -- so it is where the one lies beside the other's line
   pub none_where_beside : (ms : List Meeting) → IsBefore f.a f.b → IsBeside (ends_of e) (ends_of f) →
       AddsBoth i e j f ms ms
   none_where_beside ms f_forward beside =
@@ -104,7 +104,7 @@ module _ (i : ℕ) (e : CountedEdge) (j : ℕ) (f : CountedEdge) where
       off : ¬ (IsAlong (ends_of e) (ends_of f))
       off = beside_is_not_along (ends_of e) (ends_of f) beside
 
-  -- and where the one goes across the other one's line, but not the other one across its
+  -- and where the one goes across the other's line, but not the other across its
   pub none_where_one_across : (ms : List Meeting) (place : Place) → IsBefore f.a f.b →
       IsAcross (ends_of e) (ends_of f) → IsPlaced place (ends_of f) (ends_of e) → place ≢ Across →
       AddsBoth i e j f ms ms
@@ -117,7 +117,7 @@ module _ (i : ℕ) (e : CountedEdge) (j : ℕ) (f : CountedEdge) where
       by Beside back isnt = met_beside (ends_of f) (ends_of e) (not_along_back (ends_of e) (ends_of f) forth) (inl back)
       by Across back isnt = absurd (isnt refl)
 
-  -- where they lie on one line there are their ends
+  -- where they are collinear there are their ends
   pub ends_added : {old mid new : List Meeting} → IsBefore e.a e.b → IsAlong (ends_of e) (ends_of f) →
       AddsPoints i e (ends_between (ends_of e) (ends_of f)) old mid →
       AddsPoints j f (ends_between (ends_of f) (ends_of e)) mid new → AddsBoth i e j f old new
@@ -128,7 +128,7 @@ module _ (i : ℕ) (e : CountedEdge) (j : ℕ) (f : CountedEdge) where
         (sym (met_along (ends_of f) (ends_of e) (along_exchanged (ends_of e) (ends_of f) e_forward along))) second;
   }
 
-  -- and where each goes across the other one's line there is one point
+  -- and where each goes across the other's line there is one point
   pub crossing_added : (v : Point) {old mid new : List Meeting} → IsAcross (ends_of e) (ends_of f) →
       IsAcross (ends_of f) (ends_of e) → v ≡ crossing (ends_of e) (ends_of f) →
       AddsPoints i e (v ∷ []) old mid → AddsPoints j f (v ∷ []) mid new → AddsBoth i e j f old new

@@ -29,7 +29,7 @@ other_where_after p q after =
     (λ same. let is = (Decides-point_eq p q).0 same in
     before_is_other q p ((Decides-point_lt q p).0 after) (ap (λ (r : Point). r.x) is) (ap (λ (r : Point). r.y) is))
 
--- the step leads back: its points differ, and the first is not the smaller one
+-- the step leads back: its points differ, and the first is not the smaller
 pub record LeadsBack (p q : Point) : Type 0 where
   pub apart : point_eq p q ≡ false
   pub back : point_lt p q ≡ false
@@ -44,7 +44,7 @@ back_where_greater p q greater = by (point_lt p q) (point_lt q p) refl refl grea
     by false true forth back h = record { apart = other_where_after p q back; back = forth }
     by false false forth back h = absurd (cc)
 
--- the step leads on: its points differ, and the first is the smaller one
+-- the step leads on: its points differ, and the first is the smaller
 pub record LeadsOn (p q : Point) : Type 0 where
   pub apart : point_eq p q ≡ false
   pub on : point_lt p q ≡ true
@@ -67,7 +67,7 @@ same_where_equal p q equal = sym (point_cmp-is_tie p q) ∙ ap is_eq equal
 
 -- ---- the piece of a step
 
--- the piece of an edge between two points, the first of which is the smaller one, or is not
+-- the piece of an edge between two points, the first of which is the smaller, or is not
 abbrev piece_by : Bool → CountedEdge → Point → Point → CountedEdge
 piece_by t e p q = record {
   a = (cond {A = Edge} t (record { a = p; b = q }) (record { a = q; b = p })).a;

@@ -45,7 +45,7 @@ module _ (e : Edge) (x y : ℤ) where
 
 -- ---- the test of the line
 
--- a comparison answers that the first number is at least the second one where it is
+-- a comparison answers that the first number is at least the second where it is
 is_ge-int_cmp : (x y : ℤ) → is_ge (int_cmp x y) ≡ int_le y x
 is_ge-int_cmp x y = grind (arith, ints)
 

@@ -29,7 +29,7 @@ starts_no_further_left e f comes =
       | inr same ↦ let at : e.a.x ≡ f.a.x = ap (λ (p : Point). p.x) same.0 in omega linear
     ]
 
--- an edge that starts right of another one's end meets it in ends alone
+-- an edge that starts right of another edge's end meets it in ends alone
 pub starting_right : (limit : ℕ) (e f : CountedEdge) → IsHeld limit e → IsHeld limit f → e.b.x <ℤ f.a.x → AreSettled e f
 starting_right limit e f e_held f_held right =
     apart_meet_in_ends (ends_of e) (ends_of f)

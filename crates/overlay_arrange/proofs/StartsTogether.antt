@@ -1,5 +1,5 @@
 -- Edges that start in one point, one right after the other in the order of their starts: below the later one is the
--- winding above the other one.
+-- winding above the other.
 use Rattle.std.proofs.Common.{◌≡◌, ◌⊎◌, ⊎_elim, inl, inr, Bool, ℕ, ◌+◌, ◌<◌, true, false, ◌&&◌, ℤ, pos, List, length}
 use Rattle.std.proofs.Common.{get_or, Contains, refl, sym, ap, ◌∙◌, subst, arith}
 use Rattle.std.specs.List.{AllPairs}
@@ -29,7 +29,7 @@ module _ (count : CountedEdge → ℤ) (fs : List CountedEdge) (r : IsBalancedAr
   forward : (f : CountedEdge) → Contains fs f → point_lt f.a f.b ≡ true
   forward f at = All-contains (λ (g : CountedEdge). point_lt g.a g.b ≡ true) fs f r.planar.forward at
 
-  -- two edges of the list, the second one behind the first one
+  -- two edges of the list, the second behind the first
   module _ (i j : ℕ) (e f : CountedEdge) (early : i < j) (late : j < length fs) (at_e : get_or fs i e ≡ e)
       (at_f : get_or fs j f ≡ f) where
     same_f : get_or fs j e ≡ f
@@ -81,14 +81,14 @@ module _ (count : CountedEdge → ℤ) (fs : List CountedEdge) (r : IsBalancedAr
     left : turns_left (ends_of p) (ends_of e) ≡ true
     left = leads_left i (i + 1) p e (omega arith) within here next together
 
-    -- so the first one is not vertical
+    -- so the first is not vertical
     over : covers (ends_of p) p.a.x (pos 1) ≡ true
     over =
         let wide = wide_before_left (ends_of p) (ends_of e) (forward p at_p) (forward e at_e)
         (lt_from_test (pos 0) (edge_turn (ends_of p) (ends_of e)) left) in
         covers_start (ends_of p) (omega linear)
 
-    -- what stands before it, and is below the second one, is below it
+    -- what stands before it, and is below the second, is below it
     below_first : (k : ℕ) (h : CountedEdge) → k < i → get_or fs k h ≡ h →
         is_below_anchor (ends_of e) (ends_of h) ≡ true → is_below_anchor (ends_of p) (ends_of h) ≡ true
     below_first k h early at below = ⊎_elim
@@ -116,7 +116,7 @@ module _ (count : CountedEdge → ℤ) (fs : List CountedEdge) (r : IsBalancedAr
         (and_parts (covers (ends_of h) p.a.x (pos 1)) (is_under (ends_of h) (ends_of p) p.a.x (pos 1))
         (sym law ∙ below_first k h early at below)).1
 
-    -- nothing below the second one stands behind the first one
+    -- nothing below the second stands behind the first
     none_behind : (k : ℕ) (h : CountedEdge) → i < k → k < length fs → get_or fs k h ≡ h →
         is_below_anchor (ends_of e) (ends_of h) ≡ true → ⊥
     none_behind k h behind short at below = ⊎_elim

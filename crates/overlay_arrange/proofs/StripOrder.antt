@@ -213,7 +213,7 @@ module _ (width : ℕ) (some : 0 < width) (ss : List Extent) (of : Extent) where
         let whole = div-add-mod' of.first width in
         inr (inr (inr (omega (arith, one, first, whole))))
 
-    -- and what stands behind the last one
+    -- and what stands behind the last
     pub strips_behind_apart : (stop : ℕ) → (stop ≡ length ss) ⊎ (stop ≡ of.last / width * width + width) →
         AreApartFrom ss of stop (length ss)
     strips_behind_apart stop ends k s past less at_s = ⊎_elim

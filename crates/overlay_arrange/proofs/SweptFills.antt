@@ -121,7 +121,7 @@ module _ (limit : ℕ) (fs : List CountedEdge) (sweepable : IsSweepable limit fs
           (λ g. refl) e own
           (live_at e.a.x s.entries) live_edges none zero
 
-      -- the entries taken, with the next one
+      -- the entries taken, with the next
       more : take (i + 1) (wound_entries fs) ≡ take i (wound_entries fs) ++ wound fs e ∷ []
       more = take_more (wound_entries fs) i (wound fs e) within
           ∙ ap (λ f. take i (wound_entries fs) ++ f ∷ []) (sym there)
@@ -158,7 +158,7 @@ module _ (limit : ℕ) (fs : List CountedEdge) (sweepable : IsSweepable limit fs
         (after_front (λ (f : Entry Windings). e.a.x ≤ℤ f.edge.a.x) (wound_entries fs) i (wound fs e) within
         (later_starts (wound_entries fs) i (wound fs e) within there entries_by_start))
 
--- what the sweep holds for all edges left it holds for the next one
+-- what the sweep holds for all edges left it holds for the next
 pub swept_for_next : (limit : ℕ) (fs : List CountedEdge) (i : ℕ) (e : CountedEdge) → i < length fs → get_or fs i e ≡ e →
     (s : Sweep Windings) →
     All (λ f. IsSwept limit f.edge.a.x (take i (wound_entries fs)) s) (drop i (wound_entries fs)) →

@@ -1,4 +1,4 @@
--- Edges meet in whole points alone, or overlap, exactly where the whole points through which they lead one another lie
+-- Edges meet in whole points alone, or overlap, exactly where the whole points through which they lead each other lie
 -- on their lines: where two lines cross, a whole point on both is the crossing itself. After such a round the pieces,
 -- merged, are settled.
 use Rattle.std.proofs.Common.{◌≡◌, ◌⊎◌, inl, inr, Bool, true, false, ℕ, ◌+◌, ◌<◌, pos, List, [], ◌∷◌, All, Contains}
@@ -47,7 +47,7 @@ whole_end : (e : Edge) (p : PlanePoint) → IsEnd e p → (v : Point) × IsAt v 
 whole_end e p (inl at) = (e.a, at)
 whole_end e p (inr at) = (e.b, at)
 
--- a whole point on the lines of two edges across one another is the point that they have in common
+-- a whole point on the lines of two edges across each other is the point that they have in common
 whole_crossing : (e f : Edge) (v : Point) (p : PlanePoint) → IsBefore f.a f.b → ¬ (IsAlong e f) →
     cross_at e.a e.b v ≡ pos 0 → cross_at f.a f.b v ≡ pos 0 → IsCommon e f p → IsAt v p
 whole_crossing e f v p forward apart on_e on_f (e_p, f_p) =

@@ -33,7 +33,7 @@ anchor_found steps long e among first = record {
       left)));
 }
 
--- an edge that is before the first one so far is not preceded either
+-- an edge that is before the first so far is not preceded either
 pub still_first : (limit : _) (steps : List Step) → All (IsLong limit) steps → (e f : Edge) → IsForward e →
     IsForward f → is_anchored_before f e ≡ true →
     All (NotBefore e) steps → All (NotBefore f) steps

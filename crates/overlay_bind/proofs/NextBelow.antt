@@ -95,7 +95,7 @@ module _ (filled : Hand) (walks : List (List Step)) (contours : All IsContour wa
         (filled_walked _ (All-contains (IsFilledEntry filled walks) fs _ are_filled.from
         (listed _ (Contains-get_or live i d h)))) differ
 
-    -- all entries over the abscissa are live
+    -- all entries over the x-coordinate are live
     covering : (f : Entry ℕ) → Contains fs f → covers f.edge e.a.x (pos 1) ≡ true → Contains live f
     covering f c over = ⊎_elim
         (λ early. swept.all f (Contains-filter (λ h. int_lt e.a.x h.edge.b.x) (take n fs) f early lasts))
@@ -110,7 +110,7 @@ module _ (filled : Hand) (walks : List (List Step)) (contours : All IsContour wa
         lasts = let end = lt_from_test e.a.x (f.edge.b.x *ℤ pos 1) parts.1 in
             test_from_lt e.a.x f.edge.b.x (omega (arith, ints))
 
-    -- below the anchor is over its abscissa, and under it
+    -- below the anchor is over its x-coordinate, and under it
     below_is : (f : Edge) → IsWalked f → is_below_anchor e f ≡ covers f e.a.x (pos 1) && is_under f e e.a.x (pos 1)
     below_is f of_f =
         let of_e = anchor_walked hole kept e anchor in
@@ -140,11 +140,11 @@ module _ (filled : Hand) (walks : List (List Step)) (contours : All IsContour wa
     Finds value = ((value ≡ length walks) × HasNoneBelow filled walks hole) ⊎ FindsWalk value
 
     module _ (are_live : AreLive limit e.a.x live) where
-      -- a live entry covers the abscissa
+      -- a live entry covers the x-coordinate
       over_it : (f : Entry ℕ) → Contains live f → covers f.edge e.a.x (pos 1) ≡ true
       over_it f c = (All-contains (λ h. IsOver limit e.a.x h.edge) live f are_live.over c).over
 
-      -- the greatest live entry below the anchor is the next one below
+      -- the greatest live entry below the anchor is the next below
       next_found : (f : Entry ℕ) → IsGreatestBelow e e.a.x live f → FindsWalk f.value
       next_found f great = record {
         next = (own f great.entry).walk;

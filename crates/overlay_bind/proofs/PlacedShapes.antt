@@ -97,13 +97,13 @@ module _ (contours : List Contour) (shapes : List (Option ℕ)) (can : CanBePlac
         ∙ shapes_begin bound (subst (AreNumbers 0) (sym again) can.numbered);
   }
 
--- what holds of all walks holds of the one at a place
+-- a fact of all walks holds of the one at a place
 pub walk_has : (P : List Step → Type 0) (contours : List Contour) (k : ℕ) → All P (walks_in contours) →
     k < length contours → P (walk_at contours k)
 walk_has P contours k all inside =
     all k [] (let long = length-map contours (λ (c : Contour). c.steps) in omega (arith, inside, long))
 
--- what holds of the contours' walks holds of those at places
+-- a fact of the contours' walks holds of those at places
 pub placed_have : (P : List Step → Type 0) (contours : List Contour) (places : List (List ℕ)) →
     All P (walks_in contours) → All (All (λ k. k < length contours)) places → All (All P) (walks_at contours places)
 placed_have P contours places all inside =

@@ -22,7 +22,7 @@ module _ {I A : Type 0} (whole : I → ℤ) where
   numbers_alike [] = refl
   numbers_alike (c ∷ cs) = ap (λ ns. number_of c ∷ ns) (numbers_alike cs)
 
--- how many outlines there are
+-- the number of outlines
 abbrev pub outline_count : List Contour → ℕ
 outline_count cs = length (filter (λ (c : Contour). is_outline c.role) cs)
 

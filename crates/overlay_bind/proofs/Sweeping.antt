@@ -39,7 +39,7 @@ module _ (filled : Hand) (walks : List (List Step)) (contours : All IsContour wa
     kept : Contains walks own.walk
     kept = Contains-at walks h.value own.walk own.at
 
-    -- its anchor is over the abscissa at which it starts
+    -- its anchor is over the x-coordinate at which it starts
     pub anchor_over : covers h.edge h.edge.a.x (pos 1) ≡ true
     anchor_over = anchors_lead_on own.walk (All-contains IsContour walks own.walk contours kept)
         (All-contains HasEachEdgeOnce walks own.walk single kept)

@@ -96,7 +96,7 @@ pub held_paths_are_balanced : (keep : Bool) (given : List GivenPath) (es : List 
 held_paths_are_balanced keep given es added =
     paths_keep (added_paths keep given) [] es (contours_keep keep given) added joining_keeps_balance.none
 
--- the first ones of paths that do, do
+-- the first of paths that do, do
 first_keep : (first rest : List (AddedPath CountedEdge)) → All KeepsBalance (first ++ rest) → All KeepsBalance first
 first_keep first rest keep =
     subst (All KeepsBalance) (take-append_seam first rest) (All-take KeepsBalance (length first) (first ++ rest) keep)

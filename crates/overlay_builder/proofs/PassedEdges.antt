@@ -17,7 +17,7 @@ pub record MayBeAdded {C : Type 0} (limit : ℕ) (counts : C → Counts) (x : Ca
   pub light : weight_of_counts (counts x.carries) < 2 ^ 31
 
 module _ {C : Type 0} (limit : ℕ) (counts : C → Counts) (passing : StepCounts C) where
-  -- the edge of a step from p to q, the first of which is the smaller one, or is not
+  -- the edge of a step from p to q, the first of which is the smaller, or is not
   abbrev passed_by : Bool → Point → Point → Carried C
   passed_by t p q = record {
     edge = edge_with (cond {A = Edge} t (record { a = p; b = q }) (record { a = q; b = p })).a
@@ -49,7 +49,7 @@ module _ {C : Type 0} (limit : ℕ) (counts : C → Counts) (passing : StepCount
           All-cons (MayBeAdded limit counts) (passed_by (point_lt p q) p q) []
           (may_add_step light p q hp hq apart (point_lt p q) refl) (All-nil (MayBeAdded limit counts))
 
-  -- the one edge between two points in range
+  -- the single edge between two points in range
   pub may_add : AreLight counts passing → (x : Carried C) (p q : Point) → InRange limit p → InRange limit q
       → x ∷ [] ≡ map (passed_edge counts passing) (steps_between p q) → MayBeAdded limit counts x
   may_add light x p q hp hq is =

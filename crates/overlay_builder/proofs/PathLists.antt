@@ -39,7 +39,7 @@ module _ {E : Type 0} (weigh : List E → ℕ) (ps qs : List (AddedPath E)) (old
     refused = h.refused;
   }
 
-  -- one of the others is, after all of the first ones
+  -- one of the others is, after all of the first
   pub stops_after : (mid new : List E) (e : OverlayError) → AddsPaths ps old mid → StopsAtPath weigh qs mid new e
       → StopsAtPath weigh (ps ++ qs) old new e
   stops_after mid new e all h = record {
@@ -71,7 +71,7 @@ module _ {E V : Type 0} (weigh : List E → ℕ) (ps qs : List (AddedPath E)) (o
       either (inl same) = inl same
       either (inr stops) = inr (stops_in_first weigh ps qs old.edges mid.edges e stops)
 
-  -- where the first ones are added, the others are added, or refused, after them
+  -- where the first are added, the others are added, or refused, after them
   pub both_added : (new : Held E) (v : V) → AddsAsAsked weigh ps old mid (Ok v) → (r : Result V OverlayError)
       → AddsAsAsked weigh qs mid new r → AddsAsAsked weigh (ps ++ qs) old new r
   both_added new v first r h = record {

@@ -51,7 +51,7 @@ module _ {C : Type 0} (counts : C → Counts) (reverses : C → C → Type 0) (g
   }
 
 module _ {S : Type 0} (writes : S → S → Type 0) (p q : Point) (o : Ordering) (is : point_cmp p q ≡ o) (s : S) where
-  -- the store stays where the first point is not the larger one
+  -- the store stays where the first point is not the larger
   pub stays : is_le o ≡ true → LeavesStore writes p q s s
   stays up = subst (λ t. MatchBool t (s ≡ s) (writes s s)) (sym (ap is_le is ∙ up)) refl
 

@@ -34,12 +34,12 @@ module _ {E : Type 0} (weigh : List E → ℕ) (kind : PathKind) (edge_for : Ste
     abbrev path : AddedPath E
     path = path_as kind edge_for x
 
-    -- the paths up to the next one
+    -- the paths up to the next
     up_to : paths_as kind edge_for (take (i + 1) paths) ≡ paths_as kind edge_for (take i paths) ++ path ∷ []
     up_to = ap (paths_as kind edge_for) (take_read paths i x read) ∙ map-append (path_as kind edge_for)
         (take i paths) (x ∷ [])
 
-    -- all paths, cut before the next one
+    -- all paths, cut before the next
     cut_here : paths_as kind edge_for paths ≡ paths_as kind edge_for (take i paths) ++ path ∷ paths_as kind edge_for
         (drop (i + 1) paths)
     cut_here = ap (paths_as kind edge_for) (sym (take-append-drop i paths)

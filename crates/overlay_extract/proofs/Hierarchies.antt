@@ -20,7 +20,7 @@ use Rattle.overlay_extract.proofs.GroupsInShapes.{HasWalks, shapes_have_walks, p
 use Rattle.overlay_bind.proofs.PlacedShapes.{placed_have}
 use Rattle.overlay_extract.proofs.Results.{result_shown}
 
--- what holds of the walks of each shape holds of the walks of all
+-- a fact of the walks of each shape holds of the walks of all
 all_walks : (P : List Step → Type 0) (shapes : List (List (List Step))) → All (All P) shapes → All P (walks_of shapes)
 all_walks P shapes all = all_of_entries P (walks_of shapes) (λ w c.
     let at = Contains-from_flat_map (λ (shape : List (List Step)). shape) shapes w c in
@@ -42,7 +42,7 @@ module _ (q : Asked) (es : List CountedEdge) (contours : List Contour) (places :
   walks_ordered : walks_in ordered ≡ walks_of (walks_at contours places)
   walks_ordered = walks_of_groups (walks_at contours places) have_walks
 
-  -- what holds of all walks holds of these
+  -- a fact of all walks holds of these
   pub ordered_have : (P : List Step → Type 0) → All P (walks_in contours) → All P (walks_in ordered)
   ordered_have P all = subst (All P) (sym walks_ordered)
       (all_walks P (walks_at contours places) (placed_have P contours places all p.placed.inside))

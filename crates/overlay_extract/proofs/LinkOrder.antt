@@ -56,7 +56,7 @@ link_tie k l =
     (k.parent_contour == l.parent_contour) (k.child_shape == l.child_shape)
     (tie_of_numbers k.parent_contour l.parent_contour) (tie_of_numbers k.child_shape l.child_shape))
 
--- and then they are one
+-- and then they are equal
 pub fields_tell : (k l : ChildLink) → has_same_fields k l ≡ true → k ≡ l
 fields_tell k l same =
     let outer = and_parts (k.parent_shape == l.parent_shape)
@@ -101,7 +101,7 @@ is_link_before-order = record {
   chain = λ k l m. link_lt-order.chain (plain_link k) (plain_link l) (plain_link m);
 }
 
--- and these tie where they are one
+-- and these tie where they are equal
 pub tie_is_same : (k l : LinkTaken) (o : Ordering) → o ≡ link_order (plain_link k) (plain_link l) →
     (is_eq o ≡ true) ↔ (k ≡ l)
 tie_is_same k l o is = (

@@ -123,7 +123,7 @@ module _ (cs : List Contour) where
   abbrev pub AreApart : ChildLink → ChildLink → Type 0
   AreApart k l = has_same_child k l ≡ false
 
-  -- the child of the first one
+  -- the child of the first
   child_here : (n : ℕ) (hole : Option ℕ) (l : ChildLink) → link_at cs n hole ≡ Some l → l.child_shape ≡ n
   child_here n None l is = absurd (none-some l is)
   child_here n (Some k) l is = by (slice_index_or (known_in cs) k None) is

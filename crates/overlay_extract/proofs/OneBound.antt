@@ -91,7 +91,7 @@ module _ (bound others : List BoundContour) (own : (n : ℕ) → own_holes bound
   all_begun (c ∷ cs) (s ∷ ss) (t ∷ ts) l m =
       ap₂ (λ x y. x ++ y) (one_begun c.role c.steps) (all_begun cs ss ts (omega (arith, l)) (omega (arith, m)))
 
--- the shapes are one
+-- the shapes are equal
 shapes_alike : (cs : List Contour) (ss ts : List (Option ℕ)) → length ss ≡ length cs → length ts ≡ length cs →
     AgreeAtHoles cs ss ts → shapes_bound (contours_bound cs ss) ≡ shapes_bound (contours_bound cs ts)
 shapes_alike cs ss ts l m agree =

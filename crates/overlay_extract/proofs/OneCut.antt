@@ -23,7 +23,7 @@ use Rattle.overlay_extract.proofs.OneStart.{one_start}
 none_starts : (s : Step) → ¬ (IsStart [] s)
 none_starts s start = elim start.among.1 [ ]
 
--- two orbits of starts are one
+-- two orbits of starts are equal
 one_first : (hand_of : Step → Hand) (steps : List Step) → Alternates steps → (s t : Step) (ss ts : List Step) →
     IsStart steps s → IsStart steps t → IsOrbit steps (hand_of s) (s ∷ ss) → IsOrbit steps (hand_of t) (t ∷ ts) →
     s ∷ ss ≡ t ∷ ts

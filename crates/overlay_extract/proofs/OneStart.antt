@@ -30,7 +30,7 @@ module _ (steps : List Step) (alternates : Alternates steps) where
   forward : (s : Step) → Contains steps s → IsForward (edge_of s)
   forward s c = long_leads_forward s (alternates.long s c)
 
-  -- two along edges that lead one way from one point are one
+  -- two along edges that lead one way from one point are equal
   one_along : (s t : Step) → Contains steps s → Contains steps t → (edge_of s).a ≡ (edge_of t).a →
       AreOneWay (edge_of s).a (edge_of s).b (edge_of t).b → AreOneWay (edge_of t).a (edge_of t).b (edge_of s).b → s ≡ t
   one_along s t c d = by (is_forward s) (is_forward t)

@@ -19,7 +19,7 @@ taken_once : (keep : Bool) (ps qs : List Point) → IsKeptOrThinned keep ps qs �
 taken_once true ps qs same once = subst HasEachPointOnce (sym same) once
 taken_once false ps qs thinned once = thinned_once ps qs thinned once
 
--- what holds of each item of one list holds of those of the other one, where each relates to the one at its place
+-- a fact of each item of one list holds of those of the other, where each relates to the one at its place
 each_taken : {X Y : Type 0} (R : X → Y → Type 0) (P : X → Type 0) (Q : Y → Type 0) →
     ((x : X) (y : Y) → R x y → P x → Q y) → (xs : List X) (ys : List Y) → AllZip R xs ys → All P xs → All Q ys
 each_taken R P Q h [] [] each all = All-nil Q

@@ -28,7 +28,7 @@ module _ {X : Type 0} (R : X → X → Type 0) (apart : (x : X) → ¬ (R x x))
         | inr later ↦ later
       ]
 
-  -- so they are one
+  -- so they are equal
   pub same_ascending : (xs ys : List X) → AllPairs R xs → AllPairs R ys → All (Contains ys) xs →
       All (Contains xs) ys → xs ≡ ys
   same_ascending [] [] up_x up_y in_y in_x = refl

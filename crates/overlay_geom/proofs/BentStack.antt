@@ -1,4 +1,4 @@
--- A stack of points before the next one: its last point is dropped where it lies on one line with its two neighbours.
+-- A stack of points before the next: its last point is dropped where it is collinear with its two neighbours.
 use Rattle.std.proofs.Common.{◌≡◌, ℕ, suc, ◌+◌, ◌<◌, List, [], ◌∷◌, ◌++◌, length, take, remove, sym, ◌∙◌, ap, subst}
 use Rattle.std.proofs.Common.{⊎_elim, arith}
 use Rattle.std.specs.Prelude.{pos}
@@ -11,7 +11,7 @@ use Rattle.overlay_geom.specs.Narrowed.{IsNarrowed, IsBentInside}
 use Rattle.overlay_geom.proofs.NarrowedLists.{point_at, turn_at, cross_along, turn_at-inside, remove_last}
 use Rattle.overlay_geom.proofs.NarrowedLists.{IsNarrowed-drop, IsBentInside-at, IsBentInside-by_places}
 
--- the last two points of a stack and the next one stand in a row
+-- the last two points of a stack and the next stand in a row
 row_at_top : (ps : List Point) (w : Point) (rest : List Point) (k : ℕ) → length ps ≡ k + 2 →
     cross_at (point_at (ps ++ w ∷ rest) k) (point_at (ps ++ w ∷ rest) (k + 1)) (point_at (ps ++ w ∷ rest) (k + 2))
     ≡ cross_at (point_at ps k) (point_at ps (k + 1)) w
@@ -19,7 +19,7 @@ row_at_top ps w rest k n =
     cross_along (get_or_append_left ps (w ∷ rest) _ k (omega arith))
     (get_or_append_left ps (w ∷ rest) _ (k + 1) (omega arith)) (get_or_at ps w rest _ (k + 2) n)
 
--- the last point of a stack may be dropped where it lies on one line with the one before it and the next one
+-- the last point of a stack may be dropped where it is collinear with the one before it and the next
 pub IsNarrowed-pop : (ps : List Point) (w : Point) (rest : List Point) (k : ℕ) → length ps ≡ k + 2 →
     IsOnOneLine (point_at ps k) (point_at ps (k + 1)) w → IsNarrowed (ps ++ w ∷ rest) (take (k + 1) ps ++ w ∷ rest)
 IsNarrowed-pop ps w rest k n straight =

@@ -28,7 +28,7 @@ is_le-int_cmp x y = grind (arith, ints)
 pub Decides-int_lt : (x y : ℤ) → Decides (int_lt x y) (x <ℤ y)
 Decides-int_lt x y = (λ h. grind (arith, ints), λ h. grind (arith, ints))
 
--- numbers that a program finds equal are one
+-- numbers that a comparison of the program finds equal are equal
 pub same_from_compared : (x y : ℤ) (o : Ordering) (r : Bool) → o ≡ int_cmp x y → r ≡ is_eq o → r ≡ true → x ≡ y
 same_from_compared x y o r order answer equal = by o (int_ranked x y o order) (sym answer ∙ equal)
   where

@@ -1,5 +1,5 @@
--- The cross product of the ways from one point to two others: with the two exchanged, where one is the point itself or
--- both are one, and the relation between the six products of four points seen from a fifth.
+-- The cross product of the vectors from one point to two others: with the two exchanged, where one is the point itself
+-- or both are one, and the relation between the six products of four points seen from a fifth.
 use Rattle.std.proofs.Common.{◌≡◌, pos, ◌+ℤ◌, ◌*ℤ◌, neg_ℤ}
 use Rattle.overlay_geom.specs.Plane.{Point, cross_at}
 use Rattle.overlay_geom.proofs.Identities.{solve, Expr, number, ◌⊕◌, ◌⊗◌, ◌⊖◌, ⊝◌, ◌≗◌}
@@ -17,7 +17,7 @@ cross_at_exchanged v p q = solve 6 (λ vx vy px py qx qy. crossE vx vy px py qx 
 pub cross_at_same : (v p : Point) → cross_at v p p ≡ pos 0
 cross_at_same v p = solve 4 (λ vx vy px py. crossE vx vy px py px py ≗ number (pos 0)) tt v.x v.y p.x p.y
 
--- and where the second one is
+-- and where the second is
 pub cross_at_first : (v p : Point) → cross_at v p v ≡ pos 0
 cross_at_first v p = solve 4 (λ vx vy px py. crossE vx vy px py vx vy ≗ number (pos 0)) tt v.x v.y p.x p.y
 

@@ -1,6 +1,5 @@
--- Two edges of which each goes across the other one's line, or to or from it: the lines meet in one point, which is
--- found by weighing the ends with the sides on which they lie. The edges meet in ends alone exactly where they share an
--- end.
+-- Two edges of which each goes across the other's line, or to or from it: the lines meet in one point, which is found
+-- by weighing the ends with the sides on which they lie. The edges meet in ends alone exactly where they share an end.
 use lib.IntN.{*ℤ_comm}
 use Rattle.std.proofs.Common.{◌≡◌, ◌⊎◌, inl, inr, ℤ, pos, ◌+ℤ◌, ◌-ℤ◌, ◌*ℤ◌, neg_ℤ, ◌<ℤ◌, ◌≤ℤ◌, sym, subst, refl}
 use Rattle.std.proofs.lemmas.Int.{by_lt_z}
@@ -180,7 +179,7 @@ crossing_leftward e f f_from f_to f_goes e_to e_from e_goes share_none h = share
     w : (u : Point) × IsEndpoint f u × IsAt u p
     w = endpoint_of_end f p (h p (on_e, on_f)).1
 
--- of two edges each goes as far across the other one's line as that across its own, the other way
+-- of two edges each goes as far across the other's line as that across its own, the other way
 pub crossed_back : (e f : Edge) → cross_at e.a e.b f.b -ℤ cross_at e.a e.b f.a ≡ cross_at f.a f.b e.a -ℤ cross_at f.a
     f.b e.b
 crossed_back e f = solve 8
@@ -188,7 +187,7 @@ crossed_back e f = solve 8
     cx cy dx dy bx by)
     tt e.a.x e.a.y e.b.x e.b.y f.a.x f.a.y f.b.x f.b.y
 
--- two edges that go across one another's lines and share no end have a common point inside one of them
+-- two edges that go across each other's lines and share no end have a common point inside one of them
 pub crossing_do_not_meet_in_ends : (e f : Edge) → IsAcross e f → IsAcross f e → ShareNone e f → ¬ (MeetInEnds e f)
 crossing_do_not_meet_in_ends e f across back share_none h = by across back
   where

@@ -21,7 +21,7 @@ value-odd n t d q r odd value =
     let product = ap (λ k. k * t) halves in
     omega arith
 
--- the quotient is at most the first factor, where the second one is at most the divisor
+-- the quotient is at most the first factor, where the second is at most the divisor
 pub quotient_within : (n t d q r : ℕ) → 0 < d → t ≤ d → n * t ≡ q * d + r → q ≤ n
 quotient_within n t d q r positive part value = by (cases_lt n q)
   where

@@ -10,7 +10,7 @@ Contains-head x xs = (zero, omega arith, refl)
 pub Contains-later : {X : Type 0} (y : X) (xs : List X) (x : X) → Contains xs x → Contains (y ∷ xs) x
 Contains-later y xs x c = (suc c.0, let h = c.1 in omega arith, c.2)
 
--- an entry of a list is its first one, or one of the rest
+-- an entry of a list is its first, or one of the rest
 pub Contains-cases : {X : Type 0} (y : X) (ys : List X) (z : X) → Contains (y ∷ ys) z → (y ≡ z) ⊎ Contains ys z
 Contains-cases y ys z (zero, h, e) = inl e
 Contains-cases y ys z (suc k, h, e) = inr (k, omega arith, e)

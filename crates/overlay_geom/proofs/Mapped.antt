@@ -12,7 +12,7 @@ pub mapped_more : {X Y : Type 0} (f : X → Y) (xs : List X) (i : ℕ) (x : X) �
     map f (take (i + 1) xs) ≡ map f (take i xs) ++ f x ∷ []
 mapped_more f xs i x lt is = map_more f xs i x lt ∙ ap (λ y. map f (take i xs) ++ f y ∷ []) (sym is)
 
--- what holds of the first ones holds of one more
+-- a fact of the first holds of one more
 pub All-mapped_more : {X Y : Type 0} (P : Y → Type 0) (f : X → Y) (xs : List X) (i : ℕ) (x : X) → i < length xs →
     x ≡ get_or xs i x → All P (map f (take i xs)) → P (f x) → All P (map f (take (i + 1) xs))
 All-mapped_more P f xs i x lt is before here = subst (All P) (sym (mapped_more f xs i x lt is))
@@ -22,7 +22,7 @@ All-mapped_more P f xs i x lt is before here = subst (All P) (sym (mapped_more f
 pub mapped_whole : {X Y : Type 0} (f : X → Y) (xs : List X) (i : ℕ) → length xs ≤ i → map f (take i xs) ≡ map f xs
 mapped_whole f xs i le = ap (map f) (take_all i xs le)
 
--- what holds of all holds of the first ones
+-- a fact of all holds of the first
 pub All-mapped_first : {X Y : Type 0} (P : Y → Type 0) (f : X → Y) (xs : List X) (i : ℕ) → All P (map f xs) →
     All P (map f (take i xs))
 All-mapped_first P f xs i all = subst (All P) (take-map f i xs) (All-take P i (map f xs) all)
@@ -37,7 +37,7 @@ pub Contains-mapped : {X Y : Type 0} (f : X → Y) (xs : List X) (i : ℕ) (x : 
     Contains (map f xs) (f x)
 Contains-mapped f xs i x lt is = (i, rw length-map lt, read_mapped f xs i x (f x) lt is)
 
--- and what holds of all holds of it
+-- and a fact of all holds of it
 pub All-mapped_at : {X Y : Type 0} (P : Y → Type 0) (f : X → Y) (xs : List X) (i : ℕ) (x : X) → i < length xs →
     x ≡ get_or xs i x → All P (map f xs) → P (f x)
 All-mapped_at P f xs i x lt is all = subst P (read_mapped f xs i x (f x) lt is) (all i (f x) (rw length-map lt))
@@ -52,13 +52,13 @@ pub mapped_range : {X Y : Type 0} (f : X → Y) (xs : List X) (i j : ℕ) → ma
     (map f xs) i j
 mapped_range f xs i j = sym (take-map f (j - i) (drop i xs)) ∙ ap (take (j - i)) (sym (drop-map f i xs))
 
--- what holds of all holds of a part
+-- a fact of all holds of a part
 pub All-mapped_range : {X Y : Type 0} (P : Y → Type 0) (f : X → Y) (xs : List X) (i j : ℕ) → All P (map f xs) →
     All P (map f (slice_range xs i j))
 All-mapped_range P f xs i j all = subst (All P) (sym (mapped_range f xs i j))
     (All-take P (j - i) (drop i (map f xs)) (All-drop P i (map f xs) all))
 
--- what holds of any two items holds of any two of what they are mapped to
+-- a fact of any two items holds of any two of what they are mapped to
 pub AllPairs-map : {X Y : Type 0} (R : Y → Y → Type 0) (f : X → Y) (xs : List X) → AllPairs (λ x y. R (f x) (f y)) xs →
     AllPairs R (map f xs)
 AllPairs-map R f [] h = λ i j d l m. absurd (omega arith)
@@ -91,7 +91,7 @@ map-reverse f [] = refl
 map-reverse f (x ∷ xs) = ap (map f) (reverse-append (x ∷ []) xs) ∙ map-append f (reverse xs) (x ∷ [])
     ∙ ap (λ ys. ys ++ f x ∷ []) (map-reverse f xs) ∙ sym (reverse-append (f x ∷ []) (map f xs))
 
--- what holds of any two of what items are mapped to holds so of the items
+-- a fact of any two of what items are mapped to holds of the items
 pub AllPairs-unmap : {X Y : Type 0} (R : Y → Y → Type 0) (f : X → Y) (xs : List X) → AllPairs R (map f xs) →
     AllPairs (λ x y. R (f x) (f y)) xs
 AllPairs-unmap R f xs h i j d l m =

@@ -19,7 +19,7 @@ pub record IsUncounted (e : CountedEdge) : Type 0 where
   pub along : e.counts.along ≡ false
   pub against : e.counts.against ≡ false
 
--- that is what an edge that counts nothing is
+-- that is what an edge that has count 0 is
 pub uncounted : (e : CountedEdge) → counts_nothing e ≡ true → IsUncounted e
 uncounted e h =
     let c = e.counts in

@@ -12,7 +12,7 @@ use Rattle.overlay_geom.proofs.OneLine.{meet_in_ends_exchanged, apart_meet_in_en
 use Rattle.overlay_geom.proofs.OneLine.{overlapping_do_not_meet_in_ends}
 use Rattle.overlay_geom.proofs.Crossing.{IsEndpoint, sharing_meet_in_ends, crossing_do_not_meet_in_ends}
 
--- two edges on one line meet in ends alone exactly where they do not overlap
+-- two collinear edges meet in ends alone exactly where they do not overlap
 pub along_decides : (e f : Edge) → IsBefore e.a e.b → IsBefore f.a f.b → IsAlong e f →
     Decides (not (do_overlap e f)) (MeetInEnds e f)
 along_decides e f e_forward f_forward along =
@@ -53,7 +53,7 @@ Decides-share_end e f =
     back : (v : Point) × (IsEndpoint e v × IsEndpoint f v) → (((e.a ≡ f.a) ⊎ (e.a ≡ f.b)) ⊎ (e.b ≡ f.a)) ⊎ (e.b ≡ f.b)
     back (v, (of_e, of_f)) = by v of_e of_f
 
--- two edges that go across one another's lines meet in ends alone exactly where they share an end
+-- two edges that go across each other's lines meet in ends alone exactly where they share an end
 pub across_decides : (e f : Edge) → IsAcross e f → IsAcross f e → Decides (share_end e f) (MeetInEnds e f)
 across_decides e f across back =
     Decides-like (share_end e f)
@@ -69,7 +69,7 @@ across_decides e f across back =
         by false none = absurd (crossing_do_not_meet_in_ends e f across back
             (λ v of_e of_f. not_from_Decides (share_end e f) (Decides-share_end e f) none (v, (of_e, of_f))) h)
 
--- an edge that goes across another one's line does not have it on its own line
+-- an edge that goes across another edge's line does not have it on its own line
 pub across_not_along : (e f : Edge) → IsBefore f.a f.b → IsAcross e f → ¬ (IsAlong f e)
 across_not_along e f forward across along = by across (along_exchanged f e forward along)
   where

@@ -40,7 +40,7 @@ same_rest x xs ys first has = λ k d l.
       | inr later ↦ later
     ]
 
--- ascending lists with the same edges are one
+-- ascending lists with the same edges are equal
 pub same_ascending : (xs ys : List CountedEdge) → Ascends xs → Ascends ys → All (Contains ys) xs →
     All (Contains xs) ys → xs ≡ ys
 same_ascending [] [] up_x up_y in_y in_x = refl
@@ -74,7 +74,7 @@ merged_in_other old new other m n = λ k d l. here (get_or new k d) (m.joined k 
           | inr has ↦ subst (λ (f : CountedEdge). Contains other f) is has
         ]
 
--- two lists that one list was merged to are one
+-- two lists that one list was merged to are equal
 pub IsMerged-unique : (old new other : List CountedEdge) → IsMerged old new → IsMerged old other → new ≡ other
 IsMerged-unique old new other m n = same_ascending new other m.ascending n.ascending (merged_in_other old new other m n)
     (merged_in_other old other new n m)

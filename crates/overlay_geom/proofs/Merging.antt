@@ -24,7 +24,7 @@ Ascends es = AllPairs ComesBefore es
 pub record JoinAlike (old new : List CountedEdge) : Type 0 where
   pub at : (e : Edge) → joined_edge new e ≡ joined_edge old e
 
--- what holds of any two items holds of the first one and each later one
+-- a fact of any two items holds of the first and each later one
 pub AllPairs-head : {X : Type 0} (R : X → X → Type 0) (x : X) (xs : List X) → AllPairs R (x ∷ xs) → All (R x) xs
 AllPairs-head R x xs h = λ k d l. h zero (suc k) d (omega arith) (omega arith)
 
@@ -69,11 +69,11 @@ pub joined_itself : (es : List CountedEdge) → Ascends es → All (λ f. joined
 joined_itself es up = All-weaker (λ f. edges_between es (ends_of f) ≡ f ∷ []) (λ f. joined_edge es (ends_of f) ≡ f)
     (joined_alone es) es (alone_between es up)
 
--- the one edge between these ends that all edges of a list become
+-- the single edge between these ends that all edges of a list become
 abbrev pub all_joined : Edge → List CountedEdge → CountedEdge
 all_joined e fs = record { a = e.a; b = e.b; counts = all_counts fs }
 
--- where no edges are, the joined one counts nothing
+-- where no edges are, the joined one has count 0
 pub joined_none : (es : List CountedEdge) (e : Edge) → edges_between es e ≡ [] →
     counts_nothing (joined_edge es e) ≡ true
 joined_none es e h = ap (λ fs. counts_nothing (all_joined e fs)) h
@@ -91,7 +91,7 @@ joined_cases es e up =
           inr (subst (λ (g : CountedEdge). Contains es g) (sym is ∙ ap (joined_edge es) found.2) found.1)
     ]
 
--- an ascending list without empty counts that joins alike is the other one merged
+-- an ascending list without empty counts that joins alike is the other merged
 pub IsMerged-from_alike : (old new : List CountedEdge) → Ascends new → All (λ e. counts_nothing e ≡ false) new →
     JoinAlike old new → IsMerged old new
 IsMerged-from_alike old new up full alike = record {
@@ -106,7 +106,7 @@ IsMerged-from_alike old new up full alike = record {
       | inr found ↦ inr (subst (λ (g : CountedEdge). Contains new g) (alike.at e) found)
     ]
 
--- an edge that counts nothing is settled by its ends
+-- an edge that has count 0 is settled by its ends
 pub same_from_nothing : (e f : CountedEdge) → ends_of e ≡ ends_of f → counts_nothing e ≡ true →
     counts_nothing f ≡ true → e ≡ f
 same_from_nothing e f ends g h =
@@ -126,7 +126,7 @@ same_from_nothing e f ends g h =
 pub IsMerged-alike : (old new : List CountedEdge) → IsMerged old new → JoinAlike old new
 IsMerged-alike old new m = record { at = at }
   where
-    -- an edge of the old list whose joined edge the new one has no part of counts nothing when joined
+    -- an edge of the old list whose joined edge the new has no part of has count 0 when joined
     missing : (e : Edge) → edges_between new e ≡ [] → (f : CountedEdge) → Contains old f → ends_of f ≡ e →
         counts_nothing (joined_edge old e) ≡ true
     missing e none f here ends =

@@ -1,4 +1,4 @@
--- Points dropped from a closed list where they lie on one line with their two neighbours.
+-- Points dropped from a closed list where they are collinear with their two neighbours.
 use Rattle.std.proofs.Common.{suc, ◌≡◌, ℕ, ◌+◌, ◌-◌, ◌%◌, ◌<◌, ◌≤◌, List, ◌++◌, length, get_or, take, drop, remove, sym}
 use Rattle.std.proofs.Common.{◌∙◌, ap, subst, arith}
 use Rattle.std.specs.Prelude.{ℤ, pos}
@@ -43,7 +43,7 @@ turn_at-inside ps k h =
     turn_at-places ps k (k + 1) (k + 2) (before_place k (length ps) (omega arith)) n (ap (λ m. m % length ps) e
     ∙ mod-eq_of_lt h)
 
--- the first point comes after the last one
+-- the first point comes after the last
 pub turn_at-last : (ps : List Point) (k : ℕ) → length ps ≡ k + 2 → turn_at ps (k + 1) ≡ cross_at (point_at ps k)
     (point_at ps (k + 1)) (point_at ps 0)
 turn_at-last ps k n =
@@ -52,7 +52,7 @@ turn_at-last ps k n =
     turn_at-places ps k (k + 1) 0 (before_place k (length ps) (omega arith)) here (ap (λ m. m % length ps) e
     ∙ mod_self (length ps))
 
--- the last point comes before the first one
+-- the last point comes before the first
 pub turn_at-first : (ps : List Point) (k : ℕ) → length ps ≡ k + 2 → turn_at ps 0 ≡ cross_at (point_at ps (k + 1))
     (point_at ps 0) (point_at ps 1)
 turn_at-first ps k n =
@@ -65,7 +65,7 @@ turn_at-first ps k n =
 pub IsNarrowed-trans : (ps qs rs : List Point) → IsNarrowed ps qs → IsNarrowed qs rs → IsNarrowed ps rs
 IsNarrowed-trans ps qs rs g h = record { thins = λ ts t. g.thins ts (h.thins ts t) }
 
--- a point may be dropped that lies on one line with its two neighbours
+-- a point may be dropped that is collinear with its two neighbours
 pub IsNarrowed-drop : (ps : List Point) (k : ℕ) → k < length ps → turn_at ps k ≡ pos 0 → IsNarrowed ps (remove ps k)
 IsNarrowed-drop ps k h straight = record { thins = λ rs t. drop_one k h straight t }
 
@@ -75,7 +75,7 @@ remove_last xs k n =
     let past : length xs ≤ suc k = omega arith in
     ap (λ ys. take k xs ++ ys) (drop_all (suc k) xs past) ∙ append-nil (take k xs)
 
--- in a list that is bent inside no three places in a row lie on one line
+-- in a list that is bent inside no three places in a row are collinear
 pub IsBentInside-at : (ps : List Point) (k : ℕ) → IsBentInside ps → k + 2 < length ps →
     ¬ (IsOnOneLine (point_at ps k) (point_at ps (k + 1)) (point_at ps (k + 2)))
 IsBentInside-at ps k b h straight =
@@ -83,7 +83,7 @@ IsBentInside-at ps k b h straight =
     let next : k + 1 + 1 < length ps = omega arith in
     b.bent (k + 1) inner next (turn_at-inside ps k h ∙ straight)
 
--- a list of which no three places in a row lie on one line is bent inside
+-- a list of which no three places in a row are collinear is bent inside
 pub IsBentInside-by_places : (ps : List Point) →
     ((k : ℕ) → k + 2 < length ps → ¬ (IsOnOneLine (point_at ps k) (point_at ps (k + 1)) (point_at ps (k + 2)))) →
     IsBentInside ps

@@ -74,7 +74,7 @@ module _ {X Y : Type 0} (P : X → Y → Type 0) (d : Y) (xs : List X) (ns : Lis
   stands : (n : Numbered X) → Contains ns n → StandsThere xs n
   stands n c = All-contains (StandsThere xs) ns n are.from c
 
-  -- those at one place are one
+  -- those at one place are equal
   one_item : (n m : Numbered X) → Contains ns n → Contains ns m → n.place ≡ m.place → n.item ≡ m.item
   one_item n m c e same =
       sym (stands n c).1 ∙ get_or_default xs n.place n.item m.item (stands n c).0 ∙ ap (λ k. get_or xs k m.item) same

@@ -1,4 +1,4 @@
--- Two edges on one line: they meet in ends alone exactly where they do not overlap.
+-- Two collinear edges: they meet in ends alone exactly where they do not overlap.
 use Rattle.std.proofs.Common.{◌≡◌, inl, inr, pos, ◌+ℤ◌, ◌-ℤ◌, ◌*ℤ◌, ◌<ℤ◌, ◌≤ℤ◌, sym}
 use Rattle.std.proofs.lemmas.Int.{by_lt_z}
 use Rattle.overlay_geom.specs.Plane.{Point, PlanePoint, Edge, IsOn, IsEnd, side, midpoint, cross_at}
@@ -27,7 +27,7 @@ apart_meet_in_ends e f e_forward f_forward apart p (on_e, on_f) =
 
 -- ---- the other edge's ends
 
--- of three ways, two that are parallel to the first are parallel to one another
+-- of three ways, two that are parallel to the first are parallel to each other
 parallel : (a b u v : Point) → IsBefore a b → cross_at a b u ≡ pos 0 → cross_at a b v ≡ pos 0 → cross_at a u v ≡ pos 0
 parallel a b u v forward at_u at_v = by_lt_z a.x b.x wide upright
   where
@@ -74,7 +74,7 @@ holds_start e forward = record {
   to = before_up_to e.a e.b forward;
 }
 
--- and its larger one
+-- and its larger
 pub holds_end : (e : Edge) → IsBefore e.a e.b → IsHeldBy e e.b
 holds_end e forward = record {
   on_line = cross_at_same e.a e.b;
@@ -86,7 +86,7 @@ holds_end e forward = record {
 abbrev middle : Point → Point → PlanePoint
 middle u v = midpoint (record { a = u; b = v })
 
--- the midpoint of two points is greater than what the smaller one is not below
+-- the midpoint of two points is greater than what the smaller is not below
 middle_after : (a u v : Point) → IsUpTo a u → IsBefore u v → IsBefore (over a (pos 2)) (place_of (middle u v))
 middle_after a u v h k = record {
   x = let twice = doubled a.x in let au = h.x in let uv = k.x in
@@ -104,7 +104,7 @@ middle_after a u v h k = record {
         let further_up = k.y (omega linear) in
         omega linear
 
--- and smaller than what the larger one is not above
+-- and smaller than what the larger is not above
 middle_before : (u v b : Point) → IsBefore u v → IsUpTo v b → IsBefore (place_of (middle u v)) (over b (pos 2))
 middle_before u v b h k = record {
   x = let twice = doubled b.x in let uv = h.x in let vb = k.x in
@@ -153,7 +153,7 @@ held_in_common e f u v e_forward f_forward e_u f_u e_v f_v less h =
     middle_is_no_end e u v e_u e_v less
     (h (middle u v) (middle_on e u v e_forward e_u e_v less, middle_on f u v f_forward f_u f_v less)).0
 
--- two edges on one line overlap, and f begins no earlier
+-- two collinear edges overlap, and f begins no earlier
 overlap_from : (e f : Edge) → IsBefore e.a e.b → IsBefore f.a f.b → IsAlong e f → IsAlong f e → IsUpTo e.a f.a →
     IsBefore f.a e.b → ¬ (MeetInEnds e f)
 overlap_from e f e_forward f_forward f_along e_along later begins = by_order e.b f.b f_is_longer e_is_longer
@@ -176,7 +176,7 @@ overlap_from e f e_forward f_forward f_along e_along later begins = by_order e.b
         })
         (holds_end f f_forward) f_forward
 
--- two edges on one line, each of which begins before the other ends, do not meet in ends alone
+-- two collinear edges, each of which begins before the other ends, do not meet in ends alone
 pub overlapping_do_not_meet_in_ends : (e f : Edge) → IsBefore e.a e.b → IsBefore f.a f.b → IsAlong e f →
     IsBefore e.a f.b → IsBefore f.a e.b → ¬ (MeetInEnds e f)
 overlapping_do_not_meet_in_ends e f e_forward f_forward along e_begins f_begins =

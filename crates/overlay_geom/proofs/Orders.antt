@@ -13,11 +13,11 @@ use Rattle.std.proofs.lemmas.List.Sorted.{ranks_by}
 use Rattle.overlay_geom.specs.Plane.{Point, Edge, point_eq, point_lt, edge_eq, edge_lt}
 use Rattle.overlay_geom.proofs.Comparisons.{is_lt-int_cmp}
 
--- how two points compare: by x, then by y
+-- the comparison of two points: by x, then by y
 abbrev pub point_order : Point → Point → Ordering
 point_order = then_cmp (on (λ (p : Point). p.x) int_cmp) (on (λ (p : Point). p.y) int_cmp)
 
--- how two edges compare: by their smaller ends, then by their larger ones
+-- the comparison of two edges: by their smaller ends, then by their larger
 abbrev pub edge_order : Edge → Edge → Ordering
 edge_order = then_cmp (on (λ (e : Edge). e.a) point_order) (on (λ (e : Edge). e.b) point_order)
 
@@ -71,14 +71,14 @@ edge_eq-is_tie e f =
 pub same_point : (p q : Point) → p.x ≡ q.x → p.y ≡ q.y → p ≡ q
 same_point p q same_x same_y = λ i. record { x = same_x i; y = same_y i }
 
--- the test of two points tells whether they are one
+-- the test of two points tells whether they are equal
 pub Decides-point_eq : (p q : Point) → Decides (point_eq p q) (p ≡ q)
 Decides-point_eq p q =
     Decides-like (point_eq p q) (λ h. same_point p q h.0 h.1)
     (λ h. (ap (λ (r : Point). r.x) h, ap (λ (r : Point). r.y) h))
     (Decides-and _ _ (Decides-int_eq p.x q.x) (Decides-int_eq p.y q.y))
 
--- points that are found equal are one
+-- points that are found equal are equal
 pub point_eq-same : (p q : Point) → point_eq p q ≡ true → p ≡ q
 point_eq-same p q = (Decides-point_eq p q).0
 
@@ -90,7 +90,7 @@ point_eq-of_same p q = (Decides-point_eq p q).1
 pub point_lt-itself : (p : Point) → point_lt p p ≡ false
 point_lt-itself p = point_lt-is_less p p ∙ ap is_lt (tied_itself point_order-total p)
 
--- of two different points the second is the smaller one, if the first is not
+-- of two different points the second is the smaller, if the first is not
 pub point_lt-back : (p q : Point) → point_eq p q ≡ false → point_lt p q ≡ false → point_lt q p ≡ true
 point_lt-back p q differ back =
     point_lt-is_less q p ∙ by_cases (point_order p q) (point_order q p) (point_order-total.antisymm q p)
@@ -101,7 +101,7 @@ point_lt-back p q differ back =
     by_cases Equal r h e l = cc
     by_cases Greater r h e l = ap is_lt h
 
--- points of which neither is smaller than the other are one
+-- points of which neither is smaller than the other are equal
 pub neither_smaller : (p q : Point) → point_lt p q ≡ false → point_lt q p ≡ false → p ≡ q
 neither_smaller p q one other = by (point_eq p q) refl
   where
@@ -120,14 +120,14 @@ point_lt-order =
           (sym (point_lt-is_less q s) ∙ k);
     }
 
--- the test of two edges tells whether they are one
+-- the test of two edges tells whether they are equal
 pub Decides-edge_eq : (e f : Edge) → Decides (edge_eq e f) (e ≡ f)
 Decides-edge_eq e f =
     Decides-like (edge_eq e f) (λ h. λ i. record { a = h.0 i; b = h.1 i })
     (λ h. (ap (λ (g : Edge). g.a) h, ap (λ (g : Edge). g.b) h))
     (Decides-and _ _ (Decides-point_eq e.a f.a) (Decides-point_eq e.b f.b))
 
--- edges that are found equal are one
+-- edges that are found equal are equal
 pub edge_eq-same : (e f : Edge) → edge_eq e f ≡ true → e ≡ f
 edge_eq-same e f = (Decides-edge_eq e f).0
 

@@ -22,7 +22,7 @@ module _ {I : Type 0} (whole : I → ℤ) (xs : List (IntPoint I)) where
       cross_along (point_at-plain i u first at_first) (point_at-plain j v second at_second)
       (point_at-plain k w third at_third)
 
-  -- the turn at the last point of a stack before the next one, by the points that were read
+  -- the turn at the last point of a stack before the next, by the points that were read
   pub cross-read_top : (k last : ℕ) (u v : IntPoint I) (w : Point) → k + 2 ≡ length xs → last ≡ k + 1 →
       u ≡ get_or xs k u → v ≡ get_or xs last v → cross_at (point_at (plain_points whole xs) k)
       (point_at (plain_points whole xs) (k + 1)) w ≡ cross_at (plain_point whole u) (plain_point whole v) w

@@ -20,7 +20,7 @@ point_cmp-is_order p q =
     ∙ ap is_lt (point_order-total.antisymm q p))
     ∙ found_again (point_order p q)
 
--- points that compare as equal are one
+-- points that compare as equal are equal
 pub point_cmp-is_tie : (p q : Point) → is_eq (point_cmp p q) ≡ point_eq p q
 point_cmp-is_tie p q = ap is_eq (point_cmp-is_order p q) ∙ sym (point_eq-is_tie p q)
 
@@ -28,11 +28,11 @@ point_cmp-is_tie p q = ap is_eq (point_cmp-is_order p q) ∙ sym (point_eq-is_ti
 pub point_cmp-is_less : (p q : Point) → is_lt (point_cmp p q) ≡ point_lt p q
 point_cmp-is_less p q = ap is_lt (point_cmp-is_order p q) ∙ sym (point_lt-is_less p q)
 
--- points at one abscissa compare by their heights
+-- points at one x-coordinate compare by their heights
 pub tied_at_abscissa : (p q : Point) → int_cmp p.x q.x ≡ Equal → int_cmp p.y q.y ≡ point_cmp p q
 tied_at_abscissa p q tied = sym (ap (λ o. ordering_then o (int_cmp p.y q.y)) tied) ∙ sym (point_cmp-is_order p q)
 
--- the first of two points is not the other one, nor smaller, where it is the greater one
+-- the first of two points is not the other, nor smaller, where it is the greater
 module _ (p q : Point) (greater : point_cmp p q ≡ Greater) where
   pub greater_differs : point_eq p q ≡ false
   greater_differs = sym (point_cmp-is_tie p q) ∙ ap is_eq greater
@@ -40,7 +40,7 @@ module _ (p q : Point) (greater : point_cmp p q ≡ Greater) where
   pub greater_is_after : point_lt p q ≡ false
   greater_is_after = sym (point_cmp-is_less p q) ∙ ap is_lt greater
 
-  -- and the edge between them begins at the other one
+  -- and the edge between them begins at the other
   pub edge_from_greater : record { a = q; b = p } ∷ [] ≡ edges_between p q
   edge_from_greater =
       sym (ap (λ t. map edge_of (cond t [] (record { from = p; to = q } ∷ []))) greater_differs

@@ -17,11 +17,11 @@ module _ {X : Type 0} (xs : List X) (i : ℕ) (x : X) (read : slice_get xs i ≡
   drop_read = drop_more xs i x (slice_get_within xs i x read)
       ∙ ap (λ y. y ∷ drop (i + 1) xs) (get_or_from_slice_get xs i x x read)
 
-  -- what holds of all items holds of it
+  -- a fact of all items holds of it
   pub All-read : (P : X → Type 0) → All P xs → P x
   All-read P all = subst P (get_or_from_slice_get xs i x x read) (all i x (slice_get_within xs i x read))
 
-  -- what holds of the items before it, and of it, holds of the items up to it
+  -- a fact of the items before it, and of it, holds of the items up to it
   pub All-take_read : (P : X → Type 0) → All P (take i xs) → P x → All P (take (i + 1) xs)
   All-take_read P before here = subst (All P) (sym take_read) (All-push P (take i xs) x before here)
 

@@ -16,11 +16,11 @@ use Rattle.overlay_geom.proofs.Entries.{Contains-head}
 use Rattle.overlay_geom.proofs.Merging.{AllPairs-head, AllPairs-tail}
 use Rattle.overlay_geom.proofs.Orders.{point_eq-of_same}
 
--- what holds of an item holds of the list of it alone, and back
+-- a fact of an item holds of the list of it alone, and back
 pub All-one : {X : Type 0} (P : X → Type 0) (x : X) → P x ↔ All P (x ∷ [])
 All-one P x = (λ h. All-cons P x [] h (All-nil P), λ all. All-head P x [] all)
 
--- what holds of the entries of two lists holds of those of the lists joined, and back
+-- a fact of the entries of two lists holds of those of the lists joined, and back
 pub All-joined : {X : Type 0} (P : X → Type 0) (xs ys : List X) → All P xs × All P ys ↔ All P (xs ++ ys)
 All-joined P xs ys = (
   λ both. All-append P xs ys both.0 both.1,

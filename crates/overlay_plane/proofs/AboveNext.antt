@@ -56,7 +56,7 @@ module _ (holds : ℤ → ℤ → Bool) (subj clip : CountedEdge → ℤ) (es : 
   abbrev steps : List Step
   steps = selected_steps holds subj clip filled es
 
-  -- the abscissa of the anchor
+  -- the x-coordinate of the anchor
   abbrev x : ℤ
   x = n.anchor.a.x
 

@@ -76,7 +76,7 @@ crossed false false s h f g = refl
 
 -- ---- sides
 
--- the sides of p from two edges on one line are in proportion to their widths
+-- the sides of p from two collinear edges are in proportion to their widths
 sides_in_proportion : (e : Edge) (q r : Point) (p : PlanePoint) → IsOnLine e q → IsOnLine e r →
     width e *ℤ side (record { a = q; b = r }) p ≡ (r.x -ℤ q.x) *ℤ side e p
 sides_in_proportion e q r p on_q on_r =

@@ -64,7 +64,7 @@ along-transitive e u v w = up_to_through (along e u) (along e v) (along e w)
 pub along-order : (e : Edge) → IsWeakOrder (comes_first e) (IsUpToAlong e)
 along-order e = record { transitive = along-transitive e; passed = first_up_to e; failed = not_first_up_to e }
 
--- two points that come up to each other are one
+-- two points that come up to each other are equal
 pub along-antisymmetric : (e : Edge) (v w : Point) → IsUpToAlong e v w → IsUpToAlong e w v → v ≡ w
 along-antisymmetric e v w first second =
     let one = up_to_both (along e v) (along e w) first second in

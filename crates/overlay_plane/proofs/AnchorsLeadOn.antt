@@ -1,5 +1,5 @@
 -- The anchor of a contour that walks along each edge once is not vertical: two of its edges start in the anchor's
--- point, and were the lowest of them vertical, so would be the other one, and the two would be one edge.
+-- point, and were the lowest of them vertical, so would be the other, and the two would be one edge.
 use Rattle.std.proofs.Common.{◌≡◌, ◌⊎◌, inl, inr, ⊎_elim, Bool, true, false, pos, ◌<ℤ◌, ◌≤ℤ◌}
 use Rattle.std.proofs.Common.{List, Contains, refl, sym, ap, ◌∙◌, subst}
 use Rattle.std.proofs.lemmas.Int.{by_lt_z}
@@ -103,7 +103,7 @@ module _ (walk : List Step) (contour : IsContour walk) (s : Step) (c : Contains 
             (same_from_start f e forward_f forward_e (level narrow) (settled other_step.0 s other_step.1 c)
             other_step.2)
 
--- the anchor covers the abscissa of its start
+-- the anchor covers the x-coordinate of its start
 pub anchors_lead_on : AnchorsLeadOn
 anchors_lead_on walk contour once settled e anchor =
     let own = anchor_step walk e anchor in

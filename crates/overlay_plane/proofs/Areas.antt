@@ -8,7 +8,7 @@ use Rattle.overlay_geom.specs.Plane.{Point}
 use Rattle.overlay_geom.specs.Points.{cross_of}
 use Rattle.overlay_plane.specs.MinimumArea.{cross_sum, double_area}
 
--- the point at which the rest of a closed list goes on: its own first one, or after the last point the first one of the
+-- the point at which the rest of a closed list goes on: its own first one, or after the last point the first of the
 -- list
 abbrev pub next_in : Point → List Point → Point
 next_in first [] = first

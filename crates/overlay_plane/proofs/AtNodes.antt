@@ -15,7 +15,7 @@ use Rattle.overlay_plane.proofs.CyclicOrder.{AllApart, all_apart_shifted, met_sh
 
 -- ---- one point, one step
 
--- steps that pass the test are one
+-- steps that pass the test are equal
 pub same_steps : (s t : Step) → step_eq s t ≡ true → s ≡ t
 same_steps s t h =
     let both = and_parts (point_eq s.from t.from) (point_eq s.to t.to) h in

@@ -157,7 +157,7 @@ module _ (steps : List Step) (alternates : Alternates steps) where
   before_by t true e = (next_surjective steps alternates right t ((is_step_of_decides steps t).0 e)).0
   before_by t false e = t
 
-  -- the step of which a step of the set is the next one
+  -- the step of which a step of the set is the next
   before_of : Step → Step
   before_of t = before_by t (is_step_of steps t) refl
 

@@ -1,4 +1,4 @@
--- Up to the leftmost lowest point of the steps taken, edges count nothing, so the winding of the steps is 0 there.
+-- Up to the leftmost lowest point of the steps taken, edges have count 0, so the winding of the steps is 0 there.
 use Rattle.std.proofs.Common.{◌≡◌, inl, inr, Bool, true, false, cond, ℤ, pos, List, Contains, sym, ap, ◌∙◌, subst}
 use Rattle.std.proofs.lemmas.Bool.{both_ways}
 use Rattle.overlay_geom.specs.Plane.{Point, Step, point_lt, is_forward, edge_of}
@@ -43,7 +43,7 @@ chosen_zero false x y at_x at_y = at_y
 
 module _ (es : List CountedEdge) (steps taken : List Step) (walks : WalksAlong es steps)
     (part : IsBalancedPart es steps taken) (q : Point) (none : NoneHasEndBefore taken q) where
-  -- edges that start before q count nothing
+  -- edges that start before q have count 0
   nothing_before : CountsNothingBefore (count_on taken) es q
   nothing_before e at before = unwalked_counts_nothing taken e (λ s c along. none s c (end_before q s e along before))
 
@@ -70,7 +70,7 @@ module _ (es : List CountedEdge) (steps taken : List Step) (walks : WalksAlong e
       winding_over es taken (ends_of e) ≡ pos 0
   over_top e at starts free = outside.above_top e at starts (nothing_above e free)
 
-  -- and below the lowest one
+  -- and below the lowest
   under_lowest : (e : CountedEdge) → Contains es e → e.a ≡ q → NoneTakenBelow taken q (ends_of e) →
       winding_under es taken (ends_of e) ≡ pos 0
   under_lowest e at starts free = outside.below_lowest e at starts (nothing_below e free)
@@ -112,7 +112,7 @@ module _ (es : List CountedEdge) (steps taken : List Step) (walks : WalksAlong e
     over_top_step starts free = ap (λ f. winding_over es taken f) along
         ∙ over_top own entry (sym (ap (λ f. f.a) along) ∙ starts) (subst (λ f. NoneTakenAbove taken q f) along free)
 
-    -- and below a step along the lowest one
+    -- and below a step along the lowest
     under_lowest_step : (edge_of s).a ≡ q → NoneTakenBelow taken q (edge_of s) →
         winding_under es taken (edge_of s) ≡ pos 0
     under_lowest_step starts free = ap (λ f. winding_under es taken f) along

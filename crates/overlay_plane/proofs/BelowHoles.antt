@@ -41,7 +41,7 @@ module _ (holds : ℤ → ℤ → Bool) (subj clip : CountedEdge → ℤ) (es : 
       let found = Contains-from_map edge_of walk anchor anchored.among in
       subst (IsEdgeOf es) found.2 (edge_listed holds subj clip es filled walks have walk at found.0 found.1)
 
-  -- and covers the abscissa of its point
+  -- and covers the x-coordinate of its point
   pub anchor_covers : covers anchor anchor.a.x (pos 1) ≡ true
   anchor_covers = anchors_lead_on walk (All-contains IsContour walks walk have.bindable.contours at)
       (All-contains HasEachEdgeOnce walks walk have.bindable.single at)

@@ -1,5 +1,5 @@
--- What is under an edge at an abscissa: what is under a lower one, that one, and what lies between the two. Where
--- nothing between counts, the winding below the one edge is that above the other one.
+-- What is under an edge at an x-coordinate: what is under a lower one, that one, and what lies between the two. Where
+-- nothing between counts, the winding below the single edge is that above the other.
 use Rattle.std.proofs.Common.{◌≡◌, Bool, true, false, cond, not, ◌&&◌, ℤ, pos, ◌+ℤ◌, ◌≤ℤ◌, List, [], ◌∷◌}
 use Rattle.std.proofs.Common.{Contains, refl, sym, ap, ap₂, ◌∙◌, subst, ⊎_elim}
 use Rattle.std.proofs.lemmas.Bool.{both_ways, and_parts, and_from, false_from_ne_true}
@@ -40,7 +40,7 @@ each_zero f (y ∷ ys) h none x c =
     (λ later. each_zero f ys (λ z d. h z (Contains-later y ys z d)) (omega linear) x later)
     (Contains-cases y ys x c)
 
--- ---- two edges over an abscissa
+-- ---- two edges over an x-coordinate
 
 -- what is taken by a is taken by b or by s, which take nothing in common, or by a alone
 parted : (a b s : Bool) (c : ℤ) → (b ≡ true → a ≡ true) → (s ≡ true → a ≡ true) → (s ≡ true → b ≡ false) →
@@ -56,7 +56,7 @@ parted false false false c p q r = refl
 module _ (es : List CountedEdge) (e g : CountedEdge) (at_e : Contains es e) (at_g : Contains es g) (x : ℤ)
     (over_e : covers (ends_of e) x (pos 1) ≡ true) (over_g : covers (ends_of g) x (pos 1) ≡ true)
     (lower : is_under (ends_of g) (ends_of e) x (pos 1) ≡ true) where
-  -- f covers the abscissa under h
+  -- f covers the x-coordinate under h
   abbrev pub is_there_under : CountedEdge → CountedEdge → Bool
   is_there_under h f = covers (ends_of f) x (pos 1) && is_under (ends_of f) (ends_of h) x (pos 1)
 

@@ -1,5 +1,5 @@
--- Beyond a half plane that has all edges none of them is strictly below a point, or each is that covers its abscissa;
--- so balanced counts sum to 0 there.
+-- Beyond a half plane that has all edges none of them is strictly below a point, or each is that covers its
+-- x-coordinate; so balanced counts sum to 0 there.
 use Rattle.std.proofs.Common.{◌≡◌, Bool, true, false, cond, not, ◌&&◌, ℤ, pos, ◌+ℤ◌, ◌-ℤ◌, ◌*ℤ◌, ◌<ℤ◌, ◌≤ℤ◌, int_lt}
 use Rattle.std.proofs.Common.{int_le}
 use Rattle.std.proofs.Common.{List, Contains, refl, sym, ap, subst, ◌∙◌}
@@ -108,7 +108,7 @@ module _ (e : Edge) (p : PlanePoint) where
       third_fails starts_before ends_after is_under_it
       (λ over. below_both e p over (omega linear) (omega linear))
 
-  -- there each is that covers the abscissa
+  -- there each is that covers the x-coordinate
   each_below : (c : ℤ) → e.a.y ≤ℤ c → e.b.y ≤ℤ c → (c *ℤ p.d) <ℤ p.y →
       is_strictly_below e p ≡ covers e p.x p.d
   each_below c a_in b_in beyond =
@@ -117,11 +117,11 @@ module _ (e : Edge) (p : PlanePoint) where
       third_passes starts_before ends_after is_under_it
       (λ over. above_both e p over (omega linear) (omega linear))
 
--- 1 for a point to the right of an abscissa
+-- 1 for a point to the right of an x-coordinate
 right_of_it : ℤ → ℤ → Point → ℤ
 right_of_it x d v = cond (int_lt x (v.x *ℤ d)) (pos 1) (pos 0)
 
--- an edge counts over an abscissa as often as this number rises along it
+-- an edge counts over an x-coordinate as often as this number rises along it
 risen : (x d k : ℤ) (e : Edge) → pos 0 <ℤ d → e.a.x ≤ℤ e.b.x →
     cond (covers e x d) k (pos 0) ≡ k *ℤ (right_of_it x d e.b -ℤ right_of_it x d e.a)
 unfolding right_of_it

@@ -101,7 +101,7 @@ module _ {Y : Type 0} (f : List Step → List Y) (bound : List BoundContour) whe
       (λ b. is_free_hole b.contour.role && is_number n b.shape) bound
       (λ b c. split_hole n b.contour.role b.shape))
 
-  -- those from the n-th shape on are its own, and those from the next one on
+  -- those from the n-th shape on are its own, and those from the next on
   split_from : (n : ℕ) → IsPermutation (from_on n) (here n ++ from_on (suc n))
   split_from n = IsPermutation-trans (from_on n)
       (flat_map part (filter (is_hole_of n) bound) ++ from_on (suc n)) (here n ++ from_on (suc n))

@@ -51,7 +51,7 @@ first_link a q qs rises before = record {
   clear = clear;
 }
   where
-    -- the points after the second one are not smaller than it
+    -- the points after the second are not smaller than it
     beyond : (v : Point) → Contains qs v → IsBefore v q → ⊥
     beyond v has less = not_before_up_to v q less (rises.1.0 v has)
 

@@ -44,7 +44,7 @@ goes_through u [] w = goes_on u (steps_between u w) w [] w (goes_between u w) re
 goes_through u (v ∷ vs) w = goes_on u (steps_between u v) v (steps_through v (vs ++ w ∷ [])) w (goes_between u v)
     (goes_through v vs w)
 
--- the first step is the last one back
+-- the first step is the last back
 pub backward-first : (s : Step) (ss : List Step) → backward (s ∷ ss) ≡ backward ss ++ reversed_step s ∷ []
 backward-first s ss = reverse-append (reversed_step s ∷ []) (map reversed_step ss)
 

@@ -31,7 +31,7 @@ module _ (steps : List Step) (alternates : Alternates steps) (hand : Hand) (take
   arrives_there : (v : Point) (s : Step) → Arrives part v s → Arrives steps v s
   arrives_there v s h = record { among = (from_part s h.among).0; at = h.at }
 
-  -- with each step the part holds the next one
+  -- with each step the part holds the next
   next_in_part : (s : Step) → Contains part s → (t : Step) × Contains part t × IsNextStep steps hand s t
   next_in_part s c =
       let whole = from_part s c in

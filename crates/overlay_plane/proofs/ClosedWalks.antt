@@ -1,5 +1,5 @@
--- An orbit is a closed contour: each of its steps ends where the next one begins, and the last where the first one
--- does, so they are the steps of its points.
+-- An orbit is a closed contour: each of its steps ends where the next begins, and the last where the first does, so
+-- they are the steps of its points.
 use Rattle.std.proofs.Common.{◌≡◌, ℕ, suc, ◌+◌, ◌<◌, Bool, true, false, cond, ◌++◌, List, [], ◌∷◌, length}
 use Rattle.std.proofs.Common.{map, get_or, Contains, refl, sym, ap, ap₂, ◌∙◌, subst, arith}
 use Rattle.std.proofs.lemmas.List.Elements.{All-nil, All-cons}
@@ -14,7 +14,7 @@ use Rattle.overlay_plane.proofs.ItemsRound.{item_round-here, item_round-whole}
 use Rattle.overlay_plane.proofs.NextSteps.{alternating_steps_lead_on}
 use Rattle.overlay_plane.proofs.OrbitSteps.{goes_on_round, step_inside, three_steps}
 
--- from s through the steps after it to q: each step is one between two points, and the next one begins where it ends
+-- from s through the steps after it to q: each step is one between two points, and the next begins where it ends
 abbrev LeadsTo : Step → List Step → Point → Type 0
 LeadsTo s [] q = (¬ (s.from ≡ s.to)) × (s.to ≡ q)
 LeadsTo s (t ∷ ts) q = (¬ (s.from ≡ s.to)) × (s.to ≡ t.from) × LeadsTo t ts q

@@ -53,7 +53,7 @@ between_on_line e x y d wide on s = by_lt_z (e.b.y -ℤ e.a.y) (pos 0) falls ris
         let above = nonneg_of_mul-nonneg (width e) (y -ℤ e.b.y *ℤ d) wide (let i = over_end in omega linear) in
         inr (omega linear, omega linear)
 
--- the point over the abscissa on the line of e
+-- the point over the x-coordinate on the line of e
 abbrev pub point_over : (e : Edge) (x d : ℤ) → pos 0 <ℤ width e → pos 0 <ℤ d → PlanePoint
 point_over e x d wide positive = record {
   x = width e *ℤ x;
@@ -65,14 +65,14 @@ point_over e x d wide positive = record {
 times_through : (w a d : ℤ) → w *ℤ (a *ℤ d) ≡ a *ℤ (w *ℤ d)
 times_through = solve 3 (λ w a d. w ⊗ (a ⊗ d) ≗ a ⊗ (w ⊗ d)) tt
 
--- an abscissa over the span, with both its numbers multiplied
+-- an x-coordinate over the span, with both its numbers multiplied
 pub spans_times : (e : Edge) (w x d : ℤ) → pos 0 ≤ℤ w → Spans e x d → Spans e (w *ℤ x) (w *ℤ d)
 spans_times e w x d positive s = record {
   from = let l = mul-le w (e.a.x *ℤ d) x positive s.from in let i = times_through w e.a.x d in omega linear;
   to = let r = mul-le w x (e.b.x *ℤ d) positive s.to in let i = times_through w e.b.x d in omega linear;
 }
 
--- where the gap is 0 at an abscissa that both edges span, they have the point over it in common
+-- where the gap is 0 at an x-coordinate that both edges span, they have the point over it in common
 pub meets_over : (f e : Edge) (x d : ℤ) (wide : pos 0 <ℤ width e) (positive : pos 0 <ℤ d) → pos 0 <ℤ width f →
     Spans e x d → Spans f x d →
     gap f e x d ≡ pos 0 → IsOn e (point_over e x d wide positive) × IsOn f (point_over e x d wide positive)
@@ -137,7 +137,7 @@ same_starts f e x d positive wide_f wide meet over_e over_f level before_e befor
 sum_times : (s x t x' a d d' : ℤ) → a *ℤ (s *ℤ d +ℤ t *ℤ d') ≡ s *ℤ (a *ℤ d) +ℤ t *ℤ (a *ℤ d')
 sum_times = solve 7 (λ s x t x' a d d'. a ⊗ (s ⊗ d ⊕ t ⊗ d') ≗ s ⊗ (a ⊗ d) ⊕ t ⊗ (a ⊗ d')) tt
 
--- an abscissa between two of the span, of which the second is inside, is inside
+-- an x-coordinate between two of the span, of which the second is inside, is inside
 pub inner_between : (e : Edge) (s x d t x' d' : ℤ) → pos 0 ≤ℤ s → pos 0 <ℤ t → Spans e x d → IsInner e x' d' →
     IsInner e (s *ℤ x +ℤ t *ℤ x') (s *ℤ d +ℤ t *ℤ d')
 inner_between e s x d t x' d' ps pt i j = record {
@@ -147,7 +147,7 @@ inner_between e s x d t x' d' ps pt i j = record {
       let k = sum_times s x t x' e.b.x d d' in omega linear;
 }
 
--- an abscissa between two of the span is in the span
+-- an x-coordinate between two of the span is in the span
 pub spans_between : (e : Edge) (s x d t x' d' : ℤ) → pos 0 <ℤ s → pos 0 <ℤ t → Spans e x d → Spans e x' d' →
     Spans e (s *ℤ x +ℤ t *ℤ x') (s *ℤ d +ℤ t *ℤ d')
 spans_between e s x d t x' d' ps pt i j = record {
@@ -157,7 +157,7 @@ spans_between e s x d t x' d' ps pt i j = record {
       let k = sum_times s x t x' e.b.x d d' in omega linear;
 }
 
--- an abscissa inside e that f spans
+-- an x-coordinate inside e that f spans
 pub record IsShared (f e : Edge) (x d : ℤ) : Type 0 where
   pub positive : pos 0 <ℤ d
   pub inner : IsInner e x d
@@ -167,7 +167,7 @@ pub record IsShared (f e : Edge) (x d : ℤ) : Type 0 where
 pub cancels : (g h : ℤ) → g *ℤ h +ℤ neg_ℤ h *ℤ g ≡ pos 0
 cancels = solve 2 (λ g h. g ⊗ h ⊕ ⊝ h ⊗ g ≗ number (pos 0)) tt
 
--- the gap is not above 0 at a shared abscissa and below 0 at another one of both spans
+-- the gap is not above 0 at a shared x-coordinate and below 0 at another one of both spans
 pub no_crossing : (f e : Edge) (x d x' d' : ℤ) → pos 0 <ℤ width f → pos 0 <ℤ width e → MeetInEnds e f →
     IsShared f e x d → pos 0 <ℤ d' →
     Spans e x' d' → Spans f x' d' → pos 0 <ℤ gap f e x d → gap f e x' d' <ℤ pos 0 → ⊥
@@ -182,7 +182,7 @@ no_crossing f e x d x' d' wide_f wide meet p positive' over_e over_f above below
     (spans_between f s x' d' t x d above pt over_f p.spans)
     (gap_linear f e s x' d' t x d ∙ cancels s (gap f e x' d'))
 
--- so what is lower at one shared abscissa is lower at each
+-- so what is lower at one shared x-coordinate is lower at each
 pub gap_keeps_sign : (f e : Edge) (x d x' d' : ℤ) → pos 0 <ℤ width f → pos 0 <ℤ width e → MeetInEnds e f →
     IsShared f e x d → IsShared f e x' d' →
     pos 0 <ℤ gap f e x d → pos 0 <ℤ gap f e x' d'

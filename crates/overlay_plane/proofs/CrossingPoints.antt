@@ -1,5 +1,5 @@
--- The point in which two edges cross that lie across one another: it is on both, and how far it is along the one, by
--- the sides on which that one's ends lie.
+-- The point in which two edges cross that lie across each other: it is on both, and how far it is along the one, by the
+-- sides on which that one's ends lie.
 use Rattle.std.proofs.Common.{◌≡◌, inl, inr, ℤ, pos, negsuc, nat_abs, ◌+ℤ◌, ◌-ℤ◌, ◌*ℤ◌, neg_ℤ, ◌<ℤ◌, ◌≤ℤ◌, refl, sym}
 use Rattle.std.proofs.Common.{ap₂, ◌∙◌}
 use Rattle.overlay_geom.specs.Plane.{PlanePoint, Edge, IsOn, cross_at}
@@ -16,7 +16,7 @@ use Rattle.overlay_plane.proofs.Placements.{AreCrossing, both_across}
 
 -- ---- points along an edge
 
--- the point that lies t / d of the way from e's smaller end to its larger one
+-- the point that lies t / d of the way from e's smaller end to its larger
 abbrev pub point_along : (e : Edge) (t d : ℤ) → pos 0 <ℤ d → PlanePoint
 point_along e t d positive = record {
   x = e.a.x *ℤ d +ℤ (e.b.x -ℤ e.a.x) *ℤ t;
@@ -64,7 +64,7 @@ record GoesRight (e f : Edge) : Type 0 where
   from : to_line e f ≡ cross_at f.a f.b e.a
   whole : across e f ≡ cross_at f.a f.b e.a -ℤ cross_at f.a f.b e.b
 
--- where e's first end is not to the left, and its second one is to the left of it
+-- where e's first end is not to the left, and its second is to the left of it
 goes_left : (e f : Edge) → cross_at f.a f.b e.a ≤ℤ pos 0 → cross_at f.a f.b e.a <ℤ cross_at f.a f.b e.b → GoesLeft e f
 goes_left e f low less =
     let turn = (f.b.x -ℤ f.a.x) *ℤ (e.b.y -ℤ e.a.y) -ℤ (f.b.y -ℤ f.a.y) *ℤ (e.b.x -ℤ e.a.x) in
@@ -89,7 +89,7 @@ goes_right e f high less =
 abbrev pub IsPartWay : Edge → Edge → Type 0
 IsPartWay e f = (pos 0 ≤ℤ to_line e f) × (to_line e f ≤ℤ across e f) × (pos 0 <ℤ across e f)
 
--- an edge that goes across another one's line meets it part of the way
+-- an edge that goes across another edge's line meets it part of the way
 pub part_way_across : (e f : Edge) → IsAcross f e → IsPartWay e f
 part_way_across e f (inl (low, high, less)) =
     let left = goes_left e f low less in
@@ -163,7 +163,7 @@ cross_alike e f (inl (f_low, f_high, f_less)) (inl (e_low, e_high, e_less)) = ab
 cross_alike e f (inr (f_high, f_low, f_less)) (inr (e_high, e_low, e_less)) = absurd (let same = crossed_back e f in
     omega linear)
 
--- of two edges across one another, the point in which e crosses f's line is on both
+-- of two edges across each other, the point in which e crosses f's line is on both
 pub crossing_is_common : (e f : Edge) (positive : pos 0 <ℤ across e f) → AreCrossing e f →
     IsCommon e f (crossing_point e f positive)
 crossing_is_common e f positive c = (part_on e (to_line e f) (across e f) positive way.0 way.1, on_f)

@@ -21,7 +21,7 @@ use Rattle.overlay_plane.proofs.WholeOnEdges.{forward_from_test}
 
 -- ---- the points of two edges
 
--- both edges lead from their smaller ends to their larger ones, and they are not one edge
+-- both edges lead from their smaller ends to their larger, and they are not one edge
 pub record AreTwoForward (e f : Edge) : Type 0 where
   pub forward : point_lt e.a e.b ≡ true
   pub also : point_lt f.a f.b ≡ true

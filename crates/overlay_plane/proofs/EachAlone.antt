@@ -323,7 +323,7 @@ module _ (holds : ℤ → ℤ → Bool) (subj clip : CountedEdge → ℤ) (es : 
         lowest (inside lowest leftmost.lowest_taken) leftmost.lowest_starts
         (λ s c. leftmost.none_below s (own_in_taken o at_o (ap stands_in is_b) s c))
 
-    -- so its filled side is the upper one, as the outline winds once there
+    -- so its filled side is the upper, as the outline winds once there
     filled_there : is_filled_above filled lowest ≡ true
     filled_there = by (is_filled_above filled lowest) refl
       where

@@ -20,7 +20,7 @@ module _ {X : Type 0} (lower : X → X → Bool) where
 
   -- ---- the entries
 
-  -- an entry after an insertion is the new one or an old one
+  -- an entry after an insertion is the new or an old one
   inserted_entry : (x : X) (ys : List X) (z : X) → Contains (inserted_once x ys) z → (x ≡ z) ⊎ Contains ys z
   inserted_entry x [] z c = Contains-cases x [] z c
   inserted_entry x (y ∷ ys) z c = by (lower x y) (lower y x) c (inserted_entry x ys z)
@@ -54,7 +54,7 @@ module _ {X : Type 0} (lower : X → X → Bool) where
       by false false h = c
 
   module _ (irreflexive : (x : X) → lower x x ≡ false) where
-    -- and has an entry that ties with the new one
+    -- and has an entry that ties with the new
     new_entry : (x : X) (ys : List X) → (z : X) × Contains (inserted_once x ys) z × Tie x z
     new_entry x [] = (x, Contains-head x [], (irreflexive x, irreflexive x))
     new_entry x (y ∷ ys) = by (lower x y) (lower y x) refl refl (new_entry x ys)

@@ -88,7 +88,7 @@ mark-joined : (d : Bool) (es : List CountedEdge) (f : Edge) → mark d (joined_e
 mark-joined true es f = refl
 mark-joined false es f = refl
 
--- an edge that counts nothing has no mark
+-- an edge that has count 0 has no mark
 pub no_mark : (d : Bool) (e : CountedEdge) → counts_nothing e ≡ true → mark d e ≡ false
 no_mark true e none = (uncounted e none).along
 no_mark false e none = (uncounted e none).against
@@ -124,6 +124,6 @@ module _ (es new : List CountedEdge) (merged : IsMerged es new) where
           (no_mark d (joined_edge es (ends_of has.found)) none) here)
       by (inr held) = (joined_edge es (ends_of has.found), held, has.ends)
 
-  -- two merged edges with the same ends are one
+  -- two merged edges with the same ends are equal
   pub one_merged : (g h : CountedEdge) → Contains new g → Contains new h → ends_of g ≡ ends_of h → g ≡ h
   one_merged g h c d same = is_joined g c ∙ ap (joined_edge es) same ∙ sym (is_joined h d)

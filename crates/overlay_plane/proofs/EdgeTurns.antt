@@ -21,7 +21,7 @@ rise e = e.b.y -ℤ e.a.y
 abbrev pub edge_dot : Edge → Edge → ℤ
 edge_dot e f = width e *ℤ width f +ℤ rise e *ℤ rise f
 
--- the edge leads from its smaller end to its larger one
+-- the edge leads from its smaller end to its larger
 abbrev pub IsForward : Edge → Type 0
 IsForward e = point_lt e.a e.b ≡ true
 

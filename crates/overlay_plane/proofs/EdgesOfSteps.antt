@@ -44,7 +44,7 @@ module _ (s : Step) (e : CountedEdge) (along : edge_of s ≡ ends_of e) where
       ∙ ap (λ t. cond t (winding_below (count_on taken) es e) (winding_above (count_on taken) es e))
       (sym (starts_where_leaves long))
 
--- an edge counts nothing, or one of the steps taken walks along it
+-- an edge has count 0, or one of the steps taken walks along it
 pub walked_or_nothing : (taken : List Step) (e : CountedEdge) →
     (count_on taken e ≡ pos 0) ⊎ ((s : Step) × Contains taken s × (edge_of s ≡ ends_of e))
 walked_or_nothing [] e = inl refl

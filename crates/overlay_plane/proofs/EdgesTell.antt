@@ -52,7 +52,7 @@ module _ (filled : ℤ → Bool) (es : List CountedEdge) (fillable : IsFillable 
   end_at e p (inl a) = (e.a, inl refl, a)
   end_at e p (inr b) = (e.b, inr refl, b)
 
-  -- two whole points at one place are one
+  -- two whole points at one place are equal
   one_whole : (v w : Point) (p : PlanePoint) → IsAt v p → IsAt w p → v ≡ w
   one_whole v w p at_v at_w = same_point v w (cancel v.x w.x (sym at_v.0 ∙ at_w.0))
       (cancel v.y w.y (sym at_v.1 ∙ at_w.1))

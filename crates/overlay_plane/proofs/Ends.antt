@@ -172,7 +172,7 @@ opposite_test g w z positive e = same_tests (int_lt (pos 0) g) (int_lt z (pos 0)
     (λ t. test_from_lt z (pos 0) (neg_of_mul-neg w z positive (let above = lt_from_test (pos 0) g t in omega linear)))
     (λ t. test_from_lt (pos 0) g (let low = mul-neg w z positive (lt_from_test z (pos 0) t) in omega linear))
 
--- an end of f is below e exactly where f is lower than e at its abscissa
+-- an end of f is below e exactly where f is lower than e at its x-coordinate
 pub low_at_start : (f e : Edge) → pos 0 <ℤ width f → int_lt (pos 0) (gap f e f.a.x (pos 1)) ≡ int_lt
     (side e (in_plane f.a)) (pos 0)
 low_at_start f e wide = opposite_test (gap f e f.a.x (pos 1)) (width f) (side e (in_plane f.a)) wide (gap-at_start f e)

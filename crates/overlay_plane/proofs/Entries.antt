@@ -12,11 +12,11 @@ use Rattle.overlay_geom.proofs.Mapped.{Contains-mapped}
 
 -- ---- all and some
 
--- what holds of each entry holds of all
+-- a fact of each entry holds of all
 pub all_of_entries : {X : Type 0} (P : X → Type 0) (xs : List X) → ((x : X) → Contains xs x → P x) → All P xs
 all_of_entries P xs h = All-weaker (Contains xs) P h xs (All-contains_itself xs)
 
--- what holds of all entries of two lists joined holds of those of the first
+-- a fact of all entries of two lists joined holds of those of the first
 pub All-first : {X : Type 0} (P : X → Type 0) (xs ys : List X) → All P (xs ++ ys) → All P xs
 All-first P xs ys h = all_of_entries P xs (λ x c. All-contains P (xs ++ ys) x h (Contains-append_left xs ys x c))
 
@@ -24,7 +24,7 @@ All-first P xs ys h = all_of_entries P xs (λ x c. All-contains P (xs ++ ys) x h
 pub All-rest : {X : Type 0} (P : X → Type 0) (xs ys : List X) → All P (xs ++ ys) → All P ys
 All-rest P xs ys h = all_of_entries P ys (λ x c. All-contains P (xs ++ ys) x h (Contains-append_right xs ys x c))
 
--- what holds of an entry holds of some
+-- a fact of an entry holds of some
 pub any_of_entry : {X : Type 0} (P : X → Type 0) (xs : List X) (x : X) → Contains xs x → P x → Any P xs
 any_of_entry P xs x at holds = (at.0, x, at.1, at.2, holds)
 
@@ -32,7 +32,7 @@ any_of_entry P xs x at holds = (at.0, x, at.1, at.2, holds)
 pub Contains-from_any : {X : Type 0} (P : X → Type 0) (xs : List X) → Any P xs → (x : X) × Contains xs x × P x
 Contains-from_any P xs some = (some.1, (some.0, some.2, some.3), some.4)
 
--- where of each entry one fact holds or the other one, the one holds of all entries or the other one of some
+-- where of each entry one fact holds or the other, the one holds of all entries or the other of some
 pub all_or_any : {X : Type 0} (P Q : X → Type 0) → ((x : X) → P x ⊎ Q x) → (xs : List X) → All P xs ⊎ Any Q xs
 all_or_any P Q each [] = inl (All-nil P)
 all_or_any {X} P Q each (x ∷ xs) = by (each x) (all_or_any P Q each xs)
@@ -106,7 +106,7 @@ Contains-from_flat_map f (x ∷ xs) v c =
           (found.0, Contains-later x xs found.0 found.1, found.2)
     ]
 
--- lists made of the same parts are one
+-- lists made of the same parts are equal
 pub flat_map-same : {X Y : Type 0} (f g : X → List Y) (xs : List X) → ((x : X) → Contains xs x → f x ≡ g x) →
     flat_map f xs ≡ flat_map g xs
 flat_map-same f g [] h = refl

@@ -85,7 +85,7 @@ module _ (filled : Hand) (contours : List Contour) (bindable : CanBeBound filled
         },
       )
 
-  -- where both are among steps, the lowest one of these is not in the hole
+  -- where both are among steps, the lowest of these is not in the hole
   pub lowest_not_found : (taken : List Step) (h : HasLeftmost taken) (w : List Step) → IsContour w →
       ((s : Step) → Contains w s → Contains taken s) → (a : Edge) → IsAnchor w a → (after : IsAfterOwn a) →
       ((s : Step) → Contains after.own.steps s → Contains taken s) → ¬ (Contains w h.lowest)
@@ -107,7 +107,7 @@ module _ (filled : Hand) (contours : List Contour) (bindable : CanBeBound filled
           (false_from_ne_true (point_lt h.point a.a) (λ less. anchored.leftmost h.lowest c
           (end_before h.lowest a.a (ap (λ (p : Point). point_lt p a.a) h.lowest_starts ∙ less))))
 
-      -- so the other one cannot come before it by points
+      -- so the other cannot come before it by points
       earlier : point_lt after.first.a a.a ≡ true → ⊥
       earlier less = h.none_before k.0 (own_inside k.0 k.1) (end_before k.0 h.point
           (ap (λ (e : Edge). point_lt e.a h.point) k.2

@@ -1,5 +1,5 @@
--- Edges over an abscissa that are taken with all under them are the greatest of them and all under it: so their counts
--- add up to the winding above that one.
+-- Edges over an x-coordinate that are taken with all under them are the greatest of them and all under it: so their
+-- counts add up to the winding above that one.
 use Rattle.std.proofs.Common.{◌≡◌, ◌⊎◌, ⊎_elim, Bool, true, false, cond, ◌&&◌, ℤ, pos, ◌+ℤ◌, ◌<ℤ◌, List, Contains, refl}
 use Rattle.std.proofs.Common.{sym, ap, ap₂, ◌∙◌, subst}
 use Rattle.std.proofs.lemmas.Bool.{both_ways, and_parts, and_from, false_from_ne_true}
@@ -28,7 +28,7 @@ module _ (count : CountedEdge → ℤ) (es : List CountedEdge) (r : IsBalancedAr
     (positive : pos 0 <ℤ d)
     (taken : CountedEdge → Bool) (down : TakesDownward ends_of es x d taken) (g : CountedEdge)
     (h : IsGreatestTaken es x d taken g) where
-  -- the edge covers the abscissa, and is under g there
+  -- the edge covers the x-coordinate, and is under g there
   abbrev under_greatest : CountedEdge → Bool
   under_greatest f = covers (ends_of f) x d && is_under (ends_of f) (ends_of g) x d
 

@@ -1,6 +1,5 @@
 -- An orbit by the empty hand in the steps of all hole groups does not go over from one of them to another: else the
--- winding of each would be a number other than 0 along the other one, and yet 0 at the start of the one that starts
--- first.
+-- winding of each would be a number other than 0 along the other, and yet 0 at the start of the one that starts first.
 use Rattle.std.proofs.Common.{◌≡◌, ◌⊎◌, inl, inr, ⊎_elim, Bool, true, false, pos, List, Contains, refl, sym, ap, ◌∙◌}
 use Rattle.std.proofs.lemmas.Bool.{both_ways, false_from_ne_true}
 use Rattle.std.proofs.lemmas.List.Elements.{All-contains}
@@ -92,7 +91,7 @@ module _ (es : List CountedEdge) (steps : List Step) (along : WalksAlong es step
           ∙ filled_over filled es group (start_of group) (first_filled filled group hole)
           ∙ outside.over_top_step (start_of group) (inside (start_of group) own.start.among) refl own.start.top
 
-      -- and another number on the empty ones
+      -- and another number on the empty
       empty_not_zero : (s : Step) → Contains group s → ¬ (winding_beside (other_hand filled) es group s ≡ pos 0)
       empty_not_zero s c = not_both_zero filled es group s
           ((winding_across_alternating_steps es steps group alternates inside).rises

@@ -28,7 +28,7 @@ first_filled filled [] h = absurd (false≢true h)
 first_filled filled (s ∷ ss) h = subst (λ (t : Step). is_filled_above filled t ≡ true)
     (sym (item_round-here (s ∷ ss) no_step 0 (omega arith))) h
 
--- where a step is filled above, its empty side is the lower one of its edge
+-- where a step is filled above, its empty side is the lower of its edge
 pub empty_below : (filled : Hand) (es : List CountedEdge) (taken : List Step) (t : Step) →
     is_filled_above filled t ≡ true →
     winding_beside (other_hand filled) es taken t ≡ winding_under es taken (edge_of t)
@@ -38,7 +38,7 @@ empty_below right es taken t h =
     ap (λ b. cond b (winding_over es taken (edge_of t)) (winding_under es taken (edge_of t)))
     (not-true (is_forward t) h)
 
--- and its filled side the upper one
+-- and its filled side the upper
 pub filled_over : (filled : Hand) (es : List CountedEdge) (taken : List Step) (t : Step) →
     is_filled_above filled t ≡ true →
     winding_beside filled es taken t ≡ winding_over es taken (edge_of t)

@@ -1,5 +1,5 @@
 -- An orbit by the empty hand in a group, an orbit by the filled hand, visits no point twice: the stretch between two
--- visits would wind alike on the empty side before and after the second one, and on the filled side, and yet rise by 1
+-- visits would wind alike on the empty side before and after the second, and on the filled side, and yet rise by 1
 -- across one of the two steps.
 use Rattle.std.proofs.Common.{◌≡◌, ℕ, suc, ◌+◌, ◌-◌, ◌<◌, false, ℤ, pos, ◌+ℤ◌, List, length, get_or}
 use Rattle.std.proofs.Common.{Contains, AllPairs, sym, ap, ◌∙◌, subst, arith}
@@ -32,7 +32,7 @@ use Rattle.overlay_plane.proofs.Telescopes.{signed_rise}
 rises_across_one : (a b c d : ℤ) → a ≡ c → b ≡ d → a ≡ b +ℤ pos 1 → ¬ (c ≡ d)
 rises_across_one a b c d ac bd rises stays = omega linear
 
--- so it is for the windings on the filled side and on the empty one
+-- so it is for the windings on the filled side and on the empty
 not_both_alike : (filled : Hand) (es : List CountedEdge) (taken : List Step) (s t : Step) →
     winding_beside filled es taken s ≡ winding_beside filled es taken t →
     winding_beside (other_hand filled) es taken s ≡ winding_beside (other_hand filled) es taken t →

@@ -74,7 +74,7 @@ module _ (steps : List Step) (alternates : Alternates steps) (filled : Hand) (gr
     passing_inside s c = let found = found_group s c in
         orbit_inside steps alternates filled found.0 (group_of found.0 found.1).orbit s found.3
 
-    -- with each step they have the next one by the filled hand, and the one before
+    -- with each step they have the next by the filled hand, and the one before
     closed : IsClosedUnderNext steps filled (is_step_of passing)
     closed s t c next = same_tests (is_step_of passing s) (is_step_of passing t)
         (λ e. let found = found_group s ((is_step_of_decides passing s).0 e) in

@@ -30,7 +30,7 @@ pub gap_exchanged : (f e : Edge) (x d : ℤ) → gap f e x d ≡ neg_ℤ (gap e 
 gap_exchanged f e x d = solve 10 (λ px py qx qy ax ay bx by x d. gapE px py qx qy ax ay bx by x d ≗ ⊝ gapE ax ay bx by
     px py qx qy x d) tt f.a.x f.a.y f.b.x f.b.y e.a.x e.a.y e.b.x e.b.y x d
 
--- gaps at one abscissa add up, weighted by widths
+-- gaps at one x-coordinate add up, weighted by widths
 pub gap_through : (f g h : Edge) (x d : ℤ) → width g *ℤ gap f h x d ≡ width h *ℤ gap f g x d +ℤ width f *ℤ gap g h x d
 gap_through f g h x d = solve 6 (λ wf wg wh lf lg lh. wg ⊗ (wh ⊗ lf ⊖ wf ⊗ lh) ≗ wh ⊗ (wg ⊗ lf ⊖ wf ⊗ lg) ⊕ wf ⊗
     (wh ⊗ lg ⊖ wg ⊗ lh)) tt (width f)
@@ -44,7 +44,7 @@ line_form_linear e s x y d t x' y' d' = solve 12
     (λ ax ay bx by s x y d t x' y' d'. formE ax ay bx by (s ⊗ x ⊕ t ⊗ x') (s ⊗ y ⊕ t ⊗ y') (s ⊗ d ⊕ t ⊗ d') ≗ s ⊗ formE
     ax ay bx by x y d ⊕ t ⊗ formE ax ay bx by x' y' d') tt e.a.x e.a.y e.b.x e.b.y s x y d t x' y' d'
 
--- the gap is linear in the abscissa
+-- the gap is linear in the x-coordinate
 pub gap_linear : (f e : Edge) (s x d t x' d' : ℤ) → gap f e (s *ℤ x +ℤ t *ℤ x') (s *ℤ d +ℤ t *ℤ d') ≡ s *ℤ gap f e x
     d +ℤ t *ℤ gap f e x' d'
 gap_linear f e s x d t x' d' = solve 14

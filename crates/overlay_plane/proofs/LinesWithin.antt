@@ -49,7 +49,7 @@ whole_on_line_of e f v forward along on_line =
     zero_of_mul-zero (pos 1) (cross_at e.a e.b v) (record { lt = tt })
     (sym (side_at e v (in_plane v) (at_itself v)) ∙ on_line_of e f (in_plane v) forward along f_line)
 
--- edges along a third one lie along one another
+-- edges along a third one lie along each other
 pub along_through : (e f k : Edge) → IsBefore e.a e.b → IsAlong e f → IsAlong e k → IsAlong k f
 along_through e f k forward f_along k_along =
     let back = along_exchanged e k forward k_along in
@@ -71,7 +71,7 @@ up_to_by_place : (u v : Point) (p : PlanePoint) → IsUpTo (over u p.d) (place_o
 up_to_by_place u v p from to = up_to_of_over u v p.d p.positive
     (up_to_through (over u p.d) (place_of p) (over v p.d) from to)
 
--- of two edges with a common point, each starts up to the end of the other one
+-- of two edges with a common point, each starts up to the end of the other
 pub starts_up_to_end : (f k : Edge) (p : PlanePoint) → IsBefore f.a f.b → IsBefore k.a k.b → IsCommon f k p →
     IsUpTo f.a k.b
 starts_up_to_end f k p f_forward k_forward (on_f, on_k) =

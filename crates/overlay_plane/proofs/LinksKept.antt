@@ -41,7 +41,7 @@ module _ (Good : Point → Type 0) where
       (good_between u v at_u (All-head Good v vs at_vs))
       (good_through v vs (All-head Good v vs at_vs) (All-tail Good v vs at_vs))
 
--- what holds of steps there holds of the steps back
+-- a fact of steps there holds of the steps back
 pub all_backward : (P : Step → Type 0) → ((s : Step) → P s → P (reversed_step s)) → (ss : List Step) → All P ss →
     All P (backward ss)
 all_backward P turned [] h = All-nil P

@@ -26,8 +26,8 @@ long_leads_forward s long = by (is_forward s) refl
     by false e = larger_otherwise s.from s.to long e
 
 module _ (steps : List Step) (long : (s : Step) → Contains steps s → ¬ (s.from ≡ s.to)) where
-  -- a step of which tests tell that its edge starts in a least point, and is the top one of those that start there, is
-  -- the start
+  -- a step of which tests tell that its edge starts in a least point, and is the top of those that start there, is the
+  -- start
   pub start_from_tests : (s : Step) → Contains steps s →
       ((t : Step) → Contains steps t → point_lt (edge_of t).a (edge_of s).a ≡ false) →
       ((t : Step) → Contains steps t → (edge_of t).a ≡ (edge_of s).a → turns_left (edge_of s) (edge_of t) ≡ false) →
@@ -40,7 +40,7 @@ module _ (steps : List Step) (long : (s : Step) → Contains steps s → ¬ (s.f
   }
 
   module _ (s : Step) (c : Contains steps s) where
-    -- their leftmost lowest point, and the steps along the top edge and the lowest one there
+    -- their leftmost lowest point, and the steps along the top edge and the lowest there
     found : HasLeftmost steps
     found = leftmost steps (λ t at. long_leads_forward t (long t at)) s c
 

@@ -93,7 +93,7 @@ only_is_end e f p e_forward f_forward along common only = by_end e p (λ end. in
           to = before_up_to e.a f.b order.1;
         }))))
 
--- the ends of each edge on the other one
+-- the ends of each edge on the other
 abbrev pub ends_on_other : Edge → Edge → List Point
 ends_on_other e f = ends_between f e ++ ends_between e f
 

@@ -35,7 +35,7 @@ meetings_on_line e f e_forward f_forward along =
 none_nearest : (e : Edge) → AreNearest e [] []
 none_nearest e = record { from = All-nil _; to = All-nil _ }
 
--- edges beside one another have none
+-- edges beside each other have none
 meetings_beside : (e f : Edge) → IsBefore e.a e.b → IsBefore f.a f.b → ¬ (IsAlong e f) → IsBeside e f ⊎ IsBeside f e →
     HasMeetings e f
 meetings_beside e f e_forward f_forward apart beside = (
@@ -48,7 +48,7 @@ meetings_beside e f e_forward f_forward apart beside = (
     none (inl one) p meeting = beside_have_no_common e f p f_forward one meeting.common
     none (inr other) p meeting = beside_have_no_common f e p e_forward other (meeting.common.1, meeting.common.0)
 
--- edges across one another have one
+-- edges across each other have one
 meetings_across : (e f : Edge) → IsBefore f.a f.b → AreCrossing e f → HasMeetings e f
 meetings_across e f f_forward c =
     (p ∷ [], meetings, subst (λ vs. AreNearest e (p ∷ []) vs) (sym (met_across e f c)) near)

@@ -1,5 +1,5 @@
--- The whole points through which one edge leads another one lie within the other one's span in x and in y; and edges
--- whose spans in x or in y are apart meet nowhere.
+-- The whole points through which one edge leads another one lie within the other's span in x and in y; and edges whose
+-- spans in x or in y are apart meet nowhere.
 use Rattle.std.proofs.Common.{◌≡◌, ◌⊎◌, inl, inr, pos, ◌*ℤ◌, ◌<ℤ◌, ◌≤ℤ◌, List, [], ◌∷◌, Contains, refl, sym, subst, ◌∙◌}
 use Rattle.std.proofs.Common.{arith}
 use Rattle.std.specs.List.{All}
@@ -76,7 +76,7 @@ met_at-in_box e f forward = by_placement e f along beside across_it
 
 -- ---- apart
 
--- the one edge ends, in x, before the other one begins
+-- the single edge ends, in x, before the other begins
 abbrev pub AreApartInX : Edge → Edge → Type 0
 AreApartInX e f = (e.b.x <ℤ f.a.x) ⊎ (f.b.x <ℤ e.a.x)
 
@@ -149,7 +149,7 @@ below_have_no_common e f p below (on_e, on_f) = by on_e.in_y on_f.in_y
     by (inr (low, high)) (inr (from, to)) = let less = over_lt e.a.y f.b.y p.d p.positive below.a_below_b in
         omega linear
 
--- the one edge lies, in y, wholly below the other one
+-- the single edge lies, in y, wholly below the other
 abbrev pub AreApartInY : Edge → Edge → Type 0
 AreApartInY e f = IsBelow e f ⊎ IsBelow f e
 

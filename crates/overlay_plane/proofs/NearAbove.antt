@@ -1,5 +1,5 @@
 -- A point just above the midpoint of an edge that is not vertical: off all edges of a settled list, with that edge as
--- the greatest one below it.
+-- the greatest below it.
 use Rattle.std.proofs.Common.{◌≡◌, ◌⊎◌, inl, inr, ℕ, Bool, true, false, ℤ, pos, negsuc, nat_abs, ◌+ℤ◌, ◌-ℤ◌, ◌*ℤ◌, ◌<ℤ◌}
 use Rattle.std.proofs.Common.{◌≤ℤ◌, int_lt, int_le, List, [], ◌∷◌, Contains, ⊎_elim, refl, sym, ap, ◌∙◌, subst, arith}
 use Rattle.std.proofs.lemmas.Bool.{and_parts, and_from}
@@ -106,7 +106,7 @@ module _ (n : ℤ) (more : pos 1 <ℤ n) (p : PlanePoint) (scaled : pos 0 <ℤ (
   times_d : (z : ℤ) → z *ℤ (n *ℤ p.d) ≡ n *ℤ (z *ℤ p.d)
   times_d z = solve 3 (λ z n d. z ⊗ (n ⊗ d) ≗ n ⊗ (z ⊗ d)) tt z n p.d
 
-  -- it covers the abscissa of the one where it covers that of the other
+  -- it covers the x-coordinate of the one where it covers that of the other
   covers_back : covers g (n *ℤ p.x) (n *ℤ p.d) ≡ true → covers g p.x p.d ≡ true
   covers_back over =
       let from = covers_from g (n *ℤ p.x) (n *ℤ p.d) over in
@@ -273,7 +273,7 @@ module _ (es : List CountedEdge) (forward : IsForwardBy ends_of es) (settled : I
           (settled e f at c apart) parts.0
           (inner_covers (ends_of e) middle (side-midpoint (ends_of e)) inner) there over_e) ∙ parts.1)
 
-  -- a point off the edges of which e is the greatest one below
+  -- a point off the edges of which e is the greatest below
   pub near_above : (p : PlanePoint) × IsOff (all_ends es) p × IsGreatestBelow es p e
   near_above = (
     above,

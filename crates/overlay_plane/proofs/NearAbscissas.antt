@@ -1,5 +1,5 @@
--- Beside an abscissa two edges are in the order of their heights at it, where these differ; where they start, or end,
--- in one point there, their turn decides.
+-- Beside an x-coordinate two edges are in the order of their heights at it, where these differ; where they start, or
+-- end, in one point there, their turn decides.
 use Rattle.std.proofs.Common.{◌≡◌, ◌⊎◌, inl, inr, ⊎_elim, true, ℤ, pos, ◌+ℤ◌, ◌-ℤ◌, ◌*ℤ◌, neg_ℤ, ◌<ℤ◌, int_lt, sym, ◌∙◌}
 use Rattle.std.proofs.Common.{arith}
 use Rattle.std.proofs.lemmas.Int.{ints}
@@ -15,7 +15,7 @@ use Rattle.overlay_plane.proofs.LineForms.{formE, gapE, gap_exchanged}
 use Rattle.overlay_plane.proofs.Crossing.{IsShared, apart_inside, no_crossing, between_on_line}
 use Rattle.overlay_plane.proofs.Tests.{lt_from_test, test_from_lt, test_from_ge, same_tests}
 
--- the gap beside an abscissa has the sign that it has there, where this is not 0
+-- the gap beside an x-coordinate has the sign that it has there, where this is not 0
 pub near_same : (f e : Edge) (x d x' d' : ℤ) → pos 0 <ℤ width f → pos 0 <ℤ width e → MeetInEnds e f → pos 0 <ℤ d →
     Spans e x d → Spans f x d →
     IsShared f e x' d' → IsShared e f x' d' → ¬ (gap f e x d ≡ pos 0) → int_lt (pos 0) (gap f e x' d') ≡ int_lt (pos 0)

@@ -17,7 +17,7 @@ use Rattle.overlay_plane.proofs.Nearest.{IsNearest, nearest}
 use Rattle.overlay_plane.proofs.WalksApart.{own_walk, have_selected}
 use Rattle.overlay_plane.proofs.Under.{under_irreflexive, under_transitive}
 
--- both edges cover the abscissa, and the second is under the first
+-- both edges cover the x-coordinate, and the second is under the first
 abbrev is_over : ℤ → Edge → Edge → Bool
 is_over x f g = (covers f x (pos 1) && covers g x (pos 1)) && is_under g f x (pos 1)
 
@@ -45,7 +45,7 @@ module _ (holds : ℤ → ℤ → Bool) (subj clip : CountedEdge → ℤ) (es : 
   have : HaveSelected holds subj clip es filled walks
   have = have_selected holds subj clip es filled walks cut
 
-  -- what is below the anchor covers its abscissa
+  -- what is below the anchor covers its x-coordinate
   below_covers : (g : Edge) → Contains (all_filled_above filled walks) g → is_below_anchor anchor g ≡ true →
       covers g anchor.a.x (pos 1) ≡ true
   below_covers g c below = (and_parts (covers g anchor.a.x (pos 1)) (is_under g anchor anchor.a.x (pos 1))

@@ -42,7 +42,7 @@ module _ (steps : List Step) (alternates : Alternates steps) (hand : Hand) where
   arrives_after s t a c next h different = met_after hand s.to s.from a.from t.to (alternates.long s c)
       (passing_apart steps alternates s.to a t h (next_leaves steps hand s t next)) (none_arrives_before s t a c next h)
 
-  -- two steps with one next step are one
+  -- two steps with one next step are equal
   pub next_injective : (s t u : Step) → Contains steps s → Contains steps t → IsNextStep steps hand s u →
       IsNextStep steps hand t u → s ≡ t
   next_injective s t u c d from_s from_t = ⊎_elim (λ same. same) (λ different. absurd (against different))

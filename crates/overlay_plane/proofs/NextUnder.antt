@@ -11,7 +11,7 @@ use Rattle.overlay_plane.proofs.RegionBelow.{takes_under}
 use Rattle.overlay_plane.proofs.Totals.{total-zero}
 use Rattle.overlay_plane.proofs.Sides.{one_winding_along_a_side}
 
--- g covers the abscissa under e, and all others of the list that do so are under g there
+-- g covers the x-coordinate under e, and all others of the list that do so are under g there
 pub record IsGreatestUnderIn (es : List CountedEdge) (e : Edge) (x d : ℤ) (g : CountedEdge) : Type 0 where
   pub entry : Contains es g
   pub over : covers (ends_of g) x d ≡ true
@@ -22,7 +22,7 @@ pub record IsGreatestUnderIn (es : List CountedEdge) (e : Edge) (x d : ℤ) (g :
 module _ (count : CountedEdge → ℤ) (es : List CountedEdge) (r : IsBalancedArrangement count es) (e : CountedEdge)
     (at_e : Contains es e) (x d : ℤ)
     (positive : pos 0 <ℤ d) (over_e : covers (ends_of e) x d ≡ true) where
-  -- the edge covers the abscissa, and is under e there
+  -- the edge covers the x-coordinate, and is under e there
   abbrev is_under_it : CountedEdge → Bool
   is_under_it f = covers (ends_of f) x d && is_under (ends_of f) (ends_of e) x d
 

@@ -1,4 +1,4 @@
--- From a step to the next one by a hand, the winding on the side of that hand stays the same.
+-- From a step to the next by a hand, the winding on the side of that hand stays the same.
 use Rattle.std.proofs.Common.{◌≡◌, ◌⊎◌, inl, inr, ⊎_elim, Bool, true, false, cond, ℤ, pos, List, Contains, refl, sym}
 use Rattle.std.proofs.Common.{ap, ◌∙◌, subst}
 use Rattle.std.proofs.lemmas.Bool.{false≢true}
@@ -146,7 +146,7 @@ module _ (count : CountedEdge → ℤ) (es : List CountedEdge) (arranged : IsBal
             (record { one = apart_exchanged v (far_end v m) (far_end v f) m_f; two = m_e; three = e_f }) h)
 
   module _ (v : Point) (e f : CountedEdge) (s t : Step) (arriving : Arrives v e s) (leaving : Leaves v f t) where
-    -- where what a hand meets between them counts nothing, the winding on its side is the same
+    -- where what a hand meets between them has count 0, the winding on its side is the same
     by_hand : (hand : Hand) → ((m : CountedEdge) → IsSpoke es v m → IsMetBefore hand v (far_end v e) (far_end v m)
         (far_end v f) → count m ≡ pos 0) →
         winding_on_side hand count es e s ≡ winding_on_side hand count es f t
@@ -157,7 +157,7 @@ module _ (count : CountedEdge → ℤ) (es : List CountedEdge) (arranged : IsBal
     by_hand right nothing = arriving.on_right ∙ one_winding_between_spokes count es arranged v e f arriving.spoke
         leaving.spoke nothing ∙ sym leaving.on_right
 
--- from a step to the next one the winding on the side of the hand is the same
+-- from a step to the next the winding on the side of the hand is the same
 pub one_winding_to_the_next_step : OneWindingToTheNextStep
 one_winding_to_the_next_step count es arranged steps alternates counted hand s t at_s next e f along_e along_f =
     by_hand count es arranged s.to e f s t arriving leaving hand nothing

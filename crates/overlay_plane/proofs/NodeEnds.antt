@@ -44,11 +44,11 @@ int_eq_false a b h = false_from_ne_true (int_eq a b) (λ e. h ((Decides-int_eq a
 
 module _ (e f : Edge) (forward : point_lt f.a f.b ≡ true) (meets : edge_eq e f ≡ false → MeetInEnds e f)
     (wide : pos 0 <ℤ width e) where
-  -- the abscissa of the end of e
+  -- the x-coordinate of the end of e
   abbrev x : ℤ
   x = e.b.x
 
-  -- the abscissa just left of the end
+  -- the x-coordinate just left of the end
   abbrev left : ℤ
   left = x +ℤ x -ℤ pos 1
 
@@ -73,7 +73,7 @@ module _ (e f : Edge) (forward : point_lt f.a f.b ≡ true) (meets : edge_eq e f
       (λ r. and_right (int_le (f.a.x *ℤ pos 2) left) (int_lt left (f.b.x *ℤ pos 2))
       (test_from_ge left (f.b.x *ℤ pos 2) (omega (arith, ints)))) h
 
-  -- an edge that starts left of x and does not end there is over the abscissa just left of it
+  -- an edge that starts left of x and does not end there is over the x-coordinate just left of it
   over_left : f.a.x <ℤ x → x ≤ℤ f.b.x → covers f left (pos 2) ≡ true
   over_left l r = covers_just_left f x (pos 1) (omega (arith, ints)) (omega (arith, ints))
 
@@ -89,7 +89,7 @@ module _ (e f : Edge) (forward : point_lt f.a f.b ≡ true) (meets : edge_eq e f
   over l r = and_from (int_le (f.a.x *ℤ pos 1) x) (int_lt x (f.b.x *ℤ pos 1))
       (test_from_le (f.a.x *ℤ pos 1) x (omega (arith, ints))) (test_from_lt x (f.b.x *ℤ pos 1) (omega (arith, ints)))
 
-  -- a point with another abscissa is not the end of e
+  -- a point with another x-coordinate is not the end of e
   other_place : (p : Point) → ¬ (p.x ≡ x) → point_eq p e.b ≡ false
   other_place p h = and_left (int_eq p.x x) (int_eq p.y e.b.y) (int_eq_false p.x x h)
 
@@ -97,7 +97,7 @@ module _ (e f : Edge) (forward : point_lt f.a f.b ≡ true) (meets : edge_eq e f
   other_height : (p : Point) → ¬ (p.y ≡ e.b.y) → point_eq p e.b ≡ false
   other_height p h = and_right (int_eq p.x x) (int_eq p.y e.b.y) (int_eq_false p.y e.b.y h)
 
-  -- a point with another abscissa is not below the end of e on its vertical
+  -- a point with another x-coordinate is not below the end of e on its vertical
   not_down : (p : Point) → ¬ (p.x ≡ x) → is_down_from e.b p ≡ false
   not_down p h = and_left (int_eq p.x x) (int_lt p.y e.b.y) (int_eq_false p.x x h)
 
@@ -119,7 +119,7 @@ module _ (e f : Edge) (forward : point_lt f.a f.b ≡ true) (meets : edge_eq e f
           absurd (false≢true (sym other ∙ point_eq-of_same f.b e.b (sym one)))
       by false apart = meets apart
 
-  -- e itself is over the abscissa just left of its end
+  -- e itself is over the x-coordinate just left of its end
   own_left : covers e left (pos 2) ≡ true
   own_left = covers_just_left e x (pos 1) (let w = wide in omega (arith, ints)) (omega (arith, ints))
 
@@ -137,7 +137,7 @@ module _ (e f : Edge) (forward : point_lt f.a f.b ≡ true) (meets : edge_eq e f
       (λ level. off (zero_of_mul-zero (width e) (side f (in_plane e.b)) wide (sym (gap-own_end f e) ∙ level)))
       ∙ times_test (width e) (side f (in_plane e.b)) (gap f e x (pos 1)) wide (gap-own_end f e)
 
-  -- the end of e is off an edge that passes its abscissa
+  -- the end of e is off an edge that passes its x-coordinate
   passes_off : f.a.x <ℤ x → x <ℤ f.b.x → MeetInEnds e f → ¬ (side f (in_plane e.b) ≡ pos 0)
   passes_off l r meet level = ⊎_elim (λ at. let same = ap (λ (p : Point). p.x) (point_eq-same f.a e.b at) in
       omega linear) (λ at. let same = ap (λ (p : Point). p.x) (point_eq-same f.b e.b at) in omega linear)
@@ -156,7 +156,7 @@ module _ (e f : Edge) (forward : point_lt f.a f.b ≡ true) (meets : edge_eq e f
       (other_place f.b (λ s. omega linear)) (not_down f.b (λ s. omega linear))
       (not_down f.a (λ s. omega linear)) refl) h
 
-  -- f passes the abscissa of the end of e
+  -- f passes the x-coordinate of the end of e
   passing : f.a.x <ℤ x → x <ℤ f.b.x → Sum
   passing l r = with_known true true false false false (over_left l (omega linear)) (over (omega linear) r) elsewhere
       (not_down f.b (λ s. omega linear)) (not_down f.a (λ s. omega linear))

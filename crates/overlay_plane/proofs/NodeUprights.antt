@@ -34,7 +34,7 @@ side-rises f e = solve 8
     (λ px py qx qy ax ay bx by. formE px py qx qy bx by (number (pos 1)) ≗ formE px py qx qy ax ay (number (pos 1)) ⊕
     ((qx ⊖ px) ⊗ (by ⊖ ay) ⊖ (qy ⊖ py) ⊗ (bx ⊖ ax))) tt f.a.x f.a.y f.b.x f.b.y e.a.x e.a.y e.b.x e.b.y
 
--- a wide edge over the abscissa of a vertical one does not pass between its ends
+-- a wide edge over the x-coordinate of a vertical one does not pass between its ends
 not_between : (e f : Edge) → e.a.x ≡ e.b.x → pos 0 <ℤ (e.b.y -ℤ e.a.y) → MeetInEnds e f → pos 0 <ℤ width f →
     Spans f e.a.x (pos 1) →
     side f (in_plane e.a) <ℤ pos 0 → pos 0 <ℤ side f (in_plane e.b) → ⊥
@@ -109,7 +109,7 @@ module _ (e f : Edge) (forward_e : point_lt e.a e.b ≡ true) (narrow : width e 
       let exchanged_too = *ℤ_comm (e.b.y -ℤ e.a.y) (width f) in
       omega linear
 
-  -- the midpoint is over the abscissa of both ends
+  -- the midpoint is over the x-coordinate of both ends
   covers_midpoint : covers f (e.a.x +ℤ e.b.x) (pos 2) ≡ covers f e.a.x (pos 1)
   covers_midpoint = same_tests (covers f (e.a.x +ℤ e.b.x) (pos 2)) (covers f e.a.x (pos 1))
       (λ t. let u = upright in let l = covers_from f (e.a.x +ℤ e.b.x) (pos 2) t in
@@ -147,7 +147,7 @@ module _ (e f : Edge) (forward_e : point_lt e.a e.b ≡ true) (narrow : width e 
       let more = mul-pos (width f) (e.b.y -ℤ e.a.y) (covers_wide f e.a.x (pos 1) (record { lt = tt }) over) rises in
       omega linear
 
-  -- what is strictly below the midpoint is over the abscissa of the ends
+  -- what is strictly below the midpoint is over the x-coordinate of the ends
   below_midpoint : is_strictly_below f (midpoint e) ≡ (covers f e.a.x (pos 1) && int_lt (pos 0) (side f (midpoint e)))
   below_midpoint = ap (λ c. c && int_lt (pos 0) (side f (midpoint e))) covers_midpoint
 

@@ -102,7 +102,7 @@ from_walks filled k (w ∷ ws) c at = by (is_hole filled w) refl at (λ j later.
 
 -- ---- with groups
 
--- a contour of groups is the first one's outline, one of its holes, or one of the other groups
+-- a contour of groups is the first's outline, one of its holes, or one of the other groups
 group_cases : (k : ℕ) (o : List Step) (hs : List (List Step)) (gs : List (List (List Step))) (c : Contour) →
     Contains (group_contours_from k ((o ∷ hs) ∷ gs)) c →
     (outline_of k o ≡ c) ⊎ (((h : List Step) × Contains hs h × (hole_of_group k h ≡ c))
@@ -124,7 +124,7 @@ numbers_from k ((o ∷ hs) ∷ gs) c at m stands = ⊎_elim
     (λ rest. let more = numbers_from (suc k) gs c rest m stands in omega arith) later)
     (group_cases k o hs gs c at)
 
--- those with one number are walks of one group, the outline the first one of it
+-- those with one number are walks of one group, the outline the first of it
 pub record AreOfGroup (gs : List (List (List Step))) (k n : ℕ) : Type 0 where
   pub walks : List (List Step)
   pub among : Contains gs walks

@@ -1,5 +1,5 @@
--- Steps that have their winding once on the filled sides, and so 0 on the other ones, wind once or zero times round
--- each point: as the region of the rule that the winding is once.
+-- Steps that have their winding once on the filled sides, and so 0 on the others, wind once or zero times round each
+-- point: as the region of the rule that the winding is once.
 use Rattle.std.proofs.Common.{◌≡◌, ◌⊎◌, inl, inr, ⊎_elim, Bool, true, false, cond, ℤ, pos, negsuc, ◌+ℤ◌, ◌-ℤ◌, ◌*ℤ◌}
 use Rattle.std.proofs.Common.{List, Contains, refl, sym, ap, ap₂, ◌∙◌, subst}
 use Rattle.std.specs.Ordering.{int_eq}

@@ -32,7 +32,7 @@ module _ (steps : List Step) (hand : Hand) (leads : LeadsOn steps hand) (s : Ste
   abbrev place : ℕ → ℕ
   place k = ((reached k).1).0
 
-  -- where a step comes twice, the first one comes again as many steps after the start
+  -- where a step comes twice, the first comes again as many steps after the start
   comes_again : (i j d : ℕ) → i + d ≡ j → at j ≡ at i → at d ≡ s
   comes_again zero j d e same = let here : d ≡ j = omega arith in ap at here ∙ same
   comes_again (suc i) zero d e same = absurd (omega arith)

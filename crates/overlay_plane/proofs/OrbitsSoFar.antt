@@ -50,7 +50,7 @@ module _ (steps : List Step) (hand : Hand) (leads : LeadsOn steps hand) (walk : 
       against many (i, j, less, most, same) = apart_so_far i j less (omega arith)
           (one_place steps (step_round walk i) (step_round walk j) (inside_round i) (inside_round j) same)
 
-  -- the next step is the first one, or one that the walk has not come to
+  -- the next step is the first, or one that the walk has not come to
   comes_to_new : (t : Step) → IsNextStep steps hand (last_of walk) t → Contains walk t → t ≡ step_round walk 0
   comes_to_new t next c = by (place_of walk no_step t c)
     where
@@ -60,7 +60,7 @@ module _ (steps : List Step) (hand : Hand) (leads : LeadsOn steps hand) (walk : 
           (leads.apart (step_round walk k) (last_of walk) t (inside_round k) (inside_round (length walk - 1))
           (subst (λ w. IsNextStep steps hand (step_round walk k) w) e (followed k h)) next))
 
-  -- where it is the first one, the walk is the orbit
+  -- where it is the first, the walk is the orbit
   closes : IsNextStep steps hand (last_of walk) (step_round walk 0) → IsOrbit steps hand walk
   closes next = record {
     some = far.some;

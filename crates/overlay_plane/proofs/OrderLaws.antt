@@ -1,4 +1,4 @@
--- The laws of specs/Order: the edges of a settled list are in one order over an abscissa, and along common spans.
+-- The laws of specs/Order: the edges of a settled list are in one order over an x-coordinate, and along common spans.
 use Rattle.std.proofs.Common.{◌≡◌, Bool, true, false, ℤ, pos, ◌+ℤ◌, ◌<ℤ◌, int_lt, refl, sym, ◌∙◌, subst, arith}
 use Rattle.std.proofs.lemmas.Int.{ints}
 use Rattle.overlay_geom.specs.Plane.{Edge, edge_eq, side, in_plane}
@@ -14,7 +14,7 @@ use Rattle.overlay_plane.proofs.Ends.{ends_on_side, low_at_start, low_at_end}
 use Rattle.overlay_plane.proofs.Under.{covers_wide, shared_just_right, same_under, under_irreflexive, under_asymmetric}
 use Rattle.overlay_plane.proofs.Under.{under_transitive, under_total}
 
--- the edges that cover an abscissa are in order there
+-- the edges that cover an x-coordinate are in order there
 pub order_over_an_abscissa : OrderOverAnAbscissa
 order_over_an_abscissa es settled x d positive = record {
   irreflexive = λ e. under_irreflexive (ends_of e) x d;
@@ -25,7 +25,7 @@ order_over_an_abscissa es settled x d positive = record {
       (meet_in_ends_exchanged (ends_of f) (ends_of e) (settled e f ce.entry cf.entry apart)) ce.over cf.over;
 }
 
--- and in one order at all abscissas that both cover
+-- and in one order at all x-coordinates that both cover
 pub order_along_common_spans : OrderAlongCommonSpans
 order_along_common_spans es settled e f x d x' d' positive positive' ce cf ce' cf' =
     by (edge_eq (ends_of f) (ends_of e)) refl

@@ -95,7 +95,7 @@ module _ (es : List CountedEdge) (steps : List Step) (along : WalksAlong es step
   unfolding entry_of
   edge_is s c = (along.along s c).2
 
-  -- two steps that neither are one nor lead back along one another have different edges
+  -- two steps that neither are one nor lead back along each other have different edges
   edges_differ : (s t : Step) (c : Contains steps s) (d : Contains steps t) → ¬ (s ≡ t) →
       edge_eq (ends_of (entry_of s c)) (ends_of (entry_of t d)) ≡ false
   edges_differ s t c d apart = false_from_ne_true (edge_eq (ends_of (entry_of s c)) (ends_of (entry_of t d)))
@@ -148,7 +148,7 @@ module _ (es : List CountedEdge) (steps : List Step) (along : WalksAlong es step
         by true = refl
         by false = refl
 
-    -- where each step of the walk ends with what the next one begins with, nothing counts between
+    -- where each step of the walk ends with what the next begins with, nothing counts between
     nothing_between : ((k : ℕ) → begins (step_round walk (suc k)) ≡ ends (step_round walk k)) →
         total_between (spoke_count (count_on walk) v) es v e g ≡ pos 0
     nothing_between round =
@@ -232,7 +232,7 @@ module _ (es : List CountedEdge) (steps : List Step) (along : WalksAlong es step
       both_or_none : passes v e g a.from ≡ passes v e g b.to
       both_or_none = neighbours_alike hand v a.from b.to (far_end v e) (far_end v g) four past_s past_t
 
-    -- each step of the walk ends with what the next one begins with
+    -- each step of the walk ends with what the next begins with
     linked : (k : ℕ) → begins v e g (step_round walk (suc k)) ≡ ends v e g (step_round walk k)
     linked k = ap (λ z. cond (point_eq z v) (one_if (passes v e g b.to)) (pos 0)) next.leaves
         ∙ by (point_eq a.to v) refl

@@ -75,7 +75,7 @@ module _ (d m n x1 x2 v1 v2 : ℤ) (weights : AreWeights m n) (at1 : RoundsTo v1
       m ⊗ (number (pos 2) ⊗ x1) ⊕ n ⊗ (number (pos 2) ⊗ x2)) tt m n x1 x2 in
       omega linear
 
-  -- and less than that of the upper ones
+  -- and less than that of the upper
   mixed_high : (pos 2 *ℤ (m *ℤ x1 +ℤ n *ℤ x2)) <ℤ ((pos 2 *ℤ (m *ℤ v1 +ℤ n *ℤ v2) +ℤ (m +ℤ n)) *ℤ d)
   mixed_high =
       let a = mul-le m (pos 2 *ℤ x1 +ℤ pos 1) ((pos 2 *ℤ v1 +ℤ pos 1) *ℤ d) weights.first
@@ -102,7 +102,7 @@ module _ (d m n x1 x2 v1 v2 : ℤ) (weights : AreWeights m n) (at1 : RoundsTo v1
       d ⊗ ((m ⊕ n) ⊗ v) ⊕ d ⊗ ((m ⊕ n) ⊗ v) ⊖ (m ⊕ n) ⊗ d) tt d m n v in
       omega linear
 
-  -- and where it is at most v, less than the upper one
+  -- and where it is at most v, less than the upper
   at_most : (v : ℤ) → pos 0 <ℤ d → (m *ℤ v1 +ℤ n *ℤ v2) ≤ℤ ((m +ℤ n) *ℤ v) →
       (pos 2 *ℤ (m *ℤ x1 +ℤ n *ℤ x2)) <ℤ ((pos 2 *ℤ v +ℤ pos 1) *ℤ ((m +ℤ n) *ℤ d))
   at_most v some le =

@@ -22,7 +22,7 @@ module _ (m n s t d c : ℤ) (positive : pos 0 <ℤ d) (is : d *ℤ c ≡ m *ℤ
   bound : d *ℤ (m +ℤ n) ≡ m *ℤ d +ℤ n *ℤ d
   bound = solve 3 (λ m n d. d ⊗ (m ⊕ n) ≗ m ⊗ d ⊕ n ⊗ d) tt m n d
 
-  -- and the lower one
+  -- and the lower
   lower_bound : d *ℤ (pos 0 -ℤ (m +ℤ n)) ≡ m *ℤ (pos 0 -ℤ d) +ℤ n *ℤ (pos 0 -ℤ d)
   lower_bound = solve 3 (λ m n d. d ⊗ (number (pos 0) ⊖ (m ⊕ n)) ≗ m ⊗ (number (pos 0) ⊖ d) ⊕
       n ⊗ (number (pos 0) ⊖ d)) tt m n d
@@ -36,7 +36,7 @@ module _ (m n s t d c : ℤ) (positive : pos 0 <ℤ d) (is : d *ℤ c ≡ m *ℤ
       let form = is in
       lt_of_mul-lt d (pos 0 -ℤ (m +ℤ n)) c positive (omega linear)
 
-  -- at most the upper one
+  -- at most the upper
   pub up_to_upper : pos 0 ≤ℤ m → pos 0 ≤ℤ n → s ≤ℤ d → t ≤ℤ d → c ≤ℤ (m +ℤ n)
   up_to_upper m_nonneg n_nonneg high_s high_t =
       let first = mul-le m s d m_nonneg high_s in
@@ -45,7 +45,7 @@ module _ (m n s t d c : ℤ) (positive : pos 0 <ℤ d) (is : d *ℤ c ≡ m *ℤ
       let form = is in
       le_of_mul-le d c (m +ℤ n) positive (omega linear)
 
-  -- at least the lower one
+  -- at least the lower
   pub from_lower : pos 0 ≤ℤ m → pos 0 ≤ℤ n → (pos 0 -ℤ d) ≤ℤ s → (pos 0 -ℤ d) ≤ℤ t → (pos 0 -ℤ (m +ℤ n)) ≤ℤ c
   from_lower m_nonneg n_nonneg low_s low_t =
       let first = mul-le m (pos 0 -ℤ d) s m_nonneg low_s in
@@ -54,7 +54,7 @@ module _ (m n s t d c : ℤ) (positive : pos 0 <ℤ d) (is : d *ℤ c ≡ m *ℤ
       let form = is in
       le_of_mul-le d (pos 0 -ℤ (m +ℤ n)) c positive (omega linear)
 
-  -- and less than the upper one, where the second is
+  -- and less than the upper, where the second is
   pub below_upper : pos 0 ≤ℤ m → pos 0 <ℤ n → s ≤ℤ d → t <ℤ d → c <ℤ (m +ℤ n)
   below_upper m_nonneg n_pos high_s high_t =
       let first = mul-le m s d m_nonneg high_s in

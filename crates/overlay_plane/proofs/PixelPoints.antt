@@ -206,7 +206,7 @@ module _ (e : Edge) (wide : e.a.x <ℤ e.b.x) (falls : e.b.y <ℤ e.a.y) where
       (by_lt_z (twice_cross e v) (pos 0) (λ lt. inl (omega linear, omega linear))
       (λ ge. inr (omega linear, omega linear)))
 
-  -- so there is a point for v where its cross product is within the bounds or the upper one
+  -- so there is a point for v where its cross product is within the bounds or the upper
   pub falling_point : (v : Point) → IsInBox e v → (pos 0 -ℤ half_girth e) <ℤ twice_cross e v →
       twice_cross e v ≤ℤ half_girth e → PointFor e v
   falling_point v box low high =

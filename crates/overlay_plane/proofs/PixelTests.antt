@@ -61,7 +61,7 @@ Decides-rising e v wide rises =
     (Decides-and _ _ (Decides-int_lt (pos 0 -ℤ half_girth e) (twice_cross e v))
     (Decides-int_lt (twice_cross e v) (half_girth e)))
 
--- of one that does not rise, whether it is between them or the upper one
+-- of one that does not rise, whether it is between them or the upper
 pub Decides-falling : (e : Edge) (v : Point) → e.a.x <ℤ e.b.x → e.b.y ≤ℤ e.a.y →
     Decides (line_meets e v) (((pos 0 -ℤ half_girth e) <ℤ twice_cross e v) × (twice_cross e v ≤ℤ half_girth e))
 Decides-falling e v wide falls =
@@ -70,7 +70,7 @@ Decides-falling e v wide falls =
     (Decides-and _ _ (Decides-int_lt (pos 0 -ℤ half_girth e) (twice_cross e v))
     (Decides-int_le (twice_cross e v) (half_girth e)))
 
--- and of an upright one, whether it is between them or the lower one
+-- and of an upright one, whether it is between them or the lower
 pub Decides-upright : (e : Edge) (v : Point) → e.b.x ≤ℤ e.a.x →
     Decides (line_meets e v) (((pos 0 -ℤ half_girth e) ≤ℤ twice_cross e v) × (twice_cross e v <ℤ half_girth e))
 Decides-upright e v upright =

@@ -29,7 +29,7 @@ by_place p q f g = by_order (over (place_of p) q.d) (over (place_of q) p.d) f
 pub place_up_to_itself : (p : PlanePoint) → IsUpToPlace p p
 place_up_to_itself p = up_to_itself (over (place_of p) p.d)
 
--- and a smaller point up to the larger one
+-- and a smaller point up to the larger
 pub place_of_smaller : (p q : PlanePoint) → IsSmaller p q → IsUpToPlace p q
 place_of_smaller p q (inl lt) = record { x = omega linear; y = λ le. absurd (omega linear) }
 place_of_smaller p q (inr (level, lt)) = record { x = omega linear; y = λ le. omega linear }

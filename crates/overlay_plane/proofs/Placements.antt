@@ -1,5 +1,5 @@
--- How two edges lie to one another: along one line, the one beside the other, or across one another; and what the
--- meeting points' computation gives in each case.
+-- How two edges lie to each other: along one line, the one beside the other, or across each other; and what the meeting
+-- points' computation gives in each case.
 use Rattle.std.proofs.Common.{◌≡◌, ◌⊎◌, inl, inr, cond, ◌||◌, pos, List, [], ◌∷◌, filter, ◌∙◌}
 use Rattle.std.specs.Bool.{Decides}
 use Rattle.std.proofs.lemmas.Int.{by_lt_z}
@@ -17,7 +17,7 @@ use Rattle.overlay_plane.specs.CutPoints.{are_along, are_beside, is_between, cro
 use Rattle.overlay_plane.proofs.WholeOnEdges.{by_test, side_at}
 use Rattle.overlay_plane.proofs.CommonPoints.{Decides-are_along}
 
--- the edges lie neither along one line nor beside one another
+-- the edges lie neither along one line nor beside each other
 pub record AreCrossing (e f : Edge) : Type 0 where
   pub apart : ¬ (IsAlong e f)
   pub not_beside : ¬ (IsBeside e f)
@@ -31,7 +31,7 @@ Decides-are_beside e f =
     Decides-or _ _ (Decides-and _ _ (Decides-int_lt (pos 0) a) (Decides-int_lt (pos 0) b))
     (Decides-and _ _ (Decides-int_lt a (pos 0)) (Decides-int_lt b (pos 0)))
 
--- any two edges lie along one line, or one beside the other, or across one another
+-- any two edges lie along one line, or one beside the other, or across each other
 pub by_placement : {P : Type 0} (e f : Edge) → (IsAlong e f → P) →
     (¬ (IsAlong e f) → IsBeside e f ⊎ IsBeside f e → P) → (AreCrossing e f → P) → P
 by_placement e f along beside across =
@@ -62,13 +62,13 @@ met_apart e f apart =
 Decides-either_beside : (e f : Edge) → Decides (are_beside e f || are_beside f e) (IsBeside e f ⊎ IsBeside f e)
 Decides-either_beside e f = Decides-or _ _ (Decides-are_beside e f) (Decides-are_beside f e)
 
--- an edge beside the other one: nothing
+-- an edge beside the other: nothing
 pub met_beside : (e f : Edge) → ¬ (IsAlong e f) → IsBeside e f ⊎ IsBeside f e → met_at e f ≡ []
 met_beside e f apart beside =
     met_apart e f apart ∙ cond-true (are_beside e f || are_beside f e) [] (crossing e f ∷ [])
     ((Decides-either_beside e f).1 beside)
 
--- edges across one another: the point nearest where they cross
+-- edges across each other: the point nearest where they cross
 pub met_across : (e f : Edge) → AreCrossing e f → met_at e f ≡ crossing e f ∷ []
 met_across e f c =
     met_apart e f c.apart ∙ cond-false (are_beside e f || are_beside f e) [] (crossing e f ∷ [])
@@ -80,7 +80,7 @@ met_across e f c =
 
 -- ---- beside
 
--- an edge strictly on one side of another one's line has no point in common with it
+-- an edge strictly on one side of another edge's line has no point in common with it
 pub beside_have_no_common : (e f : Edge) (p : PlanePoint) → IsBefore f.a f.b → IsBeside e f → ¬ (IsCommon e f p)
 beside_have_no_common e f p forward beside common = by (beside_meet_in_ends e f forward beside p common).1
   where
@@ -122,7 +122,7 @@ not_along_back e f across (at_a, at_b) = by across
     by (inl (low, high, less)) = let same = crossed_back e f in omega linear
     by (inr (high, low, less)) = let same = crossed_back e f in omega linear
 
--- so of two edges across one another each goes across the other one's line
+-- so of two edges across each other each goes across the other's line
 pub both_across : (e f : Edge) → AreCrossing e f → IsAcross e f × IsAcross f e
 both_across e f c = let across = across_of_rest e f c.apart c.not_beside in
     (across, across_of_rest f e (not_along_back e f across) c.not_back)

@@ -37,7 +37,7 @@ first_along-is_less false v w =
     less_in_turn (int_cmp v.x w.x) (int_cmp w.y v.y) (int_lt v.x w.x) (int_eq v.x w.x) (int_lt w.y v.y)
     (sym (is_lt-int_cmp v.x w.x)) refl (sym (is_lt-int_cmp w.y v.y))
 
--- points that tie are one
+-- points that tie are equal
 tied_are_one : (t : Bool) (v w : Point) → is_eq (order_along t v w) ≡ true → v ≡ w
 tied_are_one true v w tie =
     let same = (Decides-and _ _ (Decides-int_eq v.x w.x) (Decides-int_eq v.y w.y)).0
@@ -67,7 +67,7 @@ comes_first-order e = record {
     ranks : IsStrictWeakOrder (λ v w. is_lt (order_along (int_le e.a.y e.b.y) v w))
     ranks = ranks_by (order_along-total (int_le e.a.y e.b.y)) (λ v. v)
 
--- and two of which neither comes first are one
+-- and two of which neither comes first are equal
 pub comes_first-ties : (e : Edge) (v w : Point) → comes_first e v w ≡ false → comes_first e w v ≡ false → v ≡ w
 comes_first-ties e v w forth back =
     let t = int_le e.a.y e.b.y in

@@ -20,7 +20,7 @@ use Rattle.overlay_plane.proofs.RisesOver.{meets_under, rises_over}
 
 -- ---- below a point
 
--- what covers the point's abscissa under an edge strictly below the point is strictly below it too
+-- what covers the point's x-coordinate under an edge strictly below the point is strictly below it too
 pub below_under : (f e : Edge) (p : PlanePoint) → MeetInEnds e f → covers f p.x p.d ≡ true → covers e p.x p.d ≡ true →
     is_under f e p.x p.d ≡ true →
     pos 0 <ℤ side e p → pos 0 <ℤ side f p

@@ -1,5 +1,5 @@
--- What a function of two windings rises by across the edges over an abscissa: over those that are there with all under
--- them, it is its value at the sums of their counts.
+-- What a function of two windings rises by across the edges over an x-coordinate: over those that are there with all
+-- under them, it is its value at the sums of their counts.
 use Rattle.std.proofs.Common.{◌≡◌, inl, inr, ⊎_elim, Bool, true, false, cond, ◌&&◌, ℤ, pos, ◌+ℤ◌, ◌-ℤ◌, ◌<ℤ◌, List}
 use Rattle.std.proofs.Common.{Contains, AllPairs, filter, refl, sym, ap, ap₂, ◌∙◌, subst}
 use Rattle.std.proofs.lemmas.Bool.{false≢true}
@@ -43,7 +43,7 @@ same_beside false false t f g = refl
 
 module _ {X : Type 0} (ends : X → Edge) (xs : List X) (forward : IsForwardBy ends xs) (settled : IsSettledBy ends xs)
     (x d : ℤ) (positive : pos 0 <ℤ d) (taken : X → Bool) (takes : TakesDownward ends xs x d taken) where
-  -- the order of the entries over the abscissa
+  -- the order of the entries over the x-coordinate
   abbrev under_here : X → X → Bool
   under_here f e = is_under (ends f) (ends e) x d
 

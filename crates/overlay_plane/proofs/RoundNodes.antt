@@ -34,7 +34,7 @@ level_from_sign : (z : ℤ) → is_level (sign_at z) ≡ true → z ≡ pos 0
 level_from_sign z t = by_sign z (λ low. absurd (false≢true (sym (ap is_level (sign_minus z low)) ∙ t))) (λ none. none)
     (λ high. absurd (false≢true (sym (ap is_level (sign_plus z high)) ∙ t)))
 
--- an edge is a spoke, or counts nothing round the node
+-- an edge is a spoke, or has count 0 round the node
 pub spoke_or_nothing : (count : CountedEdge → ℤ) (es : List CountedEdge) (v : Point) (g : CountedEdge) → Contains es g →
     IsSpoke es v g ⊎ (spoke_count count v g ≡ pos 0)
 spoke_or_nothing count es v g at = by (point_eq g.a v) refl (point_eq g.b v) refl
@@ -197,7 +197,7 @@ module _ (count : CountedEdge → ℤ) (es : List CountedEdge) (arranged : IsBal
 pub winding_round_a_node : WindingRoundANode
 winding_round_a_node count es arranged v e f spoke_e spoke_f = round count es arranged v e f spoke_e spoke_f
 
--- across spokes that count nothing it stays the same
+-- across spokes that have count 0 it stays the same
 pub one_winding_between_spokes : OneWindingBetweenSpokes
 one_winding_between_spokes count es arranged v e f spoke_e spoke_f nothing =
     sym (ap (λ z. winding_after count es v e +ℤ z) none ∙ +ℤ_idr (winding_after count es v e))
@@ -220,7 +220,7 @@ one_winding_between_spokes count es arranged v e f spoke_e spoke_f nothing =
         (spoke_count count v g) (pos 0)) es
         (λ g at. each g at (is_met_before right v (far_end v e) (far_end v g) (far_end v f)) refl)
 
--- so it does from a spoke to the next one
+-- so it does from a spoke to the next
 pub one_winding_beside_neighbours : OneWindingBesideNeighbours
 one_winding_beside_neighbours count es arranged v e f spoke_e spoke_f none = one_winding_between_spokes count es
     arranged v e f spoke_e spoke_f (λ g spoke between. absurd (none g spoke between))

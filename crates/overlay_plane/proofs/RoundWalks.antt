@@ -1,4 +1,4 @@
--- Sums round a closed walk: where what each step ends with is what the next one begins with, what they begin with, less
+-- Sums round a closed walk: where what each step ends with is what the next begins with, what they begin with, less
 -- what they end with, sums to 0.
 use Rattle.std.proofs.Common.{◌≡◌, ℕ, suc, ◌<◌, ℤ, pos, ◌-ℤ◌, List, [], ◌∷◌, length, get_or, refl, sym, ap, ◌∙◌, arith}
 use lib.IntN.{+ℤ_idr}

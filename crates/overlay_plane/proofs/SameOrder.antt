@@ -62,7 +62,7 @@ module _ {X : Type 0} (lower : X → X → Bool) (order : IsStrictWeakOrder lowe
                 ↦ sorted.0 z later
           ])
 
-  -- so of two lists in order with the same sums, no first entry is lower than the other one
+  -- so of two lists in order with the same sums, no first entry is lower than the other
   not_lower_first : (x : X) (xs : List X) (y : X) (ys : List X) → Each IsNotAfter (y ∷ ys) →
       total (lower_than y) (x ∷ xs) ≡ total (lower_than y) (y ∷ ys) → lower x y ≡ false
   not_lower_first x xs y ys sorted same = by (lower x y) refl
@@ -76,7 +76,7 @@ module _ {X : Type 0} (lower : X → X → Bool) (order : IsStrictWeakOrder lowe
       by false high = refl
 
   module _ (ties : (x y : X) → lower x y ≡ false → lower y x ≡ false → x ≡ y) where
-    -- two lists in order with the same sums are one
+    -- two lists in order with the same sums are equal
     one_order : (xs ys : List X) → Each IsNotAfter xs → Each IsNotAfter ys → ((f : X → ℤ) → total f xs ≡ total f ys) →
         xs ≡ ys
     one_order [] [] up also same = refl

@@ -15,8 +15,7 @@ use Rattle.overlay_plane.specs.Meetings.{IsMeetingPoint, MeetOnlyInEnds, Settled
 use Rattle.overlay_plane.proofs.WholeOnEdges.{forward_from_test, at_itself, at_whole, on_of_held}
 use Rattle.overlay_plane.proofs.CommonPoints.{end_is_meeting, common_cases}
 
--- an edge on which a common point lies that is no end of it begins before the other one ends, and ends after that
--- begins
+-- an edge on which a common point lies that is no end of it begins before the other ends, and ends after that begins
 pub overlap_at_inner : (e f : Edge) (p : PlanePoint) → IsBefore e.a e.b → IsBefore f.a f.b → IsCommon e f p →
     ¬ (IsEnd e p) →
     IsBefore f.a e.b × IsBefore e.a f.b
@@ -73,7 +72,7 @@ end_of_sooner e f e_forward f_forward along alike sooner begins = by (alike f.b 
         (ap (λ (v : Point). v.y) (sym same)))
     by (inr at) = at_whole e.b f.b at
 
--- so two overlapping edges of which each end on the other is an end of both are one
+-- so two overlapping edges of which each end on the other is an end of both are equal
 one_edge : (e f : Edge) → IsBefore e.a e.b → IsBefore f.a f.b → IsAlong e f → EndsAlike e f → IsBefore f.a e.b →
     IsBefore e.a f.b → e ≡ f
 one_edge e f e_forward f_forward along alike f_begins e_begins = λ i. record { a = same_start i; b = same_end i }

@@ -36,7 +36,7 @@ module _ (holds : ℤ → ℤ → Bool) (subj clip : CountedEdge → ℤ) (es : 
   own : CanBeBound filled (walks_in contours)
   own = can_be_bound holds subj clip es filled in_groups keeps contours kept
 
-  -- what holds of all contours holds of these walks
+  -- a fact of all contours holds of these walks
   all_of : (P : List Step → Type 0) → All P (walks_in contours) → All P walks
   all_of P all =
       let rest = walks_left filled contours numbered shapes found in

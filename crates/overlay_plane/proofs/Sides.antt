@@ -34,7 +34,7 @@ equal a b e = omega linear
 
 module _ {X : Type 0} (ends : X → Edge) (count : X → ℤ) (xs : List X) (e : Edge) (forward : IsForwardBy ends xs)
     (meets : MeetsAll ends xs e) where
-  -- from an abscissa on to a later one
+  -- from an x-coordinate on to a later one
   under_onwards : IsBalanced ends count xs → (x d x' d' : ℤ) → pos 0 <ℤ d → pos 0 <ℤ d' → covers e x d ≡ true →
       covers e x' d' ≡ true →
       (x *ℤ d') ≤ℤ (x' *ℤ d) → total_under ends count xs e x d ≡ total_under ends count xs e x' d'
@@ -55,7 +55,7 @@ module _ {X : Type 0} (ends : X → Edge) (count : X → ℤ) (xs : List X) (e :
           ∙ ap (λ z. count f *ℤ z) (strip e (ends f) x d x' d' positive positive' order over over'
           (All-contains (λ h. point_lt (ends h).a (ends h).b ≡ true) xs f forward at) (meets f at))
 
-  -- the counts of the edges under e have one sum at every abscissa that e covers
+  -- the counts of the edges under e have one sum at every x-coordinate that e covers
   pub under_along : IsBalanced ends count xs → (x d x' d' : ℤ) → pos 0 <ℤ d → pos 0 <ℤ d' → covers e x d ≡ true →
       covers e x' d' ≡ true →
       total_under ends count xs e x d ≡ total_under ends count xs e x' d'
@@ -124,7 +124,8 @@ module _ (e : Edge) (p : PlanePoint) (on : side e p ≡ pos 0) (inner : IsInner 
 pub inner_midpoint : (e : Edge) → pos 0 <ℤ width e → IsInner e (e.a.x +ℤ e.b.x) (pos 2)
 inner_midpoint e wide = record { after = omega (arith, ints); before = omega (arith, ints) }
 
--- one winding along a side: the sum of the counts under e at an abscissa that it covers is the winding at its midpoint
+-- one winding along a side: the sum of the counts under e at an x-coordinate that it covers is the winding at its
+-- midpoint
 pub one_winding_along : {X : Type 0} (ends : X → Edge) (count : X → ℤ) (xs : List X) (e : Edge) → IsForwardBy ends xs →
     MeetsAll ends xs e →
     IsBalanced ends count xs → (x d : ℤ) → pos 0 <ℤ d → covers e x d ≡ true →

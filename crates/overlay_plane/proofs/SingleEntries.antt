@@ -15,7 +15,7 @@ use Rattle.overlay_plane.proofs.LaterEntries.{Contains-cases, Each, Each-from_al
 abbrev Differ : CountedEdge → CountedEdge → Type 0
 Differ e f = edge_eq (ends_of e) (ends_of f) ≡ false
 
--- of entries that differ from each later one, two with the same ends are one
+-- of entries that differ from each later one, two with the same ends are equal
 one_entry_of : (es : List CountedEdge) → Each Differ es → (e f : CountedEdge) → Contains es e → Contains es f →
     edge_eq (ends_of e) (ends_of f) ≡ true → e ≡ f
 one_entry_of [] h e f at_e at_f same = elim at_e.1 [ ]
@@ -48,7 +48,7 @@ single_total_of (x ∷ xs) h c e at = ⊎_elim
     other_way z differ = false_from_ne_true (edge_eq (ends_of z) (ends_of x))
         (λ same. false≢true (sym differ ∙ edge_eq-exchanged (ends_of z) (ends_of x) same))
 
--- entries with the same ends are one
+-- entries with the same ends are equal
 pub one_entry : (es : List CountedEdge) → HasDistinctEnds es → (e f : CountedEdge) → Contains es e → Contains es f →
     edge_eq (ends_of e) (ends_of f) ≡ true → e ≡ f
 one_entry es distinct = one_entry_of es (Each-from_all_pairs Differ es distinct)

@@ -95,7 +95,7 @@ module _ {X : Type 0} (round : X → Point) (P Q : X → Type 0) where
     ];
   }
 
-  -- the step between two points, before others, or the two are one
+  -- the step between two points, before others, or the two are equal
   joined_here : (u v : Point) (ss : List Step) →
       (u ≡ v) ⊎ Contains (steps_between u v ++ ss) (record { from = u; to = v })
   joined_here u v ss = by (point_eq u v) refl
@@ -146,7 +146,7 @@ IsRounded e v = (p : PlanePoint) × IsOn e p × (nearest_point p ≡ v)
 abbrev pub places_after : Round → CountedEdge → List PlanePoint
 places_after r e = r.cuts e ++ in_plane e.b ∷ []
 
--- and all with its smaller one
+-- and all with its smaller
 abbrev pub places : Round → CountedEdge → List PlanePoint
 places r e = in_plane e.a ∷ places_after r e
 

@@ -33,7 +33,7 @@ use Rattle.overlay_plane.proofs.WithinHalf.{rounded_mixture_near}
 
 -- ---- steps
 
--- the step's two ends as an edge, from the larger one
+-- the step's two ends as an edge, from the larger
 abbrev turned : Edge → Edge
 turned f = record { a = f.b; b = f.a }
 

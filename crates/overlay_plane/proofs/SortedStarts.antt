@@ -10,7 +10,7 @@ use Rattle.overlay_plane.proofs.AnchorOrder.{anchored_before-one_way, anchored_b
 use Rattle.overlay_plane.proofs.EdgeTurns.{IsForward}
 
 module _ {X : Type 0} (edge : X → Edge) (forward : (x : X) → IsForward (edge x)) where
-  -- the first item's edge starts before the second one's
+  -- the first item's edge starts before the second's
   abbrev pub starts_before : X → X → Bool
   starts_before x y = is_anchored_before (edge x) (edge y)
 

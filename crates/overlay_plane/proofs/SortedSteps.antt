@@ -49,7 +49,7 @@ module _ (R : Point → Point → Type 0) (reflexive : (u : Point) → R u u) (a
       differ (antisymmetric p u (sorted.0 u (Contains-head u us))
       (subst (λ w. R u w) (sym same) (first_before u us sorted.1 z c)))
 
-  -- the entries past the first one, if it does not come back
+  -- the entries past the first, if it does not come back
   entries_past : (p u v : Point) (us vs : List Point) → ¬ (p ≡ u) → Each R (p ∷ u ∷ us) →
       ((z : Point) → Contains (p ∷ u ∷ us) z → Contains (p ∷ v ∷ vs) z) →
       (z : Point) → Contains (u ∷ us) z → Contains (v ∷ vs) z

@@ -50,7 +50,7 @@ pub not_start : (count : CountedEdge → ℤ) (es : List CountedEdge) → IsBala
 not_start count es arranged v e at same = false_from_ne_true (point_eq e.a v)
     (λ starts. ends_differ (ends_of e) (forward_entry count es arranged e at) (point_eq-same e.a v starts ∙ sym same))
 
--- a count where two tests pass, read by the first one
+-- a count where two tests pass, read by the first
 cond_beside : (h t : Bool) (c d : ℤ) → cond (h && t) c (pos 0) ≡ cond (h && t) (cond h c d) (pos 0)
 cond_beside true t c d = refl
 cond_beside false t c d = refl

@@ -16,7 +16,7 @@ use Rattle.overlay_plane.specs.ContourWindings.{once_round}
 use Rattle.overlay_plane.proofs.BeforeTheSteps.{nothing_before_the_steps}
 use Rattle.overlay_plane.proofs.BesideAcross.{winding_across_alternating_steps}
 
--- where a step is not filled above, its empty side is the upper one of its edge
+-- where a step is not filled above, its empty side is the upper of its edge
 pub empty_over : (filled : Hand) (es : List CountedEdge) (taken : List Step) (t : Step) →
     is_filled_above filled t ≡ false →
     winding_beside (other_hand filled) es taken t ≡ winding_over es taken (edge_of t)
@@ -26,7 +26,7 @@ empty_over right es taken t h =
     ap (λ b. cond b (winding_over es taken (edge_of t)) (winding_under es taken (edge_of t)))
     (not-false (is_forward t) h)
 
--- and its filled side the lower one
+-- and its filled side the lower
 pub filled_under : (filled : Hand) (es : List CountedEdge) (taken : List Step) (t : Step) →
     is_filled_above filled t ≡ false →
     winding_beside filled es taken t ≡ winding_under es taken (edge_of t)
@@ -36,7 +36,7 @@ filled_under right es taken t h =
     ap (λ b. cond b (winding_under es taken (edge_of t)) (winding_over es taken (edge_of t)))
     (not-false (is_forward t) h)
 
--- across a step with winding 0 on the empty side it is once on the filled one
+-- across a step with winding 0 on the empty side it is once on the filled
 pub once_from_none : (filled : Hand) (es : List CountedEdge) (taken : List Step) (t : Step) →
     winding_beside left es taken t ≡ winding_beside right es taken t +ℤ pos 1 →
     winding_beside (other_hand filled) es taken t ≡ pos 0 →
@@ -64,7 +64,7 @@ module _ (es : List CountedEdge) (steps taken : List Step) (along : WalksAlong e
   none_over_start = (nothing_before_the_steps es steps taken along part (edge_of start).a first.lowest).over_top_step
       start (part.inside start first.among) refl first.top
 
-  -- so on its filled side it is once, where that is the lower one
+  -- so on its filled side it is once, where that is the lower
   pub once_beside_start : HasEachOnce taken → is_filled_above filled start ≡ false →
       winding_beside filled es taken start ≡ once_round filled
   once_beside_start once below = once_from_none filled es taken start

@@ -43,7 +43,7 @@ pub single_step_total : (steps : List Step) → HasEachOnce steps → (f : Step 
     total (λ t. cond (step_eq t s) (f t) (pos 0)) steps ≡ f s
 single_step_total steps once = single_step steps (Each-from_all_pairs (λ s t. step_eq s t ≡ false) steps once)
 
--- an edge along which no step taken walks counts nothing
+-- an edge along which no step taken walks has count 0
 pub unwalked_counts_nothing : (taken : List Step) (e : CountedEdge) →
     ((s : Step) → Contains taken s → ¬ (edge_of s ≡ ends_of e)) → count_on taken e ≡ pos 0
 unwalked_counts_nothing taken e none = total-zero (λ s. cond (edge_eq (edge_of s) (ends_of e)) (sign_of s) (pos 0))

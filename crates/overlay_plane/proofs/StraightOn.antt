@@ -1,4 +1,4 @@
--- Two steps on one line wind as the step straight on, and a thinned closed list as the one that it was thinned from.
+-- Two collinear steps wind as the step straight on, and a thinned closed list as the one that it was thinned from.
 use Rattle.std.proofs.Common.{◌≡◌, ◌+◌, ◌-◌, ℤ, pos, ◌+ℤ◌, ◌-ℤ◌, neg_ℤ, ◌<ℤ◌, List, ◌++◌, length, refl, sym, ap₂, ◌∙◌}
 use Rattle.std.specs.List.{remove}
 use Rattle.overlay_geom.specs.Plane.{Point, PlanePoint, Edge, side, in_plane, cross_at, steps_between, steps_of}
@@ -40,12 +40,12 @@ module _ (p : PlanePoint) where
       let uw = winding_part-on_line e p wide u w on_u on_w in
       omega linear
 
-  -- points with one abscissa
+  -- points with one x-coordinate
   alike_vertical : (u v w : Point) → u.x ≡ v.x → u.x ≡ w.x → CountsAlike part_between u v w
   alike_vertical u v w uv uw = ap₂ (λ a b. a +ℤ b) (winding_part-vertical p u v uv)
       (winding_part-vertical p v w (sym uv ∙ uw)) ∙ sym (winding_part-vertical p u w uw)
 
-  -- three points on one line
+  -- three collinear points
   pub alike_on_one_line : (u v w : Point) → IsOnOneLine u v w → CountsAlike part_between u v w
   alike_on_one_line u v w straight = by_sign (v.x -ℤ u.x)
       (λ back. alike_on_line (record { a = v; b = u }) (omega linear) u v w (side-end (record { a = v; b = u }))
@@ -65,7 +65,7 @@ module _ (p : PlanePoint) where
   pub winding-around : (ps : List Point) → winding (steps_of ps) p ≡ around part_between ps
   winding-around ps = total-around (winding_part p) part_between (λ u v. refl) ps
 
--- the law of two steps on one line
+-- the law of two collinear steps
 pub steps_on_one_line_wind_alike : StepsOnOneLineWindAlike
 steps_on_one_line_wind_alike u v w straight p = total-append (winding_part p) (steps_between u v) (steps_between v w)
     ∙ alike_on_one_line p u v w straight

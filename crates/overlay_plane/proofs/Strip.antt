@@ -1,5 +1,5 @@
--- The strip below an edge between two abscissas: an edge has as many more ends in it as it is lower at the one abscissa
--- and not at the other.
+-- The strip below an edge between two x-coordinates: an edge has as many more ends in it as it is lower at the one
+-- x-coordinate and not at the other.
 use Rattle.std.proofs.Common.{◌≡◌, ⊎_elim, Bool, true, false, not, ◌&&◌, ℤ, pos, ◌+ℤ◌, ◌-ℤ◌, ◌*ℤ◌, ◌<ℤ◌, ◌≤ℤ◌, int_lt}
 use Rattle.std.proofs.Common.{int_le, refl, sym, ap, ap₂, ◌∙◌, subst, arith}
 use Rattle.std.proofs.lemmas.Bool.{and_from, or_cases, and_parts, false≢true}
@@ -26,8 +26,8 @@ is_in_strip e x d x' d' v = int_lt x (v.x *ℤ d) && int_le (v.x *ℤ d') x' && 
 
 -- ---- tests alone
 
--- a and b are whether an edge starts, and ends, right of the first abscissa, a' and b' the same of the second; u and u'
--- are whether it is lower at the one, and the other, v and w whether its start, and end, is
+-- a and b are whether an edge starts, and ends, right of the first x-coordinate, a' and b' the same of the second; u
+-- and u' are whether it is lower at the one, and the other, v and w whether its start, and end, is
 record Agrees (a b a' b' u u' v w : Bool) : Type 0 where
   start_kept : a' ≡ true → a ≡ true
   end_kept : b' ≡ true → b ≡ true
@@ -56,9 +56,9 @@ telescopes false true false false u u' v w h = ap (λ t. one_if t -ℤ pos 0) (h
 telescopes false false false true u u' v w h = absurd (false≢true (h.end_kept refl))
 telescopes false false false false u u' v w h = refl
 
--- ---- abscissas in order
+-- ---- x-coordinates in order
 
--- what lies right of the later abscissa lies right of the earlier one
+-- what lies right of the later x-coordinate lies right of the earlier one
 right_of_both : (v x d x' d' : ℤ) → pos 0 <ℤ d → pos 0 <ℤ d' → (x *ℤ d') ≤ℤ (x' *ℤ d) → x' <ℤ (v *ℤ d') → x <ℤ (v *ℤ d)
 right_of_both v x d x' d' positive positive' order right =
     let more = mul-lt d x' (v *ℤ d') positive right in
@@ -70,7 +70,7 @@ right_of_both v x d x' d' positive positive' order right =
     exchanged : (d v d' : ℤ) → d *ℤ (v *ℤ d') ≡ d' *ℤ (v *ℤ d)
     exchanged = solve 3 (λ d v d'. d ⊗ (v ⊗ d') ≗ d' ⊗ (v ⊗ d)) tt
 
--- what lies right of an abscissa stays so further right
+-- what lies right of an x-coordinate stays so further right
 right_further : (u v x d : ℤ) → pos 0 <ℤ d → u ≤ℤ v → x <ℤ (u *ℤ d) → x <ℤ (v *ℤ d)
 right_further u v x d positive order right =
     let more = mul-le d u v (omega linear) order in
@@ -85,7 +85,7 @@ starts_first f t = ⊎_elim (λ l. let less = lt_from_test f.a.x f.b.x l in omeg
     omega linear)
     (or_cases (int_lt f.a.x f.b.x) (int_eq f.a.x f.b.x && int_lt f.a.y f.b.y) t)
 
--- a whole abscissa between two that e covers is inside e
+-- a whole x-coordinate between two that e covers is inside e
 pub inner_in_strip : (e : Edge) (v x d x' d' : ℤ) → pos 0 <ℤ d → pos 0 <ℤ d' → covers e x d ≡ true →
     covers e x' d' ≡ true →
     int_lt x (v *ℤ d) ≡ true → int_lt x' (v *ℤ d') ≡ false → IsInner e v (pos 1)
@@ -102,7 +102,7 @@ inner_in_strip e v x d x' d' positive positive' over over' right not_right = rec
 
 -- ---- one edge
 
--- what telescopes says of f, seen from e between two abscissas
+-- what telescopes says of f, seen from e between two x-coordinates
 abbrev AgreesAt : (e f : Edge) (x d x' d' : ℤ) → Type 0
 AgreesAt e f x d x' d' = Agrees (int_lt x (f.a.x *ℤ d)) (int_lt x (f.b.x *ℤ d)) (int_lt x' (f.a.x *ℤ d'))
     (int_lt x' (f.b.x *ℤ d')) (is_under f e x d)
@@ -216,8 +216,8 @@ module _ (e f : Edge) (x d x' d' : ℤ) (positive : pos 0 <ℤ d) (positive' : p
       by false apart false upright = agrees_vertical (let most = starts_first f forward in
           let least = ge_from_test f.a.x f.b.x upright in omega linear) (meets apart)
 
-  -- an edge is lower than e at the first abscissa, less at the second, as often as its end is in the strip, less its
-  -- start
+  -- an edge is lower than e at the first x-coordinate, less at the second, as often as its end is in the strip, less
+  -- its start
   pub strip : (edge_eq e f ≡ false → MeetInEnds e f) →
       one_if (covers f x d && is_under f e x d) -ℤ one_if (covers f x' d' && is_under f e x' d') ≡ one_if
       (is_in_strip e x d x' d' f.b) -ℤ one_if (is_in_strip e x d x' d' f.a)

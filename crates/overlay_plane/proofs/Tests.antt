@@ -47,7 +47,7 @@ int_le-not a b = by (int_lt b a) refl
     by true e = test_from_gt a b (lt_from_test b a e)
     by false e = test_from_le a b (ge_from_test b a e)
 
--- two tests that pass together are one
+-- two tests that pass together are equal
 pub same_tests : (s t : Bool) → (s ≡ true → t ≡ true) → (t ≡ true → s ≡ true) → s ≡ t
 same_tests true t f g = sym (f refl)
 same_tests false true f g = g refl

@@ -1,5 +1,5 @@
--- The order of edges over one abscissa: strict, total among edges that meet in ends alone, and the same wherever both
--- cover.
+-- The order of edges over one x-coordinate: strict, total among edges that meet in ends alone, and the same wherever
+-- both cover.
 use Rattle.std.proofs.Common.{◌≡◌, ◌⊎◌, inl, inr, true, false, ℤ, pos, ◌+ℤ◌, ◌-ℤ◌, ◌*ℤ◌, ◌<ℤ◌, ◌≤ℤ◌, int_lt, int_le}
 use Rattle.std.proofs.lemmas.Bool.{and_parts, and_from}
 use lib.IntN.{*ℤ_comm}
@@ -12,7 +12,7 @@ use Rattle.overlay_plane.proofs.LineForms.{gap-same, gap_exchanged, gap_through}
 use Rattle.overlay_plane.proofs.Crossing.{IsShared, inner_spans, apart_inside, same_low}
 use Rattle.overlay_plane.proofs.Tests.{lt_from_test, le_from_test, test_from_lt, test_from_le, test_from_ge}
 
--- ---- what it is to cover an abscissa
+-- ---- what it is to cover an x-coordinate
 
 -- an edge starts at or before what it covers
 pub covers_from : (e : Edge) (x d : ℤ) → covers e x d ≡ true → (e.a.x *ℤ d) ≤ℤ x
@@ -22,7 +22,7 @@ covers_from e x d c = le_from_test (e.a.x *ℤ d) x (and_parts (int_le (e.a.x *�
 pub covers_to : (e : Edge) (x d : ℤ) → covers e x d ≡ true → x <ℤ (e.b.x *ℤ d)
 covers_to e x d c = lt_from_test x (e.b.x *ℤ d) (and_parts (int_le (e.a.x *ℤ d) x) (int_lt x (e.b.x *ℤ d)) c).1
 
--- an edge that covers an abscissa is not vertical
+-- an edge that covers an x-coordinate is not vertical
 pub covers_wide : (e : Edge) (x d : ℤ) → pos 0 <ℤ d → covers e x d ≡ true → pos 0 <ℤ width e
 covers_wide e x d positive c =
     let from = covers_from e x d c in
@@ -32,14 +32,14 @@ covers_wide e x d positive c =
     let less = lt_of_mul-lt d e.a.x e.b.x positive (omega linear) in
     omega linear
 
--- just right of the abscissa is inside
+-- just right of the x-coordinate is inside
 pub inner_just_right : (e : Edge) (x d : ℤ) → covers e x d ≡ true → IsInner e (x +ℤ x +ℤ pos 1) (d +ℤ d)
 inner_just_right e x d c = record {
   after = let from = covers_from e x d c in let sum = mul-add e.a.x d d in omega linear;
   before = let to = covers_to e x d c in let sum = mul-add e.b.x d d in omega linear;
 }
 
--- just right of an abscissa that both cover is inside both
+-- just right of an x-coordinate that both cover is inside both
 pub shared_just_right : (f e : Edge) (x d : ℤ) → pos 0 <ℤ d → covers f x d ≡ true → covers e x d ≡ true →
     IsShared f e (x +ℤ x +ℤ pos 1) (d +ℤ d)
 shared_just_right f e x d positive over_f over_e = record {
@@ -48,7 +48,7 @@ shared_just_right f e x d positive over_f over_e = record {
   spans = inner_spans f (x +ℤ x +ℤ pos 1) (d +ℤ d) (inner_just_right f x d over_f);
 }
 
--- just left of the abscissa, at (2x - 1) / 2d, every edge covers that goes on to the left of it
+-- just left of the x-coordinate, at (2x - 1) / 2d, every edge covers that goes on to the left of it
 pub covers_just_left : (e : Edge) (x d : ℤ) → (e.a.x *ℤ d) <ℤ x → x ≤ℤ (e.b.x *ℤ d) →
     covers e (x +ℤ x -ℤ pos 1) (d +ℤ d) ≡ true
 covers_just_left e x d from to = and_from (int_le (e.a.x *ℤ (d +ℤ d)) (x +ℤ x -ℤ pos 1))
@@ -56,7 +56,7 @@ covers_just_left e x d from to = and_from (int_le (e.a.x *ℤ (d +ℤ d)) (x +�
     (test_from_le (e.a.x *ℤ (d +ℤ d)) (x +ℤ x -ℤ pos 1) (let sum = mul-add e.a.x d d in omega linear))
     (test_from_lt (x +ℤ x -ℤ pos 1) (e.b.x *ℤ (d +ℤ d)) (let sum = mul-add e.b.x d d in omega linear))
 
--- ---- the order over an abscissa
+-- ---- the order over an x-coordinate
 
 -- no edge is under itself
 pub under_irreflexive : (e : Edge) (x d : ℤ) → is_under e e x d ≡ false

@@ -55,7 +55,7 @@ module _ (walks : List (List Step)) (contours : All IsContour walks) (single : A
       by true same = inl same
       by false differ = inr (meet e f of_e of_f differ)
 
-  -- two that cover an abscissa, neither of them under the other, are one
+  -- two that cover an x-coordinate, neither of them under the other, are equal
   level_is_one : (e f : Edge) → IsOfWalks e → IsOfWalks f → (x : ℤ) → covers e x (pos 1) ≡ true →
       covers f x (pos 1) ≡ true →
       is_under e f x (pos 1) ≡ false → is_under f e x (pos 1) ≡ false → e ≡ f
@@ -68,7 +68,7 @@ module _ (walks : List (List Step)) (contours : All IsContour walks) (single : A
           (under_total e f x (pos 1) (record { lt = tt }) (meet f e of_f of_e (edge_eq-flip e f differ)) over_e over_f))
 
   module _ (w : List Step) (at : Contains walks w) where
-    -- an anchor is the edge of a step, and covers the abscissa in which it starts
+    -- an anchor is the edge of a step, and covers the x-coordinate in which it starts
     of_anchor : (e : Edge) → IsAnchor w e → IsOfWalks e
     of_anchor e anchor = let own = anchor_step w e anchor in of_walk w at own.0 own.1 e own.2
 
@@ -78,7 +78,7 @@ module _ (walks : List (List Step)) (contours : All IsContour walks) (single : A
         (λ s t c d. settled s t (Contains-flat_map (λ (v : List Step). v) walks w s at c)
         (Contains-flat_map (λ (v : List Step). v) walks w t at d)) e anchor
 
-    -- below it is over its abscissa, and under it
+    -- below it is over its x-coordinate, and under it
     below_is : (e : Edge) → IsAnchor w e → (f : Edge) → IsOfWalks f →
         is_below_anchor e f ≡ (covers f e.a.x (pos 1) && is_under f e e.a.x (pos 1))
     below_is e anchor f of_f =
@@ -130,7 +130,7 @@ module _ (walks : List (List Step)) (contours : All IsContour walks) (single : A
         (below_is e anchor f (of_anchor f other) ∙ and_from (covers f e.a.x (pos 1)) (is_under f e e.a.x (pos 1)) over
         under))
 
-    -- and so they are one
+    -- and so they are equal
     pub one_anchor : (e f : Edge) → IsAnchor w e → IsAnchor w f → e ≡ f
     one_anchor e f anchor other =
         let starts = anchors_start e f anchor other in
@@ -148,7 +148,7 @@ module _ (walks : List (List Step)) (contours : All IsContour walks) (single : A
           of_walk walk.0 walk.1 found.0 (Contains-from_filter (is_filled_above filled) walk.0 found.0 found.1).0 f
           found.2
 
-      -- of two next edges neither is under the other, so they are one
+      -- of two next edges neither is under the other, so they are equal
       pub one_next_edge : (e : Edge) → IsAnchor w e → (f g : Edge) → IsNextBelow (all_filled_above filled walks) e f →
           IsNextBelow (all_filled_above filled walks) e g → f ≡ g
       one_next_edge e anchor f g first second =

@@ -54,8 +54,8 @@ edges_meet es settled g h of_g of_h apart =
 
 -- ---- walks
 
--- the walk is the first one of steps that walk along edges of the list; it is a contour along different edges that meet
--- in ends alone
+-- the walk is the first of steps that walk along edges of the list; it is a contour along different edges that meet in
+-- ends alone
 pub record IsWalkOfCut (es : List CountedEdge) (hand_of : Step → Hand) (steps walk : List Step) : Type 0 where
   pub remaining : List Step
   pub inside : (s : Step) → Contains remaining s → Contains steps s

@@ -1,5 +1,5 @@
--- Which of two edges is the lower one just right of an abscissa, from the gap at the abscissa, and from the start of
--- one of them.
+-- Which of two edges is the lower just right of an x-coordinate, from the gap at the x-coordinate, and from the start
+-- of one of them.
 use Rattle.std.proofs.Common.{◌≡◌, true, false, ℤ, pos, ◌+ℤ◌, ◌*ℤ◌, neg_ℤ, ◌<ℤ◌, int_lt, int_le, ap, ◌∙◌, arith}
 use Rattle.std.proofs.lemmas.Int.{ints}
 use Rattle.std.proofs.lemmas.Bool.{and_from}
@@ -18,7 +18,7 @@ use Rattle.overlay_plane.proofs.Tests.{test_from_lt, test_from_le}
 pub covers_spans : (e : Edge) (x d : ℤ) → covers e x d ≡ true → Spans e x d
 covers_spans e x d c = record { from = covers_from e x d c; to = let less = covers_to e x d c in omega linear }
 
--- the edge that is lower at an abscissa which both cover is under the other
+-- the edge that is lower at an x-coordinate which both cover is under the other
 pub under_from_gap : (f e : Edge) (x d : ℤ) → pos 0 <ℤ d → MeetInEnds e f → covers f x d ≡ true → covers e x d ≡ true →
     pos 0 <ℤ gap f e x d →
     is_under f e x d ≡ true

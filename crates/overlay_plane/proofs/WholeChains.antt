@@ -89,7 +89,7 @@ module _ (e : Edge) (forward : point_lt e.a e.b ≡ true) where
       by true same = absurd (apart ((Decides-point_eq e.a e.b).0 same))
       by false h = h
 
-  -- after the larger end, in the order along the edge, no smaller one comes
+  -- after the larger end, in the order along the edge, no smaller comes
   later_is_larger : (v : Point) → IsEither e.a e.b v → IsUpToAlong e e.b v → v ≡ e.b
   later_is_larger v (inl is) up =
       absurd (apart (along-antisymmetric e e.a e.b (start_up_to_end e ((Decides-point_lt e.a e.b).0 forward))

@@ -53,7 +53,7 @@ whole_meetings_merged old new merged whole e f p has_e has_f meeting =
     whole from_e.0 from_f.0 p from_e.1 from_f.1 (subst (λ g. IsMeetingPoint g (ends_of from_f.0) p) (sym from_e.2)
     (subst (λ g. IsMeetingPoint (ends_of e) g p) (sym from_f.2) meeting))
 
--- edges of a merged list with the same ends are one
+-- edges of a merged list with the same ends are equal
 pub same_merged : (old new : List CountedEdge) → IsMerged old new → (e f : CountedEdge) → Contains new e →
     Contains new f →
     edge_eq (ends_of e) (ends_of f) ≡ true → e ≡ f
@@ -95,7 +95,7 @@ module _ (r : Round) (h : CutsWhole r) where
   is_cut_at : (e : CountedEdge) → Contains r.edges e → IsCutAt r.edges e (r.cuts e)
   is_cut_at e has = All-contains (λ e. IsCutAt r.edges e (r.cuts e)) r.edges e h.cut has
 
-  -- and leads from its smaller end to its larger one
+  -- and leads from its smaller end to its larger
   pub goes_forward : (e : CountedEdge) → Contains r.edges e → IsBefore e.a e.b
   goes_forward e has = forward_from_test (ends_of e)
       (All-contains (λ e. point_lt e.a e.b ≡ true) r.edges e h.forward has)

@@ -24,7 +24,7 @@ at_moved v p q (same_x, same_y) (at_x, at_y) = (moved v.x p.x q.x at_x same_x, m
 
 -- ---- in order, and rounded
 
--- of two points of the plane at whole points, the smaller one is at the smaller point
+-- of two points of the plane at whole points, the smaller is at the smaller point
 pub before_of_smaller : (v w : Point) (p q : PlanePoint) → IsAt v p → IsAt w q → IsSmaller p q → IsBefore v w
 before_of_smaller v w p q (v_x, v_y) (w_x, w_y) = by
   where

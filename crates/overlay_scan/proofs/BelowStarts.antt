@@ -1,4 +1,4 @@
--- Which edges over the abscissa of an edge's start are below that start, be the edge vertical or not.
+-- Which edges over the x-coordinate of an edge's start are below that start, be the edge vertical or not.
 use Rattle.std.proofs.Common.{◌≡◌, ⊎_elim, Bool, true, false, cond, not, ◌&&◌, ◌||◌, ℤ, pos, ◌+ℤ◌, ◌-ℤ◌, ◌*ℤ◌, ◌<ℤ◌}
 use Rattle.std.proofs.Common.{◌≤ℤ◌, int_lt, int_le, refl, sym, ap, ap₂, ◌∙◌, subst, arith}
 use Rattle.std.proofs.lemmas.Int.{ints}
@@ -26,7 +26,7 @@ use Rattle.overlay_plane.proofs.WhereEdgesStart.{covers_spans, under_from_gap}
 use Rattle.overlay_scan.specs.Lists.{is_lower_at_start, is_lower}
 use Rattle.overlay_scan.proofs.AtStarts.{tested, cross-side, starts_before}
 
--- where the ways lead from one point, the way along f leads to the left of the middle one, and that to the left of e, f
+-- where the ways lead from one point, the way along f leads to the left of the middle, and that to the left of e, f
 -- leads to the left of e
 turns_on : (f g e : Edge) → pos 0 <ℤ width f → pos 0 <ℤ width g → pos 0 ≤ℤ width e → turns_left f g ≡ true →
     turns_left g e ≡ true → turns_left f e ≡ true

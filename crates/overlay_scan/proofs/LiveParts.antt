@@ -75,7 +75,7 @@ module _ {I V : Type 0} (whole : I → ℤ) (x : ℤ) where
           ≡ live_of whole x (take k es) ++ plain_entry whole f ∷ live_of whole x (drop (k + 1) es)
       live_round = live_parts es k ∙ ap (λ fs. live_of whole x (take k es) ++ fs) live_from
 
-      -- what holds of all holds of it
+      -- a fact of all holds of it
       pub holds_of_live : (P : Entry V → Type 0) → All P (live_of whole x es) → P (plain_entry whole f)
       holds_of_live P all = All-head P (plain_entry whole f) (live_of whole x (drop (k + 1) es))
           (All-rest P (live_of whole x (take k es)) (plain_entry whole f ∷ live_of whole x (drop (k + 1) es))

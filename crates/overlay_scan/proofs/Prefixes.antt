@@ -1,4 +1,4 @@
--- How many entries pass a test from the first one on, and which ones pass where none does after one that fails.
+-- How many entries pass a test from the first on, and which ones pass where none does after one that fails.
 use Rattle.std.proofs.Common.{◌≡◌, Bool, true, false, cond, ℕ, suc, ◌+◌, List, [], ◌∷◌, take, drop}
 use Rattle.std.proofs.Common.{refl, sym, ap, ◌∙◌, arith}
 use Rattle.std.specs.List.{All, filter, prefix_len}

@@ -25,13 +25,13 @@ use Rattle.overlay_scan.proofs.Prefixes.{prefix-same, filter_is_prefix, prefix_p
 
 -- ---- lists with one more item
 
--- what holds of all items and of the new one
+-- what holds of all items and of the new
 pub All-with : {X : Type 0} (P : X → Type 0) (xs ys : List X) (n : X) → All P (xs ++ ys) → P n → All P (xs ++ n ∷ ys)
 All-with P [] ys n all here = All-cons P n ys here all
 All-with P (x ∷ xs) ys n all here = All-cons P x (xs ++ n ∷ ys) (All-head P x (xs ++ ys) all)
     (All-with P xs ys n (All-tail P x (xs ++ ys) all) here)
 
--- R leads from each item to each later one, from those before the new one to it, and from it to those after it
+-- R leads from each item to each later one, from those before the new to it, and from it to those after it
 pub AllPairs-with : {X : Type 0} (R : X → X → Type 0) (xs ys : List X) (n : X) → AllPairs R (xs ++ ys) →
     All (λ x. R x n) xs → All (R n) ys →
     AllPairs R (xs ++ n ∷ ys)

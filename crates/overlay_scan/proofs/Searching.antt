@@ -116,7 +116,7 @@ module _ {I V : Type 0} (whole : I → ℤ) (x : ℤ) (es : List (LiveEdge I V))
           };
     }
 
--- where the last one of some is live, its value is that of their last live one
+-- where the last of some is live, its value is that of their last live one
 pub value_of_last_live : {I V : Type 0} (whole : I → ℤ) (x : ℤ) (es : List (LiveEdge I V)) (n : ℕ) → n ≤ length es →
     ((f : LiveEdge I V) → 0 < n → f ≡ get_or es (n - 1) f → int_lt x (whole f.b.x) ≡ true) →
     option_map (λ (f : LiveEdge I V). f.value) (last_or None (take n es))

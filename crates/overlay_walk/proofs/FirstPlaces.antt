@@ -34,7 +34,7 @@ found_below is_open before low high bound (Some m) h first = let b = first.below
 module _ (is_open : ℕ → Bool) (before : ℕ → ℕ → Bool) (bound : ℕ) (irreflexive : (k : ℕ) → before k k ≡ false)
     (transitive : (i j k : ℕ) → i < bound → j < bound → k < bound → before i j ≡ true → before j k ≡ true →
     before i k ≡ true) (low : ℕ) where
-  -- a place up to the next one is one up to here, or this one
+  -- a place up to the next is one up to here, or this one
   up_to_next : {P : Type 0} (i k : ℕ) → k < i + 1 → (k < i → P) → (k ≡ i → P) → P
   up_to_next i k h earlier here = ⊎_elim earlier (λ at. here (omega arith)) (cases_lt k i)
 

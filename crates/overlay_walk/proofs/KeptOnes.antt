@@ -51,7 +51,7 @@ module _ (q : Asked) (es : List CountedEdge) where
         (record { walks = walks; cut = cut.cut; are = are });
   }
 
--- what holds of each walk holds of the contours that they become
+-- a fact of each walk holds of the contours that they become
 pub of_each_walk : {I A : Type 0} (P : Vec (StepTaken I) A → Type 0) (contours : List (ContourTaken I A))
     (walks : List (Vec (StepTaken I) A)) → map (λ (c : ContourTaken I A). c.steps) contours ≡ walks → All P walks →
     All (λ c. P c.steps) contours

@@ -55,7 +55,7 @@ module _ (hand : Hand) (v u : Point) (long : ¬ (u ≡ v)) where
       (λ q later. met_before_later p t q nearer later)
       first.back first.not_after)))
 
-  -- what is met before each of a list is met before its first one
+  -- what is met before each of a list is met before its first
   before_first : (ps : List Point) (p t : Point) → IsMetFirst hand v u ps t → All (IsMetBefore hand v u p) ps →
       IsMetBefore hand v u p t
   before_first ps p t first all = All-contains (IsMetBefore hand v u p) ps t all

@@ -68,7 +68,7 @@ module _ (ss : List Step) (hand : Hand) (v u : Point) where
 module _ (ss : List Step) (marks : List Bool) (hand : Hand) (v u : Point) (long : ¬ (u ≡ v)) (low i : ℕ)
     (found : Option ℕ) (above : low ≤ i)
     (first : IsFirstOf (is_open marks) (is_place_met_before ss hand v u) low i found) where
-  -- what is found then is the first one, whether or not the place is open
+  -- what is found then is the first, whether or not the place is open
   first_on : (opened nearer : Bool) → is_open marks i ≡ opened →
       (opened ≡ true → nearer ≡ comes_first (is_place_met_before ss hand v u) found i) →
       IsFirstOf (is_open marks) (is_place_met_before ss hand v u) low (i + 1) (cond (opened && nearer) (Some i) found)
@@ -129,7 +129,7 @@ module _ (ss : List Step) (marks : List Bool) (hand : Hand) (s : Step) where
   }
 
   module _ (same : length marks ≡ length ss) where
-    -- the step there is the next one, of those that are not marked
+    -- the step there is the next, of those that are not marked
     pub next_step : (m : ℕ) → IsNextAt ss marks hand s m → IsNextStep (unmarked ss marks) hand s (step_at ss m)
     next_step m next = record {
       among = unmarked_at ss marks _ m same next.below next.untaken;

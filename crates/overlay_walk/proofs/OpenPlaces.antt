@@ -81,7 +81,7 @@ pub unmarked-cleared : {X : Type 0} (xs : List X) (cleared ms : List Bool) (n m 
 unmarked-cleared xs cleared ms n m few none filled = ap (unmarked xs) (filled ∙ filled_up n m cleared few none)
     ∙ unmarked-none xs n
 
--- what holds of all entries holds of those that are not marked
+-- a fact of all entries holds of those that are not marked
 pub unmarked_hold : {X : Type 0} (P : X → Type 0) (xs : List X) (ms : List Bool) → length ms ≡ length xs → All P xs →
     All P (unmarked xs ms)
 unmarked_hold {X} P xs ms same all = All-weaker (Contains (unmarked xs ms)) P holds (unmarked xs ms)

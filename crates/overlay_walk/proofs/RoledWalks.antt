@@ -5,7 +5,7 @@ use Rattle.overlay_plane.specs.Binding.{is_hole}
 use Rattle.overlay_plane.specs.RoledContours.{contours_from, hole_to_bind, outline_of}
 use Rattle.overlay_plane.specs.Turn.{Hand}
 
--- the first one is an outline
+-- the first is an outline
 pub outline_first : (filled : Hand) (n : ℕ) (w : List Step) (ws : List (List Step)) → is_hole filled w ≡ false →
     contours_from filled n (w ∷ ws) ≡ outline_of n w ∷ contours_from filled (n + 1) ws
 outline_first filled n w ws is =

@@ -150,7 +150,7 @@ module _ {I : Type 0} (whole : I → ℤ) where
                   (both_ways (leaves_up_to p (get_or ss k d)) (up_to.1 k d up h) not_larger)) (cases_lt k high),
             )
 
-    -- and the second front may be looked for from the first one on
+    -- and the second front may be looked for from the first on
     pub run_until : (low high : ℕ) → low ≤ length ss →
         IsPartitionPoint (λ s. leaves_below p s ≡ true) (λ s. leaves_below p s ≡ false) ss low →
         LeaveUpTo (plain_steps whole ss) p low high → IsRun (plain_steps whole ss) p low high

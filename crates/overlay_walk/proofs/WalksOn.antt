@@ -112,7 +112,7 @@ module _ (steps : List Step) (hand : Hand) (leads : LeadsOn steps hand) (start :
   way_goes_on = let next = has_next steps hand leads s pending_inside in
       any_of_entry (λ t. t.from ≡ s.to) left next.0 (next_left next.0 next.1) (next.1).leaves
 
-  -- the next step among those left is the next one of all
+  -- the next step among those left is the next of all
   pub next_of_all : (t : Step) → IsNextStep left hand s t → IsNextStep steps hand s t
   next_of_all t next = by (has_next steps hand leads s pending_inside)
     where
@@ -134,7 +134,7 @@ module _ (steps : List Step) (hand : Hand) (leads : LeadsOn steps hand) (start :
 
   module _ (t : Step) (after : List Step) (next : IsNextStep left hand s t)
       (taken : after ≡ without left (t ∷ [])) where
-    -- the next step among those left is the next one of the walk's last step
+    -- the next step among those left is the next of the walk's last step
     on_from_last : IsNextStep steps hand (last_of all) t
     on_from_last = subst (λ u. IsNextStep steps hand u t) (sym ends) (next_of_all t next)
 

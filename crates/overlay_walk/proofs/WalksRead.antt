@@ -34,7 +34,7 @@ module _ {I A : Type 0} (whole : I → ℤ) (ws : List (Vec (StepTaken I) A)) (k
   pub walk_read : (d : List Step) → get_or (plain_walks whole ws) k d ≡ plain_steps whole w.items
   walk_read d = read_mapped (at_numbers whole) ws k w d inside is
 
-  -- what holds of all walks holds of it
+  -- a fact of all walks holds of it
   pub walk_has : (P : List Step → Type 0) → All P (plain_walks whole ws) → P (plain_steps whole w.items)
   walk_has P all = All-mapped_at P (at_numbers whole) ws k w inside is all
 
@@ -55,7 +55,7 @@ module _ {I A : Type 0} (whole : I → ℤ) where
       subst (λ us. All (IsLong limit) (plain_steps whole us)) (sym same)
       (walk_has whole ws k w inside is (All (IsLong limit)) long)
 
--- what holds of all walks holds of one that stands among them
+-- a fact of all walks holds of one that stands among them
 pub walk_among : {I A : Type 0} (whole : I → ℤ) (ws before : List (Vec (StepTaken I) A)) (w : Vec (StepTaken I) A)
     (rest : List (Vec (StepTaken I) A)) →
     ws ≡ before ++ w ∷ rest → (P : List Step → Type 0) → All P (plain_walks whole ws) → P (plain_steps whole w.items)

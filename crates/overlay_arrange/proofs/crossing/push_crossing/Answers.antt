@@ -1,4 +1,4 @@
--- The two edges cross where each goes across the other one's line.
+-- The two edges cross where each goes across the other's line.
 use Rattle.overlay_geom.specs.Points.{plain_point}
 use Rattle.overlay_geom.proofs.PointOrder.{Decides-point_lt}
 use Rattle.overlay_arrange.specs.Content.{plain_edge}

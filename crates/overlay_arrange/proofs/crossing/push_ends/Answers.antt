@@ -1,4 +1,4 @@
--- The ends of each that lie on the other one are all there is to add.
+-- The ends of each that lie on the other are all there is to add.
 use Rattle.std.proofs.lemmas.Result.{on_ok_weaker}
 use Rattle.overlay_geom.proofs.PointOrder.{Decides-point_lt}
 use Rattle.overlay_arrange.specs.Content.{plain_edge}

@@ -1,5 +1,5 @@
 -- The sides of the edges to which the sweep has come are told at their places, it may go on to those left, and the
--- windings above the last one are known.
+-- windings above the last are known.
 use Rattle.std.proofs.Common.{◌≡◌, length, take, drop, get_or}
 use Rattle.std.specs.List.{All}
 use Rattle.overlay_scan.specs.Sweeps.{IsSwept}

@@ -1,4 +1,4 @@
--- Those before the first place need no meetings. Each other edge adds what it and the later ones lead one another
+-- Those before the first place need no meetings. Each other edge adds what it and the later ones lead each other
 -- through; sorting keeps what is gathered.
 use Rattle.std.proofs.Common.{◌≡◌, List, length, sym, subst, arith}
 use Rattle.std.proofs.lemmas.List.{length-map}

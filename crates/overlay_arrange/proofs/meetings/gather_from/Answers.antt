@@ -1,4 +1,4 @@
--- A loop over the edges that are near the edge: each adds what it and the edge lead one another through, and is marked,
+-- A loop over the edges that are near the edge: each adds what it and the edge lead each other through, and is marked,
 -- or meets it in ends alone.
 use Rattle.std.proofs.Common.{◌<◌, length, get_or, inl, inr, refl, take, sym, subst, arith}
 use Rattle.std.proofs.lemmas.List.{get_or_default, length-map, take_all, take_more}

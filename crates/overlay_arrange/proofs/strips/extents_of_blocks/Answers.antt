@@ -1,4 +1,4 @@
--- A block begins, or the last one grows.
+-- A block begins, or the last grows.
 use Rattle.std.proofs.Common.{◌≡◌, ◌+◌, List, ◌∷◌, [], ◌/◌, ◌%◌, ap, sym, subst, ◌∙◌, arith}
 use Rattle.std.proofs.lemmas.List.{length-map, map-append, map-set}
 use Rattle.overlay_geom.proofs.Mapped.{read_mapped}

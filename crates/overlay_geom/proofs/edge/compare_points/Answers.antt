@@ -1,4 +1,4 @@
--- Points at one abscissa compare by their heights.
+-- Points at one x-coordinate compare by their heights.
 use Rattle.std.proofs.Common.{sym, ◌∙◌}
 use Rattle.overlay_geom.specs.Points.{plain_point}
 use Rattle.overlay_geom.proofs.PointComparisons.{tied_at_abscissa}

@@ -1,4 +1,4 @@
--- From the greater of two points to the smaller one the edge is turned.
+-- From the greater of two points to the smaller the edge is turned.
 use Rattle.std.proofs.Common.{sym, ◌∙◌}
 use Rattle.overlay_geom.specs.Points.{plain_point}
 use Rattle.overlay_geom.proofs.Orders.{point_lt-back}

@@ -1,4 +1,4 @@
--- At first nothing is summed; each point adds its cross product with the next one.
+-- At first nothing is summed; each point adds its cross product with the next.
 use Rattle.std.proofs.Common.{◌≡◌, ◌<◌, ◌+◌, ◌-◌, length, drop, get_or, sym, ap, ap₂, ◌∙◌, arith, rules}
 use Rattle.std.specs.Prelude.{◌+ℤ◌}
 use Rattle.std.specs.Int.{int_wrap}

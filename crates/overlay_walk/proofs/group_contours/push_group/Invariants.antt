@@ -1,4 +1,4 @@
--- The walks so far are added, and the role is that of the next one.
+-- The walks so far are added, and the role is that of the next.
 use Rattle.std.proofs.Common.{◌≡◌, ◌++◌}
 use Rattle.std.specs.Vec.Iter.{into_iter_items}
 use Rattle.overlay_walk.proofs.GroupContours.{role_after, as_group}

@@ -1,4 +1,4 @@
--- The place is the first one of those so far in the run, and the end of its step is the point held.
+-- The place is the first of those so far in the run, and the end of its step is the point held.
 use Rattle.std.proofs.Common.{◌≡◌}
 use Rattle.overlay_geom.specs.Points.{plain_point}
 use Rattle.overlay_walk.specs.Places.{is_open}

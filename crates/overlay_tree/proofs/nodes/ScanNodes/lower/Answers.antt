@@ -1,4 +1,4 @@
--- One turn where the outer side is at least as high as the inner one, and else two.
+-- One turn where the outer side is at least as high as the inner, and else two.
 use Rattle.std.proofs.Common.{refl, sym, ap, ◌∙◌, arith}
 use Rattle.overlay_tree.specs.Sides.{on}
 use Rattle.overlay_tree.proofs.Lowering.{lowering, opening, outer_root, inner_root, first_parts, second_parts}
